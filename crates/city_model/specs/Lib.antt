@@ -1,0 +1,4 @@
+pub mod DataCode
+pub mod Kept
+pub mod Types
+pub mod Whole

@@ -1,0 +1,98 @@
+//! Values that can be copied where there is memory.
+ghost use Rattle.std.specs.Prelude.{◌≡◌, IfOk};
+
+use crate::extra::Extra;
+use crate::frame::Frame;
+use crate::object::{Body, Geometry, Object, Point, Shape};
+use crate::place::Place;
+use crate::sequence::Sequence;
+use crate::text::Text;
+use std::alloc::{AllocError, Global};
+
+/// A value of which an equal one can be made.
+pub trait Copied {
+    fn copy(&self, alloc: Global) -> Result<Self, AllocError>
+        ensures { IfOk result (λ c. c ≡ self.now) };
+}
+
+impl Copied for Point {
+    fn copy(&self, _alloc: Global) -> Result<Point, AllocError> {
+        Ok(*self)
+    }
+}
+
+impl Copied for Text {
+    fn copy(&self, alloc: Global) -> Result<Text, AllocError> {
+        Ok(Text::new(self.as_str().to_string(alloc)?))
+    }
+}
+
+impl<T: Copied + Drop> Copied for Sequence<T> {
+    fn copy(&self, alloc: Global) -> Result<Sequence<T>, AllocError> {
+        let items = self.as_slice();
+        let mut copies = Vec::with_capacity(alloc, items.len())?;
+        for item in items {
+            copies.push(item.copy(alloc)?)?;
+        }
+        Ok(Sequence::from_vec(copies))
+    }
+}
+
+impl<P: Place> Copied for Extra<P> {
+    fn copy(&self, _alloc: Global) -> Result<Extra<P>, AllocError> {
+        self.copy_members()
+    }
+}
+
+impl Copied for Shape {
+    fn copy(&self, alloc: Global) -> Result<Shape, AllocError> {
+        match self {
+            Shape::MultiSurface(surfaces) => Ok(Shape::MultiSurface(surfaces.copy(alloc)?)),
+            Shape::CompositeSurface(surfaces) => {
+                Ok(Shape::CompositeSurface(surfaces.copy(alloc)?))
+            }
+            Shape::Solid(shells) => Ok(Shape::Solid(shells.copy(alloc)?)),
+        }
+    }
+}
+
+impl Copied for Geometry {
+    fn copy(&self, alloc: Global) -> Result<Geometry, AllocError> {
+        Ok(Geometry {
+            lod: self.lod.copy(alloc)?,
+            shape: self.shape.copy(alloc)?,
+            extra: self.extra.copy(alloc)?,
+        })
+    }
+}
+
+impl Copied for Body {
+    fn copy(&self, alloc: Global) -> Result<Body, AllocError> {
+        Ok(Body {
+            kind: self.kind,
+            geometry: self.geometry.copy(alloc)?,
+            extra: self.extra.copy(alloc)?,
+        })
+    }
+}
+
+impl Copied for Object {
+    fn copy(&self, alloc: Global) -> Result<Object, AllocError> {
+        Ok(Object {
+            body: self.body.copy(alloc)?,
+            parents: self.parents.copy(alloc)?,
+            children: self.children.copy(alloc)?,
+        })
+    }
+}
+
+impl Copied for Frame {
+    fn copy(&self, alloc: Global) -> Result<Frame, AllocError> {
+        Ok(Frame {
+            scale: self.scale,
+            translate: self.translate,
+            more: self.more.copy(alloc)?,
+            extra: self.extra.copy(alloc)?,
+        })
+    }
+}

@@ -1,0 +1,82 @@
+//! The kept members of a place.
+ghost use Rattle.std.specs.Prelude.{◌≡◌, true, false, IfOk, IfErr, IsTrue, is_ok};
+
+use crate::place::Place;
+use serde_json::{Map, Value};
+use std::alloc::AllocError;
+use std::marker::{Model, PhantomData};
+
+/// The members that are kept at the place `P`: as JSON values, word for word.
+///
+/// None of them is one that is read at the place, no number in them is anything but an `i64`, at an
+/// object there is no `address` with a `location`, and at the top no `extensions` that isn't empty.
+#[derive(Drop)]
+pub struct Extra<P: Place> {
+    map: Map<String, Value>,
+    place: PhantomData<P>,
+}
+
+impl<P: Place> Model for Extra<P> {
+    ghost use Rattle.std.specs.Prelude.{◌≡◌, true};
+    ghost use Rattle.serde_json.specs.Data.{Members};
+
+    ghost Value = { Members };
+
+    ghost use Rattle.city_model.specs.DataCode.{coded_members};
+
+    ghost coded = { coded_members };
+
+    ghost use Rattle.serde_json.specs.View.{members_view};
+
+    ghost view = { λ a. members_view a.map.entries };
+
+    ghost invariant = { λ a. P.keeps (members_view a.map.entries) ≡ true };
+}
+
+impl<P: Place> Extra<P> {
+    ghost use Rattle.serde_json.specs.View.{members_view};
+
+    /// The members as those of the place, or the map back where the place doesn't admit it. Takes
+    /// no memory.
+    pub fn new(map: Map<String, Value>) -> Result<Self, Map<String, Value>>
+        ensures admitted { is_ok result ≡ P.keeps (members_view map.entries) }
+        ensures kept { IfOk result (λ e. e ≡ members_view map.entries) }
+        ensures back { IfErr result (λ m. m ≡ map) }
+    {
+        if P::admits(&map) {
+            Ok(Extra {
+                map,
+                place: PhantomData,
+            })
+        } else {
+            Err(map)
+        }
+    }
+
+    /// The members. Takes no memory.
+    pub fn map(&self) -> &Map<String, Value>
+        ensures members { members_view result.now.entries ≡ self.now }
+        ensures kept { P.keeps self.now ≡ true }
+    {
+        &self.map
+    }
+
+    /// A copy of the members as a map, to which others may be added.
+    pub fn to_map(&self) -> Result<Map<String, Value>, AllocError>
+        ensures members { IfOk result (λ m. members_view m.entries ≡ self.now) }
+        ensures kept { P.keeps self.now ≡ true }
+    {
+        let copy = self.map.clone()?;
+        Ok(copy)
+    }
+
+    /// A copy.
+    pub fn copy_members(&self) -> Result<Self, AllocError>
+        ensures { IfOk result (λ e. e ≡ self.now) }
+    {
+        Ok(Extra {
+            map: self.to_map()?,
+            place: PhantomData,
+        })
+    }
+}

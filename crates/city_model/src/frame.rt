@@ -1,0 +1,14 @@
+//! All of a document but its objects and vertices.
+use crate::extra::Extra;
+use crate::place::{AtTop, AtTransform};
+
+/// The transform and the kept members of the top. No script changes a frame.
+#[derive(Drop)]
+pub struct Frame {
+    pub scale: [i64; 3],
+    pub translate: [i64; 3],
+    /// The kept members of `transform`.
+    pub more: Extra<AtTransform>,
+    /// The kept members of the top.
+    pub extra: Extra<AtTop>,
+}

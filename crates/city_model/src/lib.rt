@@ -1,0 +1,17 @@
+//! The city model: its types, its rules and the meaning of each command.
+#![tactic(auto)]
+
+pub mod city;
+pub mod copied;
+pub mod extra;
+pub mod frame;
+pub mod members;
+pub mod object;
+pub mod object_type;
+pub mod place;
+pub mod sequence;
+pub mod text;
+pub mod whole;
+
+/// The one answer for want of memory, the same unit type in all crates.
+pub use std::alloc::AllocError as OutOfMemory;

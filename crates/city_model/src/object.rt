@@ -1,0 +1,59 @@
+//! City objects and their geometries.
+ghost use Rattle.std.specs.Prelude.{◌≡◌};
+
+use crate::extra::Extra;
+use crate::object_type::ObjectType;
+use crate::place::{AtGeometry, AtObject};
+use crate::sequence::Sequence;
+use crate::text::{Id, Text};
+
+/// A point, in whole units; ordered by x, then y, then z.
+#[derive(Clone, Copy, Debug, PartialEq, Eq, PartialOrd, Ord, Hash)]
+pub struct Point {
+    pub x: i64,
+    pub y: i64,
+    pub z: i64,
+}
+
+/// A closed line of points; the first isn't repeated at the end.
+pub type Ring = Sequence<Point>;
+
+/// An exterior ring, then interior ones.
+pub type Surface = Sequence<Ring>;
+
+/// The surfaces round a body.
+pub type Shell = Sequence<Surface>;
+
+/// What bounds a geometry (CityJSON 2.0, section 3.2).
+#[derive(Drop)]
+pub enum Shape {
+    MultiSurface(Sequence<Surface>),
+    CompositeSurface(Sequence<Surface>),
+    /// An exterior shell, then interior ones.
+    Solid(Sequence<Shell>),
+}
+
+/// A geometry of a city object.
+#[derive(Drop)]
+pub struct Geometry {
+    /// The level of detail.
+    pub lod: Text,
+    pub shape: Shape,
+    pub extra: Extra<AtGeometry>,
+}
+
+/// What a put gives of an object: all but its relations.
+#[derive(Drop)]
+pub struct Body {
+    pub kind: ObjectType,
+    pub geometry: Sequence<Geometry>,
+    pub extra: Extra<AtObject>,
+}
+
+/// A city object (CityJSON 2.0, section 2).
+#[derive(Drop)]
+pub struct Object {
+    pub body: Body,
+    pub parents: Sequence<Id>,
+    pub children: Sequence<Id>,
+}
