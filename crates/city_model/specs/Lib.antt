@@ -1,4 +1,10 @@
+pub mod CityMap
 pub mod DataCode
 pub mod Kept
+pub mod Meaning
+pub mod Relations
+pub mod Runs
+pub mod Scripts
+pub mod Shells
 pub mod Types
 pub mod Whole

@@ -2,13 +2,16 @@
 #![tactic(auto)]
 
 pub mod city;
+pub mod command;
 pub mod copied;
+pub mod end;
 pub mod extra;
 pub mod frame;
 pub mod members;
 pub mod object;
 pub mod object_type;
 pub mod place;
+pub mod script;
 pub mod sequence;
 pub mod text;
 pub mod whole;

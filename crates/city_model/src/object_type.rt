@@ -167,3 +167,12 @@ pub fn level(kind: ObjectType) -> u8
 {
     if family(kind) == kind { 1 } else { 2 }
 }
+
+ghost use Rattle.std.specs.Str.{bytes_eq};
+
+/// Whether two types are the same.
+pub fn is_same(kind: ObjectType, other: ObjectType) -> bool
+    ensures { result ≡ bytes_eq (name_of kind) (name_of other) }
+{
+    kind == other
+}

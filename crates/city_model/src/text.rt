@@ -7,10 +7,11 @@ ghost use Rattle.std.specs.Cmp.Lexicographic.{pointwise, slice_cmp};
 ghost use Rattle.std.specs.Ordering.{nat_cmp, as_partial_cmp};
 
 use std::cmp::Ordering;
+use std::fmt::{self, Display, Formatter, Write};
 use std::marker::Model;
 
 /// A text, ordered by its bytes.
-#[derive(Drop)]
+#[derive(Debug, Drop)]
 pub struct Text {
     text: String,
 }
@@ -58,6 +59,12 @@ impl Ord for Text {
 
     fn cmp(&self, other: &Text) -> Ordering {
         self.text.cmp(&other.text)
+    }
+}
+
+impl Display for Text {
+    fn fmt<W: Write>(&self, f: &mut Formatter<W>) -> fmt::Result {
+        self.text.fmt(f)
     }
 }
 

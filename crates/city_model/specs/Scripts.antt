@@ -1,0 +1,22 @@
+-- Which lists of commands are scripts.
+use Rattle.std.specs.Prelude.{List, [], ◌∷◌, Bool, true, false, if◌then◌else◌}
+use Rattle.city_model.specs.declared.command.Command.{Command}
+use Rattle.city_model.specs.declared.command.Command.TheVariants.{Read, Put, Delete, Attach, Detach, Commit, Abort}
+
+abbrev pub is_end : Command → Bool
+is_end (Read id) = false
+is_end (Put id body) = false
+is_end (Delete id) = false
+is_end (Attach child parent) = false
+is_end (Detach child parent) = false
+is_end Commit = true
+is_end Abort = true
+
+abbrev pub is_empty_list : List Command → Bool
+is_empty_list [] = true
+is_empty_list (c ∷ cs) = false
+
+-- exactly the last command ends the script
+abbrev pub ends_once : List Command → Bool
+ends_once [] = false
+ends_once (c ∷ cs) = if is_end c then is_empty_list cs else ends_once cs

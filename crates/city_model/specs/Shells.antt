@@ -1,0 +1,102 @@
+-- Rings, surfaces and closed shells, over points (CityJSON 2.0, section 3.2).
+use Rattle.std.specs.Prelude.{ℕ, ◌+◌, ◌==◌, ◌&&◌, ◌||◌, not, nat_lt, List, [], ◌∷◌, ◌++◌, Bool, length, take, drop, Option, Some, None, if◌then◌else◌}
+use Rattle.std.specs.Ordering.{int_eq}
+use Rattle.std.specs.List.{list_any, list_all, zip}
+use Rattle.city_model.specs.declared.object.Point.{Point}
+use Rattle.city_model.specs.declared.object.Shape.{Shape}
+use Rattle.city_model.specs.declared.object.Shape.TheVariants.{MultiSurface, CompositeSurface, Solid}
+use Rattle.city_model.specs.declared.object.Body.{Body}
+use Rattle.city_model.specs.declared.command.Cause.{Cause}
+use Rattle.city_model.specs.declared.command.Cause.TheVariants.{ShortRing, SameTwice, OpenShell}
+
+abbrev pub Ring : Type 0
+Ring = List Point
+
+abbrev pub Surface : Type 0
+Surface = List Ring
+
+abbrev pub Shell : Type 0
+Shell = List Surface
+
+abbrev pub Edge : Type 0
+Edge = Point × Point
+
+abbrev pub same_point : Point → Point → Bool
+same_point p q = int_eq p.x q.x && int_eq p.y q.y && int_eq p.z q.z
+
+abbrev pub same_edge : Edge → Edge → Bool
+same_edge e f = same_point e.0 f.0 && same_point e.1 f.1
+
+abbrev pub flipped : Edge → Edge
+flipped e = (e.1, e.0)
+
+-- from each point of the ring to the next one, and from the last to the first
+abbrev pub ring_edges : Ring → List Edge
+ring_edges r = zip r (drop 1 r ++ take 1 r)
+
+abbrev pub surface_edges : Surface → List Edge
+surface_edges [] = []
+surface_edges (r ∷ rs) = ring_edges r ++ surface_edges rs
+
+abbrev pub edges_of : Shell → List Edge
+edges_of [] = []
+edges_of (s ∷ ss) = surface_edges s ++ edges_of ss
+
+abbrev pub times : Edge → List Edge → ℕ
+times e [] = 0
+times e (f ∷ fs) = if same_edge e f then 1 + times e fs else times e fs
+
+-- the pair occurs once, and so does the reversed pair
+abbrev pub runs_both_ways : List Edge → Edge → Bool
+runs_both_ways es e = (times e es == 1) && (times (flipped e) es == 1)
+
+-- each edge is run once each way
+abbrev pub is_closed : Shell → Bool
+is_closed shell = list_all (runs_both_ways (edges_of shell)) (edges_of shell)
+
+-- ---- the rules of one geometry
+
+abbrev pub surfaces_of_shells : List Shell → List Surface
+surfaces_of_shells [] = []
+surfaces_of_shells (s ∷ ss) = s ++ surfaces_of_shells ss
+
+abbrev pub surfaces_of : Shape → List Surface
+surfaces_of (MultiSurface surfaces) = surfaces
+surfaces_of (CompositeSurface surfaces) = surfaces
+surfaces_of (Solid shells) = surfaces_of_shells shells
+
+-- the shells that have to be closed
+abbrev pub shells_of : Shape → List Shell
+shells_of (MultiSurface surfaces) = []
+shells_of (CompositeSurface surfaces) = []
+shells_of (Solid shells) = shells
+
+abbrev pub is_short_ring : Ring → Bool
+is_short_ring r = nat_lt (length r) 3
+
+-- no ring, or one of fewer than three points
+abbrev pub is_short_surface : Surface → Bool
+is_short_surface s = (length s == 0) || list_any is_short_ring s
+
+abbrev pub has_same_neighbours : Ring → Bool
+has_same_neighbours r = list_any (λ e. same_point e.0 e.1) (ring_edges r)
+
+abbrev pub has_short_ring : Shape → Bool
+has_short_ring shape = list_any is_short_surface (surfaces_of shape)
+
+abbrev pub has_same_twice : Shape → Bool
+has_same_twice shape = list_any (list_any has_same_neighbours) (surfaces_of shape)
+
+abbrev pub has_open_shell : Shape → Bool
+has_open_shell shape = list_any (λ shell. not (is_closed shell)) (shells_of shape)
+
+-- ---- the rules of a body
+
+-- some geometry of the body has it
+abbrev pub some_shape : (Shape → Bool) → Body → Bool
+some_shape test body = list_any (λ g. test g.shape) body.geometry
+
+-- the first of the three causes that some geometry has
+abbrev pub body_fault : Body → Option Cause
+body_fault body =
+    if some_shape has_short_ring body then Some ShortRing else (if some_shape has_same_twice body then Some SameTwice else (if some_shape has_open_shell body then Some OpenShell else None))

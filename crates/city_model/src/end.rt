@@ -1,0 +1,29 @@
+//! How a script ended.
+use crate::command::{Cause, Reply};
+use crate::sequence::Sequence;
+use crate::text::Text;
+
+/// How a script ended. Numbers are those of commands, from 0: of the command that ended the script.
+#[derive(Drop)]
+pub enum Outcome {
+    Committed,
+    Aborted,
+    /// A command was refused.
+    Refused(usize, Cause),
+    /// There was no memory for a command.
+    NoMemory(usize),
+}
+
+/// The end of a script.
+#[derive(Drop)]
+pub struct End {
+    /// The number of the script, from 0.
+    pub script: usize,
+    /// The script's name.
+    pub name: Text,
+    /// How many ends there were when the script began its last attempt.
+    pub since: usize,
+    /// The replies to the commands before the one that ended the script.
+    pub replies: Sequence<Reply>,
+    pub outcome: Outcome,
+}

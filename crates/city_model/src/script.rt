@@ -1,0 +1,86 @@
+//! A script: a list of commands that is run as one transaction.
+ghost use Rattle.std.specs.Prelude.{◌≡◌, true, IfOk, IfErr, is_ok};
+ghost use Rattle.city_model.specs.Scripts.{is_end, ends_once};
+
+use crate::command::Command;
+use crate::sequence::Sequence;
+use crate::text::Text;
+use std::marker::Model;
+
+/// A name and commands, of which exactly the last is Commit or Abort.
+#[derive(Drop)]
+pub struct Script {
+    name: Text,
+    commands: Sequence<Command>,
+}
+
+impl Model for Script {
+    ghost use Rattle.std.specs.Prelude.{◌≡◌, true, List, ℕ};
+    ghost use Rattle.city_model.specs.declared.command.Command.{Command};
+
+    ghost Value = { List ℕ × List Command };
+
+    ghost use Rattle.std.specs.Coded.{codes};
+    ghost use Rattle.city_model.specs.DataCode.{coded_members};
+
+    ghost coded = { Prim.hlevel (codes, coded_members) };
+
+    ghost view = { λ s. (s.name, s.commands) };
+
+    ghost use Rattle.city_model.specs.Scripts.{ends_once};
+
+    ghost invariant = { λ s. ends_once s.commands ≡ true };
+}
+
+impl Script {
+    /// A script, or its parts back where not exactly the last command is Commit or Abort. Takes no
+    /// memory.
+    pub fn new(
+        name: Text,
+        commands: Sequence<Command>,
+    ) -> Result<Script, (Text, Sequence<Command>)>
+        ensures checked { is_ok result ≡ ends_once commands }
+        ensures made { IfOk result (λ s. s ≡ (name, commands)) }
+        ensures back { IfErr result (λ parts. parts ≡ (name, commands)) }
+    {
+        if ends_once(commands.as_slice()) {
+            Ok(Script { name, commands })
+        } else {
+            Err((name, commands))
+        }
+    }
+
+    /// The script's name. Takes no memory.
+    pub fn name(&self) -> &Text
+        ensures { result.now ≡ self.now.0 }
+    {
+        &self.name
+    }
+
+    /// The script's commands, the last of which ends it. Takes no memory.
+    pub fn commands(&self) -> &[Command]
+        ensures commands { result.now ≡ self.now.1 }
+        ensures ends { ends_once self.now.1 ≡ true }
+    {
+        self.commands.as_slice()
+    }
+}
+
+/// Whether a command ends a script.
+pub fn is_end(command: &Command) -> bool
+    ensures { result ≡ is_end command.now }
+{
+    matches!(command, Command::Commit | Command::Abort)
+}
+
+/// Whether exactly the last of the commands ends a script.
+fn ends_once(commands: &[Command]) -> bool
+    ensures { result ≡ ends_once commands.now }
+{
+    for (i, command) in commands.iter().enumerate() {
+        if is_end(command) {
+            return i + 1 == commands.len();
+        }
+    }
+    false
+}
