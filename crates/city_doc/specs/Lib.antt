@@ -1,4 +1,6 @@
+pub mod Bodies
 pub mod Canonical
 pub mod Documents
+pub mod ObjectFaults
 pub mod Reports
 pub mod ScriptTexts

@@ -1,7 +1,9 @@
 //! Reads and writes the texts of city models: documents, scripts and reports.
 #![tactic(auto)]
 
+pub mod body;
 pub mod fault;
+pub mod object_faults;
 pub mod read;
 pub mod report;
 pub mod scripts;

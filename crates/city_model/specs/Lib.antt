@@ -2,6 +2,7 @@ pub mod CityMap
 pub mod DataCode
 pub mod Kept
 pub mod Meaning
+pub mod Members
 pub mod Relations
 pub mod Runs
 pub mod Scripts

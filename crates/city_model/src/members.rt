@@ -1,7 +1,8 @@
 //! The members of a JSON object.
 ghost use Rattle.std.specs.Prelude.{◌≡◌, option_map};
-ghost use Rattle.serde_json.specs.Find.{get_member};
+ghost use Rattle.serde_json.specs.Find.{as_object, get_member};
 ghost use Rattle.serde_json.specs.View.{view, members_view};
+ghost use Rattle.city_model.specs.Members.{without, AreOrdered};
 
 use serde_json::{Map, Value};
 
@@ -10,4 +11,30 @@ pub fn member<'v>(members: &'v Map<String, Value>, name: &str) -> Option<&'v Val
     ensures { option_map (λ v. view v.now) result ≡ get_member name.now (members_view members.now.entries) }
 {
     members.get(name)
+}
+
+/// Takes the member of a name out, and gives it.
+pub fn take(members: &mut Map<String, Value>, name: &str) -> Option<Value>
+    ensures found { option_map view result ≡ get_member name.now (members_view members.old.entries) }
+    ensures left { members_view members.new.entries ≡ without name.now (members_view members.old.entries) }
+{
+    let _count = members.len();
+    members.remove(name)
+}
+
+/// The members of an object, which it gives up.
+pub fn into_object(value: Value) -> Option<Map<String, Value>>
+    ensures { option_map (λ m. members_view m.entries) result ≡ as_object (view value) }
+{
+    match value {
+        Value::Object(members) => Some(members),
+        _ => None,
+    }
+}
+
+/// How many members there are; their names ascend.
+pub fn count(members: &Map<String, Value>) -> usize
+    ensures { AreOrdered (members_view members.now.entries) }
+{
+    members.len()
 }
