@@ -13,6 +13,8 @@ pub mod object_type;
 pub mod place;
 pub mod script;
 pub mod sequence;
+#[cfg(test)]
+mod tests;
 pub mod text;
 pub mod whole;
 
