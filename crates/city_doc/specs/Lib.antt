@@ -1,4 +1,5 @@
 pub mod Canonical
 pub mod Documents
+pub mod Outputs
 pub mod Reports
 pub mod ScriptTexts
