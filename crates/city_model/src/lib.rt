@@ -10,6 +10,7 @@ pub mod frame;
 pub mod members;
 pub mod object;
 pub mod object_type;
+pub mod orphans;
 pub mod place;
 pub mod script;
 pub mod sequence;

@@ -35,10 +35,7 @@ impl Model for Script {
 impl Script {
     /// A script, or its parts back where not exactly the last command is Commit or Abort. Takes no
     /// memory.
-    pub fn new(
-        name: Text,
-        commands: Sequence<Command>,
-    ) -> Result<Script, (Text, Sequence<Command>)>
+    pub fn new(name: Text, commands: Sequence<Command>) -> Result<Script, (Text, Sequence<Command>)>
         ensures checked { is_ok result ≡ ends_once commands }
         ensures made { IfOk result (λ s. s ≡ (name, commands)) }
         ensures back { IfErr result (λ parts. parts ≡ (name, commands)) }
@@ -63,6 +60,14 @@ impl Script {
         ensures ends { ends_once self.now.1 ≡ true }
     {
         self.commands.as_slice()
+    }
+
+    /// The script's name and its commands. Takes no memory.
+    pub fn into_parts(self) -> (Text, Sequence<Command>)
+        ensures parts { result ≡ self }
+        ensures ends { ends_once self.1 ≡ true }
+    {
+        (self.name, self.commands)
     }
 }
 

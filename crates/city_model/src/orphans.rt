@@ -1,0 +1,29 @@
+//! Objects that lack the parent that their type asks for.
+ghost use Rattle.std.specs.Prelude.{◌≡◌, IfSome, IfNone};
+ghost use Rattle.city_model.specs.CityMap.{at};
+ghost use Rattle.city_model.specs.Relations.{is_orphan, HasNoOrphan, IsLeastOrphan};
+
+use crate::city::City;
+use crate::object::Object;
+use crate::object_type::level;
+use crate::text::Id;
+
+/// Whether an object is second-level and has no parent.
+fn is_orphan(object: &Object) -> bool
+    ensures { result ≡ is_orphan object.now }
+{
+    level(object.body.kind) == 2 && object.parents.len() == 0
+}
+
+/// The least id of an orphan, in byte order; none where no object is one. Takes no memory.
+pub fn least_orphan(city: &City) -> Option<&Id>
+    ensures least { IfSome result (λ id. IsLeastOrphan (at city.now.1) id.now) }
+    ensures none { IfNone result (HasNoOrphan (at city.now.1)) }
+{
+    for (id, object) in city.iter() {
+        if is_orphan(object) {
+            return Some(id);
+        }
+    }
+    None
+}
