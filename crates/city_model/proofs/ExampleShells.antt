@@ -1,6 +1,6 @@
 -- Closed and open shells, and the faults of bodies, worked out on small solids.
 use Rattle.std.proofs.Common.{◌≡◌, refl}
-use Rattle.std.specs.Prelude.{ℕ, pos, List, [], ◌∷◌, Bool, true, false, Option, Some, None, codes}
+use Rattle.std.specs.Prelude.{ℕ, pos, List, [], ◌∷◌, true, false, Some, None, codes}
 use Rattle.serde_json.specs.Data.{no_members}
 use Rattle.city_model.specs.declared.object.Point.{Point}
 use Rattle.city_model.specs.declared.object.Geometry.{Geometry}
@@ -8,7 +8,6 @@ use Rattle.city_model.specs.declared.object.Body.{Body}
 use Rattle.city_model.specs.declared.object.Shape.{Shape}
 use Rattle.city_model.specs.declared.object.Shape.TheVariants.{MultiSurface, Solid}
 use Rattle.city_model.specs.declared.object_type.ObjectType.TheVariants.{Building}
-use Rattle.city_model.specs.declared.command.Cause.{Cause}
 use Rattle.city_model.specs.declared.command.Cause.TheVariants.{ShortRing, SameTwice, OpenShell}
 use Rattle.city_model.specs.Shells.{Ring, Surface, Shell, is_closed, body_fault}
 
