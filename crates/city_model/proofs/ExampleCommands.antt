@@ -1,0 +1,126 @@
+-- What single commands are refused by, and what scripts leave of a small city.
+use Rattle.std.proofs.Common.{◌≡◌, Less, refl}
+use Rattle.std.specs.Prelude.{ℕ, List, [], ◌∷◌, false, Some, codes}
+use Rattle.serde_json.specs.Data as Data
+use Rattle.serde_json.specs.Data.{number, unsigned, no_members, member}
+use Rattle.city_model.specs.declared.object.Body.{Body}
+use Rattle.city_model.specs.declared.object_type.ObjectType.TheVariants.{Building, BuildingPart, Bridge, LandUse}
+use Rattle.city_model.specs.declared.command.Command.{Command}
+use Rattle.city_model.specs.declared.command.Command.TheVariants.{Put, Delete, Attach, Detach, Commit, Abort}
+use Rattle.city_model.specs.declared.command.Cause.{Cause}
+use Rattle.city_model.specs.declared.command.Cause.TheVariants.{NoObject, TypeFixed, HasChildren, WrongFamily, AlreadyAttached, NotAttached, Orphan}
+use Rattle.city_model.specs.declared.command.Reply.TheVariants.{Added, Replaced, Deleted, Attached, Detached}
+use Rattle.city_model.specs.declared.end.Outcome.{Outcome}
+use Rattle.std.specs.Ordering.{nat_cmp}
+use Rattle.std.specs.Cmp.Lexicographic.{slice_cmp}
+use Rattle.city_model.specs.CityMap.{Entries, at, changed}
+use Rattle.city_model.specs.Meaning.{attached, detached}
+use Rattle.city_model.specs.Runs.{HasResult, map_left}
+use Rattle.city_model.proofs.ExampleCities.{one_id, bare, object, alone}
+use Rattle.city_model.proofs.Orphans.{is_orphan_there, no_orphan, least_orphan, orphan_below, no_orphan_at, no_orphan_attached, orphan_apart, no_orphan_detached_below}
+
+-- ---- the causes: a building b with the part p, and a building r
+
+abbrev family : Entries
+family =
+    (codes "b", object Building [] (one_id (codes "p")))
+    ∷ (codes "p", object BuildingPart (one_id (codes "b")) [])
+    ∷ (codes "r", alone Building)
+    ∷ []
+
+-- the script of this command and Commit is refused at its command by the cause
+abbrev IsRefusedBy : Command → Cause → Type 0
+IsRefusedBy command cause = HasResult (at family) (command ∷ Commit ∷ []) [] (Outcome.Refused 0 cause)
+
+pub type_is_fixed : IsRefusedBy (Put (codes "b") (bare Bridge)) (TypeFixed (codes "b"))
+type_is_fixed = (refl, refl)
+
+pub parent_is_not_deleted : IsRefusedBy (Delete (codes "b")) (HasChildren (codes "b"))
+parent_is_not_deleted = (refl, refl)
+
+pub first_level_object_has_no_parent : IsRefusedBy (Attach (codes "b") (codes "b")) WrongFamily
+first_level_object_has_no_parent = (refl, refl)
+
+pub no_object_is_its_own_parent : IsRefusedBy (Attach (codes "p") (codes "p")) WrongFamily
+no_object_is_its_own_parent = (refl, refl)
+
+pub no_parent_twice : IsRefusedBy (Attach (codes "p") (codes "b")) AlreadyAttached
+no_parent_twice = (refl, refl)
+
+pub only_a_parent_is_detached : IsRefusedBy (Detach (codes "p") (codes "r")) NotAttached
+only_a_parent_is_detached = (refl, refl)
+
+pub nothing_to_delete : IsRefusedBy (Delete (codes "z")) (NoObject (codes "z"))
+nothing_to_delete = (refl, refl)
+
+pub no_such_parent : IsRefusedBy (Attach (codes "p") (codes "z")) (NoObject (codes "z"))
+no_such_parent = (refl, refl)
+
+-- a part that loses its only parent is an orphan at the end
+abbrev detach_only : List Command
+detach_only = Detach (codes "p") (codes "b") ∷ Commit ∷ []
+
+pub detached_part_is_an_orphan : HasResult (at family) detach_only (Detached ∷ []) (Outcome.Refused 1 (Orphan (codes "p")))
+detached_part_is_an_orphan =
+    let left = detached (at family) (codes "p") (codes "b") in
+    let others : (q : List ℕ) → slice_cmp nat_cmp q (codes "p") ≡ Less → is_orphan_there (left q) ≡ false =
+    λ q below. no_orphan_detached_below (at family) (codes "p") (codes "b") q below refl (no_orphan_at family q refl) in
+    ((refl, refl, refl), (refl, (codes "p", refl, least_orphan left (codes "p") (object BuildingPart [] [], refl, refl) others)))
+
+-- and a refused script leaves the city as it was
+pub refused_script_leaves_the_map : map_left (at family) detach_only (Outcome.Refused 1 (Orphan (codes "p"))) ≡ at family
+refused_script_leaves_the_map = refl
+
+-- ---- a new part of a building b
+
+abbrev building : Entries
+building = (codes "b", alone Building) ∷ []
+
+abbrev put_part : List Command
+put_part = Put (codes "p") (bare BuildingPart) ∷ Commit ∷ []
+
+pub new_part_is_an_orphan : HasResult (at building) put_part (Added ∷ []) (Outcome.Refused 1 (Orphan (codes "p")))
+new_part_is_an_orphan =
+    let left = changed (at building) (codes "p") (Some (alone BuildingPart)) in
+    let others : (q : List ℕ) → slice_cmp nat_cmp q (codes "p") ≡ Less → is_orphan_there (left q) ≡ false =
+    λ q below. orphan_below (at building) (codes "p") (Some (alone BuildingPart)) q below (no_orphan_at building q refl) in
+    ((refl, refl, refl), (refl, (codes "p", refl, least_orphan left (codes "p") (alone BuildingPart, refl, refl) others)))
+
+pub orphan_leaves_the_map : map_left (at building) put_part (Outcome.Refused 1 (Orphan (codes "p"))) ≡ at building
+orphan_leaves_the_map = refl
+
+abbrev put_and_attach_part : List Command
+put_and_attach_part = Put (codes "p") (bare BuildingPart) ∷ Attach (codes "p") (codes "b") ∷ Commit ∷ []
+
+pub attached_part_is_committed : HasResult (at building) put_and_attach_part (Added ∷ Attached ∷ []) Outcome.Committed
+attached_part_is_committed =
+    let put = changed (at building) (codes "p") (Some (alone BuildingPart)) in
+    let left = attached put (codes "p") (codes "b") in (
+      (refl, refl, refl),
+      (
+        (refl, refl, refl),
+        (
+          refl,
+          no_orphan left (λ q.
+              no_orphan_attached put (codes "p") (codes "b") q refl refl
+              (λ apart. orphan_apart (at building) (codes "p") (Some (alone BuildingPart)) q apart (no_orphan_at building q refl))),
+        ),
+      ),
+    )
+
+-- ---- a script that gives up
+
+abbrev numbered : ℕ → Body
+numbered n = record { kind = LandUse; geometry = []; extra = member (codes "attributes") (Data.object (member (codes "n") (number (unsigned n)) no_members)) no_members }
+
+abbrev meadow : Entries
+meadow = (codes "x", record { body = numbered 0; parents = []; children = [] }) ∷ []
+
+abbrev give_up : List Command
+give_up = Put (codes "x") (numbered 1) ∷ Put (codes "x") (numbered 2) ∷ Delete (codes "x") ∷ Put (codes "x") (numbered 3) ∷ Abort ∷ []
+
+pub abort_answers_as_if_it_stayed : HasResult (at meadow) give_up (Replaced ∷ Replaced ∷ Deleted ∷ Added ∷ []) Outcome.Aborted
+abort_answers_as_if_it_stayed = ((refl, refl, refl), ((refl, refl, refl), ((refl, refl, refl), ((refl, refl, refl), refl))))
+
+pub abort_leaves_the_map : map_left (at meadow) give_up Outcome.Aborted ≡ at meadow
+abort_leaves_the_map = refl

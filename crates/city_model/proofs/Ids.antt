@@ -1,0 +1,29 @@
+-- When two ids are the same.
+use Rattle.std.proofs.Common.{◌≡◌, ℕ, List, true, false, Ordering, Less, Equal, Greater, refl, ap, sym, ◌∙◌}
+use Rattle.std.specs.Ordering.{nat_cmp, is_eq}
+use Rattle.std.specs.Cmp.Lexicographic.{slice_cmp}
+use Rattle.std.proofs.lemmas.Bool.{false≢true}
+use Rattle.std.proofs.lemmas.Cmp.{nat_list_cmp_total, tied_itself, eq_by_cmp_equiv}
+use Rattle.std.proofs.lemmas.Map.Lookups.{exact_bytes}
+use Rattle.city_model.specs.CityMap.{same_id}
+
+is_equal : (o : Ordering) → is_eq o ≡ true → o ≡ Equal
+is_equal Less h = absurd (false≢true h)
+is_equal Equal h = refl
+is_equal Greater h = absurd (false≢true h)
+
+pub same_id_true : (id q : List ℕ) → same_id id q ≡ true → id ≡ q
+same_id_true id q h = exact_bytes id q (is_equal (slice_cmp nat_cmp id q) h)
+
+pub same_id_itself : (id : List ℕ) → same_id id id ≡ true
+same_id_itself id = ap is_eq (tied_itself nat_list_cmp_total id)
+
+pub same_id_back : (id q : List ℕ) → same_id id q ≡ same_id q id
+same_id_back id q = (eq_by_cmp_equiv nat_list_cmp_total).symm id q
+
+pub same_id_of_equal : (id q : List ℕ) → id ≡ q → same_id id q ≡ true
+same_id_of_equal id q e = ap (same_id id) (sym e) ∙ same_id_itself id
+
+-- an id that another one is below is another one
+pub below_is_apart : (q id : List ℕ) → slice_cmp nat_cmp q id ≡ Less → same_id id q ≡ false
+below_is_apart q id h = same_id_back id q ∙ ap is_eq h
