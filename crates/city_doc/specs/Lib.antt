@@ -4,3 +4,5 @@ pub mod Documents
 pub mod ObjectFaults
 pub mod Reports
 pub mod ScriptTexts
+pub mod Texts
+pub mod Triples
