@@ -5,3 +5,5 @@ pub mod ObjectFaults
 pub mod Outputs
 pub mod Reports
 pub mod ScriptTexts
+pub mod Texts
+pub mod Triples

@@ -4,7 +4,9 @@
 pub mod body;
 pub mod fault;
 pub mod object_faults;
+pub mod parse;
 pub mod read;
 pub mod report;
 pub mod scripts;
+pub mod triples;
 pub mod write;

@@ -1,0 +1,52 @@
+//! Parses a text as a JSON tree of whole numbers.
+ghost use Rattle.std.specs.Prelude.{◌≡◌, true, IfOk, IfErr};
+ghost use Rattle.serde_json.specs.View.{view};
+ghost use Rattle.city_model.specs.Whole.{is_whole};
+ghost use Rattle.city_doc.specs.Texts.{HasTree, IsRefused};
+
+use city_model::whole::is_whole;
+use serde_json::Value;
+use std::alloc::Global;
+
+/// How many bytes a text may have.
+pub const MAX_TEXT: usize = 67_108_864;
+
+/// Why a text has no tree of whole numbers: the first of this list that stands in it.
+#[derive(Drop)]
+pub enum TextFault {
+    /// There was no memory; this has no place in the order.
+    OutOfMemory,
+    /// The text has more than `MAX_TEXT` bytes.
+    TooLong,
+    /// The text isn't JSON.
+    NotJson,
+    /// A number isn't an `i64`.
+    NotWhole,
+}
+
+/// The tree of a text, whose numbers are all whole.
+///
+/// `TooLong`, `NotJson` and `NotWhole` are judged in this order; `OutOfMemory` where there was no
+/// memory for the tree.
+pub fn parse(alloc: Global, bytes: &[u8]) -> Result<Value, TextFault>
+    ensures tree { IfOk result (λ v. HasTree bytes.now (view v)) }
+    ensures whole { IfOk result (λ v. is_whole (view v) ≡ true) }
+    ensures fault { IfErr result (λ f. IsRefused bytes.now f) }
+{
+    if bytes.len() > MAX_TEXT {
+        return Err(TextFault::TooLong);
+    }
+    let tree = match Value::from_slice(alloc, bytes) {
+        Ok(tree) => tree,
+        Err(e) => {
+            if e.is_memory() {
+                return Err(TextFault::OutOfMemory);
+            }
+            return Err(TextFault::NotJson);
+        }
+    };
+    if !is_whole(&tree) {
+        return Err(TextFault::NotWhole);
+    }
+    Ok(tree)
+}
