@@ -1,14 +1,14 @@
 -- A command reads and writes only what it locks.
-use Rattle.std.proofs.Common.{◌≡◌, ℕ, List, [], ◌∷◌, length, Bool, true, false, ◌||◌, Option, Some, None, refl, ap, sym, subst, ◌∙◌}
+use Rattle.std.proofs.Common.{◌≡◌, ℕ, List, [], ◌∷◌, length, Bool, true, false, ◌||◌, Option, Some, None, refl, ap, sym, ◌∙◌}
 use Rattle.std.specs.Prelude.{◌==◌, if◌then◌else◌, map, option_map}
 use Rattle.std.proofs.lemmas.Bool.{false≢true, false_from_ne_true}
 use Rattle.city_model.specs.declared.object.Object.{Object}
 use Rattle.city_model.specs.declared.command.Cause.{Cause}
-use Rattle.city_model.specs.declared.command.Cause.TheVariants.{NoObject, HasChildren}
+use Rattle.city_model.specs.declared.command.Cause.TheVariants.{HasChildren}
 use Rattle.city_model.specs.declared.command.Command.{Command}
 use Rattle.city_model.specs.declared.command.Command.TheVariants.{Read, Put, Delete, Attach, Detach, Commit, Abort}
 use Rattle.city_model.specs.CityMap.{CityMap, same_id, has_id, changed, parents_of, children_of}
-use Rattle.city_model.specs.Meaning.{read_reply, with_body, put_cause, put_done, delete_cause, attach_cause, detach_cause, without_id, without_child, without_parent, with_child, with_parent, deleted, attached, detached, cause_of, effect_of, done_reply, map_unless, refused_or, after, reply_to, exclusively, delete_locks, locks_of}
+use Rattle.city_model.specs.Meaning.{read_reply, with_body, put_cause, put_done, delete_cause, attach_cause, detach_cause, without_child, without_parent, with_child, with_parent, deleted, cause_of, effect_of, done_reply, map_unless, refused_or, after, reply_to, exclusively, delete_locks, locks_of}
 use Rattle.city_model.specs.Shells.{body_fault}
 use Rattle.city_model.specs.Relations.{IsSound}
 use Rattle.city_model.proofs.Changed.{neither_true, changed_apart, attached_apart, detached_apart, deleted_apart}

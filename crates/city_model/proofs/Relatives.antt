@@ -1,12 +1,12 @@
 -- Parents and children that agree, and that they still do when an object goes, is attached or is detached.
-use Rattle.std.proofs.Common.{◌≡◌, ℕ, List, [], ◌∷◌, ◌++◌, Bool, true, false, refl, ap, sym, subst, ◌∙◌}
+use Rattle.std.proofs.Common.{◌≡◌, ℕ, List, [], ◌∷◌, ◌++◌, true, false, ap, sym, subst, ◌∙◌}
 use Rattle.std.specs.Prelude.{if◌then◌else◌}
 use Rattle.std.proofs.lemmas.Bool.{false≢true, false_from_ne_true}
 use Rattle.city_model.specs.CityMap.{same_id, has_id}
 use Rattle.city_model.specs.Meaning.{without_id}
 use Rattle.city_model.specs.Relations.{AreDistinct}
 use Rattle.city_model.proofs.Ids.{same_id_true, same_id_itself, same_id_back}
-use Rattle.city_model.proofs.IdLists.{bool_cases, not_both, has_without, in_without, without_has, in_more, more_has, more_has_last, distinct_without, distinct_more}
+use Rattle.city_model.proofs.IdLists.{bool_cases, not_both, in_without, without_has, in_more, more_has, more_has_last, distinct_without, distinct_more}
 
 -- the parents of each id, or its children
 abbrev pub Relatives : Type 0
@@ -32,11 +32,39 @@ set_distinct of id ids all here q = bool_cases (same_id id q)
     (λ e. subst AreDistinct (sym (set_there of id ids q e)) here)
     (λ e. subst AreDistinct (sym (set_apart of id ids q e)) (all q))
 
-has_there : (of : Relatives) (id : List ℕ) (ids : List (List ℕ)) (q x : List ℕ) → same_id id q ≡ true → has_id (set_at of id ids q) x ≡ has_id ids x
+pub has_there : (of : Relatives) (id : List ℕ) (ids : List (List ℕ)) (q x : List ℕ) → same_id id q ≡ true → has_id (set_at of id ids q) x ≡ has_id ids x
 has_there of id ids q x h = ap (λ ks. has_id ks x) (set_there of id ids q h)
 
-has_apart : (of : Relatives) (id : List ℕ) (ids : List (List ℕ)) (q x : List ℕ) → same_id id q ≡ false → has_id (set_at of id ids q) x ≡ has_id (of q) x
+pub has_apart : (of : Relatives) (id : List ℕ) (ids : List (List ℕ)) (q x : List ℕ) → same_id id q ≡ false → has_id (set_at of id ids q) x ≡ has_id (of q) x
 has_apart of id ids q x h = ap (λ ks. has_id ks x) (set_apart of id ids q h)
+
+-- relatives that are the same at each id agree too
+pub agreed_as : (parents children others young : Relatives) → ((q : List ℕ) → others q ≡ parents q) → ((q : List ℕ) → young q ≡ children q) → AreAgreed parents children → AreAgreed others young
+agreed_as parents children others young e f a =
+    let p : parents ≡ others = λ i q. sym (e q) i in
+    let c : children ≡ young = λ i q. sym (f q) i in
+    subst (λ (ks : Relatives). AreAgreed others ks) c (subst (λ (ks : Relatives). AreAgreed ks children) p a)
+
+-- a parent in a list with one more is an old one or that one
+pub one_more : {A : Type 0} (parents : Relatives) (child parent id p : List ℕ) → has_id (set_at parents child (parents child ++ parent ∷ []) id) p ≡ true
+    → (has_id (parents id) p ≡ true → A) → (child ≡ id → parent ≡ p → A) → A
+one_more parents child parent id p h old new = bool_cases (same_id child id)
+    (λ e. bool_cases (same_id p parent)
+    (λ f. new (same_id_true child id e) (sym (same_id_true p parent f)))
+    (λ f. old (ap (λ k. has_id (parents k) p) (sym (same_id_true child id e))
+    ∙ in_more (parents child) parent p (sym (has_there parents child (parents child ++ parent ∷ []) id p e) ∙ h) f)))
+    (λ e. old (sym (has_apart parents child (parents child ++ parent ∷ []) id p e) ∙ h))
+
+pub one_less : (parents : Relatives) (child parent id p : List ℕ) → has_id (set_at parents child (without_id parent (parents child)) id) p ≡ true → has_id (parents id) p ≡ true
+one_less parents child parent id p h = bool_cases (same_id child id)
+    (λ e. ap (λ k. has_id (parents k) p) (sym (same_id_true child id e))
+    ∙ (in_without parent (parents child) p (sym (has_there parents child (without_id parent (parents child)) id p e) ∙ h)).1)
+    (λ e. sym (has_apart parents child (without_id parent (parents child)) id p e) ∙ h)
+
+pub none_there : (parents : Relatives) (gone id p : List ℕ) → has_id (set_at parents gone [] id) p ≡ true → has_id (parents id) p ≡ true
+none_there parents gone id p h = bool_cases (same_id gone id)
+    (λ e. absurd (false≢true (sym (has_there parents gone [] id p e) ∙ h)))
+    (λ e. sym (has_apart parents gone [] id p e) ∙ h)
 
 module _ (parents children : Relatives) (a : AreAgreed parents children) where
   -- ---- an object without children goes
