@@ -61,9 +61,9 @@ pub has_without : (id : List ℕ) (ids : List (List ℕ)) (q : List ℕ) → has
 has_without id [] q = sym (and_off (not (same_id id q)) false refl)
 has_without id (x ∷ xs) q = bool_cases (same_id id x)
     (λ e. rw e (has_without id xs q
-      ∙ taken_out (same_id id q) (same_id q x) (has_id xs q) (ap (same_id q) (sym (same_id_true id x e)) ∙ same_id_back q id)))
+    ∙ taken_out (same_id id q) (same_id q x) (has_id xs q) (ap (same_id q) (sym (same_id_true id x e)) ∙ same_id_back q id)))
     (λ e. rw e (ap (λ h. same_id q x || h) (has_without id xs q)
-      ∙ stays (same_id id q) (same_id q x) (has_id xs q) (λ t. ap (same_id id) (same_id_true q x t) ∙ e)))
+    ∙ stays (same_id id q) (same_id q x) (has_id xs q) (λ t. ap (same_id id) (same_id_true q x t) ∙ e)))
 
 pub in_without : (id : List ℕ) (ids : List (List ℕ)) (q : List ℕ) → has_id (without_id id ids) q ≡ true → (same_id id q ≡ false) × (has_id ids q ≡ true)
 in_without id ids q h = not_and (same_id id q) (has_id ids q) (sym (has_without id ids q) ∙ h)

@@ -1,5 +1,5 @@
 -- A script has one result at a map, and scripts run in their order have one list of ends, but for want of memory.
-use Rattle.std.proofs.Common.{◌≡◌, ℕ, suc, ◌+◌, List, [], ◌∷◌, length, Bool, true, false, Option, Some, None, Ordering, Less, Equal, Greater, refl, ap, sym, subst, ◌∙◌, arith}
+use Rattle.std.proofs.Common.{◌≡◌, ℕ, ◌+◌, List, [], ◌∷◌, length, Bool, true, false, Some, Ordering, Less, Equal, Greater, refl, ap, sym, subst, ◌∙◌, arith}
 use Rattle.std.specs.Prelude.{slice_get}
 use Rattle.std.specs.Ordering.{nat_cmp, ordering_reverse}
 use Rattle.std.specs.Cmp.Lexicographic.{slice_cmp}
@@ -15,8 +15,8 @@ use Rattle.city_model.specs.declared.end.End.{End}
 use Rattle.city_model.specs.declared.end.Outcome.{Outcome}
 use Rattle.city_model.specs.CityMap.{CityMap}
 use Rattle.city_model.specs.Relations.{IsLeastOrphan, HasNoOrphan}
-use Rattle.city_model.specs.Meaning.{cause_of, after}
-use Rattle.city_model.specs.Runs.{Scripted, Refuses, EndsAt, Continues, EndsFrom, HasResult, map_left, commands_of, IsEndOf, NoEndOf, FitsFrom, Fits}
+use Rattle.city_model.specs.Meaning.{after}
+use Rattle.city_model.specs.Runs.{Scripted, Refuses, EndsAt, Continues, EndsFrom, HasResult, map_left, commands_of, IsEndOf, FitsFrom, Fits}
 use Rattle.city_model.specs.Scripts.{is_end}
 
 abbrev pub is_no_memory : Outcome → Bool
