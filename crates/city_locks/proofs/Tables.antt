@@ -1,5 +1,5 @@
 -- A lock added to a table, and the locks of a stamp taken out.
-use Rattle.std.proofs.Common.{◌≡◌, ◌≢◌, ℕ, ◌==◌, ◌&&◌, ◌||◌, cond, Bool, true, false, List, [], ◌∷◌, ◌++◌, Option, None, Some, is_some, refl, ap, sym, ◌∙◌, ◌+◌, ◌<◌, length, take, get_or, rules}
+use Rattle.std.proofs.Common.{◌≡◌, ◌≢◌, ℕ, ◌==◌, ◌&&◌, ◌||◌, cond, Bool, true, false, List, [], ◌∷◌, ◌++◌, Option, None, Some, is_some, refl, ap, sym, subst, ◌∙◌, ◌+◌, ◌<◌, length, take, get_or, rules}
 use Rattle.std.specs.List.{list_any}
 use Rattle.std.specs.BTreeMap.{BTreeMap}
 use Rattle.std.proofs.lemmas.Bool.{false≢true, eqb-true, eq-eqb, and_parts, or_left}
@@ -10,8 +10,9 @@ use Rattle.city_locks.specs.declared.holder.Holder.{Holder}
 use Rattle.city_locks.specs.Mode.{stronger}
 use Rattle.city_locks.specs.Holders.{answer_among, mode_among, with_holder, without}
 use Rattle.city_locks.specs.Locks.{Locks, same_id, lists, holders_of, answer_of, mode_of, Lawful}
-use Rattle.city_locks.specs.Listing.{ids_of, IsListed}
+use Rattle.city_locks.specs.Listing.{ids_of, IsListed, Once}
 use Rattle.city_locks.proofs.Among.{by_test, mode_with, mode_without, without_absent, without_twice, lawful_with, lawful_without, own_answers, none_from, or_true}
+use Rattle.city_locks.proofs.Once.{once_with, once_without}
 use Rattle.city_locks.proofs.Ids.{same_id-true, same_id-refl, lists_more}
 
 cond_and : {A : Type 0} (a b : Bool) (x y : A) → b ≡ true → cond a x y ≡ cond (a && b) x y
@@ -52,6 +53,11 @@ pub own_added : (v w : Locks) (s : ℕ) (id : List ℕ) (m : Mode) → Adds v w 
 own_added v w s id m h q n = by_test (same_id id q)
     (λ e. ap (λ hs. answer_among hs s n) (there v w s id m q h e) ∙ own_answers s n (holders_of v q) m)
     (λ e. ap (λ hs. answer_among hs s n) (elsewhere v w s id m q h e))
+
+pub once_added : (v w : Locks) (s : ℕ) (id : List ℕ) (m : Mode) → Adds v w s id m → ((q : List ℕ) → Once (holders_of v q)) → (q : List ℕ) → Once (holders_of w q)
+once_added v w s id m h o q = by_test (same_id id q)
+    (λ e. subst (λ hs. Once hs) (sym (there v w s id m q h e)) (once_with (holders_of v q) s m (o q)))
+    (λ e. subst (λ hs. Once hs) (sym (elsewhere v w s id m q h e)) (o q))
 
 -- each lock stays listed, and the new one is
 pub listed_added : (v w : Locks) (l k : BTreeMap ℕ (List (List ℕ))) (s : ℕ) (id : List ℕ) (m : Mode) → Adds v w s id m → IsListed v l →
@@ -101,6 +107,9 @@ mode_freed v w s h t q = ap (λ hs. mode_among hs t) (h.holders q) ∙ mode_with
 pub lawful_freed : (v w : Locks) (s : ℕ) → Frees v w s → Lawful v → Lawful w
 lawful_freed v w s h l r t i ne x = ap (λ hs. mode_among hs t) (h.holders i)
     ∙ lawful_without (holders_of v i) s (λ a b. l a b i) r t ne (sym (ap (λ hs. mode_among hs r) (h.holders i)) ∙ x)
+
+pub once_freed : (v w : Locks) (s : ℕ) → Frees v w s → ((q : List ℕ) → Once (holders_of v q)) → (q : List ℕ) → Once (holders_of w q)
+once_freed v w s h o q = subst (λ hs. Once hs) (sym (h.holders q)) (once_without (holders_of v q) s (o q))
 
 -- the others' locks stay listed
 pub listed_freed : (v w : Locks) (l k : BTreeMap ℕ (List (List ℕ))) (s : ℕ) → Frees v w s → IsListed v l →

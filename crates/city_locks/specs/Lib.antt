@@ -3,3 +3,4 @@ pub mod Listing
 pub mod Locks
 pub mod Mode
 pub mod Table
+pub mod WaitDie

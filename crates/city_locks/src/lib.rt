@@ -8,3 +8,5 @@ mod holders;
 mod listing;
 pub mod mode;
 pub mod table;
+#[cfg(test)]
+mod tests;

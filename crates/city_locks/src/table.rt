@@ -5,6 +5,7 @@ ghost use Rattle.city_locks.specs.Mode.{stronger};
 ghost use Rattle.city_locks.specs.Holders.{with_holder, without};
 ghost use Rattle.city_locks.specs.Locks.{same_id, holders_of, answer_of, mode_of, Lawful};
 ghost use Rattle.city_locks.specs.Listing.{IsListed};
+ghost use Rattle.city_locks.specs.WaitDie.{IsWaitDie, conflicts};
 
 use crate::answer::Answer;
 use crate::held;
@@ -63,6 +64,7 @@ impl LockTable {
     /// comes only in place of `Granted`, and never where the stamp holds the id already.
     pub fn ask(&mut self, stamp: u64, id: &Id, mode: Mode) -> Result<Answer, OutOfMemory>
         ensures answer { IfOk result (λ a. a ≡ answer_of self.old stamp id.now mode) }
+        ensures wait_die { IfOk result (IsWaitDie (conflicts self.old stamp id.now mode) stamp) }
         ensures granted { OnOk result (answer_of self.old stamp id.now mode ≡ Answer.Granted → (t : ℕ) (q : List ℕ) →
             mode_of self.new t q ≡ cond ((stamp == t) && same_id id.now q) (Some (stronger mode (mode_of self.old stamp id.now))) (mode_of self.old t q)) }
         ensures holders { OnOk result (answer_of self.old stamp id.now mode ≡ Answer.Granted → (q : List ℕ) →
@@ -108,6 +110,7 @@ impl LockTable {
     /// What `ask` would answer, want of memory aside. It takes no memory.
     pub fn would_answer(&self, stamp: u64, id: &Id, mode: Mode) -> Answer
         ensures answer { result ≡ answer_of self.now stamp id.now mode }
+        ensures wait_die { IsWaitDie (conflicts self.now stamp id.now mode) stamp result }
         ensures lawful { Lawful self.now }
     {
         held::answer_at(&self.holders, stamp, id, mode)
