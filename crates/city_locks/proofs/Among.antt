@@ -1,10 +1,9 @@
 -- Among the holders of one id: what a holder added or taken out leaves, and that the holders stay lawful.
-use Rattle.std.proofs.Common.{◌≡◌, ◌≢◌, ℕ, ◌==◌, ◌&&◌, ◌||◌, cond, Bool, true, false, not, List, [], ◌∷◌, ◌++◌, take, drop, filter, Option, None, Some, is_some, refl, ap, sym, ◌∙◌, ◌⊎◌, inl, inr, ◌+◌, nat_lt}
+use Rattle.std.proofs.Common.{◌≡◌, ◌≢◌, ℕ, ◌==◌, ◌&&◌, ◌||◌, cond, Bool, true, false, not, List, [], ◌∷◌, ◌++◌, take, drop, Option, None, Some, is_some, refl, ap, sym, ◌∙◌, ◌⊎◌, inl, inr, ◌+◌, nat_lt}
 use Rattle.std.specs.List.{list_any, list_all}
 use Rattle.std.proofs.lemmas.Bool.{false≢true, eqb-true, eqb-false, eq-eqb, ne_eqb}
 use Rattle.city_locks.specs.declared.mode.Mode.{Mode}
 use Rattle.city_locks.specs.declared.mode.Mode.TheVariants.{Shared, Exclusive}
-use Rattle.city_locks.specs.declared.answer.Answer.{Answer}
 use Rattle.city_locks.specs.declared.answer.Answer.TheVariants.{Granted, Wait, Die}
 use Rattle.city_locks.specs.declared.holder.Holder.{Holder}
 use Rattle.city_locks.specs.Mode.{is_exclusive, stronger}

@@ -1,6 +1,6 @@
 -- What a lookup by an id finds.
-use Rattle.std.proofs.Common.{◌≡◌, ℕ, cond, Bool, true, false, List, [], ◌∷◌, ◌||◌, ap, sym, ◌∙◌, ◌+◌, ◌<◌, ◌==◌, length, take, get_or}
-use Rattle.std.specs.Ordering.{nat_cmp, is_eq}
+use Rattle.std.proofs.Common.{◌≡◌, ℕ, cond, true, false, List, ◌||◌, ap, sym, ◌∙◌, ◌+◌, ◌<◌, ◌==◌, length, take, get_or}
+use Rattle.std.specs.Ordering.{nat_cmp}
 use Rattle.std.specs.Cmp.{Equal-is, tied_itself}
 use Rattle.std.specs.Cmp.Lexicographic.{slice_cmp}
 use Rattle.std.specs.BTreeMap.{is_at}

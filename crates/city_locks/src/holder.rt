@@ -13,14 +13,14 @@ pub struct Holder {
 
 impl Holder {
     /// Whether this is another holder than the asker, and one of the two modes is exclusive.
-    pub fn conflicts(&self, stamp: u64, mode: Mode) -> bool
+    pub(crate) fn conflicts(&self, stamp: u64, mode: Mode) -> bool
         ensures { result ≡ in_conflict stamp mode self.now }
     {
         self.stamp != stamp && (mode.is_exclusive() || self.mode.is_exclusive())
     }
 
     /// Whether the asker may wait for this holder: it isn't in conflict, or it is younger.
-    pub fn gives_way(&self, stamp: u64, mode: Mode) -> bool
+    pub(crate) fn gives_way(&self, stamp: u64, mode: Mode) -> bool
         ensures { result ≡ gives_way stamp mode self.now }
     {
         !self.conflicts(stamp, mode) || stamp < self.stamp

@@ -11,7 +11,7 @@ pub enum Mode {
 
 impl Mode {
     /// Whether a lock in this mode stands beside no other.
-    pub fn is_exclusive(self) -> bool
+    pub(crate) fn is_exclusive(self) -> bool
         ensures { result ≡ is_exclusive self }
     {
         match self {
@@ -21,7 +21,7 @@ impl Mode {
     }
 
     /// The stronger of this mode and one that is held already.
-    pub fn stronger(self, held: Mode) -> Mode
+    pub(crate) fn stronger(self, held: Mode) -> Mode
         ensures { result ≡ stronger self (Some held) }
     {
         match self {

@@ -75,7 +75,7 @@ impl LockTable {
         ensures memory { OnErr result ((answer_of self.old stamp id.now mode ≡ Answer.Granted) × (mode_of self.old stamp id.now ≡ None)) }
         ensures lawful { Lawful self.new }
     {
-        let answer = held::answer_at(&self.holders, stamp, id, mode);
+        let answer = self.would_answer(stamp, id, mode);
         if let Answer::Granted = answer {
             take(
                 &mut self.holders,

@@ -1,8 +1,4 @@
-use Rattle.std.proofs.Common.{rules, ◌≡◌, ◌∙◌, sym, ap, List, ℕ, [], None, unwrap_or}
-use Rattle.std.specs.Map.{lookup}
-use Rattle.std.specs.Ordering.{nat_cmp}
-use Rattle.std.specs.Cmp.Lexicographic.{slice_cmp}
-use Rattle.std.specs.BTreeMap.{is_at}
+use Rattle.std.proofs.Common.{◌≡◌, ◌∙◌, sym, ap, [], unwrap_or}
 use Rattle.city_locks.specs.Holders.{without}
 use Rattle.city_locks.specs.Locks.{holders_of}
 use Rattle.city_locks.proofs.Ids.{same_at_id}

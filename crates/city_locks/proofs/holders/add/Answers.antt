@@ -1,4 +1,4 @@
-use Rattle.std.proofs.Common.{◌≡◌, ◌==◌, List, ◌∙◌, sym, ap, ◌∷◌, drop, ◌+◌, arith, ◌<◌, length, true, Some, add-one, suc, eq-eqb}
+use Rattle.std.proofs.Common.{◌≡◌, ◌==◌, ◌∙◌, sym, ap, ◌∷◌, drop, ◌+◌, arith, ◌<◌, length, true, Some, add-one, suc, eq-eqb}
 use Rattle.std.proofs.Math.Seq.{drop-cons}
 use Rattle.std.proofs.Math.ListN.{set}
 use Rattle.std.proofs.lemmas.List.{set_split}

@@ -1,6 +1,6 @@
-use Rattle.std.proofs.Common.{ap, sym, ◌∙◌, ◌≡◌, true, false, is_some, unwrap_or, cond, None, [], List, ℕ, ◌==◌, rules}
+use Rattle.std.proofs.Common.{ap, sym, ◌∙◌, ◌≡◌, unwrap_or, cond, None, []}
 use Rattle.city_locks.specs.Holders.{without}
-use Rattle.city_locks.specs.Locks.{lists, holders_of, mode_of}
+use Rattle.city_locks.specs.Locks.{lists, holders_of}
 use Rattle.city_locks.specs.Listing.{ids_of}
 use Rattle.std.specs.Ordering.{nat_cmp}
 use Rattle.std.specs.BTreeMap.{get}

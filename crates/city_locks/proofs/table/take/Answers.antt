@@ -1,4 +1,4 @@
-use Rattle.std.proofs.Common.{ap, sym, ◌∙◌, ◌≡◌, true, is_some}
+use Rattle.std.proofs.Common.{◌≡◌, true, is_some}
 use Rattle.city_locks.specs.Locks.{mode_of}
 use Rattle.city_locks.proofs.Tables.{Adds, Lists, listed_added, listed_cover, listed_new}
 use Rattle.city_locks.proofs.table.take.Goals as goal

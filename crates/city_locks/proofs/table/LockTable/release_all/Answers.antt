@@ -1,4 +1,4 @@
-use Rattle.std.proofs.Common.{◌≡◌, ◌∙◌, sym, ap, cond, None, ◌==◌}
+use Rattle.std.proofs.Common.{◌∙◌, ap, cond, None, ◌==◌}
 use Rattle.city_locks.specs.Locks.{mode_of}
 use Rattle.city_locks.proofs.Tables.{Frees, mode_freed, lawful_freed, once_freed}
 use Rattle.city_locks.proofs.table.LockTable.release_all.Goals as goal
@@ -6,8 +6,11 @@ use Rattle.city_locks.proofs.table.LockTable.release_all.Goals as goal
 pub invariant_of-self : goal.invariant_of-self
 invariant_of-self c =
     let frees : Frees c.self.inside.holders.entries c.give_back.new.holders.entries c.args.stamp = record { holders = c.give_back.ensures.holders } in
-    record { lawful = lawful_freed c.self.inside.holders.entries c.give_back.new.holders.entries c.args.stamp frees c.self.invariant.lawful; listed = c.give_back.ensures.listed;
-      once = once_freed c.self.inside.holders.entries c.give_back.new.holders.entries c.args.stamp frees c.self.invariant.once }
+    record {
+      lawful = lawful_freed c.self.inside.holders.entries c.give_back.new.holders.entries c.args.stamp frees c.self.invariant.lawful;
+      listed = c.give_back.ensures.listed;
+      once = once_freed c.self.inside.holders.entries c.give_back.new.holders.entries c.args.stamp frees c.self.invariant.once;
+    }
 
 pub returns-clause-modes : goal.returns-clause-modes
 returns-clause-modes c t q =

@@ -9,5 +9,5 @@ returns-clause-wait_die c =
     let v = c.self.inside.holders.entries in
     let a = c.answer_at.result in
     let of_fields : IsWaitDie (conflicts v c.args.stamp c.args.id.now c.args.mode) c.args.stamp a =
-        wait_die (holders_of v c.args.id.now) c.args.stamp c.args.mode a (c.self.invariant.once c.args.id.now) c.answer_at.ensures in
+    wait_die (holders_of v c.args.id.now) c.args.stamp c.args.mode a (c.self.invariant.once c.args.id.now) c.answer_at.ensures in
     subst (λ (u : Locks). IsWaitDie (conflicts u c.args.stamp c.args.id.now c.args.mode) c.args.stamp a) c.self.view_is of_fields
