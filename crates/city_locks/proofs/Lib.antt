@@ -1,0 +1,4 @@
+pub mod Among
+pub mod Ids
+pub mod Once
+pub mod Tables

@@ -1,0 +1,142 @@
+-- Each stamp stands once among the holders of an id, so that its mode there says all; and what the answer says of the modes.
+use Rattle.std.proofs.Common.{◌≡◌, ℕ, ◌==◌, ◌&&◌, ◌||◌, ◌<◌, ◌≤◌, cond, Bool, true, false, not, List, [], ◌∷◌, Option, None, Some, refl, ap, sym, ◌∙◌, subst, nat_lt, arith}
+use Rattle.std.specs.List.{list_any, list_all}
+use Rattle.std.proofs.lemmas.Bool.{false≢true, eqb-true, eqb-false, eq-eqb, ne_eqb, ltb-true, ltb-false, and_parts, not-true, false_from_ne_true}
+use Rattle.city_locks.specs.declared.mode.Mode.{Mode}
+use Rattle.city_locks.specs.declared.answer.Answer.{Answer}
+use Rattle.city_locks.specs.declared.answer.Answer.TheVariants.{Granted, Wait, Die}
+use Rattle.city_locks.specs.declared.holder.Holder.{Holder}
+use Rattle.city_locks.specs.Mode.{is_exclusive, stronger}
+use Rattle.city_locks.specs.Holders.{in_conflict, gives_way, answer_among, mode_among, with_holder, without}
+use Rattle.city_locks.specs.Listing.{Once}
+use Rattle.city_locks.specs.WaitDie.{clashes, IsWaitDie}
+use Rattle.city_locks.proofs.Among.{by_test, mode_with, mode_without, none_cond, or_true}
+
+pub once_with : (hs : List Holder) (s : ℕ) (m : Mode) → Once hs → Once (with_holder hs s m)
+once_with [] s m o = (refl, tt)
+once_with (h ∷ hs) s m o =
+    let new : Holder = record { stamp = s; mode = stronger m (Some h.mode) } in
+    let goes : (b : Bool) → (h.stamp == s) ≡ b → Once (cond b (new ∷ hs) (h ∷ with_holder hs s m)) → Once (with_holder (h ∷ hs) s m) =
+    λ b e x. subst (λ c. Once (cond c (new ∷ hs) (h ∷ with_holder hs s m))) (sym e) x in
+    by_test (h.stamp == s)
+    (λ e. goes true e (ap (λ t. mode_among hs t) (sym (eqb-true h.stamp s e)) ∙ o.0, o.1))
+    (λ e. let off : (s == h.stamp) ≡ false = ne_eqb s h.stamp (λ g. eqb-false h.stamp s e (sym g)) in
+    goes false e (mode_with hs s m h.stamp ∙ ap (λ b. cond b (Some (stronger m (mode_among hs s))) (mode_among hs h.stamp)) off ∙ o.0, once_with hs s m o.1))
+
+pub once_without : (hs : List Holder) (s : ℕ) → Once hs → Once (without hs s)
+once_without [] s o = tt
+once_without (h ∷ hs) s o =
+    let goes : (b : Bool) → (h.stamp == s) ≡ b → Once (cond (not b) (h ∷ without hs s) (without hs s)) → Once (without (h ∷ hs) s) =
+    λ b e x. subst (λ c. Once (cond (not c) (h ∷ without hs s) (without hs s))) (sym e) x in
+    by_test (h.stamp == s)
+    (λ e. goes true e (once_without hs s o.1))
+    (λ e. goes false e (mode_without hs s h.stamp ∙ ap (λ x. cond (s == h.stamp) None x) o.0 ∙ sym (none_cond (s == h.stamp)), once_without hs s o.1))
+
+-- ---- tests of all holders, by the modes of the stamps
+abbrev Found : (Holder → Bool) → List Holder → Type 0
+Found p hs = (t : ℕ) × ((held : Mode) × ((mode_among hs t ≡ Some held) × (p (record { stamp = t; mode = held }) ≡ true)))
+
+found : (p : Holder → Bool) (hs : List Holder) → Once hs → list_any p hs ≡ true → Found p hs
+found p [] o h = absurd (false≢true h)
+found p (x ∷ xs) o h = by_test (p x)
+    (λ e. (x.stamp, (x.mode, (ap (λ b. cond b (Some x.mode) (mode_among xs x.stamp)) (eq-eqb x.stamp x.stamp refl), e))))
+    (λ e. let f : Found p xs = found p xs o.1 (sym (ap (λ b. b || list_any p xs) e) ∙ h) in
+    let other : (x.stamp == f.0) ≡ false = false_from_ne_true (x.stamp == f.0)
+    (λ w. let bad : None ≡ Some f.1.0 = sym o.0 ∙ ap (λ t. mode_among xs t) (eqb-true x.stamp f.0 w) ∙ f.1.1.0 in cc) in
+    (f.0, (f.1.0, (ap (λ b. cond b (Some x.mode) (mode_among xs f.0)) other ∙ f.1.1.0, f.1.1.1))))
+
+some_same : (m n : Mode) → Some m ≡ Some n → m ≡ n
+some_same m n e = cc
+
+any_at : (p : Holder → Bool) (hs : List Holder) (t : ℕ) (held : Mode) → mode_among hs t ≡ Some held → p (record { stamp = t; mode = held }) ≡ true → list_any p hs ≡ true
+any_at p [] t held h e = cc
+any_at p (x ∷ xs) t held h e = by_test (x.stamp == t)
+    (λ w. let m : x.mode ≡ held = some_same x.mode held (sym (ap (λ b. cond b (Some x.mode) (mode_among xs t)) w) ∙ h) in
+    ap (λ b. b || list_any p xs) (ap (λ s. p (record { stamp = s; mode = x.mode })) (eqb-true x.stamp t w) ∙ ap (λ n. p (record { stamp = t; mode = n })) m ∙ e))
+    (λ w. ap (λ b. p x || b) (any_at p xs t held (sym (ap (λ b. cond b (Some x.mode) (mode_among xs t)) w) ∙ h) e) ∙ or_true (p x))
+
+not_all : (p : Holder → Bool) (hs : List Holder) → list_all p hs ≡ false → list_any (λ h. not (p h)) hs ≡ true
+not_all p [] h = absurd (false≢true (sym h))
+not_all p (x ∷ xs) h = by_test (p x)
+    (λ e. ap (λ b. not b || list_any (λ h. not (p h)) xs) e ∙ not_all p xs (sym (ap (λ b. b && list_all p xs) e) ∙ h))
+    (λ e. ap (λ b. not b || list_any (λ h. not (p h)) xs) e)
+
+all_at : (p : Holder → Bool) (hs : List Holder) (t : ℕ) (held : Mode) → mode_among hs t ≡ Some held → list_all p hs ≡ true → p (record { stamp = t; mode = held }) ≡ true
+all_at p [] t held h e = absurd (cc)
+all_at p (x ∷ xs) t held h e =
+    let parts = and_parts (p x) (list_all p xs) e in
+    by_test (x.stamp == t)
+    (λ w. let m : x.mode ≡ held = some_same x.mode held (sym (ap (λ b. cond b (Some x.mode) (mode_among xs t)) w) ∙ h) in
+    ap (λ n. p (record { stamp = t; mode = n })) (sym m) ∙ ap (λ s. p (record { stamp = s; mode = x.mode })) (sym (eqb-true x.stamp t w)) ∙ parts.0)
+    (λ w. all_at p xs t held (sym (ap (λ b. cond b (Some x.mode) (mode_among xs t)) w) ∙ h) parts.1)
+
+-- ---- the answer, by the stamps in conflict
+abbrev pub conflicts_among : List Holder → ℕ → Mode → ℕ → Bool
+conflicts_among hs s m t = not (t == s) && clashes m (mode_among hs t)
+
+and_off : (a : Bool) → (a && false) ≡ true → ⊥
+and_off true h = false≢true h
+and_off false h = false≢true h
+
+clash : (a : Bool) (m : Mode) (o : Option Mode) → (a && clashes m o) ≡ true → (held : Mode) × ((o ≡ Some held) × ((a && (is_exclusive m || is_exclusive held)) ≡ true))
+clash a m None h = absurd (and_off a h)
+clash a m (Some held) h = (held, (refl, h))
+
+conflict_found : (hs : List Holder) (s : ℕ) (m : Mode) → Once hs → list_any (in_conflict s m) hs ≡ true → (t : ℕ) × (conflicts_among hs s m t ≡ true)
+conflict_found hs s m o h =
+    let f = found (in_conflict s m) hs o h in
+    (f.0, ap (λ x. not (f.0 == s) && clashes m x) f.1.1.0 ∙ f.1.1.1)
+
+conflict_any : (hs : List Holder) (s : ℕ) (m : Mode) (t : ℕ) → conflicts_among hs s m t ≡ true → list_any (in_conflict s m) hs ≡ true
+conflict_any hs s m t h =
+    let c = clash (not (t == s)) m (mode_among hs t) h in
+    any_at (in_conflict s m) hs t c.0 c.1.0 c.1.1
+
+not_or : (a b : Bool) → not (not a || b) ≡ true → (a ≡ true) × (b ≡ false)
+not_or true true h = absurd (false≢true h)
+not_or true false h = (refl, refl)
+not_or false b h = absurd (false≢true h)
+
+older_found : (hs : List Holder) (s : ℕ) (m : Mode) → Once hs → list_all (gives_way s m) hs ≡ false → (t : ℕ) × ((conflicts_among hs s m t ≡ true) × (t < s))
+older_found hs s m o h =
+    let f = found (λ x. not (gives_way s m x)) hs o (not_all (gives_way s m) hs h) in
+    let p = not_or (in_conflict s m (record { stamp = f.0; mode = f.1.0 })) (nat_lt s f.0) f.1.1.1 in
+    let q = and_parts (not (f.0 == s)) (is_exclusive m || is_exclusive f.1.0) p.0 in
+    let le : f.0 ≤ s = ltb-false s f.0 p.1 in
+    let ne : f.0 ≡ s → ⊥ = eqb-false f.0 s (not-true (f.0 == s) q.0) in
+    (f.0, (ap (λ x. not (f.0 == s) && clashes m x) f.1.1.0 ∙ p.0, omega arith))
+
+or_from_not : (a b : Bool) → (not a || b) ≡ true → a ≡ true → b ≡ true
+or_from_not true b h e = h
+or_from_not false b h e = absurd (false≢true e)
+
+younger_all : (hs : List Holder) (s : ℕ) (m : Mode) → list_all (gives_way s m) hs ≡ true → (t : ℕ) → conflicts_among hs s m t ≡ true → s < t
+younger_all hs s m a t h =
+    let c = clash (not (t == s)) m (mode_among hs t) h in
+    ltb-true s t (or_from_not (in_conflict s m (record { stamp = t; mode = c.0 })) (nat_lt s t) (all_at (gives_way s m) hs t c.0 c.1.0 a) c.1.1)
+
+pub wait_die : (hs : List Holder) (s : ℕ) (m : Mode) (a : Answer) → Once hs → a ≡ answer_among hs s m → IsWaitDie (conflicts_among hs s m) s a
+wait_die hs s m a o h = by_test (list_any (in_conflict s m) hs)
+    (λ e. let some = conflict_found hs s m o e in
+    by_test (list_all (gives_way s m) hs)
+    (λ f. let is : a ≡ Wait = h ∙ ap (λ b. cond b (cond (list_all (gives_way s m) hs) Wait Die) Granted) e ∙ ap (λ b. cond b Wait Die) f in
+    let young = younger_all hs s m f in
+    record {
+      granted = (λ g. absurd (cc), λ g. absurd (false≢true (sym (g some.0) ∙ some.1)));
+      wait = (λ w. (some, young), λ w. is);
+      die = (λ d. absurd (cc), λ d. let lt : s < d.0 = young d.0 d.1.0 in let gt : d.0 < s = d.1.1 in absurd (omega arith));
+    })
+    (λ f. let is : a ≡ Die = h ∙ ap (λ b. cond b (cond (list_all (gives_way s m) hs) Wait Die) Granted) e ∙ ap (λ b. cond b Wait Die) f in
+    let old = older_found hs s m o f in
+    record {
+      granted = (λ g. absurd (cc), λ g. absurd (false≢true (sym (g some.0) ∙ some.1)));
+      wait = (λ w. absurd (cc), λ w. let lt : s < old.0 = w.1 old.0 old.1.0 in let gt : old.0 < s = old.1.1 in absurd (omega arith));
+      die = (λ d. old, λ d. is);
+    }))
+    (λ e. let is : a ≡ Granted = h ∙ ap (λ b. cond b (cond (list_all (gives_way s m) hs) Wait Die) Granted) e in
+    let none : (t : ℕ) → conflicts_among hs s m t ≡ false = λ t. false_from_ne_true (conflicts_among hs s m t) (λ x. false≢true (sym e ∙ conflict_any hs s m t x)) in
+    record {
+      granted = (λ g. none, λ g. is);
+      wait = (λ w. absurd (cc), λ w. absurd (false≢true (sym (none w.0.0) ∙ w.0.1)));
+      die = (λ d. absurd (cc), λ d. absurd (false≢true (sym (none d.0) ∙ d.1.0)));
+    })

@@ -1,0 +1,39 @@
+-- What contracts see of a lock table: each locked id with its holders, ids in the order of their bytes.
+use Rattle.std.specs.Prelude.{◌≡◌, ◌≢◌, ℕ, Bool, List, [], Option, None, Some, unwrap_or}
+use Rattle.std.specs.List.{list_any}
+use Rattle.std.specs.Map.{lookup}
+use Rattle.std.specs.Ordering.{nat_cmp}
+use Rattle.std.specs.Cmp.Lexicographic.{slice_cmp}
+use Rattle.std.specs.BTreeMap.{is_at}
+use Rattle.city_locks.specs.declared.mode.Mode.{Mode}
+use Rattle.city_locks.specs.declared.mode.Mode.TheVariants.{Exclusive}
+use Rattle.city_locks.specs.declared.answer.Answer.{Answer}
+use Rattle.city_locks.specs.declared.holder.Holder.{Holder}
+use Rattle.city_locks.specs.Holders.{answer_among, mode_among}
+
+abbrev pub Locks : Type 0
+Locks = List (List ℕ × List Holder)
+
+-- whether the two ids have the same bytes
+abbrev pub same_id : List ℕ → List ℕ → Bool
+same_id id q = is_at (slice_cmp nat_cmp id) q
+
+-- whether the id is in the list
+abbrev pub lists : List (List ℕ) → List ℕ → Bool
+lists ids q = list_any (λ id. same_id id q) ids
+
+-- the holders of the id
+abbrev pub holders_of : Locks → List ℕ → List Holder
+holders_of locks id = unwrap_or (lookup (is_at (slice_cmp nat_cmp id)) locks) []
+
+-- the answer to an asker of the id
+abbrev pub answer_of : Locks → ℕ → List ℕ → Mode → Answer
+answer_of locks stamp id mode = answer_among (holders_of locks id) stamp mode
+
+-- the mode in which the stamp holds the id
+abbrev pub mode_of : Locks → ℕ → List ℕ → Option Mode
+mode_of locks stamp id = mode_among (holders_of locks id) stamp
+
+-- each id has one exclusive holder and no other, or shared holders only
+abbrev pub Lawful : Locks → Type 0
+Lawful locks = (s t : ℕ) (id : List ℕ) → s ≢ t → mode_of locks s id ≡ Some Exclusive → mode_of locks t id ≡ None

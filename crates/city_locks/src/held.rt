@@ -1,0 +1,128 @@
+//! The holders of each locked id.
+ghost use Rattle.std.specs.Prelude.{◌≡◌, ℕ, List, cond, OnOk, OnErr, None, Some, [], true, unwrap_or, is_some};
+ghost use Rattle.std.specs.Ordering.{nat_cmp};
+ghost use Rattle.std.specs.Cmp.Lexicographic.{slice_cmp};
+ghost use Rattle.std.specs.BTreeMap.{get, is_at, IsOrdered};
+ghost use Rattle.city_locks.specs.Holders.{with_holder, without, mode_among};
+ghost use Rattle.city_locks.specs.Locks.{same_id, lists, holders_of, answer_of, mode_of};
+
+use crate::answer::Answer;
+use crate::holders::Holders;
+use crate::mode::Mode;
+use city_model::copied::Copied;
+use city_model::text::Id;
+use std::alloc::{AllocError, Global};
+use std::collections::BTreeMap;
+
+/// The answer to an asker of the id.
+pub fn answer_at(held: &BTreeMap<Id, Holders>, stamp: u64, id: &Id, mode: Mode) -> Answer
+    ensures { result ≡ answer_of held.now.entries stamp id.now mode }
+{
+    match held.get(id) {
+        Some(holders) => holders.answer(stamp, mode),
+        None => Answer::Granted,
+    }
+}
+
+/// The mode in which the stamp holds the id.
+pub fn mode_at(held: &BTreeMap<Id, Holders>, stamp: u64, id: &Id) -> Option<Mode>
+    ensures { result ≡ mode_of held.now.entries stamp id.now }
+{
+    match held.get(id) {
+        Some(holders) => holders.mode(stamp),
+        None => None,
+    }
+}
+
+/// Makes the stamp a holder of the id; want of memory leaves all holders as they are, and comes
+/// only where the stamp doesn't hold the id.
+pub fn grant(
+    held: &mut BTreeMap<Id, Holders>,
+    alloc: Global,
+    stamp: u64,
+    id: &Id,
+    mode: Mode,
+) -> Result<(), AllocError>
+    ensures ok { OnOk result ((q : List ℕ) → holders_of held.new.entries q ≡ cond (same_id id.now q) (with_holder (holders_of held.old.entries id.now) stamp mode) (holders_of held.old.entries q)) }
+    ensures err { OnErr result (held.new.entries ≡ held.old.entries) }
+    ensures absent { OnErr result (mode_of held.old.entries stamp id.now ≡ None) }
+{
+    if held.contains_key(id) {
+        grant_beside(held, stamp, id, mode)?;
+    } else {
+        grant_first(held, alloc, stamp, id, mode)?;
+    }
+    Ok(())
+}
+
+/// Makes the stamp a holder of an id that has holders.
+fn grant_beside(
+    held: &mut BTreeMap<Id, Holders>,
+    stamp: u64,
+    id: &Id,
+    mode: Mode,
+) -> Result<(), AllocError>
+    requires { is_some (get (slice_cmp nat_cmp) held.old id.now) ≡ true }
+    ensures ok { OnOk result ((q : List ℕ) → get (slice_cmp nat_cmp) held.new q ≡ cond (same_id id.now q) (Some (with_holder (holders_of held.old.entries id.now) stamp mode)) (get (slice_cmp nat_cmp) held.old q)) }
+    ensures err { OnErr result (held.new.entries ≡ held.old.entries) }
+    ensures absent { OnErr result (mode_of held.old.entries stamp id.now ≡ None) }
+{
+    match held.get_mut(id) {
+        Some(holders) => {
+            holders.grant(stamp, mode)?;
+            Ok(())
+        }
+        None => unreachable!(),
+    }
+}
+
+/// Makes the stamp the only holder of an id that has none.
+fn grant_first(
+    held: &mut BTreeMap<Id, Holders>,
+    alloc: Global,
+    stamp: u64,
+    id: &Id,
+    mode: Mode,
+) -> Result<(), AllocError>
+    requires { get (slice_cmp nat_cmp) held.old id.now ≡ None }
+    ensures ok { OnOk result ((q : List ℕ) → get (slice_cmp nat_cmp) held.new q ≡ cond (same_id id.now q) (Some (with_holder [] stamp mode)) (get (slice_cmp nat_cmp) held.old q)) }
+    ensures err { OnErr result (held.new.entries ≡ held.old.entries) }
+{
+    let key = id.copy(alloc)?;
+    let mut holders = Holders::new(alloc);
+    holders.grant(stamp, mode)?;
+    held.insert(key, holders)?;
+    Ok(())
+}
+
+/// Takes the stamp out of the holders of each of the ids.
+pub fn release_each(held: &mut BTreeMap<Id, Holders>, stamp: u64, ids: &[Id])
+    ensures { (q : List ℕ) → holders_of held.new.entries q ≡ cond (lists ids.now q) (without (holders_of held.old.entries q) stamp) (holders_of held.old.entries q) }
+{
+    for id in ids {
+        release(held, stamp, id);
+    }
+}
+
+/// Takes the stamp out of the holders of the id, and the id out where it was the last.
+fn release(held: &mut BTreeMap<Id, Holders>, stamp: u64, id: &Id)
+    ensures { (q : List ℕ) → holders_of held.new.entries q ≡ cond (same_id id.now q) (without (holders_of held.old.entries id.now) stamp) (holders_of held.old.entries q) }
+{
+    if leave(held, stamp, id) {
+        let _ = held.remove(id);
+    }
+}
+
+/// Takes the stamp out of the holders of the id, and says whether no holder is left in place.
+fn leave(held: &mut BTreeMap<Id, Holders>, stamp: u64, id: &Id) -> bool
+    ensures empty { result ≡ true → holders_of held.new.entries id.now ≡ [] }
+    ensures after { (q : List ℕ) → holders_of held.new.entries q ≡ cond (same_id id.now q) (without (holders_of held.old.entries id.now) stamp) (holders_of held.old.entries q) }
+{
+    match held.get_mut(id) {
+        Some(holders) => {
+            holders.release(stamp);
+            holders.is_empty()
+        }
+        None => false,
+    }
+}

@@ -1,0 +1,156 @@
+//! The lock table.
+ghost use Rattle.std.specs.Prelude.{◌≡◌, ◌≢◌, ℕ, List, ◌==◌, ◌&&◌, cond, OnOk, OnErr, IfOk, None, Some, []};
+ghost use Rattle.city_locks.specs.declared.mode.Mode.{Mode};
+ghost use Rattle.city_locks.specs.Mode.{stronger};
+ghost use Rattle.city_locks.specs.Holders.{with_holder, without};
+ghost use Rattle.city_locks.specs.Locks.{same_id, holders_of, answer_of, mode_of, Lawful};
+ghost use Rattle.city_locks.specs.Listing.{IsListed};
+ghost use Rattle.city_locks.specs.WaitDie.{IsWaitDie, conflicts};
+
+use crate::answer::Answer;
+use crate::held;
+use crate::holders::Holders;
+use crate::listing::{self, Ids};
+use crate::mode::Mode;
+use city_model::OutOfMemory;
+use city_model::text::Id;
+use std::alloc::Global;
+use std::collections::BTreeMap;
+use std::marker::Model;
+
+/// Who holds which id, in which mode.
+///
+/// Contracts see the locked ids, in the order of their bytes, each with its holders.
+/// The ids that each stamp has locked are listed beside them, so that a release goes
+/// straight to the stamp's own locks.
+#[derive(Drop)]
+pub struct LockTable {
+    alloc: Global,
+    holders: BTreeMap<Id, Holders>,
+    /// At each stamp, at least the ids that it holds.
+    locked: BTreeMap<u64, Ids>,
+}
+
+impl Model for LockTable {
+    ghost use Rattle.city_locks.specs.Locks.{Locks};
+
+    ghost Value = { Locks };
+
+    ghost use Rattle.city_locks.specs.Table.{IsTable};
+
+    ghost view = { λ a. a.holders.entries };
+
+    ghost invariant = { IsTable };
+}
+
+impl LockTable {
+    /// A table with no locks. It takes no memory.
+    pub fn new(alloc: Global) -> Self
+        ensures { result ≡ [] }
+    {
+        LockTable {
+            alloc,
+            holders: BTreeMap::new(alloc),
+            locked: BTreeMap::new(alloc),
+        }
+    }
+
+    /// Asks for the id in the mode, and says what came of it.
+    ///
+    /// The other holders of the id are in conflict where the mode or theirs is exclusive.
+    /// With none in conflict the answer is `Granted`, and the stamp holds the id in the stronger
+    /// of the mode and the one that it had. Where the stamp is less than all in conflict it is
+    /// `Wait`, and otherwise `Die`; both leave the table as it is. So does want of memory, which
+    /// comes only in place of `Granted`, and never where the stamp holds the id already.
+    pub fn ask(&mut self, stamp: u64, id: &Id, mode: Mode) -> Result<Answer, OutOfMemory>
+        ensures answer { IfOk result (λ a. a ≡ answer_of self.old stamp id.now mode) }
+        ensures wait_die { IfOk result (IsWaitDie (conflicts self.old stamp id.now mode) stamp) }
+        ensures granted { OnOk result (answer_of self.old stamp id.now mode ≡ Answer.Granted → (t : ℕ) (q : List ℕ) →
+            mode_of self.new t q ≡ cond ((stamp == t) && same_id id.now q) (Some (stronger mode (mode_of self.old stamp id.now))) (mode_of self.old t q)) }
+        ensures holders { OnOk result (answer_of self.old stamp id.now mode ≡ Answer.Granted → (q : List ℕ) →
+            holders_of self.new q ≡ cond (same_id id.now q) (with_holder (holders_of self.old id.now) stamp mode) (holders_of self.old q)) }
+        ensures own { (q : List ℕ) (n : Mode) → answer_of self.new stamp q n ≡ answer_of self.old stamp q n }
+        ensures refused { OnOk result (answer_of self.old stamp id.now mode ≢ Answer.Granted → self.new ≡ self.old) }
+        ensures err { OnErr result (self.new ≡ self.old) }
+        ensures memory { OnErr result ((answer_of self.old stamp id.now mode ≡ Answer.Granted) × (mode_of self.old stamp id.now ≡ None)) }
+        ensures lawful { Lawful self.new }
+    {
+        let answer = self.would_answer(stamp, id, mode);
+        if let Answer::Granted = answer {
+            take(
+                &mut self.holders,
+                &mut self.locked,
+                self.alloc,
+                stamp,
+                id,
+                mode,
+            )?;
+        }
+        Ok(answer)
+    }
+
+    /// Takes out all locks of the stamp, and no others. It takes no memory, and a stamp that
+    /// holds nothing changes nothing.
+    pub fn release_all(&mut self, stamp: u64)
+        ensures modes { (t : ℕ) (q : List ℕ) → mode_of self.new t q ≡ cond (stamp == t) None (mode_of self.old t q) }
+        ensures holders { (q : List ℕ) → holders_of self.new q ≡ without (holders_of self.old q) stamp }
+        ensures lawful { Lawful self.new }
+    {
+        give_back(&mut self.holders, &mut self.locked, stamp);
+    }
+
+    /// The mode in which the stamp holds the id, if it does.
+    pub fn mode(&self, stamp: u64, id: &Id) -> Option<Mode>
+        ensures value { result ≡ mode_of self.now stamp id.now }
+        ensures lawful { Lawful self.now }
+    {
+        held::mode_at(&self.holders, stamp, id)
+    }
+
+    /// What `ask` would answer, want of memory aside. It takes no memory.
+    pub fn would_answer(&self, stamp: u64, id: &Id, mode: Mode) -> Answer
+        ensures answer { result ≡ answer_of self.now stamp id.now mode }
+        ensures wait_die { IsWaitDie (conflicts self.now stamp id.now mode) stamp result }
+        ensures lawful { Lawful self.now }
+    {
+        held::answer_at(&self.holders, stamp, id, mode)
+    }
+}
+
+/// Makes the stamp a holder of the id and lists the id at the stamp, or neither.
+fn take(
+    holders: &mut BTreeMap<Id, Holders>,
+    locked: &mut BTreeMap<u64, Ids>,
+    alloc: Global,
+    stamp: u64,
+    id: &Id,
+    mode: Mode,
+) -> Result<(), OutOfMemory>
+    requires { IsListed holders.old.entries locked.old }
+    ensures ok { OnOk result ((q : List ℕ) → holders_of holders.new.entries q ≡ cond (same_id id.now q) (with_holder (holders_of holders.old.entries id.now) stamp mode) (holders_of holders.old.entries q)) }
+    ensures err { OnErr result (holders.new.entries ≡ holders.old.entries) }
+    ensures absent { OnErr result (mode_of holders.old.entries stamp id.now ≡ None) }
+    ensures listed { IsListed holders.new.entries locked.new }
+{
+    if held::mode_at(holders, stamp, id).is_some() {
+        held::grant(holders, alloc, stamp, id, mode)?;
+        return Ok(());
+    }
+    listing::list(locked, alloc, stamp, id)?;
+    let Ok(()) = held::grant(holders, alloc, stamp, id, mode) else {
+        listing::unlist(locked, stamp);
+        return Err(OutOfMemory);
+    };
+    Ok(())
+}
+
+/// Takes the stamp out of the holders of each id that is listed at it, and drops its list.
+fn give_back(holders: &mut BTreeMap<Id, Holders>, locked: &mut BTreeMap<u64, Ids>, stamp: u64)
+    requires { IsListed holders.old.entries locked.old }
+    ensures holders { (q : List ℕ) → holders_of holders.new.entries q ≡ without (holders_of holders.old.entries q) stamp }
+    ensures listed { IsListed holders.new.entries locked.new }
+{
+    if let Some(ids) = locked.remove(&stamp) {
+        held::release_each(holders, stamp, ids.as_slice());
+    }
+}
