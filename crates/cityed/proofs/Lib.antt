@@ -1,0 +1,2 @@
+pub mod PlayedSoFar
+pub mod RunSoFar

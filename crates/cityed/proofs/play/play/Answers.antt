@@ -1,0 +1,17 @@
+use Rattle.std.proofs.Common.{List, subst, sym, refl}
+use Rattle.city_model.specs.declared.command.Reply.{Reply}
+use Rattle.city_model.specs.declared.end.Outcome.{Outcome}
+use Rattle.city_model.specs.CityMap.{at}
+use Rattle.city_model.specs.Runs.{HasResult}
+use Rattle.cityed.proofs.PlayedSoFar.{played_next}
+use Rattle.cityed.proofs.play.play.Goals as goal
+
+pub returns-in_default-clause-result : goal.returns-in_default-clause-result
+returns-in_default-clause-result c =
+    let P : List Reply → Type 0 = λ rs. HasResult (at c.args.city.now.1) c.args.commands rs (Outcome.NoMemory c.len-number.result) in
+    subst P (sym c.in_default.ensures.err)
+    (played_next (at c.args.city.now.1) c.args.commands _ c.loop-command.replies _ _ _ c.len-number.result (Outcome.NoMemory c.len-number.result) c.loop-command.invariant.0 c.in-Some.ensures.steps.0 c.len-number.ensures refl)
+
+pub returns-in-Err-clause-result : goal.returns-in-Err-clause-result
+returns-in-Err-clause-result c =
+    played_next _ c.args.commands _ c.loop-command.replies _ _ _ c.len-number.result c.in-Err.outcome c.loop-command.invariant.0 c.in-Some.ensures.steps.0 c.len-number.ensures c.in-Err.ensures.turn.0

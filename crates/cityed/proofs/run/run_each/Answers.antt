@@ -1,0 +1,20 @@
+use Rattle.std.proofs.Common.{◌≡◌, List, length, subst, sym, ◌∙◌}
+use Rattle.std.specs.Vec.Iter.{into_iter_items}
+use Rattle.city_model.specs.declared.end.End.{End}
+use Rattle.city_model.specs.CityMap.{at}
+use Rattle.city_model.specs.Runs.{Scripted}
+use Rattle.cityed.proofs.RunSoFar.{IsRun, one_more_run}
+use Rattle.cityed.proofs.run.run_each.Goals as goal
+
+pub loop-script-preserved : goal.loop-script-preserved
+loop-script-preserved c =
+    let start = at c.args.city.now.1 in
+    let left = into_iter_items c.next.new.self in
+    let made = at c.run_script-end.new.city.1 in
+    let ends = c.loop-script.ends.items in
+    let number : c.len-in-loop-script.result ≡ length ends = c.len-in-loop-script.ensures ∙ c.loop-script.ends.ok.0 in
+    let so_far = subst (λ (l : List Scripted). IsRun c.args.scripts start (at c.loop-script.city.1) ends l) c.in-Some.ensures.steps.0 c.loop-script.invariant.0 in
+    let e = c.run_script-end.ensures in
+    (subst (λ (es : List End). IsRun c.args.scripts start made es left) (sym c.in_ok-push.ensures.items)
+    (one_more_run c.args.scripts start (at c.loop-script.city.1) made ends c.in-Some.script left c.run_script-end.result so_far (e.script ∙ number) (e.since ∙ number) e.named e.result e.left),
+    e.frame ∙ c.loop-script.invariant.1)

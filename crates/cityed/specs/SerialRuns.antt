@@ -1,0 +1,46 @@
+-- Scripts run one after the other in their order.
+use Rattle.std.specs.Prelude.{◌≡◌, ◌≢◌, ◌+◌, ℕ, List, [], ◌∷◌, length}
+use Rattle.city_model.specs.declared.end.End.{End}
+use Rattle.city_model.specs.CityMap.{at}
+use Rattle.city_model.specs.Runs.{Scripted, Fits}
+use Rattle.city_doc.specs.declared.fault.ReadFault.{ReadFault}
+use Rattle.city_doc.specs.declared.fault.ScriptFault.{ScriptFault}
+use Rattle.city_doc.specs.Documents.{CityValue, StandsForCity, DocumentFault}
+use Rattle.city_doc.specs.ScriptTexts.{StandsForScripts, ScriptTextFault}
+use Rattle.city_doc.specs.Outputs.{IsOutput}
+use Rattle.cityed.specs.declared.fault.RunFault.{RunFault}
+
+-- the ends are those of script k and the ones after it, in their order, each begun when just those before it had ended
+abbrev pub AreInTurn : ℕ → List End → Type 0
+AreInTurn k [] = Unit {0}
+AreInTurn k (e ∷ es) = (e.script ≡ k) × (e.since ≡ k) × AreInTurn (k + 1) es
+
+-- the scripts of a text, run one after the other on the city of a document: their ends, and what is written
+pub record IsSerialRun (document scripts : List ℕ) (ends : List End) (bytes : List ℕ) : Type 0 where
+  pub city : CityValue
+  pub list : List Scripted
+  pub stands_for_city : StandsForCity document city
+  pub stands_for_scripts : StandsForScripts scripts list
+  pub each_once : length ends ≡ length list
+  pub in_turn : AreInTurn 0 ends
+  pub fits : Fits list (at city.1) ends
+  pub output : IsOutput city list ends bytes
+
+-- the document is judged before the scripts, and nothing but the two texts and memory can be at fault
+abbrev pub IsRunFault : List ℕ → List ℕ → RunFault → Type 0
+IsRunFault document scripts (RunFault.Read f) = (f ≢ ReadFault.OutOfMemory) × DocumentFault document f
+IsRunFault document scripts (RunFault.Script f) =
+    (f ≢ ScriptFault.OutOfMemory) × ((city : CityValue) × StandsForCity document city) × ScriptTextFault scripts f
+IsRunFault document scripts RunFault.OutOfMemory = Unit {0}
+IsRunFault document scripts RunFault.NoPlace = ⊥
+IsRunFault document scripts RunFault.Unfinished = ⊥
+IsRunFault document scripts RunFault.Mixed = ⊥
+
+-- want of memory for a text is want of memory
+abbrev pub fault_of_document : ReadFault → RunFault
+fault_of_document ReadFault.OutOfMemory = RunFault.OutOfMemory
+fault_of_document f = RunFault.Read f
+
+abbrev pub fault_of_scripts : ScriptFault → RunFault
+fault_of_scripts ScriptFault.OutOfMemory = RunFault.OutOfMemory
+fault_of_scripts f = RunFault.Script f
