@@ -42,13 +42,17 @@ abbrev pub edges_of : Shell → List Edge
 edges_of [] = []
 edges_of (s ∷ ss) = surface_edges s ++ edges_of ss
 
-abbrev pub times : Edge → List Edge → ℕ
-times e [] = 0
-times e (f ∷ fs) = if same_edge e f then 1 + times e fs else times e fs
+-- how many of the list are the same as x
+abbrev pub times : {T : Type 0} → (T → T → Bool) → T → List T → ℕ
+times same x [] = 0
+times same x (y ∷ ys) = if same x y then 1 + times same x ys else times same x ys
 
--- the pair occurs once, and so does the reversed pair
+abbrev pub occurs_once : {T : Type 0} → (T → T → Bool) → List T → T → Bool
+occurs_once same xs x = times same x xs == 1
+
+-- the edge occurs once, and so does the reversed edge
 abbrev pub runs_both_ways : List Edge → Edge → Bool
-runs_both_ways es e = (times e es == 1) && (times (flipped e) es == 1)
+runs_both_ways es e = occurs_once same_edge es e && occurs_once same_edge es (flipped e)
 
 -- each edge is run once each way
 abbrev pub is_closed : Shell → Bool
@@ -78,8 +82,12 @@ is_short_ring r = nat_lt (length r) 3
 abbrev pub is_short_surface : Surface → Bool
 is_short_surface s = (length s == 0) || list_any is_short_ring s
 
+-- an edge from a point to the same point
+abbrev pub is_same_pair : Edge → Bool
+is_same_pair e = same_point e.0 e.1
+
 abbrev pub has_same_neighbours : Ring → Bool
-has_same_neighbours r = list_any (λ e. same_point e.0 e.1) (ring_edges r)
+has_same_neighbours r = list_any is_same_pair (ring_edges r)
 
 abbrev pub has_short_ring : Shape → Bool
 has_short_ring shape = list_any is_short_surface (surfaces_of shape)
@@ -87,8 +95,11 @@ has_short_ring shape = list_any is_short_surface (surfaces_of shape)
 abbrev pub has_same_twice : Shape → Bool
 has_same_twice shape = list_any (list_any has_same_neighbours) (surfaces_of shape)
 
+abbrev pub is_open : Shell → Bool
+is_open shell = not (is_closed shell)
+
 abbrev pub has_open_shell : Shape → Bool
-has_open_shell shape = list_any (λ shell. not (is_closed shell)) (shells_of shape)
+has_open_shell shape = list_any is_open (shells_of shape)
 
 -- ---- the rules of a body
 

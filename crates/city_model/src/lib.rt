@@ -1,9 +1,11 @@
 //! The city model: its types, its rules and the meaning of each command.
 #![tactic(auto)]
 
+pub mod body_fault;
 pub mod city;
 pub mod command;
 pub mod copied;
+pub mod edges;
 pub mod end;
 pub mod extra;
 pub mod frame;
@@ -12,8 +14,10 @@ pub mod object;
 pub mod object_type;
 pub mod orphans;
 pub mod place;
+pub mod rings;
 pub mod script;
 pub mod sequence;
+pub mod shells;
 #[cfg(test)]
 mod tests;
 pub mod text;

@@ -1,0 +1,53 @@
+//! What is wrong with the geometries of a body (CityJSON 2.0, section 3.2).
+ghost use Rattle.std.specs.Prelude.{◌≡◌, false, IfOk, OnErr};
+ghost use Rattle.std.specs.List.{list_any};
+ghost use Rattle.city_model.specs.Shells.{has_short_ring, has_same_twice, has_open_shell, some_shape, body_fault};
+
+use crate::command::Cause;
+use crate::object::{Body, Geometry};
+use crate::rings::{has_same_twice, has_short_ring};
+use crate::shells::has_open_shell;
+use std::alloc::{AllocError, Global};
+
+/// The first of ShortRing, SameTwice and OpenShell that some geometry of the body has, or None. The
+/// only refusal is want of memory, and only where no ring is at fault: rings take no memory.
+pub fn body_fault(alloc: Global, body: &Body) -> Result<Option<Cause>, AllocError>
+    ensures fault { IfOk result (λ f. f ≡ body_fault body.now) }
+    ensures no_short_ring { OnErr result (some_shape has_short_ring body.now ≡ false) }
+    ensures no_same_twice { OnErr result (some_shape has_same_twice body.now ≡ false) }
+{
+    let geometry = body.geometry.as_slice();
+    if any_short_ring(geometry) {
+        return Ok(Some(Cause::ShortRing));
+    }
+    if any_same_twice(geometry) {
+        return Ok(Some(Cause::SameTwice));
+    }
+    if any_open_shell(alloc, geometry)? {
+        return Ok(Some(Cause::OpenShell));
+    }
+    Ok(None)
+}
+
+fn any_short_ring(geometry: &[Geometry]) -> bool
+    ensures { result ≡ list_any (λ g. has_short_ring g.shape) geometry.now }
+{
+    geometry.iter().any(|g| has_short_ring(&g.shape))
+}
+
+fn any_same_twice(geometry: &[Geometry]) -> bool
+    ensures { result ≡ list_any (λ g. has_same_twice g.shape) geometry.now }
+{
+    geometry.iter().any(|g| has_same_twice(&g.shape))
+}
+
+fn any_open_shell(alloc: Global, geometry: &[Geometry]) -> Result<bool, AllocError>
+    ensures { IfOk result (λ b. b ≡ list_any (λ g. has_open_shell g.shape) geometry.now) }
+{
+    for g in geometry {
+        if has_open_shell(alloc, &g.shape)? {
+            return Ok(true);
+        }
+    }
+    Ok(false)
+}
