@@ -1,0 +1,5 @@
+mod Floatless
+mod FloatlessEnds
+mod Points
+mod Repeats
+mod Walks
