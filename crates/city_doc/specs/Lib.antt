@@ -1,9 +1,12 @@
 pub mod Bodies
 pub mod Canonical
 pub mod Documents
+pub mod KeptMembers
 pub mod ObjectFaults
 pub mod Outputs
+pub mod Pool
 pub mod Reports
 pub mod ScriptTexts
 pub mod Texts
 pub mod Triples
+pub mod Walk

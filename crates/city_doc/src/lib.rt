@@ -2,11 +2,18 @@
 #![tactic(auto)]
 
 pub mod body;
+mod boundaries;
+mod end_tree;
 pub mod fault;
 pub mod object_faults;
+mod object_tree;
 pub mod parse;
+pub mod pool;
 pub mod read;
+mod reply_tree;
 pub mod report;
 pub mod scripts;
+mod tree;
 pub mod triples;
+mod walk;
 pub mod write;

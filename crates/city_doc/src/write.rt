@@ -2,13 +2,18 @@
 ghost use Rattle.std.specs.Prelude.{◌≡◌, IfOk};
 ghost use Rattle.city_doc.specs.Canonical.{city_text};
 
+use crate::tree::city_tree;
+use crate::walk::city_pool;
 use city_model::OutOfMemory;
 use city_model::city::City;
-use std::alloc::{AllocError, Global};
+use std::alloc::Global;
 
 /// The canonical text of a city, without a newline.
-pub fn write_city(_alloc: Global, _city: &City) -> Result<Vec<u8>, OutOfMemory>
-    ensures { IfOk result (λ b. b.items ≡ city_text _city.now) }
+pub fn write_city(alloc: Global, city: &City) -> Result<Vec<u8>, OutOfMemory>
+    ensures { IfOk result (λ b. b.items ≡ city_text city.now) }
 {
-    Err(AllocError)
+    let pool = city_pool(alloc, city)?;
+    let tree = city_tree(alloc, city, &pool)?;
+    let text = tree.to_vec(alloc)?;
+    Ok(text)
 }

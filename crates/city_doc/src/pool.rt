@@ -1,0 +1,61 @@
+//! Numbers points in the order of their first meeting.
+ghost use Rattle.std.specs.Prelude.{◌≡◌, [], IfOk, OnOk, OnErr};
+ghost use Rattle.city_doc.specs.Pool.{place_of, with_point};
+
+use city_model::OutOfMemory;
+use city_model::object::Point;
+use indexmap::IndexSet;
+use std::alloc::Global;
+use std::marker::Model;
+
+/// The points met so far, each once; the number of a point is its place.
+#[derive(Drop)]
+pub struct VertexPool {
+    points: IndexSet<Point>,
+}
+
+impl Model for VertexPool {
+    ghost use Rattle.std.specs.Prelude.{List};
+    ghost use Rattle.city_model.specs.declared.object.Point.{Point};
+
+    ghost Value = { List Point };
+
+    ghost view = { λ a. a.points.keys };
+}
+
+impl VertexPool {
+    /// A pool without points. Takes no memory.
+    pub fn new(alloc: Global) -> Self
+        ensures { result ≡ [] }
+    {
+        VertexPool {
+            points: IndexSet::new(alloc),
+        }
+    }
+
+    /// Adds a point, and gives its number. A point that is there keeps its number.
+    ///
+    /// Where there is no memory the pool is unchanged.
+    pub fn add(&mut self, point: Point) -> Result<usize, OutOfMemory>
+        ensures place { IfOk result (λ i. i ≡ place_of self.old point) }
+        ensures added { OnOk result (self.new ≡ with_point self.old point) }
+        ensures unchanged { OnErr result (self.new ≡ self.old) }
+    {
+        let (place, _) = self.points.insert_full(point)?;
+        Ok(place)
+    }
+
+    /// The number of a point, or how many points there are where it isn't there. Takes no memory.
+    pub fn place(&self, point: Point) -> usize
+        ensures { result ≡ place_of self.now point }
+    {
+        self.points.get_index_of(&point).unwrap_or(self.points.len())
+    }
+
+    /// The points by their numbers. Takes no memory.
+    pub fn points(&self) -> &IndexSet<Point>
+        ensures { result.now.keys ≡ self.now }
+    {
+        &self.points
+    }
+}
