@@ -1,1 +1,3 @@
 pub mod NoGeometry
+pub mod Order
+pub mod Searches

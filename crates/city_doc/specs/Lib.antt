@@ -1,8 +1,11 @@
 pub mod Bodies
 pub mod Canonical
 pub mod Documents
+pub mod Frames
 pub mod ObjectFaults
 pub mod Reports
 pub mod ScriptTexts
+pub mod Searches
+pub mod TextFaults
 pub mod Texts
 pub mod Triples
