@@ -1,13 +1,14 @@
 -- A fault that stands where none before it in the order does.
-use Rattle.std.proofs.Common.{◌≡◌, ℕ, ◌<◌, List, Bool, true, false, true≢false, Option, Some, None, refl, sym, ◌∙◌, arith}
+use Rattle.std.proofs.Common.{◌≡◌, ℕ, ◌<◌, List, Bool, true, false, true≢false, Option, Some, None, refl, sym, ap, ◌∙◌, arith}
+use Rattle.std.specs.Prelude.{is_some, option_and_then, MatchOption}
 use Rattle.serde_json.specs.Data.{Data, Members}
 use Rattle.city_model.specs.Members.{AreOrdered}
 use Rattle.city_model.specs.Whole.{is_whole}
 use Rattle.city_doc.specs.declared.fault.ReadFault.{ReadFault}
 use Rattle.city_doc.specs.declared.fault.ReadFault.TheVariants.{OutOfMemory, TooLong, NotJson, NotWhole, NotCityJson, UnknownType, Unsupported, BadGeometry, BadVertex, BadRing, Relations, OpenShell}
-use Rattle.city_doc.specs.Documents.{StandsAmong, StandsIn, IsFirst, number_of, objects_in, is_unsupported, unsupported_at}
+use Rattle.city_doc.specs.Documents.{StandsAmong, StandsIn, IsFirst, number_of, AreFaultless, IsFaultless, objects_in, is_unsupported, unsupported_at}
 use Rattle.city_doc.specs.Frames.{wrong_member}
-use Rattle.city_doc.specs.ObjectFaults.{is_unknown_type, is_bad_geometry, is_related}
+use Rattle.city_doc.specs.ObjectFaults.{is_unknown_type, unsupported_name, is_bad_geometry, is_related}
 use Rattle.city_doc.specs.Searches.{IsLeast, first_with}
 use Rattle.city_doc.proofs.Searches.{first_is_least, none_is_none}
 
@@ -31,6 +32,16 @@ none_before n ms o known supported plain unrelated (BadVertex id) lt h = h
 none_before n ms o known supported plain unrelated (BadRing id) lt h = h
 none_before n ms o known supported plain unrelated (Relations id) lt h = none_least is_related ms id o (unrelated lt) h
 none_before n ms o known supported plain unrelated (OpenShell id) lt h = h
+
+missing_name : (o : Option (List ℕ)) → is_some o ≡ true → o ≡ None → ⊥
+missing_name None h e = true≢false (sym h)
+missing_name (Some name) h e = cc
+
+-- what isn't supported has a name
+pub unsupported_named : (ms : Members) (id : List ℕ) → AreOrdered ms → first_with is_unsupported ms ≡ Some id → unsupported_at ms id ≡ None → ⊥
+unsupported_named ms id o found none =
+    let has = (first_is_least is_unsupported ms id o found).0 in
+    missing_name (unsupported_name has.0) has.2 (sym (ap (option_and_then unsupported_name) has.1) ∙ none)
 
 module _ (ms : Members) (id : List ℕ) (o : AreOrdered ms) where
   pub first_unknown_type : first_with is_unknown_type ms ≡ Some id → IsFirst (StandsAmong ms) (UnknownType id)
@@ -119,3 +130,9 @@ before_other d n (OpenShell id) e lt h = h
 
 pub first_other_number : (d : Data) → is_whole d ≡ false → IsFirst (StandsIn d) NotWhole
 first_other_number d h = (h, λ g lt. before_other d 3 g refl lt)
+
+-- what is found among the objects is what stands in the tree
+pub fault_in : (d : Data) (ms : Members) (o : Option ReadFault) → objects_in d ≡ ms → is_whole d ≡ true → wrong_member d ≡ None → MatchOption o (AreFaultless ms) (λ f. IsFirst (StandsAmong ms) f)
+    → MatchOption o (IsFaultless d) (λ f. IsFirst (StandsIn d) f)
+fault_in d ms None e whole right h = record { right = right; objects = rw e h }
+fault_in d ms (Some f) e whole right h = first_in d ms f e whole right h

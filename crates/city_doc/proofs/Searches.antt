@@ -56,14 +56,14 @@ none_below k j d e ms h lt is =
 module _ (test : Data → Bool) where
   -- what isn't at the first id is further on
   later_at : (o : Ordering) (k j : List ℕ) (d : Data) (ms : Members) → slice_cmp nat_cmp j k ≡ o → test d ≡ false → AllAbove k ms → Has test (member k d ms) j → Has test ms j
-  later_at Less k j d ms is no h has = absurd (none_below k j d has.0 ms h is has.1)
-  later_at Equal k j d ms is no h has =
+  later_at Less k j d ms is out h has = absurd (none_below k j d has.0 ms h is has.1)
+  later_at Equal k j d ms is out h has =
       let at : get_member k (member k d ms) ≡ Some has.0 = subst (λ i. get_member i (member k d ms) ≡ Some has.0) (same_key j k is) has.1 in
       let same : Some d ≡ Some has.0 = sym (here k d ms) ∙ at in
       let value : d ≡ has.0 = cc in
       let clash : test d ≡ true = rw value has.2 in
-      absurd (true≢false (sym clash ∙ no))
-  later_at Greater k j d ms is no h has = (has.0, sym (above _ _ _ is) ∙ has.1, has.2)
+      absurd (true≢false (sym clash ∙ out))
+  later_at Greater k j d ms is out h has = (has.0, sym (above _ _ _ is) ∙ has.1, has.2)
 
   least_at : (b : Bool) (k : List ℕ) (d : Data) (ms : Members) (id : List ℕ) → test d ≡ b → AllAbove k ms → (first_with test ms ≡ Some id → IsLeast test ms id)
       → (if b then Some k else first_with test ms) ≡ Some id → IsLeast test (member k d ms) id

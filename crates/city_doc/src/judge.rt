@@ -1,9 +1,10 @@
 //! Judges the tree of a document: the first fault that stands in it.
-ghost use Rattle.std.specs.Prelude.{◌≡◌, true, Bool, IfOk, MatchOption, option_map};
+ghost use Rattle.std.specs.Prelude.{◌≡◌, true, Bool, IfOk, MatchOption, option_map, option_and_then, codes};
 ghost use Rattle.serde_json.specs.Data.{Data};
 ghost use Rattle.city_model.specs.Whole.{is_whole};
+ghost use Rattle.serde_json.specs.Find.{get, as_object};
 ghost use Rattle.serde_json.specs.View.{view, members_view};
-ghost use Rattle.city_doc.specs.Documents.{is_unsupported, StandsAmong, StandsIn, IsFirst, AreFaultless, IsFaultless};
+ghost use Rattle.city_doc.specs.Documents.{is_unsupported, unsupported_at, StandsAmong, StandsIn, IsFirst, AreFaultless, IsFaultless};
 ghost use Rattle.city_doc.specs.ObjectFaults.{is_unknown_type, is_bad_geometry, is_related};
 ghost use Rattle.city_doc.specs.Searches.{first_with};
 
@@ -82,6 +83,13 @@ fn named(alloc: Global, name: &str) -> Result<Text, AllocError>
     Ok(Text::new(name.to_string(alloc)?))
 }
 
+/// What isn't supported in the object of an id.
+fn unsupported_at<'v>(objects: &'v Map<String, Value>, id: &str) -> Option<&'v str>
+    ensures { option_map (λ s. s.now) result ≡ unsupported_at (members_view objects.now.entries) id.now }
+{
+    member(objects, id).and_then(unsupported_name)
+}
+
 /// The first fault among the objects.
 fn object_fault(
     alloc: Global,
@@ -97,7 +105,7 @@ fn object_fault(
         return Ok(Some(ReadFault::UnknownType(id)));
     }
     if let Some(id) = first_with::<Unsupporteds>(objects) {
-        let Some(name) = member(objects, id).and_then(unsupported_name) else {
+        let Some(name) = unsupported_at(objects, id) else {
             unreachable!()
         };
         let id = named(alloc, id)?;
@@ -115,6 +123,14 @@ fn object_fault(
     Ok(None)
 }
 
+/// The objects of a tree by their ids.
+fn objects_in(tree: &Value) -> Option<&Map<String, Value>>
+    ensures { option_map (λ m. members_view m.now.entries) result
+        ≡ option_and_then as_object (get (codes "CityObjects") (view tree.now)) }
+{
+    tree.get("CityObjects").and_then(Value::as_object)
+}
+
 /// The first fault of a tree whose numbers are whole.
 pub fn first_fault(alloc: Global, tree: &Value) -> Result<Option<ReadFault>, AllocError>
     ensures { is_whole (view tree.now) ≡ true → IfOk result (λ o. MatchOption o
@@ -124,7 +140,7 @@ pub fn first_fault(alloc: Global, tree: &Value) -> Result<Option<ReadFault>, All
         let name = named(alloc, name)?;
         return Ok(Some(ReadFault::NotCityJson(name)));
     }
-    let Some(objects) = tree.get("CityObjects").and_then(Value::as_object) else {
+    let Some(objects) = objects_in(tree) else {
         return Ok(None);
     };
     let fault = object_fault(alloc, objects)?;
