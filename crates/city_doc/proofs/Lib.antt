@@ -1,3 +1,4 @@
 pub mod NoGeometry
+pub mod Objects
 pub mod Order
 pub mod Searches
