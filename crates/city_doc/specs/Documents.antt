@@ -1,15 +1,125 @@
 -- What a document stands for, and how it is refused.
-use Rattle.std.specs.Prelude.{◌≡◌, ◌⊎◌, ℕ, List}
+use Rattle.std.specs.Prelude.{◌≡◌, ◌⊎◌, ◌<◌, ◌&&◌, ℕ, List, [], ◌∷◌, Bool, false, Option, Some, None, option_and_then, option_map, codes, is_some, if◌then◌else◌}
+use Rattle.serde_json.specs.Data.{Data, Members, no_members, member}
+use Rattle.serde_json.specs.Find.{get, get_member, as_object}
 use Rattle.city_model.specs.declared.frame.Frame.{Frame}
+use Rattle.city_model.specs.declared.object.Point.{Point}
 use Rattle.city_model.specs.CityMap.{Entries}
+use Rattle.city_model.specs.Whole.{is_whole}
 use Rattle.city_doc.specs.declared.fault.ReadFault.{ReadFault}
+use Rattle.city_doc.specs.declared.fault.ReadFault.TheVariants.{OutOfMemory, TooLong, NotJson, NotWhole, NotCityJson, UnknownType, Unsupported, BadGeometry, BadVertex, BadRing, Relations, OpenShell}
+use Rattle.city_doc.specs.Bodies.{object_of}
+use Rattle.city_doc.specs.Frames.{is_text, frame_of, wrong_member}
+use Rattle.city_doc.specs.ObjectFaults.{is_unknown_type, unsupported_name, is_bad_geometry, is_related}
+use Rattle.city_doc.specs.Searches.{IsLeast, first_with}
+use Rattle.city_doc.specs.Texts.{IsText, IsTooLong, IsNoJson, HasTree}
+use Rattle.city_doc.specs.Triples.{points_of}
 
 -- a frame, and the objects by their ids
 abbrev pub CityValue : Type 0
 CityValue = Frame × Entries
 
-pub StandsForCity : List ℕ → CityValue → Type 0
-StandsForCity text city = Unit {0}
+-- ---- what a document stands for
 
+abbrev pub is_city_json : Data → Bool
+is_city_json d = is_text (codes "CityJSON") (get (codes "type") d) && is_text (codes "2.0") (get (codes "version") d)
+
+-- the points of the vertices
+abbrev pub points_in : Data → Option (List Point)
+points_in d = option_and_then points_of (get (codes "vertices") d)
+
+abbrev pub entries_of : List Point → Members → Option Entries
+entries_of points no_members = Some []
+entries_of points (member id d ms) = option_and_then (λ o. option_map (λ es. (id, o) ∷ es) (entries_of points ms)) (object_of points d)
+
+abbrev pub entries_in : List Point → Data → Option Entries
+entries_in points d = option_and_then (entries_of points) (option_and_then as_object (get (codes "CityObjects") d))
+
+-- the city that a tree stands for, where it has the form of a document; whether the city is lawful is judged apart
+abbrev pub city_of : Data → Option CityValue
+city_of d =
+    if is_city_json d then
+    option_and_then (λ points. option_and_then (λ entries. option_map (λ frame. (frame, entries)) (frame_of d)) (entries_in points d)) (points_in d) else None
+
+-- the text is JSON whose tree stands for this city
+abbrev pub StandsForCity : List ℕ → CityValue → Type 0
+StandsForCity text city = (d : Data) × IsText text d × (city_of d ≡ Some city)
+
+-- ---- how a document is refused
+
+abbrev pub members_of : Option Members → Members
+members_of None = no_members
+members_of (Some ms) = ms
+
+-- the objects of a tree by their ids
+abbrev pub objects_in : Data → Members
+objects_in d = members_of (option_and_then as_object (get (codes "CityObjects") d))
+
+abbrev pub is_unsupported : Data → Bool
+is_unsupported d = is_some (unsupported_name d)
+
+-- the name of what isn't supported in the object of this id
+abbrev pub unsupported_at : Members → List ℕ → Option (List ℕ)
+unsupported_at objects id = option_and_then unsupported_name (get_member id objects)
+
+-- the fault stands in the objects, and names the least id that has it
+abbrev pub StandsAmong : Members → ReadFault → Type 0
+StandsAmong objects OutOfMemory = ⊥
+StandsAmong objects TooLong = ⊥
+StandsAmong objects NotJson = ⊥
+StandsAmong objects NotWhole = ⊥
+StandsAmong objects (NotCityJson name) = ⊥
+StandsAmong objects (UnknownType id) = IsLeast is_unknown_type objects id
+StandsAmong objects (Unsupported id name) = IsLeast is_unsupported objects id × (unsupported_at objects id ≡ Some name)
+StandsAmong objects (BadGeometry id) = IsLeast is_bad_geometry objects id
+StandsAmong objects (BadVertex id) = ⊥
+StandsAmong objects (BadRing id) = ⊥
+StandsAmong objects (Relations id) = IsLeast is_related objects id
+StandsAmong objects (OpenShell id) = ⊥
+
+-- the fault stands in the tree
+abbrev pub StandsIn : Data → ReadFault → Type 0
+StandsIn d NotWhole = is_whole d ≡ false
+StandsIn d (NotCityJson name) = wrong_member d ≡ Some name
+StandsIn d f = StandsAmong (objects_in d) f
+
+-- the place of a fault in the order
+abbrev pub number_of : ReadFault → ℕ
+number_of OutOfMemory = 0
+number_of TooLong = 1
+number_of NotJson = 2
+number_of NotWhole = 3
+number_of (NotCityJson name) = 4
+number_of (UnknownType id) = 5
+number_of (Unsupported id name) = 6
+number_of (BadGeometry id) = 7
+number_of (BadVertex id) = 8
+number_of (BadRing id) = 9
+number_of (Relations id) = 10
+number_of (OpenShell id) = 11
+
+-- this one stands, and none that comes before it in the order
+abbrev pub IsFirst : (ReadFault → Type 0) → ReadFault → Type 0
+IsFirst stands f = stands f × ((g : ReadFault) → number_of g < number_of f → stands g → ⊥)
+
+-- the text has a tree, and the fault is the first that stands in it
+abbrev pub IsFirstInTree : List ℕ → ReadFault → Type 0
+IsFirstInTree text f = (d : Data) × HasTree text d × IsFirst (StandsIn d) f
+
+-- memory was short, or the fault is the first that stands in the text
 abbrev pub DocumentFault : List ℕ → ReadFault → Type 0
-DocumentFault text f = (f ≡ ReadFault.OutOfMemory) ⊎ Unit {0}
+DocumentFault text f = (f ≡ OutOfMemory) ⊎ (((f ≡ TooLong) × IsTooLong text) ⊎ (((f ≡ NotJson) × IsNoJson text) ⊎ IsFirstInTree text f))
+
+-- ---- no fault
+
+-- no object has a fault
+pub record AreFaultless (objects : Members) : Type 0 where
+  pub known : first_with is_unknown_type objects ≡ None
+  pub supported : first_with is_unsupported objects ≡ None
+  pub plain : first_with is_bad_geometry objects ≡ None
+  pub unrelated : first_with is_related objects ≡ None
+
+-- no fault stands in a tree of whole numbers
+pub record IsFaultless (d : Data) : Type 0 where
+  pub right : wrong_member d ≡ None
+  pub objects : AreFaultless (objects_in d)

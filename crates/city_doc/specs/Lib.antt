@@ -1,12 +1,15 @@
 pub mod Bodies
 pub mod Canonical
 pub mod Documents
+pub mod Frames
 pub mod KeptMembers
 pub mod ObjectFaults
 pub mod Outputs
 pub mod Pool
 pub mod Reports
 pub mod ScriptTexts
+pub mod Searches
+pub mod TextFaults
 pub mod Texts
 pub mod Triples
 pub mod Walk

@@ -4,7 +4,9 @@
 pub mod body;
 mod boundaries;
 mod end_tree;
+pub mod build;
 pub mod fault;
+pub mod judge;
 pub mod object_faults;
 mod object_tree;
 pub mod parse;
@@ -14,6 +16,7 @@ mod reply_tree;
 pub mod report;
 pub mod scripts;
 mod tree;
+pub mod top;
 pub mod triples;
 mod walk;
 pub mod write;

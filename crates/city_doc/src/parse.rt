@@ -4,6 +4,7 @@ ghost use Rattle.serde_json.specs.View.{view};
 ghost use Rattle.city_model.specs.Whole.{is_whole};
 ghost use Rattle.city_doc.specs.Texts.{HasTree, IsRefused};
 
+use crate::fault::ReadFault;
 use city_model::whole::is_whole;
 use serde_json::Value;
 use std::alloc::Global;
@@ -49,4 +50,20 @@ pub fn parse(alloc: Global, bytes: &[u8]) -> Result<Value, TextFault>
         return Err(TextFault::NotWhole);
     }
     Ok(tree)
+}
+
+impl From<TextFault> for ReadFault {
+    ghost use Rattle.std.specs.Prelude.{◌≡◌};
+    ghost use Rattle.city_doc.specs.TextFaults.{read_fault};
+
+    ghost from_gives = { λ t f. f ≡ read_fault t };
+
+    fn from(fault: TextFault) -> ReadFault {
+        match fault {
+            TextFault::OutOfMemory => ReadFault::OutOfMemory,
+            TextFault::TooLong => ReadFault::TooLong,
+            TextFault::NotJson => ReadFault::NotJson,
+            TextFault::NotWhole => ReadFault::NotWhole,
+        }
+    }
 }

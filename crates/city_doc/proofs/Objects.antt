@@ -1,0 +1,131 @@
+-- A loop that reads the members of a map in turn into a map in the order of their bytes.
+use Rattle.std.proofs.Common.{◌≡◌, ℕ, List, [], ◌∷◌, ◌++◌, map, Bool, true, false, true≢false, Option, Some, None, option_map, String, Global, Ordering, Less, Equal, Greater, string_bytes, string_cmp, nat_cmp, refl, sym, ap, ◌∙◌, subst, append_assoc}
+use Rattle.std.specs.Prelude.{if◌then◌else◌}
+use Rattle.std.specs.List.{AllByRecursion}
+use Rattle.std.specs.List.Sorted.{IsStrictlySortedBy}
+use Rattle.std.specs.Map.{keys_of}
+use Rattle.std.specs.BTreeMap.{insert_entry}
+use Rattle.std.specs.Cmp.{IsTotalOrder}
+use Rattle.std.specs.Cmp.Lexicographic.{slice_cmp}
+use Rattle.std.specs.Ordering.{ordering_reverse}
+use Rattle.serde_json.specs.Data.{Data, Members, member}
+use Rattle.serde_json.specs.View.{view, members_view}
+use Rattle.serde_json.proofs.Views.{Entry}
+use Rattle.city_model.specs.CityMap.{Entries}
+use Rattle.city_model.specs.declared.object.Object.{Object}
+use Rattle.city_model.specs.declared.object.Point.{Point}
+use Rattle.city_doc.specs.Bodies.{object_of}
+use Rattle.city_doc.specs.Documents.{entries_of}
+use Rattle.city_doc.specs.ObjectFaults.{is_bad_geometry, is_related}
+use Rattle.city_doc.specs.Searches.{first_with}
+
+module _ {K X : Type 0} {R : K → K → Ordering} (total : IsTotalOrder R) where
+  middle : (es : List (K × X)) (first k : K) (more : List K) → AllByRecursion (λ y. R first y ≡ Less) (keys_of es ++ k ∷ more) → R first k ≡ Less
+  middle [] first k more h = h.0
+  middle (e ∷ es) first k more h = middle es first k more h.1
+
+  -- a key that is above those before it goes last
+  pub insert_last : (es : List (K × X)) (k : K) (v : X) (more : List K) → IsStrictlySortedBy R (keys_of es ++ k ∷ more) → insert_entry R es k v ≡ es ++ (k, v) ∷ []
+  unfolding IsStrictlySortedBy
+  insert_last [] k v more h = refl
+  insert_last (e ∷ es) k v more h =
+      let above : R k e.0 ≡ Greater = total.antisymm k e.0 ∙ ap ordering_reverse (middle es e.0 k more h.0) in
+      rw above (ap (λ r. e ∷ r) (insert_last es k v more h.1))
+
+pub keys_of_push : {K X : Type 0} (es : List (K × X)) (k : K) (v : X) (more : List K) → keys_of es ++ k ∷ more ≡ keys_of (es ++ (k, v) ∷ []) ++ more
+keys_of_push [] k v more = refl
+keys_of_push (e ∷ es) k v more = ap (λ ks. e.0 ∷ ks) (keys_of_push es k v more)
+
+all_bytes : (k : String Global) (ks : List (String Global)) → AllByRecursion (λ y. string_cmp k y ≡ Less) ks → AllByRecursion (λ y. slice_cmp nat_cmp (string_bytes k) y ≡ Less) (map string_bytes ks)
+all_bytes k [] h = tt
+all_bytes k (j ∷ ks) h = (h.0, all_bytes k ks h.1)
+
+-- keys in order are in order by their bytes
+pub sorted_bytes : (ks : List (String Global)) → IsStrictlySortedBy string_cmp ks → IsStrictlySortedBy (slice_cmp nat_cmp) (map string_bytes ks)
+unfolding IsStrictlySortedBy
+sorted_bytes [] h = tt
+sorted_bytes (k ∷ ks) h = (all_bytes k ks h.0, sorted_bytes ks h.1)
+
+-- ---- what is read
+
+-- none of the objects has geometry or relations
+pub record ArePlain (ms : Members) : Type 0 where
+  pub no_geometry : first_with is_bad_geometry ms ≡ None
+  pub unrelated : first_with is_related ms ≡ None
+
+-- the objects of `all` are those that are done, and then those of the rest
+pub record IsRead (points : List Point) (all : Members) (done : Entries) (rest : List Entry) : Type 0 where
+  pub plain : ArePlain (members_view rest)
+  pub entries : entries_of points all ≡ option_map (λ es. done ++ es) (entries_of points (members_view rest))
+
+-- the loop's state
+pub record IsReading (all : Members) (done : Entries) (rest : List Entry) : Type 0 where
+  pub read : (points : List Point) → ArePlain all → IsRead points all done rest
+  pub sorted : IsStrictlySortedBy (slice_cmp nat_cmp) (keys_of done ++ map string_bytes (keys_of rest))
+
+option_map-id : {A : Type 0} (o : Option A) → o ≡ option_map (λ x. x) o
+option_map-id None = refl
+option_map-id (Some x) = refl
+
+pub begins : (es : List Entry) → IsStrictlySortedBy string_cmp (keys_of es) → IsReading (members_view es) [] es
+begins es h = record {
+  read = λ points plain. record { plain = plain; entries = option_map-id (entries_of points (members_view es)) };
+  sorted = sorted_bytes (keys_of es) h;
+}
+
+push_map : {A : Type 0} (done : List A) (o : A) (rest : Option (List A)) → option_map (λ os. done ++ os) (option_map (λ os. o ∷ os) rest) ≡ option_map (λ os. (done ++ o ∷ []) ++ os) rest
+push_map done o None = refl
+push_map done o (Some os) = ap Some (sym (append_assoc done (o ∷ []) os))
+
+-- a search that finds nothing finds nothing at the first object, nor later
+first_none : (b : Bool) (k : List ℕ) (rest : Option (List ℕ)) → (if b then Some k else rest) ≡ None → (b ≡ false) × (rest ≡ None)
+first_none true k rest h = cc
+first_none false k rest h = (refl, h)
+
+pub record StartsPlain (d : Data) (ms : Members) : Type 0 where
+  pub no_geometry : is_bad_geometry d ≡ false
+  pub unrelated : is_related d ≡ false
+  pub rest : ArePlain ms
+
+pub starts_plain : (k : List ℕ) (d : Data) (ms : Members) → ArePlain (member k d ms) → StartsPlain d ms
+starts_plain k d ms h =
+    let g = first_none (is_bad_geometry d) k (first_with is_bad_geometry ms) h.no_geometry in
+    let r = first_none (is_related d) k (first_with is_related ms) h.unrelated in
+    record { no_geometry = g.0; unrelated = r.0; rest = record { no_geometry = g.1; unrelated = r.1 } }
+
+-- what a builder of one object answers
+abbrev pub Builds : Option Object → Data → Type 0
+Builds o d = (points : List Point) → is_bad_geometry d ≡ false → is_related d ≡ false → o ≡ object_of points d
+
+entries_push : (points : List Point) (done : Entries) (k : List ℕ) (d : Data) (o : Object) (ms : Members) → object_of points d ≡ Some o
+    → option_map (λ es. done ++ es) (entries_of points (member k d ms)) ≡ option_map (λ es. (done ++ (k, o) ∷ []) ++ es) (entries_of points ms)
+entries_push points done k d o ms is = rw is (push_map done (k, o) (entries_of points ms))
+
+entries_stop : (points : List Point) (done : Entries) (k : List ℕ) (d : Data) (ms : Members) → object_of points d ≡ None
+    → option_map (λ es. done ++ es) (entries_of points (member k d ms)) ≡ None
+entries_stop points done k d ms is = rw is
+
+pub goes_on : (all : Members) (done : Entries) (e : Entry) (left : List Entry) (o : Object) → Builds (Some o) (view e.1) → IsReading all done (e ∷ left) → IsReading all (done ++ (string_bytes e.0, o) ∷ []) left
+goes_on all done e left o builds h = record {
+  read = λ points plain.
+    let was = h.read points plain in
+    let start = starts_plain (string_bytes e.0) (view e.1) (members_view left) was.plain in
+    record {
+      plain = start.rest;
+      entries = was.entries ∙ entries_push points done (string_bytes e.0) (view e.1) o (members_view left) (sym (builds points start.no_geometry start.unrelated));
+    };
+  sorted = subst (IsStrictlySortedBy (slice_cmp nat_cmp)) (keys_of_push done (string_bytes e.0) o (map string_bytes (keys_of left))) h.sorted;
+}
+
+pub stops : (all : Members) (done : Entries) (e : Entry) (left : List Entry) (points : List Point) → Builds None (view e.1) → IsReading all done (e ∷ left) → ArePlain all → None ≡ entries_of points all
+stops all done e left points builds h plain =
+    let was = h.read points plain in
+    let start = starts_plain (string_bytes e.0) (view e.1) (members_view left) was.plain in
+    sym (was.entries ∙ entries_stop points done (string_bytes e.0) (view e.1) (members_view left) (sym (builds points start.no_geometry start.unrelated)))
+
+append-nil : {A : Type 0} (done : List A) → done ++ [] ≡ done
+append-nil [] = refl
+append-nil (x ∷ xs) = ap (λ ys. x ∷ ys) (append-nil xs)
+
+pub ends : (all : Members) (done : Entries) (points : List Point) → IsReading all done [] → ArePlain all → Some done ≡ entries_of points all
+ends all done points h plain = sym ((h.read points plain).entries ∙ ap Some (append-nil done))

@@ -1,0 +1,11 @@
+use Rattle.std.proofs.Common.{◌≡◌, option_map, sym, ap, ◌∙◌}
+use Rattle.serde_json.specs.View.{view, members_view}
+use Rattle.city_doc.specs.Documents.{members_of}
+use Rattle.city_doc.proofs.Order.{fault_in}
+use Rattle.city_doc.proofs.judge.first_fault.Goals as goal
+
+pub returns : goal.returns
+returns c = λ whole.
+    let right = sym c.wrong_member.ensures ∙ ap (option_map (λ s. s.now)) c.in_default.is in
+    let there = sym c.objects_in.ensures ∙ ap (option_map (λ m. members_view m.now.entries)) c.in-Some-objects_in.is in
+    fault_in (view c.args.tree.now) _ c.in_ok-fault.fault (ap members_of there) whole right c.in_ok-fault.ensures

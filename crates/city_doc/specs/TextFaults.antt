@@ -1,0 +1,10 @@
+-- The faults of a text, as faults of a document.
+use Rattle.city_doc.specs.declared.fault.ReadFault.{ReadFault}
+use Rattle.city_doc.specs.declared.parse.TextFault.{TextFault}
+use Rattle.city_doc.specs.declared.parse.TextFault.TheVariants.{OutOfMemory, TooLong, NotJson, NotWhole}
+
+abbrev pub read_fault : TextFault → ReadFault
+read_fault OutOfMemory = ReadFault.OutOfMemory
+read_fault TooLong = ReadFault.TooLong
+read_fault NotJson = ReadFault.NotJson
+read_fault NotWhole = ReadFault.NotWhole
