@@ -51,10 +51,10 @@ held_exclusively : (held : Held) (ls : List Lock) (q : List ℕ) → AllHeld hel
 held_exclusively held [] q a h = absurd (false≢true h)
 held_exclusively held (l ∷ ls) q a h = bool_cases l.1
     (λ e.
-      let k : (same_id q l.0 || names_exclusively ls q) ≡ true = rw e at h in
-      bool_cases (same_id q l.0)
-        (λ f. ap (covers (held q)) (sym e) ∙ ap (λ k. covers (held k) l.1) (same_id_true q l.0 f) ∙ a.0)
-        (λ f. held_exclusively held ls q a.1 (sym (ap (λ b. b || names_exclusively ls q) f) ∙ k)))
+    let k : (same_id q l.0 || names_exclusively ls q) ≡ true = rw e at h in
+    bool_cases (same_id q l.0)
+    (λ f. ap (covers (held q)) (sym e) ∙ ap (λ k. covers (held k) l.1) (same_id_true q l.0 f) ∙ a.0)
+    (λ f. held_exclusively held ls q a.1 (sym (ap (λ b. b || names_exclusively ls q) f) ∙ k)))
     (λ e. held_exclusively held ls q a.1 (rw e at h))
 
 not_named : (held : Held) (ls : List Lock) (q : List ℕ) → AllHeld held ls → covers (held q) true ≡ false → names_exclusively ls q ≡ false
@@ -72,16 +72,17 @@ history_kept held m other [] n k s t agree to off f = λ q. bool_cases (covers (
     (λ e. off q e)
 history_kept held m other (d ∷ ds) n k s t agree to off f =
     let on : AgreeOn (locks_of m d.0) m other = λ q h. agree q (held_named held (locks_of m d.0) q f.0 h) in
-    let same : locks_of m d.0 ≡ locks_of other d.0 = same_locks m other d.0 on in
-    (subst (AllHeld held) same f.0,
-     sym (same_reply m other d.0 on) ∙ f.1,
-     history_kept held (after m d.0) (after other d.0) ds n k (sound_after m d.0 s) (sound_after other d.0 t)
-       (λ q h. bool_cases (names_exclusively (locks_of m d.0) q)
-         (λ e. same_after m other d.0 q on e)
-         (λ e. frame m d.0 q s e ∙ agree q h ∙ sym (frame other d.0 q t (sym (ap (λ ls. names_exclusively ls q) same) ∙ e))))
-       to
-       (λ q h. off q h ∙ sym (frame other d.0 q t (sym (ap (λ ls. names_exclusively ls q) same) ∙ not_named held (locks_of m d.0) q f.0 h)))
-       f.2)
+    let same : locks_of m d.0 ≡ locks_of other d.0 = same_locks m other d.0 on in (
+      subst (AllHeld held) same f.0,
+      sym (same_reply m other d.0 on) ∙ f.1,
+      history_kept held (after m d.0) (after other d.0) ds n k (sound_after m d.0 s) (sound_after other d.0 t)
+          (λ q h. bool_cases (names_exclusively (locks_of m d.0) q)
+          (λ e. same_after m other d.0 q on e)
+          (λ e. frame m d.0 q s e ∙ agree q h ∙ sym (frame other d.0 q t (sym (ap (λ ls. names_exclusively ls q) same) ∙ e))))
+          to
+          (λ q h. off q h ∙ sym (frame other d.0 q t (sym (ap (λ ls. names_exclusively ls q) same) ∙ not_named held (locks_of m d.0) q f.0 h)))
+          f.2,
+    )
 
 -- ---- one more command, and more locks
 
