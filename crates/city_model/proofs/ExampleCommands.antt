@@ -114,7 +114,7 @@ abbrev numbered : ℕ → Body
 numbered n = record { kind = LandUse; geometry = []; extra = member (codes "attributes") (Data.object (member (codes "n") (number (unsigned n)) no_members)) no_members }
 
 abbrev meadow : Entries
-meadow = (codes "x", record { body = numbered 0; parents = []; children = [] }) ∷ []
+meadow = (codes "x", alone LandUse) ∷ []
 
 abbrev give_up : List Command
 give_up = Put (codes "x") (numbered 1) ∷ Put (codes "x") (numbered 2) ∷ Delete (codes "x") ∷ Put (codes "x") (numbered 3) ∷ Abort ∷ []

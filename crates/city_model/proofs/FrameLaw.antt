@@ -1,7 +1,7 @@
 -- A command reads and writes only what it locks.
 use Rattle.std.proofs.Common.{◌≡◌, ℕ, List, [], ◌∷◌, length, Bool, true, false, ◌||◌, Option, Some, None, refl, ap, sym, ◌∙◌}
 use Rattle.std.specs.Prelude.{◌==◌, if◌then◌else◌, map, option_map}
-use Rattle.std.proofs.lemmas.Bool.{false≢true, false_from_ne_true}
+use Rattle.std.proofs.lemmas.Bool.{false≢true, false_from_ne_true, true_from_ne_false}
 use Rattle.city_model.specs.declared.object.Object.{Object}
 use Rattle.city_model.specs.declared.command.Cause.{Cause}
 use Rattle.city_model.specs.declared.command.Cause.TheVariants.{HasChildren}
@@ -182,3 +182,35 @@ same_where_agreed m n c q a e =
 -- what is locked exclusively becomes the same
 pub same_after : (m n : CityMap) (c : Command) (q : List ℕ) → AgreeOn (locks_of m c) m n → names_exclusively (locks_of m c) q ≡ true → after m c q ≡ after n c q
 same_after m n c q a h = same_where_agreed m n c q a (a q (exclusive_is_named (locks_of m c) q h))
+
+-- of one command at two maps: the same cause, reply and locks; each id that is locked exclusively is the same before and after, and each other id keeps its object
+pub record IsFramed (m n : CityMap) (c : Command) : Type 0 where
+  pub cause : cause_of m c ≡ cause_of n c
+  pub reply : reply_to m c ≡ reply_to n c
+  pub locks : locks_of m c ≡ locks_of n c
+  pub written : (id : List ℕ) → names_exclusively (locks_of m c) id ≡ true → (m id ≡ n id) × (after m c id ≡ after n c id)
+  pub kept : (id : List ℕ) → names_exclusively (locks_of m c) id ≡ false → (after m c id ≡ m id) × (after n c id ≡ n id)
+
+-- a command does the same at two sound maps that agree on the ids that it locks
+pub frame_law : (m n : CityMap) (c : Command) → IsSound m → IsSound n → AgreeOn (locks_of m c) m n → IsFramed m n c
+frame_law m n c s t a = record {
+  cause = same_cause m n c a;
+  reply = same_reply m n c a;
+  locks = same_locks m n c a;
+  written = λ id h. (a id (exclusive_is_named (locks_of m c) id h), same_after m n c id a h);
+  kept = λ id h. (frame m c id s h, frame n c id t (sym (ap (λ ls. names_exclusively ls id) (same_locks m n c a)) ∙ h));
+}
+
+-- what a command changes is locked exclusively
+pub changed_is_exclusive : (m : CityMap) (c : Command) (id : List ℕ) → IsSound m → (after m c id ≡ m id → ⊥) → names_exclusively (locks_of m c) id ≡ true
+changed_is_exclusive m c id s changes = true_from_ne_false (names_exclusively (locks_of m c) id) (λ h. changes (frame m c id s h))
+
+-- a delete changes its id and the object's parents alone
+pub deleted_at_parents : (m : CityMap) (id : List ℕ) (o : Object) (q : List ℕ) → IsSound m → m id ≡ Some o
+    → deleted m id q ≡ (if same_id id q then None else (if has_id o.parents q then option_map (without_child id) (m q) else m q))
+deleted_at_parents m id o q s is = ap (λ x. if same_id id q then None else x) (bool_cases (has_id o.parents q)
+    (λ h. sym (ap (λ b. if b then option_map (without_child id) (m q) else m q) h))
+    (λ h.
+    let no_child : has_id (children_of (m q)) id ≡ false = false_from_ne_true (has_id (children_of (m q)) id)
+    (λ t. not_both (has_id o.parents q) (sym (ap (λ x. has_id (parents_of x) q) is) ∙ parents_known m id q (m q) refl s t) h) in
+    childless id (m q) no_child ∙ sym (ap (λ b. if b then option_map (without_child id) (m q) else m q) h)))

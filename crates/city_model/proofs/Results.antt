@@ -133,20 +133,36 @@ end_of_script_is_unique scripts m place e f script since n l h k =
     (subst (λ (s : Scripted). HasResult m s.1 e.replies e.outcome) same h.result) k.result in
     same_end e f script (h.named ∙ ap (λ (s : Scripted). s.0) same ∙ sym k.named) since result.0 result.1
 
-ends_from : (scripts : List Scripted) (m : CityMap) (k : ℕ) (es fs : List End) → length es ≡ length fs → IsSerialFrom k es → IsSerialFrom k fs
-    → FitsFrom scripts m k es → FitsFrom scripts m k fs → es ≡ fs
-ends_from scripts m k [] [] e s t h g = refl
-ends_from scripts m k [] (y ∷ fs) e s t h g = absurd (omega arith)
-ends_from scripts m k (x ∷ es) [] e s t h g = absurd (omega arith)
-ends_from scripts m k (x ∷ es) (y ∷ fs) e s t h g =
-    let first : x ≡ y = end_of_script_is_unique scripts m k x y (s.0 ∙ sym t.0) (s.1 ∙ sym t.1) s.2 t.2 h.0 g.0 in
+-- the ends at each place are of one script, which began its last attempt at one place, and neither is for want of memory
+abbrev pub AreInOneOrder : List End → List End → Type 0
+AreInOneOrder [] [] = Unit {0}
+AreInOneOrder [] (f ∷ fs) = ⊥
+AreInOneOrder (e ∷ es) [] = ⊥
+AreInOneOrder (e ∷ es) (f ∷ fs) = (e.script ≡ f.script) × (e.since ≡ f.since) × (is_no_memory e.outcome ≡ false) × (is_no_memory f.outcome ≡ false) × AreInOneOrder es fs
+
+ends_from : (scripts : List Scripted) (m : CityMap) (k : ℕ) (es fs : List End) → AreInOneOrder es fs → FitsFrom scripts m k es → FitsFrom scripts m k fs → es ≡ fs
+ends_from scripts m k [] [] o h g = refl
+ends_from scripts m k [] (y ∷ fs) o h g = absurd o
+ends_from scripts m k (x ∷ es) [] o h g = absurd o
+ends_from scripts m k (x ∷ es) (y ∷ fs) o h g =
+    let first : x ≡ y = end_of_script_is_unique scripts m k x y o.0 o.1 o.2 o.3 h.0 g.0 in
     let same : map_left m (commands_of (slice_get scripts x.script)) x.outcome ≡ map_left m (commands_of (slice_get scripts y.script)) y.outcome =
     ap (λ (z : End). map_left m (commands_of (slice_get scripts z.script)) z.outcome) first in
-    let rest : es ≡ fs = ends_from scripts (map_left m (commands_of (slice_get scripts y.script)) y.outcome) (k + 1) es fs (omega arith) s.3 t.3
+    let rest : es ≡ fs = ends_from scripts (map_left m (commands_of (slice_get scripts y.script)) y.outcome) (k + 1) es fs o.4
     (subst (λ (n : CityMap). FitsFrom scripts n (k + 1) es) same h.2) g.2 in
     ap (λ z. z ∷ es) first ∙ ap (λ zs. y ∷ zs) rest
+
+-- which scripts end in which order decides every reply and outcome, unless there was no memory
+pub ends_in_one_order_are_unique : (scripts : List Scripted) (m : CityMap) (es fs : List End) → AreInOneOrder es fs → Fits scripts m es → Fits scripts m fs → es ≡ fs
+ends_in_one_order_are_unique scripts m es fs o h g = ends_from scripts m 0 es fs o h g
+
+serial_order : (k : ℕ) (es fs : List End) → length es ≡ length fs → IsSerialFrom k es → IsSerialFrom k fs → AreInOneOrder es fs
+serial_order k [] [] e s t = tt
+serial_order k [] (y ∷ fs) e s t = absurd (omega arith)
+serial_order k (x ∷ es) [] e s t = absurd (omega arith)
+serial_order k (x ∷ es) (y ∷ fs) e s t = (s.0 ∙ sym t.0, s.1 ∙ sym t.1, s.2, t.2, serial_order (k + 1) es fs (omega arith) s.3 t.3)
 
 -- two lists of ends of the same scripts, each run in its turn from the same map, are the same, unless there was no memory
 pub serial_ends_are_unique : (scripts : List Scripted) (m : CityMap) (es fs : List End) → length es ≡ length scripts → length fs ≡ length scripts
     → IsSerialFrom 0 es → IsSerialFrom 0 fs → Fits scripts m es → Fits scripts m fs → es ≡ fs
-serial_ends_are_unique scripts m es fs a b s t h g = ends_from scripts m 0 es fs (a ∙ sym b) s t h g
+serial_ends_are_unique scripts m es fs a b s t h g = ends_from scripts m 0 es fs (serial_order 0 es fs (a ∙ sym b) s t) h g
