@@ -13,3 +13,6 @@ pub mod scripts;
 pub mod top;
 pub mod triples;
 pub mod write;
+
+#[cfg(test)]
+mod tests_read;
