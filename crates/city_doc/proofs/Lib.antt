@@ -1,4 +1,9 @@
+pub mod Cities
+pub mod KeptMembers
 pub mod NoGeometry
 pub mod Objects
 pub mod Order
+pub mod Plain
+pub mod Right
 pub mod Searches
+pub mod Totals
