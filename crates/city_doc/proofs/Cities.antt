@@ -44,7 +44,7 @@ module _ {P E F : Type 0} where
 -- ---- of a tree whose top members are known
 
 module _ (d : Data) (top : Members) (is_top : as_object d ≡ Some top) where
-  frame_at : frame_of d ≡ frame_of_rest (without (codes "CityObjects") top)
+  pub frame_at : frame_of d ≡ frame_of_rest (without (codes "CityObjects") top)
   frame_at = ap (option_and_then (λ ms. frame_of_rest (without (codes "CityObjects") ms))) is_top
 
   pub entries_at : (points : List Point) (o : Option Members) → option_and_then as_object (get_member (codes "CityObjects") top) ≡ o → entries_in points d ≡ option_and_then (entries_of points) o

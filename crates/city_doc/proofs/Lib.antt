@@ -4,6 +4,7 @@ pub mod NoGeometry
 pub mod Objects
 pub mod Order
 pub mod Plain
+pub mod Refused
 pub mod Right
 pub mod Searches
 pub mod Totals

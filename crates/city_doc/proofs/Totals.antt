@@ -14,10 +14,10 @@ use Rattle.city_model.proofs.MemberLaws.{get_member-without}
 use Rattle.city_doc.specs.Bodies.{kept_if}
 use Rattle.city_doc.specs.Documents.{CityValue, city_of, is_city_json, points_in, entries_of, entries_in, members_of, objects_in, AreFaultless, IsFaultless}
 use Rattle.city_doc.specs.Frames.{triple_at, has_triple, more_of, frame_with, frame_of_rest, frame_of, is_transform, all_objects, are_all_objects, are_objects, without_transform_members, without_top_members}
-use Rattle.city_doc.proofs.Cities.{get-object, entries_at, objects_at, whole_city}
+use Rattle.city_doc.proofs.Cities.{get-object, all_parts, frame_at, entries_at, objects_at}
 use Rattle.city_doc.proofs.KeptMembers.{whole_member, whole_object, transform_admitted, top_admitted}
 use Rattle.city_doc.proofs.Plain.{AllPlain, entries_read, plain_is_lawful}
-use Rattle.city_doc.proofs.Right.{IsRight, is_right, both, some_of, has_points}
+use Rattle.city_doc.proofs.Right.{IsRight, is_right, both, some_of, city_json, has_points}
 
 -- ---- the frame
 
@@ -103,8 +103,9 @@ has_city d whole h =
     let faultless = subst AreFaultless (objects_at d top.0 top.1 objects.0 objects.1) h.objects in
     let points = has_points d right in
     let es = entries_read points.0 objects.0 whole_objects objects.2 faultless in
-    let city = ? in
-    ((frame.0, es.0), ?, plain_is_lawful es.0 es.2)
+    let city = all_parts (is_city_json d) (points_in d) (λ p. entries_in p d) (frame_of d) points.0 es.0 frame.0 (city_json d right) points.1
+    (entries_at d top.0 top.1 points.0 (Some objects.0) objects.1 ∙ es.1) (frame_at d top.0 top.1 ∙ frame.1) in
+    ((frame.0, es.0), sym city, plain_is_lawful es.0 es.2)
 
 -- where no fault stands there is a city
 pub no_city : (d : Data) → is_whole d ≡ true → IsFaultless d → city_of d ≡ None → ⊥
