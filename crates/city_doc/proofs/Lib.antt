@@ -1,9 +1,15 @@
+pub mod Cities
 mod Floatless
 mod FloatlessEnds
+pub mod KeptMembers
 pub mod NoGeometry
 pub mod Objects
 pub mod Order
+pub mod Plain
 mod Points
+pub mod Refused
 mod Repeats
+pub mod Right
 pub mod Searches
+pub mod Totals
 mod Walks

@@ -78,7 +78,7 @@ push_map done o None = refl
 push_map done o (Some os) = ap Some (sym (append_assoc done (o ∷ []) os))
 
 -- a search that finds nothing finds nothing at the first object, nor later
-first_none : (b : Bool) (k : List ℕ) (rest : Option (List ℕ)) → (if b then Some k else rest) ≡ None → (b ≡ false) × (rest ≡ None)
+pub first_none : (b : Bool) (k : List ℕ) (rest : Option (List ℕ)) → (if b then Some k else rest) ≡ None → (b ≡ false) × (rest ≡ None)
 first_none true k rest h = cc
 first_none false k rest h = (refl, h)
 

@@ -22,11 +22,7 @@ abbrev pub more_of : Data → Option Members
 more_of transform = option_and_then (λ ms. kept_if kept_at_transform (without_transform_members ms)) (as_object transform)
 
 abbrev pub without_top_members : Members → Members
-without_top_members ms = without (codes "vertices") (without (codes "version") (without (codes "type") (without (codes "transform") (without (codes "CityObjects") ms))))
-
--- the kept members of the top
-abbrev pub extra_of : Members → Option Members
-extra_of top = kept_if kept_at_top (without_top_members top)
+without_top_members ms = without (codes "vertices") (without (codes "version") (without (codes "type") (without (codes "transform") ms)))
 
 -- the frame of a transform, and of the kept members of the top
 abbrev pub frame_with : Members → Data → Option Frame
@@ -34,11 +30,12 @@ frame_with extra transform =
     option_and_then (λ scale. option_and_then (λ translate. option_map (λ more. record { scale = scale; translate = translate; more = more; extra = extra })
     (more_of transform)) (triple_at (codes "translate") transform)) (triple_at (codes "scale") transform)
 
-abbrev pub frame_of_top : Members → Option Frame
-frame_of_top top = option_and_then (λ extra. option_and_then (frame_with extra) (get_member (codes "transform") top)) (extra_of top)
+-- of the members but `CityObjects`
+abbrev pub frame_of_rest : Members → Option Frame
+frame_of_rest rest = option_and_then (λ extra. option_and_then (frame_with extra) (get_member (codes "transform") rest)) (kept_if kept_at_top (without_top_members rest))
 
 abbrev pub frame_of : Data → Option Frame
-frame_of d = option_and_then frame_of_top (as_object d)
+frame_of d = option_and_then (λ top. frame_of_rest (without (codes "CityObjects") top)) (as_object d)
 
 -- ---- the members that are read
 

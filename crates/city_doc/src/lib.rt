@@ -20,3 +20,6 @@ pub mod top;
 pub mod triples;
 mod walk;
 pub mod write;
+
+#[cfg(test)]
+mod tests_read;

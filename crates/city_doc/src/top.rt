@@ -4,7 +4,7 @@ ghost use Rattle.serde_json.specs.View.{view, members_view};
 ghost use Rattle.city_model.specs.Kept.{kept_at_top, kept_at_transform};
 ghost use Rattle.city_model.specs.Members.{without};
 ghost use Rattle.city_doc.specs.Bodies.{kept_if};
-ghost use Rattle.city_doc.specs.Frames.{triple_at, more_of, frame_with, is_text, is_transform, all_objects, are_all_objects, are_objects, are_vertices, wrong_member, without_transform_members};
+ghost use Rattle.city_doc.specs.Frames.{triple_at, more_of, frame_with, frame_of_rest, is_text, is_transform, all_objects, are_all_objects, are_objects, are_vertices, wrong_member, without_transform_members};
 
 use crate::triples::{are_triples, triple_of};
 use city_model::extra::Extra;
@@ -115,7 +115,7 @@ fn more_of(transform: Value) -> Option<Extra<AtTransform>>
 }
 
 /// The members that are kept at the top, of those but `CityObjects` and `transform`.
-pub fn extra_of(mut top: Map<String, Value>) -> Option<Extra<AtTop>>
+fn extra_of(mut top: Map<String, Value>) -> Option<Extra<AtTop>>
     ensures { result ≡ kept_if kept_at_top (without (codes "vertices") (without (codes "version")
         (without (codes "type") (members_view top.entries)))) }
 {
@@ -129,7 +129,7 @@ pub fn extra_of(mut top: Map<String, Value>) -> Option<Extra<AtTop>>
 }
 
 /// The frame of a transform and of the kept members of the top, which it gives up.
-pub fn frame_with(extra: Extra<AtTop>, transform: Value) -> Option<Frame>
+fn frame_with(extra: Extra<AtTop>, transform: Value) -> Option<Frame>
     ensures { result ≡ frame_with extra (view transform) }
 {
     let scale = triple_at(&transform, "scale")?;
@@ -141,4 +141,13 @@ pub fn frame_with(extra: Extra<AtTop>, transform: Value) -> Option<Frame>
         more,
         extra,
     })
+}
+
+/// The frame of the members of the top but `CityObjects`, which it gives up.
+pub fn frame_of_rest(mut rest: Map<String, Value>) -> Option<Frame>
+    ensures { result ≡ frame_of_rest (members_view rest.entries) }
+{
+    let transform = take(&mut rest, "transform");
+    let extra = extra_of(rest)?;
+    frame_with(extra, transform?)
 }
