@@ -14,6 +14,8 @@ pub mod pool;
 pub mod read;
 mod reply_tree;
 pub mod report;
+#[cfg(test)]
+mod samples;
 pub mod scripts;
 mod tree;
 pub mod top;

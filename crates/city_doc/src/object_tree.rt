@@ -34,8 +34,8 @@ fn put_list<T: Written>(
     Ok(())
 }
 
-#[tactic(auto, unfolding(crate::specs::KeptMembers::is_kept_object))]
 /// The tree of an object, each point as its number.
+#[tactic(auto, unfolding(crate::specs::KeptMembers::is_kept_object))]
 pub fn object_tree(
     alloc: Global,
     object: &Object,

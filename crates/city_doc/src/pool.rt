@@ -8,6 +8,9 @@ use indexmap::IndexSet;
 use std::alloc::Global;
 use std::marker::Model;
 
+#[cfg(test)]
+mod tests;
+
 /// The points met so far, each once; the number of a point is its place.
 #[derive(Drop)]
 pub struct VertexPool {
@@ -46,7 +49,7 @@ impl VertexPool {
     }
 
     /// The number of a point, or how many points there are where it isn't there. Takes no memory.
-    pub fn place(&self, point: Point) -> usize
+    pub(crate) fn place(&self, point: Point) -> usize
         ensures { result ≡ place_of self.now point }
     {
         self.points.get_index_of(&point).unwrap_or(self.points.len())

@@ -7,6 +7,9 @@ use city_model::OutOfMemory;
 use city_model::end::End;
 use std::alloc::{AllocError, Global};
 
+#[cfg(test)]
+mod tests;
+
 /// The line of an end, with its newline.
 fn end_line(alloc: Global, end: &End) -> Result<Vec<u8>, AllocError>
     ensures { IfOk result (λ b. b.items ≡ end_line end.now) }
@@ -18,6 +21,7 @@ fn end_line(alloc: Global, end: &End) -> Result<Vec<u8>, AllocError>
 }
 
 /// The report: a line for each end, each with a newline.
+#[tactic(auto, unfolding(crate::specs::Reports::report_text))]
 pub fn write_report(alloc: Global, ends: &[End]) -> Result<Vec<u8>, OutOfMemory>
     ensures { IfOk result (λ b. b.items ≡ report_text ends.now) }
 {

@@ -8,6 +8,9 @@ use city_model::OutOfMemory;
 use city_model::city::City;
 use std::alloc::Global;
 
+#[cfg(test)]
+mod tests;
+
 /// The canonical text of a city, without a newline.
 pub fn write_city(alloc: Global, city: &City) -> Result<Vec<u8>, OutOfMemory>
     ensures { IfOk result (λ b. b.items ≡ city_text city.now) }
