@@ -1,8 +1,13 @@
+pub mod BadCommands
 pub mod Bodies
 pub mod Canonical
+pub mod CommandForms
 pub mod Documents
 pub mod ObjectFaults
 pub mod Reports
+pub mod ScriptForms
+pub mod ScriptSearch
 pub mod ScriptTexts
+pub mod ScriptTrees
 pub mod Texts
 pub mod Triples

@@ -2,11 +2,16 @@
 #![tactic(auto)]
 
 pub mod body;
+pub mod command_of;
 pub mod fault;
 pub mod object_faults;
 pub mod parse;
 pub mod read;
 pub mod report;
+pub mod script_form;
+pub mod script_forms;
 pub mod scripts;
 pub mod triples;
 pub mod write;
+#[cfg(test)]
+mod scripts_tests;
