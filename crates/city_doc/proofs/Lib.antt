@@ -1,2 +1,5 @@
+pub mod AllRead
 pub mod CommandLaws
+pub mod FirstAt
 pub mod NoGeometry
+pub mod WholeParts
