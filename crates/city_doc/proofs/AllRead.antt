@@ -31,14 +31,17 @@ get_first : {A B : Type 0} (read : A → Option B) (x : A) (xs : List A) (z y : 
     → (w : A) × (slice_get (x ∷ xs) zero ≡ Some w) × (read w ≡ Some y)
 get_first read x xs z y zs is at = let e : Some z ≡ Some y = at in (x, refl, is ∙ e)
 
+moved_to : {A : Type 0} (xs ys : List A) (n : ℕ) (o : Option A) → ys ≡ xs → slice_get ys n ≡ o → slice_get xs n ≡ o
+moved_to xs ys n o e at = sym (ap (λ zs. slice_get zs n) e) ∙ at
+
 -- the item that an item was read from
 pub all_read-from : {A B : Type 0} (read : A → Option B) (xs : List A) (ys : List B) → all_read read xs ≡ Some ys → (n : ℕ) (y : B) → slice_get ys n ≡ Some y
     → (x : A) × (slice_get xs n ≡ Some x) × (read x ≡ Some y)
-all_read-from read [] ys h n y at = let none : slice_get [] n ≡ Some y = rw (← all_read-nil read ys h) at in absurd (let no : ⊥ = cc in no)
+all_read-from read [] ys h n y at = let none : slice_get [] n ≡ Some y = moved_to [] ys n (Some y) (all_read-nil read ys h) at in absurd (let no : ⊥ = cc in no)
 all_read-from read (x ∷ xs) ys h zero y at =
-    let r = all_read-cons read x xs ys h in get_first read x xs r.0 y r.1 r.2 (rw (← r.4) at)
+    let r = all_read-cons read x xs ys h in get_first read x xs r.0 y r.1 r.2 (moved_to (r.0 ∷ r.1) ys zero (Some y) r.4 at)
 all_read-from read (x ∷ xs) ys h (suc n) y at =
-    let r = all_read-cons read x xs ys h in let here : slice_get (r.0 ∷ r.1) (suc n) ≡ Some y = rw (← r.4) at in all_read-from read xs r.1 r.3 n y here
+    let r = all_read-cons read x xs ys h in let here : slice_get (r.0 ∷ r.1) (suc n) ≡ Some y = moved_to (r.0 ∷ r.1) ys (suc n) (Some y) r.4 at in all_read-from read xs r.1 r.3 n y here
 
 -- what is read of items that pass one test passes another
 pub all_read-all : {A B : Type 0} (read : A → Option B) (ok : A → Bool) (test : B → Bool) → ((x : A) (y : B) → ok x ≡ true → read x ≡ Some y → test y ≡ true)
@@ -60,4 +63,4 @@ all_read-same read other ok one (x ∷ xs) ys pass h =
     let hs = both (ok x) (list_all ok xs) pass in
     let first : other x ≡ Some r.0 = one x r.0 hs.0 r.2 in
     let rest : all_read other xs ≡ Some r.1 = all_read-same read other ok one xs r.1 hs.1 r.3 in
-    rw (first, rest, r.4) refl
+    rw (first, rest) (ap Some (sym r.4))
