@@ -4,4 +4,7 @@ pub mod FirstAt
 pub mod NoGeometry
 pub mod PlainBodies
 pub mod PlainCommands
+pub mod PlainScripts
+pub mod ScriptFaults
+pub mod ScriptLists
 pub mod WholeParts

@@ -100,7 +100,7 @@ form_end (object ms) f h = object_end (members_form ms) f (members_end ms) h
 
 -- ---- the parts of a command
 
-and_then_some : {A B : Type 0} (g : A → Option B) (o : Option A) (y : B) → option_and_then g o ≡ Some y → (x : A) × (o ≡ Some x) × (g x ≡ Some y)
+pub and_then_some : {A B : Type 0} (g : A → Option B) (o : Option A) (y : B) → option_and_then g o ≡ Some y → (x : A) × (o ≡ Some x) × (g x ≡ Some y)
 and_then_some g None y h = absurd (let no : ⊥ = cc in no)
 and_then_some g (Some x) y h = (x, refl, h)
 

@@ -1,6 +1,6 @@
 //! Reads the forms of scripts: their names and parts, whose commands aren't read yet.
-ghost use Rattle.std.specs.Prelude.{◌≡◌, ◌⊎◌, true, map, length, Some, IfOk, IfErr, option_map, option_and_then};
-ghost use Rattle.serde_json.specs.Find.{as_str};
+ghost use Rattle.std.specs.Prelude.{◌≡◌, ◌⊎◌, true, map, length, Some, IfOk, IfErr, IfSome, codes, option_map};
+ghost use Rattle.city_model.specs.Members.{without};
 ghost use Rattle.serde_json.specs.View.{view, members_view};
 ghost use Rattle.city_doc.specs.ScriptTrees.{all_read, array_of, is_end_text, is_end_word, word_ends, are_vertices, has_script_members, commands_in, parts_of, parts_in, are_too_many};
 ghost use Rattle.city_doc.specs.ScriptForms.{parts_view, parts_views};
@@ -78,22 +78,32 @@ pub fn into_array(value: Value) -> Option<Vec<Value>>
     }
 }
 
+/// Takes the commands of a script out, where exactly the last is a word that ends it.
+fn take_commands(members: &mut Map<String, Value>) -> Option<Vec<Value>>
+    ensures found { option_map (λ v. map view v.items) result ≡ commands_in (members_view members.old.entries) }
+    ensures left { members_view members.new.entries ≡ without (codes "commands") (members_view members.old.entries) }
+    ensures ended { IfSome result (λ v. word_ends (map view v.items) ≡ true) }
+{
+    let items = into_array(take(members, "commands")?)?;
+    if word_ends(items.as_slice()) {
+        Some(items)
+    } else {
+        None
+    }
+}
+
 /// The parts of a script with these members.
 fn parts_in(mut members: Map<String, Value>) -> Option<ScriptForm>
     ensures { option_map parts_view result ≡ parts_in (members_view members.entries) }
 {
     let name = take_text(&mut members, "name")?;
-    let commands = into_array(take(&mut members, "commands")?)?;
+    let commands = take_commands(&mut members)?;
     let vertices = take(&mut members, "vertices");
-    if word_ends(commands.as_slice()) {
-        Some(ScriptForm {
-            name,
-            commands,
-            vertices,
-        })
-    } else {
-        None
-    }
+    Some(ScriptForm {
+        name,
+        commands,
+        vertices,
+    })
 }
 
 /// The parts of a script, where the tree has the form of one.

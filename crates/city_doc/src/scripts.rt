@@ -1,9 +1,12 @@
 //! Reads a text of scripts.
-ghost use Rattle.std.specs.Prelude.{◌≡◌, ◌⊎◌, true, map, IfOk, IfErr, Some};
+ghost use Rattle.std.specs.Prelude.{◌≡◌, ◌⊎◌, ℕ, List, true, map, IfOk, IfErr, OnOk, Some, None, option_and_then};
 ghost use Rattle.serde_json.specs.View.{view};
+ghost use Rattle.std.specs.List.{list_all};
 ghost use Rattle.city_model.specs.Scripts.{are_served};
-ghost use Rattle.city_doc.specs.ScriptTexts.{StandsForScripts, ScriptTextFault};
-ghost use Rattle.city_doc.specs.ScriptTrees.{all_read};
+ghost use Rattle.city_model.specs.Whole.{is_whole};
+ghost use Rattle.city_doc.specs.Texts.{IsRefused};
+ghost use Rattle.city_doc.specs.ScriptTexts.{StandsForScripts, TreeFault, ItemsFault, ScriptTextFault};
+ghost use Rattle.city_doc.specs.ScriptTrees.{all_read, parts_of, scripts_of_parts, scripts_of};
 ghost use Rattle.city_doc.specs.ScriptForms.{parts_view, parts_views};
 ghost use Rattle.city_doc.specs.ScriptSearch.{first_at, bad_command, bad_command_in, plain_command, plain_script};
 
@@ -27,29 +30,56 @@ pub fn read_scripts(alloc: Global, bytes: &[u8]) -> Result<Sequence<Script>, Scr
     ensures served { IfOk result (λ ss. are_served ss ≡ true) }
     ensures fault { IfErr result (λ f. ScriptTextFault bytes.now f) }
 {
-    let tree = match parse(alloc, bytes) {
-        Ok(tree) => tree,
-        Err(fault) => return Err(text_fault(fault)),
-    };
-    let Some(items) = into_array(tree) else {
-        return Err(ScriptFault::NotScripts);
-    };
-    let forms = forms_of(alloc, items)?;
-    if are_too_many(forms.as_slice()) {
-        return Err(ScriptFault::TooMany);
+    match parse(alloc, bytes) {
+        Ok(tree) => {
+            let scripts = scripts_of_tree(alloc, tree)?;
+            Ok(scripts)
+        }
+        Err(fault) => Err(text_fault(fault)),
     }
-    let scripts = scripts_of(alloc, forms)?;
-    Ok(scripts)
 }
 
 /// The fault of a text that has no tree of whole numbers.
-fn text_fault(fault: TextFault) -> ScriptFault {
+fn text_fault(fault: TextFault) -> ScriptFault
+    ensures { (text : List ℕ) → IsRefused text fault → ScriptTextFault text result }
+{
     match fault {
         TextFault::OutOfMemory => ScriptFault::OutOfMemory,
         TextFault::TooLong => ScriptFault::TooLong,
         TextFault::NotJson => ScriptFault::NotJson,
         TextFault::NotWhole => ScriptFault::NotWhole,
     }
+}
+
+/// The scripts of a tree of whole numbers.
+fn scripts_of_tree(alloc: Global, tree: Value) -> Result<Sequence<Script>, ScriptFault>
+    requires { is_whole (view tree) ≡ true }
+    ensures scripts { IfOk result (λ ss. scripts_of (view tree) ≡ Some ss) }
+    ensures served { IfOk result (λ ss. are_served ss ≡ true) }
+    ensures fault { IfErr result (λ f. (f ≡ ScriptFault.OutOfMemory) ⊎ TreeFault (view tree) f) }
+{
+    match into_array(tree) {
+        Some(items) => {
+            let scripts = scripts_of_items(alloc, items)?;
+            Ok(scripts)
+        }
+        None => Err(ScriptFault::NotScripts),
+    }
+}
+
+/// The scripts of an array's items, whose numbers are whole.
+fn scripts_of_items(alloc: Global, items: Vec<Value>) -> Result<Sequence<Script>, ScriptFault>
+    requires { list_all is_whole (map view items.items) ≡ true }
+    ensures scripts { IfOk result (λ ss. option_and_then scripts_of_parts (all_read parts_of (map view items.items)) ≡ Some ss) }
+    ensures served { IfOk result (λ ss. are_served ss ≡ true) }
+    ensures fault { IfErr result (λ f. (f ≡ ScriptFault.OutOfMemory) ⊎ ItemsFault (map view items.items) f) }
+{
+    let forms = forms_of(alloc, items)?;
+    if are_too_many(forms.as_slice()) {
+        return Err(ScriptFault::TooMany);
+    }
+    let scripts = scripts_of(alloc, forms)?;
+    Ok(scripts)
 }
 
 /// The scripts of these forms.
@@ -75,6 +105,7 @@ fn scripts_of(alloc: Global, forms: Sequence<ScriptForm>) -> Result<Sequence<Scr
 /// for the list.
 fn script_of(alloc: Global, n: usize, form: ScriptForm) -> Result<Script, ScriptFault>
     ensures script { IfOk result (λ s. plain_script (parts_view form) ≡ Some s) }
+    ensures sound { OnOk result (bad_command_in n (parts_view form) ≡ None) }
     ensures fault { IfErr result (λ f. (f ≡ ScriptFault.OutOfMemory)
         ⊎ (bad_command_in n (parts_view form) ≡ Some f)) }
 {
@@ -96,6 +127,7 @@ fn commands_of(
     items: Vec<Value>,
 ) -> Result<Sequence<Command>, ScriptFault>
     ensures commands { IfOk result (λ cs. all_read plain_command (map view items.items) ≡ Some cs) }
+    ensures sound { OnOk result (first_at (bad_command n) 0 (map view items.items) ≡ None) }
     ensures fault { IfErr result (λ f. (f ≡ ScriptFault.OutOfMemory)
         ⊎ (first_at (bad_command n) 0 (map view items.items) ≡ Some f)) }
 {
