@@ -1,5 +1,5 @@
 -- What a search finds: the first item where there is anything, and nothing before it.
-use Rattle.std.proofs.Common.{◌≡◌, ℕ, zero, suc, ◌+◌, ◌<◌, List, [], ◌∷◌, Option, Some, None, refl, sym, ap, subst, ◌∙◌, arith}
+use Rattle.std.proofs.Common.{◌≡◌, ℕ, zero, suc, ◌+◌, ◌<◌, List, [], ◌∷◌, ◌++◌, length, length-append, Option, Some, None, refl, sym, ap, subst, ◌∙◌, arith}
 use Rattle.std.specs.Prelude.{slice_get}
 use Rattle.std.specs.Option.{option_or}
 use Rattle.city_doc.specs.ScriptSearch.{first_at}
@@ -58,3 +58,14 @@ none_step find n x xs (Some g) is h ih j y at = absurd (let no : ⊥ = cc in no)
 pub first_at-none : {A B : Type 0} (find : ℕ → A → Option B) (n : ℕ) (xs : List A) → first_at find n xs ≡ None → (j : ℕ) (y : A) → slice_get xs j ≡ Some y → find (n + j) y ≡ None
 first_at-none find n [] h j y at = absurd (let no : ⊥ = cc in no)
 first_at-none find n (x ∷ xs) h j y at = none_step find n x xs (find n x) refl h (first_at-none find (n + 1) xs) j y at
+
+-- ---- a step of a loop that searches
+
+one_longer : {C : Type 0} (done next : List C) (y : C) → next ≡ done ++ y ∷ [] → length next ≡ length done + 1
+one_longer done next y e = ap length e ∙ length-append done (y ∷ [])
+
+-- nothing was found at one more item of what is left
+pub first_at-step : {A B C : Type 0} (find : ℕ → A → Option B) (all : Option B) (done next : List C) (left more : List A) (x : A) (y : C)
+    → all ≡ first_at find (length done) left → left ≡ x ∷ more → find (length done) x ≡ None → next ≡ done ++ y ∷ [] → all ≡ first_at find (length next) more
+first_at-step find all done next left more x y is split none grown =
+    is ∙ ap (first_at find (length done)) split ∙ rw (none, one_longer done next y grown) refl

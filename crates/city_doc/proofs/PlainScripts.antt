@@ -1,10 +1,11 @@
 -- Scripts without positions: what they stand for.
-use Rattle.std.proofs.Common.{◌≡◌, ℕ, ℤ, List, [], ◌∷◌, Bool, true, false, true≢false, Option, Some, None, option_map, refl, sym, ap, ◌∙◌}
+use Rattle.std.proofs.Common.{◌≡◌, ◌+◌, ℕ, ℤ, List, [], ◌∷◌, Bool, true, false, true≢false, Option, Some, None, option_map, refl, sym, ap, ◌∙◌}
 use Rattle.std.specs.Prelude.{◌&&◌, option_and_then, is_some, codes, if◌then◌else◌}
 use Rattle.std.specs.List.{list_all}
 use Rattle.serde_json.specs.Data.{Data, Items, no_items, item, Members}
 use Rattle.serde_json.specs.Find.{at, get_member, as_object, as_array}
 use Rattle.city_model.specs.declared.object.Point.{Point}
+use Rattle.city_model.specs.declared.command.Command.{Command}
 use Rattle.city_model.specs.Runs.{Scripted}
 use Rattle.city_model.specs.Scripts.{is_served, are_served}
 use Rattle.city_model.specs.Whole.{is_whole}
@@ -12,8 +13,8 @@ use Rattle.city_doc.specs.Bodies.{read_items}
 use Rattle.city_doc.specs.Triples.{whole_at, triple_of, point_of, all_triples, are_all_triples, are_triples}
 use Rattle.city_doc.specs.CommandForms.{text_in, command_of}
 use Rattle.city_doc.specs.ScriptTrees.{ScriptParts, array_of, all_read, ended, word_ends, are_vertices, commands_in, has_script_members, parts_in, parts_if, parts_of, vertex_points, script_of, are_too_many, scripts_of_parts, scripts_of}
-use Rattle.city_doc.specs.ScriptSearch.{plain_command, plain_script}
-use Rattle.city_doc.proofs.AllRead.{both, all_read-all, all_read-same}
+use Rattle.city_doc.specs.ScriptSearch.{first_at, plain_command, plain_script, bad_command, bad_command_in}
+use Rattle.city_doc.proofs.AllRead.{both, all_read-cons, all_read-all, all_read-same}
 use Rattle.city_doc.proofs.PlainCommands.{and_then_some, plain_command-same, plain_command-served}
 use Rattle.city_doc.proofs.WholeParts.{array_of-whole, as_object-whole, get_member-whole}
 
@@ -56,7 +57,7 @@ if_some : {A : Type 0} (b : Bool) (o : Option A) (x : A) → (if b then o else N
 if_some true o x h = (refl, h)
 if_some false o x h = absurd (let no : ⊥ = cc in no)
 
-map_some : {A B : Type 0} (f : A → B) (o : Option A) (y : B) → option_map f o ≡ Some y → (x : A) × (o ≡ Some x) × (y ≡ f x)
+pub map_some : {A B : Type 0} (f : A → B) (o : Option A) (y : B) → option_map f o ≡ Some y → (x : A) × (o ≡ Some x) × (y ≡ f x)
 map_some f None y h = absurd (let no : ⊥ = cc in no)
 map_some f (Some x) y h = let is : y ≡ f x = cc in (x, refl, is)
 
@@ -120,3 +121,12 @@ scripts_of-plain ds ps ss whole read few h = rw (read, few) (scripts_same ps ss 
 
 pub scripts_of-array : (d : Data) (ds : List Data) (ss : List Scripted) → array_of d ≡ Some ds → option_and_then scripts_of_parts (all_read parts_of ds) ≡ Some ss → scripts_of d ≡ Some ss
 scripts_of-array d ds ss is h = rw is h
+
+-- ---- a script that is read has no bad command
+
+commands_sound : (n i : ℕ) (ds : List Data) (cs : List Command) → all_read plain_command ds ≡ Some cs → first_at (bad_command n) i ds ≡ None
+commands_sound n i [] cs h = refl
+commands_sound n i (d ∷ ds) cs h = let r = all_read-cons plain_command d ds cs h in rw (r.2, commands_sound n (i + 1) ds r.1 r.3) refl
+
+pub script_sound : (n : ℕ) (p : ScriptParts) (s : Scripted) → plain_script p ≡ Some s → bad_command_in n p ≡ None
+script_sound n p s h = let r = map_some (λ cs. (p.name, cs)) (all_read plain_command p.commands) s h in commands_sound n 0 p.commands r.0 r.1

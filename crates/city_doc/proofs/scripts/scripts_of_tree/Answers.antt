@@ -12,10 +12,10 @@ scripts_of_items-requires c = array_of-whole (view c.args.tree) (map view c.in-S
 pub returns-in-None-clause-fault : goal.returns-in-None-clause-fault
 returns-in-None-clause-fault c = inr (inl (refl, sym c.in-None.ensures))
 
-pub returns-in_err-scripts-clause-fault : goal.returns-in_err-scripts-clause-fault
-returns-in_err-scripts-clause-fault c =
+pub returns-in_err-scripts-in-Some-clause-fault : goal.returns-in_err-scripts-in-Some-clause-fault
+returns-in_err-scripts-in-Some-clause-fault c =
     let p = err_from_is_err_and c.from_residual.result c.from_residual.ensures.1 in
-    rw (p.1, p.2) (items_fault_or (view c.args.tree) (map view c.in-Some.items.items) _ (sym c.in-Some.ensures) c.in_err-scripts.ensures.fault)
+    rw (p.1, p.2) (items_fault_or (view c.args.tree) (map view c.in-Some.items.items) _ (sym c.in-Some.ensures) c.in_err-scripts-in-Some.ensures.fault)
 
-pub returns-in-Some-clause-scripts : goal.returns-in-Some-clause-scripts
-returns-in-Some-clause-scripts c = scripts_of-array (view c.args.tree) (map view c.in-Some.items.items) _ (sym c.in-Some.ensures) c.in_ok-scripts.ensures.scripts
+pub returns-in_ok-scripts-in-Some-clause-scripts : goal.returns-in_ok-scripts-in-Some-clause-scripts
+returns-in_ok-scripts-in-Some-clause-scripts c = scripts_of-array (view c.args.tree) (map view c.in-Some.items.items) _ (sym c.in-Some.ensures) c.in_ok-scripts-in-Some.ensures.scripts
