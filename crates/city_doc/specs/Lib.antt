@@ -1,5 +1,7 @@
+pub mod BadCommands
 pub mod Bodies
 pub mod Canonical
+pub mod CommandForms
 pub mod Documents
 pub mod Frames
 pub mod KeptMembers
@@ -7,7 +9,10 @@ pub mod ObjectFaults
 pub mod Outputs
 pub mod Pool
 pub mod Reports
+pub mod ScriptForms
+pub mod ScriptSearch
 pub mod ScriptTexts
+pub mod ScriptTrees
 pub mod Searches
 pub mod TextFaults
 pub mod Texts

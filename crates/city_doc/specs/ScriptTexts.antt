@@ -1,10 +1,61 @@
 -- What a text of scripts stands for, and how it is refused.
-use Rattle.std.specs.Prelude.{◌≡◌, ◌⊎◌, ℕ, List}
+use Rattle.std.specs.Prelude.{◌≡◌, ◌⊎◌, ◌<◌, ℕ, List, true, false, Some, None, slice_get}
+use Rattle.serde_json.specs.Data.{Data}
 use Rattle.city_model.specs.Runs.{Scripted}
+use Rattle.city_model.specs.Whole.{is_whole}
 use Rattle.city_doc.specs.declared.fault.ScriptFault.{ScriptFault}
+use Rattle.city_doc.specs.Texts.{IsText, IsTooLong, IsNoJson, HasTree, HasOtherNumber}
+use Rattle.city_doc.specs.ScriptTrees.{ScriptParts, parts_of, array_of, all_read, are_too_many, scripts_of}
+use Rattle.city_doc.specs.BadCommands.{is_bad_command}
 
-pub StandsForScripts : List ℕ → List Scripted → Type 0
-StandsForScripts text scripts = Unit {0}
+-- the text is JSON, and its tree stands for these scripts
+abbrev pub StandsForScripts : List ℕ → List Scripted → Type 0
+StandsForScripts text scripts = (d : Data) × IsText text d × (scripts_of d ≡ Some scripts)
 
+-- ---- faults
+
+-- item n isn't a script
+abbrev pub IsBadScript : List Data → ℕ → Type 0
+IsBadScript ds n = (d : Data) × (slice_get ds n ≡ Some d) × (parts_of d ≡ None)
+
+-- and no item before it is one that isn't
+abbrev pub IsFirstBadScript : List Data → ℕ → Type 0
+IsFirstBadScript ds n = IsBadScript ds n × ((k : ℕ) → k < n → IsBadScript ds k → ⊥)
+
+-- command i of script n is refused
+abbrev pub IsBadCommand : List ScriptParts → ℕ → ℕ → Type 0
+IsBadCommand ps n i = (p : ScriptParts) × (d : Data) × (slice_get ps n ≡ Some p) × (slice_get p.commands i ≡ Some d) × (is_bad_command d ≡ true)
+
+-- command j of script k comes before command i of script n
+abbrev pub IsBefore : ℕ → ℕ → ℕ → ℕ → Type 0
+IsBefore k j n i = (k < n) ⊎ ((k ≡ n) × (j < i))
+
+-- and no command before it is refused
+abbrev pub IsFirstBadCommand : List ScriptParts → ℕ → ℕ → Type 0
+IsFirstBadCommand ps n i = IsBadCommand ps n i × ((k j : ℕ) → IsBefore k j n i → IsBadCommand ps k j → ⊥)
+
+-- the first fault of scripts with these parts
+abbrev pub PartsFault : List ScriptParts → ScriptFault → Type 0
+PartsFault ps f =
+    ((f ≡ ScriptFault.TooMany) × (are_too_many ps ≡ true))
+    ⊎ ((n : ℕ) × (i : ℕ) × (f ≡ ScriptFault.BadCommand n i) × (are_too_many ps ≡ false) × IsFirstBadCommand ps n i)
+
+-- the first fault of an array of these items: one isn't a script; or all are, and a later fault stands
+abbrev pub ItemsFault : List Data → ScriptFault → Type 0
+ItemsFault ds f =
+    ((n : ℕ) × (f ≡ ScriptFault.BadScript n) × IsFirstBadScript ds n)
+    ⊎ ((ps : List ScriptParts) × (all_read parts_of ds ≡ Some ps) × PartsFault ps f)
+
+-- the first fault of a tree all of whose numbers are whole
+abbrev pub TreeFault : Data → ScriptFault → Type 0
+TreeFault d f =
+    ((f ≡ ScriptFault.NotScripts) × (array_of d ≡ None)) ⊎ ((ds : List Data) × (array_of d ≡ Some ds) × ItemsFault ds f)
+
+-- the first fault of a text; want of memory may be answered at any
 abbrev pub ScriptTextFault : List ℕ → ScriptFault → Type 0
-ScriptTextFault text f = (f ≡ ScriptFault.OutOfMemory) ⊎ Unit {0}
+ScriptTextFault text f =
+    (f ≡ ScriptFault.OutOfMemory)
+    ⊎ (((f ≡ ScriptFault.TooLong) × IsTooLong text)
+    ⊎ (((f ≡ ScriptFault.NotJson) × IsNoJson text)
+    ⊎ (((f ≡ ScriptFault.NotWhole) × HasOtherNumber text)
+    ⊎ ((d : Data) × HasTree text d × (is_whole d ≡ true) × TreeFault d f))))

@@ -3,25 +3,29 @@
 
 pub mod body;
 mod boundaries;
+mod build;
+mod command_of;
 mod end_tree;
-pub mod build;
 pub mod fault;
-pub mod judge;
-pub mod object_faults;
+mod judge;
+mod object_faults;
 mod object_tree;
 pub mod parse;
 pub mod pool;
 pub mod read;
+#[cfg(test)]
+mod read_tests;
 mod reply_tree;
 pub mod report;
 #[cfg(test)]
 mod samples;
+mod script_form;
+mod script_forms;
 pub mod scripts;
+#[cfg(test)]
+mod scripts_tests;
+mod top;
 mod tree;
-pub mod top;
 pub mod triples;
 mod walk;
 pub mod write;
-
-#[cfg(test)]
-mod tests_read;

@@ -1,0 +1,80 @@
+-- Lists each of whose items is read.
+use Rattle.std.proofs.Common.{◌≡◌, ℕ, zero, suc, List, [], ◌∷◌, Bool, true, false, true≢false, Option, Some, None, ◌++◌, option_map, refl, sym, ap, ◌∙◌, append_assoc}
+use Rattle.std.specs.Prelude.{◌&&◌, option_and_then, slice_get}
+use Rattle.std.specs.List.{list_all}
+use Rattle.city_doc.specs.ScriptTrees.{all_read}
+
+pub both : (a b : Bool) → (a && b) ≡ true → (a ≡ true) × (b ≡ true)
+both true b h = (refl, h)
+both false b h = absurd (true≢false (sym h))
+
+pub in_all : {A : Type 0} (test : A → Bool) (xs : List A) (n : ℕ) (x : A) → list_all test xs ≡ true → slice_get xs n ≡ Some x → test x ≡ true
+in_all test [] n x h at = absurd (let no : ⊥ = cc in no)
+in_all test (y ∷ ys) zero x h at = let is : Some y ≡ Some x = at in let same : y ≡ x = cc in ap test (sym same) ∙ (both (test y) (list_all test ys) h).0
+in_all test (y ∷ ys) (suc n) x h at = in_all test ys n x (both (test y) (list_all test ys) h).1 at
+
+-- what the list of a read item and the items read after it comes from
+read_step : {B : Type 0} (o : Option B) (r : Option (List B)) (ys : List B) → option_and_then (λ z. option_map (λ zs. z ∷ zs) r) o ≡ Some ys
+    → (z : B) × (zs : List B) × (o ≡ Some z) × (r ≡ Some zs) × (ys ≡ z ∷ zs)
+read_step None r ys h = absurd (let no : ⊥ = cc in no)
+read_step (Some z) None ys h = absurd (let no : ⊥ = cc in no)
+read_step (Some z) (Some zs) ys h = let same : ys ≡ z ∷ zs = cc in (z, zs, refl, refl, same)
+
+pub all_read-cons : {A B : Type 0} (read : A → Option B) (x : A) (xs : List A) (ys : List B) → all_read read (x ∷ xs) ≡ Some ys
+    → (z : B) × (zs : List B) × (read x ≡ Some z) × (all_read read xs ≡ Some zs) × (ys ≡ z ∷ zs)
+all_read-cons read x xs ys h = read_step (read x) (all_read read xs) ys h
+
+pub all_read-nil : {A B : Type 0} (read : A → Option B) (ys : List B) → all_read read [] ≡ Some ys → ys ≡ []
+all_read-nil read ys h = let is : Some [] ≡ Some ys = h in cc
+
+get_first : {A B : Type 0} (read : A → Option B) (x : A) (xs : List A) (z y : B) (zs : List B) → read x ≡ Some z → slice_get (z ∷ zs) zero ≡ Some y
+    → (w : A) × (slice_get (x ∷ xs) zero ≡ Some w) × (read w ≡ Some y)
+get_first read x xs z y zs is at = let e : Some z ≡ Some y = at in (x, refl, is ∙ e)
+
+moved_to : {A : Type 0} (xs ys : List A) (n : ℕ) (o : Option A) → ys ≡ xs → slice_get ys n ≡ o → slice_get xs n ≡ o
+moved_to xs ys n o e at = sym (ap (λ zs. slice_get zs n) e) ∙ at
+
+-- the item that an item was read from
+pub all_read-from : {A B : Type 0} (read : A → Option B) (xs : List A) (ys : List B) → all_read read xs ≡ Some ys → (n : ℕ) (y : B) → slice_get ys n ≡ Some y
+    → (x : A) × (slice_get xs n ≡ Some x) × (read x ≡ Some y)
+all_read-from read [] ys h n y at = let none : slice_get [] n ≡ Some y = moved_to [] ys n (Some y) (all_read-nil read ys h) at in absurd (let no : ⊥ = cc in no)
+all_read-from read (x ∷ xs) ys h zero y at =
+    let r = all_read-cons read x xs ys h in get_first read x xs r.0 y r.1 r.2 (moved_to (r.0 ∷ r.1) ys zero (Some y) r.4 at)
+all_read-from read (x ∷ xs) ys h (suc n) y at =
+    let r = all_read-cons read x xs ys h in let here : slice_get (r.0 ∷ r.1) (suc n) ≡ Some y = moved_to (r.0 ∷ r.1) ys (suc n) (Some y) r.4 at in all_read-from read xs r.1 r.3 n y here
+
+-- what is read of items that pass one test passes another
+pub all_read-all : {A B : Type 0} (read : A → Option B) (ok : A → Bool) (test : B → Bool) → ((x : A) (y : B) → ok x ≡ true → read x ≡ Some y → test y ≡ true)
+    → (xs : List A) (ys : List B) → list_all ok xs ≡ true → all_read read xs ≡ Some ys → list_all test ys ≡ true
+all_read-all read ok test one [] ys pass h = ap (list_all test) (all_read-nil read ys h)
+all_read-all read ok test one (x ∷ xs) ys pass h =
+    let r = all_read-cons read x xs ys h in
+    let hs = both (ok x) (list_all ok xs) pass in
+    let first : test r.0 ≡ true = one x r.0 hs.0 r.2 in
+    let rest : list_all test r.1 ≡ true = all_read-all read ok test one xs r.1 hs.1 r.3 in
+    rw (r.4, first) rest
+
+-- two ways to read agree on items that pass a test
+pub all_read-same : {A B : Type 0} (read other : A → Option B) (ok : A → Bool) → ((x : A) (y : B) → ok x ≡ true → read x ≡ Some y → other x ≡ Some y)
+    → (xs : List A) (ys : List B) → list_all ok xs ≡ true → all_read read xs ≡ Some ys → all_read other xs ≡ Some ys
+all_read-same read other ok one [] ys pass h = h
+all_read-same read other ok one (x ∷ xs) ys pass h =
+    let r = all_read-cons read x xs ys h in
+    let hs = both (ok x) (list_all ok xs) pass in
+    let first : other x ≡ Some r.0 = one x r.0 hs.0 r.2 in
+    let rest : all_read other xs ≡ Some r.1 = all_read-same read other ok one xs r.1 hs.1 r.3 in
+    rw (first, rest) (ap Some (sym r.4))
+
+-- ---- a step of a loop that reads
+
+read_more : {B : Type 0} (r : Option (List B)) (done : List B) (y : B) → option_map (λ ys. done ++ ys) (option_map (λ ys. y ∷ ys) r) ≡ option_map (λ ys. (done ++ y ∷ []) ++ ys) r
+read_more None done y = refl
+read_more (Some ys) done y = ap Some (sym (append_assoc done (y ∷ []) ys))
+
+-- one more item of what is left has been read
+pub all_read-step : {A B : Type 0} (read : A → Option B) (all : Option (List B)) (done next : List B) (left more : List A) (x : A) (y : B)
+    → all ≡ option_map (λ ys. done ++ ys) (all_read read left) → left ≡ x ∷ more → read x ≡ Some y → next ≡ done ++ y ∷ []
+    → all ≡ option_map (λ ys. next ++ ys) (all_read read more)
+all_read-step read all done next left more x y is split one grown =
+    let here : all_read read left ≡ option_map (λ ys. y ∷ ys) (all_read read more) = ap (all_read read) split ∙ rw one refl in
+    is ∙ ap (option_map (λ ys. done ++ ys)) here ∙ read_more (all_read read more) done y ∙ ap (λ zs. option_map (λ ys. zs ++ ys) (all_read read more)) (sym grown)

@@ -1,0 +1,71 @@
+-- What a search finds: the first item where there is anything, and nothing before it.
+use Rattle.std.proofs.Common.{◌≡◌, ℕ, zero, suc, ◌+◌, ◌<◌, List, [], ◌∷◌, ◌++◌, length, length-append, Option, Some, None, refl, sym, ap, subst, ◌∙◌, arith}
+use Rattle.std.specs.Prelude.{slice_get}
+use Rattle.std.specs.Option.{option_or}
+use Rattle.city_doc.specs.ScriptSearch.{first_at}
+
+-- the item at this place has f, and no item before it has anything
+pub record IsFirst {A B : Type 0} (find : ℕ → A → Option B) (n : ℕ) (xs : List A) (f : B) : Type 0 where
+  pub place : ℕ
+  pub x : A
+  pub there : slice_get xs place ≡ Some x
+  pub found : find (n + place) x ≡ Some f
+  pub before : (j : ℕ) (y : A) → j < place → slice_get xs j ≡ Some y → find (n + j) y ≡ None
+
+shift : (n k : ℕ) → n + 1 + k ≡ n + suc k
+shift n k = omega arith
+
+no_shift : (n : ℕ) → n ≡ n + 0
+no_shift n = omega arith
+
+moved : {A B : Type 0} (find : ℕ → A → Option B) (m n : ℕ) (x : A) (o : Option B) → m ≡ n → find m x ≡ o → find n x ≡ o
+moved find m n x o e h = let P : ℕ → Type 0 = λ k. find k x ≡ o in subst P e h
+
+none_from : {A B : Type 0} (find : ℕ → A → Option B) (n : ℕ) (x : A) (xs : List A) → find n x ≡ None → ((j : ℕ) (y : A) → slice_get xs j ≡ Some y → find (n + 1 + j) y ≡ None)
+    → (j : ℕ) (y : A) → slice_get (x ∷ xs) j ≡ Some y → find (n + j) y ≡ None
+none_from find n x xs here rest zero y at =
+    let is : Some x ≡ Some y = at in let same : x ≡ y = cc in
+    let P : _ → Type 0 = λ z. find (n + 0) z ≡ None in subst P same (moved find n (n + 0) x None (no_shift n) here)
+none_from find n x xs here rest (suc j) y at = moved find (n + 1 + j) (n + suc j) y None (shift n j) (rest j y at)
+
+before_from : {A B : Type 0} (find : ℕ → A → Option B) (n k : ℕ) (x : A) (xs : List A) → find n x ≡ None → ((j : ℕ) (y : A) → j < k → slice_get xs j ≡ Some y → find (n + 1 + j) y ≡ None)
+    → (j : ℕ) (y : A) → j < suc k → slice_get (x ∷ xs) j ≡ Some y → find (n + j) y ≡ None
+before_from find n k x xs here rest zero y h at =
+    let is : Some x ≡ Some y = at in let same : x ≡ y = cc in
+    let P : _ → Type 0 = λ z. find (n + 0) z ≡ None in subst P same (moved find n (n + 0) x None (no_shift n) here)
+before_from find n k x xs here rest (suc j) y h at = let lower : j < k = omega arith in moved find (n + 1 + j) (n + suc j) y None (shift n j) (rest j y lower at)
+
+first_step : {A B : Type 0} (find : ℕ → A → Option B) (n : ℕ) (x : A) (xs : List A) (f : B) (o : Option B) → find n x ≡ o → option_or o (first_at find (n + 1) xs) ≡ Some f
+    → (first_at find (n + 1) xs ≡ Some f → IsFirst find (n + 1) xs f) → IsFirst find n (x ∷ xs) f
+first_step find n x xs f None is h ih =
+    let r = ih h in
+    record { place = suc r.place; x = r.x; there = r.there; found = moved find (n + 1 + r.place) (n + suc r.place) r.x (Some f) (shift n r.place) r.found;
+      before = before_from find n r.place x xs is r.before }
+first_step find n x xs f (Some g) is h ih =
+    record { place = 0; x = x; there = refl; found = moved find n (n + 0) x (Some f) (no_shift n) (is ∙ h); before = λ j y lower at. absurd (omega arith) }
+
+pub first_at-is : {A B : Type 0} (find : ℕ → A → Option B) (n : ℕ) (xs : List A) (f : B) → first_at find n xs ≡ Some f → IsFirst find n xs f
+first_at-is find n [] f h = absurd (let no : ⊥ = cc in no)
+first_at-is find n (x ∷ xs) f h = first_step find n x xs f (find n x) refl h (first_at-is find (n + 1) xs f)
+
+none_step : {A B : Type 0} (find : ℕ → A → Option B) (n : ℕ) (x : A) (xs : List A) (o : Option B) → find n x ≡ o → option_or o (first_at find (n + 1) xs) ≡ None
+    → (first_at find (n + 1) xs ≡ None → (j : ℕ) (y : A) → slice_get xs j ≡ Some y → find (n + 1 + j) y ≡ None)
+    → (j : ℕ) (y : A) → slice_get (x ∷ xs) j ≡ Some y → find (n + j) y ≡ None
+none_step find n x xs None is h ih j y at = none_from find n x xs is (ih h) j y at
+none_step find n x xs (Some g) is h ih j y at = absurd (let no : ⊥ = cc in no)
+
+-- where nothing is found, no item has anything
+pub first_at-none : {A B : Type 0} (find : ℕ → A → Option B) (n : ℕ) (xs : List A) → first_at find n xs ≡ None → (j : ℕ) (y : A) → slice_get xs j ≡ Some y → find (n + j) y ≡ None
+first_at-none find n [] h j y at = absurd (let no : ⊥ = cc in no)
+first_at-none find n (x ∷ xs) h j y at = none_step find n x xs (find n x) refl h (first_at-none find (n + 1) xs) j y at
+
+-- ---- a step of a loop that searches
+
+one_longer : {C : Type 0} (done next : List C) (y : C) → next ≡ done ++ y ∷ [] → length next ≡ length done + 1
+one_longer done next y e = ap length e ∙ length-append done (y ∷ [])
+
+-- nothing was found at one more item of what is left
+pub first_at-step : {A B C : Type 0} (find : ℕ → A → Option B) (all : Option B) (done next : List C) (left more : List A) (x : A) (y : C)
+    → all ≡ first_at find (length done) left → left ≡ x ∷ more → find (length done) x ≡ None → next ≡ done ++ y ∷ [] → all ≡ first_at find (length next) more
+first_at-step find all done next left more x y is split none grown =
+    is ∙ ap (first_at find (length done)) split ∙ rw (none, one_longer done next y grown) refl

@@ -1,0 +1,75 @@
+-- The parts of a tree of whole numbers are such trees.
+use Rattle.std.proofs.Common.{◌≡◌, ℕ, List, [], ◌∷◌, Bool, true, false, true≢false, Ordering, Less, Equal, Greater, Option, Some, None, option_map, map, refl, sym, ap, ◌∙◌, nat_cmp}
+use Rattle.std.specs.Prelude.{◌&&◌, option_and_then}
+use Rattle.std.specs.Ordering.{match_ordering}
+use Rattle.std.specs.Cmp.Lexicographic.{slice_cmp}
+use Rattle.std.specs.List.{list_all}
+use Rattle.serde_json.specs.Data.{Data, null, boolean, number, string, array, object, Items, no_items, item, Members, no_members, member}
+use Rattle.serde_json.specs.Find.{get, get_member, as_object, as_array}
+use Rattle.serde_json.specs.View.{items_of}
+use Rattle.city_model.specs.Whole.{is_whole, items_whole, members_whole}
+use Rattle.city_doc.specs.ScriptTrees.{items_list, array_of}
+use Rattle.city_doc.proofs.AllRead.{both}
+
+pub items_list-of : (ds : List Data) → items_list (items_of ds) ≡ ds
+items_list-of [] = refl
+items_list-of (d ∷ ds) = ap (λ es. d ∷ es) (items_list-of ds)
+
+items_list-whole : (ds : Items) → items_whole ds ≡ true → list_all is_whole (items_list ds) ≡ true
+items_list-whole no_items h = refl
+items_list-whole (item d ds) h = let hs = both (is_whole d) (items_whole ds) h in rw (hs.0, items_list-whole ds hs.1) refl
+
+array_whole : (o : Option Items) (ds : List Data) → ((es : Items) → o ≡ Some es → items_whole es ≡ true) → option_map items_list o ≡ Some ds → list_all is_whole ds ≡ true
+array_whole None ds h e = absurd (let no : ⊥ = cc in no)
+array_whole (Some es) ds h e = let is : ds ≡ items_list es = cc in ap (list_all is_whole) is ∙ items_list-whole es (h es refl)
+
+some_items : (a b : Items) → Some a ≡ Some b → items_whole a ≡ true → items_whole b ≡ true
+some_items a b e h = let is : b ≡ a = cc in ap items_whole is ∙ h
+
+as_array-whole : (d : Data) → is_whole d ≡ true → (es : Items) → as_array d ≡ Some es → items_whole es ≡ true
+as_array-whole null h es e = absurd (let no : ⊥ = cc in no)
+as_array-whole (boolean b) h es e = absurd (let no : ⊥ = cc in no)
+as_array-whole (number n) h es e = absurd (let no : ⊥ = cc in no)
+as_array-whole (string s) h es e = absurd (let no : ⊥ = cc in no)
+as_array-whole (array ds) h es e = some_items ds es e h
+as_array-whole (object ms) h es e = absurd (let no : ⊥ = cc in no)
+
+-- the items of an array
+pub array_of-whole : (d : Data) (ds : List Data) → is_whole d ≡ true → array_of d ≡ Some ds → list_all is_whole ds ≡ true
+array_of-whole d ds h e = array_whole (as_array d) ds (as_array-whole d h) e
+
+some_members : (a b : Members) → Some a ≡ Some b → members_whole a ≡ true → members_whole b ≡ true
+some_members a b e h = let is : b ≡ a = cc in ap members_whole is ∙ h
+
+-- the members of an object
+pub as_object-whole : (d : Data) (ms : Members) → is_whole d ≡ true → as_object d ≡ Some ms → members_whole ms ≡ true
+as_object-whole null ms h e = absurd (let no : ⊥ = cc in no)
+as_object-whole (boolean b) ms h e = absurd (let no : ⊥ = cc in no)
+as_object-whole (number n) ms h e = absurd (let no : ⊥ = cc in no)
+as_object-whole (string s) ms h e = absurd (let no : ⊥ = cc in no)
+as_object-whole (array ds) ms h e = absurd (let no : ⊥ = cc in no)
+as_object-whole (object ns) ms h e = some_members ns ms e h
+
+some_data : (a b : Data) → Some a ≡ Some b → is_whole a ≡ true → is_whole b ≡ true
+some_data a b e h = let is : b ≡ a = cc in ap is_whole is ∙ h
+
+-- what a look-up passes or finds
+found_whole : (o : Ordering) (r : Option Data) (e d : Data) → match_ordering o r (Some e) r ≡ Some d → is_whole e ≡ true → (r ≡ Some d → is_whole d ≡ true) → is_whole d ≡ true
+found_whole Less r e d h one rest = rest h
+found_whole Equal r e d h one rest = some_data e d h one
+found_whole Greater r e d h one rest = rest h
+
+pub get_member-whole : (k : List ℕ) (ms : Members) (d : Data) → members_whole ms ≡ true → get_member k ms ≡ Some d → is_whole d ≡ true
+get_member-whole k no_members d h e = absurd (let no : ⊥ = cc in no)
+get_member-whole k (member l x ms) d h e =
+    let hs = both (is_whole x) (members_whole ms) h in
+    found_whole (slice_cmp nat_cmp k l) (get_member k ms) x d e hs.0 (get_member-whole k ms d hs.1)
+
+-- a member of an object is one of its members
+pub get-object : (k : List ℕ) (d : Data) (ms : Members) → as_object d ≡ Some ms → get k d ≡ get_member k ms
+get-object k null ms e = absurd (let no : ⊥ = cc in no)
+get-object k (boolean b) ms e = absurd (let no : ⊥ = cc in no)
+get-object k (number n) ms e = absurd (let no : ⊥ = cc in no)
+get-object k (string s) ms e = absurd (let no : ⊥ = cc in no)
+get-object k (array ds) ms e = absurd (let no : ⊥ = cc in no)
+get-object k (object ns) ms e = let is : Some ns ≡ Some ms = e in let same : ns ≡ ms = cc in ap (get_member k) same

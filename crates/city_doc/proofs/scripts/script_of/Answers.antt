@@ -1,0 +1,8 @@
+use Rattle.std.proofs.Common.{◌∙◌, sym, map, true≢false}
+use Rattle.serde_json.specs.View.{view}
+use Rattle.city_doc.proofs.ScriptLists.{ends_once-read}
+use Rattle.city_doc.proofs.scripts.script_of.Goals as goal
+
+pub unreachable-requires : goal.unreachable-requires
+unreachable-requires c =
+    true≢false (sym (c.in-Err.ensures.checked ∙ ends_once-read (map view c.args.form.commands.items) c.in_ok-commands.commands c.in_ok-commands.ensures.commands ∙ c.args.form.ended))
