@@ -1,7 +1,7 @@
 //! Serves a document and its scripts from a reader to a writer.
-ghost use Rattle.std.specs.Prelude.{◌≡◌, [], IfOk, IfErr, IfSome, OnOk};
+ghost use Rattle.std.specs.Prelude.{◌≡◌, [], IfOk, IfErr, IfSome, OnOk, position};
 ghost use Rattle.std.specs.Io.KnownBytes.{Appends};
-ghost use Rattle.cityed.specs.Served.{read_of, document_of, scripts_of, IsServed, IsReadFault, IsServeFault};
+ghost use Rattle.cityed.specs.Served.{read_of, is_newline, document_of, scripts_of, IsServed, IsReadFault, IsServeFault};
 
 use crate::fault::{RunFault, ServeFault};
 use crate::run::run_serial;
@@ -70,10 +70,17 @@ fn cut(input: &[u8]) -> (&[u8], &[u8])
     ensures document { result.0.now ≡ document_of input.now }
     ensures scripts { result.1.now ≡ scripts_of input.now }
 {
-    match input.iter().position(|byte| *byte == b'\n') {
+    match first_newline(input) {
         Some(at) => (&input[..at], &input[at + 1..]),
         None => (input, &[]),
     }
+}
+
+/// Where the first newline stands.
+fn first_newline(bytes: &[u8]) -> Option<usize>
+    ensures { result ≡ position is_newline bytes.now }
+{
+    bytes.iter().position(|byte| *byte == b'\n')
 }
 
 /// Writes the bytes, and lets the writer pass them on.
