@@ -1,2 +1,4 @@
-pub mod Steps
+pub mod FaultTexts
 pub mod SerialRuns
+pub mod Served
+pub mod Steps

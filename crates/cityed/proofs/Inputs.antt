@@ -1,0 +1,42 @@
+-- The parts of an input round its first newline, and the bytes that are read of it.
+use Rattle.std.proofs.Common.{◌≡◌, ℕ, ◌+◌, ◌-◌, ◌≤◌, Bool, true, false, cond, List, [], ◌∷◌, ◌++◌, length, take, drop, Option, Some, None, IfSome, nat_lt, refl, ap, sym, ◌∙◌, arith, length-drop}
+use Rattle.std.specs.Prelude.{position}
+use Rattle.std.specs.Option.{option_map}
+use Rattle.std.specs.List.{position_or_len, before_first, after_first}
+use Rattle.std.proofs.lemmas.Bool.Decides.{nat_tests}
+use Rattle.std.proofs.lemmas.List.{take_all, drop_all}
+
+place_found : (b : Bool) (k n : ℕ) → cond b (Some k) None ≡ Some n → k ≡ n
+place_found true k n e = cc
+place_found false k n e = absurd (cc)
+
+place_past : (b : Bool) (k l : ℕ) → nat_lt k l ≡ b → cond b (Some k) None ≡ None → l ≤ k
+place_past true k l is e = absurd (cc)
+place_past false k l is e = grind (arith, nat_tests, is)
+
+module _ (p : ℕ → Bool) (xs : List ℕ) where
+  pub before_found : (n : ℕ) → position p xs ≡ Some n → take n xs ≡ before_first p xs
+  before_found n found = ap (λ k. take k xs) (sym (place_found (nat_lt (position_or_len p xs) (length xs)) (position_or_len p xs) n found))
+
+  pub after_found : (n : ℕ) → position p xs ≡ Some n → take (length xs - (n + 1)) (drop (n + 1) xs) ≡ after_first p xs
+  after_found n found =
+      take_all (length xs - (n + 1)) (drop (n + 1) xs) (omega (arith, length-drop (n + 1) xs))
+      ∙ ap (λ k. drop (k + 1) xs) (sym (place_found (nat_lt (position_or_len p xs) (length xs)) (position_or_len p xs) n found))
+
+  past : position p xs ≡ None → length xs ≤ position_or_len p xs
+  past none = place_past (nat_lt (position_or_len p xs) (length xs)) (position_or_len p xs) (length xs) refl none
+
+  pub before_none : position p xs ≡ None → xs ≡ before_first p xs
+  before_none none = sym (take_all (position_or_len p xs) xs (past none))
+
+  pub after_none : position p xs ≡ None → [] ≡ after_first p xs
+  after_none none = let h : length xs ≤ position_or_len p xs = past none in sym (drop_all (position_or_len p xs + 1) xs (omega arith))
+
+-- what a reader with a limit gave, put behind nothing
+pub limited : (o q : Option (List ℕ)) (n m : ℕ) (old items : List ℕ) → o ≡ q → n ≡ m → old ≡ [] → IfSome (option_map (take n) o) (λ xs. items ≡ old ++ xs) → IfSome q (λ all. items ≡ take m all)
+limited None None n m old items same limit empty h = tt
+limited None (Some ys) n m old items same limit empty h = absurd (cc)
+limited (Some xs) None n m old items same limit empty h = absurd (cc)
+limited (Some xs) (Some ys) n m old items same limit empty h =
+    let cut : take n xs ≡ take m ys = cc in
+    h ∙ (ap (λ l. l ++ take n xs) empty ∙ cut)
