@@ -1,4 +1,4 @@
-use Rattle.std.proofs.Common.{◌≡◌, ℕ, List, [], ◌∷◌, ◌++◌, ap, ◌∙◌}
+use Rattle.std.proofs.Common.{List, [], ◌∷◌, ◌++◌, ap, ◌∙◌}
 use Rattle.city_model.specs.CityMap.{CityMap}
 use Rattle.city_doc.specs.Canonical.{city_text}
 use Rattle.city_doc.specs.Reports.{report_text}
