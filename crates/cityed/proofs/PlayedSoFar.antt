@@ -1,5 +1,5 @@
 -- A script that has been played up to some command.
-use Rattle.std.proofs.Common.{◌≡◌, ℕ, ◌+◌, Bool, true, false, cond, List, [], ◌∷◌, ◌++◌, length, refl, ap, sym, subst, ◌∙◌, ◌&&◌, append_assoc, append-nil, length-append, arith}
+use Rattle.std.proofs.Common.{◌≡◌, ℕ, ◌+◌, Bool, true, false, cond, List, [], ◌∷◌, ◌++◌, length, refl, ap, sym, subst, ◌∙◌, ◌&&◌, append_assoc, append-nil, length-append}
 use Rattle.std.specs.List.{list_all}
 use Rattle.city_model.specs.declared.command.Command.{Command}
 use Rattle.city_model.specs.declared.command.Command.TheVariants.{Commit}
@@ -29,13 +29,13 @@ more_left c cs e = ap (λ b. cond b (is_empty_list cs) (ends_once cs)) e
 
 pub one_more : (start : CityMap) (all : List Command) (m n : CityMap) (replies : List Reply) (c : Command) (cs : List Command) (r : Reply) → IsPlayed start all m replies (c ∷ cs) → Continues m c r → n ≡ after m c → IsPlayed start all n (replies ++ r ∷ []) cs
 one_more start all m n replies c cs r so_far goes made = record {
-    result = λ rs o h.
-        subst (λ xs. HasResult start all xs o) (sym (append_assoc replies (r ∷ []) rs))
-        (so_far.result (r ∷ rs) o (goes, subst (λ k. EndsFrom k (length replies + 1) cs rs o) made (subst (λ i. EndsFrom n i cs rs o) (length-append replies (r ∷ [])) h)));
-    map = so_far.map ∙ ap (λ k. map_after k cs) (sym made);
-    ends = sym (more_left c cs goes.0) ∙ so_far.ends;
-    served = (and_true (is_served c) (list_all is_served cs) so_far.served).1
-  }
+  result = λ rs o h.
+      subst (λ xs. HasResult start all xs o) (sym (append_assoc replies (r ∷ []) rs))
+      (so_far.result (r ∷ rs) o (goes, subst (λ k. EndsFrom k (length replies + 1) cs rs o) made (subst (λ i. EndsFrom n i cs rs o) (length-append replies (r ∷ [])) h)));
+  map = so_far.map ∙ ap (λ k. map_after k cs) (sym made);
+  ends = sym (more_left c cs goes.0) ∙ so_far.ends;
+  served = (and_true (is_served c) (list_all is_served cs) so_far.served).1;
+}
 
 pub played : (start : CityMap) (all : List Command) (m : CityMap) (replies : List Reply) (c : Command) (cs : List Command) (o : Outcome) → IsPlayed start all m replies (c ∷ cs) → EndsAt m c (length replies) o → HasResult start all replies o
 played start all m replies c cs o so_far ends = subst (λ xs. HasResult start all xs o) (append-nil replies) (so_far.result [] o ends)

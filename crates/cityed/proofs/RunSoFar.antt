@@ -1,8 +1,7 @@
 -- Scripts of which the first have been run.
-use Rattle.std.proofs.Common.{◌≡◌, ℕ, ◌+◌, ◌≤◌, ◌<◌, suc, zero, Bool, true, false, List, [], ◌∷◌, ◌++◌, length, drop, Option, Some, None, refl, ap, sym, subst, ◌∙◌, ◌&&◌, length-append, arith}
+use Rattle.std.proofs.Common.{◌≡◌, ℕ, ◌+◌, suc, zero, true, List, [], ◌∷◌, ◌++◌, length, drop, Some, refl, ap, sym, subst, ◌∙◌, length-append, arith}
 use Rattle.std.specs.Prelude.{slice_get}
 use Rattle.std.specs.List.{list_all}
-use Rattle.city_model.specs.declared.command.Command.{Command}
 use Rattle.city_model.specs.declared.end.End.{End}
 use Rattle.city_model.specs.CityMap.{CityMap}
 use Rattle.city_model.specs.Runs.{Scripted, HasResult, map_left, commands_of, model_after, IsEndOf, NoEndOf, FitsFrom, Fits}
@@ -27,10 +26,12 @@ place_moved scripts m p q e same is = subst (λ k. IsEndOf scripts m k e) same i
 fits_more : (scripts : List Scripted) (es : List End) (e : End) (m : CityMap) (p k : ℕ) → FitsFrom scripts m p es → AreInTurn k es → e.script ≡ k + length es → IsEndOf scripts (model_after scripts m es) (p + length es) e → FitsFrom scripts m p (es ++ e ∷ [])
 fits_more scripts [] e m p k fits turns script is = (place_moved scripts m (p + 0) p e (omega arith) is, tt, tt)
 fits_more scripts (f ∷ fs) e m p k fits turns script is =
-    let first : f.script ≡ k = turns.0 in
-    (fits.0, no_end_more f.script fs e fits.1 (λ same. absurd (omega (arith, same, first, script))),
-    fits_more scripts fs e (map_left m (commands_of (slice_get scripts f.script)) f.outcome) (p + 1) (k + 1) fits.2 turns.2 (omega (arith, script))
-    (place_moved scripts (model_after scripts m (f ∷ fs)) (p + length (f ∷ fs)) (p + 1 + length fs) e (omega arith) is))
+    let first : f.script ≡ k = turns.0 in (
+      fits.0,
+      no_end_more f.script fs e fits.1 (λ same. absurd (omega (arith, same, first, script))),
+      fits_more scripts fs e (map_left m (commands_of (slice_get scripts f.script)) f.outcome) (p + 1) (k + 1) fits.2 turns.2 (omega (arith, script))
+          (place_moved scripts (model_after scripts m (f ∷ fs)) (p + length (f ∷ fs)) (p + 1 + length fs) e (omega arith) is),
+    )
 
 model_more : (scripts : List Scripted) (es : List End) (e : End) (m : CityMap) → model_after scripts m (es ++ e ∷ []) ≡ map_left (model_after scripts m es) (commands_of (slice_get scripts e.script)) e.outcome
 model_more scripts [] e m = refl
@@ -73,10 +74,10 @@ one_more_run scripts start m n ends s ss e so_far script since named result made
     let next : length (ends ++ e ∷ []) ≡ suc (length ends) = omega (arith, long) in
     let is : IsEndOf scripts m (length ends) e = record { script = s; is_there = there; named = named; since = omega (arith, since); result = result } in
     record {
-    rest = ap (λ k. drop k scripts) next ∙ left_more scripts (length ends) s ss so_far.rest;
-    count = omega (arith, long, so_far.count);
-    in_turn = turn_more ends e 0 so_far.in_turn (script ∙ omega arith) (since ∙ omega arith);
-    fits = fits_more scripts ends e start 0 0 so_far.fits so_far.in_turn (script ∙ omega arith) (place_moved scripts (model_after scripts start ends) (length ends) (0 + length ends) e (omega arith) (subst (λ k. IsEndOf scripts k (length ends) e) so_far.model is));
-    model = made ∙ (ap (λ k. map_left k s.1 e.outcome) so_far.model ∙ (ap (λ o. map_left (model_after scripts start ends) (commands_of o) e.outcome) (sym there) ∙ sym (model_more scripts ends e start)));
-    served = (and_true (list_all is_served s.1) (are_served ss) so_far.served).1
-  }
+      rest = ap (λ k. drop k scripts) next ∙ left_more scripts (length ends) s ss so_far.rest;
+      count = omega (arith, long, so_far.count);
+      in_turn = turn_more ends e 0 so_far.in_turn (script ∙ omega arith) (since ∙ omega arith);
+      fits = fits_more scripts ends e start 0 0 so_far.fits so_far.in_turn (script ∙ omega arith) (place_moved scripts (model_after scripts start ends) (length ends) (0 + length ends) e (omega arith) (subst (λ k. IsEndOf scripts k (length ends) e) so_far.model is));
+      model = made ∙ (ap (λ k. map_left k s.1 e.outcome) so_far.model ∙ (ap (λ o. map_left (model_after scripts start ends) (commands_of o) e.outcome) (sym there) ∙ sym (model_more scripts ends e start)));
+      served = (and_true (list_all is_served s.1) (are_served ss) so_far.served).1;
+    }

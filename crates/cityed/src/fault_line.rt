@@ -110,12 +110,7 @@ fn of_number(alloc: Global, head: &str, number: usize) -> Result<String, OutOfMe
     Ok(line)
 }
 
-fn of_numbers(
-    alloc: Global,
-    head: &str,
-    number: usize,
-    other: usize,
-) -> Result<String, OutOfMemory>
+fn of_numbers(alloc: Global, head: &str, number: usize, other: usize) -> Result<String, OutOfMemory>
     ensures { IfOk result (λ s.
         string_bytes s ≡ head.now ++ decimal number ++ codes " " ++ decimal other) }
 {

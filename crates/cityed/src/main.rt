@@ -10,11 +10,12 @@ mod perform;
 mod play;
 mod run;
 mod serve;
+#[cfg(test)]
+mod tests;
 
 use fault::ServeFault;
-use std::env;
-use std::io;
 use std::process::ExitCode;
+use std::{env, io};
 
 const USAGE: &str = "usage: cityed < INPUT (a document in the first line, then scripts)";
 

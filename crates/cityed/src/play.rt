@@ -92,12 +92,7 @@ fn play(alloc: Global, city: &mut City, commands: Sequence<Command>) -> Played
 }
 
 /// The reply to the command, which is number `number` of its script, or how it ends the script.
-fn turn(
-    alloc: Global,
-    city: &mut City,
-    command: Command,
-    number: usize,
-) -> Result<Reply, Outcome>
+fn turn(alloc: Global, city: &mut City, command: Command, number: usize) -> Result<Reply, Outcome>
     requires { is_served command ≡ true }
     ensures turn { IsTurn (at city.old.1) command number (at city.new.1) result }
     ensures frame { city.new.0 ≡ city.old.0 }

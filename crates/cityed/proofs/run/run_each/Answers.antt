@@ -14,7 +14,8 @@ loop-script-preserved c =
     let ends = c.loop-script.ends.items in
     let number : c.len-in-loop-script.result ≡ length ends = c.len-in-loop-script.ensures ∙ c.loop-script.ends.ok.0 in
     let so_far = subst (λ (l : List Scripted). IsRun c.args.scripts start (at c.loop-script.city.1) ends l) c.in-Some.ensures.steps.0 c.loop-script.invariant.0 in
-    let e = c.run_script-end.ensures in
-    (subst (λ (es : List End). IsRun c.args.scripts start made es left) (sym c.in_ok-push.ensures.items)
-    (one_more_run c.args.scripts start (at c.loop-script.city.1) made ends c.in-Some.script left c.run_script-end.result so_far (e.script ∙ number) (e.since ∙ number) e.named e.result e.left),
-    e.frame ∙ c.loop-script.invariant.1)
+    let e = c.run_script-end.ensures in (
+      subst (λ (es : List End). IsRun c.args.scripts start made es left) (sym c.in_ok-push.ensures.items)
+          (one_more_run c.args.scripts start (at c.loop-script.city.1) made ends c.in-Some.script left c.run_script-end.result so_far (e.script ∙ number) (e.since ∙ number) e.named e.result e.left),
+      e.frame ∙ c.loop-script.invariant.1,
+    )

@@ -1,4 +1,4 @@
-use Rattle.std.proofs.Common.{ap, ◌∙◌}
+use Rattle.std.proofs.Common.{ap}
 use Rattle.cityed.proofs.Inputs.{limited}
 use Rattle.cityed.proofs.serve.read_input.Goals as goal
 
