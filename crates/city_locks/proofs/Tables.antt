@@ -7,9 +7,9 @@ use Rattle.city_locks.specs.declared.mode.Mode.{Mode}
 use Rattle.city_locks.specs.declared.answer.Answer.TheVariants.{Granted}
 use Rattle.city_locks.specs.declared.holder.Holder.{Holder}
 use Rattle.city_locks.specs.Mode.{stronger}
-use Rattle.city_locks.specs.Holders.{answer_among, mode_among, with_holder, without}
+use Rattle.city_locks.specs.Holders.{answer_among, mode_among, with_holder, without, Once}
 use Rattle.city_locks.specs.Locks.{Locks, same_id, lists, holders_of, answer_of, mode_of, Lawful}
-use Rattle.city_locks.specs.Listing.{ids_of, IsListed, Once}
+use Rattle.city_locks.specs.Listing.{ids_of, IsListed}
 use Rattle.city_locks.proofs.Among.{by_test, mode_with, mode_without, without_absent, without_twice, lawful_with, lawful_without, own_answers, none_from, or_true}
 use Rattle.city_locks.proofs.Once.{once_with, once_without}
 use Rattle.city_locks.proofs.Ids.{same_id-true, same_id-refl, lists_more}
