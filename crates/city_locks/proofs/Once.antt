@@ -7,8 +7,7 @@ use Rattle.city_locks.specs.declared.answer.Answer.{Answer}
 use Rattle.city_locks.specs.declared.answer.Answer.TheVariants.{Granted, Wait, Die}
 use Rattle.city_locks.specs.declared.holder.Holder.{Holder}
 use Rattle.city_locks.specs.Mode.{is_exclusive, stronger}
-use Rattle.city_locks.specs.Holders.{in_conflict, gives_way, answer_among, mode_among, with_holder, without}
-use Rattle.city_locks.specs.Listing.{Once}
+use Rattle.city_locks.specs.Holders.{in_conflict, gives_way, answer_among, mode_among, with_holder, without, Once}
 use Rattle.city_locks.specs.WaitDie.{clashes, IsWaitDie}
 use Rattle.city_locks.proofs.Among.{by_test, mode_with, mode_without, none_cond, or_true}
 

@@ -7,9 +7,9 @@ use Rattle.city_locks.specs.declared.mode.Mode.{Mode}
 use Rattle.city_locks.specs.declared.answer.Answer.TheVariants.{Granted}
 use Rattle.city_locks.specs.declared.holder.Holder.{Holder}
 use Rattle.city_locks.specs.Mode.{stronger}
-use Rattle.city_locks.specs.Holders.{answer_among, mode_among, with_holder, without}
+use Rattle.city_locks.specs.Holders.{answer_among, mode_among, with_holder, without, Once}
 use Rattle.city_locks.specs.Locks.{Locks, same_id, lists, holders_of, answer_of, mode_of, Lawful}
-use Rattle.city_locks.specs.Listing.{ids_of, IsListed, Once}
+use Rattle.city_locks.specs.Listing.{ids_of, IsListed}
 use Rattle.city_locks.proofs.Among.{by_test, mode_with, mode_without, without_absent, without_twice, lawful_with, lawful_without, own_answers, none_from, or_true}
 use Rattle.city_locks.proofs.Once.{once_with, once_without}
 use Rattle.city_locks.proofs.Ids.{same_id-true, same_id-refl, lists_more}
@@ -68,7 +68,7 @@ listed_added v w l k s id m h i cover own = record {
       (λ e. cover t q (i.listed t q (sym (ap is_some (mode_added v w s id m h t q ∙ ap (λ b. cond b (Some (stronger m (mode_of v s id))) (mode_of v t q)) e)) ∙ x)));
 }
 
--- ---- the lists after an id was listed, and taken back
+-- ---- the lists after an id was listed
 pub record Lists (l k : BTreeMap ℕ (List (List ℕ))) (s : ℕ) (id : List ℕ) : Type 0 where
   pub ids : (t : ℕ) → ids_of k t ≡ cond (s == t) (ids_of l s ++ id ∷ []) (ids_of l t)
 
@@ -85,16 +85,6 @@ listed_cover l k s id h t q x = by_test (s == t)
 pub listed_new : (l k : BTreeMap ℕ (List (List ℕ))) (s : ℕ) (id : List ℕ) → Lists l k s id → lists (ids_of k s) id ≡ true
 listed_new l k s id h = ap (λ ids. lists ids id) (listed_own l k s id h) ∙ list_any-append (λ d. same_id d id) (ids_of l s) (id ∷ [])
     ∙ ap (λ b. lists (ids_of l s) id || (b || false)) (same_id-refl id) ∙ or_true (lists (ids_of l s) id)
-
-pub unlisted : (l k n : BTreeMap ℕ (List (List ℕ))) (s : ℕ) (id : List ℕ) → Lists l k s id →
-    ((ids : List (List ℕ)) (d : List ℕ) → ids_of k s ≡ ids ++ d ∷ [] → ids_of n s ≡ ids) → ((t : ℕ) → (s == t) ≡ false → ids_of n t ≡ ids_of k t) →
-    (t : ℕ) → ids_of n t ≡ ids_of l t
-unlisted l k n s id h own others t = by_test (s == t)
-    (λ e. ap (λ r. ids_of n r) (sym (eqb-true s t e)) ∙ own (ids_of l s) id (listed_own l k s id h) ∙ ap (λ r. ids_of l r) (eqb-true s t e))
-    (λ e. others t e ∙ h.ids t ∙ ap (λ b. cond b (ids_of l s ++ id ∷ []) (ids_of l t)) e)
-
-pub listed_same : (v w : Locks) (l k : BTreeMap ℕ (List (List ℕ))) → IsListed v l → w ≡ v → ((t : ℕ) → ids_of k t ≡ ids_of l t) → IsListed w k
-listed_same v w l k i e same = record { listed = λ t q x. ap (λ ids. lists ids q) (same t) ∙ i.listed t q (sym (ap (λ u. is_some (mode_of u t q)) e) ∙ x) }
 
 -- ---- the locks of a stamp taken out
 pub record Frees (v w : Locks) (s : ℕ) : Type 0 where

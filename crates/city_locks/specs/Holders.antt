@@ -1,5 +1,5 @@
 -- The wait-die answer among the holders of one id.
-use Rattle.std.specs.Prelude.{ℕ, ◌==◌, ◌&&◌, ◌||◌, not, cond, Bool, List, [], ◌∷◌, filter, nat_lt, Option, None, Some}
+use Rattle.std.specs.Prelude.{◌≡◌, ℕ, ◌==◌, ◌&&◌, ◌||◌, not, cond, Bool, List, [], ◌∷◌, filter, nat_lt, Option, None, Some}
 use Rattle.std.specs.List.{list_any, list_all}
 use Rattle.city_locks.specs.declared.mode.Mode.{Mode}
 use Rattle.city_locks.specs.declared.answer.Answer.{Answer}
@@ -34,3 +34,8 @@ with_holder (h ∷ hs) stamp mode =
 -- the other holders
 abbrev pub without : List Holder → ℕ → List Holder
 without holders stamp = filter (λ h. not (h.stamp == stamp)) holders
+
+-- each stamp stands once among the holders
+abbrev pub Once : List Holder → Type 0
+Once [] = Unit {0}
+Once (h ∷ hs) = (mode_among hs h.stamp ≡ None) × Once hs

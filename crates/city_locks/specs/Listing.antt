@@ -1,19 +1,12 @@
 -- The ids that each stamp has locked.
-use Rattle.std.specs.Prelude.{◌≡◌, ℕ, List, [], ◌∷◌, None, unwrap_or, is_some, true}
+use Rattle.std.specs.Prelude.{◌≡◌, ℕ, List, [], unwrap_or, is_some, true}
 use Rattle.std.specs.Ordering.{nat_cmp}
 use Rattle.std.specs.BTreeMap.{BTreeMap, get}
-use Rattle.city_locks.specs.declared.holder.Holder.{Holder}
-use Rattle.city_locks.specs.Holders.{mode_among}
 use Rattle.city_locks.specs.Locks.{Locks, lists, mode_of}
 
 -- the ids that are listed at the stamp
 abbrev pub ids_of : BTreeMap ℕ (List (List ℕ)) → ℕ → List (List ℕ)
 ids_of locked stamp = unwrap_or (get nat_cmp locked stamp) []
-
--- each stamp stands once among the holders
-abbrev pub Once : List Holder → Type 0
-Once [] = Unit {0}
-Once (h ∷ hs) = (mode_among hs h.stamp ≡ None) × Once hs
 
 -- each held id is listed at its holder's stamp
 pub record IsListed (locks : Locks) (locked : BTreeMap ℕ (List (List ℕ))) : Type 0 where

@@ -36,7 +36,8 @@ impl Holders {
 
     /// Whether nobody holds the id.
     pub fn is_empty(&self) -> bool
-        ensures { result ≡ true → self.now ≡ [] }
+        ensures empty { result ≡ true → self.now ≡ [] }
+        ensures some { self.now ≡ [] → result ≡ true }
     {
         self.list.is_empty()
     }
