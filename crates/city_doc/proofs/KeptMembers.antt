@@ -10,7 +10,7 @@ use Rattle.city_model.specs.Members.{without}
 use Rattle.city_model.specs.Whole.{is_whole, members_whole}
 use Rattle.city_model.specs.Kept.{lacks, lacks_both, kept_at_top, kept_at_transform, kept_at_object, has_location, is_empty_object_or_absent}
 use Rattle.city_model.proofs.MemberLaws.{get_member-without, get_member-without_same, members_whole-without}
-use Rattle.city_doc.specs.Bodies.{without_object_members}
+use Rattle.city_doc.specs.Bodies.{kept_if, without_object_members}
 use Rattle.city_doc.specs.Frames.{without_transform_members, without_top_members}
 use Rattle.city_doc.proofs.Right.{both}
 
@@ -58,6 +58,9 @@ all_five : (a b c d e : Bool) → a ≡ true → b ≡ true → c ≡ true → d
 all_five a b c d e h k l m n = rw (h, k, l, m, n) refl
 
 -- ---- the places
+
+pub kept_all : (test : Members → Bool) (ms : Members) → test ms ≡ true → kept_if test ms ≡ Some ms
+kept_all test ms h = rw h refl
 
 pub transform_admitted : (ms : Members) → members_whole ms ≡ true → kept_at_transform (without_transform_members ms) ≡ true
 transform_admitted ms h =

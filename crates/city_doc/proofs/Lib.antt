@@ -7,7 +7,6 @@ pub mod Objects
 pub mod Order
 pub mod Plain
 mod Points
-pub mod Refused
 mod Repeats
 pub mod Right
 pub mod Searches

@@ -21,7 +21,7 @@ use Rattle.city_doc.specs.Frames.{all_objects}
 use Rattle.city_doc.specs.ObjectFaults.{is_unknown_type, unsupported_name, first_unsupported, is_bad_geometry, is_related, is_absent_or_empty, is_second}
 use Rattle.city_doc.specs.Searches.{first_with}
 use Rattle.city_doc.proofs.Cities.{get-object}
-use Rattle.city_doc.proofs.KeptMembers.{whole_object, object_admitted}
+use Rattle.city_doc.proofs.KeptMembers.{kept_all, whole_object, object_admitted}
 use Rattle.city_doc.proofs.NoGeometry.{list_or_absent-empty}
 use Rattle.city_doc.proofs.Objects.{first_none}
 use Rattle.city_doc.proofs.Right.{both, some_of}
@@ -98,9 +98,6 @@ first_level_type o kind e h = sym (ap is_second e) ∙ h
 
 abbrev plain_object : ObjectType → Members → Object
 plain_object kind ms = record { body = record { kind = kind; geometry = []; extra = without_object_members ms }; parents = []; children = [] }
-
-kept_all : (test : Members → Bool) (ms : Members) → test ms ≡ true → kept_if test ms ≡ Some ms
-kept_all test ms h = rw h refl
 
 read_plain : (points : List Point) (d : Data) (kind : ObjectType) (ms : Members) → type_of d ≡ Some kind → as_object d ≡ Some ms → kept_if kept_at_object (without_object_members ms) ≡ Some (without_object_members ms)
     → list_or_absent (geometry_of points) (get (codes "geometry") d) ≡ Some [] → ids_at (codes "parents") d ≡ Some [] → ids_at (codes "children") d ≡ Some [] → object_of points d ≡ Some (plain_object kind ms)

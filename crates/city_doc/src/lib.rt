@@ -22,6 +22,3 @@ pub mod top;
 pub mod triples;
 mod walk;
 pub mod write;
-
-#[cfg(test)]
-mod tests_read;
