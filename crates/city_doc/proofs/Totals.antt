@@ -1,23 +1,22 @@
 -- A tree of whole numbers in which no fault stands has a city, and a lawful one.
-use Rattle.std.proofs.Common.{◌≡◌, ℕ, ℤ, List, Bool, true, false, true≢false, Option, Some, None, refl, sym, ap, subst, ◌∙◌}
-use Rattle.std.specs.Prelude.{◌&&◌, option_and_then, option_map, codes, is_some, if◌then◌else◌}
+use Rattle.std.proofs.Common.{◌≡◌, ℤ, List, true, true≢false, Option, Some, None, refl, sym, ap, subst, ◌∙◌}
+use Rattle.std.specs.Prelude.{option_and_then, codes}
 use Rattle.serde_json.specs.Data.{Data, null, boolean, number, string, array, object, Members}
 use Rattle.serde_json.specs.Find.{get, get_member, as_object}
 use Rattle.city_model.specs.declared.frame.Frame.{Frame}
-use Rattle.city_model.specs.declared.object.Point.{Point}
-use Rattle.city_model.specs.CityMap.{Entries, at}
+use Rattle.city_model.specs.CityMap.{at}
 use Rattle.city_model.specs.Kept.{kept_at_top, kept_at_transform, is_empty_object_or_absent}
 use Rattle.city_model.specs.Members.{without}
 use Rattle.city_model.specs.Relations.{IsLawful}
 use Rattle.city_model.specs.Whole.{is_whole, members_whole}
 use Rattle.city_model.proofs.MemberLaws.{get_member-without}
 use Rattle.city_doc.specs.Bodies.{kept_if}
-use Rattle.city_doc.specs.Documents.{CityValue, city_of, is_city_json, points_in, entries_of, entries_in, members_of, objects_in, AreFaultless, IsFaultless}
-use Rattle.city_doc.specs.Frames.{triple_at, has_triple, more_of, frame_with, frame_of_rest, frame_of, is_transform, all_objects, are_all_objects, are_objects, without_transform_members, without_top_members}
+use Rattle.city_doc.specs.Documents.{CityValue, city_of, objects_in, AreFaultless, IsFaultless}
+use Rattle.city_doc.specs.Frames.{triple_at, has_triple, more_of, frame_with, frame_of_rest, is_transform, all_objects, are_all_objects, are_objects, without_transform_members, without_top_members}
 use Rattle.city_doc.proofs.Cities.{get-object, objects_at, city_joined}
 use Rattle.city_doc.proofs.KeptMembers.{kept_all, whole_member, whole_object, transform_admitted, top_admitted}
-use Rattle.city_doc.proofs.Plain.{AllPlain, entries_read, plain_is_lawful}
-use Rattle.city_doc.proofs.Right.{IsRight, is_right, both, some_of, city_json, has_points}
+use Rattle.city_doc.proofs.Plain.{entries_read, plain_is_lawful}
+use Rattle.city_doc.proofs.Right.{IsRight, is_right, both, some_of, has_points}
 
 -- ---- the frame
 
@@ -101,7 +100,7 @@ has_parts d whole right =
     let top = document_object d right.transform_is in
     let whole_top = whole_object d top.0 whole top.1 in
     let frame = frame_read top.0 whole_top (ap is_empty_object_or_absent (sym (get-object (codes "extensions") d top.0 top.1)) ∙ right.extensions_are)
-      (ap is_transform (sym (get-object (codes "transform") d top.0 top.1)) ∙ right.transform_is) in
+    (ap is_transform (sym (get-object (codes "transform") d top.0 top.1)) ∙ right.transform_is) in
     let are = ap are_objects (sym (get-object (codes "CityObjects") d top.0 top.1)) ∙ right.objects_are in
     let member = member_there (get_member (codes "CityObjects") top.0) are in
     let objects = all_there (option_and_then as_object (get_member (codes "CityObjects") top.0)) are in

@@ -3,8 +3,8 @@
 
 pub mod body;
 mod boundaries;
-mod end_tree;
 pub mod build;
+mod end_tree;
 pub mod fault;
 pub mod judge;
 pub mod object_faults;
@@ -17,8 +17,8 @@ pub mod report;
 #[cfg(test)]
 mod samples;
 pub mod scripts;
-mod tree;
 pub mod top;
+mod tree;
 pub mod triples;
 mod walk;
 pub mod write;
