@@ -7,9 +7,9 @@ use Rattle.city_model.specs.declared.frame.Frame.{Frame}
 use Rattle.city_model.specs.declared.object.Point.{Point}
 use Rattle.city_model.specs.CityMap.{Entries}
 use Rattle.city_model.specs.Members.{without}
-use Rattle.city_doc.specs.Documents.{CityValue, city_of, is_city_json, points_in, entries_of, entries_in, members_of, objects_in, IsFaultless}
+use Rattle.city_doc.specs.Documents.{city_of, is_city_json, points_in, entries_of, entries_in, members_of, objects_in, IsFaultless}
 use Rattle.city_doc.specs.Frames.{frame_of, frame_of_rest}
-use Rattle.city_doc.proofs.Right.{is_right, city_json, has_points}
+use Rattle.city_doc.proofs.Right.{IsRight, is_right, city_json, has_points}
 
 pub get-object : (name : List ℕ) (d : Data) (ms : Members) → as_object d ≡ Some ms → get name d ≡ get_member name ms
 get-object name null ms e = cc
@@ -38,16 +38,16 @@ module _ {P E F : Type 0} where
   no_entries true None entries frame e = refl
   no_entries true (Some p) entries frame e = rw (e p)
 
-  pub all_parts : (b : Bool) (points : Option P) (entries : P → Option E) (frame : Option F) (p : P) (es : E) (f : F) → b ≡ true → points ≡ Some p → entries p ≡ Some es → frame ≡ Some f → Some (f, es) ≡ joined b points entries frame
+  all_parts : (b : Bool) (points : Option P) (entries : P → Option E) (frame : Option F) (p : P) (es : E) (f : F) → b ≡ true → points ≡ Some p → entries p ≡ Some es → frame ≡ Some f → Some (f, es) ≡ joined b points entries frame
   all_parts b points entries frame p es f is_right has_points has_entries has_frame = rw (is_right, has_points, has_entries, has_frame) refl
 
 -- ---- of a tree whose top members are known
 
 module _ (d : Data) (top : Members) (is_top : as_object d ≡ Some top) where
-  pub frame_at : frame_of d ≡ frame_of_rest (without (codes "CityObjects") top)
+  frame_at : frame_of d ≡ frame_of_rest (without (codes "CityObjects") top)
   frame_at = ap (option_and_then (λ ms. frame_of_rest (without (codes "CityObjects") ms))) is_top
 
-  pub entries_at : (points : List Point) (o : Option Members) → option_and_then as_object (get_member (codes "CityObjects") top) ≡ o → entries_in points d ≡ option_and_then (entries_of points) o
+  entries_at : (points : List Point) (o : Option Members) → option_and_then as_object (get_member (codes "CityObjects") top) ≡ o → entries_in points d ≡ option_and_then (entries_of points) o
   entries_at points o e =
       ap (λ x. option_and_then (entries_of points) (option_and_then as_object x)) (get-object (codes "CityObjects") d top is_top) ∙ ap (option_and_then (entries_of points)) e
 
@@ -65,12 +65,17 @@ module _ (d : Data) (top : Members) (is_top : as_object d ≡ Some top) where
     unread_objects none =
         no_entries (is_city_json d) (points_in d) (λ points. entries_in points d) (frame_of d) (λ points. entries_at points (Some ms) are_objects ∙ sym (none points))
 
+    pub city_joined : (points : List Point) (es : Entries) (frame : Frame) → IsRight d → points_in d ≡ Some points → entries_of points ms ≡ Some es
+        → frame_of_rest (without (codes "CityObjects") top) ≡ Some frame → city_of d ≡ Some (frame, es)
+    city_joined points es frame right has_points read is_frame =
+        sym (all_parts (is_city_json d) (points_in d) (λ p. entries_in p d) (frame_of d) points es frame (city_json d right) has_points
+        (entries_at points (Some ms) are_objects ∙ read) (frame_at ∙ is_frame))
+
     pub whole_city : (es : Entries) (frame : Frame) → IsFaultless d → ((points : List Point) → Some es ≡ entries_of points ms) → frame_of_rest (without (codes "CityObjects") top) ≡ Some frame → Some (frame, es) ≡ city_of d
     whole_city es frame faultless read is_frame =
         let right = is_right d faultless.right in
         let points = has_points d right in
-        all_parts (is_city_json d) (points_in d) (λ p. entries_in p d) (frame_of d) points.0 es frame (city_json d right) points.1
-          (entries_at points.0 (Some ms) are_objects ∙ sym (read points.0)) (frame_at ∙ is_frame)
+        sym (city_joined points.0 es frame right points.1 (sym (read points.0)) is_frame)
 
 pub no_top : (d : Data) → as_object d ≡ None → None ≡ city_of d
 no_top d e = no_frame (is_city_json d) (points_in d) (λ points. entries_in points d) (frame_of d) (ap (option_and_then (λ ms. frame_of_rest (without (codes "CityObjects") ms))) e)

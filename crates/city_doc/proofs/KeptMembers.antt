@@ -1,16 +1,16 @@
 -- The members that are left of a tree of whole numbers may be kept at their place.
-use Rattle.std.proofs.Common.{◌≡◌, ℕ, List, Bool, true, false, true≢false, Option, Some, None, Ordering, Less, Equal, Greater, nat_cmp, refl, sym, ap, ◌∙◌}
-use Rattle.std.specs.Prelude.{◌&&◌, not, codes, is_none, is_some, if◌then◌else◌}
+use Rattle.std.proofs.Common.{◌≡◌, ℕ, List, Bool, true, false, Option, Some, None, Ordering, Less, Equal, Greater, nat_cmp, refl, sym, ap, ◌∙◌}
+use Rattle.std.specs.Prelude.{◌&&◌, not, codes, is_none}
 use Rattle.std.specs.Ordering.{match_ordering}
 use Rattle.std.specs.Cmp.Lexicographic.{slice_cmp}
 use Rattle.serde_json.specs.Data.{Data, null, boolean, number, string, array, object, Members, no_members, member}
-use Rattle.serde_json.specs.Find.{get, get_member, as_object}
+use Rattle.serde_json.specs.Find.{get_member, as_object}
 use Rattle.city_model.specs.CityMap.{same_id}
 use Rattle.city_model.specs.Members.{without}
 use Rattle.city_model.specs.Whole.{is_whole, members_whole}
 use Rattle.city_model.specs.Kept.{lacks, lacks_both, kept_at_top, kept_at_transform, kept_at_object, has_location, is_empty_object_or_absent}
 use Rattle.city_model.proofs.MemberLaws.{get_member-without, get_member-without_same, members_whole-without}
-use Rattle.city_doc.specs.Bodies.{without_object_members}
+use Rattle.city_doc.specs.Bodies.{kept_if, without_object_members}
 use Rattle.city_doc.specs.Frames.{without_transform_members, without_top_members}
 use Rattle.city_doc.proofs.Right.{both}
 
@@ -59,13 +59,16 @@ all_five a b c d e h k l m n = rw (h, k, l, m, n) refl
 
 -- ---- the places
 
+pub kept_all : (test : Members → Bool) (ms : Members) → test ms ≡ true → kept_if test ms ≡ Some ms
+kept_all test ms h = rw h refl
+
 pub transform_admitted : (ms : Members) → members_whole ms ≡ true → kept_at_transform (without_transform_members ms) ≡ true
 transform_admitted ms h =
     let first = without (codes "scale") ms in
     all_two _ _ (members_whole-without (codes "translate") first (members_whole-without (codes "scale") ms h))
-      (lacking_both (codes "scale") (codes "translate") (without_transform_members ms)
-        (gone (codes "scale") (codes "translate") first refl (get_member-without_same (codes "scale") ms))
-        (get_member-without_same (codes "translate") first))
+    (lacking_both (codes "scale") (codes "translate") (without_transform_members ms)
+    (gone (codes "scale") (codes "translate") first refl (get_member-without_same (codes "scale") ms))
+    (get_member-without_same (codes "translate") first))
 
 pub top_admitted : (top : Members) → members_whole top ≡ true → is_empty_object_or_absent (get_member (codes "extensions") top) ≡ true → kept_at_top (without_top_members (without (codes "CityObjects") top)) ≡ true
 top_admitted top h extensions =
@@ -86,7 +89,7 @@ top_admitted top h extensions =
     let stays_c = get_member-without name (codes "type") b refl ∙ (get_member-without name (codes "transform") a refl ∙ get_member-without name (codes "CityObjects") top refl) in
     let stays = get_member-without name (codes "vertices") d refl ∙ (get_member-without name (codes "version") c refl ∙ stays_c) in
     all_five _ _ _ _ _ whole (lacking_both (codes "type") (codes "version") e no_type no_version) (lacking_both (codes "transform") (codes "CityObjects") e no_transform no_objects)
-      (lacking (codes "vertices") e no_vertices) (ap is_empty_object_or_absent stays ∙ extensions)
+    (lacking (codes "vertices") e no_vertices) (ap is_empty_object_or_absent stays ∙ extensions)
 
 pub object_admitted : (ms : Members) → members_whole ms ≡ true → has_location (get_member (codes "address") ms) ≡ false → kept_at_object (without_object_members ms) ≡ true
 object_admitted ms h located =
@@ -102,4 +105,4 @@ object_admitted ms h located =
     let name = codes "address" in
     let stays = get_member-without name (codes "children") c refl ∙ (get_member-without name (codes "parents") b refl ∙ (get_member-without name (codes "geometry") a refl ∙ get_member-without name (codes "type") ms refl)) in
     all_four _ _ _ _ whole (lacking_both (codes "type") (codes "geometry") d no_type no_geometry) (lacking_both (codes "parents") (codes "children") d no_parents no_children)
-      (ap (λ o. not (has_location o)) stays ∙ ap not located)
+    (ap (λ o. not (has_location o)) stays ∙ ap not located)

@@ -13,7 +13,6 @@ pub mod PlainBodies
 pub mod PlainCommands
 pub mod PlainScripts
 mod Points
-pub mod Refused
 mod Repeats
 pub mod Right
 pub mod ScriptFaults

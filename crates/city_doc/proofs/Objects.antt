@@ -1,5 +1,5 @@
 -- A loop that reads the members of a map in turn into a map in the order of their bytes.
-use Rattle.std.proofs.Common.{◌≡◌, ℕ, List, [], ◌∷◌, ◌++◌, map, Bool, true, false, true≢false, Option, Some, None, option_map, String, Global, Ordering, Less, Equal, Greater, string_bytes, string_cmp, nat_cmp, refl, sym, ap, ◌∙◌, subst, append_assoc}
+use Rattle.std.proofs.Common.{◌≡◌, ℕ, List, [], ◌∷◌, ◌++◌, map, Bool, true, false, Option, Some, None, option_map, String, Global, Ordering, Less, Greater, string_bytes, string_cmp, nat_cmp, refl, sym, ap, ◌∙◌, subst, append_assoc}
 use Rattle.std.specs.Prelude.{if◌then◌else◌}
 use Rattle.std.specs.List.{AllByRecursion}
 use Rattle.std.specs.List.Sorted.{IsStrictlySortedBy}
@@ -108,12 +108,12 @@ entries_stop points done k d ms is = rw is
 pub goes_on : (all : Members) (done : Entries) (e : Entry) (left : List Entry) (o : Object) → Builds (Some o) (view e.1) → IsReading all done (e ∷ left) → IsReading all (done ++ (string_bytes e.0, o) ∷ []) left
 goes_on all done e left o builds h = record {
   read = λ points plain.
-    let was = h.read points plain in
-    let start = starts_plain (string_bytes e.0) (view e.1) (members_view left) was.plain in
-    record {
-      plain = start.rest;
-      entries = was.entries ∙ entries_push points done (string_bytes e.0) (view e.1) o (members_view left) (sym (builds points start.no_geometry start.unrelated));
-    };
+      let was = h.read points plain in
+      let start = starts_plain (string_bytes e.0) (view e.1) (members_view left) was.plain in
+      record {
+        plain = start.rest;
+        entries = was.entries ∙ entries_push points done (string_bytes e.0) (view e.1) o (members_view left) (sym (builds points start.no_geometry start.unrelated));
+      };
   sorted = subst (IsStrictlySortedBy (slice_cmp nat_cmp)) (keys_of_push done (string_bytes e.0) o (map string_bytes (keys_of left))) h.sorted;
 }
 

@@ -45,24 +45,28 @@ unsupported_named ms id o found none =
 
 module _ (ms : Members) (id : List ℕ) (o : AreOrdered ms) where
   pub first_unknown_type : first_with is_unknown_type ms ≡ Some id → IsFirst (StandsAmong ms) (UnknownType id)
-  first_unknown_type found =
-      (first_is_least is_unknown_type ms id o found,
-      none_before 5 ms o (λ lt. absurd (omega arith)) (λ lt. absurd (omega arith)) (λ lt. absurd (omega arith)) (λ lt. absurd (omega arith)))
+  first_unknown_type found = (
+    first_is_least is_unknown_type ms id o found,
+    none_before 5 ms o (λ lt. absurd (omega arith)) (λ lt. absurd (omega arith)) (λ lt. absurd (omega arith)) (λ lt. absurd (omega arith)),
+  )
 
   pub first_unsupported : (name : List ℕ) → first_with is_unknown_type ms ≡ None → first_with is_unsupported ms ≡ Some id → unsupported_at ms id ≡ Some name → IsFirst (StandsAmong ms) (Unsupported id name)
-  first_unsupported name known found named =
-      ((first_is_least is_unsupported ms id o found, named),
-      none_before 6 ms o (λ lt. known) (λ lt. absurd (omega arith)) (λ lt. absurd (omega arith)) (λ lt. absurd (omega arith)))
+  first_unsupported name known found named = (
+    (first_is_least is_unsupported ms id o found, named),
+    none_before 6 ms o (λ lt. known) (λ lt. absurd (omega arith)) (λ lt. absurd (omega arith)) (λ lt. absurd (omega arith)),
+  )
 
   pub first_bad_geometry : first_with is_unknown_type ms ≡ None → first_with is_unsupported ms ≡ None → first_with is_bad_geometry ms ≡ Some id → IsFirst (StandsAmong ms) (BadGeometry id)
-  first_bad_geometry known supported found =
-      (first_is_least is_bad_geometry ms id o found,
-      none_before 7 ms o (λ lt. known) (λ lt. supported) (λ lt. absurd (omega arith)) (λ lt. absurd (omega arith)))
+  first_bad_geometry known supported found = (
+    first_is_least is_bad_geometry ms id o found,
+    none_before 7 ms o (λ lt. known) (λ lt. supported) (λ lt. absurd (omega arith)) (λ lt. absurd (omega arith)),
+  )
 
   pub first_related : first_with is_unknown_type ms ≡ None → first_with is_unsupported ms ≡ None → first_with is_bad_geometry ms ≡ None → first_with is_related ms ≡ Some id → IsFirst (StandsAmong ms) (Relations id)
-  first_related known supported plain found =
-      (first_is_least is_related ms id o found,
-      none_before 10 ms o (λ lt. known) (λ lt. supported) (λ lt. plain) (λ lt. absurd (omega arith)))
+  first_related known supported plain found = (
+    first_is_least is_related ms id o found,
+    none_before 10 ms o (λ lt. known) (λ lt. supported) (λ lt. plain) (λ lt. absurd (omega arith)),
+  )
 
 -- ---- in a tree
 

@@ -1,27 +1,26 @@
 -- Objects without geometry and relations are read, and a city of such objects is lawful.
 use Rattle.std.proofs.Common.{◌≡◌, ℕ, List, [], ◌∷◌, Bool, true, false, true≢false, cond, Option, Some, None, nat_cmp, refl, sym, ap, subst, ◌∙◌}
-use Rattle.std.specs.Prelude.{◌==◌, ◌&&◌, ◌||◌, not, option_and_then, option_map, codes, is_none, is_some, length, if◌then◌else◌}
+use Rattle.std.specs.Prelude.{◌==◌, ◌&&◌, ◌||◌, not, codes, is_none, is_some, length, if◌then◌else◌}
 use Rattle.std.specs.Cmp.Lexicographic.{slice_cmp}
-use Rattle.std.specs.Map.{lookup}
 use Rattle.std.specs.BTreeMap.{is_at}
 use Rattle.serde_json.specs.Data.{Data, Members, no_members, member}
-use Rattle.serde_json.specs.Find.{get, get_member, as_object, as_str, as_array}
+use Rattle.serde_json.specs.Find.{get, as_object, as_str}
 use Rattle.city_model.specs.declared.object.Body.{Body}
 use Rattle.city_model.specs.declared.object.Object.{Object}
 use Rattle.city_model.specs.declared.object.Point.{Point}
 use Rattle.city_model.specs.declared.object_type.ObjectType.{ObjectType}
 use Rattle.city_model.specs.CityMap.{CityMap, Entries, at, has_id}
 use Rattle.city_model.specs.Kept.{kept_at_object, has_location}
-use Rattle.city_model.specs.Relations.{IsInOrder, IsLawful, IsSound, HasNoOrphan, AreDistinct, is_orphan, is_second_level}
+use Rattle.city_model.specs.Relations.{IsInOrder, IsLawful, AreDistinct, is_second_level}
 use Rattle.city_model.specs.Shells.{body_fault}
 use Rattle.city_model.specs.Whole.{is_whole, members_whole}
-use Rattle.city_doc.specs.Bodies.{body_of, object_of, ids_at, type_of, geometry_of, list_or_absent, kept_if, without_object_members}
+use Rattle.city_doc.specs.Bodies.{object_of, ids_at, type_of, geometry_of, list_or_absent, kept_if, without_object_members}
 use Rattle.city_doc.specs.Documents.{entries_of, is_unsupported, AreFaultless}
 use Rattle.city_doc.specs.Frames.{all_objects}
-use Rattle.city_doc.specs.ObjectFaults.{is_unknown_type, unsupported_name, first_unsupported, is_bad_geometry, is_related, is_absent_or_empty, is_second}
+use Rattle.city_doc.specs.ObjectFaults.{is_unknown_type, unsupported_name, is_bad_geometry, is_related, is_absent_or_empty, is_second}
 use Rattle.city_doc.specs.Searches.{first_with}
 use Rattle.city_doc.proofs.Cities.{get-object}
-use Rattle.city_doc.proofs.KeptMembers.{whole_object, object_admitted}
+use Rattle.city_doc.proofs.KeptMembers.{kept_all, whole_object, object_admitted}
 use Rattle.city_doc.proofs.NoGeometry.{list_or_absent-empty}
 use Rattle.city_doc.proofs.Objects.{first_none}
 use Rattle.city_doc.proofs.Right.{both, some_of}
@@ -70,9 +69,10 @@ plain_at [] id o h is = cc
 plain_at (e ∷ es) id o h is = found_plain (is_at (slice_cmp nat_cmp id) e.0) e.1 o (at es id) h.0 (plain_at es id o h.1) is
 
 pub plain_is_lawful : (es : Entries) → AllPlain es → IsLawful (at es)
-plain_is_lawful es h =
-    (λ id o is. let plain = plain_at es id o h is in (in_order (at es) id o plain, faultless_body o.body plain.geometry),
-    λ id o is. let plain = plain_at es id o h is in not_orphan (is_second_level o.body.kind) (length o.parents == 0) plain.first_level)
+plain_is_lawful es h = (
+  λ id o is. let plain = plain_at es id o h is in (in_order (at es) id o plain, faultless_body o.body plain.geometry),
+  λ id o is. let plain = plain_at es id o h is in not_orphan (is_second_level o.body.kind) (length o.parents == 0) plain.first_level,
+)
 
 -- ---- plain objects are read
 
@@ -99,9 +99,6 @@ first_level_type o kind e h = sym (ap is_second e) ∙ h
 abbrev plain_object : ObjectType → Members → Object
 plain_object kind ms = record { body = record { kind = kind; geometry = []; extra = without_object_members ms }; parents = []; children = [] }
 
-kept_all : (test : Members → Bool) (ms : Members) → test ms ≡ true → kept_if test ms ≡ Some ms
-kept_all test ms h = rw h refl
-
 read_plain : (points : List Point) (d : Data) (kind : ObjectType) (ms : Members) → type_of d ≡ Some kind → as_object d ≡ Some ms → kept_if kept_at_object (without_object_members ms) ≡ Some (without_object_members ms)
     → list_or_absent (geometry_of points) (get (codes "geometry") d) ≡ Some [] → ids_at (codes "parents") d ≡ Some [] → ids_at (codes "children") d ≡ Some [] → object_of points d ≡ Some (plain_object kind ms)
 read_plain points d kind ms has_kind is_object kept geometry parents children = rw (has_kind, is_object, kept, geometry, parents, children) refl
@@ -122,11 +119,12 @@ object_read points d h =
     let located = not_located (has_location (get (codes "address") d)) _ (none_of (unsupported_name d) h.supported) in
     let not_there = ap has_location (sym (get-object (codes "address") d ms.0 ms.1)) ∙ located in
     let kept = kept_all kept_at_object (without_object_members ms.0) (object_admitted ms.0 (whole_object d ms.0 h.whole ms.1) not_there) in
-    let related = neither (not (is_absent_or_empty (get (codes "parents") d))) (not (is_absent_or_empty (get (codes "children") d))) (is_second (type_of d)) h.unrelated in
-    (plain_object kind.0 ms.0,
-    read_plain points d kind.0 ms.0 kind.1 ms.1 kept (list_or_absent-empty (geometry_of points) (get (codes "geometry") d) h.plain) (list_or_absent-empty as_str (get (codes "parents") d) related.0)
-      (list_or_absent-empty as_str (get (codes "children") d) related.1),
-    record { geometry = refl; parents = refl; children = refl; first_level = first_level_type (type_of d) kind.0 kind.1 related.2 })
+    let related = neither (not (is_absent_or_empty (get (codes "parents") d))) (not (is_absent_or_empty (get (codes "children") d))) (is_second (type_of d)) h.unrelated in (
+      plain_object kind.0 ms.0,
+      read_plain points d kind.0 ms.0 kind.1 ms.1 kept (list_or_absent-empty (geometry_of points) (get (codes "geometry") d) h.plain) (list_or_absent-empty as_str (get (codes "parents") d) related.0)
+          (list_or_absent-empty as_str (get (codes "children") d) related.1),
+      record { geometry = refl; parents = refl; children = refl; first_level = first_level_type (type_of d) kind.0 kind.1 related.2 },
+    )
 
 -- the first of the objects, and the others
 record StartsFaultless (d : Data) (ms : Members) : Type 0 where

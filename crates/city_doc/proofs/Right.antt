@@ -1,14 +1,14 @@
 -- What holds of a tree whose members are all as a document has them.
-use Rattle.std.proofs.Common.{◌≡◌, ℕ, ℤ, List, [], ◌∷◌, Bool, true, false, true≢false, Option, Some, None, refl, sym, ap, ◌∙◌}
+use Rattle.std.proofs.Common.{◌≡◌, ℕ, ℤ, List, [], ◌∷◌, Bool, true, false, true≢false, Option, Some, None, refl, sym}
 use Rattle.std.specs.Prelude.{◌&&◌, option_and_then, option_map, codes, is_some, if◌then◌else◌}
-use Rattle.serde_json.specs.Data.{Data, Items, no_items, item, Members}
+use Rattle.serde_json.specs.Data.{Data, Items, no_items, item}
 use Rattle.serde_json.specs.Find.{get, at, as_array}
 use Rattle.city_model.specs.declared.object.Point.{Point}
 use Rattle.city_model.specs.Kept.{is_empty_object_or_absent}
-use Rattle.city_doc.specs.Bodies.{read_items, list_of}
+use Rattle.city_doc.specs.Bodies.{read_items}
 use Rattle.city_doc.specs.Documents.{is_city_json, points_in}
 use Rattle.city_doc.specs.Frames.{is_text, is_transform, are_objects, are_vertices, judged, first_wrong, wrong_member}
-use Rattle.city_doc.specs.Triples.{whole_at, three_of, triple_of, point_of, points_of, all_triples, are_all_triples, are_triples}
+use Rattle.city_doc.specs.Triples.{whole_at, triple_of, point_of, points_of, all_triples, are_all_triples}
 
 pub both : (a b : Bool) → (a && b) ≡ true → (a ≡ true) × (b ≡ true)
 both true b h = (refl, h)

@@ -1,23 +1,22 @@
 -- A tree of whole numbers in which no fault stands has a city, and a lawful one.
-use Rattle.std.proofs.Common.{◌≡◌, ℕ, ℤ, List, Bool, true, false, true≢false, Option, Some, None, refl, sym, ap, subst, ◌∙◌}
-use Rattle.std.specs.Prelude.{◌&&◌, option_and_then, option_map, codes, is_some, if◌then◌else◌}
+use Rattle.std.proofs.Common.{◌≡◌, ℤ, List, true, true≢false, Option, Some, None, refl, sym, ap, subst, ◌∙◌}
+use Rattle.std.specs.Prelude.{option_and_then, codes}
 use Rattle.serde_json.specs.Data.{Data, null, boolean, number, string, array, object, Members}
 use Rattle.serde_json.specs.Find.{get, get_member, as_object}
 use Rattle.city_model.specs.declared.frame.Frame.{Frame}
-use Rattle.city_model.specs.declared.object.Point.{Point}
-use Rattle.city_model.specs.CityMap.{Entries, at}
+use Rattle.city_model.specs.CityMap.{at}
 use Rattle.city_model.specs.Kept.{kept_at_top, kept_at_transform, is_empty_object_or_absent}
 use Rattle.city_model.specs.Members.{without}
 use Rattle.city_model.specs.Relations.{IsLawful}
 use Rattle.city_model.specs.Whole.{is_whole, members_whole}
 use Rattle.city_model.proofs.MemberLaws.{get_member-without}
 use Rattle.city_doc.specs.Bodies.{kept_if}
-use Rattle.city_doc.specs.Documents.{CityValue, city_of, is_city_json, points_in, entries_of, entries_in, members_of, objects_in, AreFaultless, IsFaultless}
-use Rattle.city_doc.specs.Frames.{triple_at, has_triple, more_of, frame_with, frame_of_rest, frame_of, is_transform, all_objects, are_all_objects, are_objects, without_transform_members, without_top_members}
-use Rattle.city_doc.proofs.Cities.{get-object, all_parts, frame_at, entries_at, objects_at}
-use Rattle.city_doc.proofs.KeptMembers.{whole_member, whole_object, transform_admitted, top_admitted}
-use Rattle.city_doc.proofs.Plain.{AllPlain, entries_read, plain_is_lawful}
-use Rattle.city_doc.proofs.Right.{IsRight, is_right, both, some_of, city_json, has_points}
+use Rattle.city_doc.specs.Documents.{CityValue, city_of, objects_in, AreFaultless, IsFaultless}
+use Rattle.city_doc.specs.Frames.{triple_at, has_triple, more_of, frame_with, frame_of_rest, is_transform, all_objects, are_all_objects, are_objects, without_transform_members, without_top_members}
+use Rattle.city_doc.proofs.Cities.{get-object, objects_at, city_joined}
+use Rattle.city_doc.proofs.KeptMembers.{kept_all, whole_member, whole_object, transform_admitted, top_admitted}
+use Rattle.city_doc.proofs.Plain.{entries_read, plain_is_lawful}
+use Rattle.city_doc.proofs.Right.{IsRight, is_right, both, some_of, has_points}
 
 -- ---- the frame
 
@@ -29,9 +28,6 @@ scaled_object (number n) h = absurd (true≢false (sym h))
 scaled_object (string s) h = absurd (true≢false (sym h))
 scaled_object (array ds) h = absurd (true≢false (sym h))
 scaled_object (object ms) h = (ms, refl)
-
-kept_all : (test : Members → Bool) (ms : Members) → test ms ≡ true → kept_if test ms ≡ Some ms
-kept_all test ms h = rw h refl
 
 more_some : (t : Data) (ms more : Members) → as_object t ≡ Some ms → kept_if kept_at_transform (without_transform_members ms) ≡ Some more → more_of t ≡ Some more
 more_some t ms more is_object kept = rw is_object kept
@@ -88,24 +84,47 @@ document_object (string s) h = absurd (true≢false (sym h))
 document_object (array ds) h = absurd (true≢false (sym h))
 document_object (object ms) h = (ms, refl)
 
-pub has_city : (d : Data) → is_whole d ≡ true → IsFaultless d → (c : CityValue) × (city_of d ≡ Some c) × IsLawful (at c.1)
-has_city d whole h =
-    let right = is_right d h.right in
+-- the parts of a tree's city
+record HasParts (d : Data) : Type 0 where
+  top : Members
+  is_top : as_object d ≡ Some top
+  objects : Members
+  are_objects : option_and_then as_object (get_member (codes "CityObjects") top) ≡ Some objects
+  all : all_objects objects ≡ true
+  whole : members_whole objects ≡ true
+  frame : Frame
+  is_frame : frame_of_rest (without (codes "CityObjects") top) ≡ Some frame
+
+has_parts : (d : Data) → is_whole d ≡ true → IsRight d → HasParts d
+has_parts d whole right =
     let top = document_object d right.transform_is in
     let whole_top = whole_object d top.0 whole top.1 in
     let frame = frame_read top.0 whole_top (ap is_empty_object_or_absent (sym (get-object (codes "extensions") d top.0 top.1)) ∙ right.extensions_are)
-      (ap is_transform (sym (get-object (codes "transform") d top.0 top.1)) ∙ right.transform_is) in
+    (ap is_transform (sym (get-object (codes "transform") d top.0 top.1)) ∙ right.transform_is) in
     let are = ap are_objects (sym (get-object (codes "CityObjects") d top.0 top.1)) ∙ right.objects_are in
     let member = member_there (get_member (codes "CityObjects") top.0) are in
     let objects = all_there (option_and_then as_object (get_member (codes "CityObjects") top.0)) are in
     let is_object = ap (option_and_then as_object) (sym member.1) ∙ objects.1 in
-    let whole_objects = whole_object member.0 objects.0 (whole_member (codes "CityObjects") top.0 member.0 whole_top member.1) is_object in
-    let faultless = subst AreFaultless (objects_at d top.0 top.1 objects.0 objects.1) h.objects in
+    record {
+      top = top.0;
+      is_top = top.1;
+      objects = objects.0;
+      are_objects = objects.1;
+      all = objects.2;
+      whole = whole_object member.0 objects.0 (whole_member (codes "CityObjects") top.0 member.0 whole_top member.1) is_object;
+      frame = frame.0;
+      is_frame = frame.1;
+    }
+
+city_with : (d : Data) → IsRight d → AreFaultless (objects_in d) → HasParts d → (c : CityValue) × (city_of d ≡ Some c) × IsLawful (at c.1)
+city_with d right faultless parts =
+    let among = subst AreFaultless (objects_at d parts.top parts.is_top parts.objects parts.are_objects) faultless in
     let points = has_points d right in
-    let es = entries_read points.0 objects.0 whole_objects objects.2 faultless in
-    let city = all_parts (is_city_json d) (points_in d) (λ p. entries_in p d) (frame_of d) points.0 es.0 frame.0 (city_json d right) points.1
-    (entries_at d top.0 top.1 points.0 (Some objects.0) objects.1 ∙ es.1) (frame_at d top.0 top.1 ∙ frame.1) in
-    ((frame.0, es.0), sym city, plain_is_lawful es.0 es.2)
+    let es = entries_read points.0 parts.objects parts.whole parts.all among in
+    ((parts.frame, es.0), city_joined d parts.top parts.is_top parts.objects parts.are_objects points.0 es.0 parts.frame right points.1 es.1 parts.is_frame, plain_is_lawful es.0 es.2)
+
+has_city : (d : Data) → is_whole d ≡ true → IsFaultless d → (c : CityValue) × (city_of d ≡ Some c) × IsLawful (at c.1)
+has_city d whole h = let right = is_right d h.right in city_with d right h.objects (has_parts d whole right)
 
 -- where no fault stands there is a city
 pub no_city : (d : Data) → is_whole d ≡ true → IsFaultless d → city_of d ≡ None → ⊥

@@ -13,8 +13,6 @@ mod object_tree;
 pub mod parse;
 pub mod pool;
 pub mod read;
-#[cfg(test)]
-mod read_tests;
 mod reply_tree;
 pub mod report;
 #[cfg(test)]

@@ -32,3 +32,6 @@ pub fn read_city(alloc: Global, bytes: &[u8]) -> Result<City, ReadFault>
     };
     Ok(city)
 }
+
+#[cfg(test)]
+mod tests;

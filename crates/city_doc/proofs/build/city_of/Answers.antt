@@ -1,9 +1,9 @@
-use Rattle.std.proofs.Common.{◌≡◌, Some, None, option_map, sym, ap, subst, ◌∙◌}
+use Rattle.std.proofs.Common.{Some, option_map, sym, ap, ◌∙◌}
 use Rattle.serde_json.specs.View.{view, members_view}
 use Rattle.city_doc.specs.Frames.{frame_of_rest}
 use Rattle.city_doc.specs.ObjectFaults.{is_bad_geometry, is_related}
 use Rattle.city_doc.specs.Searches.{first_with}
-use Rattle.city_doc.proofs.Cities.{no_top, objects_at, missing_objects, missing_frame, unread_objects, whole_city}
+use Rattle.city_doc.proofs.Cities.{objects_at, missing_objects, missing_frame, unread_objects, whole_city}
 use Rattle.city_doc.proofs.build.city_of.Goals as goal
 
 pub returns-in_default-take_object : goal.returns-in_default-take_object
@@ -35,4 +35,4 @@ returns c = λ faultless.
     let frame = ap frame_of_rest (sym c.take_object.ensures.left) ∙ (sym c.frame_of_rest.ensures ∙ c.in-Some-frame_of_rest.is) in
     ap Some c.from_parts.ensures
     ∙ whole_city (view c.args.tree) _ is_top _ are c.in-Some-2.objects.entries c.in-Some-frame_of_rest.frame faultless
-      (λ points. ap (option_map (λ m. m.entries)) (sym c.in-Some-2.is) ∙ c.in_ok-objects.ensures points plain unrelated) frame
+    (λ points. ap (option_map (λ m. m.entries)) (sym c.in-Some-2.is) ∙ c.in_ok-objects.ensures points plain unrelated) frame

@@ -1,9 +1,8 @@
-use Rattle.std.proofs.Common.{◌≡◌, [], sym, ap, subst, ◌∙◌, map, string_bytes, ◌++◌, ◌∷◌}
-use Rattle.std.specs.Prelude.{Some}
+use Rattle.std.proofs.Common.{◌≡◌, [], sym, subst, map, string_bytes, ◌++◌, ◌∷◌}
 use Rattle.std.proofs.lemmas.Cmp.{nat_list_cmp_total}
 use Rattle.std.specs.Map.{keys_of}
-use Rattle.serde_json.specs.View.{view, members_view}
-use Rattle.city_doc.proofs.Objects.{IsReading, Builds, begins, goes_on, stops, ends, insert_last}
+use Rattle.serde_json.specs.View.{members_view}
+use Rattle.city_doc.proofs.Objects.{IsReading, begins, goes_on, stops, ends, insert_last}
 use Rattle.city_doc.proofs.build.objects_of.Goals as goal
 
 pub loop-name-init : goal.loop-name-init
@@ -11,7 +10,7 @@ loop-name-init c =
     let given = c.into_iter-name-iterator.ensures.into_iter_gives in
     let all = members_view c.args.members.entries in
     subst (λ r. IsReading all c.new-objects.result.entries r) (sym given.0)
-      (subst (λ d. IsReading all d c.args.members.entries) (sym c.new-objects.ensures.empty) (begins c.args.members.entries given.5))
+    (subst (λ d. IsReading all d c.args.members.entries) (sym c.new-objects.ensures.empty) (begins c.args.members.entries given.5))
 
 pub loop-name-preserved : goal.loop-name-preserved
 loop-name-preserved c =

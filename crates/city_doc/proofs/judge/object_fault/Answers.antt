@@ -1,5 +1,5 @@
-use Rattle.std.proofs.Common.{◌≡◌, List, ℕ, option_map, sym, ap, subst, ◌∙◌}
-use Rattle.serde_json.specs.View.{view, members_view}
+use Rattle.std.proofs.Common.{option_map, sym, ap, subst, ◌∙◌}
+use Rattle.serde_json.specs.View.{members_view}
 use Rattle.city_doc.specs.declared.fault.ReadFault.TheVariants.{UnknownType, Unsupported, BadGeometry, Relations}
 use Rattle.city_doc.specs.Documents.{StandsAmong, IsFirst}
 use Rattle.city_doc.proofs.Order.{first_unknown_type, first_unsupported, first_bad_geometry, first_related, unsupported_named}
@@ -24,8 +24,8 @@ returns-in-Some-first_with c =
     let found = sym c.first_with-2.ensures ∙ ap (option_map (λ s. s.now)) c.in-Some-first_with.is in
     let named = sym c.unsupported_at.ensures ∙ ap (option_map (λ s. s.now)) c.in-Some-unsupported_at.is in
     subst (λ i. IsFirst (StandsAmong ms) (Unsupported i c.in_ok-name.name)) (sym c.in_ok-id-2.ensures)
-      (subst (λ n. IsFirst (StandsAmong ms) (Unsupported c.in-Some-first_with.id.now n)) (sym c.in_ok-name.ensures)
-        (first_unsupported ms _ c.count-count.ensures _ known found named))
+    (subst (λ n. IsFirst (StandsAmong ms) (Unsupported c.in-Some-first_with.id.now n)) (sym c.in_ok-name.ensures)
+    (first_unsupported ms _ c.count-count.ensures _ known found named))
 
 pub returns-in-Some-first_with-2 : goal.returns-in-Some-first_with-2
 returns-in-Some-first_with-2 c =
