@@ -1,3 +1,4 @@
 pub mod Inputs
 pub mod PlayedSoFar
+pub mod RunFaults
 pub mod RunSoFar

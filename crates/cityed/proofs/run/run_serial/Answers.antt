@@ -1,9 +1,12 @@
-use Rattle.std.proofs.Common.{List, [], ◌∷◌, ◌++◌, ap, ◌∙◌}
+use Rattle.std.proofs.Common.{◌≡◌, List, [], ◌∷◌, ◌++◌, ap, ◌∙◌}
 use Rattle.city_model.specs.CityMap.{CityMap}
 use Rattle.city_doc.specs.Canonical.{city_text}
 use Rattle.city_doc.specs.Reports.{report_text}
 use Rattle.city_model.specs.declared.end.End.{End}
 use Rattle.city_model.specs.declared.frame.Frame.{Frame}
+use Rattle.cityed.specs.declared.fault.RunFault.{RunFault}
+use Rattle.cityed.specs.SerialRuns.{IsRunFault, fault_of_document, fault_of_scripts}
+use Rattle.cityed.proofs.RunFaults.{of_error, document_refused, scripts_refused}
 use Rattle.cityed.proofs.run.run_serial.Goals as goal
 
 pub returns-clause-ran : goal.returns-clause-ran
@@ -25,3 +28,15 @@ returns-clause-ran c =
         text = c.in_ok-bytes.ensures.text ∙ ap (λ (es : List End). report_text es ++ city_text left ++ 10 ∷ []) c.as_slice.ensures ∙ ap (λ (f : Frame). report_text c.in_ok-ends.ends ++ city_text (f, left.1) ++ 10 ∷ []) run.frame;
       };
     }
+
+pub returns-in_err-city-clause-fault : goal.returns-in_err-city-clause-fault
+returns-in_err-city-clause-fault c =
+    let P : RunFault → Type 0 = λ r. r ≡ fault_of_document c.in_err-city.field-0.0 in
+    of_error P (IsRunFault c.args.document.now c.args.scripts.now) c.from_residual.result c.from_residual.ensures.1
+    (λ r is. document_refused c.args.document.now c.args.scripts.now c.in_err-city.field-0.0 r is c.in_err-city.ensures.fault)
+
+pub returns-in_err-scripts-clause-fault : goal.returns-in_err-scripts-clause-fault
+returns-in_err-scripts-clause-fault c =
+    let P : RunFault → Type 0 = λ r. r ≡ fault_of_scripts c.in_err-scripts.field-0.0 in
+    of_error P (IsRunFault c.args.document.now c.args.scripts.now) c.from_residual-in_err-scripts.result c.from_residual-in_err-scripts.ensures.1
+    (λ r is. scripts_refused c.args.document.now c.args.scripts.now c.in_ok-city.city c.in_err-scripts.field-0.0 r is c.in_ok-city.ensures.stands c.in_err-scripts.ensures.fault)
