@@ -11,7 +11,7 @@ pub mod report;
 pub mod script_form;
 pub mod script_forms;
 pub mod scripts;
-pub mod triples;
-pub mod write;
 #[cfg(test)]
 mod scripts_tests;
+pub mod triples;
+pub mod write;
