@@ -1,7 +1,7 @@
 -- Forms of commands, and what is refused of them.
-use Rattle.std.proofs.Common.{◌≡◌, ℕ, ◌+◌, List, [], ◌∷◌, length, Bool, true, false, true≢false, Option, Some, None, map, refl, sym, ap, ◌∙◌, arith, zero-add}
+use Rattle.std.proofs.Common.{◌≡◌, ℕ, ◌+◌, List, [], ◌∷◌, length, Bool, true, false, true≢false, Option, Some, refl, sym, ap, ◌∙◌, arith}
 use Rattle.std.specs.Prelude.{◌||◌, option_map, option_and_then, codes}
-use Rattle.serde_json.specs.Data.{Data, Members, null, boolean, number, string, array, object}
+use Rattle.serde_json.specs.Data.{Data, Members}
 use Rattle.serde_json.specs.View.{members_view}
 use Rattle.serde_json.proofs.Views.{Entry}
 use Rattle.city_doc.specs.ObjectFaults.{is_bad_geometry}

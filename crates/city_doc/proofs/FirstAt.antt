@@ -1,5 +1,5 @@
 -- What a search finds: the first item where there is anything, and nothing before it.
-use Rattle.std.proofs.Common.{◌≡◌, ℕ, zero, suc, ◌+◌, ◌<◌, List, [], ◌∷◌, ◌++◌, length, length-append, Option, Some, None, refl, sym, ap, subst, ◌∙◌, arith}
+use Rattle.std.proofs.Common.{◌≡◌, ℕ, zero, suc, ◌+◌, ◌<◌, List, [], ◌∷◌, ◌++◌, length, length-append, Option, Some, None, refl, ap, subst, ◌∙◌, arith}
 use Rattle.std.specs.Prelude.{slice_get}
 use Rattle.std.specs.Option.{option_or}
 use Rattle.city_doc.specs.ScriptSearch.{first_at}
@@ -39,8 +39,13 @@ first_step : {A B : Type 0} (find : ℕ → A → Option B) (n : ℕ) (x : A) (x
     → (first_at find (n + 1) xs ≡ Some f → IsFirst find (n + 1) xs f) → IsFirst find n (x ∷ xs) f
 first_step find n x xs f None is h ih =
     let r = ih h in
-    record { place = suc r.place; x = r.x; there = r.there; found = moved find (n + 1 + r.place) (n + suc r.place) r.x (Some f) (shift n r.place) r.found;
-      before = before_from find n r.place x xs is r.before }
+    record {
+      place = suc r.place;
+      x = r.x;
+      there = r.there;
+      found = moved find (n + 1 + r.place) (n + suc r.place) r.x (Some f) (shift n r.place) r.found;
+      before = before_from find n r.place x xs is r.before;
+    }
 first_step find n x xs f (Some g) is h ih =
     record { place = 0; x = x; there = refl; found = moved find n (n + 0) x (Some f) (no_shift n) (is ∙ h); before = λ j y lower at. absurd (omega arith) }
 

@@ -1,6 +1,6 @@
 -- An object that isn't bad has a body, which rests on no points.
-use Rattle.std.proofs.Common.{◌≡◌, ℕ, List, [], ◌∷◌, length, Bool, true, false, true≢false, Option, Some, None, option_map, refl, sym, ap, ◌∙◌}
-use Rattle.std.specs.Prelude.{◌&&◌, ◌||◌, ◌==◌, not, option_and_then, codes, is_some, is_none, if◌then◌else◌}
+use Rattle.std.proofs.Common.{◌≡◌, ℕ, List, [], Bool, true, false, true≢false, Option, Some, None, option_map, refl, sym, ap, ◌∙◌}
+use Rattle.std.specs.Prelude.{◌||◌, option_and_then, codes, is_some, is_none, if◌then◌else◌}
 use Rattle.serde_json.specs.Data.{Data, Members}
 use Rattle.serde_json.specs.Find.{get, get_member, as_object, as_array}
 use Rattle.city_model.specs.declared.object.Point.{Point}
@@ -8,7 +8,6 @@ use Rattle.city_model.specs.declared.object.Body.{Body}
 use Rattle.city_model.specs.declared.object_type.ObjectType.{ObjectType}
 use Rattle.city_model.specs.Kept.{kept_at_object, has_location}
 use Rattle.city_model.specs.Members.{without}
-use Rattle.city_model.specs.Relations.{is_second_level}
 use Rattle.city_model.specs.Whole.{is_whole, members_whole}
 use Rattle.city_model.proofs.MemberLaws.{get_member-without, get_member-without_same, members_whole-without}
 use Rattle.city_model.specs.declared.object.Geometry.{Geometry}
@@ -57,17 +56,17 @@ kept_left ms whole located =
     let c = without (codes "parents") b in
     let d = without (codes "children") c in
     let no_type : get_member (codes "type") d ≡ None =
-        get_member-without (codes "type") (codes "children") c refl ∙ get_member-without (codes "type") (codes "parents") b refl
-        ∙ get_member-without (codes "type") (codes "geometry") a refl ∙ get_member-without_same (codes "type") ms in
+    get_member-without (codes "type") (codes "children") c refl ∙ get_member-without (codes "type") (codes "parents") b refl
+    ∙ get_member-without (codes "type") (codes "geometry") a refl ∙ get_member-without_same (codes "type") ms in
     let no_geometry : get_member (codes "geometry") d ≡ None =
-        get_member-without (codes "geometry") (codes "children") c refl ∙ get_member-without (codes "geometry") (codes "parents") b refl ∙ get_member-without_same (codes "geometry") a in
+    get_member-without (codes "geometry") (codes "children") c refl ∙ get_member-without (codes "geometry") (codes "parents") b refl ∙ get_member-without_same (codes "geometry") a in
     let no_parents : get_member (codes "parents") d ≡ None = get_member-without (codes "parents") (codes "children") c refl ∙ get_member-without_same (codes "parents") b in
     let no_children : get_member (codes "children") d ≡ None = get_member-without_same (codes "children") c in
     let address : get_member (codes "address") d ≡ get_member (codes "address") ms =
-        get_member-without (codes "address") (codes "children") c refl ∙ get_member-without (codes "address") (codes "parents") b refl
-        ∙ get_member-without (codes "address") (codes "geometry") a refl ∙ get_member-without (codes "address") (codes "type") ms refl in
+    get_member-without (codes "address") (codes "children") c refl ∙ get_member-without (codes "address") (codes "parents") b refl
+    ∙ get_member-without (codes "address") (codes "geometry") a refl ∙ get_member-without (codes "address") (codes "type") ms refl in
     let all : members_whole d ≡ true =
-        members_whole-without (codes "children") c (members_whole-without (codes "parents") b (members_whole-without (codes "geometry") a (members_whole-without (codes "type") ms whole))) in
+    members_whole-without (codes "children") c (members_whole-without (codes "parents") b (members_whole-without (codes "geometry") a (members_whole-without (codes "type") ms whole))) in
     rw (all, no_type, no_geometry, no_parents, no_children, address, located) refl
 
 pub body_of-good : (points : List Point) (d : Data) → is_whole d ≡ true → is_bad_object d ≡ false → (b : Body) × (body_of points d ≡ Some b)

@@ -1,25 +1,25 @@
 -- Commands without positions: which are refused, and what the others stand for.
-use Rattle.std.proofs.Common.{◌≡◌, ℕ, List, [], ◌∷◌, length, Bool, true, false, true≢false, Option, Some, None, option_map, refl, sym, ap, ◌∙◌}
-use Rattle.std.specs.Prelude.{◌&&◌, ◌||◌, ◌==◌, not, option_and_then, codes, is_some, is_none, if◌then◌else◌}
+use Rattle.std.proofs.Common.{◌≡◌, ℕ, List, [], Bool, true, false, true≢false, Option, Some, None, option_map, refl, sym, ap, ◌∙◌}
+use Rattle.std.specs.Prelude.{◌||◌, ◌==◌, not, option_and_then, codes, if◌then◌else◌}
 use Rattle.std.specs.Option.{option_or}
 use Rattle.std.specs.Str.{bytes_eq}
 use Rattle.serde_json.specs.Data.{Data, null, boolean, number, string, array, object, Members}
-use Rattle.serde_json.specs.Find.{get, get_member, as_object, as_str}
+use Rattle.serde_json.specs.Find.{get_member}
 use Rattle.city_model.specs.declared.object.Point.{Point}
 use Rattle.city_model.specs.declared.object.Body.{Body}
 use Rattle.city_model.specs.declared.command.Command.{Command}
 use Rattle.city_model.specs.declared.command.Command.TheVariants.{Read, Put, Commit, Abort}
 use Rattle.city_model.specs.Relations.{is_second_level}
 use Rattle.city_model.specs.Scripts.{is_end, is_served}
-use Rattle.city_model.specs.Whole.{is_whole, members_whole}
+use Rattle.city_model.specs.Whole.{is_whole}
 use Rattle.city_doc.specs.Bodies.{body_of}
 use Rattle.city_doc.specs.ObjectFaults.{is_second}
 use Rattle.city_doc.specs.BadCommands.{is_bad_object, is_bad_form, is_no_good_form, is_bad_command}
-use Rattle.city_doc.specs.CommandForms.{CommandForm, ReadForm, PutForm, DeleteForm, AttachForm, DetachForm, CommitForm, AbortForm, members_count, text_in, text_and_value, word_form, read_form, put_form, delete_form, attach_form, detach_form, members_form, form_of, put_of, command_of_form, command_of}
+use Rattle.city_doc.specs.CommandForms.{CommandForm, ReadForm, PutForm, DeleteForm, AttachForm, DetachForm, CommitForm, AbortForm, members_count, text_in, read_form, put_form, delete_form, attach_form, detach_form, members_form, form_of, command_of_form, command_of}
 use Rattle.city_doc.specs.ScriptTrees.{is_end_word}
 use Rattle.city_doc.specs.ScriptSearch.{plain_put, plain_of_form, plain_command}
 use Rattle.city_doc.proofs.PlainBodies.{good, body_of-good, body_of-same, body_of-parts}
-use Rattle.city_doc.proofs.WholeParts.{as_object-whole, get_member-whole}
+use Rattle.city_doc.proofs.WholeParts.{get_member-whole}
 
 -- ---- a refused command has no meaning
 
@@ -59,7 +59,7 @@ members_hold : (test : CommandForm → Bool) (ms : Members) → ((id : List ℕ)
     → holds test (members_form ms) ≡ true
 members_hold test ms read delete attach detach put =
     or_holds test (read_form ms) _ (map_holds test ReadForm _ read) (or_holds test (put_form ms) _ put (or_holds test (delete_form ms) _ (map_holds test DeleteForm _ delete)
-      (or_holds test (attach_form ms) (detach_form ms) (map_holds test (λ (p : List ℕ × List ℕ). AttachForm p.0 p.1) _ attach) (map_holds test (λ (p : List ℕ × List ℕ). DetachForm p.0 p.1) _ detach))))
+    (or_holds test (attach_form ms) (detach_form ms) (map_holds test (λ (p : List ℕ × List ℕ). AttachForm p.0 p.1) _ attach) (map_holds test (λ (p : List ℕ × List ℕ). DetachForm p.0 p.1) _ detach))))
 
 -- ---- ends
 
@@ -75,7 +75,7 @@ is_end_form AbortForm = true
 members_end : (ms : Members) → holds (λ f. not (is_end_form f)) (members_form ms) ≡ true
 members_end ms =
     members_hold (λ f. not (is_end_form f)) ms (λ id. refl) (λ id. refl) (λ p. refl) (λ p. refl)
-      (map_holds (λ f. not (is_end_form f)) (λ (p : List ℕ × Data). PutForm p.0 p.1) _ (λ p. refl))
+    (map_holds (λ f. not (is_end_form f)) (λ (p : List ℕ × Data). PutForm p.0 p.1) _ (λ p. refl))
 
 not_true : (b : Bool) → not b ≡ true → b ≡ false
 not_true true h = absurd (true≢false (sym h))
@@ -193,7 +193,7 @@ form_whole (string s) h = word_whole (bytes_eq s (codes "commit")) (bytes_eq s (
 form_whole (array ds) h = refl
 form_whole (object ms) h =
     members_hold whole_form ms (λ id. refl) (λ id. refl) (λ p. refl) (λ p. refl)
-      (put_whole (members_count ms == 2) (text_in (codes "put") ms) (get_member (codes "object") ms) (λ d e. get_member-whole (codes "object") ms d h e))
+    (put_whole (members_count ms == 2) (text_in (codes "put") ms) (get_member (codes "object") ms) (λ d e. get_member-whole (codes "object") ms d h e))
 
 put_some : (id : List ℕ) (tree : Data) → is_whole tree ≡ true → is_bad_object tree ≡ false → plain_put id tree ≡ None → ⊥
 put_some id tree whole h none =

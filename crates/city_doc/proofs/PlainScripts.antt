@@ -10,7 +10,7 @@ use Rattle.city_model.specs.Runs.{Scripted}
 use Rattle.city_model.specs.Scripts.{is_served, are_served}
 use Rattle.city_model.specs.Whole.{is_whole}
 use Rattle.city_doc.specs.Bodies.{read_items}
-use Rattle.city_doc.specs.Triples.{whole_at, triple_of, point_of, all_triples, are_all_triples, are_triples}
+use Rattle.city_doc.specs.Triples.{whole_at, triple_of, point_of, all_triples, are_all_triples}
 use Rattle.city_doc.specs.CommandForms.{text_in, command_of}
 use Rattle.city_doc.specs.ScriptTrees.{ScriptParts, array_of, all_read, ended, word_ends, are_vertices, commands_in, has_script_members, parts_in, parts_if, parts_of, vertex_points, script_of, are_too_many, scripts_of_parts, scripts_of}
 use Rattle.city_doc.specs.ScriptSearch.{first_at, plain_command, plain_script, bad_command, bad_command_in}
@@ -75,7 +75,7 @@ parts_in-good : (ms : Members) (p : ScriptParts) → has_script_members ms ≡ t
     → parts_in ms ≡ Some p → are_good_parts p ≡ true
 parts_in-good ms p shape whole h =
     let r = and_then_some (λ (name : List ℕ). option_map (λ (commands : List Data). let q : ScriptParts = record { name = name; commands = commands; vertices = get_member (codes "vertices") ms } in q)
-        (commands_in ms)) (text_in (codes "name") ms) p h in
+    (commands_in ms)) (text_in (codes "name") ms) p h in
     let q = map_some (λ (commands : List Data). let q : ScriptParts = record { name = r.0; commands = commands; vertices = get_member (codes "vertices") ms } in q) (commands_in ms) p r.2 in
     let vertices : are_vertices (get_member (codes "vertices") ms) ≡ true = (both _ _ shape).1 in
     let all : list_all is_whole q.0 ≡ true = commands_whole ms q.0 whole q.1 in
@@ -98,7 +98,7 @@ script_same p s ok h =
     let points = vertices-points p.vertices hs.0 in
     let r = map_some (λ cs. (p.name, cs)) (all_read plain_command p.commands) s h in
     let read : all_read (command_of points.0) p.commands ≡ Some r.0 =
-        all_read-same plain_command (command_of points.0) is_whole (λ d c w e. plain_command-same points.0 d c e) p.commands r.0 hs.1 r.1 in
+    all_read-same plain_command (command_of points.0) is_whole (λ d c w e. plain_command-same points.0 d c e) p.commands r.0 hs.1 r.1 in
     rw (points.1, read) (ap Some (sym r.2))
 
 pub scripts_same : (ps : List ScriptParts) (ss : List Scripted) → list_all are_good_parts ps ≡ true → all_read plain_script ps ≡ Some ss → all_read script_of ps ≡ Some ss

@@ -1,6 +1,6 @@
 -- What the reader finds is the first fault of an array of scripts.
-use Rattle.std.proofs.Common.{◌≡◌, ℕ, ◌+◌, ◌<◌, List, [], ◌∷◌, Bool, true, false, Option, Some, None, refl, sym, ap, ◌∙◌, inl, inr, zero-add}
-use Rattle.std.specs.Prelude.{◌⊎◌, ◌&&◌, slice_get}
+use Rattle.std.proofs.Common.{◌≡◌, ℕ, ◌+◌, ◌<◌, List, true, false, Option, Some, None, refl, sym, ap, ◌∙◌, inl, inr, zero-add}
+use Rattle.std.specs.Prelude.{◌⊎◌, slice_get}
 use Rattle.std.specs.List.{list_all}
 use Rattle.serde_json.specs.Data.{Data}
 use Rattle.city_model.specs.Whole.{is_whole}
@@ -9,10 +9,10 @@ use Rattle.city_doc.specs.declared.fault.ScriptFault.TheVariants.{OutOfMemory, B
 use Rattle.city_doc.specs.BadCommands.{is_bad_command}
 use Rattle.city_doc.specs.ScriptTrees.{ScriptParts, array_of, all_read, are_vertices, parts_of, are_too_many}
 use Rattle.city_doc.specs.Texts.{HasTree}
-use Rattle.city_doc.specs.ScriptTexts.{IsBadScript, IsFirstBadScript, IsBadCommand, IsBefore, IsFirstBadCommand, ItemsFault, TreeFault, ScriptTextFault}
+use Rattle.city_doc.specs.ScriptTexts.{IsBadCommand, IsBefore, ItemsFault, TreeFault, ScriptTextFault}
 use Rattle.city_doc.specs.ScriptSearch.{first_at, unless, plain_command, bad_script, bad_command, bad_command_in}
 use Rattle.city_doc.proofs.AllRead.{both, in_all}
-use Rattle.city_doc.proofs.FirstAt.{IsFirst, first_at-is, first_at-none}
+use Rattle.city_doc.proofs.FirstAt.{first_at-is, first_at-none}
 use Rattle.city_doc.proofs.PlainCommands.{none-bad_command, bad_command-none}
 use Rattle.city_doc.proofs.PlainScripts.{are_good_parts, all_good}
 
@@ -30,8 +30,11 @@ pub first_bad_script : (ds : List Data) (f : ScriptFault) → first_at bad_scrip
 first_bad_script ds f h =
     let r = first_at-is bad_script 0 ds f h in
     let bad = unless_some (parts_of r.x) (BadScript (0 + r.place)) f r.found in
-    inl (r.place, bad.1 ∙ ap BadScript (zero-add r.place),
-      ((r.x, r.there, bad.0), λ k lower other. unless_none (parts_of other.0) (BadScript (0 + k)) (r.before k other.0 lower other.1) other.2))
+    inl (
+      r.place,
+      bad.1 ∙ ap BadScript (zero-add r.place),
+      ((r.x, r.there, bad.0), λ k lower other. unless_none (parts_of other.0) (BadScript (0 + k)) (r.before k other.0 lower other.1) other.2),
+    )
 
 -- ---- too many
 
@@ -52,10 +55,10 @@ none_before : (ps : List ScriptParts) (p : ScriptParts) (n i k j : ℕ) → slic
     → IsBefore k j n i → IsBadCommand ps k j → ⊥
 none_before ps p n i k j there scripts commands (inl lower) bad =
     unless_none (plain_command bad.1) (BadCommand (0 + k) (0 + j))
-      (first_at-none (bad_command (0 + k)) 0 bad.0.commands (scripts k bad.0 lower bad.2) j bad.1 bad.3) (bad_command-none bad.1 bad.4)
+    (first_at-none (bad_command (0 + k)) 0 bad.0.commands (scripts k bad.0 lower bad.2) j bad.1 bad.3) (bad_command-none bad.1 bad.4)
 none_before ps p n i k j there scripts commands (inr same) bad =
     unless_none (plain_command bad.1) (BadCommand (0 + n) (0 + j))
-      (commands j bad.1 same.1 (same_parts ps k n j bad.0 p bad.1 same.0 bad.2 there bad.3)) (bad_command-none bad.1 bad.4)
+    (commands j bad.1 same.1 (same_parts ps k n j bad.0 p bad.1 same.0 bad.2 there bad.3)) (bad_command-none bad.1 bad.4)
 
 pub first_bad_command : (ds : List Data) (ps : List ScriptParts) (f : ScriptFault) → list_all is_whole ds ≡ true → all_read parts_of ds ≡ Some ps → are_too_many ps ≡ false
     → first_at bad_command_in 0 ps ≡ Some f → ItemsFault ds f
@@ -66,8 +69,17 @@ first_bad_command ds ps f whole read few h =
     let ok = both (are_vertices r.x.vertices) (list_all is_whole r.x.commands) (in_all are_good_parts ps r.place r.x (all_good ds ps whole read) r.there) in
     let refused : is_bad_command q.x ≡ true = none-bad_command q.x (in_all is_whole r.x.commands q.place q.x ok.1 q.there) bad.0 in
     let named : f ≡ BadCommand r.place q.place = bad.1 ∙ ap (λ n. BadCommand n (0 + q.place)) (zero-add r.place) ∙ ap (BadCommand r.place) (zero-add q.place) in
-    inr (ps, read, inr (r.place, q.place, named, few,
-      ((r.x, q.x, r.there, q.there, refused), λ k j earlier other. none_before ps r.x r.place q.place k j r.there r.before q.before earlier other)))
+    inr (
+      ps,
+      read,
+      inr (
+        r.place,
+        q.place,
+        named,
+        few,
+        ((r.x, q.x, r.there, q.there, refused), λ k j earlier other. none_before ps r.x r.place q.place k j r.there r.before q.before earlier other),
+      ),
+    )
 
 -- ---- a fault, or want of memory
 

@@ -1,5 +1,5 @@
 -- Lists of the trees of commands: which of them end a script, and what is taken out of its members.
-use Rattle.std.proofs.Common.{◌≡◌, ℕ, ◌+◌, ◌-◌, ◌<◌, ◌≤◌, suc, List, [], ◌∷◌, Bool, true, false, length, map, drop, get_or, Option, Some, None, option_map, refl, sym, ap, ◌∙◌, arith, length-drop}
+use Rattle.std.proofs.Common.{◌≡◌, ℕ, ◌+◌, ◌-◌, ◌<◌, ◌≤◌, suc, List, [], ◌∷◌, true, length, map, drop, get_or, Option, Some, option_map, refl, sym, ap, ◌∙◌, arith, length-drop}
 use Rattle.std.specs.Prelude.{◌==◌, option_and_then, codes}
 use Rattle.std.proofs.Math.Seq.{drop-cons}
 use Rattle.serde_json.specs.Data.{Data, Members}
@@ -9,7 +9,7 @@ use Rattle.city_model.specs.Members.{without}
 use Rattle.city_model.specs.Scripts.{is_end, is_empty_list, ends_once}
 use Rattle.city_model.proofs.MemberLaws.{get_member-without}
 use Rattle.city_doc.specs.CommandForms.{text_in}
-use Rattle.city_doc.specs.ScriptTrees.{ScriptParts, array_of, ended, is_end_word, is_last, word_ends, commands_in, parts_in, all_read}
+use Rattle.city_doc.specs.ScriptTrees.{array_of, ended, is_end_word, is_last, word_ends, commands_in, parts_in, all_read}
 use Rattle.city_doc.specs.ScriptSearch.{plain_command}
 use Rattle.city_doc.proofs.AllRead.{all_read-cons, all_read-nil}
 use Rattle.city_doc.proofs.PlainCommands.{plain_command-end}
@@ -54,6 +54,6 @@ parts-taken ms rest last name o v named left commands gone vertices =
     let at : get_member (codes "commands") rest ≡ get_member (codes "commands") ms = ap (get_member (codes "commands")) left ∙ get_member-without (codes "commands") (codes "name") ms refl in
     let same : commands_in ms ≡ o = sym (commands ∙ ap (λ m. option_and_then ended (option_and_then array_of m)) at) in
     let there : get_member (codes "vertices") ms ≡ v =
-        sym (vertices ∙ ap (get_member (codes "vertices")) gone ∙ get_member-without (codes "vertices") (codes "commands") rest refl
-          ∙ ap (get_member (codes "vertices")) left ∙ get_member-without (codes "vertices") (codes "name") ms refl) in
+    sym (vertices ∙ ap (get_member (codes "vertices")) gone ∙ get_member-without (codes "vertices") (codes "commands") rest refl
+    ∙ ap (get_member (codes "vertices")) left ∙ get_member-without (codes "vertices") (codes "name") ms refl) in
     rw (named, same, there) refl

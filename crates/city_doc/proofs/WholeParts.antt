@@ -1,6 +1,5 @@
 -- The parts of a tree of whole numbers are such trees.
-use Rattle.std.proofs.Common.{◌≡◌, ℕ, List, [], ◌∷◌, Bool, true, false, true≢false, Ordering, Less, Equal, Greater, Option, Some, None, option_map, map, refl, sym, ap, ◌∙◌, nat_cmp}
-use Rattle.std.specs.Prelude.{◌&&◌, option_and_then}
+use Rattle.std.proofs.Common.{◌≡◌, ℕ, List, [], ◌∷◌, true, Ordering, Less, Equal, Greater, Option, Some, None, option_map, refl, ap, ◌∙◌, nat_cmp}
 use Rattle.std.specs.Ordering.{match_ordering}
 use Rattle.std.specs.Cmp.Lexicographic.{slice_cmp}
 use Rattle.std.specs.List.{list_all}

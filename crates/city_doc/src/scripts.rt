@@ -120,11 +120,7 @@ fn script_of(alloc: Global, n: usize, form: ScriptForm) -> Result<Script, Script
 ///
 /// `BadCommand` names the first that is refused; `OutOfMemory` where there was no memory for the
 /// list.
-fn commands_of(
-    alloc: Global,
-    n: usize,
-    items: Vec<Value>,
-) -> Result<Sequence<Command>, ScriptFault>
+fn commands_of(alloc: Global, n: usize, items: Vec<Value>) -> Result<Sequence<Command>, ScriptFault>
     ensures commands { IfOk result (λ cs. all_read plain_command (map view items.items) ≡ Some cs) }
     ensures fault { IfErr result (λ f. (f ≡ ScriptFault.OutOfMemory)
         ⊎ (first_at (bad_command n) 0 (map view items.items) ≡ Some f)) }

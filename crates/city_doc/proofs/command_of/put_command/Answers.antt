@@ -1,6 +1,5 @@
-use Rattle.std.proofs.Common.{◌∙◌, sym, ap}
-use Rattle.std.specs.Prelude.{[], option_map}
-use Rattle.city_model.specs.declared.command.Command.TheVariants.{Put}
+use Rattle.std.proofs.Common.{◌∙◌, sym}
+use Rattle.std.specs.Prelude.{[]}
 use Rattle.serde_json.specs.View.{view}
 use Rattle.city_doc.proofs.CommandLaws.{bad_object-geometry, plain_put-body}
 use Rattle.city_doc.proofs.command_of.put_command.Goals as goal

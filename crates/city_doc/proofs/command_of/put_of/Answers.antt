@@ -8,10 +8,10 @@ pub returns-in_err-object : goal.returns-in_err-object
 returns-in_err-object c =
     c.from_residual-in_err-object.ensures
     ∙ sym (put-parts (members_view c.args.members.entries) _ c.in_ok-id.id _ (sym c.take_text.ensures.found ∙ c.in_ok-id.was) c.take_text.ensures.left
-      (sym (ap (option_map view) c.in_err-object.was) ∙ c.take.ensures.found))
+    (sym (ap (option_map view) c.in_err-object.was) ∙ c.take.ensures.found))
 
 pub returns : goal.returns
 returns c =
     c.put_command.ensures
     ∙ sym (put-parts (members_view c.args.members.entries) _ c.in_ok-id.id _ (sym c.take_text.ensures.found ∙ c.in_ok-id.was) c.take_text.ensures.left
-      (sym (ap (option_map view) c.in_ok-object.was) ∙ c.take.ensures.found))
+    (sym (ap (option_map view) c.in_ok-object.was) ∙ c.take.ensures.found))

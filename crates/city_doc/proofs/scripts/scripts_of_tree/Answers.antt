@@ -1,4 +1,4 @@
-use Rattle.std.proofs.Common.{◌∙◌, sym, ap, refl, map, inl, inr}
+use Rattle.std.proofs.Common.{sym, refl, map, inl, inr}
 use Rattle.std.proofs.lemmas.Result.{err_from_is_err_and}
 use Rattle.serde_json.specs.View.{view}
 use Rattle.city_doc.proofs.WholeParts.{array_of-whole}
