@@ -73,9 +73,9 @@ put_is_floatless k d no_members h hs = neither (has_float d) false h refl
 put_is_floatless k d (member l e ms) h hs =
     let parts = each_not (has_float e) (members_have_float ms) hs in
     elim (slice_cmp nat_cmp k l) as (λ o. members_have_float (match_ordering o (member k d (member l e ms)) (member l d ms) (member l e (put k d ms))) ≡ false) [
-      Less ↦ neither (has_float d) (members_have_float (member l e ms)) h hs
-    | Equal ↦ neither (has_float d) (members_have_float ms) h parts.1
-    | Greater ↦ neither (has_float e) (members_have_float (put k d ms)) parts.0 (put_is_floatless k d ms h parts.1)
+      | Less ↦ neither (has_float d) (members_have_float (member l e ms)) h hs
+      | Equal ↦ neither (has_float d) (members_have_float ms) h parts.1
+      | Greater ↦ neither (has_float e) (members_have_float (put k d ms)) parts.0 (put_is_floatless k d ms h parts.1)
     ]
 
 -- a list of what is floatless where a test holds, and it holds of each

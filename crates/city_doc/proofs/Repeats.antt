@@ -21,8 +21,8 @@ filter_two f g h same [] = refl
 filter_two f g h same (x ∷ xs) =
     let rest = filter_two f g h same xs in
     elim (g x) as (λ b. (h x ≡ (b && f x)) → cond (h x) (x ∷ filter h xs) (filter h xs) ≡ filter f (cond b (x ∷ filter g xs) (filter g xs))) [
-      true ↦ λ (e : h x ≡ f x). rw (e, rest)
-    | false ↦ λ (e : h x ≡ false). rw (e, rest)
+      | true ↦ λ (e : h x ≡ f x). rw (e, rest)
+      | false ↦ λ (e : h x ≡ false). rw (e, rest)
     ] (same x)
 
 filter_nothing : (xs : List Point) → filter (is_new []) xs ≡ xs
@@ -43,8 +43,8 @@ not_or false false = refl
 new_differs : (pool : List Point) (p q : Point) → list_any (same_point p) pool ≡ true → is_new pool q ≡ (differs p q && is_new pool q)
 new_differs pool p q there =
     elim (same_point p q) as (λ b. (same_point p q ≡ b) → is_new pool q ≡ (not b && is_new pool q)) [
-      true ↦ λ (e : same_point p q ≡ true). ap (λ t. not (list_any t pool)) (sym (same_point-alike p q e)) ∙ ap not there
-    | false ↦ λ (e : same_point p q ≡ false). refl
+      | true ↦ λ (e : same_point p q ≡ true). ap (λ t. not (list_any t pool)) (sym (same_point-alike p q e)) ∙ ap not there
+      | false ↦ λ (e : same_point p q ≡ false). refl
     ] refl
 
 -- what is new beside p, too, is what is new and not p
@@ -58,12 +58,12 @@ with_points-is pool [] = sym (append-nil pool)
 with_points-is pool (p ∷ ps) =
     let rest = without_repeats ps in
     elim (list_any (same_point p) pool) as (λ b. (list_any (same_point p) pool ≡ b) → with_points (cond b pool (pool ++ p ∷ [])) ps ≡ pool ++ cond (not b) (p ∷ filter (is_new pool) (filter (differs p) rest)) (filter (is_new pool) (filter (differs p) rest))) [
-      true ↦ λ (there : list_any (same_point p) pool ≡ true).
-        with_points-is pool ps ∙ ap (λ qs. pool ++ qs) (filter_two (is_new pool) (differs p) (is_new pool) (λ q. new_differs pool p q there) rest)
-    | false ↦ λ (there : list_any (same_point p) pool ≡ false).
-        with_points-is (pool ++ p ∷ []) ps
-        ∙ ap (λ qs. (pool ++ p ∷ []) ++ qs) (filter_two (is_new pool) (differs p) (is_new (pool ++ p ∷ [])) (new_beside pool p) rest)
-        ∙ append_assoc pool (p ∷ []) (filter (is_new pool) (filter (differs p) rest))
+      | true ↦ λ (there : list_any (same_point p) pool ≡ true).
+          with_points-is pool ps ∙ ap (λ qs. pool ++ qs) (filter_two (is_new pool) (differs p) (is_new pool) (λ q. new_differs pool p q there) rest)
+      | false ↦ λ (there : list_any (same_point p) pool ≡ false).
+          with_points-is (pool ++ p ∷ []) ps
+          ∙ ap (λ qs. (pool ++ p ∷ []) ++ qs) (filter_two (is_new pool) (differs p) (is_new (pool ++ p ∷ [])) (new_beside pool p) rest)
+          ∙ append_assoc pool (p ∷ []) (filter (is_new pool) (filter (differs p) rest))
     ] refl
 
 -- the pool that starts empty has each point once, in the order of their first places

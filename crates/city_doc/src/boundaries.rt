@@ -63,11 +63,7 @@ impl<T: Written> Written for Sequence<T> {
 }
 
 /// The boundaries of a shape.
-pub fn boundaries_tree(
-    alloc: Global,
-    shape: &Shape,
-    pool: &VertexPool,
-) -> Result<Value, AllocError>
+pub fn boundaries_tree(alloc: Global, shape: &Shape, pool: &VertexPool) -> Result<Value, AllocError>
     ensures { IfOk result (λ v. view v ≡ boundaries_data pool.now shape.now) }
 {
     match shape {

@@ -48,16 +48,17 @@ fn cause_id(cause: &Cause) -> Option<&Id>
 }
 
 /// Puts the object that a cause names, where it names one.
-fn put_id(
-    members: &mut Map<String, Value>,
-    alloc: Global,
-    cause: &Cause,
-) -> Result<(), AllocError>
+fn put_id(members: &mut Map<String, Value>, alloc: Global, cause: &Cause) -> Result<(), AllocError>
     ensures { OnOk result (members_view members.new.entries
         ≡ put_id (cause_id cause.now) (members_view members.old.entries)) }
 {
     if let Some(id) = cause_id(cause) {
-        put(members, alloc, "id", Value::try_from_str(alloc, id.as_str())?)?;
+        put(
+            members,
+            alloc,
+            "id",
+            Value::try_from_str(alloc, id.as_str())?,
+        )?;
     }
     Ok(())
 }
@@ -73,7 +74,12 @@ fn put_refusal(
         ≡ put_refusal at cause.now (members_view members.old.entries)) }
 {
     put(members, alloc, "at", Value::from(at))?;
-    put(members, alloc, "cause", Value::try_from_str(alloc, cause_name(cause))?)?;
+    put(
+        members,
+        alloc,
+        "cause",
+        Value::try_from_str(alloc, cause_name(cause))?,
+    )?;
     put_id(members, alloc, cause)?;
     Ok(())
 }
@@ -112,7 +118,12 @@ fn heading(alloc: Global, end: &End) -> Result<Map<String, Value>, AllocError>
     ensures { IfOk result (λ m. members_view m.entries ≡ heading end.now) }
 {
     let mut members = Map::new(alloc);
-    put(&mut members, alloc, "name", Value::try_from_str(alloc, end.name.as_str())?)?;
+    put(
+        &mut members,
+        alloc,
+        "name",
+        Value::try_from_str(alloc, end.name.as_str())?,
+    )?;
     put(&mut members, alloc, "script", Value::from(end.script))?;
     put(&mut members, alloc, "since", Value::from(end.since))?;
     Ok(members)
@@ -124,8 +135,18 @@ pub fn end_tree(alloc: Global, end: &End) -> Result<Value, AllocError>
     ensures kept { IfOk result (λ _. are_kept_replies end.now.replies ≡ true) }
 {
     let mut members = heading(alloc, end)?;
-    put(&mut members, alloc, "replies", replies_tree(alloc, end.replies.as_slice())?)?;
-    put(&mut members, alloc, "outcome", Value::try_from_str(alloc, outcome_name(&end.outcome))?)?;
+    put(
+        &mut members,
+        alloc,
+        "replies",
+        replies_tree(alloc, end.replies.as_slice())?,
+    )?;
+    put(
+        &mut members,
+        alloc,
+        "outcome",
+        Value::try_from_str(alloc, outcome_name(&end.outcome))?,
+    )?;
     put_ending(&mut members, alloc, &end.outcome)?;
     Ok(Value::Object(members))
 }

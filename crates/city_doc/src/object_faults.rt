@@ -45,7 +45,11 @@ fn unsupported_type(geometry: &Value) -> Option<&str>
     ensures { option_map (λ s. s.now) result ≡ unsupported_type (view geometry.now) }
 {
     let kind = text_at(geometry, "type")?;
-    if is_unsupported(kind) { Some(kind) } else { None }
+    if is_unsupported(kind) {
+        Some(kind)
+    } else {
+        None
+    }
 }
 
 fn first_unsupported(geometries: &Vec<Value>) -> Option<&str>

@@ -36,16 +36,17 @@ fn put_list<T: Written>(
 
 /// The tree of an object, each point as its number.
 #[tactic(auto, unfolding(crate::specs::KeptMembers::is_kept_object))]
-pub fn object_tree(
-    alloc: Global,
-    object: &Object,
-    pool: &VertexPool,
-) -> Result<Value, AllocError>
+pub fn object_tree(alloc: Global, object: &Object, pool: &VertexPool) -> Result<Value, AllocError>
     ensures tree { IfOk result (λ v. view v ≡ object_data pool.now object.now) }
     ensures kept { IfOk result (λ _. is_kept_object object.now ≡ true) }
 {
     let mut members = object.body.extra.to_map()?;
-    put(&mut members, alloc, "type", Value::try_from_str(alloc, name(object.body.kind))?)?;
+    put(
+        &mut members,
+        alloc,
+        "type",
+        Value::try_from_str(alloc, name(object.body.kind))?,
+    )?;
     put_list(&mut members, alloc, "geometry", &object.body.geometry, pool)?;
     put_list(&mut members, alloc, "parents", &object.parents, pool)?;
     put_list(&mut members, alloc, "children", &object.children, pool)?;

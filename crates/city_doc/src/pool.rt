@@ -52,7 +52,9 @@ impl VertexPool {
     pub(crate) fn place(&self, point: Point) -> usize
         ensures { result ≡ place_of self.now point }
     {
-        self.points.get_index_of(&point).unwrap_or(self.points.len())
+        self.points
+            .get_index_of(&point)
+            .unwrap_or(self.points.len())
     }
 
     /// The points by their numbers. Takes no memory.

@@ -1,8 +1,9 @@
 //! Reads a document.
-ghost use Rattle.std.specs.Prelude.{IfOk, IfErr};
+ghost use Rattle.std.specs.Prelude.{IfOk, IfErr, OnOk};
 ghost use Rattle.city_model.specs.CityMap.{at};
 ghost use Rattle.city_model.specs.Relations.{IsLawful};
 ghost use Rattle.city_doc.specs.Documents.{StandsForCity, DocumentFault};
+ghost use Rattle.city_doc.specs.Texts.{IsReadable};
 
 use crate::build::city_of;
 use crate::fault::ReadFault;
@@ -20,6 +21,7 @@ use std::alloc::Global;
 pub fn read_city(alloc: Global, bytes: &[u8]) -> Result<City, ReadFault>
     ensures stands { IfOk result (λ c. StandsForCity bytes.now c) }
     ensures lawful { IfOk result (λ c. IsLawful (at c.1)) }
+    ensures readable { OnOk result (IsReadable bytes.now) }
     ensures fault { IfErr result (λ f. DocumentFault bytes.now f) }
 {
     let tree = parse(alloc, bytes)?;

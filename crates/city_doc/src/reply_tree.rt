@@ -20,8 +20,18 @@ fn found_tree(alloc: Global, object: &Object) -> Result<Value, AllocError>
 {
     let pool = object_pool(alloc, object)?;
     let mut members = Map::new(alloc);
-    put(&mut members, alloc, "object", object_tree(alloc, object, &pool)?)?;
-    put(&mut members, alloc, "vertices", vertices_tree(alloc, &pool)?)?;
+    put(
+        &mut members,
+        alloc,
+        "object",
+        object_tree(alloc, object, &pool)?,
+    )?;
+    put(
+        &mut members,
+        alloc,
+        "vertices",
+        vertices_tree(alloc, &pool)?,
+    )?;
     Ok(Value::Object(members))
 }
 

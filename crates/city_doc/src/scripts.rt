@@ -1,10 +1,10 @@
 //! Reads a text of scripts.
-ghost use Rattle.std.specs.Prelude.{◌≡◌, ◌⊎◌, ℕ, List, true, map, IfOk, IfErr, Some, option_and_then};
+ghost use Rattle.std.specs.Prelude.{◌≡◌, ◌⊎◌, ℕ, List, true, map, IfOk, IfErr, OnOk, Some, option_and_then};
 ghost use Rattle.serde_json.specs.View.{view};
 ghost use Rattle.std.specs.List.{list_all};
 ghost use Rattle.city_model.specs.Scripts.{are_served};
 ghost use Rattle.city_model.specs.Whole.{is_whole};
-ghost use Rattle.city_doc.specs.Texts.{IsRefused};
+ghost use Rattle.city_doc.specs.Texts.{IsReadable, IsRefused};
 ghost use Rattle.city_doc.specs.ScriptTexts.{StandsForScripts, TreeFault, ItemsFault, ScriptTextFault};
 ghost use Rattle.city_doc.specs.ScriptTrees.{all_read, parts_of, scripts_of_parts, scripts_of};
 ghost use Rattle.city_doc.specs.ScriptForms.{parts_view, parts_views};
@@ -28,6 +28,7 @@ use std::alloc::Global;
 pub fn read_scripts(alloc: Global, bytes: &[u8]) -> Result<Sequence<Script>, ScriptFault>
     ensures stands { IfOk result (λ ss. StandsForScripts bytes.now ss) }
     ensures served { IfOk result (λ ss. are_served ss ≡ true) }
+    ensures readable { OnOk result (IsReadable bytes.now) }
     ensures fault { IfErr result (λ f. ScriptTextFault bytes.now f) }
 {
     match parse(alloc, bytes) {

@@ -105,15 +105,42 @@ fn forms_of_scripts(rt: HostRuntime) -> Result<(), Fail> {
         ("[{\"name\":1,\"commands\":[\"commit\"]}]", "BadScript(0)"),
         ("[{\"name\":\"s\",\"commands\":\"commit\"}]", "BadScript(0)"),
         ("[{\"name\":\"s\",\"commands\":[]}]", "BadScript(0)"),
-        ("[{\"name\":\"s\",\"commands\":[{\"read\":\"x\"}]}]", "BadScript(0)"),
-        ("[{\"name\":\"s\",\"commands\":[\"commit\",\"commit\"]}]", "BadScript(0)"),
-        ("[{\"name\":\"s\",\"commands\":[\"abort\",{\"read\":\"x\"},\"commit\"]}]", "BadScript(0)"),
-        ("[{\"name\":\"s\",\"commands\":[\"commit\"],\"more\":1}]", "BadScript(0)"),
-        ("[{\"name\":\"s\",\"commands\":[\"commit\"],\"vertices\":[],\"more\":1}]", "BadScript(0)"),
-        ("[{\"name\":\"s\",\"commands\":[\"commit\"],\"vertices\":1}]", "BadScript(0)"),
-        ("[{\"name\":\"s\",\"commands\":[\"commit\"],\"vertices\":[[1,2]]}]", "BadScript(0)"),
-        ("[{\"name\":\"s\",\"commands\":[\"commit\"],\"vertices\":[[1,2,3,4]]}]", "BadScript(0)"),
-        ("[{\"name\":\"s\",\"commands\":[{\"read\":1},\"commit\"]},{},1]", "BadScript(1)"),
+        (
+            "[{\"name\":\"s\",\"commands\":[{\"read\":\"x\"}]}]",
+            "BadScript(0)",
+        ),
+        (
+            "[{\"name\":\"s\",\"commands\":[\"commit\",\"commit\"]}]",
+            "BadScript(0)",
+        ),
+        (
+            "[{\"name\":\"s\",\"commands\":[\"abort\",{\"read\":\"x\"},\"commit\"]}]",
+            "BadScript(0)",
+        ),
+        (
+            "[{\"name\":\"s\",\"commands\":[\"commit\"],\"more\":1}]",
+            "BadScript(0)",
+        ),
+        (
+            "[{\"name\":\"s\",\"commands\":[\"commit\"],\"vertices\":[],\"more\":1}]",
+            "BadScript(0)",
+        ),
+        (
+            "[{\"name\":\"s\",\"commands\":[\"commit\"],\"vertices\":1}]",
+            "BadScript(0)",
+        ),
+        (
+            "[{\"name\":\"s\",\"commands\":[\"commit\"],\"vertices\":[[1,2]]}]",
+            "BadScript(0)",
+        ),
+        (
+            "[{\"name\":\"s\",\"commands\":[\"commit\"],\"vertices\":[[1,2,3,4]]}]",
+            "BadScript(0)",
+        ),
+        (
+            "[{\"name\":\"s\",\"commands\":[{\"read\":1},\"commit\"]},{},1]",
+            "BadScript(1)",
+        ),
     ] {
         let got = answer(&rt, text)?;
         assert_eq!(rt; got.as_str(), want, "at {text}");
@@ -148,7 +175,9 @@ fn forms_of_commands(rt: HostRuntime) -> Result<(), Fail> {
         "{\"attach\":\"x\",\"parent\":\"y\"}",
         "{\"detach\":\"x\",\"parent\":\"y\"}",
     ] {
-        let text = format!(in rt.alloc(); "[{{\"name\":\"a\",\"commands\":[\"abort\"]}},{{\"name\":\"s\",\"commands\":[{{\"read\":\"x\"}},{command},{{\"read\":2}},\"commit\"]}}]")?;
+        let text = format!(in rt.alloc();
+            "[{{\"name\":\"a\",\"commands\":[\"abort\"]}},{{\"name\":\"s\",\"commands\":[{{\"read\":\"x\"}},{command},{{\"read\":2}},\"commit\"]}}]"
+        )?;
         let got = answer(&rt, text.as_str())?;
         assert_eq!(rt; got.as_str(), "BadCommand(1, 1)", "at {command}");
     }

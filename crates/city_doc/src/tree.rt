@@ -44,8 +44,18 @@ fn transform_tree(alloc: Global, frame: &Frame) -> Result<Value, AllocError>
     ensures kept { IfOk result (λ _. kept_at_transform frame.now.more ≡ true) }
 {
     let mut transform = frame.more.to_map()?;
-    put(&mut transform, alloc, "scale", triple_tree(alloc, &frame.scale)?)?;
-    put(&mut transform, alloc, "translate", triple_tree(alloc, &frame.translate)?)?;
+    put(
+        &mut transform,
+        alloc,
+        "scale",
+        triple_tree(alloc, &frame.scale)?,
+    )?;
+    put(
+        &mut transform,
+        alloc,
+        "translate",
+        triple_tree(alloc, &frame.translate)?,
+    )?;
     Ok(Value::Object(transform))
 }
 
@@ -56,8 +66,18 @@ fn frame_members(alloc: Global, frame: &Frame) -> Result<Map<String, Value>, All
         × (kept_at_transform frame.now.more ≡ true)) }
 {
     let mut top = frame.extra.to_map()?;
-    put(&mut top, alloc, "type", Value::try_from_str(alloc, "CityJSON")?)?;
-    put(&mut top, alloc, "version", Value::try_from_str(alloc, "2.0")?)?;
+    put(
+        &mut top,
+        alloc,
+        "type",
+        Value::try_from_str(alloc, "CityJSON")?,
+    )?;
+    put(
+        &mut top,
+        alloc,
+        "version",
+        Value::try_from_str(alloc, "2.0")?,
+    )?;
     put(&mut top, alloc, "transform", transform_tree(alloc, frame)?)?;
     Ok(top)
 }
@@ -69,6 +89,11 @@ pub fn city_tree(alloc: Global, city: &City, pool: &VertexPool) -> Result<Value,
 {
     let mut top = frame_members(alloc, city.frame())?;
     put(&mut top, alloc, "vertices", vertices_tree(alloc, pool)?)?;
-    put(&mut top, alloc, "CityObjects", objects_tree(alloc, city, pool)?)?;
+    put(
+        &mut top,
+        alloc,
+        "CityObjects",
+        objects_tree(alloc, city, pool)?,
+    )?;
     Ok(Value::Object(top))
 }

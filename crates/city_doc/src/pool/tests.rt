@@ -8,6 +8,9 @@ fn an_equal_point_keeps_its_number(rt: HostRuntime) -> Result<(), Fail> {
     assert_eq!(rt; pool.add(point(1, 2, 3))?, 0);
     assert_eq!(rt; pool.add(point(4, 5, 6))?, 1);
     assert_eq!(rt; pool.add(point(1, 2, 3))?, 0);
-    assert_eq!(rt; pool.points().as_slice(), [point(1, 2, 3), point(4, 5, 6)].as_slice());
+    assert_eq!(rt;
+        pool.points().as_slice(),
+        [point(1, 2, 3), point(4, 5, 6)].as_slice()
+    );
     Ok(())
 }

@@ -33,7 +33,10 @@ fn committed_end_has_its_replies(rt: HostRuntime) -> Result<(), Fail> {
     let found = Reply::Found(bare(alloc, ObjectType::LandUse, "{}")?);
     let replies = vec![in alloc; found, Reply::Added, Reply::Absent]?;
     let report = report_of(alloc, 0, replies, Outcome::Committed)?;
-    assert_eq!(rt; report.as_slice(), "{\"name\":\"a\",\"outcome\":\"committed\",\"replies\":[{\"found\":{\"object\":{\"type\":\"LandUse\"},\"vertices\":[]}},\"added\",\"absent\"],\"script\":0,\"since\":0}\n".as_bytes());
+    assert_eq!(rt;
+        report.as_slice(),
+        "{\"name\":\"a\",\"outcome\":\"committed\",\"replies\":[{\"found\":{\"object\":{\"type\":\"LandUse\"},\"vertices\":[]}},\"added\",\"absent\"],\"script\":0,\"since\":0}\n".as_bytes()
+    );
     Ok(())
 }
 
@@ -42,7 +45,10 @@ fn aborted_end_has_its_replies(rt: HostRuntime) -> Result<(), Fail> {
     let alloc = rt.alloc();
     let replies = vec![in alloc; Reply::Replaced]?;
     let report = report_of(alloc, 1, replies, Outcome::Aborted)?;
-    assert_eq!(rt; report.as_slice(), "{\"name\":\"a\",\"outcome\":\"aborted\",\"replies\":[\"replaced\"],\"script\":1,\"since\":1}\n".as_bytes());
+    assert_eq!(rt;
+        report.as_slice(),
+        "{\"name\":\"a\",\"outcome\":\"aborted\",\"replies\":[\"replaced\"],\"script\":1,\"since\":1}\n".as_bytes()
+    );
     Ok(())
 }
 
@@ -52,7 +58,10 @@ fn refused_end_names_its_cause_and_object(rt: HostRuntime) -> Result<(), Fail> {
     let replies = vec![in alloc; Reply::Added]?;
     let orphan = Cause::Orphan(text(alloc, "p")?);
     let report = report_of(alloc, 0, replies, Outcome::Refused(1, orphan))?;
-    assert_eq!(rt; report.as_slice(), "{\"at\":1,\"cause\":\"Orphan\",\"id\":\"p\",\"name\":\"a\",\"outcome\":\"refused\",\"replies\":[\"added\"],\"script\":0,\"since\":0}\n".as_bytes());
+    assert_eq!(rt;
+        report.as_slice(),
+        "{\"at\":1,\"cause\":\"Orphan\",\"id\":\"p\",\"name\":\"a\",\"outcome\":\"refused\",\"replies\":[\"added\"],\"script\":0,\"since\":0}\n".as_bytes()
+    );
     Ok(())
 }
 
@@ -60,7 +69,10 @@ fn refused_end_names_its_cause_and_object(rt: HostRuntime) -> Result<(), Fail> {
 fn end_without_memory_names_the_command(rt: HostRuntime) -> Result<(), Fail> {
     let alloc = rt.alloc();
     let report = report_of(alloc, 0, Vec::new(alloc), Outcome::NoMemory(2))?;
-    assert_eq!(rt; report.as_slice(), "{\"at\":2,\"name\":\"a\",\"outcome\":\"nomemory\",\"replies\":[],\"script\":0,\"since\":0}\n".as_bytes());
+    assert_eq!(rt;
+        report.as_slice(),
+        "{\"at\":2,\"name\":\"a\",\"outcome\":\"nomemory\",\"replies\":[],\"script\":0,\"since\":0}\n".as_bytes()
+    );
     Ok(())
 }
 
@@ -80,6 +92,9 @@ fn found_object_has_its_own_vertices(rt: HostRuntime) -> Result<(), Fail> {
     let alloc = rt.alloc();
     let replies = vec![in alloc; Reply::Found(roofed(alloc)?)]?;
     let report = report_of(alloc, 0, replies, Outcome::Committed)?;
-    assert_eq!(rt; report.as_slice(), "{\"name\":\"a\",\"outcome\":\"committed\",\"replies\":[{\"found\":{\"object\":{\"geometry\":[{\"boundaries\":[[[0,1,2]],[[2,0,1]]],\"lod\":\"1\",\"type\":\"MultiSurface\"}],\"type\":\"Building\"},\"vertices\":[[4,5,6],[1,2,3],[7,8,9]]}}],\"script\":0,\"since\":0}\n".as_bytes());
+    assert_eq!(rt;
+        report.as_slice(),
+        "{\"name\":\"a\",\"outcome\":\"committed\",\"replies\":[{\"found\":{\"object\":{\"geometry\":[{\"boundaries\":[[[0,1,2]],[[2,0,1]]],\"lod\":\"1\",\"type\":\"MultiSurface\"}],\"type\":\"Building\"},\"vertices\":[[4,5,6],[1,2,3],[7,8,9]]}}],\"script\":0,\"since\":0}\n".as_bytes()
+    );
     Ok(())
 }

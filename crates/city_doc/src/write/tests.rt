@@ -10,7 +10,10 @@ use std::test::Fail;
 fn empty_model_is_written_in_byte_order(rt: HostRuntime) -> Result<(), Fail> {
     let city = empty_city(rt.alloc(), "{}")?;
     let written = write_city(rt.alloc(), &city)?;
-    assert_eq!(rt; written.as_slice(), "{\"CityObjects\":{},\"transform\":{\"scale\":[1,1,1],\"translate\":[0,0,0]},\"type\":\"CityJSON\",\"version\":\"2.0\",\"vertices\":[]}".as_bytes());
+    assert_eq!(rt;
+        written.as_slice(),
+        "{\"CityObjects\":{},\"transform\":{\"scale\":[1,1,1],\"translate\":[0,0,0]},\"type\":\"CityJSON\",\"version\":\"2.0\",\"vertices\":[]}".as_bytes()
+    );
     Ok(())
 }
 
@@ -30,7 +33,10 @@ fn kept_members_are_written_in_byte_order(rt: HostRuntime) -> Result<(), Fail> {
     let mut city = empty_city(alloc, "{\"metadata\":{\"title\":\"t\"}}")?;
     drop(city.set(text(alloc, "s")?, roofed(alloc)?)?);
     let written = write_city(alloc, &city)?;
-    assert_eq!(rt; written.as_slice(), "{\"CityObjects\":{\"s\":{\"geometry\":[{\"boundaries\":[[[0,1,2]]],\"lod\":\"2.2\",\"semantics\":{\"surfaces\":[{\"type\":\"RoofSurface\"}],\"values\":[0]},\"type\":\"MultiSurface\"}],\"type\":\"Building\"}},\"metadata\":{\"title\":\"t\"},\"transform\":{\"scale\":[1,1,1],\"translate\":[0,0,0]},\"type\":\"CityJSON\",\"version\":\"2.0\",\"vertices\":[[0,0,0],[1,0,0],[0,1,0]]}".as_bytes());
+    assert_eq!(rt;
+        written.as_slice(),
+        "{\"CityObjects\":{\"s\":{\"geometry\":[{\"boundaries\":[[[0,1,2]]],\"lod\":\"2.2\",\"semantics\":{\"surfaces\":[{\"type\":\"RoofSurface\"}],\"values\":[0]},\"type\":\"MultiSurface\"}],\"type\":\"Building\"}},\"metadata\":{\"title\":\"t\"},\"transform\":{\"scale\":[1,1,1],\"translate\":[0,0,0]},\"type\":\"CityJSON\",\"version\":\"2.0\",\"vertices\":[[0,0,0],[1,0,0],[0,1,0]]}".as_bytes()
+    );
     Ok(())
 }
 
@@ -47,6 +53,9 @@ fn relations_are_written_where_there_are_some(rt: HostRuntime) -> Result<(), Fai
     let mut city = empty_city(alloc, "{}")?;
     drop(city.set(text(alloc, "p")?, related(alloc)?)?);
     let written = write_city(alloc, &city)?;
-    assert_eq!(rt; written.as_slice(), "{\"CityObjects\":{\"p\":{\"children\":[\"q\"],\"parents\":[\"b\"],\"type\":\"BuildingPart\"}},\"transform\":{\"scale\":[1,1,1],\"translate\":[0,0,0]},\"type\":\"CityJSON\",\"version\":\"2.0\",\"vertices\":[]}".as_bytes());
+    assert_eq!(rt;
+        written.as_slice(),
+        "{\"CityObjects\":{\"p\":{\"children\":[\"q\"],\"parents\":[\"b\"],\"type\":\"BuildingPart\"}},\"transform\":{\"scale\":[1,1,1],\"translate\":[0,0,0]},\"type\":\"CityJSON\",\"version\":\"2.0\",\"vertices\":[]}".as_bytes()
+    );
     Ok(())
 }
