@@ -1,9 +1,8 @@
 -- The tree of an end holds no float, where the objects that it found are kept.
-use Rattle.std.proofs.Common.{◌≡◌, ℕ, Bool, true, false, List, Option, Some, None, codes, refl}
-use Rattle.serde_json.specs.Data.{Data, string, object, Members, no_members, put}
+use Rattle.std.proofs.Common.{◌≡◌, ℕ, true, false, List, Option, Some, None, codes, refl}
+use Rattle.serde_json.specs.Data.{string, Members, no_members, put}
 use Rattle.serde_json.specs.Written.{has_float, members_have_float}
 use Rattle.city_model.specs.declared.object.Object.{Object}
-use Rattle.city_model.specs.declared.command.Cause.{Cause}
 use Rattle.city_model.specs.declared.command.Reply.{Reply}
 use Rattle.city_model.specs.declared.command.Reply.TheVariants.{Found}
 use Rattle.city_model.specs.declared.end.End.{End}
@@ -11,7 +10,7 @@ use Rattle.city_model.specs.declared.end.Outcome.{Outcome}
 use Rattle.city_doc.specs.Pool.{object_points, without_repeats}
 use Rattle.city_doc.specs.Canonical.{list_data, object_data, vertices_data}
 use Rattle.city_doc.specs.KeptMembers.{is_kept_object, is_kept_reply, are_kept_replies}
-use Rattle.city_doc.specs.Reports.{count_data, found_data, reply_data, cause_name, cause_id, put_id, outcome_name, put_refusal, put_ending, heading, end_data}
+use Rattle.city_doc.specs.Reports.{count_data, found_data, reply_data, cause_name, cause_id, put_id, outcome_name, put_ending, heading, end_data}
 use Rattle.city_doc.proofs.Floatless.{put_is_floatless, tested_list_is_floatless, vertices_are_floatless, object_is_floatless}
 
 found_is_floatless : (o : Object) → is_kept_object o ≡ true → has_float (found_data o) ≡ false

@@ -1,14 +1,13 @@
 -- An object without geometry has the empty list of geometries.
-use Rattle.std.proofs.Common.{◌≡◌, List, [], Bool, true, false, true≢false, Option, Some, None, option_map, refl, sym, ap, ◌∙◌}
+use Rattle.std.proofs.Common.{◌≡◌, List, [], Bool, true, false, true≢false, Option, Some, None, option_map, refl, sym, ap}
 use Rattle.std.specs.Prelude.{not, option_and_then, codes}
 use Rattle.serde_json.specs.Data.{Data, Items, no_items, item, Members}
 use Rattle.serde_json.specs.Find.{get, as_array, as_object}
 use Rattle.city_model.specs.declared.object.Point.{Point}
-use Rattle.city_model.specs.declared.object.Body.{Body}
 use Rattle.city_model.specs.declared.object_type.ObjectType.{ObjectType}
 use Rattle.city_model.specs.Kept.{kept_at_object}
-use Rattle.city_doc.specs.Bodies.{read_items, list_of, list_or_absent, geometry_of, type_of, kept_if, without_object_members, body_of}
-use Rattle.city_doc.specs.ObjectFaults.{has_no_items, is_no_items, is_absent_or_empty, is_bad_geometry}
+use Rattle.city_doc.specs.Bodies.{read_items, list_or_absent, geometry_of, type_of, kept_if, without_object_members, body_of}
+use Rattle.city_doc.specs.ObjectFaults.{is_no_items, is_absent_or_empty, is_bad_geometry}
 
 none_read : {A : Type 0} (read : Data → Option A) (o : Option Items) → is_no_items o ≡ true → option_and_then (read_items read) o ≡ Some []
 none_read read None h = absurd (true≢false (sym h))

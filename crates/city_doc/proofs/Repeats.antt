@@ -1,11 +1,11 @@
 -- Points added one after the other make the list of all of them with later repeats taken out.
-use Rattle.std.proofs.Common.{◌≡◌, Bool, true, false, cond, not, List, [], ◌∷◌, ◌++◌, refl, sym, ap, subst, ◌∙◌, append_assoc, append-nil}
+use Rattle.std.proofs.Common.{◌≡◌, Bool, true, false, cond, not, List, [], ◌∷◌, ◌++◌, refl, sym, ap, ◌∙◌, append_assoc, append-nil}
 use Rattle.std.specs.Prelude.{◌&&◌, ◌||◌, filter}
 use Rattle.std.specs.List.{list_any}
 use Rattle.std.proofs.lemmas.List.Folds.{list_any-append}
 use Rattle.city_model.specs.declared.object.Point.{Point}
 use Rattle.city_model.specs.Shells.{same_point}
-use Rattle.city_doc.specs.Pool.{with_point, without_repeats}
+use Rattle.city_doc.specs.Pool.{without_repeats}
 use Rattle.city_doc.specs.Walk.{with_points}
 use Rattle.city_doc.proofs.Points.{same_point-symm, same_point-alike}
 

@@ -1,5 +1,5 @@
 -- What is wrong with the tree of one object.
-use Rattle.std.specs.Prelude.{◌≡◌, ◌&&◌, ◌||◌, not, ℕ, List, [], ◌∷◌, Bool, true, false, Option, Some, None, option_and_then, codes, is_none, is_some, if◌then◌else◌}
+use Rattle.std.specs.Prelude.{◌||◌, not, ℕ, List, [], ◌∷◌, Bool, true, false, Option, Some, None, option_and_then, codes, is_none, if◌then◌else◌}
 use Rattle.std.specs.Option.{option_or}
 use Rattle.std.specs.List.{list_any}
 use Rattle.std.specs.Str.{bytes_eq}

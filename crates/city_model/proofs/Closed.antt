@@ -1,5 +1,5 @@
 -- A shell is closed where no edge is repeated and each is found the other way round, by an order that ties equal edges alone.
-use Rattle.std.proofs.Common.{◌≡◌, List, [], ◌∷◌, Bool, true, false, Ordering, is_eq, refl, sym, ap, ◌∙◌, subst}
+use Rattle.std.proofs.Common.{◌≡◌, List, [], ◌∷◌, Bool, true, false, Ordering, is_eq, refl, sym, ap, ◌∙◌}
 use Rattle.std.specs.Prelude.{◌&&◌}
 use Rattle.std.specs.Cmp.{tied_then}
 use Rattle.std.specs.List.{list_all}

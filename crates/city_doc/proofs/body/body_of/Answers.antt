@@ -1,6 +1,6 @@
 use Rattle.std.proofs.Common.{◌∙◌, sym, ap}
 use Rattle.serde_json.specs.View.{view, members_view}
-use Rattle.std.specs.Prelude.{Some, option_map}
+use Rattle.std.specs.Prelude.{option_map}
 use Rattle.city_doc.proofs.NoGeometry.{body_of-plain}
 use Rattle.city_doc.proofs.body.body_of.Goals as goal
 

@@ -1,4 +1,4 @@
-use Rattle.std.proofs.Common.{◌∙◌, ap, sym, [], flat_map}
+use Rattle.std.proofs.Common.{◌∙◌, ap, sym, flat_map}
 use Rattle.city_doc.specs.Pool.{object_points, city_points}
 use Rattle.city_doc.specs.Walk.{with_points}
 use Rattle.city_doc.proofs.Walks.{walk_first}

@@ -1,4 +1,4 @@
-use Rattle.std.proofs.Common.{◌≡◌, [], drop}
+use Rattle.std.proofs.Common.{◌≡◌, []}
 use Rattle.std.specs.Prelude.{flat_map}
 use Rattle.city_doc.specs.Pool.{object_points, city_points}
 use Rattle.city_doc.specs.Walk.{with_points}

@@ -1,4 +1,4 @@
-use Rattle.std.proofs.Common.{◌≡◌, is_some, sym, ap, ◌∙◌}
+use Rattle.std.proofs.Common.{is_some, sym, ap, ◌∙◌}
 use Rattle.city_model.proofs.Closed.{repeated_is_open, closed_by, tied_edges}
 use Rattle.city_model.proofs.shells.shell_closed.Goals as goal
 

@@ -1,4 +1,4 @@
-use Rattle.std.proofs.Common.{◌≡◌, List, OnOk, ap, subst}
+use Rattle.std.proofs.Common.{◌≡◌, List, OnOk, subst}
 use Rattle.city_model.specs.declared.object.Point.{Point}
 use Rattle.city_doc.specs.Walk.{with_points}
 use Rattle.city_doc.proofs.Walks.{surfaces_alone, shells_alone}
