@@ -1,3 +1,4 @@
+mod Serving
 pub mod Inputs
 pub mod PlayedSoFar
 pub mod RunFaults
