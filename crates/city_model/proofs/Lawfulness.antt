@@ -1,12 +1,12 @@
 -- Lawful maps, by the relations and the bodies of their entries.
-use Rattle.std.proofs.Common.{◌≡◌, ℕ, Bool, true, cond, List, ◌⊎◌, inl, inr, Option, Some, None, refl, ap, sym, ◌∙◌}
-use Rattle.std.specs.Prelude.{is_none}
+use Rattle.std.proofs.Common.{◌≡◌, ℕ, true, false, List, ◌∷◌, ◌⊎◌, inl, inr, Option, Some, None, refl, ap, sym, ◌∙◌}
+use Rattle.std.specs.Prelude.{is_none, is_some}
 use Rattle.std.specs.Ordering.{nat_cmp}
 use Rattle.std.specs.List.{list_all}
 use Rattle.std.specs.List.Sorted.{IsStrictlySortedBy}
 use Rattle.std.specs.Cmp.Lexicographic.{slice_cmp}
 use Rattle.std.specs.Map.{keys_of}
-use Rattle.std.proofs.lemmas.Bool.{false≢true}
+use Rattle.std.proofs.lemmas.Bool.{false≢true, and_parts}
 use Rattle.city_model.specs.declared.object.Object.{Object}
 use Rattle.city_model.specs.declared.command.Cause.{Cause}
 use Rattle.city_model.specs.CityMap.{Entries, CityMap, at}
@@ -46,6 +46,13 @@ faultless_by es all id o there = none_of (body_fault o.body) (all_at has_no_faul
 
 pub faultless_all : (es : Entries) → IsStrictlySortedBy (slice_cmp nat_cmp) (keys_of es) → IsFaultless (at es) → all_faultless es ≡ true
 faultless_all es sorted f = at_all has_no_fault es sorted (λ id o there. ap is_none (f id o there))
+
+-- an entry whose body has a fault, among those that are left
+pub faulty_entry : (all left : Entries) (e : List ℕ × Object) (rest : Entries) → all_faultless all ≡ all_faultless left → left ≡ e ∷ rest
+    → is_some (body_fault e.1.body) ≡ true → all_faultless all ≡ true → false ≡ true
+faulty_entry all left e rest answer left_is some whole =
+    let parts = and_parts (has_no_fault e.1) (all_faultless rest) (sym (answer ∙ ap all_faultless left_is) ∙ whole) in
+    sym (ap is_some (none_of (body_fault e.1.body) parts.0)) ∙ some
 
 -- ---- both
 

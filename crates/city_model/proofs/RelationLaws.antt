@@ -1,8 +1,8 @@
 -- The tests on relations say what the definitions say.
-use Rattle.std.proofs.Common.{◌≡◌, ℕ, List, [], ◌∷◌, Bool, true, false, ◌||◌, ◌&&◌, ◌⊎◌, inl, inr, Option, Some, None, refl, ap, sym, ◌∙◌, length}
+use Rattle.std.proofs.Common.{◌≡◌, ℕ, List, [], ◌∷◌, Bool, true, false, ◌||◌, ◌&&◌, ◌⊎◌, inl, inr, Option, Some, None, refl, ap, sym, ◌∙◌, length, suc, arith}
 use Rattle.std.specs.Prelude.{not, ◌==◌}
 use Rattle.std.specs.List.{list_all}
-use Rattle.std.proofs.lemmas.Bool.{false≢true, and_parts, and_from, or_parts, not-true, not-false, not_from_false}
+use Rattle.std.proofs.lemmas.Bool.{false≢true, and_parts, and_from, or_parts, not-true, not-false, not_from_false, ne_eqb}
 use Rattle.city_model.specs.declared.object.Object.{Object}
 use Rattle.city_model.specs.CityMap.{CityMap, same_id, has_id, parents_of, children_of}
 use Rattle.city_model.specs.Relations.{AreDistinct, IsInOrder, is_second_level, same_family, is_orphan}
@@ -56,9 +56,12 @@ parts_fit id o p (Some q) apart has f =
 
 -- ---- levels
 
+one_is_none : (n : ℕ) → suc n ≡ 0 → ⊥
+one_is_none n e = omega arith
+
 no_parents : (second : Bool) (ids : List (List ℕ)) → (second || (length ids == 0)) ≡ true → second ≡ false → ids ≡ []
 no_parents second [] h first = refl
-no_parents second (x ∷ xs) h first = not_both second (or_first second (length (x ∷ xs) == 0) h refl) first
+no_parents second (x ∷ xs) h first = not_both second (or_first second (length (x ∷ xs) == 0) h (ne_eqb (length (x ∷ xs)) 0 (λ e. one_is_none (length xs) e))) first
 
 right_level : (second : Bool) (ids : List (List ℕ)) → (second ≡ false → ids ≡ []) → (second || (length ids == 0)) ≡ true
 right_level second ids f = bool_cases second

@@ -1,14 +1,19 @@
 //! Whether a city is lawful.
-ghost use Rattle.std.specs.Prelude.{IsTrue, IfOk, OnErr};
+ghost use Rattle.std.specs.Prelude.{◌≡◌, IsTrue, IfOk, OnErr, is_some};
 ghost use Rattle.city_model.specs.CityMap.{at};
 ghost use Rattle.city_model.specs.Faultless.{IsFaultless};
 ghost use Rattle.city_model.specs.Relations.{IsLawful, IsRelated};
+ghost use Rattle.city_model.specs.Shells.{body_fault};
 
 use crate::OutOfMemory;
 use crate::body_fault::body_fault;
 use crate::city::City;
+use crate::object::Body;
 use crate::relations::relations_fault;
 use std::alloc::Global;
+
+#[cfg(test)]
+mod tests;
 
 /// Whether every object is in order, none is an orphan, and no body has a fault. The only refusal is
 /// want of memory, and only where no relation is at fault: relations take no memory.
@@ -31,10 +36,18 @@ fn is_faultless(alloc: Global, city: &City) -> Result<bool, OutOfMemory>
     ensures faultless { IfOk result (λ b. IsTrue b → IsFaultless (at city.now.1)) }
     ensures only_then { IfOk result (λ b. IsFaultless (at city.now.1) → IsTrue b) }
 {
-    for (_id, object) in city.iter() {
-        if body_fault(alloc, &object.body)?.is_some() {
+    for (_, object) in city.iter() {
+        let faulty = has_fault(alloc, &object.body)?;
+        if faulty {
             return Ok(false);
         }
     }
     Ok(true)
+}
+
+fn has_fault(alloc: Global, body: &Body) -> Result<bool, OutOfMemory>
+    ensures { IfOk result (λ b. b ≡ is_some (body_fault body.now)) }
+{
+    let fault = body_fault(alloc, body)?;
+    Ok(fault.is_some())
 }
