@@ -1,6 +1,8 @@
 -- The relations of an object, as tests that compute.
 use Rattle.std.specs.Prelude.{◌==◌, ◌&&◌, ◌||◌, not, ℕ, List, [], ◌∷◌, length, Bool, true, false, Option, Some, None}
 use Rattle.std.specs.List.{list_all}
+use Rattle.std.specs.Ordering.{nat_cmp, is_lt}
+use Rattle.std.specs.Cmp.Lexicographic.{slice_cmp}
 use Rattle.city_model.specs.declared.object.Object.{Object}
 use Rattle.city_model.specs.CityMap.{CityMap, same_id, has_id, parents_of}
 use Rattle.city_model.specs.Relations.{is_second_level, same_family, is_orphan}
@@ -9,6 +11,15 @@ use Rattle.city_model.specs.Relations.{is_second_level, same_family, is_orphan}
 abbrev pub are_distinct : List (List ℕ) → Bool
 are_distinct [] = true
 are_distinct (id ∷ ids) = not (has_id ids id) && are_distinct ids
+
+-- each id is above the one before it, and the first above this one
+abbrev pub are_increasing_from : List ℕ → List (List ℕ) → Bool
+are_increasing_from last [] = true
+are_increasing_from last (id ∷ ids) = is_lt (slice_cmp nat_cmp last id) && are_increasing_from id ids
+
+abbrev pub are_increasing : List (List ℕ) → Bool
+are_increasing [] = true
+are_increasing (id ∷ ids) = are_increasing_from id ids
 
 -- neither list repeats an id
 abbrev pub relatives_once : Object → Bool

@@ -1,6 +1,6 @@
 use Rattle.std.proofs.Common.{◌≡◌, length}
 use Rattle.city_model.specs.RelationTests.{are_distinct}
-use Rattle.city_model.proofs.id_list.are_distinct.Given as goal
+use Rattle.city_model.proofs.id_list.none_recurs.Given as goal
 
 abbrev pub invariant-loop-left : goal.invariant-loop-left
 invariant-loop-left l = are_distinct l.ids ≡ are_distinct l.left
