@@ -1,11 +1,10 @@
 -- The first entry that passes a test, of entries in byte order, is the one with the least id.
-use Rattle.std.proofs.Common.{◌≡◌, ℕ, Bool, true, false, cond, List, [], ◌∷◌, Option, Some, None, Ordering, Less, refl, ap, sym, ◌∙◌}
+use Rattle.std.proofs.Common.{◌≡◌, ℕ, Bool, true, false, cond, List, [], ◌∷◌, Option, Some, None, Less, refl, ap, sym, ◌∙◌}
 use Rattle.std.specs.Ordering.{nat_cmp, is_eq, ordering_reverse}
 use Rattle.std.specs.List.{AllByRecursion, list_all}
 use Rattle.std.specs.List.Sorted.{IsStrictlySortedBy}
 use Rattle.std.specs.Cmp.Lexicographic.{slice_cmp}
-use Rattle.std.specs.Map.{lookup, keys_of}
-use Rattle.std.specs.BTreeMap.{is_at}
+use Rattle.std.specs.Map.{keys_of}
 use Rattle.std.proofs.lemmas.Bool.{and_parts, and_from}
 use Rattle.std.proofs.lemmas.Cmp.{nat_list_cmp_total, tied_itself}
 use Rattle.std.proofs.lemmas.Map.{lookup-none}
@@ -71,9 +70,9 @@ least_here : (test : Test) (e : List ℕ × Object) (es : Entries) (id : List �
 least_here test e es id sorted is same = (
   (e.1, here_there e es id same, ap (λ k. test k e.1) (sym same) ∙ is),
   λ q o less there.
-  let below : slice_cmp nat_cmp q e.0 ≡ Less = ap (slice_cmp nat_cmp q) same ∙ less in
-  let none : at (e ∷ es) q ≡ None = lookup-none _ (e ∷ es) (none_below_head nat_list_cmp_total q e es sorted below) in
-  absurd (cc),
+      let below : slice_cmp nat_cmp q e.0 ≡ Less = ap (slice_cmp nat_cmp q) same ∙ less in
+      let none : at (e ∷ es) q ≡ None = lookup-none _ (e ∷ es) (none_below_head nat_list_cmp_total q e es sorted below) in
+      absurd (cc),
 )
 
 least_further : (test : Test) (e : List ℕ × Object) (es : Entries) (id : List ℕ) → slice_cmp nat_cmp e.0 id ≡ Less → test e.0 e.1 ≡ false → IsLeastThat test (at es) id → IsLeastThat test (at (e ∷ es)) id

@@ -22,9 +22,10 @@ use Rattle.city_model.proofs.RelationLaws.{misrelated_true, misrelated_false}
 
 pub least_misrelated : (es : Entries) (id : List ℕ) → IsStrictlySortedBy (slice_cmp nat_cmp) (keys_of es) → first_that (is_misrelated (at es)) es ≡ Some id → IsLeastMisrelated (at es) id
 least_misrelated es id sorted found =
-    let least = least_that (is_misrelated (at es)) es id sorted found in
-    ((least.0.0, least.0.1, misrelated_true (at es) id least.0.0 least.0.2),
-    λ q o below there. misrelated_false (at es) q o (least.1 q o below there))
+    let least = least_that (is_misrelated (at es)) es id sorted found in (
+      (least.0.0, least.0.1, misrelated_true (at es) id least.0.0 least.0.2),
+      λ q o below there. misrelated_false (at es) q o (least.1 q o below there),
+    )
 
 pub all_related : (es : Entries) → first_that (is_misrelated (at es)) es ≡ None → IsRelated (at es)
 all_related es none id o there = misrelated_false (at es) id o (none_that (is_misrelated (at es)) es id o none there)

@@ -26,8 +26,8 @@ all_there test [] p h k = absurd (false≢true k)
 all_there test (x ∷ xs) p h k =
     let parts = and_parts (test x) (list_all test xs) h in
     bool_cases (same_id p x)
-        (λ e. ap test (same_id_true p x e) ∙ parts.0)
-        (λ e. all_there test xs p parts.1 (sym (ap (λ b. b || has_id xs p) e) ∙ k))
+    (λ e. ap test (same_id_true p x e) ∙ parts.0)
+    (λ e. all_there test xs p parts.1 (sym (ap (λ b. b || has_id xs p) e) ∙ k))
 
 there_all : (test : List ℕ → Bool) (ids : List (List ℕ)) → ((p : List ℕ) → has_id ids p ≡ true → test p ≡ true) → list_all test ids ≡ true
 there_all test [] f = refl
@@ -92,10 +92,10 @@ module _ (m : CityMap) (id : List ℕ) (o : Object) where
       let once = and_from (are_distinct o.parents) (are_distinct o.children) (true_distinct o.parents i.parents_once) (true_distinct o.children i.children_once) in
       let levels = and_from (relatives_once o) (level_fits o) once (right_level (is_second_level o.body.kind) o.parents i.first_level) in
       let parents = there_all (λ r. parent_fits id o r (m r)) o.parents (λ p k.
-          let known = i.parents_know_it p k in parts_fit id o p (m p) known.0 known.1 (λ q there. i.one_family p q k there)) in
+      let known = i.parents_know_it p k in parts_fit id o p (m p) known.0 known.1 (λ q there. i.one_family p q k there)) in
       let children = there_all (λ r. has_id (parents_of (m r)) id) o.children i.children_know_it in
       and_from (relatives_once o && level_fits o && parents_fit m id o) (children_fit m id o)
-          (and_from (relatives_once o && level_fits o) (parents_fit m id o) levels parents) children
+      (and_from (relatives_once o && level_fits o) (parents_fit m id o) levels parents) children
 
   pub misrelated_true : is_misrelated m id o ≡ true → (IsInOrder m id o → ⊥) ⊎ (is_orphan o ≡ true)
   misrelated_true h = bool_cases (is_orphan o)

@@ -41,8 +41,14 @@ fn relations_are_judged(rt: HostRuntime) -> Result<(), Fail> {
             [("b", Building, "", "p"), ("p", BuildingPart, "b", "")].as_slice(),
             true,
         ),
-        (&[("b", Building, "", ""), ("p", BuildingPart, "", "")], false),
-        (&[("b", Building, "", ""), ("p", BuildingPart, "b", "")], false),
+        (
+            &[("b", Building, "", ""), ("p", BuildingPart, "", "")],
+            false,
+        ),
+        (
+            &[("b", Building, "", ""), ("p", BuildingPart, "b", "")],
+            false,
+        ),
     ] {
         let city = relations::tests::city(alloc, objects)?;
         assert_eq!(rt; is_lawful(alloc, &city)?, expected);

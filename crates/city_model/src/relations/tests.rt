@@ -77,10 +77,7 @@ fn least_id_with_a_fault_is_named(rt: HostRuntime) -> Result<(), Fail> {
         (&[("b", Building, "", "c"), ("c", Building, "", "")], "b"),
         (&[("b", Building, "", "c")], "b"),
         // a parent of another family, and one that isn't there
-        (
-            &[("p", BuildingPart, "r", ""), ("r", Bridge, "", "p")],
-            "p",
-        ),
+        (&[("p", BuildingPart, "r", ""), ("r", Bridge, "", "p")], "p"),
         (&[("p", BuildingPart, "r", "")], "p"),
         // a part without parent, of two of them the lesser id
         (&[("p", BuildingPart, "", "")], "p"),
