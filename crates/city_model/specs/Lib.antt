@@ -1,8 +1,11 @@
 pub mod CityMap
 pub mod DataCode
+pub mod Faultless
 pub mod Kept
 pub mod Meaning
 pub mod Members
+pub mod Misrelated
+pub mod RelationTests
 pub mod Relations
 pub mod Runs
 pub mod Scripts

@@ -9,7 +9,7 @@ use crate::object_type::level;
 use crate::text::Id;
 
 /// Whether an object is second-level and has no parent.
-fn is_orphan(object: &Object) -> bool
+pub fn is_orphan(object: &Object) -> bool
     ensures { result ≡ is_orphan object.now }
 {
     level(object.body.kind) == 2 && object.parents.len() == 0

@@ -11,7 +11,7 @@ use std::alloc::{AllocError, Global};
 use std::collections::BTreeSet;
 
 #[cfg(test)]
-mod tests;
+pub(crate) mod tests;
 
 /// The items as a set, or None where one of them is repeated.
 fn set_of<T: Ord + Copy>(alloc: Global, items: &[T]) -> Result<Option<BTreeSet<T>>, AllocError>

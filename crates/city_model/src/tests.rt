@@ -14,7 +14,7 @@ use serde_json::{Map, Value};
 use std::alloc::{AllocError, Global};
 use std::test::Fail;
 
-fn text(alloc: Global, bytes: &str) -> Result<Text, AllocError> {
+pub(crate) fn text(alloc: Global, bytes: &str) -> Result<Text, AllocError> {
     Ok(Text::new(bytes.to_string(alloc)?))
 }
 
@@ -26,7 +26,7 @@ fn members(alloc: Global, json: &str) -> Result<Map<String, Value>, Fail> {
     }
 }
 
-fn kept<P: Place>(alloc: Global, json: &str) -> Result<Extra<P>, Fail> {
+pub(crate) fn kept<P: Place>(alloc: Global, json: &str) -> Result<Extra<P>, Fail> {
     match Extra::new(members(alloc, json)?) {
         Ok(extra) => Ok(extra),
         Err(_) => Err(Fail::new("the members can't be kept there")),
@@ -78,7 +78,7 @@ fn number(object: &Object) -> Option<i64> {
     object.body.extra.map().get("n").and_then(Value::as_i64)
 }
 
-fn frame(alloc: Global) -> Result<Frame, Fail> {
+pub(crate) fn frame(alloc: Global) -> Result<Frame, Fail> {
     Ok(Frame {
         scale: [1, 1, 1],
         translate: [0, 0, -5],

@@ -26,9 +26,9 @@ const CORNERS: [(i64, i64, i64); 8] = [
 
 const BELOW: [usize; 4] = [0, 3, 2, 1];
 
-const ABOVE: [usize; 4] = [4, 5, 6, 7];
+pub(crate) const ABOVE: [usize; 4] = [4, 5, 6, 7];
 
-const ABOVE_TURNED: [usize; 4] = [7, 6, 5, 4];
+pub(crate) const ABOVE_TURNED: [usize; 4] = [7, 6, 5, 4];
 
 const SIDES: [[usize; 4]; 4] = [[0, 1, 5, 4], [1, 2, 6, 5], [2, 3, 7, 6], [3, 0, 4, 7]];
 
@@ -55,7 +55,7 @@ fn surfaces(alloc: Global, corners: &[usize]) -> Result<Sequence<Surface>, Fail>
 }
 
 /// The unit cube, with this face above.
-fn cube(alloc: Global, above: &[usize]) -> Result<Shell, Fail> {
+pub(crate) fn cube(alloc: Global, above: &[usize]) -> Result<Shell, Fail> {
     let mut shell = surfaces(alloc, &BELOW)?;
     shell.push(surface(alloc, above)?)?;
     for side in &SIDES {
@@ -64,7 +64,7 @@ fn cube(alloc: Global, above: &[usize]) -> Result<Shell, Fail> {
     Ok(shell)
 }
 
-fn solid(alloc: Global, shell: Shell) -> Result<Shape, Fail> {
+pub(crate) fn solid(alloc: Global, shell: Shell) -> Result<Shape, Fail> {
     let mut shells = Sequence::new(alloc);
     shells.push(shell)?;
     Ok(Shape::Solid(shells))
@@ -77,7 +77,7 @@ fn empty<P: Place>(alloc: Global) -> Result<Extra<P>, Fail> {
     }
 }
 
-fn body(alloc: Global, shapes: Vec<Shape>) -> Result<Body, Fail> {
+pub(crate) fn body(alloc: Global, shapes: Vec<Shape>) -> Result<Body, Fail> {
     let mut geometry = Sequence::new(alloc);
     for shape in shapes {
         geometry.push(Geometry {

@@ -1,0 +1,71 @@
+-- Lawful maps, by the relations and the bodies of their entries.
+use Rattle.std.proofs.Common.{◌≡◌, ℕ, Bool, true, false, List, ◌∷◌, ◌⊎◌, inl, inr, Option, Some, None, refl, ap, sym, ◌∙◌}
+use Rattle.std.specs.Prelude.{is_none, is_some}
+use Rattle.std.specs.Ordering.{nat_cmp}
+use Rattle.std.specs.List.{list_all}
+use Rattle.std.specs.List.Sorted.{IsStrictlySortedBy}
+use Rattle.std.specs.Cmp.Lexicographic.{slice_cmp}
+use Rattle.std.specs.Map.{keys_of}
+use Rattle.std.proofs.lemmas.Bool.{false≢true, and_parts}
+use Rattle.city_model.specs.declared.object.Object.{Object}
+use Rattle.city_model.specs.declared.command.Cause.{Cause}
+use Rattle.city_model.specs.CityMap.{Entries, CityMap, at}
+use Rattle.city_model.specs.Faultless.{IsFaultless}
+use Rattle.city_model.specs.Misrelated.{IsMisrelatedAt, IsLeastMisrelated}
+use Rattle.city_model.specs.Relations.{IsInOrder, IsRelated, IsLawful, is_orphan}
+use Rattle.city_model.specs.RelationTests.{is_misrelated}
+use Rattle.city_model.specs.Shells.{body_fault}
+use Rattle.city_model.proofs.FirstEntry.{first_that, least_that, none_that, all_at, at_all}
+use Rattle.city_model.proofs.RelationLaws.{misrelated_true, misrelated_false}
+
+-- ---- relations
+
+pub least_misrelated : (es : Entries) (id : List ℕ) → IsStrictlySortedBy (slice_cmp nat_cmp) (keys_of es) → first_that (is_misrelated (at es)) es ≡ Some id → IsLeastMisrelated (at es) id
+least_misrelated es id sorted found =
+    let least = least_that (is_misrelated (at es)) es id sorted found in (
+      (least.0.0, least.0.1, misrelated_true (at es) id least.0.0 least.0.2),
+      λ q o below there. misrelated_false (at es) q o (least.1 q o below there),
+    )
+
+pub all_related : (es : Entries) → first_that (is_misrelated (at es)) es ≡ None → IsRelated (at es)
+all_related es none id o there = misrelated_false (at es) id o (none_that (is_misrelated (at es)) es id o none there)
+
+-- ---- bodies
+
+abbrev pub has_no_fault : Object → Bool
+has_no_fault o = is_none (body_fault o.body)
+
+abbrev pub all_faultless : Entries → Bool
+all_faultless es = list_all (λ (e : List ℕ × Object). has_no_fault e.1) es
+
+none_of : (fault : Option Cause) → is_none fault ≡ true → fault ≡ None
+none_of None h = refl
+none_of (Some cause) h = absurd (false≢true h)
+
+pub faultless_by : (es : Entries) → all_faultless es ≡ true → IsFaultless (at es)
+faultless_by es all id o there = none_of (body_fault o.body) (all_at has_no_fault es id o all there)
+
+pub faultless_all : (es : Entries) → IsStrictlySortedBy (slice_cmp nat_cmp) (keys_of es) → IsFaultless (at es) → all_faultless es ≡ true
+faultless_all es sorted f = at_all has_no_fault es sorted (λ id o there. ap is_none (f id o there))
+
+-- an entry whose body has a fault, among those that are left
+pub faulty_entry : (all left : Entries) (e : List ℕ × Object) (rest : Entries) → all_faultless all ≡ all_faultless left → left ≡ e ∷ rest
+    → is_some (body_fault e.1.body) ≡ true → all_faultless all ≡ true → false ≡ true
+faulty_entry all left e rest answer left_is some whole =
+    let parts = and_parts (has_no_fault e.1) (all_faultless rest) (sym (answer ∙ ap all_faultless left_is) ∙ whole) in
+    sym (ap is_some (none_of (body_fault e.1.body) parts.0)) ∙ some
+
+-- ---- both
+
+pub lawful_by : (m : CityMap) → IsRelated m → IsFaultless m → IsLawful m
+lawful_by m r f = (λ id o there. ((r id o there).0, f id o there), λ id o there. (r id o there).1)
+
+pub faultless_of_lawful : (m : CityMap) → IsLawful m → IsFaultless m
+faultless_of_lawful m l id o there = (l.0 id o there).1
+
+no_fault_in_lawful : (m : CityMap) (id : List ℕ) (o : Object) → m id ≡ Some o → IsLawful m → (IsInOrder m id o → ⊥) ⊎ (is_orphan o ≡ true) → ⊥
+no_fault_in_lawful m id o there l (inl f) = f (l.0 id o there).0
+no_fault_in_lawful m id o there l (inr e) = false≢true (sym (l.1 id o there) ∙ e)
+
+pub misrelated_unlawful : (m : CityMap) (id : List ℕ) → IsMisrelatedAt m id → IsLawful m → ⊥
+misrelated_unlawful m id w l = no_fault_in_lawful m id w.0 w.1 l w.2

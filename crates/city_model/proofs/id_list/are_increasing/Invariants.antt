@@ -1,0 +1,7 @@
+use Rattle.std.proofs.Common.{◌≡◌, drop}
+use Rattle.city_model.specs.RelationTests.{are_increasing, are_increasing_from}
+use Rattle.city_model.proofs.id_list.are_increasing.Given as goal
+
+-- the answer is that of the ids that are left
+abbrev pub invariant-loop-id : goal.invariant-loop-id
+invariant-loop-id l = are_increasing l.ids ≡ are_increasing_from l.last (drop l.id-index l.rest)

@@ -1,0 +1,53 @@
+//! Whether a city is lawful.
+ghost use Rattle.std.specs.Prelude.{◌≡◌, IsTrue, IfOk, OnErr, is_some};
+ghost use Rattle.city_model.specs.CityMap.{at};
+ghost use Rattle.city_model.specs.Faultless.{IsFaultless};
+ghost use Rattle.city_model.specs.Relations.{IsLawful, IsRelated};
+ghost use Rattle.city_model.specs.Shells.{body_fault};
+
+use crate::OutOfMemory;
+use crate::body_fault::body_fault;
+use crate::city::City;
+use crate::object::Body;
+use crate::relations::relations_fault;
+use std::alloc::Global;
+
+#[cfg(test)]
+mod tests;
+
+/// Whether every object is in order, none is an orphan, and no body has a fault. The only refusal is
+/// want of memory, and only where no relation is at fault: relations take no memory.
+pub fn is_lawful(alloc: Global, city: &City) -> Result<bool, OutOfMemory>
+    ensures lawful { IfOk result (λ b. IsTrue b → IsLawful (at city.now.1)) }
+    ensures only_then { IfOk result (λ b. IsLawful (at city.now.1) → IsTrue b) }
+    ensures related { OnErr result (IsRelated (at city.now.1)) }
+{
+    match relations_fault(city) {
+        Some(_) => Ok(false),
+        None => {
+            let faultless = is_faultless(alloc, city)?;
+            Ok(faultless)
+        },
+    }
+}
+
+/// Whether no body of the city has a fault. The only refusal is want of memory.
+fn is_faultless(alloc: Global, city: &City) -> Result<bool, OutOfMemory>
+    ensures faultless { IfOk result (λ b. IsTrue b → IsFaultless (at city.now.1)) }
+    ensures only_then { IfOk result (λ b. IsFaultless (at city.now.1) → IsTrue b) }
+{
+    for (_, object) in city.iter() {
+        let faulty = has_fault(alloc, &object.body)?;
+        if faulty {
+            return Ok(false);
+        }
+    }
+    Ok(true)
+}
+
+fn has_fault(alloc: Global, body: &Body) -> Result<bool, OutOfMemory>
+    ensures { IfOk result (λ b. b ≡ is_some (body_fault body.now)) }
+{
+    let fault = body_fault(alloc, body)?;
+    Ok(fault.is_some())
+}

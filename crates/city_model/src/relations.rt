@@ -1,0 +1,111 @@
+//! Whether parents and children agree (CityJSON 2.0, section 2).
+ghost use Rattle.std.specs.Prelude.{◌≡◌, IfSome, IfNone};
+ghost use Rattle.city_model.specs.CityMap.{at, has_id, parents_of};
+ghost use Rattle.city_model.specs.Misrelated.{IsLeastMisrelated};
+ghost use Rattle.city_model.specs.RelationTests.{relatives_once, level_fits, parent_fits, parents_fit, children_fit, is_in_order, is_misrelated};
+ghost use Rattle.city_model.specs.Relations.{IsRelated, same_family};
+
+use crate::city::City;
+use crate::id_list::{are_distinct, has_id, is_same_id};
+use crate::object::Object;
+use crate::object_type::{self, ObjectType, family, level};
+use crate::orphans::is_orphan;
+use crate::text::Id;
+
+#[cfg(test)]
+pub(crate) mod tests;
+
+/// The least id, in byte order, of an object that isn't in order or is an orphan; none where all
+/// relations agree. Takes no memory.
+///
+/// Each parent and each child is looked up once, and one list of it is searched. A list in byte order
+/// is read once for repeats, and is searched by halving; any other list of n ids takes up to n² / 2
+/// comparisons.
+pub fn relations_fault(city: &City) -> Option<&Id>
+    ensures fault { IfSome result (λ id. IsLeastMisrelated (at city.now.1) id.now) }
+    ensures none { IfNone result (IsRelated (at city.now.1)) }
+{
+    for (id, object) in city.iter() {
+        if is_misrelated(city, id, object) {
+            return Some(id);
+        }
+    }
+    None
+}
+
+/// Whether the object isn't in order, or is an orphan.
+fn is_misrelated(city: &City, id: &Id, object: &Object) -> bool
+    ensures { result ≡ is_misrelated (at city.now.1) id.now object.now }
+{
+    is_orphan(object) || !is_in_order(city, id, object)
+}
+
+/// Whether the object and its parents and children agree.
+fn is_in_order(city: &City, id: &Id, object: &Object) -> bool
+    ensures { result ≡ is_in_order (at city.now.1) id.now object.now }
+{
+    relatives_once(object)
+        && level_fits(object)
+        && parents_fit(city, id, object)
+        && children_fit(city, id, object)
+}
+
+/// Whether neither list of the object repeats an id.
+fn relatives_once(object: &Object) -> bool
+    ensures { result ≡ relatives_once object.now }
+{
+    are_distinct(object.parents.as_slice()) && are_distinct(object.children.as_slice())
+}
+
+/// Whether the object is second-level or has no parent.
+fn level_fits(object: &Object) -> bool
+    ensures { result ≡ level_fits object.now }
+{
+    level(object.body.kind) == 2 || object.parents.len() == 0
+}
+
+/// Whether each parent is there, is another object, has this one as a child and is of its family.
+fn parents_fit(city: &City, id: &Id, object: &Object) -> bool
+    ensures { result ≡ parents_fit (at city.now.1) id.now object.now }
+{
+    let parents = object.parents.as_slice();
+    parents
+        .iter()
+        .all(|parent| parent_fits(city, id, object, parent))
+}
+
+fn parent_fits(city: &City, id: &Id, object: &Object, parent: &Id) -> bool
+    ensures { result ≡ parent_fits id.now object.now parent.now (at city.now.1 parent.now) }
+{
+    match city.get(parent) {
+        None => false,
+        Some(other) => {
+            !is_same_id(parent, id)
+                && has_id(other.children.as_slice(), id)
+                && is_same_family(other.body.kind, object.body.kind)
+        },
+    }
+}
+
+/// Whether each child has the object as a parent.
+fn children_fit(city: &City, id: &Id, object: &Object) -> bool
+    ensures { result ≡ children_fit (at city.now.1) id.now object.now }
+{
+    let children = object.children.as_slice();
+    children.iter().all(|child| child_fits(city, id, child))
+}
+
+fn child_fits(city: &City, id: &Id, child: &Id) -> bool
+    ensures { result ≡ has_id (parents_of (at city.now.1 child.now)) id.now }
+{
+    match city.get(child) {
+        None => false,
+        Some(other) => has_id(other.parents.as_slice(), id),
+    }
+}
+
+fn is_same_family(kind: ObjectType, other: ObjectType) -> bool
+    ensures { result ≡ same_family kind other }
+{
+    object_type::is_same(family(kind), family(other))
+}
