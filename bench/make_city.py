@@ -1,19 +1,21 @@
 #!/usr/bin/env python3
-"""Prints a city of plain objects, and scripts that edit it, as the program reads them.
+"""Prints a city, and scripts that edit it, as the program reads them.
 
-usage: make_city.py [OBJECTS] [BYTES_EACH] [SCRIPTS] > input
+usage: make_city.py plain [OBJECTS] [BYTES_EACH] [SCRIPTS] > input
+       make_city.py solids [BUILDINGS] [SCRIPTS] > input
+
+`plain` has objects of attributes alone; `solids` has buildings, each with a part that has a block
+and a gabled house as its geometries.
 """
 import json
 import sys
 
-objects = int(sys.argv[1]) if len(sys.argv) > 1 else 100_000
-size = int(sys.argv[2]) if len(sys.argv) > 2 else 600
-scripts = int(sys.argv[3]) if len(sys.argv) > 3 else 1
+from houses import Vertices, box, gabled
 
 TYPES = ["LandUse", "Road", "Building", "WaterBody", "PlantCover", "CityFurniture"]
 
 
-def city_object(number):
+def plain_object(number, size):
     kind = TYPES[number % len(TYPES)]
     attributes = {"number": number, "surveyed": 20261122, "owner": "municipality"}
     plain = {"type": kind, "attributes": attributes}
@@ -22,12 +24,44 @@ def city_object(number):
     return plain
 
 
+def plain_city(count, size):
+    return {f"object-{n:08}": plain_object(n, size) for n in range(count)}, Vertices()
+
+
+def solid_city(count):
+    """Houses in rows of 1,000, wall to wall, so that neighbours share corners."""
+    vertices = Vertices()
+    objects = {}
+    for n in range(count):
+        x, y = n % 1000 * 6000, n // 1000 * 20000
+        name = f"object-{n:08}"
+        part = f"{name}-house"
+        geometry = [box(vertices, x, y, 6000, 9000, 5600), gabled(vertices, x, y, 6000, 9000, 5600, 9100)]
+        objects[name] = {"type": "Building", "attributes": {"number": n}, "children": [part]}
+        objects[part] = {"type": "BuildingPart", "geometry": geometry, "parents": [name]}
+    return objects, vertices
+
+
+def number_at(place, otherwise):
+    return int(sys.argv[place]) if len(sys.argv) > place else otherwise
+
+
+kind = sys.argv[1] if len(sys.argv) > 1 else "plain"
+if kind == "plain":
+    objects, vertices = plain_city(number_at(2, 100_000), number_at(3, 600))
+    scripts = number_at(4, 1)
+elif kind == "solids":
+    objects, vertices = solid_city(number_at(2, 70_000))
+    scripts = number_at(3, 1)
+else:
+    sys.exit(__doc__)
+
 city = {
     "type": "CityJSON",
     "version": "2.0",
     "transform": {"scale": [1, 1, 1], "translate": [0, 0, 0]},
-    "CityObjects": {f"object-{n:08}": city_object(n) for n in range(objects)},
-    "vertices": [],
+    "CityObjects": objects,
+    "vertices": vertices.points(),
 }
 edits = [
     {

@@ -27,21 +27,20 @@ all_read-cons read x xs ys h = read_step (read x) (all_read read xs) ys h
 pub all_read-nil : {A B : Type 0} (read : A → Option B) (ys : List B) → all_read read [] ≡ Some ys → ys ≡ []
 all_read-nil read ys h = let is : Some [] ≡ Some ys = h in cc
 
-get_first : {A B : Type 0} (read : A → Option B) (x : A) (xs : List A) (z y : B) (zs : List B) → read x ≡ Some z → slice_get (z ∷ zs) zero ≡ Some y
-    → (w : A) × (slice_get (x ∷ xs) zero ≡ Some w) × (read w ≡ Some y)
-get_first read x xs z y zs is at = let e : Some z ≡ Some y = at in (x, refl, is ∙ e)
+-- each item of a list that is read is read
+pub all_read-each : {A B : Type 0} (read : A → Option B) (xs : List A) (ys : List B) → all_read read xs ≡ Some ys → (n : ℕ) (x : A) → slice_get xs n ≡ Some x → (y : B) × (read x ≡ Some y)
+all_read-each read [] ys h n x at = absurd (let no : ⊥ = cc in no)
+all_read-each read (w ∷ ws) ys h zero x at =
+    let r = all_read-cons read w ws ys h in let is : Some w ≡ Some x = at in let same : w ≡ x = cc in (r.0, ap read (sym same) ∙ r.2)
+all_read-each read (w ∷ ws) ys h (suc n) x at = let r = all_read-cons read w ws ys h in all_read-each read ws r.1 r.3 n x at
 
-moved_to : {A : Type 0} (xs ys : List A) (n : ℕ) (o : Option A) → ys ≡ xs → slice_get ys n ≡ o → slice_get xs n ≡ o
-moved_to xs ys n o e at = sym (ap (λ zs. slice_get zs n) e) ∙ at
-
--- the item that an item was read from
-pub all_read-from : {A B : Type 0} (read : A → Option B) (xs : List A) (ys : List B) → all_read read xs ≡ Some ys → (n : ℕ) (y : B) → slice_get ys n ≡ Some y
-    → (x : A) × (slice_get xs n ≡ Some x) × (read x ≡ Some y)
-all_read-from read [] ys h n y at = let none : slice_get [] n ≡ Some y = moved_to [] ys n (Some y) (all_read-nil read ys h) at in absurd (let no : ⊥ = cc in no)
-all_read-from read (x ∷ xs) ys h zero y at =
-    let r = all_read-cons read x xs ys h in get_first read x xs r.0 y r.1 r.2 (moved_to (r.0 ∷ r.1) ys zero (Some y) r.4 at)
-all_read-from read (x ∷ xs) ys h (suc n) y at =
-    let r = all_read-cons read x xs ys h in let here : slice_get (r.0 ∷ r.1) (suc n) ≡ Some y = moved_to (r.0 ∷ r.1) ys (suc n) (Some y) r.4 at in all_read-from read xs r.1 r.3 n y here
+-- where each item is read, so is the list
+pub all_read-some : {A B : Type 0} (read : A → Option B) (xs : List A) → ((n : ℕ) (x : A) → slice_get xs n ≡ Some x → (y : B) × (read x ≡ Some y)) → (ys : List B) × (all_read read xs ≡ Some ys)
+all_read-some read [] each = ([], refl)
+all_read-some read (x ∷ xs) each =
+    let y = each zero x refl in
+    let ys = all_read-some read xs (λ n w at. each (suc n) w at) in
+    (y.0 ∷ ys.0, rw (y.1, ys.1) refl)
 
 -- what is read of items that pass one test passes another
 pub all_read-all : {A B : Type 0} (read : A → Option B) (ok : A → Bool) (test : B → Bool) → ((x : A) (y : B) → ok x ≡ true → read x ≡ Some y → test y ≡ true)
@@ -53,17 +52,6 @@ all_read-all read ok test one (x ∷ xs) ys pass h =
     let first : test r.0 ≡ true = one x r.0 hs.0 r.2 in
     let rest : list_all test r.1 ≡ true = all_read-all read ok test one xs r.1 hs.1 r.3 in
     rw (r.4, first) rest
-
--- two ways to read agree on items that pass a test
-pub all_read-same : {A B : Type 0} (read other : A → Option B) (ok : A → Bool) → ((x : A) (y : B) → ok x ≡ true → read x ≡ Some y → other x ≡ Some y)
-    → (xs : List A) (ys : List B) → list_all ok xs ≡ true → all_read read xs ≡ Some ys → all_read other xs ≡ Some ys
-all_read-same read other ok one [] ys pass h = h
-all_read-same read other ok one (x ∷ xs) ys pass h =
-    let r = all_read-cons read x xs ys h in
-    let hs = both (ok x) (list_all ok xs) pass in
-    let first : other x ≡ Some r.0 = one x r.0 hs.0 r.2 in
-    let rest : all_read other xs ≡ Some r.1 = all_read-same read other ok one xs r.1 hs.1 r.3 in
-    rw (first, rest) (ap Some (sym r.4))
 
 -- ---- a step of a loop that reads
 

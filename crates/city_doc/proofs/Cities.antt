@@ -7,9 +7,9 @@ use Rattle.city_model.specs.declared.frame.Frame.{Frame}
 use Rattle.city_model.specs.declared.object.Point.{Point}
 use Rattle.city_model.specs.CityMap.{Entries}
 use Rattle.city_model.specs.Members.{without}
-use Rattle.city_doc.specs.Documents.{city_of, is_city_json, points_in, entries_of, entries_in, members_of, objects_in, IsFaultless}
+use Rattle.city_doc.specs.Documents.{city_of, is_city_json, points_in, entries_of, entries_in, members_of, objects_in}
 use Rattle.city_doc.specs.Frames.{frame_of, frame_of_rest}
-use Rattle.city_doc.proofs.Right.{IsRight, is_right, city_json, has_points}
+use Rattle.city_doc.proofs.Right.{IsRight, city_json}
 
 pub get-object : (name : List ℕ) (d : Data) (ms : Members) → as_object d ≡ Some ms → get name d ≡ get_member name ms
 get-object name null ms e = cc
@@ -70,12 +70,6 @@ module _ (d : Data) (top : Members) (is_top : as_object d ≡ Some top) where
     city_joined points es frame right has_points read is_frame =
         sym (all_parts (is_city_json d) (points_in d) (λ p. entries_in p d) (frame_of d) points es frame (city_json d right) has_points
         (entries_at points (Some ms) are_objects ∙ read) (frame_at ∙ is_frame))
-
-    pub whole_city : (es : Entries) (frame : Frame) → IsFaultless d → ((points : List Point) → Some es ≡ entries_of points ms) → frame_of_rest (without (codes "CityObjects") top) ≡ Some frame → Some (frame, es) ≡ city_of d
-    whole_city es frame faultless read is_frame =
-        let right = is_right d faultless.right in
-        let points = has_points d right in
-        sym (city_joined points.0 es frame right points.1 (sym (read points.0)) is_frame)
 
 pub no_top : (d : Data) → as_object d ≡ None → None ≡ city_of d
 no_top d e = no_frame (is_city_json d) (points_in d) (λ points. entries_in points d) (frame_of d) (ap (option_and_then (λ ms. frame_of_rest (without (codes "CityObjects") ms))) e)

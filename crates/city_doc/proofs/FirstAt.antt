@@ -1,5 +1,5 @@
 -- What a search finds: the first item where there is anything, and nothing before it.
-use Rattle.std.proofs.Common.{◌≡◌, ℕ, zero, suc, ◌+◌, ◌<◌, List, [], ◌∷◌, ◌++◌, length, length-append, Option, Some, None, refl, ap, subst, ◌∙◌, arith}
+use Rattle.std.proofs.Common.{◌≡◌, ℕ, zero, suc, ◌+◌, ◌<◌, ◌≤◌, List, [], ◌∷◌, length, map, drop, get_or, Option, Some, None, refl, sym, ap, subst, ◌∙◌, arith, add-one, drop-cons, drop_of_length-le}
 use Rattle.std.specs.Prelude.{slice_get}
 use Rattle.std.specs.Option.{option_or}
 use Rattle.city_doc.specs.ScriptSearch.{first_at}
@@ -64,13 +64,19 @@ pub first_at-none : {A B : Type 0} (find : ℕ → A → Option B) (n : ℕ) (xs
 first_at-none find n [] h j y at = absurd (let no : ⊥ = cc in no)
 first_at-none find n (x ∷ xs) h j y at = none_step find n x xs (find n x) refl h (first_at-none find (n + 1) xs) j y at
 
--- ---- a step of a loop that searches
+-- ---- a list that is searched in place
 
-one_longer : {C : Type 0} (done next : List C) (y : C) → next ≡ done ++ y ∷ [] → length next ≡ length done + 1
-one_longer done next y e = ap length e ∙ length-append done (y ∷ [])
+-- the items from one on, of a list that is searched in place
+from_here : {A C : Type 0} (f : C → A) (xs : List C) (i : ℕ) (x : C) → i < length xs → x ≡ get_or xs i x → map f (drop i xs) ≡ f x ∷ map f (drop (i + 1) xs)
+from_here f xs i x h at = ap (map f) (drop-cons xs i x h) ∙ ap (λ y. f y ∷ map f (drop (suc i) xs)) (sym at) ∙ ap (λ k. f x ∷ map f (drop k xs)) (sym (add-one i))
 
--- nothing was found at one more item of what is left
-pub first_at-step : {A B C : Type 0} (find : ℕ → A → Option B) (all : Option B) (done next : List C) (left more : List A) (x : A) (y : C)
-    → all ≡ first_at find (length done) left → left ≡ x ∷ more → find (length done) x ≡ None → next ≡ done ++ y ∷ [] → all ≡ first_at find (length next) more
-first_at-step find all done next left more x y is split none grown =
-    is ∙ ap (first_at find (length done)) split ∙ rw (none, one_longer done next y grown) refl
+pub first_at-drop : {A B C : Type 0} (find : ℕ → A → Option B) (f : C → A) (all : Option B) (xs : List C) (i : ℕ) (x : C) → i < length xs → x ≡ get_or xs i x
+    → all ≡ first_at find i (map f (drop i xs)) → find i (f x) ≡ None → all ≡ first_at find (i + 1) (map f (drop (i + 1) xs))
+first_at-drop find f all xs i x h at is none = is ∙ ap (first_at find i) (from_here f xs i x h at) ∙ rw none refl
+
+pub first_at-found : {A B C : Type 0} (find : ℕ → A → Option B) (f : C → A) (all : Option B) (xs : List C) (i : ℕ) (x : C) (y : B) → i < length xs → x ≡ get_or xs i x
+    → all ≡ first_at find i (map f (drop i xs)) → find i (f x) ≡ Some y → all ≡ Some y
+first_at-found find f all xs i x y h at is found = is ∙ ap (first_at find i) (from_here f xs i x h at) ∙ rw found refl
+
+pub first_at-end : {A B C : Type 0} (find : ℕ → A → Option B) (f : C → A) (all : Option B) (xs : List C) (i : ℕ) → length xs ≤ i → all ≡ first_at find i (map f (drop i xs)) → all ≡ None
+first_at-end find f all xs i h is = is ∙ ap (λ ys. first_at find i (map f ys)) (drop_of_length-le xs h)

@@ -8,9 +8,9 @@ use Rattle.serde_json.specs.Find.{get_member, as_object}
 use Rattle.city_model.specs.CityMap.{same_id}
 use Rattle.city_model.specs.Members.{without}
 use Rattle.city_model.specs.Whole.{is_whole, members_whole}
-use Rattle.city_model.specs.Kept.{lacks, lacks_both, kept_at_top, kept_at_transform, kept_at_object, has_location, is_empty_object_or_absent}
+use Rattle.city_model.specs.Kept.{lacks, lacks_both, kept_at_top, kept_at_transform, kept_at_object, kept_at_geometry, has_location, is_empty_object_or_absent}
 use Rattle.city_model.proofs.MemberLaws.{get_member-without, get_member-without_same, members_whole-without}
-use Rattle.city_doc.specs.Bodies.{kept_if, without_object_members}
+use Rattle.city_doc.specs.Bodies.{kept_if, without_geometry_members, without_object_members}
 use Rattle.city_doc.specs.Frames.{without_transform_members, without_top_members}
 use Rattle.city_doc.proofs.Right.{both}
 
@@ -51,6 +51,9 @@ lacking_both name other ms h k = rw (h, k) refl
 all_two : (a b : Bool) → a ≡ true → b ≡ true → (a && b) ≡ true
 all_two a b h k = rw (h, k) refl
 
+all_three : (a b c : Bool) → a ≡ true → b ≡ true → c ≡ true → (a && b && c) ≡ true
+all_three a b c h k l = rw (h, k, l) refl
+
 all_four : (a b c d : Bool) → a ≡ true → b ≡ true → c ≡ true → d ≡ true → (a && b && c && d) ≡ true
 all_four a b c d h k l m = rw (h, k, l, m) refl
 
@@ -90,6 +93,17 @@ top_admitted top h extensions =
     let stays = get_member-without name (codes "vertices") d refl ∙ (get_member-without name (codes "version") c refl ∙ stays_c) in
     all_five _ _ _ _ _ whole (lacking_both (codes "type") (codes "version") e no_type no_version) (lacking_both (codes "transform") (codes "CityObjects") e no_transform no_objects)
     (lacking (codes "vertices") e no_vertices) (ap is_empty_object_or_absent stays ∙ extensions)
+
+pub geometry_admitted : (ms : Members) → members_whole ms ≡ true → kept_at_geometry (without_geometry_members ms) ≡ true
+geometry_admitted ms h =
+    let a = without (codes "type") ms in
+    let b = without (codes "lod") a in
+    let c = without (codes "boundaries") b in
+    let whole = members_whole-without (codes "boundaries") b (members_whole-without (codes "lod") a (members_whole-without (codes "type") ms h)) in
+    let no_type = gone (codes "type") (codes "boundaries") b refl (gone (codes "type") (codes "lod") a refl (get_member-without_same (codes "type") ms)) in
+    let no_lod = gone (codes "lod") (codes "boundaries") b refl (get_member-without_same (codes "lod") a) in
+    let no_boundaries = get_member-without_same (codes "boundaries") b in
+    all_three _ _ _ whole (lacking_both (codes "type") (codes "lod") c no_type no_lod) (lacking (codes "boundaries") c no_boundaries)
 
 pub object_admitted : (ms : Members) → members_whole ms ≡ true → has_location (get_member (codes "address") ms) ≡ false → kept_at_object (without_object_members ms) ≡ true
 object_admitted ms h located =

@@ -1,23 +1,49 @@
+pub mod Accepted
 pub mod AllRead
 pub mod Cities
+mod CityNests
 pub mod CommandLaws
+pub mod CommandMeanings
+mod EntriesRead
+pub mod FaultlessBodies
 pub mod FirstAt
 mod Floatless
 mod FloatlessEnds
+mod FramesRead
 pub mod KeptMembers
-pub mod NoGeometry
+pub mod LawfulCities
+pub mod LawfulTrees
+pub mod Least
+pub mod LenientEntries
+pub mod LenientObjects
+mod ListsRead
+mod NestsNoDeeper
+pub mod NoFault
+mod NotRefused
+mod NumberedPoints
 pub mod Objects
+mod ObjectsRead
+pub mod Options
 pub mod Order
-pub mod Plain
-pub mod PlainBodies
-pub mod PlainCommands
-pub mod PlainScripts
 mod Points
+pub mod PutBodies
+pub mod PutMembers
+pub mod ReadBodies
+pub mod ReadForms
+pub mod ReadLists
+mod ReadObjects
+pub mod Readable
+pub mod RefusedScripts
 mod Repeats
 pub mod Right
+mod RoundTrip
 pub mod ScriptFaults
 pub mod ScriptLists
+pub mod ScriptMeanings
 pub mod Searches
 pub mod Totals
+mod TriplesRead
 mod Walks
 pub mod WholeParts
+mod WholeTrees
+pub mod WithoutMembers

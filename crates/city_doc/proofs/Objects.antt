@@ -1,6 +1,5 @@
 -- A loop that reads the members of a map in turn into a map in the order of their bytes.
-use Rattle.std.proofs.Common.{◌≡◌, ℕ, List, [], ◌∷◌, ◌++◌, map, Bool, true, false, Option, Some, None, option_map, String, Global, Ordering, Less, Greater, string_bytes, string_cmp, nat_cmp, refl, sym, ap, ◌∙◌, subst, append_assoc}
-use Rattle.std.specs.Prelude.{if◌then◌else◌}
+use Rattle.std.proofs.Common.{◌≡◌, ℕ, List, [], ◌∷◌, ◌++◌, map, Option, Some, None, option_map, String, Global, Ordering, Less, Greater, string_bytes, string_cmp, nat_cmp, refl, sym, ap, ◌∙◌, subst, append_assoc}
 use Rattle.std.specs.List.{AllByRecursion}
 use Rattle.std.specs.List.Sorted.{IsStrictlySortedBy}
 use Rattle.std.specs.Map.{keys_of}
@@ -14,13 +13,12 @@ use Rattle.serde_json.proofs.Views.{Entry}
 use Rattle.city_model.specs.CityMap.{Entries}
 use Rattle.city_model.specs.declared.object.Object.{Object}
 use Rattle.city_model.specs.declared.object.Point.{Point}
-use Rattle.city_doc.specs.Bodies.{object_of}
-use Rattle.city_doc.specs.Documents.{entries_of}
-use Rattle.city_doc.specs.ObjectFaults.{is_bad_geometry, is_related}
-use Rattle.city_doc.specs.Searches.{first_with}
+use Rattle.city_doc.specs.CityFaults.{lenient_object_of}
+use Rattle.city_doc.specs.LenientCities.{lenient_entries_of}
 
 module _ {K X : Type 0} {R : K → K → Ordering} (total : IsTotalOrder R) where
-  middle : (es : List (K × X)) (first k : K) (more : List K) → AllByRecursion (λ y. R first y ≡ Less) (keys_of es ++ k ∷ more) → R first k ≡ Less
+  -- a key in the middle is above the first
+  pub middle : (es : List (K × X)) (first k : K) (more : List K) → AllByRecursion (λ y. R first y ≡ Less) (keys_of es ++ k ∷ more) → R first k ≡ Less
   middle [] first k more h = h.0
   middle (e ∷ es) first k more h = middle es first k more h.1
 
@@ -48,84 +46,43 @@ sorted_bytes (k ∷ ks) h = (all_bytes k ks h.0, sorted_bytes ks h.1)
 
 -- ---- what is read
 
--- none of the objects has geometry or relations
-pub record ArePlain (ms : Members) : Type 0 where
-  pub no_geometry : first_with is_bad_geometry ms ≡ None
-  pub unrelated : first_with is_related ms ≡ None
-
 -- the objects of `all` are those that are done, and then those of the rest
-pub record IsRead (points : List Point) (all : Members) (done : Entries) (rest : List Entry) : Type 0 where
-  pub plain : ArePlain (members_view rest)
-  pub entries : entries_of points all ≡ option_map (λ es. done ++ es) (entries_of points (members_view rest))
-
--- the loop's state
-pub record IsReading (all : Members) (done : Entries) (rest : List Entry) : Type 0 where
-  pub read : (points : List Point) → ArePlain all → IsRead points all done rest
+pub record IsReading (points : List Point) (all : Members) (done : Entries) (rest : List Entry) : Type 0 where
+  pub read : lenient_entries_of points all ≡ option_map (λ es. done ++ es) (lenient_entries_of points (members_view rest))
   pub sorted : IsStrictlySortedBy (slice_cmp nat_cmp) (keys_of done ++ map string_bytes (keys_of rest))
 
 option_map-id : {A : Type 0} (o : Option A) → o ≡ option_map (λ x. x) o
 option_map-id None = refl
 option_map-id (Some x) = refl
 
-pub begins : (es : List Entry) → IsStrictlySortedBy string_cmp (keys_of es) → IsReading (members_view es) [] es
-begins es h = record {
-  read = λ points plain. record { plain = plain; entries = option_map-id (entries_of points (members_view es)) };
-  sorted = sorted_bytes (keys_of es) h;
-}
+pub begins : (points : List Point) (es : List Entry) → IsStrictlySortedBy string_cmp (keys_of es) → IsReading points (members_view es) [] es
+begins points es h = record { read = option_map-id (lenient_entries_of points (members_view es)); sorted = sorted_bytes (keys_of es) h }
 
 push_map : {A : Type 0} (done : List A) (o : A) (rest : Option (List A)) → option_map (λ os. done ++ os) (option_map (λ os. o ∷ os) rest) ≡ option_map (λ os. (done ++ o ∷ []) ++ os) rest
 push_map done o None = refl
 push_map done o (Some os) = ap Some (sym (append_assoc done (o ∷ []) os))
 
--- a search that finds nothing finds nothing at the first object, nor later
-pub first_none : (b : Bool) (k : List ℕ) (rest : Option (List ℕ)) → (if b then Some k else rest) ≡ None → (b ≡ false) × (rest ≡ None)
-first_none true k rest h = cc
-first_none false k rest h = (refl, h)
+entries_push : (points : List Point) (done : Entries) (k : List ℕ) (d : Data) (o : Object) (ms : Members) → lenient_object_of points d ≡ Some o
+    → option_map (λ es. done ++ es) (lenient_entries_of points (member k d ms)) ≡ option_map (λ es. (done ++ (k, o) ∷ []) ++ es) (lenient_entries_of points ms)
+entries_push points done k d o ms is = rw is (push_map done (k, o) (lenient_entries_of points ms))
 
-pub record StartsPlain (d : Data) (ms : Members) : Type 0 where
-  pub no_geometry : is_bad_geometry d ≡ false
-  pub unrelated : is_related d ≡ false
-  pub rest : ArePlain ms
-
-pub starts_plain : (k : List ℕ) (d : Data) (ms : Members) → ArePlain (member k d ms) → StartsPlain d ms
-starts_plain k d ms h =
-    let g = first_none (is_bad_geometry d) k (first_with is_bad_geometry ms) h.no_geometry in
-    let r = first_none (is_related d) k (first_with is_related ms) h.unrelated in
-    record { no_geometry = g.0; unrelated = r.0; rest = record { no_geometry = g.1; unrelated = r.1 } }
-
--- what a builder of one object answers
-abbrev pub Builds : Option Object → Data → Type 0
-Builds o d = (points : List Point) → is_bad_geometry d ≡ false → is_related d ≡ false → o ≡ object_of points d
-
-entries_push : (points : List Point) (done : Entries) (k : List ℕ) (d : Data) (o : Object) (ms : Members) → object_of points d ≡ Some o
-    → option_map (λ es. done ++ es) (entries_of points (member k d ms)) ≡ option_map (λ es. (done ++ (k, o) ∷ []) ++ es) (entries_of points ms)
-entries_push points done k d o ms is = rw is (push_map done (k, o) (entries_of points ms))
-
-entries_stop : (points : List Point) (done : Entries) (k : List ℕ) (d : Data) (ms : Members) → object_of points d ≡ None
-    → option_map (λ es. done ++ es) (entries_of points (member k d ms)) ≡ None
+entries_stop : (points : List Point) (done : Entries) (k : List ℕ) (d : Data) (ms : Members) → lenient_object_of points d ≡ None
+    → option_map (λ es. done ++ es) (lenient_entries_of points (member k d ms)) ≡ None
 entries_stop points done k d ms is = rw is
 
-pub goes_on : (all : Members) (done : Entries) (e : Entry) (left : List Entry) (o : Object) → Builds (Some o) (view e.1) → IsReading all done (e ∷ left) → IsReading all (done ++ (string_bytes e.0, o) ∷ []) left
-goes_on all done e left o builds h = record {
-  read = λ points plain.
-      let was = h.read points plain in
-      let start = starts_plain (string_bytes e.0) (view e.1) (members_view left) was.plain in
-      record {
-        plain = start.rest;
-        entries = was.entries ∙ entries_push points done (string_bytes e.0) (view e.1) o (members_view left) (sym (builds points start.no_geometry start.unrelated));
-      };
+pub goes_on : (points : List Point) (all : Members) (done : Entries) (e : Entry) (left : List Entry) (o : Object) → lenient_object_of points (view e.1) ≡ Some o → IsReading points all done (e ∷ left)
+    → IsReading points all (done ++ (string_bytes e.0, o) ∷ []) left
+goes_on points all done e left o is h = record {
+  read = h.read ∙ entries_push points done (string_bytes e.0) (view e.1) o (members_view left) is;
   sorted = subst (IsStrictlySortedBy (slice_cmp nat_cmp)) (keys_of_push done (string_bytes e.0) o (map string_bytes (keys_of left))) h.sorted;
 }
 
-pub stops : (all : Members) (done : Entries) (e : Entry) (left : List Entry) (points : List Point) → Builds None (view e.1) → IsReading all done (e ∷ left) → ArePlain all → None ≡ entries_of points all
-stops all done e left points builds h plain =
-    let was = h.read points plain in
-    let start = starts_plain (string_bytes e.0) (view e.1) (members_view left) was.plain in
-    sym (was.entries ∙ entries_stop points done (string_bytes e.0) (view e.1) (members_view left) (sym (builds points start.no_geometry start.unrelated)))
+pub stops : (points : List Point) (all : Members) (done : Entries) (e : Entry) (left : List Entry) → lenient_object_of points (view e.1) ≡ None → IsReading points all done (e ∷ left) → None ≡ lenient_entries_of points all
+stops points all done e left is h = sym (h.read ∙ entries_stop points done (string_bytes e.0) (view e.1) (members_view left) is)
 
 append-nil : {A : Type 0} (done : List A) → done ++ [] ≡ done
 append-nil [] = refl
 append-nil (x ∷ xs) = ap (λ ys. x ∷ ys) (append-nil xs)
 
-pub ends : (all : Members) (done : Entries) (points : List Point) → IsReading all done [] → ArePlain all → Some done ≡ entries_of points all
-ends all done points h plain = sym ((h.read points plain).entries ∙ ap Some (append-nil done))
+pub ends : (points : List Point) (all : Members) (done : Entries) → IsReading points all done [] → Some done ≡ lenient_entries_of points all
+ends points all done h = sym (h.read ∙ ap Some (append-nil done))

@@ -1,14 +1,16 @@
--- A fault that stands where none before it in the order does.
-use Rattle.std.proofs.Common.{◌≡◌, ℕ, ◌<◌, List, Bool, true, false, true≢false, Option, Some, None, refl, sym, ap, ◌∙◌, arith}
-use Rattle.std.specs.Prelude.{is_some, option_and_then, MatchOption}
+-- The first fault of a tree, by the order of the faults.
+use Rattle.std.proofs.Common.{◌≡◌, ℕ, ◌<◌, ◌≤◌, List, Bool, true, false, true≢false, Option, Some, None, refl, sym, ap, subst, ◌∙◌, arith}
+use Rattle.std.specs.Prelude.{is_some, length, option_and_then, MatchOption}
 use Rattle.serde_json.specs.Data.{Data, Members}
+use Rattle.city_model.specs.declared.object.Point.{Point}
 use Rattle.city_model.specs.Members.{AreOrdered}
 use Rattle.city_model.specs.Whole.{is_whole}
 use Rattle.city_doc.specs.declared.fault.ReadFault.{ReadFault}
 use Rattle.city_doc.specs.declared.fault.ReadFault.TheVariants.{OutOfMemory, TooLong, NotJson, NotWhole, NotCityJson, UnknownType, Unsupported, BadGeometry, BadVertex, BadRing, Relations, OpenShell}
-use Rattle.city_doc.specs.Documents.{StandsAmong, StandsIn, IsFirst, number_of, AreFaultless, IsFaultless, objects_in, is_unsupported, unsupported_at}
+use Rattle.city_doc.specs.CityFaults.{has_bad_ring, has_open_shell, IsBadlyRelatedAt, IsLeastBadlyRelated}
+use Rattle.city_doc.specs.Documents.{StandsAmong, StandsIn, IsFirst, number_of, AreReadable, HasForm, objects_in, vertices_in, is_unsupported, unsupported_at}
 use Rattle.city_doc.specs.Frames.{wrong_member}
-use Rattle.city_doc.specs.ObjectFaults.{is_unknown_type, unsupported_name, is_bad_geometry, is_related}
+use Rattle.city_doc.specs.ObjectFaults.{is_unknown_type, unsupported_name, is_bad_geometry, has_bad_vertex}
 use Rattle.city_doc.specs.Searches.{IsLeast, first_with}
 use Rattle.city_doc.proofs.Searches.{first_is_least, none_is_none}
 
@@ -16,22 +18,6 @@ use Rattle.city_doc.proofs.Searches.{first_is_least, none_is_none}
 
 none_least : (test : Data → Bool) (ms : Members) (id : List ℕ) → AreOrdered ms → first_with test ms ≡ None → IsLeast test ms id → ⊥
 none_least test ms id o none least = none_is_none test ms id o none least.0
-
--- no fault with a number below n stands among the objects
-none_before : (n : ℕ) (ms : Members) → AreOrdered ms → (5 < n → first_with is_unknown_type ms ≡ None) → (6 < n → first_with is_unsupported ms ≡ None) → (7 < n → first_with is_bad_geometry ms ≡ None)
-    → (10 < n → first_with is_related ms ≡ None) → (g : ReadFault) → number_of g < n → StandsAmong ms g → ⊥
-none_before n ms o known supported plain unrelated OutOfMemory lt h = h
-none_before n ms o known supported plain unrelated TooLong lt h = h
-none_before n ms o known supported plain unrelated NotJson lt h = h
-none_before n ms o known supported plain unrelated NotWhole lt h = h
-none_before n ms o known supported plain unrelated (NotCityJson name) lt h = h
-none_before n ms o known supported plain unrelated (UnknownType id) lt h = none_least is_unknown_type ms id o (known lt) h
-none_before n ms o known supported plain unrelated (Unsupported id name) lt h = none_least is_unsupported ms id o (supported lt) h.0
-none_before n ms o known supported plain unrelated (BadGeometry id) lt h = none_least is_bad_geometry ms id o (plain lt) h
-none_before n ms o known supported plain unrelated (BadVertex id) lt h = h
-none_before n ms o known supported plain unrelated (BadRing id) lt h = h
-none_before n ms o known supported plain unrelated (Relations id) lt h = none_least is_related ms id o (unrelated lt) h
-none_before n ms o known supported plain unrelated (OpenShell id) lt h = h
 
 missing_name : (o : Option (List ℕ)) → is_some o ≡ true → o ≡ None → ⊥
 missing_name None h e = true≢false (sym h)
@@ -43,63 +29,152 @@ unsupported_named ms id o found none =
     let has = (first_is_least is_unsupported ms id o found).0 in
     missing_name (unsupported_name has.0) has.2 (sym (ap (option_and_then unsupported_name) has.1) ∙ none)
 
-module _ (ms : Members) (id : List ℕ) (o : AreOrdered ms) where
-  pub first_unknown_type : first_with is_unknown_type ms ≡ Some id → IsFirst (StandsAmong ms) (UnknownType id)
-  first_unknown_type found = (
-    first_is_least is_unknown_type ms id o found,
-    none_before 5 ms o (λ lt. absurd (omega arith)) (λ lt. absurd (omega arith)) (λ lt. absurd (omega arith)) (λ lt. absurd (omega arith)),
-  )
+module _ (points : List Point) (ms : Members) (o : AreOrdered ms) where
+  -- no fault with a number below n was found
+  record NoneFound (n : ℕ) : Type 0 where
+    known : 5 < n → first_with is_unknown_type ms ≡ None
+    supported : 6 < n → first_with is_unsupported ms ≡ None
+    formed : 7 < n → first_with is_bad_geometry ms ≡ None
+    placed : 8 < n → first_with (has_bad_vertex (length points)) ms ≡ None
+    ringed : 9 < n → first_with (has_bad_ring points) ms ≡ None
+    related : 10 < n → (id : List ℕ) → IsBadlyRelatedAt points ms id → ⊥
 
-  pub first_unsupported : (name : List ℕ) → first_with is_unknown_type ms ≡ None → first_with is_unsupported ms ≡ Some id → unsupported_at ms id ≡ Some name → IsFirst (StandsAmong ms) (Unsupported id name)
-  first_unsupported name known found named = (
-    (first_is_least is_unsupported ms id o found, named),
-    none_before 6 ms o (λ lt. known) (λ lt. absurd (omega arith)) (λ lt. absurd (omega arith)) (λ lt. absurd (omega arith)),
-  )
+  none_before : (n : ℕ) → n ≤ 11 → NoneFound n → (g : ReadFault) → number_of g < n → StandsAmong points ms g → ⊥
+  none_before n le h OutOfMemory lt is = is
+  none_before n le h TooLong lt is = is
+  none_before n le h NotJson lt is = is
+  none_before n le h NotWhole lt is = is
+  none_before n le h (NotCityJson name) lt is = is
+  none_before n le h (UnknownType id) lt is = none_least is_unknown_type ms id o (h.known lt) is
+  none_before n le h (Unsupported id name) lt is = none_least is_unsupported ms id o (h.supported lt) is.0
+  none_before n le h (BadGeometry id) lt is = none_least is_bad_geometry ms id o (h.formed lt) is
+  none_before n le h (BadVertex id) lt is = none_least (has_bad_vertex (length points)) ms id o (h.placed lt) is
+  none_before n le h (BadRing id) lt is = none_least (has_bad_ring points) ms id o (h.ringed lt) is
+  none_before n le h (Relations id) lt is = h.related lt id is.0
+  none_before n le h (OpenShell id) lt is = omega arith
 
-  pub first_bad_geometry : first_with is_unknown_type ms ≡ None → first_with is_unsupported ms ≡ None → first_with is_bad_geometry ms ≡ Some id → IsFirst (StandsAmong ms) (BadGeometry id)
-  first_bad_geometry known supported found = (
-    first_is_least is_bad_geometry ms id o found,
-    none_before 7 ms o (λ lt. known) (λ lt. supported) (λ lt. absurd (omega arith)) (λ lt. absurd (omega arith)),
-  )
+  pub first_unknown_type : (id : List ℕ) → first_with is_unknown_type ms ≡ Some id → IsFirst (StandsAmong points ms) (UnknownType id)
+  first_unknown_type id found =
+      let none : NoneFound 5 = record {
+        known = λ lt. absurd (omega arith);
+        supported = λ lt. absurd (omega arith);
+        formed = λ lt. absurd (omega arith);
+        placed = λ lt. absurd (omega arith);
+        ringed = λ lt. absurd (omega arith);
+        related = λ lt. absurd (omega arith);
+      } in
+      (first_is_least is_unknown_type ms id o found, none_before 5 (omega arith) none)
 
-  pub first_related : first_with is_unknown_type ms ≡ None → first_with is_unsupported ms ≡ None → first_with is_bad_geometry ms ≡ None → first_with is_related ms ≡ Some id → IsFirst (StandsAmong ms) (Relations id)
-  first_related known supported plain found = (
-    first_is_least is_related ms id o found,
-    none_before 10 ms o (λ lt. known) (λ lt. supported) (λ lt. plain) (λ lt. absurd (omega arith)),
-  )
+  module _ (known : first_with is_unknown_type ms ≡ None) where
+    pub first_unsupported : (id name : List ℕ) → first_with is_unsupported ms ≡ Some id → unsupported_at ms id ≡ Some name → IsFirst (StandsAmong points ms) (Unsupported id name)
+    first_unsupported id name found named =
+        let none : NoneFound 6 = record {
+          known = λ lt. known;
+          supported = λ lt. absurd (omega arith);
+          formed = λ lt. absurd (omega arith);
+          placed = λ lt. absurd (omega arith);
+          ringed = λ lt. absurd (omega arith);
+          related = λ lt. absurd (omega arith);
+        } in
+        ((first_is_least is_unsupported ms id o found, named), none_before 6 (omega arith) none)
+
+    module _ (supported : first_with is_unsupported ms ≡ None) where
+      pub first_bad_geometry : (id : List ℕ) → first_with is_bad_geometry ms ≡ Some id → IsFirst (StandsAmong points ms) (BadGeometry id)
+      first_bad_geometry id found =
+          let none : NoneFound 7 = record {
+            known = λ lt. known;
+            supported = λ lt. supported;
+            formed = λ lt. absurd (omega arith);
+            placed = λ lt. absurd (omega arith);
+            ringed = λ lt. absurd (omega arith);
+            related = λ lt. absurd (omega arith);
+          } in
+          (first_is_least is_bad_geometry ms id o found, none_before 7 (omega arith) none)
+
+      pub first_bad_vertex : (id : List ℕ) → first_with is_bad_geometry ms ≡ None → first_with (has_bad_vertex (length points)) ms ≡ Some id → IsFirst (StandsAmong points ms) (BadVertex id)
+      first_bad_vertex id formed found =
+          let none : NoneFound 8 = record {
+            known = λ lt. known;
+            supported = λ lt. supported;
+            formed = λ lt. formed;
+            placed = λ lt. absurd (omega arith);
+            ringed = λ lt. absurd (omega arith);
+            related = λ lt. absurd (omega arith);
+          } in
+          (first_is_least (has_bad_vertex (length points)) ms id o found, none_before 8 (omega arith) none)
+
+  -- of objects that can be read
+  module _ (h : AreReadable (length points) ms) where
+    pub first_bad_ring : (id : List ℕ) → first_with (has_bad_ring points) ms ≡ Some id → IsFirst (StandsAmong points ms) (BadRing id)
+    first_bad_ring id found =
+        let none : NoneFound 9 = record {
+          known = λ lt. h.known;
+          supported = λ lt. h.supported;
+          formed = λ lt. h.formed;
+          placed = λ lt. h.placed;
+          ringed = λ lt. absurd (omega arith);
+          related = λ lt. absurd (omega arith);
+        } in
+        (first_is_least (has_bad_ring points) ms id o found, none_before 9 (omega arith) none)
+
+    module _ (ringed : first_with (has_bad_ring points) ms ≡ None) where
+      pub first_badly_related : (id : List ℕ) → IsLeastBadlyRelated points ms id → IsFirst (StandsAmong points ms) (Relations id)
+      first_badly_related id least =
+          let none : NoneFound 10 = record {
+            known = λ lt. h.known;
+            supported = λ lt. h.supported;
+            formed = λ lt. h.formed;
+            placed = λ lt. h.placed;
+            ringed = λ lt. ringed;
+            related = λ lt. absurd (omega arith);
+          } in
+          (least, none_before 10 (omega arith) none)
+
+      pub first_open_shell : (id : List ℕ) → ((j : List ℕ) → IsBadlyRelatedAt points ms j → ⊥) → first_with (has_open_shell points) ms ≡ Some id → IsFirst (StandsAmong points ms) (OpenShell id)
+      first_open_shell id related found =
+          let none : NoneFound 11 = record {
+            known = λ lt. h.known;
+            supported = λ lt. h.supported;
+            formed = λ lt. h.formed;
+            placed = λ lt. h.placed;
+            ringed = λ lt. ringed;
+            related = λ lt. related;
+          } in
+          (first_is_least (has_open_shell points) ms id o found, none_before 11 (omega arith) none)
 
 -- ---- in a tree
 
-among_in : (d : Data) (ms : Members) (f : ReadFault) → objects_in d ≡ ms → StandsAmong ms f → StandsIn d f
-among_in d ms NotWhole e h = absurd h
-among_in d ms (NotCityJson name) e h = absurd h
-among_in d ms OutOfMemory e h = absurd h
-among_in d ms TooLong e h = absurd h
-among_in d ms NotJson e h = absurd h
-among_in d ms (UnknownType id) e h = rw e h
-among_in d ms (Unsupported id name) e h = rw e h
-among_in d ms (BadGeometry id) e h = rw e h
-among_in d ms (BadVertex id) e h = absurd h
-among_in d ms (BadRing id) e h = absurd h
-among_in d ms (Relations id) e h = rw e h
-among_in d ms (OpenShell id) e h = absurd h
+among_in : (d : Data) (f : ReadFault) → StandsAmong (vertices_in d) (objects_in d) f → StandsIn d f
+among_in d NotWhole h = absurd h
+among_in d (NotCityJson name) h = absurd h
+among_in d OutOfMemory h = h
+among_in d TooLong h = h
+among_in d NotJson h = h
+among_in d (UnknownType id) h = h
+among_in d (Unsupported id name) h = h
+among_in d (BadGeometry id) h = h
+among_in d (BadVertex id) h = h
+among_in d (BadRing id) h = h
+among_in d (Relations id) h = h
+among_in d (OpenShell id) h = h
 
-in_among : (d : Data) (ms : Members) (f : ReadFault) → objects_in d ≡ ms → is_whole d ≡ true → wrong_member d ≡ None → StandsIn d f → StandsAmong ms f
-in_among d ms NotWhole e whole right h = absurd (true≢false (sym whole ∙ h))
-in_among d ms (NotCityJson name) e whole right h = let clash : Some name ≡ None = sym h ∙ right in cc
-in_among d ms OutOfMemory e whole right h = h
-in_among d ms TooLong e whole right h = h
-in_among d ms NotJson e whole right h = h
-in_among d ms (UnknownType id) e whole right h = rw (sym e) h
-in_among d ms (Unsupported id name) e whole right h = rw (sym e) h
-in_among d ms (BadGeometry id) e whole right h = rw (sym e) h
-in_among d ms (BadVertex id) e whole right h = h
-in_among d ms (BadRing id) e whole right h = h
-in_among d ms (Relations id) e whole right h = rw (sym e) h
-in_among d ms (OpenShell id) e whole right h = h
+in_among : (d : Data) (f : ReadFault) → is_whole d ≡ true → wrong_member d ≡ None → StandsIn d f → StandsAmong (vertices_in d) (objects_in d) f
+in_among d NotWhole whole right h = absurd (true≢false (sym whole ∙ h))
+in_among d (NotCityJson name) whole right h = let clash : Some name ≡ None = sym h ∙ right in cc
+in_among d OutOfMemory whole right h = h
+in_among d TooLong whole right h = h
+in_among d NotJson whole right h = h
+in_among d (UnknownType id) whole right h = h
+in_among d (Unsupported id name) whole right h = h
+in_among d (BadGeometry id) whole right h = h
+in_among d (BadVertex id) whole right h = h
+in_among d (BadRing id) whole right h = h
+in_among d (Relations id) whole right h = h
+in_among d (OpenShell id) whole right h = h
 
-pub first_in : (d : Data) (ms : Members) (f : ReadFault) → objects_in d ≡ ms → is_whole d ≡ true → wrong_member d ≡ None → IsFirst (StandsAmong ms) f → IsFirst (StandsIn d) f
-first_in d ms f e whole right first = (among_in d ms f e first.0, λ g lt h. first.1 g lt (in_among d ms g e whole right h))
+-- the first that stands among the objects is the first in the tree
+pub first_in : (d : Data) (f : ReadFault) → is_whole d ≡ true → wrong_member d ≡ None → IsFirst (StandsAmong (vertices_in d) (objects_in d)) f → IsFirst (StandsIn d) f
+first_in d f whole right first = (among_in d f first.0, λ g lt h. first.1 g lt (in_among d g whole right h))
 
 before_wrong : (d : Data) (n : ℕ) (g : ReadFault) → is_whole d ≡ true → n ≡ 4 → number_of g < n → StandsIn d g → ⊥
 before_wrong d n OutOfMemory whole e lt h = h
@@ -110,10 +185,10 @@ before_wrong d n (NotCityJson name) whole e lt h = omega arith
 before_wrong d n (UnknownType id) whole e lt h = omega arith
 before_wrong d n (Unsupported id name) whole e lt h = omega arith
 before_wrong d n (BadGeometry id) whole e lt h = omega arith
-before_wrong d n (BadVertex id) whole e lt h = h
-before_wrong d n (BadRing id) whole e lt h = h
+before_wrong d n (BadVertex id) whole e lt h = omega arith
+before_wrong d n (BadRing id) whole e lt h = omega arith
 before_wrong d n (Relations id) whole e lt h = omega arith
-before_wrong d n (OpenShell id) whole e lt h = h
+before_wrong d n (OpenShell id) whole e lt h = omega arith
 
 pub first_wrong_member : (d : Data) (name : List ℕ) → is_whole d ≡ true → wrong_member d ≡ Some name → IsFirst (StandsIn d) (NotCityJson name)
 first_wrong_member d name whole h = (h, λ g lt. before_wrong d 4 g whole refl lt)
@@ -127,16 +202,22 @@ before_other d n (NotCityJson name) e lt h = omega arith
 before_other d n (UnknownType id) e lt h = omega arith
 before_other d n (Unsupported id name) e lt h = omega arith
 before_other d n (BadGeometry id) e lt h = omega arith
-before_other d n (BadVertex id) e lt h = h
-before_other d n (BadRing id) e lt h = h
+before_other d n (BadVertex id) e lt h = omega arith
+before_other d n (BadRing id) e lt h = omega arith
 before_other d n (Relations id) e lt h = omega arith
-before_other d n (OpenShell id) e lt h = h
+before_other d n (OpenShell id) e lt h = omega arith
 
 pub first_other_number : (d : Data) → is_whole d ≡ false → IsFirst (StandsIn d) NotWhole
 first_other_number d h = (h, λ g lt. before_other d 3 g refl lt)
 
+first_moved : (points qs : List Point) (ms ns : Members) (f : ReadFault) → qs ≡ points → ns ≡ ms → IsFirst (StandsAmong points ms) f → IsFirst (StandsAmong qs ns) f
+first_moved points qs ms ns f same_points same_objects h = subst (λ x. IsFirst (StandsAmong qs x) f) (sym same_objects) (subst (λ x. IsFirst (StandsAmong x ms) f) (sym same_points) h)
+
+readable_moved : (points qs : List Point) (ms ns : Members) → qs ≡ points → ns ≡ ms → AreReadable (length points) ms → AreReadable (length qs) ns
+readable_moved points qs ms ns same_points same_objects h = subst (λ x. AreReadable (length qs) x) (sym same_objects) (subst (λ x. AreReadable (length x) ms) (sym same_points) h)
+
 -- what is found among the objects is what stands in the tree
-pub fault_in : (d : Data) (ms : Members) (o : Option ReadFault) → objects_in d ≡ ms → is_whole d ≡ true → wrong_member d ≡ None → MatchOption o (AreFaultless ms) (λ f. IsFirst (StandsAmong ms) f)
-    → MatchOption o (IsFaultless d) (λ f. IsFirst (StandsIn d) f)
-fault_in d ms None e whole right h = record { right = right; objects = rw e h }
-fault_in d ms (Some f) e whole right h = first_in d ms f e whole right h
+pub fault_in : (d : Data) (points : List Point) (ms : Members) (o : Option ReadFault) → vertices_in d ≡ points → objects_in d ≡ ms → is_whole d ≡ true → wrong_member d ≡ None
+    → MatchOption o (AreReadable (length points) ms) (λ f. IsFirst (StandsAmong points ms) f) → MatchOption o (HasForm d) (λ f. IsFirst (StandsIn d) f)
+fault_in d points ms None same_points same_objects whole right h = record { right = right; objects = readable_moved points (vertices_in d) ms (objects_in d) same_points same_objects h }
+fault_in d points ms (Some f) same_points same_objects whole right h = first_in d f whole right (first_moved points (vertices_in d) ms (objects_in d) f same_points same_objects h)

@@ -59,7 +59,7 @@ middle_some : {A B : Type 0} (make : ℤ → ℤ → ℤ → A) (other : ℤ →
 middle_some make other x None c h = h
 middle_some make other x (Some y) c h = last_some make other x y c h
 
-three_some : {A B : Type 0} (make : ℤ → ℤ → ℤ → A) (other : ℤ → ℤ → ℤ → B) (long : Bool) (a b c : Option ℤ)
+pub three_some : {A B : Type 0} (make : ℤ → ℤ → ℤ → A) (other : ℤ → ℤ → ℤ → B) (long : Bool) (a b c : Option ℤ)
     → is_some (if long then None else option_and_then (λ x. option_and_then (λ y. option_map (λ z. make x y z) c) b) a) ≡ true
     → is_some (if long then None else option_and_then (λ x. option_and_then (λ y. option_map (λ z. other x y z) c) b) a) ≡ true
 three_some make other true a b c h = h

@@ -1,20 +1,14 @@
 -- What the reader finds is the first fault of an array of scripts.
-use Rattle.std.proofs.Common.{◌≡◌, ℕ, ◌+◌, ◌<◌, List, true, false, Option, Some, None, refl, sym, ap, ◌∙◌, inl, inr, zero-add}
-use Rattle.std.specs.Prelude.{◌⊎◌, slice_get}
-use Rattle.std.specs.List.{list_all}
+use Rattle.std.proofs.Common.{◌≡◌, ℕ, ◌+◌, ◌<◌, List, Bool, true, false, true≢false, Option, Some, None, option_map, refl, sym, ap, subst, ◌∙◌, inl, inr, zero-add}
+use Rattle.std.specs.Prelude.{◌⊎◌, slice_get, if◌then◌else◌}
 use Rattle.serde_json.specs.Data.{Data}
-use Rattle.city_model.specs.Whole.{is_whole}
 use Rattle.city_doc.specs.declared.fault.ScriptFault.{ScriptFault}
-use Rattle.city_doc.specs.declared.fault.ScriptFault.TheVariants.{OutOfMemory, BadScript, BadCommand, TooMany}
-use Rattle.city_doc.specs.BadCommands.{is_bad_command}
-use Rattle.city_doc.specs.ScriptTrees.{ScriptParts, array_of, all_read, are_vertices, parts_of, are_too_many}
-use Rattle.city_doc.specs.Texts.{HasTree}
-use Rattle.city_doc.specs.ScriptTexts.{IsBadCommand, IsBefore, ItemsFault, TreeFault, ScriptTextFault}
-use Rattle.city_doc.specs.ScriptSearch.{first_at, unless, plain_command, bad_script, bad_command, bad_command_in}
-use Rattle.city_doc.proofs.AllRead.{both, in_all}
+use Rattle.city_doc.specs.declared.fault.ScriptFault.TheVariants.{OutOfMemory, BadScript, BadCommand, BadVertex}
+use Rattle.city_doc.specs.BadCommands.{is_bad_command, is_misplaced}
+use Rattle.city_doc.specs.ScriptTrees.{ScriptParts, array_of, all_read, vertex_count, parts_of, are_too_many}
+use Rattle.city_doc.specs.ScriptTexts.{HasAt, IsBefore, IsFirstAt, PartsFault, ItemsFault, TreeFault}
+use Rattle.city_doc.specs.ScriptSearch.{first_at, unless, bad_script, place_if, first_in, place_in, first_command}
 use Rattle.city_doc.proofs.FirstAt.{first_at-is, first_at-none}
-use Rattle.city_doc.proofs.PlainCommands.{none-bad_command, bad_command-none}
-use Rattle.city_doc.proofs.PlainScripts.{are_good_parts, all_good}
 
 unless_some : {A B : Type 0} (o : Option A) (y z : B) → unless o y ≡ Some z → (o ≡ None) × (z ≡ y)
 unless_some None y z h = let is : z ≡ y = cc in (refl, is)
@@ -36,50 +30,67 @@ first_bad_script ds f h =
       ((r.x, r.there, bad.0), λ k lower other. unless_none (parts_of other.0) (BadScript (0 + k)) (r.before k other.0 lower other.1) other.2),
     )
 
--- ---- too many
+-- ---- the first command that has something
 
-pub too_many : (ds : List Data) (ps : List ScriptParts) → all_read parts_of ds ≡ Some ps → are_too_many ps ≡ true → ItemsFault ds TooMany
-too_many ds ps read h = inr (ps, read, inl (refl, h))
+placed : (b : Bool) (i n : ℕ) → (if b then Some i else None) ≡ Some n → (b ≡ true) × (n ≡ i)
+placed true i n h = let is : n ≡ i = cc in (refl, is)
+placed false i n h = absurd (let no : ⊥ = cc in no)
 
--- ---- the first command that is refused
+unplaced : (b : Bool) (i : ℕ) → (if b then Some i else None) ≡ None → b ≡ true → ⊥
+unplaced true i h e = cc
+unplaced false i h e = true≢false (sym e)
 
-same_parts : (ps : List ScriptParts) (k n j : ℕ) (p q : ScriptParts) (d : Data) → k ≡ n → slice_get ps k ≡ Some p → slice_get ps n ≡ Some q → slice_get p.commands j ≡ Some d → slice_get q.commands j ≡ Some d
-same_parts ps k n j p q d e at there here =
-    let both_are : Some p ≡ Some q = sym at ∙ ap (slice_get ps) e ∙ there in
-    let is : p ≡ q = cc in
-    sym (ap (λ (r : ScriptParts). slice_get r.commands j) is) ∙ here
+paired : (o : Option ℕ) (n : ℕ) (at : ℕ × ℕ) → option_map {U = ℕ × ℕ} (λ i. (n, i)) o ≡ Some at → (o ≡ Some at.1) × (at.0 ≡ n)
+paired None n at h = absurd (let no : ⊥ = cc in no)
+paired (Some i) n at h = let is : at ≡ (n, i) = cc in (ap Some (sym (ap (λ (p : ℕ × ℕ). p.1) is)), ap (λ (p : ℕ × ℕ). p.0) is)
 
-none_before : (ps : List ScriptParts) (p : ScriptParts) (n i k j : ℕ) → slice_get ps n ≡ Some p
-    → ((l : ℕ) (q : ScriptParts) → l < n → slice_get ps l ≡ Some q → bad_command_in (0 + l) q ≡ None)
-    → ((l : ℕ) (d : Data) → l < i → slice_get p.commands l ≡ Some d → bad_command (0 + n) (0 + l) d ≡ None)
-    → IsBefore k j n i → IsBadCommand ps k j → ⊥
-none_before ps p n i k j there scripts commands (inl lower) bad =
-    unless_none (plain_command bad.1) (BadCommand (0 + k) (0 + j))
-    (first_at-none (bad_command (0 + k)) 0 bad.0.commands (scripts k bad.0 lower bad.2) j bad.1 bad.3) (bad_command-none bad.1 bad.4)
-none_before ps p n i k j there scripts commands (inr same) bad =
-    unless_none (plain_command bad.1) (BadCommand (0 + n) (0 + j))
-    (commands j bad.1 same.1 (same_parts ps k n j bad.0 p bad.1 same.0 bad.2 there bad.3)) (bad_command-none bad.1 bad.4)
+unpaired : (o : Option ℕ) (n : ℕ) → option_map {U = ℕ × ℕ} (λ i. (n, i)) o ≡ None → o ≡ None
+unpaired None n h = refl
+unpaired (Some i) n h = absurd (let no : ⊥ = cc in no)
 
-pub first_bad_command : (ds : List Data) (ps : List ScriptParts) (f : ScriptFault) → list_all is_whole ds ≡ true → all_read parts_of ds ≡ Some ps → are_too_many ps ≡ false
-    → first_at bad_command_in 0 ps ≡ Some f → ItemsFault ds f
-first_bad_command ds ps f whole read few h =
-    let r = first_at-is bad_command_in 0 ps f h in
-    let q = first_at-is (bad_command (0 + r.place)) 0 r.x.commands f r.found in
-    let bad = unless_some (plain_command q.x) (BadCommand (0 + r.place) (0 + q.place)) f q.found in
-    let ok = both (are_vertices r.x.vertices) (list_all is_whole r.x.commands) (in_all are_good_parts ps r.place r.x (all_good ds ps whole read) r.there) in
-    let refused : is_bad_command q.x ≡ true = none-bad_command q.x (in_all is_whole r.x.commands q.place q.x ok.1 q.there) bad.0 in
-    let named : f ≡ BadCommand r.place q.place = bad.1 ∙ ap (λ n. BadCommand n (0 + q.place)) (zero-add r.place) ∙ ap (BadCommand r.place) (zero-add q.place) in
-    inr (
-      ps,
-      read,
-      inr (
-        r.place,
-        q.place,
-        named,
-        few,
-        ((r.x, q.x, r.there, q.there, refused), λ k j earlier other. none_before ps r.x r.place q.place k j r.there r.before q.before earlier other),
-      ),
-    )
+-- no command of a script has it
+none_in : (test : ℕ → Data → Bool) (p : ScriptParts) (j : ℕ) (d : Data) → first_in test (vertex_count p.vertices) p.commands ≡ None → slice_get p.commands j ≡ Some d → test (vertex_count p.vertices) d ≡ true → ⊥
+none_in test p j d none at has =
+    unplaced (test (vertex_count p.vertices) d) (0 + j) (first_at-none (place_if (test (vertex_count p.vertices))) 0 p.commands none j d at) has
+
+pub first_command-none : (test : ℕ → Data → Bool) (ps : List ScriptParts) → first_command test ps ≡ None → (n i : ℕ) → HasAt test ps n i → ⊥
+first_command-none test ps none n i has =
+    none_in test has.0 i has.1 (unpaired (first_in test (vertex_count has.0.vertices) has.0.commands) (0 + n) (first_at-none (place_in test) 0 ps none n has.0 has.2)) has.3 has.4
+
+same_parts : (ps : List ScriptParts) (k n : ℕ) (p q : ScriptParts) → k ≡ n → slice_get ps k ≡ Some p → slice_get ps n ≡ Some q → p ≡ q
+same_parts ps k n p q e at there = let both_are : Some p ≡ Some q = sym at ∙ ap (slice_get ps) e ∙ there in cc
+
+none_before : (test : ℕ → Data → Bool) (ps : List ScriptParts) (p : ScriptParts) (n i k j : ℕ) → slice_get ps n ≡ Some p
+    → ((l : ℕ) (q : ScriptParts) → l < n → slice_get ps l ≡ Some q → place_in test (0 + l) q ≡ None)
+    → ((l : ℕ) (d : Data) → l < i → slice_get p.commands l ≡ Some d → place_if (test (vertex_count p.vertices)) (0 + l) d ≡ None)
+    → IsBefore k j n i → HasAt test ps k j → ⊥
+none_before test ps p n i k j there scripts commands (inl lower) has = none_in test has.0 j has.1 (unpaired (first_in test (vertex_count has.0.vertices) has.0.commands) (0 + k) (scripts k has.0 lower has.2)) has.3 has.4
+none_before test ps p n i k j there scripts commands (inr same) has =
+    let is = same_parts ps k n has.0 p same.0 has.2 there in
+    let at : slice_get p.commands j ≡ Some has.1 = sym (ap (λ (q : ScriptParts). slice_get q.commands j) is) ∙ has.3 in
+    let still : test (vertex_count p.vertices) has.1 ≡ true = sym (ap (λ (q : ScriptParts). test (vertex_count q.vertices) has.1) is) ∙ has.4 in
+    unplaced (test (vertex_count p.vertices) has.1) (0 + j) (commands j has.1 same.1 at) still
+
+pub first_command-is : (test : ℕ → Data → Bool) (ps : List ScriptParts) (n i : ℕ) → first_command test ps ≡ Some (n, i) → IsFirstAt test ps n i
+first_command-is test ps n i h =
+    let r = first_at-is (place_in test) 0 ps (n, i) h in
+    let found = paired (first_in test (vertex_count r.x.vertices) r.x.commands) (0 + r.place) (n, i) r.found in
+    let q = first_at-is (place_if (test (vertex_count r.x.vertices))) 0 r.x.commands i found.0 in
+    let has = placed (test (vertex_count r.x.vertices) q.x) (0 + q.place) i q.found in
+    let script : r.place ≡ n = sym (found.1 ∙ zero-add r.place) in
+    let command : q.place ≡ i = sym (has.1 ∙ zero-add q.place) in
+    let first : IsFirstAt test ps r.place q.place =
+    ((r.x, q.x, r.there, q.there, has.0), λ k j earlier other. none_before test ps r.x r.place q.place k j r.there r.before q.before earlier other) in
+    subst (λ m. IsFirstAt test ps m i) script (subst (λ m. IsFirstAt test ps r.place m) command first)
+
+-- ---- the first fault of scripts
+
+pub bad_command-fault : (ps : List ScriptParts) (n i : ℕ) → are_too_many ps ≡ false → first_command (λ count d. is_bad_command d) ps ≡ Some (n, i) → PartsFault ps (BadCommand n i)
+bad_command-fault ps n i few h = inr (inl (n, i, refl, few, first_command-is (λ count d. is_bad_command d) ps n i h))
+
+pub bad_vertex-fault : (ps : List ScriptParts) (n i : ℕ) → are_too_many ps ≡ false → first_command (λ count d. is_bad_command d) ps ≡ None → first_command is_misplaced ps ≡ Some (n, i)
+    → PartsFault ps (BadVertex n i)
+bad_vertex-fault ps n i few good h = inr (inr (n, i, refl, few, first_command-none (λ count d. is_bad_command d) ps good, first_command-is is_misplaced ps n i h))
 
 -- ---- a fault, or want of memory
 
@@ -87,15 +98,9 @@ pub script_fault_or : (ds : List Data) (f : ScriptFault) → (f ≡ OutOfMemory)
 script_fault_or ds f (inl h) = inl h
 script_fault_or ds f (inr h) = inr (first_bad_script ds f h)
 
-pub command_fault_or : (ds : List Data) (ps : List ScriptParts) (f : ScriptFault) → list_all is_whole ds ≡ true → all_read parts_of ds ≡ Some ps → are_too_many ps ≡ false
-    → (f ≡ OutOfMemory) ⊎ (first_at bad_command_in 0 ps ≡ Some f) → (f ≡ OutOfMemory) ⊎ ItemsFault ds f
-command_fault_or ds ps f whole read few (inl h) = inl h
-command_fault_or ds ps f whole read few (inr h) = inr (first_bad_command ds ps f whole read few h)
+pub parts_fault-items : (ds : List Data) (ps : List ScriptParts) (f : ScriptFault) → all_read parts_of ds ≡ Some ps → PartsFault ps f → ItemsFault ds f
+parts_fault-items ds ps f read h = inr (ps, read, h)
 
 pub items_fault_or : (d : Data) (ds : List Data) (f : ScriptFault) → array_of d ≡ Some ds → (f ≡ OutOfMemory) ⊎ ItemsFault ds f → (f ≡ OutOfMemory) ⊎ TreeFault d f
 items_fault_or d ds f is (inl h) = inl h
 items_fault_or d ds f is (inr h) = inr (inr (ds, is, h))
-
-pub tree_fault_or : (text : List ℕ) (d : Data) (f : ScriptFault) → HasTree text d → is_whole d ≡ true → (f ≡ OutOfMemory) ⊎ TreeFault d f → ScriptTextFault text f
-tree_fault_or text d f tree whole (inl h) = inl h
-tree_fault_or text d f tree whole (inr h) = inr (inr (inr (inr (d, tree, whole, h))))

@@ -4,15 +4,15 @@ use Rattle.std.specs.Prelude.{◌==◌, option_and_then, codes}
 use Rattle.std.proofs.Math.Seq.{drop-cons}
 use Rattle.serde_json.specs.Data.{Data, Members}
 use Rattle.serde_json.specs.Find.{get_member}
+use Rattle.city_model.specs.declared.object.Point.{Point}
 use Rattle.city_model.specs.declared.command.Command.{Command}
 use Rattle.city_model.specs.Members.{without}
 use Rattle.city_model.specs.Scripts.{is_end, is_empty_list, ends_once}
 use Rattle.city_model.proofs.MemberLaws.{get_member-without}
-use Rattle.city_doc.specs.CommandForms.{text_in}
+use Rattle.city_doc.specs.CommandForms.{text_in, command_of}
 use Rattle.city_doc.specs.ScriptTrees.{array_of, ended, is_end_word, is_last, word_ends, commands_in, parts_in, all_read}
-use Rattle.city_doc.specs.ScriptSearch.{plain_command}
 use Rattle.city_doc.proofs.AllRead.{all_read-cons, all_read-nil}
-use Rattle.city_doc.proofs.PlainCommands.{plain_command-end}
+use Rattle.city_doc.proofs.CommandMeanings.{command_of-end}
 
 -- ---- the place of the first word that ends a script
 
@@ -31,17 +31,17 @@ word_ends-drop f xs i x h at end =
 
 -- ---- the commands that are read end as their trees do
 
-is_empty-read : (ds : List Data) (cs : List Command) → all_read plain_command ds ≡ Some cs → is_empty_list cs ≡ is_last ds
-is_empty-read [] cs h = ap is_empty_list (all_read-nil plain_command cs h)
-is_empty-read (d ∷ ds) cs h = let r = all_read-cons plain_command d ds cs h in ap is_empty_list r.4
+is_empty-read : (points : List Point) (ds : List Data) (cs : List Command) → all_read (command_of points) ds ≡ Some cs → is_empty_list cs ≡ is_last ds
+is_empty-read points [] cs h = ap is_empty_list (all_read-nil (command_of points) cs h)
+is_empty-read points (d ∷ ds) cs h = let r = all_read-cons (command_of points) d ds cs h in ap is_empty_list r.4
 
-pub ends_once-read : (ds : List Data) (cs : List Command) → all_read plain_command ds ≡ Some cs → ends_once cs ≡ word_ends ds
-ends_once-read [] cs h = ap ends_once (all_read-nil plain_command cs h)
-ends_once-read (d ∷ ds) cs h =
-    let r = all_read-cons plain_command d ds cs h in
-    let end : is_end r.0 ≡ is_end_word d = plain_command-end d r.0 r.2 in
-    let last : is_empty_list r.1 ≡ is_last ds = is_empty-read ds r.1 r.3 in
-    let rest : ends_once r.1 ≡ word_ends ds = ends_once-read ds r.1 r.3 in
+pub ends_once-read : (points : List Point) (ds : List Data) (cs : List Command) → all_read (command_of points) ds ≡ Some cs → ends_once cs ≡ word_ends ds
+ends_once-read points [] cs h = ap ends_once (all_read-nil (command_of points) cs h)
+ends_once-read points (d ∷ ds) cs h =
+    let r = all_read-cons (command_of points) d ds cs h in
+    let end : is_end r.0 ≡ is_end_word d = command_of-end points d r.0 r.2 in
+    let last : is_empty_list r.1 ≡ is_last ds = is_empty-read points ds r.1 r.3 in
+    let rest : ends_once r.1 ≡ word_ends ds = ends_once-read points ds r.1 r.3 in
     ap ends_once r.4 ∙ rw (end, last, rest) refl
 
 -- ---- members taken out one after another

@@ -1,21 +1,31 @@
--- A tree of whole numbers in which no fault stands has a city, and a lawful one.
-use Rattle.std.proofs.Common.{◌≡◌, ℤ, List, true, true≢false, Option, Some, None, refl, sym, ap, subst, ◌∙◌}
-use Rattle.std.specs.Prelude.{option_and_then, codes}
-use Rattle.serde_json.specs.Data.{Data, null, boolean, number, string, array, object, Members}
+-- A tree of whole numbers that has the form of a document has a city.
+use Rattle.std.proofs.Common.{◌≡◌, ℕ, ℤ, List, [], ◌∷◌, true, true≢false, Option, Some, None, refl, sym, ap, subst, ◌∙◌}
+use Rattle.std.specs.Prelude.{length, MatchOption, option_and_then, codes, is_some}
+use Rattle.serde_json.specs.Data.{Data, null, boolean, number, string, array, object, Members, no_members, member}
 use Rattle.serde_json.specs.Find.{get, get_member, as_object}
 use Rattle.city_model.specs.declared.frame.Frame.{Frame}
-use Rattle.city_model.specs.CityMap.{at}
+use Rattle.city_model.specs.declared.object.Body.{Body}
+use Rattle.city_model.specs.declared.object.Object.{Object}
+use Rattle.city_model.specs.declared.object.Point.{Point}
+use Rattle.city_model.specs.CityMap.{Entries, at}
 use Rattle.city_model.specs.Kept.{kept_at_top, kept_at_transform, is_empty_object_or_absent}
-use Rattle.city_model.specs.Members.{without}
+use Rattle.city_model.specs.Members.{without, AreOrdered}
 use Rattle.city_model.specs.Relations.{IsLawful}
 use Rattle.city_model.specs.Whole.{is_whole, members_whole}
 use Rattle.city_model.proofs.MemberLaws.{get_member-without}
-use Rattle.city_doc.specs.Bodies.{kept_if}
-use Rattle.city_doc.specs.Documents.{CityValue, city_of, objects_in, AreFaultless, IsFaultless}
+use Rattle.city_doc.specs.declared.fault.ReadFault.{ReadFault}
+use Rattle.city_doc.specs.Bodies.{kept_if, body_of, ids_at}
+use Rattle.city_doc.specs.CityFaults.{or_empty}
+use Rattle.city_doc.specs.Documents.{CityValue, city_of, objects_in, points_in, vertices_in, is_unsupported, AreReadable, HasForm, StandsAmong, StandsIn, IsFirst}
 use Rattle.city_doc.specs.Frames.{triple_at, has_triple, more_of, frame_with, frame_of_rest, is_transform, all_objects, are_all_objects, are_objects, without_transform_members, without_top_members}
+use Rattle.city_doc.specs.LenientCities.{lenient_entries_of, lenient_city_of, IsReadOf}
+use Rattle.city_doc.specs.ObjectFaults.{is_unknown_type, is_bad_geometry, has_bad_vertex, has_bad_list}
+use Rattle.city_doc.specs.Searches.{first_with}
 use Rattle.city_doc.proofs.Cities.{get-object, objects_at, city_joined}
 use Rattle.city_doc.proofs.KeptMembers.{kept_all, whole_member, whole_object, transform_admitted, top_admitted}
-use Rattle.city_doc.proofs.Plain.{entries_read, plain_is_lawful}
+use Rattle.city_doc.proofs.LenientEntries.{none_first, entries_of-lenient}
+use Rattle.city_doc.proofs.Order.{first_in}
+use Rattle.city_doc.proofs.ReadBodies.{IsReadable, body_of-some}
 use Rattle.city_doc.proofs.Right.{IsRight, is_right, both, some_of, has_points}
 
 -- ---- the frame
@@ -74,6 +84,13 @@ all_there : (o : Option Members) → are_all_objects o ≡ true → (ms : Member
 all_there None h = absurd (true≢false (sym h))
 all_there (Some ms) h = (ms, refl, h)
 
+-- the first of the objects, and the others
+record StartsReadable (points : List Point) (d : Data) (ms : Members) : Type 0 where
+  first : IsReadable points d
+  rest : AreReadable (length points) ms
+  whole : members_whole ms ≡ true
+  are_objects : all_objects ms ≡ true
+
 -- ---- the document
 
 document_object : (d : Data) → is_transform (get (codes "transform") d) ≡ true → (top : Members) × (as_object d ≡ Some top)
@@ -116,23 +133,95 @@ has_parts d whole right =
       is_frame = frame.1;
     }
 
-city_with : (d : Data) → IsRight d → AreFaultless (objects_in d) → HasParts d → (c : CityValue) × (city_of d ≡ Some c) × IsLawful (at c.1)
-city_with d right faultless parts =
-    let among = subst AreFaultless (objects_at d parts.top parts.is_top parts.objects parts.are_objects) faultless in
-    let points = has_points d right in
-    let es = entries_read points.0 parts.objects parts.whole parts.all among in
-    ((parts.frame, es.0), city_joined d parts.top parts.is_top parts.objects parts.are_objects points.0 es.0 parts.frame right points.1 es.1 parts.is_frame, plain_is_lawful es.0 es.2)
+-- ---- the city
 
-has_city : (d : Data) → is_whole d ≡ true → IsFaultless d → (c : CityValue) × (city_of d ≡ Some c) × IsLawful (at c.1)
+starts_readable : (points : List Point) (id : List ℕ) (d : Data) (ms : Members) → members_whole (member id d ms) ≡ true → all_objects (member id d ms) ≡ true → AreReadable (length points) (member id d ms) → StartsReadable points d ms
+starts_readable points id d ms whole are h =
+    let w = both (is_whole d) (members_whole ms) whole in
+    let a = both (is_some (as_object d)) (all_objects ms) are in
+    let known = none_first (is_unknown_type d) id (first_with is_unknown_type ms) h.known in
+    let supported = none_first (is_unsupported d) id (first_with is_unsupported ms) h.supported in
+    let formed = none_first (is_bad_geometry d) id (first_with is_bad_geometry ms) h.formed in
+    let placed = none_first (has_bad_vertex (length points) d) id (first_with (has_bad_vertex (length points)) ms) h.placed in
+    record {
+      first = record { whole = w.0; is_object = a.0; known = known.0; supported = supported.0; placed = placed.0 };
+      rest = record { known = known.1; supported = supported.1; formed = formed.1; placed = placed.1 };
+      whole = w.1;
+      are_objects = a.1;
+    }
+
+entry_read : (points : List Point) (id : List ℕ) (d : Data) (ms : Members) (body : Body) (es : Entries) → body_of points d ≡ Some body → lenient_entries_of points ms ≡ Some es
+    → (all : Entries) × (lenient_entries_of points (member id d ms) ≡ Some all)
+entry_read points id d ms body es one rest =
+    let o : Object = record { body = body; parents = or_empty (ids_at (codes "parents") d); children = or_empty (ids_at (codes "children") d) } in
+    let read : lenient_entries_of points (member id d ms) ≡ Some ((id, o) ∷ es) = rw (one, rest) refl in
+    ((id, o) ∷ es, read)
+
+entries_read : (points : List Point) (ms : Members) → members_whole ms ≡ true → all_objects ms ≡ true → AreReadable (length points) ms → (es : Entries) × (lenient_entries_of points ms ≡ Some es)
+entries_read points no_members whole are h = ([], refl)
+entries_read points (member id d ms) whole are h =
+    let start = starts_readable points id d ms whole are h in
+    let body = body_of-some points d start.first in
+    let es = entries_read points ms start.whole start.are_objects start.rest in
+    entry_read points id d ms body.0 es.0 body.1 es.1
+
+-- what the city of a tree was read of
+record IsCityOf (d : Data) (c : CityValue) : Type 0 where
+  entries : lenient_entries_of (vertices_in d) (objects_in d) ≡ Some c.1
+  city : first_with has_bad_list (objects_in d) ≡ None → city_of d ≡ Some c
+
+lenient_joined : (points : List Point) (d : Data) (top ms : Members) (es : Entries) (frame : Frame) → as_object d ≡ Some top → option_and_then as_object (get_member (codes "CityObjects") top) ≡ Some ms
+    → lenient_entries_of points ms ≡ Some es → frame_of_rest (without (codes "CityObjects") top) ≡ Some frame → lenient_city_of points d ≡ Some (frame, es)
+lenient_joined points d top ms es frame is_top are read is_frame = rw (is_top, are, read, is_frame) refl
+
+city_with : (d : Data) → IsRight d → AreReadable (length (vertices_in d)) (objects_in d) → HasParts d → (c : CityValue) × (lenient_city_of (vertices_in d) d ≡ Some c) × IsCityOf d c
+city_with d right readable parts =
+    let among = objects_at d parts.top parts.is_top parts.objects parts.are_objects in
+    let es = entries_read (vertices_in d) parts.objects parts.whole parts.all (subst (AreReadable (length (vertices_in d))) among readable) in
+    let points = has_points d right in
+    let are : points_in d ≡ Some (vertices_in d) = points.1 ∙ ap Some (sym (ap or_empty points.1)) in (
+      (parts.frame, es.0),
+      lenient_joined (vertices_in d) d parts.top parts.objects es.0 parts.frame parts.is_top parts.are_objects es.1 parts.is_frame,
+      record {
+        entries = ap (lenient_entries_of (vertices_in d)) among ∙ es.1;
+        city = λ none.
+            city_joined d parts.top parts.is_top parts.objects parts.are_objects (vertices_in d) es.0 parts.frame right are
+            (entries_of-lenient (vertices_in d) parts.objects es.0 (ap (first_with has_bad_list) (sym among) ∙ none) es.1) parts.is_frame;
+      },
+    )
+
+has_city : (d : Data) → is_whole d ≡ true → HasForm d → (c : CityValue) × (lenient_city_of (vertices_in d) d ≡ Some c) × IsCityOf d c
 has_city d whole h = let right = is_right d h.right in city_with d right h.objects (has_parts d whole right)
 
--- where no fault stands there is a city
-pub no_city : (d : Data) → is_whole d ≡ true → IsFaultless d → city_of d ≡ None → ⊥
+-- a tree that has the form of a document has a city
+no_city : (d : Data) → is_whole d ≡ true → HasForm d → lenient_city_of (vertices_in d) d ≡ None → ⊥
 no_city d whole h missing = let c = has_city d whole h in let there_is = c.1 in cc
 
-pub city_is_lawful : (d : Data) (c : CityValue) → is_whole d ≡ true → IsFaultless d → city_of d ≡ Some c → IsLawful (at c.1)
-city_is_lawful d c whole h is =
+is_city_of : (d : Data) (c : CityValue) → is_whole d ≡ true → HasForm d → lenient_city_of (vertices_in d) d ≡ Some c → IsCityOf d c
+is_city_of d c whole h is =
     let k = has_city d whole h in
     let is_there = k.1 in
     let same : k.0 ≡ c = cc in
-    subst (λ x. IsLawful (at x.1)) same k.2
+    subst (IsCityOf d) same k.2
+
+-- ---- the city is judged
+
+is_read_of : (d : Data) (c : CityValue) (bad : Option (List ℕ)) → HasForm d → AreOrdered (objects_in d) → bad ≡ first_with has_bad_list (objects_in d) → IsCityOf d c → IsReadOf (vertices_in d) (objects_in d) c.1 bad
+is_read_of d c bad form ordered lists is = record { ordered = ordered; readable = form.objects; read = is.entries; lists = lists }
+
+judged_as : (d : Data) (c : CityValue) (bad : Option (List ℕ)) (fault : Option ReadFault) → is_whole d ≡ true → HasForm d → bad ≡ first_with has_bad_list (objects_in d) → IsCityOf d c
+    → MatchOption fault (IsLawful (at c.1) × (bad ≡ None)) (λ f. IsFirst (StandsAmong (vertices_in d) (objects_in d)) f) → MatchOption fault ((city_of d ≡ Some c) × IsLawful (at c.1)) (λ f. IsFirst (StandsIn d) f)
+judged_as d c bad None whole form lists is h = (is.city (sym lists ∙ h.1), h.0)
+judged_as d c bad (Some f) whole form lists is h = first_in d f whole form.right h
+
+-- what is found of a city that was read of a tree is what stands in the tree
+pub judged : (d : Data) (points : List Point) (c : CityValue) (bad : Option (List ℕ)) (fault : Option ReadFault) → is_whole d ≡ true → HasForm d → points ≡ vertices_in d → lenient_city_of points d ≡ Some c
+    → AreOrdered (objects_in d) → bad ≡ first_with has_bad_list (objects_in d)
+    → ((ps : List Point) (ms : Members) → IsReadOf ps ms c.1 bad → MatchOption fault (IsLawful (at c.1) × (bad ≡ None)) (λ f. IsFirst (StandsAmong ps ms) f))
+    → MatchOption fault ((city_of d ≡ Some c) × IsLawful (at c.1)) (λ f. IsFirst (StandsIn d) f)
+judged d points c bad fault whole form same built ordered lists found =
+    let is = is_city_of d c whole form (ap (λ ps. lenient_city_of ps d) (sym same) ∙ built) in
+    judged_as d c bad fault whole form lists is (found (vertices_in d) (objects_in d) (is_read_of d c bad form ordered lists is))
+
+pub unbuilt : (d : Data) (points : List Point) → is_whole d ≡ true → HasForm d → points ≡ vertices_in d → lenient_city_of points d ≡ None → ⊥
+unbuilt d points whole form same none = no_city d whole form (ap (λ ps. lenient_city_of ps d) (sym same) ∙ none)

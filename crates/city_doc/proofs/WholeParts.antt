@@ -1,18 +1,24 @@
 -- The parts of a tree of whole numbers are such trees.
-use Rattle.std.proofs.Common.{◌≡◌, ℕ, List, [], ◌∷◌, true, Ordering, Less, Equal, Greater, Option, Some, None, option_map, refl, ap, ◌∙◌, nat_cmp}
+use Rattle.std.proofs.Common.{◌≡◌, ℕ, List, [], ◌∷◌, true, Ordering, Less, Equal, Greater, Option, Some, None, option_map, refl, ap, ◌∙◌, nat_cmp, length, map}
+use Rattle.std.proofs.lemmas.List.{length-map}
 use Rattle.std.specs.Ordering.{match_ordering}
 use Rattle.std.specs.Cmp.Lexicographic.{slice_cmp}
 use Rattle.std.specs.List.{list_all}
 use Rattle.serde_json.specs.Data.{Data, null, boolean, number, string, array, object, Items, no_items, item, Members, no_members, member}
 use Rattle.serde_json.specs.Find.{get, get_member, as_object, as_array}
-use Rattle.serde_json.specs.View.{items_of}
+use Rattle.serde_json.specs.View.{view, items_of, items_view}
+use Rattle.serde_json.specs.declared.value.Value.{Value}
 use Rattle.city_model.specs.Whole.{is_whole, items_whole, members_whole}
-use Rattle.city_doc.specs.ScriptTrees.{items_list, array_of}
+use Rattle.city_doc.specs.ScriptTrees.{items_list, array_of, count_of}
 use Rattle.city_doc.proofs.AllRead.{both}
 
 pub items_list-of : (ds : List Data) → items_list (items_of ds) ≡ ds
 items_list-of [] = refl
 items_list-of (d ∷ ds) = ap (λ es. d ∷ es) (items_list-of ds)
+
+-- how many items an array has
+pub count_of-items : (d : Data) (vs : List Value) → as_array d ≡ Some (items_view vs) → count_of (array_of d) ≡ length vs
+count_of-items d vs h = ap (λ o. count_of (option_map items_list o)) h ∙ ap length (items_list-of (map view vs)) ∙ length-map vs view
 
 items_list-whole : (ds : Items) → items_whole ds ≡ true → list_all is_whole (items_list ds) ≡ true
 items_list-whole no_items h = refl

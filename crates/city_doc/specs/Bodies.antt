@@ -2,7 +2,7 @@
 use Rattle.std.specs.Prelude.{ℕ, ℤ, pos, negsuc, List, [], ◌∷◌, Bool, Option, Some, None, option_map, option_and_then, slice_get, codes, if◌then◌else◌}
 use Rattle.std.specs.Str.{bytes_eq}
 use Rattle.serde_json.specs.Data.{Data, Items, no_items, item, Members}
-use Rattle.serde_json.specs.Find.{get, as_str, as_array, as_object, as_number, as_i64}
+use Rattle.serde_json.specs.Find.{get, get_member, as_str, as_array, as_object, as_number, as_i64}
 use Rattle.city_model.specs.declared.object.Point.{Point}
 use Rattle.city_model.specs.declared.object.Shape.{Shape}
 use Rattle.city_model.specs.declared.object.Shape.TheVariants.{MultiSurface, CompositeSurface, Solid}
@@ -66,11 +66,18 @@ text_at name d = option_and_then as_str (get name d)
 abbrev pub without_geometry_members : Members → Members
 without_geometry_members ms = without (codes "boundaries") (without (codes "lod") (without (codes "type") ms))
 
+-- the geometry of this shape, of the members of its tree
+abbrev pub geometry_with : Shape → Members → Option Geometry
+geometry_with shape ms =
+    option_and_then (λ lod. option_map (λ kept. record { lod = lod; shape = shape; extra = kept }) (kept_if kept_at_geometry (without_geometry_members ms)))
+    (option_and_then as_str (get_member (codes "lod") ms))
+
+-- the shape of the type and the boundaries of a tree
+abbrev pub shape_in : List Point → Data → Option Shape
+shape_in points d = option_and_then (λ kind. option_and_then (shape_of points kind) (get (codes "boundaries") d)) (text_at (codes "type") d)
+
 abbrev pub geometry_of : List Point → Data → Option Geometry
-geometry_of points d =
-    option_and_then (λ ms. option_and_then (λ lod. option_and_then (λ shape. option_map (λ kept. record { lod = lod; shape = shape; extra = kept })
-    (kept_if kept_at_geometry (without_geometry_members ms)))
-    (option_and_then (λ kind. option_and_then (shape_of points kind) (get (codes "boundaries") d)) (text_at (codes "type") d))) (text_at (codes "lod") d)) (as_object d)
+geometry_of points d = option_and_then (λ shape. option_and_then (geometry_with shape) (as_object d)) (shape_in points d)
 
 abbrev pub type_of : Data → Option ObjectType
 type_of d = option_and_then type_named (text_at (codes "type") d)

@@ -1,19 +1,16 @@
 -- The command that a tree stands for, in the form that its members give it.
-use Rattle.std.specs.Prelude.{ℕ, ◌+◌, ◌==◌, List, Bool, Option, Some, None, option_map, option_and_then, codes, is_some, ◌||◌, if◌then◌else◌}
+use Rattle.std.specs.Prelude.{ℕ, ◌==◌, List, Bool, Option, Some, None, option_map, option_and_then, codes, is_some, ◌||◌, if◌then◌else◌}
 use Rattle.std.specs.Option.{option_or}
 use Rattle.std.specs.Str.{bytes_eq}
-use Rattle.serde_json.specs.Data.{Data, Members, no_members, member}
+use Rattle.serde_json.specs.Data.{Data, Members}
 use Rattle.serde_json.specs.Find.{get, get_member, as_str, as_object}
 use Rattle.city_model.specs.declared.object.Point.{Point}
 use Rattle.city_model.specs.declared.command.Command.{Command}
 use Rattle.city_model.specs.declared.command.Command.TheVariants.{Read, Put, Delete, Attach, Detach, Commit, Abort}
+use Rattle.city_model.specs.Members.{members_count}
 use Rattle.city_doc.specs.Bodies.{body_of}
 
 -- ---- members
-
-abbrev pub members_count : Members → ℕ
-members_count no_members = 0
-members_count (member k d ms) = 1 + members_count ms
 
 -- the member of this name, where it is a text
 abbrev pub text_in : List ℕ → Members → Option (List ℕ)

@@ -1,16 +1,18 @@
 -- What a document stands for, and how it is refused.
-use Rattle.std.specs.Prelude.{◌≡◌, ◌⊎◌, ◌<◌, ◌&&◌, ℕ, List, [], ◌∷◌, Bool, false, Option, Some, None, option_and_then, option_map, codes, is_some, if◌then◌else◌}
+use Rattle.std.specs.Prelude.{◌≡◌, ◌⊎◌, ◌<◌, ◌&&◌, ℕ, List, [], ◌∷◌, Bool, true, false, Option, Some, None, option_and_then, option_map, codes, is_some, length, if◌then◌else◌}
 use Rattle.serde_json.specs.Data.{Data, Members, no_members, member}
 use Rattle.serde_json.specs.Find.{get, get_member, as_object}
 use Rattle.city_model.specs.declared.frame.Frame.{Frame}
 use Rattle.city_model.specs.declared.object.Point.{Point}
-use Rattle.city_model.specs.CityMap.{Entries}
+use Rattle.city_model.specs.CityMap.{Entries, at}
+use Rattle.city_model.specs.Relations.{IsLawful}
 use Rattle.city_model.specs.Whole.{is_whole}
 use Rattle.city_doc.specs.declared.fault.ReadFault.{ReadFault}
 use Rattle.city_doc.specs.declared.fault.ReadFault.TheVariants.{OutOfMemory, TooLong, NotJson, NotWhole, NotCityJson, UnknownType, Unsupported, BadGeometry, BadVertex, BadRing, Relations, OpenShell}
 use Rattle.city_doc.specs.Bodies.{object_of}
+use Rattle.city_doc.specs.CityFaults.{or_empty, has_bad_ring, has_open_shell, IsLeastBadlyRelated}
 use Rattle.city_doc.specs.Frames.{is_text, frame_of, wrong_member}
-use Rattle.city_doc.specs.ObjectFaults.{is_unknown_type, unsupported_name, is_bad_geometry, is_related}
+use Rattle.city_doc.specs.ObjectFaults.{is_unknown_type, unsupported_name, is_bad_geometry, has_bad_vertex}
 use Rattle.city_doc.specs.Searches.{IsLeast, first_with}
 use Rattle.city_doc.specs.Texts.{IsText, IsTooLong, IsNoJson, HasTree}
 use Rattle.city_doc.specs.Triples.{points_of}
@@ -45,6 +47,10 @@ city_of d =
 abbrev pub StandsForCity : List ℕ → CityValue → Type 0
 StandsForCity text city = (d : Data) × IsText text d × (city_of d ≡ Some city)
 
+-- the text isn't too long, its numbers are whole, and it stands for this city, which is lawful
+abbrev pub IsAdmitted : List ℕ → CityValue → Type 0
+IsAdmitted text city = (d : Data) × HasTree text d × (is_whole d ≡ true) × (city_of d ≡ Some city) × IsLawful (at city.1)
+
 -- ---- how a document is refused
 
 abbrev pub members_of : Option Members → Members
@@ -55,6 +61,10 @@ members_of (Some ms) = ms
 abbrev pub objects_in : Data → Members
 objects_in d = members_of (option_and_then as_object (get (codes "CityObjects") d))
 
+-- the points of a tree's vertices
+abbrev pub vertices_in : Data → List Point
+vertices_in d = or_empty (points_in d)
+
 abbrev pub is_unsupported : Data → Bool
 is_unsupported d = is_some (unsupported_name d)
 
@@ -62,26 +72,26 @@ is_unsupported d = is_some (unsupported_name d)
 abbrev pub unsupported_at : Members → List ℕ → Option (List ℕ)
 unsupported_at objects id = option_and_then unsupported_name (get_member id objects)
 
--- the fault stands in the objects, and names the least id that has it
-abbrev pub StandsAmong : Members → ReadFault → Type 0
-StandsAmong objects OutOfMemory = ⊥
-StandsAmong objects TooLong = ⊥
-StandsAmong objects NotJson = ⊥
-StandsAmong objects NotWhole = ⊥
-StandsAmong objects (NotCityJson name) = ⊥
-StandsAmong objects (UnknownType id) = IsLeast is_unknown_type objects id
-StandsAmong objects (Unsupported id name) = IsLeast is_unsupported objects id × (unsupported_at objects id ≡ Some name)
-StandsAmong objects (BadGeometry id) = IsLeast is_bad_geometry objects id
-StandsAmong objects (BadVertex id) = ⊥
-StandsAmong objects (BadRing id) = ⊥
-StandsAmong objects (Relations id) = IsLeast is_related objects id
-StandsAmong objects (OpenShell id) = ⊥
+-- the fault stands in the objects, whose positions name these points, and it names the least id that has it
+abbrev pub StandsAmong : List Point → Members → ReadFault → Type 0
+StandsAmong points objects OutOfMemory = ⊥
+StandsAmong points objects TooLong = ⊥
+StandsAmong points objects NotJson = ⊥
+StandsAmong points objects NotWhole = ⊥
+StandsAmong points objects (NotCityJson name) = ⊥
+StandsAmong points objects (UnknownType id) = IsLeast is_unknown_type objects id
+StandsAmong points objects (Unsupported id name) = IsLeast is_unsupported objects id × (unsupported_at objects id ≡ Some name)
+StandsAmong points objects (BadGeometry id) = IsLeast is_bad_geometry objects id
+StandsAmong points objects (BadVertex id) = IsLeast (has_bad_vertex (length points)) objects id
+StandsAmong points objects (BadRing id) = IsLeast (has_bad_ring points) objects id
+StandsAmong points objects (Relations id) = IsLeastBadlyRelated points objects id
+StandsAmong points objects (OpenShell id) = IsLeast (has_open_shell points) objects id
 
 -- the fault stands in the tree
 abbrev pub StandsIn : Data → ReadFault → Type 0
 StandsIn d NotWhole = is_whole d ≡ false
 StandsIn d (NotCityJson name) = wrong_member d ≡ Some name
-StandsIn d f = StandsAmong (objects_in d) f
+StandsIn d f = StandsAmong (vertices_in d) (objects_in d) f
 
 -- the place of a fault in the order
 abbrev pub number_of : ReadFault → ℕ
@@ -110,16 +120,16 @@ IsFirstInTree text f = (d : Data) × HasTree text d × IsFirst (StandsIn d) f
 abbrev pub DocumentFault : List ℕ → ReadFault → Type 0
 DocumentFault text f = (f ≡ OutOfMemory) ⊎ (((f ≡ TooLong) × IsTooLong text) ⊎ (((f ≡ NotJson) × IsNoJson text) ⊎ IsFirstInTree text f))
 
--- ---- no fault
+-- ---- no fault that is judged before there is a city
 
--- no object has a fault
-pub record AreFaultless (objects : Members) : Type 0 where
+-- no object is of an unknown type, unsupported, or has a geometry that can't be read with this many vertices
+pub record AreReadable (count : ℕ) (objects : Members) : Type 0 where
   pub known : first_with is_unknown_type objects ≡ None
   pub supported : first_with is_unsupported objects ≡ None
-  pub plain : first_with is_bad_geometry objects ≡ None
-  pub unrelated : first_with is_related objects ≡ None
+  pub formed : first_with is_bad_geometry objects ≡ None
+  pub placed : first_with (has_bad_vertex count) objects ≡ None
 
--- no fault stands in a tree of whole numbers
-pub record IsFaultless (d : Data) : Type 0 where
+-- a tree of whole numbers has the form of a document
+pub record HasForm (d : Data) : Type 0 where
   pub right : wrong_member d ≡ None
-  pub objects : AreFaultless (objects_in d)
+  pub objects : AreReadable (length (vertices_in d)) (objects_in d)

@@ -1,5 +1,5 @@
 -- What is wrong with the tree of one object.
-use Rattle.std.specs.Prelude.{◌||◌, not, ℕ, List, [], ◌∷◌, Bool, true, false, Option, Some, None, option_and_then, codes, is_none, if◌then◌else◌}
+use Rattle.std.specs.Prelude.{◌||◌, not, ℕ, List, [], ◌∷◌, Bool, false, Option, Some, None, option_and_then, codes, is_none, if◌then◌else◌}
 use Rattle.std.specs.Option.{option_or}
 use Rattle.std.specs.List.{list_any}
 use Rattle.std.specs.Str.{bytes_eq}
@@ -8,7 +8,8 @@ use Rattle.serde_json.specs.Find.{get, as_array}
 use Rattle.city_model.specs.declared.object_type.ObjectType.{ObjectType}
 use Rattle.city_model.specs.Kept.{has_location}
 use Rattle.city_model.specs.Relations.{is_second_level}
-use Rattle.city_doc.specs.Bodies.{text_at, type_of}
+use Rattle.city_doc.specs.Bodies.{text_at, type_of, ids_at}
+use Rattle.city_doc.specs.Geometries.{is_number, is_place, are_geometries}
 
 -- the type is missing, is no text, or is unknown
 abbrev pub is_unknown_type : Data → Bool
@@ -19,8 +20,7 @@ is_unknown_type d = is_none (type_of d)
 -- types of geometry that aren't read
 abbrev pub unsupported_types : List (List ℕ)
 unsupported_types =
-    codes "MultiPoint" ∷ codes "MultiLineString" ∷ codes "GeometryInstance" ∷ codes "MultiSolid" ∷ codes "CompositeSolid"
-    ∷ codes "MultiSurface" ∷ codes "CompositeSurface" ∷ codes "Solid" ∷ []
+    codes "MultiPoint" ∷ codes "MultiLineString" ∷ codes "GeometryInstance" ∷ codes "MultiSolid" ∷ codes "CompositeSolid" ∷ []
 
 abbrev pub only_if : {A : Type 0} → (A → Bool) → A → Option A
 only_if test x = if test x then Some x else None
@@ -38,28 +38,22 @@ abbrev pub unsupported_name : Data → Option (List ℕ)
 unsupported_name d =
     if has_location (get (codes "address") d) then Some (codes "location") else option_and_then first_unsupported (option_and_then as_array (get (codes "geometry") d))
 
--- ---- geometries and relations, none of which are read yet
+-- ---- geometries
 
-abbrev pub has_no_items : Items → Bool
-has_no_items no_items = true
-has_no_items (item d ds) = false
-
-abbrev pub is_no_items : Option Items → Bool
-is_no_items None = false
-is_no_items (Some ds) = has_no_items ds
-
-abbrev pub is_absent_or_empty : Option Data → Bool
-is_absent_or_empty None = true
-is_absent_or_empty (Some d) = is_no_items (as_array d)
-
--- `geometry` is there and isn't an empty array
+-- `geometry` is there and isn't an array of geometries with numbers in their rings
 abbrev pub is_bad_geometry : Data → Bool
-is_bad_geometry d = not (is_absent_or_empty (get (codes "geometry") d))
+is_bad_geometry d = not (are_geometries is_number (get (codes "geometry") d))
+
+-- of geometries that aren't bad: a position that is negative, or isn't less than the count
+abbrev pub has_bad_vertex : ℕ → Data → Bool
+has_bad_vertex count d = not (are_geometries (is_place count) (get (codes "geometry") d))
+
+-- ---- relations
 
 abbrev pub is_second : Option ObjectType → Bool
 is_second None = false
 is_second (Some kind) = is_second_level kind
 
--- `parents` or `children` is there and isn't an empty array, or the type is second-level
-abbrev pub is_related : Data → Bool
-is_related d = not (is_absent_or_empty (get (codes "parents") d)) || not (is_absent_or_empty (get (codes "children") d)) || is_second (type_of d)
+-- `parents` or `children` is there and isn't an array of texts
+abbrev pub has_bad_list : Data → Bool
+has_bad_list d = is_none (ids_at (codes "parents") d) || is_none (ids_at (codes "children") d)

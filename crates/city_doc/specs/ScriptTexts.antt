@@ -1,16 +1,20 @@
 -- What a text of scripts stands for, and how it is refused.
-use Rattle.std.specs.Prelude.{◌≡◌, ◌⊎◌, ◌<◌, ℕ, List, true, false, Some, None, slice_get}
+use Rattle.std.specs.Prelude.{◌≡◌, ◌⊎◌, ◌<◌, ℕ, List, Bool, true, false, Some, None, slice_get}
 use Rattle.serde_json.specs.Data.{Data}
 use Rattle.city_model.specs.Runs.{Scripted}
 use Rattle.city_model.specs.Whole.{is_whole}
 use Rattle.city_doc.specs.declared.fault.ScriptFault.{ScriptFault}
 use Rattle.city_doc.specs.Texts.{IsText, IsTooLong, IsNoJson, HasTree, HasOtherNumber}
-use Rattle.city_doc.specs.ScriptTrees.{ScriptParts, parts_of, array_of, all_read, are_too_many, scripts_of}
-use Rattle.city_doc.specs.BadCommands.{is_bad_command}
+use Rattle.city_doc.specs.ScriptTrees.{ScriptParts, parts_of, array_of, all_read, are_too_many, vertex_count, scripts_of}
+use Rattle.city_doc.specs.BadCommands.{is_bad_command, is_misplaced}
 
 -- the text is JSON, and its tree stands for these scripts
 abbrev pub StandsForScripts : List ℕ → List Scripted → Type 0
 StandsForScripts text scripts = (d : Data) × IsText text d × (scripts_of d ≡ Some scripts)
+
+-- the text isn't too long, all its numbers are whole, and it stands for these scripts
+abbrev pub IsReadAs : List ℕ → List Scripted → Type 0
+IsReadAs text scripts = (d : Data) × HasTree text d × (is_whole d ≡ true) × (scripts_of d ≡ Some scripts)
 
 -- ---- faults
 
@@ -22,23 +26,45 @@ IsBadScript ds n = (d : Data) × (slice_get ds n ≡ Some d) × (parts_of d ≡ 
 abbrev pub IsFirstBadScript : List Data → ℕ → Type 0
 IsFirstBadScript ds n = IsBadScript ds n × ((k : ℕ) → k < n → IsBadScript ds k → ⊥)
 
--- command i of script n is refused
-abbrev pub IsBadCommand : List ScriptParts → ℕ → ℕ → Type 0
-IsBadCommand ps n i = (p : ScriptParts) × (d : Data) × (slice_get ps n ≡ Some p) × (slice_get p.commands i ≡ Some d) × (is_bad_command d ≡ true)
+-- command i of script n has it; the test is given the number of the script's vertices
+abbrev pub HasAt : (ℕ → Data → Bool) → List ScriptParts → ℕ → ℕ → Type 0
+HasAt test ps n i = (p : ScriptParts) × (d : Data) × (slice_get ps n ≡ Some p) × (slice_get p.commands i ≡ Some d) × (test (vertex_count p.vertices) d ≡ true)
 
 -- command j of script k comes before command i of script n
 abbrev pub IsBefore : ℕ → ℕ → ℕ → ℕ → Type 0
 IsBefore k j n i = (k < n) ⊎ ((k ≡ n) × (j < i))
 
+-- and no command before it has it
+abbrev pub IsFirstAt : (ℕ → Data → Bool) → List ScriptParts → ℕ → ℕ → Type 0
+IsFirstAt test ps n i = HasAt test ps n i × ((k j : ℕ) → IsBefore k j n i → HasAt test ps k j → ⊥)
+
+-- command i of script n is refused
+abbrev pub IsBadCommand : List ScriptParts → ℕ → ℕ → Type 0
+IsBadCommand ps n i = HasAt (λ count d. is_bad_command d) ps n i
+
 -- and no command before it is refused
 abbrev pub IsFirstBadCommand : List ScriptParts → ℕ → ℕ → Type 0
-IsFirstBadCommand ps n i = IsBadCommand ps n i × ((k j : ℕ) → IsBefore k j n i → IsBadCommand ps k j → ⊥)
+IsFirstBadCommand ps n i = IsFirstAt (λ count d. is_bad_command d) ps n i
+
+-- a position in command i of script n is negative, or not less than the number of the script's vertices
+abbrev pub IsBadVertex : List ScriptParts → ℕ → ℕ → Type 0
+IsBadVertex ps n i = HasAt is_misplaced ps n i
+
+-- and none in a command before it
+abbrev pub IsFirstBadVertex : List ScriptParts → ℕ → ℕ → Type 0
+IsFirstBadVertex ps n i = IsFirstAt is_misplaced ps n i
 
 -- the first fault of scripts with these parts
 abbrev pub PartsFault : List ScriptParts → ScriptFault → Type 0
 PartsFault ps f =
     ((f ≡ ScriptFault.TooMany) × (are_too_many ps ≡ true))
-    ⊎ ((n : ℕ) × (i : ℕ) × (f ≡ ScriptFault.BadCommand n i) × (are_too_many ps ≡ false) × IsFirstBadCommand ps n i)
+    ⊎ (((n : ℕ) × (i : ℕ) × (f ≡ ScriptFault.BadCommand n i) × (are_too_many ps ≡ false) × IsFirstBadCommand ps n i)
+    ⊎ ((n : ℕ) × (i : ℕ) × (f ≡ ScriptFault.BadVertex n i) × (are_too_many ps ≡ false) × ((k j : ℕ) → IsBadCommand ps k j → ⊥) × IsFirstBadVertex ps n i))
+
+-- none of these faults stands
+abbrev pub AreFaultlessParts : List ScriptParts → Type 0
+AreFaultlessParts ps =
+    (are_too_many ps ≡ false) × ((n i : ℕ) → IsBadCommand ps n i → ⊥) × ((n i : ℕ) → IsBadVertex ps n i → ⊥)
 
 -- the first fault of an array of these items: one isn't a script; or all are, and a later fault stands
 abbrev pub ItemsFault : List Data → ScriptFault → Type 0

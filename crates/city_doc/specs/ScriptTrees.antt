@@ -6,7 +6,8 @@ use Rattle.serde_json.specs.Data.{Data, Items, no_items, item, Members}
 use Rattle.serde_json.specs.Find.{get_member, as_str, as_array, as_object}
 use Rattle.city_model.specs.declared.object.Point.{Point}
 use Rattle.city_model.specs.Runs.{Scripted}
-use Rattle.city_doc.specs.CommandForms.{members_count, text_in, command_of}
+use Rattle.city_model.specs.Members.{members_count}
+use Rattle.city_doc.specs.CommandForms.{text_in, command_of}
 use Rattle.city_doc.specs.Triples.{points_of, are_triples}
 
 -- ---- lists
@@ -87,6 +88,15 @@ parts_of d = option_and_then parts_if (as_object d)
 abbrev pub vertex_points : Option Data → Option (List Point)
 vertex_points None = Some []
 vertex_points (Some d) = points_of d
+
+abbrev pub count_of : Option (List Data) → ℕ
+count_of None = 0
+count_of (Some ds) = length ds
+
+-- how many vertices there are
+abbrev pub vertex_count : Option Data → ℕ
+vertex_count None = 0
+vertex_count (Some d) = count_of (array_of d)
 
 -- the script of these parts: positions count in its own vertices
 abbrev pub script_of : ScriptParts → Option Scripted

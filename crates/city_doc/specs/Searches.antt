@@ -10,9 +10,13 @@ use Rattle.serde_json.specs.Find.{get_member}
 abbrev pub Has : (Data → Bool) → Members → List ℕ → Type 0
 Has test objects id = (d : Data) × (get_member id objects ≡ Some d) × (test d ≡ true)
 
--- the object of this id has it, and none of a smaller id, in byte order
+-- this id has it, and none smaller in byte order
+abbrev pub IsLeastId : (List ℕ → Type 0) → List ℕ → Type 0
+IsLeastId P id = P id × ((j : List ℕ) → slice_cmp nat_cmp j id ≡ Less → P j → ⊥)
+
+-- the object of this id has it, and none of a smaller id
 abbrev pub IsLeast : (Data → Bool) → Members → List ℕ → Type 0
-IsLeast test objects id = Has test objects id × ((j : List ℕ) → slice_cmp nat_cmp j id ≡ Less → Has test objects j → ⊥)
+IsLeast test objects id = IsLeastId (Has test objects) id
 
 -- the first id, in the order of the members
 abbrev pub first_with : (Data → Bool) → Members → Option (List ℕ)

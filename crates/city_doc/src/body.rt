@@ -1,26 +1,23 @@
 //! Builds the body that the tree of an object stands for.
-ghost use Rattle.std.specs.Prelude.{◌≡◌, false, List, option_map, codes};
+ghost use Rattle.std.specs.Prelude.{◌≡◌, IfOk, codes};
 ghost use Rattle.serde_json.specs.View.{view, members_view};
-ghost use Rattle.city_model.specs.declared.object.Point.{Point};
 ghost use Rattle.city_model.specs.Kept.{kept_at_object};
-ghost use Rattle.city_doc.specs.Bodies.{body_of, kept_if, without_object_members};
-ghost use Rattle.city_doc.specs.ObjectFaults.{is_bad_geometry};
+ghost use Rattle.city_model.specs.Members.{without};
+ghost use Rattle.city_doc.specs.Bodies.{body_of, kept_if};
 
+use crate::geometry::geometries_of;
 use crate::object_faults::type_of;
 use city_model::extra::Extra;
 use city_model::members::{into_object, take};
-use city_model::object::Body;
+use city_model::object::{Body, Point};
 use city_model::place::AtObject;
-use city_model::sequence::Sequence;
 use serde_json::{Map, Value};
-use std::alloc::Global;
+use std::alloc::{AllocError, Global};
 
-/// The members that are kept at an object.
+/// The members that are kept at an object, of those but `type` and `geometry`.
 fn kept(mut members: Map<String, Value>) -> Option<Extra<AtObject>>
-    ensures { result ≡ kept_if kept_at_object (without_object_members (members_view members.entries)) }
+    ensures { result ≡ kept_if kept_at_object (without (codes "children") (without (codes "parents") (members_view members.entries))) }
 {
-    drop(take(&mut members, "type"));
-    drop(take(&mut members, "geometry"));
     drop(take(&mut members, "parents"));
     drop(take(&mut members, "children"));
     match Extra::new(members) {
@@ -29,15 +26,27 @@ fn kept(mut members: Map<String, Value>) -> Option<Extra<AtObject>>
     }
 }
 
-/// The body of an object without geometry, which it gives up.
-pub fn body_of(alloc: Global, object: Value) -> Option<Body>
-    ensures { (points : List Point) → is_bad_geometry (view object) ≡ false → result ≡ body_of points (view object) }
+/// The body that the tree of an object stands for where its positions name these points; None where
+/// it stands for none. It gives the tree up. The only refusal is want of memory.
+pub fn body_of(alloc: Global, points: &[Point], object: Value) -> Result<Option<Body>, AllocError>
+    ensures { IfOk result (λ o. o ≡ body_of points.now (view object)) }
 {
-    let kind = type_of(&object)?;
-    let extra = kept(into_object(object)?)?;
-    Some(Body {
+    let Some(kind) = type_of(&object) else {
+        return Ok(None);
+    };
+    let Some(mut members) = into_object(object) else {
+        return Ok(None);
+    };
+    drop(take(&mut members, "type"));
+    let Some(geometry) = geometries_of(alloc, points, take(&mut members, "geometry"))? else {
+        return Ok(None);
+    };
+    let Some(extra) = kept(members) else {
+        return Ok(None);
+    };
+    Ok(Some(Body {
         kind,
-        geometry: Sequence::new(alloc),
+        geometry,
         extra,
-    })
+    }))
 }

@@ -1,51 +1,57 @@
 //! Builds the city that the tree of a document stands for.
-ghost use Rattle.std.specs.Prelude.{◌≡◌, false, None, List, IfOk, option_map, option_and_then};
+ghost use Rattle.std.specs.Prelude.{◌≡◌, IfOk, option_map, option_and_then};
 ghost use Rattle.serde_json.specs.Find.{get_member, as_object};
 ghost use Rattle.serde_json.specs.View.{view, members_view};
-ghost use Rattle.city_model.specs.declared.object.Point.{Point};
 ghost use Rattle.city_model.specs.Members.{without};
-ghost use Rattle.city_doc.specs.Bodies.{object_of};
-ghost use Rattle.city_doc.specs.Documents.{entries_of, city_of, IsFaultless};
-ghost use Rattle.city_doc.specs.ObjectFaults.{is_bad_geometry, is_related};
-ghost use Rattle.city_doc.specs.Searches.{first_with};
+ghost use Rattle.city_doc.specs.CityFaults.{lenient_object_of};
+ghost use Rattle.city_doc.specs.LenientCities.{lenient_entries_of, lenient_city_of};
 
 use crate::body::body_of;
+use crate::ids::ids_or_none;
 use crate::top::frame_of_rest;
 use city_model::city::City;
 use city_model::members::{into_object, take};
-use city_model::object::Object;
-use city_model::sequence::Sequence;
+use city_model::object::{Object, Point};
 use city_model::text::Id;
 use serde_json::{Map, Value};
 use std::alloc::{AllocError, Global};
 use std::collections::BTreeMap;
 
-/// An object without geometry and relations, which it gives up.
-fn object_of(alloc: Global, object: Value) -> Option<Object>
-    ensures { (points : List Point) → is_bad_geometry (view object) ≡ false
-        → is_related (view object) ≡ false → result ≡ object_of points (view object) }
+/// The object of a tree, which it gives up; a list that isn't an array of texts counts as empty.
+fn lenient_object_of(
+    alloc: Global,
+    points: &[Point],
+    object: Value,
+) -> Result<Option<Object>, AllocError>
+    ensures { IfOk result (λ o. o ≡ lenient_object_of points.now (view object)) }
 {
-    let body = body_of(alloc, object)?;
-    Some(Object {
+    let Some(mut members) = into_object(object) else {
+        return Ok(None);
+    };
+    let parents = ids_or_none(alloc, take(&mut members, "parents"))?;
+    let children = ids_or_none(alloc, take(&mut members, "children"))?;
+    let Some(body) = body_of(alloc, points, Value::Object(members))? else {
+        return Ok(None);
+    };
+    Ok(Some(Object {
         body,
-        parents: Sequence::new(alloc),
-        children: Sequence::new(alloc),
-    })
+        parents,
+        children,
+    }))
 }
 
-/// The objects by their ids, where none has geometry or relations.
-fn objects_of(
+/// The objects by their ids.
+fn lenient_objects_of(
     alloc: Global,
+    points: &[Point],
     members: Map<String, Value>,
 ) -> Result<Option<BTreeMap<Id, Object>>, AllocError>
-    ensures { IfOk result (λ o. (points : List Point)
-        → first_with is_bad_geometry (members_view members.entries) ≡ None
-        → first_with is_related (members_view members.entries) ≡ None
-        → option_map (λ m. m.entries) o ≡ entries_of points (members_view members.entries)) }
+    ensures { IfOk result (λ o. option_map (λ m. m.entries) o
+        ≡ lenient_entries_of points.now (members_view members.entries)) }
 {
     let mut objects = BTreeMap::new(alloc);
     for (name, value) in members {
-        let Some(object) = object_of(alloc, value) else {
+        let Some(object) = lenient_object_of(alloc, points, value)? else {
             return Ok(None);
         };
         drop(objects.insert(Id::new(name), object)?);
@@ -63,9 +69,13 @@ fn take_object(members: &mut Map<String, Value>, name: &str) -> Option<Map<Strin
     into_object(take(members, name)?)
 }
 
-/// The city of a tree in which no fault stands.
-pub fn city_of(alloc: Global, tree: Value) -> Result<Option<City>, AllocError>
-    ensures { IsFaultless (view tree) → IfOk result (λ o. o ≡ city_of (view tree)) }
+/// The city of a tree, which it gives up; a list of ids that isn't an array of texts counts as empty.
+pub fn lenient_city_of(
+    alloc: Global,
+    points: &[Point],
+    tree: Value,
+) -> Result<Option<City>, AllocError>
+    ensures { IfOk result (λ o. o ≡ lenient_city_of points.now (view tree)) }
 {
     let Some(mut top) = into_object(tree) else {
         return Ok(None);
@@ -73,7 +83,7 @@ pub fn city_of(alloc: Global, tree: Value) -> Result<Option<City>, AllocError>
     let Some(members) = take_object(&mut top, "CityObjects") else {
         return Ok(None);
     };
-    let Some(objects) = objects_of(alloc, members)? else {
+    let Some(objects) = lenient_objects_of(alloc, points, members)? else {
         return Ok(None);
     };
     let Some(frame) = frame_of_rest(top) else {

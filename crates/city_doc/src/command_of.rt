@@ -1,40 +1,21 @@
-//! Reads one command of a script.
-ghost use Rattle.std.specs.Prelude.{◌≡◌, ◌==◌, ◌||◌, option_map, option_and_then, codes, is_none};
-ghost use Rattle.serde_json.specs.Find.{as_str, as_object, get_member};
+//! Builds the command that a tree stands for.
+ghost use Rattle.std.specs.Prelude.{◌≡◌, List, IfOk, option_and_then, is_some};
 ghost use Rattle.serde_json.specs.View.{view, members_view};
-ghost use Rattle.city_model.specs.declared.command.Command.TheVariants.{Read};
+ghost use Rattle.city_model.specs.declared.object.Point.{Point};
 ghost use Rattle.city_model.specs.Members.{without};
-ghost use Rattle.city_doc.specs.Bodies.{type_of};
-ghost use Rattle.city_doc.specs.ObjectFaults.{is_second};
-ghost use Rattle.city_doc.specs.CommandForms.{members_count, text_in, word_form, members_form, names_relations};
-ghost use Rattle.city_doc.specs.BadCommands.{is_unreadable, is_bad_object};
-ghost use Rattle.city_doc.specs.ScriptSearch.{plain_of_form, plain_put, plain_command};
+ghost use Rattle.city_doc.specs.CommandForms.{text_in, word_form, members_form, put_of, command_of_form, command_of};
+ghost use Rattle.city_doc.specs.ScriptForms.{single_form, put_pair, relation_pair, pair_form};
 
+use crate::bad_command::names_relations;
 use crate::body::body_of;
-use crate::object_faults::{is_bad_geometry, type_of, unsupported_name};
+use crate::command_form::text_in;
+use crate::geometry::into_text;
 use city_model::command::Command;
-use city_model::members::{into_object, take};
-use city_model::object_type::{self, ObjectType};
+use city_model::members::{into_object, member, members_count, take};
+use city_model::object::Point;
 use city_model::text::{Id, Text};
 use serde_json::{Map, Value};
-use std::alloc::Global;
-
-/// How many members there are.
-pub fn members_count(members: &Map<String, Value>) -> usize
-    ensures { result ≡ members_count (members_view members.now.entries) }
-{
-    members.len()
-}
-
-/// The text that a value is.
-fn into_text(value: Value) -> Option<Text>
-    ensures { result ≡ as_str (view value) }
-{
-    match value {
-        Value::String(text) => Some(Text::new(text)),
-        _ => None,
-    }
-}
+use std::alloc::{AllocError, Global};
 
 /// Takes the member of a name out, and gives the text that it is.
 pub fn take_text(members: &mut Map<String, Value>, name: &str) -> Option<Text>
@@ -44,42 +25,9 @@ pub fn take_text(members: &mut Map<String, Value>, name: &str) -> Option<Text>
     into_text(take(members, name)?)
 }
 
-/// Whether an object names parents or children.
-fn names_relations(object: &Value) -> bool
-    ensures { result ≡ names_relations (view object.now) }
-{
-    object.get("parents").is_some() || object.get("children").is_some()
-}
-
-/// Whether the type of an object is unknown, or something in it isn't read.
-fn is_unreadable(object: &Value) -> bool
-    ensures { result ≡ is_unreadable (view object.now) }
-{
-    type_of(object).is_none() || unsupported_name(object).is_some() || is_bad_geometry(object)
-}
-
-fn is_second(kind: Option<ObjectType>) -> bool
-    ensures { result ≡ is_second kind }
-{
-    match kind {
-        None => false,
-        Some(kind) => object_type::level(kind) == 2,
-    }
-}
-
-/// Whether an object can't be put.
-fn is_bad_object(object: &Value) -> bool
-    ensures { result ≡ is_bad_object (view object.now) }
-{
-    object.as_object().is_none()
-        || names_relations(object)
-        || is_unreadable(object)
-        || is_second(type_of(object))
-}
-
 /// The command of a word.
 fn word_command(word: &str) -> Option<Command>
-    ensures { result ≡ option_and_then plain_of_form (word_form word.now) }
+    ensures { (points : List Point) → result ≡ option_and_then (command_of_form points) (word_form word.now) }
 {
     if word == "commit" {
         Some(Command::Commit)
@@ -90,46 +38,115 @@ fn word_command(word: &str) -> Option<Command>
     }
 }
 
-/// The put of an object, where it can be put.
-fn put_command(alloc: Global, id: Id, object: Value) -> Option<Command>
-    ensures { result ≡ plain_put id (view object) }
+/// The command of one member.
+fn single_command(mut members: Map<String, Value>) -> Option<Command>
+    ensures { (points : List Point) → result ≡ option_and_then (command_of_form points) (single_form (members_view members.entries)) }
 {
-    if is_bad_object(&object) {
-        return None;
+    if let Some(id) = take_text(&mut members, "read") {
+        return Some(Command::Read(id));
     }
-    let body = body_of(alloc, object)?;
-    Some(Command::Put(id, body))
+    Some(Command::Delete(take_text(&mut members, "delete")?))
 }
 
-/// The put of these two members.
-fn put_of(alloc: Global, mut members: Map<String, Value>) -> Option<Command>
-    ensures { result ≡ option_and_then (λ id. option_and_then (plain_put id) (get_member (codes "object") (members_view members.entries)))
-        (text_in (codes "put") (members_view members.entries)) }
+/// The put of an object whose positions count in these points.
+fn put_of(
+    alloc: Global,
+    points: &[Point],
+    id: Id,
+    object: Value,
+) -> Result<Option<Command>, AllocError>
+    ensures { IfOk result (λ o. o ≡ put_of points.now id (view object)) }
 {
-    let id = take_text(&mut members, "put")?;
-    let object = take(&mut members, "object")?;
-    put_command(alloc, id, object)
+    if names_relations(&object) {
+        return Ok(None);
+    }
+    match body_of(alloc, points, object)? {
+        Some(body) => Ok(Some(Command::Put(id, body))),
+        None => Ok(None),
+    }
+}
+
+/// The command of a put's two members.
+fn put_command(
+    alloc: Global,
+    points: &[Point],
+    mut members: Map<String, Value>,
+) -> Result<Option<Command>, AllocError>
+    ensures { IfOk result (λ o. o ≡ option_and_then (command_of_form points.now) (put_pair (members_view members.entries))) }
+{
+    let Some(id) = take_text(&mut members, "put") else {
+        return Ok(None);
+    };
+    let Some(object) = take(&mut members, "object") else {
+        return Ok(None);
+    };
+    put_of(alloc, points, id, object)
+}
+
+/// The command of two members, one of which names a parent.
+fn relation_command(mut members: Map<String, Value>) -> Option<Command>
+    ensures { (points : List Point) → result ≡ option_and_then (command_of_form points) (relation_pair (members_view members.entries)) }
+{
+    let parent = take_text(&mut members, "parent")?;
+    if let Some(child) = take_text(&mut members, "attach") {
+        return Some(Command::Attach(child, parent));
+    }
+    let child = take_text(&mut members, "detach")?;
+    Some(Command::Detach(child, parent))
+}
+
+/// Whether there are the members of a put.
+fn is_put(members: &Map<String, Value>) -> bool
+    ensures { result ≡ is_some (put_pair (members_view members.now.entries)) }
+{
+    text_in(members, "put").is_some() && member(members, "object").is_some()
+}
+
+/// The command of two members.
+fn pair_command(
+    alloc: Global,
+    points: &[Point],
+    members: Map<String, Value>,
+) -> Result<Option<Command>, AllocError>
+    ensures { IfOk result (λ o. o ≡ option_and_then (command_of_form points.now) (pair_form (members_view members.entries))) }
+{
+    if is_put(&members) {
+        put_command(alloc, points, members)
+    } else {
+        Ok(relation_command(members))
+    }
 }
 
 /// The command of an object's members.
-fn members_command(alloc: Global, mut members: Map<String, Value>) -> Option<Command>
-    ensures { result ≡ option_and_then plain_of_form (members_form (members_view members.entries)) }
+fn members_command(
+    alloc: Global,
+    points: &[Point],
+    members: Map<String, Value>,
+) -> Result<Option<Command>, AllocError>
+    ensures { IfOk result (λ o. o ≡ option_and_then (command_of_form points.now) (members_form (members_view members.entries))) }
 {
     if members_count(&members) == 1 {
-        Some(Command::Read(take_text(&mut members, "read")?))
+        Ok(single_command(members))
     } else if members_count(&members) == 2 {
-        put_of(alloc, members)
+        pair_command(alloc, points, members)
     } else {
-        None
+        Ok(None)
     }
 }
 
-/// The command of a tree, where it is one that is carried out.
-pub fn command_of(alloc: Global, command: Value) -> Option<Command>
-    ensures { result ≡ plain_command (view command) }
+/// The command that a tree stands for, where it stands for any; positions count in these points.
+pub fn command_of(
+    alloc: Global,
+    points: &[Point],
+    command: Value,
+) -> Result<Option<Command>, AllocError>
+    ensures { IfOk result (λ o. o ≡ command_of points.now (view command)) }
 {
-    match command.as_str() {
-        Some(word) => word_command(word),
-        None => members_command(alloc, into_object(command)?),
+    if let Some(word) = command.as_str() {
+        return Ok(word_command(word));
+    }
+    match into_object(command) {
+        Some(members) => members_command(alloc, points, members),
+        None => Ok(None),
     }
 }

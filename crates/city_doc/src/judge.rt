@@ -1,28 +1,31 @@
-//! Judges the tree of a document: the first fault that stands in it.
-ghost use Rattle.std.specs.Prelude.{◌≡◌, true, Bool, IfOk, MatchOption, option_map, option_and_then, codes};
+//! Judges the objects of a document by their trees: the first fault that stands in them.
+ghost use Rattle.std.specs.Prelude.{◌≡◌, true, Bool, IfOk, OnOk, MatchOption, length, option_map, option_and_then, codes};
 ghost use Rattle.serde_json.specs.Data.{Data};
-ghost use Rattle.city_model.specs.Whole.{is_whole};
 ghost use Rattle.serde_json.specs.Find.{get, as_object};
 ghost use Rattle.serde_json.specs.View.{view, members_view};
-ghost use Rattle.city_doc.specs.Documents.{is_unsupported, unsupported_at, StandsAmong, StandsIn, IsFirst, AreFaultless, IsFaultless};
-ghost use Rattle.city_doc.specs.ObjectFaults.{is_unknown_type, is_bad_geometry, is_related};
+ghost use Rattle.city_model.specs.Members.{AreOrdered};
+ghost use Rattle.city_model.specs.Whole.{is_whole};
+ghost use Rattle.city_doc.specs.Documents.{objects_in, vertices_in, is_unsupported, unsupported_at, StandsAmong, StandsIn, IsFirst, AreReadable, HasForm};
+ghost use Rattle.city_doc.specs.ObjectFaults.{is_unknown_type, is_bad_geometry, has_bad_vertex, has_bad_list};
 ghost use Rattle.city_doc.specs.Searches.{first_with};
 
 use crate::fault::ReadFault;
-use crate::object_faults::{is_bad_geometry, is_related, type_of, unsupported_name};
+use crate::ids::has_bad_list;
+use crate::object_faults::{has_bad_vertex, is_bad_geometry, type_of, unsupported_name};
 use crate::top::wrong_member;
-use city_model::members::{count, member};
-use city_model::text::Text;
+use city_model::members::{member, members_count};
+use city_model::object::Point;
+use city_model::text::{Id, Text};
 use serde_json::{Map, Value};
 use std::alloc::{AllocError, Global};
 
 /// What may be wrong with an object.
 trait Judge {
-    ghost test: { Data → Bool };
+    ghost test: { Self → Data → Bool };
 
     /// Whether the object has it.
-    fn judge(object: &Value) -> bool
-        ensures { result ≡ test (view object.now) };
+    fn judge(&self, object: &Value) -> bool
+        ensures { result ≡ test self.now (view object.now) };
 }
 
 struct UnknownTypes;
@@ -31,53 +34,67 @@ struct Unsupporteds;
 
 struct BadGeometries;
 
-struct Relateds;
+/// Positions that name none of so many vertices.
+#[derive(Clone, Copy)]
+struct BadVertices(usize);
+
+/// Lists of ids that aren't arrays of texts.
+struct BadLists;
 
 impl Judge for UnknownTypes {
-    ghost test = { is_unknown_type };
+    ghost test = { λ _. is_unknown_type };
 
-    fn judge(object: &Value) -> bool {
+    fn judge(&self, object: &Value) -> bool {
         type_of(object).is_none()
     }
 }
 
 impl Judge for Unsupporteds {
-    ghost test = { is_unsupported };
+    ghost test = { λ _. is_unsupported };
 
-    fn judge(object: &Value) -> bool {
+    fn judge(&self, object: &Value) -> bool {
         unsupported_name(object).is_some()
     }
 }
 
 impl Judge for BadGeometries {
-    ghost test = { is_bad_geometry };
+    ghost test = { λ _. is_bad_geometry };
 
-    fn judge(object: &Value) -> bool {
+    fn judge(&self, object: &Value) -> bool {
         is_bad_geometry(object)
     }
 }
 
-impl Judge for Relateds {
-    ghost test = { is_related };
+impl Judge for BadVertices {
+    ghost test = { λ s. has_bad_vertex s.0 };
 
-    fn judge(object: &Value) -> bool {
-        is_related(object)
+    fn judge(&self, object: &Value) -> bool {
+        has_bad_vertex(self.0, object)
+    }
+}
+
+impl Judge for BadLists {
+    ghost test = { λ _. has_bad_list };
+
+    fn judge(&self, object: &Value) -> bool {
+        has_bad_list(object)
     }
 }
 
 /// The first id, in byte order, of an object that has it.
-fn first_with<J: Judge>(objects: &Map<String, Value>) -> Option<&str>
-    ensures { option_map (λ s. s.now) result ≡ first_with J.test (members_view objects.now.entries) }
+fn first_with<'m, J: Judge>(judge: &J, objects: &'m Map<String, Value>) -> Option<&'m str>
+    ensures { option_map (λ s. s.now) result ≡ first_with (J.test judge.now) (members_view objects.now.entries) }
 {
     for (id, object) in objects.iter() {
-        if J::judge(object) {
+        if judge.judge(object) {
             return Some(id.as_str());
         }
     }
     None
 }
 
-fn named(alloc: Global, name: &str) -> Result<Text, AllocError>
+/// A copy of a name.
+pub fn named(alloc: Global, name: &str) -> Result<Text, AllocError>
     ensures { IfOk result (λ text. text ≡ name.now) }
 {
     Ok(Text::new(name.to_string(alloc)?))
@@ -90,21 +107,23 @@ fn unsupported_at<'v>(objects: &'v Map<String, Value>, id: &str) -> Option<&'v s
     member(objects, id).and_then(unsupported_name)
 }
 
-/// The first fault among the objects.
-fn object_fault(
+/// The first fault among the objects that their trees alone show, where their positions name these
+/// points; none where each has a known type and geometries that can be read.
+pub fn object_fault(
     alloc: Global,
+    points: &[Point],
     objects: &Map<String, Value>,
 ) -> Result<Option<ReadFault>, AllocError>
     ensures { IfOk result (λ o. MatchOption o
-        (AreFaultless (members_view objects.now.entries))
-        (λ f. IsFirst (StandsAmong (members_view objects.now.entries)) f)) }
+        (AreReadable (length points.now) (members_view objects.now.entries))
+        (λ f. IsFirst (StandsAmong points.now (members_view objects.now.entries)) f)) }
 {
-    let _count = count(objects);
-    if let Some(id) = first_with::<UnknownTypes>(objects) {
+    let _count = members_count(objects);
+    if let Some(id) = first_with(&UnknownTypes, objects) {
         let id = named(alloc, id)?;
         return Ok(Some(ReadFault::UnknownType(id)));
     }
-    if let Some(id) = first_with::<Unsupporteds>(objects) {
+    if let Some(id) = first_with(&Unsupporteds, objects) {
         let Some(name) = unsupported_at(objects, id) else {
             unreachable!()
         };
@@ -112,13 +131,13 @@ fn object_fault(
         let name = named(alloc, name)?;
         return Ok(Some(ReadFault::Unsupported(id, name)));
     }
-    if let Some(id) = first_with::<BadGeometries>(objects) {
+    if let Some(id) = first_with(&BadGeometries, objects) {
         let id = named(alloc, id)?;
         return Ok(Some(ReadFault::BadGeometry(id)));
     }
-    if let Some(id) = first_with::<Relateds>(objects) {
+    if let Some(id) = first_with(&BadVertices(points.len()), objects) {
         let id = named(alloc, id)?;
-        return Ok(Some(ReadFault::Relations(id)));
+        return Ok(Some(ReadFault::BadVertex(id)));
     }
     Ok(None)
 }
@@ -131,10 +150,15 @@ fn objects_in(tree: &Value) -> Option<&Map<String, Value>>
     tree.get("CityObjects").and_then(Value::as_object)
 }
 
-/// The first fault of a tree whose numbers are whole.
-pub fn first_fault(alloc: Global, tree: &Value) -> Result<Option<ReadFault>, AllocError>
-    ensures { is_whole (view tree.now) ≡ true → IfOk result (λ o. MatchOption o
-        (IsFaultless (view tree.now)) (λ f. IsFirst (StandsIn (view tree.now)) f)) }
+/// The first fault of a tree whose numbers are whole that it alone shows, where its positions name
+/// these points.
+pub fn first_fault(
+    alloc: Global,
+    points: &[Point],
+    tree: &Value,
+) -> Result<Option<ReadFault>, AllocError>
+    ensures { is_whole (view tree.now) ≡ true → points.now ≡ vertices_in (view tree.now)
+        → IfOk result (λ o. MatchOption o (HasForm (view tree.now)) (λ f. IsFirst (StandsIn (view tree.now)) f)) }
 {
     if let Some(name) = wrong_member(tree) {
         let name = named(alloc, name)?;
@@ -143,6 +167,22 @@ pub fn first_fault(alloc: Global, tree: &Value) -> Result<Option<ReadFault>, All
     let Some(objects) = objects_in(tree) else {
         return Ok(None);
     };
-    let fault = object_fault(alloc, objects)?;
+    let fault = object_fault(alloc, points, objects)?;
     Ok(fault)
+}
+
+/// The first id, in byte order, of an object of a tree with a list that isn't an array of texts.
+pub fn first_bad_list(alloc: Global, tree: &Value) -> Result<Option<Id>, AllocError>
+    ensures list { IfOk result (λ o. o ≡ first_with has_bad_list (objects_in (view tree.now))) }
+    ensures ordered { OnOk result (AreOrdered (objects_in (view tree.now))) }
+{
+    let Some(objects) = objects_in(tree) else {
+        return Ok(None);
+    };
+    let _count = members_count(objects);
+    let Some(id) = first_with(&BadLists, objects) else {
+        return Ok(None);
+    };
+    let id = named(alloc, id)?;
+    Ok(Some(id))
 }

@@ -1,13 +1,22 @@
 //! Reads and writes the texts of city models: documents, scripts and reports.
 #![tactic(auto)]
 
+mod bad_command;
 pub mod body;
 mod boundaries;
 mod build;
+mod city_judge;
+mod command_form;
 mod command_of;
 mod end_tree;
 pub mod fault;
+mod geometry;
+mod geometry_form;
+#[cfg(test)]
+mod geometry_tests;
+mod ids;
 mod judge;
+mod nested;
 mod object_faults;
 mod object_tree;
 pub mod parse;
@@ -17,6 +26,7 @@ mod reply_tree;
 pub mod report;
 #[cfg(test)]
 mod samples;
+mod script_faults;
 mod script_form;
 mod script_forms;
 pub mod scripts;
@@ -25,5 +35,6 @@ mod scripts_tests;
 mod top;
 mod tree;
 pub mod triples;
+mod vertices;
 mod walk;
 pub mod write;

@@ -4,8 +4,10 @@ ghost use Rattle.std.specs.List.{list_any};
 ghost use Rattle.std.specs.Str.{bytes_eq};
 ghost use Rattle.serde_json.specs.View.{view, items_view};
 ghost use Rattle.city_doc.specs.Bodies.{text_at, type_of};
-ghost use Rattle.city_doc.specs.ObjectFaults.{is_unknown_type, unsupported_types, unsupported_type, first_unsupported, unsupported_name, has_no_items, is_no_items, is_absent_or_empty, is_bad_geometry, is_related};
+ghost use Rattle.city_doc.specs.ObjectFaults.{is_unknown_type, unsupported_types, unsupported_type, first_unsupported, unsupported_name, is_bad_geometry, has_bad_vertex};
 
+use crate::geometry_form::are_geometries;
+use crate::nested::{AnyNumber, PlaceBelow};
 use city_model::object_type::{self, ObjectType};
 use city_model::place::has_location;
 use serde_json::Value;
@@ -30,14 +32,7 @@ fn is_unsupported(kind: &str) -> bool
 {
     matches!(
         kind,
-        "MultiPoint"
-            | "MultiLineString"
-            | "GeometryInstance"
-            | "MultiSolid"
-            | "CompositeSolid"
-            | "MultiSurface"
-            | "CompositeSurface"
-            | "Solid"
+        "MultiPoint" | "MultiLineString" | "GeometryInstance" | "MultiSolid" | "CompositeSolid"
     )
 }
 
@@ -74,46 +69,17 @@ pub fn unsupported_name(object: &Value) -> Option<&str>
     first_unsupported(object.get("geometry").and_then(Value::as_array)?)
 }
 
-fn is_absent_or_empty(list: Option<&Value>) -> bool
-    ensures { result ≡ is_absent_or_empty (option_map (λ v. view v.now) list.entry) }
-{
-    match list {
-        None => true,
-        Some(value) => is_no_items(value.as_array()),
-    }
-}
-
-fn is_no_items(items: Option<&Vec<Value>>) -> bool
-    ensures { result ≡ is_no_items (option_map (λ v. items_view v.now.items) items.entry) }
-{
-    match items {
-        None => false,
-        Some(items) => has_no_items(items),
-    }
-}
-
-fn has_no_items(items: &Vec<Value>) -> bool
-    ensures { result ≡ has_no_items (items_view items.now.items) }
-{
-    items.iter().next().is_none()
-}
-
-/// Whether an object has a geometry that can't be read.
+/// Whether an object has a geometry that can't be read, whatever its positions name.
 pub fn is_bad_geometry(object: &Value) -> bool
     ensures { result ≡ is_bad_geometry (view object.now) }
 {
-    !is_absent_or_empty(object.get("geometry"))
+    !are_geometries(&AnyNumber, object.get("geometry"))
 }
 
-/// Whether an object has relations, or a type that wants a parent.
-pub fn is_related(object: &Value) -> bool
-    ensures { result ≡ is_related (view object.now) }
+/// Whether a position in an object's geometry is negative or isn't less than the count; of an object
+/// with a bad geometry it is true too.
+pub fn has_bad_vertex(count: usize, object: &Value) -> bool
+    ensures { result ≡ has_bad_vertex count (view object.now) }
 {
-    if !is_absent_or_empty(object.get("parents")) || !is_absent_or_empty(object.get("children")) {
-        return true;
-    }
-    match type_of(object) {
-        None => false,
-        Some(kind) => object_type::level(kind) == 2,
-    }
+    !are_geometries(&PlaceBelow(count), object.get("geometry"))
 }

@@ -1,38 +1,64 @@
 //! Reads a document.
-ghost use Rattle.std.specs.Prelude.{IfOk, IfErr, OnOk};
+ghost use Rattle.std.specs.Prelude.{◌≡◌, ◌⊎◌, true, Some, IfOk, IfErr, OnOk};
+ghost use Rattle.serde_json.specs.View.{view};
 ghost use Rattle.city_model.specs.CityMap.{at};
 ghost use Rattle.city_model.specs.Relations.{IsLawful};
-ghost use Rattle.city_doc.specs.Documents.{StandsForCity, DocumentFault};
+ghost use Rattle.city_model.specs.Whole.{is_whole};
+ghost use Rattle.city_doc.specs.Documents.{CityValue, city_of, StandsForCity, IsAdmitted, StandsIn, IsFirst, DocumentFault};
 ghost use Rattle.city_doc.specs.Texts.{IsReadable};
 
-use crate::build::city_of;
+use crate::build::lenient_city_of;
+use crate::city_judge::city_fault;
 use crate::fault::ReadFault;
-use crate::judge::first_fault;
+use crate::judge::{first_bad_list, first_fault};
 use crate::parse::parse;
+use crate::vertices::vertices_in;
 use city_model::city::City;
+use serde_json::Value;
 use std::alloc::Global;
 
 /// Reads a document: the city that its text stands for, which is lawful.
 ///
-/// Refuses a text with the first fault of `ReadFault`'s list that stands in it, which names the
-/// least id in byte order where several objects have it. `OutOfMemory` has no place in that order:
-/// it is answered where there was no memory for the tree, for an object or for a fault's name. The
-/// text is only lent, so a refusal leaves nothing behind.
+/// Want of memory aside, it is Ok exactly on texts that are admitted: not too long, of whole
+/// numbers, and standing for a lawful city. It refuses a text with the first fault of `ReadFault`'s
+/// list that stands in it, which names the least id in byte order where several objects have it.
+/// `OutOfMemory` has no place in that order: it is answered where there was no memory for the tree,
+/// for an object or for a fault's name. The text is only lent, so a refusal leaves nothing behind.
 pub fn read_city(alloc: Global, bytes: &[u8]) -> Result<City, ReadFault>
     ensures stands { IfOk result (λ c. StandsForCity bytes.now c) }
     ensures lawful { IfOk result (λ c. IsLawful (at c.1)) }
     ensures readable { OnOk result (IsReadable bytes.now) }
+    ensures admitted { IfOk result (λ c. IsAdmitted bytes.now c) }
     ensures fault { IfErr result (λ f. DocumentFault bytes.now f) }
+    ensures refused { IfErr result (λ f. (f ≡ ReadFault.OutOfMemory)
+        ⊎ ((c : CityValue) → IsAdmitted bytes.now c → ⊥)) }
 {
     let tree = parse(alloc, bytes)?;
-    let fault = first_fault(alloc, &tree)?;
+    let city = city_of_tree(alloc, tree)?;
+    Ok(city)
+}
+
+/// The city that a tree of whole numbers stands for, which is lawful.
+fn city_of_tree(alloc: Global, tree: Value) -> Result<City, ReadFault>
+    requires { is_whole (view tree) ≡ true }
+    ensures stands { IfOk result (λ c. city_of (view tree) ≡ Some c) }
+    ensures lawful { IfOk result (λ c. IsLawful (at c.1)) }
+    ensures fault { IfErr result (λ f. (f ≡ ReadFault.OutOfMemory) ⊎ IsFirst (StandsIn (view tree)) f) }
+{
+    let points = vertices_in(alloc, &tree)?;
+    let fault = first_fault(alloc, points.as_slice(), &tree)?;
     if let Some(fault) = fault {
         return Err(fault);
     }
-    let Some(city) = city_of(alloc, tree)? else {
+    let bad_list = first_bad_list(alloc, &tree)?;
+    let Some(city) = lenient_city_of(alloc, points.as_slice(), tree)? else {
         unreachable!()
     };
-    Ok(city)
+    let fault = city_fault(alloc, bad_list.as_ref(), &city)?;
+    match fault {
+        Some(fault) => Err(fault),
+        None => Ok(city),
+    }
 }
 
 #[cfg(test)]

@@ -15,6 +15,14 @@ pub fn text(alloc: Global, text: &str) -> Result<Text, AllocError> {
     Ok(Text::new(text.to_string(alloc)?))
 }
 
+/// The text of a document of these objects and vertices.
+pub fn document(alloc: Global, objects: &str, vertices: &str) -> Result<String, Fail> {
+    let text = format!(in alloc;
+        "{{\"CityObjects\":{objects},\"transform\":{{\"scale\":[1,1,1],\"translate\":[0,0,0]}},\"type\":\"CityJSON\",\"version\":\"2.0\",\"vertices\":{vertices}}}"
+    )?;
+    Ok(text)
+}
+
 /// The members of a JSON object, as those that a place keeps.
 pub fn kept<P: Place>(alloc: Global, json: &str) -> Result<Extra<P>, Fail> {
     match Value::from_str(alloc, json)? {

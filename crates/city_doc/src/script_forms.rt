@@ -6,11 +6,11 @@ ghost use Rattle.city_doc.specs.ScriptTrees.{all_read, array_of, is_end_text, is
 ghost use Rattle.city_doc.specs.ScriptForms.{parts_view, parts_views};
 ghost use Rattle.city_doc.specs.ScriptSearch.{first_at, bad_script};
 
-use crate::command_of::{members_count, take_text};
+use crate::command_of::take_text;
 use crate::fault::ScriptFault;
 use crate::script_form::ScriptForm;
 use crate::triples::are_triples;
-use city_model::members::{into_object, member, take};
+use city_model::members::{into_object, member, members_count, take};
 use city_model::sequence::Sequence;
 use serde_json::{Map, Value};
 use std::alloc::Global;

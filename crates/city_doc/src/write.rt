@@ -1,6 +1,13 @@
 //! Writes a city.
-ghost use Rattle.std.specs.Prelude.{◌≡◌, IfOk};
-ghost use Rattle.city_doc.specs.Canonical.{city_text};
+ghost use Rattle.std.specs.Prelude.{◌≡◌, ◌≤◌, ℕ, List, IfOk};
+ghost use Rattle.serde_json.specs.Data.{depth};
+ghost use Rattle.serde_json.specs.Read.{max_depth};
+ghost use Rattle.city_model.specs.CityMap.{at};
+ghost use Rattle.city_model.specs.Relations.{IsLawful};
+ghost use Rattle.city_doc.specs.Accepted.{IsAccepted};
+ghost use Rattle.city_doc.specs.Canonical.{tree_of, city_text};
+ghost use Rattle.city_doc.specs.Documents.{CityValue, StandsForCity};
+ghost use Rattle.city_doc.specs.Texts.{IsReadable};
 
 use crate::tree::city_tree;
 use crate::walk::city_pool;
@@ -12,8 +19,21 @@ use std::alloc::Global;
 mod tests;
 
 /// The canonical text of a city, without a newline.
+///
+/// The text is JSON that stands for the same city, unless the city's kept members nest so deep that
+/// the text has more than the 127 levels that are read. Those of a city that was read don't. Whatever
+/// city is read of the text is written as the same bytes. The text of a lawful city, where it isn't too
+/// long, has no fault.
 pub fn write_city(alloc: Global, city: &City) -> Result<Vec<u8>, OutOfMemory>
-    ensures { IfOk result (λ b. b.items ≡ city_text city.now) }
+    ensures text { IfOk result (λ b. b.items ≡ city_text city.now) }
+    ensures read_again { IfOk result (λ b. depth (tree_of city.now) ≤ max_depth
+        → StandsForCity b.items city.now) }
+    ensures canonical { IfOk result (λ b. depth (tree_of city.now) ≤ max_depth
+        → (other : CityValue) → StandsForCity b.items other → city_text other ≡ b.items) }
+    ensures accepted { IfOk result (λ b. depth (tree_of city.now) ≤ max_depth
+        → IsReadable b.items → IsLawful (at city.now.1) → IsAccepted b.items) }
+    ensures rewritten { IfOk result (λ b. (text : List ℕ) → StandsForCity text city.now
+        → StandsForCity b.items city.now) }
 {
     let pool = city_pool(alloc, city)?;
     let tree = city_tree(alloc, city, &pool)?;

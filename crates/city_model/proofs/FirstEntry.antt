@@ -96,7 +96,7 @@ all_at test (e ∷ es) q o all there =
     let parts = and_parts (test e.1) (list_all (λ (d : List ℕ × Object). test d.1) es) all in
     at_cases e es q o (same_id q e.0) refl there (λ same like. ap test (sym like) ∙ parts.0) (all_at test es q o parts.1)
 
-there_above : (es : Entries) (first q : List ℕ) (o : Object) → AllByRecursion (λ k. slice_cmp nat_cmp first k ≡ Less) (keys_of es) → at es q ≡ Some o → slice_cmp nat_cmp first q ≡ Less
+pub there_above : (es : Entries) (first q : List ℕ) (o : Object) → AllByRecursion (λ k. slice_cmp nat_cmp first k ≡ Less) (keys_of es) → at es q ≡ Some o → slice_cmp nat_cmp first q ≡ Less
 there_above [] first q o above there = absurd (cc)
 there_above (e ∷ es) first q o above there = at_cases e es q o (same_id q e.0) refl there (λ same like. ap (slice_cmp nat_cmp first) (sym same) ∙ above.0) (there_above es first q o above.1)
 

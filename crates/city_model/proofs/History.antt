@@ -40,14 +40,14 @@ covered None b h = absurd (false≢true h)
 covered (Some x) b h = refl
 
 -- what is named is held
-held_named : (held : Held) (ls : List Lock) (q : List ℕ) → AllHeld held ls → names ls q ≡ true → is_some (held q) ≡ true
+pub held_named : (held : Held) (ls : List Lock) (q : List ℕ) → AllHeld held ls → names ls q ≡ true → is_some (held q) ≡ true
 held_named held [] q a h = absurd (false≢true h)
 held_named held (l ∷ ls) q a h = bool_cases (same_id q l.0)
     (λ e. covered (held q) l.1 (ap (λ k. covers (held k) l.1) (same_id_true q l.0 e) ∙ a.0))
     (λ e. held_named held ls q a.1 (sym (ap (λ b. b || names ls q) e) ∙ h))
 
 -- what is named exclusively is held so
-held_exclusively : (held : Held) (ls : List Lock) (q : List ℕ) → AllHeld held ls → names_exclusively ls q ≡ true → covers (held q) true ≡ true
+pub held_exclusively : (held : Held) (ls : List Lock) (q : List ℕ) → AllHeld held ls → names_exclusively ls q ≡ true → covers (held q) true ≡ true
 held_exclusively held [] q a h = absurd (false≢true h)
 held_exclusively held (l ∷ ls) q a h = bool_cases l.1
     (λ e.

@@ -1,5 +1,5 @@
 -- Members taken out and looked up.
-use Rattle.std.proofs.Common.{◌≡◌, ℕ, List, [], ◌∷◌, Bool, true, false, true≢false, cond, Option, Some, None, Ordering, Less, Equal, Greater, String, Global, string_bytes, string_cmp, nat_cmp, is_eq, refl, sym, ap, ◌∙◌}
+use Rattle.std.proofs.Common.{◌≡◌, ℕ, ◌+◌, List, [], ◌∷◌, length, Bool, true, false, true≢false, cond, Option, Some, None, Ordering, Less, Equal, Greater, String, Global, string_bytes, string_cmp, nat_cmp, is_eq, refl, sym, ap, ◌∙◌, arith}
 use Rattle.std.specs.Prelude.{◌&&◌, if◌then◌else◌}
 use Rattle.std.specs.Ordering.{match_ordering}
 use Rattle.std.specs.Cmp.Lexicographic.{slice_cmp}
@@ -15,7 +15,7 @@ use Rattle.serde_json.specs.Find.{get_member}
 use Rattle.serde_json.specs.View.{view, members_view}
 use Rattle.serde_json.proofs.Views.{Entry}
 use Rattle.city_model.specs.CityMap.{same_id}
-use Rattle.city_model.specs.Members.{without, AllAbove, AreOrdered}
+use Rattle.city_model.specs.Members.{without, members_count, AllAbove, AreOrdered}
 use Rattle.city_model.specs.Whole.{is_whole, members_whole}
 
 -- ids that the test finds the same are the same
@@ -38,6 +38,10 @@ pub ordered_members : (es : List Entry) → IsStrictlySortedBy string_cmp (keys_
 unfolding IsStrictlySortedBy
 ordered_members [] h = tt
 ordered_members (e ∷ es) h = (all_above e.0 es h.0, ordered_members es h.1)
+
+pub members_count-view : (es : List Entry) → members_count (members_view es) ≡ length es
+members_count-view [] = refl
+members_count-view (e ∷ es) = ap (λ n. 1 + n) (members_count-view es) ∙ omega arith
 
 -- ---- taking out
 

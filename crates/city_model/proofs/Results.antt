@@ -1,5 +1,5 @@
 -- A script has one result at a map, and scripts run in their order have one list of ends, but for want of memory.
-use Rattle.std.proofs.Common.{◌≡◌, ℕ, ◌+◌, List, [], ◌∷◌, length, Bool, true, false, Some, Ordering, Less, Equal, Greater, refl, ap, sym, subst, ◌∙◌, arith}
+use Rattle.std.proofs.Common.{◌≡◌, ℕ, ◌+◌, List, [], ◌∷◌, length, false, Some, Ordering, Less, Equal, Greater, refl, ap, sym, subst, ◌∙◌, arith}
 use Rattle.std.specs.Prelude.{slice_get}
 use Rattle.std.specs.Ordering.{nat_cmp, ordering_reverse}
 use Rattle.std.specs.Cmp.Lexicographic.{slice_cmp}
@@ -18,12 +18,7 @@ use Rattle.city_model.specs.Relations.{IsLeastOrphan, HasNoOrphan}
 use Rattle.city_model.specs.Meaning.{after}
 use Rattle.city_model.specs.Runs.{Scripted, Refuses, EndsAt, Continues, EndsFrom, HasResult, map_left, commands_of, IsEndOf, FitsFrom, Fits}
 use Rattle.city_model.specs.Scripts.{is_end}
-
-abbrev pub is_no_memory : Outcome → Bool
-is_no_memory Outcome.Committed = false
-is_no_memory Outcome.Aborted = false
-is_no_memory (Outcome.Refused i cause) = false
-is_no_memory (Outcome.NoMemory i) = true
+use Rattle.city_model.specs.SerialEnds.{is_no_memory, IsSerialFrom}
 
 -- ---- the least orphan
 
@@ -115,11 +110,6 @@ pub result_is_unique : (m : CityMap) (cs : List Command) (rs ss : List Reply) (o
 result_is_unique m cs rs ss o p n l h k = result_from m 0 cs rs ss o p n l h k
 
 -- ---- scripts run in their order
-
--- from place k on, the end at each place is that of the script of that number, which began there, and none is for want of memory
-abbrev pub IsSerialFrom : ℕ → List End → Type 0
-IsSerialFrom k [] = Unit {0}
-IsSerialFrom k (e ∷ es) = (e.script ≡ k) × (e.since ≡ k) × (is_no_memory e.outcome ≡ false) × IsSerialFrom (k + 1) es
 
 same_end : (e f : End) → e.script ≡ f.script → e.name ≡ f.name → e.since ≡ f.since → e.replies ≡ f.replies → e.outcome ≡ f.outcome → e ≡ f
 same_end e f a b c d g = λ i. record { script = a i; name = b i; since = c i; replies = d i; outcome = g i }

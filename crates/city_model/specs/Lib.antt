@@ -9,6 +9,7 @@ pub mod RelationTests
 pub mod Relations
 pub mod Runs
 pub mod Scripts
+pub mod SerialEnds
 pub mod Shells
 pub mod Types
 pub mod Whole

@@ -1,10 +1,7 @@
 -- Which lists of commands are scripts.
-use Rattle.std.specs.Prelude.{◌==◌, ◌&&◌, ℕ, List, [], ◌∷◌, Bool, true, false, length, not, if◌then◌else◌}
-use Rattle.std.specs.List.{list_all}
-use Rattle.city_model.specs.declared.object.Body.{Body}
+use Rattle.std.specs.Prelude.{List, [], ◌∷◌, Bool, true, false, if◌then◌else◌}
 use Rattle.city_model.specs.declared.command.Command.{Command}
 use Rattle.city_model.specs.declared.command.Command.TheVariants.{Read, Put, Delete, Attach, Detach, Commit, Abort}
-use Rattle.city_model.specs.Relations.{is_second_level}
 
 abbrev pub is_end : Command → Bool
 is_end (Read id) = false
@@ -23,23 +20,3 @@ is_empty_list (c ∷ cs) = false
 abbrev pub ends_once : List Command → Bool
 ends_once [] = false
 ends_once (c ∷ cs) = if is_end c then is_empty_list cs else ends_once cs
-
--- ---- which commands are served today
-
--- a body without geometry, of a first-level type
-abbrev pub is_plain : Body → Bool
-is_plain body = not (is_second_level body.kind) && (length body.geometry == 0)
-
--- relations and geometry aren't served yet
-abbrev pub is_served : Command → Bool
-is_served (Read id) = true
-is_served (Put id body) = is_plain body
-is_served (Delete id) = false
-is_served (Attach child parent) = false
-is_served (Detach child parent) = false
-is_served Commit = true
-is_served Abort = true
-
--- all commands of all scripts are served
-abbrev pub are_served : List (List ℕ × List Command) → Bool
-are_served scripts = list_all (λ s. list_all is_served s.1) scripts

@@ -65,7 +65,8 @@ impl City {
 
     /// How many objects there are. Takes no memory.
     pub fn len(&self) -> usize
-        ensures { result ≡ length self.now.1 }
+        ensures len { result ≡ length self.now.1 }
+        ensures ordered { IsStrictlySortedBy (slice_cmp nat_cmp) (keys_of self.now.1) }
     {
         self.objects.len()
     }
@@ -103,6 +104,7 @@ impl City {
             at self.new.1 q ≡ changed (at self.old.1) id (Some object) q) }
         ensures present { IsSome (at self.old.1 id) → IsOk result }
         ensures unchanged { OnErr result (self.new ≡ self.old) }
+        ensures ordered { IsStrictlySortedBy (slice_cmp nat_cmp) (keys_of self.new.1) }
     {
         Ok(self.objects.insert(id, object)?)
     }
@@ -113,6 +115,7 @@ impl City {
         ensures entries { self.new
             ≡ (self.old.0, remove_entry (is_at (slice_cmp nat_cmp id.now)) self.old.1) }
         ensures map { (q : List ℕ) → at self.new.1 q ≡ changed (at self.old.1) id.now None q }
+        ensures ordered { IsStrictlySortedBy (slice_cmp nat_cmp) (keys_of self.new.1) }
     {
         self.objects.remove(id)
     }

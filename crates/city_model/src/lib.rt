@@ -2,6 +2,7 @@
 #![tactic(auto)]
 
 pub mod body_fault;
+pub mod change;
 pub mod city;
 pub mod command;
 pub mod copied;
@@ -21,6 +22,7 @@ pub mod rings;
 pub mod script;
 pub mod sequence;
 pub mod shells;
+pub mod stand_in;
 #[cfg(test)]
 mod tests;
 pub mod text;

@@ -2,7 +2,7 @@
 ghost use Rattle.std.specs.Prelude.{◌≡◌, option_map};
 ghost use Rattle.serde_json.specs.Find.{as_object, get_member};
 ghost use Rattle.serde_json.specs.View.{view, members_view};
-ghost use Rattle.city_model.specs.Members.{without, AreOrdered};
+ghost use Rattle.city_model.specs.Members.{without, members_count, AreOrdered};
 
 use serde_json::{Map, Value};
 
@@ -33,8 +33,9 @@ pub fn into_object(value: Value) -> Option<Map<String, Value>>
 }
 
 /// How many members there are; their names ascend.
-pub fn count(members: &Map<String, Value>) -> usize
-    ensures { AreOrdered (members_view members.now.entries) }
+pub fn members_count(members: &Map<String, Value>) -> usize
+    ensures counted { result ≡ members_count (members_view members.now.entries) }
+    ensures ordered { AreOrdered (members_view members.now.entries) }
 {
     members.len()
 }

@@ -63,6 +63,10 @@ impl Ord for Text {
 }
 
 impl Display for Text {
+    ghost use Rattle.std.specs.Prelude.{Some};
+
+    ghost output = { λ text. Some text };
+
     fn fmt<W: Write>(&self, f: &mut Formatter<W>) -> fmt::Result {
         self.text.fmt(f)
     }

@@ -1,7 +1,6 @@
--- The parts of an input round its first newline, and the bytes that are read of it.
-use Rattle.std.proofs.Common.{◌≡◌, ℕ, ◌+◌, ◌-◌, ◌≤◌, Bool, true, false, cond, List, [], ◌++◌, length, take, drop, Option, Some, None, IfSome, nat_lt, refl, ap, sym, ◌∙◌, arith, length-drop}
+-- The parts of an input round its first newline.
+use Rattle.std.proofs.Common.{◌≡◌, ℕ, ◌+◌, ◌-◌, ◌≤◌, Bool, true, false, cond, List, [], length, take, drop, Some, None, nat_lt, refl, ap, sym, ◌∙◌, arith, length-drop}
 use Rattle.std.specs.Prelude.{position}
-use Rattle.std.specs.Option.{option_map}
 use Rattle.std.specs.List.{position_or_len, before_first, after_first}
 use Rattle.std.proofs.lemmas.Bool.Decides.{nat_tests}
 use Rattle.std.proofs.lemmas.List.{take_all, drop_all}
@@ -31,12 +30,3 @@ module _ (p : ℕ → Bool) (xs : List ℕ) where
 
   pub after_none : position p xs ≡ None → [] ≡ after_first p xs
   after_none none = let h : length xs ≤ position_or_len p xs = past none in sym (drop_all (position_or_len p xs + 1) xs (omega arith))
-
--- what a reader with a limit gave, put behind nothing
-pub limited : (o q : Option (List ℕ)) (n m : ℕ) (old items : List ℕ) → o ≡ q → n ≡ m → old ≡ [] → IfSome (option_map (take n) o) (λ xs. items ≡ old ++ xs) → IfSome q (λ all. items ≡ take m all)
-limited None None n m old items same limit empty h = tt
-limited None (Some ys) n m old items same limit empty h = absurd (cc)
-limited (Some xs) None n m old items same limit empty h = absurd (cc)
-limited (Some xs) (Some ys) n m old items same limit empty h =
-    let cut : take n xs ≡ take m ys = cc in
-    h ∙ (ap (λ l. l ++ take n xs) empty ∙ cut)

@@ -1,6 +1,5 @@
 -- A script that has been played up to some command.
-use Rattle.std.proofs.Common.{◌≡◌, ℕ, ◌+◌, Bool, true, false, cond, List, [], ◌∷◌, ◌++◌, length, refl, ap, sym, subst, ◌∙◌, ◌&&◌, append_assoc, append-nil, length-append}
-use Rattle.std.specs.List.{list_all}
+use Rattle.std.proofs.Common.{◌≡◌, ℕ, ◌+◌, true, false, cond, List, [], ◌∷◌, ◌++◌, length, refl, ap, sym, subst, ◌∙◌, append_assoc, append-nil, length-append}
 use Rattle.city_model.specs.declared.command.Command.{Command}
 use Rattle.city_model.specs.declared.command.Command.TheVariants.{Commit}
 use Rattle.city_model.specs.declared.command.Reply.{Reply}
@@ -8,21 +7,19 @@ use Rattle.city_model.specs.declared.end.Outcome.{Outcome}
 use Rattle.city_model.specs.CityMap.{CityMap}
 use Rattle.city_model.specs.Meaning.{after}
 use Rattle.city_model.specs.Runs.{Continues, EndsAt, EndsFrom, HasResult, map_after}
-use Rattle.city_model.specs.Scripts.{is_end, is_empty_list, ends_once, is_served}
-
-pub and_true : (a b : Bool) → a && b ≡ true → (a ≡ true) × (b ≡ true)
-and_true true b e = (refl, e)
-and_true false b e = absurd (cc)
+use Rattle.city_model.specs.Relations.{IsSound}
+use Rattle.city_model.specs.Scripts.{is_end, is_empty_list, ends_once}
+use Rattle.city_model.proofs.SoundAfter.{sound_after}
 
 -- the commands left give what all of them give from the start
 pub record IsPlayed (start : CityMap) (all : List Command) (m : CityMap) (replies : List Reply) (left : List Command) : Type 0 where
   pub result : (rs : List Reply) (o : Outcome) → EndsFrom m (length replies) left rs o → HasResult start all (replies ++ rs) o
   pub map : map_after start all ≡ map_after m left
   pub ends : ends_once left ≡ true
-  pub served : list_all is_served left ≡ true
+  pub sound : IsSound m
 
-pub nothing_played : (m : CityMap) (all : List Command) → ends_once all ≡ true → list_all is_served all ≡ true → IsPlayed m all m [] all
-nothing_played m all ends served = record { result = λ rs o h. h; map = refl; ends = ends; served = served }
+pub nothing_played : (m : CityMap) (all : List Command) → ends_once all ≡ true → IsSound m → IsPlayed m all m [] all
+nothing_played m all ends sound = record { result = λ rs o h. h; map = refl; ends = ends; sound = sound }
 
 more_left : (c : Command) (cs : List Command) → is_end c ≡ false → ends_once (c ∷ cs) ≡ ends_once cs
 more_left c cs e = ap (λ b. cond b (is_empty_list cs) (ends_once cs)) e
@@ -34,7 +31,7 @@ one_more start all m n replies c cs r so_far goes made = record {
       (so_far.result (r ∷ rs) o (goes, subst (λ k. EndsFrom k (length replies + 1) cs rs o) made (subst (λ i. EndsFrom n i cs rs o) (length-append replies (r ∷ [])) h)));
   map = so_far.map ∙ ap (λ k. map_after k cs) (sym made);
   ends = sym (more_left c cs goes.0) ∙ so_far.ends;
-  served = (and_true (is_served c) (list_all is_served cs) so_far.served).1;
+  sound = subst IsSound (sym made) (sound_after m c so_far.sound);
 }
 
 pub played : (start : CityMap) (all : List Command) (m : CityMap) (replies : List Reply) (c : Command) (cs : List Command) (o : Outcome) → IsPlayed start all m replies (c ∷ cs) → EndsAt m c (length replies) o → HasResult start all replies o

@@ -1,8 +1,11 @@
 -- Scripts run one after the other in their order.
-use Rattle.std.specs.Prelude.{◌≡◌, ◌≢◌, ◌+◌, ℕ, List, [], ◌∷◌, length}
+use Rattle.std.specs.Prelude.{◌≡◌, ◌≢◌, ◌+◌, ℕ, List, [], ◌∷◌, length, take, Bool, true, not}
+use Rattle.std.specs.List.{list_all}
 use Rattle.city_model.specs.declared.end.End.{End}
 use Rattle.city_model.specs.CityMap.{at}
-use Rattle.city_model.specs.Runs.{Scripted, Fits}
+use Rattle.city_model.specs.Relations.{IsLawful}
+use Rattle.city_model.specs.Runs.{Scripted, Fits, model_after}
+use Rattle.city_model.specs.SerialEnds.{is_no_memory}
 use Rattle.city_doc.specs.declared.fault.ReadFault.{ReadFault}
 use Rattle.city_doc.specs.declared.fault.ScriptFault.{ScriptFault}
 use Rattle.city_doc.specs.Documents.{CityValue, StandsForCity, DocumentFault}
@@ -15,7 +18,7 @@ abbrev pub AreInTurn : ℕ → List End → Type 0
 AreInTurn k [] = Unit {0}
 AreInTurn k (e ∷ es) = (e.script ≡ k) × (e.since ≡ k) × AreInTurn (k + 1) es
 
--- the scripts of a text, run one after the other on the city of a document: their ends, and what is written
+-- the scripts of a text, run one after the other on the city of a document: their ends, and what is written. After each of the ends the model is lawful
 pub record IsSerialRun (document scripts : List ℕ) (ends : List End) (bytes : List ℕ) : Type 0 where
   pub city : CityValue
   pub list : List Scripted
@@ -24,7 +27,17 @@ pub record IsSerialRun (document scripts : List ℕ) (ends : List End) (bytes : 
   pub each_once : length ends ≡ length list
   pub in_turn : AreInTurn 0 ends
   pub fits : Fits list (at city.1) ends
+  pub lawful : (n : ℕ) → IsLawful (model_after list (at city.1) (take n ends))
   pub output : IsOutput city list ends bytes
+
+-- no script ended for want of memory
+abbrev pub had_memory : List End → Bool
+had_memory ends = list_all (λ e. not (is_no_memory e.outcome)) ends
+
+-- the texts decide the ends and what is written: where each script had its memory, no other run of them in which each has it differs
+abbrev pub IsDecided : List ℕ → List ℕ → List End → List ℕ → Type 0
+IsDecided document scripts ends bytes =
+    had_memory ends ≡ true → (others : List End) (written : List ℕ) → IsSerialRun document scripts others written → had_memory others ≡ true → (others ≡ ends) × (written ≡ bytes)
 
 -- the document is judged before the scripts, and nothing but the two texts and memory can be at fault
 abbrev pub IsRunFault : List ℕ → List ℕ → RunFault → Type 0

@@ -1,5 +1,5 @@
 -- What is written for an input: a document in its first line, and scripts in the rest.
-use Rattle.std.specs.Prelude.{◌==◌, ◌≡◌, ◌⊎◌, ℕ, List, Bool, Option, IfSome, take}
+use Rattle.std.specs.Prelude.{◌==◌, ◌≡◌, ◌⊎◌, ℕ, List, Bool, true, Option, IfSome, take}
 use Rattle.std.specs.List.{before_first, after_first}
 use Rattle.std.specs.Io.KnownBytes.{Keeps, Appends}
 use Rattle.city_model.specs.declared.end.End.{End}
@@ -20,6 +20,10 @@ document_of bytes = before_first is_newline bytes
 abbrev pub scripts_of : List ℕ → List ℕ
 scripts_of bytes = after_first is_newline bytes
 
+-- the first of these bytes were appended
+abbrev pub AppendsSome : Option (List ℕ) → Option (List ℕ) → List ℕ → Type 0
+AppendsSome old new bytes = (n : ℕ) × Appends old new (take n bytes)
+
 -- the writer has got the bytes of a run on the two texts of the input, and no others
 pub record IsServed (input : List ℕ) (old new : Option (List ℕ)) : Type 0 where
   pub ends : List End
@@ -27,13 +31,20 @@ pub record IsServed (input : List ℕ) (old new : Option (List ℕ)) : Type 0 wh
   pub ran : IsSerialRun (document_of (read_of input)) (scripts_of (read_of input)) ends bytes
   pub written : Appends old new bytes
 
--- a fault of the reader, or want of memory for what it gave
-abbrev pub IsReadFault : ServeFault → Type 0
-IsReadFault f = (f ≡ ServeFault.Read) ⊎ (f ≡ ServeFault.Run RunFault.OutOfMemory)
+-- the writer has got the first of the bytes of a run on the two texts of the input, and no others
+pub record IsCutShort (input : List ℕ) (old new : Option (List ℕ)) : Type 0 where
+  pub ends : List End
+  pub bytes : List ℕ
+  pub ran : IsSerialRun (document_of (read_of input)) (scripts_of (read_of input)) ends bytes
+  pub written : AppendsSome old new bytes
 
--- where the reader or the run is at fault, the writer has got nothing
-abbrev pub IsServeFault : Option (List ℕ) → Option (List ℕ) → Option (List ℕ) → ServeFault → Type 0
-IsServeFault input old new ServeFault.Read = Keeps old new
-IsServeFault input old new (ServeFault.Run f) =
+-- the reader has failed, or there was want of memory for what it gave
+abbrev pub IsReadFault : Bool → ServeFault → Type 0
+IsReadFault failed f = ((f ≡ ServeFault.Read) × (failed ≡ true)) ⊎ (f ≡ ServeFault.Run RunFault.OutOfMemory)
+
+-- Read comes only where the reader has failed, and Write only where the writer has. Where the reader or the run is at fault, the writer has got nothing
+abbrev pub IsServeFault : Option (List ℕ) → Bool → Option (List ℕ) → Option (List ℕ) → Bool → ServeFault → Type 0
+IsServeFault input reader_failed old new writer_failed ServeFault.Read = Keeps old new × (reader_failed ≡ true)
+IsServeFault input reader_failed old new writer_failed (ServeFault.Run f) =
     Keeps old new × IfSome input (λ all. IsRunFault (document_of (read_of all)) (scripts_of (read_of all)) f)
-IsServeFault input old new ServeFault.Write = Unit {0}
+IsServeFault input reader_failed old new writer_failed ServeFault.Write = IfSome input (λ all. IsCutShort all old new) × (writer_failed ≡ true)

@@ -8,7 +8,7 @@ use Rattle.city_model.specs.CityMap.{CityMap}
 use Rattle.city_model.specs.Meaning.{after}
 use Rattle.city_model.specs.Relations.{HasNoOrphan}
 use Rattle.city_model.specs.Runs.{Continues, EndsAt, Refuses}
-use Rattle.cityed.specs.declared.perform.Step.{Step}
+use Rattle.cityed.specs.declared.step.Step.{Step}
 
 -- the command was answered so at the map m, and left the map n; where the script ends by anything but a commit, n doesn't count
 abbrev pub IsStep : CityMap → Command → CityMap → Step → Type 0

@@ -47,6 +47,18 @@ impl From<AllocError> for RunFault {
     }
 }
 
+impl From<AllocError> for ServeFault {
+    ghost use Rattle.std.specs.Prelude.{◌≡◌};
+    ghost use Rattle.cityed.specs.declared.fault.RunFault.{RunFault};
+    ghost use Rattle.cityed.specs.declared.fault.ServeFault.{ServeFault};
+
+    ghost from_gives = { λ _ f. f ≡ ServeFault.Run RunFault.OutOfMemory };
+
+    fn from(_: AllocError) -> ServeFault {
+        ServeFault::Run(RunFault::OutOfMemory)
+    }
+}
+
 impl From<ReadFault> for RunFault {
     ghost use Rattle.std.specs.Prelude.{◌≡◌};
     ghost use Rattle.cityed.specs.SerialRuns.{fault_of_document};

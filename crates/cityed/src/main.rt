@@ -1,35 +1,98 @@
 //! Edits a CityJSON 2.0 document by scripts.
 //!
-//! Standard input has the document in its first line and the scripts after it; standard output gets
-//! a line for each script and the model. Status 1: a fault, told on standard error; 2: an argument.
+//! Two arguments name files, the model's and the scripts'. Without arguments standard input has the
+//! document in its first line and the scripts after it. Standard output gets a line for each script
+//! and the model. Status 1: a fault, told on standard error; 2: a command line that is refused.
 #![tactic(auto)]
 
+mod attach;
+mod command_line;
+#[cfg(test)]
+mod command_line_tests;
+#[cfg(test)]
+mod command_tests;
+mod delete;
+mod detach;
 mod fault;
 mod fault_line;
+mod files;
 mod perform;
 mod play;
+mod put;
+mod relatives;
 mod run;
 mod serve;
+mod serve_texts;
+mod step;
 #[cfg(test)]
 mod tests;
+mod told;
 
-use fault::ServeFault;
+use command_line::{Asked, LineFault, asked_by};
+use fault::{RunFault, ServeFault};
+use files::read_file;
+use serve::{serve, write_output};
+use serve_texts::serve_texts;
+use std::io::ErrorKind;
 use std::process::ExitCode;
 use std::{env, io};
-
-const USAGE: &str = "usage: cityed < INPUT (a document in the first line, then scripts)";
+use told::Told;
 
 fn main(rt: HostRuntime) -> ExitCode {
-    let Ok(mut arguments) = env::args(&rt) else {
-        return refuse(&rt, &ServeFault::Run(fault::RunFault::OutOfMemory));
+    let words = match words(&rt) {
+        Ok(words) => words,
+        Err(fault) => return refuse_line(&rt, &fault),
     };
-    if arguments.nth(1).is_some() {
-        let _ = rt.eprintln(USAGE);
-        return ExitCode::from(2);
+    match asked_by(rt.alloc(), words.as_slice()) {
+        Ok(asked) => match answer(&rt, &asked) {
+            Ok(()) => ExitCode::SUCCESS,
+            Err(fault) => refuse(&rt, &fault),
+        },
+        Err(fault) => refuse_line(&rt, &fault),
     }
-    match serve::serve(rt.alloc(), &mut rt.reader(), &mut io::writer(&rt), 1, 0) {
-        Ok(_) => ExitCode::SUCCESS,
-        Err(fault) => refuse(&rt, &fault),
+}
+
+/// The words of the command line, the program's name first.
+fn words(rt: &HostRuntime) -> Result<Vec<String>, LineFault> {
+    match env::args(rt) {
+        Ok(words) => Ok(words.collect(rt.alloc())?),
+        Err(error) if error.kind() == ErrorKind::OutOfMemory => Err(LineFault::OutOfMemory),
+        Err(_) => Err(LineFault::Refused("error: an argument isn't text in UTF-8\n".to_string(
+            rt.alloc(),
+        )?)),
+    }
+}
+
+/// Does what is asked for.
+fn answer(rt: &HostRuntime, asked: &Asked<'_>) -> Result<(), ServeFault> {
+    let alloc = rt.alloc();
+    let mut output = Told::new(io::writer(rt));
+    match asked {
+        Asked::Text(text) => {
+            if !write_output(&mut output, text.as_bytes()) {
+                return Err(ServeFault::Write);
+            }
+        }
+        Asked::Input => drop(serve(alloc, &mut Told::new(rt.reader()), &mut output, 1, 0)?),
+        Asked::Files(model, scripts) => {
+            let document = read_file(rt, *model)?;
+            let scripts = read_file(rt, *scripts)?;
+            let (document, scripts) = (document.as_slice(), scripts.as_slice());
+            drop(serve_texts(alloc, document, scripts, &mut output, 1, 0)?);
+        }
+    }
+    Ok(())
+}
+
+/// Tells on standard error why the command line is refused.
+fn refuse_line(rt: &HostRuntime, fault: &LineFault) -> ExitCode {
+    match fault {
+        LineFault::Refused(text) => {
+            // Where standard error fails too, the status is all that is left.
+            let _ = rt.eprint(text.as_str());
+            ExitCode::from(2)
+        }
+        LineFault::OutOfMemory => refuse(rt, &ServeFault::Run(RunFault::OutOfMemory)),
     }
 }
 

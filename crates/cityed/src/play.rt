@@ -1,12 +1,13 @@
 //! Plays a script's commands.
 ghost use Rattle.std.specs.Prelude.{◌≡◌, true};
-ghost use Rattle.std.specs.List.{list_all};
 ghost use Rattle.city_model.specs.CityMap.{at};
 ghost use Rattle.city_model.specs.Runs.{HasResult, map_after, map_left};
-ghost use Rattle.city_model.specs.Scripts.{ends_once, is_served};
+ghost use Rattle.city_model.specs.Relations.{IsSound};
+ghost use Rattle.city_model.specs.Scripts.{ends_once};
 ghost use Rattle.cityed.specs.Steps.{IsTurn};
 
-use crate::perform::{Step, perform};
+use crate::perform::perform;
+use crate::step::Step;
 use city_model::city::City;
 use city_model::command::{Command, Reply};
 use city_model::copied::Copied;
@@ -25,7 +26,8 @@ pub struct Played {
 
 /// Runs a script as number `number`. The city is what the script leaves; only a commit changes it.
 pub fn run_script(alloc: Global, city: &mut City, number: usize, script: Script) -> End
-    requires { list_all is_served script.1 ≡ true }
+    requires { IsSound (at city.old.1) }
+    ensures ends { ends_once script.1 ≡ true }
     ensures script { result.script ≡ number }
     ensures since { result.since ≡ number }
     ensures named { result.name ≡ script.0 }
@@ -47,7 +49,7 @@ pub fn run_script(alloc: Global, city: &mut City, number: usize, script: Script)
 /// Plays the commands on a copy of the city, and keeps the copy where they commit.
 fn play_on_copy(alloc: Global, city: &mut City, commands: Sequence<Command>) -> Played
     requires ends { ends_once commands ≡ true }
-    requires served { list_all is_served commands ≡ true }
+    requires sound { IsSound (at city.old.1) }
     ensures result { HasResult (at city.old.1) commands result.replies result.outcome }
     ensures left { at city.new.1 ≡ map_left (at city.old.1) commands result.outcome }
     ensures frame { city.new.0 ≡ city.old.0 }
@@ -69,7 +71,7 @@ fn play_on_copy(alloc: Global, city: &mut City, commands: Sequence<Command>) -> 
 /// of the city isn't said.
 fn play(alloc: Global, city: &mut City, commands: Sequence<Command>) -> Played
     requires ends { ends_once commands ≡ true }
-    requires served { list_all is_served commands ≡ true }
+    requires sound { IsSound (at city.old.1) }
     ensures result { HasResult (at city.old.1) commands result.replies result.outcome }
     ensures committed { result.outcome ≡ Outcome.Committed
         → at city.new.1 ≡ map_after (at city.old.1) commands }
@@ -93,7 +95,7 @@ fn play(alloc: Global, city: &mut City, commands: Sequence<Command>) -> Played
 
 /// The reply to the command, which is number `number` of its script, or how it ends the script.
 fn turn(alloc: Global, city: &mut City, command: Command, number: usize) -> Result<Reply, Outcome>
-    requires { is_served command ≡ true }
+    requires { IsSound (at city.old.1) }
     ensures turn { IsTurn (at city.old.1) command number (at city.new.1) result }
     ensures frame { city.new.0 ≡ city.old.0 }
 {

@@ -1,15 +1,15 @@
 //! Runs the scripts of a text on the city of a document, one after the other.
-ghost use Rattle.std.specs.Prelude.{◌≡◌, ◌++◌, ◌∷◌, [], true, length, IfOk, IfErr};
+ghost use Rattle.std.specs.Prelude.{◌≡◌, ◌++◌, ◌∷◌, [], ℕ, length, take, IfOk, IfErr};
 ghost use Rattle.std.specs.Ordering.{nat_cmp};
 ghost use Rattle.std.specs.Cmp.Lexicographic.{slice_cmp};
 ghost use Rattle.std.specs.List.Sorted.{IsStrictlySortedBy};
 ghost use Rattle.std.specs.Map.{keys_of};
 ghost use Rattle.city_model.specs.CityMap.{at};
+ghost use Rattle.city_model.specs.Relations.{IsLawful};
 ghost use Rattle.city_model.specs.Runs.{Fits, model_after};
-ghost use Rattle.city_model.specs.Scripts.{are_served};
 ghost use Rattle.city_doc.specs.Canonical.{city_text};
 ghost use Rattle.city_doc.specs.Reports.{report_text};
-ghost use Rattle.cityed.specs.SerialRuns.{AreInTurn, IsSerialRun, IsRunFault};
+ghost use Rattle.cityed.specs.SerialRuns.{AreInTurn, IsSerialRun, IsDecided, IsRunFault};
 
 use crate::fault::RunFault;
 use crate::play::run_script;
@@ -38,9 +38,11 @@ pub struct Output {
 /// Runs the scripts on the document's city, one after the other in their order.
 ///
 /// The document is judged before the scripts. A script that finds no memory ends so and changes
-/// nothing; want of memory for a text, for the list of ends or for the output ends the run.
+/// nothing; want of memory for a text, for the list of ends or for the output ends the run. Where
+/// each script had its memory, the two texts alone decide the ends and the bytes.
 pub fn run_serial(alloc: Global, document: &[u8], scripts: &[u8]) -> Result<Output, RunFault>
     ensures ran { IfOk result (λ o. IsSerialRun document.now scripts.now o.ends o.bytes.items) }
+    ensures decided { IfOk result (λ o. IsDecided document.now scripts.now o.ends o.bytes.items) }
     ensures seen { IfOk result (λ o. o.seen.items ≡ []) }
     ensures fault { IfErr result (λ f. IsRunFault document.now scripts.now f) }
 {
@@ -61,10 +63,12 @@ fn run_each(
     city: &mut City,
     scripts: Sequence<Script>,
 ) -> Result<Sequence<End>, OutOfMemory>
-    requires { are_served scripts ≡ true }
+    requires { IsLawful (at city.old.1) }
     ensures each_once { IfOk result (λ ends. length ends ≡ length scripts) }
     ensures in_turn { IfOk result (λ ends. AreInTurn 0 ends) }
     ensures fits { IfOk result (λ ends. Fits scripts (at city.old.1) ends) }
+    ensures lawful { IfOk result (λ ends. (n : ℕ) →
+        IsLawful (model_after scripts (at city.old.1) (take n ends))) }
     ensures model { IfOk result (λ ends. at city.new.1 ≡ model_after scripts (at city.old.1) ends) }
     ensures frame { city.new.0 ≡ city.old.0 }
 {

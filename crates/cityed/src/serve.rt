@@ -1,68 +1,75 @@
 //! Serves a document and its scripts from a reader to a writer.
-ghost use Rattle.std.specs.Prelude.{◌≡◌, [], IfOk, IfErr, IfSome, OnOk, position};
+ghost use Rattle.std.specs.Prelude.{◌≡◌, [], true, false, IfOk, IfErr, IfSome, OnOk, position, take};
 ghost use Rattle.std.specs.Io.KnownBytes.{Appends};
-ghost use Rattle.cityed.specs.Served.{read_of, is_newline, document_of, scripts_of, IsServed, IsReadFault, IsServeFault};
+ghost use Rattle.cityed.specs.Served.{is_newline, document_of, scripts_of, AppendsSome, IsServed, IsReadFault, IsServeFault};
 
-use crate::fault::{RunFault, ServeFault};
+use crate::fault::ServeFault;
 use crate::run::run_serial;
+use crate::told::Told;
 use std::alloc::Global;
-use std::io::{ErrorKind, Read, Write};
+use std::io::{Read, Write};
 
 /// The most bytes that are read.
-const MOST: u64 = 134_217_730;
+const MOST: usize = 134_217_730;
 
 /// Reads a document and, after the first newline, scripts; runs the scripts on the document; writes
 /// the output.
 ///
 /// No more than 134,217,730 bytes are read. Without a newline there are no scripts. Where the reader
-/// fails, or the run has no output, nothing is written.
+/// fails, or the run has no output, nothing is written; where the writer fails, it has got the first
+/// bytes of the output. `Read` and `Write` come only where the reader or the writer has failed, and
+/// where either fails in this call there is no `Ok`.
 pub fn serve<R: Read, W: Write>(
     alloc: Global,
-    reader: &mut R,
-    writer: &mut W,
+    reader: &mut Told<R>,
+    writer: &mut Told<W>,
     workers: usize,
     viewers: usize,
 ) -> Result<Vec<Vec<u64>>, ServeFault>
     requires one_worker { workers ≡ 1 }
     requires no_viewer { viewers ≡ 0 }
-    ensures served { OnOk result (IfSome (R.remaining reader.old)
-        (λ input. IsServed input (W.contents writer.old) (W.contents writer.new))) }
+    ensures served { OnOk result (IfSome (R.remaining reader.old.0)
+        (λ input. IsServed input (W.contents writer.old.0) (W.contents writer.new.0))) }
     ensures seen { IfOk result (λ seen. seen.items ≡ []) }
-    ensures fault { IfErr result (IsServeFault (R.remaining reader.old)
-        (W.contents writer.old) (W.contents writer.new)) }
+    ensures unfailed { OnOk result ((reader.new.1 ≡ reader.old.1) × (writer.new.1 ≡ writer.old.1)) }
+    ensures fault { IfErr result (IsServeFault (R.remaining reader.old.0) reader.new.1
+        (W.contents writer.old.0) (W.contents writer.new.0) writer.new.1) }
 {
     prove!(workers == 1 && viewers == 0);
-    let input = read_input(alloc, reader)?;
+    let input = read_at_most(alloc, reader, MOST)?;
     let (document, scripts) = cut(input.as_slice());
     let output = match run_serial(alloc, document, scripts) {
         Ok(output) => output,
         Err(fault) => return Err(ServeFault::Run(fault)),
     };
-    write_output(writer, output.bytes.as_slice())?;
+    if !write_output(writer, output.bytes.as_slice()) {
+        return Err(ServeFault::Write);
+    }
     Ok(output.seen)
 }
 
-/// What a reader gives, but no more than is read of an input.
-fn read_input<R: Read>(alloc: Global, reader: &mut R) -> Result<Vec<u8>, ServeFault>
-    ensures input { IfOk result (λ v. IfSome (R.remaining reader.old) (λ all. v.items ≡ read_of all)) }
-    ensures fault { IfErr result IsReadFault }
+/// What a reader gives, but no more than so many bytes.
+pub(crate) fn read_at_most<R: Read>(
+    alloc: Global,
+    reader: &mut Told<R>,
+    most: usize,
+) -> Result<Vec<u8>, ServeFault>
+    ensures input { IfOk result (λ v. IfSome (R.remaining reader.old.0)
+        (λ all. v.items ≡ take most all)) }
+    ensures unfailed { OnOk result (reader.new.1 ≡ reader.old.1) }
+    ensures fault { IfErr result (IsReadFault reader.new.1) }
 {
     let mut input = Vec::new(alloc);
-    match reader.take(MOST).read_to_end(&mut input) {
-        Ok(_) => Ok(input),
-        Err(error) => Err(read_fault(error.kind())),
+    let mut chunk = [0; 8192];
+    while input.len() < most {
+        let room = chunk.len().min(most - input.len());
+        let count = reader.read_some(&mut chunk[..room])?;
+        if count == 0 {
+            return Ok(input);
+        }
+        input.extend_from_slice(&chunk[..count])?;
     }
-}
-
-/// What the kind of a reader's error says.
-fn read_fault(kind: ErrorKind) -> ServeFault
-    ensures { IsReadFault result }
-{
-    if kind == ErrorKind::OutOfMemory {
-        ServeFault::Run(RunFault::OutOfMemory)
-    } else {
-        ServeFault::Read
-    }
+    Ok(input)
 }
 
 /// The document and the scripts of an input.
@@ -83,16 +90,19 @@ fn first_newline(bytes: &[u8]) -> Option<usize>
     bytes.iter().position(|byte| *byte == b'\n')
 }
 
-/// Writes the bytes, and lets the writer pass them on.
-fn write_output<W: Write>(writer: &mut W, bytes: &[u8]) -> Result<(), ServeFault>
-    ensures written { OnOk result (Appends (W.contents writer.old) (W.contents writer.new) bytes.now) }
-    ensures fault { IfErr result (λ f. f ≡ ServeFault.Write) }
+/// Writes the bytes, and lets the writer pass them on: whether it did.
+pub(crate) fn write_output<W: Write>(writer: &mut Told<W>, bytes: &[u8]) -> bool
+    ensures written { result ≡ true → Appends (W.contents writer.old.0) (W.contents writer.new.0) bytes.now }
+    ensures cut_short { result ≡ false → AppendsSome (W.contents writer.old.0) (W.contents writer.new.0) bytes.now }
+    ensures unfailed { result ≡ true → writer.new.1 ≡ writer.old.1 }
+    ensures failed { result ≡ false → writer.new.1 ≡ true }
 {
-    let Ok(()) = writer.write_all(bytes) else {
-        return Err(ServeFault::Write);
-    };
-    let Ok(()) = writer.flush() else {
-        return Err(ServeFault::Write);
-    };
-    Ok(())
+    let mut rest = bytes;
+    while !rest.is_empty() {
+        let Some(count) = writer.write_some(rest) else {
+            return false;
+        };
+        rest = &rest[count..];
+    }
+    writer.flush()
 }

@@ -1,15 +1,8 @@
 //! Documents that are read, and documents that are refused.
 use crate::read::read_city;
+use crate::samples::document;
 use std::alloc::Global;
 use std::test::Fail;
-
-/// A document of these objects and vertices.
-fn document(alloc: Global, objects: &str, vertices: &str) -> Result<String, Fail> {
-    let text = format!(in alloc;
-        "{{\"CityObjects\":{objects},\"transform\":{{\"scale\":[1,1,1],\"translate\":[0,0,0]}},\"type\":\"CityJSON\",\"version\":\"2.0\",\"vertices\":{vertices}}}"
-    )?;
-    Ok(text)
-}
 
 /// What reading a text answers, in words.
 fn answer(alloc: Global, text: &str) -> Result<String, Fail> {
@@ -73,8 +66,8 @@ fn objects_are_judged_in_order(rt: HostRuntime) -> Result<(), Fail> {
             "the object a has no type, or an unknown one",
         ),
         (
-            "{\"a\":{\"type\":\"Road\",\"geometry\":1},\"b\":{\"type\":\"Road\",\"geometry\":[{\"type\":\"Solid\"}]}}",
-            "the object b has a Solid, which isn't supported",
+            "{\"a\":{\"type\":\"Road\",\"geometry\":1},\"b\":{\"type\":\"Road\",\"geometry\":[{\"type\":\"MultiSolid\"}]}}",
+            "the object b has a MultiSolid, which isn't supported",
         ),
         (
             "{\"a\":{\"type\":\"Road\",\"parents\":1},\"b\":{\"type\":\"Road\",\"geometry\":1},\"c\":{\"type\":\"Road\",\"geometry\":{}}}",

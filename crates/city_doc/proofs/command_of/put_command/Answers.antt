@@ -1,10 +1,15 @@
-use Rattle.std.proofs.Common.{◌∙◌, sym}
-use Rattle.std.specs.Prelude.{[]}
-use Rattle.serde_json.specs.View.{view}
-use Rattle.city_doc.proofs.CommandLaws.{bad_object-geometry, plain_put-body}
+use Rattle.std.proofs.Common.{◌∙◌, sym, ap}
+use Rattle.std.specs.Prelude.{Some, None, option_map}
+use Rattle.serde_json.specs.View.{view, members_view}
+use Rattle.city_doc.proofs.CommandLaws.{put-taken}
 use Rattle.city_doc.proofs.command_of.put_command.Goals as goal
 
-pub returns-in_err-body : goal.returns-in_err-body
-returns-in_err-body c =
-    let good = sym c.is_bad_object.ensures ∙ c.if-is_bad_object.false in
-    c.from_residual.ensures ∙ sym (plain_put-body c.args.id (view c.args.object) _ good (sym (c.body_of.ensures [] (bad_object-geometry (view c.args.object) good)) ∙ c.in_err-body.was))
+pub returns-in_default-take : goal.returns-in_default-take
+returns-in_default-take c =
+    sym (put-taken c.args.points.now (members_view c.args.members.entries) (members_view c.take_text.new.members.entries) c.in-Some.id None (sym c.take_text.ensures.found ∙ c.in-Some.is)
+    c.take_text.ensures.left (sym (ap (option_map view) c.in_default-take.is) ∙ c.take.ensures.found))
+
+pub returns : goal.returns
+returns c =
+    rw (put-taken c.args.points.now (members_view c.args.members.entries) (members_view c.take_text.new.members.entries) c.in-Some.id (Some (view c.in-Some-take.object))
+    (sym c.take_text.ensures.found ∙ c.in-Some.is) c.take_text.ensures.left (sym (ap (option_map view) c.in-Some-take.is) ∙ c.take.ensures.found)) c.put_of.ensures

@@ -3,7 +3,7 @@ use Rattle.std.proofs.lemmas.Result.{err_from_is_err_and}
 use Rattle.serde_json.specs.View.{view}
 use Rattle.city_doc.proofs.WholeParts.{array_of-whole}
 use Rattle.city_doc.proofs.ScriptFaults.{items_fault_or}
-use Rattle.city_doc.proofs.PlainScripts.{scripts_of-array}
+use Rattle.city_doc.proofs.ScriptMeanings.{scripts_of-array}
 use Rattle.city_doc.proofs.scripts.scripts_of_tree.Goals as goal
 
 pub scripts_of_items-requires : goal.scripts_of_items-requires

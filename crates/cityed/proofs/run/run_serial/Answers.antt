@@ -6,6 +6,7 @@ use Rattle.city_model.specs.declared.end.End.{End}
 use Rattle.city_model.specs.declared.frame.Frame.{Frame}
 use Rattle.cityed.specs.declared.fault.RunFault.{RunFault}
 use Rattle.cityed.specs.SerialRuns.{IsRunFault, fault_of_document, fault_of_scripts}
+use Rattle.cityed.proofs.OneRun.{decided}
 use Rattle.cityed.proofs.RunFaults.{of_error, document_refused, scripts_refused}
 use Rattle.cityed.proofs.run.run_serial.Goals as goal
 
@@ -22,12 +23,16 @@ returns-clause-ran c =
       each_once = run.each_once;
       in_turn = run.in_turn;
       fits = run.fits;
+      lawful = run.lawful;
       output = record {
         entries = left.1;
         model = record { ordered = c.in_ok-bytes.ensures.ordered; answers = λ id. ap (λ (m : CityMap). m id) run.model };
         text = c.in_ok-bytes.ensures.text ∙ ap (λ (es : List End). report_text es ++ city_text left ++ 10 ∷ []) c.as_slice.ensures ∙ ap (λ (f : Frame). report_text c.in_ok-ends.ends ++ city_text (f, left.1) ++ 10 ∷ []) run.frame;
       };
     }
+
+pub returns-clause-decided : goal.returns-clause-decided
+returns-clause-decided c = decided c.args.document.now c.args.scripts.now _ _ (returns-clause-ran c)
 
 pub returns-in_err-city-clause-fault : goal.returns-in_err-city-clause-fault
 returns-in_err-city-clause-fault c =

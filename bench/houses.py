@@ -1,0 +1,48 @@
+"""Closed solids of houses, in millimetres, as CityJSON geometries."""
+
+
+class Vertices:
+    """The vertices of a document or a script, each once."""
+
+    def __init__(self):
+        self.places = {}
+
+    def place(self, point):
+        return self.places.setdefault(point, len(self.places))
+
+    def points(self):
+        return [list(point) for point in self.places]
+
+
+def solid(lod, vertices, corners, faces):
+    """A solid of one shell; each face names its corners as they turn when seen from outside."""
+    places = [vertices.place(corner) for corner in corners]
+    shell = [[[places[corner] for corner in face]] for face in faces]
+    return {"type": "Solid", "lod": lod, "boundaries": [shell]}
+
+
+def ground(x, y, width, depth, height):
+    return [(x, y, height), (x + width, y, height), (x + width, y + depth, height), (x, y + depth, height)]
+
+
+def box(vertices, x, y, width, depth, height, lod="1"):
+    corners = ground(x, y, width, depth, 0) + ground(x, y, width, depth, height)
+    faces = [[0, 3, 2, 1], [4, 5, 6, 7], [0, 1, 5, 4], [1, 2, 6, 5], [2, 3, 7, 6], [3, 0, 4, 7]]
+    return solid(lod, vertices, corners, faces)
+
+
+def gabled(vertices, x, y, width, depth, eaves, ridge, lod="2"):
+    """A house whose ridge runs along x."""
+    middle = y + depth // 2
+    corners = ground(x, y, width, depth, 0) + ground(x, y, width, depth, eaves)
+    corners += [(x, middle, ridge), (x + width, middle, ridge)]
+    faces = [
+        [0, 3, 2, 1],
+        [0, 1, 5, 4],
+        [2, 3, 7, 6],
+        [3, 0, 4, 8, 7],
+        [1, 2, 6, 9, 5],
+        [4, 5, 9, 8],
+        [6, 7, 8, 9],
+    ]
+    return solid(lod, vertices, corners, faces)

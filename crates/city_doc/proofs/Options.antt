@@ -1,0 +1,15 @@
+-- What an option that has a value was made of.
+use Rattle.std.proofs.Common.{◌≡◌, Bool, true, false, Option, Some, None, option_map, refl}
+use Rattle.std.specs.Prelude.{option_and_then, if◌then◌else◌}
+
+pub and_then_some : {A B : Type 0} (g : A → Option B) (o : Option A) (y : B) → option_and_then g o ≡ Some y → (x : A) × (o ≡ Some x) × (g x ≡ Some y)
+and_then_some g None y h = absurd (let no : ⊥ = cc in no)
+and_then_some g (Some x) y h = (x, refl, h)
+
+pub map_some : {A B : Type 0} (f : A → B) (o : Option A) (y : B) → option_map f o ≡ Some y → (x : A) × (o ≡ Some x) × (y ≡ f x)
+map_some f None y h = absurd (let no : ⊥ = cc in no)
+map_some f (Some x) y h = let is : y ≡ f x = cc in (x, refl, is)
+
+pub if_some : {A : Type 0} (b : Bool) (o : Option A) (x : A) → (if b then o else None) ≡ Some x → (b ≡ true) × (o ≡ Some x)
+if_some true o x h = (refl, h)
+if_some false o x h = absurd (let no : ⊥ = cc in no)

@@ -1,0 +1,129 @@
+-- Geometries that have their form, and whose positions name points, are read.
+use Rattle.std.proofs.Common.{◌≡◌, ℕ, zero, suc, ℤ, pos, negsuc, ◌<◌, List, [], ◌∷◌, Bool, true, false, true≢false, Option, Some, None, refl, sym, ap, ◌∙◌, arith}
+use Rattle.std.specs.Prelude.{length, option_and_then, option_map, slice_get, codes, is_some, if◌then◌else◌}
+use Rattle.std.specs.Str.{bytes_eq}
+use Rattle.std.proofs.lemmas.Bool.{ltb-true}
+use Rattle.serde_json.specs.Data.{Data, null, boolean, number, string, array, object, Items, no_items, item, Members}
+use Rattle.serde_json.specs.Find.{get, get_member, as_str, as_object, as_number, as_i64}
+use Rattle.city_model.specs.declared.object.Geometry.{Geometry}
+use Rattle.city_model.specs.declared.object.Point.{Point}
+use Rattle.city_model.specs.declared.object.Shape.{Shape}
+use Rattle.city_model.specs.declared.object.Shape.TheVariants.{MultiSurface, CompositeSurface, Solid}
+use Rattle.city_model.specs.Kept.{kept_at_geometry}
+use Rattle.city_model.specs.Shells.{Ring, Surface, Shell}
+use Rattle.city_model.specs.Whole.{is_whole, items_whole}
+use Rattle.city_doc.specs.Bodies.{read_items, list_of, list_or_absent, point_at_place, point_at, surface_of, surfaces_of, shells_of, shape_of, shape_in, text_at, kept_if, without_geometry_members, geometry_with, geometry_of}
+use Rattle.city_doc.specs.Geometries.{natural, is_below, is_place, all_items, is_list_of, are_surfaces, is_boundaries, are_boundaries_of, is_geometry, are_geometries}
+use Rattle.city_doc.proofs.Cities.{get-object}
+use Rattle.city_doc.proofs.KeptMembers.{kept_all, whole_member, whole_object, geometry_admitted}
+use Rattle.city_doc.proofs.Right.{both, some_of, item_read}
+
+-- ---- lists
+
+module _ {X : Type 0} (test : Data → Bool) (read : Data → Option X) (one : (d : Data) → is_whole d ≡ true → test d ≡ true → (x : X) × (read d ≡ Some x)) where
+  items_some : (ds : Items) → items_whole ds ≡ true → all_items test ds ≡ true → (xs : List X) × (read_items read ds ≡ Some xs)
+  items_some no_items whole h = ([], refl)
+  items_some (item d ds) whole h =
+      let ws = both (is_whole d) (items_whole ds) whole in
+      let hs = both (test d) (all_items test ds) h in
+      let x = one d ws.0 hs.0 in
+      let xs = items_some ds ws.1 hs.1 in
+      (x.0 ∷ xs.0, item_read read d ds x.0 xs.0 x.1 xs.1)
+
+  -- an array each of whose items can be read is read
+  pub list_some : (d : Data) → is_whole d ≡ true → is_list_of test d ≡ true → (xs : List X) × (list_of read d ≡ Some xs)
+  list_some null whole h = absurd (true≢false (sym h))
+  list_some (boolean b) whole h = absurd (true≢false (sym h))
+  list_some (number n) whole h = absurd (true≢false (sym h))
+  list_some (string s) whole h = absurd (true≢false (sym h))
+  list_some (array ds) whole h = items_some ds whole h
+  list_some (object ms) whole h = absurd (true≢false (sym h))
+
+-- ---- positions
+
+get_some : {X : Type 0} (xs : List X) (n : ℕ) → n < length xs → (x : X) × (slice_get xs n ≡ Some x)
+get_some [] n lt = absurd (omega arith)
+get_some (x ∷ xs) zero lt = (x, refl)
+get_some (x ∷ xs) (suc n) lt = let lower : n < length xs = omega arith in get_some xs n lower
+
+place_some : (points : List Point) (o : Option ℤ) → is_below (length points) (option_and_then natural o) ≡ true → (p : Point) × (option_and_then (point_at_place points) o ≡ Some p)
+place_some points None h = absurd (true≢false (sym h))
+place_some points (Some (pos n)) h = get_some points n (ltb-true n (length points) h)
+place_some points (Some (negsuc n)) h = absurd (true≢false (sym h))
+
+module _ (points : List Point) where
+  abbrev fits : Data → Bool
+  fits = is_place (length points)
+
+  point_some : (d : Data) → is_whole d ≡ true → fits d ≡ true → (p : Point) × (point_at points d ≡ Some p)
+  point_some d whole h = place_some points (option_and_then as_i64 (as_number d)) h
+
+  ring_some : (d : Data) → is_whole d ≡ true → is_list_of fits d ≡ true → (r : Ring) × (list_of (point_at points) d ≡ Some r)
+  ring_some = list_some fits (point_at points) point_some
+
+  surface_some : (d : Data) → is_whole d ≡ true → is_list_of (is_list_of fits) d ≡ true → (s : Surface) × (surface_of points d ≡ Some s)
+  surface_some = list_some (is_list_of fits) (list_of (point_at points)) ring_some
+
+  surfaces_some : (d : Data) → is_whole d ≡ true → are_surfaces fits d ≡ true → (ss : List Surface) × (surfaces_of points d ≡ Some ss)
+  surfaces_some = list_some (is_list_of (is_list_of fits)) (surface_of points) surface_some
+
+  shells_some : (d : Data) → is_whole d ≡ true → is_list_of (are_surfaces fits) d ≡ true → (ss : List Shell) × (shells_of points d ≡ Some ss)
+  shells_some = list_some (are_surfaces fits) (surfaces_of points) surfaces_some
+
+  -- ---- geometries
+
+  made : {A B : Type 0} (f : A → B) (o : Option A) → (x : A) × (o ≡ Some x) → (y : B) × (option_map f o ≡ Some y)
+  made f o x = (f x.0, ap (option_map f) x.1)
+
+  shape_cases : (multi composite solid : Bool) (d : Data) → is_whole d ≡ true
+      → (if multi then are_surfaces fits d else (if composite then are_surfaces fits d else (if solid then is_list_of (are_surfaces fits) d else false))) ≡ true
+      → (s : Shape) × ((if multi then option_map MultiSurface (surfaces_of points d) else (if composite then option_map CompositeSurface (surfaces_of points d) else (if solid then option_map Solid (shells_of points d) else None)))
+      ≡ Some s)
+  shape_cases true composite solid d whole h = made MultiSurface (surfaces_of points d) (surfaces_some d whole h)
+  shape_cases false true solid d whole h = made CompositeSurface (surfaces_of points d) (surfaces_some d whole h)
+  shape_cases false false true d whole h = made Solid (shells_of points d) (shells_some d whole h)
+  shape_cases false false false d whole h = absurd (true≢false (sym h))
+
+  shape_some : (kind : List ℕ) (d : Data) → is_whole d ≡ true → is_boundaries fits kind d ≡ true → (s : Shape) × (shape_of points kind d ≡ Some s)
+  shape_some kind d whole h = shape_cases (bytes_eq kind (codes "MultiSurface")) (bytes_eq kind (codes "CompositeSurface")) (bytes_eq kind (codes "Solid")) d whole h
+
+  bounded : (kind : Option (List ℕ)) (o : Option Data) → ((d : Data) → o ≡ Some d → is_whole d ≡ true) → are_boundaries_of fits kind o ≡ true
+      → (s : Shape) × (option_and_then (λ k. option_and_then (shape_of points k) o) kind ≡ Some s)
+  bounded None None whole h = absurd (true≢false (sym h))
+  bounded None (Some d) whole h = absurd (true≢false (sym h))
+  bounded (Some kind) None whole h = absurd (true≢false (sym h))
+  bounded (Some kind) (Some d) whole h = shape_some kind d (whole d refl) h
+
+  -- a tree that has a member is an object
+  has_members : (name : List ℕ) (d : Data) → is_some (text_at name d) ≡ true → (ms : Members) × (as_object d ≡ Some ms)
+  has_members name null h = absurd (true≢false (sym h))
+  has_members name (boolean b) h = absurd (true≢false (sym h))
+  has_members name (number n) h = absurd (true≢false (sym h))
+  has_members name (string s) h = absurd (true≢false (sym h))
+  has_members name (array ds) h = absurd (true≢false (sym h))
+  has_members name (object ms) h = (ms, refl)
+
+  geometry_made : (shape : Shape) (ms : Members) (lod : List ℕ) → option_and_then as_str (get_member (codes "lod") ms) ≡ Some lod
+      → kept_if kept_at_geometry (without_geometry_members ms) ≡ Some (without_geometry_members ms)
+      → geometry_with shape ms ≡ Some (record { lod = lod; shape = shape; extra = without_geometry_members ms })
+  geometry_made shape ms lod is_lod kept = rw (is_lod, kept) refl
+
+  geometry_joined : (d : Data) (shape : Shape) (ms : Members) (g : Geometry) → shape_in points d ≡ Some shape → as_object d ≡ Some ms → geometry_with shape ms ≡ Some g → geometry_of points d ≡ Some g
+  geometry_joined d shape ms g is_shape is_object made = rw (is_shape, is_object) made
+
+  geometry_some : (d : Data) → is_whole d ≡ true → is_geometry fits d ≡ true → (g : Geometry) × (geometry_of points d ≡ Some g)
+  geometry_some d whole h =
+      let hs = both (is_some (text_at (codes "lod") d)) (are_boundaries_of fits (text_at (codes "type") d) (get (codes "boundaries") d)) h in
+      let ms = has_members (codes "lod") d hs.0 in
+      let whole_members = whole_object d ms.0 whole ms.1 in
+      let boundaries = get-object (codes "boundaries") d ms.0 ms.1 in
+      let shape = bounded (text_at (codes "type") d) (get (codes "boundaries") d) (λ b is. whole_member (codes "boundaries") ms.0 b whole_members (sym boundaries ∙ is)) hs.1 in
+      let lod = some_of (text_at (codes "lod") d) hs.0 in
+      let is_lod = ap (option_and_then as_str) (sym (get-object (codes "lod") d ms.0 ms.1)) ∙ lod.1 in
+      let kept = kept_all kept_at_geometry (without_geometry_members ms.0) (geometry_admitted ms.0 whole_members) in
+      (_, geometry_joined d shape.0 ms.0 _ shape.1 ms.1 (geometry_made shape.0 ms.0 lod.0 is_lod kept))
+
+  -- a list of geometries, or none
+  pub geometries_some : (o : Option Data) → ((d : Data) → o ≡ Some d → is_whole d ≡ true) → are_geometries fits o ≡ true → (gs : List Geometry) × (list_or_absent (geometry_of points) o ≡ Some gs)
+  geometries_some None whole h = ([], refl)
+  geometries_some (Some d) whole h = list_some (is_geometry fits) (geometry_of points) geometry_some d (whole d refl) h

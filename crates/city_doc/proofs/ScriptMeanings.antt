@@ -1,0 +1,164 @@
+-- What scripts stand for.
+use Rattle.std.proofs.Common.{◌≡◌, ℕ, suc, ℤ, List, [], ◌∷◌, length, Bool, true, false, true≢false, Option, Some, None, option_map, refl, sym, ap, ◌∙◌}
+use Rattle.std.specs.Prelude.{◌&&◌, option_and_then, is_some, codes, slice_get, if◌then◌else◌}
+use Rattle.std.specs.List.{list_all}
+use Rattle.serde_json.specs.Data.{Data, Items, no_items, item, Members}
+use Rattle.serde_json.specs.Find.{at, get_member, as_object, as_array}
+use Rattle.city_model.specs.declared.object.Point.{Point}
+use Rattle.city_model.specs.declared.command.Command.{Command}
+use Rattle.city_model.specs.Runs.{Scripted}
+use Rattle.city_model.specs.Whole.{is_whole}
+use Rattle.city_doc.specs.Bodies.{read_items}
+use Rattle.city_doc.specs.Triples.{whole_at, triple_of, point_of, all_triples, are_all_triples}
+use Rattle.city_doc.specs.BadCommands.{is_bad_command, is_misplaced}
+use Rattle.city_doc.specs.CommandForms.{text_in, command_of}
+use Rattle.city_doc.specs.ScriptTexts.{AreFaultlessParts}
+use Rattle.city_doc.specs.ScriptTrees.{ScriptParts, items_list, array_of, all_read, ended, word_ends, are_vertices, commands_in, has_script_members, parts_in, parts_if, parts_of, vertex_points, count_of, vertex_count, script_of, are_too_many, scripts_of_parts, scripts_of}
+use Rattle.city_doc.proofs.AllRead.{both, in_all, all_read-all, all_read-some, all_read-each}
+use Rattle.city_doc.proofs.CommandMeanings.{command_of-some, command_of-faultless}
+use Rattle.city_doc.proofs.Options.{and_then_some, map_some, if_some}
+use Rattle.city_doc.proofs.WholeParts.{array_of-whole, as_object-whole, get_member-whole}
+
+-- ---- the points of vertices
+
+three_points : (b : Bool) (x y z : Option ℤ) → is_some (if b then None else option_and_then (λ i. option_and_then (λ j. option_map (λ k. i ∷ j ∷ k ∷ []) z) y) x) ≡ true
+    → (p : Point) × ((if b then None else option_and_then (λ i. option_and_then (λ j. option_map (λ k. record { x = i; y = j; z = k }) z) y) x) ≡ Some p)
+three_points true x y z h = absurd (true≢false (sym h))
+three_points false None y z h = absurd (true≢false (sym h))
+three_points false (Some x) None z h = absurd (true≢false (sym h))
+three_points false (Some x) (Some y) None h = absurd (true≢false (sym h))
+three_points false (Some x) (Some y) (Some z) h = (record { x = x; y = y; z = z }, refl)
+
+triple-point : (d : Data) → is_some (triple_of d) ≡ true → (p : Point) × (point_of d ≡ Some p)
+triple-point d h = three_points (is_some (at 3 d)) (whole_at 0 d) (whole_at 1 d) (whole_at 2 d) h
+
+triples-points : (ds : Items) → all_triples ds ≡ true → (ps : List Point) × (read_items point_of ds ≡ Some ps)
+triples-points no_items h = ([], refl)
+triples-points (item d ds) h =
+    let hs = both (is_some (triple_of d)) (all_triples ds) h in
+    let p = triple-point d hs.0 in
+    let ps = triples-points ds hs.1 in
+    (p.0 ∷ ps.0, rw (p.1, ps.1) refl)
+
+array-points : (o : Option Items) → are_all_triples o ≡ true → (ps : List Point) × (option_and_then (read_items point_of) o ≡ Some ps)
+array-points None h = absurd (true≢false (sym h))
+array-points (Some ds) h = triples-points ds h
+
+vertices-points : (v : Option Data) → are_vertices v ≡ true → (ps : List Point) × (vertex_points v ≡ Some ps)
+vertices-points None h = ([], refl)
+vertices-points (Some d) h = array-points (as_array d) h
+
+-- as many are read as there are
+items-as_many : {A : Type 0} (read : Data → Option A) (ds : Items) (xs : List A) → read_items read ds ≡ Some xs → length xs ≡ length (items_list ds)
+items-as_many read no_items xs h = let is : Some [] ≡ Some xs = h in let none : xs ≡ [] = cc in ap length none
+items-as_many read (item d ds) xs h =
+    let r = and_then_some (λ y. option_map (λ ys. y ∷ ys) (read_items read ds)) (read d) xs h in
+    let q = map_some (λ ys. r.0 ∷ ys) (read_items read ds) xs r.2 in
+    let rest = items-as_many read ds q.0 q.1 in
+    ap length q.2 ∙ ap suc rest
+
+array-as_many : (o : Option Items) (points : List Point) → option_and_then (read_items point_of) o ≡ Some points → length points ≡ count_of (option_map items_list o)
+array-as_many None points h = absurd (let no : ⊥ = cc in no)
+array-as_many (Some ds) points h = items-as_many point_of ds points h
+
+-- there are as many points as vertices
+pub vertex_points-as_many : (v : Option Data) (points : List Point) → vertex_points v ≡ Some points → length points ≡ vertex_count v
+vertex_points-as_many None points h = let is : Some [] ≡ Some points = h in let none : points ≡ [] = cc in ap length none
+vertex_points-as_many (Some d) points h = array-as_many (as_array d) points h
+
+-- ---- parts of a script in a tree of whole numbers
+
+-- its vertices are such, and the numbers in its commands are whole
+abbrev pub are_good_parts : ScriptParts → Bool
+are_good_parts p = are_vertices p.vertices && list_all is_whole p.commands
+
+ended_is : (b : Bool) (ds cs : List Data) → (if b then Some ds else None) ≡ Some cs → ds ≡ cs
+ended_is true ds cs h = cc
+ended_is false ds cs h = absurd (let no : ⊥ = cc in no)
+
+commands_whole : (ms : Members) (cs : List Data) → ((d : Data) → get_member (codes "commands") ms ≡ Some d → is_whole d ≡ true) → commands_in ms ≡ Some cs → list_all is_whole cs ≡ true
+commands_whole ms cs whole h =
+    let r = and_then_some ended (option_and_then array_of (get_member (codes "commands") ms)) cs h in
+    let q = and_then_some array_of (get_member (codes "commands") ms) r.0 r.1 in
+    ap (list_all is_whole) (sym (ended_is (word_ends r.0) r.0 cs r.2)) ∙ array_of-whole q.0 r.0 (whole q.0 q.1) q.2
+
+parts_in-good : (ms : Members) (p : ScriptParts) → has_script_members ms ≡ true → ((d : Data) → get_member (codes "commands") ms ≡ Some d → is_whole d ≡ true)
+    → parts_in ms ≡ Some p → are_good_parts p ≡ true
+parts_in-good ms p shape whole h =
+    let r = and_then_some (λ (name : List ℕ). option_map (λ (commands : List Data). let q : ScriptParts = record { name = name; commands = commands; vertices = get_member (codes "vertices") ms } in q)
+    (commands_in ms)) (text_in (codes "name") ms) p h in
+    let q = map_some (λ (commands : List Data). let q : ScriptParts = record { name = r.0; commands = commands; vertices = get_member (codes "vertices") ms } in q) (commands_in ms) p r.2 in
+    let vertices : are_vertices (get_member (codes "vertices") ms) ≡ true = (both _ _ shape).1 in
+    let all : list_all is_whole q.0 ≡ true = commands_whole ms q.0 whole q.1 in
+    ap are_good_parts q.2 ∙ rw (vertices, all) refl
+
+pub parts_of-good : (d : Data) (p : ScriptParts) → is_whole d ≡ true → parts_of d ≡ Some p → are_good_parts p ≡ true
+parts_of-good d p whole h =
+    let r = and_then_some parts_if (as_object d) p h in
+    let q = if_some (has_script_members r.0) (parts_in r.0) p r.2 in
+    parts_in-good r.0 p q.0 (λ e at. get_member-whole (codes "commands") r.0 e (as_object-whole d r.0 whole r.1) at) q.1
+
+pub all_good : (ds : List Data) (ps : List ScriptParts) → list_all is_whole ds ≡ true → all_read parts_of ds ≡ Some ps → list_all are_good_parts ps ≡ true
+all_good ds ps whole h = all_read-all parts_of is_whole are_good_parts parts_of-good ds ps whole h
+
+-- ---- scripts
+
+-- no command of it is refused
+record IsFaultlessScript (p : ScriptParts) : Type 0 where
+  good : (i : ℕ) (d : Data) → slice_get p.commands i ≡ Some d → is_bad_command d ≡ true → ⊥
+  placed : (i : ℕ) (d : Data) → slice_get p.commands i ≡ Some d → is_misplaced (vertex_count p.vertices) d ≡ true → ⊥
+
+not_true : (b : Bool) → (b ≡ true → ⊥) → b ≡ false
+not_true true h = absurd (h refl)
+not_true false h = refl
+
+command_there : (p : ScriptParts) (points : List Point) → list_all is_whole p.commands ≡ true → IsFaultlessScript p → vertex_points p.vertices ≡ Some points
+    → (i : ℕ) (d : Data) → slice_get p.commands i ≡ Some d → (c : Command) × (command_of points d ≡ Some c)
+command_there p points whole h read i d at =
+    let placed : is_misplaced (length points) d ≡ false =
+    ap (λ n. is_misplaced n d) (vertex_points-as_many p.vertices points read) ∙ not_true (is_misplaced (vertex_count p.vertices) d) (h.placed i d at) in
+    command_of-some points d (in_all is_whole p.commands i d whole at) (not_true (is_bad_command d) (h.good i d at)) placed
+
+script_some : (p : ScriptParts) → are_good_parts p ≡ true → IsFaultlessScript p → (s : Scripted) × (script_of p ≡ Some s)
+script_some p ok h =
+    let hs = both (are_vertices p.vertices) (list_all is_whole p.commands) ok in
+    let points = vertices-points p.vertices hs.0 in
+    let cs = all_read-some (command_of points.0) p.commands (command_there p points.0 hs.1 h points.1) in
+    ((p.name, cs.0), rw (points.1, cs.1) refl)
+
+scripts_some : (ps : List ScriptParts) → list_all are_good_parts ps ≡ true → ((n : ℕ) (p : ScriptParts) → slice_get ps n ≡ Some p → IsFaultlessScript p)
+    → (ss : List Scripted) × (all_read script_of ps ≡ Some ss)
+scripts_some ps ok h = all_read-some script_of ps (λ n p at. script_some p (in_all are_good_parts ps n p ok at) (h n p at))
+
+faultless_at : (ps : List ScriptParts) → AreFaultlessParts ps → (n : ℕ) (p : ScriptParts) → slice_get ps n ≡ Some p → IsFaultlessScript p
+faultless_at ps h n p at = record { good = λ i d there bad. h.1 n i (p, d, at, there, bad); placed = λ i d there bad. h.2 n i (p, d, at, there, bad) }
+
+-- scripts of whole numbers in which no fault stands
+pub scripts-there : (ds : List Data) (ps : List ScriptParts) → list_all is_whole ds ≡ true → all_read parts_of ds ≡ Some ps → AreFaultlessParts ps → all_read script_of ps ≡ None → ⊥
+scripts-there ds ps whole read h none =
+    let ss = scripts_some ps (all_good ds ps whole read) (faultless_at ps h) in
+    let there = ss.1 in cc
+
+-- ---- a script that stands for one has no fault
+
+script_parts : (p : ScriptParts) (s : Scripted) → script_of p ≡ Some s → (points : List Point) × (vertex_points p.vertices ≡ Some points) × ((cs : List Command) × (all_read (command_of points) p.commands ≡ Some cs))
+script_parts p s h =
+    let r = and_then_some (λ points. option_map (λ cs. (p.name, cs)) (all_read (command_of points) p.commands)) (vertex_points p.vertices) s h in
+    let q = map_some (λ cs. (p.name, cs)) (all_read (command_of r.0) p.commands) s r.2 in (r.0, r.1, (q.0, q.1))
+
+pub script_of-faultless : (p : ScriptParts) (s : Scripted) (i : ℕ) (d : Data) → script_of p ≡ Some s → slice_get p.commands i ≡ Some d
+    → (is_bad_command d ≡ false) × (is_misplaced (vertex_count p.vertices) d ≡ false)
+script_of-faultless p s i d h at =
+    let r = script_parts p s h in
+    let c = all_read-each (command_of r.0) p.commands r.2.0 r.2.1 i d at in
+    let f = command_of-faultless r.0 d c.0 c.1 in
+    (f.0, ap (λ n. is_misplaced n d) (sym (vertex_points-as_many p.vertices r.0 r.1)) ∙ f.1)
+
+-- ---- the scripts of an array
+
+pub scripts_of-parts : (ds : List Data) (ps : List ScriptParts) (ss : List Scripted) → all_read parts_of ds ≡ Some ps → are_too_many ps ≡ false → all_read script_of ps ≡ Some ss
+    → option_and_then scripts_of_parts (all_read parts_of ds) ≡ Some ss
+scripts_of-parts ds ps ss read few h = rw (read, few) h
+
+pub scripts_of-array : (d : Data) (ds : List Data) (ss : List Scripted) → array_of d ≡ Some ds → option_and_then scripts_of_parts (all_read parts_of ds) ≡ Some ss → scripts_of d ≡ Some ss
+scripts_of-array d ds ss is h = rw is h

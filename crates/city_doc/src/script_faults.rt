@@ -1,0 +1,104 @@
+//! Judges the commands of scripts: the first fault that stands in them.
+ghost use Rattle.std.specs.Prelude.{◌≡◌, ℕ, Bool, MatchOption, option_map, map};
+ghost use Rattle.serde_json.specs.Data.{Data};
+ghost use Rattle.serde_json.specs.View.{view};
+ghost use Rattle.city_doc.specs.BadCommands.{is_bad_command, is_misplaced};
+ghost use Rattle.city_doc.specs.ScriptTrees.{array_of, count_of, vertex_count};
+ghost use Rattle.city_doc.specs.ScriptForms.{parts_views};
+ghost use Rattle.city_doc.specs.ScriptSearch.{first_in, first_command};
+ghost use Rattle.city_doc.specs.ScriptTexts.{PartsFault, AreFaultlessParts};
+
+use crate::bad_command::{is_bad_command, is_misplaced};
+use crate::fault::ScriptFault;
+use crate::script_form::ScriptForm;
+use crate::script_forms::are_too_many;
+use serde_json::Value;
+
+/// What may be wrong with a command.
+trait JudgeCommand {
+    ghost test: { ℕ → Data → Bool };
+
+    /// Whether a command of a script with so many vertices has it.
+    fn judge(vertices: usize, command: &Value) -> bool
+        ensures { result ≡ test vertices (view command.now) };
+}
+
+struct BadCommands;
+
+struct Misplaced;
+
+impl JudgeCommand for BadCommands {
+    ghost test = { λ _ d. is_bad_command d };
+
+    fn judge(_vertices: usize, command: &Value) -> bool {
+        is_bad_command(command)
+    }
+}
+
+impl JudgeCommand for Misplaced {
+    ghost test = { is_misplaced };
+
+    fn judge(vertices: usize, command: &Value) -> bool {
+        is_misplaced(vertices, command)
+    }
+}
+
+/// How many items an array has; another value has none.
+fn item_count(value: &Value) -> usize
+    ensures { result ≡ count_of (array_of (view value.now)) }
+{
+    match value.as_array() {
+        Some(items) => items.as_slice().len(),
+        None => 0,
+    }
+}
+
+/// How many vertices a script has.
+fn vertex_count(form: &ScriptForm) -> usize
+    ensures { result ≡ vertex_count (option_map view form.now.vertices) }
+{
+    match &form.vertices {
+        Some(vertices) => item_count(vertices),
+        None => 0,
+    }
+}
+
+/// The first of a script's commands that has it.
+fn first_in<J: JudgeCommand>(vertices: usize, commands: &[Value]) -> Option<usize>
+    ensures { result ≡ first_in J.test vertices (map view commands.now) }
+{
+    for (i, command) in commands.iter().enumerate() {
+        if J::judge(vertices, command) {
+            return Some(i);
+        }
+    }
+    None
+}
+
+/// The first script that has such a command, and its first such command.
+fn first_command<J: JudgeCommand>(forms: &[ScriptForm]) -> Option<(usize, usize)>
+    ensures { result ≡ first_command J.test (parts_views forms.now) }
+{
+    for (n, form) in forms.iter().enumerate() {
+        if let Some(i) = first_in::<J>(vertex_count(form), form.commands.as_slice()) {
+            return Some((n, i));
+        }
+    }
+    None
+}
+
+/// The first fault of scripts of these forms.
+pub fn parts_fault(forms: &[ScriptForm]) -> Option<ScriptFault>
+    ensures { MatchOption result (AreFaultlessParts (parts_views forms.now)) (λ f. PartsFault (parts_views forms.now) f) }
+{
+    if are_too_many(forms) {
+        return Some(ScriptFault::TooMany);
+    }
+    if let Some((n, i)) = first_command::<BadCommands>(forms) {
+        return Some(ScriptFault::BadCommand(n, i));
+    }
+    if let Some((n, i)) = first_command::<Misplaced>(forms) {
+        return Some(ScriptFault::BadVertex(n, i));
+    }
+    None
+}

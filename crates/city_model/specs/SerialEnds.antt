@@ -1,0 +1,16 @@
+-- Ends of scripts that were run one after the other in their order, none of them for want of memory.
+use Rattle.std.specs.Prelude.{◌≡◌, ◌+◌, ℕ, List, [], ◌∷◌, Bool, true, false}
+use Rattle.city_model.specs.declared.end.End.{End}
+use Rattle.city_model.specs.declared.end.Outcome.{Outcome}
+
+-- the script ended for want of memory
+abbrev pub is_no_memory : Outcome → Bool
+is_no_memory Outcome.Committed = false
+is_no_memory Outcome.Aborted = false
+is_no_memory (Outcome.Refused i cause) = false
+is_no_memory (Outcome.NoMemory i) = true
+
+-- from place k on, the end at each place is that of the script of that number, which began there, and none is for want of memory
+abbrev pub IsSerialFrom : ℕ → List End → Type 0
+IsSerialFrom k [] = Unit {0}
+IsSerialFrom k (e ∷ es) = (e.script ≡ k) × (e.since ≡ k) × (is_no_memory e.outcome ≡ false) × IsSerialFrom (k + 1) es

@@ -1,0 +1,279 @@
+-- A call of the core: its locks gained, and its command done on the store.
+use Rattle.std.proofs.Common.{◌≡◌, ◌==◌, ◌&&◌, ◌||◌, ℕ, List, [], Bool, true, false, Option, None, Some, is_some, Result, Ok, Err, refl, ap, sym, ◌∙◌, subst, inl, inr}
+use Rattle.std.specs.Prelude.{if◌then◌else◌, option_map, is_none, IfOk, IfErr, OnOk, IsErr}
+use Rattle.std.proofs.lemmas.Bool.{false≢true, eqb-true, eqb-false, eq-eqb, cases_eq}
+use Rattle.city_model.specs.declared.object.Object.{Object}
+use Rattle.city_model.specs.declared.command.Cause.{Cause}
+use Rattle.city_model.specs.declared.command.Command.{Command}
+use Rattle.city_model.specs.declared.command.Reply.{Reply}
+use Rattle.city_model.specs.CityMap.{CityMap, at}
+use Rattle.city_model.specs.Meaning.{cause_of, effect_of, map_unless, after, reply_to, locks_of}
+use Rattle.city_model.specs.Relations.{IsSound}
+use Rattle.city_model.proofs.IdLists.{bool_cases}
+use Rattle.city_model.proofs.FrameLaw.{frame}
+use Rattle.city_model.proofs.History as history
+use Rattle.city_locks.specs.declared.answer.Answer.TheVariants.{Granted, Wait, Die}
+use Rattle.city_locks.specs.declared.mode.Mode.{Mode}
+use Rattle.city_locks.specs.declared.mode.Mode.TheVariants.{Exclusive}
+use Rattle.city_locks.specs.Mode.{is_exclusive}
+use Rattle.city_locks.specs.Locks.{Locks, mode_of, Lawful}
+use Rattle.city_txn.specs.declared.step.Step.{Step}
+use Rattle.city_txn.specs.declared.step.Step.TheVariants as steps
+use Rattle.city_txn.specs.declared.step.TxnFault.{TxnFault}
+use Rattle.city_txn.specs.declared.step.TxnFault.TheVariants.{NotOpen, OutOfMemory}
+use Rattle.city_txn.specs.State.{State, Write, write_of, own_or, is_by, has_room}
+use Rattle.city_txn.specs.Standing.{Lock, Answered, AllHeld, names, names_exclusively}
+use Rattle.city_txn.specs.CoreState.{CoreState, view, is_open, held, held_in, Stands, IsConsistent}
+use Rattle.city_txn.specs.Core.{core_state, IsCore}
+use Rattle.city_txn.specs.Locking.{first_answer, granted_before, GainsFirst}
+use Rattle.city_txn.specs.Acting.{writes_id, step_of, is_done, with_step, Acted}
+use Rattle.city_txn.specs.Performing.{Performed}
+use Rattle.city_txn.specs.declared.txn_core.Core.TheInside.{Inside}
+use Rattle.city_txn.proofs.Ended.{own_not, some_same, sound_view}
+use Rattle.city_txn.proofs.CoreFields.{open_is}
+use Rattle.city_txn.proofs.LocksGained.{LocksGained, view_gained, stands_gained, held_exclusively, exclusive_gained, gained_consistent, all_granted, no_more_locks}
+use Rattle.city_txn.proofs.LocksAsked.{gains_nothing}
+use Rattle.city_txn.proofs.CommandDone.{CommandDone, stands_done, stands_beside, done_consistent}
+
+-- ---- no command done
+
+no_step : (result : Result Step TxnFault) (c : Command) (done : List Answered) → is_done result ≡ false → with_step result c done ≡ done
+no_step (Ok (steps.Done r)) c done h = absurd (false≢true (sym h))
+no_step (Ok steps.Wait) c done h = refl
+no_step (Ok steps.Die) c done h = refl
+no_step (Err e) c done h = refl
+
+-- locks may have been gained
+pub not_done : (s : ℕ) (c : Command) (result : Result Step TxnFault) (v w : CoreState) (ls : List Lock) → LocksGained s ls v w → is_done result ≡ false →
+    IfOk result (λ step. step ≡ step_of (first_answer v.locks s (locks_of (view v s) c)) (reply_to (view v s) c)) →
+    IfErr result (λ e. e ≡ (if is_open v s then OutOfMemory else NotOpen s)) →
+    (is_open v s ≡ false → IsErr result) →
+    GainsFirst s (granted_before v.locks s (locks_of (view v s) c)) v.locks w.locks →
+    OnOk result (AllHeld (held w s) (granted_before v.locks s (locks_of (view v s) c))) →
+    Acted s c result v w
+not_done s c result v w ls k idle step fault shut gains granted = record {
+  step = step;
+  fault = fault;
+  not_open = shut;
+  seen = λ q. view_gained s ls v w k s q ∙ sym (ap (λ b. if b then after (view v s) c q else view v s q) idle);
+  frame = k.frame;
+  city = k.city;
+  views = λ t q ne. view_gained s ls v w k t q;
+  opened = k.opened;
+  locks = gains;
+  granted = granted;
+  written = λ q. ap (is_by s) (k.writes q) ∙ sym (ap (λ b. (b && writes_id (view v s) c q) || is_by s (write_of v.writes q)) idle);
+  unwritten = λ q h. k.writes q;
+  own = λ done f. subst (λ ds. Stands w s ds) (sym (no_step result c done idle)) (stands_gained s ls v w k s done f);
+  others = λ t done ne f. stands_gained s ls v w k t done f;
+}
+
+-- nothing gained
+pub nothing_gained : (s : ℕ) (ls : List Lock) (v : CoreState) → Lawful v.locks → LocksGained s ls v v
+nothing_gained s ls v l = record { frame = λ i. v.frame; city = λ q. refl; writes = λ q. refl; opened = λ t. refl; locks = no_more_locks s ls v.locks; lawful = l }
+
+-- ---- a command done
+
+pub acted_done : (s : ℕ) (c : Command) (r : Reply) (v u w : CoreState) (ls : List Lock) → is_open v s ≡ true → LocksGained s ls v u → CommandDone s c r u w →
+    GainsFirst s (granted_before v.locks s (locks_of (view v s) c)) v.locks u.locks →
+    first_answer v.locks s (locks_of (view v s) c) ≡ Granted → Acted s c (Ok (steps.Done r)) v w
+acted_done s c r v u w ls o k d gains granted =
+    let same : view u s ≡ view v s = λ i q. view_gained s ls v u k s q i in
+    record {
+      step = ap steps.Done (sym d.reply ∙ ap (λ m. reply_to m c) same) ∙ ap (λ a. step_of a (reply_to (view v s) c)) (sym granted);
+      fault = tt;
+      not_open = λ e. absurd (false≢true (sym e ∙ o));
+      seen = λ q. d.own q ∙ ap (λ m. after m c q) same;
+      frame = d.frame ∙ k.frame;
+      city = λ q. d.city q ∙ k.city q;
+      views = λ t q ne. d.others t q ne ∙ view_gained s ls v u k t q;
+      opened = λ t. d.opened t ∙ k.opened t;
+      locks = subst (GainsFirst s (granted_before v.locks s (locks_of (view v s) c)) v.locks) (sym d.locks) gains;
+      granted = subst (AllHeld (held w s)) (sym (all_granted v.locks s (locks_of (view v s) c) granted)) (subst (λ m. AllHeld (held w s) (locks_of m c)) same d.all_held);
+      written = λ q. d.written q ∙ ap (λ m. writes_id m c q || is_by s (write_of u.writes q)) same ∙ ap (λ x. writes_id (view v s) c q || is_by s x) (k.writes q);
+      unwritten = λ q h. d.unwritten q (ap (λ m. writes_id m c q) same ∙ h) ∙ k.writes q;
+      own = λ done f. stands_done s c r u w d done (stands_gained s ls v u k s done f);
+      others = λ t done ne f. stands_beside s c r u w d t done ne (stands_gained s ls v u k t done f);
+    }
+
+-- ---- done on the store
+
+not_named : (x : Option Cause) (b : Bool) → (is_none x && b) ≡ false → x ≡ None → b ≡ false
+not_named None b h e = h
+not_named (Some cause) b h e = cc
+
+by_cause : (m : CityMap) (c : Command) (q : List ℕ) → IsSound m → writes_id m c q ≡ false → (x : Option Cause) → x ≡ cause_of m c → after m c q ≡ m q
+by_cause m c q s h None e = frame m c q s (not_named (cause_of m c) (names_exclusively (locks_of m c) q) h (sym e))
+by_cause m c q s h (Some cause) e = ap (λ x. map_unless x m (effect_of m c) q) (sym e)
+
+-- what the command doesn't write stays
+pub after_unwritten : (m : CityMap) (c : Command) (q : List ℕ) → IsSound m → writes_id m c q ≡ false → after m c q ≡ m q
+after_unwritten m c q s h = by_cause m c q s h (cause_of m c) refl
+
+writes_is_named : (x : Option Cause) (b : Bool) → (is_none x && b) ≡ true → b ≡ true
+writes_is_named None b h = h
+writes_is_named (Some cause) b h = absurd (false≢true h)
+
+none_exclusive : {A : Type 0} → None ≡ Some Exclusive → A
+none_exclusive e = absurd (cc)
+
+or_cases : (a b : Bool) {A : Type 0} → (a || b) ≡ true → (a ≡ true → A) → (b ≡ true → A) → A
+or_cases true b h f g = f refl
+or_cases false b h f g = g h
+
+and_cases : (a b : Bool) → (a && b) ≡ true → (a ≡ true) × (b ≡ true)
+and_cases true b h = (refl, h)
+and_cases false b h = absurd (false≢true h)
+
+written_or : (s : ℕ) (b : Bool) (o : Option Object) (x : Option Write) → is_by s (if b then Some (s, o) else x) ≡ (b || is_by s x)
+written_or s true o x = eq-eqb s s refl
+written_or s false o x = refl
+
+-- a is the core before, ks the locks after they were granted
+module _ (a : Inside) (k : IsCore a) (s : ℕ) (c : Command) (o : is_open (core_state a) s ≡ true) (ks : Locks)
+    (gain : GainsFirst s (granted_before a.locks s (locks_of (view (core_state a) s) c)) a.locks ks)
+    (all : AllHeld (held_in ks s) (locks_of (view (core_state a) s) c))
+    (granted : first_answer a.locks s (locks_of (view (core_state a) s) c) ≡ Granted) where
+  abbrev locked : Inside
+  locked = record a { locks = ks }
+
+  gained : LocksGained s gain.gained (core_state a) (core_state locked)
+  gained = record { frame = λ i. a.store.frame; city = λ q. refl; writes = λ q. refl; opened = λ t. refl; locks = gain.locks; lawful = gain.locks.lawful k.state.lawful }
+
+  consistent : IsConsistent (core_state locked)
+  consistent = gained_consistent s gain.gained (core_state a) (core_state locked) k.state o gained
+
+  mine : (q : List ℕ) → names_exclusively (locks_of (view (core_state a) s) c) q ≡ true → mode_of ks s q ≡ Some Exclusive
+  mine q h = held_exclusively (mode_of ks s q) (history.held_exclusively (held_in ks s) (locks_of (view (core_state a) s) c) q all h)
+
+  kept_mode : (t : ℕ) (q : List ℕ) → mode_of a.locks t q ≡ Some Exclusive → mode_of ks t q ≡ Some Exclusive
+  kept_mode = exclusive_gained s gain.gained (core_state a) (core_state locked) gained
+
+  -- who has room at an id that s holds is s
+  pub alone : (q : List ℕ) → is_some (mode_of ks s q) ≡ true → (t : ℕ) → has_room a.store t q ≡ true → t ≡ s
+  alone q h t r = elim (cases_eq t s) [
+    | inl e ↦ e
+    | inr e ↦ absurd (false≢true (ap is_some (sym (gain.locks.lawful k.state.lawful t s q e (kept_mode t q (k.room t q r)))) ∙ h))
+  ]
+
+  -- the store afterwards is st, with room as it was or for s at ids that it holds exclusively
+  module _ (st : State)
+      (room : (t : ℕ) (q : List ℕ) → has_room st t q ≡ true → (has_room a.store t q || ((s == t) && names_exclusively (locks_of (view (core_state a) s) c) q)) ≡ true) where
+    room_held : (t : ℕ) (q : List ℕ) → has_room st t q ≡ true → mode_of ks t q ≡ Some Exclusive
+    room_held t q h = or_cases (has_room a.store t q) ((s == t) && names_exclusively (locks_of (view (core_state a) s) c) q) (room t q h)
+        (λ e. kept_mode t q (k.room t q e))
+        (λ e. let both = and_cases (s == t) (names_exclusively (locks_of (view (core_state a) s) c) q) e in
+        ap (λ u. mode_of ks u q) (sym (eqb-true s t both.0)) ∙ mine q both.1)
+
+  module _ {E : Type 0} (e : E) (st : State) (p : Performed s c (Err e) a.store st) where
+    failed : LocksGained s gain.gained (core_state a) (core_state (record a { store = st; locks = ks }))
+    failed = record {
+      frame = p.frame;
+      city = p.city;
+      writes = p.writes;
+      opened = λ t. open_is (record a { store = st; locks = ks }) t ∙ p.opened t ∙ sym (open_is a t);
+      locks = gain.locks;
+      lawful = gain.locks.lawful k.state.lawful;
+    }
+
+    pub failed_core : IsCore (record a { store = st; locks = ks })
+    failed_core = record {
+      state = gained_consistent s gain.gained (core_state a) (core_state (record a { store = st; locks = ks })) k.state o failed;
+      room = room_held st p.room;
+    }
+
+    pub failed_acted : Acted s c (Err OutOfMemory) (core_state a) (core_state (record a { store = st; locks = ks }))
+    failed_acted = not_done s c (Err OutOfMemory) (core_state a) (core_state (record a { store = st; locks = ks })) gain.gained failed refl tt
+        (sym (ap (λ b. if b then OutOfMemory else NotOpen s) o)) (λ f. absurd (false≢true (sym f ∙ o))) gain tt
+
+  module _ {E : Type 0} (r : Reply) (st : State) (p : Performed {E = E} s c (Ok r) a.store st) where
+    write_there : (q : List ℕ) → writes_id (view (core_state a) s) c q ≡ true → write_of st.writes q ≡ Some (s, after (view (core_state a) s) c q)
+    write_there q e = p.writes q ∙ ap (λ b. if b then Some (s, after (view (core_state a) s) c q) else write_of a.store.writes q) e
+
+    write_apart : (q : List ℕ) → writes_id (view (core_state a) s) c q ≡ false → write_of st.writes q ≡ write_of a.store.writes q
+    write_apart q e = p.writes q ∙ ap (λ b. if b then Some (s, after (view (core_state a) s) c q) else write_of a.store.writes q) e
+
+    written_mine : (q : List ℕ) → writes_id (view (core_state a) s) c q ≡ true → mode_of ks s q ≡ Some Exclusive
+    written_mine q e = mine q (writes_is_named (cause_of (view (core_state a) s) c) (names_exclusively (locks_of (view (core_state a) s) c) q) e)
+
+    no_other : (t : ℕ) (q : List ℕ) → (s == t) ≡ false → writes_id (view (core_state a) s) c q ≡ true → (y : Write) → write_of a.store.writes q ≡ Some y → (y.0 == t) ≡ false
+    no_other t q ne e y f = bool_cases (y.0 == t)
+        (λ g. none_exclusive (sym (gain.locks.lawful k.state.lawful s t q (eqb-false s t ne) (written_mine q e)) ∙ ap (λ u. mode_of ks u q) (sym (eqb-true y.0 t g)) ∙ kept_mode y.0 q (k.state.locked q y f)))
+        (λ g. g)
+
+    performed : CommandDone s c r (core_state locked) (core_state (record a { store = st; locks = ks }))
+    performed = record {
+      frame = p.frame;
+      city = p.city;
+      own = λ q. bool_cases (writes_id (view (core_state a) s) c q)
+          (λ e. ap (λ w. own_or s w (at st.city q)) (write_there q e) ∙ ap (λ b. if b then after (view (core_state a) s) c q else at st.city q) (eq-eqb s s refl))
+          (λ e. ap (λ w. own_or s w (at st.city q)) (write_apart q e) ∙ ap (own_or s (write_of a.store.writes q)) (p.city q)
+          ∙ sym (after_unwritten (view (core_state a) s) c q (sound_view (core_state a) s k.state) e));
+      others = λ t q ne. bool_cases (writes_id (view (core_state a) s) c q)
+          (λ e. ap (λ w. own_or t w (at st.city q)) (write_there q e) ∙ ap (λ b. if b then after (view (core_state a) s) c q else at st.city q) ne ∙ p.city q
+          ∙ sym (own_not t (write_of a.store.writes q) (at a.store.city q) (no_other t q ne e)))
+          (λ e. ap (λ w. own_or t w (at st.city q)) (write_apart q e) ∙ ap (own_or t (write_of a.store.writes q)) (p.city q));
+      locks = λ i. ks;
+      opened = λ t. open_is (record a { store = st; locks = ks }) t ∙ p.opened t ∙ sym (open_is locked t);
+      locked = λ q x f. bool_cases (writes_id (view (core_state a) s) c q)
+          (λ e. let g : (s, after (view (core_state a) s) c q) ≡ x = some_same (s, after (view (core_state a) s) c q) x (sym (write_there q e) ∙ f) in
+          ap (λ u. mode_of ks u q) (sym (ap (λ z. z.0) g)) ∙ written_mine q e)
+          (λ e. kept_mode x.0 q (k.state.locked q x (sym (write_apart q e) ∙ f)));
+      all_held = all;
+      reply = sym p.reply;
+      written = λ q. ap (is_by s) (p.writes q) ∙ written_or s (writes_id (view (core_state a) s) c q) (after (view (core_state a) s) c q) (write_of a.store.writes q);
+      unwritten = write_apart;
+    }
+
+    pub performed_core : IsCore (record a { store = st; locks = ks })
+    performed_core = record {
+      state = done_consistent s c r (core_state locked) (core_state (record a { store = st; locks = ks })) performed consistent;
+      room = room_held st p.room;
+    }
+
+    pub performed_acted : Acted s c (Ok (steps.Done r)) (core_state a) (core_state (record a { store = st; locks = ks }))
+    performed_acted = acted_done s c r (core_state a) (core_state locked) (core_state (record a { store = st; locks = ks })) gain.gained o gained performed gain granted
+
+some_mode : (o : Option Mode) → is_some (option_map is_exclusive o) ≡ true → is_some o ≡ true
+some_mode None h = h
+some_mode (Some m) h = refl
+
+-- where s holds all locks of the command, no other has room at an id that they name
+pub alone_named : (a : Inside) (k : IsCore a) (s : ℕ) (c : Command) (o : is_open (core_state a) s ≡ true) (ks : Locks)
+    (gain : GainsFirst s (granted_before a.locks s (locks_of (view (core_state a) s) c)) a.locks ks)
+    (all : AllHeld (held_in ks s) (locks_of (view (core_state a) s) c))
+    (granted : first_answer a.locks s (locks_of (view (core_state a) s) c) ≡ Granted) →
+    (q : List ℕ) → names (locks_of (view (core_state a) s) c) q ≡ true → (t : ℕ) → has_room a.store t q ≡ true → t ≡ s
+alone_named a k s c o ks gain all granted q h =
+    alone a k s c o ks gain all granted q (some_mode (mode_of ks s q) (history.held_named (held_in ks s) (locks_of (view (core_state a) s) c) q all h))
+
+-- ---- locks asked for, and no command done
+
+module _ (a : Inside) (k : IsCore a) (s : ℕ) (c : Command) (o : is_open (core_state a) s ≡ true) (ks : Locks)
+    (gain : GainsFirst s (granted_before a.locks s (locks_of (view (core_state a) s) c)) a.locks ks) where
+  asked : LocksGained s gain.gained (core_state a) (core_state (record a { locks = ks }))
+  asked = record { frame = λ i. a.store.frame; city = λ q. refl; writes = λ q. refl; opened = λ t. refl; locks = gain.locks; lawful = gain.locks.lawful k.state.lawful }
+
+  pub asked_core : IsCore (record a { locks = ks })
+  asked_core = record {
+    state = gained_consistent s gain.gained (core_state a) (core_state (record a { locks = ks })) k.state o asked;
+    room = λ t q h. exclusive_gained s gain.gained (core_state a) (core_state (record a { locks = ks })) asked t q (k.room t q h);
+  }
+
+  pub asked_failed : Acted s c (Err OutOfMemory) (core_state a) (core_state (record a { locks = ks }))
+  asked_failed = not_done s c (Err OutOfMemory) (core_state a) (core_state (record a { locks = ks })) gain.gained asked refl tt
+      (sym (ap (λ b. if b then OutOfMemory else NotOpen s) o)) (λ f. absurd (false≢true (sym f ∙ o))) gain tt
+
+  module _ (before : AllHeld (held_in ks s) (granted_before a.locks s (locks_of (view (core_state a) s) c))) where
+    pub asked_wait : first_answer a.locks s (locks_of (view (core_state a) s) c) ≡ Wait → Acted s c (Ok steps.Wait) (core_state a) (core_state (record a { locks = ks }))
+    asked_wait e = not_done s c (Ok steps.Wait) (core_state a) (core_state (record a { locks = ks })) gain.gained asked refl
+        (sym (ap (λ b. step_of b (reply_to (view (core_state a) s) c)) e)) tt (λ f. absurd (false≢true (sym f ∙ o))) gain before
+
+    pub asked_die : first_answer a.locks s (locks_of (view (core_state a) s) c) ≡ Die → Acted s c (Ok steps.Die) (core_state a) (core_state (record a { locks = ks }))
+    asked_die e = not_done s c (Ok steps.Die) (core_state a) (core_state (record a { locks = ks })) gain.gained asked refl
+        (sym (ap (λ b. step_of b (reply_to (view (core_state a) s) c)) e)) tt (λ f. absurd (false≢true (sym f ∙ o))) gain before
+
+-- a stamp that isn't open
+pub not_open_acted : (a : Inside) (k : IsCore a) (s : ℕ) (c : Command) → is_open (core_state a) s ≡ false → Acted s c (Err (NotOpen s)) (core_state a) (core_state a)
+not_open_acted a k s c e = not_done s c (Err (NotOpen s)) (core_state a) (core_state a) [] (nothing_gained s [] (core_state a) k.state.lawful) refl tt
+    (sym (ap (λ b. if b then OutOfMemory else NotOpen s) e)) (λ f. refl) (gains_nothing s (granted_before a.locks s (locks_of (view (core_state a) s) c)) a.locks) tt

@@ -1,0 +1,184 @@
+-- What a transaction wrote, listed as a change, makes its view of the committed map.
+use Rattle.std.proofs.Common.{◌≡◌, ◌||◌, ◌==◌, ℕ, ◌+◌, ◌<◌, ◌≤◌, List, [], ◌∷◌, length, take, get_or, Bool, true, false, Option, None, Some, is_some, Result, Ok, Err, Less, refl, ap, sym, ◌∙◌, arith}
+use Rattle.std.specs.Prelude.{if◌then◌else◌, IfOk}
+use Rattle.std.specs.Map.{lookup, keys_of}
+use Rattle.std.specs.Cmp.{eq_by_cmp_equiv}
+use Rattle.std.specs.Ordering.{nat_cmp, eq_by_cmp}
+use Rattle.std.specs.Cmp.Lexicographic.{slice_cmp}
+use Rattle.std.specs.BTreeMap.{is_at}
+use Rattle.std.specs.List.{AllByRecursion}
+use Rattle.std.specs.List.Sorted.{IsStrictlySortedBy}
+use Rattle.std.proofs.lemmas.List.Folds.{list_any_more}
+use Rattle.std.proofs.lemmas.Cmp.{nat_list_cmp_total}
+use Rattle.std.proofs.lemmas.Map.{lookup-none}
+use Rattle.std.proofs.lemmas.Map.Keys.{IsDistinct-from_sorted, sorted_tail}
+use Rattle.std.proofs.lemmas.Map.Entries.{none_past_head}
+use Rattle.city_model.specs.declared.object.Object.{Object}
+use Rattle.city_model.specs.CityMap.{CityMap, at, same_id, has_id, changed}
+use Rattle.city_model.specs.Relations.{is_orphan, HasNoOrphan, IsLeastOrphan}
+use Rattle.city_model.specs.Runs.{Change, with_change}
+use Rattle.city_model.proofs.Ids.{same_id_true, same_id_back}
+use Rattle.city_model.proofs.IdLists.{bool_cases}
+use Rattle.city_model.proofs.FirstOrphan.{first_orphan}
+use Rattle.city_txn.specs.declared.image.Image.{Image}
+use Rattle.city_txn.specs.declared.store.Store.TheInside.{Inside}
+use Rattle.city_txn.specs.Images.{seen_under, written_at, write_at, writer_of}
+use Rattle.city_txn.specs.State.{Write, write_of, rooms_of, own_or, own_write, is_by}
+use Rattle.city_txn.specs.CoreState.{CoreState, committed, view}
+use Rattle.city_txn.specs.InPlace.{with_some, made_by, image_at, state_of, is_writer, IsInPlace}
+use Rattle.city_txn.specs.Changing.{or_else, is_orphan_there, objects_in, IsChangeOf}
+use Rattle.city_txn.proofs.AtOneId.{through, at_made, here, writes_is}
+
+-- ---- writes noted
+
+note_point : (a b : Bool) (w : Option (Option Object)) → (if a then or_else w (if b then w else None) else (if b then w else None)) ≡ (if b || a then w else None)
+note_point true true None = refl
+note_point true true (Some x) = refl
+note_point true false None = refl
+note_point true false (Some x) = refl
+note_point false true w = refl
+note_point false false w = refl
+
+-- with one id more
+pub noted_more : (f x y : List ℕ → Option (Option Object)) (ids : List (List ℕ)) (i : ℕ) (id : List ℕ) → i < length ids → id ≡ get_or ids i id →
+    ((q : List ℕ) → x q ≡ (if has_id (take i ids) q then f q else None)) → ((q : List ℕ) → y q ≡ (if same_id id q then or_else (f id) (x q) else x q)) →
+    (q : List ℕ) → y q ≡ (if has_id (take (i + 1) ids) q then f q else None)
+noted_more f x y ids i id lt is before step q =
+    step q
+    ∙ bool_cases (same_id id q)
+    (λ e. ap (λ k. if same_id id q then or_else (f k) (x q) else x q) (same_id_true id q e))
+    (λ e. ap (λ b. if b then or_else (f id) (x q) else x q) e ∙ sym (ap (λ b. if b then or_else (f q) (x q) else x q) e))
+    ∙ ap (λ z. if same_id id q then or_else (f q) z else z) (before q)
+    ∙ note_point (same_id id q) (has_id (take i ids) q) (f q)
+    ∙ ap (λ b. if b then f q else None)
+    (ap (λ b. has_id (take i ids) q || b) (same_id_back id q ∙ ap (same_id q) is) ∙ sym (list_any_more (same_id q) ids i id lt))
+
+-- what is listed at the ids to which the transaction has room is what it wrote
+either_none : {Y : Type 0} (b : Bool) → ◌≡◌ {A = Option Y} (if b then None else None) None
+either_none true = refl
+either_none false = refl
+
+own_point : (s : ℕ) (x : Option Object) (i : Option Image) → (if is_writer s (writer_of i) then written_at x i else None) ≡ own_write s (write_at x i)
+own_point s x None = refl
+own_point s x (Some i) = bool_cases i.fresh
+    (λ e. ap (λ b. if i.by == s then (if b then None else Some (seen_under x i)) else None) e ∙ either_none (i.by == s) ∙ sym (ap (λ b. own_write s (if b then None else Some (i.by, seen_under x i))) e))
+    (λ e. ap (λ b. if i.by == s then (if b then None else Some (seen_under x i)) else None) e ∙ sym (ap (λ b. own_write s (if b then None else Some (i.by, seen_under x i))) e))
+
+pub own_written : (a : Inside) → IsInPlace a → (s : ℕ) (q : List ℕ) →
+    (if has_id (rooms_of a.rooms.entries s) q then written_at (here a q) (image_at a q) else None) ≡ own_write s (write_of (state_of a).writes q)
+own_written a k s q = ap (λ b. if b then written_at (here a q) (image_at a q) else None) (k.listed s q) ∙ own_point s (here a q) (image_at a q) ∙ sym (ap (own_write s) (writes_is a k q))
+
+pub none_sorted : IsStrictlySortedBy (slice_cmp nat_cmp) []
+unfolding IsStrictlySortedBy
+none_sorted = tt
+
+pub if_ok : {A E : Type 0} {P Q : A → Type 0} (r : Result A E) → ((x : A) → P x → Q x) → IfOk r P → IfOk r Q
+if_ok (Ok x) f p = f x p
+if_ok (Err e) f p = tt
+
+-- ---- its objects
+
+above_step : {Y : Type 0} (k id : List ℕ) (y : Option Y) (es : List (List ℕ × Y)) → slice_cmp nat_cmp k id ≡ Less → AllByRecursion (λ j. slice_cmp nat_cmp k j ≡ Less) (keys_of es) →
+    AllByRecursion (λ j. slice_cmp nat_cmp k j ≡ Less) (keys_of (with_some id y es))
+above_step k id None es l a = a
+above_step k id (Some y) es l a = (l, a)
+
+above_made : {X Y : Type 0} (f : List ℕ → X → Option Y) (k : List ℕ) (es : List (List ℕ × X)) → AllByRecursion (λ j. slice_cmp nat_cmp k j ≡ Less) (keys_of es) →
+    AllByRecursion (λ j. slice_cmp nat_cmp k j ≡ Less) (keys_of (made_by f es))
+above_made f k [] a = tt
+above_made f k (e ∷ es) a = above_step k e.0 (f e.0 e.1) (made_by f es) a.0 (above_made f k es a.1)
+
+sorted_step : {Y : Type 0} (id : List ℕ) (y : Option Y) (es : List (List ℕ × Y)) → AllByRecursion (λ j. slice_cmp nat_cmp id j ≡ Less) (keys_of es) →
+    IsStrictlySortedBy (slice_cmp nat_cmp) (keys_of es) → IsStrictlySortedBy (slice_cmp nat_cmp) (keys_of (with_some id y es))
+unfolding IsStrictlySortedBy
+sorted_step id None es a s = s
+sorted_step id (Some y) es a s = (a, s)
+
+pub sorted_made : {X Y : Type 0} (f : List ℕ → X → Option Y) (es : List (List ℕ × X)) → IsStrictlySortedBy (slice_cmp nat_cmp) (keys_of es) → IsStrictlySortedBy (slice_cmp nat_cmp) (keys_of (made_by f es))
+unfolding IsStrictlySortedBy
+sorted_made f [] s = s
+sorted_made f (e ∷ es) s = sorted_step e.0 (f e.0 e.1) (made_by f es) (above_made f e.0 es s.0) (sorted_made f es s.1)
+
+orphan_here : (id : List ℕ) (x : Option Object) (es : List (List ℕ × Object)) → is_orphan_there x ≡ true → first_orphan (with_some id x es) ≡ Some id
+orphan_here id None es h = cc
+orphan_here id (Some o) es h = ap (λ b. if b then Some id else first_orphan es) h
+
+-- the first of what is left is an orphan
+pub orphan_first : (left : Change) (w : List ℕ × Option Object) → 1 ≤ length left → w ≡ get_or left 0 w → is_orphan_there w.1 ≡ true → first_orphan (objects_in left) ≡ Some w.0
+orphan_first [] w some is h = absurd (omega arith)
+orphan_first (x ∷ xs) w some is h = orphan_here x.0 x.1 (objects_in xs) (ap (λ y. is_orphan_there y.1) (sym is) ∙ h) ∙ ap (λ y. Some y.0) (sym is)
+
+pub none_left : (left : Change) → length left < 1 → first_orphan (objects_in left) ≡ None
+none_left [] none = refl
+none_left (x ∷ xs) none = absurd (omega arith)
+
+-- ---- the map with the change
+
+-- what was written, or else what was there
+abbrev over : Option (Option Object) → Option Object → Option Object
+over None o = o
+over (Some w) o = w
+
+changed_by : (c : Change) (m : CityMap) (q : List ℕ) → IsStrictlySortedBy (slice_cmp nat_cmp) (keys_of c) → with_change m c q ≡ over (lookup (is_at (slice_cmp nat_cmp q)) c) (m q)
+changed_by [] m q s = refl
+changed_by (w ∷ ws) m q s =
+    let rest = lookup (is_at (slice_cmp nat_cmp q)) ws in
+    changed_by ws (changed m w.0 w.1) q (sorted_tail (slice_cmp nat_cmp) w.0 (keys_of ws) s) ∙ bool_cases (same_id q w.0)
+    (λ t. let none : rest ≡ None =
+    lookup-none (is_at (slice_cmp nat_cmp q)) ws (none_past_head {eq = eq_by_cmp (slice_cmp nat_cmp)} (eq_by_cmp_equiv nat_list_cmp_total) q w ws (IsDistinct-from_sorted (slice_cmp nat_cmp) (keys_of (w ∷ ws)) s) t) in
+    ap (λ x. over x (changed m w.0 w.1 q)) none ∙ ap (λ b. if b then w.1 else m q) (same_id_back w.0 q ∙ t) ∙ sym (ap (λ b. over (if b then Some w.1 else rest) (m q)) t))
+    (λ t. ap (λ b. over rest (if b then w.1 else m q)) (same_id_back w.0 q ∙ t) ∙ sym (ap (λ b. over (if b then Some w.1 else rest) (m q)) t))
+
+key_listed : {Y : Type 0} (es : List (List ℕ × Y)) (q : List ℕ) → has_id (keys_of es) q ≡ is_some (lookup (is_at (slice_cmp nat_cmp q)) es)
+key_listed [] q = refl
+key_listed (e ∷ es) q = bool_cases (same_id q e.0)
+    (λ t. ap (λ b. b || has_id (keys_of es) q) t ∙ sym (ap (λ b. is_some (if b then Some e.1 else lookup (is_at (slice_cmp nat_cmp q)) es)) t))
+    (λ t. ap (λ b. b || has_id (keys_of es) q) t ∙ key_listed es q ∙ sym (ap (λ b. is_some (if b then Some e.1 else lookup (is_at (slice_cmp nat_cmp q)) es)) t))
+
+own_over : (s : ℕ) (w : Option Write) (o : Option Object) → own_or s w o ≡ over (own_write s w) o
+own_over s None o = refl
+own_over s (Some w) o = bool_cases (w.0 == s)
+    (λ e. ap (λ b. if b then w.1 else o) e ∙ sym (ap (λ b. over (if b then Some w.1 else None) o) e))
+    (λ e. ap (λ b. if b then w.1 else o) e ∙ sym (ap (λ b. over (if b then Some w.1 else None) o) e))
+
+own_by : (s : ℕ) (w : Option Write) → is_some (own_write s w) ≡ is_by s w
+own_by s None = refl
+own_by s (Some w) = bool_cases (w.0 == s)
+    (λ e. ap (λ b. is_some (if b then Some w.1 else None)) e ∙ sym e)
+    (λ e. ap (λ b. is_some (if b then Some w.1 else None)) e ∙ sym e)
+
+-- ---- orphans
+
+over_cases : {A : Type 0} (x : Option (Option Object)) (y : Option Object) (o : Object) → over x y ≡ Some o → (through (λ z. z) x ≡ Some o → A) → (y ≡ Some o → A) → A
+over_cases None y o h f g = g h
+over_cases (Some w) y o h f g = f h
+
+over_written : (x : Option (Option Object)) (y : Option Object) (o : Object) → through (λ z. z) x ≡ Some o → over x y ≡ Some o
+over_written None y o h = absurd (cc)
+over_written (Some w) y o h = h
+
+-- the change has what the transaction wrote, in byte order; no object of the committed map is an orphan
+module _ (v : CoreState) (s : ℕ) (c : Change) (lists : (q : List ℕ) → lookup (is_at (slice_cmp nat_cmp q)) c ≡ own_write s (write_of v.writes q))
+    (sorted : IsStrictlySortedBy (slice_cmp nat_cmp) (keys_of c)) (none : HasNoOrphan (committed v)) where
+  view_over : (q : List ℕ) → view v s q ≡ over (lookup (is_at (slice_cmp nat_cmp q)) c) (committed v q)
+  view_over q = own_over s (write_of v.writes q) (committed v q) ∙ sym (ap (λ x. over x (committed v q)) (lists q))
+
+  objects_at : (q : List ℕ) → at (objects_in c) q ≡ through (λ z. z) (lookup (is_at (slice_cmp nat_cmp q)) c)
+  objects_at q = at_made (λ id object. object) c q sorted
+
+  not_orphan : (q : List ℕ) (o : Object) → view v s q ≡ Some o → (at (objects_in c) q ≡ Some o → is_orphan o ≡ false) → is_orphan o ≡ false
+  not_orphan q o is f = over_cases (lookup (is_at (slice_cmp nat_cmp q)) c) (committed v q) o (sym (view_over q) ∙ is) (λ h. f (objects_at q ∙ h)) (λ h. none q o h)
+
+  pub least_of_view : (id : List ℕ) → IsLeastOrphan (at (objects_in c)) id → IsLeastOrphan (view v s) id
+  least_of_view id l = (
+    (l.0.0, view_over id ∙ over_written (lookup (is_at (slice_cmp nat_cmp id)) c) (committed v id) l.0.0 (sym (objects_at id) ∙ l.0.1), l.0.2),
+    λ q o less is. not_orphan q o is (l.1 q o less),
+  )
+
+  pub is_change_of : HasNoOrphan (at (objects_in c)) → IsChangeOf v s c
+  is_change_of h = record {
+    makes_view = λ q. changed_by c (committed v) q sorted ∙ sym (view_over q);
+    ids = λ q. key_listed c q ∙ ap is_some (lists q) ∙ own_by s (write_of v.writes q);
+    in_byte_order = sorted;
+    no_orphan = λ q o is. not_orphan q o is (h q o);
+  }

@@ -1,0 +1,150 @@
+-- A core by its fields: opened, begun, and after a commit or an abort.
+use Rattle.std.proofs.Common.{◌≡◌, ◌==◌, ◌||◌, ℕ, List, [], ◌∷◌, Bool, true, false, Option, None, Some, is_some, refl, ap, sym, ◌∙◌, subst}
+use Rattle.std.specs.Prelude.{if◌then◌else◌, cond}
+use Rattle.std.specs.List.{list_any}
+use Rattle.std.specs.Map.{keys_of, lookup}
+use Rattle.std.specs.Ordering.{nat_cmp}
+use Rattle.std.specs.BTreeMap.{is_at}
+use Rattle.std.proofs.lemmas.Bool.{false≢true, eqb-true}
+use Rattle.city_model.specs.declared.frame.Frame.{Frame}
+use Rattle.city_model.specs.CityMap.{Entries, at}
+use Rattle.city_model.specs.Relations.{IsLawful, HasNoOrphan}
+use Rattle.city_model.proofs.IdLists.{bool_cases}
+use Rattle.city_model.proofs.History.{follows_same}
+use Rattle.city_locks.specs.declared.mode.Mode.{Mode}
+use Rattle.city_locks.specs.declared.mode.Mode.TheVariants.{Exclusive}
+use Rattle.city_locks.specs.Locks.{Locks, mode_of, Lawful}
+use Rattle.city_txn.specs.State as store
+use Rattle.city_txn.specs.State.{State, Write, write_of, own_or, has_room, is_by, Forgets}
+use Rattle.city_txn.specs.Standing.{Answered, covers}
+use Rattle.city_txn.specs.CoreState.{CoreState, committed, view, is_open, held, held_in, Stands, IsConsistent, IsOver}
+use Rattle.city_txn.specs.Core.{core_state, IsCore}
+use Rattle.city_txn.specs.declared.txn_core.Core.TheInside.{Inside}
+use Rattle.city_txn.proofs.AtOneId.{tied}
+use Rattle.city_txn.proofs.Ended.{Ended, stands_committed, committed_consistent, stands_aborted, aborted_consistent, own_unless}
+
+-- ---- which stamps are open
+
+either : (b : Bool) (r : List (List ℕ)) (o : Option (List (List ℕ))) → (b || is_some o) ≡ is_some (if b then Some r else o)
+either true r o = refl
+either false r o = refl
+
+listed_open : (opened : List (ℕ × List (List ℕ))) (s : ℕ) → list_any (λ t. s == t) (keys_of opened) ≡ is_some (lookup (is_at (nat_cmp s)) opened)
+listed_open [] s = refl
+listed_open (e ∷ es) s =
+    ap (λ b. b || list_any (λ t. s == t) (keys_of es)) (sym (tied s e.0)) ∙ ap (λ b. is_at (nat_cmp s) e.0 || b) (listed_open es s)
+    ∙ either (is_at (nat_cmp s) e.0) e.1 (lookup (is_at (nat_cmp s)) es)
+
+pub open_is : (a : Inside) (s : ℕ) → is_open (core_state a) s ≡ store.is_open a.store s
+open_is a s = listed_open a.store.opened s
+
+-- ---- opened
+
+none_some_write : {A : Type 0} {w : Write} → None ≡ Some w → A
+none_some_write e = absurd (cc)
+
+fresh_core : (a : Inside) (frame : Frame) (city : Entries) → IsLawful (at city) → IsCore (record a { store = record { frame = frame; city = city; writes = []; opened = [] }; locks = [] })
+fresh_core a frame city l = record {
+  state = record {
+    lawful = λ s t id ne e. refl;
+    locked = λ q w e. none_some_write e;
+    open_only = λ s q h. absurd (false≢true h);
+    city = l;
+    history = λ s. ([], λ q. refl);
+  };
+  room = λ t q h. absurd (false≢true h);
+}
+
+pub opened_core : (a : Inside) (frame : Frame) (city : Entries) → a.store ≡ record { frame = frame; city = city; writes = []; opened = [] } → a.locks ≡ [] → IsLawful (at city) → IsCore a
+opened_core a frame city e f l =
+    subst (λ (x : State). IsCore (record a { store = x })) (sym e)
+    (subst (λ (x : Locks). IsCore (record a { store = record { frame = frame; city = city; writes = []; opened = [] }; locks = x })) (sym f) (fresh_core a frame city l))
+
+-- ---- begun
+
+none_unless : (o : Option Mode) → (is_some o ≡ true → ⊥) → o ≡ None
+none_unless None h = refl
+none_unless (Some m) h = absurd (h refl)
+
+none_exclusive : {A : Type 0} → None ≡ Some Exclusive → A
+none_exclusive e = absurd (cc)
+
+not_by : (s : ℕ) (x : Option Write) → ((w : Write) → x ≡ Some w → (w.0 == s) ≡ true → ⊥) → is_by s x ≡ false
+not_by s None h = refl
+not_by s (Some w) h = bool_cases (w.0 == s) (λ e. absurd (h w refl e)) (λ e. e)
+
+-- what isn't open holds nothing and wrote nothing
+pub shut_unlocked : (v : CoreState) (s : ℕ) (q : List ℕ) → IsConsistent v → is_open v s ≡ false → mode_of v.locks s q ≡ None
+shut_unlocked v s q c h = none_unless (mode_of v.locks s q) (λ e. false≢true (sym h ∙ c.open_only s q e))
+
+pub shut_unwritten : (v : CoreState) (s : ℕ) (q : List ℕ) → IsConsistent v → is_open v s ≡ false → is_by s (write_of v.writes q) ≡ false
+shut_unwritten v s q c h = not_by s (write_of v.writes q)
+    (λ w e f. none_exclusive (sym (shut_unlocked v s q c h) ∙ ap (λ k. mode_of v.locks k q) (sym (eqb-true w.0 s f)) ∙ c.locked q w e))
+
+or_right : (a b : Bool) → b ≡ true → (a || b) ≡ true
+or_right true b h = refl
+or_right false b h = h
+
+module _ (a b : Inside) (k : IsCore a) (s : ℕ) (city : b.store.city ≡ a.store.city) (writes : b.store.writes ≡ a.store.writes) (locks : b.locks ≡ a.locks)
+    (opened : (t : ℕ) → store.is_open b.store t ≡ ((s == t) || store.is_open a.store t))
+    (room : (t : ℕ) (q : List ℕ) → has_room b.store t q ≡ has_room a.store t q) where
+  pub begun_open : (t : ℕ) → is_open (core_state b) t ≡ ((s == t) || is_open (core_state a) t)
+  begun_open t = open_is b t ∙ opened t ∙ ap (λ c. (s == t) || c) (sym (open_is a t))
+
+  begun_stands : (t : ℕ) (done : List Answered) → Stands (core_state a) t done → Stands (core_state b) t done
+  begun_stands t done f = follows_same (held (core_state a) t) (held (core_state b) t) (committed (core_state a)) (committed (core_state b)) done (view (core_state a) t) (view (core_state b) t)
+      (λ q c h. ap (λ hs. covers (held_in hs t q) c) locks ∙ h)
+      (λ q. ap (λ es. at es q) (sym city))
+      (λ q. ap (λ ws. own_or t (write_of ws q) (at a.store.city q)) (sym writes) ∙ ap (λ es. own_or t (write_of b.store.writes q) (at es q)) (sym city)) f
+
+  pub begun_core : IsCore b
+  begun_core = record {
+    state = record {
+      lawful = subst Lawful (sym locks) k.state.lawful;
+      locked = λ q w e. ap (λ hs. mode_of hs w.0 q) locks ∙ k.state.locked q w (ap (λ ws. write_of ws q) (sym writes) ∙ e);
+      open_only = λ t q h. begun_open t ∙ or_right (s == t) (is_open (core_state a) t) (k.state.open_only t q (ap (λ hs. is_some (mode_of hs t q)) (sym locks) ∙ h));
+      city = subst (λ es. IsLawful (at es)) (sym city) k.state.city;
+      history = λ t. ((k.state.history t).0, begun_stands t (k.state.history t).0 (k.state.history t).1);
+    };
+    room = λ t q h. ap (λ hs. mode_of hs t q) locks ∙ k.room t q (sym (room t q) ∙ h);
+  }
+
+-- ---- over
+
+none_left : (b c : Bool) → (if b then false else c) ≡ true → (b ≡ false) × (c ≡ true)
+none_left true c h = absurd (false≢true h)
+none_left false c h = (refl, h)
+
+module _ (a b : Inside) (k : IsCore a) (s : ℕ) (f : Forgets s a.store b.store)
+    (modes : (t : ℕ) (q : List ℕ) → mode_of b.locks t q ≡ cond (s == t) None (mode_of a.locks t q)) (lawful : Lawful b.locks) where
+  pub ended : Ended s (core_state a) (core_state b)
+  ended = record {
+    writes = f.writes;
+    locks = modes;
+    opened = λ t. open_is b t ∙ f.opened t ∙ ap (λ c. if s == t then false else c) (sym (open_is a t));
+    lawful = lawful;
+  }
+
+  room_left : (t : ℕ) (q : List ℕ) → has_room b.store t q ≡ true → mode_of b.locks t q ≡ Some Exclusive
+  room_left t q h =
+      let left = none_left (s == t) (has_room a.store t q) (sym (f.room t q) ∙ h) in
+      modes t q ∙ ap (λ c. cond c None (mode_of a.locks t q)) left.0 ∙ k.room t q left.1
+
+  over : ((t : ℕ) (done : List Answered) → (s == t) ≡ false → Stands (core_state a) t done → Stands (core_state b) t done) → IsOver s (core_state a) (core_state b)
+  over stands = record { frame = f.frame; writes = f.writes; locks = modes; opened = ended.opened; others = stands }
+
+  pub committed_over : ((q : List ℕ) → store.committed b.store q ≡ store.view a.store s q) → IsOver s (core_state a) (core_state b)
+  committed_over city = over (λ t done ne g. stands_committed s t (core_state a) (core_state b) done k.state ended city ne g)
+
+  pub committed_core : ((q : List ℕ) → store.committed b.store q ≡ store.view a.store s q) → HasNoOrphan (view (core_state a) s) → IsCore b
+  committed_core city orphans = record { state = committed_consistent s (core_state a) (core_state b) k.state ended city orphans; room = room_left }
+
+  pub aborted_over : ((q : List ℕ) → store.committed b.store q ≡ store.committed a.store q) → IsOver s (core_state a) (core_state b)
+  aborted_over city = over (λ t done ne g. stands_aborted s t (core_state a) (core_state b) done ended city ne g)
+
+  pub aborted_core : ((q : List ℕ) → store.committed b.store q ≡ store.committed a.store q) → IsCore b
+  aborted_core city = record { state = aborted_consistent s (core_state a) (core_state b) k.state ended city; room = room_left }
+
+  pub aborted_views : ((q : List ℕ) → store.committed b.store q ≡ store.committed a.store q) → (t : ℕ) (q : List ℕ) → (s == t) ≡ false → view (core_state b) t q ≡ view (core_state a) t q
+  aborted_views city t q ne = ap (λ w. own_or t w (committed (core_state b) q)) (f.writes q) ∙ own_unless s t (write_of a.store.writes q) (committed (core_state b) q) ne
+      ∙ ap (own_or t (write_of a.store.writes q)) (city q)

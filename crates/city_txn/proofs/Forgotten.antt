@@ -1,0 +1,139 @@
+-- A transaction's images dropped or put back: nothing of it is left, and what is of others stays.
+use Rattle.std.proofs.Common.{◌≡◌, ◌==◌, ℕ, List, [], Bool, true, false, Option, None, Some, is_some, refl, ap, sym, ◌∙◌}
+use Rattle.std.specs.Prelude.{if◌then◌else◌, unwrap_or}
+use Rattle.std.specs.Map.{keys_of}
+use Rattle.std.specs.Ordering.{nat_cmp}
+use Rattle.std.specs.Cmp.Lexicographic.{slice_cmp}
+use Rattle.std.specs.BTreeMap.{get, is_at, IsOrdered}
+use Rattle.std.specs.List.Sorted.{IsStrictlySortedBy}
+use Rattle.std.proofs.lemmas.Bool.{false≢true, eqb-true}
+use Rattle.city_model.specs.declared.object.Object.{Object}
+use Rattle.city_model.specs.CityMap.{has_id}
+use Rattle.city_model.proofs.IdLists.{bool_cases}
+use Rattle.city_txn.specs.declared.image.Image.{Image}
+use Rattle.city_txn.specs.declared.store.Store.TheInside.{Inside}
+use Rattle.city_txn.specs.Images.{seen_under, seen_at, committed_at, write_at, writer_of}
+use Rattle.city_txn.specs.State.{rooms_of, is_open, has_room, own_or, committed, view, unless_by, Forgets}
+use Rattle.city_txn.specs.InPlace.{image_at, state_of, is_writer, IsInPlace}
+use Rattle.city_txn.proofs.AtOneId.{tied, here, city_is, writes_is, view_is, own_seen, own_committed}
+
+-- ---- at one id, where x stands in the city
+
+kept_point : (s : ℕ) (x : Option Object) (i : Option Image) →
+    committed_at (if is_writer s (writer_of i) then seen_at x i else x) (if is_writer s (writer_of i) then None else i)
+    ≡ own_or s (write_at x i) (committed_at x i)
+kept_point s x None = refl
+kept_point s x (Some i) = bool_cases (i.by == s)
+    (λ e. ap (λ b. committed_at (if b then seen_under x i else x) (if b then None else Some i)) e ∙ sym (own_seen s x i e))
+    (λ e. ap (λ b. committed_at (if b then seen_under x i else x) (if b then None else Some i)) e ∙ sym (own_committed s x (committed_at x (Some i)) i e))
+
+restored_point : (b : Bool) (x : Option Object) (i : Option Image) →
+    committed_at (if b then committed_at x i else x) (if b then None else i) ≡ committed_at x i
+restored_point true x i = refl
+restored_point false x i = refl
+
+own_write : (s : ℕ) (x : Option Object) (i : Image) → (i.by == s) ≡ true → unless_by s (write_at x (Some i)) ≡ None
+own_write s x i e = bool_cases i.fresh
+    (λ f. ap (λ b. unless_by s (if b then None else Some (i.by, seen_under x i))) f)
+    (λ f. ap (λ b. unless_by s (if b then None else Some (i.by, seen_under x i))) f ∙ ap (λ b. if b then None else Some (i.by, seen_under x i)) e)
+
+others_write : (s : ℕ) (x : Option Object) (i : Image) → (i.by == s) ≡ false → unless_by s (write_at x (Some i)) ≡ write_at x (Some i)
+others_write s x i e = bool_cases i.fresh
+    (λ f. ap (λ b. unless_by s (if b then None else Some (i.by, seen_under x i))) f ∙ sym (ap (λ b. if b then None else Some (i.by, seen_under x i)) f))
+    (λ f. ap (λ b. unless_by s (if b then None else Some (i.by, seen_under x i))) f ∙ ap (λ b. if b then None else Some (i.by, seen_under x i)) e
+    ∙ sym (ap (λ b. if b then None else Some (i.by, seen_under x i)) f))
+
+dropped_point : (s : ℕ) (x y : Option Object) (i : Option Image) →
+    write_at (if is_writer s (writer_of i) then y else x) (if is_writer s (writer_of i) then None else i) ≡ unless_by s (write_at x i)
+dropped_point s x y None = refl
+dropped_point s x y (Some i) = bool_cases (i.by == s)
+    (λ e. ap (λ b. write_at (if b then y else x) (if b then None else Some i)) e ∙ sym (own_write s x i e))
+    (λ e. ap (λ b. write_at (if b then y else x) (if b then None else Some i)) e ∙ sym (others_write s x i e))
+
+no_writer : (b : Bool) → (if b then false else false) ≡ false
+no_writer true = refl
+no_writer false = refl
+
+others_stay : (s t : ℕ) (i : Option Image) →
+    (if s == t then false else is_writer t (writer_of i)) ≡ is_writer t (writer_of (if is_writer s (writer_of i) then None else i))
+others_stay s t None = no_writer (s == t)
+others_stay s t (Some i) = bool_cases (i.by == s)
+    (λ e. let same : i.by ≡ s = eqb-true i.by s e in
+    ap (λ u. if s == t then false else u == t) same ∙ either (s == t) ∙ sym (ap (λ b. is_writer t (writer_of (if b then None else Some i))) e))
+    (λ e. bool_cases (s == t)
+    (λ f. ap (λ b. if b then false else i.by == t) f ∙ sym (ap (λ u. i.by == u) (sym (eqb-true s t f)) ∙ e) ∙ sym (ap (λ b. is_writer t (writer_of (if b then None else Some i))) e))
+    (λ f. ap (λ b. if b then false else i.by == t) f ∙ sym (ap (λ b. is_writer t (writer_of (if b then None else Some i))) e)))
+  where
+    either : (b : Bool) → (if b then false else b) ≡ false
+    either true = refl
+    either false = refl
+
+-- ---- the whole
+
+-- f says what stands in the city where an image of the stamp s was
+module _ (a b : Inside) (k : IsInPlace a) (s : ℕ) (ids : List (List ℕ)) (are : ids ≡ rooms_of a.rooms.entries s)
+    (f : Option Object → Option Image → Option Object) (frame : b.city.0 ≡ a.city.0)
+    (city : (q : List ℕ) → here b q ≡ (if has_id ids q then f (here a q) (image_at a q) else here a q))
+    (images : (q : List ℕ) → image_at b q ≡ (if has_id ids q then None else image_at a q))
+    (rooms : (t : ℕ) → get nat_cmp b.rooms t ≡ (if is_at (nat_cmp s) t then None else get nat_cmp a.rooms t))
+    (city_ordered : IsStrictlySortedBy (slice_cmp nat_cmp) (keys_of b.city.1)) (images_ordered : IsOrdered (slice_cmp nat_cmp) b.images) where
+  mine : (q : List ℕ) → has_id ids q ≡ is_writer s (writer_of (image_at a q))
+  mine q = ap (λ xs. has_id xs q) are ∙ k.listed s q
+
+  city_at : (q : List ℕ) → here b q ≡ (if is_writer s (writer_of (image_at a q)) then f (here a q) (image_at a q) else here a q)
+  city_at q = city q ∙ ap (λ c. if c then f (here a q) (image_at a q) else here a q) (mine q)
+
+  images_at : (q : List ℕ) → image_at b q ≡ (if is_writer s (writer_of (image_at a q)) then None else image_at a q)
+  images_at q = images q ∙ ap (λ c. if c then None else image_at a q) (mine q)
+
+  room_left : (t : ℕ) (q : List ℕ) → has_room (state_of b) t q ≡ (if s == t then false else has_room (state_of a) t q)
+  room_left t q = ap (λ o. has_id (unwrap_or o []) q) (rooms t) ∙ ap (λ c. has_id (unwrap_or (if c then None else get nat_cmp a.rooms t) []) q) (tied s t)
+      ∙ by_case (s == t)
+    where
+      by_case : (c : Bool) → has_id (unwrap_or (if c then None else get nat_cmp a.rooms t) []) q ≡ (if c then false else has_room (state_of a) t q)
+      by_case true = refl
+      by_case false = refl
+
+  open_left : (t : ℕ) → is_open (state_of b) t ≡ (if s == t then false else is_open (state_of a) t)
+  open_left t = ap is_some (rooms t) ∙ ap (λ c. is_some (if c then None else get nat_cmp a.rooms t)) (tied s t) ∙ by_case (s == t)
+    where
+      by_case : (c : Bool) → is_some (if c then None else get nat_cmp a.rooms t) ≡ (if c then false else is_open (state_of a) t)
+      by_case true = refl
+      by_case false = refl
+
+  pub forgotten_in_place : IsInPlace b
+  forgotten_in_place = record {
+    placed = λ q h. bool_cases (has_id ids q)
+        (λ e. absurd (false≢true (sym (ap is_some (images q ∙ ap (λ c. if c then None else image_at a q) e)) ∙ h)))
+        (λ e. ap is_some (city q ∙ ap (λ c. if c then f (here a q) (image_at a q) else here a q) e)
+        ∙ k.placed q (sym (ap is_some (images q ∙ ap (λ c. if c then None else image_at a q) e)) ∙ h));
+    listed = λ t q. room_left t q ∙ ap (λ c. if s == t then false else c) (k.listed t q) ∙ others_stay s t (image_at a q)
+        ∙ sym (ap (λ i. is_writer t (writer_of i)) (images_at q));
+    city_ordered = city_ordered;
+    images_ordered = images_ordered;
+  }
+
+  pub forgets : Forgets s (state_of a) (state_of b)
+  forgets = record {
+    frame = frame;
+    writes = λ q. writes_is b forgotten_in_place q ∙ ap (λ x. write_at x (image_at b q)) (city_at q)
+        ∙ ap (write_at (if is_writer s (writer_of (image_at a q)) then f (here a q) (image_at a q) else here a q)) (images_at q)
+        ∙ dropped_point s (here a q) (f (here a q) (image_at a q)) (image_at a q) ∙ sym (ap (unless_by s) (writes_is a k q));
+    opened = open_left;
+    room = room_left;
+  }
+
+  committed_left : (q : List ℕ) → committed (state_of b) q
+      ≡ committed_at (if is_writer s (writer_of (image_at a q)) then f (here a q) (image_at a q) else here a q) (if is_writer s (writer_of (image_at a q)) then None else image_at a q)
+  committed_left q = city_is b forgotten_in_place q ∙ ap (λ x. committed_at x (image_at b q)) (city_at q)
+      ∙ ap (committed_at (if is_writer s (writer_of (image_at a q)) then f (here a q) (image_at a q) else here a q)) (images_at q)
+
+  pub kept_city : ((x : Option Object) (i : Option Image) → f x i ≡ seen_at x i) → (q : List ℕ) → committed (state_of b) q ≡ view (state_of a) s q
+  kept_city is q = committed_left q
+      ∙ ap (λ y. committed_at (if is_writer s (writer_of (image_at a q)) then y else here a q) (if is_writer s (writer_of (image_at a q)) then None else image_at a q)) (is (here a q) (image_at a q))
+      ∙ kept_point s (here a q) (image_at a q) ∙ sym (view_is a k q s)
+
+  pub restored_city : ((x : Option Object) (i : Option Image) → f x i ≡ committed_at x i) → (q : List ℕ) → committed (state_of b) q ≡ committed (state_of a) q
+  restored_city is q = committed_left q
+      ∙ ap (λ y. committed_at (if is_writer s (writer_of (image_at a q)) then y else here a q) (if is_writer s (writer_of (image_at a q)) then None else image_at a q)) (is (here a q) (image_at a q))
+      ∙ restored_point (is_writer s (writer_of (image_at a q))) (here a q) (image_at a q) ∙ sym (city_is a k q)

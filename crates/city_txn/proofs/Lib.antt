@@ -1,0 +1,16 @@
+pub mod ActDone
+pub mod AtOneId
+pub mod ChangeMade
+pub mod CommandDone
+pub mod CoreFields
+pub mod EachId
+pub mod Ended
+pub mod Forgotten
+pub mod Idle
+pub mod LocksAsked
+pub mod LocksGained
+pub mod PerformDone
+pub mod PlanMade
+pub mod PlanWritten
+pub mod RoomMade
+pub mod Written

@@ -1,0 +1,22 @@
+use Rattle.std.proofs.Common.{sym, [], ◌∷◌, true, Ok, subst}
+use Rattle.city_model.specs.Meaning.{delete_locks}
+use Rattle.city_locks.specs.declared.answer.Answer.TheVariants.{Granted}
+use Rattle.city_txn.specs.State.{view}
+use Rattle.city_txn.specs.Locking.{Asked}
+use Rattle.city_txn.proofs.LocksAsked.{asked_granted, asked_more, asked_failed}
+use Rattle.city_txn.proofs.lock.lock_delete.Goals as goal
+
+pub returns-in_err-answer : goal.returns-in_err-answer
+returns-in_err-answer c =
+    asked_failed c.args.stamp ((c.args.id.now, true) ∷ []) (delete_locks (view c.args.store.now c.args.stamp c.args.id.now)) c.from_residual.result c.in_err-answer.field-0.0 c.args.locks.now c.lock_one.new.locks
+    c.from_residual.ensures.0 c.in_err-answer.ensures.asked
+
+pub returns-in-Granted : goal.returns-in-Granted
+returns-in-Granted c =
+    let first = (c.args.id.now, true) ∷ [] in
+    let parents = delete_locks (view c.args.store.now c.args.stamp c.args.id.now) in
+    let asked : Asked c.args.stamp first (Ok Granted) c.args.locks.now c.lock_one.new.locks =
+    subst (λ a. Asked c.args.stamp first (Ok a) c.args.locks.now c.lock_one.new.locks) c.in-Granted.is c.in_ok-answer.ensures.asked in
+    asked_more c.args.stamp first parents c.lock_all.result c.args.locks.now c.lock_one.new.locks c.lock_all.new.locks
+    (asked_granted c.args.stamp first c.args.locks.now c.lock_one.new.locks asked)
+    (subst (λ ls. Asked c.args.stamp ls c.lock_all.result c.lock_one.new.locks c.lock_all.new.locks) (sym c.parents_to_lock.ensures) c.lock_all.ensures)

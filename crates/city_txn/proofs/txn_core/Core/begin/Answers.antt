@@ -1,0 +1,46 @@
+use Rattle.std.proofs.Common.{◌≡◌, ◌∙◌, sym, ap, true, false, ◌||◌, ◌==◌}
+use Rattle.std.specs.Prelude.{if◌then◌else◌}
+use Rattle.city_txn.specs.State.{is_by, write_of}
+use Rattle.city_txn.specs.CoreState.{CoreState, is_open}
+use Rattle.city_txn.specs.Core.{core_state}
+use Rattle.city_txn.specs.declared.step.TxnFault.TheVariants.{StampOpen, OutOfMemory}
+use Rattle.city_txn.specs.declared.txn_core.Core.TheInside.{Inside}
+use Rattle.city_txn.proofs.CoreFields.{open_is, begun_core, begun_open, shut_unlocked, shut_unwritten}
+use Rattle.city_txn.proofs.txn_core.Core.begin.Goals as goal
+
+pub returns-then-is_open-clause-fault : goal.returns-then-is_open-clause-fault
+returns-then-is_open-clause-fault c =
+    let is : is_open c.args.self.now c.args.stamp ≡ true = sym (ap (λ (v : CoreState). is_open v c.args.stamp) c.self.view_is) ∙ open_is c.self.inside c.args.stamp ∙ sym c.is_open.ensures ∙ c.if-is_open.true in
+    sym (ap (λ b. if b then StampOpen c.args.stamp else OutOfMemory) is)
+
+pub returns-in_default-clause-fault : goal.returns-in_default-clause-fault
+returns-in_default-clause-fault c =
+    let is : is_open c.args.self.now c.args.stamp ≡ false = sym (ap (λ (v : CoreState). is_open v c.args.stamp) c.self.view_is) ∙ open_is c.self.inside c.args.stamp ∙ sym c.is_open.ensures ∙ c.if-is_open.false in
+    sym (ap (λ b. if b then StampOpen c.args.stamp else OutOfMemory) is)
+
+pub invariant_of-self-2 : goal.invariant_of-self-2
+invariant_of-self-2 c =
+    let a = c.self.inside in
+    let b : Inside = record { alloc = a.alloc; store = c.begin.new.self; locks = a.locks } in
+    begun_core a b c.self.invariant c.args.stamp c.begin.ensures.city c.begin.ensures.writes (λ i. a.locks) c.in-Ok.ensures.opened c.begin.ensures.room
+
+pub returns-clause-opened : goal.returns-clause-opened
+returns-clause-opened c t =
+    let a = c.self.inside in
+    let b : Inside = record { alloc = a.alloc; store = c.begin.new.self; locks = a.locks } in
+    begun_open a b c.self.invariant c.args.stamp c.begin.ensures.city c.begin.ensures.writes (λ i. a.locks) c.in-Ok.ensures.opened c.begin.ensures.room t
+    ∙ ap (λ (v : CoreState). (c.args.stamp == t) || is_open v t) c.self.view_is
+
+pub returns-clause-unlocked : goal.returns-clause-unlocked
+returns-clause-unlocked c q =
+    shut_unlocked (core_state c.self.inside) c.args.stamp q c.self.invariant.state (open_is c.self.inside c.args.stamp ∙ sym c.is_open.ensures ∙ c.if-is_open.false)
+
+pub returns-clause-unwritten : goal.returns-clause-unwritten
+returns-clause-unwritten c q =
+    ap (λ ws. is_by c.args.stamp (write_of ws q)) c.begin.ensures.writes
+    ∙ shut_unwritten (core_state c.self.inside) c.args.stamp q c.self.invariant.state (open_is c.self.inside c.args.stamp ∙ sym c.is_open.ensures ∙ c.if-is_open.false)
+
+pub returns-clause-stamp_open : goal.returns-clause-stamp_open
+returns-clause-stamp_open c e =
+    let is : is_open c.args.self.now c.args.stamp ≡ false = sym (ap (λ (v : CoreState). is_open v c.args.stamp) c.self.view_is) ∙ open_is c.self.inside c.args.stamp ∙ sym c.is_open.ensures ∙ c.if-is_open.false in
+    sym is ∙ e

@@ -1,0 +1,11 @@
+pub mod Acting
+pub mod Changing
+pub mod Core
+pub mod CoreState
+pub mod Images
+pub mod InPlace
+pub mod Locking
+pub mod Performing
+pub mod Planning
+pub mod Standing
+pub mod State

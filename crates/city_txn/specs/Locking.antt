@@ -1,0 +1,59 @@
+-- Locks asked for in turn, up to the first that isn't granted.
+use Rattle.std.specs.Prelude.{◌≡◌, ◌==◌, ℕ, List, [], ◌∷◌, ◌++◌, Bool, true, false, Result, IfOk, OnOk, if◌then◌else◌}
+use Rattle.city_locks.specs.declared.mode.Mode.{Mode}
+use Rattle.city_locks.specs.declared.mode.Mode.TheVariants.{Shared, Exclusive}
+use Rattle.city_locks.specs.declared.answer.Answer.{Answer}
+use Rattle.city_locks.specs.declared.answer.Answer.TheVariants.{Granted, Wait, Die}
+use Rattle.city_locks.specs.Locks.{Locks, answer_of, mode_of, Lawful}
+use Rattle.city_txn.specs.Standing.{Lock, AllHeld, covers, names}
+use Rattle.city_txn.specs.CoreState.{held_in}
+
+abbrev pub mode_for : Bool → Mode
+mode_for exclusive = if exclusive then Exclusive else Shared
+
+abbrev pub go_on : Answer → Answer → Answer
+go_on Granted next = next
+go_on Wait next = Wait
+go_on Die next = Die
+
+-- the answer of the first lock that isn't granted, or Granted
+abbrev pub first_answer : Locks → ℕ → List Lock → Answer
+first_answer locks stamp [] = Granted
+first_answer locks stamp (l ∷ ls) = go_on (answer_of locks stamp l.0 (mode_for l.1)) (first_answer locks stamp ls)
+
+abbrev pub first_if : Answer → Lock → List Lock → List Lock
+first_if Granted l ls = l ∷ ls
+first_if Wait l ls = []
+first_if Die l ls = []
+
+-- the locks before the first that isn't granted
+abbrev pub granted_before : Locks → ℕ → List Lock → List Lock
+granted_before locks stamp [] = []
+granted_before locks stamp (l ∷ ls) = first_if (answer_of locks stamp l.0 (mode_for l.1)) l (granted_before locks stamp ls)
+
+abbrev pub is_wait : Answer → Bool
+is_wait Granted = false
+is_wait Wait = true
+is_wait Die = false
+
+-- the stamp gained locks that these name and lost none, the others keep theirs, and what the stamp would be answered stays
+pub record MoreLocks (stamp : ℕ) (ls : List Lock) (old new : Locks) : Type 0 where
+  pub others : (t : ℕ) (id : List ℕ) → (stamp == t) ≡ false → mode_of new t id ≡ mode_of old t id
+  pub more : (id : List ℕ) (exclusive : Bool) → covers (held_in old stamp id) exclusive ≡ true → covers (held_in new stamp id) exclusive ≡ true
+  pub only : (id : List ℕ) → names ls id ≡ false → mode_of new stamp id ≡ mode_of old stamp id
+  pub lawful : Lawful old → Lawful new
+  pub answers : (id : List ℕ) (mode : Mode) → answer_of new stamp id mode ≡ answer_of old stamp id mode
+
+-- the stamp gained the first so many of these locks, in their order, and no others
+pub record GainsFirst (stamp : ℕ) (ls : List Lock) (old new : Locks) : Type 0 where
+  pub gained : List Lock
+  pub left : List Lock
+  pub parts : ls ≡ gained ++ left
+  pub held : AllHeld (held_in new stamp) gained
+  pub locks : MoreLocks stamp gained old new
+
+-- The locks asked for in turn: the answer is that of the first that isn't granted, and those before it are gained; for want of memory the first so many of them.
+pub record Asked {E : Type 0} (stamp : ℕ) (ls : List Lock) (result : Result Answer E) (old new : Locks) : Type 0 where
+  pub answer : IfOk result (λ a. a ≡ first_answer old stamp ls)
+  pub gains : GainsFirst stamp (granted_before old stamp ls) old new
+  pub held : OnOk result (AllHeld (held_in new stamp) (granted_before old stamp ls))

@@ -1,0 +1,51 @@
+-- The commands of an open transaction stand: from the committed map they get the replies that they got, each under its locks.
+use Rattle.std.specs.Prelude.{◌≡◌, ℕ, List, [], ◌∷◌, Bool, true, false, not, Option, Some, None, map, if◌then◌else◌}
+use Rattle.city_model.specs.declared.command.Command.{Command}
+use Rattle.city_model.specs.declared.command.Reply.{Reply}
+use Rattle.city_model.specs.CityMap.{CityMap, has_id}
+use Rattle.city_model.specs.Meaning.{reply_to, after, locks_of}
+
+-- how a transaction holds each id: not, shared (false) or exclusively (true)
+abbrev pub Held : Type 0
+Held = List ℕ → Option Bool
+
+-- an id, and whether it is locked exclusively
+abbrev pub Lock : Type 0
+Lock = List ℕ × Bool
+
+-- the lock is held, in that mode or a stronger one
+abbrev pub covers : Option Bool → Bool → Bool
+covers None exclusive = false
+covers (Some true) exclusive = true
+covers (Some false) exclusive = not exclusive
+
+abbrev pub AllHeld : Held → List Lock → Type 0
+AllHeld held [] = Unit {0}
+AllHeld held (l ∷ ls) = (covers (held l.0) l.1 ≡ true) × AllHeld held ls
+
+-- a command, and what it was answered
+abbrev pub Answered : Type 0
+Answered = Command × Reply
+
+-- from the first map the commands get these replies, each with its locks held, and lead to the second
+abbrev pub Follows : Held → CityMap → List Answered → CityMap → Type 0
+Follows held m [] n = (q : List ℕ) → n q ≡ m q
+Follows held m (d ∷ ds) n = AllHeld held (locks_of m d.0) × (reply_to m d.0 ≡ d.1) × Follows held (after m d.0) ds n
+
+-- ---- what locks name
+
+abbrev pub locked_ids : List Lock → List (List ℕ)
+locked_ids ls = map (λ l. l.0) ls
+
+-- the ids that are locked exclusively
+abbrev pub exclusive_ids : List Lock → List (List ℕ)
+exclusive_ids [] = []
+exclusive_ids (l ∷ ls) = if l.1 then l.0 ∷ exclusive_ids ls else exclusive_ids ls
+
+-- whether the locks name the id
+abbrev pub names : List Lock → List ℕ → Bool
+names ls id = has_id (locked_ids ls) id
+
+-- whether they name it exclusively
+abbrev pub names_exclusively : List Lock → List ℕ → Bool
+names_exclusively ls id = has_id (exclusive_ids ls) id

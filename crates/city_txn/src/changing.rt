@@ -1,0 +1,128 @@
+//! What a transaction wrote, as a change.
+ghost use Rattle.std.specs.Prelude.{◌≡◌, ◌++◌, ℕ, List, None, true, IfOk, IfSome, IfNone, OnOk, if◌then◌else◌};
+ghost use Rattle.std.specs.Map.{keys_of, lookup};
+ghost use Rattle.std.specs.Ordering.{nat_cmp};
+ghost use Rattle.std.specs.Cmp.Lexicographic.{slice_cmp};
+ghost use Rattle.std.specs.BTreeMap.{get, is_at, IsOrdered};
+ghost use Rattle.std.specs.List.Sorted.{IsStrictlySortedBy};
+ghost use Rattle.city_model.specs.CityMap.{at, has_id, same_id};
+ghost use Rattle.city_model.specs.Relations.{HasNoOrphan, IsLeastOrphan};
+ghost use Rattle.city_txn.specs.Images.{written_at};
+ghost use Rattle.city_txn.specs.Changing.{or_else, is_orphan_there, objects_in};
+
+use crate::image::Images;
+use city_model::OutOfMemory;
+use city_model::change::Change;
+use city_model::city::City;
+use city_model::copied::Copied;
+use city_model::object::Object;
+use city_model::orphans::is_orphan;
+use city_model::sequence::Sequence;
+use city_model::text::Id;
+use std::alloc::Global;
+use std::collections::BTreeMap;
+
+/// Objects, or none, by ids.
+type Writes = BTreeMap<Id, Option<Object>>;
+
+/// What was written at the ids, in byte order. It copies the objects.
+pub fn change_of(
+    city: &City,
+    images: &Images,
+    alloc: Global,
+    ids: &[Id],
+) -> Result<Change, OutOfMemory>
+    ensures lists { IfOk result (λ change. (q : List ℕ) → lookup (is_at (slice_cmp nat_cmp q)) change
+        ≡ (if has_id ids.now q then written_at (at city.now.1 q) (get (slice_cmp nat_cmp) images.now q) else None)) }
+    ensures ordered { IfOk result (λ change. IsStrictlySortedBy (slice_cmp nat_cmp) (keys_of change)) }
+{
+    let writes = note_each(city, images, alloc, ids)?;
+    in_order(alloc, writes)
+}
+
+/// Notes what was written at the ids.
+fn note_each(city: &City, images: &Images, alloc: Global, ids: &[Id]) -> Result<Writes, OutOfMemory>
+    ensures lists { IfOk result (λ writes. (q : List ℕ) → get (slice_cmp nat_cmp) writes q
+        ≡ (if has_id ids.now q then written_at (at city.now.1 q) (get (slice_cmp nat_cmp) images.now q) else None)) }
+    ensures ordered { IfOk result (IsOrdered (slice_cmp nat_cmp)) }
+{
+    let mut writes = BTreeMap::new(alloc);
+    for id in ids {
+        note(&mut writes, city, images, alloc, id)?;
+    }
+    Ok(writes)
+}
+
+/// Notes what was written at the id, if anything was.
+fn note(
+    writes: &mut Writes,
+    city: &City,
+    images: &Images,
+    alloc: Global,
+    id: &Id,
+) -> Result<(), OutOfMemory>
+    ensures noted { OnOk result ((q : List ℕ) → get (slice_cmp nat_cmp) writes.new q
+        ≡ (if same_id id.now q then or_else (written_at (at city.now.1 id.now) (get (slice_cmp nat_cmp) images.now id.now)) (get (slice_cmp nat_cmp) writes.old q) else get (slice_cmp nat_cmp) writes.old q)) }
+    ensures ordered { IsOrdered (slice_cmp nat_cmp) writes.old → IsOrdered (slice_cmp nat_cmp) writes.new }
+{
+    let Some(image) = images.get(id) else {
+        return Ok(());
+    };
+    if image.fresh {
+        return Ok(());
+    }
+    let object = if image.gone {
+        None
+    } else {
+        copy_at(city, alloc, id)?
+    };
+    writes.insert(id.copy(alloc)?, object)?;
+    Ok(())
+}
+
+/// A copy of the object at the id, if there is one.
+fn copy_at(city: &City, alloc: Global, id: &Id) -> Result<Option<Object>, OutOfMemory>
+    ensures { IfOk result (λ object. object ≡ at city.now.1 id.now) }
+{
+    match city.get(id) {
+        Some(object) => Ok(Some(object.copy(alloc)?)),
+        None => Ok(None),
+    }
+}
+
+/// The writes as a list.
+fn in_order(alloc: Global, mut writes: Writes) -> Result<Change, OutOfMemory>
+    ensures { IfOk result (λ change. change ≡ writes.entries) }
+{
+    let mut change = Sequence::new(alloc);
+    while let Some(write) = writes.pop_first() {
+        change.push(write)?;
+    }
+    Ok(change)
+}
+
+/// The least id of an orphan among what was written; none where no object of it is one.
+pub fn orphan_in(change: &[(Id, Option<Object>)]) -> Option<&Id>
+    requires { IsStrictlySortedBy (slice_cmp nat_cmp) (keys_of change.now) }
+    ensures least { IfSome result (λ id. IsLeastOrphan (at (objects_in change.now)) id.now) }
+    ensures none { IfNone result (HasNoOrphan (at (objects_in change.now))) }
+{
+    let mut left = change;
+    while let [write, rest @ ..] = left {
+        if is_orphan_there(&write.1) {
+            return Some(&write.0);
+        }
+        left = rest;
+    }
+    None
+}
+
+/// Whether an orphan stands there.
+fn is_orphan_there(object: &Option<Object>) -> bool
+    ensures { result ≡ is_orphan_there object.now }
+{
+    match object {
+        Some(o) => is_orphan(o),
+        None => false,
+    }
+}

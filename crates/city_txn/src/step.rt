@@ -1,0 +1,34 @@
+//! What a transaction core answers.
+use city_model::change::Change;
+use city_model::command::{Cause, Reply};
+
+/// What came of a command.
+#[derive(Drop)]
+pub enum Step {
+    /// It was done, or refused: `Reply::Refused`, which changes nothing.
+    Done(Reply),
+    /// A lock of the command is held by younger transactions alone, which may be waited for.
+    Wait,
+    /// A lock of the command is held by an older transaction: the asker is to give up.
+    Die,
+}
+
+/// Whether a transaction may commit.
+#[derive(Drop)]
+pub enum Prepared {
+    /// It may, and this is what it writes: ids in byte order, each once.
+    Ready(Change),
+    /// It may not: its view has an orphan, and this names the least.
+    Refused(Cause),
+}
+
+/// Why a call wasn't carried out; causes are judged in this order.
+#[derive(Clone, Copy, Debug, PartialEq, Eq)]
+pub enum TxnFault {
+    /// No transaction of this stamp is open.
+    NotOpen(u64),
+    /// A transaction of this stamp is open already.
+    StampOpen(u64),
+    /// There was no memory.
+    OutOfMemory,
+}

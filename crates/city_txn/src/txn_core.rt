@@ -1,0 +1,219 @@
+//! The transaction core: strict two-phase locking over one city.
+ghost use Rattle.std.specs.Prelude.{◌≡◌, ◌==◌, ◌&&◌, ◌||◌, ℕ, List, [], None, true, false, Some, is_some, OnOk, OnErr, IfOk, IfErr, IsErr, IsOk, ◌↔◌, if◌then◌else◌};
+ghost use Rattle.city_model.specs.CityMap.{at};
+ghost use Rattle.city_model.specs.Meaning.{locks_of};
+ghost use Rattle.city_model.specs.Scripts.{is_end};
+ghost use Rattle.city_model.specs.Relations.{IsLawful, HasNoOrphan, IsSound};
+ghost use Rattle.city_locks.specs.declared.mode.Mode.{Mode};
+ghost use Rattle.city_locks.specs.Locks.{mode_of};
+ghost use Rattle.city_txn.specs.State.{write_of, is_by};
+ghost use Rattle.city_txn.specs.Standing.{Answered};
+ghost use Rattle.city_txn.specs.CoreState.{committed, view, is_open, IsOver};
+ghost use Rattle.city_txn.specs.Acting.{Acted};
+ghost use Rattle.city_txn.specs.Changing.{IsPrepared};
+ghost use Rattle.city_txn.specs.Locking.{first_answer, is_wait};
+
+use crate::changing::orphan_in;
+use crate::lock::lock;
+use crate::perform::perform;
+use crate::step::{Prepared, Step, TxnFault};
+use crate::store::Store;
+use crate::would_lock::would_lock;
+use city_locks::answer::Answer;
+use city_locks::table::LockTable;
+use city_model::city::City;
+use city_model::command::{Cause, Command};
+use city_model::copied::Copied;
+use std::alloc::Global;
+use std::marker::Model;
+
+/// A committed city and the open transactions on it.
+///
+/// Contracts see the committed city, and of each open transaction its writes and its locks. What a
+/// transaction sees is the committed city with its own writes.
+#[derive(Drop)]
+pub struct Core {
+    alloc: Global,
+    store: Store,
+    locks: LockTable,
+}
+
+impl Model for Core {
+    ghost use Rattle.city_txn.specs.CoreState.{CoreState};
+
+    ghost Value = { CoreState };
+
+    ghost use Rattle.std.specs.Coded.{codes};
+    ghost use Rattle.city_model.specs.DataCode.{coded_members};
+
+    ghost coded = { Prim.hlevel (codes, coded_members) };
+
+    ghost use Rattle.city_txn.specs.Core.{core_state, IsCore};
+
+    ghost view = { core_state };
+
+    ghost invariant = { IsCore };
+}
+
+impl Core {
+    /// A core over this city, with no transaction open. Takes no memory.
+    pub fn open(alloc: Global, city: City) -> Self
+        requires { IsLawful (at city.1) }
+        ensures { result ≡ record { frame = city.0; city = city.1; writes = []; opened = []; locks = [] } }
+    {
+        Core {
+            alloc,
+            store: Store::new(alloc, city),
+            locks: LockTable::new(alloc),
+        }
+    }
+
+    /// Opens a transaction, with no writes and no locks, and changes nothing else.
+    ///
+    /// `StampOpen` comes exactly where the stamp is open; then, and for want of memory, nothing
+    /// changes.
+    pub fn begin(&mut self, stamp: u64) -> Result<(), TxnFault>
+        ensures frame { self.new.frame ≡ self.old.frame }
+        ensures city { self.new.city ≡ self.old.city }
+        ensures writes { self.new.writes ≡ self.old.writes }
+        ensures locks { self.new.locks ≡ self.old.locks }
+        ensures opened { OnOk result ((t : ℕ) → is_open self.new t ≡ ((stamp == t) || is_open self.old t)) }
+        ensures unlocked { OnOk result ((id : List ℕ) → mode_of self.new.locks stamp id ≡ None) }
+        ensures unwritten { OnOk result ((id : List ℕ) → is_by stamp (write_of self.new.writes id) ≡ false) }
+        ensures err { OnErr result (self.new ≡ self.old) }
+        ensures fault { IfErr result (λ fault. fault ≡ (if is_open self.old stamp then TxnFault.StampOpen stamp else TxnFault.OutOfMemory)) }
+        ensures stamp_open { is_open self.old stamp ≡ true → IsErr result }
+    {
+        if self.store.is_open(stamp) {
+            return Err(TxnFault::StampOpen(stamp));
+        }
+        let Ok(()) = self.store.begin(self.alloc, stamp) else {
+            return Err(TxnFault::OutOfMemory);
+        };
+        Ok(())
+    }
+
+    /// Does a command in the transaction, under its locks, or says why not.
+    ///
+    /// `Wait` and `Die` come where a lock isn't granted, by the answer of the first such lock; the
+    /// locks before it are held, and the transaction stays open. A refused command is done: its
+    /// reply is `Refused`, and it changes nothing. `NotOpen` comes exactly where the stamp isn't
+    /// open, and changes nothing. After `OutOfMemory` the transaction is open as before, and may
+    /// have gained locks of the command.
+    pub fn act(&mut self, stamp: u64, command: &Command) -> Result<Step, TxnFault>
+        requires { is_end command.now ≡ false }
+        ensures { Acted stamp command.now result self.old self.new }
+    {
+        if !self.store.is_open(stamp) {
+            return Err(TxnFault::NotOpen(stamp));
+        }
+        let Ok(answer) = lock(&mut self.locks, &self.store, stamp, command) else {
+            return Err(TxnFault::OutOfMemory);
+        };
+        match answer {
+            Answer::Wait => return Ok(Step::Wait),
+            Answer::Die => return Ok(Step::Die),
+            Answer::Granted => {}
+        }
+        let Ok(reply) = perform(&mut self.store, self.alloc, stamp, command) else {
+            return Err(TxnFault::OutOfMemory);
+        };
+        Ok(Step::Done(reply))
+    }
+
+    /// Whether `act` would answer `Wait`, want of memory aside: false where the stamp isn't open.
+    /// Takes no memory.
+    pub fn would_wait(&self, stamp: u64, command: &Command) -> bool
+        requires { is_end command.now ≡ false }
+        ensures { result ≡ (is_open self.now stamp && is_wait (first_answer self.now.locks stamp (locks_of (view self.now stamp) command.now))) }
+    {
+        if !self.store.is_open(stamp) {
+            return false;
+        }
+        match would_lock(&self.locks, &self.store, stamp, command) {
+            Answer::Wait => true,
+            Answer::Granted | Answer::Die => false,
+        }
+    }
+
+    /// Finds whether the transaction may commit, and what it writes then. Changes nothing.
+    ///
+    /// `Ready` gives the change: what the transaction wrote, which turns the committed city into
+    /// its view. `Refused` comes exactly where the view has an orphan, and names the least.
+    /// `NotOpen` comes exactly where the stamp isn't open.
+    pub fn prepare(&self, stamp: u64) -> Result<Prepared, TxnFault>
+        ensures prepared { IfOk result (IsPrepared self.now stamp) }
+        ensures fault { IfErr result (λ fault. fault ≡ (if is_open self.now stamp then TxnFault.OutOfMemory else TxnFault.NotOpen stamp)) }
+        ensures not_open { is_open self.now stamp ≡ false → IsErr result }
+    {
+        if !self.store.is_open(stamp) {
+            return Err(TxnFault::NotOpen(stamp));
+        }
+        let Ok(change) = self.store.change(self.alloc, stamp) else {
+            return Err(TxnFault::OutOfMemory);
+        };
+        if let Some(id) = orphan_in(change.as_slice()) {
+            let Ok(id) = id.copy(self.alloc) else {
+                return Err(TxnFault::OutOfMemory);
+            };
+            return Ok(Prepared::Refused(Cause::Orphan(id)));
+        }
+        Ok(Prepared::Ready(change))
+    }
+
+    /// Makes the transaction's view the committed city, and gives its locks back. Takes no memory.
+    pub fn commit(&mut self, stamp: u64)
+        requires opened { is_open self.old stamp ≡ true }
+        requires no_orphan { HasNoOrphan (view self.old stamp) }
+        ensures city { (id : List ℕ) → committed self.new id ≡ view self.old stamp id }
+        ensures over { IsOver stamp self.old self.new }
+        ensures lawful { IsLawful (committed self.new) }
+    {
+        self.store.keep(stamp);
+        self.locks.release_all(stamp);
+    }
+
+    /// Undoes what the transaction wrote, and gives its locks back. Takes no memory.
+    ///
+    /// `NotOpen` comes exactly where the stamp isn't open, and then nothing changes.
+    pub fn abort(&mut self, stamp: u64) -> Result<(), TxnFault>
+        ensures city { (id : List ℕ) → committed self.new id ≡ committed self.old id }
+        ensures views { (t : ℕ) (id : List ℕ) → (stamp == t) ≡ false → view self.new t id ≡ view self.old t id }
+        ensures over { OnOk result (IsOver stamp self.old self.new) }
+        ensures err { OnErr result (self.new ≡ self.old) }
+        ensures fault { IfErr result (λ fault. fault ≡ TxnFault.NotOpen stamp) }
+        ensures opened { is_open self.old stamp ≡ true → IsOk result }
+        ensures not_open { is_open self.old stamp ≡ false → IsErr result }
+    {
+        if !self.store.is_open(stamp) {
+            return Err(TxnFault::NotOpen(stamp));
+        }
+        self.store.restore(stamp);
+        self.locks.release_all(stamp);
+        Ok(())
+    }
+
+    /// The committed city, or the core as it was where a transaction is open. Takes no memory.
+    pub fn into_city(self) -> Result<City, Core>
+        ensures city { IfOk result (λ city. city ≡ (self.frame, self.city)) }
+        ensures back { IfErr result (λ core. core ≡ self) }
+        ensures idle { IsOk result ↔ ((t : ℕ) → is_open self t ≡ false) }
+    {
+        if self.store.is_idle() {
+            Ok(self.store.into_city())
+        } else {
+            Err(self)
+        }
+    }
+
+    /// Whether a transaction of the stamp is open. Takes no memory.
+    pub fn is_open(&self, stamp: u64) -> bool
+        ensures opened { result ≡ is_open self.now stamp }
+        ensures committed { IsLawful (committed self.now) }
+        ensures views { (t : ℕ) → IsSound (view self.now t) }
+        ensures locked { (t : ℕ) (id : List ℕ) → is_by t (write_of self.now.writes id) ≡ true → mode_of self.now.locks t id ≡ Some Mode.Exclusive }
+        ensures open_only { (t : ℕ) (id : List ℕ) → is_some (mode_of self.now.locks t id) ≡ true → is_open self.now t ≡ true }
+    {
+        self.store.is_open(stamp)
+    }
+}

@@ -1,0 +1,61 @@
+-- Two runs of the same texts, in which each script had its memory, are the same.
+use Rattle.std.proofs.Common.{◌≡◌, ℕ, ◌+◌, List, [], ◌∷◌, ◌++◌, length, true, Some, ap, sym, subst, ◌∙◌}
+use Rattle.std.specs.Prelude.{not}
+use Rattle.std.proofs.lemmas.Bool.{and_parts, not-true}
+use Rattle.serde_json.specs.Data.{Data}
+use Rattle.city_model.specs.declared.end.End.{End}
+use Rattle.city_model.specs.CityMap.{Entries, at}
+use Rattle.city_model.specs.Runs.{Scripted, Fits}
+use Rattle.city_model.specs.SerialEnds.{is_no_memory, IsSerialFrom}
+use Rattle.city_model.proofs.Results.{serial_ends_are_unique}
+use Rattle.city_model.proofs.SameEntries.{same_entries}
+use Rattle.city_doc.specs.Canonical.{city_text}
+use Rattle.city_doc.specs.Documents.{CityValue, StandsForCity, city_of}
+use Rattle.city_doc.specs.Outputs.{IsOutput}
+use Rattle.city_doc.specs.Reports.{report_text}
+use Rattle.city_doc.specs.ScriptTexts.{StandsForScripts}
+use Rattle.city_doc.specs.ScriptTrees.{scripts_of}
+use Rattle.city_doc.specs.Texts.{IsText}
+use Rattle.cityed.specs.SerialRuns.{AreInTurn, IsSerialRun, had_memory, IsDecided}
+
+-- ---- a text stands for one value
+
+one_tree : (text : List ℕ) (d e : Data) → IsText text d → IsText text e → d ≡ e
+one_tree text d e h k = let both : Some d ≡ Some e = sym h.1 ∙ k.1 in cc
+
+one_city : (text : List ℕ) (a b : CityValue) → StandsForCity text a → StandsForCity text b → a ≡ b
+one_city text a b h k =
+    let both : Some a ≡ Some b = sym h.2 ∙ ap city_of (one_tree text h.0 k.0 h.1 k.1) ∙ k.2 in
+    cc
+
+one_list : (text : List ℕ) (a b : List Scripted) → StandsForScripts text a → StandsForScripts text b → a ≡ b
+one_list text a b h k =
+    let both : Some a ≡ Some b = sym h.2 ∙ ap scripts_of (one_tree text h.0 k.0 h.1 k.1) ∙ k.2 in
+    cc
+
+-- ---- ends in turn
+
+serial : (k : ℕ) (ends : List End) → AreInTurn k ends → had_memory ends ≡ true → IsSerialFrom k ends
+serial k [] turns had = tt
+serial k (e ∷ es) turns had =
+    let parts = and_parts (not (is_no_memory e.outcome)) (had_memory es) had in
+    (turns.0, turns.1, not-true (is_no_memory e.outcome) parts.0, serial (k + 1) es turns.2 parts.1)
+
+-- ---- one output
+
+one_output : (city : CityValue) (list : List Scripted) (ends : List End) (bytes written : List ℕ) → IsOutput city list ends bytes → IsOutput city list ends written → written ≡ bytes
+one_output city list ends bytes written h k =
+    let same : k.entries ≡ h.entries = same_entries k.entries h.entries k.model.ordered h.model.ordered (λ q. k.model.answers q ∙ sym (h.model.answers q)) in
+    k.text ∙ ap (λ (es : Entries). report_text ends ++ city_text (city.0, es) ++ 10 ∷ []) same ∙ sym h.text
+
+pub decided : (document scripts : List ℕ) (ends : List End) (bytes : List ℕ) → IsSerialRun document scripts ends bytes → IsDecided document scripts ends bytes
+decided document scripts ends bytes h had others written k too =
+    let city : k.city ≡ h.city = one_city document k.city h.city k.stands_for_city h.stands_for_city in
+    let list : k.list ≡ h.list = one_list scripts k.list h.list k.stands_for_scripts h.stands_for_scripts in
+    let fits : Fits h.list (at h.city.1) others =
+    subst (λ (c : CityValue). Fits h.list (at c.1) others) city (subst (λ (l : List Scripted). Fits l (at k.city.1) others) list k.fits) in
+    let output : IsOutput h.city h.list others written =
+    subst (λ (c : CityValue). IsOutput c h.list others written) city (subst (λ (l : List Scripted). IsOutput k.city l others written) list k.output) in
+    let same : others ≡ ends =
+    serial_ends_are_unique h.list (at h.city.1) others ends (k.each_once ∙ ap length list) h.each_once (serial 0 others k.in_turn too) (serial 0 ends h.in_turn had) fits h.fits in
+    (same, one_output h.city h.list ends bytes written h.output (subst (λ (es : List End). IsOutput h.city h.list es written) same output))

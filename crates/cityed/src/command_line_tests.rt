@@ -1,0 +1,124 @@
+//! What command lines ask for, and what files give.
+use crate::command_line::{Asked, LineFault, asked_by};
+use crate::fault::ServeFault;
+use crate::fault_line::fault_line;
+use crate::files::read_file;
+use crate::serve_texts::serve_texts;
+use crate::told::Told;
+use std::alloc::{AllocError, Global};
+use std::fs;
+use std::test::Fail;
+
+/// What a command line asks for: a word and the names, or the first line of the text that is told.
+fn told(alloc: Global, line: &str) -> Result<String, AllocError> {
+    let mut words = Vec::new(alloc);
+    for word in line.split_whitespace() {
+        words.push(word.to_string(alloc)?)?;
+    }
+    match asked_by(alloc, words.as_slice()) {
+        Ok(Asked::Input) => "input".to_string(alloc),
+        Ok(Asked::Files(model, scripts)) => format!(in alloc; "files {model} {scripts}"),
+        Ok(Asked::Text(text)) => format!(in alloc; "text {}", first_line(text.as_str())),
+        Err(LineFault::Refused(text)) => format!(in alloc; "2 {}", first_line(text.as_str())),
+        Err(LineFault::OutOfMemory) => "out of memory".to_string(alloc),
+    }
+}
+
+fn first_line(text: &str) -> &str {
+    text.lines().next().unwrap_or("")
+}
+
+#[test]
+fn command_lines_ask_for_input_files_or_texts(rt: HostRuntime) -> Result<(), Fail> {
+    let cases = [
+        ("cityed", "input"),
+        ("cityed --", "input"),
+        ("cityed m.json s.json", "files m.json s.json"),
+        ("cityed -- -m -s", "files -m -s"),
+        ("cityed -V", "text cityed 0.1.0"),
+        ("cityed m.json --version", "text cityed 0.1.0"),
+        (
+            "cityed --help",
+            "text Edits a CityJSON 2.0 city model by scripts. Each script is done whole or not at all.",
+        ),
+        (
+            "cityed m.json",
+            "2 error: a MODEL was given without SCRIPTS",
+        ),
+        (
+            "cityed m.json s.json x",
+            "2 error: unexpected argument 'x' found",
+        ),
+        (
+            "cityed --workers 17",
+            "2 error: unexpected argument '--workers' found",
+        ),
+        (
+            "cityed m.json s.json --watch=1",
+            "2 error: unexpected argument '--watch' found",
+        ),
+        ("cityed -w", "2 error: unexpected argument '-w' found"),
+    ];
+    for (line, wanted) in cases {
+        assert_eq!(rt; told(rt.alloc(), line)?.as_str(), wanted);
+    }
+    Ok(())
+}
+
+const DOCUMENT: &str = concat!(
+    r#"{"CityObjects":{"f":{"type":"LandUse"}},"#,
+    r#""transform":{"scale":[1,1,1],"translate":[0,0,0]},"#,
+    r#""type":"CityJSON","version":"2.0","vertices":[]}"#
+);
+
+const SCRIPTS: &str = concat!(
+    r#"[{"name":"a","commands":[{"read":"f"},"#,
+    r#"{"put":"g","object":{"type":"Road","attributes":{"lanes":2}}},{"read":"h"},"commit"]},"#,
+    r#"{"name":"b","commands":[{"put":"f","object":"#,
+    r#"{"type":"LandUse","attributes":{"use":"park"}}},"abort"]}]"#
+);
+
+const OUTPUT: &str = concat!(
+    r#"{"name":"a","outcome":"committed","replies":"#,
+    r#"[{"found":{"object":{"type":"LandUse"},"vertices":[]}},"added","absent"],"#,
+    r#""script":0,"since":0}"#,
+    "\n",
+    r#"{"name":"b","outcome":"aborted","replies":["replaced"],"script":1,"since":1}"#,
+    "\n",
+    r#"{"CityObjects":{"f":{"type":"LandUse"},"g":{"attributes":{"lanes":2},"type":"Road"}},"#,
+    r#""transform":{"scale":[1,1,1],"translate":[0,0,0]},"#,
+    r#""type":"CityJSON","version":"2.0","vertices":[]}"#,
+    "\n"
+);
+
+#[test]
+fn two_texts_are_served_or_refused_in_their_order(rt: HostRuntime) -> Result<(), Fail> {
+    let cases = [
+        (DOCUMENT, SCRIPTS, "", OUTPUT),
+        ("{", "[", "cityed: model: 2 NotJson", ""),
+        (DOCUMENT, "[", "cityed: scripts: 2 NotJson", ""),
+        (DOCUMENT, "{}", "cityed: scripts: 4 NotScripts", ""),
+    ];
+    for (document, scripts, fault, output) in cases {
+        let mut written = Vec::new(rt.alloc());
+        let mut writer = Told::new(&mut written);
+        let texts = (document.as_bytes(), scripts.as_bytes());
+        let line = match serve_texts(rt.alloc(), texts.0, texts.1, &mut writer, 1, 0) {
+            Ok(_) => "".to_string(rt.alloc())?,
+            Err(fault) => fault_line(rt.alloc(), &fault)?,
+        };
+        assert_eq!(rt; line.as_str(), fault);
+        assert_eq!(rt; written.as_slice(), output.as_bytes());
+    }
+    Ok(())
+}
+
+#[test]
+fn a_file_gives_its_text_and_a_missing_one_cannot_be_read(rt: HostRuntime) -> Result<(), Fail> {
+    fs::write(&rt, "a_text", "[1, 2]")?;
+    let text = read_file(&rt, "a_text");
+    fs::remove_file(&rt, "a_text")?;
+    assert!(rt; matches!(&text, Ok(text) if text.as_slice() == "[1, 2]".as_bytes()));
+    assert!(rt; matches!(&read_file(&rt, "a_text"), Err(ServeFault::Read)));
+    Ok(())
+}

@@ -1,0 +1,50 @@
+//! Reads a text from a file.
+ghost use Rattle.std.specs.Prelude.{◌≡◌, true, take, IfOk, IfErr, IfSome, OnOk};
+ghost use Rattle.cityed.specs.Served.{IsReadFault};
+ghost use Rattle.cityed.specs.ServedTexts.{IsEnoughOf};
+
+use crate::fault::{RunFault, ServeFault};
+use crate::serve::read_at_most;
+use crate::told::Told;
+use std::alloc::Global;
+use std::fs;
+use std::fs::Files;
+use std::io::{ErrorKind, Read};
+
+/// The most bytes that are read of a text: by one more than it may have, a text that is too long is
+/// told from one that isn't.
+const MOST: usize = 67_108_865;
+
+/// The text that a file has, or where it is too long its first 67,108,865 bytes.
+///
+/// A file that can't be opened or read is the fault Read.
+pub fn read_file<R: Files + AllocGlobal>(rt: &R, path: &str) -> Result<Vec<u8>, ServeFault>
+    ensures { IfErr result (IsReadFault true) }
+{
+    match fs::open(rt, path) {
+        Ok(file) => read_text(rt.alloc(), &mut Told::new(file)),
+        Err(error) => Err(open_fault(error.kind())),
+    }
+}
+
+/// What the kind of an error in opening a file says.
+fn open_fault(kind: ErrorKind) -> ServeFault
+    ensures { IsReadFault true result }
+{
+    match kind {
+        ErrorKind::OutOfMemory => ServeFault::Run(RunFault::OutOfMemory),
+        _ => ServeFault::Read,
+    }
+}
+
+/// The text that a reader gives, or where it is too long its first 67,108,865 bytes.
+pub fn read_text<R: Read>(alloc: Global, reader: &mut Told<R>) -> Result<Vec<u8>, ServeFault>
+    ensures read { IfOk result (λ v. IfSome (R.remaining reader.old.0)
+        (λ all. v.items ≡ take 67108865 all)) }
+    ensures enough { IfOk result (λ v. IfSome (R.remaining reader.old.0)
+        (λ all. IsEnoughOf all v.items)) }
+    ensures unfailed { OnOk result (reader.new.1 ≡ reader.old.1) }
+    ensures fault { IfErr result (IsReadFault reader.new.1) }
+{
+    read_at_most(alloc, reader, MOST)
+}
