@@ -1,7 +1,7 @@
 -- A command reads and writes only what it locks.
 use Rattle.std.proofs.Common.{◌≡◌, ℕ, List, [], ◌∷◌, length, Bool, true, false, ◌||◌, Option, Some, None, refl, ap, sym, ◌∙◌}
 use Rattle.std.specs.Prelude.{◌==◌, if◌then◌else◌, map, option_map}
-use Rattle.std.proofs.lemmas.Bool.{false≢true, false_from_ne_true, true_from_ne_false}
+use Rattle.std.proofs.lemmas.Bool.{false≢true, false_from_ne_true}
 use Rattle.city_model.specs.declared.object.Object.{Object}
 use Rattle.city_model.specs.declared.command.Cause.{Cause}
 use Rattle.city_model.specs.declared.command.Cause.TheVariants.{HasChildren}
@@ -200,10 +200,6 @@ frame_law m n c s t a = record {
   written = λ id h. (a id (exclusive_is_named (locks_of m c) id h), same_after m n c id a h);
   kept = λ id h. (frame m c id s h, frame n c id t (sym (ap (λ ls. names_exclusively ls id) (same_locks m n c a)) ∙ h));
 }
-
--- what a command changes is locked exclusively
-pub changed_is_exclusive : (m : CityMap) (c : Command) (id : List ℕ) → IsSound m → (after m c id ≡ m id → ⊥) → names_exclusively (locks_of m c) id ≡ true
-changed_is_exclusive m c id s changes = true_from_ne_false (names_exclusively (locks_of m c) id) (λ h. changes (frame m c id s h))
 
 -- a delete changes its id and the object's parents alone
 pub deleted_at_parents : (m : CityMap) (id : List ℕ) (o : Object) (q : List ℕ) → IsSound m → m id ≡ Some o

@@ -18,13 +18,6 @@ pub sound_after_all : (m : CityMap) (cs : List Command) → IsSound m → IsSoun
 sound_after_all m [] s = s
 sound_after_all m (c ∷ cs) s = sound_after_all (after m c) cs (sound_after m c s)
 
--- what a script leaves of a sound map is sound
-pub sound_left : (m : CityMap) (cs : List Command) (o : Outcome) → IsSound m → IsSound (map_left m cs o)
-sound_left m cs Outcome.Committed s = sound_after_all m cs s
-sound_left m cs Outcome.Aborted s = s
-sound_left m cs (Outcome.Refused i cause) s = s
-sound_left m cs (Outcome.NoMemory i) s = s
-
 nothing_more : (cs : List Command) → is_empty_list cs ≡ true → cs ≡ []
 nothing_more [] h = refl
 nothing_more (c ∷ cs) h = absurd (false≢true h)

@@ -142,10 +142,6 @@ ends_from scripts m k (x ∷ es) (y ∷ fs) o h g =
     (subst (λ (n : CityMap). FitsFrom scripts n (k + 1) es) same h.2) g.2 in
     ap (λ z. z ∷ es) first ∙ ap (λ zs. y ∷ zs) rest
 
--- which scripts end in which order decides every reply and outcome, unless there was no memory
-pub ends_in_one_order_are_unique : (scripts : List Scripted) (m : CityMap) (es fs : List End) → AreInOneOrder es fs → Fits scripts m es → Fits scripts m fs → es ≡ fs
-ends_in_one_order_are_unique scripts m es fs o h g = ends_from scripts m 0 es fs o h g
-
 serial_order : (k : ℕ) (es fs : List End) → length es ≡ length fs → IsSerialFrom k es → IsSerialFrom k fs → AreInOneOrder es fs
 serial_order k [] [] e s t = tt
 serial_order k [] (y ∷ fs) e s t = absurd (omega arith)

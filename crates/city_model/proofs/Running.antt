@@ -1,11 +1,11 @@
 -- A script that is being run: its commands so far were answered and none was refused, and the next one goes on or ends it.
-use Rattle.std.proofs.Common.{◌≡◌, ℕ, ◌+◌, List, [], ◌∷◌, ◌++◌, length, take, refl, ap, sym, subst, ◌∙◌, arith}
+use Rattle.std.proofs.Common.{◌≡◌, ℕ, ◌+◌, List, [], ◌∷◌, ◌++◌, length, take, refl, ap, sym, ◌∙◌}
 use Rattle.city_model.specs.declared.command.Command.{Command}
 use Rattle.city_model.specs.declared.command.Reply.{Reply}
 use Rattle.city_model.specs.declared.end.Outcome.{Outcome}
 use Rattle.city_model.specs.CityMap.{CityMap}
 use Rattle.city_model.specs.Meaning.{after, reply_to}
-use Rattle.city_model.specs.Runs.{EndsAt, Continues, EndsFrom, HasResult, map_after, replies_to}
+use Rattle.city_model.specs.Runs.{Continues, EndsFrom, map_after, replies_to}
 
 -- the commands, run from m, get these replies, none of them a refusal, and none of the commands ends the script
 abbrev pub GoesOn : CityMap → List Command → List Reply → Type 0
@@ -24,18 +24,6 @@ goes_on_more m [] [] c r g h = (h, tt)
 goes_on_more m [] (s ∷ rs) c r g h = absurd g
 goes_on_more m (d ∷ cs) [] c r g h = absurd g
 goes_on_more m (d ∷ cs) (s ∷ rs) c r g h = (g.0, goes_on_more (after m d) cs rs c r g.1 h)
-
-ends_from : (m : CityMap) (i j : ℕ) (cs : List Command) (rs : List Reply) (c : Command) (rest : List Command) (o : Outcome) → j ≡ i + length cs → GoesOn m cs rs
-    → EndsAt (map_after m cs) c j o → EndsFrom m i (cs ++ c ∷ rest) rs o
-ends_from m i j [] [] c rest o e g h = let same : j ≡ i = omega arith in subst (λ k. EndsAt m c k o) same h
-ends_from m i j [] (r ∷ rs) c rest o e g h = absurd g
-ends_from m i j (d ∷ cs) [] c rest o e g h = absurd g
-ends_from m i j (d ∷ cs) (r ∷ rs) c rest o e g h = (g.0, ends_from (after m d) (i + 1) j cs rs c rest o (omega arith) g.1 h)
-
--- the command after those ends the script
-pub ends_after : (m : CityMap) (cs : List Command) (rs : List Reply) (c : Command) (rest : List Command) (o : Outcome) → GoesOn m cs rs
-    → EndsAt (map_after m cs) c (length cs) o → HasResult m (cs ++ c ∷ rest) rs o
-ends_after m cs rs c rest o g h = ends_from m 0 (length cs) cs rs c rest o (omega arith) g h
 
 -- the replies of a result are the first ones that the commands get
 pub replies_are_the_first : (m : CityMap) (i : ℕ) (cs : List Command) (rs : List Reply) (o : Outcome) → EndsFrom m i cs rs o → rs ≡ take (length rs) (replies_to m cs)

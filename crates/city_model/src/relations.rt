@@ -1,6 +1,7 @@
 //! Whether parents and children agree (CityJSON 2.0, section 2).
 ghost use Rattle.std.specs.Prelude.{◌≡◌, IfSome, IfNone};
 ghost use Rattle.city_model.specs.CityMap.{at, has_id, parents_of};
+ghost use Rattle.city_model.specs.Meaning.{is_wrong_family};
 ghost use Rattle.city_model.specs.Misrelated.{IsLeastMisrelated};
 ghost use Rattle.city_model.specs.RelationTests.{relatives_once, level_fits, parent_fits, parents_fit, children_fit, is_in_order, is_misrelated};
 ghost use Rattle.city_model.specs.Relations.{IsRelated, same_family};
@@ -31,6 +32,16 @@ pub fn relations_fault(city: &City) -> Option<&Id>
         }
     }
     None
+}
+
+/// Whether the first object can't be a child of the second: they are the same object, the child isn't
+/// second-level, or they are of different families (CityJSON 2.0, section 2).
+pub fn is_wrong_family(child: &Id, young: &Object, parent: &Id, old: &Object) -> bool
+    ensures { result ≡ is_wrong_family child.now young.now parent.now old.now }
+{
+    is_same_id(child, parent)
+        || level(young.body.kind) != 2
+        || !is_same_family(young.body.kind, old.body.kind)
 }
 
 /// Whether the object isn't in order, or is an orphan.

@@ -1,6 +1,5 @@
 //! What an attach and a detach plan to write.
 ghost use Rattle.std.specs.Prelude.{◌≡◌, ℕ, [], ◌∷◌, true, Some, IfOk};
-ghost use Rattle.city_model.specs.Meaning.{is_wrong_family};
 ghost use Rattle.city_model.specs.Relations.{IsSound};
 ghost use Rattle.city_model.specs.declared.command.Command.{Command};
 ghost use Rattle.city_txn.specs.State.{has_room, view};
@@ -13,9 +12,9 @@ use crate::writing::Planned;
 use city_model::OutOfMemory;
 use city_model::command::{Cause, Reply};
 use city_model::copied::Copied;
-use city_model::id_list::{has_id, is_same_id};
+use city_model::id_list::has_id;
 use city_model::object::Object;
-use city_model::object_type::{family, is_same, level};
+use city_model::relations::is_wrong_family;
 use city_model::text::Id;
 use std::alloc::Global;
 
@@ -73,15 +72,6 @@ pub fn plan_detach(
     let below = without_parent(alloc, parent, c)?;
     let above = without_child(alloc, child, p)?;
     Ok(Plan::Writes(Reply::Detached, two(alloc, child, below, parent, above)?))
-}
-
-/// Whether the child can't have this parent.
-fn is_wrong_family(child: &Id, c: &Object, parent: &Id, p: &Object) -> bool
-    ensures { result ≡ is_wrong_family child.now c.now parent.now p.now }
-{
-    is_same_id(child, parent)
-        || level(c.body.kind) != 2
-        || !is_same(family(c.body.kind), family(p.body.kind))
 }
 
 /// Two writes.

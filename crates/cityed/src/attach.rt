@@ -1,7 +1,7 @@
 //! What an attach does to a city.
 ghost use Rattle.std.specs.Prelude.{◌≡◌, false, IfOk, OnOk};
 ghost use Rattle.city_model.specs.CityMap.{at, same_id};
-ghost use Rattle.city_model.specs.Meaning.{attached, is_wrong_family};
+ghost use Rattle.city_model.specs.Meaning.{attached};
 ghost use Rattle.city_model.specs.declared.command.Command.{Command};
 ghost use Rattle.cityed.specs.Steps.{IsStep};
 
@@ -11,9 +11,8 @@ use city_model::OutOfMemory;
 use city_model::city::City;
 use city_model::command::{Cause, Reply};
 use city_model::copied::Copied;
-use city_model::id_list::{has_id, is_same_id};
-use city_model::object::Object;
-use city_model::object_type::{family, is_same, level};
+use city_model::id_list::has_id;
+use city_model::relations::is_wrong_family;
 use city_model::text::Id;
 use std::alloc::Global;
 
@@ -39,15 +38,6 @@ pub fn attach(alloc: Global, city: &mut City, child: Id, parent: Id) -> Result<S
     }
     add_both(alloc, city, child, parent)?;
     Ok(Step::Replied(Reply::Attached))
-}
-
-/// Whether the child can't have this parent.
-fn is_wrong_family(child: &Id, young: &Object, parent: &Id, old: &Object) -> bool
-    ensures { result ≡ is_wrong_family child.now young.now parent.now old.now }
-{
-    is_same_id(child, parent)
-        || level(young.body.kind) != 2
-        || !is_same(family(young.body.kind), family(old.body.kind))
 }
 
 /// Puts two objects that are not the same into each other's lists.
