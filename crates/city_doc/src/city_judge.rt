@@ -13,11 +13,10 @@ ghost use Rattle.city_doc.specs.LenientCities.{first_body, lesser, IsReadOf};
 
 use crate::fault::ReadFault;
 use crate::judge::named;
+use city_model::body_fault::{any_open_shell, any_same_twice, any_short_ring};
 use city_model::city::City;
-use city_model::object::{Body, Geometry};
+use city_model::object::Body;
 use city_model::relations::relations_fault;
-use city_model::rings::{has_same_twice, has_short_ring};
-use city_model::shells::has_open_shell;
 use city_model::text::Id;
 use std::alloc::{AllocError, Global};
 
@@ -56,29 +55,6 @@ fn is_bad_ringed(body: &Body) -> bool
 {
     let geometry = body.geometry.as_slice();
     any_short_ring(geometry) || any_same_twice(geometry)
-}
-
-fn any_short_ring(geometry: &[Geometry]) -> bool
-    ensures { result ≡ list_any (λ g. has_short_ring g.shape) geometry.now }
-{
-    geometry.iter().any(|g| has_short_ring(&g.shape))
-}
-
-fn any_same_twice(geometry: &[Geometry]) -> bool
-    ensures { result ≡ list_any (λ g. has_same_twice g.shape) geometry.now }
-{
-    geometry.iter().any(|g| has_same_twice(&g.shape))
-}
-
-fn any_open_shell(alloc: Global, geometry: &[Geometry]) -> Result<bool, AllocError>
-    ensures { IfOk result (λ b. b ≡ list_any (λ g. has_open_shell g.shape) geometry.now) }
-{
-    for g in geometry {
-        if has_open_shell(alloc, &g.shape)? {
-            return Ok(true);
-        }
-    }
-    Ok(false)
 }
 
 /// The first id, in byte order, of an object whose body has it.

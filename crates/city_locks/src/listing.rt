@@ -50,6 +50,7 @@ impl Ids {
         let _ = self.list.pop();
     }
 
+    /// The ids.
     pub fn as_slice(&self) -> &[Id]
         ensures { result.now ≡ self.now }
     {

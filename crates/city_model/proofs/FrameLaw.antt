@@ -1,6 +1,6 @@
 -- A command reads and writes only what it locks.
 use Rattle.std.proofs.Common.{◌≡◌, ℕ, List, [], ◌∷◌, length, Bool, true, false, ◌||◌, Option, Some, None, refl, ap, sym, ◌∙◌}
-use Rattle.std.specs.Prelude.{◌==◌, if◌then◌else◌, map, option_map}
+use Rattle.std.specs.Prelude.{◌==◌, if◌then◌else◌, option_map}
 use Rattle.std.proofs.lemmas.Bool.{false≢true, false_from_ne_true}
 use Rattle.city_model.specs.declared.object.Object.{Object}
 use Rattle.city_model.specs.declared.command.Cause.{Cause}
@@ -11,30 +11,10 @@ use Rattle.city_model.specs.CityMap.{CityMap, same_id, has_id, changed, parents_
 use Rattle.city_model.specs.Meaning.{read_reply, with_body, put_cause, put_done, delete_cause, attach_cause, detach_cause, without_child, without_parent, with_child, with_parent, deleted, cause_of, effect_of, done_reply, map_unless, refused_or, after, reply_to, exclusively, delete_locks, locks_of}
 use Rattle.city_model.specs.Shells.{body_fault}
 use Rattle.city_model.specs.Relations.{IsSound}
+use Rattle.city_model.specs.Standing.{Lock, exclusive_ids, names, names_exclusively}
 use Rattle.city_model.proofs.Changed.{neither_true, changed_apart, attached_apart, detached_apart, deleted_apart}
 use Rattle.city_model.proofs.Ids.{same_id_itself, same_id_back}
 use Rattle.city_model.proofs.IdLists.{bool_cases, not_both, or_left, or_right, without_absent}
-
--- an id, and whether it is locked exclusively
-abbrev pub Lock : Type 0
-Lock = List ℕ × Bool
-
--- the ids that are locked
-abbrev pub locked_ids : List Lock → List (List ℕ)
-locked_ids ls = map (λ l. l.0) ls
-
--- the ids that are locked exclusively
-abbrev pub exclusive_ids : List Lock → List (List ℕ)
-exclusive_ids [] = []
-exclusive_ids (l ∷ ls) = if l.1 then l.0 ∷ exclusive_ids ls else exclusive_ids ls
-
--- whether the locks name the id
-abbrev pub names : List Lock → List ℕ → Bool
-names ls id = has_id (locked_ids ls) id
-
--- whether they name it exclusively
-abbrev pub names_exclusively : List Lock → List ℕ → Bool
-names_exclusively ls id = has_id (exclusive_ids ls) id
 
 pub exclusive_is_named : (ls : List Lock) (id : List ℕ) → names_exclusively ls id ≡ true → names ls id ≡ true
 exclusive_is_named [] id h = h

@@ -1,39 +1,17 @@
 -- The commands of an open script over a map, and that they stay answered as they were while others write what it doesn't hold.
 use Rattle.std.proofs.Common.{◌≡◌, ℕ, List, [], ◌∷◌, ◌++◌, Bool, true, false, ◌||◌, Option, Some, None, refl, ap, sym, subst, ◌∙◌}
-use Rattle.std.specs.Prelude.{not, is_some}
+use Rattle.std.specs.Prelude.{is_some}
 use Rattle.std.proofs.lemmas.Bool.{false≢true, false_from_ne_true}
 use Rattle.city_model.specs.declared.command.Command.{Command}
 use Rattle.city_model.specs.declared.command.Reply.{Reply}
 use Rattle.city_model.specs.CityMap.{CityMap, same_id}
 use Rattle.city_model.specs.Meaning.{reply_to, after, locks_of}
 use Rattle.city_model.specs.Relations.{IsSound}
+use Rattle.city_model.specs.Standing.{Held, Lock, covers, AllHeld, Answered, Follows, names, names_exclusively}
 use Rattle.city_model.proofs.Ids.{same_id_true}
 use Rattle.city_model.proofs.IdLists.{bool_cases, not_both}
-use Rattle.city_model.proofs.FrameLaw.{Lock, names, names_exclusively, AgreeOn, frame, same_reply, same_locks, same_after}
+use Rattle.city_model.proofs.FrameLaw.{AgreeOn, frame, same_reply, same_locks, same_after}
 use Rattle.city_model.proofs.SoundAfter.{sound_after}
-
--- how a script holds each id: not, shared (false) or exclusively (true)
-abbrev pub Held : Type 0
-Held = List ℕ → Option Bool
-
--- the lock is held, in that mode or a stronger one
-abbrev pub covers : Option Bool → Bool → Bool
-covers None exclusive = false
-covers (Some true) exclusive = true
-covers (Some false) exclusive = not exclusive
-
-abbrev pub AllHeld : Held → List Lock → Type 0
-AllHeld held [] = Unit {0}
-AllHeld held (l ∷ ls) = (covers (held l.0) l.1 ≡ true) × AllHeld held ls
-
--- a command, and what it was answered
-abbrev pub Answered : Type 0
-Answered = Command × Reply
-
--- from the first map the commands get these replies, each with its locks held, and lead to the second
-abbrev pub Follows : Held → CityMap → List Answered → CityMap → Type 0
-Follows held m [] n = (q : List ℕ) → n q ≡ m q
-Follows held m (d ∷ ds) n = AllHeld held (locks_of m d.0) × (reply_to m d.0 ≡ d.1) × Follows held (after m d.0) ds n
 
 covered : (o : Option Bool) (b : Bool) → covers o b ≡ true → is_some o ≡ true
 covered None b h = absurd (false≢true h)

@@ -11,5 +11,6 @@ pub mod Runs
 pub mod Scripts
 pub mod SerialEnds
 pub mod Shells
+pub mod Standing
 pub mod Types
 pub mod Whole

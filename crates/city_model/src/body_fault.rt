@@ -29,19 +29,23 @@ pub fn body_fault(alloc: Global, body: &Body) -> Result<Option<Cause>, AllocErro
     Ok(None)
 }
 
-fn any_short_ring(geometry: &[Geometry]) -> bool
+/// Whether a surface of some geometry has no ring, or has a ring of fewer than three points. Takes no
+/// memory.
+pub fn any_short_ring(geometry: &[Geometry]) -> bool
     ensures { result ≡ list_any (λ g. has_short_ring g.shape) geometry.now }
 {
     geometry.iter().any(|g| has_short_ring(&g.shape))
 }
 
-fn any_same_twice(geometry: &[Geometry]) -> bool
+/// Whether a ring of some geometry has two equal neighbours. Takes no memory.
+pub fn any_same_twice(geometry: &[Geometry]) -> bool
     ensures { result ≡ list_any (λ g. has_same_twice g.shape) geometry.now }
 {
     geometry.iter().any(|g| has_same_twice(&g.shape))
 }
 
-fn any_open_shell(alloc: Global, geometry: &[Geometry]) -> Result<bool, AllocError>
+/// Whether a shell of some geometry is open.
+pub fn any_open_shell(alloc: Global, geometry: &[Geometry]) -> Result<bool, AllocError>
     ensures { IfOk result (λ b. b ≡ list_any (λ g. has_open_shell g.shape) geometry.now) }
 {
     for g in geometry {

@@ -4,6 +4,7 @@ ghost use Rattle.std.specs.Prelude.{◌≡◌, [], ◌∷◌, ◌++◌, length, 
 use std::alloc::{AllocError, Global};
 use std::marker::Model;
 
+/// A list of items, without its capacity.
 #[derive(Drop)]
 pub struct Sequence<T> {
     items: Vec<T>,
@@ -18,6 +19,7 @@ impl<T> Model for Sequence<T> {
 }
 
 impl<T> Sequence<T> {
+    /// A list of no items. Takes no memory.
     pub fn new(alloc: Global) -> Self
         ensures { result ≡ [] }
     {
@@ -26,30 +28,35 @@ impl<T> Sequence<T> {
         }
     }
 
+    /// The list of a vector's items, which it takes over. Takes no memory.
     pub fn from_vec(items: Vec<T>) -> Self
         ensures { result ≡ items.items }
     {
         Sequence { items }
     }
 
+    /// The items as a vector. Takes no memory.
     pub fn into_vec(self) -> Vec<T>
         ensures { result.items ≡ self }
     {
         self.items
     }
 
+    /// The items. Takes no memory.
     pub fn as_slice(&self) -> &[T]
         ensures { result.now ≡ self.now }
     {
         self.items.as_slice()
     }
 
+    /// How many items there are. Takes no memory.
     pub fn len(&self) -> usize
         ensures { result ≡ length self.now }
     {
         self.items.len()
     }
 
+    /// Adds an item at the end; want of memory leaves the list as it was, and drops the item.
     pub fn push(&mut self, item: T) -> Result<(), AllocError>
     where
         T: Drop,

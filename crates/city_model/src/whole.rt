@@ -30,8 +30,8 @@ fn are_whole(items: &Vec<Value>) -> bool
     true
 }
 
-#[cycle(whole)]
 /// Whether every number in the members is an `i64`.
+#[cycle(whole)]
 pub fn have_whole(members: &Map<String, Value>) -> bool
     ensures { result ≡ members_whole (members_view members.now.entries) }
 {

@@ -21,8 +21,9 @@ use Rattle.city_txn.specs.declared.step.Step.{Step}
 use Rattle.city_txn.specs.declared.step.Step.TheVariants as steps
 use Rattle.city_txn.specs.declared.step.TxnFault.{TxnFault}
 use Rattle.city_txn.specs.declared.step.TxnFault.TheVariants.{NotOpen, OutOfMemory}
+use Rattle.city_txn.specs.State as store
 use Rattle.city_txn.specs.State.{State, Write, write_of, own_or, is_by, has_room}
-use Rattle.city_txn.specs.Standing.{Lock, Answered, AllHeld, names, names_exclusively}
+use Rattle.city_model.specs.Standing.{Lock, Answered, AllHeld, names, names_exclusively}
 use Rattle.city_txn.specs.CoreState.{CoreState, view, is_open, held, held_in, Stands, IsConsistent}
 use Rattle.city_txn.specs.Core.{core_state, IsCore}
 use Rattle.city_txn.specs.Locking.{first_answer, granted_before, GainsFirst}
@@ -129,13 +130,22 @@ written_or : (s : ℕ) (b : Bool) (o : Option Object) (x : Option Write) → is_
 written_or s true o x = eq-eqb s s refl
 written_or s false o x = refl
 
--- a is the core before, ks the locks after they were granted
-module _ (a : Inside) (k : IsCore a) (s : ℕ) (c : Command) (o : is_open (core_state a) s ≡ true) (ks : Locks)
-    (gain : GainsFirst s (granted_before a.locks s (locks_of (view (core_state a) s) c)) a.locks ks)
-    (all : AllHeld (held_in ks s) (locks_of (view (core_state a) s) c))
-    (granted : first_answer a.locks s (locks_of (view (core_state a) s) c) ≡ Granted) where
+some_mode : (o : Option Mode) → is_some (option_map is_exclusive o) ≡ true → is_some o ≡ true
+some_mode None h = h
+some_mode (Some m) h = refl
+
+-- ---- a call, of a core that is seen as v: its locks are asked for, and ks are the locks then
+
+module _ (a : Inside) (k : IsCore a) {v : CoreState} (seen : core_state a ≡ v) (s : ℕ) (c : Command) (here : store.is_open a.store s ≡ true) (ks : Locks)
+    (gain : GainsFirst s (granted_before a.locks s (locks_of (view (core_state a) s) c)) a.locks ks) where
+  abbrev m : CityMap
+  m = view (core_state a) s
+
   abbrev locked : Inside
   locked = record a { locks = ks }
+
+  o : is_open (core_state a) s ≡ true
+  o = open_is a s ∙ here
 
   gained : LocksGained s gain.gained (core_state a) (core_state locked)
   gained = record { frame = λ i. a.store.frame; city = λ q. refl; writes = λ q. refl; opened = λ t. refl; locks = gain.locks; lawful = gain.locks.lawful k.state.lawful }
@@ -143,137 +153,125 @@ module _ (a : Inside) (k : IsCore a) (s : ℕ) (c : Command) (o : is_open (core_
   consistent : IsConsistent (core_state locked)
   consistent = gained_consistent s gain.gained (core_state a) (core_state locked) k.state o gained
 
-  mine : (q : List ℕ) → names_exclusively (locks_of (view (core_state a) s) c) q ≡ true → mode_of ks s q ≡ Some Exclusive
-  mine q h = held_exclusively (mode_of ks s q) (history.held_exclusively (held_in ks s) (locks_of (view (core_state a) s) c) q all h)
-
   kept_mode : (t : ℕ) (q : List ℕ) → mode_of a.locks t q ≡ Some Exclusive → mode_of ks t q ≡ Some Exclusive
   kept_mode = exclusive_gained s gain.gained (core_state a) (core_state locked) gained
 
-  -- who has room at an id that s holds is s
-  pub alone : (q : List ℕ) → is_some (mode_of ks s q) ≡ true → (t : ℕ) → has_room a.store t q ≡ true → t ≡ s
-  alone q h t r = elim (cases_eq t s) [
-    | inl e ↦ e
-    | inr e ↦ absurd (false≢true (ap is_some (sym (gain.locks.lawful k.state.lawful t s q e (kept_mode t q (k.room t q r)))) ∙ h))
-  ]
+  pub asked_core : IsCore locked
+  asked_core = record { state = consistent; room = λ t q h. kept_mode t q (k.room t q h) }
 
-  -- the store afterwards is st, with room as it was or for s at ids that it holds exclusively
-  module _ (st : State)
-      (room : (t : ℕ) (q : List ℕ) → has_room st t q ≡ true → (has_room a.store t q || ((s == t) && names_exclusively (locks_of (view (core_state a) s) c) q)) ≡ true) where
-    room_held : (t : ℕ) (q : List ℕ) → has_room st t q ≡ true → mode_of ks t q ≡ Some Exclusive
-    room_held t q h = or_cases (has_room a.store t q) ((s == t) && names_exclusively (locks_of (view (core_state a) s) c) q) (room t q h)
-        (λ e. kept_mode t q (k.room t q e))
-        (λ e. let both = and_cases (s == t) (names_exclusively (locks_of (view (core_state a) s) c) q) e in
-        ap (λ u. mode_of ks u q) (sym (eqb-true s t both.0)) ∙ mine q both.1)
+  -- no command is done: it failed or isn't granted, and w is the core then
+  stopped : (result : Result Step TxnFault) (w : CoreState) → LocksGained s gain.gained (core_state a) w → is_done result ≡ false →
+      IfOk result (λ step. step ≡ step_of (first_answer a.locks s (locks_of m c)) (reply_to m c)) →
+      IfErr result (λ e. e ≡ OutOfMemory) → GainsFirst s (granted_before a.locks s (locks_of m c)) a.locks w.locks →
+      OnOk result (AllHeld (held w s) (granted_before a.locks s (locks_of m c))) → Acted s c result v w
+  stopped result w g idle step fault gains held = subst (λ u. Acted s c result u w) seen (not_done s c result (core_state a) w gain.gained g idle step
+      (subst (λ f. IfErr result (λ e. e ≡ f)) (sym (ap (λ b. if b then OutOfMemory else NotOpen s) o)) fault) (λ f. absurd (false≢true (sym f ∙ o))) gains held)
 
-  module _ {E : Type 0} (e : E) (st : State) (p : Performed s c (Err e) a.store st) where
-    failed : LocksGained s gain.gained (core_state a) (core_state (record a { store = st; locks = ks }))
-    failed = record {
-      frame = p.frame;
-      city = p.city;
-      writes = p.writes;
-      opened = λ t. open_is (record a { store = st; locks = ks }) t ∙ p.opened t ∙ sym (open_is a t);
-      locks = gain.locks;
-      lawful = gain.locks.lawful k.state.lawful;
-    }
+  pub asked_failed : Acted s c (Err OutOfMemory) v (core_state locked)
+  asked_failed = stopped (Err OutOfMemory) (core_state locked) gained refl tt refl gain tt
 
-    pub failed_core : IsCore (record a { store = st; locks = ks })
-    failed_core = record {
-      state = gained_consistent s gain.gained (core_state a) (core_state (record a { store = st; locks = ks })) k.state o failed;
-      room = room_held st p.room;
-    }
+  module _ (before : AllHeld (held_in ks s) (granted_before a.locks s (locks_of m c))) where
+    pub asked_wait : first_answer a.locks s (locks_of m c) ≡ Wait → Acted s c (Ok steps.Wait) v (core_state locked)
+    asked_wait e = stopped (Ok steps.Wait) (core_state locked) gained refl (sym (ap (λ b. step_of b (reply_to m c)) e)) tt gain before
 
-    pub failed_acted : Acted s c (Err OutOfMemory) (core_state a) (core_state (record a { store = st; locks = ks }))
-    failed_acted = not_done s c (Err OutOfMemory) (core_state a) (core_state (record a { store = st; locks = ks })) gain.gained failed refl tt
-        (sym (ap (λ b. if b then OutOfMemory else NotOpen s) o)) (λ f. absurd (false≢true (sym f ∙ o))) gain tt
+    pub asked_die : first_answer a.locks s (locks_of m c) ≡ Die → Acted s c (Ok steps.Die) v (core_state locked)
+    asked_die e = stopped (Ok steps.Die) (core_state locked) gained refl (sym (ap (λ b. step_of b (reply_to m c)) e)) tt gain before
 
-  module _ {E : Type 0} (r : Reply) (st : State) (p : Performed {E = E} s c (Ok r) a.store st) where
-    write_there : (q : List ℕ) → writes_id (view (core_state a) s) c q ≡ true → write_of st.writes q ≡ Some (s, after (view (core_state a) s) c q)
-    write_there q e = p.writes q ∙ ap (λ b. if b then Some (s, after (view (core_state a) s) c q) else write_of a.store.writes q) e
+    -- ---- all locks are granted, and the command is done on the store
+    module _ (granted : first_answer a.locks s (locks_of m c) ≡ Granted) where
+      all : AllHeld (held_in ks s) (locks_of m c)
+      all = subst (AllHeld (held_in ks s)) (all_granted a.locks s (locks_of m c) granted) before
 
-    write_apart : (q : List ℕ) → writes_id (view (core_state a) s) c q ≡ false → write_of st.writes q ≡ write_of a.store.writes q
-    write_apart q e = p.writes q ∙ ap (λ b. if b then Some (s, after (view (core_state a) s) c q) else write_of a.store.writes q) e
+      mine : (q : List ℕ) → names_exclusively (locks_of m c) q ≡ true → mode_of ks s q ≡ Some Exclusive
+      mine q h = held_exclusively (mode_of ks s q) (history.held_exclusively (held_in ks s) (locks_of m c) q all h)
 
-    written_mine : (q : List ℕ) → writes_id (view (core_state a) s) c q ≡ true → mode_of ks s q ≡ Some Exclusive
-    written_mine q e = mine q (writes_is_named (cause_of (view (core_state a) s) c) (names_exclusively (locks_of (view (core_state a) s) c) q) e)
+      -- no other than s has room at an id that the locks name
+      pub alone_named : (q : List ℕ) → names (locks_of m c) q ≡ true → (t : ℕ) → has_room a.store t q ≡ true → t ≡ s
+      alone_named q h t r = elim (cases_eq t s) [
+        | inl e ↦ e
+        | inr e ↦ absurd (false≢true (ap is_some (sym (gain.locks.lawful k.state.lawful t s q e (kept_mode t q (k.room t q r))))
+            ∙ some_mode (mode_of ks s q) (history.held_named (held_in ks s) (locks_of m c) q all h)))
+      ]
 
-    no_other : (t : ℕ) (q : List ℕ) → (s == t) ≡ false → writes_id (view (core_state a) s) c q ≡ true → (y : Write) → write_of a.store.writes q ≡ Some y → (y.0 == t) ≡ false
-    no_other t q ne e y f = bool_cases (y.0 == t)
-        (λ g. none_exclusive (sym (gain.locks.lawful k.state.lawful s t q (eqb-false s t ne) (written_mine q e)) ∙ ap (λ u. mode_of ks u q) (sym (eqb-true y.0 t g)) ∙ kept_mode y.0 q (k.state.locked q y f)))
-        (λ g. g)
+      -- the store afterwards is st, with room as it was or for s at ids that it holds exclusively
+      module _ (st : State)
+          (room : (t : ℕ) (q : List ℕ) → has_room st t q ≡ true → (has_room a.store t q || ((s == t) && names_exclusively (locks_of m c) q)) ≡ true) where
+        room_held : (t : ℕ) (q : List ℕ) → has_room st t q ≡ true → mode_of ks t q ≡ Some Exclusive
+        room_held t q h = or_cases (has_room a.store t q) ((s == t) && names_exclusively (locks_of m c) q) (room t q h)
+            (λ e. kept_mode t q (k.room t q e))
+            (λ e. let both = and_cases (s == t) (names_exclusively (locks_of m c) q) e in
+            ap (λ u. mode_of ks u q) (sym (eqb-true s t both.0)) ∙ mine q both.1)
 
-    performed : CommandDone s c r (core_state locked) (core_state (record a { store = st; locks = ks }))
-    performed = record {
-      frame = p.frame;
-      city = p.city;
-      own = λ q. bool_cases (writes_id (view (core_state a) s) c q)
-          (λ e. ap (λ w. own_or s w (at st.city q)) (write_there q e) ∙ ap (λ b. if b then after (view (core_state a) s) c q else at st.city q) (eq-eqb s s refl))
-          (λ e. ap (λ w. own_or s w (at st.city q)) (write_apart q e) ∙ ap (own_or s (write_of a.store.writes q)) (p.city q)
-          ∙ sym (after_unwritten (view (core_state a) s) c q (sound_view (core_state a) s k.state) e));
-      others = λ t q ne. bool_cases (writes_id (view (core_state a) s) c q)
-          (λ e. ap (λ w. own_or t w (at st.city q)) (write_there q e) ∙ ap (λ b. if b then after (view (core_state a) s) c q else at st.city q) ne ∙ p.city q
-          ∙ sym (own_not t (write_of a.store.writes q) (at a.store.city q) (no_other t q ne e)))
-          (λ e. ap (λ w. own_or t w (at st.city q)) (write_apart q e) ∙ ap (own_or t (write_of a.store.writes q)) (p.city q));
-      locks = λ i. ks;
-      opened = λ t. open_is (record a { store = st; locks = ks }) t ∙ p.opened t ∙ sym (open_is locked t);
-      locked = λ q x f. bool_cases (writes_id (view (core_state a) s) c q)
-          (λ e. let g : (s, after (view (core_state a) s) c q) ≡ x = some_same (s, after (view (core_state a) s) c q) x (sym (write_there q e) ∙ f) in
-          ap (λ u. mode_of ks u q) (sym (ap (λ z. z.0) g)) ∙ written_mine q e)
-          (λ e. kept_mode x.0 q (k.state.locked q x (sym (write_apart q e) ∙ f)));
-      all_held = all;
-      reply = sym p.reply;
-      written = λ q. ap (is_by s) (p.writes q) ∙ written_or s (writes_id (view (core_state a) s) c q) (after (view (core_state a) s) c q) (write_of a.store.writes q);
-      unwritten = write_apart;
-    }
+      module _ {E : Type 0} (e : E) (st : State) (p : Performed s c (Err e) a.store st) where
+        failed : LocksGained s gain.gained (core_state a) (core_state (record a { store = st; locks = ks }))
+        failed = record {
+          frame = p.frame;
+          city = p.city;
+          writes = p.writes;
+          opened = λ t. open_is (record a { store = st; locks = ks }) t ∙ p.opened t ∙ sym (open_is a t);
+          locks = gain.locks;
+          lawful = gain.locks.lawful k.state.lawful;
+        }
 
-    pub performed_core : IsCore (record a { store = st; locks = ks })
-    performed_core = record {
-      state = done_consistent s c r (core_state locked) (core_state (record a { store = st; locks = ks })) performed consistent;
-      room = room_held st p.room;
-    }
+        pub failed_core : IsCore (record a { store = st; locks = ks })
+        failed_core = record {
+          state = gained_consistent s gain.gained (core_state a) (core_state (record a { store = st; locks = ks })) k.state o failed;
+          room = room_held st p.room;
+        }
 
-    pub performed_acted : Acted s c (Ok (steps.Done r)) (core_state a) (core_state (record a { store = st; locks = ks }))
-    performed_acted = acted_done s c r (core_state a) (core_state locked) (core_state (record a { store = st; locks = ks })) gain.gained o gained performed gain granted
+        pub failed_acted : Acted s c (Err OutOfMemory) v (core_state (record a { store = st; locks = ks }))
+        failed_acted = stopped (Err OutOfMemory) (core_state (record a { store = st; locks = ks })) failed refl tt refl gain tt
 
-some_mode : (o : Option Mode) → is_some (option_map is_exclusive o) ≡ true → is_some o ≡ true
-some_mode None h = h
-some_mode (Some m) h = refl
+      module _ {E : Type 0} (r : Reply) (st : State) (p : Performed {E = E} s c (Ok r) a.store st) where
+        write_there : (q : List ℕ) → writes_id m c q ≡ true → write_of st.writes q ≡ Some (s, after m c q)
+        write_there q e = p.writes q ∙ ap (λ b. if b then Some (s, after m c q) else write_of a.store.writes q) e
 
--- where s holds all locks of the command, no other has room at an id that they name
-pub alone_named : (a : Inside) (k : IsCore a) (s : ℕ) (c : Command) (o : is_open (core_state a) s ≡ true) (ks : Locks)
-    (gain : GainsFirst s (granted_before a.locks s (locks_of (view (core_state a) s) c)) a.locks ks)
-    (all : AllHeld (held_in ks s) (locks_of (view (core_state a) s) c))
-    (granted : first_answer a.locks s (locks_of (view (core_state a) s) c) ≡ Granted) →
-    (q : List ℕ) → names (locks_of (view (core_state a) s) c) q ≡ true → (t : ℕ) → has_room a.store t q ≡ true → t ≡ s
-alone_named a k s c o ks gain all granted q h =
-    alone a k s c o ks gain all granted q (some_mode (mode_of ks s q) (history.held_named (held_in ks s) (locks_of (view (core_state a) s) c) q all h))
+        write_apart : (q : List ℕ) → writes_id m c q ≡ false → write_of st.writes q ≡ write_of a.store.writes q
+        write_apart q e = p.writes q ∙ ap (λ b. if b then Some (s, after m c q) else write_of a.store.writes q) e
 
--- ---- locks asked for, and no command done
+        written_mine : (q : List ℕ) → writes_id m c q ≡ true → mode_of ks s q ≡ Some Exclusive
+        written_mine q e = mine q (writes_is_named (cause_of m c) (names_exclusively (locks_of m c) q) e)
 
-module _ (a : Inside) (k : IsCore a) (s : ℕ) (c : Command) (o : is_open (core_state a) s ≡ true) (ks : Locks)
-    (gain : GainsFirst s (granted_before a.locks s (locks_of (view (core_state a) s) c)) a.locks ks) where
-  asked : LocksGained s gain.gained (core_state a) (core_state (record a { locks = ks }))
-  asked = record { frame = λ i. a.store.frame; city = λ q. refl; writes = λ q. refl; opened = λ t. refl; locks = gain.locks; lawful = gain.locks.lawful k.state.lawful }
+        no_other : (t : ℕ) (q : List ℕ) → (s == t) ≡ false → writes_id m c q ≡ true → (y : Write) → write_of a.store.writes q ≡ Some y → (y.0 == t) ≡ false
+        no_other t q ne e y f = bool_cases (y.0 == t)
+            (λ g. none_exclusive (sym (gain.locks.lawful k.state.lawful s t q (eqb-false s t ne) (written_mine q e)) ∙ ap (λ u. mode_of ks u q) (sym (eqb-true y.0 t g)) ∙ kept_mode y.0 q (k.state.locked q y f)))
+            (λ g. g)
 
-  pub asked_core : IsCore (record a { locks = ks })
-  asked_core = record {
-    state = gained_consistent s gain.gained (core_state a) (core_state (record a { locks = ks })) k.state o asked;
-    room = λ t q h. exclusive_gained s gain.gained (core_state a) (core_state (record a { locks = ks })) asked t q (k.room t q h);
-  }
+        performed : CommandDone s c r (core_state locked) (core_state (record a { store = st; locks = ks }))
+        performed = record {
+          frame = p.frame;
+          city = p.city;
+          own = λ q. bool_cases (writes_id m c q)
+              (λ e. ap (λ w. own_or s w (at st.city q)) (write_there q e) ∙ ap (λ b. if b then after m c q else at st.city q) (eq-eqb s s refl))
+              (λ e. ap (λ w. own_or s w (at st.city q)) (write_apart q e) ∙ ap (own_or s (write_of a.store.writes q)) (p.city q)
+              ∙ sym (after_unwritten m c q (sound_view (core_state a) s k.state) e));
+          others = λ t q ne. bool_cases (writes_id m c q)
+              (λ e. ap (λ w. own_or t w (at st.city q)) (write_there q e) ∙ ap (λ b. if b then after m c q else at st.city q) ne ∙ p.city q
+              ∙ sym (own_not t (write_of a.store.writes q) (at a.store.city q) (no_other t q ne e)))
+              (λ e. ap (λ w. own_or t w (at st.city q)) (write_apart q e) ∙ ap (own_or t (write_of a.store.writes q)) (p.city q));
+          locks = λ i. ks;
+          opened = λ t. open_is (record a { store = st; locks = ks }) t ∙ p.opened t ∙ sym (open_is locked t);
+          locked = λ q x f. bool_cases (writes_id m c q)
+              (λ e. let g : (s, after m c q) ≡ x = some_same (s, after m c q) x (sym (write_there q e) ∙ f) in
+              ap (λ u. mode_of ks u q) (sym (ap (λ z. z.0) g)) ∙ written_mine q e)
+              (λ e. kept_mode x.0 q (k.state.locked q x (sym (write_apart q e) ∙ f)));
+          all_held = all;
+          reply = sym p.reply;
+          written = λ q. ap (is_by s) (p.writes q) ∙ written_or s (writes_id m c q) (after m c q) (write_of a.store.writes q);
+          unwritten = write_apart;
+        }
 
-  pub asked_failed : Acted s c (Err OutOfMemory) (core_state a) (core_state (record a { locks = ks }))
-  asked_failed = not_done s c (Err OutOfMemory) (core_state a) (core_state (record a { locks = ks })) gain.gained asked refl tt
-      (sym (ap (λ b. if b then OutOfMemory else NotOpen s) o)) (λ f. absurd (false≢true (sym f ∙ o))) gain tt
+        pub performed_core : IsCore (record a { store = st; locks = ks })
+        performed_core = record {
+          state = done_consistent s c r (core_state locked) (core_state (record a { store = st; locks = ks })) performed consistent;
+          room = room_held st p.room;
+        }
 
-  module _ (before : AllHeld (held_in ks s) (granted_before a.locks s (locks_of (view (core_state a) s) c))) where
-    pub asked_wait : first_answer a.locks s (locks_of (view (core_state a) s) c) ≡ Wait → Acted s c (Ok steps.Wait) (core_state a) (core_state (record a { locks = ks }))
-    asked_wait e = not_done s c (Ok steps.Wait) (core_state a) (core_state (record a { locks = ks })) gain.gained asked refl
-        (sym (ap (λ b. step_of b (reply_to (view (core_state a) s) c)) e)) tt (λ f. absurd (false≢true (sym f ∙ o))) gain before
-
-    pub asked_die : first_answer a.locks s (locks_of (view (core_state a) s) c) ≡ Die → Acted s c (Ok steps.Die) (core_state a) (core_state (record a { locks = ks }))
-    asked_die e = not_done s c (Ok steps.Die) (core_state a) (core_state (record a { locks = ks })) gain.gained asked refl
-        (sym (ap (λ b. step_of b (reply_to (view (core_state a) s) c)) e)) tt (λ f. absurd (false≢true (sym f ∙ o))) gain before
+        pub performed_acted : Acted s c (Ok (steps.Done r)) v (core_state (record a { store = st; locks = ks }))
+        performed_acted = subst (λ u. Acted s c (Ok (steps.Done r)) u (core_state (record a { store = st; locks = ks }))) seen
+            (acted_done s c r (core_state a) (core_state locked) (core_state (record a { store = st; locks = ks })) gain.gained o gained performed gain granted)
 
 -- a stamp that isn't open
-pub not_open_acted : (a : Inside) (k : IsCore a) (s : ℕ) (c : Command) → is_open (core_state a) s ≡ false → Acted s c (Err (NotOpen s)) (core_state a) (core_state a)
-not_open_acted a k s c e = not_done s c (Err (NotOpen s)) (core_state a) (core_state a) [] (nothing_gained s [] (core_state a) k.state.lawful) refl tt
-    (sym (ap (λ b. if b then OutOfMemory else NotOpen s) e)) (λ f. refl) (gains_nothing s (granted_before a.locks s (locks_of (view (core_state a) s) c)) a.locks) tt
+pub not_open_acted : (a : Inside) (k : IsCore a) {v : CoreState} (seen : core_state a ≡ v) (s : ℕ) (c : Command) → store.is_open a.store s ≡ false → Acted s c (Err (NotOpen s)) v v
+not_open_acted a k seen s c e = subst (λ u. Acted s c (Err (NotOpen s)) u u) seen (not_done s c (Err (NotOpen s)) (core_state a) (core_state a) [] (nothing_gained s [] (core_state a) k.state.lawful) refl tt
+    (sym (ap (λ b. if b then OutOfMemory else NotOpen s) (open_is a s ∙ e))) (λ f. refl) (gains_nothing s (granted_before a.locks s (locks_of (view (core_state a) s) c)) a.locks) tt)

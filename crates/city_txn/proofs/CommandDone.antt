@@ -13,7 +13,7 @@ use Rattle.city_model.proofs.History.{follows_more, follows_same}
 use Rattle.city_locks.specs.declared.mode.Mode.TheVariants.{Exclusive}
 use Rattle.city_locks.specs.Locks.{mode_of, Lawful}
 use Rattle.city_txn.specs.State.{Write, write_of, own_or, is_by}
-use Rattle.city_txn.specs.Standing.{Answered, AllHeld, Follows, covers}
+use Rattle.city_model.specs.Standing.{Answered, AllHeld, Follows, covers}
 use Rattle.city_txn.specs.CoreState.{CoreState, committed, view, is_open, held, held_in, Stands, IsConsistent}
 use Rattle.city_txn.specs.Acting.{writes_id}
 use Rattle.city_txn.proofs.Ended.{same_lawful, own_not, some_same}

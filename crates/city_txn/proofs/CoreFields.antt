@@ -16,7 +16,7 @@ use Rattle.city_locks.specs.declared.mode.Mode.TheVariants.{Exclusive}
 use Rattle.city_locks.specs.Locks.{Locks, mode_of, Lawful}
 use Rattle.city_txn.specs.State as store
 use Rattle.city_txn.specs.State.{State, Write, write_of, own_or, has_room, is_by, Forgets}
-use Rattle.city_txn.specs.Standing.{Answered, covers}
+use Rattle.city_model.specs.Standing.{Answered, covers}
 use Rattle.city_txn.specs.CoreState.{CoreState, committed, view, is_open, held, held_in, Stands, IsConsistent, IsOver}
 use Rattle.city_txn.specs.Core.{core_state, IsCore}
 use Rattle.city_txn.specs.declared.txn_core.Core.TheInside.{Inside}

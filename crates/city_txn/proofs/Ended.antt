@@ -12,7 +12,7 @@ use Rattle.city_locks.specs.declared.mode.Mode.TheVariants.{Exclusive}
 use Rattle.city_locks.specs.Mode.{is_exclusive}
 use Rattle.city_locks.specs.Locks.{mode_of, Lawful}
 use Rattle.city_txn.specs.State.{Write, write_of, own_or, unless_by}
-use Rattle.city_txn.specs.Standing.{Held, Answered, Follows, covers}
+use Rattle.city_model.specs.Standing.{Held, Answered, Follows, covers}
 use Rattle.city_txn.specs.CoreState.{CoreState, committed, view, is_open, held, Stands, IsConsistent}
 
 -- a map that is sound by another at each id

@@ -12,7 +12,7 @@ use Rattle.city_locks.specs.declared.answer.Answer.{Answer}
 use Rattle.city_locks.specs.declared.answer.Answer.TheVariants.{Granted, Wait, Die}
 use Rattle.city_locks.specs.Mode.{is_exclusive}
 use Rattle.city_locks.specs.Locks.{Locks, answer_of, Lawful}
-use Rattle.city_txn.specs.Standing.{AllHeld, Lock, locked_ids, names}
+use Rattle.city_model.specs.Standing.{AllHeld, Lock, locked_ids, names}
 use Rattle.city_txn.specs.CoreState.{held_in}
 use Rattle.city_txn.specs.Locking.{mode_for, go_on, first_answer, first_if, granted_before, MoreLocks, GainsFirst, Asked}
 use Rattle.city_txn.proofs.LocksGained.{Adds, no_more_locks, one_asked, asked_held, all_granted}

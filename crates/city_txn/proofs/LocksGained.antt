@@ -13,7 +13,7 @@ use Rattle.city_locks.specs.declared.answer.Answer.TheVariants.{Granted, Wait, D
 use Rattle.city_locks.specs.Mode.{is_exclusive, stronger}
 use Rattle.city_locks.specs.Locks.{Locks, mode_of, answer_of, Lawful}
 use Rattle.city_txn.specs.State.{write_of, own_or}
-use Rattle.city_txn.specs.Standing.{Lock, Answered, covers, names}
+use Rattle.city_model.specs.Standing.{Lock, Answered, covers, names}
 use Rattle.city_txn.specs.CoreState.{CoreState, committed, view, is_open, held, held_in, Stands, IsConsistent}
 use Rattle.city_txn.specs.Locking.{go_on, first_answer, first_if, granted_before, mode_for, MoreLocks}
 use Rattle.city_txn.proofs.Ended.{same_lawful}

@@ -17,7 +17,7 @@ use Rattle.city_model.proofs.Changed.{changed_there}
 use Rattle.city_model.proofs.Ids.{same_id_itself, same_id_back}
 use Rattle.city_model.proofs.IdLists.{or_right}
 use Rattle.city_txn.specs.declared.writing.Planned.{Planned}
-use Rattle.city_txn.specs.Standing.{names, names_exclusively}
+use Rattle.city_model.specs.Standing.{names, names_exclusively}
 use Rattle.city_txn.specs.Planning.{plans, AreOf, AreWritesOf, unlinked}
 
 -- ---- a put, where x stands at the id

@@ -11,7 +11,7 @@ use Rattle.city_txn.specs.declared.step.Step.TheVariants as steps
 use Rattle.city_txn.specs.declared.step.TxnFault.{TxnFault}
 use Rattle.city_txn.specs.declared.step.TxnFault.TheVariants.{NotOpen, OutOfMemory}
 use Rattle.city_txn.specs.State.{write_of, is_by}
-use Rattle.city_txn.specs.Standing.{Answered, AllHeld, names_exclusively}
+use Rattle.city_model.specs.Standing.{Answered, AllHeld, names_exclusively}
 use Rattle.city_txn.specs.CoreState.{CoreState, committed, view, is_open, held, Stands}
 use Rattle.city_txn.specs.Locking.{first_answer, granted_before, GainsFirst}
 

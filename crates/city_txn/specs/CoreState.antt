@@ -8,7 +8,7 @@ use Rattle.city_locks.specs.declared.mode.Mode.TheVariants.{Exclusive}
 use Rattle.city_locks.specs.Mode.{is_exclusive}
 use Rattle.city_locks.specs.Locks.{Locks, mode_of, Lawful}
 use Rattle.city_txn.specs.State.{Write, write_of, own_or, unless_by}
-use Rattle.city_txn.specs.Standing.{Held, Answered, Follows}
+use Rattle.city_model.specs.Standing.{Held, Answered, Follows}
 
 pub record CoreState : Type 0 where
   -- the committed city

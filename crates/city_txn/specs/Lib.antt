@@ -7,5 +7,4 @@ pub mod InPlace
 pub mod Locking
 pub mod Performing
 pub mod Planning
-pub mod Standing
 pub mod State

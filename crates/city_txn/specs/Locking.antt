@@ -5,7 +5,7 @@ use Rattle.city_locks.specs.declared.mode.Mode.TheVariants.{Shared, Exclusive}
 use Rattle.city_locks.specs.declared.answer.Answer.{Answer}
 use Rattle.city_locks.specs.declared.answer.Answer.TheVariants.{Granted, Wait, Die}
 use Rattle.city_locks.specs.Locks.{Locks, answer_of, mode_of, Lawful}
-use Rattle.city_txn.specs.Standing.{Lock, AllHeld, covers, names}
+use Rattle.city_model.specs.Standing.{Lock, AllHeld, covers, names}
 use Rattle.city_txn.specs.CoreState.{held_in}
 
 abbrev pub mode_for : Bool → Mode

@@ -4,7 +4,7 @@ use Rattle.city_model.specs.declared.command.Command.{Command}
 use Rattle.city_model.specs.declared.command.Reply.{Reply}
 use Rattle.city_model.specs.Meaning.{after, reply_to, locks_of}
 use Rattle.city_txn.specs.State.{State, write_of, has_room, is_open, committed, view}
-use Rattle.city_txn.specs.Standing.{names_exclusively}
+use Rattle.city_model.specs.Standing.{names_exclusively}
 use Rattle.city_txn.specs.Acting.{writes_id}
 
 pub record Performed {E : Type 0} (stamp : ℕ) (command : Command) (result : Result Reply E) (old new : State) : Type 0 where

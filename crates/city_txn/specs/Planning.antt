@@ -8,7 +8,7 @@ use Rattle.city_model.specs.Meaning.{cause_of, effect_of, done_reply, locks_of, 
 use Rattle.city_txn.specs.declared.writing.Planned.{Planned}
 use Rattle.city_txn.specs.declared.plan.Plan.{Plan}
 use Rattle.city_txn.specs.declared.plan.Plan.TheVariants.{Refused, Writes}
-use Rattle.city_txn.specs.Standing.{names_exclusively}
+use Rattle.city_model.specs.Standing.{names_exclusively}
 
 -- whether something is to stand at the id
 abbrev pub plans : List Planned → List ℕ → Bool

@@ -5,7 +5,7 @@ ghost use Rattle.city_model.specs.Meaning.{locks_of};
 ghost use Rattle.city_model.specs.Relations.{IsSound};
 ghost use Rattle.city_model.specs.declared.command.Command.{Command};
 ghost use Rattle.city_txn.specs.State.{has_room, view};
-ghost use Rattle.city_txn.specs.Standing.{names};
+ghost use Rattle.city_model.specs.Standing.{names};
 ghost use Rattle.city_txn.specs.Planning.{IsPlan, unlinked};
 
 use crate::objects::without_child;

@@ -4,7 +4,7 @@ ghost use Rattle.city_model.specs.Meaning.{locks_of};
 ghost use Rattle.city_model.specs.Relations.{IsSound};
 ghost use Rattle.city_model.specs.Scripts.{is_end};
 ghost use Rattle.city_txn.specs.State.{has_room, is_open, view};
-ghost use Rattle.city_txn.specs.Standing.{names};
+ghost use Rattle.city_model.specs.Standing.{names};
 ghost use Rattle.city_txn.specs.Performing.{Performed};
 
 use crate::plan::Plan;

@@ -1,7 +1,7 @@
 //! What a command, whose locks are held, plans to write.
 ghost use Rattle.std.specs.Prelude.{◌≡◌, ℕ, List, [], ◌∷◌, None, Some, true, false, IfOk};
 ghost use Rattle.city_model.specs.Meaning.{with_body, locks_of};
-ghost use Rattle.city_txn.specs.Standing.{names};
+ghost use Rattle.city_model.specs.Standing.{names};
 ghost use Rattle.city_model.specs.Relations.{IsSound};
 ghost use Rattle.city_model.specs.Scripts.{is_end};
 ghost use Rattle.city_model.specs.declared.command.Command.{Command};

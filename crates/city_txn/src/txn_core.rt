@@ -7,7 +7,7 @@ ghost use Rattle.city_model.specs.Relations.{IsLawful, HasNoOrphan, IsSound};
 ghost use Rattle.city_locks.specs.declared.mode.Mode.{Mode};
 ghost use Rattle.city_locks.specs.Locks.{mode_of};
 ghost use Rattle.city_txn.specs.State.{write_of, is_by};
-ghost use Rattle.city_txn.specs.Standing.{Answered};
+ghost use Rattle.city_model.specs.Standing.{Answered};
 ghost use Rattle.city_txn.specs.CoreState.{committed, view, is_open, IsOver};
 ghost use Rattle.city_txn.specs.Acting.{Acted};
 ghost use Rattle.city_txn.specs.Changing.{IsPrepared};

@@ -4,7 +4,7 @@ use Rattle.city_model.specs.Meaning.{locks_of}
 use Rattle.city_model.proofs.Ids.{same_id_itself}
 use Rattle.city_model.proofs.IdLists.{or_right}
 use Rattle.city_txn.specs.State.{view}
-use Rattle.city_txn.specs.Standing.{names}
+use Rattle.city_model.specs.Standing.{names}
 use Rattle.city_txn.proofs.planning.plan_of.Goals as goal
 
 pub plan_read-requires : goal.plan_read-requires
