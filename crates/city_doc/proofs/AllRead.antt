@@ -1,17 +1,14 @@
 -- Lists each of whose items is read.
-use Rattle.std.proofs.Common.{◌≡◌, ℕ, zero, suc, List, [], ◌∷◌, Bool, true, false, true≢false, Option, Some, None, ◌++◌, option_map, refl, sym, ap, ◌∙◌, append_assoc}
-use Rattle.std.specs.Prelude.{◌&&◌, option_and_then, slice_get}
+use Rattle.std.proofs.Common.{◌≡◌, ℕ, zero, suc, List, [], ◌∷◌, Bool, true, Option, Some, None, ◌++◌, option_map, refl, sym, ap, ◌∙◌, append_assoc}
+use Rattle.std.specs.Prelude.{option_and_then, slice_get}
 use Rattle.std.specs.List.{list_all}
+use Rattle.std.proofs.lemmas.Bool.{and_parts}
 use Rattle.city_doc.specs.ScriptTrees.{all_read}
-
-pub both : (a b : Bool) → (a && b) ≡ true → (a ≡ true) × (b ≡ true)
-both true b h = (refl, h)
-both false b h = absurd (true≢false (sym h))
 
 pub in_all : {A : Type 0} (test : A → Bool) (xs : List A) (n : ℕ) (x : A) → list_all test xs ≡ true → slice_get xs n ≡ Some x → test x ≡ true
 in_all test [] n x h at = absurd (let no : ⊥ = cc in no)
-in_all test (y ∷ ys) zero x h at = let is : Some y ≡ Some x = at in let same : y ≡ x = cc in ap test (sym same) ∙ (both (test y) (list_all test ys) h).0
-in_all test (y ∷ ys) (suc n) x h at = in_all test ys n x (both (test y) (list_all test ys) h).1 at
+in_all test (y ∷ ys) zero x h at = let is : Some y ≡ Some x = at in let same : y ≡ x = cc in ap test (sym same) ∙ (and_parts (test y) (list_all test ys) h).0
+in_all test (y ∷ ys) (suc n) x h at = in_all test ys n x (and_parts (test y) (list_all test ys) h).1 at
 
 -- what the list of a read item and the items read after it comes from
 read_step : {B : Type 0} (o : Option B) (r : Option (List B)) (ys : List B) → option_and_then (λ z. option_map (λ zs. z ∷ zs) r) o ≡ Some ys
@@ -48,7 +45,7 @@ pub all_read-all : {A B : Type 0} (read : A → Option B) (ok : A → Bool) (tes
 all_read-all read ok test one [] ys pass h = ap (list_all test) (all_read-nil read ys h)
 all_read-all read ok test one (x ∷ xs) ys pass h =
     let r = all_read-cons read x xs ys h in
-    let hs = both (ok x) (list_all ok xs) pass in
+    let hs = and_parts (ok x) (list_all ok xs) pass in
     let first : test r.0 ≡ true = one x r.0 hs.0 r.2 in
     let rest : list_all test r.1 ≡ true = all_read-all read ok test one xs r.1 hs.1 r.3 in
     rw (r.4, first) rest

@@ -1,8 +1,9 @@
 -- What commands stand for: how they end, and which stand for any.
-use Rattle.std.proofs.Common.{◌≡◌, ℕ, List, length, Bool, true, false, true≢false, Option, Some, None, option_map, refl, sym, ap, ◌∙◌}
+use Rattle.std.proofs.Common.{◌≡◌, ℕ, List, length, Bool, true, false, true≢false, Option, Some, None, option_map, refl, ap, ◌∙◌}
 use Rattle.std.specs.Prelude.{◌||◌, ◌==◌, not, option_and_then, codes, if◌then◌else◌}
 use Rattle.std.specs.Option.{option_or}
 use Rattle.std.specs.Str.{bytes_eq}
+use Rattle.std.proofs.lemmas.Bool.{not-true}
 use Rattle.serde_json.specs.Data.{Data, null, boolean, number, string, array, object, Members}
 use Rattle.serde_json.specs.Find.{get_member}
 use Rattle.city_model.specs.declared.object.Point.{Point}
@@ -60,10 +61,6 @@ members_end ms =
     members_hold (λ f. not (is_end_form f)) ms (λ id. refl) (λ id. refl) (λ p. refl) (λ p. refl)
     (map_holds (λ f. not (is_end_form f)) (λ (p : List ℕ × Data). PutForm p.0 p.1) _ (λ p. refl))
 
-not_true : (b : Bool) → not b ≡ true → b ≡ false
-not_true true h = absurd (true≢false (sym h))
-not_true false h = refl
-
 word_end : (a b : Bool) (f : CommandForm) → option_or (if a then Some CommitForm else (if b then Some AbortForm else None)) None ≡ Some f → is_end_form f ≡ (a || b)
 word_end true b f h = let is : f ≡ CommitForm = cc in ap is_end_form is
 word_end false true f h = let is : f ≡ AbortForm = cc in ap is_end_form is
@@ -71,7 +68,7 @@ word_end false false f h = absurd (let no : ⊥ = cc in no)
 
 object_end : (o : Option CommandForm) (f : CommandForm) → holds (λ g. not (is_end_form g)) o ≡ true → o ≡ Some f → is_end_form f ≡ false
 object_end None f h e = absurd (let no : ⊥ = cc in no)
-object_end (Some g) f h e = let is : f ≡ g = cc in ap is_end_form is ∙ not_true (is_end_form g) h
+object_end (Some g) f h e = let is : f ≡ g = cc in ap is_end_form is ∙ not-true (is_end_form g) h
 
 form_end : (d : Data) (f : CommandForm) → form_of d ≡ Some f → is_end_form f ≡ is_end_word d
 form_end null f h = absurd (let no : ⊥ = cc in no)

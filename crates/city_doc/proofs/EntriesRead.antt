@@ -7,6 +7,7 @@ use Rattle.std.specs.Map.{keys_of}
 use Rattle.std.specs.Ordering.{ordering_reverse}
 use Rattle.std.proofs.lemmas.Cmp.{nat_list_cmp_total}
 use Rattle.std.proofs.lemmas.List.Folds.{list_all-append}
+use Rattle.std.proofs.lemmas.Bool.{and_parts}
 use Rattle.serde_json.specs.Data.{Members, no_members, member, put}
 use Rattle.city_model.specs.CityMap.{Entries}
 use Rattle.city_model.specs.declared.object.Object.{Object}
@@ -15,7 +16,6 @@ use Rattle.city_doc.specs.Documents.{entries_of}
 use Rattle.city_doc.specs.Canonical.{object_data, with_objects}
 use Rattle.city_doc.specs.KeptMembers.{is_kept_object, are_kept_objects}
 use Rattle.city_doc.specs.Pool.{object_points}
-use Rattle.city_doc.proofs.AllRead.{both}
 use Rattle.city_doc.proofs.NumberedPoints.{is_in, are_in}
 use Rattle.city_doc.proofs.Objects.{middle, keys_of_push}
 use Rattle.city_doc.proofs.ObjectsRead.{object_read}
@@ -50,8 +50,8 @@ module _ (pool : List Point) where
   pub entries_read : (es : Entries) → length pool < 2 ^ 63 → are_kept_objects es ≡ true → are_in pool (flat_map (λ e. object_points e.1) es) ≡ true → entries_of pool (in_turn es) ≡ Some es
   entries_read [] small keeps points = refl
   entries_read (e ∷ es) small keeps points =
-      let kept = both (is_kept_object e.1) (are_kept_objects es) keeps in
-      let there = both (are_in pool (object_points e.1)) (are_in pool (flat_map (λ e. object_points e.1) es)) (sym (list_all-append (is_in pool) (object_points e.1) (flat_map (λ e. object_points e.1) es)) ∙ points) in
+      let kept = and_parts (is_kept_object e.1) (are_kept_objects es) keeps in
+      let there = and_parts (are_in pool (object_points e.1)) (are_in pool (flat_map (λ e. object_points e.1) es)) (sym (list_all-append (is_in pool) (object_points e.1) (flat_map (λ e. object_points e.1) es)) ∙ points) in
       let first = object_read pool e.1 small kept.0 there.0 in
       let rest = entries_read es small kept.1 there.1 in
       rw (first, rest) refl

@@ -1,10 +1,11 @@
 -- The trees of cities and of ends hold no float, where kept members are such as their places keep.
 use Rattle.std.proofs.Common.{◌≡◌, ℕ, ℤ, pos, negsuc, Bool, true, false, not, List, [], ◌∷◌, map, codes, refl, sym, ◌∙◌}
-use Rattle.std.specs.Prelude.{◌&&◌, ◌||◌}
+use Rattle.std.specs.Prelude.{◌&&◌}
 use Rattle.std.specs.declared.cmp.Ordering.TheVariants.{Less, Equal, Greater}
 use Rattle.std.specs.Ordering.{nat_cmp, match_ordering}
 use Rattle.std.specs.Cmp.Lexicographic.{slice_cmp}
 use Rattle.std.specs.List.{list_all}
+use Rattle.std.proofs.lemmas.Bool.{and_parts, or_from, or_parts}
 use Rattle.serde_json.specs.Data.{Data, null, boolean, number, unsigned, negative, float, string, array, object, Items, no_items, item, Members, no_members, member, put}
 use Rattle.serde_json.specs.Find.{get_member}
 use Rattle.serde_json.specs.View.{items_of}
@@ -25,18 +26,6 @@ use Rattle.city_doc.specs.Canonical.{list_data, integer_data, triple_data, point
 use Rattle.city_doc.specs.KeptMembers.{is_kept_geometry, is_kept_object, are_kept_objects, IsKeptCity}
 
 -- ---- tests
-
-pub both : (a b : Bool) → (a && b) ≡ true → (a ≡ true) × (b ≡ true)
-both true true h = (refl, refl)
-both true false h = (refl, h)
-both false b h = (h, cc)
-
-neither : (a b : Bool) → a ≡ false → b ≡ false → (a || b) ≡ false
-neither a b h k = rw (h, k)
-
-each_not : (a b : Bool) → (a || b) ≡ false → (a ≡ false) × (b ≡ false)
-each_not true b h = (h, cc)
-each_not false b h = (refl, h)
 
 -- a test that fails where its first part fails
 first_part : (a : Bool) (rest : Bool → Bool) → rest false ≡ false → rest a ≡ true → a ≡ true
@@ -59,35 +48,35 @@ mutual
   items_are_floatless : (ds : Items) → items_whole ds ≡ true → items_have_float ds ≡ false
   items_are_floatless no_items h = refl
   items_are_floatless (item d ds) h =
-      let parts = both (is_whole d) (items_whole ds) h in
-      neither (has_float d) (items_have_float ds) (whole_is_floatless d parts.0) (items_are_floatless ds parts.1)
+      let parts = and_parts (is_whole d) (items_whole ds) h in
+      or_from (has_float d) (items_have_float ds) (whole_is_floatless d parts.0) (items_are_floatless ds parts.1)
 
   pub members_are_floatless : (ms : Members) → members_whole ms ≡ true → members_have_float ms ≡ false
   members_are_floatless no_members h = refl
   members_are_floatless (member k d ms) h =
-      let parts = both (is_whole d) (members_whole ms) h in
-      neither (has_float d) (members_have_float ms) (whole_is_floatless d parts.0) (members_are_floatless ms parts.1)
+      let parts = and_parts (is_whole d) (members_whole ms) h in
+      or_from (has_float d) (members_have_float ms) (whole_is_floatless d parts.0) (members_are_floatless ms parts.1)
 
 pub put_is_floatless : (k : List ℕ) (d : Data) (ms : Members) → has_float d ≡ false → members_have_float ms ≡ false → members_have_float (put k d ms) ≡ false
-put_is_floatless k d no_members h hs = neither (has_float d) false h refl
+put_is_floatless k d no_members h hs = or_from (has_float d) false h refl
 put_is_floatless k d (member l e ms) h hs =
-    let parts = each_not (has_float e) (members_have_float ms) hs in
+    let parts = or_parts (has_float e) (members_have_float ms) hs in
     elim (slice_cmp nat_cmp k l) as (λ o. members_have_float (match_ordering o (member k d (member l e ms)) (member l d ms) (member l e (put k d ms))) ≡ false) [
-      | Less ↦ neither (has_float d) (members_have_float (member l e ms)) h hs
-      | Equal ↦ neither (has_float d) (members_have_float ms) h parts.1
-      | Greater ↦ neither (has_float e) (members_have_float (put k d ms)) parts.0 (put_is_floatless k d ms h parts.1)
+      | Less ↦ or_from (has_float d) (members_have_float (member l e ms)) h hs
+      | Equal ↦ or_from (has_float d) (members_have_float ms) h parts.1
+      | Greater ↦ or_from (has_float e) (members_have_float (put k d ms)) parts.0 (put_is_floatless k d ms h parts.1)
     ]
 
 -- a list of what is floatless where a test holds, and it holds of each
 pub tested_list_is_floatless : {A : Type 0} (f : A → Data) (test : A → Bool) → ((x : A) → test x ≡ true → has_float (f x) ≡ false) → (xs : List A) → list_all test xs ≡ true → items_have_float (items_of (map f xs)) ≡ false
 tested_list_is_floatless f test each [] h = refl
 tested_list_is_floatless f test each (x ∷ xs) h =
-    let parts = both (test x) (list_all test xs) h in
-    neither (has_float (f x)) (items_have_float (items_of (map f xs))) (each x parts.0) (tested_list_is_floatless f test each xs parts.1)
+    let parts = and_parts (test x) (list_all test xs) h in
+    or_from (has_float (f x)) (items_have_float (items_of (map f xs))) (each x parts.0) (tested_list_is_floatless f test each xs parts.1)
 
 pub list_is_floatless : {A : Type 0} (f : A → Data) → ((x : A) → has_float (f x) ≡ false) → (xs : List A) → items_have_float (items_of (map f xs)) ≡ false
 list_is_floatless f each [] = refl
-list_is_floatless f each (x ∷ xs) = neither (has_float (f x)) (items_have_float (items_of (map f xs))) (each x) (list_is_floatless f each xs)
+list_is_floatless f each (x ∷ xs) = or_from (has_float (f x)) (items_have_float (items_of (map f xs))) (each x) (list_is_floatless f each xs)
 
 integer_is_floatless : (z : ℤ) → has_float (integer_data z) ≡ false
 integer_is_floatless (pos n) = refl
@@ -138,7 +127,7 @@ at_object ms h = members_are_floatless ms (first_part (members_whole ms) (λ w. 
 pub object_is_floatless : (pool : List Point) (o : Object) → is_kept_object o ≡ true → has_float (object_data pool o) ≡ false
 unfolding is_kept_object
 object_is_floatless pool o h =
-    let parts = both (kept_at_object o.body.extra) (list_all is_kept_geometry o.body.geometry) h in
+    let parts = and_parts (kept_at_object o.body.extra) (list_all is_kept_geometry o.body.geometry) h in
     let typed = put (codes "type") (string (name_of o.body.kind)) o.body.extra in
     let shaped = put_list (codes "geometry") (geometry_data pool) o.body.geometry typed in
     let below = put_list (codes "parents") string o.parents shaped in
@@ -150,7 +139,7 @@ object_is_floatless pool o h =
 objects_are_floatless : (pool : List Point) (ms : Members) (es : Entries) → are_kept_objects es ≡ true → members_have_float ms ≡ false → members_have_float (with_objects pool ms es) ≡ false
 objects_are_floatless pool ms [] h hs = hs
 objects_are_floatless pool ms (e ∷ es) h hs =
-    let parts = both (is_kept_object e.1) (are_kept_objects es) h in
+    let parts = and_parts (is_kept_object e.1) (are_kept_objects es) h in
     objects_are_floatless pool (put e.0 (object_data pool e.1) ms) es parts.1 (put_is_floatless e.0 (object_data pool e.1) ms (object_is_floatless pool e.1 parts.0) hs)
 
 -- ---- the top

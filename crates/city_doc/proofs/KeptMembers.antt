@@ -3,8 +3,9 @@ use Rattle.std.proofs.Common.{◌≡◌, ℕ, List, Bool, true, false, Option, S
 use Rattle.std.specs.Prelude.{◌&&◌, not, codes, is_none}
 use Rattle.std.specs.Ordering.{match_ordering}
 use Rattle.std.specs.Cmp.Lexicographic.{slice_cmp}
-use Rattle.serde_json.specs.Data.{Data, null, boolean, number, string, array, object, Members, no_members, member}
-use Rattle.serde_json.specs.Find.{get_member, as_object}
+use Rattle.std.proofs.lemmas.Bool.{and_from, and_parts}
+use Rattle.serde_json.specs.Data.{Data, Members, no_members, member}
+use Rattle.serde_json.specs.Find.{get_member}
 use Rattle.city_model.specs.CityMap.{same_id}
 use Rattle.city_model.specs.Members.{without}
 use Rattle.city_model.specs.Whole.{is_whole, members_whole}
@@ -12,7 +13,6 @@ use Rattle.city_model.specs.Kept.{lacks, lacks_both, kept_at_top, kept_at_transf
 use Rattle.city_model.proofs.MemberLaws.{get_member-without, get_member-without_same, members_whole-without}
 use Rattle.city_doc.specs.Bodies.{kept_if, without_geometry_members, without_object_members}
 use Rattle.city_doc.specs.Frames.{without_transform_members, without_top_members}
-use Rattle.city_doc.proofs.Right.{both}
 
 -- ---- whole numbers
 
@@ -25,16 +25,8 @@ whole_at Greater d e rest one more is = more is
 pub whole_member : (name : List ℕ) (ms : Members) (e : Data) → members_whole ms ≡ true → get_member name ms ≡ Some e → is_whole e ≡ true
 whole_member name no_members e h is = cc
 whole_member name (member k d ms) e h is =
-    let hs = both (is_whole d) (members_whole ms) h in
+    let hs = and_parts (is_whole d) (members_whole ms) h in
     whole_at (slice_cmp nat_cmp name k) d e (get_member name ms) hs.0 (whole_member name ms e hs.1) is
-
-pub whole_object : (d : Data) (ms : Members) → is_whole d ≡ true → as_object d ≡ Some ms → members_whole ms ≡ true
-whole_object null ms h is = cc
-whole_object (boolean b) ms h is = cc
-whole_object (number n) ms h is = cc
-whole_object (string s) ms h is = cc
-whole_object (array ds) ms h is = cc
-whole_object (object top) ms h is = let same : top ≡ ms = cc in ap members_whole (sym same) ∙ h
 
 -- ---- members that are gone
 
@@ -47,9 +39,6 @@ lacking name ms h = ap is_none h
 
 lacking_both : (name other : List ℕ) (ms : Members) → get_member name ms ≡ None → get_member other ms ≡ None → lacks_both name other ms ≡ true
 lacking_both name other ms h k = rw (h, k) refl
-
-all_two : (a b : Bool) → a ≡ true → b ≡ true → (a && b) ≡ true
-all_two a b h k = rw (h, k) refl
 
 all_three : (a b c : Bool) → a ≡ true → b ≡ true → c ≡ true → (a && b && c) ≡ true
 all_three a b c h k l = rw (h, k, l) refl
@@ -68,7 +57,7 @@ kept_all test ms h = rw h refl
 pub transform_admitted : (ms : Members) → members_whole ms ≡ true → kept_at_transform (without_transform_members ms) ≡ true
 transform_admitted ms h =
     let first = without (codes "scale") ms in
-    all_two _ _ (members_whole-without (codes "translate") first (members_whole-without (codes "scale") ms h))
+    and_from _ _ (members_whole-without (codes "translate") first (members_whole-without (codes "scale") ms h))
     (lacking_both (codes "scale") (codes "translate") (without_transform_members ms)
     (gone (codes "scale") (codes "translate") first refl (get_member-without_same (codes "scale") ms))
     (get_member-without_same (codes "translate") first))

@@ -1,6 +1,6 @@
 -- What the searches of a city that was read say of its faults.
-use Rattle.std.proofs.Common.{◌≡◌, Bool, true, false, true≢false, None, refl}
-use Rattle.std.specs.Prelude.{◌||◌}
+use Rattle.std.proofs.Common.{◌≡◌, false, None, refl}
+use Rattle.std.proofs.lemmas.Bool.{or_parts}
 use Rattle.city_model.specs.declared.object.Body.{Body}
 use Rattle.city_model.specs.CityMap.{Entries, at}
 use Rattle.city_model.specs.Relations.{IsRelated, IsLawful}
@@ -9,13 +9,9 @@ use Rattle.city_doc.specs.CityFaults.{is_bad_ringed}
 use Rattle.city_doc.specs.LenientCities.{first_body}
 use Rattle.city_doc.proofs.LenientEntries.{first_body-none}
 
-neither : (a b : Bool) → (a || b) ≡ false → (a ≡ false) × (b ≡ false)
-neither true b h = absurd (true≢false h)
-neither false b h = (refl, h)
-
 faultless : (body : Body) → is_bad_ringed body ≡ false → some_shape has_open_shell body ≡ false → body_fault body ≡ None
 faultless body rings shells =
-    let r = neither (some_shape has_short_ring body) (some_shape has_same_twice body) rings in
+    let r = or_parts (some_shape has_short_ring body) (some_shape has_same_twice body) rings in
     rw (r.0, r.1, shells) refl
 
 -- a city whose relations agree, with no bad ring and no open shell, is lawful

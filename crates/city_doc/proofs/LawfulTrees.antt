@@ -1,6 +1,7 @@
 -- A tree of whole numbers that stands for a lawful city has no fault, from its top to its objects.
-use Rattle.std.proofs.Common.{◌≡◌, ◌⊎◌, inl, inr, ℕ, List, [], ◌∷◌, Bool, true, false, true≢false, Option, Some, None, Result, Ok, Err, refl, sym, ap, subst, ◌∙◌, arith}
-use Rattle.std.specs.Prelude.{◌&&◌, IfErr, length, option_and_then, option_map, is_some, codes, if◌then◌else◌}
+use Rattle.std.proofs.Common.{◌≡◌, ◌⊎◌, inl, inr, ℕ, List, [], ◌∷◌, Bool, true, true≢false, Option, Some, None, Result, Ok, Err, refl, sym, ap, subst, ◌∙◌, arith}
+use Rattle.std.specs.Prelude.{◌&&◌, IfErr, length, option_and_then, option_map, is_some, codes}
+use Rattle.std.proofs.lemmas.Bool.{and_from, and_parts}
 use Rattle.serde_json.specs.Data.{Data, Items, no_items, item, Members, no_members, member}
 use Rattle.serde_json.specs.Find.{get, get_member, at, as_array, as_object}
 use Rattle.city_model.specs.declared.frame.Frame.{Frame}
@@ -18,18 +19,15 @@ use Rattle.city_doc.specs.CityFaults.{or_empty}
 use Rattle.city_doc.specs.Documents.{CityValue, is_city_json, points_in, entries_of, entries_in, city_of, members_of, objects_in, vertices_in, is_unsupported, StandsIn, DocumentFault, IsAdmitted}
 use Rattle.city_doc.specs.Frames.{is_text, has_triple, triple_at, is_transform, all_objects, are_all_objects, are_objects, are_vertices, first_wrong, wrong_member, frame_with, frame_of_rest, frame_of, without_top_members}
 use Rattle.city_doc.specs.ObjectFaults.{is_unknown_type, is_bad_geometry, has_bad_vertex}
-use Rattle.city_doc.specs.Texts.{IsText}
 use Rattle.city_doc.specs.Triples.{whole_at, triple_of, point_of, points_of, all_triples, are_all_triples}
 use Rattle.city_doc.proofs.Cities.{get-object}
-use Rattle.city_doc.proofs.NoFault.{no_object, no_bad_ring, no_open_shell, no_badly_related, known, supported, formed, placed, is_object_read}
-use Rattle.city_doc.proofs.ReadForms.{map_some, then_some, all_two}
-use Rattle.city_doc.proofs.Right.{both, three_some}
+use Rattle.city_doc.proofs.FaultlessBodies.{known, supported, formed, placed, is_object}
+use Rattle.city_doc.proofs.NoFault.{read_as, no_object, no_bad_ring, no_open_shell, no_badly_related}
+use Rattle.city_doc.proofs.OneValue.{one_tree}
+use Rattle.city_doc.proofs.Options.{and_then_some, map_some, if_some}
+use Rattle.city_doc.proofs.Right.{three_some}
 
 -- ---- the parts of a city's tree
-
-if_some : {A : Type 0} (b : Bool) (o : Option A) (x : A) → (if b then o else None) ≡ Some x → (b ≡ true) × (o ≡ Some x)
-if_some true o x h = (refl, h)
-if_some false o x h = absurd (let is : None ≡ Some x = h in let no : ⊥ = cc in no)
 
 record StandsFor (d : Data) (c : CityValue) : Type 0 where
   json : is_city_json d ≡ true
@@ -41,19 +39,19 @@ record StandsFor (d : Data) (c : CityValue) : Type 0 where
 stands_for : (d : Data) (c : CityValue) → city_of d ≡ Some c → StandsFor d c
 stands_for d c h =
     let json = if_some (is_city_json d) _ c h in
-    let ps = then_some _ (points_in d) c json.1 in
-    let es = then_some _ (entries_in ps.0 d) c ps.2 in
+    let ps = and_then_some _ (points_in d) c json.1 in
+    let es = and_then_some _ (entries_in ps.0 d) c ps.2 in
     let frame = map_some _ (frame_of d) c es.2 in
-    let ms = then_some (entries_of ps.0) (option_and_then as_object (get (codes "CityObjects") d)) es.0 es.1 in
+    let ms = and_then_some (entries_of ps.0) (option_and_then as_object (get (codes "CityObjects") d)) es.0 es.1 in
     let same_points : ps.0 ≡ vertices_in d = sym (ap or_empty ps.1) in
     let same_objects : ms.0 ≡ objects_in d = sym (ap members_of ms.1) in
-    let read : entries_of ps.0 ms.0 ≡ Some c.1 = ms.2 ∙ ap (λ x. Some x.1) frame.2 in
+    let read : entries_of ps.0 ms.0 ≡ Some c.1 = ms.2 ∙ ap (λ x. Some x.1) (sym frame.2) in
     record {
       json = json.0;
       points = ps.1 ∙ ap Some same_points;
       objects = ms.1 ∙ ap Some same_objects;
       entries = sym (ap (λ x. entries_of x (objects_in d)) same_points) ∙ (sym (ap (entries_of ps.0) same_objects) ∙ read);
-      frame = frame.1 ∙ ap (λ x. Some x.0) frame.2;
+      frame = frame.1 ∙ ap (λ x. Some x.0) (sym frame.2);
     }
 
 -- ---- the top
@@ -61,9 +59,9 @@ stands_for d c h =
 all_are_objects : (points : List Point) (ms : Members) (es : city.Entries) → entries_of points ms ≡ Some es → all_objects ms ≡ true
 all_are_objects points no_members es h = refl
 all_are_objects points (member k x ms) es h =
-    let o = then_some (λ y. option_map (λ ys. (k, y) ∷ ys) (entries_of points ms)) _ es h in
+    let o = and_then_some (λ y. option_map (λ ys. (k, y) ∷ ys) (entries_of points ms)) _ es h in
     let r = map_some (λ ys. (k, o.0) ∷ ys) (entries_of points ms) es o.2 in
-    all_two (is_some (as_object x)) (all_objects ms) (is_object_read points x o.0 o.1) (all_are_objects points ms r.0 r.1)
+    and_from (is_some (as_object x)) (all_objects ms) (is_object points x (o.0).body (read_as points x o.0 o.1).body) (all_are_objects points ms r.0 r.1)
 
 triple_some : (d : Data) (p : Point) → point_of d ≡ Some p → is_some (triple_of d) ≡ true
 triple_some d p h = three_some (λ x y z. record { x = x; y = y; z = z }) (λ x y z. x ∷ y ∷ z ∷ []) (is_some (at 3 d)) (whole_at 0 d) (whole_at 1 d) (whole_at 2 d) (ap is_some h)
@@ -71,25 +69,21 @@ triple_some d p h = three_some (λ x y z. record { x = x; y = y; z = z }) (λ x 
 triples : (ds : Items) (ps : List Point) → read_items point_of ds ≡ Some ps → all_triples ds ≡ true
 triples no_items ps h = refl
 triples (item d ds) ps h =
-    let p = then_some (λ y. option_map (λ ys. y ∷ ys) (read_items point_of ds)) (point_of d) ps h in
+    let p = and_then_some (λ y. option_map (λ ys. y ∷ ys) (read_items point_of ds)) (point_of d) ps h in
     let r = map_some (λ ys. p.0 ∷ ys) (read_items point_of ds) ps p.2 in
-    all_two (is_some (triple_of d)) (all_triples ds) (triple_some d p.0 p.1) (triples ds r.0 r.1)
+    and_from (is_some (triple_of d)) (all_triples ds) (triple_some d p.0 p.1) (triples ds r.0 r.1)
 
 vertices_right : (o : Option Data) (ps : List Point) → option_and_then points_of o ≡ Some ps → are_vertices o ≡ true
 vertices_right None ps h = absurd (let no : ⊥ = cc in no)
-vertices_right (Some v) ps h = let ds = then_some (read_items point_of) (as_array v) ps h in ap are_all_triples ds.1 ∙ triples ds.0 ps ds.2
+vertices_right (Some v) ps h = let ds = and_then_some (read_items point_of) (as_array v) ps h in ap are_all_triples ds.1 ∙ triples ds.0 ps ds.2
 
 -- the members of the top that a frame is read of
 record HasFrameParts (top : Members) : Type 0 where
   transform : is_transform (get_member (codes "transform") top) ≡ true
   extensions : is_empty_object_or_absent (get_member (codes "extensions") top) ≡ true
 
-may_keep : (test : Members → Bool) (ms kept : Members) (t : Bool) → test ms ≡ t → (if t then Some ms else None) ≡ Some kept → test ms ≡ true
-may_keep test ms kept true is h = is
-may_keep test ms kept false is h = absurd (let no : ⊥ = cc in no)
-
 last_of_five : (a b c e f : Bool) → (a && b && c && e && f) ≡ true → f ≡ true
-last_of_five a b c e f h = (both (a && b && c && e) f h).1
+last_of_five a b c e f h = (and_parts (a && b && c && e) f h).1
 
 extensions_stay : (top : Members) → get_member (codes "extensions") (without_top_members (without (codes "CityObjects") top)) ≡ get_member (codes "extensions") top
 extensions_stay top =
@@ -104,14 +98,14 @@ extensions_stay top =
 frame_parts : (top : Members) (f : Frame) → frame_of_rest (without (codes "CityObjects") top) ≡ Some f → HasFrameParts top
 frame_parts top f h =
     let rest = without (codes "CityObjects") top in
-    let kept = then_some _ (kept_if kept_at_top (without_top_members rest)) f h in
-    let t = then_some (frame_with kept.0) (get_member (codes "transform") rest) f kept.2 in
-    let scale = then_some _ (triple_at (codes "scale") t.0) f t.2 in
-    let translate = then_some _ (triple_at (codes "translate") t.0) f scale.2 in
+    let kept = and_then_some _ (kept_if kept_at_top (without_top_members rest)) f h in
+    let t = and_then_some (frame_with kept.0) (get_member (codes "transform") rest) f kept.2 in
+    let scale = and_then_some _ (triple_at (codes "scale") t.0) f t.2 in
+    let translate = and_then_some _ (triple_at (codes "translate") t.0) f scale.2 in
     let there : get_member (codes "transform") top ≡ Some t.0 = sym (get_member-without (codes "transform") (codes "CityObjects") top refl) ∙ t.1 in
-    let keeps = may_keep kept_at_top (without_top_members rest) kept.0 (kept_at_top (without_top_members rest)) refl kept.1 in
+    let keeps = (if_some (kept_at_top (without_top_members rest)) (Some (without_top_members rest)) kept.0 kept.1).0 in
     record {
-      transform = ap is_transform there ∙ all_two (has_triple (codes "scale") t.0) (has_triple (codes "translate") t.0) (ap is_some scale.1) (ap is_some translate.1);
+      transform = ap is_transform there ∙ and_from (has_triple (codes "scale") t.0) (has_triple (codes "translate") t.0) (ap is_some scale.1) (ap is_some translate.1);
       extensions = ap is_empty_object_or_absent (sym (extensions_stay top)) ∙ last_of_five (members_whole (without_top_members rest)) (lacks_both (codes "type") (codes "version") (without_top_members rest))
           (lacks_both (codes "transform") (codes "CityObjects") (without_top_members rest)) (lacks (codes "vertices") (without_top_members rest)) (is_empty_object_or_absent (get_member (codes "extensions") (without_top_members rest))) keeps;
     }
@@ -122,8 +116,8 @@ none_wrong a b c e f g ha hb hc he hf hg = rw (ha, hb, hc, he, hf, hg) refl
 
 right : (d : Data) (c : CityValue) → StandsFor d c → wrong_member d ≡ None
 right d c h =
-    let json = both (is_text (codes "CityJSON") (get (codes "type") d)) (is_text (codes "2.0") (get (codes "version") d)) h.json in
-    let top = then_some (λ ms. frame_of_rest (without (codes "CityObjects") ms)) (as_object d) c.0 h.frame in
+    let json = and_parts (is_text (codes "CityJSON") (get (codes "type") d)) (is_text (codes "2.0") (get (codes "version") d)) h.json in
+    let top = and_then_some (λ ms. frame_of_rest (without (codes "CityObjects") ms)) (as_object d) c.0 h.frame in
     let parts = frame_parts top.0 c.0 top.2 in
     none_wrong _ _ (is_transform (get (codes "transform") d)) (are_objects (get (codes "CityObjects") d)) (are_vertices (get (codes "vertices") d)) (is_empty_object_or_absent (get (codes "extensions") d)) json.0 json.1
     (ap is_transform (get-object (codes "transform") d top.0 top.1) ∙ parts.transform) (ap are_all_objects h.objects ∙ all_are_objects (vertices_in d) (objects_in d) c.1 h.entries)
@@ -145,17 +139,21 @@ stands_not d c (BadRing id) whole s lawful h = no_bad_ring (vertices_in d) (obje
 stands_not d c (Relations id) whole s lawful h = no_badly_related (vertices_in d) (objects_in d) c.1 s.entries lawful id h.0
 stands_not d c (OpenShell id) whole s lawful h = no_open_shell (vertices_in d) (objects_in d) c.1 s.entries lawful id h.0
 
-same_tree : (text : List ℕ) (d e : Data) → IsText text d → IsText text e → d ≡ e
-same_tree text d e h k = let is : Some d ≡ Some e = sym h.1 ∙ k.1 in cc
-
 -- a text that is refused, but for want of memory, stands for no lawful city
 pub refused : (text : List ℕ) (f : ReadFault) → DocumentFault text f → (f ≡ OutOfMemory) ⊎ ((c : CityValue) → IsAdmitted text c → ⊥)
 refused text f (inl h) = inl h
 refused text f (inr (inl h)) = inr (λ c k. let long = h.1 in let short = k.1.0 in omega arith)
 refused text f (inr (inr (inl h))) = inr (λ c k. h.1.1 k.0 k.1.1)
 refused text f (inr (inr (inr h))) = inr (λ c k.
-    let same : h.0 ≡ k.0 = same_tree text h.0 k.0 h.1.1 k.1.1 in
+    let same : h.0 ≡ k.0 = one_tree text h.0 k.0 h.1.1 k.1.1 in
     stands_not k.0 c f k.2 (stands_for k.0 c k.3) k.4 (subst (λ d. StandsIn d f) same h.2.0))
+
+-- nor is one that does refused, but for want of memory
+pub not_refused : (text : List ℕ) (c : CityValue) → IsAdmitted text c → (f : ReadFault) → DocumentFault text f → f ≡ OutOfMemory
+not_refused text c admitted f h = elim (refused text f h) [
+  | inl memory ↦ memory
+  | inr none ↦ absurd (none c admitted)
+]
 
 pub refused_result : {A : Type 0} (text : List ℕ) (r : Result A ReadFault) → IfErr r (λ f. DocumentFault text f) → IfErr r (λ f. (f ≡ OutOfMemory) ⊎ ((c : CityValue) → IsAdmitted text c → ⊥))
 refused_result text (Ok x) h = tt

@@ -1,8 +1,9 @@
 -- The entries that are read of a map of objects, and the objects that they are read of.
 use Rattle.std.proofs.Common.{◌≡◌, ℕ, List, [], ◌∷◌, Bool, true, false, true≢false, cond, Option, Some, None, Ordering, Less, Equal, Greater, nat_cmp, is_eq, refl, sym, ap, ◌∙◌}
-use Rattle.std.specs.Prelude.{◌||◌, option_and_then, option_map, is_none, codes, if◌then◌else◌}
+use Rattle.std.specs.Prelude.{option_and_then, option_map, is_none, codes, if◌then◌else◌}
 use Rattle.std.specs.Ordering.{match_ordering}
 use Rattle.std.specs.Cmp.Lexicographic.{slice_cmp}
+use Rattle.std.proofs.lemmas.Bool.{or_parts}
 use Rattle.serde_json.specs.Data.{Data, Members, no_members, member}
 use Rattle.serde_json.specs.Find.{get_member}
 use Rattle.city_model.specs.declared.object.Body.{Body}
@@ -90,10 +91,6 @@ first_body-none test (e ∷ es) none id o h =
 
 -- ---- lists that are arrays of texts
 
-neither : (a b : Bool) → (a || b) ≡ false → (a ≡ false) × (b ≡ false)
-neither true b h = absurd (true≢false h)
-neither false b h = (refl, h)
-
 listed : {A : Type 0} (o : Option (List A)) → is_none o ≡ false → o ≡ Some (or_empty o)
 listed None h = absurd (true≢false h)
 listed (Some xs) h = refl
@@ -105,7 +102,7 @@ joined body parents children b ps cs is_body are_parents are_children = rw (is_b
 -- an object with no bad list is read
 pub object_of-lenient : (points : List Point) (d : Data) (o : Object) → has_bad_list d ≡ false → lenient_object_of points d ≡ Some o → object_of points d ≡ Some o
 object_of-lenient points d o good h =
-    let both = neither (is_none (ids_at (codes "parents") d)) (is_none (ids_at (codes "children") d)) good in
+    let both = or_parts (is_none (ids_at (codes "parents") d)) (is_none (ids_at (codes "children") d)) good in
     let body = lenient_body points d o h in
     let read : lenient_object_of points d ≡ Some (record { body = o.body; parents = or_empty (ids_at (codes "parents") d); children = or_empty (ids_at (codes "children") d) }) = rw body refl in
     let whole : object_of points d ≡ Some (record { body = o.body; parents = or_empty (ids_at (codes "parents") d); children = or_empty (ids_at (codes "children") d) }) =

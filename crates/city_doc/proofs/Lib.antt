@@ -1,4 +1,3 @@
-pub mod Accepted
 pub mod AllRead
 pub mod Cities
 mod CityNests
@@ -19,10 +18,10 @@ pub mod LenientObjects
 mod ListsRead
 mod NestsNoDeeper
 pub mod NoFault
-mod NotRefused
 mod NumberedPoints
 pub mod Objects
 mod ObjectsRead
+pub mod OneValue
 pub mod Options
 pub mod Order
 mod Points
@@ -31,7 +30,6 @@ pub mod PutMembers
 pub mod ReadBodies
 pub mod ReadForms
 pub mod ReadLists
-mod ReadObjects
 pub mod Readable
 pub mod RefusedScripts
 mod Repeats

@@ -1,19 +1,19 @@
 -- A list that was written is read again.
 use Rattle.std.proofs.Common.{◌≡◌, ℕ, List, [], ◌∷◌, map, Bool, true, Option, Some, None, refl, ap, ◌∙◌}
 use Rattle.std.specs.List.{list_all}
+use Rattle.std.proofs.lemmas.Bool.{and_parts}
 use Rattle.serde_json.specs.Data.{Data, Members}
 use Rattle.serde_json.specs.Find.{get_member}
 use Rattle.serde_json.specs.View.{items_of}
 use Rattle.serde_json.proofs.Views.{get_member-put}
 use Rattle.city_doc.specs.Bodies.{read_items, list_of, list_or_absent}
 use Rattle.city_doc.specs.Canonical.{list_data, put_list}
-use Rattle.city_doc.proofs.AllRead.{both}
 
 module _ {A : Type 0} (read : Data → Option A) (f : A → Data) (ok : A → Bool) (each : (x : A) → ok x ≡ true → read (f x) ≡ Some x) where
   items_read : (xs : List A) → list_all ok xs ≡ true → read_items read (items_of (map f xs)) ≡ Some xs
   items_read [] h = refl
   items_read (x ∷ xs) h =
-      let hs = both (ok x) (list_all ok xs) h in
+      let hs = and_parts (ok x) (list_all ok xs) h in
       let first : read (f x) ≡ Some x = each x hs.0 in
       let rest : read_items read (items_of (map f xs)) ≡ Some xs = items_read xs hs.1 in
       rw (first, rest) refl

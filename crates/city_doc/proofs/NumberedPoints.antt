@@ -3,7 +3,7 @@ use Rattle.std.proofs.Common.{◌≡◌, suc, ◌+◌, ◌<◌, ◌≤◌, Bool,
 use Rattle.std.specs.Prelude.{◌&&◌, ◌||◌, ◌^◌, nat_lt, filter, flat_map, slice_get, option_map}
 use Rattle.std.specs.List.{list_any, list_all}
 use Rattle.std.specs.Ordering.{int_eq}
-use Rattle.std.proofs.lemmas.Bool.{lt-ltb}
+use Rattle.std.proofs.lemmas.Bool.{lt-ltb, and_parts}
 use Rattle.std.proofs.lemmas.Bool.Decides.{Decides-int_eq}
 use Rattle.std.proofs.lemmas.List.Folds.{list_all-append}
 use Rattle.std.proofs.lemmas.List.Sums.{prefix_len-le-length}
@@ -14,7 +14,6 @@ use Rattle.city_model.specs.Shells.{Ring, Surface, Shell, same_point}
 use Rattle.city_doc.specs.Bodies.{point_at, list_of, surface_of, surfaces_of, shells_of, shape_of}
 use Rattle.city_doc.specs.Pool.{surface_points, shell_points, shape_points, without_repeats, place_of}
 use Rattle.city_doc.specs.Canonical.{point_data, ring_data, surface_data, shell_data, boundaries_data, shape_name}
-use Rattle.city_doc.proofs.AllRead.{both}
 use Rattle.city_doc.proofs.ListsRead.{list_read}
 use Rattle.city_doc.proofs.Points.{same_point-symm, same_point-congr}
 
@@ -32,8 +31,8 @@ equal_point p q x y z =
 
 pub same_point-is : (p q : Point) → same_point p q ≡ true → p ≡ q
 same_point-is p q h =
-    let two = both (int_eq p.x q.x && int_eq p.y q.y) (int_eq p.z q.z) h in
-    let one = both (int_eq p.x q.x) (int_eq p.y q.y) two.0 in
+    let two = and_parts (int_eq p.x q.x && int_eq p.y q.y) (int_eq p.z q.z) h in
+    let one = and_parts (int_eq p.x q.x) (int_eq p.y q.y) two.0 in
     equal_point p q ((Decides-int_eq p.x q.x).0 one.0) ((Decides-int_eq p.y q.y).0 one.1) ((Decides-int_eq p.z q.z).0 two.1)
 
 -- ---- the vertices have every point
@@ -64,7 +63,7 @@ in_pool (q ∷ ps) p h =
 all_in_more : (pool : List Point) (q : Point) (ps : List Point) → are_in pool ps ≡ true → are_in (q ∷ pool) ps ≡ true
 all_in_more pool q [] h = refl
 all_in_more pool q (p ∷ ps) h =
-    let hs = both (is_in pool p) (are_in pool ps) h in
+    let hs = and_parts (is_in pool p) (are_in pool ps) h in
     elim (same_point p q) as (λ b. ((b || is_in pool p) && are_in (q ∷ pool) ps) ≡ true) [ true ↦ all_in_more pool q ps hs.1 | false ↦ rw (hs.0, all_in_more pool q ps hs.1) refl ]
 
 itself_in : (p : Point) (ps : List Point) → is_in (p ∷ ps) p ≡ true
@@ -77,7 +76,7 @@ each_in_itself (p ∷ ps) = rw (itself_in p ps, all_in_more ps p ps (each_in_its
 all_in_pool : (ps qs : List Point) → are_in ps qs ≡ true → are_in (without_repeats ps) qs ≡ true
 all_in_pool ps [] h = refl
 all_in_pool ps (q ∷ qs) h =
-    let hs = both (is_in ps q) (are_in ps qs) h in
+    let hs = and_parts (is_in ps q) (are_in ps qs) h in
     let first : is_in (without_repeats ps) q ≡ true = in_pool ps q hs.0 in
     let rest : are_in (without_repeats ps) qs ≡ true = all_in_pool ps qs hs.1 in
     rw (first, rest) refl
@@ -91,7 +90,7 @@ points_in_pool ps = all_in_pool ps ps (each_in_itself ps)
 parts : {X : Type 0} (test : Point → Bool) (f : X → List Point) (xs : List X) → list_all test (flat_map f xs) ≡ true → list_all (λ x. list_all test (f x)) xs ≡ true
 parts test f [] h = refl
 parts test f (x ∷ xs) h =
-    let hs = both (list_all test (f x)) (list_all test (flat_map f xs)) (sym (list_all-append test (f x) (flat_map f xs)) ∙ h) in
+    let hs = and_parts (list_all test (f x)) (list_all test (flat_map f xs)) (sym (list_all-append test (f x) (flat_map f xs)) ∙ h) in
     let rest : list_all (λ x. list_all test (f x)) xs ≡ true = parts test f xs hs.1 in
     rw (hs.0, rest) refl
 

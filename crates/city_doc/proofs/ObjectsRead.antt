@@ -2,6 +2,7 @@
 use Rattle.std.proofs.Common.{◌≡◌, ℕ, ◌<◌, List, [], ◌∷◌, length, Bool, true, false, Option, Some, None, codes, refl, ap, ◌∙◌}
 use Rattle.std.specs.Prelude.{◌&&◌, ◌^◌, not, is_none, option_and_then}
 use Rattle.std.specs.List.{list_all}
+use Rattle.std.proofs.lemmas.Bool.{and_parts}
 use Rattle.serde_json.specs.Data.{Data, string, object, Members, put}
 use Rattle.serde_json.specs.Find.{get_member, as_str}
 use Rattle.serde_json.proofs.Views.{get_member-put}
@@ -18,7 +19,6 @@ use Rattle.city_doc.specs.Bodies.{without_geometry_members, geometry_of, type_of
 use Rattle.city_doc.specs.Pool.{geometry_points, object_points}
 use Rattle.city_doc.specs.Canonical.{boundaries_data, shape_name, geometry_data, put_list, object_data}
 use Rattle.city_doc.specs.KeptMembers.{is_kept_geometry, is_kept_object}
-use Rattle.city_doc.proofs.AllRead.{both}
 use Rattle.city_doc.proofs.KeptMembers.{kept_all}
 use Rattle.city_doc.proofs.ListsRead.{put_list_read, all_pass}
 use Rattle.city_doc.proofs.NumberedPoints.{are_in, parts_in, shape_read}
@@ -37,9 +37,9 @@ pub record LacksGeometryMembers (ms : Members) : Type 0 where
 
 geometry_members_lacking : (ms : Members) → kept_at_geometry ms ≡ true → LacksGeometryMembers ms
 geometry_members_lacking ms h =
-    let all = both (members_whole ms && lacks_both (codes "type") (codes "lod") ms) (lacks (codes "boundaries") ms) h in
-    let two = both (members_whole ms) (lacks_both (codes "type") (codes "lod") ms) all.0 in
-    let first = both (lacks (codes "type") ms) (lacks (codes "lod") ms) two.1 in
+    let all = and_parts (members_whole ms && lacks_both (codes "type") (codes "lod") ms) (lacks (codes "boundaries") ms) h in
+    let two = and_parts (members_whole ms) (lacks_both (codes "type") (codes "lod") ms) all.0 in
+    let first = and_parts (lacks (codes "type") ms) (lacks (codes "lod") ms) two.1 in
     record { no_type = none_of _ first.0; no_lod = none_of _ first.1; no_boundaries = none_of _ all.1 }
 
 -- what is left of a geometry's members are the kept ones
@@ -60,7 +60,7 @@ module _ (pool : List Point) (small : length pool < 2 ^ 63) where
   geometry_read : (g : Geometry) → (is_kept_geometry g && are_in pool (geometry_points g)) ≡ true → geometry_of pool (geometry_data pool g) ≡ Some g
   unfolding is_kept_geometry
   geometry_read g h =
-      let hs = both (kept_at_geometry g.extra) (are_in pool (geometry_points g)) h in
+      let hs = and_parts (kept_at_geometry g.extra) (are_in pool (geometry_points g)) h in
       let kind = string (shape_name g.shape) in
       let typed = put (codes "type") kind g.extra in
       let levelled = put (codes "lod") (string g.lod) typed in
@@ -83,11 +83,11 @@ pub record LacksObjectMembers (ms : Members) : Type 0 where
 
 object_members_lacking : (ms : Members) → kept_at_object ms ≡ true → LacksObjectMembers ms
 object_members_lacking ms h =
-    let all = both (members_whole ms && lacks_both (codes "type") (codes "geometry") ms && lacks_both (codes "parents") (codes "children") ms) (not (has_location (get_member (codes "address") ms))) h in
-    let two = both (members_whole ms && lacks_both (codes "type") (codes "geometry") ms) (lacks_both (codes "parents") (codes "children") ms) all.0 in
-    let one = both (members_whole ms) (lacks_both (codes "type") (codes "geometry") ms) two.0 in
-    let own = both (lacks (codes "type") ms) (lacks (codes "geometry") ms) one.1 in
-    let relations = both (lacks (codes "parents") ms) (lacks (codes "children") ms) two.1 in
+    let all = and_parts (members_whole ms && lacks_both (codes "type") (codes "geometry") ms && lacks_both (codes "parents") (codes "children") ms) (not (has_location (get_member (codes "address") ms))) h in
+    let two = and_parts (members_whole ms && lacks_both (codes "type") (codes "geometry") ms) (lacks_both (codes "parents") (codes "children") ms) all.0 in
+    let one = and_parts (members_whole ms) (lacks_both (codes "type") (codes "geometry") ms) two.0 in
+    let own = and_parts (lacks (codes "type") ms) (lacks (codes "geometry") ms) one.1 in
+    let relations = and_parts (lacks (codes "parents") ms) (lacks (codes "children") ms) two.1 in
     record { no_type = none_of _ own.0; no_geometry = none_of _ own.1; no_parents = none_of _ relations.0; no_children = none_of _ relations.1 }
 
 module _ (pool : List Point) (o : Object) where
@@ -162,14 +162,14 @@ module _ (pool : List Point) (o : Object) where
 both_all : {X : Type 0} (f g : X → Bool) (xs : List X) → list_all f xs ≡ true → list_all g xs ≡ true → list_all (λ x. f x && g x) xs ≡ true
 both_all f g [] h k = refl
 both_all f g (x ∷ xs) h k =
-    let hs = both (f x) (list_all f xs) h in
-    let ks = both (g x) (list_all g xs) k in
+    let hs = and_parts (f x) (list_all f xs) h in
+    let ks = and_parts (g x) (list_all g xs) k in
     rw (hs.0, ks.0, both_all f g xs hs.1 ks.1) refl
 
 -- the object whose points the pool has
 pub object_read : (pool : List Point) (o : Object) → length pool < 2 ^ 63 → is_kept_object o ≡ true → are_in pool (object_points o) ≡ true → object_of pool (object_data pool o) ≡ Some o
 unfolding is_kept_object
 object_read pool o small keeps points =
-    let hs = both (kept_at_object o.body.extra) (list_all is_kept_geometry o.body.geometry) keeps in
+    let hs = and_parts (kept_at_object o.body.extra) (list_all is_kept_geometry o.body.geometry) keeps in
     let geometries = both_all is_kept_geometry (λ g. are_in pool (geometry_points g)) o.body.geometry hs.1 (parts_in pool geometry_points o.body.geometry points) in
     parts_read pool o (object_members_lacking o.body.extra hs.0) small geometries hs.0

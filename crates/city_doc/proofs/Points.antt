@@ -4,18 +4,14 @@ use Rattle.std.specs.Prelude.{◌&&◌}
 use mathlib.Core.Path.{fun_ext}
 use Rattle.std.specs.Ordering.{int_eq}
 use Rattle.std.proofs.lemmas.Cmp.{int_eq_equiv}
+use Rattle.std.proofs.lemmas.Bool.{and_parts}
 use Rattle.city_model.specs.declared.object.Point.{Point}
 use Rattle.city_model.specs.Shells.{same_point}
 
-both : (a b : Bool) → (a && b) ≡ true → (a ≡ true) × (b ≡ true)
-both true true h = (refl, refl)
-both true false h = (refl, h)
-both false b h = (h, cc)
-
 coordinates : (p q : Point) → same_point p q ≡ true → ((int_eq p.x q.x ≡ true) × (int_eq p.y q.y ≡ true)) × (int_eq p.z q.z ≡ true)
 coordinates p q h =
-    let two = both (int_eq p.x q.x && int_eq p.y q.y) (int_eq p.z q.z) h in
-    (both (int_eq p.x q.x) (int_eq p.y q.y) two.0, two.1)
+    let two = and_parts (int_eq p.x q.x && int_eq p.y q.y) (int_eq p.z q.z) h in
+    (and_parts (int_eq p.x q.x) (int_eq p.y q.y) two.0, two.1)
 
 pub same_point-symm : (p q : Point) → same_point p q ≡ same_point q p
 same_point-symm p q =

@@ -1,6 +1,7 @@
 -- The objects that are put: which have a body.
-use Rattle.std.proofs.Common.{◌≡◌, List, length, Bool, true, false, true≢false, Option, Some, None, refl}
+use Rattle.std.proofs.Common.{◌≡◌, List, length, true, false, true≢false, Option, Some, None, refl}
 use Rattle.std.specs.Prelude.{◌||◌, is_none, is_some}
+use Rattle.std.proofs.lemmas.Bool.{or_parts}
 use Rattle.serde_json.specs.Data.{Data}
 use Rattle.serde_json.specs.Find.{as_object}
 use Rattle.city_model.specs.declared.object.Point.{Point}
@@ -11,10 +12,6 @@ use Rattle.city_doc.specs.BadCommands.{is_unreadable, is_bad_object}
 use Rattle.city_doc.specs.CommandForms.{names_relations}
 use Rattle.city_doc.specs.ObjectFaults.{is_unknown_type, unsupported_name, is_bad_geometry, has_bad_vertex}
 use Rattle.city_doc.proofs.ReadBodies.{body_of-some}
-
-neither : (a b : Bool) → (a || b) ≡ false → (a ≡ false) × (b ≡ false)
-neither true b h = absurd (true≢false h)
-neither false b h = (refl, h)
 
 there : {A : Type 0} (o : Option A) → is_none o ≡ false → is_some o ≡ true
 there None h = absurd (true≢false h)
@@ -30,10 +27,10 @@ pub record IsGood (d : Data) : Type 0 where
 
 pub good : (d : Data) → is_bad_object d ≡ false → IsGood d
 good d h =
-    let hs = neither (is_none (as_object d) || names_relations d) (is_unreadable d) h in
-    let own = neither (is_none (as_object d)) (names_relations d) hs.0 in
-    let read = neither (is_unknown_type d || is_some (unsupported_name d)) (is_bad_geometry d) hs.1 in
-    let named = neither (is_unknown_type d) (is_some (unsupported_name d)) read.0 in
+    let hs = or_parts (is_none (as_object d) || names_relations d) (is_unreadable d) h in
+    let own = or_parts (is_none (as_object d)) (names_relations d) hs.0 in
+    let read = or_parts (is_unknown_type d || is_some (unsupported_name d)) (is_bad_geometry d) hs.1 in
+    let named = or_parts (is_unknown_type d) (is_some (unsupported_name d)) read.0 in
     record { is_object = own.0; unrelated = own.1; known = named.0; supported = named.1; formed = read.1 }
 
 -- an object that isn't bad, and whose positions name points, has a body

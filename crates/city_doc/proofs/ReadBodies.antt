@@ -1,6 +1,7 @@
 -- The body of a tree, from its parts.
 use Rattle.std.proofs.Common.{◌≡◌, ℕ, List, Bool, true, false, true≢false, Option, Some, None, refl, sym, ap, ◌∙◌}
-use Rattle.std.specs.Prelude.{not, length, option_and_then, option_map, codes, is_some, is_none, if◌then◌else◌}
+use Rattle.std.specs.Prelude.{length, option_and_then, option_map, codes, is_some, is_none, if◌then◌else◌}
+use Rattle.std.proofs.lemmas.Bool.{not-false}
 use Rattle.serde_json.specs.Data.{Data, Members}
 use Rattle.serde_json.specs.Find.{get, get_member, as_object}
 use Rattle.city_model.specs.declared.object.Body.{Body}
@@ -15,9 +16,10 @@ use Rattle.city_doc.specs.Bodies.{type_of, kept_if, list_or_absent, geometry_of,
 use Rattle.city_doc.specs.Documents.{is_unsupported}
 use Rattle.city_doc.specs.ObjectFaults.{is_unknown_type, has_bad_vertex}
 use Rattle.city_doc.proofs.Cities.{get-object}
-use Rattle.city_doc.proofs.KeptMembers.{kept_all, whole_member, whole_object, object_admitted}
+use Rattle.city_doc.proofs.KeptMembers.{kept_all, whole_member, object_admitted}
 use Rattle.city_doc.proofs.Readable.{geometries_some}
 use Rattle.city_doc.proofs.Right.{some_of}
+use Rattle.city_doc.proofs.WholeParts.{as_object-whole}
 
 -- the member `geometry`, after `type` was taken out
 pub geometry_stays : (d : Data) (ms left : Members) (found : Option Data) → as_object d ≡ Some ms → left ≡ without (codes "type") ms → found ≡ get_member (codes "geometry") left → get (codes "geometry") d ≡ found
@@ -46,10 +48,6 @@ not_located : (located : Bool) (rest : Option (List ℕ)) → is_some (if locate
 not_located true rest h = absurd (true≢false h)
 not_located false rest h = refl
 
-not_false : (b : Bool) → not b ≡ false → b ≡ true
-not_false true h = refl
-not_false false h = absurd (true≢false h)
-
 -- a tree of whole numbers that is an object of a known type, with nothing unsupported and with positions that name points
 pub record IsReadable (points : List Point) (d : Data) : Type 0 where
   pub whole : is_whole d ≡ true
@@ -61,11 +59,11 @@ pub record IsReadable (points : List Point) (d : Data) : Type 0 where
 pub body_of-some : (points : List Point) (d : Data) → IsReadable points d → (body : Body) × (body_of points d ≡ Some body)
 body_of-some points d h =
     let ms = some_of (as_object d) h.is_object in
-    let whole = whole_object d ms.0 h.whole ms.1 in
+    let whole = as_object-whole d ms.0 h.whole ms.1 in
     let kind = known_some (type_of d) h.known in
     let located = not_located (has_location (get (codes "address") d)) _ h.supported in
     let elsewhere = ap has_location (sym (get-object (codes "address") d ms.0 ms.1)) ∙ located in
     let kept = kept_all kept_at_object (without_object_members ms.0) (object_admitted ms.0 whole elsewhere) in
     let geometry = get-object (codes "geometry") d ms.0 ms.1 in
-    let gs = geometries_some points (get (codes "geometry") d) (λ g is. whole_member (codes "geometry") ms.0 g whole (sym geometry ∙ is)) (not_false _ h.placed) in
+    let gs = geometries_some points (get (codes "geometry") d) (λ g is. whole_member (codes "geometry") ms.0 g whole (sym geometry ∙ is)) (not-false _ h.placed) in
     (_, body_read points d kind.0 ms.0 kind.1 ms.1 gs.0 (without_object_members ms.0) gs.1 kept)

@@ -1,9 +1,9 @@
 -- What is read of a tree has the form that is judged.
 use Rattle.std.proofs.Common.{◌≡◌, ℕ, ℤ, pos, negsuc, List, ◌∷◌, Bool, true, false, Option, Some, None, refl, ap, ◌∙◌}
-use Rattle.std.specs.Prelude.{◌&&◌, length, option_and_then, option_map, codes, is_some, if◌then◌else◌}
+use Rattle.std.specs.Prelude.{length, option_and_then, option_map, codes, is_some, if◌then◌else◌}
 use Rattle.std.specs.List.{list_any}
 use Rattle.std.specs.Str.{bytes_eq}
-use Rattle.std.proofs.lemmas.Bool.{lt-ltb}
+use Rattle.std.proofs.lemmas.Bool.{lt-ltb, and_from}
 use Rattle.std.proofs.lemmas.Option.{slice_get_within}
 use Rattle.std.proofs.lemmas.Slice.Eq.{bytes_eq-Decides}
 use Rattle.serde_json.specs.Data.{Data, Num, Items, no_items, item}
@@ -17,17 +17,7 @@ use Rattle.city_doc.specs.Bodies.{read_items, list_of, list_or_absent, point_at_
 use Rattle.city_doc.specs.Geometries.{natural, is_below, is_number, is_place, all_items, are_items, is_list_of, are_surfaces, is_boundaries, are_boundaries_of, is_geometry, are_geometries}
 use Rattle.city_doc.specs.ObjectFaults.{unsupported_types, only_if, unsupported_type, first_unsupported}
 use Rattle.city_doc.proofs.Cities.{get-object}
-
-pub map_some : {A B : Type 0} (f : A → B) (o : Option A) (y : B) → option_map f o ≡ Some y → (x : A) × (o ≡ Some x) × (f x ≡ y)
-map_some f None y h = absurd (let no : ⊥ = cc in no)
-map_some f (Some x) y h = let is : Some (f x) ≡ Some y = h in let same : f x ≡ y = cc in (x, refl, same)
-
-pub then_some : {A B : Type 0} (f : A → Option B) (o : Option A) (y : B) → option_and_then f o ≡ Some y → (x : A) × (o ≡ Some x) × (f x ≡ Some y)
-then_some f None y h = absurd (let no : ⊥ = cc in no)
-then_some f (Some x) y h = (x, refl, h)
-
-pub all_two : (a b : Bool) → a ≡ true → b ≡ true → (a && b) ≡ true
-all_two a b h k = rw (h, k) refl
+use Rattle.city_doc.proofs.Options.{and_then_some, map_some}
 
 -- ---- lists
 
@@ -35,12 +25,12 @@ module _ {X : Type 0} (test : Data → Bool) (read : Data → Option X) (one : (
   items_fit : (ds : Items) (xs : List X) → read_items read ds ≡ Some xs → all_items test ds ≡ true
   items_fit no_items xs h = refl
   items_fit (item d ds) xs h =
-      let x = then_some (λ y. option_map (λ ys. y ∷ ys) (read_items read ds)) (read d) xs h in
+      let x = and_then_some (λ y. option_map (λ ys. y ∷ ys) (read_items read ds)) (read d) xs h in
       let r = map_some (λ ys. x.0 ∷ ys) (read_items read ds) xs x.2 in
-      all_two (test d) (all_items test ds) (one d x.0 x.1) (items_fit ds r.0 r.1)
+      and_from (test d) (all_items test ds) (one d x.0 x.1) (items_fit ds r.0 r.1)
 
   pub list_fits : (d : Data) (xs : List X) → list_of read d ≡ Some xs → is_list_of test d ≡ true
-  list_fits d xs h = let ds = then_some (read_items read) (as_array d) xs h in ap (are_items test) ds.1 ∙ items_fit ds.0 xs ds.2
+  list_fits d xs h = let ds = and_then_some (read_items read) (as_array d) xs h in ap (are_items test) ds.1 ∙ items_fit ds.0 xs ds.2
 
 -- ---- positions
 
@@ -93,10 +83,10 @@ module _ (points : List Point) (leaf : Data → Bool) (fits : (d : Data) (p : Po
 
   geometry_fits : (d : Data) (g : Geometry) → geometry_of points d ≡ Some g → is_geometry leaf d ≡ true
   geometry_fits d g h =
-      let shape = then_some (λ s. option_and_then (geometry_with s) (as_object d)) (shape_in points d) g h in
-      let ms = then_some (geometry_with shape.0) (as_object d) g shape.2 in
-      let lod = then_some _ (option_and_then as_str (get_member (codes "lod") ms.0)) g ms.2 in
-      all_two _ _ (ap (λ o. is_some (option_and_then as_str o)) (get-object (codes "lod") d ms.0 ms.1) ∙ ap is_some lod.1)
+      let shape = and_then_some (λ s. option_and_then (geometry_with s) (as_object d)) (shape_in points d) g h in
+      let ms = and_then_some (geometry_with shape.0) (as_object d) g shape.2 in
+      let lod = and_then_some _ (option_and_then as_str (get_member (codes "lod") ms.0)) g ms.2 in
+      and_from _ _ (ap (λ o. is_some (option_and_then as_str o)) (get-object (codes "lod") d ms.0 ms.1) ∙ ap is_some lod.1)
       (bounded (text_at (codes "type") d) (get (codes "boundaries") d) shape.0 shape.1)
 
   -- geometries that are read have their form
@@ -121,19 +111,19 @@ typed : (points : List Point) (kind : Option (List ℕ)) (o : Option Data) (s : 
     → option_and_then (only_if (λ k. list_any (bytes_eq k) unsupported_types)) kind ≡ None
 typed points None o s h = refl
 typed points (Some kind) o s h =
-    let d = then_some (shape_of points kind) o s h in
+    let d = and_then_some (shape_of points kind) o s h in
     let supported = kind_cases points kind d.0 s (bytes_eq kind (codes "MultiSurface")) (bytes_eq kind (codes "CompositeSurface")) (bytes_eq kind (codes "Solid")) refl refl refl d.2 in
     rw supported refl
 
 geometry_supported : (points : List Point) (d : Data) (g : Geometry) → geometry_of points d ≡ Some g → unsupported_type d ≡ None
 geometry_supported points d g h =
-    let shape = then_some (λ s. option_and_then (geometry_with s) (as_object d)) (shape_in points d) g h in
+    let shape = and_then_some (λ s. option_and_then (geometry_with s) (as_object d)) (shape_in points d) g h in
     typed points (text_at (codes "type") d) (get (codes "boundaries") d) shape.0 shape.1
 
 items_supported : (points : List Point) (ds : Items) (gs : List Geometry) → read_items (geometry_of points) ds ≡ Some gs → first_unsupported ds ≡ None
 items_supported points no_items gs h = refl
 items_supported points (item d ds) gs h =
-    let g = then_some (λ y. option_map (λ ys. y ∷ ys) (read_items (geometry_of points) ds)) (geometry_of points d) gs h in
+    let g = and_then_some (λ y. option_map (λ ys. y ∷ ys) (read_items (geometry_of points) ds)) (geometry_of points d) gs h in
     let r = map_some (λ ys. g.0 ∷ ys) (read_items (geometry_of points) ds) gs g.2 in
     rw (geometry_supported points d g.0 g.1) (items_supported points ds r.0 r.1)
 
@@ -141,5 +131,5 @@ items_supported points (item d ds) gs h =
 pub geometries_supported : (points : List Point) (o : Option Data) (gs : List Geometry) → list_or_absent (geometry_of points) o ≡ Some gs → option_and_then first_unsupported (option_and_then as_array o) ≡ None
 geometries_supported points None gs h = refl
 geometries_supported points (Some d) gs h =
-    let ds = then_some (read_items (geometry_of points)) (as_array d) gs h in
+    let ds = and_then_some (read_items (geometry_of points)) (as_array d) gs h in
     ap (option_and_then first_unsupported) ds.1 ∙ items_supported points ds.0 gs ds.2

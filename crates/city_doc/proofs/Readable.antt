@@ -2,7 +2,7 @@
 use Rattle.std.proofs.Common.{◌≡◌, ℕ, zero, suc, ℤ, pos, negsuc, ◌<◌, List, [], ◌∷◌, Bool, true, false, true≢false, Option, Some, None, refl, sym, ap, ◌∙◌, arith}
 use Rattle.std.specs.Prelude.{length, option_and_then, option_map, slice_get, codes, is_some, if◌then◌else◌}
 use Rattle.std.specs.Str.{bytes_eq}
-use Rattle.std.proofs.lemmas.Bool.{ltb-true}
+use Rattle.std.proofs.lemmas.Bool.{ltb-true, and_parts}
 use Rattle.serde_json.specs.Data.{Data, null, boolean, number, string, array, object, Items, no_items, item, Members}
 use Rattle.serde_json.specs.Find.{get, get_member, as_str, as_object, as_number, as_i64}
 use Rattle.city_model.specs.declared.object.Geometry.{Geometry}
@@ -15,8 +15,9 @@ use Rattle.city_model.specs.Whole.{is_whole, items_whole}
 use Rattle.city_doc.specs.Bodies.{read_items, list_of, list_or_absent, point_at_place, point_at, surface_of, surfaces_of, shells_of, shape_of, shape_in, text_at, kept_if, without_geometry_members, geometry_with, geometry_of}
 use Rattle.city_doc.specs.Geometries.{natural, is_below, is_place, all_items, is_list_of, are_surfaces, is_boundaries, are_boundaries_of, is_geometry, are_geometries}
 use Rattle.city_doc.proofs.Cities.{get-object}
-use Rattle.city_doc.proofs.KeptMembers.{kept_all, whole_member, whole_object, geometry_admitted}
-use Rattle.city_doc.proofs.Right.{both, some_of, item_read}
+use Rattle.city_doc.proofs.KeptMembers.{kept_all, whole_member, geometry_admitted}
+use Rattle.city_doc.proofs.Right.{some_of, item_read}
+use Rattle.city_doc.proofs.WholeParts.{as_object-whole}
 
 -- ---- lists
 
@@ -24,8 +25,8 @@ module _ {X : Type 0} (test : Data → Bool) (read : Data → Option X) (one : (
   items_some : (ds : Items) → items_whole ds ≡ true → all_items test ds ≡ true → (xs : List X) × (read_items read ds ≡ Some xs)
   items_some no_items whole h = ([], refl)
   items_some (item d ds) whole h =
-      let ws = both (is_whole d) (items_whole ds) whole in
-      let hs = both (test d) (all_items test ds) h in
+      let ws = and_parts (is_whole d) (items_whole ds) whole in
+      let hs = and_parts (test d) (all_items test ds) h in
       let x = one d ws.0 hs.0 in
       let xs = items_some ds ws.1 hs.1 in
       (x.0 ∷ xs.0, item_read read d ds x.0 xs.0 x.1 xs.1)
@@ -113,9 +114,9 @@ module _ (points : List Point) where
 
   geometry_some : (d : Data) → is_whole d ≡ true → is_geometry fits d ≡ true → (g : Geometry) × (geometry_of points d ≡ Some g)
   geometry_some d whole h =
-      let hs = both (is_some (text_at (codes "lod") d)) (are_boundaries_of fits (text_at (codes "type") d) (get (codes "boundaries") d)) h in
+      let hs = and_parts (is_some (text_at (codes "lod") d)) (are_boundaries_of fits (text_at (codes "type") d) (get (codes "boundaries") d)) h in
       let ms = has_members (codes "lod") d hs.0 in
-      let whole_members = whole_object d ms.0 whole ms.1 in
+      let whole_members = as_object-whole d ms.0 whole ms.1 in
       let boundaries = get-object (codes "boundaries") d ms.0 ms.1 in
       let shape = bounded (text_at (codes "type") d) (get (codes "boundaries") d) (λ b is. whole_member (codes "boundaries") ms.0 b whole_members (sym boundaries ∙ is)) hs.1 in
       let lod = some_of (text_at (codes "lod") d) hs.0 in

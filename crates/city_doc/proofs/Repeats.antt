@@ -3,6 +3,7 @@ use Rattle.std.proofs.Common.{◌≡◌, Bool, true, false, cond, not, List, [],
 use Rattle.std.specs.Prelude.{◌&&◌, ◌||◌, filter}
 use Rattle.std.specs.List.{list_any}
 use Rattle.std.proofs.lemmas.List.Folds.{list_any-append}
+use Rattle.std.proofs.Math.Bool.{or-false}
 use Rattle.city_model.specs.declared.object.Point.{Point}
 use Rattle.city_model.specs.Shells.{same_point}
 use Rattle.city_doc.specs.Pool.{without_repeats}
@@ -29,10 +30,6 @@ filter_nothing : (xs : List Point) → filter (is_new []) xs ≡ xs
 filter_nothing [] = refl
 filter_nothing (x ∷ xs) = ap (λ ys. x ∷ ys) (filter_nothing xs)
 
-or_false : (b : Bool) → (b || false) ≡ b
-or_false true = refl
-or_false false = refl
-
 not_or : (a b : Bool) → not (a || b) ≡ (not b && not a)
 not_or true true = refl
 not_or true false = refl
@@ -50,7 +47,7 @@ new_differs pool p q there =
 -- what is new beside p, too, is what is new and not p
 new_beside : (pool : List Point) (p q : Point) → is_new (pool ++ p ∷ []) q ≡ (differs p q && is_new pool q)
 new_beside pool p q =
-    ap not (list_any-append (same_point q) pool (p ∷ []) ∙ ap (λ b. list_any (same_point q) pool || b) (or_false (same_point q p) ∙ same_point-symm q p))
+    ap not (list_any-append (same_point q) pool (p ∷ []) ∙ ap (λ b. list_any (same_point q) pool || b) (or-false (same_point q p) ∙ same_point-symm q p))
     ∙ not_or (list_any (same_point q) pool) (same_point p q)
 
 pub with_points-is : (pool ps : List Point) → with_points pool ps ≡ pool ++ filter (is_new pool) (without_repeats ps)

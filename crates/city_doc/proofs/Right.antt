@@ -1,6 +1,7 @@
 -- What holds of a tree whose members are all as a document has them.
 use Rattle.std.proofs.Common.{◌≡◌, ℕ, ℤ, List, [], ◌∷◌, Bool, true, false, true≢false, Option, Some, None, refl, sym}
-use Rattle.std.specs.Prelude.{◌&&◌, option_and_then, option_map, codes, is_some, if◌then◌else◌}
+use Rattle.std.specs.Prelude.{option_and_then, option_map, codes, is_some, if◌then◌else◌}
+use Rattle.std.proofs.lemmas.Bool.{and_parts}
 use Rattle.serde_json.specs.Data.{Data, Items, no_items, item}
 use Rattle.serde_json.specs.Find.{get, at, as_array}
 use Rattle.city_model.specs.declared.object.Point.{Point}
@@ -9,10 +10,6 @@ use Rattle.city_doc.specs.Bodies.{read_items}
 use Rattle.city_doc.specs.Documents.{is_city_json, points_in}
 use Rattle.city_doc.specs.Frames.{is_text, is_transform, are_objects, are_vertices, judged, first_wrong, wrong_member}
 use Rattle.city_doc.specs.Triples.{whole_at, triple_of, point_of, points_of, all_triples, are_all_triples}
-
-pub both : (a b : Bool) → (a && b) ≡ true → (a ≡ true) × (b ≡ true)
-both true b h = (refl, h)
-both false b h = absurd (true≢false (sym h))
 
 pub some_of : {X : Type 0} (o : Option X) → is_some o ≡ true → (x : X) × (o ≡ Some x)
 some_of None h = absurd (true≢false (sym h))
@@ -76,12 +73,12 @@ item_read read d ds x xs one rest = rw (one, rest) refl
 points_some : (ds : Items) → all_triples ds ≡ true → (ps : List Point) × (read_items point_of ds ≡ Some ps)
 points_some no_items h = ([], refl)
 points_some (item d ds) h =
-    let hs = both (is_some (triple_of d)) (all_triples ds) h in
+    let hs = and_parts (is_some (triple_of d)) (all_triples ds) h in
     let p = some_of (point_of d) (point_some d hs.0) in
     let ps = points_some ds hs.1 in
     (p.0 ∷ ps.0, item_read point_of d ds p.0 ps.0 p.1 ps.1)
 
-array_some : (o : Option Items) → are_all_triples o ≡ true → (ps : List Point) × (option_and_then (read_items point_of) o ≡ Some ps)
+pub array_some : (o : Option Items) → are_all_triples o ≡ true → (ps : List Point) × (option_and_then (read_items point_of) o ≡ Some ps)
 array_some None h = absurd (true≢false (sym h))
 array_some (Some ds) h = points_some ds h
 

@@ -1,5 +1,5 @@
 -- The canonical tree of a city stands for that city.
-use Rattle.std.proofs.Common.{◌≡◌, ℕ, List, true, Some, sym, codes, nat_cmp, refl, ap, ◌∙◌}
+use Rattle.std.proofs.Common.{◌≡◌, true, Some, codes, nat_cmp, refl, ap, ◌∙◌}
 use Rattle.std.specs.Prelude.{option_and_then}
 use Rattle.std.specs.Cmp.Lexicographic.{slice_cmp}
 use Rattle.std.specs.List.Sorted.{IsStrictlySortedBy}
@@ -7,7 +7,7 @@ use Rattle.std.specs.Map.{keys_of}
 use Rattle.serde_json.specs.Data.{Data}
 use Rattle.serde_json.specs.Find.{as_object}
 use Rattle.serde_json.proofs.Views.{get_member-put}
-use Rattle.city_doc.specs.Documents.{CityValue, is_city_json, points_in, entries_of, entries_in, city_of, StandsForCity}
+use Rattle.city_doc.specs.Documents.{CityValue, is_city_json, points_in, entries_of, entries_in, city_of}
 use Rattle.city_doc.specs.Frames.{frame_of, frame_of_rest}
 use Rattle.city_doc.specs.Canonical.{vertices_data, objects_data, frame_members, tree_of}
 use Rattle.city_doc.specs.KeptMembers.{IsKeptCity}
@@ -53,11 +53,3 @@ module _ (c : CityValue) (kept : IsKeptCity c) (numbers : IsInRange (pool_of c) 
   -- what is written stands for the city
   pub city_read : city_of (tree_of c) ≡ Some c
   city_read = rw (is_document, points_read, objects_read, top_read) refl
-
--- a text stands for one city
-pub one_city : (text : List ℕ) (c other : CityValue) → StandsForCity text c → StandsForCity text other → other ≡ c
-one_city text c other (d, (utf, is), read) (e, (utf_e, is_e), read_e) =
-    let trees : Some d ≡ Some e = sym is ∙ is_e in
-    let same : d ≡ e = cc in
-    let cities : Some c ≡ Some other = sym read ∙ ap city_of same ∙ read_e in
-    cc

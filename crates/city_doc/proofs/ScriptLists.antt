@@ -1,5 +1,5 @@
 -- Lists of the trees of commands: which of them end a script, and what is taken out of its members.
-use Rattle.std.proofs.Common.{◌≡◌, ℕ, ◌+◌, ◌-◌, ◌<◌, ◌≤◌, suc, List, [], ◌∷◌, true, length, map, drop, get_or, Option, Some, option_map, refl, sym, ap, ◌∙◌, arith, length-drop}
+use Rattle.std.proofs.Common.{◌≡◌, ℕ, ◌+◌, ◌<◌, suc, List, [], ◌∷◌, true, length, map, drop, get_or, Option, Some, option_map, refl, sym, ap, ◌∙◌, arith, length-drop}
 use Rattle.std.specs.Prelude.{◌==◌, option_and_then, codes}
 use Rattle.std.proofs.Math.Seq.{drop-cons}
 use Rattle.serde_json.specs.Data.{Data, Members}
@@ -11,6 +11,7 @@ use Rattle.city_model.specs.Scripts.{is_end, is_empty_list, ends_once}
 use Rattle.city_model.proofs.MemberLaws.{get_member-without}
 use Rattle.city_doc.specs.CommandForms.{text_in, command_of}
 use Rattle.city_doc.specs.ScriptTrees.{array_of, ended, is_end_word, is_last, word_ends, commands_in, parts_in, all_read}
+use Rattle.city_model.proofs.Endings.{zero_rest}
 use Rattle.city_doc.proofs.AllRead.{all_read-cons, all_read-nil}
 use Rattle.city_doc.proofs.CommandMeanings.{command_of-end}
 
@@ -19,9 +20,6 @@ use Rattle.city_doc.proofs.CommandMeanings.{command_of-end}
 is_last-length : {A : Type 0} (f : A → Data) (xs : List A) (n : ℕ) → length xs ≡ n → is_last (map f xs) ≡ (n == 0)
 is_last-length f [] n e = grind (arith, e)
 is_last-length f (x ∷ xs) n e = grind (arith, e)
-
-zero_rest : (n m k : ℕ) → n ≤ m → k ≡ m - n → (k == 0) ≡ (n == m)
-zero_rest n m k h e = grind (arith, h, e)
 
 -- a word that ends a script is the last tree, or the list is no script's
 pub word_ends-drop : {A : Type 0} (f : A → Data) (xs : List A) (i : ℕ) (x : A) → i < length xs → x ≡ get_or xs i x → is_end_word (f x) ≡ true

@@ -2,6 +2,7 @@
 use Rattle.std.proofs.Common.{◌≡◌, ℕ, suc, ℤ, List, [], ◌∷◌, length, Bool, true, false, true≢false, Option, Some, None, option_map, refl, sym, ap, ◌∙◌}
 use Rattle.std.specs.Prelude.{◌&&◌, option_and_then, is_some, codes, slice_get, if◌then◌else◌}
 use Rattle.std.specs.List.{list_all}
+use Rattle.std.proofs.lemmas.Bool.{and_parts}
 use Rattle.serde_json.specs.Data.{Data, Items, no_items, item, Members}
 use Rattle.serde_json.specs.Find.{at, get_member, as_object, as_array}
 use Rattle.city_model.specs.declared.object.Point.{Point}
@@ -9,14 +10,15 @@ use Rattle.city_model.specs.declared.command.Command.{Command}
 use Rattle.city_model.specs.Runs.{Scripted}
 use Rattle.city_model.specs.Whole.{is_whole}
 use Rattle.city_doc.specs.Bodies.{read_items}
-use Rattle.city_doc.specs.Triples.{whole_at, triple_of, point_of, all_triples, are_all_triples}
+use Rattle.city_doc.specs.Triples.{whole_at, triple_of, point_of}
 use Rattle.city_doc.specs.BadCommands.{is_bad_command, is_misplaced}
 use Rattle.city_doc.specs.CommandForms.{text_in, command_of}
 use Rattle.city_doc.specs.ScriptTexts.{AreFaultlessParts}
 use Rattle.city_doc.specs.ScriptTrees.{ScriptParts, items_list, array_of, all_read, ended, word_ends, are_vertices, commands_in, has_script_members, parts_in, parts_if, parts_of, vertex_points, count_of, vertex_count, script_of, are_too_many, scripts_of_parts, scripts_of}
-use Rattle.city_doc.proofs.AllRead.{both, in_all, all_read-all, all_read-some, all_read-each}
+use Rattle.city_doc.proofs.AllRead.{in_all, all_read-all, all_read-some, all_read-each}
 use Rattle.city_doc.proofs.CommandMeanings.{command_of-some, command_of-faultless}
 use Rattle.city_doc.proofs.Options.{and_then_some, map_some, if_some}
+use Rattle.city_doc.proofs.Right.{array_some}
 use Rattle.city_doc.proofs.WholeParts.{array_of-whole, as_object-whole, get_member-whole}
 
 -- ---- the points of vertices
@@ -32,21 +34,9 @@ three_points false (Some x) (Some y) (Some z) h = (record { x = x; y = y; z = z 
 triple-point : (d : Data) → is_some (triple_of d) ≡ true → (p : Point) × (point_of d ≡ Some p)
 triple-point d h = three_points (is_some (at 3 d)) (whole_at 0 d) (whole_at 1 d) (whole_at 2 d) h
 
-triples-points : (ds : Items) → all_triples ds ≡ true → (ps : List Point) × (read_items point_of ds ≡ Some ps)
-triples-points no_items h = ([], refl)
-triples-points (item d ds) h =
-    let hs = both (is_some (triple_of d)) (all_triples ds) h in
-    let p = triple-point d hs.0 in
-    let ps = triples-points ds hs.1 in
-    (p.0 ∷ ps.0, rw (p.1, ps.1) refl)
-
-array-points : (o : Option Items) → are_all_triples o ≡ true → (ps : List Point) × (option_and_then (read_items point_of) o ≡ Some ps)
-array-points None h = absurd (true≢false (sym h))
-array-points (Some ds) h = triples-points ds h
-
 vertices-points : (v : Option Data) → are_vertices v ≡ true → (ps : List Point) × (vertex_points v ≡ Some ps)
 vertices-points None h = ([], refl)
-vertices-points (Some d) h = array-points (as_array d) h
+vertices-points (Some d) h = array_some (as_array d) h
 
 -- as many are read as there are
 items-as_many : {A : Type 0} (read : Data → Option A) (ds : Items) (xs : List A) → read_items read ds ≡ Some xs → length xs ≡ length (items_list ds)
@@ -88,7 +78,7 @@ parts_in-good ms p shape whole h =
     let r = and_then_some (λ (name : List ℕ). option_map (λ (commands : List Data). let q : ScriptParts = record { name = name; commands = commands; vertices = get_member (codes "vertices") ms } in q)
     (commands_in ms)) (text_in (codes "name") ms) p h in
     let q = map_some (λ (commands : List Data). let q : ScriptParts = record { name = r.0; commands = commands; vertices = get_member (codes "vertices") ms } in q) (commands_in ms) p r.2 in
-    let vertices : are_vertices (get_member (codes "vertices") ms) ≡ true = (both _ _ shape).1 in
+    let vertices : are_vertices (get_member (codes "vertices") ms) ≡ true = (and_parts _ _ shape).1 in
     let all : list_all is_whole q.0 ≡ true = commands_whole ms q.0 whole q.1 in
     ap are_good_parts q.2 ∙ rw (vertices, all) refl
 
@@ -121,7 +111,7 @@ command_there p points whole h read i d at =
 
 script_some : (p : ScriptParts) → are_good_parts p ≡ true → IsFaultlessScript p → (s : Scripted) × (script_of p ≡ Some s)
 script_some p ok h =
-    let hs = both (are_vertices p.vertices) (list_all is_whole p.commands) ok in
+    let hs = and_parts (are_vertices p.vertices) (list_all is_whole p.commands) ok in
     let points = vertices-points p.vertices hs.0 in
     let cs = all_read-some (command_of points.0) p.commands (command_there p points.0 hs.1 h points.1) in
     ((p.name, cs.0), rw (points.1, cs.1) refl)

@@ -1,6 +1,7 @@
 -- A tree of whole numbers that has the form of a document has a city.
 use Rattle.std.proofs.Common.{◌≡◌, ℕ, ℤ, List, [], ◌∷◌, true, true≢false, Option, Some, None, refl, sym, ap, subst, ◌∙◌}
 use Rattle.std.specs.Prelude.{length, MatchOption, option_and_then, codes, is_some}
+use Rattle.std.proofs.lemmas.Bool.{and_parts}
 use Rattle.serde_json.specs.Data.{Data, null, boolean, number, string, array, object, Members, no_members, member}
 use Rattle.serde_json.specs.Find.{get, get_member, as_object}
 use Rattle.city_model.specs.declared.frame.Frame.{Frame}
@@ -22,11 +23,12 @@ use Rattle.city_doc.specs.LenientCities.{lenient_entries_of, lenient_city_of, Is
 use Rattle.city_doc.specs.ObjectFaults.{is_unknown_type, is_bad_geometry, has_bad_vertex, has_bad_list}
 use Rattle.city_doc.specs.Searches.{first_with}
 use Rattle.city_doc.proofs.Cities.{get-object, objects_at, city_joined}
-use Rattle.city_doc.proofs.KeptMembers.{kept_all, whole_member, whole_object, transform_admitted, top_admitted}
+use Rattle.city_doc.proofs.KeptMembers.{kept_all, whole_member, transform_admitted, top_admitted}
 use Rattle.city_doc.proofs.LenientEntries.{none_first, entries_of-lenient}
 use Rattle.city_doc.proofs.Order.{first_in}
 use Rattle.city_doc.proofs.ReadBodies.{IsReadable, body_of-some}
-use Rattle.city_doc.proofs.Right.{IsRight, is_right, both, some_of, has_points}
+use Rattle.city_doc.proofs.Right.{IsRight, is_right, some_of, has_points}
+use Rattle.city_doc.proofs.WholeParts.{as_object-whole}
 
 -- ---- the frame
 
@@ -50,9 +52,9 @@ frame_some extra t scale translate more is_scale is_translate has_more =
 
 transform_read : (extra : Members) (t : Data) → is_whole t ≡ true → is_transform (Some t) ≡ true → (f : Frame) × (frame_with extra t ≡ Some f)
 transform_read extra t whole h =
-    let hs = both (has_triple (codes "scale") t) (has_triple (codes "translate") t) h in
+    let hs = and_parts (has_triple (codes "scale") t) (has_triple (codes "translate") t) h in
     let ms = scaled_object t hs.0 in
-    let kept = kept_all kept_at_transform (without_transform_members ms.0) (transform_admitted ms.0 (whole_object t ms.0 whole ms.1)) in
+    let kept = kept_all kept_at_transform (without_transform_members ms.0) (transform_admitted ms.0 (as_object-whole t ms.0 whole ms.1)) in
     let scale = some_of (triple_at (codes "scale") t) hs.0 in
     let translate = some_of (triple_at (codes "translate") t) hs.1 in
     frame_some extra t scale.0 translate.0 _ scale.1 translate.1 (more_some t ms.0 _ ms.1 kept)
@@ -115,7 +117,7 @@ record HasParts (d : Data) : Type 0 where
 has_parts : (d : Data) → is_whole d ≡ true → IsRight d → HasParts d
 has_parts d whole right =
     let top = document_object d right.transform_is in
-    let whole_top = whole_object d top.0 whole top.1 in
+    let whole_top = as_object-whole d top.0 whole top.1 in
     let frame = frame_read top.0 whole_top (ap is_empty_object_or_absent (sym (get-object (codes "extensions") d top.0 top.1)) ∙ right.extensions_are)
     (ap is_transform (sym (get-object (codes "transform") d top.0 top.1)) ∙ right.transform_is) in
     let are = ap are_objects (sym (get-object (codes "CityObjects") d top.0 top.1)) ∙ right.objects_are in
@@ -128,7 +130,7 @@ has_parts d whole right =
       objects = objects.0;
       are_objects = objects.1;
       all = objects.2;
-      whole = whole_object member.0 objects.0 (whole_member (codes "CityObjects") top.0 member.0 whole_top member.1) is_object;
+      whole = as_object-whole member.0 objects.0 (whole_member (codes "CityObjects") top.0 member.0 whole_top member.1) is_object;
       frame = frame.0;
       is_frame = frame.1;
     }
@@ -137,8 +139,8 @@ has_parts d whole right =
 
 starts_readable : (points : List Point) (id : List ℕ) (d : Data) (ms : Members) → members_whole (member id d ms) ≡ true → all_objects (member id d ms) ≡ true → AreReadable (length points) (member id d ms) → StartsReadable points d ms
 starts_readable points id d ms whole are h =
-    let w = both (is_whole d) (members_whole ms) whole in
-    let a = both (is_some (as_object d)) (all_objects ms) are in
+    let w = and_parts (is_whole d) (members_whole ms) whole in
+    let a = and_parts (is_some (as_object d)) (all_objects ms) are in
     let known = none_first (is_unknown_type d) id (first_with is_unknown_type ms) h.known in
     let supported = none_first (is_unsupported d) id (first_with is_unsupported ms) h.supported in
     let formed = none_first (is_bad_geometry d) id (first_with is_bad_geometry ms) h.formed in

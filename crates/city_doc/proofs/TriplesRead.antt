@@ -3,12 +3,12 @@ use Rattle.std.proofs.Common.{◌≡◌, true, true≢false, List, [], ◌∷◌
 use Rattle.std.specs.Prelude.{◌&&◌, ◌==◌}
 use Rattle.std.specs.List.{list_all}
 use Rattle.std.proofs.lemmas.Bool.Decides.{nat_tests}
+use Rattle.std.proofs.lemmas.Bool.{and_parts}
 use Rattle.serde_json.specs.Find.{as_i64, of_integer}
 use Rattle.city_model.specs.declared.object.Point.{Point}
 use Rattle.city_doc.specs.Triples.{triple_of, point_of, points_of}
 use Rattle.city_doc.specs.Canonical.{triple_data, vertex_data, vertices_data}
 use Rattle.city_doc.specs.Ranges.{is_i64, is_i64_triple, is_i64_point}
-use Rattle.city_doc.proofs.AllRead.{both}
 use Rattle.city_doc.proofs.ListsRead.{list_read}
 
 pub integer_read : (z : ℤ) → is_i64 z ≡ true → as_i64 (of_integer z) ≡ Some z
@@ -23,15 +23,15 @@ triple_read [] h = absurd (true≢false (sym h))
 triple_read (x ∷ []) h = absurd (true≢false (sym h))
 triple_read (x ∷ y ∷ []) h = absurd (true≢false (sym h))
 triple_read (x ∷ y ∷ z ∷ []) h =
-    let hs = both (is_i64 x) (list_all is_i64 (y ∷ z ∷ [])) h in
-    let ks = both (is_i64 y) (list_all is_i64 (z ∷ [])) hs.1 in
-    three_read x y z hs.0 ks.0 (both (is_i64 z) true ks.1).0
-triple_read (x ∷ y ∷ z ∷ w ∷ ws) h = let size = both (length (x ∷ y ∷ z ∷ w ∷ ws) == 3) (list_all is_i64 (x ∷ y ∷ z ∷ w ∷ ws)) h in absurd (grind (arith, nat_tests, size.0))
+    let hs = and_parts (is_i64 x) (list_all is_i64 (y ∷ z ∷ [])) h in
+    let ks = and_parts (is_i64 y) (list_all is_i64 (z ∷ [])) hs.1 in
+    three_read x y z hs.0 ks.0 (and_parts (is_i64 z) true ks.1).0
+triple_read (x ∷ y ∷ z ∷ w ∷ ws) h = let size = and_parts (length (x ∷ y ∷ z ∷ w ∷ ws) == 3) (list_all is_i64 (x ∷ y ∷ z ∷ w ∷ ws)) h in absurd (grind (arith, nat_tests, size.0))
 
 vertex_read : (p : Point) → is_i64_point p ≡ true → point_of (vertex_data p) ≡ Some p
 vertex_read p h =
-    let two = both (is_i64 p.x && is_i64 p.y) (is_i64 p.z) h in
-    let one = both (is_i64 p.x) (is_i64 p.y) two.0 in
+    let two = and_parts (is_i64 p.x && is_i64 p.y) (is_i64 p.z) h in
+    let one = and_parts (is_i64 p.x) (is_i64 p.y) two.0 in
     rw (integer_read p.x one.0, integer_read p.y one.1, integer_read p.z two.1) refl
 
 pub vertices_read : (ps : List Point) → list_all is_i64_point ps ≡ true → points_of (vertices_data ps) ≡ Some ps

@@ -4,13 +4,13 @@ use Rattle.std.proofs.lemmas.List.{length-map}
 use Rattle.std.specs.Ordering.{match_ordering}
 use Rattle.std.specs.Cmp.Lexicographic.{slice_cmp}
 use Rattle.std.specs.List.{list_all}
+use Rattle.std.proofs.lemmas.Bool.{and_parts}
 use Rattle.serde_json.specs.Data.{Data, null, boolean, number, string, array, object, Items, no_items, item, Members, no_members, member}
-use Rattle.serde_json.specs.Find.{get, get_member, as_object, as_array}
+use Rattle.serde_json.specs.Find.{get_member, as_object, as_array}
 use Rattle.serde_json.specs.View.{view, items_of, items_view}
 use Rattle.serde_json.specs.declared.value.Value.{Value}
 use Rattle.city_model.specs.Whole.{is_whole, items_whole, members_whole}
 use Rattle.city_doc.specs.ScriptTrees.{items_list, array_of, count_of}
-use Rattle.city_doc.proofs.AllRead.{both}
 
 pub items_list-of : (ds : List Data) → items_list (items_of ds) ≡ ds
 items_list-of [] = refl
@@ -22,7 +22,7 @@ count_of-items d vs h = ap (λ o. count_of (option_map items_list o)) h ∙ ap l
 
 items_list-whole : (ds : Items) → items_whole ds ≡ true → list_all is_whole (items_list ds) ≡ true
 items_list-whole no_items h = refl
-items_list-whole (item d ds) h = let hs = both (is_whole d) (items_whole ds) h in rw (hs.0, items_list-whole ds hs.1) refl
+items_list-whole (item d ds) h = let hs = and_parts (is_whole d) (items_whole ds) h in rw (hs.0, items_list-whole ds hs.1) refl
 
 array_whole : (o : Option Items) (ds : List Data) → ((es : Items) → o ≡ Some es → items_whole es ≡ true) → option_map items_list o ≡ Some ds → list_all is_whole ds ≡ true
 array_whole None ds h e = absurd (let no : ⊥ = cc in no)
@@ -67,14 +67,5 @@ found_whole Greater r e d h one rest = rest h
 pub get_member-whole : (k : List ℕ) (ms : Members) (d : Data) → members_whole ms ≡ true → get_member k ms ≡ Some d → is_whole d ≡ true
 get_member-whole k no_members d h e = absurd (let no : ⊥ = cc in no)
 get_member-whole k (member l x ms) d h e =
-    let hs = both (is_whole x) (members_whole ms) h in
+    let hs = and_parts (is_whole x) (members_whole ms) h in
     found_whole (slice_cmp nat_cmp k l) (get_member k ms) x d e hs.0 (get_member-whole k ms d hs.1)
-
--- a member of an object is one of its members
-pub get-object : (k : List ℕ) (d : Data) (ms : Members) → as_object d ≡ Some ms → get k d ≡ get_member k ms
-get-object k null ms e = absurd (let no : ⊥ = cc in no)
-get-object k (boolean b) ms e = absurd (let no : ⊥ = cc in no)
-get-object k (number n) ms e = absurd (let no : ⊥ = cc in no)
-get-object k (string s) ms e = absurd (let no : ⊥ = cc in no)
-get-object k (array ds) ms e = absurd (let no : ⊥ = cc in no)
-get-object k (object ns) ms e = let is : Some ns ≡ Some ms = e in let same : ns ≡ ms = cc in ap (get_member k) same

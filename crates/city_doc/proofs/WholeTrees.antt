@@ -4,7 +4,7 @@ use Rattle.std.specs.Prelude.{◌&&◌, ◌^◌, nat_lt, is_some}
 use Rattle.std.specs.Cmp.Lexicographic.{slice_cmp}
 use Rattle.std.specs.List.{list_all}
 use Rattle.std.specs.Ordering.{match_ordering}
-use Rattle.std.proofs.lemmas.Bool.{lt-ltb}
+use Rattle.std.proofs.lemmas.Bool.{lt-ltb, and_parts}
 use Rattle.std.proofs.lemmas.List.Sums.{prefix_len-le-length}
 use Rattle.serde_json.specs.Data.{Data, string, Members, no_members, member, put}
 use Rattle.serde_json.specs.Find.{get_member}
@@ -25,7 +25,6 @@ use Rattle.city_doc.specs.Documents.{CityValue}
 use Rattle.city_doc.specs.KeptMembers.{is_kept_geometry, is_kept_object, are_kept_objects, IsKeptCity}
 use Rattle.city_doc.specs.Pool.{place_of}
 use Rattle.city_doc.specs.Ranges.{is_i64, is_i64_triple, is_i64_point, IsInRange}
-use Rattle.city_doc.proofs.AllRead.{both}
 use Rattle.city_doc.proofs.TriplesRead.{integer_read}
 
 -- ---- members and lists
@@ -33,7 +32,7 @@ use Rattle.city_doc.proofs.TriplesRead.{integer_read}
 put_whole : (k : List ℕ) (d : Data) (ms : Members) → is_whole d ≡ true → members_whole ms ≡ true → members_whole (put k d ms) ≡ true
 put_whole k d no_members h hs = rw h refl
 put_whole k d (member l e ms) h hs =
-    let parts = both (is_whole e) (members_whole ms) hs in
+    let parts = and_parts (is_whole e) (members_whole ms) hs in
     elim (slice_cmp nat_cmp k l) as (λ o. members_whole (match_ordering o (member k d (member l e ms)) (member l d ms) (member l e (put k d ms))) ≡ true) [
       | Less ↦ rw (h, parts.0, parts.1) refl
       | Equal ↦ rw (h, parts.1) refl
@@ -43,7 +42,7 @@ put_whole k d (member l e ms) h hs =
 list_whole : {A : Type 0} (f : A → Data) (ok : A → Bool) → ((x : A) → ok x ≡ true → is_whole (f x) ≡ true) → (xs : List A) → list_all ok xs ≡ true → items_whole (items_of (map f xs)) ≡ true
 list_whole f ok each [] h = refl
 list_whole f ok each (x ∷ xs) h =
-    let parts = both (ok x) (list_all ok xs) h in
+    let parts = and_parts (ok x) (list_all ok xs) h in
     let first : is_whole (f x) ≡ true = each x parts.0 in
     rw (first, list_whole f ok each xs parts.1) refl
 
@@ -65,20 +64,20 @@ triple_whole zs h = list_whole integer_data is_i64 integer_whole zs h
 
 vertex_whole : (p : Point) → is_i64_point p ≡ true → is_whole (vertex_data p) ≡ true
 vertex_whole p h =
-    let two = both (is_i64 p.x && is_i64 p.y) (is_i64 p.z) h in
-    let one = both (is_i64 p.x) (is_i64 p.y) two.0 in
+    let two = and_parts (is_i64 p.x && is_i64 p.y) (is_i64 p.z) h in
+    let one = and_parts (is_i64 p.x) (is_i64 p.y) two.0 in
     triple_whole (p.x ∷ p.y ∷ p.z ∷ []) (rw (one.0, one.1, two.1) refl)
 
 -- ---- geometries and objects
 
 at_geometry : (ms : Members) → kept_at_geometry ms ≡ true → members_whole ms ≡ true
-at_geometry ms h = (both (members_whole ms) (lacks_both (codes "type") (codes "lod") ms) (both (members_whole ms && lacks_both (codes "type") (codes "lod") ms) (lacks (codes "boundaries") ms) h).0).0
+at_geometry ms h = (and_parts (members_whole ms) (lacks_both (codes "type") (codes "lod") ms) (and_parts (members_whole ms && lacks_both (codes "type") (codes "lod") ms) (lacks (codes "boundaries") ms) h).0).0
 
 at_object : (ms : Members) → kept_at_object ms ≡ true → members_whole ms ≡ true
 at_object ms h =
     let own = lacks_both (codes "type") (codes "geometry") ms in
     let relations = lacks_both (codes "parents") (codes "children") ms in
-    (both (members_whole ms) own (both (members_whole ms && own) relations (both (members_whole ms && own && relations) (not (has_location (get_member (codes "address") ms))) h).0).0).0
+    (and_parts (members_whole ms) own (and_parts (members_whole ms && own) relations (and_parts (members_whole ms && own && relations) (not (has_location (get_member (codes "address") ms))) h).0).0).0
 
 module _ (pool : List Point) (fewer : length pool < 2 ^ 63) where
   point_whole : (p : Point) → is_whole (point_data pool p) ≡ true
@@ -111,7 +110,7 @@ module _ (pool : List Point) (fewer : length pool < 2 ^ 63) where
   object_whole : (o : Object) → is_kept_object o ≡ true → is_whole (object_data pool o) ≡ true
   unfolding is_kept_object
   object_whole o h =
-      let parts = both (kept_at_object o.body.extra) (list_all is_kept_geometry o.body.geometry) h in
+      let parts = and_parts (kept_at_object o.body.extra) (list_all is_kept_geometry o.body.geometry) h in
       let typed = put (codes "type") (string (name_of o.body.kind)) o.body.extra in
       let shaped = put_list (codes "geometry") (geometry_data pool) o.body.geometry typed in
       let below = put_list (codes "parents") string o.parents shaped in
@@ -123,23 +122,23 @@ module _ (pool : List Point) (fewer : length pool < 2 ^ 63) where
   objects_whole : (ms : Members) (es : Entries) → are_kept_objects es ≡ true → members_whole ms ≡ true → members_whole (with_objects pool ms es) ≡ true
   objects_whole ms [] h hs = hs
   objects_whole ms (e ∷ es) h hs =
-      let parts = both (is_kept_object e.1) (are_kept_objects es) h in
+      let parts = and_parts (is_kept_object e.1) (are_kept_objects es) h in
       objects_whole (put e.0 (object_data pool e.1) ms) es parts.1 (put_whole e.0 (object_data pool e.1) ms (object_whole e.1 parts.0) hs)
 
 -- ---- the top
 
 at_transform : (ms : Members) → kept_at_transform ms ≡ true → members_whole ms ≡ true
-at_transform ms h = (both (members_whole ms) (lacks_both (codes "scale") (codes "translate") ms) h).0
+at_transform ms h = (and_parts (members_whole ms) (lacks_both (codes "scale") (codes "translate") ms) h).0
 
 at_top : (ms : Members) → kept_at_top ms ≡ true → members_whole ms ≡ true
 at_top ms h =
     let named = lacks_both (codes "type") (codes "version") ms in
     let placed = lacks_both (codes "transform") (codes "CityObjects") ms in
-    let three = both (members_whole ms && named && placed && lacks (codes "vertices") ms) (is_empty_object_or_absent (get_member (codes "extensions") ms)) h in
-    (both (members_whole ms) named (both (members_whole ms && named) placed (both (members_whole ms && named && placed) (lacks (codes "vertices") ms) three.0).0).0).0
+    let three = and_parts (members_whole ms && named && placed && lacks (codes "vertices") ms) (is_empty_object_or_absent (get_member (codes "extensions") ms)) h in
+    (and_parts (members_whole ms) named (and_parts (members_whole ms && named) placed (and_parts (members_whole ms && named && placed) (lacks (codes "vertices") ms) three.0).0).0).0
 
 triple_numbers : (zs : List ℤ) → is_i64_triple zs ≡ true → list_all is_i64 zs ≡ true
-triple_numbers zs h = (both _ (list_all is_i64 zs) h).1
+triple_numbers zs h = (and_parts _ (list_all is_i64 zs) h).1
 
 transform_whole : (f : Frame) → is_i64_triple f.scale ≡ true → is_i64_triple f.translate ≡ true → kept_at_transform f.more ≡ true → is_whole (transform_data f) ≡ true
 transform_whole f in_scale in_translate h =

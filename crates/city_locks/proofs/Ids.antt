@@ -1,22 +1,15 @@
 -- What a lookup by an id finds.
-use Rattle.std.proofs.Common.{◌≡◌, ℕ, cond, true, false, List, ◌||◌, ap, sym, ◌∙◌, ◌+◌, ◌<◌, ◌==◌, length, take, get_or}
+use Rattle.std.proofs.Common.{◌≡◌, ℕ, cond, false, List, ◌||◌, ap, sym, ◌∙◌, ◌+◌, ◌<◌, ◌==◌, length, take, get_or}
 use Rattle.std.specs.Ordering.{nat_cmp}
-use Rattle.std.specs.Cmp.{Equal-is, tied_itself}
-use Rattle.std.specs.Cmp.Lexicographic.{slice_cmp}
+use Rattle.std.specs.Cmp.{Equal-is}
 use Rattle.std.specs.BTreeMap.{is_at}
 use Rattle.std.proofs.lemmas.List.Folds.{list_any_more}
 use Rattle.std.proofs.lemmas.Bool.{eqb-false, false_from_ne_true}
-use Rattle.std.proofs.lemmas.Cmp.{nat_list_cmp_total}
-use Rattle.std.proofs.lemmas.Map.Lookups.{exact_bytes, exact_unsigned}
-use Rattle.city_locks.specs.Locks.{same_id, lists}
+use Rattle.std.proofs.lemmas.Map.Lookups.{exact_unsigned}
+use Rattle.city_model.specs.CityMap.{same_id}
+use Rattle.city_model.proofs.Ids.{same_id_true}
+use Rattle.city_locks.specs.Locks.{lists}
 use Rattle.city_locks.proofs.Among.{by_test}
-
--- ids with the same bytes are equal
-pub same_id-true : (id q : List ℕ) → same_id id q ≡ true → id ≡ q
-same_id-true id q h = exact_bytes id q ((Equal-is (slice_cmp nat_cmp id q)).0 h)
-
-pub same_id-refl : (id : List ℕ) → same_id id id ≡ true
-same_id-refl id = (Equal-is (slice_cmp nat_cmp id id)).1 (tied_itself nat_list_cmp_total id)
 
 -- another stamp is at another place
 pub stamp_apart : (s t : ℕ) → (s == t) ≡ false → is_at (nat_cmp s) t ≡ false
@@ -25,7 +18,7 @@ stamp_apart s t e = false_from_ne_true (is_at (nat_cmp s) t) (λ h. eqb-false s 
 -- a choice at one id, where it is the old value anyway
 pub same_at_id : {A : Type 0} (f : List ℕ → A) (x : A) (id q : List ℕ) → x ≡ f id → f q ≡ cond (same_id id q) x (f q)
 same_at_id {A} f x id q e = by_test (same_id id q)
-    (λ t. ap f (sym (same_id-true id q t)) ∙ sym e ∙ ap (λ b. cond b x (f q)) (sym t))
+    (λ t. ap f (sym (same_id_true id q t)) ∙ sym e ∙ ap (λ b. cond b x (f q)) (sym t))
     (λ t. ap (λ b. cond b x (f q)) (sym t))
 
 -- one more id of a list

@@ -8,11 +8,13 @@ use Rattle.city_locks.specs.declared.answer.Answer.TheVariants.{Granted}
 use Rattle.city_locks.specs.declared.holder.Holder.{Holder}
 use Rattle.city_locks.specs.Mode.{stronger}
 use Rattle.city_locks.specs.Holders.{answer_among, mode_among, with_holder, without, Once}
-use Rattle.city_locks.specs.Locks.{Locks, same_id, lists, holders_of, answer_of, mode_of, Lawful}
+use Rattle.city_model.specs.CityMap.{same_id}
+use Rattle.city_locks.specs.Locks.{Locks, lists, holders_of, answer_of, mode_of, Lawful}
 use Rattle.city_locks.specs.Listing.{ids_of, IsListed}
 use Rattle.city_locks.proofs.Among.{by_test, mode_with, mode_without, without_absent, without_twice, lawful_with, lawful_without, own_answers, none_from, or_true}
 use Rattle.city_locks.proofs.Once.{once_with, once_without}
-use Rattle.city_locks.proofs.Ids.{same_id-true, same_id-refl, lists_more}
+use Rattle.city_model.proofs.Ids.{same_id_true, same_id_itself}
+use Rattle.city_locks.proofs.Ids.{lists_more}
 
 cond_and : {A : Type 0} (a b : Bool) (x y : A) → b ≡ true → cond a x y ≡ cond (a && b) x y
 cond_and true b x y e = ap (λ c. cond c x y) (sym e)
@@ -27,7 +29,7 @@ pub record Adds (v w : Locks) (s : ℕ) (id : List ℕ) (m : Mode) : Type 0 wher
   pub holders : (q : List ℕ) → holders_of w q ≡ cond (same_id id q) (with_holder (holders_of v id) s m) (holders_of v q)
 
 there : (v w : Locks) (s : ℕ) (id : List ℕ) (m : Mode) (q : List ℕ) → Adds v w s id m → same_id id q ≡ true → holders_of w q ≡ with_holder (holders_of v q) s m
-there v w s id m q h e = h.holders q ∙ ap (λ b. cond b (with_holder (holders_of v id) s m) (holders_of v q)) e ∙ ap (λ i. with_holder (holders_of v i) s m) (same_id-true id q e)
+there v w s id m q h e = h.holders q ∙ ap (λ b. cond b (with_holder (holders_of v id) s m) (holders_of v q)) e ∙ ap (λ i. with_holder (holders_of v i) s m) (same_id_true id q e)
 
 elsewhere : (v w : Locks) (s : ℕ) (id : List ℕ) (m : Mode) (q : List ℕ) → Adds v w s id m → same_id id q ≡ false → holders_of w q ≡ holders_of v q
 elsewhere v w s id m q h e = h.holders q ∙ ap (λ b. cond b (with_holder (holders_of v id) s m) (holders_of v q)) e
@@ -36,14 +38,14 @@ pub mode_added : (v w : Locks) (s : ℕ) (id : List ℕ) (m : Mode) → Adds v w
     mode_of w t q ≡ cond ((s == t) && same_id id q) (Some (stronger m (mode_of v s id))) (mode_of v t q)
 mode_added v w s id m h t q = by_test (same_id id q)
     (λ e. ap (λ hs. mode_among hs t) (there v w s id m q h e) ∙ mode_with (holders_of v q) s m t
-    ∙ ap (λ i. cond (s == t) (Some (stronger m (mode_of v s i))) (mode_of v t q)) (sym (same_id-true id q e))
+    ∙ ap (λ i. cond (s == t) (Some (stronger m (mode_of v s i))) (mode_of v t q)) (sym (same_id_true id q e))
     ∙ cond_and (s == t) (same_id id q) (Some (stronger m (mode_of v s id))) (mode_of v t q) e)
     (λ e. ap (λ hs. mode_among hs t) (elsewhere v w s id m q h e) ∙ cond_not (s == t) (same_id id q) (Some (stronger m (mode_of v s id))) (mode_of v t q) e)
 
 pub lawful_added : (v w : Locks) (s : ℕ) (id : List ℕ) (m : Mode) → Adds v w s id m → Lawful v → answer_of v s id m ≡ Granted → Lawful w
 lawful_added v w s id m h l g r t i ne x = by_test (same_id id i)
     (λ e. let k = there v w s id m i h e in
-    let a : answer_among (holders_of v i) s m ≡ Granted = ap (λ j. answer_of v s j m) (sym (same_id-true id i e)) ∙ g in
+    let a : answer_among (holders_of v i) s m ≡ Granted = ap (λ j. answer_of v s j m) (sym (same_id_true id i e)) ∙ g in
     ap (λ hs. mode_among hs t) k ∙ lawful_with (holders_of v i) s m (λ a b. l a b i) a r t ne (sym (ap (λ hs. mode_among hs r) k) ∙ x))
     (λ e. let k = elsewhere v w s id m i h e in
     ap (λ hs. mode_among hs t) k ∙ l r t i ne (sym (ap (λ hs. mode_among hs r) k) ∙ x))
@@ -64,7 +66,7 @@ pub listed_added : (v w : Locks) (l k : BTreeMap ℕ (List (List ℕ))) (s : ℕ
 listed_added v w l k s id m h i cover own = record {
   listed = λ t q x. by_test ((s == t) && same_id id q)
       (λ e. let p = and_parts (s == t) (same_id id q) e in
-      ap (λ r. lists (ids_of k r) q) (sym (eqb-true s t p.0)) ∙ ap (λ j. lists (ids_of k s) j) (sym (same_id-true id q p.1)) ∙ own)
+      ap (λ r. lists (ids_of k r) q) (sym (eqb-true s t p.0)) ∙ ap (λ j. lists (ids_of k s) j) (sym (same_id_true id q p.1)) ∙ own)
       (λ e. cover t q (i.listed t q (sym (ap is_some (mode_added v w s id m h t q ∙ ap (λ b. cond b (Some (stronger m (mode_of v s id))) (mode_of v t q)) e)) ∙ x)));
 }
 
@@ -84,7 +86,7 @@ listed_cover l k s id h t q x = by_test (s == t)
 
 pub listed_new : (l k : BTreeMap ℕ (List (List ℕ))) (s : ℕ) (id : List ℕ) → Lists l k s id → lists (ids_of k s) id ≡ true
 listed_new l k s id h = ap (λ ids. lists ids id) (listed_own l k s id h) ∙ list_any-append (λ d. same_id d id) (ids_of l s) (id ∷ [])
-    ∙ ap (λ b. lists (ids_of l s) id || (b || false)) (same_id-refl id) ∙ or_true (lists (ids_of l s) id)
+    ∙ ap (λ b. lists (ids_of l s) id || (b || false)) (same_id_itself id) ∙ or_true (lists (ids_of l s) id)
 
 -- ---- the locks of a stamp taken out
 pub record Frees (v w : Locks) (s : ℕ) : Type 0 where
@@ -132,7 +134,7 @@ pub release_more : (v u w : Locks) (s : ℕ) (ids : List (List ℕ)) (i : ℕ) (
     (q : List ℕ) → holders_of w q ≡ cond (lists (take (i + 1) ids) q) (without (holders_of v q) s) (holders_of v q)
 release_more v u w s ids i id lt at before now q =
     let here : holders_of w q ≡ cond (same_id id q) (without (holders_of u q) s) (holders_of u q) = by_test (same_id id q)
-    (λ e. now q ∙ ap (λ d. cond (same_id id q) (without (holders_of u d) s) (holders_of u q)) (same_id-true id q e))
+    (λ e. now q ∙ ap (λ d. cond (same_id id q) (without (holders_of u d) s) (holders_of u q)) (same_id_true id q e))
     (λ e. now q ∙ ap (λ b. cond b (without (holders_of u id) s) (holders_of u q)) e ∙ ap (λ b. cond b (without (holders_of u q) s) (holders_of u q)) (sym e)) in
     release_both (lists (take i ids) q) (same_id id q) s (holders_of v q) (holders_of u q) (holders_of w q) (before q) here
     ∙ ap (λ b. cond b (without (holders_of v q) s) (holders_of v q)) (sym (lists_more ids i id q lt at))

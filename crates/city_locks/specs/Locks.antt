@@ -5,6 +5,7 @@ use Rattle.std.specs.Map.{lookup}
 use Rattle.std.specs.Ordering.{nat_cmp}
 use Rattle.std.specs.Cmp.Lexicographic.{slice_cmp}
 use Rattle.std.specs.BTreeMap.{is_at}
+use Rattle.city_model.specs.CityMap.{same_id}
 use Rattle.city_locks.specs.declared.mode.Mode.{Mode}
 use Rattle.city_locks.specs.declared.mode.Mode.TheVariants.{Exclusive}
 use Rattle.city_locks.specs.declared.answer.Answer.{Answer}
@@ -13,10 +14,6 @@ use Rattle.city_locks.specs.Holders.{answer_among, mode_among}
 
 abbrev pub Locks : Type 0
 Locks = List (List ℕ × List Holder)
-
--- whether the two ids have the same bytes
-abbrev pub same_id : List ℕ → List ℕ → Bool
-same_id id q = is_at (slice_cmp nat_cmp id) q
 
 -- whether the id is in the list
 abbrev pub lists : List (List ℕ) → List ℕ → Bool

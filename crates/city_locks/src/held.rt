@@ -4,7 +4,8 @@ ghost use Rattle.std.specs.Ordering.{nat_cmp};
 ghost use Rattle.std.specs.Cmp.Lexicographic.{slice_cmp};
 ghost use Rattle.std.specs.BTreeMap.{get, is_at, IsOrdered};
 ghost use Rattle.city_locks.specs.Holders.{with_holder, without, mode_among};
-ghost use Rattle.city_locks.specs.Locks.{same_id, lists, holders_of, answer_of, mode_of};
+ghost use Rattle.city_model.specs.CityMap.{same_id};
+ghost use Rattle.city_locks.specs.Locks.{lists, holders_of, answer_of, mode_of};
 
 use crate::answer::Answer;
 use crate::holders::Holders;

@@ -3,7 +3,8 @@ ghost use Rattle.std.specs.Prelude.{◌≡◌, ◌≢◌, ℕ, List, ◌==◌, �
 ghost use Rattle.city_locks.specs.declared.mode.Mode.{Mode};
 ghost use Rattle.city_locks.specs.Mode.{stronger};
 ghost use Rattle.city_locks.specs.Holders.{with_holder, without};
-ghost use Rattle.city_locks.specs.Locks.{same_id, holders_of, answer_of, mode_of, Lawful};
+ghost use Rattle.city_model.specs.CityMap.{same_id};
+ghost use Rattle.city_locks.specs.Locks.{holders_of, answer_of, mode_of, Lawful};
 ghost use Rattle.city_locks.specs.Listing.{IsListed};
 ghost use Rattle.city_locks.specs.WaitDie.{IsWaitDie, conflicts};
 

@@ -1,19 +1,15 @@
 -- What a changed map holds at an id.
-use Rattle.std.proofs.Common.{◌≡◌, ℕ, List, [], ◌∷◌, Bool, true, false, ◌||◌, Option, None, refl, ap, sym, ◌∙◌}
+use Rattle.std.proofs.Common.{◌≡◌, ℕ, List, [], ◌∷◌, true, false, Option, None, refl, ap, ◌∙◌}
 use Rattle.std.specs.Prelude.{if◌then◌else◌, option_map}
 use Rattle.std.specs.Map.{keys_of}
-use Rattle.std.proofs.lemmas.Bool.{false≢true}
+use Rattle.std.proofs.lemmas.Bool.{or_parts}
 use Rattle.city_model.specs.declared.object.Object.{Object}
 use Rattle.city_model.specs.CityMap.{Entries, CityMap, at, changed, same_id, has_id}
 use Rattle.city_model.specs.Meaning.{attached, detached, deleted, with_parent, with_child, without_parent, without_child}
 
-pub neither_true : (a b : Bool) → (a || b) ≡ false → (a ≡ false) × (b ≡ false)
-neither_true true b h = absurd (false≢true (sym h))
-neither_true false b h = (refl, h)
-
 pub at_absent : (es : Entries) (id : List ℕ) → has_id (keys_of es) id ≡ false → at es id ≡ None
 at_absent [] id h = refl
-at_absent (e ∷ es) id h = let parts = neither_true (same_id id e.0) (has_id (keys_of es) id) h in rw parts.0 (at_absent es id parts.1)
+at_absent (e ∷ es) id h = let parts = or_parts (same_id id e.0) (has_id (keys_of es) id) h in rw parts.0 (at_absent es id parts.1)
 
 pub changed_apart : (m : CityMap) (id : List ℕ) (w : Option Object) (q : List ℕ) → same_id id q ≡ false → changed m id w q ≡ m q
 changed_apart m id w q h = ap (λ b. if b then w else m q) h

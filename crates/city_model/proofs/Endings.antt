@@ -9,7 +9,7 @@ is_empty_list-length : (cs : List Command) (n : ℕ) → length cs ≡ n → is_
 is_empty_list-length [] n e = grind (arith, e)
 is_empty_list-length (c ∷ cs) n e = grind (arith, e)
 
-zero_rest : (n m k : ℕ) → n ≤ m → k ≡ m - n → (k == 0) ≡ (n == m)
+pub zero_rest : (n m k : ℕ) → n ≤ m → k ≡ m - n → (k == 0) ≡ (n == m)
 zero_rest n m k h e = grind (arith, h, e)
 
 -- a command that ends the script is the last one, or the list is no script

@@ -1,6 +1,7 @@
 -- Scripts run one after another over small cities: what they reply, and what they leave.
 use Rattle.std.proofs.Common.{◌≡◌, refl, ap, ◌∙◌, arith}
 use Rattle.std.specs.Prelude.{option_map, ℕ, List, [], ◌∷◌, false, Some, None, codes}
+use Rattle.std.proofs.lemmas.Bool.{or_parts}
 use Rattle.city_model.specs.declared.object_type.ObjectType.TheVariants.{Building, BuildingPart, Road}
 use Rattle.city_model.specs.declared.command.Command.{Command}
 use Rattle.city_model.specs.declared.command.Command.TheVariants.{Read, Put, Delete, Attach, Commit}
@@ -10,7 +11,7 @@ use Rattle.city_model.specs.declared.end.Outcome.{Outcome}
 use Rattle.city_model.specs.CityMap.{same_id, has_id, Entries, CityMap, at, changed}
 use Rattle.city_model.specs.Meaning.{without_child, attached, deleted}
 use Rattle.city_model.specs.Runs.{Scripted, HasResult, model_after, Fits}
-use Rattle.city_model.proofs.Changed.{neither_true, at_absent, changed_apart, attached_apart, deleted_apart}
+use Rattle.city_model.proofs.Changed.{at_absent, changed_apart, attached_apart, deleted_apart}
 use Rattle.city_model.proofs.ExampleCities.{one_id, bare, object, alone}
 use Rattle.city_model.proofs.Ids.{same_id_back}
 use Rattle.city_model.proofs.NoOrphan.{is_orphan_there, no_orphan, orphan_apart, no_orphan_at, no_orphan_attached, no_orphan_put, no_orphan_deleted}
@@ -86,10 +87,10 @@ attached_sibling_stays = refl
 
 pub no_other_object_comes : (id : List ℕ) → has_id (codes "b1" ∷ codes "b2" ∷ codes "p" ∷ codes "q" ∷ []) id ≡ false → left id ≡ None
 no_other_object_comes id h =
-    let b1 = neither_true (same_id id (codes "b1")) (has_id (codes "b2" ∷ codes "p" ∷ codes "q" ∷ []) id) h in
-    let b2 = neither_true (same_id id (codes "b2")) (has_id (codes "p" ∷ codes "q" ∷ []) id) b1.1 in
-    let p = neither_true (same_id id (codes "p")) (has_id (codes "q" ∷ []) id) b2.1 in
-    let q = neither_true (same_id id (codes "q")) false p.1 in
+    let b1 = or_parts (same_id id (codes "b1")) (has_id (codes "b2" ∷ codes "p" ∷ codes "q" ∷ []) id) h in
+    let b2 = or_parts (same_id id (codes "b2")) (has_id (codes "p" ∷ codes "q" ∷ []) id) b1.1 in
+    let p = or_parts (same_id id (codes "p")) (has_id (codes "q" ∷ []) id) b2.1 in
+    let q = or_parts (same_id id (codes "q")) false p.1 in
     let before : at two_buildings id ≡ None = at_absent two_buildings id (rw (b1.0, b2.0, p.0) refl) in
     let put : with_part id ≡ None = changed_apart (at two_buildings) (codes "q") (Some (alone BuildingPart)) id (same_id_back (codes "q") id ∙ q.0) ∙ before in
     let tied : both_parts id ≡ None = attached_apart with_part (codes "q") (codes "b2") id (same_id_back (codes "q") id ∙ q.0) (same_id_back (codes "b2") id ∙ b2.0) ∙ put in

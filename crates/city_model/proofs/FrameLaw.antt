@@ -1,7 +1,7 @@
 -- A command reads and writes only what it locks.
 use Rattle.std.proofs.Common.{◌≡◌, ℕ, List, [], ◌∷◌, length, Bool, true, false, ◌||◌, Option, Some, None, refl, ap, sym, ◌∙◌}
 use Rattle.std.specs.Prelude.{◌==◌, if◌then◌else◌, option_map}
-use Rattle.std.proofs.lemmas.Bool.{false≢true, false_from_ne_true}
+use Rattle.std.proofs.lemmas.Bool.{false≢true, false_from_ne_true, or_parts, or_left, or_right}
 use Rattle.city_model.specs.declared.object.Object.{Object}
 use Rattle.city_model.specs.declared.command.Cause.{Cause}
 use Rattle.city_model.specs.declared.command.Cause.TheVariants.{HasChildren}
@@ -12,9 +12,9 @@ use Rattle.city_model.specs.Meaning.{read_reply, with_body, put_cause, put_done,
 use Rattle.city_model.specs.Shells.{body_fault}
 use Rattle.city_model.specs.Relations.{IsSound}
 use Rattle.city_model.specs.Standing.{Lock, exclusive_ids, names, names_exclusively}
-use Rattle.city_model.proofs.Changed.{neither_true, changed_apart, attached_apart, detached_apart, deleted_apart}
+use Rattle.city_model.proofs.Changed.{changed_apart, attached_apart, detached_apart, deleted_apart}
 use Rattle.city_model.proofs.Ids.{same_id_itself, same_id_back}
-use Rattle.city_model.proofs.IdLists.{bool_cases, not_both, or_left, or_right, without_absent}
+use Rattle.city_model.proofs.IdLists.{bool_cases, not_both, without_absent}
 
 pub exclusive_is_named : (ls : List Lock) (id : List ℕ) → names_exclusively ls id ≡ true → names ls id ≡ true
 exclusive_is_named [] id h = h
@@ -54,7 +54,7 @@ frame_delete : (m : CityMap) (id q : List ℕ) (w : Option Object) → m id ≡ 
 frame_delete m id q None is s h e = cc
 frame_delete m id q (Some o) is s h e =
     let empty : (length o.children == 0) ≡ true = has_no_children id o e in
-    let parts = neither_true (same_id q id) (names_exclusively (delete_locks (Some o)) q) h in
+    let parts = or_parts (same_id q id) (names_exclusively (delete_locks (Some o)) q) h in
     let no_parent : has_id o.parents q ≡ false =
     sym (ap (λ ids. has_id ids q) (ap (λ b. exclusive_ids (if b then exclusively o.parents else [])) empty ∙ exclusive_ids_of o.parents)) ∙ parts.1 in
     let no_child : has_id (children_of (m q)) id ≡ false = false_from_ne_true (has_id (children_of (m q)) id)
@@ -63,14 +63,14 @@ frame_delete m id q (Some o) is s h e =
 
 two_apart : (child parent q : List ℕ) → names_exclusively ((child, true) ∷ (parent, true) ∷ []) q ≡ false → (same_id child q ≡ false) × (same_id parent q ≡ false)
 two_apart child parent q h =
-    let first = neither_true (same_id q child) (has_id (parent ∷ []) q) h in
-    let second = neither_true (same_id q parent) false first.1 in
+    let first = or_parts (same_id q child) (has_id (parent ∷ []) q) h in
+    let second = or_parts (same_id q parent) false first.1 in
     (same_id_back child q ∙ first.0, same_id_back parent q ∙ second.0)
 
 pub frame : (m : CityMap) (c : Command) (q : List ℕ) → IsSound m → names_exclusively (locks_of m c) q ≡ false → after m c q ≡ m q
 frame m (Read id) q s h = refl
 frame m (Put id body) q s h = unless_same (cause_of m (Put id body)) m (effect_of m (Put id body)) q
-    (λ e. changed_apart m id (Some (with_body body (m id))) q (same_id_back id q ∙ (neither_true (same_id q id) false h).0))
+    (λ e. changed_apart m id (Some (with_body body (m id))) q (same_id_back id q ∙ (or_parts (same_id q id) false h).0))
 frame m (Delete id) q s h = unless_same (cause_of m (Delete id)) m (effect_of m (Delete id)) q (λ e. frame_delete m id q (m id) refl s h e)
 frame m (Attach child parent) q s h =
     let apart = two_apart child parent q h in

@@ -1,12 +1,11 @@
 -- Lists of ids: what is in them, with one taken out or one put last.
 use Rattle.std.proofs.Common.{◌≡◌, ℕ, List, [], ◌∷◌, ◌++◌, Bool, true, false, ◌||◌, ◌&&◌, refl, ap, sym, ◌∙◌}
 use Rattle.std.specs.Prelude.{not}
-use Rattle.std.proofs.lemmas.Bool.{false≢true}
+use Rattle.std.proofs.lemmas.Bool.{false≢true, or_parts, or_left, or_right, and_right}
 use Rattle.std.proofs.lemmas.List.Folds.{list_any-append}
 use Rattle.city_model.specs.CityMap.{same_id, has_id}
 use Rattle.city_model.specs.Meaning.{without_id}
 use Rattle.city_model.specs.Relations.{AreDistinct}
-use Rattle.city_model.proofs.Changed.{neither_true}
 use Rattle.city_model.proofs.Ids.{same_id_true, same_id_back}
 
 -- ---- tests
@@ -18,20 +17,9 @@ bool_cases false f g = g refl
 pub not_both : {A : Type 0} (b : Bool) → b ≡ true → b ≡ false → A
 not_both b h k = absurd (false≢true (sym k ∙ h))
 
-pub or_left : (a b : Bool) → a ≡ true → (a || b) ≡ true
-or_left a b h = ap (λ v. v || b) h
-
-pub or_right : (a b : Bool) → b ≡ true → (a || b) ≡ true
-or_right true b h = refl
-or_right false b h = h
-
 pub or_first : (a b : Bool) → (a || b) ≡ true → b ≡ false → a ≡ true
 or_first true b h k = refl
 or_first false b h k = not_both b h k
-
-pub and_off : (a b : Bool) → b ≡ false → (a && b) ≡ false
-and_off true b h = h
-and_off false b h = refl
 
 pub not_and : (a b : Bool) → (not a && b) ≡ true → (a ≡ false) × (b ≡ true)
 not_and true b h = absurd (false≢true h)
@@ -45,7 +33,7 @@ and_not a b h k = rw (h, k) refl
 pub without_absent : (id : List ℕ) (ids : List (List ℕ)) → has_id ids id ≡ false → without_id id ids ≡ ids
 without_absent id [] h = refl
 without_absent id (x ∷ xs) h =
-    let parts = neither_true (same_id id x) (has_id xs id) h in
+    let parts = or_parts (same_id id x) (has_id xs id) h in
     rw parts.0 (ap (λ ys. x ∷ ys) (without_absent id xs parts.1))
 
 taken_out : (a b h : Bool) → b ≡ a → (not a && h) ≡ (not a && (b || h))
@@ -58,7 +46,7 @@ stays true false h f = refl
 stays false b h f = refl
 
 pub has_without : (id : List ℕ) (ids : List (List ℕ)) (q : List ℕ) → has_id (without_id id ids) q ≡ (not (same_id id q) && has_id ids q)
-has_without id [] q = sym (and_off (not (same_id id q)) false refl)
+has_without id [] q = sym (and_right (not (same_id id q)) false refl)
 has_without id (x ∷ xs) q = bool_cases (same_id id x)
     (λ e. rw e (has_without id xs q
     ∙ taken_out (same_id id q) (same_id q x) (has_id xs q) (ap (same_id q) (sym (same_id_true id x e)) ∙ same_id_back q id)))
@@ -88,7 +76,7 @@ pub distinct_without : (id : List ℕ) (ids : List (List ℕ)) → AreDistinct i
 distinct_without id [] d = tt
 distinct_without id (x ∷ xs) d = bool_cases (same_id id x)
     (λ e. rw e (distinct_without id xs d.1))
-    (λ e. rw e (has_without id xs x ∙ and_off (not (same_id id x)) (has_id xs x) d.0, distinct_without id xs d.1))
+    (λ e. rw e (has_without id xs x ∙ and_right (not (same_id id x)) (has_id xs x) d.0, distinct_without id xs d.1))
 
 none_more : (a b : Bool) → a ≡ false → b ≡ false → (a || (b || false)) ≡ false
 none_more a b h k = rw (h, k) refl
@@ -96,5 +84,5 @@ none_more a b h k = rw (h, k) refl
 pub distinct_more : (ids : List (List ℕ)) (id : List ℕ) → AreDistinct ids → has_id ids id ≡ false → AreDistinct (ids ++ id ∷ [])
 distinct_more [] id d h = (refl, tt)
 distinct_more (x ∷ xs) id d h =
-    let parts = neither_true (same_id id x) (has_id xs id) h in
+    let parts = or_parts (same_id id x) (has_id xs id) h in
     (list_any-append (same_id x) xs (id ∷ []) ∙ none_more (has_id xs x) (same_id x id) d.0 (same_id_back x id ∙ parts.0), distinct_more xs id d.1 parts.1)

@@ -1,6 +1,6 @@
 -- Members taken out and looked up.
 use Rattle.std.proofs.Common.{◌≡◌, ℕ, ◌+◌, List, [], ◌∷◌, length, Bool, true, false, true≢false, cond, Option, Some, None, Ordering, Less, Equal, Greater, String, Global, string_bytes, string_cmp, nat_cmp, is_eq, refl, sym, ap, ◌∙◌, arith}
-use Rattle.std.specs.Prelude.{◌&&◌, if◌then◌else◌}
+use Rattle.std.specs.Prelude.{if◌then◌else◌}
 use Rattle.std.specs.Ordering.{match_ordering}
 use Rattle.std.specs.Cmp.Lexicographic.{slice_cmp}
 use Rattle.std.proofs.lemmas.Cmp.{nat_list_cmp_total, tied_itself}
@@ -10,6 +10,7 @@ use Rattle.std.specs.List.{AllByRecursion}
 use Rattle.std.specs.List.Sorted.{IsStrictlySortedBy}
 use Rattle.std.specs.Map.{keys_of, remove_entry}
 use Rattle.std.specs.BTreeMap.{is_at}
+use Rattle.std.proofs.lemmas.Bool.{and_parts}
 use Rattle.serde_json.specs.Data.{Data, Members, no_members, member}
 use Rattle.serde_json.specs.Find.{get_member}
 use Rattle.serde_json.specs.View.{view, members_view}
@@ -92,10 +93,6 @@ get_member-without name other (member k d ms) apart = without_other (same_id oth
 
 -- ---- whole numbers
 
-both : (a b : Bool) → (a && b) ≡ true → (a ≡ true) × (b ≡ true)
-both true b h = (refl, h)
-both false b h = absurd (true≢false (sym h))
-
 pub whole_if : (b : Bool) (k : List ℕ) (d : Data) (ms : Members) → is_whole d ≡ true → members_whole ms ≡ true → members_whole (if b then ms else member k d ms) ≡ true
 whole_if true k d ms one rest = rest
 whole_if false k d ms one rest = rw (one, rest) refl
@@ -104,4 +101,4 @@ whole_if false k d ms one rest = rw (one, rest) refl
 pub members_whole-without : (name : List ℕ) (ms : Members) → members_whole ms ≡ true → members_whole (without name ms) ≡ true
 members_whole-without name no_members h = refl
 members_whole-without name (member k d ms) h =
-    let hs = both (is_whole d) (members_whole ms) h in whole_if (same_id name k) k d (without name ms) hs.0 (members_whole-without name ms hs.1)
+    let hs = and_parts (is_whole d) (members_whole ms) h in whole_if (same_id name k) k d (without name ms) hs.0 (members_whole-without name ms hs.1)

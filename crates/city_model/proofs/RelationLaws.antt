@@ -2,13 +2,13 @@
 use Rattle.std.proofs.Common.{◌≡◌, ℕ, List, [], ◌∷◌, Bool, true, false, ◌||◌, ◌&&◌, ◌⊎◌, inl, inr, Option, Some, None, refl, ap, sym, ◌∙◌, length, suc, arith}
 use Rattle.std.specs.Prelude.{not, ◌==◌}
 use Rattle.std.specs.List.{list_all}
-use Rattle.std.proofs.lemmas.Bool.{false≢true, and_parts, and_from, or_parts, not-true, not-false, not_from_false, ne_eqb}
+use Rattle.std.proofs.lemmas.Bool.{false≢true, and_parts, and_from, or_parts, not-true, not-false, not_from_false, ne_eqb, or_left, or_right}
 use Rattle.city_model.specs.declared.object.Object.{Object}
 use Rattle.city_model.specs.CityMap.{CityMap, same_id, has_id, parents_of, children_of}
 use Rattle.city_model.specs.Relations.{AreDistinct, IsInOrder, is_second_level, same_family, is_orphan}
 use Rattle.city_model.specs.RelationTests.{are_distinct, relatives_once, level_fits, parent_fits, parents_fit, children_fit, is_in_order, is_misrelated}
 use Rattle.city_model.proofs.Ids.{same_id_true, same_id_itself}
-use Rattle.city_model.proofs.IdLists.{bool_cases, not_both, or_left, or_right, or_first}
+use Rattle.city_model.proofs.IdLists.{bool_cases, not_both, or_first}
 
 -- ---- lists
 

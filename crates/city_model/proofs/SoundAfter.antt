@@ -1,7 +1,7 @@
 -- A sound map stays sound under each command, and a script that commits leaves a lawful one.
 use Rattle.std.proofs.Common.{◌≡◌, ℕ, List, [], ◌∷◌, ◌++◌, length, Bool, true, false, ◌||◌, Option, Some, None, refl, ap, sym, subst, ◌∙◌, arith}
 use Rattle.std.specs.Prelude.{◌==◌, if◌then◌else◌, not, option_map}
-use Rattle.std.proofs.lemmas.Bool.{eqb-true}
+use Rattle.std.proofs.lemmas.Bool.{eqb-true, or_parts, not-false}
 use Rattle.city_model.specs.declared.object.Object.{Object}
 use Rattle.city_model.specs.declared.object.Body.{Body}
 use Rattle.city_model.specs.declared.command.Cause.{Cause}
@@ -12,7 +12,7 @@ use Rattle.city_model.specs.CityMap.{CityMap, same_id, has_id, changed, parents_
 use Rattle.city_model.specs.Meaning.{with_body, put_cause, delete_cause, attach_cause, detach_cause, is_wrong_family, without_id, without_child, without_parent, with_child, with_parent, deleted, attached, detached, cause_of, effect_of, map_unless, after}
 use Rattle.city_model.specs.Shells.{body_fault}
 use Rattle.city_model.specs.Relations.{is_second_level, same_type, same_family, IsSound}
-use Rattle.city_model.proofs.Changed.{neither_true, changed_apart, changed_there}
+use Rattle.city_model.proofs.Changed.{changed_apart, changed_there}
 use Rattle.city_model.proofs.Ids.{same_id_true, same_id_back}
 use Rattle.city_model.proofs.IdLists.{bool_cases}
 use Rattle.city_model.proofs.Relatives.{set_at, agreed_as, one_more, one_less, none_there, agreed_deleted, agreed_attached, agreed_detached}
@@ -254,10 +254,6 @@ module _ (m : CityMap) (s : IsSound m) (id : List ℕ) (body : Body) (done : cau
 
 -- ---- every command
 
-not_off : (b : Bool) → not b ≡ false → b ≡ true
-not_off true h = refl
-not_off false h = sym h
-
 attach_allowed : (m : CityMap) (child parent : List ℕ) (w v : Option Object) → m child ≡ w → m parent ≡ v → attach_cause child w parent v ≡ None
     → (same_id child parent ≡ false) × (has_id (parents_of w) parent ≡ false) × IsRightTie m child parent
 attach_allowed m child parent None v is at e = cc
@@ -271,15 +267,15 @@ attach_allowed m child parent (Some c) (Some p) is at e = bool_cases (is_wrong_f
     ∙ ap (λ b. if b then Some AlreadyAttached else None) u) ∙ e in
     cc)
     (λ u.
-    let kin = neither_true (same_id child parent || not (is_second_level c.body.kind)) (not (same_family c.body.kind p.body.kind)) t in
-    let level = neither_true (same_id child parent) (not (is_second_level c.body.kind)) kin.0 in
+    let kin = or_parts (same_id child parent || not (is_second_level c.body.kind)) (not (same_family c.body.kind p.body.kind)) t in
+    let level = or_parts (same_id child parent) (not (is_second_level c.body.kind)) kin.0 in
     let right : IsRightTie m child parent = record {
       child = c;
       parent = p;
       child_there = is;
       parent_there = at;
-      second_level = not_off (is_second_level c.body.kind) level.1;
-      one_family = same_family_back c.body.kind p.body.kind (not_off (same_family c.body.kind p.body.kind) kin.1);
+      second_level = not-false (is_second_level c.body.kind) level.1;
+      one_family = same_family_back c.body.kind p.body.kind (not-false (same_family c.body.kind p.body.kind) kin.1);
     } in
     (level.0, u, right)))
 

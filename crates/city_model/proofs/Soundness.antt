@@ -1,12 +1,12 @@
 -- A sound map, by its relations: each parent of an object stands where it may.
 use Rattle.std.proofs.Common.{◌≡◌, ℕ, List, [], ◌∷◌, true, false, Option, Some, None, refl, ap, sym, subst, ◌∙◌}
-use Rattle.std.proofs.lemmas.Bool.{false≢true, true_from_ne_false}
+use Rattle.std.proofs.lemmas.Bool.{false≢true, true_from_ne_false, or_left}
 use Rattle.city_model.specs.declared.object.Object.{Object}
 use Rattle.city_model.specs.CityMap.{CityMap, same_id, has_id, parents_of, children_of}
 use Rattle.city_model.specs.Shells.{body_fault}
 use Rattle.city_model.specs.Relations.{AreDistinct, is_second_level, same_family, IsInOrder, IsSound}
 use Rattle.city_model.proofs.Ids.{same_id_itself}
-use Rattle.city_model.proofs.IdLists.{not_both, or_left}
+use Rattle.city_model.proofs.IdLists.{not_both}
 use Rattle.city_model.proofs.Relatives.{AreAgreed}
 
 -- the object and this parent are there, of levels and families that allow it

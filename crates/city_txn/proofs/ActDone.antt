@@ -1,7 +1,7 @@
 -- A call of the core: its locks gained, and its command done on the store.
 use Rattle.std.proofs.Common.{◌≡◌, ◌==◌, ◌&&◌, ◌||◌, ℕ, List, [], Bool, true, false, Option, None, Some, is_some, Result, Ok, Err, refl, ap, sym, ◌∙◌, subst, inl, inr}
 use Rattle.std.specs.Prelude.{if◌then◌else◌, option_map, is_none, IfOk, IfErr, OnOk, IsErr}
-use Rattle.std.proofs.lemmas.Bool.{false≢true, eqb-true, eqb-false, eq-eqb, cases_eq}
+use Rattle.std.proofs.lemmas.Bool.{false≢true, eqb-true, eqb-false, eq-eqb, cases_eq, and_parts}
 use Rattle.city_model.specs.declared.object.Object.{Object}
 use Rattle.city_model.specs.declared.command.Cause.{Cause}
 use Rattle.city_model.specs.declared.command.Command.{Command}
@@ -122,10 +122,6 @@ or_cases : (a b : Bool) {A : Type 0} → (a || b) ≡ true → (a ≡ true → A
 or_cases true b h f g = f refl
 or_cases false b h f g = g h
 
-and_cases : (a b : Bool) → (a && b) ≡ true → (a ≡ true) × (b ≡ true)
-and_cases true b h = (refl, h)
-and_cases false b h = absurd (false≢true h)
-
 written_or : (s : ℕ) (b : Bool) (o : Option Object) (x : Option Write) → is_by s (if b then Some (s, o) else x) ≡ (b || is_by s x)
 written_or s true o x = eq-eqb s s refl
 written_or s false o x = refl
@@ -199,7 +195,7 @@ module _ (a : Inside) (k : IsCore a) {v : CoreState} (seen : core_state a ≡ v)
         room_held : (t : ℕ) (q : List ℕ) → has_room st t q ≡ true → mode_of ks t q ≡ Some Exclusive
         room_held t q h = or_cases (has_room a.store t q) ((s == t) && names_exclusively (locks_of m c) q) (room t q h)
             (λ e. kept_mode t q (k.room t q e))
-            (λ e. let both = and_cases (s == t) (names_exclusively (locks_of m c) q) e in
+            (λ e. let both = and_parts (s == t) (names_exclusively (locks_of m c) q) e in
             ap (λ u. mode_of ks u q) (sym (eqb-true s t both.0)) ∙ mine q both.1)
 
       module _ {E : Type 0} (e : E) (st : State) (p : Performed s c (Err e) a.store st) where

@@ -3,6 +3,7 @@ use Rattle.std.proofs.Common.{◌≡◌, ℕ, ◌+◌, ◌<◌, List, length, ta
 use Rattle.std.specs.Prelude.{if◌then◌else◌}
 use Rattle.std.proofs.lemmas.Bool.{false≢true}
 use Rattle.std.proofs.lemmas.List.Folds.{list_any_more}
+use Rattle.std.proofs.Math.Bool.{and-true, and-false}
 use Rattle.city_model.specs.declared.object.Object.{Object}
 use Rattle.city_model.specs.CityMap.{CityMap, same_id, has_id, changed}
 use Rattle.city_model.proofs.Changed.{changed_apart, changed_there}
@@ -10,14 +11,6 @@ use Rattle.city_model.proofs.Ids.{same_id_true, same_id_back, same_id_of_equal}
 use Rattle.city_model.proofs.IdLists.{bool_cases}
 use Rattle.city_txn.specs.declared.image.Image.{Image}
 use Rattle.city_txn.specs.Images.{seen_under, before_image, seen_at, committed_at, is_gone}
-
-and_true : (b : Bool) → (b && true) ≡ b
-and_true true = refl
-and_true false = refl
-
-and_false : (b : Bool) → (b && false) ≡ false
-and_false true = refl
-and_false false = refl
 
 -- one more id of a list
 pub has_more : (ids : List (List ℕ)) (n : ℕ) (id q : List ℕ) → n < length ids → id ≡ get_or ids n id → has_id (take (n + 1) ids) q ≡ (has_id (take n ids) q || same_id id q)
@@ -77,10 +70,10 @@ still_placed f x y i j b p c m h = ap is_some c ∙ placed_point f b x i p (sym 
 pub cleared_seen : (x y : List ℕ → Option Object) (i : Option Image) (id : List ℕ) (gone : Bool) → gone ≡ is_gone i →
     ((q : List ℕ) → y q ≡ (if gone && same_id id q then None else x q)) → (q : List ℕ) → y q ≡ (if same_id id q then seen_at (x id) i else x q)
 cleared_seen x y i id gone is h q = h q ∙ bool_cases (same_id id q)
-    (λ e. ap (λ b. if gone && b then None else x q) e ∙ ap (λ b. if b then None else x q) (and_true gone ∙ is)
+    (λ e. ap (λ b. if gone && b then None else x q) e ∙ ap (λ b. if b then None else x q) (and-true gone ∙ is)
     ∙ ap (λ r. if is_gone i then None else x r) (sym (same_id_true id q e)) ∙ by_image i
     ∙ sym (ap (λ b. if b then seen_at (x id) i else x q) e))
-    (λ e. ap (λ b. if gone && b then None else x q) e ∙ ap (λ b. if b then None else x q) (and_false gone)
+    (λ e. ap (λ b. if gone && b then None else x q) e ∙ ap (λ b. if b then None else x q) (and-false gone)
     ∙ sym (ap (λ b. if b then seen_at (x id) i else x q) e))
   where
     by_image : (i : Option Image) → (if is_gone i then None else x id) ≡ seen_at (x id) i

@@ -3,7 +3,7 @@ use Rattle.std.proofs.Common.{◌≡◌, ◌≢◌, ◌||◌, ℕ, ◌+◌, ◌<
 use Rattle.std.specs.Prelude.{IfOk, OnOk, IsErr}
 use Rattle.std.proofs.lemmas.List.{append-nil, map-append, take-append-drop, take_more}
 use Rattle.std.proofs.lemmas.List.Folds.{list_any-append}
-use Rattle.std.proofs.lemmas.Bool.{false≢true}
+use Rattle.std.proofs.lemmas.Bool.{false≢true, or_parts}
 use Rattle.city_model.specs.CityMap.{same_id, has_id}
 use Rattle.city_model.specs.Meaning.{exclusively}
 use Rattle.city_locks.specs.declared.mode.Mode.{Mode}
@@ -22,12 +22,8 @@ use Rattle.city_txn.proofs.LocksGained.{Adds, no_more_locks, one_asked, asked_he
 names_append : (ls ms : List Lock) (q : List ℕ) → names (ls ++ ms) q ≡ (names ls q || names ms q)
 names_append ls ms q = ap (λ ids. has_id ids q) (map-append (λ (l : Lock). l.0) ls ms) ∙ list_any-append (same_id q) (locked_ids ls) (locked_ids ms)
 
-neither : (a b : Bool) → (a || b) ≡ false → (a ≡ false) × (b ≡ false)
-neither true b h = absurd (false≢true (sym h))
-neither false b h = (refl, h)
-
 neither_names : (ls ms : List Lock) (q : List ℕ) → names (ls ++ ms) q ≡ false → (names ls q ≡ false) × (names ms q ≡ false)
-neither_names ls ms q h = neither (names ls q) (names ms q) (sym (names_append ls ms q) ∙ h)
+neither_names ls ms q h = or_parts (names ls q) (names ms q) (sym (names_append ls ms q) ∙ h)
 
 held_both : (held : List ℕ → Option Bool) (ls ms : List Lock) → AllHeld held ls → AllHeld held ms → AllHeld held (ls ++ ms)
 held_both held [] ms a b = b

@@ -1,6 +1,7 @@
 -- A plan carried out is the command done on the store.
 use Rattle.std.proofs.Common.{◌≡◌, ◌==◌, ◌&&◌, ◌||◌, ℕ, List, Bool, true, Some, Ok, Err, refl, ap, sym, ◌∙◌}
 use Rattle.std.specs.Prelude.{if◌then◌else◌, is_none}
+use Rattle.std.proofs.lemmas.Bool.{or_left}
 use Rattle.city_model.specs.declared.command.Cause.{Cause}
 use Rattle.city_model.specs.declared.command.Command.{Command}
 use Rattle.city_model.specs.declared.command.Reply.{Reply}
@@ -12,9 +13,6 @@ use Rattle.city_txn.specs.State.{State, write_of, has_room, is_open, committed, 
 use Rattle.city_model.specs.Standing.{names_exclusively}
 use Rattle.city_txn.specs.Performing.{Performed}
 use Rattle.city_txn.specs.Planning.{plans, AreOf, AreWritesOf}
-
-or_left : (a b : Bool) → a ≡ true → (a || b) ≡ true
-or_left a b h = ap (λ c. c || b) h
 
 pub refused_performed : {E : Type 0} (s : ℕ) (c : Command) (cause : Cause) (v : State) → cause_of (view v s) c ≡ Some cause → Performed {E = E} s c (Ok (Refused cause)) v v
 refused_performed s c cause v e = record {

@@ -1,7 +1,7 @@
 -- What is planned for a command is what it writes.
 use Rattle.std.proofs.Common.{◌≡◌, ◌==◌, ◌||◌, ℕ, ◌<◌, List, [], ◌∷◌, map, length, get_or, Bool, true, false, Option, None, Some, refl, ap, sym, ◌∙◌, subst}
 use Rattle.std.specs.Prelude.{if◌then◌else◌, option_map}
-use Rattle.std.proofs.lemmas.Bool.{false≢true}
+use Rattle.std.proofs.lemmas.Bool.{false≢true, or_right}
 use Rattle.std.proofs.lemmas.List.Folds.{list_any_at}
 use Rattle.city_model.specs.declared.object.Object.{Object}
 use Rattle.city_model.specs.declared.object.Body.{Body}
@@ -15,7 +15,6 @@ use Rattle.city_model.specs.Relations.{IsSound}
 use Rattle.city_model.specs.Shells.{body_fault}
 use Rattle.city_model.proofs.Changed.{changed_there}
 use Rattle.city_model.proofs.Ids.{same_id_itself, same_id_back}
-use Rattle.city_model.proofs.IdLists.{or_right}
 use Rattle.city_txn.specs.declared.writing.Planned.{Planned}
 use Rattle.city_model.specs.Standing.{names, names_exclusively}
 use Rattle.city_txn.specs.Planning.{plans, AreOf, AreWritesOf, unlinked}

@@ -1,36 +1,18 @@
 -- Planned writes worked through: room for one more, and one more written.
 use Rattle.std.proofs.Common.{◌≡◌, ◌==◌, ◌&&◌, ◌||◌, ℕ, ◌+◌, ◌<◌, List, [], ◌∷◌, ◌++◌, length, take, get_or, Bool, true, false, Option, Some, refl, ap, sym, ◌∙◌, subst}
 use Rattle.std.specs.Prelude.{if◌then◌else◌}
-use Rattle.std.proofs.lemmas.Bool.{false≢true, eqb-true, eq-eqb}
+use Rattle.std.proofs.lemmas.Bool.{false≢true, eqb-true, eq-eqb, or_left, and_parts, and_from, or_right}
 use Rattle.std.proofs.lemmas.List.Folds.{list_any_more, list_any_at, list_any-append}
+use Rattle.std.proofs.Math.Bool.{or-false}
 use Rattle.city_model.specs.CityMap.{CityMap, same_id, has_id}
 use Rattle.city_model.proofs.Ids.{same_id_true, same_id_itself, same_id_back}
 use Rattle.city_txn.specs.declared.writing.Planned.{Planned}
 use Rattle.city_txn.specs.State.{State, Write, has_room, rooms_of, SeesSame}
 use Rattle.city_txn.specs.Planning.{plans, AreOf}
 
-or_false : (b : Bool) → (b || false) ≡ b
-or_false true = refl
-or_false false = refl
-
-or_left : (a b : Bool) → a ≡ true → (a || b) ≡ true
-or_left a b h = ap (λ c. c || b) h
-
 or_cases : (a b : Bool) {A : Type 0} → (a || b) ≡ true → (a ≡ true → A) → (b ≡ true → A) → A
 or_cases true b h f g = f refl
 or_cases false b h f g = g h
-
-and_cases : (a b : Bool) → (a && b) ≡ true → (a ≡ true) × (b ≡ true)
-and_cases true b h = (refl, h)
-and_cases false b h = absurd (false≢true h)
-
-both : (a b : Bool) → a ≡ true → b ≡ true → (a && b) ≡ true
-both true b h g = g
-both false b h g = absurd (false≢true h)
-
-or_right : (a b : Bool) → b ≡ true → (a || b) ≡ true
-or_right true b h = refl
-or_right false b h = h
 
 -- ---- room
 
@@ -47,20 +29,20 @@ module _ (v u w : State) (s : ℕ) (ws : List Planned) (n : ℕ) (p : Planned) (
   pub still_alone : (t : ℕ) → has_room u t p.id ≡ true → t ≡ s
   still_alone t h = or_cases (has_room v t p.id) ((s == t) && plans ws p.id) (room t p.id h)
       (λ e. alone p.id (plans_got ws n p lt is) t e)
-      (λ e. sym (eqb-true s t (and_cases (s == t) (plans ws p.id) e).0))
+      (λ e. sym (eqb-true s t (and_parts (s == t) (plans ws p.id) e).0))
 
   module _ (more : (t : ℕ) (q : List ℕ) → has_room w t q ≡ (((s == t) && same_id p.id q) || has_room u t q)) where
     pub room_more : (t : ℕ) (q : List ℕ) → has_room w t q ≡ true → (has_room v t q || ((s == t) && plans ws q)) ≡ true
     room_more t q h = or_cases ((s == t) && same_id p.id q) (has_room u t q) (sym (more t q) ∙ h)
-        (λ e. let parts = and_cases (s == t) (same_id p.id q) e in
+        (λ e. let parts = and_parts (s == t) (same_id p.id q) e in
         or_right (has_room v t q) ((s == t) && plans ws q)
-        (both (s == t) (plans ws q) parts.0 (ap (plans ws) (sym (same_id_true p.id q parts.1)) ∙ plans_got ws n p lt is)))
+        (and_from (s == t) (plans ws q) parts.0 (ap (plans ws) (sym (same_id_true p.id q parts.1)) ∙ plans_got ws n p lt is)))
         (λ e. room t q e)
 
     pub done_more : ((q : List ℕ) → plans (take n ws) q ≡ true → has_room u s q ≡ true) → (q : List ℕ) → plans (take (n + 1) ws) q ≡ true → has_room w s q ≡ true
     done_more done q h = more s q ∙ or_cases (plans (take n ws) q) (same_id q p.id) (sym (plans_more ws n p q lt is) ∙ h)
         (λ e. or_right ((s == s) && same_id p.id q) (has_room u s q) (done q e))
-        (λ e. or_left ((s == s) && same_id p.id q) (has_room u s q) (both (s == s) (same_id p.id q) (eq-eqb s s refl) (same_id_back p.id q ∙ e)))
+        (λ e. or_left ((s == s) && same_id p.id q) (has_room u s q) (and_from (s == s) (same_id p.id q) (eq-eqb s s refl) (same_id_back p.id q ∙ e)))
 
 pub sees_on : (v u w : State) → SeesSame v u → SeesSame u w → SeesSame v w
 sees_on v u w a b = record {
@@ -73,7 +55,7 @@ sees_on v u w a b = record {
 -- ---- writes, from the last to the first
 
 plans_last : (ws : List Planned) (p : Planned) (q : List ℕ) → plans (ws ++ p ∷ []) q ≡ (plans ws q || same_id q p.id)
-plans_last ws p q = list_any-append (λ x. same_id q x.id) ws (p ∷ []) ∙ ap (λ b. plans ws q || b) (or_false (same_id q p.id))
+plans_last ws p q = list_any-append (λ x. same_id q x.id) ws (p ∷ []) ∙ ap (λ b. plans ws q || b) (or-false (same_id q p.id))
 
 pub plans_before : (all ws : List Planned) (p : Planned) (q : List ℕ) → all ≡ ws ++ p ∷ [] → plans ws q ≡ true → plans all q ≡ true
 plans_before all ws p q e h = ap (λ xs. plans xs q) e ∙ plans_last ws p q ∙ or_left (plans ws q) (same_id q p.id) h

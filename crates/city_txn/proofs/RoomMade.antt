@@ -8,6 +8,7 @@ use Rattle.std.specs.BTreeMap.{get, is_at, IsOrdered}
 use Rattle.std.specs.List.Sorted.{IsStrictlySortedBy}
 use Rattle.std.proofs.lemmas.Bool.{false≢true, eqb-true, eq-eqb}
 use Rattle.std.proofs.lemmas.List.Folds.{list_any-append}
+use Rattle.std.proofs.Math.Bool.{and-true, and-false, or-false, or_comm}
 use Rattle.city_model.specs.declared.object.Object.{Object}
 use Rattle.city_model.specs.CityMap.{same_id, has_id}
 use Rattle.city_model.proofs.Ids.{same_id_true, same_id_back}
@@ -24,24 +25,6 @@ use Rattle.city_txn.proofs.AtOneId.{tied, here, city_is, writes_is}
 fresh_committed : (s : ℕ) (x y : Option Object) (gone : Bool) → gone ≡ not (is_some x) → (is_some x ≡ true → y ≡ x) → committed_at y (Some (fresh_image s gone)) ≡ x
 fresh_committed s None y gone g h = ap (λ b. if b then None else y) g
 fresh_committed s (Some o) y gone g h = ap (λ b. if b then None else y) g ∙ h refl
-
-and_true : (b : Bool) → (b && true) ≡ b
-and_true true = refl
-and_true false = refl
-
-and_false : (b : Bool) → (b && false) ≡ false
-and_false true = refl
-and_false false = refl
-
-or_false : (b : Bool) → (b || false) ≡ b
-or_false true = refl
-or_false false = refl
-
-or_turned : (a b : Bool) → (a || b) ≡ (b || a)
-or_turned true true = refl
-or_turned true false = refl
-or_turned false true = refl
-or_turned false false = refl
 
 -- ---- nothing changed but the room
 
@@ -87,9 +70,9 @@ cleared_point (Some o) y gone g h = ap (λ b. if b then None else y) g ∙ h ref
 pub cleared : (x y z : List ℕ → Option Object) (id : List ℕ) (gone : Bool) → gone ≡ not (is_some (x id)) → ((q : List ℕ) → is_some (x q) ≡ true → y q ≡ x q) →
     ((q : List ℕ) → same_id id q ≡ false → y q ≡ x q) → ((q : List ℕ) → z q ≡ (if gone && same_id id q then None else y q)) → (q : List ℕ) → z q ≡ x q
 cleared x y z id gone g kept others after q = after q ∙ bool_cases (same_id id q)
-    (λ e. ap (λ b. if gone && b then None else y q) e ∙ ap (λ b. if b then None else y q) (and_true gone)
+    (λ e. ap (λ b. if gone && b then None else y q) e ∙ ap (λ b. if b then None else y q) (and-true gone)
     ∙ cleared_point (x q) (y q) gone (g ∙ ap (λ r. not (is_some (x r))) (same_id_true id q e)) (kept q))
-    (λ e. ap (λ b. if gone && b then None else y q) e ∙ ap (λ b. if b then None else y q) (and_false gone) ∙ others q e)
+    (λ e. ap (λ b. if gone && b then None else y q) e ∙ ap (λ b. if b then None else y q) (and-false gone) ∙ others q e)
 
 -- ---- room made
 
@@ -117,8 +100,8 @@ module _ (a b : Inside) (k : IsInPlace a) (s : ℕ) (id : List ℕ) (gone : Bool
   more_room t q = ap (λ o. has_id (unwrap_or o []) q) (rooms_by t) ∙ bool_cases (s == t)
       (λ e. ap (λ c. has_id (unwrap_or (if c then Some (rooms_of a.rooms.entries s ++ id ∷ []) else get nat_cmp a.rooms t) []) q) e
       ∙ list_any-append (same_id q) (rooms_of a.rooms.entries s) (id ∷ [])
-      ∙ ap (λ c. has_id (rooms_of a.rooms.entries s) q || c) (or_false (same_id q id) ∙ same_id_back q id)
-      ∙ or_turned (has_id (rooms_of a.rooms.entries s) q) (same_id id q)
+      ∙ ap (λ c. has_id (rooms_of a.rooms.entries s) q || c) (or-false (same_id q id) ∙ same_id_back q id)
+      ∙ or_comm (has_id (rooms_of a.rooms.entries s) q) (same_id id q)
       ∙ ap (λ r. same_id id q || has_id (rooms_of a.rooms.entries r) q) (eqb-true s t e)
       ∙ sym (ap (λ c. (c && same_id id q) || has_room (state_of a) t q) e))
       (λ e. ap (λ c. has_id (unwrap_or (if c then Some (rooms_of a.rooms.entries s ++ id ∷ []) else get nat_cmp a.rooms t) []) q) e
@@ -136,11 +119,11 @@ module _ (a b : Inside) (k : IsInPlace a) (s : ℕ) (id : List ℕ) (gone : Bool
         (λ e. ap is_some (others q e) ∙ k.placed q (sym (ap is_some (image_apart q e)) ∙ h));
     listed = λ t q. more_room t q ∙ bool_cases (same_id id q)
         (λ e. ap (λ c. ((s == t) && c) || has_room (state_of a) t q) e
-        ∙ ap (λ c. c || has_room (state_of a) t q) (and_true (s == t))
-        ∙ ap (λ c. (s == t) || c) (k.listed t q ∙ ap (λ i. is_writer t (writer_of i)) (was_absent q e)) ∙ or_false (s == t)
+        ∙ ap (λ c. c || has_room (state_of a) t q) (and-true (s == t))
+        ∙ ap (λ c. (s == t) || c) (k.listed t q ∙ ap (λ i. is_writer t (writer_of i)) (was_absent q e)) ∙ or-false (s == t)
         ∙ sym (ap (λ i. is_writer t (writer_of i)) (image_there q e)))
         (λ e. ap (λ c. ((s == t) && c) || has_room (state_of a) t q) e
-        ∙ ap (λ c. c || has_room (state_of a) t q) (and_false (s == t))
+        ∙ ap (λ c. c || has_room (state_of a) t q) (and-false (s == t))
         ∙ k.listed t q ∙ sym (ap (λ i. is_writer t (writer_of i)) (image_apart q e)));
     city_ordered = city_ordered;
     images_ordered = images_ordered;

@@ -16,22 +16,8 @@ use Rattle.city_doc.specs.Reports.{report_text}
 use Rattle.city_doc.specs.ScriptTexts.{StandsForScripts}
 use Rattle.city_doc.specs.ScriptTrees.{scripts_of}
 use Rattle.city_doc.specs.Texts.{IsText}
+use Rattle.city_doc.proofs.OneValue.{one_city, one_list}
 use Rattle.cityed.specs.SerialRuns.{AreInTurn, IsSerialRun, had_memory, IsDecided}
-
--- ---- a text stands for one value
-
-one_tree : (text : List ℕ) (d e : Data) → IsText text d → IsText text e → d ≡ e
-one_tree text d e h k = let both : Some d ≡ Some e = sym h.1 ∙ k.1 in cc
-
-one_city : (text : List ℕ) (a b : CityValue) → StandsForCity text a → StandsForCity text b → a ≡ b
-one_city text a b h k =
-    let both : Some a ≡ Some b = sym h.2 ∙ ap city_of (one_tree text h.0 k.0 h.1 k.1) ∙ k.2 in
-    cc
-
-one_list : (text : List ℕ) (a b : List Scripted) → StandsForScripts text a → StandsForScripts text b → a ≡ b
-one_list text a b h k =
-    let both : Some a ≡ Some b = sym h.2 ∙ ap scripts_of (one_tree text h.0 k.0 h.1 k.1) ∙ k.2 in
-    cc
 
 -- ---- ends in turn
 

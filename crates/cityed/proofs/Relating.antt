@@ -1,6 +1,7 @@
 -- When a command on relations has two objects, and what it does where it isn't refused.
 use Rattle.std.proofs.Common.{◌≡◌, ℕ, List, true, false, ◌||◌, None, Some, length, refl, ap, sym, ◌∙◌}
 use Rattle.std.specs.Prelude.{◌==◌, not, if◌then◌else◌}
+use Rattle.std.proofs.lemmas.Bool.{or_parts}
 use Rattle.city_model.specs.declared.object.Object.{Object}
 use Rattle.city_model.specs.declared.command.Cause.TheVariants.{HasChildren}
 use Rattle.city_model.specs.declared.command.Command.TheVariants.{Delete}
@@ -9,15 +10,14 @@ use Rattle.city_model.specs.CityMap.{CityMap, same_id, has_id, changed}
 use Rattle.city_model.specs.Relations.{IsSound, is_second_level, same_family}
 use Rattle.city_model.specs.Meaning.{is_wrong_family, delete_cause, deleted, refused_or, map_unless, after}
 use Rattle.city_model.specs.Runs.{Continues}
-use Rattle.city_model.proofs.Changed.{neither_true}
 use Rattle.city_model.proofs.Ids.{same_id_back}
 use Rattle.cityed.proofs.DroppedChildren.{dropped, deleted_by_parents}
 
 -- an object isn't its own parent by an attach
 pub apart_where_allowed : (child : List ℕ) (c : Object) (parent : List ℕ) (p : Object) → is_wrong_family child c parent p ≡ false → same_id child parent ≡ false
 apart_where_allowed child c parent p h =
-    (neither_true (same_id child parent) (not (is_second_level c.body.kind))
-    (neither_true (same_id child parent || not (is_second_level c.body.kind)) (not (same_family c.body.kind p.body.kind)) h).0).0
+    (or_parts (same_id child parent) (not (is_second_level c.body.kind))
+    (or_parts (same_id child parent || not (is_second_level c.body.kind)) (not (same_family c.body.kind p.body.kind)) h).0).0
 
 -- nor in a sound map
 pub apart_where_attached : (m : CityMap) (child : List ℕ) (c : Object) (parent : List ℕ) → IsSound m → m child ≡ Some c → has_id c.parents parent ≡ true → same_id child parent ≡ false

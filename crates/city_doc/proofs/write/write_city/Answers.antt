@@ -10,8 +10,9 @@ use Rattle.city_doc.specs.Ranges.{IsInRange}
 use Rattle.city_doc.specs.Texts.{IsText}
 use Rattle.city_doc.proofs.CityNests.{written_within}
 use Rattle.city_doc.proofs.Floatless.{city_is_floatless}
-use Rattle.city_doc.proofs.NotRefused.{not_refused}
-use Rattle.city_doc.proofs.RoundTrip.{city_read, one_city}
+use Rattle.city_doc.proofs.LawfulTrees.{not_refused}
+use Rattle.city_doc.proofs.OneValue.{one_city}
+use Rattle.city_doc.proofs.RoundTrip.{city_read}
 use Rattle.city_doc.proofs.WholeTrees.{city_whole}
 use Rattle.city_doc.proofs.write.write_city.Goals as goal
 
@@ -36,9 +37,11 @@ returns c =
     record {
       text = text;
       read_again = again;
-      canonical = λ shallow other other_stands. ap city_text (one_city _ city other (again shallow) other_stands) ∙ sym text;
+      canonical = λ shallow other other_stands. ap city_text (one_city _ other city other_stands (again shallow)) ∙ sym text;
       accepted = λ shallow readable lawful fault.
           let whole = city_whole (pool_of city) city c.in_ok-tree.ensures.kept numbers in
-          not_refused _ (tree_of city) city (one_text _ city _ tree c.in_ok-text.ensures.utf8 c.in_ok-text.ensures.reads_back shallow) whole (city_read city c.in_ok-tree.ensures.kept numbers c.in_ok-tree.ensures.ordered) lawful readable fault;
+          let read = one_text _ city _ tree c.in_ok-text.ensures.utf8 c.in_ok-text.ensures.reads_back shallow in
+          let same = city_read city c.in_ok-tree.ensures.kept numbers c.in_ok-tree.ensures.ordered in
+          not_refused _ city (tree_of city, (readable, read), whole, same, lawful) fault;
       rewritten = λ document read. again (written_within document city read);
     }

@@ -1,8 +1,8 @@
 use Rattle.std.proofs.Common.{◌∙◌, ap, ◌||◌, false}
+use Rattle.std.proofs.lemmas.Bool.{or_right}
 use Rattle.city_model.specs.CityMap.{same_id}
 use Rattle.city_model.specs.Meaning.{locks_of}
 use Rattle.city_model.proofs.Ids.{same_id_itself}
-use Rattle.city_model.proofs.IdLists.{or_right}
 use Rattle.city_txn.specs.State.{view}
 use Rattle.city_model.specs.Standing.{names}
 use Rattle.city_txn.proofs.planning.plan_of.Goals as goal

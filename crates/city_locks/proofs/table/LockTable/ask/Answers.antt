@@ -1,7 +1,8 @@
 use Rattle.std.proofs.Common.{◌≡◌, ◌∙◌, ap, sym, cond, Some, ◌==◌, ◌&&◌}
 use Rattle.city_locks.specs.declared.answer.Answer.TheVariants.{Granted}
 use Rattle.city_locks.specs.Mode.{stronger}
-use Rattle.city_locks.specs.Locks.{same_id, mode_of, answer_of}
+use Rattle.city_model.specs.CityMap.{same_id}
+use Rattle.city_locks.specs.Locks.{mode_of, answer_of}
 use Rattle.city_locks.proofs.Tables.{Adds, mode_added, lawful_added, own_added, once_added}
 use Rattle.city_locks.proofs.table.LockTable.ask.Goals as goal
 
