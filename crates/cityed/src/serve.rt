@@ -1,10 +1,11 @@
 //! Serves a document and its scripts from a reader to a writer.
 ghost use Rattle.std.specs.Prelude.{◌≡◌, [], true, false, IfOk, IfErr, IfSome, OnOk, position, take};
 ghost use Rattle.std.specs.Io.KnownBytes.{Appends};
-ghost use Rattle.cityed.specs.Served.{is_newline, document_of, scripts_of, AppendsSome, IsServed, IsReadFault, IsServeFault};
+ghost use Rattle.cityed.specs.Served.{is_newline, document_of, scripts_of, IsServed, IsReadFault, IsServeFault};
+ghost use Rattle.cityed.specs.ServedTexts.{AppendsSome};
 
 use crate::fault::ServeFault;
-use crate::run::run_serial;
+use crate::serve_texts::serve_texts;
 use crate::told::Told;
 use std::alloc::Global;
 use std::io::{Read, Write};
@@ -35,17 +36,9 @@ pub fn serve<R: Read, W: Write>(
     ensures fault { IfErr result (IsServeFault (R.remaining reader.old.0) reader.new.1
         (W.contents writer.old.0) (W.contents writer.new.0) writer.new.1) }
 {
-    prove!(workers == 1 && viewers == 0);
     let input = read_at_most(alloc, reader, MOST)?;
     let (document, scripts) = cut(input.as_slice());
-    let output = match run_serial(alloc, document, scripts) {
-        Ok(output) => output,
-        Err(fault) => return Err(ServeFault::Run(fault)),
-    };
-    if !write_output(writer, output.bytes.as_slice()) {
-        return Err(ServeFault::Write);
-    }
-    Ok(output.seen)
+    serve_texts(alloc, document, scripts, writer, workers, viewers)
 }
 
 /// What a reader gives, but no more than so many bytes.
