@@ -4,9 +4,9 @@ ghost use Rattle.std.specs.Io.KnownBytes.{Appends};
 ghost use Rattle.cityed.specs.Served.{is_newline, document_of, scripts_of, IsServed, IsReadFault, IsServeFault};
 ghost use Rattle.cityed.specs.ServedTexts.{AppendsSome};
 
+use crate::device::Device;
 use crate::fault::ServeFault;
 use crate::serve_texts::serve_texts;
-use crate::told::Told;
 use std::alloc::Global;
 use std::io::{Read, Write};
 
@@ -22,8 +22,8 @@ const MOST: usize = 134_217_730;
 /// where either fails in this call there is no `Ok`.
 pub fn serve<R: Read, W: Write>(
     alloc: Global,
-    reader: &mut Told<R>,
-    writer: &mut Told<W>,
+    reader: &mut Device<R>,
+    writer: &mut Device<W>,
     workers: usize,
     viewers: usize,
 ) -> Result<Vec<Vec<u64>>, ServeFault>
@@ -44,7 +44,7 @@ pub fn serve<R: Read, W: Write>(
 /// What a reader gives, but no more than so many bytes.
 pub(crate) fn read_at_most<R: Read>(
     alloc: Global,
-    reader: &mut Told<R>,
+    reader: &mut Device<R>,
     most: usize,
 ) -> Result<Vec<u8>, ServeFault>
     ensures input { IfOk result (λ v. IfSome (R.remaining reader.old.0)
@@ -84,7 +84,7 @@ fn first_newline(bytes: &[u8]) -> Option<usize>
 }
 
 /// Writes the bytes, and lets the writer pass them on: whether it did.
-pub(crate) fn write_output<W: Write>(writer: &mut Told<W>, bytes: &[u8]) -> bool
+pub(crate) fn write_output<W: Write>(writer: &mut Device<W>, bytes: &[u8]) -> bool
     ensures written { result ≡ true → Appends (W.contents writer.old.0) (W.contents writer.new.0) bytes.now }
     ensures cut_short { result ≡ false → AppendsSome (W.contents writer.old.0) (W.contents writer.new.0) bytes.now }
     ensures unfailed { result ≡ true → writer.new.1 ≡ writer.old.1 }
