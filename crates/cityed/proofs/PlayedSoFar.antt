@@ -18,9 +18,6 @@ pub record IsPlayed (start : CityMap) (all : List Command) (m : CityMap) (replie
   pub ends : ends_once left ≡ true
   pub sound : IsSound m
 
-pub nothing_played : (m : CityMap) (all : List Command) → ends_once all ≡ true → IsSound m → IsPlayed m all m [] all
-nothing_played m all ends sound = record { result = λ rs o h. h; map = refl; ends = ends; sound = sound }
-
 more_left : (c : Command) (cs : List Command) → is_end c ≡ false → ends_once (c ∷ cs) ≡ ends_once cs
 more_left c cs e = ap (λ b. cond b (is_empty_list cs) (ends_once cs)) e
 

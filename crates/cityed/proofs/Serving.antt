@@ -1,35 +1,22 @@
--- What was written is what was served, or the first of it, once the input and its parts are known.
-use Rattle.std.proofs.Common.{◌≡◌, ℕ, List, Option, Some, None, IfSome, subst, ◌∙◌}
-use Rattle.std.specs.Io.KnownBytes.{Appends}
-use Rattle.city_model.specs.declared.end.End.{End}
-use Rattle.cityed.specs.SerialRuns.{IsSerialRun}
-use Rattle.cityed.specs.Served.{read_of, document_of, scripts_of, AppendsSome, IsServed, IsCutShort}
+-- What holds of two texts holds of the two parts of an input, where they are the parts of what was read of it.
+use Rattle.std.proofs.Common.{◌≡◌, ℕ, List, Bool, Option, Some, None, IfSome, subst}
+use Rattle.cityed.specs.declared.fault.ServeFault.{ServeFault}
+use Rattle.cityed.specs.SerialRuns.{IsRunFault}
+use Rattle.cityed.specs.ServedTexts.{AreCutShort, IsTextsFault}
+use Rattle.cityed.specs.Served.{read_of, document_of, scripts_of, IsServeFault}
 
-module _ (old new : Option (List ℕ)) (read lent document scripts : List ℕ) (ends : List End) (bytes passed : List ℕ) where
-  ran_on : (input : List ℕ) → lent ≡ read_of input → document ≡ document_of lent → scripts ≡ scripts_of lent → IsSerialRun document scripts ends bytes
-      → IsSerialRun (document_of (read_of input)) (scripts_of (read_of input)) ends bytes
-  ran_on input is first rest ran =
-      let on_document : IsSerialRun (document_of lent) scripts ends bytes = subst (λ d. IsSerialRun d scripts ends bytes) first ran in
-      let on_both : IsSerialRun (document_of lent) (scripts_of lent) ends bytes = subst (λ s. IsSerialRun (document_of lent) s ends bytes) rest on_document in
-      subst (λ r. IsSerialRun (document_of r) (scripts_of r) ends bytes) is on_both
+-- a reader that tells no bytes promises nothing of them
+of_known : (P : List ℕ → Type 0) (input : Option (List ℕ)) (read : List ℕ) → IfSome input (λ all. read ≡ read_of all) → P read → IfSome input (λ all. P (read_of all))
+of_known P None read is h = tt
+of_known P (Some all) read is h = subst P is h
 
-  -- a reader that tells no bytes promises nothing of them
-  pub served_if : (input : Option (List ℕ)) → IfSome input (λ all. read ≡ read_of all) → lent ≡ read → document ≡ document_of lent → scripts ≡ scripts_of lent → IsSerialRun document scripts ends bytes → passed ≡ bytes → Appends old new passed
-      → IfSome input (λ all. IsServed all old new)
-  served_if None is same first rest ran told written = tt
-  served_if (Some all) is same first rest ran told written = record {
-    ends = ends;
-    bytes = bytes;
-    ran = ran_on all (same ∙ is) first rest ran;
-    written = subst (λ b. Appends old new b) told written;
-  }
+module _ (input : Option (List ℕ)) (read document scripts : List ℕ)
+    (is : IfSome input (λ all. read ≡ read_of all)) (first : document ≡ document_of read) (rest : scripts ≡ scripts_of read) where
+  pub of_input : (P : List ℕ → List ℕ → Type 0) → P document scripts → IfSome input (λ all. P (document_of (read_of all)) (scripts_of (read_of all)))
+  of_input P h = of_known (λ r. P (document_of r) (scripts_of r)) input read is (subst (λ s. P (document_of read) s) rest (subst (λ d. P d scripts) first h))
 
-  pub cut_short_if : (input : Option (List ℕ)) → IfSome input (λ all. read ≡ read_of all) → lent ≡ read → document ≡ document_of lent → scripts ≡ scripts_of lent → IsSerialRun document scripts ends bytes → passed ≡ bytes → AppendsSome old new passed
-      → IfSome input (λ all. IsCutShort all old new)
-  cut_short_if None is same first rest ran told written = tt
-  cut_short_if (Some all) is same first rest ran told written = record {
-    ends = ends;
-    bytes = bytes;
-    ran = ran_on all (same ∙ is) first rest ran;
-    written = subst (λ b. AppendsSome old new b) told written;
-  }
+  pub fault_of_input : (old new : Option (List ℕ)) (reader_failed failed : Bool) (f : ServeFault) → IsTextsFault document scripts old new failed f
+      → IsServeFault input reader_failed old new failed f
+  fault_of_input old new reader_failed failed ServeFault.Read h = absurd h
+  fault_of_input old new reader_failed failed (ServeFault.Run f) h = (h.0, of_input (λ d s. IsRunFault d s f) h.1)
+  fault_of_input old new reader_failed failed ServeFault.Write h = (of_input (λ d s. AreCutShort d s old new) h.0, h.1)

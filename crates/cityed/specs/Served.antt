@@ -1,9 +1,9 @@
 -- What is written for an input: a document in its first line, and scripts in the rest.
 use Rattle.std.specs.Prelude.{◌==◌, ◌≡◌, ◌⊎◌, ℕ, List, Bool, true, Option, IfSome, take}
 use Rattle.std.specs.List.{before_first, after_first}
-use Rattle.std.specs.Io.KnownBytes.{Keeps, Appends}
-use Rattle.city_model.specs.declared.end.End.{End}
-use Rattle.cityed.specs.SerialRuns.{IsSerialRun, IsRunFault}
+use Rattle.std.specs.Io.KnownBytes.{Keeps}
+use Rattle.cityed.specs.SerialRuns.{IsRunFault}
+use Rattle.cityed.specs.ServedTexts.{AreServed, AreCutShort}
 use Rattle.cityed.specs.declared.fault.RunFault.{RunFault}
 use Rattle.cityed.specs.declared.fault.ServeFault.{ServeFault}
 
@@ -20,23 +20,13 @@ document_of bytes = before_first is_newline bytes
 abbrev pub scripts_of : List ℕ → List ℕ
 scripts_of bytes = after_first is_newline bytes
 
--- the first of these bytes were appended
-abbrev pub AppendsSome : Option (List ℕ) → Option (List ℕ) → List ℕ → Type 0
-AppendsSome old new bytes = (n : ℕ) × Appends old new (take n bytes)
-
 -- the writer has got the bytes of a run on the two texts of the input, and no others
-pub record IsServed (input : List ℕ) (old new : Option (List ℕ)) : Type 0 where
-  pub ends : List End
-  pub bytes : List ℕ
-  pub ran : IsSerialRun (document_of (read_of input)) (scripts_of (read_of input)) ends bytes
-  pub written : Appends old new bytes
+abbrev pub IsServed : List ℕ → Option (List ℕ) → Option (List ℕ) → Type 0
+IsServed input old new = AreServed (document_of (read_of input)) (scripts_of (read_of input)) old new
 
 -- the writer has got the first of the bytes of a run on the two texts of the input, and no others
-pub record IsCutShort (input : List ℕ) (old new : Option (List ℕ)) : Type 0 where
-  pub ends : List End
-  pub bytes : List ℕ
-  pub ran : IsSerialRun (document_of (read_of input)) (scripts_of (read_of input)) ends bytes
-  pub written : AppendsSome old new bytes
+abbrev pub IsCutShort : List ℕ → Option (List ℕ) → Option (List ℕ) → Type 0
+IsCutShort input old new = AreCutShort (document_of (read_of input)) (scripts_of (read_of input)) old new
 
 -- the reader has failed, or there was want of memory for what it gave
 abbrev pub IsReadFault : Bool → ServeFault → Type 0

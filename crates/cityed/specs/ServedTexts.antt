@@ -1,10 +1,13 @@
 -- What is written for two texts: a document and scripts.
-use Rattle.std.specs.Prelude.{◌≡◌, ◌⊎◌, ◌<◌, ℕ, Bool, true, List, Option, length}
+use Rattle.std.specs.Prelude.{◌≡◌, ◌⊎◌, ◌<◌, ℕ, Bool, true, List, Option, length, take}
 use Rattle.std.specs.Io.KnownBytes.{Keeps, Appends}
 use Rattle.city_model.specs.declared.end.End.{End}
 use Rattle.cityed.specs.SerialRuns.{IsSerialRun, IsRunFault}
-use Rattle.cityed.specs.Served.{AppendsSome}
 use Rattle.cityed.specs.declared.fault.ServeFault.{ServeFault}
+
+-- the first of these bytes were appended
+abbrev pub AppendsSome : Option (List ℕ) → Option (List ℕ) → List ℕ → Type 0
+AppendsSome old new bytes = (n : ℕ) × Appends old new (take n bytes)
 
 -- the writer has got the bytes of a run on the two texts, and no others
 pub record AreServed (document scripts : List ℕ) (old new : Option (List ℕ)) : Type 0 where

@@ -1,10 +1,10 @@
 //! What command lines ask for, and what files give.
 use crate::command_line::{Asked, LineFault, asked_by};
+use crate::device::Device;
 use crate::fault::ServeFault;
 use crate::fault_line::fault_line;
 use crate::files::read_file;
 use crate::serve_texts::serve_texts;
-use crate::told::Told;
 use std::alloc::{AllocError, Global};
 use std::fs;
 use std::test::Fail;
@@ -101,7 +101,7 @@ fn two_texts_are_served_or_refused_in_their_order(rt: HostRuntime) -> Result<(),
     ];
     for (document, scripts, fault, output) in cases {
         let mut written = Vec::new(rt.alloc());
-        let mut writer = Told::new(&mut written);
+        let mut writer = Device::new(&mut written);
         let texts = (document.as_bytes(), scripts.as_bytes());
         let line = match serve_texts(rt.alloc(), texts.0, texts.1, &mut writer, 1, 0) {
             Ok(_) => "".to_string(rt.alloc())?,

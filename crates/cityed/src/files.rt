@@ -3,9 +3,9 @@ ghost use Rattle.std.specs.Prelude.{◌≡◌, true, take, IfOk, IfErr, IfSome, 
 ghost use Rattle.cityed.specs.Served.{IsReadFault};
 ghost use Rattle.cityed.specs.ServedTexts.{IsEnoughOf};
 
+use crate::device::Device;
 use crate::fault::{RunFault, ServeFault};
 use crate::serve::read_at_most;
-use crate::told::Told;
 use std::alloc::Global;
 use std::fs;
 use std::fs::Files;
@@ -22,7 +22,7 @@ pub fn read_file<R: Files + AllocGlobal>(rt: &R, path: &str) -> Result<Vec<u8>, 
     ensures { IfErr result (IsReadFault true) }
 {
     match fs::open(rt, path) {
-        Ok(file) => read_text(rt.alloc(), &mut Told::new(file)),
+        Ok(file) => read_text(rt.alloc(), &mut Device::new(file)),
         Err(error) => Err(open_fault(error.kind())),
     }
 }
@@ -38,7 +38,7 @@ fn open_fault(kind: ErrorKind) -> ServeFault
 }
 
 /// The text that a reader gives, or where it is too long its first 67,108,865 bytes.
-pub fn read_text<R: Read>(alloc: Global, reader: &mut Told<R>) -> Result<Vec<u8>, ServeFault>
+pub fn read_text<R: Read>(alloc: Global, reader: &mut Device<R>) -> Result<Vec<u8>, ServeFault>
     ensures read { IfOk result (λ v. IfSome (R.remaining reader.old.0)
         (λ all. v.items ≡ take 67108865 all)) }
     ensures enough { IfOk result (λ v. IfSome (R.remaining reader.old.0)

@@ -13,6 +13,7 @@ mod command_line_tests;
 mod command_tests;
 mod delete;
 mod detach;
+mod device;
 mod fault;
 mod fault_line;
 mod files;
@@ -26,9 +27,9 @@ mod serve_texts;
 mod step;
 #[cfg(test)]
 mod tests;
-mod told;
 
 use command_line::{Asked, LineFault, asked_by};
+use device::Device;
 use fault::{RunFault, ServeFault};
 use files::read_file;
 use serve::{serve, write_output};
@@ -36,7 +37,6 @@ use serve_texts::serve_texts;
 use std::io::ErrorKind;
 use std::process::ExitCode;
 use std::{env, io};
-use told::Told;
 
 fn main(rt: HostRuntime) -> ExitCode {
     let words = match words(&rt) {
@@ -66,14 +66,14 @@ fn words(rt: &HostRuntime) -> Result<Vec<String>, LineFault> {
 /// Does what is asked for.
 fn answer(rt: &HostRuntime, asked: &Asked<'_>) -> Result<(), ServeFault> {
     let alloc = rt.alloc();
-    let mut output = Told::new(io::writer(rt));
+    let mut output = Device::new(io::writer(rt));
     match asked {
         Asked::Text(text) => {
             if !write_output(&mut output, text.as_bytes()) {
                 return Err(ServeFault::Write);
             }
         }
-        Asked::Input => drop(serve(alloc, &mut Told::new(rt.reader()), &mut output, 1, 0)?),
+        Asked::Input => drop(serve(alloc, &mut Device::new(rt.reader()), &mut output, 1, 0)?),
         Asked::Files(model, scripts) => {
             let document = read_file(rt, *model)?;
             let scripts = read_file(rt, *scripts)?;

@@ -1,11 +1,12 @@
 //! Serves a document and its scripts from a reader to a writer.
 ghost use Rattle.std.specs.Prelude.{◌≡◌, [], true, false, IfOk, IfErr, IfSome, OnOk, position, take};
 ghost use Rattle.std.specs.Io.KnownBytes.{Appends};
-ghost use Rattle.cityed.specs.Served.{is_newline, document_of, scripts_of, AppendsSome, IsServed, IsReadFault, IsServeFault};
+ghost use Rattle.cityed.specs.Served.{is_newline, document_of, scripts_of, IsServed, IsReadFault, IsServeFault};
+ghost use Rattle.cityed.specs.ServedTexts.{AppendsSome};
 
+use crate::device::Device;
 use crate::fault::ServeFault;
-use crate::run::run_serial;
-use crate::told::Told;
+use crate::serve_texts::serve_texts;
 use std::alloc::Global;
 use std::io::{Read, Write};
 
@@ -21,8 +22,8 @@ const MOST: usize = 134_217_730;
 /// where either fails in this call there is no `Ok`.
 pub fn serve<R: Read, W: Write>(
     alloc: Global,
-    reader: &mut Told<R>,
-    writer: &mut Told<W>,
+    reader: &mut Device<R>,
+    writer: &mut Device<W>,
     workers: usize,
     viewers: usize,
 ) -> Result<Vec<Vec<u64>>, ServeFault>
@@ -35,23 +36,15 @@ pub fn serve<R: Read, W: Write>(
     ensures fault { IfErr result (IsServeFault (R.remaining reader.old.0) reader.new.1
         (W.contents writer.old.0) (W.contents writer.new.0) writer.new.1) }
 {
-    prove!(workers == 1 && viewers == 0);
     let input = read_at_most(alloc, reader, MOST)?;
     let (document, scripts) = cut(input.as_slice());
-    let output = match run_serial(alloc, document, scripts) {
-        Ok(output) => output,
-        Err(fault) => return Err(ServeFault::Run(fault)),
-    };
-    if !write_output(writer, output.bytes.as_slice()) {
-        return Err(ServeFault::Write);
-    }
-    Ok(output.seen)
+    serve_texts(alloc, document, scripts, writer, workers, viewers)
 }
 
 /// What a reader gives, but no more than so many bytes.
 pub(crate) fn read_at_most<R: Read>(
     alloc: Global,
-    reader: &mut Told<R>,
+    reader: &mut Device<R>,
     most: usize,
 ) -> Result<Vec<u8>, ServeFault>
     ensures input { IfOk result (λ v. IfSome (R.remaining reader.old.0)
@@ -91,7 +84,7 @@ fn first_newline(bytes: &[u8]) -> Option<usize>
 }
 
 /// Writes the bytes, and lets the writer pass them on: whether it did.
-pub(crate) fn write_output<W: Write>(writer: &mut Told<W>, bytes: &[u8]) -> bool
+pub(crate) fn write_output<W: Write>(writer: &mut Device<W>, bytes: &[u8]) -> bool
     ensures written { result ≡ true → Appends (W.contents writer.old.0) (W.contents writer.new.0) bytes.now }
     ensures cut_short { result ≡ false → AppendsSome (W.contents writer.old.0) (W.contents writer.new.0) bytes.now }
     ensures unfailed { result ≡ true → writer.new.1 ≡ writer.old.1 }

@@ -2,10 +2,10 @@
 ghost use Rattle.std.specs.Prelude.{◌≡◌, [], IfOk, IfErr, OnOk};
 ghost use Rattle.cityed.specs.ServedTexts.{AreServed, IsTextsFault};
 
+use crate::device::Device;
 use crate::fault::ServeFault;
 use crate::run::run_serial;
 use crate::serve::write_output;
-use crate::told::Told;
 use std::alloc::Global;
 use std::io::Write;
 
@@ -17,7 +17,7 @@ pub fn serve_texts<W: Write>(
     alloc: Global,
     document: &[u8],
     scripts: &[u8],
-    writer: &mut Told<W>,
+    writer: &mut Device<W>,
     workers: usize,
     viewers: usize,
 ) -> Result<Vec<Vec<u64>>, ServeFault>

@@ -1,9 +1,9 @@
 //! What the program answers, beside the answers that the format's worked examples give.
+use crate::device::Device;
 use crate::fault::{RunFault, ServeFault};
 use crate::fault_line::fault_line;
 use crate::run::run_serial;
 use crate::serve::serve;
-use crate::told::Told;
 use city_doc::fault::{ReadFault, ScriptFault};
 use city_model::end::Outcome;
 use city_model::text::Text;
@@ -90,9 +90,10 @@ fn input(alloc: Global, document: &str, scripts: &str) -> Result<String, AllocEr
 fn runs_write_the_report_and_the_model(rt: HostRuntime) -> Result<(), Fail> {
     for run in [NOTHING_TO_DO, COMMIT_AND_ABORT, TYPE_IS_FIXED] {
         let text = input(rt.alloc(), run.document, run.scripts)?;
-        let mut reader = Told::new(text.as_bytes());
+        let mut reader = Device::new(text.as_bytes());
         let mut written = Vec::new(rt.alloc());
-        let seen = serve(rt.alloc(), &mut reader, &mut Told::new(&mut written), 1, 0)?;
+        let mut writer = Device::new(&mut written);
+        let seen = serve(rt.alloc(), &mut reader, &mut writer, 1, 0)?;
         let mut wanted = run.report.to_string(rt.alloc())?;
         wanted.push_str(run.model)?;
         wanted.push_str("\n")?;
@@ -140,9 +141,10 @@ fn refused_inputs_are_told_and_nothing_is_written(rt: HostRuntime) -> Result<(),
         ),
     ];
     for (text, wanted) in cases {
-        let mut reader = Told::new(text.as_bytes());
+        let mut reader = Device::new(text.as_bytes());
         let mut written = Vec::new(rt.alloc());
-        let line = match serve(rt.alloc(), &mut reader, &mut Told::new(&mut written), 1, 0) {
+        let mut writer = Device::new(&mut written);
+        let line = match serve(rt.alloc(), &mut reader, &mut writer, 1, 0) {
             Ok(_) => "served".to_string(rt.alloc())?,
             Err(fault) => fault_line(rt.alloc(), &fault)?,
         };
@@ -195,12 +197,12 @@ impl Read for Broken {
 #[test]
 fn a_writer_that_fails_has_the_first_bytes(rt: HostRuntime) -> Result<(), Fail> {
     let text = input(rt.alloc(), NOTHING_TO_DO.document, NOTHING_TO_DO.scripts)?;
-    let mut reader = Told::new(text.as_bytes());
+    let mut reader = Device::new(text.as_bytes());
     let mut writer = Narrow {
         taken: Vec::new(rt.alloc()),
         room: 10,
     };
-    let answer = serve(rt.alloc(), &mut reader, &mut Told::new(&mut writer), 1, 0);
+    let answer = serve(rt.alloc(), &mut reader, &mut Device::new(&mut writer), 1, 0);
     assert!(rt; matches!(answer, Err(ServeFault::Write)));
     assert_eq!(rt; writer.taken.as_slice(), "{\"CityObje".as_bytes());
     Ok(())
@@ -208,9 +210,10 @@ fn a_writer_that_fails_has_the_first_bytes(rt: HostRuntime) -> Result<(), Fail> 
 
 #[test]
 fn a_reader_that_fails_is_told_and_nothing_is_written(rt: HostRuntime) {
-    let mut reader = Told::new(Broken { left: 3 });
+    let mut reader = Device::new(Broken { left: 3 });
     let mut written = Vec::new(rt.alloc());
-    let answer = serve(rt.alloc(), &mut reader, &mut Told::new(&mut written), 1, 0);
+    let mut writer = Device::new(&mut written);
+    let answer = serve(rt.alloc(), &mut reader, &mut writer, 1, 0);
     assert!(rt; matches!(answer, Err(ServeFault::Read)));
     assert!(rt; written.is_empty());
 }

@@ -1,16 +1,23 @@
-use Rattle.cityed.proofs.Serving.{served_if, cut_short_if}
+use Rattle.std.proofs.Common.{ap, ◌∙◌}
+use Rattle.std.proofs.lemmas.Result.{IfOk-weaker, IfErr-weaker}
+use Rattle.cityed.specs.Served.{document_of, scripts_of}
+use Rattle.cityed.specs.ServedTexts.{AreServed}
+use Rattle.cityed.proofs.Serving.{of_input, fault_of_input}
 use Rattle.cityed.proofs.serve.serve.Goals as goal
 
 pub returns-clause-served : goal.returns-clause-served
 returns-clause-served g c =
-    served_if (g.W.Write.contents c.args.writer.now.0) (g.W.Write.contents c.write_output.new.writer.0) c.in_ok-input.input.items c.as_slice.result.now _ _ _ _ c.as_slice-2.result.now
-    (g.R.Read.remaining c.args.reader.now.0) c.in_ok-input.ensures.input c.as_slice.ensures.value c.cut.ensures.document c.cut.ensures.scripts c.in-Ok.ensures.ran c.as_slice-2.ensures.value
-    (c.write_output.ensures.written c.if-not-write_output.false)
+    let old = g.W.Write.contents c.args.writer.now.0 in
+    let new = g.W.Write.contents c.serve_texts.new.writer.0 in
+    IfOk-weaker c.serve_texts.result _ _
+    (λ _ served. of_input (g.R.Read.remaining c.args.reader.now.0) c.in_ok-input.input.items c.cut.result.0.now c.cut.result.1.now c.in_ok-input.ensures.input
+    (c.cut.ensures.document ∙ ap document_of c.as_slice.ensures.value) (c.cut.ensures.scripts ∙ ap scripts_of c.as_slice.ensures.value) (λ d s. AreServed d s old new) served)
+    c.serve_texts.ensures.served
 
-pub returns-then-not-write_output-clause-fault : goal.returns-then-not-write_output-clause-fault
-returns-then-not-write_output-clause-fault g c = (
-  cut_short_if (g.W.Write.contents c.args.writer.now.0) (g.W.Write.contents c.write_output.new.writer.0) c.in_ok-input.input.items c.as_slice.result.now _ _ _ _ c.as_slice-2.result.now
-      (g.R.Read.remaining c.args.reader.now.0) c.in_ok-input.ensures.input c.as_slice.ensures.value c.cut.ensures.document c.cut.ensures.scripts c.in-Ok.ensures.ran c.as_slice-2.ensures.value
-      (c.write_output.ensures.cut_short c.if-not-write_output.true),
-  c.write_output.ensures.failed c.if-not-write_output.true,
-)
+pub returns-clause-fault : goal.returns-clause-fault
+returns-clause-fault g c =
+    IfErr-weaker c.serve_texts.result _ _
+    (fault_of_input (g.R.Read.remaining c.args.reader.now.0) c.in_ok-input.input.items c.cut.result.0.now c.cut.result.1.now c.in_ok-input.ensures.input
+    (c.cut.ensures.document ∙ ap document_of c.as_slice.ensures.value) (c.cut.ensures.scripts ∙ ap scripts_of c.as_slice.ensures.value)
+    (g.W.Write.contents c.args.writer.now.0) (g.W.Write.contents c.serve_texts.new.writer.0) c.read_at_most.new.reader.1 c.serve_texts.new.writer.1)
+    c.serve_texts.ensures.fault

@@ -13,32 +13,32 @@ use std::marker::Model;
 /// answers an error, or takes no byte of some. Being interrupted is no failure: the call is made
 /// again.
 #[derive(Drop)]
-pub struct Told<D> {
-    device: D,
+pub struct Device<D> {
+    inner: D,
     failed: bool,
 }
 
-impl<D> Model for Told<D> {
+impl<D> Model for Device<D> {
     ghost use Rattle.std.specs.Prelude.{Bool};
 
     ghost Value = { D × Bool };
 
-    ghost view = { λ t. (t.device, t.failed) };
+    ghost view = { λ d. (d.inner, d.failed) };
 }
 
-impl<D> Told<D> {
+impl<D> Device<D> {
     /// A device that hasn't failed. Takes no memory.
-    pub fn new(device: D) -> Self
-        ensures { result ≡ (device, false) }
+    pub fn new(inner: D) -> Self
+        ensures { result ≡ (inner, false) }
     {
-        Told {
-            device,
+        Device {
+            inner,
             failed: false,
         }
     }
 }
 
-impl<R: Read> Told<R> {
+impl<R: Read> Device<R> {
     /// Reads some bytes into the chunk: how many, and none only at the end.
     ///
     /// Refused with `Read` where the reader fails, and else for want of memory.
@@ -51,7 +51,7 @@ impl<R: Read> Told<R> {
         ensures fault { IfErr result (IsReadFault self.new.1) }
     {
         for _ in 0..u64::MAX {
-            match self.device.read(chunk) {
+            match self.inner.read(chunk) {
                 Ok(count) => return Ok(count),
                 Err(error) => match error.kind() {
                     ErrorKind::Interrupted => {}
@@ -65,7 +65,7 @@ impl<R: Read> Told<R> {
     }
 }
 
-impl<W: Write> Told<W> {
+impl<W: Write> Device<W> {
     /// Gives the writer some bytes: how many it took, which is at least one.
     ///
     /// None where it fails, and then it took nothing.
@@ -78,7 +78,7 @@ impl<W: Write> Told<W> {
         ensures failed { IsNone result → self.new.1 ≡ true }
     {
         for _ in 0..u64::MAX {
-            match self.device.write(bytes) {
+            match self.inner.write(bytes) {
                 Ok(0) => break,
                 Ok(count) => return Some(count),
                 Err(error) => {
@@ -98,7 +98,7 @@ impl<W: Write> Told<W> {
         ensures unfailed { result ≡ true → self.new.1 ≡ self.old.1 }
         ensures failed { result ≡ false → self.new.1 ≡ true }
     {
-        match self.device.flush() {
+        match self.inner.flush() {
             Ok(()) => true,
             Err(_) => {
                 self.failed = true;
