@@ -1,5 +1,5 @@
 //! Reads the forms of scripts: their names and parts, whose commands aren't read yet.
-ghost use Rattle.std.specs.Prelude.{◌≡◌, ◌⊎◌, true, map, length, Some, IfOk, IfErr, IfSome, codes, option_map};
+ghost use Rattle.std.specs.Prelude.{◌≡◌, ◌⊎◌, true, map, Some, IfOk, IfErr, IfSome, codes, option_map};
 ghost use Rattle.city_model.specs.Members.{without};
 ghost use Rattle.serde_json.specs.View.{view, members_view};
 ghost use Rattle.city_doc.specs.ScriptTrees.{all_read, is_end_text, is_end_word, word_ends, are_vertices, has_script_members, commands_in, parts_of, parts_in, are_too_many};
