@@ -1,5 +1,5 @@
 -- The city of a tree, from its parts.
-use Rattle.std.proofs.Common.{◌≡◌, List, ℕ, Bool, true, false, Option, Some, None, refl, sym, ap, ◌∙◌}
+use Rattle.std.proofs.Common.{◌≡◌, List, ℕ, Bool, true, Option, Some, None, refl, sym, ap, ◌∙◌}
 use Rattle.std.specs.Prelude.{option_and_then, option_map, codes, if◌then◌else◌}
 use Rattle.serde_json.specs.Data.{Data, null, boolean, number, string, array, object, Members}
 use Rattle.serde_json.specs.Find.{get, get_member, as_object}
@@ -19,24 +19,10 @@ get-object name (string s) ms e = cc
 get-object name (array ds) ms e = cc
 get-object name (object top) ms e = let same : top ≡ ms = cc in ap (get_member name) same
 
-no_frame_with : (E F : Type 0) (o : Option E) → option_and_then {T = E} {U = F × E} (λ es. option_map {T = F} {U = F × E} (λ f. (f, es)) None) o ≡ None
-no_frame_with E F None = refl
-no_frame_with E F (Some es) = refl
-
 module _ {P E F : Type 0} where
   -- as the parts of a city are put together
-  abbrev pub joined : Bool → Option P → (P → Option E) → Option F → Option (F × E)
+  abbrev joined : Bool → Option P → (P → Option E) → Option F → Option (F × E)
   joined b points entries frame = if b then option_and_then (λ p. option_and_then (λ es. option_map (λ f. (f, es)) frame) (entries p)) points else None
-
-  pub no_frame : (b : Bool) (points : Option P) (entries : P → Option E) (frame : Option F) → frame ≡ None → None ≡ joined b points entries frame
-  no_frame false points entries frame e = refl
-  no_frame true None entries frame e = refl
-  no_frame true (Some p) entries frame e = rw e (sym (no_frame_with E F (entries p)))
-
-  pub no_entries : (b : Bool) (points : Option P) (entries : P → Option E) (frame : Option F) → ((p : P) → entries p ≡ None) → None ≡ joined b points entries frame
-  no_entries false points entries frame e = refl
-  no_entries true None entries frame e = refl
-  no_entries true (Some p) entries frame e = rw (e p)
 
   all_parts : (b : Bool) (points : Option P) (entries : P → Option E) (frame : Option F) (p : P) (es : E) (f : F) → b ≡ true → points ≡ Some p → entries p ≡ Some es → frame ≡ Some f → Some (f, es) ≡ joined b points entries frame
   all_parts b points entries frame p es f is_right has_points has_entries has_frame = rw (is_right, has_points, has_entries, has_frame) refl
@@ -54,22 +40,9 @@ module _ (d : Data) (top : Members) (is_top : as_object d ≡ Some top) where
   pub objects_at : (ms : Members) → option_and_then as_object (get_member (codes "CityObjects") top) ≡ Some ms → objects_in d ≡ ms
   objects_at ms e = ap members_of (ap (option_and_then as_object) (get-object (codes "CityObjects") d top is_top) ∙ e)
 
-  pub missing_objects : option_and_then as_object (get_member (codes "CityObjects") top) ≡ None → None ≡ city_of d
-  missing_objects e = no_entries (is_city_json d) (points_in d) (λ points. entries_in points d) (frame_of d) (λ points. entries_at points None e)
-
-  pub missing_frame : frame_of_rest (without (codes "CityObjects") top) ≡ None → None ≡ city_of d
-  missing_frame e = no_frame (is_city_json d) (points_in d) (λ points. entries_in points d) (frame_of d) (frame_at ∙ e)
-
   module _ (ms : Members) (are_objects : option_and_then as_object (get_member (codes "CityObjects") top) ≡ Some ms) where
-    pub unread_objects : ((points : List Point) → None ≡ entries_of points ms) → None ≡ city_of d
-    unread_objects none =
-        no_entries (is_city_json d) (points_in d) (λ points. entries_in points d) (frame_of d) (λ points. entries_at points (Some ms) are_objects ∙ sym (none points))
-
     pub city_joined : (points : List Point) (es : Entries) (frame : Frame) → IsRight d → points_in d ≡ Some points → entries_of points ms ≡ Some es
         → frame_of_rest (without (codes "CityObjects") top) ≡ Some frame → city_of d ≡ Some (frame, es)
     city_joined points es frame right has_points read is_frame =
         sym (all_parts (is_city_json d) (points_in d) (λ p. entries_in p d) (frame_of d) points es frame (city_json d right) has_points
         (entries_at points (Some ms) are_objects ∙ read) (frame_at ∙ is_frame))
-
-pub no_top : (d : Data) → as_object d ≡ None → None ≡ city_of d
-no_top d e = no_frame (is_city_json d) (points_in d) (λ points. entries_in points d) (frame_of d) (ap (option_and_then (λ ms. frame_of_rest (without (codes "CityObjects") ms))) e)

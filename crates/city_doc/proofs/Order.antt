@@ -1,5 +1,5 @@
 -- The first fault of a tree, by the order of the faults.
-use Rattle.std.proofs.Common.{◌≡◌, ℕ, ◌<◌, ◌≤◌, List, Bool, true, false, true≢false, Option, Some, None, refl, sym, ap, subst, ◌∙◌, arith}
+use Rattle.std.proofs.Common.{◌≡◌, ℕ, ◌<◌, ◌≤◌, List, Bool, true, false, true≢false, Option, Some, None, sym, ap, subst, ◌∙◌, arith}
 use Rattle.std.specs.Prelude.{is_some, length, option_and_then, MatchOption}
 use Rattle.serde_json.specs.Data.{Data, Members}
 use Rattle.city_model.specs.declared.object.Point.{Point}
@@ -175,40 +175,6 @@ in_among d (OpenShell id) whole right h = h
 -- the first that stands among the objects is the first in the tree
 pub first_in : (d : Data) (f : ReadFault) → is_whole d ≡ true → wrong_member d ≡ None → IsFirst (StandsAmong (vertices_in d) (objects_in d)) f → IsFirst (StandsIn d) f
 first_in d f whole right first = (among_in d f first.0, λ g lt h. first.1 g lt (in_among d g whole right h))
-
-before_wrong : (d : Data) (n : ℕ) (g : ReadFault) → is_whole d ≡ true → n ≡ 4 → number_of g < n → StandsIn d g → ⊥
-before_wrong d n OutOfMemory whole e lt h = h
-before_wrong d n TooLong whole e lt h = h
-before_wrong d n NotJson whole e lt h = h
-before_wrong d n NotWhole whole e lt h = true≢false (sym whole ∙ h)
-before_wrong d n (NotCityJson name) whole e lt h = omega arith
-before_wrong d n (UnknownType id) whole e lt h = omega arith
-before_wrong d n (Unsupported id name) whole e lt h = omega arith
-before_wrong d n (BadGeometry id) whole e lt h = omega arith
-before_wrong d n (BadVertex id) whole e lt h = omega arith
-before_wrong d n (BadRing id) whole e lt h = omega arith
-before_wrong d n (Relations id) whole e lt h = omega arith
-before_wrong d n (OpenShell id) whole e lt h = omega arith
-
-pub first_wrong_member : (d : Data) (name : List ℕ) → is_whole d ≡ true → wrong_member d ≡ Some name → IsFirst (StandsIn d) (NotCityJson name)
-first_wrong_member d name whole h = (h, λ g lt. before_wrong d 4 g whole refl lt)
-
-before_other : (d : Data) (n : ℕ) (g : ReadFault) → n ≡ 3 → number_of g < n → StandsIn d g → ⊥
-before_other d n OutOfMemory e lt h = h
-before_other d n TooLong e lt h = h
-before_other d n NotJson e lt h = h
-before_other d n NotWhole e lt h = omega arith
-before_other d n (NotCityJson name) e lt h = omega arith
-before_other d n (UnknownType id) e lt h = omega arith
-before_other d n (Unsupported id name) e lt h = omega arith
-before_other d n (BadGeometry id) e lt h = omega arith
-before_other d n (BadVertex id) e lt h = omega arith
-before_other d n (BadRing id) e lt h = omega arith
-before_other d n (Relations id) e lt h = omega arith
-before_other d n (OpenShell id) e lt h = omega arith
-
-pub first_other_number : (d : Data) → is_whole d ≡ false → IsFirst (StandsIn d) NotWhole
-first_other_number d h = (h, λ g lt. before_other d 3 g refl lt)
 
 first_moved : (points qs : List Point) (ms ns : Members) (f : ReadFault) → qs ≡ points → ns ≡ ms → IsFirst (StandsAmong points ms) f → IsFirst (StandsAmong qs ns) f
 first_moved points qs ms ns f same_points same_objects h = subst (λ x. IsFirst (StandsAmong qs x) f) (sym same_objects) (subst (λ x. IsFirst (StandsAmong x ms) f) (sym same_points) h)

@@ -1,13 +1,11 @@
 -- What is wrong with the tree of one object.
-use Rattle.std.specs.Prelude.{◌||◌, not, ℕ, List, [], ◌∷◌, Bool, false, Option, Some, None, option_and_then, codes, is_none, if◌then◌else◌}
+use Rattle.std.specs.Prelude.{◌||◌, not, ℕ, List, [], ◌∷◌, Bool, Option, Some, None, option_and_then, codes, is_none, if◌then◌else◌}
 use Rattle.std.specs.Option.{option_or}
 use Rattle.std.specs.List.{list_any}
 use Rattle.std.specs.Str.{bytes_eq}
 use Rattle.serde_json.specs.Data.{Data, Items, no_items, item}
 use Rattle.serde_json.specs.Find.{get, as_array}
-use Rattle.city_model.specs.declared.object_type.ObjectType.{ObjectType}
 use Rattle.city_model.specs.Kept.{has_location}
-use Rattle.city_model.specs.Relations.{is_second_level}
 use Rattle.city_doc.specs.Bodies.{text_at, type_of, ids_at}
 use Rattle.city_doc.specs.Geometries.{is_number, is_place, are_geometries}
 
@@ -49,10 +47,6 @@ abbrev pub has_bad_vertex : ℕ → Data → Bool
 has_bad_vertex count d = not (are_geometries (is_place count) (get (codes "geometry") d))
 
 -- ---- relations
-
-abbrev pub is_second : Option ObjectType → Bool
-is_second None = false
-is_second (Some kind) = is_second_level kind
 
 -- `parents` or `children` is there and isn't an array of texts
 abbrev pub has_bad_list : Data → Bool

@@ -1,5 +1,5 @@
 //! Tells which commands are refused.
-ghost use Rattle.std.specs.Prelude.{◌≡◌, option_map};
+ghost use Rattle.std.specs.Prelude.{◌≡◌};
 ghost use Rattle.serde_json.specs.View.{view};
 ghost use Rattle.city_doc.specs.CommandForms.{names_relations};
 ghost use Rattle.city_doc.specs.BadCommands.{is_unreadable, is_bad_object, is_bad_command, is_misplaced};

@@ -1,5 +1,5 @@
 //! Judges a city that was read: its rings, its relations and its shells.
-ghost use Rattle.std.specs.Prelude.{◌≡◌, ℕ, List, Bool, None, IfOk, IfSome, IfNone, MatchOption, option_map};
+ghost use Rattle.std.specs.Prelude.{◌≡◌, List, Bool, None, IfOk, IfSome, IfNone, MatchOption, option_map};
 ghost use Rattle.std.specs.List.{list_any};
 ghost use Rattle.serde_json.specs.Data.{Members};
 ghost use Rattle.city_model.specs.declared.object.Body as b;

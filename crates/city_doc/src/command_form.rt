@@ -1,5 +1,5 @@
 //! Tells the forms of commands.
-ghost use Rattle.std.specs.Prelude.{◌≡◌, option_map, codes};
+ghost use Rattle.std.specs.Prelude.{◌≡◌, option_map};
 ghost use Rattle.serde_json.specs.View.{view, members_view};
 ghost use Rattle.city_doc.specs.CommandForms.{text_in, word_form, members_form, form_of};
 ghost use Rattle.city_doc.specs.ScriptForms.{form_view, single_form, put_pair, relation_pair, pair_form};

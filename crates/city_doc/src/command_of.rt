@@ -9,7 +9,7 @@ ghost use Rattle.city_doc.specs.ScriptForms.{single_form, put_pair, relation_pai
 use crate::bad_command::names_relations;
 use crate::body::body_of;
 use crate::command_form::text_in;
-use crate::geometry::into_text;
+use crate::values::into_text;
 use city_model::command::Command;
 use city_model::members::{into_object, member, members_count, take};
 use city_model::object::Point;

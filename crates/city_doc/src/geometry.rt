@@ -1,6 +1,6 @@
 //! Builds the geometries that trees stand for, each position replaced by its point.
 ghost use Rattle.std.specs.Prelude.{◌≡◌, IfOk, option_map, option_and_then, codes};
-ghost use Rattle.serde_json.specs.Find.{as_str, as_array, get_member};
+ghost use Rattle.serde_json.specs.Find.{as_str, get_member};
 ghost use Rattle.serde_json.specs.View.{view, items_view, members_view};
 ghost use Rattle.city_model.specs.Kept.{kept_at_geometry};
 ghost use Rattle.city_model.specs.Members.{without};
@@ -8,6 +8,7 @@ ghost use Rattle.city_doc.specs.Bodies.{read_items, list_or_absent, shape_of, sh
 
 use crate::nested::Nested;
 use crate::object_faults::text_at;
+use crate::values::{into_array, into_text};
 use city_model::extra::Extra;
 use city_model::members::{into_object, take};
 use city_model::object::{Geometry, Point, Shape};
@@ -47,26 +48,6 @@ fn shape_in(alloc: Global, points: &[Point], geometry: &Value) -> Result<Option<
         return Ok(None);
     };
     shape_of(alloc, points, kind, boundaries)
-}
-
-/// The text that a value is, which it gives up.
-pub fn into_text(value: Value) -> Option<Text>
-    ensures { result ≡ as_str (view value) }
-{
-    match value {
-        Value::String(text) => Some(Text::new(text)),
-        _ => None,
-    }
-}
-
-/// The items of an array, which it gives up.
-pub fn into_array(value: Value) -> Option<Vec<Value>>
-    ensures { option_map (λ items. items_view items.items) result ≡ as_array (view value) }
-{
-    match value {
-        Value::Array(items) => Some(items),
-        _ => None,
-    }
 }
 
 /// The members that are kept at a geometry, of those but `type` and `lod`.

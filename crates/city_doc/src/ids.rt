@@ -6,7 +6,7 @@ ghost use Rattle.city_doc.specs.Bodies.{read_items, list_or_absent};
 ghost use Rattle.city_doc.specs.CityFaults.{or_empty};
 ghost use Rattle.city_doc.specs.ObjectFaults.{has_bad_list};
 
-use crate::geometry::{into_array, into_text};
+use crate::values::{into_array, into_text};
 use city_model::sequence::Sequence;
 use city_model::text::Id;
 use serde_json::Value;

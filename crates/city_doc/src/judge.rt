@@ -109,7 +109,7 @@ fn unsupported_at<'v>(objects: &'v Map<String, Value>, id: &str) -> Option<&'v s
 
 /// The first fault among the objects that their trees alone show, where their positions name these
 /// points; none where each has a known type and geometries that can be read.
-pub fn object_fault(
+fn object_fault(
     alloc: Global,
     points: &[Point],
     objects: &Map<String, Value>,

@@ -35,6 +35,7 @@ mod scripts_tests;
 mod top;
 mod tree;
 pub mod triples;
+mod values;
 mod vertices;
 mod walk;
 pub mod write;

@@ -1,10 +1,10 @@
 //! Lists within lists down to positions, as boundaries have them: their form, and the points that they stand for.
-ghost use Rattle.std.specs.Prelude.{◌≡◌, Bool, List, Option, IfOk, option_map};
+ghost use Rattle.std.specs.Prelude.{◌≡◌, Bool, List, Option, IfOk};
 ghost use Rattle.serde_json.specs.Data.{Data};
 ghost use Rattle.serde_json.specs.View.{view, items_view};
 ghost use Rattle.city_model.specs.declared.object.Point as p;
 ghost use Rattle.city_doc.specs.Bodies.{read_items, list_of, point_at};
-ghost use Rattle.city_doc.specs.Geometries.{is_number, is_place, place_of, all_items, are_items, is_list_of};
+ghost use Rattle.city_doc.specs.Geometries.{is_number, is_place, place_of, all_items, is_list_of};
 
 use city_model::object::Point;
 use city_model::sequence::Sequence;

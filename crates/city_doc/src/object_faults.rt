@@ -1,10 +1,10 @@
 //! What is wrong with the tree of one object.
-ghost use Rattle.std.specs.Prelude.{◌≡◌, option_map, codes};
+ghost use Rattle.std.specs.Prelude.{◌≡◌, option_map};
 ghost use Rattle.std.specs.List.{list_any};
 ghost use Rattle.std.specs.Str.{bytes_eq};
 ghost use Rattle.serde_json.specs.View.{view, items_view};
 ghost use Rattle.city_doc.specs.Bodies.{text_at, type_of};
-ghost use Rattle.city_doc.specs.ObjectFaults.{is_unknown_type, unsupported_types, unsupported_type, first_unsupported, unsupported_name, is_bad_geometry, has_bad_vertex};
+ghost use Rattle.city_doc.specs.ObjectFaults.{unsupported_types, unsupported_type, first_unsupported, unsupported_name, is_bad_geometry, has_bad_vertex};
 
 use crate::geometry_form::are_geometries;
 use crate::nested::{AnyNumber, PlaceBelow};

@@ -6,7 +6,7 @@ ghost use Rattle.std.specs.List.Sorted.{IsStrictlySortedBy};
 ghost use Rattle.std.specs.Map.{keys_of};
 ghost use Rattle.std.specs.Ordering.{nat_cmp};
 ghost use Rattle.serde_json.specs.View.{view, members_view};
-ghost use Rattle.city_doc.specs.Canonical.{put_list, object_data, with_objects, objects_data};
+ghost use Rattle.city_doc.specs.Canonical.{put_list, object_data, objects_data};
 ghost use Rattle.city_doc.specs.KeptMembers.{is_kept_object, are_kept_objects};
 
 use crate::boundaries::Written;

@@ -1,8 +1,8 @@
 //! Reads the forms of scripts: their names and parts, whose commands aren't read yet.
-ghost use Rattle.std.specs.Prelude.{◌≡◌, ◌⊎◌, true, map, length, Some, IfOk, IfErr, IfSome, codes, option_map};
+ghost use Rattle.std.specs.Prelude.{◌≡◌, ◌⊎◌, true, map, Some, IfOk, IfErr, IfSome, codes, option_map};
 ghost use Rattle.city_model.specs.Members.{without};
 ghost use Rattle.serde_json.specs.View.{view, members_view};
-ghost use Rattle.city_doc.specs.ScriptTrees.{all_read, array_of, is_end_text, is_end_word, word_ends, are_vertices, has_script_members, commands_in, parts_of, parts_in, are_too_many};
+ghost use Rattle.city_doc.specs.ScriptTrees.{all_read, is_end_text, is_end_word, word_ends, are_vertices, has_script_members, commands_in, parts_of, parts_in, are_too_many};
 ghost use Rattle.city_doc.specs.ScriptForms.{parts_view, parts_views};
 ghost use Rattle.city_doc.specs.ScriptSearch.{first_at, bad_script};
 
@@ -10,6 +10,7 @@ use crate::command_of::take_text;
 use crate::fault::ScriptFault;
 use crate::script_form::ScriptForm;
 use crate::triples::are_triples;
+use crate::values::into_array;
 use city_model::members::{into_object, member, members_count, take};
 use city_model::sequence::Sequence;
 use serde_json::{Map, Value};
@@ -66,16 +67,6 @@ fn has_script_members(members: &Map<String, Value>) -> bool
     let vertices = member(members, "vertices");
     let wanted = if vertices.is_some() { 3 } else { 2 };
     members_count(members) == wanted && are_vertices(vertices)
-}
-
-/// The items of an array, which it gives up.
-pub fn into_array(value: Value) -> Option<Vec<Value>>
-    ensures { option_map (λ v. map view v.items) result ≡ array_of (view value) }
-{
-    match value {
-        Value::Array(items) => Some(items),
-        _ => None,
-    }
 }
 
 /// Takes the commands of a script out, where exactly the last is a word that ends it.

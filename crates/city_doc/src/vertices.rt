@@ -5,6 +5,7 @@ ghost use Rattle.city_doc.specs.Bodies.{read_items};
 ghost use Rattle.city_doc.specs.Documents.{points_in, vertices_in};
 ghost use Rattle.city_doc.specs.Triples.{point_of, points_of};
 
+use crate::triples::triple_of;
 use city_model::object::Point;
 use city_model::sequence::Sequence;
 use serde_json::Value;
@@ -14,12 +15,7 @@ use std::alloc::{AllocError, Global};
 fn point_of(value: &Value) -> Option<Point>
     ensures { result ≡ point_of (view value.now) }
 {
-    if value.get(3).is_some() {
-        return None;
-    }
-    let x = value.get(0).and_then(Value::as_i64)?;
-    let y = value.get(1).and_then(Value::as_i64)?;
-    let z = value.get(2).and_then(Value::as_i64)?;
+    let [x, y, z] = triple_of(value)?;
     Some(Point { x, y, z })
 }
 

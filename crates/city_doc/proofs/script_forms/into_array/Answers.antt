@@ -1,9 +1,0 @@
-use Rattle.std.proofs.Common.{sym, ap, map}
-use Rattle.std.specs.Prelude.{Some}
-use Rattle.serde_json.specs.View.{view}
-use Rattle.serde_json.proofs.Views.{view-Array}
-use Rattle.city_doc.proofs.WholeParts.{items_list-of}
-use Rattle.city_doc.proofs.script_forms.into_array.Goals as goal
-
-pub returns-in-Array : goal.returns-in-Array
-returns-in-Array c = rw (c.in-Array.is, view-Array c.in-Array.items) (ap Some (sym (items_list-of (map view c.in-Array.items.items))))
