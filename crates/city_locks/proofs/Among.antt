@@ -18,7 +18,7 @@ pub none_cond : (b : Bool) → None ≡ cond {A = Option Mode} b None None
 none_cond true = refl
 none_cond false = refl
 
-some_same : (m n : Mode) → Some m ≡ Some n → m ≡ n
+pub some_same : (m n : Mode) → Some m ≡ Some n → m ≡ n
 some_same m n e = cc
 
 or_off : (a b : Bool) → (a || b) ≡ false → a ≡ false

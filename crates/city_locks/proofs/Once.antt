@@ -9,7 +9,7 @@ use Rattle.city_locks.specs.declared.holder.Holder.{Holder}
 use Rattle.city_locks.specs.Mode.{is_exclusive, stronger}
 use Rattle.city_locks.specs.Holders.{in_conflict, gives_way, answer_among, mode_among, with_holder, without, Once}
 use Rattle.city_locks.specs.WaitDie.{clashes, IsWaitDie}
-use Rattle.city_locks.proofs.Among.{by_test, mode_with, mode_without, none_cond, or_true}
+use Rattle.city_locks.proofs.Among.{some_same, by_test, mode_with, mode_without, none_cond, or_true}
 
 pub once_with : (hs : List Holder) (s : ℕ) (m : Mode) → Once hs → Once (with_holder hs s m)
 once_with [] s m o = (refl, tt)
@@ -43,9 +43,6 @@ found p (x ∷ xs) o h = by_test (p x)
     let other : (x.stamp == f.0) ≡ false = false_from_ne_true (x.stamp == f.0)
     (λ w. let bad : None ≡ Some f.1.0 = sym o.0 ∙ ap (λ t. mode_among xs t) (eqb-true x.stamp f.0 w) ∙ f.1.1.0 in cc) in
     (f.0, (f.1.0, (ap (λ b. cond b (Some x.mode) (mode_among xs f.0)) other ∙ f.1.1.0, f.1.1.1))))
-
-some_same : (m n : Mode) → Some m ≡ Some n → m ≡ n
-some_same m n e = cc
 
 any_at : (p : Holder → Bool) (hs : List Holder) (t : ℕ) (held : Mode) → mode_among hs t ≡ Some held → p (record { stamp = t; mode = held }) ≡ true → list_any p hs ≡ true
 any_at p [] t held h e = cc

@@ -1,6 +1,7 @@
 -- A call of the core: its locks gained, and its command done on the store.
 use Rattle.std.proofs.Common.{◌≡◌, ◌==◌, ◌&&◌, ◌||◌, ℕ, List, [], Bool, true, false, Option, None, Some, is_some, Result, Ok, Err, refl, ap, sym, ◌∙◌, subst, inl, inr}
 use Rattle.std.specs.Prelude.{if◌then◌else◌, option_map, is_none, IfOk, IfErr, OnOk, IsErr}
+use Rattle.std.proofs.lemmas.Option.{none-some}
 use Rattle.std.proofs.lemmas.Bool.{false≢true, eqb-true, eqb-false, eq-eqb, cases_eq, and_parts}
 use Rattle.city_model.specs.declared.object.Object.{Object}
 use Rattle.city_model.specs.declared.command.Cause.{Cause}
@@ -35,6 +36,7 @@ use Rattle.city_txn.proofs.CoreFields.{open_is}
 use Rattle.city_txn.proofs.LocksGained.{LocksGained, view_gained, stands_gained, held_exclusively, exclusive_gained, gained_consistent, all_granted, no_more_locks}
 use Rattle.city_txn.proofs.LocksAsked.{gains_nothing}
 use Rattle.city_txn.proofs.CommandDone.{CommandDone, stands_done, stands_beside, done_consistent}
+use Rattle.city_txn.proofs.PlanWritten.{or_cases}
 
 -- ---- no command done
 
@@ -114,13 +116,6 @@ after_unwritten m c q s h = by_cause m c q s h (cause_of m c) refl
 writes_is_named : (x : Option Cause) (b : Bool) → (is_none x && b) ≡ true → b ≡ true
 writes_is_named None b h = h
 writes_is_named (Some cause) b h = absurd (false≢true h)
-
-none_exclusive : {A : Type 0} → None ≡ Some Exclusive → A
-none_exclusive e = absurd (cc)
-
-or_cases : (a b : Bool) {A : Type 0} → (a || b) ≡ true → (a ≡ true → A) → (b ≡ true → A) → A
-or_cases true b h f g = f refl
-or_cases false b h f g = g h
 
 written_or : (s : ℕ) (b : Bool) (o : Option Object) (x : Option Write) → is_by s (if b then Some (s, o) else x) ≡ (b || is_by s x)
 written_or s true o x = eq-eqb s s refl
@@ -230,7 +225,7 @@ module _ (a : Inside) (k : IsCore a) {v : CoreState} (seen : core_state a ≡ v)
 
         no_other : (t : ℕ) (q : List ℕ) → (s == t) ≡ false → writes_id m c q ≡ true → (y : Write) → write_of a.store.writes q ≡ Some y → (y.0 == t) ≡ false
         no_other t q ne e y f = bool_cases (y.0 == t)
-            (λ g. none_exclusive (sym (gain.locks.lawful k.state.lawful s t q (eqb-false s t ne) (written_mine q e)) ∙ ap (λ u. mode_of ks u q) (sym (eqb-true y.0 t g)) ∙ kept_mode y.0 q (k.state.locked q y f)))
+            (λ g. absurd (none-some Exclusive (sym (gain.locks.lawful k.state.lawful s t q (eqb-false s t ne) (written_mine q e)) ∙ ap (λ u. mode_of ks u q) (sym (eqb-true y.0 t g)) ∙ kept_mode y.0 q (k.state.locked q y f))))
             (λ g. g)
 
         performed : CommandDone s c r (core_state locked) (core_state (record a { store = st; locks = ks }))

@@ -1,6 +1,7 @@
 -- A command done: the transaction's commands stand with it, and the others' stand as before.
 use Rattle.std.proofs.Common.{◌≡◌, ◌==◌, ℕ, List, [], ◌∷◌, ◌++◌, true, false, ◌||◌, Option, None, Some, is_some, refl, ap, sym, ◌∙◌, subst, inl, inr}
 use Rattle.std.specs.Prelude.{if◌then◌else◌}
+use Rattle.std.proofs.lemmas.Option.{none-some}
 use Rattle.std.proofs.lemmas.Bool.{eqb-true, eqb-false, eq-eqb, ne_eqb, cases_eq}
 use Rattle.city_model.specs.declared.object.Object.{Object}
 use Rattle.city_model.specs.declared.command.Command.{Command}
@@ -56,9 +57,6 @@ module _ (s : ℕ) (c : Command) (r : Reply) (v w : CoreState) (k : CommandDone 
     ];
   }
 
-none_some_mode : {A : Type 0} → None ≡ Some Exclusive → A
-none_some_mode e = absurd (cc)
-
 -- ---- one id written, which s holds exclusively
 
 module _ (s : ℕ) (id : List ℕ) (x : Option Object) (v w : CoreState) (i : IsConsistent v) (mine : mode_of v.locks s id ≡ Some Exclusive)
@@ -80,7 +78,7 @@ module _ (s : ℕ) (id : List ℕ) (x : Option Object) (v w : CoreState) (i : Is
   no_other t q ne e y f = bool_cases (y.0 == t)
       (λ g. let h : mode_of v.locks t q ≡ Some Exclusive = ap (λ k. mode_of v.locks k q) (sym (eqb-true y.0 t g)) ∙ i.locked q y f in
       let n : mode_of v.locks t q ≡ None = i.lawful s t q (eqb-false s t ne) (ap (λ k. mode_of v.locks s k) (sym (same_id_true id q e)) ∙ mine) in
-      none_some_mode (sym n ∙ h))
+      absurd (none-some Exclusive (sym n ∙ h)))
       (λ g. g)
 
   pub set_others : (t : ℕ) (q : List ℕ) → (s == t) ≡ false → view w t q ≡ view v t q

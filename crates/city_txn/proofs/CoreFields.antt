@@ -5,6 +5,7 @@ use Rattle.std.specs.List.{list_any}
 use Rattle.std.specs.Map.{keys_of, lookup}
 use Rattle.std.specs.Ordering.{nat_cmp}
 use Rattle.std.specs.BTreeMap.{is_at}
+use Rattle.std.proofs.lemmas.Option.{none-some}
 use Rattle.std.proofs.lemmas.Bool.{false≢true, eqb-true, or_right}
 use Rattle.city_model.specs.declared.frame.Frame.{Frame}
 use Rattle.city_model.specs.CityMap.{Entries, at}
@@ -66,9 +67,6 @@ none_unless : (o : Option Mode) → (is_some o ≡ true → ⊥) → o ≡ None
 none_unless None h = refl
 none_unless (Some m) h = absurd (h refl)
 
-none_exclusive : {A : Type 0} → None ≡ Some Exclusive → A
-none_exclusive e = absurd (cc)
-
 not_by : (s : ℕ) (x : Option Write) → ((w : Write) → x ≡ Some w → (w.0 == s) ≡ true → ⊥) → is_by s x ≡ false
 not_by s None h = refl
 not_by s (Some w) h = bool_cases (w.0 == s) (λ e. absurd (h w refl e)) (λ e. e)
@@ -79,7 +77,7 @@ shut_unlocked v s q c h = none_unless (mode_of v.locks s q) (λ e. false≢true 
 
 pub shut_unwritten : (v : CoreState) (s : ℕ) (q : List ℕ) → IsConsistent v → is_open v s ≡ false → is_by s (write_of v.writes q) ≡ false
 shut_unwritten v s q c h = not_by s (write_of v.writes q)
-    (λ w e f. none_exclusive (sym (shut_unlocked v s q c h) ∙ ap (λ k. mode_of v.locks k q) (sym (eqb-true w.0 s f)) ∙ c.locked q w e))
+    (λ w e f. absurd (none-some Exclusive (sym (shut_unlocked v s q c h) ∙ ap (λ k. mode_of v.locks k q) (sym (eqb-true w.0 s f)) ∙ c.locked q w e)))
 
 module _ (a b : Inside) (k : IsCore a) (s : ℕ) (city : b.store.city ≡ a.store.city) (writes : b.store.writes ≡ a.store.writes) (locks : b.locks ≡ a.locks)
     (opened : (t : ℕ) → store.is_open b.store t ≡ ((s == t) || store.is_open a.store t))

@@ -10,7 +10,7 @@ use Rattle.city_txn.specs.declared.writing.Planned.{Planned}
 use Rattle.city_txn.specs.State.{State, Write, has_room, rooms_of, SeesSame}
 use Rattle.city_txn.specs.Planning.{plans, AreOf}
 
-or_cases : (a b : Bool) {A : Type 0} → (a || b) ≡ true → (a ≡ true → A) → (b ≡ true → A) → A
+pub or_cases : (a b : Bool) {A : Type 0} → (a || b) ≡ true → (a ≡ true → A) → (b ≡ true → A) → A
 or_cases true b h f g = f refl
 or_cases false b h f g = g h
 

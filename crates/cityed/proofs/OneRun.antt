@@ -1,8 +1,7 @@
 -- Two runs of the same texts, in which each script had its memory, are the same.
-use Rattle.std.proofs.Common.{◌≡◌, ℕ, ◌+◌, List, [], ◌∷◌, ◌++◌, length, true, Some, ap, sym, subst, ◌∙◌}
+use Rattle.std.proofs.Common.{◌≡◌, ℕ, ◌+◌, List, [], ◌∷◌, ◌++◌, length, true, ap, sym, subst, ◌∙◌}
 use Rattle.std.specs.Prelude.{not}
 use Rattle.std.proofs.lemmas.Bool.{and_parts, not-true}
-use Rattle.serde_json.specs.Data.{Data}
 use Rattle.city_model.specs.declared.end.End.{End}
 use Rattle.city_model.specs.CityMap.{Entries, at}
 use Rattle.city_model.specs.Runs.{Scripted, Fits}
@@ -10,12 +9,9 @@ use Rattle.city_model.specs.SerialEnds.{is_no_memory, IsSerialFrom}
 use Rattle.city_model.proofs.Results.{serial_ends_are_unique}
 use Rattle.city_model.proofs.SameEntries.{same_entries}
 use Rattle.city_doc.specs.Canonical.{city_text}
-use Rattle.city_doc.specs.Documents.{CityValue, StandsForCity, city_of}
+use Rattle.city_doc.specs.Documents.{CityValue}
 use Rattle.city_doc.specs.Outputs.{IsOutput}
 use Rattle.city_doc.specs.Reports.{report_text}
-use Rattle.city_doc.specs.ScriptTexts.{StandsForScripts}
-use Rattle.city_doc.specs.ScriptTrees.{scripts_of}
-use Rattle.city_doc.specs.Texts.{IsText}
 use Rattle.city_doc.proofs.OneValue.{one_city, one_list}
 use Rattle.cityed.specs.SerialRuns.{AreInTurn, IsSerialRun, had_memory, IsDecided}
 
