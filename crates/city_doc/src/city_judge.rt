@@ -21,7 +21,7 @@ use city_model::text::Id;
 use std::alloc::{AllocError, Global};
 
 /// What may be wrong with a body.
-trait BodyJudge {
+trait BodyTest {
     ghost test: { b.Body → Bool };
 
     /// Whether the body has it.
@@ -29,11 +29,11 @@ trait BodyJudge {
         ensures { IfOk result (λ wrong. wrong ≡ test body.now) };
 }
 
-struct BadRings;
+struct BadRing;
 
-struct OpenShells;
+struct OpenShell;
 
-impl BodyJudge for BadRings {
+impl BodyTest for BadRing {
     ghost test = { is_bad_ringed };
 
     fn judge(_alloc: Global, body: &Body) -> Result<bool, AllocError> {
@@ -41,7 +41,7 @@ impl BodyJudge for BadRings {
     }
 }
 
-impl BodyJudge for OpenShells {
+impl BodyTest for OpenShell {
     ghost test = { some_shape has_open_shell };
 
     fn judge(alloc: Global, body: &Body) -> Result<bool, AllocError> {
@@ -58,7 +58,7 @@ fn is_bad_ringed(body: &Body) -> bool
 }
 
 /// The first id, in byte order, of an object whose body has it.
-fn first_body<J: BodyJudge>(alloc: Global, city: &City) -> Result<Option<&Id>, AllocError>
+fn first_body<J: BodyTest>(alloc: Global, city: &City) -> Result<Option<&Id>, AllocError>
     ensures { IfOk result (λ o. option_map (λ id. id.now) o ≡ first_body J.test city.now.1) }
 {
     for (id, object) in city.iter() {
@@ -107,7 +107,7 @@ pub fn city_fault(
         → MatchOption o (IsLawful (at city.now.1) × (option_map (λ id. id.now) bad_list.entry ≡ None))
         (λ f. IsFirst (StandsAmong points objects) f)) }
 {
-    if let Some(id) = first_body::<BadRings>(alloc, city)? {
+    if let Some(id) = first_body::<BadRing>(alloc, city)? {
         let id = named(alloc, id.as_str())?;
         return Ok(Some(ReadFault::BadRing(id)));
     }
@@ -115,7 +115,7 @@ pub fn city_fault(
         let id = named(alloc, id.as_str())?;
         return Ok(Some(ReadFault::Relations(id)));
     }
-    if let Some(id) = first_body::<OpenShells>(alloc, city)? {
+    if let Some(id) = first_body::<OpenShell>(alloc, city)? {
         let id = named(alloc, id.as_str())?;
         return Ok(Some(ReadFault::OpenShell(id)));
     }

@@ -20,7 +20,7 @@ use serde_json::{Map, Value};
 use std::alloc::{AllocError, Global};
 
 /// What may be wrong with an object.
-trait Judge {
+trait ObjectTest {
     ghost test: { Self → Data → Bool };
 
     /// Whether the object has it.
@@ -28,20 +28,20 @@ trait Judge {
         ensures { result ≡ test self.now (view object.now) };
 }
 
-struct UnknownTypes;
+struct UnknownType;
 
-struct Unsupporteds;
+struct UnsupportedPart;
 
-struct BadGeometries;
+struct BadGeometry;
 
-/// Positions that name none of so many vertices.
+/// A position that names none of so many vertices.
 #[derive(Clone, Copy)]
-struct BadVertices(usize);
+struct BadVertex(usize);
 
-/// Lists of ids that aren't arrays of texts.
-struct BadLists;
+/// A list of ids that isn't an array of texts.
+struct BadList;
 
-impl Judge for UnknownTypes {
+impl ObjectTest for UnknownType {
     ghost test = { λ _. is_unknown_type };
 
     fn judge(&self, object: &Value) -> bool {
@@ -49,7 +49,7 @@ impl Judge for UnknownTypes {
     }
 }
 
-impl Judge for Unsupporteds {
+impl ObjectTest for UnsupportedPart {
     ghost test = { λ _. is_unsupported };
 
     fn judge(&self, object: &Value) -> bool {
@@ -57,7 +57,7 @@ impl Judge for Unsupporteds {
     }
 }
 
-impl Judge for BadGeometries {
+impl ObjectTest for BadGeometry {
     ghost test = { λ _. is_bad_geometry };
 
     fn judge(&self, object: &Value) -> bool {
@@ -65,7 +65,7 @@ impl Judge for BadGeometries {
     }
 }
 
-impl Judge for BadVertices {
+impl ObjectTest for BadVertex {
     ghost test = { λ s. has_bad_vertex s.0 };
 
     fn judge(&self, object: &Value) -> bool {
@@ -73,7 +73,7 @@ impl Judge for BadVertices {
     }
 }
 
-impl Judge for BadLists {
+impl ObjectTest for BadList {
     ghost test = { λ _. has_bad_list };
 
     fn judge(&self, object: &Value) -> bool {
@@ -82,7 +82,7 @@ impl Judge for BadLists {
 }
 
 /// The first id, in byte order, of an object that has it.
-fn first_with<'m, J: Judge>(judge: &J, objects: &'m Map<String, Value>) -> Option<&'m str>
+fn first_with<'m, J: ObjectTest>(judge: &J, objects: &'m Map<String, Value>) -> Option<&'m str>
     ensures { option_map (λ s. s.now) result ≡ first_with (J.test judge.now) (members_view objects.now.entries) }
 {
     for (id, object) in objects.iter() {
@@ -118,12 +118,13 @@ fn object_fault(
         (AreReadable (length points.now) (members_view objects.now.entries))
         (λ f. IsFirst (StandsAmong points.now (members_view objects.now.entries)) f)) }
 {
+    // (called for its promise that the ids ascend)
     let _count = members_count(objects);
-    if let Some(id) = first_with(&UnknownTypes, objects) {
+    if let Some(id) = first_with(&UnknownType, objects) {
         let id = named(alloc, id)?;
         return Ok(Some(ReadFault::UnknownType(id)));
     }
-    if let Some(id) = first_with(&Unsupporteds, objects) {
+    if let Some(id) = first_with(&UnsupportedPart, objects) {
         let Some(name) = unsupported_at(objects, id) else {
             unreachable!()
         };
@@ -131,11 +132,11 @@ fn object_fault(
         let name = named(alloc, name)?;
         return Ok(Some(ReadFault::Unsupported(id, name)));
     }
-    if let Some(id) = first_with(&BadGeometries, objects) {
+    if let Some(id) = first_with(&BadGeometry, objects) {
         let id = named(alloc, id)?;
         return Ok(Some(ReadFault::BadGeometry(id)));
     }
-    if let Some(id) = first_with(&BadVertices(points.len()), objects) {
+    if let Some(id) = first_with(&BadVertex(points.len()), objects) {
         let id = named(alloc, id)?;
         return Ok(Some(ReadFault::BadVertex(id)));
     }
@@ -179,8 +180,9 @@ pub fn first_bad_list(alloc: Global, tree: &Value) -> Result<Option<Id>, AllocEr
     let Some(objects) = objects_in(tree) else {
         return Ok(None);
     };
+    // (called for its promise that the ids ascend)
     let _count = members_count(objects);
-    let Some(id) = first_with(&BadLists, objects) else {
+    let Some(id) = first_with(&BadList, objects) else {
         return Ok(None);
     };
     let id = named(alloc, id)?;

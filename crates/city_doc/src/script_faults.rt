@@ -15,7 +15,7 @@ use crate::script_forms::are_too_many;
 use serde_json::Value;
 
 /// What may be wrong with a command.
-trait JudgeCommand {
+trait CommandTest {
     ghost test: { ℕ → Data → Bool };
 
     /// Whether a command of a script with so many vertices has it.
@@ -23,11 +23,11 @@ trait JudgeCommand {
         ensures { result ≡ test vertices (view command.now) };
 }
 
-struct BadCommands;
+struct BadCommand;
 
 struct Misplaced;
 
-impl JudgeCommand for BadCommands {
+impl CommandTest for BadCommand {
     ghost test = { λ _ d. is_bad_command d };
 
     fn judge(_vertices: usize, command: &Value) -> bool {
@@ -35,7 +35,7 @@ impl JudgeCommand for BadCommands {
     }
 }
 
-impl JudgeCommand for Misplaced {
+impl CommandTest for Misplaced {
     ghost test = { is_misplaced };
 
     fn judge(vertices: usize, command: &Value) -> bool {
@@ -64,7 +64,7 @@ fn vertex_count(form: &ScriptForm) -> usize
 }
 
 /// The first of a script's commands that has it.
-fn first_in<J: JudgeCommand>(vertices: usize, commands: &[Value]) -> Option<usize>
+fn first_in<J: CommandTest>(vertices: usize, commands: &[Value]) -> Option<usize>
     ensures { result ≡ first_in J.test vertices (map view commands.now) }
 {
     for (i, command) in commands.iter().enumerate() {
@@ -76,7 +76,7 @@ fn first_in<J: JudgeCommand>(vertices: usize, commands: &[Value]) -> Option<usiz
 }
 
 /// The first script that has such a command, and its first such command.
-fn first_command<J: JudgeCommand>(forms: &[ScriptForm]) -> Option<(usize, usize)>
+fn first_command<J: CommandTest>(forms: &[ScriptForm]) -> Option<(usize, usize)>
     ensures { result ≡ first_command J.test (parts_views forms.now) }
 {
     for (n, form) in forms.iter().enumerate() {
@@ -94,7 +94,7 @@ pub fn parts_fault(forms: &[ScriptForm]) -> Option<ScriptFault>
     if are_too_many(forms) {
         return Some(ScriptFault::TooMany);
     }
-    if let Some((n, i)) = first_command::<BadCommands>(forms) {
+    if let Some((n, i)) = first_command::<BadCommand>(forms) {
         return Some(ScriptFault::BadCommand(n, i));
     }
     if let Some((n, i)) = first_command::<Misplaced>(forms) {

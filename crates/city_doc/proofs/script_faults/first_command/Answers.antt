@@ -19,14 +19,14 @@ found_in test x n count items o r counted same found is =
 
 pub returns-in-Some : goal.returns-in-Some
 returns-in-Some g c =
-    sym (first_at-found (place_in (g.J.JudgeCommand.test)) parts_view _ c.args.forms.now c.loop-n.n c.index-forms-n.result (c.loop-n.n, c.in-Some.i) c.loop-n-test.true c.index-forms-n.is
+    sym (first_at-found (place_in (g.J.CommandTest.test)) parts_view _ c.args.forms.now c.loop-n.n c.index-forms-n.result (c.loop-n.n, c.in-Some.i) c.loop-n-test.true c.index-forms-n.is
     c.loop-n.invariant
-    (found_in g.J.JudgeCommand.test c.index-forms-n.result c.loop-n.n _ _ _ (Some c.in-Some.i) c.vertex_count.ensures c.as_slice.ensures.value c.first_in.ensures c.in-Some.is))
+    (found_in g.J.CommandTest.test c.index-forms-n.result c.loop-n.n _ _ _ (Some c.in-Some.i) c.vertex_count.ensures c.as_slice.ensures.value c.first_in.ensures c.in-Some.is))
 
 pub loop-n-preserved : goal.loop-n-preserved
 loop-n-preserved g c =
-    first_at-drop (place_in (g.J.JudgeCommand.test)) parts_view _ c.args.forms.now c.loop-n.n c.index-forms-n.result c.loop-n-test.true c.index-forms-n.is c.loop-n.invariant
-    (found_in g.J.JudgeCommand.test c.index-forms-n.result c.loop-n.n _ _ _ None c.vertex_count.ensures c.as_slice.ensures.value c.first_in.ensures c.in_default.is)
+    first_at-drop (place_in (g.J.CommandTest.test)) parts_view _ c.args.forms.now c.loop-n.n c.index-forms-n.result c.loop-n-test.true c.index-forms-n.is c.loop-n.invariant
+    (found_in g.J.CommandTest.test c.index-forms-n.result c.loop-n.n _ _ _ None c.vertex_count.ensures c.as_slice.ensures.value c.first_in.ensures c.in_default.is)
 
 pub returns : goal.returns
-returns g c = sym (first_at-end (place_in (g.J.JudgeCommand.test)) parts_view _ c.args.forms.now c.loop-n.n c.loop-n-test.false c.loop-n.invariant)
+returns g c = sym (first_at-end (place_in (g.J.CommandTest.test)) parts_view _ c.args.forms.now c.loop-n.n c.loop-n-test.false c.loop-n.invariant)
