@@ -1,5 +1,5 @@
 -- The first fault of a tree, by the order of the faults.
-use Rattle.std.proofs.Common.{◌≡◌, ℕ, ◌<◌, ◌≤◌, List, Bool, true, false, true≢false, Option, Some, None, sym, ap, subst, ◌∙◌, arith}
+use Rattle.std.proofs.Common.{◌≡◌, ℕ, ◌<◌, ◌≤◌, List, Bool, true, true≢false, Option, Some, None, sym, ap, subst, ◌∙◌, arith}
 use Rattle.std.specs.Prelude.{is_some, length, option_and_then, MatchOption}
 use Rattle.serde_json.specs.Data.{Data, Members}
 use Rattle.city_model.specs.declared.object.Point.{Point}

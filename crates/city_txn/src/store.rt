@@ -57,6 +57,7 @@ impl Store {
     pub fn new(alloc: Global, city: City) -> Self
         ensures { result ≡ record { frame = city.0; city = city.1; writes = []; opened = [] } }
     {
+        // (called for its promise that the ids ascend)
         let _count = city.len();
         Store {
             city,
