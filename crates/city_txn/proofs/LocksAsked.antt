@@ -101,9 +101,6 @@ pub record AllGranted (s : ℕ) (ls : List Lock) (v w : Locks) : Type 0 where
   pub locks : MoreLocks s ls v w
   pub held : AllHeld (held_in w s) ls
 
-pub none_granted : (s : ℕ) (v : Locks) → AllGranted s [] v v
-none_granted s v = record { all = refl; locks = no_more_locks s [] v; held = tt }
-
 pub asked_granted : {E : Type 0} (s : ℕ) (ls : List Lock) (v w : Locks) → Asked {E = E} s ls (Ok Granted) v w → AllGranted s ls v w
 asked_granted {E} s ls v w a =
     let are : granted_before v s ls ≡ ls = all_granted v s ls (sym a.answer) in

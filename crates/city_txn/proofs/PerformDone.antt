@@ -1,28 +1,15 @@
 -- A plan carried out is the command done on the store.
-use Rattle.std.proofs.Common.{◌≡◌, ◌==◌, ◌&&◌, ◌||◌, ℕ, List, true, Some, Ok, Err, refl, ap, sym, ◌∙◌}
+use Rattle.std.proofs.Common.{◌≡◌, ◌==◌, ◌&&◌, ◌||◌, ℕ, List, true, Some, Ok, Err, ap, sym, ◌∙◌}
 use Rattle.std.specs.Prelude.{if◌then◌else◌, is_none}
-use Rattle.std.proofs.lemmas.Bool.{or_left}
-use Rattle.city_model.specs.declared.command.Cause.{Cause}
 use Rattle.city_model.specs.declared.command.Command.{Command}
 use Rattle.city_model.specs.declared.command.Reply.{Reply}
-use Rattle.city_model.specs.declared.command.Reply.TheVariants.{Refused}
 use Rattle.city_model.specs.CityMap.{CityMap}
-use Rattle.city_model.specs.Meaning.{cause_of, effect_of, done_reply, map_unless, refused_or, locks_of}
+use Rattle.city_model.specs.Meaning.{effect_of, done_reply, map_unless, refused_or, locks_of}
 use Rattle.city_txn.specs.declared.writing.Planned.{Planned}
 use Rattle.city_txn.specs.State.{State, write_of, has_room, is_open, committed, view}
-use Rattle.city_model.specs.Standing.{names_exclusively}
+use Rattle.city_txn.specs.Standing.{names_exclusively}
 use Rattle.city_txn.specs.Performing.{Performed}
 use Rattle.city_txn.specs.Planning.{plans, AreOf, AreWritesOf}
-
-pub refused_performed : {E : Type 0} (s : ℕ) (c : Command) (cause : Cause) (v : State) → cause_of (view v s) c ≡ Some cause → Performed {E = E} s c (Ok (Refused cause)) v v
-refused_performed s c cause v e = record {
-  reply = sym (ap (λ x. refused_or x (done_reply (view v s) c)) e);
-  frame = λ i. v.frame;
-  city = λ q. refl;
-  opened = λ t. refl;
-  writes = λ q. sym (ap (λ x. if is_none x && names_exclusively (locks_of (view v s) c) q then Some (s, map_unless x (view v s) (effect_of (view v s) c) q) else write_of v.writes q) e);
-  room = λ t q h. or_left (has_room v t q) ((s == t) && names_exclusively (locks_of (view v s) c) q) h;
-}
 
 module _ (s : ℕ) (c : Command) (r : Reply) (ws : List Planned) (v w : State) (p : AreWritesOf (view v s) c r ws) (frame : w.frame ≡ v.frame)
     (city : (q : List ℕ) → committed w q ≡ committed v q) (opened : (t : ℕ) → is_open w t ≡ is_open v t)

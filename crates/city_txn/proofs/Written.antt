@@ -42,10 +42,6 @@ pub not_gone : (o : Option Object) (gone : Bool) (r : Object) → is_some o ≡ 
 not_gone o true r e h = sym (ap (λ b. if b then Some r else None) e) ∙ h
 not_gone o false r e h = sym (ap (λ b. if b then Some r else None) e) ∙ h
 
--- room makes an image
-pub image_of_room : (a : Inside) (s : ℕ) (id : List ℕ) → IsInPlace a → has_room (state_of a) s id ≡ true → is_some (image_at a id) ≡ true
-image_of_room a s id k h = some_writer s (image_at a id) (sym (k.listed s id) ∙ h)
-
 -- ---- the whole
 
 module _ (a b : Inside) (k : IsInPlace a) (s : ℕ) (id : List ℕ) (room : has_room (state_of a) s id ≡ true) (gone : Bool) (y : Object) (w : Option Object)

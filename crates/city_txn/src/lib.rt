@@ -13,7 +13,7 @@ mod planning;
 mod relating;
 mod rooms;
 pub mod step;
-pub mod store;
+mod store;
 #[cfg(test)]
 mod tests;
 pub mod txn_core;
