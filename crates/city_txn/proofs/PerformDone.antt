@@ -7,7 +7,7 @@ use Rattle.city_model.specs.CityMap.{CityMap}
 use Rattle.city_model.specs.Meaning.{effect_of, done_reply, map_unless, refused_or, locks_of}
 use Rattle.city_txn.specs.declared.writing.Planned.{Planned}
 use Rattle.city_txn.specs.State.{State, write_of, has_room, is_open, committed, view}
-use Rattle.city_txn.specs.Standing.{names_exclusively}
+use Rattle.city_model.specs.Standing.{names_exclusively}
 use Rattle.city_txn.specs.Performing.{Performed}
 use Rattle.city_txn.specs.Planning.{plans, AreOf, AreWritesOf}
 
