@@ -17,7 +17,8 @@ use Rattle.city_model.specs.CityMap.{Entries, at, changed}
 use Rattle.city_model.specs.Meaning.{attached, detached}
 use Rattle.city_model.specs.Runs.{HasResult, map_left}
 use Rattle.city_model.proofs.ExampleCities.{one_id, bare, object, alone}
-use Rattle.city_model.proofs.NoOrphan.{is_orphan_there, no_orphan, least_orphan, orphan_below, no_orphan_at, no_orphan_attached, orphan_apart, no_orphan_detached_below}
+use Rattle.city_model.specs.Relations.{is_orphan_there}
+use Rattle.city_model.proofs.NoOrphan.{no_orphan, least_orphan, orphan_below, no_orphan_at, no_orphan_attached, orphan_apart, no_orphan_detached_below}
 
 -- ---- the causes: a building b with the part p, and a building r
 

@@ -9,11 +9,11 @@ use Rattle.city_model.specs.declared.command.Reply.TheVariants.{Added, Attached}
 use Rattle.city_model.specs.declared.end.Outcome.{Outcome}
 use Rattle.city_model.specs.CityMap.{Entries, CityMap, at, changed}
 use Rattle.city_model.specs.Meaning.{attached}
-use Rattle.city_model.specs.Relations.{IsSound, IsLawful}
+use Rattle.city_model.specs.Relations.{is_orphan_there, IsSound, IsLawful}
 use Rattle.city_model.specs.Runs.{HasResult, map_left}
 use Rattle.city_model.proofs.ExampleCities.{one_id, bare, object, alone}
 use Rattle.city_model.proofs.Lawful.{lawful_when_committed}
-use Rattle.city_model.proofs.NoOrphan.{is_orphan_there, no_orphan, orphan_apart, no_orphan_attached, no_orphan_put}
+use Rattle.city_model.proofs.NoOrphan.{no_orphan, orphan_apart, no_orphan_attached, no_orphan_put}
 
 -- ---- lawful
 

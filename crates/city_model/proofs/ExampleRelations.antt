@@ -11,7 +11,8 @@ use Rattle.city_model.specs.CityMap.{Entries, CityMap, at, changed}
 use Rattle.city_model.specs.Meaning.{attached, detached, deleted}
 use Rattle.city_model.specs.Runs.{Scripted, HasResult, model_after, Fits}
 use Rattle.city_model.proofs.ExampleCities.{one_id, bare, object, alone}
-use Rattle.city_model.proofs.NoOrphan.{is_orphan_there, no_orphan, orphan_apart, no_orphan_at, no_orphan_attached, no_orphan_detached, no_orphan_deleted}
+use Rattle.city_model.specs.Relations.{is_orphan_there}
+use Rattle.city_model.proofs.NoOrphan.{no_orphan, orphan_apart, no_orphan_at, no_orphan_attached, no_orphan_detached, no_orphan_deleted}
 
 abbrev buildings : Entries
 buildings = (codes "b", alone Building) ∷ (codes "r", alone Building) ∷ []

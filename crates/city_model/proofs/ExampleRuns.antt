@@ -14,7 +14,8 @@ use Rattle.city_model.specs.Runs.{Scripted, HasResult, model_after, Fits}
 use Rattle.city_model.proofs.Changed.{at_absent, changed_apart, attached_apart, deleted_apart}
 use Rattle.city_model.proofs.ExampleCities.{one_id, bare, object, alone}
 use Rattle.city_model.proofs.Ids.{same_id_back}
-use Rattle.city_model.proofs.NoOrphan.{is_orphan_there, no_orphan, orphan_apart, no_orphan_at, no_orphan_attached, no_orphan_put, no_orphan_deleted}
+use Rattle.city_model.specs.Relations.{is_orphan_there}
+use Rattle.city_model.proofs.NoOrphan.{no_orphan, orphan_apart, no_orphan_at, no_orphan_attached, no_orphan_put, no_orphan_deleted}
 
 -- ---- a part of two buildings is deleted, while another part is put and attached to one of them
 

@@ -6,13 +6,9 @@ use Rattle.std.specs.Cmp.Lexicographic.{slice_cmp}
 use Rattle.std.proofs.lemmas.Bool.{false≢true}
 use Rattle.city_model.specs.declared.object.Object.{Object}
 use Rattle.city_model.specs.CityMap.{Entries, CityMap, at, changed, same_id}
-use Rattle.city_model.specs.Relations.{is_orphan, HasNoOrphan, IsOrphanAt, IsLeastOrphan}
+use Rattle.city_model.specs.Relations.{is_orphan, is_orphan_there, HasNoOrphan, IsOrphanAt, IsLeastOrphan}
 use Rattle.city_model.specs.Meaning.{deleted, without_child, without_parent, with_child, with_parent, attached, detached}
 use Rattle.city_model.proofs.Ids.{below_is_apart}
-
-abbrev pub is_orphan_there : Option Object → Bool
-is_orphan_there None = false
-is_orphan_there (Some o) = is_orphan o
 
 pub no_orphan : (m : CityMap) → ((q : List ℕ) → is_orphan_there (m q) ≡ false) → HasNoOrphan m
 no_orphan m f id o e = sym (ap is_orphan_there e) ∙ f id

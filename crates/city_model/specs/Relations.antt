@@ -1,5 +1,5 @@
 -- Levels, families, parents and children (CityJSON 2.0, section 2).
-use Rattle.std.specs.Prelude.{◌≡◌, ◌==◌, ◌&&◌, ℕ, List, [], ◌∷◌, length, Bool, true, false, Some, None}
+use Rattle.std.specs.Prelude.{◌≡◌, ◌==◌, ◌&&◌, ℕ, List, [], ◌∷◌, length, Bool, true, false, Option, Some, None}
 use Rattle.std.specs.Str.{bytes_eq}
 use Rattle.std.specs.declared.cmp.Ordering.TheVariants.{Less}
 use Rattle.std.specs.Ordering.{nat_cmp}
@@ -36,6 +36,11 @@ pub record IsInOrder (m : CityMap) (id : List ℕ) (o : Object) : Type 0 where
 -- second-level, and without a parent
 abbrev pub is_orphan : Object → Bool
 is_orphan o = is_second_level o.body.kind && (length o.parents == 0)
+
+-- an orphan is there
+abbrev pub is_orphan_there : Option Object → Bool
+is_orphan_there None = false
+is_orphan_there (Some o) = is_orphan o
 
 abbrev pub IsRelated : CityMap → Type 0
 IsRelated m = (id : List ℕ) (o : Object) → m id ≡ Some o → IsInOrder m id o × (is_orphan o ≡ false)

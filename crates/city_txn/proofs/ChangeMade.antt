@@ -15,7 +15,7 @@ use Rattle.std.proofs.lemmas.Map.Keys.{IsDistinct-from_sorted, sorted_tail}
 use Rattle.std.proofs.lemmas.Map.Entries.{none_past_head}
 use Rattle.city_model.specs.declared.object.Object.{Object}
 use Rattle.city_model.specs.CityMap.{CityMap, at, same_id, has_id, changed}
-use Rattle.city_model.specs.Relations.{is_orphan, HasNoOrphan, IsLeastOrphan}
+use Rattle.city_model.specs.Relations.{is_orphan, is_orphan_there, HasNoOrphan, IsLeastOrphan}
 use Rattle.city_model.specs.Runs.{Change, with_change}
 use Rattle.city_model.proofs.Ids.{same_id_true, same_id_back}
 use Rattle.city_model.proofs.IdLists.{bool_cases}
@@ -26,7 +26,7 @@ use Rattle.city_txn.specs.Images.{seen_under, written_at, write_at, writer_of}
 use Rattle.city_txn.specs.State.{Write, write_of, rooms_of, own_or, own_write, is_by}
 use Rattle.city_txn.specs.CoreState.{CoreState, committed, view}
 use Rattle.city_txn.specs.InPlace.{with_some, made_by, image_at, state_of, is_writer, IsInPlace}
-use Rattle.city_txn.specs.Changing.{or_else, is_orphan_there, objects_in, IsChangeOf}
+use Rattle.city_txn.specs.Changing.{or_else, objects_in, IsChangeOf}
 use Rattle.city_txn.proofs.AtOneId.{through, at_made, here, writes_is}
 
 -- ---- writes noted

@@ -12,7 +12,7 @@ use Rattle.city_model.specs.CityMap.{Entries, at}
 use Rattle.city_model.specs.Relations.{IsLawful, HasNoOrphan}
 use Rattle.city_model.proofs.IdLists.{bool_cases}
 use Rattle.city_model.proofs.History.{follows_same}
-use Rattle.city_locks.specs.declared.mode.Mode.{Mode}
+use Rattle.city_locks.proofs.Among.{none_from}
 use Rattle.city_locks.specs.declared.mode.Mode.TheVariants.{Exclusive}
 use Rattle.city_locks.specs.Locks.{Locks, mode_of, Lawful}
 use Rattle.city_txn.specs.State as store
@@ -63,17 +63,13 @@ opened_core a frame city e f l =
 
 -- ---- begun
 
-none_unless : (o : Option Mode) → (is_some o ≡ true → ⊥) → o ≡ None
-none_unless None h = refl
-none_unless (Some m) h = absurd (h refl)
-
 not_by : (s : ℕ) (x : Option Write) → ((w : Write) → x ≡ Some w → (w.0 == s) ≡ true → ⊥) → is_by s x ≡ false
 not_by s None h = refl
 not_by s (Some w) h = bool_cases (w.0 == s) (λ e. absurd (h w refl e)) (λ e. e)
 
 -- what isn't open holds nothing and wrote nothing
 pub shut_unlocked : (v : CoreState) (s : ℕ) (q : List ℕ) → IsConsistent v → is_open v s ≡ false → mode_of v.locks s q ≡ None
-shut_unlocked v s q c h = none_unless (mode_of v.locks s q) (λ e. false≢true (sym h ∙ c.open_only s q e))
+shut_unlocked v s q c h = none_from (mode_of v.locks s q) (λ e. false≢true (sym h ∙ c.open_only s q e))
 
 pub shut_unwritten : (v : CoreState) (s : ℕ) (q : List ℕ) → IsConsistent v → is_open v s ≡ false → is_by s (write_of v.writes q) ≡ false
 shut_unwritten v s q c h = not_by s (write_of v.writes q)

@@ -1,15 +1,20 @@
 -- Ids worked through one after another, each the same way.
-use Rattle.std.proofs.Common.{◌≡◌, ℕ, ◌+◌, ◌<◌, List, length, take, get_or, Bool, true, false, ◌&&◌, ◌||◌, Option, None, Some, is_some, refl, ap, sym, ◌∙◌}
+use Rattle.std.proofs.Common.{◌≡◌, ℕ, ◌+◌, ◌<◌, List, [], length, take, get_or, Bool, true, false, ◌&&◌, ◌||◌, Option, None, Some, is_some, refl, ap, sym, ◌∙◌}
 use Rattle.std.specs.Prelude.{if◌then◌else◌}
+use Rattle.std.specs.Ordering.{nat_cmp}
+use Rattle.std.specs.Cmp.Lexicographic.{slice_cmp}
+use Rattle.std.specs.BTreeMap.{BTreeMap, get}
 use Rattle.std.proofs.lemmas.Bool.{false≢true}
 use Rattle.std.proofs.lemmas.List.Folds.{list_any_more}
 use Rattle.std.proofs.Math.Bool.{and-true, and-false}
+use Rattle.city_model.specs.declared.frame.Frame.{Frame}
 use Rattle.city_model.specs.declared.object.Object.{Object}
-use Rattle.city_model.specs.CityMap.{CityMap, same_id, has_id, changed}
+use Rattle.city_model.specs.CityMap.{Entries, CityMap, at, same_id, has_id, changed}
 use Rattle.city_model.proofs.Changed.{changed_apart, changed_there}
 use Rattle.city_model.proofs.Ids.{same_id_true, same_id_back, same_id_of_equal}
 use Rattle.city_model.proofs.IdLists.{bool_cases}
 use Rattle.city_txn.specs.declared.image.Image.{Image}
+use Rattle.city_txn.specs.Ending.{AreEnded}
 use Rattle.city_txn.specs.Images.{seen_under, before_image, seen_at, committed_at, is_gone}
 
 -- one more id of a list
@@ -18,41 +23,45 @@ has_more ids n id q lt is = list_any_more (same_id q) ids n id lt ∙ ap (λ d. 
 
 -- ---- at one id
 
-twice : (f : Option Object → Option Image → Option Object) → ((y : Option Object) → f y None ≡ y) → (b : Bool) (x : Option Object) (i : Option Image) →
-    f (if b then f x i else x) (if b then None else i) ≡ f x i
-twice f idle true x i = idle (f x i)
-twice f idle false x i = refl
+-- worked through at a first turn where a says so, and at a second where b does
+ended_again : (f : Option Object → Option Image → Option Object) → ((x : Option Object) → f x None ≡ x) → (a b : Bool) (x y z : Option Object) (i j : Option Image) →
+    y ≡ (if a then f x i else x) → j ≡ (if a then None else i) → z ≡ (if b then f y j else y) → z ≡ (if a || b then f x i else x)
+ended_again f idle true true x y z i j p q r = r ∙ ap (f y) q ∙ idle y ∙ p
+ended_again f idle true false x y z i j p q r = r ∙ p
+ended_again f idle false true x y z i j p q r = r ∙ ap (λ o. f o j) p ∙ ap (f x) q
+ended_again f idle false false x y z i j p q r = r ∙ p
 
-both : {A : Type 0} (a b : Bool) (x y z w : A) → y ≡ (if a then x else z) → (b ≡ true → w ≡ x) → (b ≡ false → w ≡ y) → w ≡ (if a || b then x else z)
-both true true x y z w e f g = f refl
-both true false x y z w e f g = g refl ∙ e
-both false true x y z w e f g = f refl
-both false false x y z w e f g = g refl ∙ e
+gone_again : (a b : Bool) (i j k : Option Image) → j ≡ (if a then None else i) → k ≡ (if b then None else j) → k ≡ (if a || b then None else i)
+gone_again true true i j k p q = q
+gone_again true false i j k p q = q ∙ p
+gone_again false true i j k p q = q
+gone_again false false i j k p q = q ∙ p
 
--- ---- one more id, from the city x and images i of the start
+-- what holds of an id holds of any that is the same
+pub at_that : (f : List ℕ → Option Object) (id q : List ℕ) (x : Option Object) → (if same_id id q then f id else x) ≡ (if same_id id q then f q else x)
+at_that f id q x = bool_cases (same_id id q)
+    (λ e. ap (λ r. if same_id id q then f r else x) (same_id_true id q e))
+    (λ e. ap (λ b. if b then f id else x) e ∙ sym (ap (λ b. if b then f q else x) e))
 
-module _ (f : Option Object → Option Image → Option Object) (idle : (y : Option Object) → f y None ≡ y)
-    (x y z : List ℕ → Option Object) (i j k : List ℕ → Option Image) (ids : List (List ℕ)) (n : ℕ) (id : List ℕ) (lt : n < length ids) (is : id ≡ get_or ids n id)
-    (city : (q : List ℕ) → y q ≡ (if has_id (take n ids) q then f (x q) (i q) else x q))
-    (images : (q : List ℕ) → j q ≡ (if has_id (take n ids) q then None else i q))
-    (one_city : (q : List ℕ) → z q ≡ (if same_id id q then f (y id) (j id) else y q))
-    (one_image : (q : List ℕ) → k q ≡ (if same_id id q then None else j q)) where
-  there : (q : List ℕ) → same_id id q ≡ true → z q ≡ f (x q) (i q)
-  there q e = one_city q ∙ ap (λ c. if c then f (y id) (j id) else y q) e
-      ∙ ap (λ r. f (y r) (j r)) (same_id_true id q e)
-      ∙ ap (λ o. f o (j q)) (city q) ∙ ap (f (if has_id (take n ids) q then f (x q) (i q) else x q)) (images q)
-      ∙ twice f idle (has_id (take n ids) q) (x q) (i q)
+-- ---- one id after another
 
-  pub more_city : (q : List ℕ) → z q ≡ (if has_id (take (n + 1) ids) q then f (x q) (i q) else x q)
-  more_city q = both (has_id (take n ids) q) (same_id id q) (f (x q) (i q)) (y q) (x q) (z q) (city q) (there q)
-      (λ e. one_city q ∙ ap (λ c. if c then f (y id) (j id) else y q) e)
-      ∙ ap (λ c. if c then f (x q) (i q) else x q) (sym (has_more ids n id q lt is))
+pub none_ended : (f : Option Object → Option Image → Option Object) (a : Frame × Entries) (i : BTreeMap (List ℕ) Image) → AreEnded f (has_id []) a i a i
+none_ended f a i = record { frame = refl; city = λ q. refl; images = λ q. refl; city_ordered = λ o. o; images_ordered = λ o. o }
 
-  pub more_images : (q : List ℕ) → k q ≡ (if has_id (take (n + 1) ids) q then None else i q)
-  more_images q = both (has_id (take n ids) q) (same_id id q) None (j q) (i q) (k q) (images q)
-      (λ e. one_image q ∙ ap (λ c. if c then None else j q) e)
-      (λ e. one_image q ∙ ap (λ c. if c then None else j q) e)
-      ∙ ap (λ c. if c then None else i q) (sym (has_more ids n id q lt is))
+pub one_more_ended : (f : Option Object → Option Image → Option Object) → ((x : Option Object) → f x None ≡ x) → (a b c : Frame × Entries) (i j k : BTreeMap (List ℕ) Image) (ids : List (List ℕ)) (n : ℕ) (id : List ℕ) →
+    n < length ids → id ≡ get_or ids n id → AreEnded f (has_id (take n ids)) a i b j → AreEnded f (same_id id) b j c k → AreEnded f (has_id (take (n + 1) ids)) a i c k
+one_more_ended f idle a b c i j k ids n id lt is before one = record {
+  frame = one.frame ∙ before.frame;
+  city = λ q. ended_again f idle (has_id (take n ids) q) (same_id id q) (at a.1 q) (at b.1 q) (at c.1 q) (image i q) (image j q) (before.city q) (before.images q) (one.city q)
+      ∙ ap (λ d. if d then f (at a.1 q) (image i q) else at a.1 q) (sym (has_more ids n id q lt is));
+  images = λ q. gone_again (has_id (take n ids) q) (same_id id q) (image i q) (image j q) (image k q) (before.images q) (one.images q)
+      ∙ ap (λ d. if d then None else image i q) (sym (has_more ids n id q lt is));
+  city_ordered = λ o. one.city_ordered (before.city_ordered o);
+  images_ordered = λ o. one.images_ordered (before.images_ordered o);
+}
+  where
+    image : BTreeMap (List ℕ) Image → List ℕ → Option Image
+    image images q = get (slice_cmp nat_cmp) images q
 
 -- an image that is left is of an id in the city
 placed_point : (f : Option Object → Option Image → Option Object) (b : Bool) (x : Option Object) (i : Option Image) → (is_some i ≡ true → is_some x ≡ true) →

@@ -1,17 +1,15 @@
 -- A transaction's images dropped or put back: nothing of it is left, and what is of others stays.
 use Rattle.std.proofs.Common.{◌≡◌, ◌==◌, ℕ, List, [], Bool, true, false, Option, None, Some, is_some, refl, ap, sym, ◌∙◌}
 use Rattle.std.specs.Prelude.{if◌then◌else◌, unwrap_or}
-use Rattle.std.specs.Map.{keys_of}
 use Rattle.std.specs.Ordering.{nat_cmp}
-use Rattle.std.specs.Cmp.Lexicographic.{slice_cmp}
-use Rattle.std.specs.BTreeMap.{get, is_at, IsOrdered}
-use Rattle.std.specs.List.Sorted.{IsStrictlySortedBy}
+use Rattle.std.specs.BTreeMap.{get, is_at}
 use Rattle.std.proofs.lemmas.Bool.{false≢true, eqb-true}
 use Rattle.city_model.specs.declared.object.Object.{Object}
 use Rattle.city_model.specs.CityMap.{has_id}
 use Rattle.city_model.proofs.IdLists.{bool_cases}
 use Rattle.city_txn.specs.declared.image.Image.{Image}
 use Rattle.city_txn.specs.declared.store.Store.TheInside.{Inside}
+use Rattle.city_txn.specs.Ending.{AreEnded}
 use Rattle.city_txn.specs.Images.{seen_under, seen_at, committed_at, write_at, writer_of}
 use Rattle.city_txn.specs.State.{rooms_of, is_open, has_room, own_or, committed, view, unless_by, Forgets}
 use Rattle.city_txn.specs.InPlace.{image_at, state_of, is_writer, IsInPlace}
@@ -72,19 +70,16 @@ others_stay s t (Some i) = bool_cases (i.by == s)
 
 -- f says what stands in the city where an image of the stamp s was
 module _ (a b : Inside) (k : IsInPlace a) (s : ℕ) (ids : List (List ℕ)) (are : ids ≡ rooms_of a.rooms.entries s)
-    (f : Option Object → Option Image → Option Object) (frame : b.city.0 ≡ a.city.0)
-    (city : (q : List ℕ) → here b q ≡ (if has_id ids q then f (here a q) (image_at a q) else here a q))
-    (images : (q : List ℕ) → image_at b q ≡ (if has_id ids q then None else image_at a q))
-    (rooms : (t : ℕ) → get nat_cmp b.rooms t ≡ (if is_at (nat_cmp s) t then None else get nat_cmp a.rooms t))
-    (city_ordered : IsStrictlySortedBy (slice_cmp nat_cmp) (keys_of b.city.1)) (images_ordered : IsOrdered (slice_cmp nat_cmp) b.images) where
+    (f : Option Object → Option Image → Option Object) (ended : AreEnded f (has_id ids) a.city a.images b.city b.images)
+    (rooms : (t : ℕ) → get nat_cmp b.rooms t ≡ (if is_at (nat_cmp s) t then None else get nat_cmp a.rooms t)) where
   mine : (q : List ℕ) → has_id ids q ≡ is_writer s (writer_of (image_at a q))
   mine q = ap (λ xs. has_id xs q) are ∙ k.listed s q
 
   city_at : (q : List ℕ) → here b q ≡ (if is_writer s (writer_of (image_at a q)) then f (here a q) (image_at a q) else here a q)
-  city_at q = city q ∙ ap (λ c. if c then f (here a q) (image_at a q) else here a q) (mine q)
+  city_at q = ended.city q ∙ ap (λ c. if c then f (here a q) (image_at a q) else here a q) (mine q)
 
   images_at : (q : List ℕ) → image_at b q ≡ (if is_writer s (writer_of (image_at a q)) then None else image_at a q)
-  images_at q = images q ∙ ap (λ c. if c then None else image_at a q) (mine q)
+  images_at q = ended.images q ∙ ap (λ c. if c then None else image_at a q) (mine q)
 
   room_left : (t : ℕ) (q : List ℕ) → has_room (state_of b) t q ≡ (if s == t then false else has_room (state_of a) t q)
   room_left t q = ap (λ o. has_id (unwrap_or o []) q) (rooms t) ∙ ap (λ c. has_id (unwrap_or (if c then None else get nat_cmp a.rooms t) []) q) (tied s t)
@@ -104,18 +99,18 @@ module _ (a b : Inside) (k : IsInPlace a) (s : ℕ) (ids : List (List ℕ)) (are
   pub forgotten_in_place : IsInPlace b
   forgotten_in_place = record {
     placed = λ q h. bool_cases (has_id ids q)
-        (λ e. absurd (false≢true (sym (ap is_some (images q ∙ ap (λ c. if c then None else image_at a q) e)) ∙ h)))
-        (λ e. ap is_some (city q ∙ ap (λ c. if c then f (here a q) (image_at a q) else here a q) e)
-        ∙ k.placed q (sym (ap is_some (images q ∙ ap (λ c. if c then None else image_at a q) e)) ∙ h));
+        (λ e. absurd (false≢true (sym (ap is_some (ended.images q ∙ ap (λ c. if c then None else image_at a q) e)) ∙ h)))
+        (λ e. ap is_some (ended.city q ∙ ap (λ c. if c then f (here a q) (image_at a q) else here a q) e)
+        ∙ k.placed q (sym (ap is_some (ended.images q ∙ ap (λ c. if c then None else image_at a q) e)) ∙ h));
     listed = λ t q. room_left t q ∙ ap (λ c. if s == t then false else c) (k.listed t q) ∙ others_stay s t (image_at a q)
         ∙ sym (ap (λ i. is_writer t (writer_of i)) (images_at q));
-    city_ordered = city_ordered;
-    images_ordered = images_ordered;
+    city_ordered = ended.city_ordered k.city_ordered;
+    images_ordered = ended.images_ordered k.images_ordered;
   }
 
   pub forgets : Forgets s (state_of a) (state_of b)
   forgets = record {
-    frame = frame;
+    frame = ended.frame;
     writes = λ q. writes_is b forgotten_in_place q ∙ ap (λ x. write_at x (image_at b q)) (city_at q)
         ∙ ap (write_at (if is_writer s (writer_of (image_at a q)) then f (here a q) (image_at a q) else here a q)) (images_at q)
         ∙ dropped_point s (here a q) (f (here a q) (image_at a q)) (image_at a q) ∙ sym (ap (unless_by s) (writes_is a k q));

@@ -1,13 +1,12 @@
 -- What a transaction wrote, as a change.
-use Rattle.std.specs.Prelude.{◌≡◌, ℕ, Bool, false, List, [], ◌∷◌, Option, None, Some}
+use Rattle.std.specs.Prelude.{◌≡◌, ℕ, List, [], ◌∷◌, Option, None, Some}
 use Rattle.std.specs.Map.{keys_of}
 use Rattle.std.specs.Ordering.{nat_cmp}
 use Rattle.std.specs.Cmp.Lexicographic.{slice_cmp}
 use Rattle.std.specs.List.Sorted.{IsStrictlySortedBy}
-use Rattle.city_model.specs.declared.object.Object.{Object}
 use Rattle.city_model.specs.declared.command.Command.TheVariants.{Commit}
 use Rattle.city_model.specs.CityMap.{Entries, has_id}
-use Rattle.city_model.specs.Relations.{is_orphan, HasNoOrphan}
+use Rattle.city_model.specs.Relations.{HasNoOrphan}
 use Rattle.city_model.specs.Runs.{Change, Refuses, shown}
 use Rattle.city_txn.specs.declared.step.Prepared.{Prepared}
 use Rattle.city_txn.specs.declared.step.Prepared.TheVariants.{Ready, Refused}
@@ -19,10 +18,6 @@ use Rattle.city_txn.specs.CoreState.{CoreState, committed, view}
 abbrev pub or_else : {Y : Type 0} → Option Y → Option Y → Option Y
 or_else None y = y
 or_else (Some x) y = Some x
-
-abbrev pub is_orphan_there : Option Object → Bool
-is_orphan_there None = false
-is_orphan_there (Some o) = is_orphan o
 
 -- the objects that the change sets
 abbrev pub objects_in : Change → Entries

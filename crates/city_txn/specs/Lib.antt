@@ -2,6 +2,7 @@ pub mod Acting
 pub mod Changing
 pub mod Core
 pub mod CoreState
+pub mod Ending
 pub mod Images
 pub mod InPlace
 pub mod Locking

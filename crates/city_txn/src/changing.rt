@@ -6,9 +6,9 @@ ghost use Rattle.std.specs.Cmp.Lexicographic.{slice_cmp};
 ghost use Rattle.std.specs.BTreeMap.{get, is_at, IsOrdered};
 ghost use Rattle.std.specs.List.Sorted.{IsStrictlySortedBy};
 ghost use Rattle.city_model.specs.CityMap.{at, has_id, same_id};
-ghost use Rattle.city_model.specs.Relations.{HasNoOrphan, IsLeastOrphan};
+ghost use Rattle.city_model.specs.Relations.{is_orphan_there, HasNoOrphan, IsLeastOrphan};
 ghost use Rattle.city_txn.specs.Images.{written_at};
-ghost use Rattle.city_txn.specs.Changing.{or_else, is_orphan_there, objects_in};
+ghost use Rattle.city_txn.specs.Changing.{or_else, objects_in};
 
 use crate::image::Images;
 use city_model::OutOfMemory;

@@ -6,6 +6,7 @@ ghost use Rattle.std.specs.Map.{keys_of, lookup};
 ghost use Rattle.std.specs.List.Sorted.{IsStrictlySortedBy};
 ghost use Rattle.std.specs.BTreeMap.{get, is_at, IsOrdered};
 ghost use Rattle.city_model.specs.CityMap.{at, has_id, same_id, changed};
+ghost use Rattle.city_txn.specs.Ending.{AreEnded};
 ghost use Rattle.city_txn.specs.Images.{seen_at, committed_at, fresh_image, written_over};
 ghost use Rattle.city_txn.specs.State.{State, rooms_of, write_of, has_room, is_open, committed, view, own_write, SeesSame, Forgets};
 
@@ -236,11 +237,7 @@ fn write(city: &mut City, images: &mut Images, id: Id, object: Object, gone: boo
 
 /// Drops the images of the ids, and the stand-ins that hold their places.
 fn keep_each(city: &mut City, images: &mut Images, ids: &[Id])
-    ensures frame { city.new.0 ≡ city.old.0 }
-    ensures city { (q : List ℕ) → at city.new.1 q ≡ (if has_id ids.now q then seen_at (at city.old.1 q) (get (slice_cmp nat_cmp) images.old q) else at city.old.1 q) }
-    ensures images { (q : List ℕ) → get (slice_cmp nat_cmp) images.new q ≡ (if has_id ids.now q then None else get (slice_cmp nat_cmp) images.old q) }
-    ensures city_ordered { IsStrictlySortedBy (slice_cmp nat_cmp) (keys_of city.old.1) → IsStrictlySortedBy (slice_cmp nat_cmp) (keys_of city.new.1) }
-    ensures images_ordered { IsOrdered (slice_cmp nat_cmp) images.old → IsOrdered (slice_cmp nat_cmp) images.new }
+    ensures { AreEnded seen_at (has_id ids.now) city.old images.old city.new images.new }
 {
     for id in ids {
         keep_one(city, images, id);
@@ -249,11 +246,7 @@ fn keep_each(city: &mut City, images: &mut Images, ids: &[Id])
 
 /// Drops the image of the id, if there is one, and the stand-in, if one holds its place.
 fn keep_one(city: &mut City, images: &mut Images, id: &Id)
-    ensures frame { city.new.0 ≡ city.old.0 }
-    ensures city { (q : List ℕ) → at city.new.1 q ≡ (if same_id id.now q then seen_at (at city.old.1 id.now) (get (slice_cmp nat_cmp) images.old id.now) else at city.old.1 q) }
-    ensures images { (q : List ℕ) → get (slice_cmp nat_cmp) images.new q ≡ (if same_id id.now q then None else get (slice_cmp nat_cmp) images.old q) }
-    ensures city_ordered { IsStrictlySortedBy (slice_cmp nat_cmp) (keys_of city.old.1) → IsStrictlySortedBy (slice_cmp nat_cmp) (keys_of city.new.1) }
-    ensures images_ordered { IsOrdered (slice_cmp nat_cmp) images.old → IsOrdered (slice_cmp nat_cmp) images.new }
+    ensures { AreEnded seen_at (same_id id.now) city.old images.old city.new images.new }
 {
     let gone = image::forget(images, id);
     place::clear(city, id, gone);
@@ -262,11 +255,7 @@ fn keep_one(city: &mut City, images: &mut Images, id: &Id)
 /// Puts the images of the ids back.
 fn restore_each(city: &mut City, images: &mut Images, ids: &[Id])
     requires { (q : List ℕ) → is_some (get (slice_cmp nat_cmp) images.old q) ≡ true → is_some (at city.old.1 q) ≡ true }
-    ensures frame { city.new.0 ≡ city.old.0 }
-    ensures city { (q : List ℕ) → at city.new.1 q ≡ (if has_id ids.now q then committed_at (at city.old.1 q) (get (slice_cmp nat_cmp) images.old q) else at city.old.1 q) }
-    ensures images { (q : List ℕ) → get (slice_cmp nat_cmp) images.new q ≡ (if has_id ids.now q then None else get (slice_cmp nat_cmp) images.old q) }
-    ensures city_ordered { IsStrictlySortedBy (slice_cmp nat_cmp) (keys_of city.old.1) → IsStrictlySortedBy (slice_cmp nat_cmp) (keys_of city.new.1) }
-    ensures images_ordered { IsOrdered (slice_cmp nat_cmp) images.old → IsOrdered (slice_cmp nat_cmp) images.new }
+    ensures { AreEnded committed_at (has_id ids.now) city.old images.old city.new images.new }
 {
     for id in ids {
         restore_one(city, images, id);
@@ -276,11 +265,7 @@ fn restore_each(city: &mut City, images: &mut Images, ids: &[Id])
 /// Puts the image of the id back, if there is one.
 fn restore_one(city: &mut City, images: &mut Images, id: &Id)
     requires { is_some (get (slice_cmp nat_cmp) images.old id.now) ≡ true → is_some (at city.old.1 id.now) ≡ true }
-    ensures frame { city.new.0 ≡ city.old.0 }
-    ensures city { (q : List ℕ) → at city.new.1 q ≡ (if same_id id.now q then committed_at (at city.old.1 id.now) (get (slice_cmp nat_cmp) images.old id.now) else at city.old.1 q) }
-    ensures images { (q : List ℕ) → get (slice_cmp nat_cmp) images.new q ≡ (if same_id id.now q then None else get (slice_cmp nat_cmp) images.old q) }
-    ensures city_ordered { IsStrictlySortedBy (slice_cmp nat_cmp) (keys_of city.old.1) → IsStrictlySortedBy (slice_cmp nat_cmp) (keys_of city.new.1) }
-    ensures images_ordered { IsOrdered (slice_cmp nat_cmp) images.old → IsOrdered (slice_cmp nat_cmp) images.new }
+    ensures { AreEnded committed_at (same_id id.now) city.old images.old city.new images.new }
 {
     if let Some((key, image)) = images.remove_entry(id) {
         place::give_back(city, key, image);

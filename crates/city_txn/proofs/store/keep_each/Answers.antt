@@ -1,24 +1,22 @@
-use Rattle.std.proofs.Common.{◌∙◌, length, ◌<◌, arith, refl}
-use Rattle.std.specs.Ordering.{nat_cmp}
-use Rattle.std.specs.Cmp.Lexicographic.{slice_cmp}
-use Rattle.std.specs.BTreeMap.{get}
-use Rattle.city_model.specs.CityMap.{at}
+use Rattle.std.proofs.Common.{length, ◌<◌, arith, refl, subst}
+use Rattle.std.specs.Prelude.{List, ℕ}
+use Rattle.std.proofs.lemmas.List.{take_all}
+use Rattle.city_model.specs.CityMap.{has_id}
+use Rattle.city_txn.specs.Ending.{AreEnded}
 use Rattle.city_txn.specs.Images.{seen_at}
-use Rattle.city_txn.proofs.EachId.{more_city, more_images}
+use Rattle.city_txn.proofs.EachId.{none_ended, one_more_ended}
 use Rattle.city_txn.proofs.store.keep_each.Goals as goal
+
+pub loop-id-init : goal.loop-id-init
+loop-id-init c = none_ended seen_at c.args.city.now c.args.images.now
 
 pub loop-id-preserved : goal.loop-id-preserved
 loop-id-preserved c =
-    let i = c.loop-id.invariant in
     let lt : c.loop-id.id-index < length c.args.ids.now = omega arith in
-    record {
-      frame = c.keep_one.ensures.frame ∙ i.frame;
-      city = more_city seen_at (λ y. refl) (λ q. at c.args.city.now.1 q) (λ q. at c.loop-id.city.1 q) (λ q. at c.keep_one.new.city.1 q)
-          (λ q. get (slice_cmp nat_cmp) c.args.images.now q) (λ q. get (slice_cmp nat_cmp) c.loop-id.images q) (λ q. get (slice_cmp nat_cmp) c.keep_one.new.images q)
-          c.args.ids.now c.loop-id.id-index c.id-item.result lt c.id-item.is i.city i.images c.keep_one.ensures.city c.keep_one.ensures.images;
-      images = more_images seen_at (λ y. refl) (λ q. at c.args.city.now.1 q) (λ q. at c.loop-id.city.1 q) (λ q. at c.keep_one.new.city.1 q)
-          (λ q. get (slice_cmp nat_cmp) c.args.images.now q) (λ q. get (slice_cmp nat_cmp) c.loop-id.images q) (λ q. get (slice_cmp nat_cmp) c.keep_one.new.images q)
-          c.args.ids.now c.loop-id.id-index c.id-item.result lt c.id-item.is i.city i.images c.keep_one.ensures.city c.keep_one.ensures.images;
-      city_ordered = λ o. c.keep_one.ensures.city_ordered (i.city_ordered o);
-      images_ordered = λ o. c.keep_one.ensures.images_ordered (i.images_ordered o);
-    }
+    one_more_ended seen_at (λ x. refl) c.args.city.now c.loop-id.city c.keep_one.new.city c.args.images.now c.loop-id.images c.keep_one.new.images
+    c.args.ids.now c.loop-id.id-index c.id-item.result lt c.id-item.is c.loop-id.invariant c.keep_one.ensures
+
+pub returns : goal.returns
+returns c =
+    subst (λ (ids : List (List ℕ)). AreEnded seen_at (has_id ids) c.args.city.now c.args.images.now c.loop-id.city c.loop-id.images)
+    (take_all c.loop-id.id-index c.args.ids.now (omega arith)) c.loop-id.invariant

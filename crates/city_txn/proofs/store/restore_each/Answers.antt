@@ -1,27 +1,28 @@
-use Rattle.std.proofs.Common.{◌∙◌, take, length, ◌<◌, arith, refl}
+use Rattle.std.proofs.Common.{take, length, ◌<◌, arith, refl, subst}
+use Rattle.std.specs.Prelude.{List, ℕ}
 use Rattle.std.specs.Ordering.{nat_cmp}
 use Rattle.std.specs.Cmp.Lexicographic.{slice_cmp}
 use Rattle.std.specs.BTreeMap.{get}
+use Rattle.std.proofs.lemmas.List.{take_all}
 use Rattle.city_model.specs.CityMap.{at, has_id}
+use Rattle.city_txn.specs.Ending.{AreEnded}
 use Rattle.city_txn.specs.Images.{committed_at}
-use Rattle.city_txn.proofs.EachId.{more_city, more_images, still_placed}
+use Rattle.city_txn.proofs.EachId.{none_ended, one_more_ended, still_placed}
 use Rattle.city_txn.proofs.store.restore_each.Goals as goal
+
+pub loop-id-init : goal.loop-id-init
+loop-id-init c = none_ended committed_at c.args.city.now c.args.images.now
 
 pub loop-id-preserved : goal.loop-id-preserved
 loop-id-preserved c =
-    let i = c.loop-id.invariant in
     let lt : c.loop-id.id-index < length c.args.ids.now = omega arith in
-    record {
-      frame = c.restore_one.ensures.frame ∙ i.frame;
-      city = more_city committed_at (λ y. refl) (λ q. at c.args.city.now.1 q) (λ q. at c.loop-id.city.1 q) (λ q. at c.restore_one.new.city.1 q)
-          (λ q. get (slice_cmp nat_cmp) c.args.images.now q) (λ q. get (slice_cmp nat_cmp) c.loop-id.images q) (λ q. get (slice_cmp nat_cmp) c.restore_one.new.images q)
-          c.args.ids.now c.loop-id.id-index c.id-item.result lt c.id-item.is i.city i.images c.restore_one.ensures.city c.restore_one.ensures.images;
-      images = more_images committed_at (λ y. refl) (λ q. at c.args.city.now.1 q) (λ q. at c.loop-id.city.1 q) (λ q. at c.restore_one.new.city.1 q)
-          (λ q. get (slice_cmp nat_cmp) c.args.images.now q) (λ q. get (slice_cmp nat_cmp) c.loop-id.images q) (λ q. get (slice_cmp nat_cmp) c.restore_one.new.images q)
-          c.args.ids.now c.loop-id.id-index c.id-item.result lt c.id-item.is i.city i.images c.restore_one.ensures.city c.restore_one.ensures.images;
-      city_ordered = λ o. c.restore_one.ensures.city_ordered (i.city_ordered o);
-      images_ordered = λ o. c.restore_one.ensures.images_ordered (i.images_ordered o);
-    }
+    one_more_ended committed_at (λ x. refl) c.args.city.now c.loop-id.city c.restore_one.new.city c.args.images.now c.loop-id.images c.restore_one.new.images
+    c.args.ids.now c.loop-id.id-index c.id-item.result lt c.id-item.is c.loop-id.invariant c.restore_one.ensures
+
+pub returns : goal.returns
+returns c =
+    subst (λ (ids : List (List ℕ)). AreEnded committed_at (has_id ids) c.args.city.now c.args.images.now c.loop-id.city c.loop-id.images)
+    (take_all c.loop-id.id-index c.args.ids.now (omega arith)) c.loop-id.invariant
 
 pub restore_one-requires : goal.restore_one-requires
 restore_one-requires c =

@@ -4,6 +4,7 @@ use Rattle.city_txn.specs.Images.{seen_at}
 use Rattle.city_txn.specs.State.{State, rooms_of, view, Forgets}
 use Rattle.city_txn.specs.InPlace.{state_of}
 use Rattle.city_txn.specs.declared.store.Store.TheInside.{Inside}
+use Rattle.city_txn.proofs.EachId.{none_ended}
 use Rattle.city_txn.proofs.Forgotten.{forgotten_in_place, forgets, kept_city}
 use Rattle.city_txn.proofs.store.Store.keep.Goals as goal
 
@@ -12,7 +13,7 @@ returns-in_default-clause-city c q =
     let a = c.self.inside in
     let b : Inside = record { city = a.city; images = a.images; rooms = c.remove.new.self } in
     let are : [] ≡ rooms_of a.rooms.entries c.args.stamp = ap (λ o. unwrap_or o []) c.in_default.ensures.value in
-    kept_city a b c.self.invariant c.args.stamp [] are seen_at refl (λ q. refl) (λ q. refl) c.remove.ensures.updates.0 c.self.invariant.city_ordered c.self.invariant.images_ordered (λ x i. refl) q
+    kept_city a b c.self.invariant c.args.stamp [] are seen_at (none_ended seen_at a.city a.images) c.remove.ensures.updates.0 (λ x i. refl) q
     ∙ ap (λ (v : State). view v c.args.stamp q) c.self.view_is
 
 pub returns-in_default-clause-forgets : goal.returns-in_default-clause-forgets
@@ -20,23 +21,21 @@ returns-in_default-clause-forgets c =
     let a = c.self.inside in
     let b : Inside = record { city = a.city; images = a.images; rooms = c.remove.new.self } in
     let are : [] ≡ rooms_of a.rooms.entries c.args.stamp = ap (λ o. unwrap_or o []) c.in_default.ensures.value in
-    subst (λ (v : State). Forgets c.args.stamp v (state_of b)) c.self.view_is (forgets a b c.self.invariant c.args.stamp [] are seen_at refl (λ q. refl) (λ q. refl) c.remove.ensures.updates.0 c.self.invariant.city_ordered c.self.invariant.images_ordered)
+    subst (λ (v : State). Forgets c.args.stamp v (state_of b)) c.self.view_is (forgets a b c.self.invariant c.args.stamp [] are seen_at (none_ended seen_at a.city a.images) c.remove.ensures.updates.0)
 
 pub invariant_of-self : goal.invariant_of-self
 invariant_of-self c =
     let a = c.self.inside in
     let b : Inside = record { city = c.keep_each.new.city; images = c.keep_each.new.images; rooms = c.remove.new.self } in
     let are : c.as_slice.result.now ≡ rooms_of a.rooms.entries c.args.stamp = c.as_slice.ensures ∙ ap (λ o. unwrap_or o []) c.in-Some.ensures.value in
-    forgotten_in_place a b c.self.invariant c.args.stamp c.as_slice.result.now are seen_at c.keep_each.ensures.frame c.keep_each.ensures.city c.keep_each.ensures.images c.remove.ensures.updates.0
-    (c.keep_each.ensures.city_ordered c.self.invariant.city_ordered) (c.keep_each.ensures.images_ordered c.self.invariant.images_ordered)
+    forgotten_in_place a b c.self.invariant c.args.stamp c.as_slice.result.now are seen_at c.keep_each.ensures c.remove.ensures.updates.0
 
 pub returns-in-Some-clause-city : goal.returns-in-Some-clause-city
 returns-in-Some-clause-city c q =
     let a = c.self.inside in
     let b : Inside = record { city = c.keep_each.new.city; images = c.keep_each.new.images; rooms = c.remove.new.self } in
     let are : c.as_slice.result.now ≡ rooms_of a.rooms.entries c.args.stamp = c.as_slice.ensures ∙ ap (λ o. unwrap_or o []) c.in-Some.ensures.value in
-    kept_city a b c.self.invariant c.args.stamp c.as_slice.result.now are seen_at c.keep_each.ensures.frame c.keep_each.ensures.city c.keep_each.ensures.images c.remove.ensures.updates.0
-    (c.keep_each.ensures.city_ordered c.self.invariant.city_ordered) (c.keep_each.ensures.images_ordered c.self.invariant.images_ordered) (λ x i. refl) q
+    kept_city a b c.self.invariant c.args.stamp c.as_slice.result.now are seen_at c.keep_each.ensures c.remove.ensures.updates.0 (λ x i. refl) q
     ∙ ap (λ (v : State). view v c.args.stamp q) c.self.view_is
 
 pub returns-in-Some-clause-forgets : goal.returns-in-Some-clause-forgets
@@ -44,5 +43,4 @@ returns-in-Some-clause-forgets c =
     let a = c.self.inside in
     let b : Inside = record { city = c.keep_each.new.city; images = c.keep_each.new.images; rooms = c.remove.new.self } in
     let are : c.as_slice.result.now ≡ rooms_of a.rooms.entries c.args.stamp = c.as_slice.ensures ∙ ap (λ o. unwrap_or o []) c.in-Some.ensures.value in
-    subst (λ (v : State). Forgets c.args.stamp v (state_of b)) c.self.view_is (forgets a b c.self.invariant c.args.stamp c.as_slice.result.now are seen_at c.keep_each.ensures.frame c.keep_each.ensures.city c.keep_each.ensures.images c.remove.ensures.updates.0
-    (c.keep_each.ensures.city_ordered c.self.invariant.city_ordered) (c.keep_each.ensures.images_ordered c.self.invariant.images_ordered))
+    subst (λ (v : State). Forgets c.args.stamp v (state_of b)) c.self.view_is (forgets a b c.self.invariant c.args.stamp c.as_slice.result.now are seen_at c.keep_each.ensures c.remove.ensures.updates.0)
