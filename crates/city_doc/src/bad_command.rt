@@ -26,7 +26,8 @@ fn is_unreadable(object: &Value) -> bool
 fn is_bad_object(object: &Value) -> bool
     ensures { result ≡ is_bad_object (view object.now) }
 {
-    object.as_object().is_none() || names_relations(object) || is_unreadable(object)
+    // (what isn't an object has no type)
+    names_relations(object) || is_unreadable(object)
 }
 
 /// Whether the tree of a command has none of the forms, or puts an object that can't be put.
