@@ -11,7 +11,7 @@ use Rattle.city_model.specs.declared.object.Body.{Body}
 use Rattle.city_model.specs.declared.command.Command.{Command}
 use Rattle.city_model.specs.declared.command.Command.TheVariants.{Read, Put, Delete, Attach, Detach, Commit, Abort}
 use Rattle.city_model.specs.Scripts.{is_end}
-use Rattle.city_model.specs.Whole.{is_whole}
+use Rattle.city_model.specs.Integral.{is_integral}
 use Rattle.city_model.specs.Members.{members_count}
 use Rattle.city_doc.specs.Bodies.{body_of}
 use Rattle.city_doc.specs.ObjectFaults.{has_bad_vertex}
@@ -21,7 +21,7 @@ use Rattle.city_doc.specs.ScriptTrees.{is_end_word}
 use Rattle.city_doc.proofs.FaultlessBodies.{body_of-faultless}
 use Rattle.city_doc.proofs.Options.{and_then_some}
 use Rattle.city_doc.proofs.PutBodies.{good, body_of-good}
-use Rattle.city_doc.proofs.WholeParts.{get_member-whole}
+use Rattle.city_doc.proofs.IntegralParts.{get_member-whole}
 
 -- ---- a property of the forms of an object
 
@@ -100,42 +100,42 @@ command_of-end points d c h = let r = and_then_some (command_of_form points) (fo
 
 -- ---- a command that isn't refused stands for one
 
-abbrev whole_form : CommandForm → Bool
-whole_form (ReadForm id) = true
-whole_form (PutForm id tree) = is_whole tree
-whole_form (DeleteForm id) = true
-whole_form (AttachForm child parent) = true
-whole_form (DetachForm child parent) = true
-whole_form CommitForm = true
-whole_form AbortForm = true
+abbrev integral_form : CommandForm → Bool
+integral_form (ReadForm id) = true
+integral_form (PutForm id tree) = is_integral tree
+integral_form (DeleteForm id) = true
+integral_form (AttachForm child parent) = true
+integral_form (DetachForm child parent) = true
+integral_form CommitForm = true
+integral_form AbortForm = true
 
-put_whole : (b : Bool) (t : Option (List ℕ)) (r : Option Data) → ((d : Data) → r ≡ Some d → is_whole d ≡ true)
-    → holds whole_form (option_map (λ (p : List ℕ × Data). PutForm p.0 p.1) (if b then option_and_then (λ s. option_map (λ d. (s, d)) r) t else None)) ≡ true
-put_whole false t r h = refl
-put_whole true None r h = refl
-put_whole true (Some s) None h = refl
-put_whole true (Some s) (Some d) h = h d refl
+put_integral : (b : Bool) (t : Option (List ℕ)) (r : Option Data) → ((d : Data) → r ≡ Some d → is_integral d ≡ true)
+    → holds integral_form (option_map (λ (p : List ℕ × Data). PutForm p.0 p.1) (if b then option_and_then (λ s. option_map (λ d. (s, d)) r) t else None)) ≡ true
+put_integral false t r h = refl
+put_integral true None r h = refl
+put_integral true (Some s) None h = refl
+put_integral true (Some s) (Some d) h = h d refl
 
-word_whole : (a b : Bool) → holds whole_form (option_or (if a then Some CommitForm else (if b then Some AbortForm else None)) None) ≡ true
-word_whole true b = refl
-word_whole false true = refl
-word_whole false false = refl
+word_integral : (a b : Bool) → holds integral_form (option_or (if a then Some CommitForm else (if b then Some AbortForm else None)) None) ≡ true
+word_integral true b = refl
+word_integral false true = refl
+word_integral false false = refl
 
-form_whole : (d : Data) → is_whole d ≡ true → holds whole_form (form_of d) ≡ true
-form_whole null h = refl
-form_whole (boolean b) h = refl
-form_whole (number n) h = refl
-form_whole (string s) h = word_whole (bytes_eq s (codes "commit")) (bytes_eq s (codes "abort"))
-form_whole (array ds) h = refl
-form_whole (object ms) h =
-    members_hold whole_form ms (λ id. refl) (λ id. refl) (λ p. refl) (λ p. refl)
-    (put_whole (members_count ms == 2) (text_in (codes "put") ms) (get_member (codes "object") ms) (λ d e. get_member-whole (codes "object") ms d h e))
+form_integral : (d : Data) → is_integral d ≡ true → holds integral_form (form_of d) ≡ true
+form_integral null h = refl
+form_integral (boolean b) h = refl
+form_integral (number n) h = refl
+form_integral (string s) h = word_integral (bytes_eq s (codes "commit")) (bytes_eq s (codes "abort"))
+form_integral (array ds) h = refl
+form_integral (object ms) h =
+    members_hold integral_form ms (λ id. refl) (λ id. refl) (λ p. refl) (λ p. refl)
+    (put_integral (members_count ms == 2) (text_in (codes "put") ms) (get_member (codes "object") ms) (λ d e. get_member-whole (codes "object") ms d h e))
 
-put_some : (points : List Point) (id : List ℕ) (tree : Data) → is_whole tree ≡ true → is_bad_object tree ≡ false → has_bad_vertex (length points) tree ≡ false
+put_some : (points : List Point) (id : List ℕ) (tree : Data) → is_integral tree ≡ true → is_bad_object tree ≡ false → has_bad_vertex (length points) tree ≡ false
     → (c : Command) × (put_of points id tree ≡ Some c)
 put_some points id tree whole fine placed = let r = body_of-good points tree whole fine placed in (Put id r.0, rw ((good tree fine).unrelated, r.1) refl)
 
-form_some : (points : List Point) (f : CommandForm) → whole_form f ≡ true → is_bad_form f ≡ false → is_misplaced_form (length points) f ≡ false → (c : Command) × (command_of_form points f ≡ Some c)
+form_some : (points : List Point) (f : CommandForm) → integral_form f ≡ true → is_bad_form f ≡ false → is_misplaced_form (length points) f ≡ false → (c : Command) × (command_of_form points f ≡ Some c)
 form_some points (ReadForm id) whole fine placed = (Read id, refl)
 form_some points (PutForm id tree) whole fine placed = put_some points id tree whole fine placed
 form_some points (DeleteForm id) whole fine placed = (Delete id, refl)
@@ -144,13 +144,13 @@ form_some points (DetachForm child parent) whole fine placed = (Detach child par
 form_some points CommitForm whole fine placed = (Commit, refl)
 form_some points AbortForm whole fine placed = (Abort, refl)
 
-some_command : (points : List Point) (o : Option CommandForm) → holds whole_form o ≡ true → is_no_good_form o ≡ false → is_some_misplaced_form (length points) o ≡ false
+some_command : (points : List Point) (o : Option CommandForm) → holds integral_form o ≡ true → is_no_good_form o ≡ false → is_some_misplaced_form (length points) o ≡ false
     → (c : Command) × (option_and_then (command_of_form points) o ≡ Some c)
 some_command points None whole fine placed = absurd (true≢false fine)
 some_command points (Some f) whole fine placed = form_some points f whole fine placed
 
-pub command_of-some : (points : List Point) (d : Data) → is_whole d ≡ true → is_bad_command d ≡ false → is_misplaced (length points) d ≡ false → (c : Command) × (command_of points d ≡ Some c)
-command_of-some points d whole fine placed = some_command points (form_of d) (form_whole d whole) fine placed
+pub command_of-some : (points : List Point) (d : Data) → is_integral d ≡ true → is_bad_command d ≡ false → is_misplaced (length points) d ≡ false → (c : Command) × (command_of points d ≡ Some c)
+command_of-some points d whole fine placed = some_command points (form_of d) (form_integral d whole) fine placed
 
 -- ---- a command that is refused stands for none
 

@@ -10,7 +10,7 @@ use Rattle.serde_json.specs.Data.{Data, null, boolean, number, unsigned, negativ
 use Rattle.serde_json.specs.Find.{get_member}
 use Rattle.serde_json.specs.View.{items_of}
 use Rattle.serde_json.specs.Written.{has_float, items_have_float, members_have_float}
-use Rattle.city_model.specs.Whole.{is_whole, items_whole, members_whole}
+use Rattle.city_model.specs.Integral.{is_integral, items_integral, members_integral}
 use Rattle.city_model.specs.Kept.{lacks, lacks_both, is_empty_object_or_absent, has_location, kept_at_top, kept_at_transform, kept_at_object, kept_at_geometry}
 use Rattle.city_model.specs.Shells.{Ring, Surface, Shell}
 use Rattle.city_model.specs.CityMap.{Entries}
@@ -35,27 +35,27 @@ first_part false rest fails h = sym fails ∙ h
 -- ---- trees
 
 mutual
-  pub whole_is_floatless : (d : Data) → is_whole d ≡ true → has_float d ≡ false
-  whole_is_floatless null h = refl
-  whole_is_floatless (boolean b) h = refl
-  whole_is_floatless (number (unsigned n)) h = refl
-  whole_is_floatless (number (negative z)) h = refl
-  whole_is_floatless (number (float x)) h = sym h
-  whole_is_floatless (string s) h = refl
-  whole_is_floatless (array ds) h = items_are_floatless ds h
-  whole_is_floatless (object ms) h = members_are_floatless ms h
+  pub integral_is_floatless : (d : Data) → is_integral d ≡ true → has_float d ≡ false
+  integral_is_floatless null h = refl
+  integral_is_floatless (boolean b) h = refl
+  integral_is_floatless (number (unsigned n)) h = refl
+  integral_is_floatless (number (negative z)) h = refl
+  integral_is_floatless (number (float x)) h = sym h
+  integral_is_floatless (string s) h = refl
+  integral_is_floatless (array ds) h = items_are_floatless ds h
+  integral_is_floatless (object ms) h = members_are_floatless ms h
 
-  items_are_floatless : (ds : Items) → items_whole ds ≡ true → items_have_float ds ≡ false
+  items_are_floatless : (ds : Items) → items_integral ds ≡ true → items_have_float ds ≡ false
   items_are_floatless no_items h = refl
   items_are_floatless (item d ds) h =
-      let parts = and_parts (is_whole d) (items_whole ds) h in
-      or_from (has_float d) (items_have_float ds) (whole_is_floatless d parts.0) (items_are_floatless ds parts.1)
+      let parts = and_parts (is_integral d) (items_integral ds) h in
+      or_from (has_float d) (items_have_float ds) (integral_is_floatless d parts.0) (items_are_floatless ds parts.1)
 
-  pub members_are_floatless : (ms : Members) → members_whole ms ≡ true → members_have_float ms ≡ false
+  pub members_are_floatless : (ms : Members) → members_integral ms ≡ true → members_have_float ms ≡ false
   members_are_floatless no_members h = refl
   members_are_floatless (member k d ms) h =
-      let parts = and_parts (is_whole d) (members_whole ms) h in
-      or_from (has_float d) (members_have_float ms) (whole_is_floatless d parts.0) (members_are_floatless ms parts.1)
+      let parts = and_parts (is_integral d) (members_integral ms) h in
+      or_from (has_float d) (members_have_float ms) (integral_is_floatless d parts.0) (members_are_floatless ms parts.1)
 
 pub put_is_floatless : (k : List ℕ) (d : Data) (ms : Members) → has_float d ≡ false → members_have_float ms ≡ false → members_have_float (put k d ms) ≡ false
 put_is_floatless k d no_members h hs = or_from (has_float d) false h refl
@@ -105,7 +105,7 @@ boundaries_are_floatless pool (CompositeSurface surfaces) = list_is_floatless (s
 boundaries_are_floatless pool (Solid shells) = list_is_floatless (shell_data pool) (shell_is_floatless pool) shells
 
 at_geometry : (ms : Members) → kept_at_geometry ms ≡ true → members_have_float ms ≡ false
-at_geometry ms h = members_are_floatless ms (first_part (members_whole ms) (λ w. w && lacks_both (codes "type") (codes "lod") ms && lacks (codes "boundaries") ms) refl h)
+at_geometry ms h = members_are_floatless ms (first_part (members_integral ms) (λ w. w && lacks_both (codes "type") (codes "lod") ms && lacks (codes "boundaries") ms) refl h)
 
 geometry_is_floatless : (pool : List Point) (g : Geometry) → is_kept_geometry g ≡ true → has_float (geometry_data pool g) ≡ false
 unfolding is_kept_geometry
@@ -122,7 +122,7 @@ put_list_is_floatless k f [] ms h hs = hs
 put_list_is_floatless k f (x ∷ xs) ms h hs = put_is_floatless k (list_data f (x ∷ xs)) ms h hs
 
 at_object : (ms : Members) → kept_at_object ms ≡ true → members_have_float ms ≡ false
-at_object ms h = members_are_floatless ms (first_part (members_whole ms) (λ w. w && lacks_both (codes "type") (codes "geometry") ms && lacks_both (codes "parents") (codes "children") ms && not (has_location (get_member (codes "address") ms))) refl h)
+at_object ms h = members_are_floatless ms (first_part (members_integral ms) (λ w. w && lacks_both (codes "type") (codes "geometry") ms && lacks_both (codes "parents") (codes "children") ms && not (has_location (get_member (codes "address") ms))) refl h)
 
 pub object_is_floatless : (pool : List Point) (o : Object) → is_kept_object o ≡ true → has_float (object_data pool o) ≡ false
 unfolding is_kept_object
@@ -145,10 +145,10 @@ objects_are_floatless pool ms (e ∷ es) h hs =
 -- ---- the top
 
 at_transform : (ms : Members) → kept_at_transform ms ≡ true → members_have_float ms ≡ false
-at_transform ms h = members_are_floatless ms (first_part (members_whole ms) (λ w. w && lacks_both (codes "scale") (codes "translate") ms) refl h)
+at_transform ms h = members_are_floatless ms (first_part (members_integral ms) (λ w. w && lacks_both (codes "scale") (codes "translate") ms) refl h)
 
 at_top : (ms : Members) → kept_at_top ms ≡ true → members_have_float ms ≡ false
-at_top ms h = members_are_floatless ms (first_part (members_whole ms) (λ w. w && lacks_both (codes "type") (codes "version") ms && lacks_both (codes "transform") (codes "CityObjects") ms && lacks (codes "vertices") ms && is_empty_object_or_absent (get_member (codes "extensions") ms)) refl h)
+at_top ms h = members_are_floatless ms (first_part (members_integral ms) (λ w. w && lacks_both (codes "type") (codes "version") ms && lacks_both (codes "transform") (codes "CityObjects") ms && lacks (codes "vertices") ms && is_empty_object_or_absent (get_member (codes "extensions") ms)) refl h)
 
 transform_is_floatless : (f : Frame) → kept_at_transform f.more ≡ true → has_float (transform_data f) ≡ false
 transform_is_floatless f h =

@@ -8,7 +8,7 @@ use Rattle.serde_json.proofs.Views.{get_member-put}
 use Rattle.city_model.specs.declared.frame.Frame.{Frame}
 use Rattle.city_model.specs.Kept.{lacks, lacks_both, is_empty_object_or_absent, kept_at_top, kept_at_transform}
 use Rattle.city_model.specs.Members.{without}
-use Rattle.city_model.specs.Whole.{members_whole}
+use Rattle.city_model.specs.Integral.{members_integral}
 use Rattle.city_doc.specs.Frames.{without_transform_members, without_top_members, frame_with, frame_of_rest}
 use Rattle.city_doc.specs.Canonical.{triple_data, transform_data, frame_members}
 use Rattle.city_doc.specs.Ranges.{is_i64_triple}
@@ -23,7 +23,7 @@ use Rattle.city_doc.proofs.TriplesRead.{triple_read}
 transform_left : (more : Members) (scale translate : Data) → kept_at_transform more ≡ true
     → without_transform_members (put (codes "translate") translate (put (codes "scale") scale more)) ≡ more
 transform_left more scale translate h =
-    let lacking = and_parts (lacks (codes "scale") more) (lacks (codes "translate") more) (and_parts (members_whole more) (lacks_both (codes "scale") (codes "translate") more) h).1 in
+    let lacking = and_parts (lacks (codes "scale") more) (lacks (codes "translate") more) (and_parts (members_integral more) (lacks_both (codes "scale") (codes "translate") more) h).1 in
     let scaled = put (codes "scale") scale more in
     let no_translate = get_member-put_apart (codes "translate") (codes "scale") scale more refl ∙ none_of _ lacking.1 in
     without-swap (codes "translate") (codes "scale") (put (codes "translate") translate scaled)
@@ -54,10 +54,10 @@ top_members_lacking ms h =
     let extensions = is_empty_object_or_absent (get_member (codes "extensions") ms) in
     let named = lacks_both (codes "type") (codes "version") ms in
     let placed = lacks_both (codes "transform") (codes "CityObjects") ms in
-    let all = and_parts (members_whole ms && named && placed && lacks (codes "vertices") ms) extensions h in
-    let three = and_parts (members_whole ms && named && placed) (lacks (codes "vertices") ms) all.0 in
-    let two = and_parts (members_whole ms && named) placed three.0 in
-    let one = and_parts (members_whole ms) named two.0 in
+    let all = and_parts (members_integral ms && named && placed && lacks (codes "vertices") ms) extensions h in
+    let three = and_parts (members_integral ms && named && placed) (lacks (codes "vertices") ms) all.0 in
+    let two = and_parts (members_integral ms && named) placed three.0 in
+    let one = and_parts (members_integral ms) named two.0 in
     let first = and_parts (lacks (codes "type") ms) (lacks (codes "version") ms) one.1 in
     let second = and_parts (lacks (codes "transform") ms) (lacks (codes "CityObjects") ms) two.1 in
     record { no_type = none_of _ first.0; no_version = none_of _ first.1; no_transform = none_of _ second.0; no_objects = none_of _ second.1; no_vertices = none_of _ three.1 }

@@ -8,25 +8,25 @@ use Rattle.serde_json.specs.Data.{Data, Members, no_members, member}
 use Rattle.serde_json.specs.Find.{get_member}
 use Rattle.city_model.specs.CityMap.{same_id}
 use Rattle.city_model.specs.Members.{without}
-use Rattle.city_model.specs.Whole.{is_whole, members_whole}
+use Rattle.city_model.specs.Integral.{is_integral, members_integral}
 use Rattle.city_model.specs.Kept.{lacks, lacks_both, kept_at_top, kept_at_transform, kept_at_object, kept_at_geometry, has_location, is_empty_object_or_absent}
-use Rattle.city_model.proofs.MemberLaws.{get_member-without, get_member-without_same, members_whole-without}
+use Rattle.city_model.proofs.MemberLaws.{get_member-without, get_member-without_same, members_integral-without}
 use Rattle.city_doc.specs.Bodies.{kept_if, without_geometry_members, without_object_members}
 use Rattle.city_doc.specs.Frames.{without_transform_members, without_top_members}
 
 -- ---- whole numbers
 
-whole_at : (o : Ordering) (d e : Data) (rest : Option Data) → is_whole d ≡ true → (rest ≡ Some e → is_whole e ≡ true) → match_ordering o rest (Some d) rest ≡ Some e → is_whole e ≡ true
-whole_at Less d e rest one more is = more is
-whole_at Equal d e rest one more is = let same : d ≡ e = cc in ap is_whole (sym same) ∙ one
-whole_at Greater d e rest one more is = more is
+integral_at : (o : Ordering) (d e : Data) (rest : Option Data) → is_integral d ≡ true → (rest ≡ Some e → is_integral e ≡ true) → match_ordering o rest (Some d) rest ≡ Some e → is_integral e ≡ true
+integral_at Less d e rest one more is = more is
+integral_at Equal d e rest one more is = let same : d ≡ e = cc in ap is_integral (sym same) ∙ one
+integral_at Greater d e rest one more is = more is
 
 -- a member of a tree of whole numbers has whole numbers alone
-pub whole_member : (name : List ℕ) (ms : Members) (e : Data) → members_whole ms ≡ true → get_member name ms ≡ Some e → is_whole e ≡ true
-whole_member name no_members e h is = cc
-whole_member name (member k d ms) e h is =
-    let hs = and_parts (is_whole d) (members_whole ms) h in
-    whole_at (slice_cmp nat_cmp name k) d e (get_member name ms) hs.0 (whole_member name ms e hs.1) is
+pub integral_member : (name : List ℕ) (ms : Members) (e : Data) → members_integral ms ≡ true → get_member name ms ≡ Some e → is_integral e ≡ true
+integral_member name no_members e h is = cc
+integral_member name (member k d ms) e h is =
+    let hs = and_parts (is_integral d) (members_integral ms) h in
+    integral_at (slice_cmp nat_cmp name k) d e (get_member name ms) hs.0 (integral_member name ms e hs.1) is
 
 -- ---- members that are gone
 
@@ -54,23 +54,23 @@ all_five a b c d e h k l m n = rw (h, k, l, m, n) refl
 pub kept_all : (test : Members → Bool) (ms : Members) → test ms ≡ true → kept_if test ms ≡ Some ms
 kept_all test ms h = rw h refl
 
-pub transform_admitted : (ms : Members) → members_whole ms ≡ true → kept_at_transform (without_transform_members ms) ≡ true
+pub transform_admitted : (ms : Members) → members_integral ms ≡ true → kept_at_transform (without_transform_members ms) ≡ true
 transform_admitted ms h =
     let first = without (codes "scale") ms in
-    and_from _ _ (members_whole-without (codes "translate") first (members_whole-without (codes "scale") ms h))
+    and_from _ _ (members_integral-without (codes "translate") first (members_integral-without (codes "scale") ms h))
     (lacking_both (codes "scale") (codes "translate") (without_transform_members ms)
     (gone (codes "scale") (codes "translate") first refl (get_member-without_same (codes "scale") ms))
     (get_member-without_same (codes "translate") first))
 
-pub top_admitted : (top : Members) → members_whole top ≡ true → is_empty_object_or_absent (get_member (codes "extensions") top) ≡ true → kept_at_top (without_top_members (without (codes "CityObjects") top)) ≡ true
+pub top_admitted : (top : Members) → members_integral top ≡ true → is_empty_object_or_absent (get_member (codes "extensions") top) ≡ true → kept_at_top (without_top_members (without (codes "CityObjects") top)) ≡ true
 top_admitted top h extensions =
     let a = without (codes "CityObjects") top in
     let b = without (codes "transform") a in
     let c = without (codes "type") b in
     let d = without (codes "version") c in
     let e = without (codes "vertices") d in
-    let whole_c = members_whole-without (codes "type") b (members_whole-without (codes "transform") a (members_whole-without (codes "CityObjects") top h)) in
-    let whole = members_whole-without (codes "vertices") d (members_whole-without (codes "version") c whole_c) in
+    let integral_c = members_integral-without (codes "type") b (members_integral-without (codes "transform") a (members_integral-without (codes "CityObjects") top h)) in
+    let whole = members_integral-without (codes "vertices") d (members_integral-without (codes "version") c integral_c) in
     let no_type = gone (codes "type") (codes "vertices") d refl (gone (codes "type") (codes "version") c refl (get_member-without_same (codes "type") b)) in
     let no_version = gone (codes "version") (codes "vertices") d refl (get_member-without_same (codes "version") c) in
     let no_transform = gone (codes "transform") (codes "vertices") d refl (gone (codes "transform") (codes "version") c refl (gone (codes "transform") (codes "type") b refl (get_member-without_same (codes "transform") a))) in
@@ -83,24 +83,24 @@ top_admitted top h extensions =
     all_five _ _ _ _ _ whole (lacking_both (codes "type") (codes "version") e no_type no_version) (lacking_both (codes "transform") (codes "CityObjects") e no_transform no_objects)
     (lacking (codes "vertices") e no_vertices) (ap is_empty_object_or_absent stays ∙ extensions)
 
-pub geometry_admitted : (ms : Members) → members_whole ms ≡ true → kept_at_geometry (without_geometry_members ms) ≡ true
+pub geometry_admitted : (ms : Members) → members_integral ms ≡ true → kept_at_geometry (without_geometry_members ms) ≡ true
 geometry_admitted ms h =
     let a = without (codes "type") ms in
     let b = without (codes "lod") a in
     let c = without (codes "boundaries") b in
-    let whole = members_whole-without (codes "boundaries") b (members_whole-without (codes "lod") a (members_whole-without (codes "type") ms h)) in
+    let whole = members_integral-without (codes "boundaries") b (members_integral-without (codes "lod") a (members_integral-without (codes "type") ms h)) in
     let no_type = gone (codes "type") (codes "boundaries") b refl (gone (codes "type") (codes "lod") a refl (get_member-without_same (codes "type") ms)) in
     let no_lod = gone (codes "lod") (codes "boundaries") b refl (get_member-without_same (codes "lod") a) in
     let no_boundaries = get_member-without_same (codes "boundaries") b in
     all_three _ _ _ whole (lacking_both (codes "type") (codes "lod") c no_type no_lod) (lacking (codes "boundaries") c no_boundaries)
 
-pub object_admitted : (ms : Members) → members_whole ms ≡ true → has_location (get_member (codes "address") ms) ≡ false → kept_at_object (without_object_members ms) ≡ true
+pub object_admitted : (ms : Members) → members_integral ms ≡ true → has_location (get_member (codes "address") ms) ≡ false → kept_at_object (without_object_members ms) ≡ true
 object_admitted ms h located =
     let a = without (codes "type") ms in
     let b = without (codes "geometry") a in
     let c = without (codes "parents") b in
     let d = without (codes "children") c in
-    let whole = members_whole-without (codes "children") c (members_whole-without (codes "parents") b (members_whole-without (codes "geometry") a (members_whole-without (codes "type") ms h))) in
+    let whole = members_integral-without (codes "children") c (members_integral-without (codes "parents") b (members_integral-without (codes "geometry") a (members_integral-without (codes "type") ms h))) in
     let no_type = gone (codes "type") (codes "children") c refl (gone (codes "type") (codes "parents") b refl (gone (codes "type") (codes "geometry") a refl (get_member-without_same (codes "type") ms))) in
     let no_geometry = gone (codes "geometry") (codes "children") c refl (gone (codes "geometry") (codes "parents") b refl (get_member-without_same (codes "geometry") a)) in
     let no_parents = gone (codes "parents") (codes "children") c refl (get_member-without_same (codes "parents") b) in

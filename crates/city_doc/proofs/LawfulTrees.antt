@@ -10,7 +10,7 @@ use Rattle.city_model.specs.CityMap as city
 use Rattle.city_model.specs.Kept.{lacks, lacks_both, kept_at_top, is_empty_object_or_absent}
 use Rattle.city_model.specs.Members.{without}
 use Rattle.city_model.specs.Relations.{IsLawful}
-use Rattle.city_model.specs.Whole.{is_whole, members_whole}
+use Rattle.city_model.specs.Integral.{is_integral, members_integral}
 use Rattle.city_model.proofs.MemberLaws.{get_member-without}
 use Rattle.city_doc.specs.declared.fault.ReadFault.{ReadFault}
 use Rattle.city_doc.specs.declared.fault.ReadFault.TheVariants.{OutOfMemory, TooLong, NotJson, NotWhole, NotCityJson, UnknownType, Unsupported, BadGeometry, BadVertex, BadRing, Relations, OpenShell}
@@ -19,7 +19,7 @@ use Rattle.city_doc.specs.CityFaults.{or_empty}
 use Rattle.city_doc.specs.Documents.{CityValue, is_city_json, points_in, entries_of, entries_in, city_of, members_of, objects_in, vertices_in, is_unsupported, StandsIn, DocumentFault, IsAdmitted}
 use Rattle.city_doc.specs.Frames.{is_text, has_triple, triple_at, is_transform, all_objects, are_all_objects, are_objects, are_vertices, first_wrong, wrong_member, frame_with, frame_of_rest, frame_of, without_top_members}
 use Rattle.city_doc.specs.ObjectFaults.{is_unknown_type, is_bad_geometry, has_bad_vertex}
-use Rattle.city_doc.specs.Triples.{whole_at, triple_of, point_of, points_of, all_triples, are_all_triples}
+use Rattle.city_doc.specs.Triples.{integral_at, triple_of, point_of, points_of, all_triples, are_all_triples}
 use Rattle.city_doc.proofs.Cities.{get-object}
 use Rattle.city_doc.proofs.FaultlessBodies.{known, supported, formed, placed, is_object}
 use Rattle.city_doc.proofs.NoFault.{read_as, no_object, no_bad_ring, no_open_shell, no_badly_related}
@@ -64,7 +64,7 @@ all_are_objects points (member k x ms) es h =
     and_from (is_some (as_object x)) (all_objects ms) (is_object points x (o.0).body (read_as points x o.0 o.1).body) (all_are_objects points ms r.0 r.1)
 
 triple_some : (d : Data) (p : Point) → point_of d ≡ Some p → is_some (triple_of d) ≡ true
-triple_some d p h = three_some (λ x y z. record { x = x; y = y; z = z }) (λ x y z. x ∷ y ∷ z ∷ []) (is_some (at 3 d)) (whole_at 0 d) (whole_at 1 d) (whole_at 2 d) (ap is_some h)
+triple_some d p h = three_some (λ x y z. record { x = x; y = y; z = z }) (λ x y z. x ∷ y ∷ z ∷ []) (is_some (at 3 d)) (integral_at 0 d) (integral_at 1 d) (integral_at 2 d) (ap is_some h)
 
 triples : (ds : Items) (ps : List Point) → read_items point_of ds ≡ Some ps → all_triples ds ≡ true
 triples no_items ps h = refl
@@ -106,7 +106,7 @@ frame_parts top f h =
     let keeps = (if_some (kept_at_top (without_top_members rest)) (Some (without_top_members rest)) kept.0 kept.1).0 in
     record {
       transform = ap is_transform there ∙ and_from (has_triple (codes "scale") t.0) (has_triple (codes "translate") t.0) (ap is_some scale.1) (ap is_some translate.1);
-      extensions = ap is_empty_object_or_absent (sym (extensions_stay top)) ∙ last_of_five (members_whole (without_top_members rest)) (lacks_both (codes "type") (codes "version") (without_top_members rest))
+      extensions = ap is_empty_object_or_absent (sym (extensions_stay top)) ∙ last_of_five (members_integral (without_top_members rest)) (lacks_both (codes "type") (codes "version") (without_top_members rest))
           (lacks_both (codes "transform") (codes "CityObjects") (without_top_members rest)) (lacks (codes "vertices") (without_top_members rest)) (is_empty_object_or_absent (get_member (codes "extensions") (without_top_members rest))) keeps;
     }
 
@@ -125,7 +125,7 @@ right d c h =
 
 -- ---- no fault
 
-stands_not : (d : Data) (c : CityValue) (f : ReadFault) → is_whole d ≡ true → StandsFor d c → IsLawful (city.at c.1) → StandsIn d f → ⊥
+stands_not : (d : Data) (c : CityValue) (f : ReadFault) → is_integral d ≡ true → StandsFor d c → IsLawful (city.at c.1) → StandsIn d f → ⊥
 stands_not d c OutOfMemory whole s lawful h = h
 stands_not d c TooLong whole s lawful h = h
 stands_not d c NotJson whole s lawful h = h

@@ -42,6 +42,6 @@ pub mod Searches
 pub mod Totals
 mod TriplesRead
 mod Walks
-pub mod WholeParts
-mod WholeTrees
+pub mod IntegralParts
+mod IntegralTrees
 pub mod WithoutMembers

@@ -13,7 +13,7 @@ use Rattle.city_model.specs.CityMap.{same_id}
 use Rattle.city_model.specs.Kept.{lacks, lacks_both, has_location, kept_at_object, kept_at_geometry}
 use Rattle.city_model.specs.Members.{without}
 use Rattle.city_model.specs.Types.{name_of, type_named}
-use Rattle.city_model.specs.Whole.{members_whole}
+use Rattle.city_model.specs.Integral.{members_integral}
 use Rattle.city_model.proofs.TypeNames.{named}
 use Rattle.city_doc.specs.Bodies.{without_geometry_members, geometry_of, type_of, without_object_members, list_or_absent, ids_at, object_of}
 use Rattle.city_doc.specs.Pool.{geometry_points, object_points}
@@ -37,8 +37,8 @@ pub record LacksGeometryMembers (ms : Members) : Type 0 where
 
 geometry_members_lacking : (ms : Members) → kept_at_geometry ms ≡ true → LacksGeometryMembers ms
 geometry_members_lacking ms h =
-    let all = and_parts (members_whole ms && lacks_both (codes "type") (codes "lod") ms) (lacks (codes "boundaries") ms) h in
-    let two = and_parts (members_whole ms) (lacks_both (codes "type") (codes "lod") ms) all.0 in
+    let all = and_parts (members_integral ms && lacks_both (codes "type") (codes "lod") ms) (lacks (codes "boundaries") ms) h in
+    let two = and_parts (members_integral ms) (lacks_both (codes "type") (codes "lod") ms) all.0 in
     let first = and_parts (lacks (codes "type") ms) (lacks (codes "lod") ms) two.1 in
     record { no_type = none_of _ first.0; no_lod = none_of _ first.1; no_boundaries = none_of _ all.1 }
 
@@ -83,9 +83,9 @@ pub record LacksObjectMembers (ms : Members) : Type 0 where
 
 object_members_lacking : (ms : Members) → kept_at_object ms ≡ true → LacksObjectMembers ms
 object_members_lacking ms h =
-    let all = and_parts (members_whole ms && lacks_both (codes "type") (codes "geometry") ms && lacks_both (codes "parents") (codes "children") ms) (not (has_location (get_member (codes "address") ms))) h in
-    let two = and_parts (members_whole ms && lacks_both (codes "type") (codes "geometry") ms) (lacks_both (codes "parents") (codes "children") ms) all.0 in
-    let one = and_parts (members_whole ms) (lacks_both (codes "type") (codes "geometry") ms) two.0 in
+    let all = and_parts (members_integral ms && lacks_both (codes "type") (codes "geometry") ms && lacks_both (codes "parents") (codes "children") ms) (not (has_location (get_member (codes "address") ms))) h in
+    let two = and_parts (members_integral ms && lacks_both (codes "type") (codes "geometry") ms) (lacks_both (codes "parents") (codes "children") ms) all.0 in
+    let one = and_parts (members_integral ms) (lacks_both (codes "type") (codes "geometry") ms) two.0 in
     let own = and_parts (lacks (codes "type") ms) (lacks (codes "geometry") ms) one.1 in
     let relations = and_parts (lacks (codes "parents") ms) (lacks (codes "children") ms) two.1 in
     record { no_type = none_of _ own.0; no_geometry = none_of _ own.1; no_parents = none_of _ relations.0; no_children = none_of _ relations.1 }

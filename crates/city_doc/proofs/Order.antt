@@ -4,7 +4,7 @@ use Rattle.std.specs.Prelude.{is_some, length, option_and_then, MatchOption}
 use Rattle.serde_json.specs.Data.{Data, Members}
 use Rattle.city_model.specs.declared.object.Point.{Point}
 use Rattle.city_model.specs.Members.{AreOrdered}
-use Rattle.city_model.specs.Whole.{is_whole}
+use Rattle.city_model.specs.Integral.{is_integral}
 use Rattle.city_doc.specs.declared.fault.ReadFault.{ReadFault}
 use Rattle.city_doc.specs.declared.fault.ReadFault.TheVariants.{OutOfMemory, TooLong, NotJson, NotWhole, NotCityJson, UnknownType, Unsupported, BadGeometry, BadVertex, BadRing, Relations, OpenShell}
 use Rattle.city_doc.specs.CityFaults.{has_bad_ring, has_open_shell, IsBadlyRelatedAt, IsLeastBadlyRelated}
@@ -158,7 +158,7 @@ among_in d (BadRing id) h = h
 among_in d (Relations id) h = h
 among_in d (OpenShell id) h = h
 
-in_among : (d : Data) (f : ReadFault) → is_whole d ≡ true → wrong_member d ≡ None → StandsIn d f → StandsAmong (vertices_in d) (objects_in d) f
+in_among : (d : Data) (f : ReadFault) → is_integral d ≡ true → wrong_member d ≡ None → StandsIn d f → StandsAmong (vertices_in d) (objects_in d) f
 in_among d NotWhole whole right h = absurd (true≢false (sym whole ∙ h))
 in_among d (NotCityJson name) whole right h = let clash : Some name ≡ None = sym h ∙ right in cc
 in_among d OutOfMemory whole right h = h
@@ -173,7 +173,7 @@ in_among d (Relations id) whole right h = h
 in_among d (OpenShell id) whole right h = h
 
 -- the first that stands among the objects is the first in the tree
-pub first_in : (d : Data) (f : ReadFault) → is_whole d ≡ true → wrong_member d ≡ None → IsFirst (StandsAmong (vertices_in d) (objects_in d)) f → IsFirst (StandsIn d) f
+pub first_in : (d : Data) (f : ReadFault) → is_integral d ≡ true → wrong_member d ≡ None → IsFirst (StandsAmong (vertices_in d) (objects_in d)) f → IsFirst (StandsIn d) f
 first_in d f whole right first = (among_in d f first.0, λ g lt h. first.1 g lt (in_among d g whole right h))
 
 first_moved : (points qs : List Point) (ms ns : Members) (f : ReadFault) → qs ≡ points → ns ≡ ms → IsFirst (StandsAmong points ms) f → IsFirst (StandsAmong qs ns) f
@@ -183,7 +183,7 @@ readable_moved : (points qs : List Point) (ms ns : Members) → qs ≡ points �
 readable_moved points qs ms ns same_points same_objects h = subst (λ x. AreReadable (length qs) x) (sym same_objects) (subst (λ x. AreReadable (length x) ms) (sym same_points) h)
 
 -- what is found among the objects is what stands in the tree
-pub fault_in : (d : Data) (points : List Point) (ms : Members) (o : Option ReadFault) → vertices_in d ≡ points → objects_in d ≡ ms → is_whole d ≡ true → wrong_member d ≡ None
+pub fault_in : (d : Data) (points : List Point) (ms : Members) (o : Option ReadFault) → vertices_in d ≡ points → objects_in d ≡ ms → is_integral d ≡ true → wrong_member d ≡ None
     → MatchOption o (AreReadable (length points) ms) (λ f. IsFirst (StandsAmong points ms) f) → MatchOption o (HasForm d) (λ f. IsFirst (StandsIn d) f)
 fault_in d points ms None same_points same_objects whole right h = record { right = right; objects = readable_moved points (vertices_in d) ms (objects_in d) same_points same_objects h }
 fault_in d points ms (Some f) same_points same_objects whole right h = first_in d f whole right (first_moved points (vertices_in d) ms (objects_in d) f same_points same_objects h)

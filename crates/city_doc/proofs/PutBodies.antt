@@ -6,7 +6,7 @@ use Rattle.serde_json.specs.Data.{Data}
 use Rattle.serde_json.specs.Find.{as_object}
 use Rattle.city_model.specs.declared.object.Point.{Point}
 use Rattle.city_model.specs.declared.object.Body.{Body}
-use Rattle.city_model.specs.Whole.{is_whole}
+use Rattle.city_model.specs.Integral.{is_integral}
 use Rattle.city_doc.specs.Bodies.{body_of}
 use Rattle.city_doc.specs.BadCommands.{is_unreadable, is_bad_object}
 use Rattle.city_doc.specs.CommandForms.{names_relations}
@@ -34,6 +34,6 @@ good d h =
     record { is_object = own.0; unrelated = own.1; known = named.0; supported = named.1; formed = read.1 }
 
 -- an object that isn't bad, and whose positions name points, has a body
-pub body_of-good : (points : List Point) (d : Data) → is_whole d ≡ true → is_bad_object d ≡ false → has_bad_vertex (length points) d ≡ false → (b : Body) × (body_of points d ≡ Some b)
+pub body_of-good : (points : List Point) (d : Data) → is_integral d ≡ true → is_bad_object d ≡ false → has_bad_vertex (length points) d ≡ false → (b : Body) × (body_of points d ≡ Some b)
 body_of-good points d whole h placed =
     let g = good d h in body_of-some points d (record { whole = whole; is_object = there (as_object d) g.is_object; known = g.known; supported = g.supported; placed = placed })

@@ -10,16 +10,16 @@ use Rattle.city_model.specs.declared.object.Point.{Point}
 use Rattle.city_model.specs.declared.object_type.ObjectType.{ObjectType}
 use Rattle.city_model.specs.Kept.{kept_at_object, has_location}
 use Rattle.city_model.specs.Members.{without}
-use Rattle.city_model.specs.Whole.{is_whole}
+use Rattle.city_model.specs.Integral.{is_integral}
 use Rattle.city_model.proofs.MemberLaws.{get_member-without}
 use Rattle.city_doc.specs.Bodies.{type_of, kept_if, list_or_absent, geometry_of, without_object_members, body_of}
 use Rattle.city_doc.specs.Documents.{is_unsupported}
 use Rattle.city_doc.specs.ObjectFaults.{is_unknown_type, has_bad_vertex}
 use Rattle.city_doc.proofs.Cities.{get-object}
-use Rattle.city_doc.proofs.KeptMembers.{kept_all, whole_member, object_admitted}
+use Rattle.city_doc.proofs.KeptMembers.{kept_all, integral_member, object_admitted}
 use Rattle.city_doc.proofs.Readable.{geometries_some}
 use Rattle.city_doc.proofs.Right.{some_of}
-use Rattle.city_doc.proofs.WholeParts.{as_object-whole}
+use Rattle.city_doc.proofs.IntegralParts.{as_object-whole}
 
 -- the member `geometry`, after `type` was taken out
 pub geometry_stays : (d : Data) (ms left : Members) (found : Option Data) → as_object d ≡ Some ms → left ≡ without (codes "type") ms → found ≡ get_member (codes "geometry") left → get (codes "geometry") d ≡ found
@@ -50,7 +50,7 @@ not_located false rest h = refl
 
 -- a tree of whole numbers that is an object of a known type, with nothing unsupported and with positions that name points
 pub record IsReadable (points : List Point) (d : Data) : Type 0 where
-  pub whole : is_whole d ≡ true
+  pub whole : is_integral d ≡ true
   pub is_object : is_some (as_object d) ≡ true
   pub known : is_unknown_type d ≡ false
   pub supported : is_unsupported d ≡ false
@@ -65,5 +65,5 @@ body_of-some points d h =
     let elsewhere = ap has_location (sym (get-object (codes "address") d ms.0 ms.1)) ∙ located in
     let kept = kept_all kept_at_object (without_object_members ms.0) (object_admitted ms.0 whole elsewhere) in
     let geometry = get-object (codes "geometry") d ms.0 ms.1 in
-    let gs = geometries_some points (get (codes "geometry") d) (λ g is. whole_member (codes "geometry") ms.0 g whole (sym geometry ∙ is)) (not-false _ h.placed) in
+    let gs = geometries_some points (get (codes "geometry") d) (λ g is. integral_member (codes "geometry") ms.0 g whole (sym geometry ∙ is)) (not-false _ h.placed) in
     (_, body_read points d kind.0 ms.0 kind.1 ms.1 gs.0 (without_object_members ms.0) gs.1 kept)

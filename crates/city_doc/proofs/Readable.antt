@@ -11,28 +11,28 @@ use Rattle.city_model.specs.declared.object.Shape.{Shape}
 use Rattle.city_model.specs.declared.object.Shape.TheVariants.{MultiSurface, CompositeSurface, Solid}
 use Rattle.city_model.specs.Kept.{kept_at_geometry}
 use Rattle.city_model.specs.Shells.{Ring, Surface, Shell}
-use Rattle.city_model.specs.Whole.{is_whole, items_whole}
+use Rattle.city_model.specs.Integral.{is_integral, items_integral}
 use Rattle.city_doc.specs.Bodies.{read_items, list_of, list_or_absent, point_at_place, point_at, surface_of, surfaces_of, shells_of, shape_of, shape_in, text_at, kept_if, without_geometry_members, geometry_with, geometry_of}
 use Rattle.city_doc.specs.Geometries.{natural, is_below, is_place, all_items, is_list_of, are_surfaces, is_boundaries, are_boundaries_of, is_geometry, are_geometries}
 use Rattle.city_doc.proofs.Cities.{get-object}
-use Rattle.city_doc.proofs.KeptMembers.{kept_all, whole_member, geometry_admitted}
+use Rattle.city_doc.proofs.KeptMembers.{kept_all, integral_member, geometry_admitted}
 use Rattle.city_doc.proofs.Right.{some_of, item_read}
-use Rattle.city_doc.proofs.WholeParts.{as_object-whole}
+use Rattle.city_doc.proofs.IntegralParts.{as_object-whole}
 
 -- ---- lists
 
-module _ {X : Type 0} (test : Data → Bool) (read : Data → Option X) (one : (d : Data) → is_whole d ≡ true → test d ≡ true → (x : X) × (read d ≡ Some x)) where
-  items_some : (ds : Items) → items_whole ds ≡ true → all_items test ds ≡ true → (xs : List X) × (read_items read ds ≡ Some xs)
+module _ {X : Type 0} (test : Data → Bool) (read : Data → Option X) (one : (d : Data) → is_integral d ≡ true → test d ≡ true → (x : X) × (read d ≡ Some x)) where
+  items_some : (ds : Items) → items_integral ds ≡ true → all_items test ds ≡ true → (xs : List X) × (read_items read ds ≡ Some xs)
   items_some no_items whole h = ([], refl)
   items_some (item d ds) whole h =
-      let ws = and_parts (is_whole d) (items_whole ds) whole in
+      let ws = and_parts (is_integral d) (items_integral ds) whole in
       let hs = and_parts (test d) (all_items test ds) h in
       let x = one d ws.0 hs.0 in
       let xs = items_some ds ws.1 hs.1 in
       (x.0 ∷ xs.0, item_read read d ds x.0 xs.0 x.1 xs.1)
 
   -- an array each of whose items can be read is read
-  pub list_some : (d : Data) → is_whole d ≡ true → is_list_of test d ≡ true → (xs : List X) × (list_of read d ≡ Some xs)
+  pub list_some : (d : Data) → is_integral d ≡ true → is_list_of test d ≡ true → (xs : List X) × (list_of read d ≡ Some xs)
   list_some null whole h = absurd (true≢false (sym h))
   list_some (boolean b) whole h = absurd (true≢false (sym h))
   list_some (number n) whole h = absurd (true≢false (sym h))
@@ -56,19 +56,19 @@ module _ (points : List Point) where
   abbrev fits : Data → Bool
   fits = is_place (length points)
 
-  point_some : (d : Data) → is_whole d ≡ true → fits d ≡ true → (p : Point) × (point_at points d ≡ Some p)
+  point_some : (d : Data) → is_integral d ≡ true → fits d ≡ true → (p : Point) × (point_at points d ≡ Some p)
   point_some d whole h = place_some points (option_and_then as_i64 (as_number d)) h
 
-  ring_some : (d : Data) → is_whole d ≡ true → is_list_of fits d ≡ true → (r : Ring) × (list_of (point_at points) d ≡ Some r)
+  ring_some : (d : Data) → is_integral d ≡ true → is_list_of fits d ≡ true → (r : Ring) × (list_of (point_at points) d ≡ Some r)
   ring_some = list_some fits (point_at points) point_some
 
-  surface_some : (d : Data) → is_whole d ≡ true → is_list_of (is_list_of fits) d ≡ true → (s : Surface) × (surface_of points d ≡ Some s)
+  surface_some : (d : Data) → is_integral d ≡ true → is_list_of (is_list_of fits) d ≡ true → (s : Surface) × (surface_of points d ≡ Some s)
   surface_some = list_some (is_list_of fits) (list_of (point_at points)) ring_some
 
-  surfaces_some : (d : Data) → is_whole d ≡ true → are_surfaces fits d ≡ true → (ss : List Surface) × (surfaces_of points d ≡ Some ss)
+  surfaces_some : (d : Data) → is_integral d ≡ true → are_surfaces fits d ≡ true → (ss : List Surface) × (surfaces_of points d ≡ Some ss)
   surfaces_some = list_some (is_list_of (is_list_of fits)) (surface_of points) surface_some
 
-  shells_some : (d : Data) → is_whole d ≡ true → is_list_of (are_surfaces fits) d ≡ true → (ss : List Shell) × (shells_of points d ≡ Some ss)
+  shells_some : (d : Data) → is_integral d ≡ true → is_list_of (are_surfaces fits) d ≡ true → (ss : List Shell) × (shells_of points d ≡ Some ss)
   shells_some = list_some (are_surfaces fits) (surfaces_of points) surfaces_some
 
   -- ---- geometries
@@ -76,7 +76,7 @@ module _ (points : List Point) where
   made : {A B : Type 0} (f : A → B) (o : Option A) → (x : A) × (o ≡ Some x) → (y : B) × (option_map f o ≡ Some y)
   made f o x = (f x.0, ap (option_map f) x.1)
 
-  shape_cases : (multi composite solid : Bool) (d : Data) → is_whole d ≡ true
+  shape_cases : (multi composite solid : Bool) (d : Data) → is_integral d ≡ true
       → (if multi then are_surfaces fits d else (if composite then are_surfaces fits d else (if solid then is_list_of (are_surfaces fits) d else false))) ≡ true
       → (s : Shape) × ((if multi then option_map MultiSurface (surfaces_of points d) else (if composite then option_map CompositeSurface (surfaces_of points d) else (if solid then option_map Solid (shells_of points d) else None)))
       ≡ Some s)
@@ -85,10 +85,10 @@ module _ (points : List Point) where
   shape_cases false false true d whole h = made Solid (shells_of points d) (shells_some d whole h)
   shape_cases false false false d whole h = absurd (true≢false (sym h))
 
-  shape_some : (kind : List ℕ) (d : Data) → is_whole d ≡ true → is_boundaries fits kind d ≡ true → (s : Shape) × (shape_of points kind d ≡ Some s)
+  shape_some : (kind : List ℕ) (d : Data) → is_integral d ≡ true → is_boundaries fits kind d ≡ true → (s : Shape) × (shape_of points kind d ≡ Some s)
   shape_some kind d whole h = shape_cases (bytes_eq kind (codes "MultiSurface")) (bytes_eq kind (codes "CompositeSurface")) (bytes_eq kind (codes "Solid")) d whole h
 
-  bounded : (kind : Option (List ℕ)) (o : Option Data) → ((d : Data) → o ≡ Some d → is_whole d ≡ true) → are_boundaries_of fits kind o ≡ true
+  bounded : (kind : Option (List ℕ)) (o : Option Data) → ((d : Data) → o ≡ Some d → is_integral d ≡ true) → are_boundaries_of fits kind o ≡ true
       → (s : Shape) × (option_and_then (λ k. option_and_then (shape_of points k) o) kind ≡ Some s)
   bounded None None whole h = absurd (true≢false (sym h))
   bounded None (Some d) whole h = absurd (true≢false (sym h))
@@ -112,19 +112,19 @@ module _ (points : List Point) where
   geometry_joined : (d : Data) (shape : Shape) (ms : Members) (g : Geometry) → shape_in points d ≡ Some shape → as_object d ≡ Some ms → geometry_with shape ms ≡ Some g → geometry_of points d ≡ Some g
   geometry_joined d shape ms g is_shape is_object made = rw (is_shape, is_object) made
 
-  geometry_some : (d : Data) → is_whole d ≡ true → is_geometry fits d ≡ true → (g : Geometry) × (geometry_of points d ≡ Some g)
+  geometry_some : (d : Data) → is_integral d ≡ true → is_geometry fits d ≡ true → (g : Geometry) × (geometry_of points d ≡ Some g)
   geometry_some d whole h =
       let hs = and_parts (is_some (text_at (codes "lod") d)) (are_boundaries_of fits (text_at (codes "type") d) (get (codes "boundaries") d)) h in
       let ms = has_members (codes "lod") d hs.0 in
-      let whole_members = as_object-whole d ms.0 whole ms.1 in
+      let integral_members = as_object-whole d ms.0 whole ms.1 in
       let boundaries = get-object (codes "boundaries") d ms.0 ms.1 in
-      let shape = bounded (text_at (codes "type") d) (get (codes "boundaries") d) (λ b is. whole_member (codes "boundaries") ms.0 b whole_members (sym boundaries ∙ is)) hs.1 in
+      let shape = bounded (text_at (codes "type") d) (get (codes "boundaries") d) (λ b is. integral_member (codes "boundaries") ms.0 b integral_members (sym boundaries ∙ is)) hs.1 in
       let lod = some_of (text_at (codes "lod") d) hs.0 in
       let is_lod = ap (option_and_then as_str) (sym (get-object (codes "lod") d ms.0 ms.1)) ∙ lod.1 in
-      let kept = kept_all kept_at_geometry (without_geometry_members ms.0) (geometry_admitted ms.0 whole_members) in
+      let kept = kept_all kept_at_geometry (without_geometry_members ms.0) (geometry_admitted ms.0 integral_members) in
       (_, geometry_joined d shape.0 ms.0 _ shape.1 ms.1 (geometry_made shape.0 ms.0 lod.0 is_lod kept))
 
   -- a list of geometries, or none
-  pub geometries_some : (o : Option Data) → ((d : Data) → o ≡ Some d → is_whole d ≡ true) → are_geometries fits o ≡ true → (gs : List Geometry) × (list_or_absent (geometry_of points) o ≡ Some gs)
+  pub geometries_some : (o : Option Data) → ((d : Data) → o ≡ Some d → is_integral d ≡ true) → are_geometries fits o ≡ true → (gs : List Geometry) × (list_or_absent (geometry_of points) o ≡ Some gs)
   geometries_some None whole h = ([], refl)
   geometries_some (Some d) whole h = list_some (is_geometry fits) (geometry_of points) geometry_some d (whole d refl) h

@@ -3,7 +3,7 @@ use Rattle.std.proofs.Common.{◌≡◌, ℕ, List, Bool, true, false, true≢fa
 use Rattle.std.specs.Prelude.{◌⊎◌, option_and_then, slice_get, if◌then◌else◌}
 use Rattle.serde_json.specs.Data.{Data}
 use Rattle.city_model.specs.Runs.{Scripted}
-use Rattle.city_model.specs.Whole.{is_whole}
+use Rattle.city_model.specs.Integral.{is_integral}
 use Rattle.city_doc.specs.declared.fault.ScriptFault.{ScriptFault}
 use Rattle.city_doc.specs.declared.fault.ScriptFault.TheVariants.{OutOfMemory}
 use Rattle.city_doc.specs.BadCommands.{is_bad_command, is_misplaced}
@@ -74,9 +74,9 @@ pub refused : (text : List ℕ) (f : ScriptFault) → ScriptTextFault text f →
 refused text f (inl h) = inl h
 refused text f (inr (inl h)) = inr (λ ss is. too_long text h.1 is.1.0)
 refused text f (inr (inr (inl h))) = inr (λ ss is. h.1.1 is.0 is.1.1)
-refused text f (inr (inr (inr (inl h)))) = inr (λ ss is. not_both (is_whole is.0) is.2 (ap is_whole (same_tree text is.0 h.1.0 is.1 h.1.1) ∙ h.1.2))
+refused text f (inr (inr (inr (inl h)))) = inr (λ ss is. not_both (is_integral is.0) is.2 (ap is_integral (same_tree text is.0 h.1.0 is.1 h.1.1) ∙ h.1.2))
 refused text f (inr (inr (inr (inr h)))) = inr (λ ss is. tree_refused h.0 ss f (ap scripts_of (same_tree text h.0 is.0 h.1 is.1) ∙ is.3) h.3)
 
-pub refused_or : (text : List ℕ) (d : Data) (f : ScriptFault) → HasTree text d → is_whole d ≡ true → (f ≡ OutOfMemory) ⊎ TreeFault d f → (f ≡ OutOfMemory) ⊎ ((ss : List Scripted) → IsReadAs text ss → ⊥)
+pub refused_or : (text : List ℕ) (d : Data) (f : ScriptFault) → HasTree text d → is_integral d ≡ true → (f ≡ OutOfMemory) ⊎ TreeFault d f → (f ≡ OutOfMemory) ⊎ ((ss : List Scripted) → IsReadAs text ss → ⊥)
 refused_or text d f tree whole (inl h) = inl h
 refused_or text d f tree whole (inr h) = refused text f (inr (inr (inr (inr (d, tree, whole, h)))))

@@ -9,7 +9,7 @@ use Rattle.city_model.specs.Kept.{is_empty_object_or_absent}
 use Rattle.city_doc.specs.Bodies.{read_items}
 use Rattle.city_doc.specs.Documents.{is_city_json, points_in}
 use Rattle.city_doc.specs.Frames.{is_text, is_transform, are_objects, are_vertices, judged, first_wrong, wrong_member}
-use Rattle.city_doc.specs.Triples.{whole_at, triple_of, point_of, points_of, all_triples, are_all_triples}
+use Rattle.city_doc.specs.Triples.{integral_at, triple_of, point_of, points_of, all_triples, are_all_triples}
 
 pub some_of : {X : Type 0} (o : Option X) → is_some o ≡ true → (x : X) × (o ≡ Some x)
 some_of None h = absurd (true≢false (sym h))
@@ -64,7 +64,7 @@ three_some make other false None b c h = h
 three_some make other false (Some x) b c h = middle_some make other x b c h
 
 point_some : (d : Data) → is_some (triple_of d) ≡ true → is_some (point_of d) ≡ true
-point_some d h = three_some (λ x y z. x ∷ y ∷ z ∷ []) (λ x y z. record { x = x; y = y; z = z }) (is_some (at 3 d)) (whole_at 0 d) (whole_at 1 d) (whole_at 2 d) h
+point_some d h = three_some (λ x y z. x ∷ y ∷ z ∷ []) (λ x y z. record { x = x; y = y; z = z }) (is_some (at 3 d)) (integral_at 0 d) (integral_at 1 d) (integral_at 2 d) h
 
 -- an item that is read, before others that are
 pub item_read : {A : Type 0} (read : Data → Option A) (d : Data) (ds : Items) (x : A) (xs : List A) → read d ≡ Some x → read_items read ds ≡ Some xs → read_items read (item d ds) ≡ Some (x ∷ xs)

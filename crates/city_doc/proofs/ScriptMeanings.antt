@@ -8,9 +8,9 @@ use Rattle.serde_json.specs.Find.{at, get_member, as_object, as_array}
 use Rattle.city_model.specs.declared.object.Point.{Point}
 use Rattle.city_model.specs.declared.command.Command.{Command}
 use Rattle.city_model.specs.Runs.{Scripted}
-use Rattle.city_model.specs.Whole.{is_whole}
+use Rattle.city_model.specs.Integral.{is_integral}
 use Rattle.city_doc.specs.Bodies.{read_items}
-use Rattle.city_doc.specs.Triples.{whole_at, triple_of, point_of}
+use Rattle.city_doc.specs.Triples.{integral_at, triple_of, point_of}
 use Rattle.city_doc.specs.BadCommands.{is_bad_command, is_misplaced}
 use Rattle.city_doc.specs.CommandForms.{text_in, command_of}
 use Rattle.city_doc.specs.ScriptTexts.{AreFaultlessParts}
@@ -19,7 +19,7 @@ use Rattle.city_doc.proofs.AllRead.{in_all, all_read-all, all_read-some, all_rea
 use Rattle.city_doc.proofs.CommandMeanings.{command_of-some, command_of-faultless}
 use Rattle.city_doc.proofs.Options.{and_then_some, map_some, if_some}
 use Rattle.city_doc.proofs.Right.{array_some}
-use Rattle.city_doc.proofs.WholeParts.{array_of-whole, as_object-whole, get_member-whole}
+use Rattle.city_doc.proofs.IntegralParts.{array_of-whole, as_object-whole, get_member-whole}
 
 -- ---- the points of vertices
 
@@ -32,7 +32,7 @@ three_points false (Some x) (Some y) None h = absurd (true≢false (sym h))
 three_points false (Some x) (Some y) (Some z) h = (record { x = x; y = y; z = z }, refl)
 
 triple-point : (d : Data) → is_some (triple_of d) ≡ true → (p : Point) × (point_of d ≡ Some p)
-triple-point d h = three_points (is_some (at 3 d)) (whole_at 0 d) (whole_at 1 d) (whole_at 2 d) h
+triple-point d h = three_points (is_some (at 3 d)) (integral_at 0 d) (integral_at 1 d) (integral_at 2 d) h
 
 vertices-points : (v : Option Data) → are_vertices v ≡ true → (ps : List Point) × (vertex_points v ≡ Some ps)
 vertices-points None h = ([], refl)
@@ -60,36 +60,36 @@ vertex_points-as_many (Some d) points h = array-as_many (as_array d) points h
 
 -- its vertices are such, and the numbers in its commands are whole
 abbrev pub are_good_parts : ScriptParts → Bool
-are_good_parts p = are_vertices p.vertices && list_all is_whole p.commands
+are_good_parts p = are_vertices p.vertices && list_all is_integral p.commands
 
 ended_is : (b : Bool) (ds cs : List Data) → (if b then Some ds else None) ≡ Some cs → ds ≡ cs
 ended_is true ds cs h = cc
 ended_is false ds cs h = absurd (let no : ⊥ = cc in no)
 
-commands_whole : (ms : Members) (cs : List Data) → ((d : Data) → get_member (codes "commands") ms ≡ Some d → is_whole d ≡ true) → commands_in ms ≡ Some cs → list_all is_whole cs ≡ true
-commands_whole ms cs whole h =
+commands_integral : (ms : Members) (cs : List Data) → ((d : Data) → get_member (codes "commands") ms ≡ Some d → is_integral d ≡ true) → commands_in ms ≡ Some cs → list_all is_integral cs ≡ true
+commands_integral ms cs whole h =
     let r = and_then_some ended (option_and_then array_of (get_member (codes "commands") ms)) cs h in
     let q = and_then_some array_of (get_member (codes "commands") ms) r.0 r.1 in
-    ap (list_all is_whole) (sym (ended_is (word_ends r.0) r.0 cs r.2)) ∙ array_of-whole q.0 r.0 (whole q.0 q.1) q.2
+    ap (list_all is_integral) (sym (ended_is (word_ends r.0) r.0 cs r.2)) ∙ array_of-whole q.0 r.0 (whole q.0 q.1) q.2
 
-parts_in-good : (ms : Members) (p : ScriptParts) → has_script_members ms ≡ true → ((d : Data) → get_member (codes "commands") ms ≡ Some d → is_whole d ≡ true)
+parts_in-good : (ms : Members) (p : ScriptParts) → has_script_members ms ≡ true → ((d : Data) → get_member (codes "commands") ms ≡ Some d → is_integral d ≡ true)
     → parts_in ms ≡ Some p → are_good_parts p ≡ true
 parts_in-good ms p shape whole h =
     let r = and_then_some (λ (name : List ℕ). option_map (λ (commands : List Data). let q : ScriptParts = record { name = name; commands = commands; vertices = get_member (codes "vertices") ms } in q)
     (commands_in ms)) (text_in (codes "name") ms) p h in
     let q = map_some (λ (commands : List Data). let q : ScriptParts = record { name = r.0; commands = commands; vertices = get_member (codes "vertices") ms } in q) (commands_in ms) p r.2 in
     let vertices : are_vertices (get_member (codes "vertices") ms) ≡ true = (and_parts _ _ shape).1 in
-    let all : list_all is_whole q.0 ≡ true = commands_whole ms q.0 whole q.1 in
+    let all : list_all is_integral q.0 ≡ true = commands_integral ms q.0 whole q.1 in
     ap are_good_parts q.2 ∙ rw (vertices, all) refl
 
-pub parts_of-good : (d : Data) (p : ScriptParts) → is_whole d ≡ true → parts_of d ≡ Some p → are_good_parts p ≡ true
+pub parts_of-good : (d : Data) (p : ScriptParts) → is_integral d ≡ true → parts_of d ≡ Some p → are_good_parts p ≡ true
 parts_of-good d p whole h =
     let r = and_then_some parts_if (as_object d) p h in
     let q = if_some (has_script_members r.0) (parts_in r.0) p r.2 in
     parts_in-good r.0 p q.0 (λ e at. get_member-whole (codes "commands") r.0 e (as_object-whole d r.0 whole r.1) at) q.1
 
-pub all_good : (ds : List Data) (ps : List ScriptParts) → list_all is_whole ds ≡ true → all_read parts_of ds ≡ Some ps → list_all are_good_parts ps ≡ true
-all_good ds ps whole h = all_read-all parts_of is_whole are_good_parts parts_of-good ds ps whole h
+pub all_good : (ds : List Data) (ps : List ScriptParts) → list_all is_integral ds ≡ true → all_read parts_of ds ≡ Some ps → list_all are_good_parts ps ≡ true
+all_good ds ps whole h = all_read-all parts_of is_integral are_good_parts parts_of-good ds ps whole h
 
 -- ---- scripts
 
@@ -102,16 +102,16 @@ not_true : (b : Bool) → (b ≡ true → ⊥) → b ≡ false
 not_true true h = absurd (h refl)
 not_true false h = refl
 
-command_there : (p : ScriptParts) (points : List Point) → list_all is_whole p.commands ≡ true → IsFaultlessScript p → vertex_points p.vertices ≡ Some points
+command_there : (p : ScriptParts) (points : List Point) → list_all is_integral p.commands ≡ true → IsFaultlessScript p → vertex_points p.vertices ≡ Some points
     → (i : ℕ) (d : Data) → slice_get p.commands i ≡ Some d → (c : Command) × (command_of points d ≡ Some c)
 command_there p points whole h read i d at =
     let placed : is_misplaced (length points) d ≡ false =
     ap (λ n. is_misplaced n d) (vertex_points-as_many p.vertices points read) ∙ not_true (is_misplaced (vertex_count p.vertices) d) (h.placed i d at) in
-    command_of-some points d (in_all is_whole p.commands i d whole at) (not_true (is_bad_command d) (h.good i d at)) placed
+    command_of-some points d (in_all is_integral p.commands i d whole at) (not_true (is_bad_command d) (h.good i d at)) placed
 
 script_some : (p : ScriptParts) → are_good_parts p ≡ true → IsFaultlessScript p → (s : Scripted) × (script_of p ≡ Some s)
 script_some p ok h =
-    let hs = and_parts (are_vertices p.vertices) (list_all is_whole p.commands) ok in
+    let hs = and_parts (are_vertices p.vertices) (list_all is_integral p.commands) ok in
     let points = vertices-points p.vertices hs.0 in
     let cs = all_read-some (command_of points.0) p.commands (command_there p points.0 hs.1 h points.1) in
     ((p.name, cs.0), rw (points.1, cs.1) refl)
@@ -124,7 +124,7 @@ faultless_at : (ps : List ScriptParts) → AreFaultlessParts ps → (n : ℕ) (p
 faultless_at ps h n p at = record { good = λ i d there bad. h.1 n i (p, d, at, there, bad); placed = λ i d there bad. h.2 n i (p, d, at, there, bad) }
 
 -- scripts of whole numbers in which no fault stands
-pub scripts-there : (ds : List Data) (ps : List ScriptParts) → list_all is_whole ds ≡ true → all_read parts_of ds ≡ Some ps → AreFaultlessParts ps → all_read script_of ps ≡ None → ⊥
+pub scripts-there : (ds : List Data) (ps : List ScriptParts) → list_all is_integral ds ≡ true → all_read parts_of ds ≡ Some ps → AreFaultlessParts ps → all_read script_of ps ≡ None → ⊥
 scripts-there ds ps whole read h none =
     let ss = scripts_some ps (all_good ds ps whole read) (faultless_at ps h) in
     let there = ss.1 in cc

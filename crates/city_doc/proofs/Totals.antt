@@ -12,7 +12,7 @@ use Rattle.city_model.specs.CityMap.{Entries, at}
 use Rattle.city_model.specs.Kept.{kept_at_top, kept_at_transform, is_empty_object_or_absent}
 use Rattle.city_model.specs.Members.{without, AreOrdered}
 use Rattle.city_model.specs.Relations.{IsLawful}
-use Rattle.city_model.specs.Whole.{is_whole, members_whole}
+use Rattle.city_model.specs.Integral.{is_integral, members_integral}
 use Rattle.city_model.proofs.MemberLaws.{get_member-without}
 use Rattle.city_doc.specs.declared.fault.ReadFault.{ReadFault}
 use Rattle.city_doc.specs.Bodies.{kept_if, body_of, ids_at}
@@ -23,12 +23,12 @@ use Rattle.city_doc.specs.LenientCities.{lenient_entries_of, lenient_city_of, Is
 use Rattle.city_doc.specs.ObjectFaults.{is_unknown_type, is_bad_geometry, has_bad_vertex, has_bad_list}
 use Rattle.city_doc.specs.Searches.{first_with}
 use Rattle.city_doc.proofs.Cities.{get-object, objects_at, city_joined}
-use Rattle.city_doc.proofs.KeptMembers.{kept_all, whole_member, transform_admitted, top_admitted}
+use Rattle.city_doc.proofs.KeptMembers.{kept_all, integral_member, transform_admitted, top_admitted}
 use Rattle.city_doc.proofs.LenientEntries.{none_first, entries_of-lenient}
 use Rattle.city_doc.proofs.Order.{first_in}
 use Rattle.city_doc.proofs.ReadBodies.{IsReadable, body_of-some}
 use Rattle.city_doc.proofs.Right.{IsRight, is_right, some_of, has_points}
-use Rattle.city_doc.proofs.WholeParts.{as_object-whole}
+use Rattle.city_doc.proofs.IntegralParts.{as_object-whole}
 
 -- ---- the frame
 
@@ -50,7 +50,7 @@ frame_some extra t scale translate more is_scale is_translate has_more =
     let found : frame_with extra t ≡ Some (record { scale = scale; translate = translate; more = more; extra = extra }) = rw (is_scale, is_translate, has_more) refl in
     (record { scale = scale; translate = translate; more = more; extra = extra }, found)
 
-transform_read : (extra : Members) (t : Data) → is_whole t ≡ true → is_transform (Some t) ≡ true → (f : Frame) × (frame_with extra t ≡ Some f)
+transform_read : (extra : Members) (t : Data) → is_integral t ≡ true → is_transform (Some t) ≡ true → (f : Frame) × (frame_with extra t ≡ Some f)
 transform_read extra t whole h =
     let hs = and_parts (has_triple (codes "scale") t) (has_triple (codes "translate") t) h in
     let ms = scaled_object t hs.0 in
@@ -66,14 +66,14 @@ there (Some t) h = (t, refl)
 rest_read : (rest extra : Members) (t : Data) (f : Frame) → kept_if kept_at_top (without_top_members rest) ≡ Some extra → get_member (codes "transform") rest ≡ Some t → frame_with extra t ≡ Some f → frame_of_rest rest ≡ Some f
 rest_read rest extra t f kept is_there read = rw (kept, is_there) read
 
-frame_read : (top : Members) → members_whole top ≡ true → is_empty_object_or_absent (get_member (codes "extensions") top) ≡ true → is_transform (get_member (codes "transform") top) ≡ true
+frame_read : (top : Members) → members_integral top ≡ true → is_empty_object_or_absent (get_member (codes "extensions") top) ≡ true → is_transform (get_member (codes "transform") top) ≡ true
     → (f : Frame) × (frame_of_rest (without (codes "CityObjects") top) ≡ Some f)
 frame_read top whole extensions transform =
     let rest = without (codes "CityObjects") top in
     let extra = kept_all kept_at_top (without_top_members rest) (top_admitted top whole extensions) in
     let t = there (get_member (codes "transform") top) transform in
     let stays = get_member-without (codes "transform") (codes "CityObjects") top refl ∙ t.1 in
-    let f = transform_read (without_top_members rest) t.0 (whole_member (codes "transform") top t.0 whole t.1) (ap is_transform (sym t.1) ∙ transform) in
+    let f = transform_read (without_top_members rest) t.0 (integral_member (codes "transform") top t.0 whole t.1) (ap is_transform (sym t.1) ∙ transform) in
     (f.0, rest_read rest (without_top_members rest) t.0 f.0 extra stays f.1)
 
 -- ---- the objects
@@ -90,7 +90,7 @@ all_there (Some ms) h = (ms, refl, h)
 record StartsReadable (points : List Point) (d : Data) (ms : Members) : Type 0 where
   first : IsReadable points d
   rest : AreReadable (length points) ms
-  whole : members_whole ms ≡ true
+  whole : members_integral ms ≡ true
   are_objects : all_objects ms ≡ true
 
 -- ---- the document
@@ -110,15 +110,15 @@ record HasParts (d : Data) : Type 0 where
   objects : Members
   are_objects : option_and_then as_object (get_member (codes "CityObjects") top) ≡ Some objects
   all : all_objects objects ≡ true
-  whole : members_whole objects ≡ true
+  whole : members_integral objects ≡ true
   frame : Frame
   is_frame : frame_of_rest (without (codes "CityObjects") top) ≡ Some frame
 
-has_parts : (d : Data) → is_whole d ≡ true → IsRight d → HasParts d
+has_parts : (d : Data) → is_integral d ≡ true → IsRight d → HasParts d
 has_parts d whole right =
     let top = document_object d right.transform_is in
-    let whole_top = as_object-whole d top.0 whole top.1 in
-    let frame = frame_read top.0 whole_top (ap is_empty_object_or_absent (sym (get-object (codes "extensions") d top.0 top.1)) ∙ right.extensions_are)
+    let integral_top = as_object-whole d top.0 whole top.1 in
+    let frame = frame_read top.0 integral_top (ap is_empty_object_or_absent (sym (get-object (codes "extensions") d top.0 top.1)) ∙ right.extensions_are)
     (ap is_transform (sym (get-object (codes "transform") d top.0 top.1)) ∙ right.transform_is) in
     let are = ap are_objects (sym (get-object (codes "CityObjects") d top.0 top.1)) ∙ right.objects_are in
     let member = member_there (get_member (codes "CityObjects") top.0) are in
@@ -130,16 +130,16 @@ has_parts d whole right =
       objects = objects.0;
       are_objects = objects.1;
       all = objects.2;
-      whole = as_object-whole member.0 objects.0 (whole_member (codes "CityObjects") top.0 member.0 whole_top member.1) is_object;
+      whole = as_object-whole member.0 objects.0 (integral_member (codes "CityObjects") top.0 member.0 integral_top member.1) is_object;
       frame = frame.0;
       is_frame = frame.1;
     }
 
 -- ---- the city
 
-starts_readable : (points : List Point) (id : List ℕ) (d : Data) (ms : Members) → members_whole (member id d ms) ≡ true → all_objects (member id d ms) ≡ true → AreReadable (length points) (member id d ms) → StartsReadable points d ms
+starts_readable : (points : List Point) (id : List ℕ) (d : Data) (ms : Members) → members_integral (member id d ms) ≡ true → all_objects (member id d ms) ≡ true → AreReadable (length points) (member id d ms) → StartsReadable points d ms
 starts_readable points id d ms whole are h =
-    let w = and_parts (is_whole d) (members_whole ms) whole in
+    let w = and_parts (is_integral d) (members_integral ms) whole in
     let a = and_parts (is_some (as_object d)) (all_objects ms) are in
     let known = none_first (is_unknown_type d) id (first_with is_unknown_type ms) h.known in
     let supported = none_first (is_unsupported d) id (first_with is_unsupported ms) h.supported in
@@ -159,7 +159,7 @@ entry_read points id d ms body es one rest =
     let read : lenient_entries_of points (member id d ms) ≡ Some ((id, o) ∷ es) = rw (one, rest) refl in
     ((id, o) ∷ es, read)
 
-entries_read : (points : List Point) (ms : Members) → members_whole ms ≡ true → all_objects ms ≡ true → AreReadable (length points) ms → (es : Entries) × (lenient_entries_of points ms ≡ Some es)
+entries_read : (points : List Point) (ms : Members) → members_integral ms ≡ true → all_objects ms ≡ true → AreReadable (length points) ms → (es : Entries) × (lenient_entries_of points ms ≡ Some es)
 entries_read points no_members whole are h = ([], refl)
 entries_read points (member id d ms) whole are h =
     let start = starts_readable points id d ms whole are h in
@@ -192,14 +192,14 @@ city_with d right readable parts =
       },
     )
 
-has_city : (d : Data) → is_whole d ≡ true → HasForm d → (c : CityValue) × (lenient_city_of (vertices_in d) d ≡ Some c) × IsCityOf d c
+has_city : (d : Data) → is_integral d ≡ true → HasForm d → (c : CityValue) × (lenient_city_of (vertices_in d) d ≡ Some c) × IsCityOf d c
 has_city d whole h = let right = is_right d h.right in city_with d right h.objects (has_parts d whole right)
 
 -- a tree that has the form of a document has a city
-no_city : (d : Data) → is_whole d ≡ true → HasForm d → lenient_city_of (vertices_in d) d ≡ None → ⊥
+no_city : (d : Data) → is_integral d ≡ true → HasForm d → lenient_city_of (vertices_in d) d ≡ None → ⊥
 no_city d whole h missing = let c = has_city d whole h in let there_is = c.1 in cc
 
-is_city_of : (d : Data) (c : CityValue) → is_whole d ≡ true → HasForm d → lenient_city_of (vertices_in d) d ≡ Some c → IsCityOf d c
+is_city_of : (d : Data) (c : CityValue) → is_integral d ≡ true → HasForm d → lenient_city_of (vertices_in d) d ≡ Some c → IsCityOf d c
 is_city_of d c whole h is =
     let k = has_city d whole h in
     let is_there = k.1 in
@@ -211,13 +211,13 @@ is_city_of d c whole h is =
 is_read_of : (d : Data) (c : CityValue) (bad : Option (List ℕ)) → HasForm d → AreOrdered (objects_in d) → bad ≡ first_with has_bad_list (objects_in d) → IsCityOf d c → IsReadOf (vertices_in d) (objects_in d) c.1 bad
 is_read_of d c bad form ordered lists is = record { ordered = ordered; readable = form.objects; read = is.entries; lists = lists }
 
-judged_as : (d : Data) (c : CityValue) (bad : Option (List ℕ)) (fault : Option ReadFault) → is_whole d ≡ true → HasForm d → bad ≡ first_with has_bad_list (objects_in d) → IsCityOf d c
+judged_as : (d : Data) (c : CityValue) (bad : Option (List ℕ)) (fault : Option ReadFault) → is_integral d ≡ true → HasForm d → bad ≡ first_with has_bad_list (objects_in d) → IsCityOf d c
     → MatchOption fault (IsLawful (at c.1) × (bad ≡ None)) (λ f. IsFirst (StandsAmong (vertices_in d) (objects_in d)) f) → MatchOption fault ((city_of d ≡ Some c) × IsLawful (at c.1)) (λ f. IsFirst (StandsIn d) f)
 judged_as d c bad None whole form lists is h = (is.city (sym lists ∙ h.1), h.0)
 judged_as d c bad (Some f) whole form lists is h = first_in d f whole form.right h
 
 -- what is found of a city that was read of a tree is what stands in the tree
-pub judged : (d : Data) (points : List Point) (c : CityValue) (bad : Option (List ℕ)) (fault : Option ReadFault) → is_whole d ≡ true → HasForm d → points ≡ vertices_in d → lenient_city_of points d ≡ Some c
+pub judged : (d : Data) (points : List Point) (c : CityValue) (bad : Option (List ℕ)) (fault : Option ReadFault) → is_integral d ≡ true → HasForm d → points ≡ vertices_in d → lenient_city_of points d ≡ Some c
     → AreOrdered (objects_in d) → bad ≡ first_with has_bad_list (objects_in d)
     → ((ps : List Point) (ms : Members) → IsReadOf ps ms c.1 bad → MatchOption fault (IsLawful (at c.1) × (bad ≡ None)) (λ f. IsFirst (StandsAmong ps ms) f))
     → MatchOption fault ((city_of d ≡ Some c) × IsLawful (at c.1)) (λ f. IsFirst (StandsIn d) f)
@@ -225,5 +225,5 @@ judged d points c bad fault whole form same built ordered lists found =
     let is = is_city_of d c whole form (ap (λ ps. lenient_city_of ps d) (sym same) ∙ built) in
     judged_as d c bad fault whole form lists is (found (vertices_in d) (objects_in d) (is_read_of d c bad form ordered lists is))
 
-pub unbuilt : (d : Data) (points : List Point) → is_whole d ≡ true → HasForm d → points ≡ vertices_in d → lenient_city_of points d ≡ None → ⊥
+pub unbuilt : (d : Data) (points : List Point) → is_integral d ≡ true → HasForm d → points ≡ vertices_in d → lenient_city_of points d ≡ None → ⊥
 unbuilt d points whole form same none = no_city d whole form (ap (λ ps. lenient_city_of ps d) (sym same) ∙ none)

@@ -6,7 +6,7 @@ use Rattle.city_model.specs.declared.frame.Frame.{Frame}
 use Rattle.city_model.specs.declared.object.Point.{Point}
 use Rattle.city_model.specs.CityMap.{Entries, at}
 use Rattle.city_model.specs.Relations.{IsLawful}
-use Rattle.city_model.specs.Whole.{is_whole}
+use Rattle.city_model.specs.Integral.{is_integral}
 use Rattle.city_doc.specs.declared.fault.ReadFault.{ReadFault}
 use Rattle.city_doc.specs.declared.fault.ReadFault.TheVariants.{OutOfMemory, TooLong, NotJson, NotWhole, NotCityJson, UnknownType, Unsupported, BadGeometry, BadVertex, BadRing, Relations, OpenShell}
 use Rattle.city_doc.specs.Bodies.{object_of}
@@ -49,7 +49,7 @@ StandsForCity text city = (d : Data) × IsText text d × (city_of d ≡ Some cit
 
 -- the text isn't too long, its numbers are whole, and it stands for this city, which is lawful
 abbrev pub IsAdmitted : List ℕ → CityValue → Type 0
-IsAdmitted text city = (d : Data) × HasTree text d × (is_whole d ≡ true) × (city_of d ≡ Some city) × IsLawful (at city.1)
+IsAdmitted text city = (d : Data) × HasTree text d × (is_integral d ≡ true) × (city_of d ≡ Some city) × IsLawful (at city.1)
 
 -- ---- how a document is refused
 
@@ -89,7 +89,7 @@ StandsAmong points objects (OpenShell id) = IsLeast (has_open_shell points) obje
 
 -- the fault stands in the tree
 abbrev pub StandsIn : Data → ReadFault → Type 0
-StandsIn d NotWhole = is_whole d ≡ false
+StandsIn d NotWhole = is_integral d ≡ false
 StandsIn d (NotCityJson name) = wrong_member d ≡ Some name
 StandsIn d f = StandsAmong (vertices_in d) (objects_in d) f
 

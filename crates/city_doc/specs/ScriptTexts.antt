@@ -2,7 +2,7 @@
 use Rattle.std.specs.Prelude.{◌≡◌, ◌⊎◌, ◌<◌, ℕ, List, Bool, true, false, Some, None, slice_get}
 use Rattle.serde_json.specs.Data.{Data}
 use Rattle.city_model.specs.Runs.{Scripted}
-use Rattle.city_model.specs.Whole.{is_whole}
+use Rattle.city_model.specs.Integral.{is_integral}
 use Rattle.city_doc.specs.declared.fault.ScriptFault.{ScriptFault}
 use Rattle.city_doc.specs.Texts.{IsText, IsTooLong, IsNoJson, HasTree, HasOtherNumber}
 use Rattle.city_doc.specs.ScriptTrees.{ScriptParts, parts_of, array_of, all_read, are_too_many, vertex_count, scripts_of}
@@ -14,7 +14,7 @@ StandsForScripts text scripts = (d : Data) × IsText text d × (scripts_of d ≡
 
 -- the text isn't too long, all its numbers are whole, and it stands for these scripts
 abbrev pub IsReadAs : List ℕ → List Scripted → Type 0
-IsReadAs text scripts = (d : Data) × HasTree text d × (is_whole d ≡ true) × (scripts_of d ≡ Some scripts)
+IsReadAs text scripts = (d : Data) × HasTree text d × (is_integral d ≡ true) × (scripts_of d ≡ Some scripts)
 
 -- ---- faults
 
@@ -84,4 +84,4 @@ ScriptTextFault text f =
     ⊎ (((f ≡ ScriptFault.TooLong) × IsTooLong text)
     ⊎ (((f ≡ ScriptFault.NotJson) × IsNoJson text)
     ⊎ (((f ≡ ScriptFault.NotWhole) × HasOtherNumber text)
-    ⊎ ((d : Data) × HasTree text d × (is_whole d ≡ true) × TreeFault d f))))
+    ⊎ ((d : Data) × HasTree text d × (is_integral d ≡ true) × TreeFault d f))))

@@ -3,7 +3,7 @@ use Rattle.std.specs.Prelude.{◌≡◌, ◌≤◌, ◌<◌, ℕ, List, length, 
 use Rattle.std.specs.Str.{IsUtf8}
 use Rattle.serde_json.specs.Data.{Data}
 use Rattle.serde_json.specs.Read.{read}
-use Rattle.city_model.specs.Whole.{is_whole}
+use Rattle.city_model.specs.Integral.{is_integral}
 use Rattle.city_doc.specs.declared.parse.TextFault.{TextFault}
 use Rattle.city_doc.specs.declared.parse.TextFault.TheVariants.{OutOfMemory, TooLong, NotJson, NotWhole}
 
@@ -33,7 +33,7 @@ HasTree text d = IsReadable text × IsText text d
 
 -- the text has a tree, and some number of it is no `i64`
 abbrev pub HasOtherNumber : List ℕ → Type 0
-HasOtherNumber text = (d : Data) × HasTree text d × (is_whole d ≡ false)
+HasOtherNumber text = (d : Data) × HasTree text d × (is_integral d ≡ false)
 
 -- why a text has no tree of whole numbers; want of memory may be answered at any text
 abbrev pub IsRefused : List ℕ → TextFault → Type 0

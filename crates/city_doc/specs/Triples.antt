@@ -6,13 +6,13 @@ use Rattle.city_model.specs.declared.object.Point.{Point}
 use Rattle.city_doc.specs.Bodies.{list_of}
 
 -- the whole number that stands at place i
-abbrev pub whole_at : ℕ → Data → Option ℤ
-whole_at i d = option_and_then as_i64 (option_and_then as_number (at i d))
+abbrev pub integral_at : ℕ → Data → Option ℤ
+integral_at i d = option_and_then as_i64 (option_and_then as_number (at i d))
 
 -- what an array of three whole numbers makes
 abbrev pub three_of : {A : Type 0} → (ℤ → ℤ → ℤ → A) → Data → Option A
 three_of make d =
-    if is_some (at 3 d) then None else option_and_then (λ x. option_and_then (λ y. option_map (λ z. make x y z) (whole_at 2 d)) (whole_at 1 d)) (whole_at 0 d)
+    if is_some (at 3 d) then None else option_and_then (λ x. option_and_then (λ y. option_map (λ z. make x y z) (integral_at 2 d)) (integral_at 1 d)) (integral_at 0 d)
 
 abbrev pub triple_of : Data → Option (List ℤ)
 triple_of d = three_of (λ x y z. x ∷ y ∷ z ∷ []) d

@@ -9,10 +9,10 @@ ghost use Rattle.city_doc.specs.Bodies.{read_items, list_or_absent, shape_of, sh
 use crate::nested::Nested;
 use crate::object_faults::text_at;
 use crate::values::{into_array, into_text};
-use city_model::extra::Extra;
+use city_model::kept::extra::Extra;
 use city_model::members::{into_object, take};
 use city_model::object::{Geometry, Point, Shape};
-use city_model::place::AtGeometry;
+use city_model::kept::place::AtGeometry;
 use city_model::sequence::Sequence;
 use city_model::text::Text;
 use serde_json::{Map, Value};

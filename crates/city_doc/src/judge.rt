@@ -4,7 +4,7 @@ ghost use Rattle.serde_json.specs.Data.{Data};
 ghost use Rattle.serde_json.specs.Find.{get, as_object};
 ghost use Rattle.serde_json.specs.View.{view, members_view};
 ghost use Rattle.city_model.specs.Members.{AreOrdered};
-ghost use Rattle.city_model.specs.Whole.{is_whole};
+ghost use Rattle.city_model.specs.Integral.{is_integral};
 ghost use Rattle.city_doc.specs.Documents.{objects_in, vertices_in, is_unsupported, unsupported_at, StandsAmong, StandsIn, IsFirst, AreReadable, HasForm};
 ghost use Rattle.city_doc.specs.ObjectFaults.{is_unknown_type, is_bad_geometry, has_bad_vertex, has_bad_list};
 ghost use Rattle.city_doc.specs.Searches.{first_with};
@@ -158,7 +158,7 @@ pub fn first_fault(
     points: &[Point],
     tree: &Value,
 ) -> Result<Option<ReadFault>, AllocError>
-    ensures { is_whole (view tree.now) ≡ true → points.now ≡ vertices_in (view tree.now)
+    ensures { is_integral (view tree.now) ≡ true → points.now ≡ vertices_in (view tree.now)
         → IfOk result (λ o. MatchOption o (HasForm (view tree.now)) (λ f. IsFirst (StandsIn (view tree.now)) f)) }
 {
     if let Some(name) = wrong_member(tree) {

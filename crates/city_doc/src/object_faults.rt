@@ -9,7 +9,7 @@ ghost use Rattle.city_doc.specs.ObjectFaults.{unsupported_types, unsupported_typ
 use crate::geometry_form::are_geometries;
 use crate::nested::{AnyNumber, PlaceBelow};
 use city_model::object_type::{self, ObjectType};
-use city_model::place::has_location;
+use city_model::kept::place::has_location;
 use serde_json::Value;
 
 /// The text of a member, where it is one.

@@ -1,11 +1,11 @@
 //! Parses a text as a JSON tree of whole numbers.
 ghost use Rattle.std.specs.Prelude.{◌≡◌, true, IfOk, IfErr};
 ghost use Rattle.serde_json.specs.View.{view};
-ghost use Rattle.city_model.specs.Whole.{is_whole};
+ghost use Rattle.city_model.specs.Integral.{is_integral};
 ghost use Rattle.city_doc.specs.Texts.{HasTree, IsRefused};
 
 use crate::fault::ReadFault;
-use city_model::whole::is_whole;
+use city_model::integral::is_integral;
 use serde_json::Value;
 use std::alloc::Global;
 
@@ -31,7 +31,7 @@ pub enum TextFault {
 /// memory for the tree.
 pub fn parse(alloc: Global, bytes: &[u8]) -> Result<Value, TextFault>
     ensures tree { IfOk result (λ v. HasTree bytes.now (view v)) }
-    ensures whole { IfOk result (λ v. is_whole (view v) ≡ true) }
+    ensures whole { IfOk result (λ v. is_integral (view v) ≡ true) }
     ensures fault { IfErr result (λ f. IsRefused bytes.now f) }
 {
     if bytes.len() > MAX_TEXT {
@@ -46,7 +46,7 @@ pub fn parse(alloc: Global, bytes: &[u8]) -> Result<Value, TextFault>
             return Err(TextFault::NotJson);
         }
     };
-    if !is_whole(&tree) {
+    if !is_integral(&tree) {
         return Err(TextFault::NotWhole);
     }
     Ok(tree)

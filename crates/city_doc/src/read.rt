@@ -3,7 +3,7 @@ ghost use Rattle.std.specs.Prelude.{◌≡◌, ◌⊎◌, true, Some, IfOk, IfEr
 ghost use Rattle.serde_json.specs.View.{view};
 ghost use Rattle.city_model.specs.CityMap.{at};
 ghost use Rattle.city_model.specs.Relations.{IsLawful};
-ghost use Rattle.city_model.specs.Whole.{is_whole};
+ghost use Rattle.city_model.specs.Integral.{is_integral};
 ghost use Rattle.city_doc.specs.Documents.{CityValue, city_of, StandsForCity, IsAdmitted, StandsIn, IsFirst, DocumentFault};
 ghost use Rattle.city_doc.specs.Texts.{IsReadable};
 
@@ -40,7 +40,7 @@ pub fn read_city(alloc: Global, bytes: &[u8]) -> Result<City, ReadFault>
 
 /// The city that a tree of whole numbers stands for, which is lawful.
 fn city_of_tree(alloc: Global, tree: Value) -> Result<City, ReadFault>
-    requires { is_whole (view tree) ≡ true }
+    requires { is_integral (view tree) ≡ true }
     ensures stands { IfOk result (λ c. city_of (view tree) ≡ Some c) }
     ensures lawful { IfOk result (λ c. IsLawful (at c.1)) }
     ensures fault { IfErr result (λ f. (f ≡ ReadFault.OutOfMemory) ⊎ IsFirst (StandsIn (view tree)) f) }

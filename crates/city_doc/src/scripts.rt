@@ -3,7 +3,7 @@ ghost use Rattle.std.specs.Prelude.{◌≡◌, ◌⊎◌, ℕ, List, true, map, 
 ghost use Rattle.serde_json.specs.View.{view};
 ghost use Rattle.std.specs.List.{list_all};
 ghost use Rattle.city_model.specs.Runs.{Scripted};
-ghost use Rattle.city_model.specs.Whole.{is_whole};
+ghost use Rattle.city_model.specs.Integral.{is_integral};
 ghost use Rattle.city_doc.specs.Texts.{IsReadable, IsRefused};
 ghost use Rattle.city_doc.specs.ScriptTexts.{StandsForScripts, IsReadAs, TreeFault, ItemsFault, ScriptTextFault};
 ghost use Rattle.city_doc.specs.CommandForms.{command_of};
@@ -61,7 +61,7 @@ fn text_fault(fault: TextFault) -> ScriptFault
 
 /// The scripts of a tree of whole numbers.
 fn scripts_of_tree(alloc: Global, tree: Value) -> Result<Sequence<Script>, ScriptFault>
-    requires { is_whole (view tree) ≡ true }
+    requires { is_integral (view tree) ≡ true }
     ensures scripts { IfOk result (λ ss. scripts_of (view tree) ≡ Some ss) }
     ensures fault { IfErr result (λ f. (f ≡ ScriptFault.OutOfMemory) ⊎ TreeFault (view tree) f) }
 {
@@ -76,7 +76,7 @@ fn scripts_of_tree(alloc: Global, tree: Value) -> Result<Sequence<Script>, Scrip
 
 /// The scripts of an array's items, whose numbers are whole.
 fn scripts_of_items(alloc: Global, items: Vec<Value>) -> Result<Sequence<Script>, ScriptFault>
-    requires { list_all is_whole (map view items.items) ≡ true }
+    requires { list_all is_integral (map view items.items) ≡ true }
     ensures scripts { IfOk result (λ ss. option_and_then scripts_of_parts (all_read parts_of (map view items.items)) ≡ Some ss) }
     ensures fault { IfErr result (λ f. (f ≡ ScriptFault.OutOfMemory) ⊎ ItemsFault (map view items.items) f) }
 {

@@ -53,12 +53,12 @@ with_child_no_orphan : (q : List ℕ) → is_orphan_there (with_child q) ≡ fal
 with_child_no_orphan q = no_orphan_attached with_part (codes "p") (codes "b") q refl refl
     (λ apart. orphan_apart with_building (codes "p") (Some (alone BuildingPart)) q apart (no_orphan_put (at no_objects) (codes "b") (Some (alone Building)) q refl refl))
 
-whole_no_orphan : (q : List ℕ) → is_orphan_there (whole q) ≡ false
-whole_no_orphan q = no_orphan_attached with_room (codes "r") (codes "p") q refl refl
+integral_no_orphan : (q : List ℕ) → is_orphan_there (whole q) ≡ false
+integral_no_orphan q = no_orphan_attached with_room (codes "r") (codes "p") q refl refl
     (λ apart. orphan_apart with_child (codes "r") (Some (alone BuildingRoom)) q apart (with_child_no_orphan q))
 
 builds_commits : HasResult (at no_objects) builds (Added ∷ Added ∷ Attached ∷ Added ∷ Attached ∷ []) Outcome.Committed
-builds_commits = ((refl, refl, refl), ((refl, refl, refl), ((refl, refl, refl), ((refl, refl, refl), ((refl, refl, refl), (refl, no_orphan whole whole_no_orphan))))))
+builds_commits = ((refl, refl, refl), ((refl, refl, refl), ((refl, refl, refl), ((refl, refl, refl), ((refl, refl, refl), (refl, no_orphan whole integral_no_orphan))))))
 
 pub building_with_part_and_room_is_lawful : IsLawful (map_left (at no_objects) builds Outcome.Committed)
 building_with_part_and_room_is_lawful =

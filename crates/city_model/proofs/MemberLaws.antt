@@ -17,7 +17,7 @@ use Rattle.serde_json.specs.View.{view, members_view}
 use Rattle.serde_json.proofs.Views.{Entry}
 use Rattle.city_model.specs.CityMap.{same_id}
 use Rattle.city_model.specs.Members.{without, members_count, AllAbove, AreOrdered}
-use Rattle.city_model.specs.Whole.{is_whole, members_whole}
+use Rattle.city_model.specs.Integral.{is_integral, members_integral}
 
 -- ids that the test finds the same are the same
 pub same_id-is : (j k : List ℕ) → same_id j k ≡ true → j ≡ k
@@ -93,12 +93,12 @@ get_member-without name other (member k d ms) apart = without_other (same_id oth
 
 -- ---- whole numbers
 
-pub whole_if : (b : Bool) (k : List ℕ) (d : Data) (ms : Members) → is_whole d ≡ true → members_whole ms ≡ true → members_whole (if b then ms else member k d ms) ≡ true
-whole_if true k d ms one rest = rest
-whole_if false k d ms one rest = rw (one, rest) refl
+pub integral_if : (b : Bool) (k : List ℕ) (d : Data) (ms : Members) → is_integral d ≡ true → members_integral ms ≡ true → members_integral (if b then ms else member k d ms) ≡ true
+integral_if true k d ms one rest = rest
+integral_if false k d ms one rest = rw (one, rest) refl
 
 -- what is left has no number that isn't whole either
-pub members_whole-without : (name : List ℕ) (ms : Members) → members_whole ms ≡ true → members_whole (without name ms) ≡ true
-members_whole-without name no_members h = refl
-members_whole-without name (member k d ms) h =
-    let hs = and_parts (is_whole d) (members_whole ms) h in whole_if (same_id name k) k d (without name ms) hs.0 (members_whole-without name ms hs.1)
+pub members_integral-without : (name : List ℕ) (ms : Members) → members_integral ms ≡ true → members_integral (without name ms) ≡ true
+members_integral-without name no_members h = refl
+members_integral-without name (member k d ms) h =
+    let hs = and_parts (is_integral d) (members_integral ms) h in integral_if (same_id name k) k d (without name ms) hs.0 (members_integral-without name ms hs.1)

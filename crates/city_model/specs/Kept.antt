@@ -2,7 +2,7 @@
 use Rattle.std.specs.Prelude.{ℕ, List, Bool, true, false, ◌&&◌, ◌||◌, not, Option, Some, None, codes, is_some, is_none}
 use Rattle.serde_json.specs.Data.{Data, Items, no_items, item, Members, no_members, member}
 use Rattle.serde_json.specs.Find.{get, get_member, as_array, as_object}
-use Rattle.city_model.specs.Whole.{members_whole}
+use Rattle.city_model.specs.Integral.{members_integral}
 
 -- no member has this name
 abbrev pub lacks : List ℕ → Members → Bool
@@ -45,16 +45,16 @@ has_location (Some d) = is_located d || any_located_in (as_array d)
 
 abbrev pub kept_at_top : Members → Bool
 kept_at_top ms =
-    members_whole ms && lacks_both (codes "type") (codes "version") ms && lacks_both (codes "transform") (codes "CityObjects") ms && lacks (codes "vertices") ms
+    members_integral ms && lacks_both (codes "type") (codes "version") ms && lacks_both (codes "transform") (codes "CityObjects") ms && lacks (codes "vertices") ms
     && is_empty_object_or_absent (get_member (codes "extensions") ms)
 
 abbrev pub kept_at_transform : Members → Bool
-kept_at_transform ms = members_whole ms && lacks_both (codes "scale") (codes "translate") ms
+kept_at_transform ms = members_integral ms && lacks_both (codes "scale") (codes "translate") ms
 
 abbrev pub kept_at_object : Members → Bool
 kept_at_object ms =
-    members_whole ms && lacks_both (codes "type") (codes "geometry") ms && lacks_both (codes "parents") (codes "children") ms
+    members_integral ms && lacks_both (codes "type") (codes "geometry") ms && lacks_both (codes "parents") (codes "children") ms
     && not (has_location (get_member (codes "address") ms))
 
 abbrev pub kept_at_geometry : Members → Bool
-kept_at_geometry ms = members_whole ms && lacks_both (codes "type") (codes "lod") ms && lacks (codes "boundaries") ms
+kept_at_geometry ms = members_integral ms && lacks_both (codes "type") (codes "lod") ms && lacks (codes "boundaries") ms

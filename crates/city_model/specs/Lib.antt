@@ -13,4 +13,4 @@ pub mod SerialEnds
 pub mod Shells
 pub mod Standing
 pub mod Types
-pub mod Whole
+pub mod Integral

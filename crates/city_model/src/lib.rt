@@ -8,15 +8,15 @@ pub mod command;
 pub mod copied;
 pub mod edges;
 pub mod end;
-pub mod extra;
 pub mod frame;
 pub mod id_list;
+pub mod integral;
 pub mod is_lawful;
+pub mod kept;
 pub mod members;
 pub mod object;
 pub mod object_type;
 pub mod orphans;
-pub mod place;
 pub mod relations;
 pub mod rings;
 pub mod script;
@@ -26,7 +26,6 @@ pub mod stand_in;
 #[cfg(test)]
 mod tests;
 pub mod text;
-pub mod whole;
 
 /// The one answer for want of memory, the same unit type in all crates.
 pub use std::alloc::AllocError as OutOfMemory;

@@ -1,9 +1,9 @@
 //! City objects and their geometries.
 ghost use Rattle.std.specs.Prelude.{◌≡◌};
 
-use crate::extra::Extra;
+use crate::kept::extra::Extra;
 use crate::object_type::ObjectType;
-use crate::place::{AtGeometry, AtObject};
+use crate::kept::place::{AtGeometry, AtObject};
 use crate::sequence::Sequence;
 use crate::text::{Id, Text};
 

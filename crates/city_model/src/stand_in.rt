@@ -3,7 +3,7 @@ ghost use Rattle.std.specs.Prelude.{◌≡◌, []};
 ghost use Rattle.serde_json.specs.Data.{no_members};
 ghost use Rattle.city_model.specs.declared.object_type.ObjectType.{ObjectType};
 
-use crate::extra::Extra;
+use crate::kept::extra::Extra;
 use crate::object::{Body, Object};
 use crate::object_type::ObjectType;
 use crate::sequence::Sequence;

@@ -2,11 +2,11 @@
 use crate::city::City;
 use crate::command::Command;
 use crate::copied::Copied;
-use crate::extra::Extra;
+use crate::kept::extra::Extra;
 use crate::frame::Frame;
 use crate::object::{Body, Geometry, Object, Point, Shape};
 use crate::object_type::{self, ObjectType};
-use crate::place::{AtGeometry, AtObject, AtTop, AtTransform, Place};
+use crate::kept::place::{AtGeometry, AtObject, AtTop, AtTransform, Place};
 use crate::script::Script;
 use crate::sequence::Sequence;
 use crate::text::Text;

@@ -1,10 +1,10 @@
 //! Shells and rings of worked examples, as they stand in documents.
 use crate::body_fault::body_fault;
 use crate::command::Cause;
-use crate::extra::Extra;
+use crate::kept::extra::Extra;
 use crate::object::{Body, Geometry, Point, Ring, Shape, Shell, Surface};
 use crate::object_type::ObjectType;
-use crate::place::Place;
+use crate::kept::place::Place;
 use crate::rings::{has_same_twice, has_short_ring};
 use crate::sequence::Sequence;
 use crate::shells::{has_open_shell, shell_closed};

@@ -1,6 +1,6 @@
 use Rattle.std.proofs.Common.{◌∙◌, sym, ap, length}
 use Rattle.serde_json.specs.View.{view}
-use Rattle.city_doc.proofs.WholeParts.{count_of-items}
+use Rattle.city_doc.proofs.IntegralParts.{count_of-items}
 use Rattle.city_doc.proofs.script_faults.item_count.Goals as goal
 
 pub returns-in-Some : goal.returns-in-Some

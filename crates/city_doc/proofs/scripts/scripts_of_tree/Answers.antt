@@ -1,7 +1,7 @@
 use Rattle.std.proofs.Common.{sym, refl, map, inl, inr}
 use Rattle.std.proofs.lemmas.Result.{err_from_is_err_and}
 use Rattle.serde_json.specs.View.{view}
-use Rattle.city_doc.proofs.WholeParts.{array_of-whole}
+use Rattle.city_doc.proofs.IntegralParts.{array_of-whole}
 use Rattle.city_doc.proofs.ScriptFaults.{items_fault_or}
 use Rattle.city_doc.proofs.ScriptMeanings.{scripts_of-array}
 use Rattle.city_doc.proofs.scripts.scripts_of_tree.Goals as goal

@@ -13,7 +13,7 @@ use Rattle.city_doc.proofs.Floatless.{city_is_floatless}
 use Rattle.city_doc.proofs.LawfulTrees.{not_refused}
 use Rattle.city_doc.proofs.OneValue.{one_city}
 use Rattle.city_doc.proofs.RoundTrip.{city_read}
-use Rattle.city_doc.proofs.WholeTrees.{city_whole}
+use Rattle.city_doc.proofs.IntegralTrees.{city_integral}
 use Rattle.city_doc.proofs.write.write_city.Goals as goal
 
 one_text : (text : List ℕ) (city : CityValue) (d : Data) → d ≡ tree_of city → IsUtf8 text → (depth d ≤ max_depth → read text ≡ Some d) → depth (tree_of city) ≤ max_depth → IsText text (tree_of city)
@@ -39,7 +39,7 @@ returns c =
       read_again = again;
       canonical = λ shallow other other_stands. ap city_text (one_city _ other city other_stands (again shallow)) ∙ sym text;
       accepted = λ shallow readable lawful fault.
-          let whole = city_whole (pool_of city) city c.in_ok-tree.ensures.kept numbers in
+          let whole = city_integral (pool_of city) city c.in_ok-tree.ensures.kept numbers in
           let read = one_text _ city _ tree c.in_ok-text.ensures.utf8 c.in_ok-text.ensures.reads_back shallow in
           let same = city_read city c.in_ok-tree.ensures.kept numbers c.in_ok-tree.ensures.ordered in
           not_refused _ city (tree_of city, (readable, read), whole, same, lawful) fault;

@@ -5,7 +5,7 @@ ghost use Rattle.serde_json.specs.View.{view, members_view};
 ghost use Rattle.city_model.specs.Kept.{lacks, lacks_both, kept_at_top, kept_at_transform, kept_at_object, kept_at_geometry, is_empty_object_or_absent, has_location, is_located, any_located, any_located_in, has_no_member};
 
 use crate::members::member;
-use crate::whole::have_whole;
+use crate::integral::have_integral;
 use serde_json::{Map, Value};
 
 /// A place of a document that keeps the members which aren't read there.
@@ -53,7 +53,7 @@ impl Place for AtTransform {
     ghost keeps = { kept_at_transform };
 
     fn admits(members: &Map<String, Value>) -> bool {
-        have_whole(members) && lacks_both(members, "scale", "translate")
+        have_integral(members) && lacks_both(members, "scale", "translate")
     }
 }
 
@@ -61,7 +61,7 @@ impl Place for AtGeometry {
     ghost keeps = { kept_at_geometry };
 
     fn admits(members: &Map<String, Value>) -> bool {
-        have_whole(members) && lacks_both(members, "type", "lod") && lacks(members, "boundaries")
+        have_integral(members) && lacks_both(members, "type", "lod") && lacks(members, "boundaries")
     }
 }
 
@@ -69,7 +69,7 @@ impl Place for AtObject {
     ghost keeps = { kept_at_object };
 
     fn admits(members: &Map<String, Value>) -> bool {
-        have_whole(members)
+        have_integral(members)
             && lacks_both(members, "type", "geometry")
             && lacks_both(members, "parents", "children")
             && !has_location(member(members, "address"))
@@ -80,7 +80,7 @@ impl Place for AtTop {
     ghost keeps = { kept_at_top };
 
     fn admits(members: &Map<String, Value>) -> bool {
-        have_whole(members)
+        have_integral(members)
             && lacks_both(members, "type", "version")
             && lacks_both(members, "transform", "CityObjects")
             && lacks(members, "vertices")

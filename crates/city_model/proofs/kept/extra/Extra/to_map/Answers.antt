@@ -1,6 +1,6 @@
 use Rattle.std.proofs.Common.{◌∙◌}
 use Rattle.city_model.proofs.Cloned.{members_view_cloned}
-use Rattle.city_model.proofs.extra.Extra.to_map.Goals as goal
+use Rattle.city_model.proofs.kept.extra.Extra.to_map.Goals as goal
 
 pub returns-clause-members : goal.returns-clause-members
 returns-clause-members g c = members_view_cloned _ _ c.in_ok-copy.ensures.cases ∙ c.self.view_is

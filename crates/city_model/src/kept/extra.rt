@@ -1,7 +1,7 @@
 //! The kept members of a place.
 ghost use Rattle.std.specs.Prelude.{◌≡◌, true, false, IfOk, IfErr, IsTrue, is_ok};
 
-use crate::place::Place;
+use crate::kept::place::Place;
 use serde_json::{Map, Value};
 use std::alloc::AllocError;
 use std::marker::{Model, PhantomData};
