@@ -1,6 +1,7 @@
 -- The canonical text of a city: compact JSON, keys in byte order, each point a number
 -- (CityJSON 2.0, sections 2 and 3).
 use Rattle.std.specs.Prelude.{ℕ, ℤ, List, [], ◌∷◌, map, codes}
+use Rattle.std.specs.FinMap.{entries}
 use Rattle.serde_json.specs.Data.{Data, number, unsigned, string, array, object, Members, no_members, put}
 use Rattle.serde_json.specs.Find.{of_integer}
 use Rattle.serde_json.specs.View.{items_of}
@@ -11,10 +12,9 @@ use Rattle.city_model.specs.declared.object.Shape.{Shape}
 use Rattle.city_model.specs.declared.object.Shape.TheVariants.{MultiSurface, CompositeSurface, Solid}
 use Rattle.city_model.specs.declared.object.Geometry.{Geometry}
 use Rattle.city_model.specs.declared.object.Object.{Object}
-use Rattle.city_model.specs.CityMap.{Entries}
+use Rattle.city_model.specs.CityMap.{Entries, CityValue}
 use Rattle.city_model.specs.Shells.{Ring, Surface, Shell}
 use Rattle.city_model.specs.Types.{name_of}
-use Rattle.city_doc.specs.Documents.{CityValue}
 use Rattle.city_doc.specs.Pool.{number_of, pool_of}
 
 -- an array of what is written for each
@@ -102,7 +102,7 @@ frame_members f =
 -- the tree of a city whose points have these numbers
 abbrev pub numbered_tree : List Point → CityValue → Data
 numbered_tree pool c =
-    object (put (codes "CityObjects") (objects_data pool c.1)
+    object (put (codes "CityObjects") (objects_data pool (entries c.1))
     (put (codes "vertices") (vertices_data pool) (frame_members c.0)))
 
 abbrev pub tree_of : CityValue → Data

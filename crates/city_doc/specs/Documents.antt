@@ -1,11 +1,11 @@
 -- What a document stands for, and how it is refused.
 use Rattle.std.specs.Prelude.{◌≡◌, ◌⊎◌, ◌<◌, ◌&&◌, ℕ, List, [], ◌∷◌, Bool, true, false, Option, Some, None}
 use Rattle.std.specs.Prelude.{option_and_then, option_map, codes, is_some, length, if◌then◌else◌}
+use Rattle.std.specs.FinMap.{from_entries}
 use Rattle.serde_json.specs.Data.{Data, Members, no_members, member}
 use Rattle.serde_json.specs.Find.{get, get_member, as_object}
-use Rattle.city_model.specs.declared.frame.Frame.{Frame}
 use Rattle.city_model.specs.declared.object.Point.{Point}
-use Rattle.city_model.specs.CityMap.{Entries, at}
+use Rattle.city_model.specs.CityMap.{Objects, CityValue, Entries, at}
 use Rattle.city_model.specs.Relations.{IsLawful}
 use Rattle.city_model.specs.Integral.{is_integral}
 use Rattle.city_doc.specs.declared.fault.ReadFault.{ReadFault}
@@ -20,10 +20,6 @@ use Rattle.city_doc.specs.ObjectFaults.{is_unknown_type, unsupported_name, is_ba
 use Rattle.city_doc.specs.Searches.{IsLeast, first_with}
 use Rattle.city_doc.specs.Texts.{IsText, IsTooLong, IsNoJson, HasTree}
 use Rattle.city_doc.specs.Triples.{points_of}
-
--- a frame, and the objects by their ids
-abbrev pub CityValue : Type 0
-CityValue = Frame × Entries
 
 -- ---- what a document stands for
 
@@ -44,13 +40,17 @@ abbrev pub entries_in : List Point → Data → Option Entries
 entries_in points d =
     option_and_then (entries_of points) (option_and_then as_object (get (codes "CityObjects") d))
 
+-- the objects by their ids; of two of one id the first counts
+abbrev pub objects_of : Entries → Objects
+objects_of entries = from_entries entries
+
 -- the city that a tree stands for, where it has the form of a document; whether the city is lawful is
 -- judged apart
 abbrev pub city_of : Data → Option CityValue
 city_of d =
     if is_city_json d
-    then option_and_then (λ points. option_and_then (λ entries. option_map (λ frame. (frame, entries))
-    (frame_of d)) (entries_in points d)) (points_in d)
+    then option_and_then (λ points. option_and_then (λ entries. option_map
+    (λ frame. (frame, objects_of entries)) (frame_of d)) (entries_in points d)) (points_in d)
     else None
 
 -- the text is JSON whose tree stands for this city

@@ -2,13 +2,14 @@
 -- (CityJSON 2.0, section 2, `vertices`).
 use Rattle.std.specs.Prelude.{ℕ, not, List, [], ◌∷◌, ◌++◌, filter, flat_map, if◌then◌else◌}
 use Rattle.std.specs.List.{list_any, position_or_len}
+use Rattle.std.specs.FinMap.{entries}
 use Rattle.city_model.specs.declared.object.Point.{Point}
 use Rattle.city_model.specs.declared.object.Shape.{Shape}
 use Rattle.city_model.specs.declared.object.Shape.TheVariants.{MultiSurface, CompositeSurface, Solid}
 use Rattle.city_model.specs.declared.object.Geometry.{Geometry}
 use Rattle.city_model.specs.declared.object.Object.{Object}
 use Rattle.city_model.specs.Shells.{Surface, Shell, same_point}
-use Rattle.city_doc.specs.Documents.{CityValue}
+use Rattle.city_model.specs.CityMap.{CityValue}
 
 -- ---- the walk: ids in byte order, then geometries, shells, surfaces, rings and points, each in order
 
@@ -30,7 +31,7 @@ abbrev pub object_points : Object → List Point
 object_points o = flat_map geometry_points o.body.geometry
 
 abbrev pub city_points : CityValue → List Point
-city_points c = flat_map (λ e. object_points e.1) c.1
+city_points c = flat_map (λ e. object_points e.1) (entries c.1)
 
 -- ---- the vertices
 
