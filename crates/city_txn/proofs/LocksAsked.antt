@@ -1,5 +1,5 @@
 -- Locks asked for in turn: one, and more after them.
-use Rattle.std.proofs.Common.{◌≡◌, ◌≢◌, ◌||◌, ℕ, ◌+◌, ◌<◌, List, [], ◌∷◌, ◌++◌, length, take, drop, get_or, Bool, true, false, Option, Result, Ok, Err, refl, ap, sym, ◌∙◌, subst, append_assoc}
+use Rattle.std.proofs.Common.{◌≡◌, ◌≢◌, ◌⊎◌, inl, inr, ◌||◌, ℕ, ◌+◌, ◌<◌, List, [], ◌∷◌, ◌++◌, length, take, drop, get_or, Bool, true, false, Option, Result, Ok, Err, refl, ap, sym, ◌∙◌, subst, append_assoc}
 use Rattle.std.specs.Prelude.{IfOk, OnOk, IsErr}
 use Rattle.std.proofs.lemmas.List.{append-nil, map-append, take-append-drop, take_more}
 use Rattle.std.proofs.lemmas.List.Folds.{list_any-append}
@@ -12,10 +12,12 @@ use Rattle.city_locks.specs.declared.answer.Answer.{Answer}
 use Rattle.city_locks.specs.declared.answer.Answer.TheVariants.{Granted, Wait, Die}
 use Rattle.city_locks.specs.Mode.{is_exclusive}
 use Rattle.city_locks.specs.Locks.{Locks, answer_of, Lawful}
-use Rattle.city_model.specs.Standing.{AllHeld, Lock, locked_ids, names}
+use Rattle.city_model.specs.Standing.{AllHeld, Lock, locked_ids, names, names_exclusively, exclusive_ids}
+use Rattle.std.proofs.lemmas.Bool.{or_left, or_right}
+use Rattle.city_model.proofs.IdLists.{bool_cases}
 use Rattle.city_txn.specs.CoreState.{held_in}
 use Rattle.city_txn.specs.Locking.{mode_for, go_on, first_answer, first_if, granted_before, MoreLocks, GainsFirst, Asked}
-use Rattle.city_txn.proofs.LocksGained.{Adds, no_more_locks, one_asked, asked_held, all_granted}
+use Rattle.city_txn.proofs.LocksGained.{Adds, no_more_locks, either, one_asked, asked_held, all_granted}
 
 -- ---- lists of locks
 
@@ -77,11 +79,22 @@ same_before s hs ks (l ∷ ls) e = ap (λ a. first_if a l (granted_before ks s l
 
 -- ---- locks gained, and then more
 
+exclusive_append : (ls ms : List Lock) → exclusive_ids (ls ++ ms) ≡ exclusive_ids ls ++ exclusive_ids ms
+exclusive_append [] ms = refl
+exclusive_append ((id, true) ∷ ls) ms = ap (λ ids. id ∷ ids) (exclusive_append ls ms)
+exclusive_append ((id, false) ∷ ls) ms = exclusive_append ls ms
+
+exclusively_append : (ls ms : List Lock) (q : List ℕ) → names_exclusively (ls ++ ms) q ≡ (names_exclusively ls q || names_exclusively ms q)
+exclusively_append ls ms q = ap (λ ids. has_id ids q) (exclusive_append ls ms) ∙ list_any-append (same_id q) (exclusive_ids ls) (exclusive_ids ms)
+
 more_then : (s : ℕ) (ls ms : List Lock) (hs ks us : Locks) → MoreLocks s ls hs ks → MoreLocks s ms ks us → MoreLocks s (ls ++ ms) hs us
 more_then s ls ms hs ks us a b = record {
   others = λ t q e. b.others t q e ∙ a.others t q e;
   more = λ q x e. b.more q x (a.more q x e);
   only = λ q h. let n = neither_names ls ms q h in b.only q n.1 ∙ a.only q n.0;
+  modes = λ q h. either
+      (λ x. either (λ y. inl y) (λ y. inr (exclusively_append ls ms q ∙ or_left (names_exclusively ls q) (names_exclusively ms q) y)) (a.modes q x))
+      (λ y. inr (exclusively_append ls ms q ∙ or_right (names_exclusively ls q) (names_exclusively ms q) y)) (b.modes q h);
   lawful = λ x. b.lawful (a.lawful x);
   answers = λ q n. b.answers q n ∙ a.answers q n;
 }
