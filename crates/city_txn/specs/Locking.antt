@@ -1,5 +1,5 @@
 -- Locks asked for in turn, up to the first that isn't granted.
-use Rattle.std.specs.Prelude.{◌≡◌, ◌⊎◌, ◌==◌, ℕ, List, [], ◌∷◌, ◌++◌, Bool, true, false, Result, IfOk, OnOk, if◌then◌else◌}
+use Rattle.std.specs.Prelude.{◌≡◌, ◌⊎◌, ◌==◌, ◌<◌, ℕ, List, [], ◌∷◌, ◌++◌, Bool, true, false, is_some, Result, IfOk, IsOk, OnOk, if◌then◌else◌}
 use Rattle.city_locks.specs.declared.mode.Mode.{Mode}
 use Rattle.city_locks.specs.declared.mode.Mode.TheVariants.{Shared, Exclusive}
 use Rattle.city_locks.specs.declared.answer.Answer.{Answer}
@@ -53,8 +53,21 @@ pub record GainsFirst (stamp : ℕ) (ls : List Lock) (old new : Locks) : Type 0 
   pub held : AllHeld (held_in new stamp) gained
   pub locks : MoreLocks stamp gained old new
 
--- The locks asked for in turn: the answer is that of the first that isn't granted, and those before it are gained; for want of memory the first so many of them.
+abbrev pub HoldsLock : Locks → ℕ → Type 0
+HoldsLock locks stamp = (id : List ℕ) × (is_some (mode_of locks stamp id) ≡ true)
+
+-- told to wait, the stamp is older than another that holds a lock; told to die, it is younger than one
+abbrev pub IsBlocked : Locks → ℕ → Answer → Type 0
+IsBlocked locks stamp Granted = Unit {0}
+IsBlocked locks stamp Wait = (t : ℕ) × (stamp < t) × HoldsLock locks t
+IsBlocked locks stamp Die = (t : ℕ) × (t < stamp) × HoldsLock locks t
+
+-- The locks asked for in turn: the answer is that of the first that isn't granted, and those before it are
+-- gained; for want of memory the first so many of them.
 pub record Asked {E : Type 0} (stamp : ℕ) (ls : List Lock) (result : Result Answer E) (old new : Locks) : Type 0 where
   pub answer : IfOk result (λ a. a ≡ first_answer old stamp ls)
   pub gains : GainsFirst stamp (granted_before old stamp ls) old new
   pub held : OnOk result (AllHeld (held_in new stamp) (granted_before old stamp ls))
+  pub blocked : IfOk result (IsBlocked old stamp)
+  -- memory is wanted only for a lock that the stamp didn't hold
+  pub answered : AllHeld (held_in old stamp) (granted_before old stamp ls) → IsOk result
