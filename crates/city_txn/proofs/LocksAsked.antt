@@ -1,11 +1,11 @@
 -- Locks asked for in turn: one, and more after them.
-use Rattle.std.proofs.Common.{◌≡◌, ◌≢◌, ◌⊎◌, inl, inr, ◌==◌, ◌||◌, not, ℕ, ◌+◌, ◌<◌, List, [], ◌∷◌, ◌++◌, length, take, drop, get_or, Bool, true, false, Option, None, Some, is_some, Result, Ok, Err, refl, ap, sym, ◌∙◌, subst, append_assoc}
+use Rattle.std.proofs.Common.{◌≡◌, ◌≢◌, ◌⊎◌, inl, inr, ◌||◌, ℕ, ◌+◌, ◌<◌, List, [], ◌∷◌, ◌++◌, length, take, drop, get_or, Bool, true, false, Option, None, Some, is_some, Result, Ok, Err, refl, ap, sym, ◌∙◌, subst, append_assoc}
 use Rattle.std.specs.Prelude.{IfOk, OnOk, IsErr, option_map}
 use Rattle.std.proofs.Math.Nat.{ne_of_lt, ne_of_gt}
 use Rattle.std.proofs.lemmas.Result.{on_ok_weaker, IfOk-weaker}
 use Rattle.std.proofs.lemmas.List.{append-nil, map-append, take-append-drop, take_more}
 use Rattle.std.proofs.lemmas.List.Folds.{list_any-append}
-use Rattle.std.proofs.lemmas.Bool.{false≢true, and_parts, or_parts, or_left, or_right, ne_eqb}
+use Rattle.std.proofs.lemmas.Bool.{false≢true, or_parts, or_left, or_right, ne_eqb}
 use Rattle.city_model.specs.CityMap.{same_id, has_id}
 use Rattle.city_model.specs.Meaning.{exclusively}
 use Rattle.city_locks.specs.declared.mode.Mode.{Mode}
@@ -14,7 +14,7 @@ use Rattle.city_locks.specs.declared.answer.Answer.{Answer}
 use Rattle.city_locks.specs.declared.answer.Answer.TheVariants.{Granted, Wait, Die}
 use Rattle.city_locks.specs.Mode.{is_exclusive}
 use Rattle.city_locks.specs.Locks.{Locks, answer_of, mode_of, Lawful}
-use Rattle.city_locks.specs.WaitDie.{IsWaitDie, clashes, conflicts}
+use Rattle.city_locks.specs.WaitDie.{IsInConflict, IsWaitDie}
 use Rattle.city_model.specs.Standing.{AllHeld, Lock, covers, locked_ids, names, names_exclusively, exclusive_ids}
 use Rattle.city_model.proofs.IdLists.{bool_cases}
 use Rattle.city_txn.specs.CoreState.{held_in}
@@ -115,30 +115,23 @@ still_held s (l ∷ ls) ms ks us b h = (b.more l.0 l.1 h.0, still_held s ls ms k
 
 -- ---- who holds a lock that the stamp is refused
 
+pub blocked_weaker : (P Q : ℕ → Type 0) (s : ℕ) → ((t : ℕ) → s ≢ t → P t → Q t) → (a : Answer) → IsBlocked P s a → IsBlocked Q s a
+blocked_weaker P Q s f Granted b = tt
+blocked_weaker P Q s f Wait b = (b.0, b.1, f b.0 (ne_of_lt b.1) b.2)
+blocked_weaker P Q s f Die b = (b.0, b.1, f b.0 (ne_of_gt b.1) b.2)
+
 -- another holds a lock after the stamp has gained some only if it did before
-held_before : (s t : ℕ) (ls : List Lock) (v u : Locks) → MoreLocks s ls v u → s ≢ t → HoldsLock u t → HoldsLock v t
-held_before s t ls v u k ne h = (h.0, ap is_some (sym (k.others t h.0 (ne_eqb s t ne))) ∙ h.1)
+held_before : (s : ℕ) (ls : List Lock) (v u : Locks) → MoreLocks s ls v u → (t : ℕ) → s ≢ t → HoldsLock u t → HoldsLock v t
+held_before s ls v u k t ne h = (h.0, ap is_some (sym (k.others t h.0 (ne_eqb s t ne))) ∙ h.1)
 
-blocked_before : (s : ℕ) (ls : List Lock) (v u : Locks) → MoreLocks s ls v u → (a : Answer) → IsBlocked u s a → IsBlocked v s a
-blocked_before s ls v u k Granted b = tt
-blocked_before s ls v u k Wait b = (b.0, b.1, held_before s b.0 ls v u k (ne_of_lt b.1) b.2)
-blocked_before s ls v u k Die b = (b.0, b.1, held_before s b.0 ls v u k (ne_of_gt b.1) b.2)
-
-clashing_held : (m : Mode) (o : Option Mode) → clashes m o ≡ true → is_some o ≡ true
-clashing_held m None h = h
-clashing_held m (Some n) h = refl
-
-in_conflict_held : (hs : Locks) (s : ℕ) (id : List ℕ) (m : Mode) (t : ℕ) → conflicts hs s id m t ≡ true → HoldsLock hs t
-in_conflict_held hs s id m t h = (id, clashing_held m (mode_of hs t id) (and_parts (not (t == s)) (clashes m (mode_of hs t id)) h).1)
-
-wait_die_blocked : (hs : Locks) (s : ℕ) (id : List ℕ) (m : Mode) (a : Answer) → IsWaitDie (conflicts hs s id m) s a → IsBlocked hs s a
+wait_die_blocked : (hs : Locks) (s : ℕ) (id : List ℕ) (m : Mode) (a : Answer) → IsWaitDie (IsInConflict hs s id m) s a → IsBlocked (HoldsLock hs) s a
 wait_die_blocked hs s id m Granted w = tt
 wait_die_blocked hs s id m Wait w =
     let found = w.wait.0 refl in
-    (found.0.0, found.1 found.0.0 found.0.1, in_conflict_held hs s id m found.0.0 found.0.1)
+    (found.0.0, found.1 found.0.0 found.0.1, (id, ap is_some found.0.1.holds))
 wait_die_blocked hs s id m Die w =
     let found = w.die.0 refl in
-    (found.0, found.1.1, in_conflict_held hs s id m found.0 found.1.0)
+    (found.0, found.1.1, (id, ap is_some found.1.0.holds))
 
 -- ---- all of some locks are granted
 
@@ -188,7 +181,8 @@ asked_more {E} s ls ms r v u w a b =
         locks = more_then s ls b.gains.gained v u w a.locks b.gains.locks;
       };
       held = on_ok_weaker r (λ h. subst (AllHeld (held_in w s)) (sym before) (held_both (held_in w s) ls (granted_before u s ms) old h)) b.held;
-      blocked = IfOk-weaker r (IsBlocked u s) (IsBlocked v s) (blocked_before s ls v u a.locks) b.blocked;
+      blocked = IfOk-weaker r (IsBlocked (HoldsLock u) s) (IsBlocked (HoldsLock v) s)
+          (blocked_weaker (HoldsLock u) (HoldsLock v) s (held_before s ls v u a.locks)) b.blocked;
       answered = λ h. b.answered (still_held s (granted_before u s ms) ls v u a.locks (held_parts (held_in v s) ls (granted_before u s ms) (subst (AllHeld (held_in v s)) before h)).1);
     }
 
@@ -247,7 +241,7 @@ module _ (s : ℕ) (id : List ℕ) (m : Mode) (hs : Locks) where
   one = (id, is_exclusive m) ∷ []
 
   -- the lock isn't granted, and nothing is gained
-  not_gained : {E : Type 0} (ks : Locks) (a : Answer) → ks ≡ hs → a ≡ answer_of hs s id m → go_on a Granted ≡ a → first_if a (id, is_exclusive m) [] ≡ [] → IsBlocked hs s a → Asked {E = E} s one (Ok a) hs ks
+  not_gained : {E : Type 0} (ks : Locks) (a : Answer) → ks ≡ hs → a ≡ answer_of hs s id m → go_on a Granted ≡ a → first_if a (id, is_exclusive m) [] ≡ [] → IsBlocked (HoldsLock hs) s a → Asked {E = E} s one (Ok a) hs ks
   not_gained {E} ks a same e stays none w = record {
     answer = sym (first_one s id m hs ∙ ap (λ x. go_on x Granted) (sym e) ∙ stays);
     gains = subst (GainsFirst s (granted_before hs s one) hs) (sym same) (gains_nothing s (granted_before hs s one) hs);
@@ -257,7 +251,7 @@ module _ (s : ℕ) (id : List ℕ) (m : Mode) (hs : Locks) where
   }
 
   asked_by : {E : Type 0} (ks : Locks) (a : Answer) → a ≡ answer_of hs s id m → (a ≡ Granted → Adds s id m hs ks) → (a ≢ Granted → ks ≡ hs)
-      → MoreLocks s one hs ks → IsBlocked hs s a → Asked {E = E} s one (Ok a) hs ks
+      → MoreLocks s one hs ks → IsBlocked (HoldsLock hs) s a → Asked {E = E} s one (Ok a) hs ks
   asked_by {E} ks Granted e g n l w =
       let are : granted_before hs s one ≡ one = before_one s id m hs ∙ ap (λ x. first_if x (id, is_exclusive m) []) (sym e) in
       let h : AllHeld (held_in ks s) one = (asked_held s id m hs ks (g refl), tt) in
@@ -272,7 +266,7 @@ module _ (s : ℕ) (id : List ℕ) (m : Mode) (hs : Locks) where
   asked_by {E} ks Die e g n l w = not_gained ks Die (n (λ x. cc)) e refl refl w
 
   -- what the lock table ensures is what is asked of it
-  pub asked_one : {E : Type 0} (ks : Locks) (a : Answer) → a ≡ answer_of hs s id m → IsWaitDie (conflicts hs s id m) s a → (answer_of hs s id m ≡ Granted → Adds s id m hs ks)
+  pub asked_one : {E : Type 0} (ks : Locks) (a : Answer) → a ≡ answer_of hs s id m → IsWaitDie (IsInConflict hs s id m) s a → (answer_of hs s id m ≡ Granted → Adds s id m hs ks)
       → (answer_of hs s id m ≢ Granted → ks ≡ hs) → Lawful ks → ((q : List ℕ) (n : Mode) → answer_of ks s q n ≡ answer_of hs s q n) → Asked {E = E} s one (Ok a) hs ks
   asked_one {E} ks a e w g n l o = asked_by ks a e (λ x. g (sym e ∙ x)) (λ x. n (λ y. x (e ∙ y))) (one_asked s id m hs ks g n l o) (wait_die_blocked hs s id m a w)
 

@@ -2,7 +2,8 @@
 use Rattle.std.proofs.Common.{◌≡◌, ◌≢◌, ◌⊎◌, inl, inr, ◌==◌, ◌&&◌, ◌||◌, ℕ, List, [], ◌∷◌, Bool, true, false, Option, None, Some, is_some, refl, ap, sym, ◌∙◌, subst}
 use Rattle.std.specs.Prelude.{option_map, cond}
 use Rattle.std.proofs.lemmas.Bool.{false≢true, eqb-true, eq-eqb}
-use Rattle.city_model.specs.CityMap.{at, same_id}
+use Rattle.city_model.specs.CityMap.{same_id}
+use Rattle.city_model.specs.Relations.{IsLawful}
 use Rattle.city_model.proofs.Ids.{same_id_true, same_id_itself}
 use Rattle.city_model.proofs.IdLists.{bool_cases}
 use Rattle.city_model.proofs.History.{follows_same}
@@ -14,14 +15,14 @@ use Rattle.city_locks.specs.Mode.{is_exclusive, stronger}
 use Rattle.city_locks.specs.Locks.{Locks, mode_of, answer_of, Lawful}
 use Rattle.city_txn.specs.State.{write_of, own_or}
 use Rattle.city_model.specs.Standing.{Lock, Answered, covers, names, names_exclusively}
-use Rattle.city_txn.specs.CoreState.{CoreState, committed, view, is_open, held, held_in, Stands, IsConsistent}
+use Rattle.city_txn.specs.CoreState.{CoreState, committed, view, is_open, held, held_in, Stands, IsConsistent, KeepsOthers}
 use Rattle.city_txn.specs.Locking.{go_on, first_answer, first_if, granted_before, mode_for, MoreLocks}
-use Rattle.city_txn.proofs.Ended.{same_lawful}
+use Rattle.city_txn.proofs.Ended.{held_exclusively}
 
 -- s gained locks that ls names; else nothing changed
 pub record LocksGained (s : ℕ) (ls : List Lock) (v w : CoreState) : Type 0 where
   pub frame : w.frame ≡ v.frame
-  pub city : (q : List ℕ) → committed w q ≡ committed v q
+  pub city : committed w ≡ committed v
   pub writes : (q : List ℕ) → write_of w.writes q ≡ write_of v.writes q
   pub opened : (t : ℕ) → is_open w t ≡ is_open v t
   pub locks : MoreLocks s ls v.locks w.locks
@@ -33,17 +34,15 @@ module _ (s : ℕ) (ls : List Lock) (v w : CoreState) (k : LocksGained s ls v w)
       (λ e. let p : s ≡ t = eqb-true s t e in ap (λ r. covers (held w r q) b) (sym p) ∙ k.locks.more q b (ap (λ r. covers (held v r q) b) p ∙ h))
       (λ e. ap (λ o. covers (option_map is_exclusive o) b) (k.locks.others t q e) ∙ h)
 
-  pub view_gained : (t : ℕ) (q : List ℕ) → view w t q ≡ view v t q
-  view_gained t q = ap (λ x. own_or t x (at w.city q)) (k.writes q) ∙ ap (own_or t (write_of v.writes q)) (k.city q)
+  pub view_gained : (t : ℕ) → view w t ≡ view v t
+  view_gained t = λ i q. own_or t (k.writes q i) (k.city i q)
 
   pub stands_gained : (t : ℕ) (done : List Answered) → Stands v t done → Stands w t done
   stands_gained t done f = follows_same (held v t) (held w t) (committed v) (committed w) done (view v t) (view w t)
-      (gained_for t) (λ q. sym (k.city q)) (λ q. sym (view_gained t q)) f
+      (gained_for t) (sym k.city) (sym (view_gained t)) f
 
-pub held_exclusively : (o : Option Mode) → covers (option_map is_exclusive o) true ≡ true → o ≡ Some Exclusive
-held_exclusively None h = absurd (false≢true h)
-held_exclusively (Some Shared) h = absurd (false≢true h)
-held_exclusively (Some Exclusive) h = refl
+  pub keeps_gained : KeepsOthers s v w
+  keeps_gained = record { frame = k.frame; opened = λ t ne. k.opened t; others = λ t done ne f. stands_gained t done f }
 
 -- what was held exclusively still is
 pub exclusive_gained : (s : ℕ) (ls : List Lock) (v w : CoreState) → LocksGained s ls v w → (t : ℕ) (q : List ℕ) → mode_of v.locks t q ≡ Some Exclusive → mode_of w.locks t q ≡ Some Exclusive
@@ -56,7 +55,7 @@ gained_consistent s ls v w c o k = record {
   open_only = λ t q h. bool_cases (s == t)
       (λ e. k.opened t ∙ ap (is_open v) (sym (eqb-true s t e)) ∙ o)
       (λ e. k.opened t ∙ c.open_only t q (ap is_some (sym (k.locks.others t q e)) ∙ h));
-  city = same_lawful (committed v) (committed w) (λ q. sym (k.city q)) c.city;
+  city = subst IsLawful (sym k.city) c.city;
   history = λ t. ((c.history t).0, stands_gained s ls v w k t (c.history t).0 (c.history t).1);
 }
 
