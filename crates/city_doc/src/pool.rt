@@ -8,9 +8,6 @@ use indexmap::IndexSet;
 use std::alloc::Global;
 use std::marker::Model;
 
-#[cfg(test)]
-mod tests;
-
 /// The points met so far, each once; the number of a point is its place.
 #[derive(Drop)]
 pub struct VertexPool {
