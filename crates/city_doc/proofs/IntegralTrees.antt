@@ -23,7 +23,7 @@ use Rattle.city_model.specs.Integral.{is_integral, items_integral, members_integ
 use Rattle.city_doc.specs.Canonical.{list_data, integer_data, triple_data, point_data, ring_data, surface_data, shell_data, boundaries_data, shape_name, geometry_data, put_list, object_data, with_objects, objects_data, transform_data, vertex_data, vertices_data, frame_members, numbered_tree}
 use Rattle.city_doc.specs.Documents.{CityValue}
 use Rattle.city_doc.specs.KeptMembers.{is_kept_geometry, is_kept_object, are_kept_objects, IsKeptCity}
-use Rattle.city_doc.specs.Pool.{place_of}
+use Rattle.city_doc.specs.Pool.{number_of}
 use Rattle.city_doc.specs.Ranges.{is_i64, is_i64_triple, is_i64_point, IsInRange}
 use Rattle.city_doc.proofs.TriplesRead.{integer_read}
 
@@ -82,9 +82,9 @@ at_object ms h =
 module _ (pool : List Point) (fewer : length pool < 2 ^ 63) where
   point_integral : (p : Point) → is_integral (point_data pool p) ≡ true
   point_integral p =
-      let within : place_of pool p ≤ length pool = prefix_len-le-length (λ q. not (same_point p q)) pool in
-      let small : place_of pool p < 2 ^ 63 = omega arith in
-      let fits : nat_lt (place_of pool p) (2 ^ 63) ≡ true = lt-ltb _ _ small in rw fits refl
+      let within : number_of pool p ≤ length pool = prefix_len-le-length (λ q. not (same_point p q)) pool in
+      let small : number_of pool p < 2 ^ 63 = omega arith in
+      let fits : nat_lt (number_of pool p) (2 ^ 63) ≡ true = lt-ltb _ _ small in rw fits refl
 
   ring_integral : (r : Ring) → is_integral (ring_data pool r) ≡ true
   ring_integral r = every_integral (point_data pool) point_integral r

@@ -1,4 +1,5 @@
--- Cities and replies whose kept members are all such as their places keep. A value of the program is always so; a value that a clause makes up may not be.
+-- Cities and replies whose kept members are all such as their places keep. A value of the program is
+-- always so; a value that a clause makes up may not be.
 use Rattle.std.specs.Prelude.{◌≡◌, ◌&&◌, List, Bool, true}
 use Rattle.std.specs.List.{list_all}
 use Rattle.city_model.specs.declared.object.Geometry.{Geometry}

@@ -17,7 +17,8 @@ pub record AreEntriesOf (map : CityMap) (entries : Entries) : Type 0 where
   pub answers : (id : List ℕ) → at entries id ≡ map id
 
 -- the report of the ends, the text of the model after them, a newline
-pub record IsOutput (city : CityValue) (scripts : List Scripted) (ends : List End) (bytes : List ℕ) : Type 0 where
+pub record IsOutput (city : CityValue) (scripts : List Scripted) (ends : List End)
+    (bytes : List ℕ) : Type 0 where
   pub entries : Entries
   pub model : AreEntriesOf (model_after scripts (at city.1) ends) entries
   pub text : bytes ≡ report_text ends ++ city_text (city.0, entries) ++ 10 ∷ []
