@@ -8,9 +8,6 @@ use indexmap::IndexSet;
 use std::alloc::Global;
 use std::marker::Model;
 
-#[cfg(test)]
-mod tests;
-
 /// The points met so far, each once; numbered from 0 in that order.
 #[derive(Drop)]
 pub struct VertexPool {

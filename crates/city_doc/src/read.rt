@@ -60,6 +60,3 @@ fn city_of_tree(alloc: Global, tree: Value) -> Result<City, ReadFault>
         None => Ok(city),
     }
 }
-
-#[cfg(test)]
-mod tests;

@@ -15,9 +15,6 @@ use city_model::OutOfMemory;
 use city_model::city::City;
 use std::alloc::Global;
 
-#[cfg(test)]
-mod tests;
-
 /// The canonical text of a city, without a newline.
 ///
 /// The text is JSON that stands for the same city, unless the city's kept members nest so deep that
