@@ -1,5 +1,5 @@
 -- What a script leaves of a sound map is sound, and of a lawful map lawful.
-use Rattle.std.proofs.Common.{◌≡◌, ℕ, ◌+◌, List, [], ◌∷◌, true, Some, refl, ap, sym, subst, ◌∙◌}
+use Rattle.std.proofs.Common.{◌≡◌, ℕ, ◌+◌, List, [], ◌∷◌, true, refl, ap, sym, subst, ◌∙◌}
 use Rattle.std.specs.Prelude.{slice_get, if◌then◌else◌}
 use Rattle.std.proofs.lemmas.Bool.{false≢true}
 use Rattle.city_model.specs.declared.command.Command.{Command}
@@ -11,14 +11,14 @@ use Rattle.city_model.specs.CityMap.{CityMap}
 use Rattle.city_model.specs.Relations.{HasNoOrphan, IsSound, IsLawful}
 use Rattle.city_model.specs.Meaning.{after}
 use Rattle.city_model.specs.Runs.{Scripted, EndsFrom, HasResult, map_after, map_left, commands_of, model_after, FitsFrom, Fits}
-use Rattle.city_model.specs.Scripts.{is_end, is_empty_list, ends_once}
+use Rattle.city_model.specs.Scripts.{is_end, is_empty_list, ends_once, AreScripts}
 use Rattle.city_model.proofs.SoundAfter.{sound_after}
 
 pub sound_after_all : (m : CityMap) (cs : List Command) → IsSound m → IsSound (map_after m cs)
 sound_after_all m [] s = s
 sound_after_all m (c ∷ cs) s = sound_after_all (after m c) cs (sound_after m c s)
 
-nothing_more : (cs : List Command) → is_empty_list cs ≡ true → cs ≡ []
+pub nothing_more : (cs : List Command) → is_empty_list cs ≡ true → cs ≡ []
 nothing_more [] h = refl
 nothing_more (c ∷ cs) h = absurd (false≢true h)
 
@@ -43,10 +43,6 @@ lawful_left m cs rs Outcome.Committed e s h = lawful_when_committed m cs rs e s.
 lawful_left m cs rs Outcome.Aborted e s h = s
 lawful_left m cs rs (Outcome.Refused i cause) e s h = s
 lawful_left m cs rs (Outcome.NoMemory i) e s h = s
-
--- each of them is a script
-abbrev pub AreScripts : List Scripted → Type 0
-AreScripts scripts = (i : ℕ) (s : Scripted) → slice_get scripts i ≡ Some s → ends_once s.1 ≡ true
 
 lawful_from : (scripts : List Scripted) (m : CityMap) (place : ℕ) (ends : List End) → AreScripts scripts → IsLawful m → FitsFrom scripts m place ends → IsLawful (model_after scripts m ends)
 lawful_from scripts m place [] all l h = l

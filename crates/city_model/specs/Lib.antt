@@ -5,6 +5,7 @@ pub mod Kept
 pub mod Meaning
 pub mod Members
 pub mod Misrelated
+pub mod Plans
 pub mod RelationTests
 pub mod Relations
 pub mod Runs
@@ -13,4 +14,5 @@ pub mod SerialEnds
 pub mod Shells
 pub mod Standing
 pub mod Types
+pub mod Writing
 pub mod Integral

@@ -122,6 +122,18 @@ abbrev pub refused_or : Option Cause → Reply → Reply
 refused_or (Some cause) reply = Refused cause
 refused_or None reply = reply
 
+abbrev pub is_refusal : Reply → Bool
+is_refusal (Refused cause) = true
+is_refusal (Found object) = false
+is_refusal Absent = false
+is_refusal Added = false
+is_refusal Replaced = false
+is_refusal Deleted = false
+is_refusal Attached = false
+is_refusal Detached = false
+is_refusal Committed = false
+is_refusal Aborted = false
+
 -- the map after the command; a refusal leaves it
 abbrev pub after : CityMap → Command → CityMap
 after m c = map_unless (cause_of m c) m (effect_of m c)

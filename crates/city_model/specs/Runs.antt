@@ -1,5 +1,6 @@
 -- Scripts run one after another, each as a whole.
-use Rattle.std.specs.Prelude.{◌≡◌, ◌≤◌, ◌+◌, ℕ, List, [], ◌∷◌, false, Option, Some, None, slice_get}
+use Rattle.std.specs.Prelude.{◌≡◌, ◌≤◌, ◌==◌, ◌+◌, ℕ, List, [], ◌∷◌, Bool, false, Option, Some, None, slice_get}
+use Rattle.std.specs.List.{list_any}
 use Rattle.city_model.specs.declared.object.Object.{Object}
 use Rattle.city_model.specs.declared.command.Command.{Command}
 use Rattle.city_model.specs.declared.command.Command.TheVariants.{Commit, Abort}
@@ -21,10 +22,6 @@ Scripted = List ℕ × List Command
 abbrev pub map_after : CityMap → List Command → CityMap
 map_after m [] = m
 map_after m (c ∷ cs) = map_after (after m c) cs
-
-abbrev pub replies_to : CityMap → List Command → List Reply
-replies_to m [] = []
-replies_to m (c ∷ cs) = reply_to m c ∷ replies_to (after m c) cs
 
 -- the command is refused by this cause
 abbrev pub Refuses : CityMap → Command → Cause → Type 0
@@ -80,6 +77,10 @@ pub record IsEndOf (scripts : List Scripted) (m : CityMap) (place : ℕ) (e : En
 abbrev pub NoEndOf : ℕ → List End → Type 0
 NoEndOf script [] = Unit {0}
 NoEndOf script (e ∷ es) = (e.script ≡ script → ⊥) × NoEndOf script es
+
+-- whether an end of the list is of this script
+abbrev pub has_end : ℕ → List End → Bool
+has_end script ends = list_any (λ e. e.script == script) ends
 
 -- the ends from this place on are those of scripts run one at a time from the map m, no script twice
 abbrev pub FitsFrom : List Scripted → CityMap → ℕ → List End → Type 0
