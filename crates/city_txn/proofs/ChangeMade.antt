@@ -15,7 +15,7 @@ use Rattle.std.proofs.lemmas.Map.Keys.{IsDistinct-from_sorted, sorted_tail}
 use Rattle.std.proofs.lemmas.Map.Entries.{none_past_head}
 use Rattle.city_model.specs.declared.object.Object.{Object}
 use Rattle.city_model.specs.CityMap.{CityMap, at, same_id, has_id, changed}
-use Rattle.city_model.specs.Relations.{is_orphan, is_orphan_there, HasNoOrphan, IsLeastOrphan}
+use Rattle.city_model.specs.Relations.{is_orphan, is_orphan_there, HasNoOrphan, IsLeastOrphan, IsSound}
 use Rattle.city_model.specs.Runs.{Change, with_change}
 use Rattle.city_model.proofs.Ids.{same_id_true, same_id_back}
 use Rattle.city_model.proofs.IdLists.{bool_cases}
@@ -175,10 +175,10 @@ module _ (v : CoreState) (s : ℕ) (c : Change) (lists : (q : List ℕ) → look
     λ q o less is. not_orphan q o is (l.1 q o less),
   )
 
-  pub is_change_of : HasNoOrphan (at (objects_in c)) → IsChangeOf v s c
-  is_change_of h = record {
-    makes_view = λ q. changed_by c (committed v) q sorted ∙ sym (view_over q);
+  pub is_change_of : IsSound (view v s) → HasNoOrphan (at (objects_in c)) → IsChangeOf v s c
+  is_change_of sound h = record {
+    makes_view = λ i q. (changed_by c (committed v) q sorted ∙ sym (view_over q)) i;
     ids = λ q. key_listed c q ∙ ap is_some (lists q) ∙ own_by s (write_of v.writes q);
     in_byte_order = sorted;
-    no_orphan = λ q o is. not_orphan q o is (h q o);
+    lawful = (sound, λ q o is. not_orphan q o is (h q o));
   }

@@ -123,12 +123,18 @@ module _ (a b : Inside) (k : IsInPlace a) (s : ℕ) (ids : List (List ℕ)) (are
   committed_left q = city_is b forgotten_in_place q ∙ ap (λ x. committed_at x (image_at b q)) (city_at q)
       ∙ ap (committed_at (if is_writer s (writer_of (image_at a q)) then f (here a q) (image_at a q) else here a q)) (images_at q)
 
-  pub kept_city : ((x : Option Object) (i : Option Image) → f x i ≡ seen_at x i) → (q : List ℕ) → committed (state_of b) q ≡ view (state_of a) s q
-  kept_city is q = committed_left q
+  kept_at : ((x : Option Object) (i : Option Image) → f x i ≡ seen_at x i) → (q : List ℕ) → committed (state_of b) q ≡ view (state_of a) s q
+  kept_at is q = committed_left q
       ∙ ap (λ y. committed_at (if is_writer s (writer_of (image_at a q)) then y else here a q) (if is_writer s (writer_of (image_at a q)) then None else image_at a q)) (is (here a q) (image_at a q))
       ∙ kept_point s (here a q) (image_at a q) ∙ sym (view_is a k q s)
 
-  pub restored_city : ((x : Option Object) (i : Option Image) → f x i ≡ committed_at x i) → (q : List ℕ) → committed (state_of b) q ≡ committed (state_of a) q
-  restored_city is q = committed_left q
+  pub kept_city : ((x : Option Object) (i : Option Image) → f x i ≡ seen_at x i) → committed (state_of b) ≡ view (state_of a) s
+  kept_city is = λ j q. kept_at is q j
+
+  restored_at : ((x : Option Object) (i : Option Image) → f x i ≡ committed_at x i) → (q : List ℕ) → committed (state_of b) q ≡ committed (state_of a) q
+  restored_at is q = committed_left q
       ∙ ap (λ y. committed_at (if is_writer s (writer_of (image_at a q)) then y else here a q) (if is_writer s (writer_of (image_at a q)) then None else image_at a q)) (is (here a q) (image_at a q))
       ∙ restored_point (is_writer s (writer_of (image_at a q))) (here a q) (image_at a q) ∙ sym (city_is a k q)
+
+  pub restored_city : ((x : Option Object) (i : Option Image) → f x i ≡ committed_at x i) → committed (state_of b) ≡ committed (state_of a)
+  restored_city is = λ j q. restored_at is q j

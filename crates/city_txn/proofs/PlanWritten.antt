@@ -47,7 +47,7 @@ module _ (v u w : State) (s : ℕ) (ws : List Planned) (n : ℕ) (p : Planned) (
 pub sees_on : (v u w : State) → SeesSame v u → SeesSame u w → SeesSame v w
 sees_on v u w a b = record {
   frame = b.frame ∙ a.frame;
-  city = λ q. b.city q ∙ a.city q;
+  city = b.city ∙ a.city;
   writes = λ q. b.writes q ∙ a.writes q;
   opened = λ t. b.opened t ∙ a.opened t;
 }

@@ -36,7 +36,7 @@ module _ (a b : Inside) (k : IsInPlace a) (l : IsInPlace b) (frame : b.city.0 �
   pub sees_same : SeesSame (state_of a) (state_of b)
   sees_same = record {
     frame = frame;
-    city = λ q. city_is b l q ∙ city q ∙ sym (city_is a k q);
+    city = λ i q. (city_is b l q ∙ city q ∙ sym (city_is a k q)) i;
     writes = λ q. writes_is b l q ∙ writes q ∙ sym (writes_is a k q);
     opened = opened;
   }

@@ -80,12 +80,15 @@ module _ (a b : Inside) (k : IsInPlace a) (s : ℕ) (id : List ℕ) (room : has_
     images_ordered = images_ordered;
   }
 
-  pub written_city : (q : List ℕ) → committed (state_of b) q ≡ committed (state_of a) q
-  written_city q = city_is b written_in_place q ∙ bool_cases (same_id id q)
+  written_at_id : (q : List ℕ) → committed (state_of b) q ≡ committed (state_of a) q
+  written_at_id q = city_is b written_in_place q ∙ bool_cases (same_id id q)
       (λ e. ap (committed_at (here b q)) (image_there q e) ∙ committed_written (here a id) (here b q) gone (image_at a id) (some_writer s (image_at a id) writer)
       ∙ ap (λ r. committed_at (here a r) (image_at a r)) (same_id_true id q e))
       (λ e. ap (λ x. committed_at x (image_at b q)) (city_apart q e) ∙ ap (committed_at (here a q)) (image_apart q e))
       ∙ sym (city_is a k q)
+
+  pub written_city : committed (state_of b) ≡ committed (state_of a)
+  written_city = λ i q. written_at_id q i
 
   pub written_writes : (q : List ℕ) → write_of (state_of b).writes q ≡ (if same_id id q then Some (s, w) else write_of (state_of a).writes q)
   written_writes q = writes_is b written_in_place q ∙ bool_cases (same_id id q)

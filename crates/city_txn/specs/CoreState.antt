@@ -37,7 +37,8 @@ held_in locks stamp id = option_map is_exclusive (mode_of locks stamp id)
 abbrev pub held : CoreState → ℕ → Held
 held v stamp = held_in v.locks stamp
 
--- the commands of the transaction stand: from the committed map they get these replies, with their locks held, and lead to its view
+-- the commands of the transaction stand: from the committed map they get these replies, with their locks held, and
+-- lead to its view
 abbrev pub Stands : CoreState → ℕ → List Answered → Type 0
 Stands v stamp done = Follows (held v stamp) (committed v) done (view v stamp)
 
@@ -45,16 +46,27 @@ Stands v stamp done = Follows (held v stamp) (committed v) done (view v stamp)
 -- lawful, and each view comes of commands that stand
 pub record IsConsistent (v : CoreState) : Type 0 where
   pub lawful : Lawful v.locks
-  pub locked : (id : List ℕ) (w : Write) → write_of v.writes id ≡ Some w → mode_of v.locks w.0 id ≡ Some Exclusive
+  pub locked : (id : List ℕ) (w : Write) → write_of v.writes id ≡ Some w
+      → mode_of v.locks w.0 id ≡ Some Exclusive
   pub open_only : (stamp : ℕ) (id : List ℕ) → is_some (mode_of v.locks stamp id) ≡ true → is_open v stamp ≡ true
   pub city : IsLawful (committed v)
   pub history : (stamp : ℕ) → (done : List Answered) × Stands v stamp done
 
+-- each other transaction stays open or not, and its commands stand as they stood
+pub record KeepsOthers (stamp : ℕ) (old new : CoreState) : Type 0 where
+  pub frame : new.frame ≡ old.frame
+  pub opened : (t : ℕ) → (stamp == t) ≡ false → is_open new t ≡ is_open old t
+  pub others : (t : ℕ) (done : List Answered) → (stamp == t) ≡ false → Stands old t done → Stands new t done
+
 -- the transaction of the stamp is over: its writes and its locks are gone, and it is no longer open; the others' stay
 pub record IsOver (stamp : ℕ) (old new : CoreState) : Type 0 where
-  pub frame : new.frame ≡ old.frame
   pub writes : (id : List ℕ) → write_of new.writes id ≡ unless_by stamp (write_of old.writes id)
   pub locks : (t : ℕ) (id : List ℕ) → mode_of new.locks t id ≡ (if stamp == t then None else mode_of old.locks t id)
-  pub opened : (t : ℕ) → is_open new t ≡ (if stamp == t then false else is_open old t)
-  -- the commands of each other transaction stand as they stood
-  pub others : (t : ℕ) (done : List Answered) → (stamp == t) ≡ false → Stands old t done → Stands new t done
+  pub closed : is_open new stamp ≡ false
+  pub keeps : KeepsOthers stamp old new
+
+-- it is over, and what it wrote is taken back: all else that is seen stays
+pub record IsUndone (stamp : ℕ) (old new : CoreState) : Type 0 where
+  pub city : committed new ≡ committed old
+  pub views : (t : ℕ) → (stamp == t) ≡ false → view new t ≡ view old t
+  pub over : IsOver stamp old new

@@ -10,7 +10,7 @@ use Rattle.city_txn.specs.Acting.{writes_id}
 pub record Performed {E : Type 0} (stamp : ℕ) (command : Command) (result : Result Reply E) (old new : State) : Type 0 where
   pub reply : IfOk result (λ reply. reply ≡ reply_to (view old stamp) command)
   pub frame : new.frame ≡ old.frame
-  pub city : (id : List ℕ) → committed new id ≡ committed old id
+  pub city : committed new ≡ committed old
   pub opened : (t : ℕ) → is_open new t ≡ is_open old t
   -- what the command writes stands there as the command leaves it; where there is no memory, nothing is written
   pub writes : (id : List ℕ) → write_of new.writes id ≡ (if is_ok result && writes_id (view old stamp) command id then Some (stamp, after (view old stamp) command id) else write_of old.writes id)

@@ -62,7 +62,7 @@ unless_by stamp w = if is_by stamp w then None else w
 -- what anyone sees is the same
 pub record SeesSame (v w : State) : Type 0 where
   pub frame : w.frame ≡ v.frame
-  pub city : (id : List ℕ) → committed w id ≡ committed v id
+  pub city : committed w ≡ committed v
   pub writes : (id : List ℕ) → write_of w.writes id ≡ write_of v.writes id
   pub opened : (stamp : ℕ) → is_open w stamp ≡ is_open v stamp
 

@@ -14,8 +14,6 @@ mod relating;
 mod rooms;
 pub mod step;
 mod store;
-#[cfg(test)]
-mod tests;
 pub mod txn_core;
 mod would_lock;
 mod writing;

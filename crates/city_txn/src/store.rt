@@ -125,7 +125,7 @@ impl Store {
     pub fn set(&mut self, alloc: Global, stamp: u64, id: Id, object: Option<Object>)
         requires { has_room self.old stamp id ≡ true }
         ensures frame { self.new.frame ≡ self.old.frame }
-        ensures city { (q : List ℕ) → committed self.new q ≡ committed self.old q }
+        ensures city { committed self.new ≡ committed self.old }
         ensures writes { (q : List ℕ) → write_of self.new.writes q ≡ (if same_id id q then Some (stamp, object) else write_of self.old.writes q) }
         ensures opened { self.new.opened ≡ self.old.opened }
     {
@@ -168,7 +168,7 @@ impl Store {
     /// Makes what the stamp wrote the committed city, and closes the stamp. It works through the
     /// ids that the stamp has room to write, and takes no memory.
     pub fn keep(&mut self, stamp: u64)
-        ensures city { (id : List ℕ) → committed self.new id ≡ view self.old stamp id }
+        ensures city { committed self.new ≡ view self.old stamp }
         ensures forgets { Forgets stamp self.old self.new }
     {
         if let Some(ids) = self.rooms.remove(&stamp) {
@@ -179,7 +179,7 @@ impl Store {
     /// Takes back what the stamp wrote, and closes the stamp. It works through the ids that the
     /// stamp has room to write, and takes no memory.
     pub fn restore(&mut self, stamp: u64)
-        ensures city { (id : List ℕ) → committed self.new id ≡ committed self.old id }
+        ensures city { committed self.new ≡ committed self.old }
         ensures forgets { Forgets stamp self.old self.new }
     {
         if let Some(ids) = self.rooms.remove(&stamp) {

@@ -27,7 +27,7 @@ pub fn write_all(
     requires opened { is_open store.old stamp ≡ true }
     requires alone { (id : List ℕ) → plans writes.items id ≡ true → (t : ℕ) → has_room store.old t id ≡ true → t ≡ stamp }
     ensures frame { store.new.frame ≡ store.old.frame }
-    ensures city { (id : List ℕ) → committed store.new id ≡ committed store.old id }
+    ensures city { committed store.new ≡ committed store.old }
     ensures opened { (t : ℕ) → is_open store.new t ≡ is_open store.old t }
     ensures ok { OnOk result ((f : CityMap) → AreOf f writes.items → (id : List ℕ) →
         write_of store.new.writes id ≡ (if plans writes.items id then Some (stamp, f id) else write_of store.old.writes id)) }
@@ -62,7 +62,7 @@ fn touch_all(
 fn set_all(store: &mut Store, alloc: Global, stamp: u64, mut writes: Vec<Planned>)
     requires { (id : List ℕ) → plans writes.items id ≡ true → has_room store.old stamp id ≡ true }
     ensures frame { store.new.frame ≡ store.old.frame }
-    ensures city { (id : List ℕ) → committed store.new id ≡ committed store.old id }
+    ensures city { committed store.new ≡ committed store.old }
     ensures opened { store.new.opened ≡ store.old.opened }
     ensures writes { (f : CityMap) → AreOf f writes.items → (id : List ℕ) →
         write_of store.new.writes id ≡ (if plans writes.items id then Some (stamp, f id) else write_of store.old.writes id) }

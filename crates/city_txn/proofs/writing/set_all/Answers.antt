@@ -16,7 +16,7 @@ loop-write-preserved c =
     let e : all ≡ left ++ w ∷ [] = c.in-Some.ensures.items in
     record {
       frame = c.set.ensures.frame ∙ i.frame;
-      city = λ q. c.set.ensures.city q ∙ i.city q;
+      city = c.set.ensures.city ∙ i.city;
       opened = c.set.ensures.opened ∙ i.opened;
       room = λ q h. room_by c.loop-write.store c.set.new.self c.args.stamp q c.set.ensures.opened ∙ i.room q (plans_before all left w q e h);
       of = λ f h. of_before f all left w e (i.of f h);

@@ -8,7 +8,7 @@ use Rattle.city_txn.proofs.writing.set_all.Given as goal
 abbrev pub invariant-loop-write : goal.invariant-loop-write
 invariant-loop-write l = record {
   frame : l.store.frame ≡ l.initial.store.frame;
-  city : (q : List ℕ) → committed l.store q ≡ committed l.initial.store q;
+  city : committed l.store ≡ committed l.initial.store;
   opened : l.store.opened ≡ l.initial.store.opened;
   room : (q : List ℕ) → plans l.writes.items q ≡ true → has_room l.store l.stamp q ≡ true;
   of : (f : CityMap) → AreOf f l.initial.writes.items → AreOf f l.writes.items;

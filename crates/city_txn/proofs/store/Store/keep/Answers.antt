@@ -9,12 +9,12 @@ use Rattle.city_txn.proofs.Forgotten.{forgotten_in_place, forgets, kept_city}
 use Rattle.city_txn.proofs.store.Store.keep.Goals as goal
 
 pub returns-in_default-clause-city : goal.returns-in_default-clause-city
-returns-in_default-clause-city c q =
+returns-in_default-clause-city c =
     let a = c.self.inside in
     let b : Inside = record { city = a.city; images = a.images; rooms = c.remove.new.self } in
     let are : [] ≡ rooms_of a.rooms.entries c.args.stamp = ap (λ o. unwrap_or o []) c.in_default.ensures.value in
-    kept_city a b c.self.invariant c.args.stamp [] are seen_at (none_ended seen_at a.city a.images) c.remove.ensures.updates.0 (λ x i. refl) q
-    ∙ ap (λ (v : State). view v c.args.stamp q) c.self.view_is
+    kept_city a b c.self.invariant c.args.stamp [] are seen_at (none_ended seen_at a.city a.images) c.remove.ensures.updates.0 (λ x i. refl)
+    ∙ ap (λ (v : State). view v c.args.stamp) c.self.view_is
 
 pub returns-in_default-clause-forgets : goal.returns-in_default-clause-forgets
 returns-in_default-clause-forgets c =
@@ -31,12 +31,12 @@ invariant_of-self c =
     forgotten_in_place a b c.self.invariant c.args.stamp c.as_slice.result.now are seen_at c.keep_each.ensures c.remove.ensures.updates.0
 
 pub returns-in-Some-clause-city : goal.returns-in-Some-clause-city
-returns-in-Some-clause-city c q =
+returns-in-Some-clause-city c =
     let a = c.self.inside in
     let b : Inside = record { city = c.keep_each.new.city; images = c.keep_each.new.images; rooms = c.remove.new.self } in
     let are : c.as_slice.result.now ≡ rooms_of a.rooms.entries c.args.stamp = c.as_slice.ensures ∙ ap (λ o. unwrap_or o []) c.in-Some.ensures.value in
-    kept_city a b c.self.invariant c.args.stamp c.as_slice.result.now are seen_at c.keep_each.ensures c.remove.ensures.updates.0 (λ x i. refl) q
-    ∙ ap (λ (v : State). view v c.args.stamp q) c.self.view_is
+    kept_city a b c.self.invariant c.args.stamp c.as_slice.result.now are seen_at c.keep_each.ensures c.remove.ensures.updates.0 (λ x i. refl)
+    ∙ ap (λ (v : State). view v c.args.stamp) c.self.view_is
 
 pub returns-in-Some-clause-forgets : goal.returns-in-Some-clause-forgets
 returns-in-Some-clause-forgets c =

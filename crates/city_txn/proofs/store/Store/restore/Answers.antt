@@ -23,12 +23,12 @@ invariant_of-self c =
     forgotten_in_place a b c.self.invariant c.args.stamp c.as_slice.result.now are committed_at c.restore_each.ensures c.remove.ensures.updates.0
 
 pub returns-in-Some-clause-city : goal.returns-in-Some-clause-city
-returns-in-Some-clause-city c q =
+returns-in-Some-clause-city c =
     let a = c.self.inside in
     let b : Inside = record { city = c.restore_each.new.city; images = c.restore_each.new.images; rooms = c.remove.new.self } in
     let are : c.as_slice.result.now ≡ rooms_of a.rooms.entries c.args.stamp = c.as_slice.ensures ∙ ap (λ o. unwrap_or o []) c.in-Some.ensures.value in
-    restored_city a b c.self.invariant c.args.stamp c.as_slice.result.now are committed_at c.restore_each.ensures c.remove.ensures.updates.0 (λ x i. refl) q
-    ∙ ap (λ (v : State). committed v q) c.self.view_is
+    restored_city a b c.self.invariant c.args.stamp c.as_slice.result.now are committed_at c.restore_each.ensures c.remove.ensures.updates.0 (λ x i. refl)
+    ∙ ap committed c.self.view_is
 
 pub returns-in-Some-clause-forgets : goal.returns-in-Some-clause-forgets
 returns-in-Some-clause-forgets c =

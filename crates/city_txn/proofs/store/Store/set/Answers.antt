@@ -17,14 +17,14 @@ invariant_of-self c =
     c.write.ensures.city c.write.ensures.images refl c.write.ensures.city_ordered (c.write.ensures.images_ordered c.self.invariant.images_ordered)
 
 pub returns-clause-city : goal.returns-clause-city
-returns-clause-city c q =
+returns-clause-city c =
     let a = c.self.inside in
     let b : Inside = record { city = c.write.new.city; images = c.write.new.images; rooms = a.rooms } in
     let room : has_room (state_of a) c.args.stamp c.args.id ≡ true = ap (λ (v : State). has_room v c.args.stamp c.args.id) c.self.view_is ∙ c.requires in
     written_city a b c.self.invariant c.args.stamp c.args.id room c.is_none-gone.result c.standing.result c.args.object
     (not_gone c.args.object c.is_none-gone.result c.standing.result c.is_none-gone.ensures c.standing.ensures)
-    c.write.ensures.city c.write.ensures.images refl c.write.ensures.city_ordered (c.write.ensures.images_ordered c.self.invariant.images_ordered) q
-    ∙ ap (λ (v : State). committed v q) c.self.view_is
+    c.write.ensures.city c.write.ensures.images refl c.write.ensures.city_ordered (c.write.ensures.images_ordered c.self.invariant.images_ordered)
+    ∙ ap committed c.self.view_is
 
 pub returns-clause-writes : goal.returns-clause-writes
 returns-clause-writes c q =

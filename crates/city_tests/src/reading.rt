@@ -1,6 +1,6 @@
 //! Documents that are read, and documents that are refused.
-use crate::read::read_city;
 use crate::samples::document;
+use city_doc::read::read_city;
 use std::alloc::Global;
 use std::test::Fail;
 
@@ -75,6 +75,113 @@ fn objects_are_judged_in_order(rt: HostRuntime) -> Result<(), Fail> {
         ),
     ] {
         let text = document(alloc, objects, "[]")?;
+        let found = answer(alloc, text.as_str())?;
+        assert_eq!(rt; found.as_str(), want, "at {objects}");
+    }
+    Ok(())
+}
+
+#[test]
+fn faulty_documents_are_refused(rt: HostRuntime) -> Result<(), Fail> {
+    let alloc = rt.alloc();
+    for (objects, vertices, want) in [
+        (
+            "{\"c\":{\"type\":\"Building\",\"geometry\":[{\"type\":\"Solid\",\"lod\":\"1\",\"boundaries\":[[[[0,3,2,1]],[[7,6,5,4]],[[0,1,5,4]],[[1,2,6,5]],[[2,3,7,6]],[[3,0,4,7]]]]}]}}",
+            "[[0,0,0],[1,0,0],[1,1,0],[0,1,0],[0,0,1],[1,0,1],[1,1,1],[0,1,1]]",
+            "the object c has a solid with an open shell",
+        ),
+        (
+            "{\"s\":{\"geometry\":[{\"boundaries\":[[[0,1,3]]],\"lod\":\"1\",\"type\":\"MultiSurface\"}],\"type\":\"Building\"}}",
+            "[[0,0,0],[1,0,0],[0,1,0]]",
+            "the object s names a vertex that isn't there",
+        ),
+        (
+            "{\"s\":{\"geometry\":[{\"boundaries\":[[[0,1,-1]]],\"lod\":\"1\",\"type\":\"MultiSurface\"}],\"type\":\"Building\"}}",
+            "[[0,0,0],[1,0,0],[0,1,0]]",
+            "the object s names a vertex that isn't there",
+        ),
+        (
+            "{\"s\":{\"geometry\":[{\"boundaries\":[[[0,1,2]]],\"lod\":\"1\",\"type\":\"MultiSurface\"}],\"type\":\"Building\"}}",
+            "[[0,0,0],[1,0,0],[0,9223372036854775808,0]]",
+            "a number isn't a whole number of 64 bits",
+        ),
+        (
+            "{\"s\":{\"geometry\":[{\"boundaries\":[[[0,1,2]]],\"lod\":1,\"type\":\"MultiSurface\"}],\"type\":\"Building\"}}",
+            "[[0,0,0],[1,0,0],[0,1,0]]",
+            "the object s has a malformed geometry",
+        ),
+        (
+            "{\"s\":{\"geometry\":[{\"boundaries\":[[0,1,2]],\"lod\":\"1\",\"type\":\"MultiSurface\"}],\"type\":\"Building\"}}",
+            "[[0,0,0],[1,0,0],[0,1,0]]",
+            "the object s has a malformed geometry",
+        ),
+        (
+            "{\"s\":{\"geometry\":[{\"boundaries\":[[[0,1,2]]],\"lod\":\"1\",\"type\":\"Solid\"}],\"type\":\"Building\"}}",
+            "[[0,0,0],[1,0,0],[0,1,0]]",
+            "the object s has a malformed geometry",
+        ),
+        (
+            "{\"s\":{\"geometry\":[{\"boundaries\":[[[0,1,2]]],\"lod\":\"1\",\"type\":\"Cube\"}],\"type\":\"Building\"}}",
+            "[[0,0,0],[1,0,0],[0,1,0]]",
+            "the object s has a malformed geometry",
+        ),
+        (
+            "{\"s\":{\"geometry\":[{\"boundaries\":[[[0,1]]],\"lod\":\"1\",\"type\":\"MultiSurface\"}],\"type\":\"Building\"}}",
+            "[[0,0,0],[1,0,0],[0,1,0]]",
+            "the object s has a ring that is too short or has equal neighbours",
+        ),
+        (
+            "{\"s\":{\"geometry\":[{\"boundaries\":[[[0,1,1]]],\"lod\":\"1\",\"type\":\"MultiSurface\"}],\"type\":\"Building\"}}",
+            "[[0,0,0],[1,0,0],[0,1,0]]",
+            "the object s has a ring that is too short or has equal neighbours",
+        ),
+        (
+            "{\"s\":{\"geometry\":[{\"boundaries\":[[]],\"lod\":\"1\",\"type\":\"MultiSurface\"}],\"type\":\"Building\"}}",
+            "[[0,0,0],[1,0,0],[0,1,0]]",
+            "the object s has a ring that is too short or has equal neighbours",
+        ),
+        (
+            "{\"s\":{\"geometry\":[{\"boundaries\":[[[[0,1,2]]]],\"lod\":\"1\",\"type\":\"Solid\"}],\"type\":\"Building\"}}",
+            "[[0,0,0],[1,0,0],[0,1,0]]",
+            "the object s has a solid with an open shell",
+        ),
+        (
+            "{\"s\":{\"geometry\":[{\"boundaries\":[[[[0,1,2]]]],\"lod\":\"1\",\"type\":\"Solid\"},{\"boundaries\":[[[0,1]]],\"lod\":\"1\",\"type\":\"MultiSurface\"}],\"type\":\"Building\"}}",
+            "[[0,0,0],[1,0,0],[0,1,0]]",
+            "the object s has a ring that is too short or has equal neighbours",
+        ),
+        (
+            "{\"b\":{\"type\":\"Building\"},\"p\":{\"parents\":[\"b\"],\"type\":\"BuildingPart\"}}",
+            "[]",
+            "the parents and children of the object p don't agree",
+        ),
+        (
+            "{\"p\":{\"parents\":[\"r\"],\"type\":\"BuildingPart\"},\"r\":{\"children\":[\"p\"],\"type\":\"Bridge\"}}",
+            "[]",
+            "the parents and children of the object p don't agree",
+        ),
+        (
+            "{\"p\":{\"type\":\"BuildingPart\"}}",
+            "[]",
+            "the parents and children of the object p don't agree",
+        ),
+        (
+            "{\"a\":{\"children\":[1],\"type\":\"Road\"},\"b\":{\"children\":[\"z\"],\"type\":\"Road\"}}",
+            "[]",
+            "the parents and children of the object a don't agree",
+        ),
+        (
+            "{\"a\":{\"children\":[\"z\"],\"type\":\"Road\"},\"b\":{\"children\":1,\"type\":\"Road\"}}",
+            "[]",
+            "the parents and children of the object a don't agree",
+        ),
+        (
+            "{\"a\":{\"parents\":{},\"type\":\"Building\"},\"s\":{\"geometry\":[{\"boundaries\":[[[0,1]]],\"lod\":\"1\",\"type\":\"MultiSurface\"}],\"type\":\"Building\"}}",
+            "[[0,0,0],[1,0,0],[0,1,0]]",
+            "the object s has a ring that is too short or has equal neighbours",
+        ),
+    ] {
+        let text = document(alloc, objects, vertices)?;
         let found = answer(alloc, text.as_str())?;
         assert_eq!(rt; found.as_str(), want, "at {objects}");
     }

@@ -1,6 +1,5 @@
 //! Texts of scripts, and what each is read as or refused with.
-use crate::boundaries::shape_name;
-use crate::scripts::read_scripts;
+use city_doc::scripts::read_scripts;
 use city_model::command::Command;
 use city_model::object::{Geometry, Shape, Surface};
 use city_model::object_type;
@@ -22,6 +21,14 @@ fn points_shown(text: &mut String, surfaces: &[Surface]) -> Result<(), Fail> {
         }
     }
     Ok(())
+}
+
+fn shape_name(shape: &Shape) -> &'static str {
+    match shape {
+        Shape::MultiSurface(_) => "MultiSurface",
+        Shape::CompositeSurface(_) => "CompositeSurface",
+        Shape::Solid(_) => "Solid",
+    }
 }
 
 fn geometry_shown(text: &mut String, geometry: &Geometry) -> Result<(), Fail> {
@@ -156,7 +163,7 @@ fn two_scripts(alloc: Global, first: &str, second: &str) -> Result<String, Alloc
 }
 
 #[test]
-fn positions_without_a_vertex(rt: HostRuntime) -> Result<(), Fail> {
+fn positions_without_a_vertex_are_refused(rt: HostRuntime) -> Result<(), Fail> {
     let last =
         "{\"put\":\"x\",\"object\":{\"type\":\"Road\",\"geometry\":[{\"type\":\"MultiSurface\",\"lod\":\"1\",\"boundaries\":[[[0,1]]]}]}},";
     let past =
@@ -182,7 +189,7 @@ fn positions_without_a_vertex(rt: HostRuntime) -> Result<(), Fail> {
 }
 
 #[test]
-fn forms_of_scripts(rt: HostRuntime) -> Result<(), Fail> {
+fn bad_forms_of_scripts_are_refused(rt: HostRuntime) -> Result<(), Fail> {
     for (text, want) in [
         ("", "NotJson"),
         ("[{\"name\":\"s\"", "NotJson"),
@@ -242,7 +249,7 @@ fn forms_of_scripts(rt: HostRuntime) -> Result<(), Fail> {
 }
 
 #[test]
-fn forms_of_commands(rt: HostRuntime) -> Result<(), Fail> {
+fn bad_forms_of_commands_are_refused(rt: HostRuntime) -> Result<(), Fail> {
     for command in [
         "{\"read\":1}",
         "1",
@@ -293,7 +300,7 @@ fn forms_of_commands(rt: HostRuntime) -> Result<(), Fail> {
 }
 
 #[test]
-fn limits(rt: HostRuntime) -> Result<(), Fail> {
+fn more_than_the_limits_allow_is_refused(rt: HostRuntime) -> Result<(), Fail> {
     let alloc = rt.alloc();
     for (text, want) in [
         (commits_after(alloc, COMMIT, 4_096)?, "TooMany"),
@@ -307,7 +314,7 @@ fn limits(rt: HostRuntime) -> Result<(), Fail> {
 }
 
 #[test]
-fn as_many_as_the_limits_allow(rt: HostRuntime) -> Result<(), Fail> {
+fn as_many_as_the_limits_allow_are_read(rt: HostRuntime) -> Result<(), Fail> {
     let alloc = rt.alloc();
     for (text, want) in [
         (commits_after(alloc, COMMIT, 4_095)?, 4_096),

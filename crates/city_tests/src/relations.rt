@@ -1,44 +1,10 @@
 //! Relations of worked examples, as they stand in documents.
-use crate::city::City;
-use crate::object::{Body, Object};
-use crate::object_type::ObjectType::{self, Bridge, Building, BuildingPart};
-use crate::relations::relations_fault;
-use crate::sequence::Sequence;
-use crate::tests::{frame, kept, text};
-use crate::text::Id;
-use std::alloc::Global;
+use crate::samples::{Row, city};
+use city_model::city::City;
+use city_model::is_lawful::is_lawful;
+use city_model::object_type::ObjectType::{Bridge, Building, BuildingPart};
+use city_model::relations::relations_fault;
 use std::test::Fail;
-
-/// An id, a type, and the ids of parents and of children, a space between two.
-type Row = (&'static str, ObjectType, &'static str, &'static str);
-
-fn ids(alloc: Global, names: &str) -> Result<Sequence<Id>, Fail> {
-    let mut ids = Sequence::new(alloc);
-    for name in names.split_whitespace() {
-        ids.push(text(alloc, name)?)?;
-    }
-    Ok(ids)
-}
-
-fn object(alloc: Global, kind: ObjectType, parents: &str, children: &str) -> Result<Object, Fail> {
-    Ok(Object {
-        body: Body {
-            kind,
-            geometry: Sequence::new(alloc),
-            extra: kept(alloc, "{}")?,
-        },
-        parents: ids(alloc, parents)?,
-        children: ids(alloc, children)?,
-    })
-}
-
-pub(crate) fn city(alloc: Global, objects: &[Row]) -> Result<City, Fail> {
-    let mut city = City::new(alloc, frame(alloc)?);
-    for (id, kind, parents, children) in objects {
-        drop(city.set(text(alloc, id)?, object(alloc, *kind, parents, children)?)?);
-    }
-    Ok(city)
-}
 
 /// The id that is named, or a dash.
 fn fault_of(city: &City) -> &str {
@@ -100,6 +66,28 @@ fn least_id_with_a_fault_is_named(rt: HostRuntime) -> Result<(), Fail> {
         ),
     ] {
         assert_eq!(rt; fault_of(&city(rt.alloc(), objects)?), expected);
+    }
+    Ok(())
+}
+
+#[test]
+fn a_city_is_lawful_where_its_relations_agree(rt: HostRuntime) -> Result<(), Fail> {
+    let alloc = rt.alloc();
+    for (objects, expected) in [
+        (
+            [("b", Building, "", "p"), ("p", BuildingPart, "b", "")].as_slice(),
+            true,
+        ),
+        (
+            &[("b", Building, "", ""), ("p", BuildingPart, "", "")],
+            false,
+        ),
+        (
+            &[("b", Building, "", ""), ("p", BuildingPart, "b", "")],
+            false,
+        ),
+    ] {
+        assert_eq!(rt; is_lawful(alloc, &city(alloc, objects)?)?, expected);
     }
     Ok(())
 }

@@ -1,96 +1,50 @@
-//! What no clause says: that calls answer where there is memory.
-use crate::city::City;
-use crate::command::Command;
-use crate::copied::Copied;
-use crate::kept::extra::Extra;
-use crate::frame::Frame;
-use crate::object::{Body, Geometry, Object, Point, Shape};
-use crate::object_type::{self, ObjectType};
-use crate::kept::place::{AtGeometry, AtObject, AtTop, AtTransform, Place};
-use crate::script::Script;
-use crate::sequence::Sequence;
-use crate::text::Text;
+//! Cities, objects, kept members, scripts and types, where there is memory.
+use crate::samples::{bare, empty_city, geometry, members, point, text, triangle};
+use city_model::command::Command;
+use city_model::copied::Copied;
+use city_model::kept::extra::Extra;
+use city_model::kept::place::{AtObject, AtTop, Place};
+use city_model::object::{Object, Shape};
+use city_model::object_type::{self, ObjectType};
+use city_model::script::Script;
+use city_model::sequence::Sequence;
 use serde_json::{Map, Value};
-use std::alloc::{AllocError, Global};
+use std::alloc::Global;
 use std::test::Fail;
 
-pub(crate) fn text(alloc: Global, bytes: &str) -> Result<Text, AllocError> {
-    Ok(Text::new(bytes.to_string(alloc)?))
-}
-
-/// The members of a text of JSON, where it is an object.
-fn members(alloc: Global, json: &str) -> Result<Map<String, Value>, Fail> {
-    match Value::from_str(alloc, json)? {
-        Value::Object(members) => Ok(members),
-        _ => Err(Fail::new("the text isn't an object")),
-    }
-}
-
-pub(crate) fn kept<P: Place>(alloc: Global, json: &str) -> Result<Extra<P>, Fail> {
-    match Extra::new(members(alloc, json)?) {
-        Ok(extra) => Ok(extra),
-        Err(_) => Err(Fail::new("the members can't be kept there")),
-    }
-}
-
-/// Whether the members may be kept at an object.
+/// Whether the members may be kept at a place.
 fn is_kept<P: Place>(alloc: Global, json: &str) -> Result<bool, Fail> {
     let extra: Result<Extra<P>, Map<String, Value>> = Extra::new(members(alloc, json)?);
     Ok(extra.is_ok())
 }
 
-fn triangle(alloc: Global) -> Result<Geometry, Fail> {
-    let mut ring = Sequence::new(alloc);
-    for (x, y) in [(0, 0), (1, 0), (0, i64::MAX)] {
-        ring.push(Point { x, y, z: i64::MIN })?;
-    }
-    let mut surface = Sequence::new(alloc);
-    surface.push(ring)?;
+fn with_triangle(alloc: Global) -> Result<Shape, Fail> {
+    let (a, b) = (point(0, 0, i64::MIN), point(1, 0, i64::MIN));
+    let surface = triangle(alloc, a, b, point(0, i64::MAX, i64::MIN))?;
     let mut surfaces = Sequence::new(alloc);
     surfaces.push(surface)?;
-    Ok(Geometry {
-        lod: text(alloc, "1.2")?,
-        shape: Shape::MultiSurface(surfaces),
-        extra: kept::<AtGeometry>(alloc, "{\"semantics\":null}")?,
-    })
+    Ok(Shape::MultiSurface(surfaces))
 }
 
-/// A land use with this number and a triangle, whose parent is `p` and whose child is `d`.
+/// A land use with these members and a triangle, whose parent is `p` and whose child is `d`.
 fn land_use(alloc: Global, json: &str) -> Result<Object, Fail> {
-    let mut geometry = Sequence::new(alloc);
-    geometry.push(triangle(alloc)?)?;
-    let mut parents = Sequence::new(alloc);
-    parents.push(text(alloc, "p")?)?;
-    let mut children = Sequence::new(alloc);
-    children.push(text(alloc, "d")?)?;
-    Ok(Object {
-        body: Body {
-            kind: ObjectType::LandUse,
-            geometry,
-            extra: kept::<AtObject>(alloc, json)?,
-        },
-        parents,
-        children,
-    })
+    let shape = with_triangle(alloc)?;
+    let geometry = geometry(alloc, "1.2", shape, "{\"semantics\":null}")?;
+    let mut object = bare(alloc, ObjectType::LandUse, json)?;
+    object.body.geometry.push(geometry)?;
+    object.parents.push(text(alloc, "p")?)?;
+    object.children.push(text(alloc, "d")?)?;
+    Ok(object)
 }
 
 fn number(object: &Object) -> Option<i64> {
     object.body.extra.map().get("n").and_then(Value::as_i64)
 }
 
-pub(crate) fn frame(alloc: Global) -> Result<Frame, Fail> {
-    Ok(Frame {
-        scale: [1, 1, 1],
-        translate: [0, 0, -5],
-        more: kept::<AtTransform>(alloc, "{}")?,
-        extra: kept::<AtTop>(alloc, "{\"extensions\":{}}")?,
-    })
-}
-
 #[test]
 fn set_gives_the_object_that_stood_there(rt: HostRuntime) -> Result<(), Fail> {
     let alloc = rt.alloc();
-    let mut city = City::new(alloc, frame(alloc)?);
+    let mut city = empty_city(alloc, [0, 0, -5], "{\"extensions\":{}}")?;
     let none = city.set(text(alloc, "f")?, land_use(alloc, "{\"n\":1}")?)?;
     let old = city.set(text(alloc, "f")?, land_use(alloc, "{\"n\":2}")?)?;
     let now = city.remove(&text(alloc, "f")?);
@@ -105,7 +59,7 @@ fn set_gives_the_object_that_stood_there(rt: HostRuntime) -> Result<(), Fail> {
 fn a_copy_of_a_city_stands_by_itself(rt: HostRuntime) -> Result<(), Fail> {
     let alloc = rt.alloc();
     let f = text(alloc, "f")?;
-    let mut city = City::new(alloc, frame(alloc)?);
+    let mut city = empty_city(alloc, [0, 0, -5], "{\"extensions\":{}}")?;
     drop(city.set(text(alloc, "f")?, land_use(alloc, "{\"n\":3}")?)?);
     let copy = city.copy(alloc)?;
     drop(city.remove(&f));
@@ -158,7 +112,8 @@ fn extensions_are_kept_where_they_are_empty(rt: HostRuntime) -> Result<(), Fail>
     Ok(())
 }
 
-fn script(alloc: Global, first: Command) -> Result<bool, Fail> {
+/// Whether a command before a commit makes a script.
+fn is_script(alloc: Global, first: Command) -> Result<bool, Fail> {
     let mut commands = Sequence::new(alloc);
     commands.push(first)?;
     commands.push(Command::Commit)?;
@@ -168,8 +123,8 @@ fn script(alloc: Global, first: Command) -> Result<bool, Fail> {
 #[test]
 fn a_script_ends_with_its_last_command(rt: HostRuntime) -> Result<(), Fail> {
     let alloc = rt.alloc();
-    assert!(rt; script(alloc, Command::Read(text(alloc, "f")?))?);
-    assert!(rt; !script(alloc, Command::Abort)?);
+    assert!(rt; is_script(alloc, Command::Read(text(alloc, "f")?))?);
+    assert!(rt; !is_script(alloc, Command::Abort)?);
     Ok(())
 }
 

@@ -1,5 +1,6 @@
-use crate::report::write_report;
+//! Reports of one script's end.
 use crate::samples::{bare, geometry, point, text, triangle};
+use city_doc::report::write_report;
 use city_model::command::{Cause, Reply};
 use city_model::end::{End, Outcome};
 use city_model::object::{Object, Shape};

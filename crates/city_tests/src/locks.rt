@@ -1,20 +1,15 @@
-use crate::answer::Answer;
-use crate::mode::Mode;
-use crate::table::LockTable;
-use city_model::OutOfMemory;
-use city_model::text::Id;
-use std::alloc::Global;
+//! What askers for locks are answered, and what is held then.
+use crate::samples::text;
+use city_locks::answer::Answer;
+use city_locks::mode::Mode;
+use city_locks::table::LockTable;
 use std::test::Fail;
-
-fn id(alloc: Global, text: &str) -> Result<Id, OutOfMemory> {
-    Ok(Id::new(text.to_string(alloc)?))
-}
 
 #[test]
 fn the_asker_waits_only_where_it_is_older_than_all_in_conflict(
     rt: HostRuntime,
 ) -> Result<(), Fail> {
-    let x = id(rt.alloc(), "x")?;
+    let x = text(rt.alloc(), "x")?;
     let mut table = LockTable::new(rt.alloc());
     for (stamp, mode, want) in [
         (3, Mode::Shared, Answer::Granted),
@@ -46,7 +41,7 @@ fn the_asker_waits_only_where_it_is_older_than_all_in_conflict(
 
 #[test]
 fn the_stronger_mode_is_kept_until_the_release(rt: HostRuntime) -> Result<(), Fail> {
-    let x = id(rt.alloc(), "x")?;
+    let x = text(rt.alloc(), "x")?;
     let mut table = LockTable::new(rt.alloc());
     for (stamp, mode, want) in [
         (4, Mode::Shared, Answer::Granted),
@@ -69,7 +64,7 @@ fn the_stronger_mode_is_kept_until_the_release(rt: HostRuntime) -> Result<(), Fa
 
 #[test]
 fn a_release_gives_back_all_ids_of_its_stamp_alone(rt: HostRuntime) -> Result<(), Fail> {
-    let (x, y) = (id(rt.alloc(), "x")?, id(rt.alloc(), "y")?);
+    let (x, y) = (text(rt.alloc(), "x")?, text(rt.alloc(), "y")?);
     let mut table = LockTable::new(rt.alloc());
     assert_eq!(rt; table.ask(1, &x, Mode::Shared)?, Answer::Granted);
     assert_eq!(rt; table.ask(2, &x, Mode::Shared)?, Answer::Granted);
@@ -86,7 +81,7 @@ fn a_release_gives_back_all_ids_of_its_stamp_alone(rt: HostRuntime) -> Result<()
 /// same ask succeeds when it is asked again.
 #[test]
 fn a_refused_growth_leaves_the_table_as_it_was(rt: HostRuntime) -> Result<(), Fail> {
-    let (x, y) = (id(rt.alloc(), "x")?, id(rt.alloc(), "y")?);
+    let (x, y) = (text(rt.alloc(), "x")?, text(rt.alloc(), "y")?);
     let mut table = LockTable::new(rt.alloc());
     for (stamp, at, mode) in [
         (1, &x, Mode::Shared),
