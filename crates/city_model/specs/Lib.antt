@@ -5,6 +5,7 @@ pub mod Kept
 pub mod Meaning
 pub mod Members
 pub mod Misrelated
+pub mod Plans
 pub mod RelationTests
 pub mod Relations
 pub mod Runs

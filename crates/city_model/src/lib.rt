@@ -17,6 +17,7 @@ pub mod members;
 pub mod object;
 pub mod object_type;
 pub mod orphans;
+pub mod plan;
 pub mod relations;
 pub mod rings;
 pub mod script;
