@@ -1,7 +1,7 @@
 -- The city of a tree, from its parts.
 use Rattle.std.proofs.Common.{◌≡◌, List, ℕ, Bool, true, Option, Some, None, refl, sym, ap, ◌∙◌}
 use Rattle.std.specs.Prelude.{option_and_then, option_map, codes, if◌then◌else◌}
-use Rattle.serde_json.specs.Data.{Data, null, boolean, number, string, array, object, Members}
+use Rattle.serde_json.specs.Data.{Data, Members}
 use Rattle.serde_json.specs.Find.{get, get_member, as_object}
 use Rattle.city_model.specs.declared.frame.Frame.{Frame}
 use Rattle.city_model.specs.declared.object.Point.{Point}
@@ -10,14 +10,10 @@ use Rattle.city_model.specs.Members.{without}
 use Rattle.city_doc.specs.Documents.{city_of, is_city_json, points_in, entries_of, entries_in, members_of, objects_of, objects_in}
 use Rattle.city_doc.specs.Frames.{frame_of, frame_of_rest}
 use Rattle.city_doc.proofs.Right.{IsRight, city_json}
+use Rattle.city_doc.proofs.Trees.{object_is}
 
 pub get-object : (name : List ℕ) (d : Data) (ms : Members) → as_object d ≡ Some ms → get name d ≡ get_member name ms
-get-object name null ms e = cc
-get-object name (boolean b) ms e = cc
-get-object name (number n) ms e = cc
-get-object name (string s) ms e = cc
-get-object name (array ds) ms e = cc
-get-object name (object top) ms e = let same : top ≡ ms = cc in ap (get_member name) same
+get-object name d ms e = ap (get name) (object_is d ms e)
 
 module _ {P E F O : Type 0} (made : E → O) where
   -- as the parts of a city are put together

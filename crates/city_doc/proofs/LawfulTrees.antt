@@ -134,18 +134,18 @@ lawful_list : (d : Data) (c : CityValue) (s : StandsFor d c) → IsLawful (city.
 lawful_list d c s lawful = subst IsLawful (ap city.at s.made ∙ at_listed s.list) lawful
 
 stands_not : (d : Data) (c : CityValue) (f : ReadFault) → is_integral d ≡ true → StandsFor d c → IsLawful (city.at c.1) → StandsIn d f → ⊥
-stands_not d c OutOfMemory whole s lawful h = h
-stands_not d c TooLong whole s lawful h = h
-stands_not d c NotJson whole s lawful h = h
-stands_not d c NotWhole whole s lawful h = true≢false (sym whole ∙ h)
-stands_not d c (NotCityJson name) whole s lawful h = let clash : Some name ≡ None = sym h ∙ right d c s in cc
-stands_not d c (UnknownType id) whole s lawful h = no_object (vertices_in d) (objects_in d) s.list s.entries (lawful_list d c s lawful) is_unknown_type (known (vertices_in d)) id h.0
-stands_not d c (Unsupported id name) whole s lawful h = no_object (vertices_in d) (objects_in d) s.list s.entries (lawful_list d c s lawful) is_unsupported (supported (vertices_in d)) id h.0.0
-stands_not d c (BadGeometry id) whole s lawful h = no_object (vertices_in d) (objects_in d) s.list s.entries (lawful_list d c s lawful) is_bad_geometry (formed (vertices_in d)) id h.0
-stands_not d c (BadVertex id) whole s lawful h = no_object (vertices_in d) (objects_in d) s.list s.entries (lawful_list d c s lawful) (has_bad_vertex (length (vertices_in d))) (placed (vertices_in d)) id h.0
-stands_not d c (BadRing id) whole s lawful h = no_bad_ring (vertices_in d) (objects_in d) s.list s.entries (lawful_list d c s lawful) id h.0
-stands_not d c (Relations id) whole s lawful h = no_badly_related (vertices_in d) (objects_in d) s.list s.entries (lawful_list d c s lawful) id h.0
-stands_not d c (OpenShell id) whole s lawful h = no_open_shell (vertices_in d) (objects_in d) s.list s.entries (lawful_list d c s lawful) id h.0
+stands_not d c OutOfMemory integral s lawful h = h
+stands_not d c TooLong integral s lawful h = h
+stands_not d c NotJson integral s lawful h = h
+stands_not d c NotWhole integral s lawful h = true≢false (sym integral ∙ h)
+stands_not d c (NotCityJson name) integral s lawful h = let clash : Some name ≡ None = sym h ∙ right d c s in cc
+stands_not d c (UnknownType id) integral s lawful h = no_object (vertices_in d) (objects_in d) s.list s.entries (lawful_list d c s lawful) is_unknown_type (known (vertices_in d)) id h.0
+stands_not d c (Unsupported id name) integral s lawful h = no_object (vertices_in d) (objects_in d) s.list s.entries (lawful_list d c s lawful) is_unsupported (supported (vertices_in d)) id h.0.0
+stands_not d c (BadGeometry id) integral s lawful h = no_object (vertices_in d) (objects_in d) s.list s.entries (lawful_list d c s lawful) is_bad_geometry (formed (vertices_in d)) id h.0
+stands_not d c (BadVertex id) integral s lawful h = no_object (vertices_in d) (objects_in d) s.list s.entries (lawful_list d c s lawful) (has_bad_vertex (length (vertices_in d))) (placed (vertices_in d)) id h.0
+stands_not d c (BadRing id) integral s lawful h = no_bad_ring (vertices_in d) (objects_in d) s.list s.entries (lawful_list d c s lawful) id h.0
+stands_not d c (Relations id) integral s lawful h = no_badly_related (vertices_in d) (objects_in d) s.list s.entries (lawful_list d c s lawful) id h.0
+stands_not d c (OpenShell id) integral s lawful h = no_open_shell (vertices_in d) (objects_in d) s.list s.entries (lawful_list d c s lawful) id h.0
 
 -- a text that is refused, but for want of memory, stands for no lawful city
 pub refused : (text : List ℕ) (f : ReadFault) → DocumentFault text f → (f ≡ OutOfMemory) ⊎ ((c : CityValue) → IsAdmitted text c → ⊥)

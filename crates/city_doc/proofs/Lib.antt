@@ -41,6 +41,7 @@ pub mod ScriptLists
 pub mod ScriptMeanings
 pub mod Searches
 pub mod Totals
+pub mod Trees
 mod TriplesRead
 mod Walks
 pub mod IntegralParts

@@ -78,5 +78,5 @@ refused text f (inr (inr (inr (inl h)))) = inr (λ ss is. not_both (is_integral 
 refused text f (inr (inr (inr (inr h)))) = inr (λ ss is. tree_refused h.0 ss f (ap scripts_of (same_tree text h.0 is.0 h.1 is.1) ∙ is.3) h.3)
 
 pub refused_or : (text : List ℕ) (d : Data) (f : ScriptFault) → HasTree text d → is_integral d ≡ true → (f ≡ OutOfMemory) ⊎ TreeFault d f → (f ≡ OutOfMemory) ⊎ ((ss : List Scripted) → IsReadAs text ss → ⊥)
-refused_or text d f tree whole (inl h) = inl h
-refused_or text d f tree whole (inr h) = refused text f (inr (inr (inr (inr (d, tree, whole, h)))))
+refused_or text d f tree integral (inl h) = inl h
+refused_or text d f tree integral (inr h) = refused text f (inr (inr (inr (inr (d, tree, integral, h)))))

@@ -23,18 +23,11 @@ returns-in-Some-fault-clause-fault c =
     (c.as_ref.ensures.value ∙ c.in_ok-bad_list.ensures.list) c.in_ok-fault-2.ensures in
     inr (subst (λ o. MatchOption o ((city_of d ≡ Some c.in-Some-2.city) × IsLawful (at c.in-Some-2.city.1)) (λ f. IsFirst (StandsIn d) f)) c.in-Some-fault.is found)
 
-pub returns-clause-stands : goal.returns-clause-stands
-returns-clause-stands c =
+pub returns : goal.returns
+returns c =
     let d = view c.args.tree in
     let form = subst (λ o. MatchOption o (HasForm d) (λ f. IsFirst (StandsIn d) f)) c.in_default.is (c.in_ok-fault.ensures c.requires (c.as_slice.ensures ∙ c.in_ok-points.ensures)) in
     let found = judged d _ c.in-Some-2.city _ _ c.requires form (c.as_slice-2.ensures ∙ c.in_ok-points.ensures) (sym c.in_ok-city.ensures ∙ ap (option_map listed) c.in-Some-2.is) c.in_ok-bad_list.ensures.ordered
     (c.as_ref.ensures.value ∙ c.in_ok-bad_list.ensures.list) c.in_ok-fault-2.ensures in
-    (subst (λ o. MatchOption o ((city_of d ≡ Some c.in-Some-2.city) × IsLawful (at c.in-Some-2.city.1)) (λ f. IsFirst (StandsIn d) f)) c.in-None.is found).0
-
-pub returns-clause-lawful : goal.returns-clause-lawful
-returns-clause-lawful c =
-    let d = view c.args.tree in
-    let form = subst (λ o. MatchOption o (HasForm d) (λ f. IsFirst (StandsIn d) f)) c.in_default.is (c.in_ok-fault.ensures c.requires (c.as_slice.ensures ∙ c.in_ok-points.ensures)) in
-    let found = judged d _ c.in-Some-2.city _ _ c.requires form (c.as_slice-2.ensures ∙ c.in_ok-points.ensures) (sym c.in_ok-city.ensures ∙ ap (option_map listed) c.in-Some-2.is) c.in_ok-bad_list.ensures.ordered
-    (c.as_ref.ensures.value ∙ c.in_ok-bad_list.ensures.list) c.in_ok-fault-2.ensures in
-    (subst (λ o. MatchOption o ((city_of d ≡ Some c.in-Some-2.city) × IsLawful (at c.in-Some-2.city.1)) (λ f. IsFirst (StandsIn d) f)) c.in-None.is found).1
+    let read = subst (λ o. MatchOption o ((city_of d ≡ Some c.in-Some-2.city) × IsLawful (at c.in-Some-2.city.1)) (λ f. IsFirst (StandsIn d) f)) c.in-None.is found in
+    record { stands = read.0; lawful = read.1; fault = tt }

@@ -40,9 +40,9 @@ returns c =
       read_again = again;
       canonical = λ shallow other other_stands. ap city_text (one_city _ other city other_stands (again shallow)) ∙ sym text;
       accepted = λ shallow readable lawful fault.
-          let whole = city_integral (pool_of city) city c.in_ok-tree.ensures.kept numbers in
+          let integral = city_integral (pool_of city) city c.in_ok-tree.ensures.kept numbers in
           let read = one_text _ city _ tree c.in_ok-text.ensures.utf8 c.in_ok-text.ensures.reads_back shallow in
           let same = city_read city c.in_ok-tree.ensures.kept numbers in
-          not_refused _ city (tree_of city, (readable, read), whole, same, lawful) fault;
+          not_refused _ city (tree_of city, (readable, read), integral, same, lawful) fault;
       rewritten = λ document read. again (written_within document city read);
     }
