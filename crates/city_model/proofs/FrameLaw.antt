@@ -12,7 +12,7 @@ use Rattle.city_model.specs.Meaning.{read_reply, with_body, put_cause, put_done,
 use Rattle.city_model.specs.Shells.{body_fault}
 use Rattle.city_model.specs.Relations.{IsSound}
 use Rattle.city_model.specs.Standing.{Lock, exclusive_ids, names, names_exclusively}
-use Rattle.city_model.specs.FrameLaw.{AgreeOn, IsFramed, FrameLaw}
+use Rattle.city_model.specs.FrameLaw.{AgreeOn, FrameLaw}
 use Rattle.city_model.proofs.Changed.{changed_apart, attached_apart, detached_apart, deleted_apart}
 use Rattle.city_model.proofs.Ids.{same_id_itself, same_id_back}
 use Rattle.city_model.proofs.IdLists.{bool_cases, not_both, without_absent}
