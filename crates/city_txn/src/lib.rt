@@ -5,10 +5,10 @@ mod changing;
 mod image;
 mod lock;
 mod perform;
-mod place;
 mod placeholder;
-mod rooms;
+mod reservations;
 mod seen;
+mod slot;
 pub mod step;
 mod store;
 #[cfg(test)]
