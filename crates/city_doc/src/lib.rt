@@ -12,8 +12,6 @@ mod end_tree;
 pub mod fault;
 mod geometry;
 mod geometry_form;
-#[cfg(test)]
-mod geometry_tests;
 mod ids;
 mod judge;
 mod nested;
@@ -24,14 +22,10 @@ pub mod pool;
 pub mod read;
 mod reply_tree;
 pub mod report;
-#[cfg(test)]
-mod samples;
 mod script_faults;
 mod script_form;
 mod script_forms;
 pub mod scripts;
-#[cfg(test)]
-mod scripts_tests;
 mod top;
 mod tree;
 pub mod triples;

@@ -7,9 +7,6 @@ use city_model::OutOfMemory;
 use city_model::end::End;
 use std::alloc::{AllocError, Global};
 
-#[cfg(test)]
-mod tests;
-
 /// The line of an end, with its newline.
 fn end_line(alloc: Global, end: &End) -> Result<Vec<u8>, AllocError>
     ensures { IfOk result (λ b. b.items ≡ end_line end.now) }

@@ -8,5 +8,3 @@ mod holders;
 mod listing;
 pub mod mode;
 pub mod table;
-#[cfg(test)]
-mod tests;

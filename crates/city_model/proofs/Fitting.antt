@@ -1,15 +1,15 @@
 -- One more end after those that fit.
 use Rattle.std.proofs.Common.{◌≡◌, ℕ, ◌+◌, false, ◌||◌, List, [], ◌∷◌, ◌++◌, length, refl, ap, sym, subst, ◌∙◌, arith}
-use Rattle.std.specs.Prelude.{slice_get, ◌==◌}
+use Rattle.std.specs.Prelude.{◌==◌}
 use Rattle.std.proofs.Math.Bool.{or-false, or_assoc}
 use Rattle.std.proofs.lemmas.Bool.{eqb-false, or_parts}
 use Rattle.city_model.specs.declared.end.End.{End}
 use Rattle.city_model.specs.CityMap.{CityMap}
-use Rattle.city_model.specs.Runs.{Scripted, map_left, commands_of, model_after, IsEndOf, NoEndOf, has_end, FitsFrom}
+use Rattle.city_model.specs.Runs.{Scripted, left_by, model_after, IsEndOf, NoEndOf, has_end, FitsFrom}
 
-pub model_more : (scripts : List Scripted) (es : List End) (e : End) (m : CityMap) → model_after scripts m (es ++ e ∷ []) ≡ map_left (model_after scripts m es) (commands_of (slice_get scripts e.script)) e.outcome
+pub model_more : (scripts : List Scripted) (es : List End) (e : End) (m : CityMap) → model_after scripts m (es ++ e ∷ []) ≡ left_by scripts (model_after scripts m es) e
 model_more scripts [] e m = refl
-model_more scripts (f ∷ fs) e m = model_more scripts fs e (map_left m (commands_of (slice_get scripts f.script)) f.outcome)
+model_more scripts (f ∷ fs) e m = model_more scripts fs e (left_by scripts m f)
 
 no_end_more : (s : ℕ) (es : List End) (e : End) → NoEndOf s es → (e.script ≡ s → ⊥) → NoEndOf s (es ++ e ∷ [])
 no_end_more s [] e none other = (other, tt)
@@ -26,7 +26,7 @@ fits_more scripts (f ∷ fs) e m p fits none is =
     let parts = or_parts (f.script == e.script) (has_end e.script fs) none in (
       fits.0,
       no_end_more f.script fs e fits.1 (λ same. eqb-false f.script e.script parts.0 (sym same)),
-      fits_more scripts fs e (map_left m (commands_of (slice_get scripts f.script)) f.outcome) (p + 1) fits.2 parts.1
+      fits_more scripts fs e (left_by scripts m f) (p + 1) fits.2 parts.1
           (place_moved scripts (model_after scripts m (f ∷ fs)) (p + length (f ∷ fs)) (p + 1 + length fs) e (omega arith) is),
     )
 

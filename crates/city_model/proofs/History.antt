@@ -10,7 +10,8 @@ use Rattle.city_model.specs.Relations.{IsSound}
 use Rattle.city_model.specs.Standing.{Held, Lock, covers, AllHeld, Answered, Follows, names, names_exclusively}
 use Rattle.city_model.proofs.Ids.{same_id_true}
 use Rattle.city_model.proofs.IdLists.{bool_cases, not_both}
-use Rattle.city_model.proofs.FrameLaw.{AgreeOn, frame, same_reply, same_locks, same_after}
+use Rattle.city_model.specs.FrameLaw.{AgreeOn}
+use Rattle.city_model.proofs.FrameLaw.{frame, same_reply, same_locks, same_after}
 use Rattle.city_model.proofs.SoundAfter.{sound_after}
 
 covered : (o : Option Bool) (b : Bool) → covers o b ≡ true → is_some o ≡ true

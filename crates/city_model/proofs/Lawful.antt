@@ -10,7 +10,7 @@ use Rattle.city_model.specs.declared.end.Outcome.{Outcome}
 use Rattle.city_model.specs.CityMap.{CityMap}
 use Rattle.city_model.specs.Relations.{HasNoOrphan, IsSound, IsLawful}
 use Rattle.city_model.specs.Meaning.{after}
-use Rattle.city_model.specs.Runs.{Scripted, EndsFrom, HasResult, map_after, map_left, commands_of, model_after, FitsFrom, Fits}
+use Rattle.city_model.specs.Runs.{Scripted, EndsFrom, HasResult, map_after, map_left, left_by, commands_of, model_after, FitsFrom, Fits}
 use Rattle.city_model.specs.Scripts.{is_end, is_empty_list, ends_once, AreScripts}
 use Rattle.city_model.proofs.SoundAfter.{sound_after}
 
@@ -48,10 +48,10 @@ lawful_from : (scripts : List Scripted) (m : CityMap) (place : ℕ) (ends : List
 lawful_from scripts m place [] all l h = l
 lawful_from scripts m place (e ∷ es) all l h =
     let commands : h.0.script.1 ≡ commands_of (slice_get scripts e.script) = sym (ap commands_of h.0.is_there) in
-    let left : IsLawful (map_left m (commands_of (slice_get scripts e.script)) e.outcome) =
+    let left : IsLawful (left_by scripts m e) =
     subst (λ (cs : List Command). IsLawful (map_left m cs e.outcome)) commands
     (lawful_left m h.0.script.1 e.replies e.outcome (all e.script h.0.script h.0.is_there) l h.0.result) in
-    lawful_from scripts (map_left m (commands_of (slice_get scripts e.script)) e.outcome) (place + 1) es all left h.2
+    lawful_from scripts (left_by scripts m e) (place + 1) es all left h.2
 
 -- after scripts run one at a time a lawful map is lawful
 pub lawful_after : (scripts : List Scripted) (m : CityMap) (ends : List End) → AreScripts scripts → IsLawful m → Fits scripts m ends → IsLawful (model_after scripts m ends)

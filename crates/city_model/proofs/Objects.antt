@@ -7,7 +7,7 @@ use Rattle.std.specs.List.Sorted.{IsStrictlySortedBy}
 use Rattle.std.specs.Cmp.Lexicographic.{slice_cmp}
 use Rattle.std.specs.Map.{keys_of, lookup}
 use Rattle.std.specs.BTreeMap.{is_at}
-use Rattle.std.specs.FinMap.{FinMap, entries, get, len, insert, remove, empty, from_sorted, find, is_sorted, entries_sorted, entries-from_sorted, same_entries_map, get-entries, get-empty, get-insert, get-remove, len-entries, empty_of_len, same_map, slice_cmp-IsAntisymmetric, nat_cmp-IsAntisymmetric}
+use Rattle.std.specs.FinMap.{entries, len, insert, remove, empty, from_sorted, find, is_sorted, entries_sorted, entries-from_sorted, get-entries, get-empty, get-insert, get-remove, len-entries, empty_of_len, same_map, slice_cmp-IsAntisymmetric, nat_cmp-IsAntisymmetric}
 use Rattle.std.specs.FinMap.Entries.{below_all}
 use Rattle.std.proofs.lemmas.Cmp.{nat_list_cmp_total}
 use Rattle.city_model.specs.declared.object.Object.{Object}

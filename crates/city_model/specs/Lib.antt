@@ -1,6 +1,8 @@
 pub mod CityMap
 pub mod DataCode
 pub mod Faultless
+pub mod FrameLaw
+pub mod Integral
 pub mod Kept
 pub mod Meaning
 pub mod Members
@@ -15,4 +17,3 @@ pub mod Shells
 pub mod Standing
 pub mod Types
 pub mod Writing
-pub mod Integral

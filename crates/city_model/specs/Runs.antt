@@ -1,5 +1,6 @@
 -- Scripts run one after another, each as a whole.
-use Rattle.std.specs.Prelude.{◌≡◌, ◌≤◌, ◌==◌, ◌+◌, ℕ, List, [], ◌∷◌, Bool, false, Option, Some, None, slice_get}
+use Rattle.std.specs.Prelude.{◌≡◌, ◌≤◌, ◌==◌, ◌+◌, ℕ, List, [], ◌∷◌, Bool, false, Option, Some, None,
+  slice_get}
 use Rattle.std.specs.List.{list_any}
 use Rattle.city_model.specs.declared.object.Object.{Object}
 use Rattle.city_model.specs.declared.command.Command.{Command}
@@ -45,7 +46,8 @@ EndsFrom m i [] replies outcome = ⊥
 EndsFrom m i (c ∷ cs) [] outcome = EndsAt m c i outcome
 EndsFrom m i (c ∷ cs) (r ∷ rs) outcome = Continues m c r × EndsFrom (after m c) (i + 1) cs rs outcome
 
--- what a script gives at the map m: the replies before its ending command, and how it ends. Want of memory may end it at any command
+-- what a script gives at the map m: the replies before its ending command, and how it ends;
+-- want of memory may end it at any command
 abbrev pub HasResult : CityMap → List Command → List Reply → Outcome → Type 0
 HasResult m commands replies outcome = EndsFrom m 0 commands replies outcome
 
@@ -60,10 +62,14 @@ abbrev pub commands_of : Option Scripted → List Command
 commands_of None = []
 commands_of (Some s) = s.1
 
+-- the map that the script of an end leaves
+abbrev pub left_by : List Scripted → CityMap → End → CityMap
+left_by scripts m e = map_left m (commands_of (slice_get scripts e.script)) e.outcome
+
 -- the map after the scripts that ended so, one at a time, in this order
 abbrev pub model_after : List Scripted → CityMap → List End → CityMap
 model_after scripts m [] = m
-model_after scripts m (e ∷ es) = model_after scripts (map_left m (commands_of (slice_get scripts e.script)) e.outcome) es
+model_after scripts m (e ∷ es) = model_after scripts (left_by scripts m e) es
 
 -- the end, which has this place in the list, is one that its script has at the map m
 pub record IsEndOf (scripts : List Scripted) (m : CityMap) (place : ℕ) (e : End) : Type 0 where
@@ -86,7 +92,7 @@ has_end script ends = list_any (λ e. e.script == script) ends
 abbrev pub FitsFrom : List Scripted → CityMap → ℕ → List End → Type 0
 FitsFrom scripts m place [] = Unit {0}
 FitsFrom scripts m place (e ∷ es) =
-    IsEndOf scripts m place e × NoEndOf e.script es × FitsFrom scripts (map_left m (commands_of (slice_get scripts e.script)) e.outcome) (place + 1) es
+    IsEndOf scripts m place e × NoEndOf e.script es × FitsFrom scripts (left_by scripts m e) (place + 1) es
 
 abbrev pub Fits : List Scripted → CityMap → List End → Type 0
 Fits scripts m ends = FitsFrom scripts m 0 ends

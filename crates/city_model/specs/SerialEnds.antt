@@ -20,7 +20,9 @@ is_commit (Outcome.NoMemory i) = false
 abbrev pub commits_in : List End → ℕ
 commits_in ends = count_by (λ e. is_commit e.outcome) ends
 
--- from place k on, the end at each place is that of the script of that number, which began there, and none is for want of memory
+-- from place k on, the end at each place is that of the script of that number, which began there,
+-- and none is for want of memory
 abbrev pub IsSerialFrom : ℕ → List End → Type 0
 IsSerialFrom k [] = Unit {0}
-IsSerialFrom k (e ∷ es) = (e.script ≡ k) × (e.since ≡ k) × (is_no_memory e.outcome ≡ false) × IsSerialFrom (k + 1) es
+IsSerialFrom k (e ∷ es) =
+    (e.script ≡ k) × (e.since ≡ k) × (is_no_memory e.outcome ≡ false) × IsSerialFrom (k + 1) es

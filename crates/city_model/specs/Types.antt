@@ -2,7 +2,12 @@
 use Rattle.std.specs.Prelude.{ℕ, List, [], ◌∷◌, Option, Some, None, codes, if◌then◌else◌}
 use Rattle.std.specs.Str.{bytes_eq}
 use Rattle.city_model.specs.declared.object_type.ObjectType.{ObjectType}
-use Rattle.city_model.specs.declared.object_type.ObjectType.TheVariants.{Building, Bridge, Tunnel, CityFurniture, LandUse, OtherConstruction, PlantCover, SolitaryVegetationObject, TINRelief, Road, Railway, Waterway, TransportSquare, WaterBody, GenericCityObject, BuildingPart, BuildingInstallation, BuildingConstructiveElement, BuildingFurniture, BuildingStorey, BuildingRoom, BuildingUnit, BridgePart, BridgeInstallation, BridgeConstructiveElement, BridgeRoom, BridgeFurniture, TunnelPart, TunnelInstallation, TunnelConstructiveElement, TunnelHollowSpace, TunnelFurniture}
+use Rattle.city_model.specs.declared.object_type.ObjectType.TheVariants.{Building, Bridge, Tunnel,
+  CityFurniture, LandUse, OtherConstruction, PlantCover, SolitaryVegetationObject, TINRelief, Road, Railway,
+  Waterway, TransportSquare, WaterBody, GenericCityObject, BuildingPart, BuildingInstallation,
+  BuildingConstructiveElement, BuildingFurniture, BuildingStorey, BuildingRoom, BuildingUnit, BridgePart,
+  BridgeInstallation, BridgeConstructiveElement, BridgeRoom, BridgeFurniture, TunnelPart, TunnelInstallation,
+  TunnelConstructiveElement, TunnelHollowSpace, TunnelFurniture}
 
 abbrev pub name_of : ObjectType → List ℕ
 name_of Building = codes "Building"
@@ -39,7 +44,13 @@ name_of TunnelHollowSpace = codes "TunnelHollowSpace"
 name_of TunnelFurniture = codes "TunnelFurniture"
 
 abbrev pub all_types : List ObjectType
-all_types = Building ∷ Bridge ∷ Tunnel ∷ CityFurniture ∷ LandUse ∷ OtherConstruction ∷ PlantCover ∷ SolitaryVegetationObject ∷ TINRelief ∷ Road ∷ Railway ∷ Waterway ∷ TransportSquare ∷ WaterBody ∷ GenericCityObject ∷ BuildingPart ∷ BuildingInstallation ∷ BuildingConstructiveElement ∷ BuildingFurniture ∷ BuildingStorey ∷ BuildingRoom ∷ BuildingUnit ∷ BridgePart ∷ BridgeInstallation ∷ BridgeConstructiveElement ∷ BridgeRoom ∷ BridgeFurniture ∷ TunnelPart ∷ TunnelInstallation ∷ TunnelConstructiveElement ∷ TunnelHollowSpace ∷ TunnelFurniture ∷ []
+all_types =
+    Building ∷ Bridge ∷ Tunnel ∷ CityFurniture ∷ LandUse ∷ OtherConstruction ∷ PlantCover
+    ∷ SolitaryVegetationObject ∷ TINRelief ∷ Road ∷ Railway ∷ Waterway ∷ TransportSquare ∷ WaterBody
+    ∷ GenericCityObject ∷ BuildingPart ∷ BuildingInstallation ∷ BuildingConstructiveElement
+    ∷ BuildingFurniture ∷ BuildingStorey ∷ BuildingRoom ∷ BuildingUnit ∷ BridgePart ∷ BridgeInstallation
+    ∷ BridgeConstructiveElement ∷ BridgeRoom ∷ BridgeFurniture ∷ TunnelPart ∷ TunnelInstallation
+    ∷ TunnelConstructiveElement ∷ TunnelHollowSpace ∷ TunnelFurniture ∷ []
 
 -- the first of the types whose name is s
 abbrev pub first_named : List ℕ → List ObjectType → Option ObjectType

@@ -4,7 +4,7 @@ ghost use Rattle.std.specs.FinMap.{empty, entries, insert, len, remove};
 ghost use Rattle.city_model.specs.CityMap.{at, changed};
 
 use crate::OutOfMemory;
-use crate::copied::Copied;
+use crate::copied::{Copied, copy_map};
 use crate::frame::Frame;
 use crate::object::Object;
 use crate::text::Id;
@@ -120,13 +120,8 @@ impl City {
 
 impl Copied for City {
     fn copy(&self, alloc: Global) -> Result<City, AllocError> {
-        let frame = self.frame().copy(alloc)?;
-        let mut objects = BTreeMap::new(alloc);
-        for (id, object) in self.iter() {
-            let key = id.copy(alloc)?;
-            let value = object.copy(alloc)?;
-            drop(objects.insert(key, value)?);
-        }
-        Ok(City::from_parts(frame, objects))
+        let frame = self.frame.copy(alloc)?;
+        let objects = copy_map(alloc, &self.objects)?;
+        Ok(City { frame, objects })
     }
 }

@@ -12,9 +12,6 @@ use crate::object::Body;
 use crate::relations::relations_fault;
 use std::alloc::Global;
 
-#[cfg(test)]
-mod tests;
-
 /// Whether every object is in order, none is an orphan, and no body has a fault. The only refusal is
 /// want of memory, and only where no relation is at fault: relations take no memory.
 pub fn is_lawful(alloc: Global, city: &City) -> Result<bool, OutOfMemory>

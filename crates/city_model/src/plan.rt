@@ -1,5 +1,6 @@
 //! What is to come of a command, and what it writes.
 ghost use Rattle.std.specs.Prelude.{◌≡◌, false, IfOk};
+ghost use Rattle.city_model.specs.FrameLaw.{FrameLaw};
 ghost use Rattle.city_model.specs.Plans.{IsPlan};
 ghost use Rattle.city_model.specs.Relations.{IsSound};
 ghost use Rattle.city_model.specs.Scripts.{is_end};
@@ -32,10 +33,13 @@ pub enum Plan {
 /// What is to come of a command that doesn't end its script, at a sound city; nothing is written.
 ///
 /// It copies the objects that the command gives or changes; the one refusal is want of memory.
+/// The plan is as good at each other sound city that agrees with this one on the ids that the
+/// command locks.
 pub fn plan_of<V: View>(alloc: Global, view: &V, command: &Command) -> Result<Plan, OutOfMemory>
     requires no_end { is_end command.now ≡ false }
     requires sound { IsSound (V.map view.now) }
-    ensures { IfOk result (IsPlan (V.map view.now) command.now) }
+    ensures plan { IfOk result (IsPlan (V.map view.now) command.now) }
+    ensures frame { FrameLaw (V.map view.now) command.now }
 {
     match command {
         Command::Read(id) => plan_read(alloc, view, id),

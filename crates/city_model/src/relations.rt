@@ -13,9 +13,6 @@ use crate::object_type::{self, ObjectType, family, level};
 use crate::orphans::is_orphan;
 use crate::text::Id;
 
-#[cfg(test)]
-pub(crate) mod tests;
-
 /// The least id, in byte order, of an object that isn't in order or is an orphan; none where all
 /// relations agree. Takes no memory.
 ///

@@ -10,9 +10,6 @@ use crate::object::{Shape, Shell};
 use std::alloc::{AllocError, Global};
 use std::collections::BTreeSet;
 
-#[cfg(test)]
-pub(crate) mod tests;
-
 /// The items as a set, or None where one of them is repeated.
 fn set_of<T: Ord + Copy>(alloc: Global, items: &[T]) -> Result<Option<BTreeSet<T>>, AllocError>
     ensures distinct { IfOk result (λ set. is_some set ≡ list_all (occurs_once (eq_by_cmp T.cmp) items.now) items.now) }

@@ -11,8 +11,6 @@ mod seen;
 mod slot;
 pub mod step;
 mod store;
-#[cfg(test)]
-mod tests;
 pub mod txn_core;
 mod would_lock;
 mod writing;

@@ -20,6 +20,8 @@ returns-clause-ran c =
       list = c.in_ok-scripts.scripts;
       stands_for_city = c.in_ok-city.ensures.stands;
       stands_for_scripts = c.in_ok-scripts.ensures.stands;
+      admitted = c.in_ok-city.ensures.admitted;
+      read_as = c.in_ok-scripts.ensures.read;
       each_once = run.each_once;
       in_turn = run.in_turn;
       fits = run.fits;
@@ -44,4 +46,4 @@ pub returns-in_err-scripts-clause-fault : goal.returns-in_err-scripts-clause-fau
 returns-in_err-scripts-clause-fault c =
     let P : RunFault → Type 0 = λ r. r ≡ fault_of_scripts c.in_err-scripts.field-0.0 in
     of_error P (IsRunFault c.args.document.now c.args.scripts.now) c.from_residual-in_err-scripts.result c.from_residual-in_err-scripts.ensures.1
-    (λ r is. scripts_refused c.args.document.now c.args.scripts.now c.in_ok-city.city c.in_err-scripts.field-0.0 r is c.in_ok-city.ensures.stands c.in_err-scripts.ensures.fault)
+    (λ r is. scripts_refused c.args.document.now c.args.scripts.now c.in_ok-city.city c.in_err-scripts.field-0.0 r is c.in_ok-city.ensures.admitted c.in_err-scripts.ensures.fault)

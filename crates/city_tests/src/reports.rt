@@ -1,0 +1,101 @@
+//! Reports of one script's end.
+use crate::samples::{bare, geometry, point, text, triangle};
+use city_doc::report::write_report;
+use city_model::command::{Cause, Reply};
+use city_model::end::{End, Outcome};
+use city_model::object::{Object, Shape};
+use city_model::object_type::ObjectType;
+use city_model::sequence::Sequence;
+use std::alloc::{AllocError, Global};
+use std::test::Fail;
+
+/// The report of one end, of a script named `a`.
+fn report_of(
+    alloc: Global,
+    script: usize,
+    replies: Vec<Reply>,
+    outcome: Outcome,
+) -> Result<Vec<u8>, AllocError> {
+    let end = End {
+        script,
+        name: text(alloc, "a")?,
+        since: script,
+        replies: Sequence::from_vec(replies),
+        outcome,
+    };
+    let mut ends = Vec::new(alloc);
+    ends.push(end)?;
+    write_report(alloc, ends.as_slice())
+}
+
+#[test]
+fn committed_end_has_its_replies(rt: HostRuntime) -> Result<(), Fail> {
+    let alloc = rt.alloc();
+    let found = Reply::Found(bare(alloc, ObjectType::LandUse, "{}")?);
+    let replies = vec![in alloc; found, Reply::Added, Reply::Absent]?;
+    let report = report_of(alloc, 0, replies, Outcome::Committed)?;
+    assert_eq!(rt;
+        report.as_slice(),
+        "{\"name\":\"a\",\"outcome\":\"committed\",\"replies\":[{\"found\":{\"object\":{\"type\":\"LandUse\"},\"vertices\":[]}},\"added\",\"absent\"],\"script\":0,\"since\":0}\n".as_bytes()
+    );
+    Ok(())
+}
+
+#[test]
+fn aborted_end_has_its_replies(rt: HostRuntime) -> Result<(), Fail> {
+    let alloc = rt.alloc();
+    let replies = vec![in alloc; Reply::Replaced]?;
+    let report = report_of(alloc, 1, replies, Outcome::Aborted)?;
+    assert_eq!(rt;
+        report.as_slice(),
+        "{\"name\":\"a\",\"outcome\":\"aborted\",\"replies\":[\"replaced\"],\"script\":1,\"since\":1}\n".as_bytes()
+    );
+    Ok(())
+}
+
+#[test]
+fn refused_end_names_its_cause_and_object(rt: HostRuntime) -> Result<(), Fail> {
+    let alloc = rt.alloc();
+    let replies = vec![in alloc; Reply::Added]?;
+    let orphan = Cause::Orphan(text(alloc, "p")?);
+    let report = report_of(alloc, 0, replies, Outcome::Refused(1, orphan))?;
+    assert_eq!(rt;
+        report.as_slice(),
+        "{\"at\":1,\"cause\":\"Orphan\",\"id\":\"p\",\"name\":\"a\",\"outcome\":\"refused\",\"replies\":[\"added\"],\"script\":0,\"since\":0}\n".as_bytes()
+    );
+    Ok(())
+}
+
+#[test]
+fn end_without_memory_names_the_command(rt: HostRuntime) -> Result<(), Fail> {
+    let alloc = rt.alloc();
+    let report = report_of(alloc, 0, Vec::new(alloc), Outcome::NoMemory(2))?;
+    assert_eq!(rt;
+        report.as_slice(),
+        "{\"at\":2,\"name\":\"a\",\"outcome\":\"nomemory\",\"replies\":[],\"script\":0,\"since\":0}\n".as_bytes()
+    );
+    Ok(())
+}
+
+fn roofed(alloc: Global) -> Result<Object, Fail> {
+    let (a, b, c) = (point(4, 5, 6), point(1, 2, 3), point(7, 8, 9));
+    let mut surfaces = Sequence::new(alloc);
+    surfaces.push(triangle(alloc, a, b, c)?)?;
+    surfaces.push(triangle(alloc, c, a, b)?)?;
+    let roof = geometry(alloc, "1", Shape::MultiSurface(surfaces), "{}")?;
+    let mut object = bare(alloc, ObjectType::Building, "{}")?;
+    object.body.geometry.push(roof)?;
+    Ok(object)
+}
+
+#[test]
+fn found_object_has_its_own_vertices(rt: HostRuntime) -> Result<(), Fail> {
+    let alloc = rt.alloc();
+    let replies = vec![in alloc; Reply::Found(roofed(alloc)?)]?;
+    let report = report_of(alloc, 0, replies, Outcome::Committed)?;
+    assert_eq!(rt;
+        report.as_slice(),
+        "{\"name\":\"a\",\"outcome\":\"committed\",\"replies\":[{\"found\":{\"object\":{\"geometry\":[{\"boundaries\":[[[0,1,2]],[[2,0,1]]],\"lod\":\"1\",\"type\":\"MultiSurface\"}],\"type\":\"Building\"},\"vertices\":[[4,5,6],[1,2,3],[7,8,9]]}}],\"script\":0,\"since\":0}\n".as_bytes()
+    );
+    Ok(())
+}

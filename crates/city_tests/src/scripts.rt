@@ -1,0 +1,329 @@
+//! Texts of scripts, and what each is read as or refused with.
+use city_doc::scripts::read_scripts;
+use city_model::command::Command;
+use city_model::object::{Geometry, Shape, Surface};
+use city_model::object_type;
+use std::alloc::{AllocError, Global};
+use std::fmt::Write;
+use std::test::Fail;
+
+/// A script of one commit.
+const COMMIT: &str = "{\"name\":\"s\",\"commands\":[\"commit\"]}";
+
+/// The points of surfaces, each ring ended by a stroke.
+fn points_shown(text: &mut String, surfaces: &[Surface]) -> Result<(), Fail> {
+    for surface in surfaces {
+        for ring in surface.as_slice() {
+            for p in ring.as_slice() {
+                write!(text, " {},{},{}", p.x, p.y, p.z)?;
+            }
+            text.push('/')?;
+        }
+    }
+    Ok(())
+}
+
+fn shape_name(shape: &Shape) -> &'static str {
+    match shape {
+        Shape::MultiSurface(_) => "MultiSurface",
+        Shape::CompositeSurface(_) => "CompositeSurface",
+        Shape::Solid(_) => "Solid",
+    }
+}
+
+fn geometry_shown(text: &mut String, geometry: &Geometry) -> Result<(), Fail> {
+    write!(text, " {} {}", geometry.lod, shape_name(&geometry.shape))?;
+    match &geometry.shape {
+        Shape::MultiSurface(surfaces) | Shape::CompositeSurface(surfaces) => {
+            points_shown(text, surfaces.as_slice())?;
+        }
+        Shape::Solid(shells) => {
+            for shell in shells.as_slice() {
+                points_shown(text, shell.as_slice())?;
+            }
+        }
+    }
+    Ok(())
+}
+
+/// A command in a word or two.
+fn shown(text: &mut String, command: &Command) -> Result<(), Fail> {
+    match command {
+        Command::Read(id) => write!(text, " read {id};")?,
+        Command::Put(id, body) => {
+            let kind = object_type::name(body.kind);
+            write!(text, " put {id} {kind} {}", body.extra.map().len())?;
+            for geometry in body.geometry.as_slice() {
+                geometry_shown(text, geometry)?;
+            }
+            text.push(';')?;
+        }
+        Command::Delete(id) => write!(text, " delete {id};")?,
+        Command::Attach(child, parent) => write!(text, " attach {child} to {parent};")?,
+        Command::Detach(child, parent) => write!(text, " detach {child} from {parent};")?,
+        Command::Commit => text.push_str(" commit;")?,
+        Command::Abort => text.push_str(" abort;")?,
+    }
+    Ok(())
+}
+
+/// The scripts of a text, or the fault that it is refused with.
+fn answer(rt: &HostRuntime, text: &str) -> Result<String, Fail> {
+    let mut answer = String::new(rt.alloc());
+    match read_scripts(rt.alloc(), text.as_bytes()) {
+        Ok(scripts) => {
+            for script in scripts.as_slice() {
+                answer.push_str(script.name().as_str())?;
+                answer.push(':')?;
+                for command in script.commands() {
+                    shown(&mut answer, command)?;
+                }
+            }
+        }
+        Err(fault) => answer = format!(in rt.alloc(); "{fault:?}")?,
+    }
+    Ok(answer)
+}
+
+/// A text of one script with this many reads before its commit.
+fn reads(alloc: Global, count: usize) -> Result<String, AllocError> {
+    let mut text = "[{\"name\":\"s\",\"commands\":[".to_string(alloc)?;
+    for _ in 0..count {
+        text.push_str("{\"read\":\"x\"},")?;
+    }
+    text.push_str("\"commit\"]}]")?;
+    Ok(text)
+}
+
+/// A text of an item and this many scripts after it, each of one commit.
+fn commits_after(alloc: Global, first: &str, count: usize) -> Result<String, AllocError> {
+    let mut text = "[".to_string(alloc)?;
+    text.push_str(first)?;
+    for _ in 0..count {
+        text.push(',')?;
+        text.push_str(COMMIT)?;
+    }
+    text.push(']')?;
+    Ok(text)
+}
+
+#[test]
+fn scripts_are_read(rt: HostRuntime) -> Result<(), Fail> {
+    for (text, want) in [
+        ("[]", ""),
+        ("[{\"name\":\"\",\"commands\":[\"abort\"]}]", ": abort;"),
+        (
+            "[{\"name\":\"\\u0061\\n\",\"vertices\":[[1,-2,3]],\"commands\":[{\"read\":\"\\u00e9\"},\"commit\"]}]",
+            "a\n: read \u{e9}; commit;",
+        ),
+        (
+            "[{\"name\":\"a\",\"commands\":[{\"read\":\"f\"},{\"put\":\"g\",\"object\":{\"type\":\"Road\",\"attributes\":{\"lanes\":2}}},{\"read\":\"h\"},\"commit\"]},{\"name\":\"b\",\"commands\":[{\"put\":\"f\",\"object\":{\"type\":\"LandUse\",\"attributes\":{\"use\":\"park\"}}},\"abort\"]}]",
+            "a: read f; put g Road 1; read h; commit;b: put f LandUse 1; abort;",
+        ),
+        (
+            "[{\"name\":\"a\",\"vertices\":[],\"commands\":[{\"object\":{\"geometry\":[],\"type\":\"TINRelief\"},\"put\":\"t\"},\"commit\"]}]",
+            "a: put t TINRelief 0; commit;",
+        ),
+        (
+            "[{\"name\":\"a\",\"commands\":[{\"delete\":\"p\"},\"commit\"]},{\"name\":\"b\",\"commands\":[{\"put\":\"q\",\"object\":{\"type\":\"BuildingPart\"}},{\"attach\":\"q\",\"parent\":\"b2\"},{\"parent\":\"b\",\"detach\":\"p\"},\"abort\"]}]",
+            "a: delete p; commit;b: put q BuildingPart 0; attach q to b2; detach p from b; abort;",
+        ),
+    ] {
+        let got = answer(&rt, text)?;
+        assert_eq!(rt; got.as_str(), want, "at {text}");
+    }
+    Ok(())
+}
+
+/// Scripts with vertices of their own, and what their puts are read as.
+#[test]
+fn positions_count_in_the_vertices_of_the_script(rt: HostRuntime) -> Result<(), Fail> {
+    for (text, want) in [
+        (
+            "[{\"name\":\"s\",\"vertices\":[[0,0,0],[1,0,0],[0,1,0]],\"commands\":[{\"put\":\"s\",\"object\":{\"type\":\"Building\",\"geometry\":[{\"type\":\"MultiSurface\",\"lod\":\"1\",\"boundaries\":[[[0,1]]]}]}},\"commit\"]},{\"name\":\"s\",\"vertices\":[[0,0,0],[1,0,0],[0,1,0]],\"commands\":[{\"put\":\"s\",\"object\":{\"type\":\"Building\",\"geometry\":[{\"type\":\"MultiSurface\",\"lod\":\"1\",\"boundaries\":[[[0,1,1]]]}]}},\"commit\"]},{\"name\":\"s\",\"vertices\":[[0,0,0],[1,0,0],[0,1,0]],\"commands\":[{\"put\":\"s\",\"object\":{\"type\":\"Building\",\"geometry\":[{\"type\":\"Solid\",\"lod\":\"1\",\"boundaries\":[[[[0,1,2]]]]}]}},\"commit\"]}]",
+            "s: put s Building 0 1 MultiSurface 0,0,0 1,0,0/; commit;s: put s Building 0 1 MultiSurface 0,0,0 1,0,0 1,0,0/; commit;s: put s Building 0 1 Solid 0,0,0 1,0,0 0,1,0/; commit;",
+        ),
+        (
+            "[{\"name\":\"a\",\"vertices\":[[1,2,3]],\"commands\":[{\"put\":\"x\",\"object\":{\"type\":\"Road\",\"geometry\":[{\"type\":\"MultiSurface\",\"lod\":\"1\",\"boundaries\":[]},{\"type\":\"CompositeSurface\",\"lod\":\"2.2\",\"boundaries\":[[[0],[0]],[]]}]}},\"commit\"]},{\"name\":\"b\",\"vertices\":[[4,5,-6]],\"commands\":[{\"put\":\"x\",\"object\":{\"type\":\"Road\",\"geometry\":[{\"type\":\"MultiSurface\",\"lod\":\"1\",\"boundaries\":[[[0]]]}]}},\"commit\"]}]",
+            "a: put x Road 0 1 MultiSurface 2.2 CompositeSurface 1,2,3/ 1,2,3/; commit;b: put x Road 0 1 MultiSurface 4,5,-6/; commit;",
+        ),
+    ] {
+        let got = answer(&rt, text)?;
+        assert_eq!(rt; got.as_str(), want, "at {text}");
+    }
+    Ok(())
+}
+
+/// A text of two scripts with these commands, the first of which has two vertices and the second
+/// none.
+fn two_scripts(alloc: Global, first: &str, second: &str) -> Result<String, AllocError> {
+    format!(in alloc;
+        "[{{\"name\":\"a\",\"vertices\":[[0,0,0],[1,0,0]],\"commands\":[{first}\"commit\"]}},{{\"name\":\"b\",\"commands\":[{second}\"commit\"]}}]"
+    )
+}
+
+#[test]
+fn positions_without_a_vertex_are_refused(rt: HostRuntime) -> Result<(), Fail> {
+    let last =
+        "{\"put\":\"x\",\"object\":{\"type\":\"Road\",\"geometry\":[{\"type\":\"MultiSurface\",\"lod\":\"1\",\"boundaries\":[[[0,1]]]}]}},";
+    let past =
+        "{\"put\":\"x\",\"object\":{\"type\":\"Road\",\"geometry\":[{\"type\":\"MultiSurface\",\"lod\":\"1\",\"boundaries\":[[[0,2]]]}]}},";
+    let below =
+        "{\"put\":\"x\",\"object\":{\"type\":\"Road\",\"geometry\":[{\"type\":\"Solid\",\"lod\":\"1\",\"boundaries\":[[[[-1]]]]}]}},";
+    let bad = "{\"read\":1},";
+    let read = "{\"read\":\"x\"},";
+    for (first, second, want) in [
+        (past, read, "BadVertex(0, 0)"),
+        (below, "", "BadVertex(0, 0)"),
+        (last, last, "BadVertex(1, 0)"),
+        (read, last, "BadVertex(1, 0)"),
+        (past, last, "BadVertex(0, 0)"),
+        (past, bad, "BadCommand(1, 0)"),
+        (bad, past, "BadCommand(0, 0)"),
+    ] {
+        let text = two_scripts(rt.alloc(), first, second)?;
+        let got = answer(&rt, text.as_str())?;
+        assert_eq!(rt; got.as_str(), want, "at {text}");
+    }
+    Ok(())
+}
+
+#[test]
+fn bad_forms_of_scripts_are_refused(rt: HostRuntime) -> Result<(), Fail> {
+    for (text, want) in [
+        ("", "NotJson"),
+        ("[{\"name\":\"s\"", "NotJson"),
+        ("[1.5,", "NotJson"),
+        ("[1.5]", "NotWhole"),
+        ("{\"a\":9223372036854775808}", "NotWhole"),
+        ("{}", "NotScripts"),
+        ("\"commit\"", "NotScripts"),
+        ("[1]", "BadScript(0)"),
+        ("[{}]", "BadScript(0)"),
+        ("[{\"name\":\"s\"}]", "BadScript(0)"),
+        ("[{\"commands\":[\"commit\"]}]", "BadScript(0)"),
+        ("[{\"name\":1,\"commands\":[\"commit\"]}]", "BadScript(0)"),
+        ("[{\"name\":\"s\",\"commands\":\"commit\"}]", "BadScript(0)"),
+        ("[{\"name\":\"s\",\"commands\":[]}]", "BadScript(0)"),
+        (
+            "[{\"name\":\"s\",\"commands\":[{\"read\":\"x\"}]}]",
+            "BadScript(0)",
+        ),
+        (
+            "[{\"name\":\"s\",\"commands\":[\"commit\",\"commit\"]}]",
+            "BadScript(0)",
+        ),
+        (
+            "[{\"name\":\"s\",\"commands\":[\"abort\",{\"read\":\"x\"},\"commit\"]}]",
+            "BadScript(0)",
+        ),
+        (
+            "[{\"name\":\"s\",\"commands\":[\"commit\"],\"more\":1}]",
+            "BadScript(0)",
+        ),
+        (
+            "[{\"name\":\"s\",\"commands\":[\"commit\"],\"vertices\":[],\"more\":1}]",
+            "BadScript(0)",
+        ),
+        (
+            "[{\"name\":\"s\",\"commands\":[\"commit\"],\"vertices\":1}]",
+            "BadScript(0)",
+        ),
+        (
+            "[{\"name\":\"s\",\"commands\":[\"commit\"],\"vertices\":[[1,2]]}]",
+            "BadScript(0)",
+        ),
+        (
+            "[{\"name\":\"s\",\"commands\":[\"commit\"],\"vertices\":[[1,2,3,4]]}]",
+            "BadScript(0)",
+        ),
+        (
+            "[{\"name\":\"s\",\"commands\":[{\"read\":1},\"commit\"]},{},1]",
+            "BadScript(1)",
+        ),
+    ] {
+        let got = answer(&rt, text)?;
+        assert_eq!(rt; got.as_str(), want, "at {text}");
+    }
+    Ok(())
+}
+
+#[test]
+fn bad_forms_of_commands_are_refused(rt: HostRuntime) -> Result<(), Fail> {
+    for command in [
+        "{\"read\":1}",
+        "1",
+        "null",
+        "\"begin\"",
+        "[]",
+        "{}",
+        "{\"read\":\"x\",\"more\":1}",
+        "{\"put\":\"x\"}",
+        "{\"object\":{\"type\":\"Road\"}}",
+        "{\"put\":1,\"object\":{\"type\":\"Road\"}}",
+        "{\"put\":\"x\",\"object\":1}",
+        "{\"put\":\"x\",\"object\":{\"type\":\"Road\"},\"more\":1}",
+        "{\"put\":\"x\",\"object\":{\"type\":\"Road\",\"parents\":[]}}",
+        "{\"put\":\"x\",\"object\":{\"type\":\"Road\",\"children\":[]}}",
+        "{\"put\":\"x\",\"object\":{}}",
+        "{\"put\":\"x\",\"object\":{\"type\":\"Foo\"}}",
+        "{\"put\":\"x\",\"object\":{\"type\":\"Road\",\"address\":{\"location\":1}}}",
+        "{\"put\":\"x\",\"object\":{\"type\":\"Road\",\"geometry\":{}}}",
+        "{\"put\":\"x\",\"object\":{\"type\":\"Road\",\"geometry\":[{\"type\":\"MultiPoint\"}]}}",
+        "{\"put\":\"x\",\"object\":{\"type\":\"Road\",\"geometry\":[{\"type\":\"Solid\",\"lod\":\"1\"}]}}",
+        "{\"put\":\"x\",\"object\":{\"type\":\"Road\",\"geometry\":[{\"type\":\"Solid\",\"lod\":1,\"boundaries\":[]}]}}",
+        "{\"put\":\"x\",\"object\":{\"type\":\"Road\",\"geometry\":[{\"type\":\"Solid\",\"lod\":\"1\",\"boundaries\":[[[0]]]}]}}",
+        "{\"put\":\"x\",\"object\":{\"type\":\"Road\",\"geometry\":[{\"type\":\"MultiSurface\",\"lod\":\"1\",\"boundaries\":[[[\"0\"]]]}]}}",
+        "{\"delete\":1}",
+        "{\"delete\":\"x\",\"read\":\"x\"}",
+        "{\"attach\":\"x\"}",
+        "{\"attach\":1,\"parent\":\"y\"}",
+        "{\"attach\":\"x\",\"parent\":1}",
+        "{\"attach\":\"x\",\"detach\":\"y\"}",
+        "{\"attach\":\"x\",\"parent\":\"y\",\"more\":1}",
+        "{\"detach\":\"x\",\"parent\":\"y\",\"more\":1}",
+        "{\"detach\":\"x\",\"object\":{}}",
+        "{\"parent\":\"y\",\"more\":\"x\"}",
+    ] {
+        let text = format!(in rt.alloc();
+            "[{{\"name\":\"a\",\"commands\":[\"abort\"]}},{{\"name\":\"s\",\"commands\":[{{\"read\":\"x\"}},{command},{{\"read\":2}},\"commit\"]}}]"
+        )?;
+        let got = answer(&rt, text.as_str())?;
+        assert_eq!(rt; got.as_str(), "BadCommand(1, 1)", "at {command}");
+    }
+    let first = answer(
+        &rt,
+        "[{\"name\":\"s\",\"commands\":[{\"read\":1},\"commit\"]}]",
+    )?;
+    assert_eq!(rt; first.as_str(), "BadCommand(0, 0)");
+    Ok(())
+}
+
+#[test]
+fn more_than_the_limits_allow_is_refused(rt: HostRuntime) -> Result<(), Fail> {
+    let alloc = rt.alloc();
+    for (text, want) in [
+        (commits_after(alloc, COMMIT, 4_096)?, "TooMany"),
+        (commits_after(alloc, "1", 4_097)?, "BadScript(0)"),
+        (reads(alloc, 1_024)?, "TooMany"),
+    ] {
+        let got = answer(&rt, text.as_str())?;
+        assert_eq!(rt; got.as_str(), want);
+    }
+    Ok(())
+}
+
+#[test]
+fn as_many_as_the_limits_allow_are_read(rt: HostRuntime) -> Result<(), Fail> {
+    let alloc = rt.alloc();
+    for (text, want) in [
+        (commits_after(alloc, COMMIT, 4_095)?, 4_096),
+        (reads(alloc, 1_023)?, 1),
+    ] {
+        match read_scripts(alloc, text.as_bytes()) {
+            Ok(scripts) => assert_eq!(rt; scripts.len(), want),
+            Err(_) => assert!(rt; false),
+        }
+    }
+    Ok(())
+}

@@ -1,0 +1,193 @@
+//! Transactions driven by hand, turn by turn: each with what it is answered, in words.
+ghost use Rattle.std.specs.Prelude.{◌≡◌, false, IfOk};
+ghost use Rattle.city_model.specs.Scripts.{is_end};
+
+use crate::samples::{Row, body, city, text};
+use city_model::city::City;
+use city_model::command::{Cause, Command, Reply};
+use city_model::is_lawful::is_lawful;
+use city_model::object::Object;
+use city_model::object_type::{ObjectType, name, type_named};
+use city_txn::step::{Prepared, Step, TxnFault};
+use city_txn::txn_core::Core;
+use serde_json::Value;
+use std::alloc::Global;
+use std::test::Fail;
+
+fn core_over(alloc: Global, rows: &[Row]) -> Result<Core, Fail> {
+    let city = city(alloc, rows)?;
+    if !is_lawful(alloc, &city)? {
+        return Err(Fail::new("the city isn't lawful"));
+    }
+    Ok(Core::open(alloc, city))
+}
+
+/// A command that ends nothing.
+fn command(alloc: Global, verb: &str, id: &str, other: &str) -> Result<Command, Fail>
+    ensures { IfOk result (λ c. is_end c ≡ false) }
+{
+    let at = text(alloc, id)?;
+    if verb == "read" {
+        return Ok(Command::Read(at));
+    }
+    if verb == "delete" {
+        return Ok(Command::Delete(at));
+    }
+    if verb == "attach" {
+        return Ok(Command::Attach(at, text(alloc, other)?));
+    }
+    if verb == "detach" {
+        return Ok(Command::Detach(at, text(alloc, other)?));
+    }
+    if verb == "put" {
+        let kind = type_named(other).ok_or("no such type")?;
+        return Ok(Command::Put(at, body(alloc, kind, "{}")?));
+    }
+    let json = format!(in alloc; "{{\"attributes\":{{\"n\":{other}}}}}")?;
+    Ok(Command::Put(at, body(alloc, ObjectType::LandUse, &json)?))
+}
+
+fn cause_text(alloc: Global, cause: &Cause) -> Result<String, Fail> {
+    Ok(match cause {
+        Cause::NoObject(id) => format!(in alloc; "NoObject {id}")?,
+        Cause::TypeFixed(id) => format!(in alloc; "TypeFixed {id}")?,
+        Cause::HasChildren(id) => format!(in alloc; "HasChildren {id}")?,
+        Cause::Orphan(id) => format!(in alloc; "Orphan {id}")?,
+        Cause::WrongFamily => "WrongFamily".to_string(alloc)?,
+        Cause::AlreadyAttached => "AlreadyAttached".to_string(alloc)?,
+        Cause::NotAttached => "NotAttached".to_string(alloc)?,
+        Cause::ShortRing => "ShortRing".to_string(alloc)?,
+        Cause::SameTwice => "SameTwice".to_string(alloc)?,
+        Cause::OpenShell => "OpenShell".to_string(alloc)?,
+    })
+}
+
+fn fault_text(alloc: Global, fault: TxnFault) -> Result<String, Fail> {
+    Ok(match fault {
+        TxnFault::NotOpen(stamp) => format!(in alloc; "NotOpen {stamp}")?,
+        TxnFault::StampOpen(stamp) => format!(in alloc; "StampOpen {stamp}")?,
+        TxnFault::OutOfMemory => "OutOfMemory".to_string(alloc)?,
+    })
+}
+
+/// The type of an object, and its number if it has one.
+fn object_text(alloc: Global, object: &Object) -> Result<String, Fail> {
+    let kind = name(object.body.kind);
+    let attributes = object.body.extra.map().get("attributes");
+    Ok(
+        match attributes.and_then(|a| a.get("n")).and_then(Value::as_i64) {
+            Some(n) => format!(in alloc; "{kind} {n}")?,
+            None => kind.to_string(alloc)?,
+        },
+    )
+}
+
+fn reply_text(alloc: Global, reply: &Reply) -> Result<String, Fail> {
+    match reply {
+        Reply::Found(object) => object_text(alloc, object),
+        Reply::Refused(cause) => cause_text(alloc, cause),
+        Reply::Absent => Ok("absent".to_string(alloc)?),
+        Reply::Added => Ok("added".to_string(alloc)?),
+        Reply::Replaced => Ok("replaced".to_string(alloc)?),
+        Reply::Deleted => Ok("deleted".to_string(alloc)?),
+        Reply::Attached => Ok("attached".to_string(alloc)?),
+        Reply::Detached => Ok("detached".to_string(alloc)?),
+        Reply::Committed | Reply::Aborted => Err(Fail::new("no reply of a command")),
+    }
+}
+
+/// What a command is answered; `would_wait` must have foretold it.
+fn act(core: &mut Core, alloc: Global, stamp: u64, command: &Command) -> Result<String, Fail>
+    requires { is_end command.now ≡ false }
+{
+    let foretold = core.would_wait(stamp, command);
+    let step = match core.act(stamp, command) {
+        Err(fault) => return fault_text(alloc, fault),
+        Ok(step) => step,
+    };
+    if foretold != matches!(&step, Step::Wait) {
+        return Err(Fail::new("would_wait didn't foretell the answer"));
+    }
+    match step {
+        Step::Done(reply) => reply_text(alloc, &reply),
+        Step::Wait => Ok("wait".to_string(alloc)?),
+        Step::Die => Ok("die".to_string(alloc)?),
+    }
+}
+
+/// The ids that a commit sets and takes out, or why it is refused.
+fn commit(core: &mut Core, alloc: Global, stamp: u64) -> Result<String, Fail> {
+    if !core.is_open(stamp) {
+        return fault_text(alloc, TxnFault::NotOpen(stamp));
+    }
+    match core.prepare(stamp) {
+        Err(fault) => fault_text(alloc, fault),
+        Ok(Prepared::Refused(cause)) => cause_text(alloc, &cause),
+        Ok(Prepared::Ready(change)) => {
+            core.commit(stamp);
+            let mut all = "committed".to_string(alloc)?;
+            for (id, object) in change.as_slice() {
+                all.push_str(if object.is_some() { " +" } else { " -" })?;
+                all.push_str(id.as_str())?;
+            }
+            Ok(all)
+        }
+    }
+}
+
+/// A stamp, what it does, at which id, with which other id, type or number, and the answer.
+pub type Turn<'a> = (u64, &'a str, &'a str, &'a str, &'a str);
+
+fn answer(core: &mut Core, alloc: Global, turn: &Turn) -> Result<String, Fail> {
+    let (stamp, verb, id, other, _) = *turn;
+    if verb == "commit" {
+        return commit(core, alloc, stamp);
+    }
+    let done = if verb == "begin" {
+        core.begin(stamp)
+    } else if verb == "abort" {
+        core.abort(stamp)
+    } else {
+        return act(core, alloc, stamp, &command(alloc, verb, id, other)?);
+    };
+    match done {
+        Ok(()) => Ok("done".to_string(alloc)?),
+        Err(fault) => fault_text(alloc, fault),
+    }
+}
+
+/// The objects of a city: id, type, `<` and parents, `>` and children.
+fn outline(alloc: Global, city: &City) -> Result<String, Fail> {
+    let mut all = String::new(alloc);
+    for (id, object) in city.iter() {
+        all.push_str(id.as_str())?;
+        all.push_str(" ")?;
+        all.push_str(&object_text(alloc, object)?)?;
+        for parent in object.parents.as_slice() {
+            all.push_str(" <")?;
+            all.push_str(parent.as_str())?;
+        }
+        for child in object.children.as_slice() {
+            all.push_str(" >")?;
+            all.push_str(child.as_str())?;
+        }
+        all.push_str("; ")?;
+    }
+    Ok(all)
+}
+
+/// The city that the turns leave, or the first turn that isn't answered as wanted.
+pub fn played(alloc: Global, rows: &[Row], turns: &[Turn]) -> Result<String, Fail> {
+    let mut core = core_over(alloc, rows)?;
+    for turn in turns {
+        let said = answer(&mut core, alloc, turn)?;
+        let (stamp, verb, id, other, want) = *turn;
+        if said.as_str() != want {
+            return Ok(format!(in alloc; "{stamp} {verb} {id} {other}: {said}")?);
+        }
+    }
+    match core.into_city() {
+        Ok(city) => outline(alloc, &city),
+        Err(_) => Ok("a transaction is open".to_string(alloc)?),
+    }
+}
