@@ -25,7 +25,7 @@ use Rattle.city_txn.specs.declared.step.Step.TheVariants as steps
 use Rattle.city_txn.specs.declared.step.TxnFault.{TxnFault}
 use Rattle.city_txn.specs.declared.step.TxnFault.TheVariants.{NotOpen, OutOfMemory}
 use Rattle.city_txn.specs.State as store
-use Rattle.city_txn.specs.State.{State, Write, write_of, own_or, is_by, has_room}
+use Rattle.city_txn.specs.State.{State, Write, write_of, own_or, is_by, is_reserved}
 use Rattle.city_model.specs.Standing.{Lock, Answered, AllHeld, names, names_exclusively}
 use Rattle.city_txn.specs.CoreState.{CoreState, view, is_open, held, held_in, Stands, IsConsistent}
 use Rattle.city_txn.specs.Core.{core_state, IsCore}
@@ -162,7 +162,7 @@ module _ (a : Inside) (k : IsCore a) {v : CoreState} (seen : core_state a ≡ v)
     kept_mode = exclusive_gained s ask.gains.gained (core_state a) (core_state locked) gained
 
     pub asked_core : IsCore locked
-    asked_core = record { state = consistent; room = λ t q h. kept_mode t q (k.room t q h) }
+    asked_core = record { state = consistent; reserved = λ t q h. kept_mode t q (k.reserved t q h) }
 
     -- no command is done: it failed or isn't granted, and w is the core then
     stopped : (result : Result Step TxnFault) (w : CoreState) → LocksGained s ask.gains.gained (core_state a) w → is_done result ≡ false →
@@ -200,20 +200,20 @@ module _ (a : Inside) (k : IsCore a) {v : CoreState} (seen : core_state a ≡ v)
       mine : (q : List ℕ) → names_exclusively (locks_of m c) q ≡ true → mode_of ks s q ≡ Some Exclusive
       mine q h = held_exclusively (mode_of ks s q) (history.held_exclusively (held_in ks s) (locks_of m c) q all h)
 
-      -- no other than s has room at an id that the locks name
-      pub alone_named : (q : List ℕ) → names (locks_of m c) q ≡ true → (t : ℕ) → has_room a.store t q ≡ true → t ≡ s
+      -- no other than s has reserved an id that the locks name
+      pub alone_named : (q : List ℕ) → names (locks_of m c) q ≡ true → (t : ℕ) → is_reserved a.store t q ≡ true → t ≡ s
       alone_named q h t r = elim (cases_eq t s) [
         | inl e ↦ e
-        | inr e ↦ absurd (false≢true (ap is_some (sym (ask.gains.locks.lawful k.state.lawful t s q e (kept_mode ask t q (k.room t q r))))
+        | inr e ↦ absurd (false≢true (ap is_some (sym (ask.gains.locks.lawful k.state.lawful t s q e (kept_mode ask t q (k.reserved t q r))))
             ∙ some_mode (mode_of ks s q) (history.held_named (held_in ks s) (locks_of m c) q all h)))
       ]
 
-      -- the store afterwards is st, with room as it was or for s at ids that it holds exclusively
+      -- the store afterwards is st, with the reservations as they were or by s of ids that it holds exclusively
       module _ (st : State)
-          (room : (t : ℕ) (q : List ℕ) → has_room st t q ≡ true → (has_room a.store t q || ((s == t) && names_exclusively (locks_of m c) q)) ≡ true) where
-        room_held : (t : ℕ) (q : List ℕ) → has_room st t q ≡ true → mode_of ks t q ≡ Some Exclusive
-        room_held t q h = or_cases (has_room a.store t q) ((s == t) && names_exclusively (locks_of m c) q) (room t q h)
-            (λ e. kept_mode ask t q (k.room t q e))
+          (reserved : (t : ℕ) (q : List ℕ) → is_reserved st t q ≡ true → (is_reserved a.store t q || ((s == t) && names_exclusively (locks_of m c) q)) ≡ true) where
+        reserved_held : (t : ℕ) (q : List ℕ) → is_reserved st t q ≡ true → mode_of ks t q ≡ Some Exclusive
+        reserved_held t q h = or_cases (is_reserved a.store t q) ((s == t) && names_exclusively (locks_of m c) q) (reserved t q h)
+            (λ e. kept_mode ask t q (k.reserved t q e))
             (λ e. let both = and_parts (s == t) (names_exclusively (locks_of m c) q) e in
             ap (λ u. mode_of ks u q) (sym (eqb-true s t both.0)) ∙ mine q both.1)
 
@@ -231,7 +231,7 @@ module _ (a : Inside) (k : IsCore a) {v : CoreState} (seen : core_state a ≡ v)
         pub failed_core : IsCore (record a { store = st; locks = ks })
         failed_core = record {
           state = gained_consistent s ask.gains.gained (core_state a) (core_state (record a { store = st; locks = ks })) k.state o failed;
-          room = room_held st p.room;
+          reserved = reserved_held st p.reserved;
         }
 
         pub failed_acted : Acted s c (Err OutOfMemory) v (core_state (record a { store = st; locks = ks }))
@@ -285,7 +285,7 @@ module _ (a : Inside) (k : IsCore a) {v : CoreState} (seen : core_state a ≡ v)
         pub performed_core : IsCore (record a { store = st; locks = ks })
         performed_core = record {
           state = done_consistent s c r (core_state locked) (core_state (record a { store = st; locks = ks })) performed (consistent ask);
-          room = room_held st p.room;
+          reserved = reserved_held st p.reserved;
         }
 
         pub performed_acted : Acted s c (Ok (steps.Done r)) v (core_state (record a { store = st; locks = ks }))

@@ -108,7 +108,7 @@ module _ (a : Inside) (k : IsInPlace a) (q : List ℕ) where
       ap (λ f. f q) (at_sorted (made_by (λ r o. committed_at (Some o) (image_at a r)) (entries a.city.1)) (sorted_made (λ r o. committed_at (Some o) (image_at a r)) (entries a.city.1) (entries_ascend a.city.1)))
       ∙ at_made (λ r o. committed_at (Some o) (image_at a r)) (entries a.city.1) q (entries_ascend a.city.1)
       ∙ ap (λ f. through (λ o. committed_at (Some o) (image_at a q)) (f q)) (sym (at_entries a.city.1))
-      ∙ committed_point (here a q) (image_at a q) (k.placed q)
+      ∙ committed_point (here a q) (image_at a q) (k.has_slot q)
 
   pub writes_is : write_of (state_of a).writes q ≡ write_at (here a q) (image_at a q)
   writes_is = at_made (λ r i. write_at (here a r) (Some i)) a.images.entries q k.images_ordered ∙ write_point (here a q) (image_at a q)
@@ -119,24 +119,24 @@ module _ (a : Inside) (k : IsInPlace a) (q : List ℕ) where
 -- ---- what a transaction sees, from its image
 
 pub own_seen : (s : ℕ) (x : Option Object) (i : Image) → (i.by == s) ≡ true → own_or s (write_at x (Some i)) (committed_at x (Some i)) ≡ seen_under x i
-own_seen s x i e = bool_cases i.fresh
+own_seen s x i e = bool_cases i.unwritten
     (λ f. ap (λ b. own_or s (if b then None else Some (i.by, seen_under x i)) (if b then seen_under x i else i.before)) f)
     (λ f. ap (λ b. own_or s (if b then None else Some (i.by, seen_under x i)) (if b then seen_under x i else i.before)) f
     ∙ ap (λ b. if b then seen_under x i else i.before) e)
 
 -- the write of another
 pub own_committed : (s : ℕ) (x o : Option Object) (i : Image) → (i.by == s) ≡ false → own_or s (write_at x (Some i)) o ≡ o
-own_committed s x o i e = bool_cases i.fresh
+own_committed s x o i e = bool_cases i.unwritten
     (λ f. ap (λ b. own_or s (if b then None else Some (i.by, seen_under x i)) o) f)
     (λ f. ap (λ b. own_or s (if b then None else Some (i.by, seen_under x i)) o) f ∙ ap (λ b. if b then seen_under x i else o) e)
 
 pub seen_point : (s : ℕ) (x : Option Object) (i : Image) → own_or s (write_at x (Some i)) (committed_at x (Some i)) ≡ seen_by s x i
 seen_point s x i = bool_cases (i.by == s)
-    (λ e. own_seen s x i e ∙ sym (ap (λ b. if not b && not i.fresh then i.before else seen_under x i) e))
-    (λ e. own_committed s x (committed_at x (Some i)) i e ∙ before_seen x i ∙ sym (ap (λ b. if not b && not i.fresh then i.before else seen_under x i) e))
+    (λ e. own_seen s x i e ∙ sym (ap (λ b. if not b && not i.unwritten then i.before else seen_under x i) e))
+    (λ e. own_committed s x (committed_at x (Some i)) i e ∙ before_seen x i ∙ sym (ap (λ b. if not b && not i.unwritten then i.before else seen_under x i) e))
   where
-    before_seen : (x : Option Object) (i : Image) → before_image x i ≡ (if not i.fresh then i.before else seen_under x i)
-    before_seen x i = bool_cases i.fresh
+    before_seen : (x : Option Object) (i : Image) → before_image x i ≡ (if not i.unwritten then i.before else seen_under x i)
+    before_seen x i = bool_cases i.unwritten
         (λ f. ap (λ b. if b then seen_under x i else i.before) f ∙ sym (ap (λ b. if not b then i.before else seen_under x i) f))
         (λ f. ap (λ b. if b then seen_under x i else i.before) f ∙ sym (ap (λ b. if not b then i.before else seen_under x i) f))
 
@@ -151,7 +151,7 @@ pub all_there : (objects : Objects) → from_sorted (made_by (λ r o. Some o) (e
 all_there objects = ap (λ (es : Entries). from_sorted es) (all_made (entries objects))
     ∙ same_objects (from_sorted (entries objects)) objects (at_sorted (entries objects) (entries_ascend objects) ∙ sym (at_entries objects))
 
-pub new_state : (a : Inside) → a.images.entries ≡ [] → a.rooms.entries ≡ [] → state_of a ≡ record { frame = a.city.0; city = a.city.1; writes = []; opened = [] }
+pub new_state : (a : Inside) → a.images.entries ≡ [] → a.reservations.entries ≡ [] → state_of a ≡ record { frame = a.city.0; city = a.city.1; writes = []; opened = [] }
 new_state a none shut i = record {
   frame = a.city.0;
   city = (ap (λ (is : List (List ℕ × Image)). from_sorted (made_by (λ r o. committed_at (Some o) (lookup (is_at (slice_cmp nat_cmp r)) is)) (entries a.city.1))) none ∙ all_there a.city.1) i;

@@ -24,7 +24,7 @@ use Rattle.city_model.proofs.Objects.{entries_of, at_sorted}
 use Rattle.city_txn.specs.declared.image.Image.{Image}
 use Rattle.city_txn.specs.declared.store.Store.TheInside.{Inside}
 use Rattle.city_txn.specs.Images.{seen_under, written_at, write_at, writer_of}
-use Rattle.city_txn.specs.State.{Write, write_of, rooms_of, own_or, own_write, is_by}
+use Rattle.city_txn.specs.State.{Write, write_of, reservations_of, own_or, own_write, is_by}
 use Rattle.city_txn.specs.CoreState.{CoreState, committed, view}
 use Rattle.city_txn.specs.InPlace.{with_some, made_by, image_at, state_of, is_writer, IsInPlace}
 use Rattle.city_txn.specs.Changing.{or_else, objects_in, IsChangeOf}
@@ -54,19 +54,19 @@ noted_more f x y ids i id lt is before step q =
     ∙ ap (λ b. if b then f q else None)
     (ap (λ b. has_id (take i ids) q || b) (same_id_back id q ∙ ap (same_id q) is) ∙ sym (list_any_more (same_id q) ids i id lt))
 
--- what is listed at the ids to which the transaction has room is what it wrote
+-- what is listed at the ids that the transaction has reserved is what it wrote
 either_none : {Y : Type 0} (b : Bool) → ◌≡◌ {A = Option Y} (if b then None else None) None
 either_none true = refl
 either_none false = refl
 
 own_point : (s : ℕ) (x : Option Object) (i : Option Image) → (if is_writer s (writer_of i) then written_at x i else None) ≡ own_write s (write_at x i)
 own_point s x None = refl
-own_point s x (Some i) = bool_cases i.fresh
+own_point s x (Some i) = bool_cases i.unwritten
     (λ e. ap (λ b. if i.by == s then (if b then None else Some (seen_under x i)) else None) e ∙ either_none (i.by == s) ∙ sym (ap (λ b. own_write s (if b then None else Some (i.by, seen_under x i))) e))
     (λ e. ap (λ b. if i.by == s then (if b then None else Some (seen_under x i)) else None) e ∙ sym (ap (λ b. own_write s (if b then None else Some (i.by, seen_under x i))) e))
 
 pub own_written : (a : Inside) → IsInPlace a → (s : ℕ) (q : List ℕ) →
-    (if has_id (rooms_of a.rooms.entries s) q then written_at (here a q) (image_at a q) else None) ≡ own_write s (write_of (state_of a).writes q)
+    (if has_id (reservations_of a.reservations.entries s) q then written_at (here a q) (image_at a q) else None) ≡ own_write s (write_of (state_of a).writes q)
 own_written a k s q = ap (λ b. if b then written_at (here a q) (image_at a q) else None) (k.listed s q) ∙ own_point s (here a q) (image_at a q) ∙ sym (ap (own_write s) (writes_is a k q))
 
 pub none_sorted : IsStrictlySortedBy (slice_cmp nat_cmp) []

@@ -16,7 +16,7 @@ use Rattle.city_locks.proofs.Among.{none_from}
 use Rattle.city_locks.specs.declared.mode.Mode.TheVariants.{Exclusive}
 use Rattle.city_locks.specs.Locks.{Locks, mode_of, Lawful}
 use Rattle.city_txn.specs.State as store
-use Rattle.city_txn.specs.State.{State, Write, write_of, own_or, has_room, is_by, Forgets}
+use Rattle.city_txn.specs.State.{State, Write, write_of, own_or, is_reserved, is_by, Forgets}
 use Rattle.city_model.specs.Standing.{Answered, covers}
 use Rattle.city_txn.specs.CoreState.{CoreState, committed, view, is_open, held, held_in, Stands, IsConsistent, KeepsOthers, IsOver, IsUndone}
 use Rattle.city_txn.specs.Core.{core_state, IsCore}
@@ -53,7 +53,7 @@ fresh_core a frame city l = record {
     city = l;
     history = λ s. ([], refl);
   };
-  room = λ t q h. absurd (false≢true h);
+  reserved = λ t q h. absurd (false≢true h);
 }
 
 pub opened_core : (a : Inside) (frame : Frame) (city : Objects) → a.store ≡ record { frame = frame; city = city; writes = []; opened = [] } → a.locks ≡ [] → IsLawful (at city) → IsCore a
@@ -81,7 +81,7 @@ shut_unwritten v s q c h = not_by s (write_of v.writes q) (shut_writer v s q c h
 
 module _ (a b : Inside) (k : IsCore a) (s : ℕ) (shut : is_open (core_state a) s ≡ false) (frame : b.store.frame ≡ a.store.frame) (city : b.store.city ≡ a.store.city) (writes : b.store.writes ≡ a.store.writes) (locks : b.locks ≡ a.locks)
     (opened : (t : ℕ) → store.is_open b.store t ≡ ((s == t) || store.is_open a.store t))
-    (room : (t : ℕ) (q : List ℕ) → has_room b.store t q ≡ has_room a.store t q) where
+    (reserved : (t : ℕ) (q : List ℕ) → is_reserved b.store t q ≡ is_reserved a.store t q) where
   pub begun_open : (t : ℕ) → is_open (core_state b) t ≡ ((s == t) || is_open (core_state a) t)
   begun_open t = open_is b t ∙ opened t ∙ ap (λ c. (s == t) || c) (sym (open_is a t))
 
@@ -110,7 +110,7 @@ module _ (a b : Inside) (k : IsCore a) (s : ℕ) (shut : is_open (core_state a) 
       city = subst (λ es. IsLawful (at es)) (sym city) k.state.city;
       history = λ t. ((k.state.history t).0, begun_stands t (k.state.history t).0 (k.state.history t).1);
     };
-    room = λ t q h. ap (λ hs. mode_of hs t q) locks ∙ k.room t q (sym (room t q) ∙ h);
+    reserved = λ t q h. ap (λ hs. mode_of hs t q) locks ∙ k.reserved t q (sym (reserved t q) ∙ h);
   }
 
 -- ---- over
@@ -129,17 +129,17 @@ module _ (a b : Inside) (k : IsCore a) (s : ℕ) (f : Forgets s a.store b.store)
     lawful = lawful;
   }
 
-  room_left : (t : ℕ) (q : List ℕ) → has_room b.store t q ≡ true → mode_of b.locks t q ≡ Some Exclusive
-  room_left t q h =
-      let left = none_left (s == t) (has_room a.store t q) (sym (f.room t q) ∙ h) in
-      modes t q ∙ ap (λ c. cond c None (mode_of a.locks t q)) left.0 ∙ k.room t q left.1
+  reserved_left : (t : ℕ) (q : List ℕ) → is_reserved b.store t q ≡ true → mode_of b.locks t q ≡ Some Exclusive
+  reserved_left t q h =
+      let left = none_left (s == t) (is_reserved a.store t q) (sym (f.reserved t q) ∙ h) in
+      modes t q ∙ ap (λ c. cond c None (mode_of a.locks t q)) left.0 ∙ k.reserved t q left.1
 
   module _ (city : store.committed b.store ≡ store.view a.store s) where
     pub committed_over : IsOver s (core_state a) (core_state b)
     committed_over = is_over s (core_state a) (core_state b) ended f.frame (λ t done ne g. stands_committed s t (core_state a) (core_state b) done k.state ended city ne g)
 
     pub committed_core : HasNoOrphan (view (core_state a) s) → IsCore b
-    committed_core orphans = record { state = committed_consistent s (core_state a) (core_state b) k.state ended city orphans; room = room_left }
+    committed_core orphans = record { state = committed_consistent s (core_state a) (core_state b) k.state ended city orphans; reserved = reserved_left }
 
   module _ (city : store.committed b.store ≡ store.committed a.store) where
     pub undone : IsUndone s (core_state a) (core_state b)
@@ -150,4 +150,4 @@ module _ (a b : Inside) (k : IsCore a) (s : ℕ) (f : Forgets s a.store b.store)
     }
 
     pub undone_core : IsCore b
-    undone_core = record { state = aborted_consistent s (core_state a) (core_state b) k.state ended city; room = room_left }
+    undone_core = record { state = aborted_consistent s (core_state a) (core_state b) k.state ended city; reserved = reserved_left }

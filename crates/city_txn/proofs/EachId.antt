@@ -13,7 +13,7 @@ use Rattle.city_model.proofs.Ids.{same_id_true, same_id_back, same_id_of_equal}
 use Rattle.city_model.proofs.IdLists.{bool_cases}
 use Rattle.city_txn.specs.declared.image.Image.{Image}
 use Rattle.city_txn.specs.Ending.{AreEnded}
-use Rattle.city_txn.specs.Images.{seen_under, before_image, seen_at, committed_at, is_gone}
+use Rattle.city_txn.specs.Images.{seen_under, before_image, seen_at, committed_at, is_deleted}
 
 -- one more id of a list
 pub has_more : (ids : List (List ℕ)) (n : ℕ) (id q : List ℕ) → n < length ids → id ≡ get_or ids n id → has_id (take (n + 1) ids) q ≡ (has_id (take n ids) q || same_id id q)
@@ -61,14 +61,14 @@ one_more_ended f idle a b c i j k ids n id lt is before one = record {
     image images q = get (slice_cmp nat_cmp) images q
 
 -- an image that is left is of an id in the city
-placed_point : (f : Option Object → Option Image → Option Object) (b : Bool) (x : Option Object) (i : Option Image) → (is_some i ≡ true → is_some x ≡ true) →
+has_slot_point : (f : Option Object → Option Image → Option Object) (b : Bool) (x : Option Object) (i : Option Image) → (is_some i ≡ true → is_some x ≡ true) →
     is_some (if b then None else i) ≡ true → is_some (if b then f x i else x) ≡ true
-placed_point f true x i p h = absurd (false≢true h)
-placed_point f false x i p h = p h
+has_slot_point f true x i p h = absurd (false≢true h)
+has_slot_point f false x i p h = p h
 
-pub still_placed : (f : Option Object → Option Image → Option Object) (x y : Option Object) (i j : Option Image) (b : Bool) → (is_some i ≡ true → is_some x ≡ true) →
+pub still_has_slot : (f : Option Object → Option Image → Option Object) (x y : Option Object) (i j : Option Image) (b : Bool) → (is_some i ≡ true → is_some x ≡ true) →
     y ≡ (if b then f x i else x) → j ≡ (if b then None else i) → is_some j ≡ true → is_some y ≡ true
-still_placed f x y i j b p c m h = ap is_some c ∙ placed_point f b x i p (sym (ap is_some m) ∙ h)
+still_has_slot f x y i j b p c m h = ap is_some c ∙ has_slot_point f b x i p (sym (ap is_some m) ∙ h)
 
 -- ---- one id
 
@@ -82,17 +82,17 @@ unchanged m id = λ i q. at q i
         (λ e. sym (changed_apart m id (m id) q e))
 
 -- a placeholder that is taken out leaves what the transaction saw
-pub cleared_seen : (m : CityMap) (id : List ℕ) (i : Option Image) → (if is_gone i then changed m id None else m) ≡ changed m id (seen_at (m id) i)
+pub cleared_seen : (m : CityMap) (id : List ℕ) (i : Option Image) → (if is_deleted i then changed m id None else m) ≡ changed m id (seen_at (m id) i)
 cleared_seen m id None = unchanged m id
-cleared_seen m id (Some i) = by_gone i.gone
+cleared_seen m id (Some i) = by_deleted i.deleted
   where
-    by_gone : (gone : Bool) → (if gone then changed m id None else m) ≡ changed m id (if gone then None else m id)
-    by_gone true = refl
-    by_gone false = unchanged m id
+    by_deleted : (deleted : Bool) → (if deleted then changed m id None else m) ≡ changed m id (if deleted then None else m id)
+    by_deleted true = refl
+    by_deleted false = unchanged m id
 
--- and of an image that is fresh, what stood there before
-pub cleared_before : (m : CityMap) (id : List ℕ) (i : Image) → i.fresh ≡ true → (if i.gone then changed m id None else m) ≡ changed m id (before_image (m id) i)
-cleared_before m id i fresh = cleared_seen m id (Some i) ∙ ap (λ o. changed m id o) (sym (ap (λ b. if b then seen_under (m id) i else i.before) fresh))
+-- and of an unwritten image, what stood there before
+pub cleared_before : (m : CityMap) (id : List ℕ) (i : Image) → i.unwritten ≡ true → (if i.deleted then changed m id None else m) ≡ changed m id (before_image (m id) i)
+cleared_before m id i unwritten = cleared_seen m id (Some i) ∙ ap (λ o. changed m id o) (sym (ap (λ b. if b then seen_under (m id) i else i.before) unwritten))
 
 -- an image that is put back
 pub back_point : (x y : List ℕ → Option Object) (id : List ℕ) (i : Option Image) (j : Image) → i ≡ Some j → ((q : List ℕ) → y q ≡ (if same_id id q then before_image (x id) j else x q)) →
@@ -112,7 +112,7 @@ added_and_forgotten i j k id new none add forget q = forget q ∙ bool_cases (sa
     (λ e. ap (λ b. if b then None else j q) e ∙ sym (ap i (sym (same_id_true id q e)) ∙ none))
     (λ e. ap (λ b. if b then None else j q) e ∙ add q ∙ ap (λ b. if b then Some new else i q) e)
 
--- ---- a place that is made
+-- ---- a slot that is made
 
 pub made_there : (m : CityMap) (key id : List ℕ) (o : Object) → key ≡ id → is_some (changed m key (Some o) id) ≡ true
 made_there m key id o e = ap is_some (changed_there m key (Some o) id (same_id_of_equal key id e))

@@ -8,7 +8,7 @@ use Rattle.city_model.specs.CityMap.{has_id}
 use Rattle.city_txn.specs.declared.image.Image.{Image}
 use Rattle.city_txn.specs.declared.store.Store.TheInside.{Inside}
 use Rattle.city_txn.specs.Images.{committed_at, writer_of}
-use Rattle.city_txn.specs.State.{rooms_of}
+use Rattle.city_txn.specs.State.{reservations_of}
 use Rattle.city_txn.specs.InPlace.{made_by, image_at, state_of, is_writer, IsInPlace}
 use Rattle.city_txn.proofs.AtOneId.{all_there}
 
@@ -16,10 +16,10 @@ unwritten : (i : Option Image) → ((s : ℕ) → is_writer s (writer_of i) ≡ 
 unwritten None h = refl
 unwritten (Some i) h = absurd (false≢true (sym (h i.by) ∙ eq-eqb i.by i.by refl))
 
-no_image : (a : Inside) → IsInPlace a → a.rooms.entries ≡ [] → (id : List ℕ) → image_at a id ≡ None
-no_image a k shut id = unwritten (image_at a id) (λ s. sym (k.listed s id) ∙ ap (λ rooms. has_id (rooms_of rooms s) id) shut)
+no_image : (a : Inside) → IsInPlace a → a.reservations.entries ≡ [] → (id : List ℕ) → image_at a id ≡ None
+no_image a k shut id = unwritten (image_at a id) (λ s. sym (k.listed s id) ∙ ap (λ reservations. has_id (reservations_of reservations s) id) shut)
 
-pub idle_city : (a : Inside) → IsInPlace a → a.rooms.entries ≡ [] → a.city ≡ ((state_of a).frame, (state_of a).city)
+pub idle_city : (a : Inside) → IsInPlace a → a.reservations.entries ≡ [] → a.city ≡ ((state_of a).frame, (state_of a).city)
 idle_city a k shut =
     let none : image_at a ≡ (λ id. None) = λ i id. no_image a k shut id i in
     let same : (state_of a).city ≡ a.city.1 =

@@ -10,5 +10,5 @@ pub mod Idle
 pub mod LocksAsked
 pub mod LocksGained
 pub mod PlanWritten
-pub mod RoomMade
+pub mod ReservationMade
 pub mod Written

@@ -1,4 +1,4 @@
--- List ℕ × Option Object writes worked through: room for one more, and one more written.
+-- List ℕ × Option Object writes worked through: one more reserved, and one more written.
 use Rattle.std.proofs.Common.{◌≡◌, ◌==◌, ◌&&◌, ◌||◌, ℕ, ◌+◌, ◌<◌, List, [], ◌∷◌, ◌++◌, length, take, get_or, Bool, true, false, Option, Some, refl, ap, sym, ◌∙◌, subst}
 use Rattle.std.specs.Prelude.{if◌then◌else◌}
 use Rattle.std.specs.List.{list_any}
@@ -8,7 +8,7 @@ use Rattle.std.proofs.lemmas.List.Folds.{list_any_more, list_any_at, list_any-ap
 use Rattle.std.proofs.Math.Bool.{or-false}
 use Rattle.city_model.specs.CityMap.{CityMap, same_id, has_id}
 use Rattle.city_model.proofs.Ids.{same_id_true, same_id_itself, same_id_back}
-use Rattle.city_txn.specs.State.{State, Write, has_room, rooms_of, SeesSame}
+use Rattle.city_txn.specs.State.{State, Write, is_reserved, reservations_of, SeesSame}
 use Rattle.city_txn.specs.Performing.{plans}
 use Rattle.city_model.specs.Plans.{AreOf}
 use Rattle.city_model.specs.Runs.{Change}
@@ -21,7 +21,7 @@ listed : (ws : Change) (q : List ℕ) → plans ws q ≡ list_any (λ w. same_id
 listed [] q = refl
 listed (w ∷ ws) q = ap (λ b. same_id q w.0 || b) (listed ws q)
 
--- ---- room
+-- ---- reserved
 
 pub plans_more : (ws : Change) (n : ℕ) (w : List ℕ × Option Object) (q : List ℕ) → n < length ws → w ≡ get_or ws n w → plans (take (n + 1) ws) q ≡ (plans (take n ws) q || same_id q w.0)
 plans_more ws n w q lt is = listed (take (n + 1) ws) q ∙ list_any_more (λ x. same_id q x.0) ws n w lt
@@ -30,27 +30,27 @@ plans_more ws n w q lt is = listed (take (n + 1) ws) q ∙ list_any_more (λ x. 
 plans_got : (ws : Change) (n : ℕ) (w : List ℕ × Option Object) → n < length ws → w ≡ get_or ws n w → plans ws w.0 ≡ true
 plans_got ws n w lt is = listed ws w.0 ∙ list_any_at (λ x. same_id w.0 x.0) ws n w lt (ap (λ x. same_id w.0 x.0) (sym is) ∙ same_id_itself w.0)
 
--- v is the store at the start, u where room was made for the first n, and w with room for one more
+-- v is the store at the start, u where the first n were reserved, and w with one more reserved
 module _ (v u w : State) (s : ℕ) (ws : Change) (n : ℕ) (p : List ℕ × Option Object) (lt : n < length ws) (is : p ≡ get_or ws n p)
-    (alone : (q : List ℕ) → plans ws q ≡ true → (t : ℕ) → has_room v t q ≡ true → t ≡ s)
-    (room : (t : ℕ) (q : List ℕ) → has_room u t q ≡ true → (has_room v t q || ((s == t) && plans ws q)) ≡ true) where
-  pub still_alone : (t : ℕ) → has_room u t p.0 ≡ true → t ≡ s
-  still_alone t h = or_cases (has_room v t p.0) ((s == t) && plans ws p.0) (room t p.0 h)
+    (alone : (q : List ℕ) → plans ws q ≡ true → (t : ℕ) → is_reserved v t q ≡ true → t ≡ s)
+    (reserved : (t : ℕ) (q : List ℕ) → is_reserved u t q ≡ true → (is_reserved v t q || ((s == t) && plans ws q)) ≡ true) where
+  pub still_alone : (t : ℕ) → is_reserved u t p.0 ≡ true → t ≡ s
+  still_alone t h = or_cases (is_reserved v t p.0) ((s == t) && plans ws p.0) (reserved t p.0 h)
       (λ e. alone p.0 (plans_got ws n p lt is) t e)
       (λ e. sym (eqb-true s t (and_parts (s == t) (plans ws p.0) e).0))
 
-  module _ (more : (t : ℕ) (q : List ℕ) → has_room w t q ≡ (((s == t) && same_id p.0 q) || has_room u t q)) where
-    pub room_more : (t : ℕ) (q : List ℕ) → has_room w t q ≡ true → (has_room v t q || ((s == t) && plans ws q)) ≡ true
-    room_more t q h = or_cases ((s == t) && same_id p.0 q) (has_room u t q) (sym (more t q) ∙ h)
+  module _ (more : (t : ℕ) (q : List ℕ) → is_reserved w t q ≡ (((s == t) && same_id p.0 q) || is_reserved u t q)) where
+    pub reserved_more : (t : ℕ) (q : List ℕ) → is_reserved w t q ≡ true → (is_reserved v t q || ((s == t) && plans ws q)) ≡ true
+    reserved_more t q h = or_cases ((s == t) && same_id p.0 q) (is_reserved u t q) (sym (more t q) ∙ h)
         (λ e. let parts = and_parts (s == t) (same_id p.0 q) e in
-        or_right (has_room v t q) ((s == t) && plans ws q)
+        or_right (is_reserved v t q) ((s == t) && plans ws q)
         (and_from (s == t) (plans ws q) parts.0 (ap (plans ws) (sym (same_id_true p.0 q parts.1)) ∙ plans_got ws n p lt is)))
-        (λ e. room t q e)
+        (λ e. reserved t q e)
 
-    pub done_more : ((q : List ℕ) → plans (take n ws) q ≡ true → has_room u s q ≡ true) → (q : List ℕ) → plans (take (n + 1) ws) q ≡ true → has_room w s q ≡ true
+    pub done_more : ((q : List ℕ) → plans (take n ws) q ≡ true → is_reserved u s q ≡ true) → (q : List ℕ) → plans (take (n + 1) ws) q ≡ true → is_reserved w s q ≡ true
     done_more done q h = more s q ∙ or_cases (plans (take n ws) q) (same_id q p.0) (sym (plans_more ws n p q lt is) ∙ h)
-        (λ e. or_right ((s == s) && same_id p.0 q) (has_room u s q) (done q e))
-        (λ e. or_left ((s == s) && same_id p.0 q) (has_room u s q) (and_from (s == s) (same_id p.0 q) (eq-eqb s s refl) (same_id_back p.0 q ∙ e)))
+        (λ e. or_right ((s == s) && same_id p.0 q) (is_reserved u s q) (done q e))
+        (λ e. or_left ((s == s) && same_id p.0 q) (is_reserved u s q) (and_from (s == s) (same_id p.0 q) (eq-eqb s s refl) (same_id_back p.0 q ∙ e)))
 
 pub sees_on : (v u w : State) → SeesSame v u → SeesSame u w → SeesSame v w
 sees_on v u w a b = record {
@@ -93,5 +93,5 @@ written_last f all ws p s x y q e of is =
     (λ t. ap (λ o. Some (s, o)) (here ∙ ap f (sym (same_id_true q p.0 t))))
     ∙ ap (λ b. if b then Some (s, f q) else x) (sym (ap (λ xs. plans xs q) e ∙ plans_last ws p q))
 
-pub room_by : (v w : State) (s : ℕ) (q : List ℕ) → w.opened ≡ v.opened → has_room w s q ≡ has_room v s q
-room_by v w s q e = ap (λ o. has_id (rooms_of o s) q) e
+pub reserved_by : (v w : State) (s : ℕ) (q : List ℕ) → w.opened ≡ v.opened → is_reserved w s q ≡ is_reserved v s q
+reserved_by v w s q e = ap (λ o. has_id (reservations_of o s) q) e

@@ -1,4 +1,4 @@
--- What the end of a transaction does at the ids that it had room to write.
+-- What the end of a transaction does at the ids that it had reserved.
 use Rattle.std.specs.Prelude.{◌≡◌, ℕ, Bool, List, Option, None, if◌then◌else◌}
 use Rattle.std.specs.Ordering.{nat_cmp}
 use Rattle.std.specs.Cmp.Lexicographic.{slice_cmp}

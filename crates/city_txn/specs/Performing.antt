@@ -6,7 +6,7 @@ use Rattle.city_model.specs.Runs.{Change}
 use Rattle.city_model.specs.declared.command.Command.{Command}
 use Rattle.city_model.specs.declared.command.Reply.{Reply}
 use Rattle.city_model.specs.Meaning.{after, reply_to, locks_of}
-use Rattle.city_txn.specs.State.{State, write_of, has_room, is_open, committed, view}
+use Rattle.city_txn.specs.State.{State, write_of, is_reserved, is_open, committed, view}
 use Rattle.city_model.specs.Standing.{names_exclusively}
 use Rattle.city_txn.specs.Acting.{writes_id}
 
@@ -23,6 +23,6 @@ pub record Performed {E : Type 0} (stamp : ℕ) (command : Command) (result : Re
   pub writes : (id : List ℕ) → write_of new.writes id
       ≡ (if is_ok result && writes_id (view old stamp) command id
       then Some (stamp, after (view old stamp) command id) else write_of old.writes id)
-  -- the room that is new is the transaction's, at ids that the command locks exclusively
-  pub room : (t : ℕ) (id : List ℕ) → has_room new t id ≡ true
-      → (has_room old t id || ((stamp == t) && names_exclusively (locks_of (view old stamp) command) id)) ≡ true
+  -- what is newly reserved is the transaction's, at ids that the command locks exclusively
+  pub reserved : (t : ℕ) (id : List ℕ) → is_reserved new t id ≡ true
+      → (is_reserved old t id || ((stamp == t) && names_exclusively (locks_of (view old stamp) command) id)) ≡ true

@@ -68,10 +68,10 @@ fn note(
     let Some(image) = images.get(id) else {
         return Ok(());
     };
-    if image.fresh {
+    if image.unwritten {
         return Ok(());
     }
-    let object = if image.gone {
+    let object = if image.deleted {
         None
     } else {
         copy_at(city, alloc, id)?

@@ -3,7 +3,7 @@ ghost use Rattle.std.specs.Prelude.{◌≡◌, ℕ, List, true, false};
 ghost use Rattle.city_model.specs.Meaning.{locks_of};
 ghost use Rattle.city_model.specs.Relations.{IsSound};
 ghost use Rattle.city_model.specs.Scripts.{is_end};
-ghost use Rattle.city_txn.specs.State.{has_room, is_open, view};
+ghost use Rattle.city_txn.specs.State.{is_reserved, is_open, view};
 ghost use Rattle.city_model.specs.Standing.{names};
 ghost use Rattle.city_txn.specs.Performing.{Performed};
 
@@ -25,7 +25,7 @@ pub fn perform(
     requires no_end { is_end command.now ≡ false }
     requires sound { IsSound (view store.old stamp) }
     requires opened { is_open store.old stamp ≡ true }
-    requires alone { (id : List ℕ) → names (locks_of (view store.old stamp) command.now) id ≡ true → (t : ℕ) → has_room store.old t id ≡ true → t ≡ stamp }
+    requires alone { (id : List ℕ) → names (locks_of (view store.old stamp) command.now) id ≡ true → (t : ℕ) → is_reserved store.old t id ≡ true → t ≡ stamp }
     ensures { Performed stamp command.now result store.old store.new }
 {
     match plan_in(store, alloc, stamp, command)? {

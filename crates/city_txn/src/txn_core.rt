@@ -169,7 +169,7 @@ impl Core {
         ensures over { IsOver stamp self.old self.new }
         ensures lawful { IsLawful (committed self.new) }
     {
-        self.store.keep(stamp);
+        self.store.commit(stamp);
         self.locks.release_all(stamp);
     }
 
@@ -178,7 +178,7 @@ impl Core {
         requires { is_open self.old stamp ≡ true }
         ensures { IsUndone stamp self.old self.new }
     {
-        self.store.restore(stamp);
+        self.store.roll_back(stamp);
         self.locks.release_all(stamp);
     }
 

@@ -23,27 +23,27 @@ pub invariant_of-self-2 : goal.invariant_of-self-2
 invariant_of-self-2 c =
     let a = c.self.inside in
     let b : Inside = record { alloc = a.alloc; store = c.begin.new.self; locks = a.locks } in
-    begun_core a b c.self.invariant c.args.stamp (open_is a c.args.stamp ∙ sym c.is_open.ensures ∙ c.if-is_open.false) c.begin.ensures.frame c.begin.ensures.city c.begin.ensures.writes (λ i. a.locks) c.in-Ok.ensures.opened c.begin.ensures.room
+    begun_core a b c.self.invariant c.args.stamp (open_is a c.args.stamp ∙ sym c.is_open.ensures ∙ c.if-is_open.false) c.begin.ensures.frame c.begin.ensures.city c.begin.ensures.writes (λ i. a.locks) c.in-Ok.ensures.opened c.begin.ensures.reserved
 
 pub returns-clause-opened : goal.returns-clause-opened
 returns-clause-opened c =
     let a = c.self.inside in
     let b : Inside = record { alloc = a.alloc; store = c.begin.new.self; locks = a.locks } in
-    begun_open a b c.self.invariant c.args.stamp (open_is a c.args.stamp ∙ sym c.is_open.ensures ∙ c.if-is_open.false) c.begin.ensures.frame c.begin.ensures.city c.begin.ensures.writes (λ i. a.locks) c.in-Ok.ensures.opened c.begin.ensures.room c.args.stamp
+    begun_open a b c.self.invariant c.args.stamp (open_is a c.args.stamp ∙ sym c.is_open.ensures ∙ c.if-is_open.false) c.begin.ensures.frame c.begin.ensures.city c.begin.ensures.writes (λ i. a.locks) c.in-Ok.ensures.opened c.begin.ensures.reserved c.args.stamp
     ∙ ap (λ b. b || is_open (core_state a) c.args.stamp) (eq-eqb c.args.stamp c.args.stamp refl)
 
 pub returns-clause-own : goal.returns-clause-own
 returns-clause-own c =
     let a = c.self.inside in
     let b : Inside = record { alloc = a.alloc; store = c.begin.new.self; locks = a.locks } in
-    begun_own a b c.self.invariant c.args.stamp (open_is a c.args.stamp ∙ sym c.is_open.ensures ∙ c.if-is_open.false) c.begin.ensures.frame c.begin.ensures.city c.begin.ensures.writes (λ i. a.locks) c.in-Ok.ensures.opened c.begin.ensures.room
+    begun_own a b c.self.invariant c.args.stamp (open_is a c.args.stamp ∙ sym c.is_open.ensures ∙ c.if-is_open.false) c.begin.ensures.frame c.begin.ensures.city c.begin.ensures.writes (λ i. a.locks) c.in-Ok.ensures.opened c.begin.ensures.reserved
 
 pub returns-clause-keeps : goal.returns-clause-keeps
 returns-clause-keeps c =
     let a = c.self.inside in
     let b : Inside = record { alloc = a.alloc; store = c.begin.new.self; locks = a.locks } in
     subst (λ (v : CoreState). KeepsOthers c.args.stamp v (core_state b)) c.self.view_is
-    (begun_keeps a b c.self.invariant c.args.stamp (open_is a c.args.stamp ∙ sym c.is_open.ensures ∙ c.if-is_open.false) c.begin.ensures.frame c.begin.ensures.city c.begin.ensures.writes (λ i. a.locks) c.in-Ok.ensures.opened c.begin.ensures.room)
+    (begun_keeps a b c.self.invariant c.args.stamp (open_is a c.args.stamp ∙ sym c.is_open.ensures ∙ c.if-is_open.false) c.begin.ensures.frame c.begin.ensures.city c.begin.ensures.writes (λ i. a.locks) c.in-Ok.ensures.opened c.begin.ensures.reserved)
 
 pub returns-clause-unlocked : goal.returns-clause-unlocked
 returns-clause-unlocked c q =

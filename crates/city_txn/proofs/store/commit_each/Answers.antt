@@ -5,7 +5,7 @@ use Rattle.city_model.specs.CityMap.{has_id}
 use Rattle.city_txn.specs.Ending.{AreEnded}
 use Rattle.city_txn.specs.Images.{seen_at}
 use Rattle.city_txn.proofs.EachId.{none_ended, one_more_ended}
-use Rattle.city_txn.proofs.store.keep_each.Goals as goal
+use Rattle.city_txn.proofs.store.commit_each.Goals as goal
 
 pub loop-id-init : goal.loop-id-init
 loop-id-init c = none_ended seen_at c.args.city.now c.args.images.now
@@ -13,8 +13,8 @@ loop-id-init c = none_ended seen_at c.args.city.now c.args.images.now
 pub loop-id-preserved : goal.loop-id-preserved
 loop-id-preserved c =
     let lt : c.loop-id.id-index < length c.args.ids.now = omega arith in
-    one_more_ended seen_at (λ x. refl) c.args.city.now c.loop-id.city c.keep_one.new.city c.args.images.now c.loop-id.images c.keep_one.new.images
-    c.args.ids.now c.loop-id.id-index c.id-item.result lt c.id-item.is c.loop-id.invariant c.keep_one.ensures
+    one_more_ended seen_at (λ x. refl) c.args.city.now c.loop-id.city c.commit_one.new.city c.args.images.now c.loop-id.images c.commit_one.new.images
+    c.args.ids.now c.loop-id.id-index c.id-item.result lt c.id-item.is c.loop-id.invariant c.commit_one.ensures
 
 pub returns : goal.returns
 returns c =

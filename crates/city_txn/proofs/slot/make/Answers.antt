@@ -2,7 +2,7 @@ use Rattle.std.proofs.Common.{◌≡◌, ◌∙◌, ap, rules, Some, is_some, fa
 use Rattle.city_model.specs.CityMap.{at, same_id}
 use Rattle.city_model.proofs.Changed.{changed_apart}
 use Rattle.city_txn.proofs.EachId.{made_there, made_beside}
-use Rattle.city_txn.proofs.place.make.Goals as goal
+use Rattle.city_txn.proofs.slot.make.Goals as goal
 
 pub returns-clause-there : goal.returns-clause-there
 returns-clause-there c =

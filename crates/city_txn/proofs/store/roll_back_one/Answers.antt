@@ -6,7 +6,7 @@ use Rattle.std.proofs.lemmas.Map.Lookups.{exact_bytes}
 use Rattle.city_model.specs.CityMap.{at, changed}
 use Rattle.city_txn.specs.Images.{before_image, committed_at}
 use Rattle.city_txn.proofs.EachId.{back_point, back_none, at_that}
-use Rattle.city_txn.proofs.store.restore_one.Goals as goal
+use Rattle.city_txn.proofs.store.roll_back_one.Goals as goal
 
 pub give_back-requires : goal.give_back-requires
 give_back-requires c =

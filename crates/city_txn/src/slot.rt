@@ -1,4 +1,4 @@
-//! Places in the city: placeholders, and objects put back.
+//! Slots of the city: placeholders, and objects put back.
 ghost use Rattle.std.specs.Prelude.{◌≡◌, ℕ, List, None, Some, IfOk, OnOk, OnErr, is_some, not, true, false, if◌then◌else◌};
 ghost use Rattle.city_model.specs.CityMap.{at, changed, same_id};
 ghost use Rattle.city_txn.specs.Images.{before_image};
@@ -12,10 +12,10 @@ use city_model::object::Object;
 use city_model::text::Id;
 use std::alloc::Global;
 
-/// Gives the id a place: a placeholder where no object is there, and says whether that was made.
+/// Gives the id a slot: a placeholder where no object is there, and says whether that was made.
 /// Want of memory leaves the city.
 pub fn make(city: &mut City, alloc: Global, id: &Id) -> Result<bool, OutOfMemory>
-    ensures gone { IfOk result (λ gone. gone ≡ not (is_some (at city.old.1 id.now))) }
+    ensures made { IfOk result (λ made. made ≡ not (is_some (at city.old.1 id.now))) }
     ensures there { OnOk result (is_some (at city.new.1 id.now) ≡ true) }
     ensures kept { (q : List ℕ) → is_some (at city.old.1 q) ≡ true → at city.new.1 q ≡ at city.old.1 q }
     ensures others { (q : List ℕ) → same_id id.now q ≡ false → at city.new.1 q ≡ at city.old.1 q }
@@ -31,16 +31,16 @@ pub fn make(city: &mut City, alloc: Global, id: &Id) -> Result<bool, OutOfMemory
 }
 
 /// Takes out the placeholder, if one is there.
-pub fn clear(city: &mut City, id: &Id, gone: bool)
-    ensures after { at city.new.1 ≡ (if gone then changed (at city.old.1) id.now None else at city.old.1) }
+pub fn clear(city: &mut City, id: &Id, deleted: bool)
+    ensures after { at city.new.1 ≡ (if deleted then changed (at city.old.1) id.now None else at city.old.1) }
     ensures frame { city.new.0 ≡ city.old.0 }
 {
-    if gone {
+    if deleted {
         let _ = city.remove(id);
     }
 }
 
-/// Sets the object of an id that has a place, and gives the one that stood there.
+/// Sets the object of an id that has a slot, and gives the one that stood there.
 pub fn swap(city: &mut City, id: Id, object: Object) -> Object
     requires { is_some (at city.old.1 id) ≡ true }
     ensures old { at city.old.1 id ≡ Some result }
@@ -72,18 +72,18 @@ pub fn give_back(city: &mut City, id: Id, image: Image)
 {
     let Image {
         by: _,
-        fresh,
-        gone,
+        unwritten,
+        deleted,
         before,
     } = image;
-    if fresh {
-        clear(city, &id, gone);
+    if unwritten {
+        clear(city, &id, deleted);
     } else {
         put(city, id, before);
     }
 }
 
-/// Sets the object of an id that has a place, or takes it out.
+/// Sets the object of an id that has a slot, or takes it out.
 fn put(city: &mut City, id: Id, object: Option<Object>)
     requires { is_some (at city.old.1 id) ≡ true }
     ensures after { at city.new.1 ≡ changed (at city.old.1) id object }

@@ -1,8 +1,0 @@
-use Rattle.std.proofs.Common.{◌∙◌}
-use Rattle.city_model.specs.CityMap.{at}
-use Rattle.city_txn.proofs.EachId.{cleared_before}
-use Rattle.city_txn.proofs.place.give_back.Goals as goal
-
-pub returns-then-fresh-clause-after : goal.returns-then-fresh-clause-after
-returns-then-fresh-clause-after c =
-    c.clear.ensures.after ∙ cleared_before (at c.args.city.now.1) c.args.id c.args.image c.if-fresh.true
