@@ -23,7 +23,6 @@ pub mod rings;
 pub mod script;
 pub mod sequence;
 pub mod shells;
-pub mod stand_in;
 pub mod text;
 
 /// The one answer for want of memory, the same unit type in all crates.

@@ -8,7 +8,7 @@ use Rattle.std.specs.BTreeMap.{is_at}
 use Rattle.std.proofs.lemmas.Option.{none-some}
 use Rattle.std.proofs.lemmas.Bool.{false≢true, eqb-true, or_right}
 use Rattle.city_model.specs.declared.frame.Frame.{Frame}
-use Rattle.city_model.specs.CityMap.{Entries, at}
+use Rattle.city_model.specs.CityMap.{Objects, at}
 use Rattle.city_model.specs.Relations.{IsLawful, HasNoOrphan}
 use Rattle.city_model.proofs.IdLists.{bool_cases}
 use Rattle.city_model.proofs.History.{follows_same}
@@ -44,7 +44,7 @@ open_is a s = listed_open a.store.opened s
 none_some_write : {A : Type 0} {w : Write} → None ≡ Some w → A
 none_some_write e = absurd (cc)
 
-fresh_core : (a : Inside) (frame : Frame) (city : Entries) → IsLawful (at city) → IsCore (record a { store = record { frame = frame; city = city; writes = []; opened = [] }; locks = [] })
+fresh_core : (a : Inside) (frame : Frame) (city : Objects) → IsLawful (at city) → IsCore (record a { store = record { frame = frame; city = city; writes = []; opened = [] }; locks = [] })
 fresh_core a frame city l = record {
   state = record {
     lawful = λ s t id ne e. refl;
@@ -56,7 +56,7 @@ fresh_core a frame city l = record {
   room = λ t q h. absurd (false≢true h);
 }
 
-pub opened_core : (a : Inside) (frame : Frame) (city : Entries) → a.store ≡ record { frame = frame; city = city; writes = []; opened = [] } → a.locks ≡ [] → IsLawful (at city) → IsCore a
+pub opened_core : (a : Inside) (frame : Frame) (city : Objects) → a.store ≡ record { frame = frame; city = city; writes = []; opened = [] } → a.locks ≡ [] → IsLawful (at city) → IsCore a
 opened_core a frame city e f l =
     subst (λ (x : State). IsCore (record a { store = x })) (sym e)
     (subst (λ (x : Locks). IsCore (record a { store = record { frame = frame; city = city; writes = []; opened = [] }; locks = x })) (sym f) (fresh_core a frame city l))

@@ -6,10 +6,8 @@ use Rattle.std.specs.Cmp.Lexicographic.{slice_cmp}
 use Rattle.std.specs.BTreeMap.{BTreeMap, get}
 use Rattle.std.proofs.lemmas.Bool.{false≢true}
 use Rattle.std.proofs.lemmas.List.Folds.{list_any_more}
-use Rattle.std.proofs.Math.Bool.{and-true, and-false}
-use Rattle.city_model.specs.declared.frame.Frame.{Frame}
 use Rattle.city_model.specs.declared.object.Object.{Object}
-use Rattle.city_model.specs.CityMap.{Entries, CityMap, at, same_id, has_id, changed}
+use Rattle.city_model.specs.CityMap.{CityValue, CityMap, at, same_id, has_id, changed}
 use Rattle.city_model.proofs.Changed.{changed_apart, changed_there}
 use Rattle.city_model.proofs.Ids.{same_id_true, same_id_back, same_id_of_equal}
 use Rattle.city_model.proofs.IdLists.{bool_cases}
@@ -45,10 +43,10 @@ at_that f id q x = bool_cases (same_id id q)
 
 -- ---- one id after another
 
-pub none_ended : (f : Option Object → Option Image → Option Object) (a : Frame × Entries) (i : BTreeMap (List ℕ) Image) → AreEnded f (has_id []) a i a i
-none_ended f a i = record { frame = refl; city = λ q. refl; images = λ q. refl; city_ordered = λ o. o; images_ordered = λ o. o }
+pub none_ended : (f : Option Object → Option Image → Option Object) (a : CityValue) (i : BTreeMap (List ℕ) Image) → AreEnded f (has_id []) a i a i
+none_ended f a i = record { frame = refl; city = λ q. refl; images = λ q. refl; images_ordered = λ o. o }
 
-pub one_more_ended : (f : Option Object → Option Image → Option Object) → ((x : Option Object) → f x None ≡ x) → (a b c : Frame × Entries) (i j k : BTreeMap (List ℕ) Image) (ids : List (List ℕ)) (n : ℕ) (id : List ℕ) →
+pub one_more_ended : (f : Option Object → Option Image → Option Object) → ((x : Option Object) → f x None ≡ x) → (a b c : CityValue) (i j k : BTreeMap (List ℕ) Image) (ids : List (List ℕ)) (n : ℕ) (id : List ℕ) →
     n < length ids → id ≡ get_or ids n id → AreEnded f (has_id (take n ids)) a i b j → AreEnded f (same_id id) b j c k → AreEnded f (has_id (take (n + 1) ids)) a i c k
 one_more_ended f idle a b c i j k ids n id lt is before one = record {
   frame = one.frame ∙ before.frame;
@@ -56,7 +54,6 @@ one_more_ended f idle a b c i j k ids n id lt is before one = record {
       ∙ ap (λ d. if d then f (at a.1 q) (image i q) else at a.1 q) (sym (has_more ids n id q lt is));
   images = λ q. gone_again (has_id (take n ids) q) (same_id id q) (image i q) (image j q) (image k q) (before.images q) (one.images q)
       ∙ ap (λ d. if d then None else image i q) (sym (has_more ids n id q lt is));
-  city_ordered = λ o. one.city_ordered (before.city_ordered o);
   images_ordered = λ o. one.images_ordered (before.images_ordered o);
 }
   where
@@ -75,25 +72,27 @@ still_placed f x y i j b p c m h = ap is_some c ∙ placed_point f b x i p (sym 
 
 -- ---- one id
 
--- a stand-in that is taken out leaves what the transaction saw
-pub cleared_seen : (x y : List ℕ → Option Object) (i : Option Image) (id : List ℕ) (gone : Bool) → gone ≡ is_gone i →
-    ((q : List ℕ) → y q ≡ (if gone && same_id id q then None else x q)) → (q : List ℕ) → y q ≡ (if same_id id q then seen_at (x id) i else x q)
-cleared_seen x y i id gone is h q = h q ∙ bool_cases (same_id id q)
-    (λ e. ap (λ b. if gone && b then None else x q) e ∙ ap (λ b. if b then None else x q) (and-true gone ∙ is)
-    ∙ ap (λ r. if is_gone i then None else x r) (sym (same_id_true id q e)) ∙ by_image i
-    ∙ sym (ap (λ b. if b then seen_at (x id) i else x q) e))
-    (λ e. ap (λ b. if gone && b then None else x q) e ∙ ap (λ b. if b then None else x q) (and-false gone)
-    ∙ sym (ap (λ b. if b then seen_at (x id) i else x q) e))
+-- what stands at an id, set there again
+unchanged : (m : CityMap) (id : List ℕ) → m ≡ changed m id (m id)
+unchanged m id = λ i q. at q i
   where
-    by_image : (i : Option Image) → (if is_gone i then None else x id) ≡ seen_at (x id) i
-    by_image None = refl
-    by_image (Some i) = refl
+    at : (q : List ℕ) → m q ≡ changed m id (m id) q
+    at q = bool_cases (same_id id q)
+        (λ e. ap m (sym (same_id_true id q e)) ∙ sym (changed_there m id (m id) q e))
+        (λ e. sym (changed_apart m id (m id) q e))
+
+-- a placeholder that is taken out leaves what the transaction saw
+pub cleared_seen : (m : CityMap) (id : List ℕ) (i : Option Image) → (if is_gone i then changed m id None else m) ≡ changed m id (seen_at (m id) i)
+cleared_seen m id None = unchanged m id
+cleared_seen m id (Some i) = by_gone i.gone
+  where
+    by_gone : (gone : Bool) → (if gone then changed m id None else m) ≡ changed m id (if gone then None else m id)
+    by_gone true = refl
+    by_gone false = unchanged m id
 
 -- and of an image that is fresh, what stood there before
-pub cleared_before : (x y : List ℕ → Option Object) (id : List ℕ) (i : Image) → i.fresh ≡ true →
-    ((q : List ℕ) → y q ≡ (if i.gone && same_id id q then None else x q)) → (q : List ℕ) → y q ≡ (if same_id id q then before_image (x id) i else x q)
-cleared_before x y id i fresh h q = cleared_seen x y (Some i) id i.gone refl h q
-    ∙ ap (λ o. if same_id id q then o else x q) (sym (ap (λ b. if b then seen_under (x id) i else i.before) fresh))
+pub cleared_before : (m : CityMap) (id : List ℕ) (i : Image) → i.fresh ≡ true → (if i.gone then changed m id None else m) ≡ changed m id (before_image (m id) i)
+cleared_before m id i fresh = cleared_seen m id (Some i) ∙ ap (λ o. changed m id o) (sym (ap (λ b. if b then seen_under (m id) i else i.before) fresh))
 
 -- an image that is put back
 pub back_point : (x y : List ℕ → Option Object) (id : List ℕ) (i : Option Image) (j : Image) → i ≡ Some j → ((q : List ℕ) → y q ≡ (if same_id id q then before_image (x id) j else x q)) →

@@ -104,7 +104,6 @@ module _ (a b : Inside) (k : IsInPlace a) (s : ℕ) (ids : List (List ℕ)) (are
         ∙ k.placed q (sym (ap is_some (ended.images q ∙ ap (λ c. if c then None else image_at a q) e)) ∙ h));
     listed = λ t q. room_left t q ∙ ap (λ c. if s == t then false else c) (k.listed t q) ∙ others_stay s t (image_at a q)
         ∙ sym (ap (λ i. is_writer t (writer_of i)) (images_at q));
-    city_ordered = ended.city_ordered k.city_ordered;
     images_ordered = ended.images_ordered k.images_ordered;
   }
 

@@ -1,16 +1,14 @@
 -- Room made to write an id: a fresh image, and a stand-in where no object is there. Nobody sees it.
 use Rattle.std.proofs.Common.{◌≡◌, ◌==◌, ℕ, List, [], ◌∷◌, ◌++◌, Bool, true, false, not, ◌&&◌, ◌||◌, Option, None, Some, is_some, refl, ap, sym, ◌∙◌}
 use Rattle.std.specs.Prelude.{if◌then◌else◌, unwrap_or}
-use Rattle.std.specs.Map.{keys_of}
 use Rattle.std.specs.Ordering.{nat_cmp}
 use Rattle.std.specs.Cmp.Lexicographic.{slice_cmp}
 use Rattle.std.specs.BTreeMap.{get, is_at, IsOrdered}
-use Rattle.std.specs.List.Sorted.{IsStrictlySortedBy}
 use Rattle.std.proofs.lemmas.Bool.{false≢true, eqb-true, eq-eqb}
 use Rattle.std.proofs.lemmas.List.Folds.{list_any-append}
 use Rattle.std.proofs.Math.Bool.{and-true, and-false, or-false, or_comm}
 use Rattle.city_model.specs.declared.object.Object.{Object}
-use Rattle.city_model.specs.CityMap.{same_id, has_id}
+use Rattle.city_model.specs.CityMap.{CityMap, changed, has_id, same_id}
 use Rattle.city_model.proofs.Ids.{same_id_true, same_id_back}
 use Rattle.city_model.proofs.IdLists.{bool_cases}
 use Rattle.city_txn.specs.declared.image.Image.{Image}
@@ -44,12 +42,11 @@ module _ (a b : Inside) (k : IsInPlace a) (l : IsInPlace b) (frame : b.city.0 �
 -- the same city and images at each id, and the same room
 module _ (a b : Inside) (k : IsInPlace a) (frame : b.city.0 ≡ a.city.0)
     (city : (q : List ℕ) → here b q ≡ here a q) (images : (q : List ℕ) → image_at b q ≡ image_at a q) (rooms : b.rooms.entries ≡ a.rooms.entries)
-    (city_ordered : IsStrictlySortedBy (slice_cmp nat_cmp) (keys_of b.city.1)) (images_ordered : IsOrdered (slice_cmp nat_cmp) b.images) where
+    (images_ordered : IsOrdered (slice_cmp nat_cmp) b.images) where
   pub same_in_place : IsInPlace b
   same_in_place = record {
     placed = λ q h. ap is_some (city q) ∙ k.placed q (sym (ap is_some (images q)) ∙ h);
     listed = λ t q. ap (λ r. has_id (rooms_of r t) q) rooms ∙ k.listed t q ∙ ap (λ i. is_writer t (writer_of i)) (sym (images q));
-    city_ordered = city_ordered;
     images_ordered = images_ordered;
   }
 
@@ -67,9 +64,13 @@ cleared_point : (x y : Option Object) (gone : Bool) → gone ≡ not (is_some x)
 cleared_point None y gone g h = ap (λ b. if b then None else y) g
 cleared_point (Some o) y gone g h = ap (λ b. if b then None else y) g ∙ h refl
 
+cleared_at : (gone : Bool) (m : CityMap) (id q : List ℕ) → (if gone then changed m id None else m) q ≡ (if gone && same_id id q then None else m q)
+cleared_at true m id q = refl
+cleared_at false m id q = refl
+
 pub cleared : (x y z : List ℕ → Option Object) (id : List ℕ) (gone : Bool) → gone ≡ not (is_some (x id)) → ((q : List ℕ) → is_some (x q) ≡ true → y q ≡ x q) →
-    ((q : List ℕ) → same_id id q ≡ false → y q ≡ x q) → ((q : List ℕ) → z q ≡ (if gone && same_id id q then None else y q)) → (q : List ℕ) → z q ≡ x q
-cleared x y z id gone g kept others after q = after q ∙ bool_cases (same_id id q)
+    ((q : List ℕ) → same_id id q ≡ false → y q ≡ x q) → z ≡ (if gone then changed y id None else y) → (q : List ℕ) → z q ≡ x q
+cleared x y z id gone g kept others after q = ap (λ m. m q) after ∙ cleared_at gone y id q ∙ bool_cases (same_id id q)
     (λ e. ap (λ b. if gone && b then None else y q) e ∙ ap (λ b. if b then None else y q) (and-true gone)
     ∙ cleared_point (x q) (y q) gone (g ∙ ap (λ r. not (is_some (x r))) (same_id_true id q e)) (kept q))
     (λ e. ap (λ b. if gone && b then None else y q) e ∙ ap (λ b. if b then None else y q) (and-false gone) ∙ others q e)
@@ -83,7 +84,7 @@ module _ (a b : Inside) (k : IsInPlace a) (s : ℕ) (id : List ℕ) (gone : Bool
     (others : (q : List ℕ) → same_id id q ≡ false → here b q ≡ here a q)
     (images : (q : List ℕ) → image_at b q ≡ (if same_id id q then Some (fresh_image s gone) else image_at a q))
     (rooms : (t : ℕ) → get nat_cmp b.rooms t ≡ (if is_at (nat_cmp s) t then Some (rooms_of a.rooms.entries s ++ id ∷ []) else get nat_cmp a.rooms t))
-    (city_ordered : IsStrictlySortedBy (slice_cmp nat_cmp) (keys_of b.city.1)) (images_ordered : IsOrdered (slice_cmp nat_cmp) b.images) where
+    (images_ordered : IsOrdered (slice_cmp nat_cmp) b.images) where
   image_there : (q : List ℕ) → same_id id q ≡ true → image_at b q ≡ Some (fresh_image s gone)
   image_there q e = images q ∙ ap (λ c. if c then Some (fresh_image s gone) else image_at a q) e
 
@@ -125,7 +126,6 @@ module _ (a b : Inside) (k : IsInPlace a) (s : ℕ) (id : List ℕ) (gone : Bool
         (λ e. ap (λ c. ((s == t) && c) || has_room (state_of a) t q) e
         ∙ ap (λ c. c || has_room (state_of a) t q) (and-false (s == t))
         ∙ k.listed t q ∙ sym (ap (λ i. is_writer t (writer_of i)) (image_apart q e)));
-    city_ordered = city_ordered;
     images_ordered = images_ordered;
   }
 

@@ -1,11 +1,9 @@
 -- One id written, for which its transaction has room.
 use Rattle.std.proofs.Common.{◌≡◌, ℕ, List, Bool, true, false, not, Option, None, Some, is_some, refl, ap, sym, ◌∙◌}
 use Rattle.std.specs.Prelude.{if◌then◌else◌, option_map}
-use Rattle.std.specs.Map.{keys_of}
 use Rattle.std.specs.Ordering.{nat_cmp}
 use Rattle.std.specs.Cmp.Lexicographic.{slice_cmp}
 use Rattle.std.specs.BTreeMap.{IsOrdered}
-use Rattle.std.specs.List.Sorted.{IsStrictlySortedBy}
 use Rattle.std.proofs.lemmas.Bool.{false≢true, eqb-true}
 use Rattle.city_model.specs.declared.object.Object.{Object}
 use Rattle.city_model.specs.CityMap.{at, same_id, has_id, changed}
@@ -46,18 +44,18 @@ not_gone o false r e h = sym (ap (λ b. if b then Some r else None) e) ∙ h
 
 module _ (a b : Inside) (k : IsInPlace a) (s : ℕ) (id : List ℕ) (room : has_room (state_of a) s id ≡ true) (gone : Bool) (y : Object) (w : Option Object)
     (is : (if gone then None else Some y) ≡ w)
-    (city : (q : List ℕ) → here b q ≡ changed (at a.city.1) id (Some y) q)
+    (city : at b.city.1 ≡ changed (at a.city.1) id (Some y))
     (images : (q : List ℕ) → image_at b q ≡ (if same_id id q then option_map (written_over (here a id) gone) (image_at a id) else image_at a q))
     (rooms : b.rooms ≡ a.rooms)
-    (city_ordered : IsStrictlySortedBy (slice_cmp nat_cmp) (keys_of b.city.1)) (images_ordered : IsOrdered (slice_cmp nat_cmp) b.images) where
+    (images_ordered : IsOrdered (slice_cmp nat_cmp) b.images) where
   writer : is_writer s (writer_of (image_at a id)) ≡ true
   writer = sym (k.listed s id) ∙ room
 
   city_there : (q : List ℕ) → same_id id q ≡ true → here b q ≡ Some y
-  city_there q e = city q ∙ ap (λ c. if c then Some y else here a q) e
+  city_there q e = ap (λ m. m q) city ∙ ap (λ c. if c then Some y else here a q) e
 
   city_apart : (q : List ℕ) → same_id id q ≡ false → here b q ≡ here a q
-  city_apart q e = city q ∙ ap (λ c. if c then Some y else here a q) e
+  city_apart q e = ap (λ m. m q) city ∙ ap (λ c. if c then Some y else here a q) e
 
   image_there : (q : List ℕ) → same_id id q ≡ true → image_at b q ≡ option_map (written_over (here a id) gone) (image_at a id)
   image_there q e = images q ∙ ap (λ c. if c then option_map (written_over (here a id) gone) (image_at a id) else image_at a q) e
@@ -76,7 +74,6 @@ module _ (a b : Inside) (k : IsInPlace a) (s : ℕ) (id : List ℕ) (room : has_
         (λ e. ap is_some (city_there q e))
         (λ e. ap is_some (city_apart q e) ∙ k.placed q (sym (ap is_some (image_apart q e)) ∙ h));
     listed = λ t q. ap (λ r. has_id (rooms_of r.entries t) q) rooms ∙ k.listed t q ∙ ap (is_writer t) (sym (same_writers q));
-    city_ordered = city_ordered;
     images_ordered = images_ordered;
   }
 

@@ -2,7 +2,7 @@
 use Rattle.std.specs.Prelude.{◌≡◌, ◌==◌, ℕ, Bool, true, false, List, None, Some, is_some, option_map, if◌then◌else◌}
 use Rattle.std.specs.List.{list_any}
 use Rattle.city_model.specs.declared.frame.Frame.{Frame}
-use Rattle.city_model.specs.CityMap.{Entries, CityMap, at}
+use Rattle.city_model.specs.CityMap.{Objects, CityMap, at}
 use Rattle.city_model.specs.Relations.{IsLawful}
 use Rattle.city_locks.specs.declared.mode.Mode.TheVariants.{Exclusive}
 use Rattle.city_locks.specs.Mode.{is_exclusive}
@@ -13,7 +13,7 @@ use Rattle.city_model.specs.Standing.{Held, Answered, Follows}
 pub record CoreState : Type 0 where
   -- the committed city
   pub frame : Frame
-  pub city : Entries
+  pub city : Objects
   -- the written ids, each with its writer and what stands there for the writer
   pub writes : List (List ℕ × Write)
   -- the stamps of the open transactions

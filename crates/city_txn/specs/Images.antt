@@ -1,5 +1,5 @@
 -- What an undo image says of its id, where x is what the city has there.
-use Rattle.std.specs.Prelude.{ℕ, Bool, true, false, Option, None, Some, if◌then◌else◌}
+use Rattle.std.specs.Prelude.{◌==◌, ◌&&◌, not, ℕ, Bool, true, false, Option, None, Some, if◌then◌else◌}
 use Rattle.city_model.specs.declared.object.Object.{Object}
 use Rattle.city_txn.specs.declared.image.Image.{Image}
 
@@ -10,6 +10,10 @@ seen_under x i = if i.gone then None else x
 -- what stood there before: until the first write, what is there now
 abbrev pub before_image : Option Object → Image → Option Object
 before_image x i = if i.fresh then seen_under x i else i.before
+
+-- what a stamp sees: what the image's transaction does, or once that has written, what stood there before
+abbrev pub seen_by : ℕ → Option Object → Image → Option Object
+seen_by stamp x i = if not (i.by == stamp) && not i.fresh then i.before else seen_under x i
 
 -- the same where there may be no image
 abbrev pub seen_at : Option Object → Option Image → Option Object

@@ -1,10 +1,9 @@
 -- One city as the open transactions have written it, with an undo image of each written id.
 use Rattle.std.specs.Prelude.{◌≡◌, ◌==◌, ℕ, Bool, true, false, List, [], ◌∷◌, Option, None, Some, is_some}
-use Rattle.std.specs.Map.{keys_of}
 use Rattle.std.specs.Ordering.{nat_cmp}
 use Rattle.std.specs.Cmp.Lexicographic.{slice_cmp}
 use Rattle.std.specs.BTreeMap.{get, IsOrdered}
-use Rattle.std.specs.List.Sorted.{IsStrictlySortedBy}
+use Rattle.std.specs.FinMap.{entries, from_sorted}
 use Rattle.city_model.specs.CityMap.{at, has_id}
 use Rattle.city_txn.specs.declared.image.Image.{Image}
 use Rattle.city_txn.specs.declared.store.Store.TheInside.{Inside}
@@ -27,7 +26,7 @@ image_at a id = get (slice_cmp nat_cmp) a.images id
 abbrev pub state_of : Inside → State
 state_of a = record {
   frame = a.city.0;
-  city = made_by (λ id o. committed_at (Some o) (image_at a id)) a.city.1;
+  city = from_sorted (made_by (λ id o. committed_at (Some o) (image_at a id)) (entries a.city.1));
   writes = made_by (λ id i. write_at (at a.city.1 id) (Some i)) a.images.entries;
   opened = a.rooms.entries;
 }
@@ -40,6 +39,6 @@ is_writer stamp (Some t) = t == stamp
 -- transaction, and no other, has room
 pub record IsInPlace (a : Inside) : Type 0 where
   pub placed : (id : List ℕ) → is_some (image_at a id) ≡ true → is_some (at a.city.1 id) ≡ true
-  pub listed : (stamp : ℕ) (id : List ℕ) → has_id (rooms_of a.rooms.entries stamp) id ≡ is_writer stamp (writer_of (image_at a id))
-  pub city_ordered : IsStrictlySortedBy (slice_cmp nat_cmp) (keys_of a.city.1)
+  pub listed : (stamp : ℕ) (id : List ℕ)
+      → has_id (rooms_of a.rooms.entries stamp) id ≡ is_writer stamp (writer_of (image_at a id))
   pub images_ordered : IsOrdered (slice_cmp nat_cmp) a.images

@@ -6,7 +6,7 @@ use Rattle.std.specs.Cmp.Lexicographic.{slice_cmp}
 use Rattle.std.specs.BTreeMap.{is_at}
 use Rattle.city_model.specs.declared.frame.Frame.{Frame}
 use Rattle.city_model.specs.declared.object.Object.{Object}
-use Rattle.city_model.specs.CityMap.{Entries, CityMap, at, has_id}
+use Rattle.city_model.specs.CityMap.{Objects, CityMap, at, has_id}
 
 -- a written id: who wrote it, and what stands there for the writer
 abbrev pub Write : Type 0
@@ -15,7 +15,7 @@ Write = ℕ × Option Object
 pub record State : Type 0 where
   -- the committed city
   pub frame : Frame
-  pub city : Entries
+  pub city : Objects
   -- the written ids, in byte order
   pub writes : List (List ℕ × Write)
   -- the open transactions by their stamps, each with the ids that it has room to write

@@ -1,10 +1,10 @@
 //! Undo images: what stood at an id before a transaction wrote it.
-ghost use Rattle.std.specs.Prelude.{◌≡◌, ℕ, List, None, Some, OnOk, OnErr, if◌then◌else◌};
+ghost use Rattle.std.specs.Prelude.{◌≡◌, ℕ, List, None, Some, OnOk, OnErr, option_copied, if◌then◌else◌};
 ghost use Rattle.std.specs.Ordering.{nat_cmp};
 ghost use Rattle.std.specs.Cmp.Lexicographic.{slice_cmp};
 ghost use Rattle.std.specs.BTreeMap.{get, IsOrdered};
 ghost use Rattle.city_model.specs.CityMap.{same_id};
-ghost use Rattle.city_txn.specs.Images.{is_gone, written_over, fresh_image};
+ghost use Rattle.city_txn.specs.Images.{is_gone, seen_by, written_over, fresh_image};
 
 use city_model::OutOfMemory;
 use city_model::copied::Copied;
@@ -29,14 +29,14 @@ pub struct Image {
 /// The images by their ids.
 pub type Images = BTreeMap<Id, Image>;
 
-/// Whether a stand-in holds the place of the id.
-pub fn is_gone(images: &Images, id: &Id) -> bool
-    ensures { result ≡ is_gone (get (slice_cmp nat_cmp) images.now id.now) }
+/// What the stamp sees at the id of the image, where the city has `here`.
+pub fn seen_by<'a>(image: &'a Image, stamp: u64, here: Option<&'a Object>) -> Option<&'a Object>
+    ensures { option_copied result ≡ seen_by stamp (option_copied here.entry) image.now }
 {
-    match images.get(id) {
-        Some(image) => image.gone,
-        None => false,
+    if image.by != stamp && !image.fresh {
+        return image.before.as_ref();
     }
+    if image.gone { None } else { here }
 }
 
 /// Adds an image of an id that nobody has written; want of memory leaves the images.

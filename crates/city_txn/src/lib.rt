@@ -2,16 +2,13 @@
 #![tactic(auto)]
 
 mod changing;
-mod deleting;
 mod image;
 mod lock;
-mod objects;
 mod perform;
 mod place;
-mod plan;
-mod planning;
-mod relating;
+mod placeholder;
 mod rooms;
+mod seen;
 pub mod step;
 mod store;
 pub mod txn_core;

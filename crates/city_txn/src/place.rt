@@ -1,22 +1,18 @@
-//! Places in the city: stand-ins, and objects put back.
-ghost use Rattle.std.specs.Prelude.{◌≡◌, ℕ, List, None, Some, IfOk, OnOk, OnErr, is_some, not, true, false, ◌&&◌, if◌then◌else◌};
-ghost use Rattle.std.specs.Ordering.{nat_cmp};
-ghost use Rattle.std.specs.Cmp.Lexicographic.{slice_cmp};
-ghost use Rattle.std.specs.Map.{keys_of};
-ghost use Rattle.std.specs.List.Sorted.{IsStrictlySortedBy};
+//! Places in the city: placeholders, and objects put back.
+ghost use Rattle.std.specs.Prelude.{◌≡◌, ℕ, List, None, Some, IfOk, OnOk, OnErr, is_some, not, true, false, if◌then◌else◌};
 ghost use Rattle.city_model.specs.CityMap.{at, changed, same_id};
 ghost use Rattle.city_txn.specs.Images.{before_image};
 
 use crate::image::Image;
+use crate::placeholder::placeholder;
 use city_model::OutOfMemory;
 use city_model::city::City;
 use city_model::copied::Copied;
 use city_model::object::Object;
-use city_model::stand_in::stand_in;
 use city_model::text::Id;
 use std::alloc::Global;
 
-/// Gives the id a place: a stand-in where no object is there, and says whether that was made.
+/// Gives the id a place: a placeholder where no object is there, and says whether that was made.
 /// Want of memory leaves the city.
 pub fn make(city: &mut City, alloc: Global, id: &Id) -> Result<bool, OutOfMemory>
     ensures gone { IfOk result (λ gone. gone ≡ not (is_some (at city.old.1 id.now))) }
@@ -25,21 +21,19 @@ pub fn make(city: &mut City, alloc: Global, id: &Id) -> Result<bool, OutOfMemory
     ensures others { (q : List ℕ) → same_id id.now q ≡ false → at city.new.1 q ≡ at city.old.1 q }
     ensures err { OnErr result (city.new ≡ city.old) }
     ensures frame { city.new.0 ≡ city.old.0 }
-    ensures ordered { IsStrictlySortedBy (slice_cmp nat_cmp) (keys_of city.old.1) → IsStrictlySortedBy (slice_cmp nat_cmp) (keys_of city.new.1) }
 {
     if city.get(id).is_some() {
         return Ok(false);
     }
     let key = id.copy(alloc)?;
-    city.set(key, stand_in(alloc))?;
+    city.set(key, placeholder(alloc))?;
     Ok(true)
 }
 
-/// Takes out the stand-in, if one is there.
+/// Takes out the placeholder, if one is there.
 pub fn clear(city: &mut City, id: &Id, gone: bool)
-    ensures after { (q : List ℕ) → at city.new.1 q ≡ (if gone && same_id id.now q then None else at city.old.1 q) }
+    ensures after { at city.new.1 ≡ (if gone then changed (at city.old.1) id.now None else at city.old.1) }
     ensures frame { city.new.0 ≡ city.old.0 }
-    ensures ordered { IsStrictlySortedBy (slice_cmp nat_cmp) (keys_of city.old.1) → IsStrictlySortedBy (slice_cmp nat_cmp) (keys_of city.new.1) }
 {
     if gone {
         let _ = city.remove(id);
@@ -50,9 +44,8 @@ pub fn clear(city: &mut City, id: &Id, gone: bool)
 pub fn swap(city: &mut City, id: Id, object: Object) -> Object
     requires { is_some (at city.old.1 id) ≡ true }
     ensures old { at city.old.1 id ≡ Some result }
-    ensures after { (q : List ℕ) → at city.new.1 q ≡ changed (at city.old.1) id (Some object) q }
+    ensures after { at city.new.1 ≡ changed (at city.old.1) id (Some object) }
     ensures frame { city.new.0 ≡ city.old.0 }
-    ensures ordered { IsStrictlySortedBy (slice_cmp nat_cmp) (keys_of city.new.1) }
 {
     match city.set(id, object) {
         Ok(Some(old)) => old,
@@ -61,22 +54,21 @@ pub fn swap(city: &mut City, id: Id, object: Object) -> Object
     }
 }
 
-/// The object, or a stand-in.
+/// The object, or a placeholder.
 pub fn standing(alloc: Global, object: Option<Object>) -> Object
     ensures { (if is_some object then Some result else None) ≡ object }
 {
     match object {
         Some(o) => o,
-        None => stand_in(alloc),
+        None => placeholder(alloc),
     }
 }
 
 /// Undoes what the image stands for.
 pub fn give_back(city: &mut City, id: Id, image: Image)
     requires { is_some (at city.old.1 id) ≡ true }
-    ensures after { (q : List ℕ) → at city.new.1 q ≡ changed (at city.old.1) id (before_image (at city.old.1 id) image) q }
+    ensures after { at city.new.1 ≡ changed (at city.old.1) id (before_image (at city.old.1 id) image) }
     ensures frame { city.new.0 ≡ city.old.0 }
-    ensures ordered { IsStrictlySortedBy (slice_cmp nat_cmp) (keys_of city.old.1) → IsStrictlySortedBy (slice_cmp nat_cmp) (keys_of city.new.1) }
 {
     let Image {
         by: _,
@@ -94,9 +86,8 @@ pub fn give_back(city: &mut City, id: Id, image: Image)
 /// Sets the object of an id that has a place, or takes it out.
 fn put(city: &mut City, id: Id, object: Option<Object>)
     requires { is_some (at city.old.1 id) ≡ true }
-    ensures after { (q : List ℕ) → at city.new.1 q ≡ changed (at city.old.1) id object q }
+    ensures after { at city.new.1 ≡ changed (at city.old.1) id object }
     ensures frame { city.new.0 ≡ city.old.0 }
-    ensures ordered { IsStrictlySortedBy (slice_cmp nat_cmp) (keys_of city.new.1) }
 {
     match object {
         Some(o) => {

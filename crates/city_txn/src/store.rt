@@ -43,8 +43,9 @@ impl Model for Store {
 
     ghost use Rattle.std.specs.Coded.{codes};
     ghost use Rattle.city_model.specs.DataCode.{coded_members};
+    ghost use Rattle.city_txn.specs.Codes.{coded_objects};
 
-    ghost coded = { Prim.hlevel (codes, coded_members) };
+    ghost coded = { Prim.hlevel (codes, coded_members, coded_objects) };
 
     ghost use Rattle.city_txn.specs.InPlace.{state_of, IsInPlace};
 
@@ -58,8 +59,6 @@ impl Store {
     pub fn new(alloc: Global, city: City) -> Self
         ensures { result ≡ record { frame = city.0; city = city.1; writes = []; opened = [] } }
     {
-        // (called for its promise that the ids ascend)
-        let _count = city.len();
         Store {
             city,
             images: BTreeMap::new(alloc),
@@ -89,15 +88,14 @@ impl Store {
         Ok(())
     }
 
-    /// What the stamp sees at an id for which no other has room. Takes no memory.
+    /// What the stamp sees at an id. Takes no memory.
     pub fn read(&self, stamp: u64, id: &Id) -> Option<&Object>
-        requires { (t : ℕ) → has_room self.now t id.now ≡ true → t ≡ stamp }
         ensures { option_copied result ≡ view self.now stamp id.now }
     {
-        if image::is_gone(&self.images, id) {
-            return None;
+        match self.images.get(id) {
+            Some(image) => image::seen_by(image, stamp, self.city.get(id)),
+            None => self.city.get(id),
         }
-        self.city.get(id)
     }
 
     /// Makes room for the stamp, which is open, to write an id for which no other has room.
@@ -220,10 +218,9 @@ fn write(city: &mut City, images: &mut Images, id: Id, object: Object, gone: boo
     requires placed { is_some (at city.old.1 id) ≡ true }
     requires there { is_some (get (slice_cmp nat_cmp) images.old id) ≡ true }
     ensures frame { city.new.0 ≡ city.old.0 }
-    ensures city { (q : List ℕ) → at city.new.1 q ≡ changed (at city.old.1) id (Some object) q }
+    ensures city { at city.new.1 ≡ changed (at city.old.1) id (Some object) }
     ensures images { (q : List ℕ) → get (slice_cmp nat_cmp) images.new q
         ≡ (if same_id id q then option_map (written_over (at city.old.1 id) gone) (get (slice_cmp nat_cmp) images.old id) else get (slice_cmp nat_cmp) images.old q) }
-    ensures city_ordered { IsStrictlySortedBy (slice_cmp nat_cmp) (keys_of city.new.1) }
     ensures images_ordered { IsOrdered (slice_cmp nat_cmp) images.old → IsOrdered (slice_cmp nat_cmp) images.new }
 {
     match images.get_mut(&id) {

@@ -43,8 +43,9 @@ impl Model for Core {
 
     ghost use Rattle.std.specs.Coded.{codes};
     ghost use Rattle.city_model.specs.DataCode.{coded_members};
+    ghost use Rattle.city_txn.specs.Codes.{coded_objects};
 
-    ghost coded = { Prim.hlevel (codes, coded_members) };
+    ghost coded = { Prim.hlevel (codes, coded_members, coded_objects) };
 
     ghost use Rattle.city_txn.specs.Core.{core_state, IsCore};
 

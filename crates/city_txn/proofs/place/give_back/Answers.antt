@@ -1,7 +1,8 @@
+use Rattle.std.proofs.Common.{◌∙◌}
 use Rattle.city_model.specs.CityMap.{at}
 use Rattle.city_txn.proofs.EachId.{cleared_before}
 use Rattle.city_txn.proofs.place.give_back.Goals as goal
 
 pub returns-then-fresh-clause-after : goal.returns-then-fresh-clause-after
 returns-then-fresh-clause-after c =
-    cleared_before (λ q. at c.args.city.now.1 q) (λ q. at c.clear.new.city.1 q) c.args.id c.args.image c.if-fresh.true c.clear.ensures.after
+    c.clear.ensures.after ∙ cleared_before (at c.args.city.now.1) c.args.id c.args.image c.if-fresh.true

@@ -20,10 +20,9 @@ returns-in-Some c =
       frame = c.give_back.ensures.frame;
       city = λ q. back_point (λ r. at c.args.city.now.1 r) (λ r. at c.give_back.new.city.1 r) c.args.id.now (get (slice_cmp nat_cmp) c.args.images.now c.args.id.now) c.in-Some.image
           (sym c.in-Some.ensures.value)
-          (λ r. c.give_back.ensures.after r ∙ ap (λ key. changed (at c.args.city.now.1) key (before_image (at c.args.city.now.1 key) c.in-Some.image) r) (sym same)) q
+          (λ r. ap (λ m. m r) c.give_back.ensures.after ∙ ap (λ key. changed (at c.args.city.now.1) key (before_image (at c.args.city.now.1 key) c.in-Some.image) r) (sym same)) q
           ∙ at_that (λ r. committed_at (at c.args.city.now.1 r) (get (slice_cmp nat_cmp) c.args.images.now r)) c.args.id.now q (at c.args.city.now.1 q);
       images = c.remove_entry.ensures.updates.0;
-      city_ordered = c.give_back.ensures.ordered;
       images_ordered = λ o. c.remove_entry.ensures.ordered;
     }
 
@@ -33,6 +32,5 @@ returns-in_default c = record {
   city = λ q. back_none (λ r. at c.args.city.now.1 r) c.args.id.now (get (slice_cmp nat_cmp) c.args.images.now c.args.id.now) (sym c.in_default.ensures.value) q
       ∙ at_that (λ r. committed_at (at c.args.city.now.1 r) (get (slice_cmp nat_cmp) c.args.images.now r)) c.args.id.now q (at c.args.city.now.1 q);
   images = c.remove_entry.ensures.updates.0;
-  city_ordered = λ o. o;
   images_ordered = λ o. c.remove_entry.ensures.ordered;
 }

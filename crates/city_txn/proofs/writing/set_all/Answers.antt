@@ -5,7 +5,7 @@ use Rattle.city_txn.proofs.writing.set_all.Goals as goal
 
 pub set-requires : goal.set-requires
 set-requires c =
-    c.loop-write.invariant.room c.in-Some.write.id (plans_this c.loop-write.writes.items c.pop.new.self.items c.in-Some.write c.in-Some.ensures.items)
+    c.loop-write.invariant.room c.in-Some.write.0 (plans_this c.loop-write.writes.items c.pop.new.self.items c.in-Some.write c.in-Some.ensures.items)
 
 pub loop-write-preserved : goal.loop-write-preserved
 loop-write-preserved c =

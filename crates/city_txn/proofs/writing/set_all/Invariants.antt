@@ -2,7 +2,8 @@ use Rattle.std.proofs.Common.{◌≡◌, ℕ, List, Some, true, vec_len}
 use Rattle.std.specs.Prelude.{if◌then◌else◌}
 use Rattle.city_model.specs.CityMap.{CityMap}
 use Rattle.city_txn.specs.State.{write_of, has_room, committed}
-use Rattle.city_txn.specs.Planning.{plans, AreOf}
+use Rattle.city_model.specs.Plans.{AreOf}
+use Rattle.city_txn.specs.Performing.{plans}
 use Rattle.city_txn.proofs.writing.set_all.Given as goal
 
 abbrev pub invariant-loop-write : goal.invariant-loop-write

@@ -1,6 +1,6 @@
 use Rattle.std.proofs.Common.{◌≡◌, ◌==◌, ◌&&◌, ◌||◌, ℕ, List, true, take}
 use Rattle.city_txn.specs.State.{has_room, SeesSame}
-use Rattle.city_txn.specs.Planning.{plans}
+use Rattle.city_txn.specs.Performing.{plans}
 use Rattle.city_txn.proofs.writing.touch_all.Given as goal
 
 abbrev pub invariant-loop-write : goal.invariant-loop-write

@@ -14,7 +14,7 @@ invariant_of-self c =
     let room : has_room (state_of a) c.args.stamp c.args.id ≡ true = ap (λ (v : State). has_room v c.args.stamp c.args.id) c.self.view_is ∙ c.requires in
     written_in_place a b c.self.invariant c.args.stamp c.args.id room c.is_none-gone.result c.standing.result c.args.object
     (not_gone c.args.object c.is_none-gone.result c.standing.result c.is_none-gone.ensures c.standing.ensures)
-    c.write.ensures.city c.write.ensures.images refl c.write.ensures.city_ordered (c.write.ensures.images_ordered c.self.invariant.images_ordered)
+    c.write.ensures.city c.write.ensures.images refl (c.write.ensures.images_ordered c.self.invariant.images_ordered)
 
 pub returns-clause-city : goal.returns-clause-city
 returns-clause-city c =
@@ -23,7 +23,7 @@ returns-clause-city c =
     let room : has_room (state_of a) c.args.stamp c.args.id ≡ true = ap (λ (v : State). has_room v c.args.stamp c.args.id) c.self.view_is ∙ c.requires in
     written_city a b c.self.invariant c.args.stamp c.args.id room c.is_none-gone.result c.standing.result c.args.object
     (not_gone c.args.object c.is_none-gone.result c.standing.result c.is_none-gone.ensures c.standing.ensures)
-    c.write.ensures.city c.write.ensures.images refl c.write.ensures.city_ordered (c.write.ensures.images_ordered c.self.invariant.images_ordered)
+    c.write.ensures.city c.write.ensures.images refl (c.write.ensures.images_ordered c.self.invariant.images_ordered)
     ∙ ap committed c.self.view_is
 
 pub returns-clause-writes : goal.returns-clause-writes
@@ -33,5 +33,5 @@ returns-clause-writes c q =
     let room : has_room (state_of a) c.args.stamp c.args.id ≡ true = ap (λ (v : State). has_room v c.args.stamp c.args.id) c.self.view_is ∙ c.requires in
     written_writes a b c.self.invariant c.args.stamp c.args.id room c.is_none-gone.result c.standing.result c.args.object
     (not_gone c.args.object c.is_none-gone.result c.standing.result c.is_none-gone.ensures c.standing.ensures)
-    c.write.ensures.city c.write.ensures.images refl c.write.ensures.city_ordered (c.write.ensures.images_ordered c.self.invariant.images_ordered) q
+    c.write.ensures.city c.write.ensures.images refl (c.write.ensures.images_ordered c.self.invariant.images_ordered) q
     ∙ ap (λ (v : State). if same_id c.args.id q then Some (c.args.stamp, c.args.object) else write_of v.writes q) c.self.view_is

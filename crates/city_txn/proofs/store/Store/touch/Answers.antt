@@ -24,7 +24,7 @@ invariant_of-self-in_default c =
     let city : (q : List ℕ) → here b q ≡ here a q =
     cleared (λ q. here a q) (λ q. at c.make.new.city.1 q) (λ q. here b q) id c.in_ok-gone.gone c.in_ok-gone.ensures.gone c.make.ensures.kept c.make.ensures.others c.clear.ensures.after in
     same_in_place a b c.self.invariant (c.clear.ensures.frame ∙ c.make.ensures.frame) city c.in_default.ensures.images_back c.in_default.ensures.rooms_back
-    (c.clear.ensures.ordered (c.make.ensures.ordered c.self.invariant.city_ordered)) (c.add_listed.ensures.ordered c.self.invariant.images_ordered)
+    (c.add_listed.ensures.ordered c.self.invariant.images_ordered)
 
 pub returns-in_default-clause-same : goal.returns-in_default-clause-same
 returns-in_default-clause-same c =
@@ -34,7 +34,7 @@ returns-in_default-clause-same c =
     let city : (q : List ℕ) → here b q ≡ here a q =
     cleared (λ q. here a q) (λ q. at c.make.new.city.1 q) (λ q. here b q) id c.in_ok-gone.gone c.in_ok-gone.ensures.gone c.make.ensures.kept c.make.ensures.others c.clear.ensures.after in
     subst (λ (v : State). SeesSame v (state_of b)) c.self.view_is (same_seen a b c.self.invariant (c.clear.ensures.frame ∙ c.make.ensures.frame) city c.in_default.ensures.images_back c.in_default.ensures.rooms_back
-    (c.clear.ensures.ordered (c.make.ensures.ordered c.self.invariant.city_ordered)) (c.add_listed.ensures.ordered c.self.invariant.images_ordered))
+    (c.add_listed.ensures.ordered c.self.invariant.images_ordered))
 
 pub returns-in_default-clause-err : goal.returns-in_default-clause-err
 returns-in_default-clause-err c t q =
@@ -44,7 +44,7 @@ returns-in_default-clause-err c t q =
     let city : (q : List ℕ) → here b q ≡ here a q =
     cleared (λ q. here a q) (λ q. at c.make.new.city.1 q) (λ q. here b q) id c.in_ok-gone.gone c.in_ok-gone.ensures.gone c.make.ensures.kept c.make.ensures.others c.clear.ensures.after in
     same_room a b c.self.invariant (c.clear.ensures.frame ∙ c.make.ensures.frame) city c.in_default.ensures.images_back c.in_default.ensures.rooms_back
-    (c.clear.ensures.ordered (c.make.ensures.ordered c.self.invariant.city_ordered)) (c.add_listed.ensures.ordered c.self.invariant.images_ordered) t q
+    (c.add_listed.ensures.ordered c.self.invariant.images_ordered) t q
     ∙ ap (λ (v : State). has_room v t q) c.self.view_is
 
 pub invariant_of-self-in-Ok : goal.invariant_of-self-in-Ok
@@ -55,7 +55,7 @@ invariant_of-self-in-Ok c =
     let none : image_at a id ≡ None = absent_from (image_at a id) (sym c.contains_key.ensures ∙ c.if-contains_key.false) in
     let opened : is_open (state_of a) c.args.stamp ≡ true = ap (λ (v : State). is_open v c.args.stamp) c.self.view_is ∙ c.requires.opened in
     room_in_place a b c.self.invariant c.args.stamp id c.in_ok-gone.gone c.in_ok-gone.ensures.gone opened none c.make.ensures.frame c.in_ok-gone.ensures.there c.make.ensures.kept c.make.ensures.others
-    c.in-Ok.ensures.images c.in-Ok.ensures.rooms (c.make.ensures.ordered c.self.invariant.city_ordered) (c.add_listed.ensures.ordered c.self.invariant.images_ordered)
+    c.in-Ok.ensures.images c.in-Ok.ensures.rooms (c.add_listed.ensures.ordered c.self.invariant.images_ordered)
 
 pub returns-clause-same : goal.returns-clause-same
 returns-clause-same c =
@@ -65,7 +65,7 @@ returns-clause-same c =
     let none : image_at a id ≡ None = absent_from (image_at a id) (sym c.contains_key.ensures ∙ c.if-contains_key.false) in
     let opened : is_open (state_of a) c.args.stamp ≡ true = ap (λ (v : State). is_open v c.args.stamp) c.self.view_is ∙ c.requires.opened in
     subst (λ (v : State). SeesSame v (state_of b)) c.self.view_is (room_seen a b c.self.invariant c.args.stamp id c.in_ok-gone.gone c.in_ok-gone.ensures.gone opened none c.make.ensures.frame c.in_ok-gone.ensures.there c.make.ensures.kept c.make.ensures.others
-    c.in-Ok.ensures.images c.in-Ok.ensures.rooms (c.make.ensures.ordered c.self.invariant.city_ordered) (c.add_listed.ensures.ordered c.self.invariant.images_ordered))
+    c.in-Ok.ensures.images c.in-Ok.ensures.rooms (c.add_listed.ensures.ordered c.self.invariant.images_ordered))
 
 pub returns-clause-ok : goal.returns-clause-ok
 returns-clause-ok c t q =
@@ -75,5 +75,5 @@ returns-clause-ok c t q =
     let none : image_at a id ≡ None = absent_from (image_at a id) (sym c.contains_key.ensures ∙ c.if-contains_key.false) in
     let opened : is_open (state_of a) c.args.stamp ≡ true = ap (λ (v : State). is_open v c.args.stamp) c.self.view_is ∙ c.requires.opened in
     more_room a b c.self.invariant c.args.stamp id c.in_ok-gone.gone c.in_ok-gone.ensures.gone opened none c.make.ensures.frame c.in_ok-gone.ensures.there c.make.ensures.kept c.make.ensures.others
-    c.in-Ok.ensures.images c.in-Ok.ensures.rooms (c.make.ensures.ordered c.self.invariant.city_ordered) (c.add_listed.ensures.ordered c.self.invariant.images_ordered) t q
+    c.in-Ok.ensures.images c.in-Ok.ensures.rooms (c.add_listed.ensures.ordered c.self.invariant.images_ordered) t q
     ∙ ap (λ (v : State). ((c.args.stamp == t) && same_id id q) || has_room v t q) c.self.view_is

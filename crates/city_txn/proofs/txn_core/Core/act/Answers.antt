@@ -8,9 +8,6 @@ pub returns-then-not-is_open : goal.returns-then-not-is_open
 returns-then-not-is_open c =
     not_open_acted c.self.inside c.self.invariant c.self.view_is c.args.stamp c.args.command.now (sym c.is_open.ensures ∙ c.if-not-is_open.true)
 
-pub lock-requires-clause-room : goal.lock-requires-clause-room
-lock-requires-clause-room c = c.self.invariant.room
-
 pub invariant_of-self : goal.invariant_of-self
 invariant_of-self c =
     asked_core c.self.inside c.self.invariant c.self.view_is c.args.stamp c.args.command.now (sym c.is_open.ensures ∙ c.if-not-is_open.false) c.lock.new.locks c.lock.ensures

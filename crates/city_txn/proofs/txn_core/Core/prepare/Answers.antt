@@ -1,6 +1,6 @@
 use Rattle.std.proofs.Common.{◌≡◌, ◌∙◌, sym, ap, refl, subst, true, false}
 use Rattle.std.specs.Prelude.{if◌then◌else◌}
-use Rattle.city_model.specs.CityMap.{at}
+use Rattle.city_model.specs.CityMap.{found_in}
 use Rattle.city_model.specs.Relations.{HasNoOrphan, IsLeastOrphan}
 use Rattle.city_model.specs.Runs.{Change}
 use Rattle.city_txn.specs.declared.step.TxnFault.TheVariants.{NotOpen, OutOfMemory}
@@ -31,9 +31,9 @@ pub returns-in-Some-clause-prepared : goal.returns-in-Some-clause-prepared
 returns-in-Some-clause-prepared c =
     let a = c.self.inside in
     λ number.
-    let least : IsLeastOrphan (at (objects_in c.in-Ok.change)) c.in-Ok-copy.id =
-    subst (λ id. IsLeastOrphan (at (objects_in c.in-Ok.change)) id) (sym c.in-Ok-copy.ensures)
-    (subst (λ (change : Change). IsLeastOrphan (at (objects_in change)) c.in-Some.id.now) c.as_slice.ensures c.in-Some.ensures.least) in (
+    let least : IsLeastOrphan (found_in (objects_in c.in-Ok.change)) c.in-Ok-copy.id =
+    subst (λ id. IsLeastOrphan (found_in (objects_in c.in-Ok.change)) id) (sym c.in-Ok-copy.ensures)
+    (subst (λ (change : Change). IsLeastOrphan (found_in (objects_in change)) c.in-Some.id.now) c.as_slice.ensures c.in-Some.ensures.least) in (
       refl,
       (
         c.in-Ok-copy.id,
@@ -51,8 +51,8 @@ returns-in-Some-clause-not_open c e =
 pub returns-clause-prepared : goal.returns-clause-prepared
 returns-clause-prepared c =
     let a = c.self.inside in
-    let none : HasNoOrphan (at (objects_in c.in-Ok.change)) =
-    subst (λ (change : Change). HasNoOrphan (at (objects_in change))) c.as_slice.ensures c.in_default-orphan_in.ensures.none in
+    let none : HasNoOrphan (found_in (objects_in c.in-Ok.change)) =
+    subst (λ (change : Change). HasNoOrphan (found_in (objects_in change))) c.as_slice.ensures c.in_default-orphan_in.ensures.none in
     subst (λ (v : CoreState). IsChangeOf v c.args.stamp c.in-Ok.change) c.self.view_is
     (is_change_of (core_state a) c.args.stamp c.in-Ok.change c.in-Ok.ensures.lists c.in-Ok.ensures.ordered c.self.invariant.state.city.1 (sound_view (core_state a) c.args.stamp c.self.invariant.state) none)
 
