@@ -15,7 +15,7 @@ use Rattle.city_model.specs.Integral.{is_integral}
 use Rattle.city_model.specs.Members.{members_count}
 use Rattle.city_doc.specs.Bodies.{body_of}
 use Rattle.city_doc.specs.ObjectFaults.{has_bad_vertex}
-use Rattle.city_doc.specs.BadCommands.{is_bad_object, is_bad_form, is_no_good_form, is_bad_command, is_misplaced_form, is_some_misplaced_form, is_misplaced}
+use Rattle.city_doc.specs.BadCommands.{is_bad_object, is_bad_form, is_no_good_form, is_bad_command, form_names_bad_vertex, some_form_names_bad_vertex, names_bad_vertex}
 use Rattle.city_doc.specs.CommandForms.{CommandForm, ReadForm, PutForm, DeleteForm, AttachForm, DetachForm, CommitForm, AbortForm, text_in, read_form, put_form, delete_form, attach_form, detach_form, members_form, form_of, names_relations, put_of, command_of_form, command_of}
 use Rattle.city_doc.specs.ScriptTrees.{is_end_word}
 use Rattle.city_doc.proofs.FaultlessBodies.{body_of-faultless}
@@ -135,7 +135,7 @@ put_some : (points : List Point) (id : List ℕ) (tree : Data) → is_integral t
     → (c : Command) × (put_of points id tree ≡ Some c)
 put_some points id tree whole fine placed = let r = body_of-good points tree whole fine placed in (Put id r.0, rw ((good tree fine).unrelated, r.1) refl)
 
-form_some : (points : List Point) (f : CommandForm) → integral_form f ≡ true → is_bad_form f ≡ false → is_misplaced_form (length points) f ≡ false → (c : Command) × (command_of_form points f ≡ Some c)
+form_some : (points : List Point) (f : CommandForm) → integral_form f ≡ true → is_bad_form f ≡ false → form_names_bad_vertex (length points) f ≡ false → (c : Command) × (command_of_form points f ≡ Some c)
 form_some points (ReadForm id) whole fine placed = (Read id, refl)
 form_some points (PutForm id tree) whole fine placed = put_some points id tree whole fine placed
 form_some points (DeleteForm id) whole fine placed = (Delete id, refl)
@@ -144,17 +144,17 @@ form_some points (DetachForm child parent) whole fine placed = (Detach child par
 form_some points CommitForm whole fine placed = (Commit, refl)
 form_some points AbortForm whole fine placed = (Abort, refl)
 
-some_command : (points : List Point) (o : Option CommandForm) → holds integral_form o ≡ true → is_no_good_form o ≡ false → is_some_misplaced_form (length points) o ≡ false
+some_command : (points : List Point) (o : Option CommandForm) → holds integral_form o ≡ true → is_no_good_form o ≡ false → some_form_names_bad_vertex (length points) o ≡ false
     → (c : Command) × (option_and_then (command_of_form points) o ≡ Some c)
 some_command points None whole fine placed = absurd (true≢false fine)
 some_command points (Some f) whole fine placed = form_some points f whole fine placed
 
-pub command_of-some : (points : List Point) (d : Data) → is_integral d ≡ true → is_bad_command d ≡ false → is_misplaced (length points) d ≡ false → (c : Command) × (command_of points d ≡ Some c)
+pub command_of-some : (points : List Point) (d : Data) → is_integral d ≡ true → is_bad_command d ≡ false → names_bad_vertex (length points) d ≡ false → (c : Command) × (command_of points d ≡ Some c)
 command_of-some points d whole fine placed = some_command points (form_of d) (form_integral d whole) fine placed
 
 -- ---- a command that is refused stands for none
 
-form_faultless : (points : List Point) (f : CommandForm) (c : Command) → command_of_form points f ≡ Some c → (is_bad_form f ≡ false) × (is_misplaced_form (length points) f ≡ false)
+form_faultless : (points : List Point) (f : CommandForm) (c : Command) → command_of_form points f ≡ Some c → (is_bad_form f ≡ false) × (form_names_bad_vertex (length points) f ≡ false)
 form_faultless points (ReadForm id) c h = (refl, refl)
 form_faultless points (PutForm id tree) c h = let r = put_parts (names_relations tree) (body_of points tree) id c h in body_of-faultless points tree r.1.0 r.0 r.1.1
 form_faultless points (DeleteForm id) c h = (refl, refl)
@@ -163,7 +163,7 @@ form_faultless points (DetachForm child parent) c h = (refl, refl)
 form_faultless points CommitForm c h = (refl, refl)
 form_faultless points AbortForm c h = (refl, refl)
 
-pub command_of-faultless : (points : List Point) (d : Data) (c : Command) → command_of points d ≡ Some c → (is_bad_command d ≡ false) × (is_misplaced (length points) d ≡ false)
+pub command_of-faultless : (points : List Point) (d : Data) (c : Command) → command_of points d ≡ Some c → (is_bad_command d ≡ false) × (names_bad_vertex (length points) d ≡ false)
 command_of-faultless points d c h =
     let r = and_then_some (command_of_form points) (form_of d) c h in
-    let f = form_faultless points r.0 c r.2 in (ap is_no_good_form r.1 ∙ f.0, ap (is_some_misplaced_form (length points)) r.1 ∙ f.1)
+    let f = form_faultless points r.0 c r.2 in (ap is_no_good_form r.1 ∙ f.0, ap (some_form_names_bad_vertex (length points)) r.1 ∙ f.1)

@@ -15,6 +15,7 @@ pub mod LawfulTrees
 pub mod Least
 pub mod LenientEntries
 pub mod LenientObjects
+mod Listings
 mod ListsRead
 mod NestsNoDeeper
 pub mod NoFault

@@ -8,7 +8,7 @@ use Rattle.city_model.specs.Integral.{is_integral}
 use Rattle.city_doc.specs.declared.fault.ReadFault.{ReadFault}
 use Rattle.city_doc.specs.declared.fault.ReadFault.TheVariants.{OutOfMemory, TooLong, NotJson, NotWhole, NotCityJson, UnknownType, Unsupported, BadGeometry, BadVertex, BadRing, Relations, OpenShell}
 use Rattle.city_doc.specs.CityFaults.{has_bad_ring, has_open_shell, IsBadlyRelatedAt, IsLeastBadlyRelated}
-use Rattle.city_doc.specs.Documents.{StandsAmong, StandsIn, IsFirst, number_of, AreReadable, HasForm, objects_in, vertices_in, is_unsupported, unsupported_at}
+use Rattle.city_doc.specs.Documents.{StandsAmong, StandsIn, IsFirst, rank_of, AreReadable, HasForm, objects_in, vertices_in, is_unsupported, unsupported_at}
 use Rattle.city_doc.specs.Frames.{wrong_member}
 use Rattle.city_doc.specs.ObjectFaults.{is_unknown_type, unsupported_name, is_bad_geometry, has_bad_vertex}
 use Rattle.city_doc.specs.Searches.{IsLeast, first_with}
@@ -39,7 +39,7 @@ module _ (points : List Point) (ms : Members) (o : AreOrdered ms) where
     ringed : 9 < n → first_with (has_bad_ring points) ms ≡ None
     related : 10 < n → (id : List ℕ) → IsBadlyRelatedAt points ms id → ⊥
 
-  none_before : (n : ℕ) → n ≤ 11 → NoneFound n → (g : ReadFault) → number_of g < n → StandsAmong points ms g → ⊥
+  none_before : (n : ℕ) → n ≤ 11 → NoneFound n → (g : ReadFault) → rank_of g < n → StandsAmong points ms g → ⊥
   none_before n le h OutOfMemory lt is = is
   none_before n le h TooLong lt is = is
   none_before n le h NotJson lt is = is

@@ -12,8 +12,8 @@ use Rattle.city_model.specs.declared.object.Shape.TheVariants.{MultiSurface, Com
 use Rattle.city_model.specs.Kept.{kept_at_geometry}
 use Rattle.city_model.specs.Shells.{Ring, Surface, Shell}
 use Rattle.city_model.specs.Integral.{is_integral, items_integral}
-use Rattle.city_doc.specs.Bodies.{read_items, list_of, list_or_absent, point_at_place, point_at, surface_of, surfaces_of, shells_of, shape_of, shape_in, text_at, kept_if, without_geometry_members, geometry_with, geometry_of}
-use Rattle.city_doc.specs.Geometries.{natural, is_below, is_place, all_items, is_list_of, are_surfaces, is_boundaries, are_boundaries_of, is_geometry, are_geometries}
+use Rattle.city_doc.specs.Bodies.{read_items, list_of, list_or_absent, point_at_position, point_at, surface_of, surfaces_of, shells_of, shape_of, shape_in, text_at, kept_if, without_geometry_members, geometry_with, geometry_of}
+use Rattle.city_doc.specs.Geometries.{natural, is_below, is_position, all_items, is_list_of, are_surfaces, is_boundaries, are_boundaries_of, is_geometry, are_geometries}
 use Rattle.city_doc.proofs.Cities.{get-object}
 use Rattle.city_doc.proofs.KeptMembers.{kept_all, integral_member, geometry_admitted}
 use Rattle.city_doc.proofs.Right.{some_of, item_read}
@@ -47,17 +47,17 @@ get_some [] n lt = absurd (omega arith)
 get_some (x ∷ xs) zero lt = (x, refl)
 get_some (x ∷ xs) (suc n) lt = let lower : n < length xs = omega arith in get_some xs n lower
 
-place_some : (points : List Point) (o : Option ℤ) → is_below (length points) (option_and_then natural o) ≡ true → (p : Point) × (option_and_then (point_at_place points) o ≡ Some p)
-place_some points None h = absurd (true≢false (sym h))
-place_some points (Some (pos n)) h = get_some points n (ltb-true n (length points) h)
-place_some points (Some (negsuc n)) h = absurd (true≢false (sym h))
+position_some : (points : List Point) (o : Option ℤ) → is_below (length points) (option_and_then natural o) ≡ true → (p : Point) × (option_and_then (point_at_position points) o ≡ Some p)
+position_some points None h = absurd (true≢false (sym h))
+position_some points (Some (pos n)) h = get_some points n (ltb-true n (length points) h)
+position_some points (Some (negsuc n)) h = absurd (true≢false (sym h))
 
 module _ (points : List Point) where
   abbrev fits : Data → Bool
-  fits = is_place (length points)
+  fits = is_position (length points)
 
   point_some : (d : Data) → is_integral d ≡ true → fits d ≡ true → (p : Point) × (point_at points d ≡ Some p)
-  point_some d whole h = place_some points (option_and_then as_i64 (as_number d)) h
+  point_some d whole h = position_some points (option_and_then as_i64 (as_number d)) h
 
   ring_some : (d : Data) → is_integral d ≡ true → is_list_of fits d ≡ true → (r : Ring) × (list_of (point_at points) d ≡ Some r)
   ring_some = list_some fits (point_at points) point_some

@@ -2,13 +2,14 @@
 use Rattle.std.proofs.Common.{◌≡◌, ℕ, ℤ, List, [], ◌∷◌, true, true≢false, Option, Some, None, refl, sym, ap, subst, ◌∙◌}
 use Rattle.std.specs.Prelude.{length, MatchOption, option_and_then, codes, is_some}
 use Rattle.std.proofs.lemmas.Bool.{and_parts}
+use Rattle.std.specs.FinMap.{entries}
 use Rattle.serde_json.specs.Data.{Data, null, boolean, number, string, array, object, Members, no_members, member}
 use Rattle.serde_json.specs.Find.{get, get_member, as_object}
 use Rattle.city_model.specs.declared.frame.Frame.{Frame}
 use Rattle.city_model.specs.declared.object.Body.{Body}
 use Rattle.city_model.specs.declared.object.Object.{Object}
 use Rattle.city_model.specs.declared.object.Point.{Point}
-use Rattle.city_model.specs.CityMap.{Entries, at}
+use Rattle.city_model.specs.CityMap.{Entries, at, CityValue}
 use Rattle.city_model.specs.Kept.{kept_at_top, kept_at_transform, is_empty_object_or_absent}
 use Rattle.city_model.specs.Members.{without, AreOrdered}
 use Rattle.city_model.specs.Relations.{IsLawful}
@@ -17,9 +18,9 @@ use Rattle.city_model.proofs.MemberLaws.{get_member-without}
 use Rattle.city_doc.specs.declared.fault.ReadFault.{ReadFault}
 use Rattle.city_doc.specs.Bodies.{kept_if, body_of, ids_at}
 use Rattle.city_doc.specs.CityFaults.{or_empty}
-use Rattle.city_doc.specs.Documents.{CityValue, city_of, objects_in, points_in, vertices_in, is_unsupported, AreReadable, HasForm, StandsAmong, StandsIn, IsFirst}
+use Rattle.city_doc.specs.Documents.{city_of, objects_of, objects_in, points_in, vertices_in, is_unsupported, AreReadable, HasForm, StandsAmong, StandsIn, IsFirst}
 use Rattle.city_doc.specs.Frames.{triple_at, has_triple, more_of, frame_with, frame_of_rest, is_transform, all_objects, are_all_objects, are_objects, without_transform_members, without_top_members}
-use Rattle.city_doc.specs.LenientCities.{lenient_entries_of, lenient_city_of, IsReadOf}
+use Rattle.city_doc.specs.LenientCities.{listed, lenient_entries_of, lenient_city_of, IsReadOf}
 use Rattle.city_doc.specs.ObjectFaults.{is_unknown_type, is_bad_geometry, has_bad_vertex, has_bad_list}
 use Rattle.city_doc.specs.Searches.{first_with}
 use Rattle.city_doc.proofs.Cities.{get-object, objects_at, city_joined}
@@ -29,6 +30,7 @@ use Rattle.city_doc.proofs.Order.{first_in}
 use Rattle.city_doc.proofs.ReadBodies.{IsReadable, body_of-some}
 use Rattle.city_doc.proofs.Right.{IsRight, is_right, some_of, has_points}
 use Rattle.city_doc.proofs.IntegralParts.{as_object-whole}
+use Rattle.city_doc.proofs.Listings.{listed_again}
 
 -- ---- the frame
 
@@ -167,16 +169,16 @@ entries_read points (member id d ms) whole are h =
     let es = entries_read points ms start.whole start.are_objects start.rest in
     entry_read points id d ms body.0 es.0 body.1 es.1
 
--- what the city of a tree was read of
-record IsCityOf (d : Data) (c : CityValue) : Type 0 where
+-- what the frame and the listed objects of a tree were read of
+record IsListOf (d : Data) (c : Frame × Entries) : Type 0 where
   entries : lenient_entries_of (vertices_in d) (objects_in d) ≡ Some c.1
-  city : first_with has_bad_list (objects_in d) ≡ None → city_of d ≡ Some c
+  city : first_with has_bad_list (objects_in d) ≡ None → city_of d ≡ Some (c.0, objects_of c.1)
 
 lenient_joined : (points : List Point) (d : Data) (top ms : Members) (es : Entries) (frame : Frame) → as_object d ≡ Some top → option_and_then as_object (get_member (codes "CityObjects") top) ≡ Some ms
     → lenient_entries_of points ms ≡ Some es → frame_of_rest (without (codes "CityObjects") top) ≡ Some frame → lenient_city_of points d ≡ Some (frame, es)
 lenient_joined points d top ms es frame is_top are read is_frame = rw (is_top, are, read, is_frame) refl
 
-city_with : (d : Data) → IsRight d → AreReadable (length (vertices_in d)) (objects_in d) → HasParts d → (c : CityValue) × (lenient_city_of (vertices_in d) d ≡ Some c) × IsCityOf d c
+city_with : (d : Data) → IsRight d → AreReadable (length (vertices_in d)) (objects_in d) → HasParts d → (c : Frame × Entries) × (lenient_city_of (vertices_in d) d ≡ Some c) × IsListOf d c
 city_with d right readable parts =
     let among = objects_at d parts.top parts.is_top parts.objects parts.are_objects in
     let es = entries_read (vertices_in d) parts.objects parts.whole parts.all (subst (AreReadable (length (vertices_in d))) among readable) in
@@ -192,37 +194,37 @@ city_with d right readable parts =
       },
     )
 
-has_city : (d : Data) → is_integral d ≡ true → HasForm d → (c : CityValue) × (lenient_city_of (vertices_in d) d ≡ Some c) × IsCityOf d c
+has_city : (d : Data) → is_integral d ≡ true → HasForm d → (c : Frame × Entries) × (lenient_city_of (vertices_in d) d ≡ Some c) × IsListOf d c
 has_city d whole h = let right = is_right d h.right in city_with d right h.objects (has_parts d whole right)
 
 -- a tree that has the form of a document has a city
 no_city : (d : Data) → is_integral d ≡ true → HasForm d → lenient_city_of (vertices_in d) d ≡ None → ⊥
 no_city d whole h missing = let c = has_city d whole h in let there_is = c.1 in cc
 
-is_city_of : (d : Data) (c : CityValue) → is_integral d ≡ true → HasForm d → lenient_city_of (vertices_in d) d ≡ Some c → IsCityOf d c
-is_city_of d c whole h is =
+is_list_of : (d : Data) (c : Frame × Entries) → is_integral d ≡ true → HasForm d → lenient_city_of (vertices_in d) d ≡ Some c → IsListOf d c
+is_list_of d c whole h is =
     let k = has_city d whole h in
     let is_there = k.1 in
     let same : k.0 ≡ c = cc in
-    subst (IsCityOf d) same k.2
+    subst (IsListOf d) same k.2
 
 -- ---- the city is judged
 
-is_read_of : (d : Data) (c : CityValue) (bad : Option (List ℕ)) → HasForm d → AreOrdered (objects_in d) → bad ≡ first_with has_bad_list (objects_in d) → IsCityOf d c → IsReadOf (vertices_in d) (objects_in d) c.1 bad
+is_read_of : (d : Data) (c : CityValue) (bad : Option (List ℕ)) → HasForm d → AreOrdered (objects_in d) → bad ≡ first_with has_bad_list (objects_in d) → IsListOf d (listed c) → IsReadOf (vertices_in d) (objects_in d) (entries c.1) bad
 is_read_of d c bad form ordered lists is = record { ordered = ordered; readable = form.objects; read = is.entries; lists = lists }
 
-judged_as : (d : Data) (c : CityValue) (bad : Option (List ℕ)) (fault : Option ReadFault) → is_integral d ≡ true → HasForm d → bad ≡ first_with has_bad_list (objects_in d) → IsCityOf d c
+judged_as : (d : Data) (c : CityValue) (bad : Option (List ℕ)) (fault : Option ReadFault) → is_integral d ≡ true → HasForm d → bad ≡ first_with has_bad_list (objects_in d) → IsListOf d (listed c)
     → MatchOption fault (IsLawful (at c.1) × (bad ≡ None)) (λ f. IsFirst (StandsAmong (vertices_in d) (objects_in d)) f) → MatchOption fault ((city_of d ≡ Some c) × IsLawful (at c.1)) (λ f. IsFirst (StandsIn d) f)
-judged_as d c bad None whole form lists is h = (is.city (sym lists ∙ h.1), h.0)
+judged_as d c bad None whole form lists is h = (is.city (sym lists ∙ h.1) ∙ ap (λ objects. Some (c.0, objects)) (listed_again c.1), h.0)
 judged_as d c bad (Some f) whole form lists is h = first_in d f whole form.right h
 
 -- what is found of a city that was read of a tree is what stands in the tree
-pub judged : (d : Data) (points : List Point) (c : CityValue) (bad : Option (List ℕ)) (fault : Option ReadFault) → is_integral d ≡ true → HasForm d → points ≡ vertices_in d → lenient_city_of points d ≡ Some c
+pub judged : (d : Data) (points : List Point) (c : CityValue) (bad : Option (List ℕ)) (fault : Option ReadFault) → is_integral d ≡ true → HasForm d → points ≡ vertices_in d → lenient_city_of points d ≡ Some (listed c)
     → AreOrdered (objects_in d) → bad ≡ first_with has_bad_list (objects_in d)
-    → ((ps : List Point) (ms : Members) → IsReadOf ps ms c.1 bad → MatchOption fault (IsLawful (at c.1) × (bad ≡ None)) (λ f. IsFirst (StandsAmong ps ms) f))
+    → ((ps : List Point) (ms : Members) → IsReadOf ps ms (entries c.1) bad → MatchOption fault (IsLawful (at c.1) × (bad ≡ None)) (λ f. IsFirst (StandsAmong ps ms) f))
     → MatchOption fault ((city_of d ≡ Some c) × IsLawful (at c.1)) (λ f. IsFirst (StandsIn d) f)
 judged d points c bad fault whole form same built ordered lists found =
-    let is = is_city_of d c whole form (ap (λ ps. lenient_city_of ps d) (sym same) ∙ built) in
+    let is = is_list_of d (listed c) whole form (ap (λ ps. lenient_city_of ps d) (sym same) ∙ built) in
     judged_as d c bad fault whole form lists is (found (vertices_in d) (objects_in d) (is_read_of d c bad form ordered lists is))
 
 pub unbuilt : (d : Data) (points : List Point) → is_integral d ≡ true → HasForm d → points ≡ vertices_in d → lenient_city_of points d ≡ None → ⊥

@@ -8,9 +8,9 @@ ghost use Rattle.city_doc.specs.Bodies.{body_of, kept_if};
 use crate::geometry::geometries_of;
 use crate::object_faults::type_of;
 use city_model::kept::extra::Extra;
+use city_model::kept::place::AtObject;
 use city_model::members::{into_object, take};
 use city_model::object::{Body, Point};
-use city_model::kept::place::AtObject;
 use serde_json::{Map, Value};
 use std::alloc::{AllocError, Global};
 

@@ -1,10 +1,10 @@
 //! Values that tests are made of.
 use city_model::city::City;
-use city_model::kept::extra::Extra;
 use city_model::frame::Frame;
+use city_model::kept::extra::Extra;
+use city_model::kept::place::{AtObject, AtTop, AtTransform, Place};
 use city_model::object::{Body, Geometry, Object, Point, Ring, Shape, Surface};
 use city_model::object_type::ObjectType;
-use city_model::kept::place::{AtObject, AtTop, AtTransform, Place};
 use city_model::sequence::Sequence;
 use city_model::text::Text;
 use serde_json::Value;

@@ -4,10 +4,10 @@ use Rattle.std.specs.Prelude.{if◌then◌else◌, option_map}
 use Rattle.std.specs.Map.{keys_of}
 use Rattle.std.proofs.lemmas.Bool.{or_parts}
 use Rattle.city_model.specs.declared.object.Object.{Object}
-use Rattle.city_model.specs.CityMap.{Entries, CityMap, at, changed, same_id, has_id}
+use Rattle.city_model.specs.CityMap.{Entries, CityMap, found_in, changed, same_id, has_id}
 use Rattle.city_model.specs.Meaning.{attached, detached, deleted, with_parent, with_child, without_parent, without_child}
 
-pub at_absent : (es : Entries) (id : List ℕ) → has_id (keys_of es) id ≡ false → at es id ≡ None
+pub at_absent : (es : Entries) (id : List ℕ) → has_id (keys_of es) id ≡ false → found_in es id ≡ None
 at_absent [] id h = refl
 at_absent (e ∷ es) id h = let parts = or_parts (same_id id e.0) (has_id (keys_of es) id) h in rw parts.0 (at_absent es id parts.1)
 

@@ -13,4 +13,5 @@ pub mod SerialEnds
 pub mod Shells
 pub mod Standing
 pub mod Types
+pub mod Writing
 pub mod Integral

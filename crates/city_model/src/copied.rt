@@ -1,10 +1,10 @@
 //! Values that can be copied where there is memory.
 ghost use Rattle.std.specs.Prelude.{◌≡◌, IfOk};
 
-use crate::kept::extra::Extra;
 use crate::frame::Frame;
-use crate::object::{Body, Geometry, Object, Point, Shape};
+use crate::kept::extra::Extra;
 use crate::kept::place::Place;
+use crate::object::{Body, Geometry, Object, Point, Shape};
 use crate::sequence::Sequence;
 use crate::text::Text;
 use std::alloc::{AllocError, Global};
