@@ -45,9 +45,9 @@ dropped_more m n parent parents child made q = bool_cases (same_id q parent)
 
 -- an object that is taken out, and then out of the children of its parents, is deleted
 pub deleted_by_parents : (m n k : CityMap) (id : List ℕ) (o : Object) → IsSound m → m id ≡ Some o
-    → ((q : List ℕ) → n q ≡ changed m id None q) → ((q : List ℕ) → k q ≡ dropped n o.parents id q) → (q : List ℕ) → k q ≡ deleted m id q
+    → n ≡ changed m id None → ((q : List ℕ) → k q ≡ dropped n o.parents id q) → (q : List ℕ) → k q ≡ deleted m id q
 deleted_by_parents m n k id o sound is out left q =
-    left q ∙ ap (λ w. if has_id o.parents q then option_map (without_child id) w else w) (out q)
+    left q ∙ ap (λ w. if has_id o.parents q then option_map (without_child id) w else w) (ap (λ (f : CityMap). f q) out)
     ∙ bool_cases (same_id id q)
     (λ t. ap (λ w. if has_id o.parents q then option_map (without_child id) w else w) (changed_there m id None q t)
     ∙ bool_cases (has_id o.parents q) (λ u. ap (λ b. if b then None else None) u) (λ u. ap (λ b. if b then None else None) u)
