@@ -3,7 +3,8 @@ use Rattle.std.proofs.Common.{◌≡◌, ℕ, List, Result, Ok, Err, sym, subst}
 use Rattle.std.specs.Result.{IfErr, IsErrAnd}
 use Rattle.city_doc.specs.declared.fault.ReadFault.{ReadFault}
 use Rattle.city_doc.specs.declared.fault.ScriptFault.{ScriptFault}
-use Rattle.city_doc.specs.Documents.{CityValue, IsAdmitted, DocumentFault}
+use Rattle.city_model.specs.CityMap.{CityValue}
+use Rattle.city_doc.specs.Documents.{IsAdmitted, DocumentFault}
 use Rattle.city_doc.specs.ScriptTexts.{ScriptTextFault}
 use Rattle.cityed.specs.declared.fault.RunFault.{RunFault}
 use Rattle.cityed.specs.SerialRuns.{IsRunFault, fault_of_document, fault_of_scripts}

@@ -2,13 +2,13 @@
 use Rattle.std.specs.Prelude.{◌≡◌, ◌≢◌, ◌+◌, ℕ, List, [], ◌∷◌, length, take, Bool, true, not}
 use Rattle.std.specs.List.{list_all}
 use Rattle.city_model.specs.declared.end.End.{End}
-use Rattle.city_model.specs.CityMap.{at}
+use Rattle.city_model.specs.CityMap.{CityValue, at}
 use Rattle.city_model.specs.Relations.{IsLawful}
 use Rattle.city_model.specs.Runs.{Scripted, Fits, model_after}
 use Rattle.city_model.specs.SerialEnds.{is_no_memory}
 use Rattle.city_doc.specs.declared.fault.ReadFault.{ReadFault}
 use Rattle.city_doc.specs.declared.fault.ScriptFault.{ScriptFault}
-use Rattle.city_doc.specs.Documents.{CityValue, StandsForCity, IsAdmitted, DocumentFault}
+use Rattle.city_doc.specs.Documents.{StandsForCity, IsAdmitted, DocumentFault}
 use Rattle.city_doc.specs.ScriptTexts.{StandsForScripts, IsReadAs, ScriptTextFault}
 use Rattle.city_doc.specs.Outputs.{IsOutput}
 use Rattle.cityed.specs.declared.fault.RunFault.{RunFault}
@@ -50,7 +50,8 @@ IsDecided document scripts ends bytes =
 abbrev pub IsRunFault : List ℕ → List ℕ → RunFault → Type 0
 IsRunFault document scripts (RunFault.Read f) = (f ≢ ReadFault.OutOfMemory) × DocumentFault document f
 IsRunFault document scripts (RunFault.Script f) =
-    (f ≢ ScriptFault.OutOfMemory) × ((city : CityValue) × IsAdmitted document city) × ScriptTextFault scripts f
+    (f ≢ ScriptFault.OutOfMemory) × ((city : CityValue) × IsAdmitted document city)
+    × ScriptTextFault scripts f
 IsRunFault document scripts RunFault.OutOfMemory = Unit {0}
 IsRunFault document scripts RunFault.NoPlace = ⊥
 IsRunFault document scripts RunFault.Unfinished = ⊥

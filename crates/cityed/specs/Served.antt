@@ -9,11 +9,11 @@ use Rattle.cityed.specs.declared.fault.RunFault.{RunFault}
 use Rattle.cityed.specs.declared.fault.ServeFault.{ServeFault}
 
 -- how many bytes are read: enough for two texts of the greatest length, the newline, and one more
-abbrev pub most_read : ℕ
-most_read = 2 * max_text + 2
+abbrev pub max_input : ℕ
+max_input = 2 * max_text + 2
 
 abbrev pub read_of : List ℕ → List ℕ
-read_of input = take most_read input
+read_of input = take max_input input
 
 abbrev pub is_newline : ℕ → Bool
 is_newline byte = byte == 10

@@ -33,7 +33,8 @@ pub record AreCutShort (document scripts : List ℕ) (old new : Option (List ℕ
 abbrev pub IsTextsFault : List ℕ → List ℕ → Option (List ℕ) → Option (List ℕ) → Bool → ServeFault
     → Type 0
 IsTextsFault document scripts old new failed ServeFault.Read = ⊥
-IsTextsFault document scripts old new failed (ServeFault.Run f) = Keeps old new × IsRunFault document scripts f
+IsTextsFault document scripts old new failed (ServeFault.Run f) =
+    Keeps old new × IsRunFault document scripts f
 IsTextsFault document scripts old new failed ServeFault.Write =
     AreCutShort document scripts old new × (failed ≡ true)
 

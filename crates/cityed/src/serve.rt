@@ -1,7 +1,7 @@
 //! Serves a document and its scripts from a reader to a writer.
 ghost use Rattle.std.specs.Prelude.{◌≡◌, [], true, false, IfOk, IfErr, IfSome, OnOk, position, take};
 ghost use Rattle.std.specs.Io.KnownBytes.{Appends};
-ghost use Rattle.cityed.specs.Served.{is_newline, most_read, document_of, scripts_of, IsServed, IsReadFault, IsServeFault};
+ghost use Rattle.cityed.specs.Served.{is_newline, max_input, document_of, scripts_of, IsServed, IsReadFault, IsServeFault};
 ghost use Rattle.cityed.specs.ServedTexts.{LosesAtMost, AppendsSome};
 
 use crate::device::Device;
@@ -33,7 +33,7 @@ pub fn serve<R: Read, W: Write>(
     ensures served { OnOk result (IfSome (R.remaining reader.old.0)
         (λ input. IsServed input (W.contents writer.old.0) (W.contents writer.new.0))) }
     ensures seen { IfOk result (λ seen. seen.items ≡ []) }
-    ensures taken { LosesAtMost most_read (R.remaining reader.old.0) (R.remaining reader.new.0) }
+    ensures taken { LosesAtMost max_input (R.remaining reader.old.0) (R.remaining reader.new.0) }
     ensures unfailed { OnOk result ((reader.new.1 ≡ reader.old.1) × (writer.new.1 ≡ writer.old.1)) }
     ensures fault { IfErr result (IsServeFault (R.remaining reader.old.0) reader.new.1
         (W.contents writer.old.0) (W.contents writer.new.0) writer.new.1) }

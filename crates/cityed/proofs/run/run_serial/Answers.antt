@@ -1,5 +1,4 @@
 use Rattle.std.proofs.Common.{◌≡◌, List, [], ◌∷◌, ◌++◌, ap, ◌∙◌}
-use Rattle.city_model.specs.CityMap.{CityMap}
 use Rattle.city_doc.specs.Canonical.{city_text}
 use Rattle.city_doc.specs.Reports.{report_text}
 use Rattle.city_model.specs.declared.end.End.{End}
@@ -27,9 +26,9 @@ returns-clause-ran c =
       fits = run.fits;
       lawful = run.lawful;
       output = record {
-        entries = left.1;
-        model = record { ordered = c.in_ok-bytes.ensures.ordered; answers = λ id. ap (λ (m : CityMap). m id) run.model };
-        text = c.in_ok-bytes.ensures.text ∙ ap (λ (es : List End). report_text es ++ city_text left ++ 10 ∷ []) c.as_slice.ensures ∙ ap (λ (f : Frame). report_text c.in_ok-ends.ends ++ city_text (f, left.1) ++ 10 ∷ []) run.frame;
+        model = left.1;
+        left = run.model;
+        text = c.in_ok-bytes.ensures ∙ ap (λ (es : List End). report_text es ++ city_text left ++ 10 ∷ []) c.as_slice.ensures ∙ ap (λ (f : Frame). report_text c.in_ok-ends.ends ++ city_text (f, left.1) ++ 10 ∷ []) run.frame;
       };
     }
 
