@@ -136,17 +136,3 @@ pub fn geometry(alloc: Global, lod: &str, shape: Shape, json: &str) -> Result<Ge
     let extra = kept(alloc, json)?;
     Ok(Geometry { lod, shape, extra })
 }
-
-/// A body without kept members, of this geometry.
-pub fn body_of(
-    alloc: Global,
-    kind: ObjectType,
-    geometry: Sequence<Geometry>,
-) -> Result<Body, Fail> {
-    let extra = kept(alloc, "{}")?;
-    Ok(Body {
-        kind,
-        geometry,
-        extra,
-    })
-}

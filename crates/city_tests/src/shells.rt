@@ -1,5 +1,5 @@
 //! Shells and rings of worked examples, as they stand in documents.
-use crate::samples::{body_of, empty_city, geometry, point, surface, text, unrelated};
+use crate::samples::{body, empty_city, geometry, point, surface, text, unrelated};
 use city_model::body_fault::body_fault;
 use city_model::city::City;
 use city_model::command::Cause;
@@ -65,12 +65,11 @@ fn solid(alloc: Global, shell: Shell) -> Result<Shape, Fail> {
 }
 
 fn building(alloc: Global, shapes: Vec<Shape>) -> Result<Body, Fail> {
-    let mut list = Sequence::new(alloc);
+    let mut body = body(alloc, ObjectType::Building, "{}")?;
     for shape in shapes {
-        let geometry = geometry(alloc, "1", shape, "{}")?;
-        list.push(geometry)?;
+        body.geometry.push(geometry(alloc, "1", shape, "{}")?)?;
     }
-    body_of(alloc, ObjectType::Building, list)
+    Ok(body)
 }
 
 /// A city with one building, of this shell.
