@@ -8,8 +8,8 @@ use Rattle.std.proofs.lemmas.Bool.{false≢true}
 use Rattle.std.proofs.lemmas.List.Folds.{list_any_more}
 use Rattle.city_model.specs.declared.object.Object.{Object}
 use Rattle.city_model.specs.CityMap.{CityValue, CityMap, at, same_id, has_id, changed}
-use Rattle.city_model.proofs.Changed.{changed_apart, changed_there}
-use Rattle.city_model.proofs.Ids.{same_id_true, same_id_back, same_id_of_equal}
+use Rattle.std.proofs.lemmas.Map.{update_other, update_same}
+use Rattle.city_model.proofs.Ids.{same_id_true, same_id_back, same_id_of_equal, by_id}
 use Rattle.city_model.proofs.IdLists.{bool_cases}
 use Rattle.city_txn.specs.declared.image.Image.{Image}
 use Rattle.city_txn.specs.Ending.{AreEnded}
@@ -77,9 +77,9 @@ unchanged : (m : CityMap) (id : List ℕ) → m ≡ changed m id (m id)
 unchanged m id = λ i q. at q i
   where
     at : (q : List ℕ) → m q ≡ changed m id (m id) q
-    at q = bool_cases (same_id id q)
-        (λ e. ap m (sym (same_id_true id q e)) ∙ sym (changed_there m id (m id) q e))
-        (λ e. sym (changed_apart m id (m id) q e))
+    at q = by_id id q
+        (λ is. ap m (sym is) ∙ sym (update_same same_id m id (m id) q (same_id_of_equal id q is)))
+        (λ apart. sym (update_other same_id m id (m id) q apart))
 
 -- a placeholder that is taken out leaves what the transaction saw
 pub cleared_seen : (m : CityMap) (id : List ℕ) (i : Option Image) → (if is_deleted i then changed m id None else m) ≡ changed m id (seen_at (m id) i)
@@ -115,9 +115,9 @@ added_and_forgotten i j k id new none add forget q = forget q ∙ bool_cases (sa
 -- ---- a slot that is made
 
 pub made_there : (m : CityMap) (key id : List ℕ) (o : Object) → key ≡ id → is_some (changed m key (Some o) id) ≡ true
-made_there m key id o e = ap is_some (changed_there m key (Some o) id (same_id_of_equal key id e))
+made_there m key id o e = ap is_some (update_same same_id m key (Some o) id (same_id_of_equal key id e))
 
 pub made_beside : (m : CityMap) (key id : List ℕ) (o : Object) → key ≡ id → is_some (m id) ≡ false → (q : List ℕ) → is_some (m q) ≡ true → changed m key (Some o) q ≡ m q
 made_beside m key id o e absent q h = bool_cases (same_id key q)
     (λ t. absurd (false≢true (sym absent ∙ ap (λ r. is_some (m r)) (sym e ∙ same_id_true key q t) ∙ h)))
-    (λ t. changed_apart m key (Some o) q t)
+    (λ t. update_other same_id m key (Some o) q t)

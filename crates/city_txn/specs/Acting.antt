@@ -1,5 +1,6 @@
 -- What a command does to a core.
-use Rattle.std.specs.Prelude.{◌≡◌, ◌≢◌, ◌==◌, ◌&&◌, ◌||◌, ℕ, Bool, true, false, List, [], ◌∷◌, ◌++◌, is_none, if◌then◌else◌}
+use Rattle.std.specs.Prelude.{◌≡◌, ◌≢◌, ◌==◌, ◌&&◌, ◌||◌, ℕ, Bool, true, false, List, [], ◌∷◌, ◌++◌, is_none}
+use Rattle.std.specs.Prelude.{if◌then◌else◌}
 use Rattle.std.specs.Prelude.{Result, Ok, Err, IfOk, IfErr, OnOk, IsOk, IsErr}
 use Rattle.city_model.specs.declared.command.Command.{Command}
 use Rattle.city_model.specs.declared.command.Reply.{Reply}
@@ -18,24 +19,26 @@ use Rattle.city_model.specs.Standing.{Lock, Answered, AllHeld, names_exclusively
 use Rattle.city_txn.specs.CoreState.{CoreState, committed, view, is_open, held, Stands, KeepsOthers}
 use Rattle.city_txn.specs.Locking.{first_answer, granted_before, GainsFirst, IsBlocked}
 
--- whether the command, done at this map, writes the id: not where it is refused, and else each id that it locks
--- exclusively
+-- whether the command, done at this map, writes the id: not where it is refused, and else each id that it
+-- locks exclusively
 abbrev pub writes_id : CityMap → Command → List ℕ → Bool
 writes_id m command id = is_none (cause_of m command) && names_exclusively (locks_of m command) id
 
--- what the transaction would be replied, what its locks would be answered, and those before the first that isn't granted
+-- what the transaction would be replied to the command
 abbrev pub reply_in : CoreState → ℕ → Command → Reply
 reply_in v stamp command = reply_to (view v stamp) command
 
+-- what its locks would be answered: the first that isn't granted, or Granted
 abbrev pub answer_in : CoreState → ℕ → Command → Answer
 answer_in v stamp command = first_answer v.locks stamp (locks_of (view v stamp) command)
+
+-- the locks before the first that isn't granted
+abbrev pub granted_in : CoreState → ℕ → Command → List Lock
+granted_in v stamp command = granted_before v.locks stamp (locks_of (view v stamp) command)
 
 -- so the transaction ends at the command, which is number `number` of its script
 abbrev pub EndsIn : CoreState → ℕ → Command → ℕ → Outcome → Type 0
 EndsIn v stamp command number outcome = EndsAt (view v stamp) command number outcome
-
-abbrev pub granted_in : CoreState → ℕ → Command → List Lock
-granted_in v stamp command = granted_before v.locks stamp (locks_of (view v stamp) command)
 
 -- the step that an answer of the locks and a reply give
 abbrev pub step_of : Answer → Reply → Step
@@ -57,7 +60,8 @@ with_step (Ok steps.Die) command done = done
 with_step (Err fault) command done = done
 
 -- A call by the stamp to do the command: what it answers, and what becomes of the core.
-pub record Acted (stamp : ℕ) (command : Command) (result : Result Step TxnFault) (old new : CoreState) : Type 0 where
+pub record Acted (stamp : ℕ) (command : Command) (result : Result Step TxnFault)
+    (old new : CoreState) : Type 0 where
   -- done where each lock is granted, and else the answer of the first that isn't
   pub step : IfOk result (λ step. step ≡ step_of (answer_in old stamp command) (reply_in old stamp command))
   pub fault : IfErr result (λ fault. fault ≡ (if is_open old stamp then OutOfMemory else NotOpen stamp))
@@ -72,8 +76,8 @@ pub record Acted (stamp : ℕ) (command : Command) (result : Result Step TxnFaul
   pub city : committed new ≡ committed old
   pub views : (t : ℕ) → (stamp == t) ≡ false → view new t ≡ view old t
   pub opened : is_open new stamp ≡ is_open old stamp
-  -- of the locks before the first that isn't granted it gains the first so many, in their order, and no others;
-  -- where there is memory, all of them. It loses none; the others keep theirs
+  -- of the locks before the first that isn't granted it gains the first so many, in their order, and no
+  -- others; where there is memory, all of them. It loses none; the others keep theirs
   pub locks : GainsFirst stamp (granted_in old stamp command) old.locks new.locks
   pub granted : OnOk result (AllHeld (held new stamp) (granted_in old stamp command))
   -- its writes gain just the ids that the command writes; the other writes stay

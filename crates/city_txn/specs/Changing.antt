@@ -36,4 +36,5 @@ pub record IsChangeOf (v : CoreState) (stamp : ℕ) (change : Change) : Type 0 w
 -- ready with its change, or refused as a commit is: by the least orphan of its view
 abbrev pub IsPrepared : CoreState → ℕ → Prepared → Type 0
 IsPrepared v stamp (Ready change) = IsChangeOf v stamp change
-IsPrepared v stamp (Refused cause) = (number : ℕ) → EndsIn v stamp Commit number (Outcome.Refused number cause)
+IsPrepared v stamp (Refused cause) =
+    (number : ℕ) → EndsIn v stamp Commit number (Outcome.Refused number cause)

@@ -8,9 +8,16 @@ use Rattle.city_txn.specs.State.{is_reserved}
 use Rattle.city_txn.specs.CoreState.{CoreState, IsConsistent}
 
 abbrev pub core_state : Inside → CoreState
-core_state a = record { frame = a.store.frame; city = a.store.city; writes = a.store.writes; opened = keys_of a.store.opened; locks = a.locks }
+core_state a = record {
+  frame = a.store.frame;
+  city = a.store.city;
+  writes = a.store.writes;
+  opened = keys_of a.store.opened;
+  locks = a.locks;
+}
 
 -- and an id is reserved only under an exclusive lock
 pub record IsCore (a : Inside) : Type 0 where
   pub state : IsConsistent (core_state a)
-  pub reserved : (t : ℕ) (id : List ℕ) → is_reserved a.store t id ≡ true → mode_of a.locks t id ≡ Some Exclusive
+  pub reserved : (t : ℕ) (id : List ℕ)
+      → is_reserved a.store t id ≡ true → mode_of a.locks t id ≡ Some Exclusive

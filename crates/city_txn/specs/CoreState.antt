@@ -1,5 +1,6 @@
 -- What contracts see of a core: its committed city, and the writes and the locks of its open transactions.
-use Rattle.std.specs.Prelude.{◌≡◌, ◌==◌, ℕ, Bool, true, false, List, None, Some, is_some, option_map, if◌then◌else◌}
+use Rattle.std.specs.Prelude.{◌≡◌, ◌==◌, ℕ, Bool, true, false, List, None, Some, is_some, option_map}
+use Rattle.std.specs.Prelude.{if◌then◌else◌}
 use Rattle.std.specs.List.{list_any}
 use Rattle.city_model.specs.declared.frame.Frame.{Frame}
 use Rattle.city_model.specs.CityMap.{Objects, CityMap, at}
@@ -37,8 +38,8 @@ held_in locks stamp id = option_map is_exclusive (mode_of locks stamp id)
 abbrev pub held : CoreState → ℕ → Held
 held v stamp = held_in v.locks stamp
 
--- the commands of the transaction stand: from the committed map they get these replies, with their locks held, and
--- lead to its view
+-- the commands of the transaction stand: from the committed map they get these replies, with their locks
+-- held, and lead to its view
 abbrev pub Stands : CoreState → ℕ → List Answered → Type 0
 Stands v stamp done = Follows (held v stamp) (committed v) done (view v stamp)
 
@@ -48,7 +49,8 @@ pub record IsConsistent (v : CoreState) : Type 0 where
   pub lawful : Lawful v.locks
   pub locked : (id : List ℕ) (w : Write) → write_of v.writes id ≡ Some w
       → mode_of v.locks w.0 id ≡ Some Exclusive
-  pub open_only : (stamp : ℕ) (id : List ℕ) → is_some (mode_of v.locks stamp id) ≡ true → is_open v stamp ≡ true
+  pub open_only : (stamp : ℕ) (id : List ℕ)
+      → is_some (mode_of v.locks stamp id) ≡ true → is_open v stamp ≡ true
   pub city : IsLawful (committed v)
   pub history : (stamp : ℕ) → (done : List Answered) × Stands v stamp done
 
@@ -58,10 +60,12 @@ pub record KeepsOthers (stamp : ℕ) (old new : CoreState) : Type 0 where
   pub opened : (t : ℕ) → (stamp == t) ≡ false → is_open new t ≡ is_open old t
   pub others : (t : ℕ) (done : List Answered) → (stamp == t) ≡ false → Stands old t done → Stands new t done
 
--- the transaction of the stamp is over: its writes and its locks are gone, and it is no longer open; the others' stay
+-- the transaction of the stamp is over: its writes and its locks are gone, and it is no longer open; the
+-- others' stay
 pub record IsOver (stamp : ℕ) (old new : CoreState) : Type 0 where
   pub writes : (id : List ℕ) → write_of new.writes id ≡ unless_by stamp (write_of old.writes id)
-  pub locks : (t : ℕ) (id : List ℕ) → mode_of new.locks t id ≡ (if stamp == t then None else mode_of old.locks t id)
+  pub locks : (t : ℕ) (id : List ℕ)
+      → mode_of new.locks t id ≡ (if stamp == t then None else mode_of old.locks t id)
   pub closed : is_open new stamp ≡ false
   pub keeps : KeepsOthers stamp old new
 

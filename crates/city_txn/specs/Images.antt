@@ -44,7 +44,8 @@ is_deleted (Some i) = i.deleted
 
 -- the image after a write over x
 abbrev pub written_over : Option Object → Bool → Image → Image
-written_over x deleted i = record { by = i.by; unwritten = false; deleted = deleted; before = before_image x i }
+written_over x deleted i =
+    record { by = i.by; unwritten = false; deleted = deleted; before = before_image x i }
 
 abbrev pub unwritten_image : ℕ → Bool → Image
 unwritten_image stamp deleted = record { by = stamp; unwritten = true; deleted = deleted; before = None }

@@ -1,5 +1,6 @@
 -- What contracts see of the store: the committed city, and for each open transaction what it wrote.
-use Rattle.std.specs.Prelude.{◌≡◌, ◌==◌, ℕ, Bool, false, List, Option, None, Some, is_some, unwrap_or, [], if◌then◌else◌}
+use Rattle.std.specs.Prelude.{◌≡◌, ◌==◌, ℕ, Bool, false, List, Option, None, Some, is_some, unwrap_or, []}
+use Rattle.std.specs.Prelude.{if◌then◌else◌}
 use Rattle.std.specs.Map.{lookup}
 use Rattle.std.specs.Ordering.{nat_cmp}
 use Rattle.std.specs.Cmp.Lexicographic.{slice_cmp}
@@ -71,4 +72,5 @@ pub record Forgets (stamp : ℕ) (v w : State) : Type 0 where
   pub frame : w.frame ≡ v.frame
   pub writes : (id : List ℕ) → write_of w.writes id ≡ unless_by stamp (write_of v.writes id)
   pub opened : (t : ℕ) → is_open w t ≡ (if stamp == t then false else is_open v t)
-  pub reserved : (t : ℕ) (id : List ℕ) → is_reserved w t id ≡ (if stamp == t then false else is_reserved v t id)
+  pub reserved : (t : ℕ) (id : List ℕ)
+      → is_reserved w t id ≡ (if stamp == t then false else is_reserved v t id)

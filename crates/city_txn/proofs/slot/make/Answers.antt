@@ -1,6 +1,6 @@
 use Rattle.std.proofs.Common.{◌≡◌, ◌∙◌, ap, rules, Some, is_some, false}
 use Rattle.city_model.specs.CityMap.{at, same_id}
-use Rattle.city_model.proofs.Changed.{changed_apart}
+use Rattle.std.proofs.lemmas.Map.{update_other}
 use Rattle.city_txn.proofs.EachId.{made_there, made_beside}
 use Rattle.city_txn.proofs.slot.make.Goals as goal
 
@@ -17,4 +17,4 @@ returns-clause-kept c q h =
 pub returns-clause-others : goal.returns-clause-others
 returns-clause-others c q e =
     ap (λ m. m q) c.in_ok-set.ensures.map
-    ∙ changed_apart (at c.args.city.now.1) c.in_ok-key.key (Some c.placeholder.result) q (ap (λ k. same_id k q) c.in_ok-key.ensures ∙ e)
+    ∙ update_other same_id (at c.args.city.now.1) c.in_ok-key.key (Some c.placeholder.result) q (ap (λ k. same_id k q) c.in_ok-key.ensures ∙ e)
