@@ -16,7 +16,8 @@ use std::alloc::{AllocError, Global};
 
 /// The members that are kept at an object, of those but `type` and `geometry`.
 fn kept(mut members: Map<String, Value>) -> Option<Extra<AtObject>>
-    ensures { result ≡ kept_if kept_at_object (without (codes "children") (without (codes "parents") (members_view members.entries))) }
+    ensures { result ≡ kept_if kept_at_object
+        (without (codes "children") (without (codes "parents") (members_view members.entries))) }
 {
     drop(take(&mut members, "parents"));
     drop(take(&mut members, "children"));

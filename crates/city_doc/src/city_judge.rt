@@ -72,7 +72,8 @@ fn first_body<J: BodyTest>(alloc: Global, city: &City) -> Result<Option<&Id>, Al
 
 /// The lesser of two ids, in byte order, where there are any.
 fn lesser<'i>(one: Option<&'i Id>, other: Option<&'i Id>) -> Option<&'i Id>
-    ensures { option_map (λ id. id.now) result ≡ lesser (option_map (λ id. id.now) one.entry) (option_map (λ id. id.now) other.entry) }
+    ensures { option_map (λ id. id.now) result
+        ≡ lesser (option_map (λ id. id.now) one.entry) (option_map (λ id. id.now) other.entry) }
 {
     match one {
         None => other,

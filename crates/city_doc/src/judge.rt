@@ -83,7 +83,8 @@ impl ObjectTest for BadList {
 
 /// The first id of an object that has it; the ids are in byte order.
 fn first_with<'m, J: ObjectTest>(judge: &J, objects: &'m Map<String, Value>) -> Option<&'m str>
-    ensures first { option_map (λ s. s.now) result ≡ first_with (J.test judge.now) (members_view objects.now.entries) }
+    ensures first { option_map (λ s. s.now) result
+        ≡ first_with (J.test judge.now) (members_view objects.now.entries) }
     ensures ordered { AreOrdered (members_view objects.now.entries) }
 {
     for (id, object) in objects.iter() {
@@ -158,7 +159,8 @@ pub fn first_fault(
     tree: &Value,
 ) -> Result<Option<ReadFault>, AllocError>
     ensures { is_integral (view tree.now) ≡ true → points.now ≡ vertices_in (view tree.now)
-        → IfOk result (λ o. MatchOption o (HasForm (view tree.now)) (λ f. IsFirst (StandsIn (view tree.now)) f)) }
+        → IfOk result (λ o. MatchOption o (HasForm (view tree.now))
+        (λ f. IsFirst (StandsIn (view tree.now)) f)) }
 {
     if let Some(name) = wrong_member(tree) {
         let name = named(alloc, name)?;

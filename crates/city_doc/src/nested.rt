@@ -1,4 +1,5 @@
-//! Lists within lists down to positions, as boundaries have them: their form, and the points that they stand for.
+//! Lists within lists down to positions, as boundaries have them: their form, and the points that
+//! they stand for.
 ghost use Rattle.std.specs.Prelude.{◌≡◌, Bool, List, Option, IfOk};
 ghost use Rattle.serde_json.specs.Data.{Data};
 ghost use Rattle.serde_json.specs.View.{view, items_view};

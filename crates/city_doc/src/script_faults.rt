@@ -89,7 +89,8 @@ fn first_command<J: CommandTest>(forms: &[ScriptForm]) -> Option<(usize, usize)>
 
 /// The first fault of scripts of these forms.
 pub fn parts_fault(forms: &[ScriptForm]) -> Option<ScriptFault>
-    ensures { MatchOption result (AreFaultlessParts (parts_views forms.now)) (λ f. PartsFault (parts_views forms.now) f) }
+    ensures { MatchOption result (AreFaultlessParts (parts_views forms.now))
+        (λ f. PartsFault (parts_views forms.now) f) }
 {
     if are_too_many(forms) {
         return Some(ScriptFault::TooMany);

@@ -98,7 +98,8 @@ pub fn wrong_member(tree: &Value) -> Option<&'static str>
 
 /// The members that are kept at a transform.
 fn kept_at_transform(mut transform: Map<String, Value>) -> Option<Extra<AtTransform>>
-    ensures { result ≡ kept_if kept_at_transform (without_transform_members (members_view transform.entries)) }
+    ensures { result ≡ kept_if kept_at_transform
+        (without_transform_members (members_view transform.entries)) }
 {
     drop(take(&mut transform, "scale"));
     drop(take(&mut transform, "translate"));

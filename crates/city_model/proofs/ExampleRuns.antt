@@ -2,6 +2,7 @@
 use Rattle.std.proofs.Common.{◌≡◌, refl, ap, ◌∙◌, arith}
 use Rattle.std.specs.Prelude.{option_map, ℕ, List, [], ◌∷◌, false, Some, None, codes}
 use Rattle.std.proofs.lemmas.Bool.{or_parts}
+use Rattle.std.proofs.lemmas.Map.{update_other}
 use Rattle.city_model.specs.declared.object_type.ObjectType.TheVariants.{Building, BuildingPart, Road}
 use Rattle.city_model.specs.declared.command.Command.{Command}
 use Rattle.city_model.specs.declared.command.Command.TheVariants.{Read, Put, Delete, Attach, Commit}
@@ -11,7 +12,7 @@ use Rattle.city_model.specs.declared.end.Outcome.{Outcome}
 use Rattle.city_model.specs.CityMap.{same_id, has_id, Entries, CityMap, found_in, changed}
 use Rattle.city_model.specs.Meaning.{without_child, attached, deleted}
 use Rattle.city_model.specs.Runs.{Scripted, HasResult, model_after, Fits}
-use Rattle.city_model.proofs.Changed.{at_absent, changed_apart, attached_apart, deleted_apart}
+use Rattle.city_model.proofs.Changed.{at_absent, attached_apart, deleted_apart}
 use Rattle.city_model.proofs.ExampleCities.{one_id, bare, object, alone}
 use Rattle.city_model.proofs.Ids.{same_id_back}
 use Rattle.city_model.specs.Relations.{is_orphan_there}
@@ -93,7 +94,7 @@ no_other_object_comes id h =
     let p = or_parts (same_id id (codes "p")) (has_id (codes "q" ∷ []) id) b2.1 in
     let q = or_parts (same_id id (codes "q")) false p.1 in
     let before : found_in two_buildings id ≡ None = at_absent two_buildings id (rw (b1.0, b2.0, p.0) refl) in
-    let put : with_part id ≡ None = changed_apart (found_in two_buildings) (codes "q") (Some (alone BuildingPart)) id (same_id_back (codes "q") id ∙ q.0) ∙ before in
+    let put : with_part id ≡ None = update_other same_id (found_in two_buildings) (codes "q") (Some (alone BuildingPart)) id (same_id_back (codes "q") id ∙ q.0) ∙ before in
     let tied : both_parts id ≡ None = attached_apart with_part (codes "q") (codes "b2") id (same_id_back (codes "q") id ∙ q.0) (same_id_back (codes "b2") id ∙ b2.0) ∙ put in
     deleted_apart both_parts (codes "p") id (same_id_back (codes "p") id ∙ p.0) ∙ ap (option_map (without_child (codes "p"))) tied
 

@@ -2,6 +2,7 @@
 use Rattle.std.proofs.Common.{◌≡◌, ℕ, List, [], ◌∷◌, length, Bool, true, false, ◌||◌, Option, Some, None, refl, ap, sym, ◌∙◌}
 use Rattle.std.specs.Prelude.{◌==◌, if◌then◌else◌, option_map}
 use Rattle.std.proofs.lemmas.Bool.{false≢true, false_from_ne_true, or_parts, or_left, or_right}
+use Rattle.std.proofs.lemmas.Map.{update_other}
 use Rattle.city_model.specs.declared.object.Object.{Object}
 use Rattle.city_model.specs.declared.command.Cause.{Cause}
 use Rattle.city_model.specs.declared.command.Cause.TheVariants.{HasChildren}
@@ -12,8 +13,8 @@ use Rattle.city_model.specs.Meaning.{read_reply, with_body, put_cause, put_done,
 use Rattle.city_model.specs.Shells.{body_fault}
 use Rattle.city_model.specs.Relations.{IsSound}
 use Rattle.city_model.specs.Standing.{Lock, exclusive_ids, names, names_exclusively}
-use Rattle.city_model.specs.FrameLaw.{AgreeOn, IsFramed, FrameLaw}
-use Rattle.city_model.proofs.Changed.{changed_apart, attached_apart, detached_apart, deleted_apart}
+use Rattle.city_model.specs.FrameLaw.{AgreeOn, FrameLaw}
+use Rattle.city_model.proofs.Changed.{attached_apart, detached_apart, deleted_apart}
 use Rattle.city_model.proofs.Ids.{same_id_itself, same_id_back}
 use Rattle.city_model.proofs.IdLists.{bool_cases, not_both, without_absent}
 
@@ -71,7 +72,7 @@ two_apart child parent q h =
 pub frame : (m : CityMap) (c : Command) (q : List ℕ) → IsSound m → names_exclusively (locks_of m c) q ≡ false → after m c q ≡ m q
 frame m (Read id) q s h = refl
 frame m (Put id body) q s h = unless_same (cause_of m (Put id body)) m (effect_of m (Put id body)) q
-    (λ e. changed_apart m id (Some (with_body body (m id))) q (same_id_back id q ∙ (or_parts (same_id q id) false h).0))
+    (λ e. update_other same_id m id (Some (with_body body (m id))) q (same_id_back id q ∙ (or_parts (same_id q id) false h).0))
 frame m (Delete id) q s h = unless_same (cause_of m (Delete id)) m (effect_of m (Delete id)) q (λ e. frame_delete m id q (m id) refl s h e)
 frame m (Attach child parent) q s h =
     let apart = two_apart child parent q h in

@@ -3,6 +3,7 @@ use Rattle.std.proofs.Common.{◌≡◌, ◌==◌, ◌||◌, ℕ, List, [], ◌�
 use Rattle.std.specs.Prelude.{not, if◌then◌else◌, option_map}
 use Rattle.std.specs.Map.{keys_of}
 use Rattle.std.proofs.lemmas.Bool.{false≢true, or_right, or_parts}
+use Rattle.std.proofs.lemmas.Map.{update_other, update_same}
 use Rattle.city_model.specs.declared.object.Object.{Object}
 use Rattle.city_model.specs.declared.object.Body.{Body}
 use Rattle.city_model.specs.declared.command.Cause.TheVariants.{HasChildren, WrongFamily, AlreadyAttached, NotAttached}
@@ -14,7 +15,6 @@ use Rattle.city_model.specs.CityMap.{CityMap, same_id, has_id, changed}
 use Rattle.city_model.specs.Meaning.{with_body, put_cause, put_done, delete_cause, delete_locks, deleted, without_child, without_parent, with_child, with_parent, is_wrong_family, attach_cause, detach_cause, exclusively, effect_of, map_unless, after}
 use Rattle.city_model.specs.Relations.{is_second_level, same_family, IsSound}
 use Rattle.city_model.specs.Shells.{body_fault}
-use Rattle.city_model.proofs.Changed.{changed_there, changed_apart}
 use Rattle.city_model.proofs.Ids.{same_id_itself, same_id_back, same_id_true}
 use Rattle.city_model.proofs.IdLists.{bool_cases, or_first}
 use Rattle.city_model.specs.Standing.{names_exclusively}
@@ -29,7 +29,7 @@ pub put_writes : (m : CityMap) (id : List ℕ) (body : Body) (x : Option Object)
 put_writes m id body x o r ws is faultless allowed reply object items = subst (AreWritesOf m (Put id body) r) (sym items) (record {
   allowed = ap (put_cause id body (m id)) faultless ∙ ap (λ y. put_cause id body y None) is ∙ allowed;
   reply = ap put_done is ∙ sym reply;
-  objects = (ap Some (object ∙ ap (with_body body) (sym is)) ∙ sym (changed_there m id (Some (with_body body (m id))) id (same_id_itself id)), tt);
+  objects = (ap Some (object ∙ ap (with_body body) (sym is)) ∙ sym (update_same same_id m id (Some (with_body body (m id))) id (same_id_itself id)), tt);
   ids = λ q. refl;
 })
 
@@ -112,7 +112,7 @@ at_unwritten : (m : CityMap) (ws : Change) (q : List ℕ) → has_id (keys_of ws
 at_unwritten m [] q h = refl
 at_unwritten m (w ∷ ws) q h =
     let parts = or_parts (same_id q w.0) (has_id (keys_of ws) q) h in
-    at_unwritten (changed m w.0 w.1) ws q parts.1 ∙ changed_apart m w.0 w.1 q (same_id_back w.0 q ∙ parts.0)
+    at_unwritten (changed m w.0 w.1) ws q parts.1 ∙ update_other same_id m w.0 w.1 q (same_id_back w.0 q ∙ parts.0)
 
 at_written : (m n : CityMap) (ws : Change) (q : List ℕ) → AreOf n ws → has_id (keys_of ws) q ≡ true → with_change m ws q ≡ n q
 at_written m n [] q is h = absurd (false≢true h)
@@ -120,7 +120,7 @@ at_written m n (w ∷ ws) q is h = bool_cases (has_id (keys_of ws) q)
     (λ e. at_written (changed m w.0 w.1) n ws q is.1 e)
     (λ e.
     let here : same_id q w.0 ≡ true = or_first (same_id q w.0) (has_id (keys_of ws) q) h e in
-    at_unwritten (changed m w.0 w.1) ws q e ∙ changed_there m w.0 w.1 q (same_id_back w.0 q ∙ here) ∙ is.0 ∙ ap n (sym (same_id_true q w.0 here)))
+    at_unwritten (changed m w.0 w.1) ws q e ∙ update_same same_id m w.0 w.1 q (same_id_back w.0 q ∙ here) ∙ is.0 ∙ ap n (sym (same_id_true q w.0 here)))
 
 -- what is planned makes of a sound map what the command makes of it
 pub plan_makes : (m : CityMap) (c : Command) (r : Reply) (ws : Change) → IsSound m → AreWritesOf m c r ws → with_change m ws ≡ effect_of m c

@@ -1,7 +1,7 @@
 -- Which members are kept at each place of a document: those that this profile doesn't read
 -- (CityJSON 2.0, sections 2, 3 and 5).
-use Rattle.std.specs.Prelude.{ℕ, List, Bool, true, false, ◌&&◌, ◌||◌, not, Option, Some, None, codes, is_some,
-  is_none}
+use Rattle.std.specs.Prelude.{ℕ, List, Bool, true, false, ◌&&◌, ◌||◌, not, Option, Some, None, codes, is_some}
+use Rattle.std.specs.Prelude.{is_none}
 use Rattle.serde_json.specs.Data.{Data, Items, no_items, item, Members, no_members, member}
 use Rattle.serde_json.specs.Find.{get, get_member, as_array, as_object}
 use Rattle.city_model.specs.Integral.{members_integral}

@@ -1,17 +1,18 @@
 -- What each command means, on the whole map.
-use Rattle.std.specs.Prelude.{◌==◌, ◌||◌, not, ℕ, List, [], ◌∷◌, ◌++◌, length, filter, map, Bool, true, false,
-  Option, Some, None, option_map, if◌then◌else◌}
+use Rattle.std.specs.Prelude.{◌==◌, ◌||◌, not, ℕ, List, [], ◌∷◌, ◌++◌, length, filter, map, Bool, true, false}
+use Rattle.std.specs.Prelude.{Option, Some, None, option_map, if◌then◌else◌}
 use Rattle.city_model.specs.declared.object.Object.{Object}
 use Rattle.city_model.specs.declared.object.Body.{Body}
 use Rattle.city_model.specs.declared.command.Command.{Command}
-use Rattle.city_model.specs.declared.command.Command.TheVariants.{Read, Put, Delete, Attach, Detach, Commit,
-  Abort}
+use Rattle.city_model.specs.declared.command.Command.TheVariants.{Read, Put, Delete, Attach, Detach, Commit}
+use Rattle.city_model.specs.declared.command.Command.TheVariants.{Abort}
 use Rattle.city_model.specs.declared.command.Cause.{Cause}
-use Rattle.city_model.specs.declared.command.Cause.TheVariants.{NoObject, TypeFixed, HasChildren, WrongFamily,
-  AlreadyAttached, NotAttached}
+use Rattle.city_model.specs.declared.command.Cause.TheVariants.{NoObject, TypeFixed, HasChildren, WrongFamily}
+use Rattle.city_model.specs.declared.command.Cause.TheVariants.{AlreadyAttached, NotAttached}
 use Rattle.city_model.specs.declared.command.Reply.{Reply}
-use Rattle.city_model.specs.declared.command.Reply.TheVariants.{Found, Absent, Added, Replaced, Deleted,
-  Attached, Detached, Committed, Aborted, Refused}
+use Rattle.city_model.specs.declared.command.Reply.TheVariants.{Found, Absent, Added, Replaced, Deleted}
+use Rattle.city_model.specs.declared.command.Reply.TheVariants.{Attached, Detached, Committed, Aborted}
+use Rattle.city_model.specs.declared.command.Reply.TheVariants.{Refused}
 use Rattle.city_model.specs.CityMap.{CityMap, same_id, has_id, changed}
 use Rattle.city_model.specs.Relations.{is_second_level, same_type, same_family}
 use Rattle.city_model.specs.Shells.{body_fault}
@@ -88,12 +89,12 @@ detach_cause child (Some child_object) parent (Some parent_object) =
 abbrev pub attached : CityMap → List ℕ → List ℕ → CityMap
 attached m child parent =
     changed (changed m child (option_map (with_parent parent) (m child)))
-        parent (option_map (with_child child) (m parent))
+    parent (option_map (with_child child) (m parent))
 
 abbrev pub detached : CityMap → List ℕ → List ℕ → CityMap
 detached m child parent =
     changed (changed m child (option_map (without_parent parent) (m child)))
-        parent (option_map (without_child child) (m parent))
+    parent (option_map (without_child child) (m parent))
 
 -- ---- every command
 

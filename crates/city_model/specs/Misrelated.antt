@@ -16,4 +16,4 @@ abbrev pub IsLeastMisrelated : CityMap → List ℕ → Type 0
 IsLeastMisrelated m id =
     IsMisrelatedAt m id
     × ((q : List ℕ) (o : Object) → slice_cmp nat_cmp q id ≡ Less → m q ≡ Some o
-      → IsInOrder m q o × (is_orphan o ≡ false))
+    → IsInOrder m q o × (is_orphan o ≡ false))

@@ -1,8 +1,8 @@
 -- Which lists of commands are scripts.
 use Rattle.std.specs.Prelude.{◌≡◌, ℕ, List, [], ◌∷◌, Bool, true, false, Some, slice_get, if◌then◌else◌}
 use Rattle.city_model.specs.declared.command.Command.{Command}
-use Rattle.city_model.specs.declared.command.Command.TheVariants.{Read, Put, Delete, Attach, Detach, Commit,
-  Abort}
+use Rattle.city_model.specs.declared.command.Command.TheVariants.{Read, Put, Delete, Attach, Detach, Commit}
+use Rattle.city_model.specs.declared.command.Command.TheVariants.{Abort}
 
 abbrev pub is_end : Command → Bool
 is_end (Read id) = false
