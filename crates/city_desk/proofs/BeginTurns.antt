@@ -1,0 +1,232 @@
+-- A script that is begun, and one that couldn't be.
+use Rattle.std.proofs.Common.{◌≡◌, ◌<◌, ◌≤◌, ◌+◌, ℕ, Bool, true, false, List, [], ◌∷◌, ◌++◌, length, Option, Some, None, refl, ap, sym, subst, ◌∙◌, arith, length-append, append-nil}
+use Rattle.std.specs.Prelude.{slice_set, slice_get, slice_index_or}
+use Rattle.std.proofs.lemmas.Bool.{false≢true}
+use Rattle.std.proofs.lemmas.Option.{slice_get-get_or}
+use Rattle.city_model.specs.declared.command.Command.{Command}
+use Rattle.city_model.specs.declared.command.Reply.{Reply}
+use Rattle.city_model.specs.declared.end.End.{End}
+use Rattle.city_model.specs.declared.end.Outcome.{Outcome}
+use Rattle.city_model.specs.CityMap.{CityMap, at, CityValue}
+use Rattle.city_model.specs.Runs.{HasResult, IsEndOf, commands_of, model_after, Change}
+use Rattle.city_model.specs.Scripts.{ends_once}
+use Rattle.city_model.proofs.Fitting.{model_more}
+use Rattle.city_txn.specs.CoreState.{CoreState, committed, is_open, Stands, KeepsOthers}
+use Rattle.city_desk.specs.declared.progress.Progress.{Progress}
+use Rattle.city_desk.specs.declared.progress.Phase.{Phase}
+use Rattle.city_desk.specs.declared.progress.Phase.TheVariants.{NotBegun, Idle, Open, Ended}
+use Rattle.city_desk.specs.declared.turn.Turn.TheVariants as turns
+use Rattle.city_desk.specs.DeskState.{DeskState, phase_of, replies_of, commands_at, name_at, name_in, is_ended, is_open_phase, stamp_of}
+use Rattle.city_desk.specs.Room.{is_not_begun, HasRoom}
+use Rattle.city_desk.specs.Serial.{IsAttempt, StandsAs, AreStanding, IsSerial}
+use Rattle.city_desk.specs.Turning.{stamp_for, begun_after, IsDue, end_of}
+use Rattle.city_desk.proofs.AttemptsKept.{IsTurnOf}
+use Rattle.city_desk.proofs.OpenTurns.{LeavesDesk, counted, some_there}
+use Rattle.city_desk.proofs.ScriptReads.{once_of, progress_at, name_there, end_as}
+use Rattle.city_desk.proofs.RoomKept.{one_if, place_left, room_now, room_ended}
+use Rattle.city_desk.proofs.SerialKept.{now_at, ended_at, kept_serial, ended_serial}
+use Rattle.city_desk.proofs.Shelved.{changes_kept}
+
+-- ---- the stamp
+
+below_begun : (d : DeskState) (k s : ℕ) (p : Phase) (cs : List Command) (rs : List Reply) → StandsAs d cs p rs → stamp_of p ≡ Some s → s < d.begun
+below_begun d k s NotBegun cs rs h e = absurd (cc)
+below_begun d k s (Idle t) cs rs h e = let same : t ≡ s = cc in let b = h.1 in subst (λ x. x < d.begun) same b
+below_begun d k s (Open t since) cs rs h e = let same : t ≡ s = cc in subst (λ x. x < d.begun) same h.begun
+below_begun d k s Ended cs rs h e = absurd (cc)
+
+none_some : (s : ℕ) → None ≡ Some s → ⊥
+none_some s e = cc
+
+some_eq : (s t : ℕ) → Some s ≡ Some t → s ≡ t
+some_eq s t e = cc
+
+no_room : (m : CityMap) (all : List Command) → ends_once all ≡ true → HasResult m all [] (Outcome.NoMemory 0)
+no_room m [] h = absurd (false≢true h)
+no_room m (c ∷ cs) h = refl
+
+-- the stamp is the script's alone, and no transaction of it is open
+record IsFresh (d : DeskState) (n stamp : ℕ) : Type 0 where
+  closed : is_open d.core stamp ≡ true → ⊥
+  was : (s : ℕ) → stamp_of (phase_of d n) ≡ Some s → s ≡ stamp
+  alone : (k : ℕ) → stamp_of (phase_of d k) ≡ Some stamp → k ≡ n
+  below : stamp < begun_after d.begun (phase_of d n)
+  more : d.begun ≤ begun_after d.begun (phase_of d n)
+  unended : is_ended (phase_of d n) ≡ false
+  unheard : replies_of d n ≡ []
+
+fresh : (d : DeskState) (n stamp : ℕ) (p : Phase) → AreStanding d → phase_of d n ≡ p → stamp_for d p ≡ Some stamp → IsFresh d n stamp
+fresh d n stamp NotBegun st is its =
+    let same : d.begun ≡ stamp = cc in
+    let next : begun_after d.begun (phase_of d n) ≡ d.begun + 1 = ap (begun_after d.begun) is in
+    record {
+      closed = λ h. let owner = st.owner stamp h in
+          let less = below_begun d owner.0 stamp (phase_of d owner.0) (commands_at d.scripts owner.0) (replies_of d owner.0) (st.each owner.0) (ap stamp_of owner.2) in
+          absurd (omega (arith, less, same));
+      was = λ s h. absurd (none_some s (sym (ap stamp_of is) ∙ h));
+      alone = λ k h. let less = below_begun d k stamp (phase_of d k) (commands_at d.scripts k) (replies_of d k) (st.each k) h in absurd (omega (arith, less, same));
+      below = omega (arith, next, same);
+      more = omega (arith, next);
+      unended = ap is_ended is;
+      unheard = subst (λ p. StandsAs d (commands_at d.scripts n) p (replies_of d n)) is (st.each n);
+    }
+fresh d n stamp (Idle t) st is its =
+    let same : t ≡ stamp = cc in
+    let own : stamp_of (phase_of d n) ≡ Some stamp = ap stamp_of is ∙ its in
+    let stands : StandsAs d (commands_at d.scripts n) (Idle t) (replies_of d n) = subst (λ p. StandsAs d (commands_at d.scripts n) p (replies_of d n)) is (st.each n) in
+    let next : begun_after d.begun (phase_of d n) ≡ d.begun = ap (begun_after d.begun) is in
+    let less : t < d.begun = stands.1 in
+    record {
+      closed = λ h. let owner = st.owner stamp h in
+          let here : owner.0 ≡ n = st.apart owner.0 n stamp (ap stamp_of owner.2) own in
+          let both : is_open_phase (Idle t) ≡ is_open_phase (Open stamp owner.1) = sym (ap is_open_phase is) ∙ (ap (λ k. is_open_phase (phase_of d k)) (sym here) ∙ ap is_open_phase owner.2) in
+          false≢true both;
+      was = λ s h. some_eq s stamp (sym h ∙ own);
+      alone = λ k h. st.apart k n stamp h own;
+      below = omega (arith, next, same, less);
+      more = omega (arith, next);
+      unended = ap is_ended is;
+      unheard = stands.0;
+    }
+fresh d n stamp (Open t since) st is its = absurd (cc)
+fresh d n stamp Ended st is its = absurd (cc)
+
+-- the stamps that are left
+begun_room : (d : DeskState) (n stamp begun : ℕ) (p : Phase) → stamp_for d p ≡ Some stamp → begun ≡ begun_after d.begun p → begun + 0 ≤ d.begun + one_if (is_not_begun p)
+begun_room d n stamp begun NotBegun its is = omega (arith, is)
+begun_room d n stamp begun (Idle t) its is = omega (arith, is)
+begun_room d n stamp begun (Open t since) its is = omega (arith, is)
+begun_room d n stamp begun Ended its is = omega (arith, is)
+
+false_by : (b : Bool) → (b ≡ true → ⊥) → b ≡ false
+false_by true h = absurd (h refl)
+false_by false h = refl
+
+module _ (d : DeskState) (changes : List Change) (base : Option CityValue) (n stamp : ℕ)
+    (s : IsSerial d changes base) (its : stamp_for d (phase_of d n) ≡ Some stamp) (there : n < length d.scripts) where
+  is_fresh : IsFresh d n stamp
+  is_fresh = fresh d n stamp (phase_of d n) s.standing refl its
+
+  within : n < length d.progress
+  within = subst (λ k. n < k) (sym s.of_each) there
+
+  once : ends_once (commands_at d.scripts n) ≡ true
+  once = once_of d.scripts n s.scripted there
+
+  -- there is a place for its end
+  pub place_unbegun : (names : List (List ℕ)) (capacity : ℕ) → HasRoom d names capacity → length d.ends < capacity
+  place_unbegun names capacity r =
+      let few = place_left d names capacity n r s.of_each within is_fresh.unended in
+      let places = r.places in
+      omega arith
+
+  reads : (p : Progress) → p ≡ slice_index_or d.progress n p → p.replies ≡ []
+  reads p read = sym (ap (λ (q : Progress). q.replies) (progress_at d.progress n p within read)) ∙ is_fresh.unheard
+
+  pub turn_begins : (p : Progress) (since begun : ℕ) (core : CoreState) (names : List (List ℕ)) (capacity : ℕ) → p ≡ slice_index_or d.progress n p → since ≡ length d.ends → begun ≡ begun_after d.begun (phase_of d n)
+      → KeepsOthers stamp d.core core → core.city ≡ d.core.city → is_open core stamp ≡ true → Stands core stamp [] → HasRoom d names capacity
+      → LeavesDesk n turns.Began d (now_at d (slice_set d.progress n (record { phase = Open stamp since; replies = p.replies })) begun core) names capacity changes changes base
+  turn_begins p since begun core names capacity read now more keeps objects opened stands r =
+      let progress : List Progress = slice_set d.progress n (record { phase = Open stamp since; replies = p.replies }) in
+      let e : DeskState = now_at d progress begun core in
+      let moves : progress ≡ slice_set d.progress n (record { phase = Open stamp (length d.ends); replies = [] }) =
+      ap (λ k. slice_set d.progress n (record { phase = Open stamp k; replies = p.replies })) now ∙ ap (λ rs. slice_set d.progress n (record { phase = Open stamp (length d.ends); replies = rs })) (reads p read) in
+      let city : committed core ≡ committed d.core = λ i id. at (objects i) id in
+      let below = is_fresh.below in
+      let grown = is_fresh.more in
+      let attempt : IsAttempt e (commands_at d.scripts n) stamp (length d.ends) [] = record {
+        opened = opened;
+        begun = omega arith;
+        since = omega arith;
+        unfinished = some_there (commands_at d.scripts n) once;
+        unrefused = refl;
+        stands = stands;
+      } in
+      let turn : IsTurnOf d e n stamp (Open stamp (length d.ends)) [] = record {
+        there = within;
+        scripts = refl;
+        progress = moves;
+        begun = omega arith;
+        ends = omega arith;
+        others = keeps.others;
+        opened = keeps.opened;
+        own = opened;
+        was = is_fresh.was;
+        becomes = λ j h. some_eq j stamp (sym h);
+        alone = is_fresh.alone;
+        stands = attempt;
+      } in
+      let serial : IsSerial e changes base = kept_serial d changes base progress begun core n stamp (Open stamp (length d.ends)) [] s keeps.frame city turn (sym is_fresh.unended) in
+      record {
+        serial = serial;
+        room_left = room_now d names capacity progress begun core n (Open stamp (length d.ends)) [] r within moves (sym is_fresh.unended) (begun_room d n stamp begun (phase_of d n) its more);
+        turned = record {
+          keeps = record { start = refl; scripts = refl; taken = refl };
+          so = record { stamp = stamp; is_its = its; moves = moves; begun = more; ends = refl };
+        };
+        changes = counted d e changes changes [] base s serial (sym (append-nil changes));
+      }
+
+  due_unbegun : (p : Phase) → stamp_for d p ≡ Some stamp → IsDue d n p (length d.ends) (Outcome.NoMemory 0)
+  due_unbegun NotBegun e = (refl, refl)
+  due_unbegun (Idle t) e = (refl, refl)
+  due_unbegun (Open t since) e = absurd (cc)
+  due_unbegun Ended e = absurd (cc)
+
+  fits_unbegun : IsEndOf d.scripts (model_after d.scripts (at d.start.1) d.ends) (length d.ends) (end_of d n (length d.ends) (Outcome.NoMemory 0))
+  fits_unbegun =
+      let script : slice_get d.scripts n ≡ Some (slice_index_or d.scripts n ([], [])) = slice_get-get_or d.scripts n ([], []) there in
+      let m : CityMap = model_after d.scripts (at d.start.1) d.ends in
+      let nothing : HasResult m (commands_at d.scripts n) [] (Outcome.NoMemory 0) = no_room m (commands_at d.scripts n) once in
+      let heard : HasResult m (commands_at d.scripts n) (replies_of d n) (Outcome.NoMemory 0) = subst (λ (rs : List Reply). HasResult m (commands_at d.scripts n) rs (Outcome.NoMemory 0)) (sym is_fresh.unheard) nothing in
+      record {
+        script = slice_index_or d.scripts n ([], []);
+        is_there = script;
+        named = ap name_in script;
+        since = omega arith;
+        result = subst (λ (cs : List Command). HasResult m cs (replies_of d n) (Outcome.NoMemory 0)) (ap commands_of script) heard;
+      }
+
+  ended_unbegun : (ends : List End) (progress : List Progress) (names left : List (List ℕ)) (name : List ℕ) (capacity room : ℕ) → ends ≡ d.ends ++ end_of d n (length d.ends) (Outcome.NoMemory 0) ∷ []
+      → progress ≡ slice_set d.progress n (record { phase = Ended; replies = [] }) → HasRoom d names capacity → left ≡ slice_set names n name → room ≡ capacity → LeavesDesk n turns.Ended d (ended_at d ends progress d.core) left room changes changes base
+  ended_unbegun ends progress names left name capacity room more moves r taken same =
+      let last : End = end_of d n (length d.ends) (Outcome.NoMemory 0) in
+      let e : DeskState = ended_at d ends progress d.core in
+      let long : length ends ≡ length d.ends + 1 = ap length more ∙ length-append d.ends (last ∷ []) in
+      let turn : IsTurnOf d e n stamp Ended [] = record {
+        there = within;
+        scripts = refl;
+        progress = moves;
+        begun = omega arith;
+        ends = omega (arith, long);
+        others = λ t done ne h. h;
+        opened = λ t ne. refl;
+        own = false_by (is_open d.core stamp) is_fresh.closed;
+        was = is_fresh.was;
+        becomes = λ j h. absurd (cc);
+        alone = is_fresh.alone;
+        stands = refl;
+      } in
+      let serial : IsSerial e changes base = ended_serial d changes changes base ends progress d.core n stamp last s refl turn more refl there is_fresh.unended fits_unbegun s.city
+      (changes_kept d.scripts (at d.start.1) d.ends changes s.shelf last refl (model_more d.scripts d.ends last (at d.start.1))) in
+      record {
+        serial = serial;
+        room_left = room_ended d names left capacity room ends progress d.core n last name r within moves more is_fresh.unended taken same;
+        turned = record {
+          keeps = record { start = refl; scripts = refl; taken = refl };
+          so = record { since = length d.ends; outcome = Outcome.NoMemory 0; due = due_unbegun (phase_of d n) its; ends = more; moves = moves; begun = refl };
+        };
+        changes = counted d e changes changes [] base s serial (sym (append-nil changes));
+      }
+
+  pub turn_unbegun : (p w : Progress) (since : ℕ) (core : CoreState) (ends : List End) (names : List (List ℕ)) (name taken : List ℕ) (capacity room : ℕ) → p ≡ slice_index_or d.progress n p → since ≡ length d.ends → core ≡ d.core
+      → w ≡ record { phase = Ended; replies = [] } → ends ≡ d.ends ++ (record { script = n; name = name; since = since; replies = p.replies; outcome = Outcome.NoMemory 0 }) ∷ [] → name ≡ slice_index_or names n name
+      → HasRoom d names capacity → room ≡ capacity → LeavesDesk n turns.Ended d (ended_at d ends (slice_set d.progress n w) core) (slice_set names n taken) room changes changes base
+  turn_unbegun p w since core ends names name taken capacity room read now same over more named r long =
+      let called : name ≡ name_at d.scripts n = sym (name_there names n name (subst (λ k. n < k) (sym r.names_long) there) named) ∙ r.named n there is_fresh.unended in
+      let replies : p.replies ≡ replies_of d n = reads p read ∙ sym is_fresh.unheard in
+      let at_now : ends ≡ d.ends ++ (record { script = n; name = name; since = length d.ends; replies = p.replies; outcome = Outcome.NoMemory 0 }) ∷ [] =
+      more ∙ ap (λ k. d.ends ++ (record { script = n; name = name; since = k; replies = p.replies; outcome = Outcome.NoMemory 0 }) ∷ []) now in
+      subst (λ (k : CoreState). LeavesDesk n turns.Ended d (ended_at d ends (slice_set d.progress n w) k) (slice_set names n taken) room changes changes base) (sym same)
+      (ended_unbegun ends (slice_set d.progress n w) names (slice_set names n taken) taken capacity room
+      (end_as d.ends ends n (length d.ends) (Outcome.NoMemory 0) name (name_at d.scripts n) p.replies (replies_of d n) at_now called replies) (ap (slice_set d.progress n) over) r refl long)

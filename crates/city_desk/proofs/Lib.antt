@@ -1,0 +1,14 @@
+pub mod AloneRun
+pub mod AttemptSteps
+pub mod AttemptsKept
+pub mod BeginTurns
+pub mod Closed
+pub mod OpenTurns
+pub mod Opened
+pub mod ScriptReads
+pub mod RoomKept
+pub mod Scripted
+pub mod SerialKept
+pub mod Shelved
+pub mod Throughout
+pub mod Youngest

@@ -1,0 +1,366 @@
+-- What a turn of a script with an open transaction leaves.
+use Rattle.std.proofs.Common.{◌≡◌, ◌<◌, ◌≤◌, ◌+◌, ◌||◌, ℕ, suc, zero, Bool, true, false, List, [], ◌∷◌, ◌++◌, length, Option, Some, Ok, Err, refl, ap, sym, subst, ◌∙◌, arith, length-append, append-nil}
+use Rattle.std.specs.Prelude.{slice_set, slice_get, slice_index_or, IfSome}
+use Rattle.std.specs.List.{list_any}
+use Rattle.std.proofs.lemmas.Bool.{false≢true}
+use Rattle.std.proofs.lemmas.List.{set-get_or}
+use Rattle.std.proofs.lemmas.Option.{slice_get-get_or}
+use Rattle.city_model.specs.declared.command.Command.{Command}
+use Rattle.city_model.specs.declared.command.Command.TheVariants.{Commit}
+use Rattle.city_model.specs.declared.command.Reply.{Reply}
+use Rattle.city_model.specs.declared.end.End.{End}
+use Rattle.city_model.specs.declared.end.Outcome.{Outcome}
+use Rattle.city_model.specs.CityMap.{CityMap, at, CityValue}
+use Rattle.city_model.specs.Meaning.{is_refusal}
+use Rattle.city_model.specs.Runs.{Scripted, EndsAt, HasResult, IsEndOf, map_left, commands_of, model_after, Change, with_change, shown}
+use Rattle.city_model.specs.Scripts.{is_end, ends_once}
+use Rattle.city_model.specs.SerialEnds.{is_commit}
+use Rattle.city_model.specs.Standing.{Answered, answered, Follows}
+use Rattle.city_model.proofs.Fitting.{model_more}
+use Rattle.city_model.proofs.Replied.{goes_on, ends_later, answered_more, result_from, committed_from}
+use Rattle.city_txn.specs.CoreState.{CoreState, committed, view, is_open, held, Stands, KeepsOthers}
+use Rattle.city_txn.specs.Acting.{reply_in}
+use Rattle.city_desk.specs.declared.progress.Progress.{Progress}
+use Rattle.city_desk.specs.declared.progress.Phase.{Phase}
+use Rattle.city_desk.specs.declared.progress.Phase.TheVariants.{Idle, Open, Ended}
+use Rattle.city_desk.specs.declared.turn.Turn.{Turn}
+use Rattle.city_desk.specs.declared.turn.Turn.TheVariants as turns
+use Rattle.city_desk.specs.Attempt.{IsReplied, IsToWait, Publishes, AttemptEnded, HasGoneOn, HasStepped}
+use Rattle.city_desk.specs.DeskState.{DeskState, nowhere, phase_of, replies_of, commands_at, name_at, name_in, is_ended, is_open_phase, stamp_of}
+use Rattle.city_desk.specs.Room.{is_not_begun, HasRoom}
+use Rattle.city_desk.specs.Serial.{IsAttempt, StandsAs, AreChangesOf, IsSerial}
+use Rattle.city_desk.specs.Turning.{IsNext, IsOpenAt, IsDue, end_of, Turned, TurnedSo, GainsCommits}
+use Rattle.city_desk.proofs.AttemptsKept.{IsTurnOf}
+use Rattle.city_desk.proofs.ScriptReads.{once_of, commands_read, progress_at, next_at, name_there, end_as}
+use Rattle.city_desk.proofs.RoomKept.{one_if, place_left, room_now, room_ended}
+use Rattle.city_desk.proofs.SerialKept.{now_at, ended_at, kept_serial, ended_serial}
+use Rattle.city_desk.proofs.Shelved.{shows_all, changes_kept, changes_more, if_some_to}
+
+-- ---- all that a turn leaves of a desk
+
+pub record LeavesDesk (n : ℕ) (turn : Turn) (d e : DeskState) (names : List (List ℕ)) (room : ℕ) (before after : List Change) (base : Option CityValue) : Type 0 where
+  pub serial : IsSerial e after base
+  pub room_left : HasRoom e names room
+  pub turned : Turned n turn d e
+  pub changes : GainsCommits d.ends e.ends before after
+
+-- where both histories are serial the commits count the changes that were gained
+pub counted : (d e : DeskState) (before after gained : List Change) (base : Option CityValue) → IsSerial d before base → IsSerial e after base → after ≡ before ++ gained → GainsCommits d.ends e.ends before after
+counted d e before after gained base s t more =
+    let old = s.shelf.one_each in
+    let new = t.shelf.one_each in
+    let long : length after ≡ length before + length gained = ap length more ∙ length-append before gained in
+    (gained, more, omega arith)
+
+-- ---- lists
+
+pub some_there : (cs : List Command) → ends_once cs ≡ true → 0 < length cs
+some_there [] e = absurd (false≢true e)
+some_there (c ∷ cs) e = omega arith
+
+-- a command that goes on has another after it
+not_last : (cs : List Command) (k : ℕ) (c : Command) → ends_once cs ≡ true → slice_get cs k ≡ Some c → is_end c ≡ false → k + 1 < length cs
+not_last [] k c e h g = absurd (cc)
+not_last (d ∷ cs) zero c e h g =
+    let same : d ≡ c = cc in
+    let more = some_there cs (ends_later d cs e (ap is_end same ∙ g)) in
+    omega arith
+not_last (d ∷ cs) (suc k) c e h g =
+    let more = not_last cs k c (ends_later d cs e (goes_on d cs k c e h)) h g in
+    omega arith
+
+parts : (a b c : Bool) → (a || b) ≡ false → (b ≡ false → c ≡ false) → (a || c) ≡ false
+parts true b c h f = h
+parts false b c h f = f h
+
+any_more : (rs : List Reply) (r : Reply) → list_any is_refusal rs ≡ false → is_refusal r ≡ false → list_any is_refusal (rs ++ r ∷ []) ≡ false
+any_more [] r h u = ap (λ b. b || false) u
+any_more (s ∷ rs) r h u = parts (is_refusal s) (list_any is_refusal rs) (list_any is_refusal (rs ++ r ∷ [])) h (λ g. any_more rs r g u)
+
+-- ---- outcomes
+
+left_same : (m : CityMap) (cs : List Command) (o : Outcome) → is_commit o ≡ false → map_left m cs o ≡ m
+left_same m cs Outcome.Committed h = absurd (false≢true (sym h))
+left_same m cs Outcome.Aborted h = refl
+left_same m cs (Outcome.Refused i cause) h = refl
+left_same m cs (Outcome.NoMemory i) h = refl
+
+commits : (m : CityMap) (c : Command) (i : ℕ) (o : Outcome) → is_commit o ≡ true → EndsAt m c i o → (o ≡ Outcome.Committed) × (c ≡ Commit)
+commits m c i Outcome.Committed h e = (refl, e.0)
+commits m c i Outcome.Aborted h e = absurd (false≢true h)
+commits m c i (Outcome.Refused j cause) h e = absurd (false≢true h)
+commits m c i (Outcome.NoMemory j) h e = absurd (false≢true h)
+
+gained_by : (b : Bool) (stamp : ℕ) (v w : CoreState) (before after : List Change) → Publishes b stamp v w before after → (gained : List Change) × (after ≡ before ++ gained)
+gained_by true stamp v w before after p = (p.1.0 ∷ [], p.1.1)
+gained_by false stamp v w before after p = ([], p.1 ∙ sym (append-nil before))
+
+-- ---- a script with an open transaction
+
+-- the shelf shows the committed city
+pub shows_core : (d : DeskState) (changes : List Change) (base : Option CityValue) → IsSerial d changes base → IfSome base (λ city. shown (at city.1) changes ≡ committed d.core)
+shows_core d changes base s = if_some_to base (λ city. city ≡ d.start) (λ city. shown (at city.1) changes ≡ committed d.core)
+    (λ city same. ap (λ (x : CityValue). shown (at x.1) changes) same ∙ (shows_all d.scripts (at d.start.1) d.ends changes s.shelf ∙ sym s.city))
+    s.based
+
+stamp_same : (a b : ℕ) → Some a ≡ Some b → b ≡ a
+stamp_same a b e = cc
+
+module _ (d : DeskState) (changes : List Change) (base : Option CityValue) (n stamp since : ℕ) (s : IsSerial d changes base)
+    (is : phase_of d n ≡ Open stamp since) (there : n < length d.scripts) where
+  pub attempt : IsAttempt d (commands_at d.scripts n) stamp since (replies_of d n)
+  attempt = subst (λ p. StandsAs d (commands_at d.scripts n) p (replies_of d n)) is (s.standing.each n)
+
+  within : n < length d.progress
+  within = subst (λ k. n < k) (sym s.of_each) there
+
+  once : ends_once (commands_at d.scripts n) ≡ true
+  once = once_of d.scripts n s.scripted there
+
+  going : is_ended (phase_of d n) ≡ false
+  going = ap is_ended is
+
+  -- while it is open there is a place for its end
+  pub place_open : (names : List (List ℕ)) (capacity : ℕ) → HasRoom d names capacity → length d.ends < capacity
+  place_open names capacity r =
+      let few = place_left d names capacity n r s.of_each within going in
+      let places = r.places in
+      omega arith
+
+  pub unfinished_at : (x : Scripted) (cs : List Command) (p : Progress) → x ≡ slice_index_or d.scripts n x → cs ≡ x.1 → p ≡ slice_index_or d.progress n p → length p.replies < length cs
+  unfinished_at x cs p script list read =
+      let all : commands_at d.scripts n ≡ cs = commands_read d.scripts n x there script ∙ sym list in
+      let heard : length (replies_of d n) ≡ length p.replies = ap (λ (q : Progress). length q.replies) (progress_at d.progress n p within read) in
+      let less = attempt.unfinished in
+      let long : length (commands_at d.scripts n) ≡ length cs = ap length all in
+      omega arith
+
+  turn_of : (e : DeskState) (phase : Phase) (replies : List Reply)
+      → e.scripts ≡ d.scripts → e.progress ≡ slice_set d.progress n (record { phase = phase; replies = replies }) → d.begun ≤ e.begun → length d.ends ≤ length e.ends
+      → KeepsOthers stamp d.core e.core → is_open e.core stamp ≡ is_open_phase phase → ((t : ℕ) → stamp_of phase ≡ Some t → t ≡ stamp)
+      → StandsAs e (commands_at d.scripts n) phase replies → IsTurnOf d e n stamp phase replies
+  turn_of e phase replies scripts progress begun ends k own becomes stands = record {
+    there = within;
+    scripts = scripts;
+    progress = progress;
+    begun = begun;
+    ends = ends;
+    others = k.others;
+    opened = k.opened;
+    own = own;
+    was = λ t h. stamp_same stamp t (sym (ap stamp_of is) ∙ h);
+    becomes = becomes;
+    alone = λ j h. s.standing.apart j n stamp h (ap stamp_of is);
+    stands = stands;
+  }
+
+  open_at : (t : ℕ) → is_open d.core t ≡ true → IsOpenAt d t
+  open_at t opened = let owner = s.standing.owner t opened in record { script = owner.0; began = owner.1; phase = owner.2 }
+
+  module _ (command : Command) (next : slice_get (commands_at d.scripts n) (length (replies_of d n)) ≡ Some command) (core : CoreState) (after : List Change) where
+    is_next : IsNext d n stamp since command
+    is_next = record { phase = is; next = next }
+
+    abbrev now : List Progress → DeskState
+    now progress = now_at d progress d.begun core
+
+    -- ---- its script goes on
+
+    leaves : (turn : Turn) (progress : List Progress) (phase : Phase) (replies : List Reply) (names : List (List ℕ)) (capacity : ℕ) → progress ≡ slice_set d.progress n (record { phase = phase; replies = replies }) → KeepsOthers stamp d.core core → committed core ≡ committed d.core → after ≡ changes
+        → is_open core stamp ≡ is_open_phase phase → ((t : ℕ) → stamp_of phase ≡ Some t → t ≡ stamp) → StandsAs (now progress) (commands_at d.scripts n) phase replies → is_ended phase ≡ false → is_not_begun phase ≡ false
+        → HasRoom d names capacity → TurnedSo d (now progress) n turn → LeavesDesk n turn d (now progress) names capacity changes after base
+    leaves turn progress phase replies names capacity moves k city same own becomes stands on begun r so =
+        let made = turn_of (now progress) phase replies refl moves (omega arith) (omega arith) k own becomes stands in
+        let serial : IsSerial (now progress) after base = subst (λ cs. IsSerial (now progress) cs base) (sym same)
+        (kept_serial d changes base progress d.begun core n stamp phase replies s k.frame city made (on ∙ sym going)) in
+        let none : one_if (is_not_begun phase) ≡ 0 = ap one_if begun in
+        record {
+          serial = serial;
+          room_left = room_now d names capacity progress d.begun core n phase replies r within moves (on ∙ sym going) (omega arith);
+          turned = record { keeps = record { start = refl; scripts = refl; taken = refl }; so = so };
+          changes = counted d (now progress) changes after [] base s serial (same ∙ sym (append-nil changes));
+        }
+
+    abbrev heard : Progress
+    heard = record { phase = Open stamp since; replies = replies_of d n ++ reply_in d.core stamp command ∷ [] }
+
+    replied_stands : (p q : Progress) (progress : List Progress) → IsReplied stamp command p q d.core core → IsAttempt (now progress) (commands_at d.scripts n) stamp since heard.replies
+    replied_stands p q progress h =
+        let more : length heard.replies ≡ length (replies_of d n) + 1 = length-append (replies_of d n) (reply_in d.core stamp command ∷ []) in
+        let last = not_last (commands_at d.scripts n) (length (replies_of d n)) command once next h.goes_on in
+        record {
+          opened = h.opened;
+          begun = attempt.begun;
+          since = attempt.since;
+          unfinished = omega arith;
+          unrefused = any_more (replies_of d n) (reply_in d.core stamp command) attempt.unrefused h.unrefused;
+          stands = subst (λ (l : List Answered). Stands core stamp l) (sym (answered_more (commands_at d.scripts n) (replies_of d n) command (reply_in d.core stamp command) next)) (h.stands (answered (commands_at d.scripts n) (replies_of d n)) attempt.stands);
+        }
+
+    waiting_stands : (p q : Progress) (progress : List Progress) → IsToWait stamp command p q d.core core → IsAttempt (now progress) (commands_at d.scripts n) stamp since (replies_of d n)
+    waiting_stands p q progress h = record {
+      opened = h.opened;
+      begun = attempt.begun;
+      since = attempt.since;
+      unfinished = attempt.unfinished;
+      unrefused = attempt.unrefused;
+      stands = h.stands (answered (commands_at d.scripts n) (replies_of d n)) attempt.stands;
+    }
+
+    as_read : (p q : Progress) → q ≡ p → slice_index_or d.progress n nowhere ≡ p → q ≡ record { phase = Open stamp since; replies = replies_of d n }
+    as_read p q same read = same ∙ (sym read ∙ ap (λ (f : Phase). record { phase = f; replies = replies_of d n }) is)
+
+    pub went_on : (turn : Turn) (p q : Progress) (names : List (List ℕ)) (capacity : ℕ) → slice_index_or d.progress n nowhere ≡ p → HasGoneOn stamp command turn p q d.core core changes after
+        → HasRoom d names capacity → LeavesDesk n turn d (now (slice_set d.progress n q)) names capacity changes after base
+    went_on turns.Began p q names capacity read h r = absurd h.so
+    went_on turns.Replied p q names capacity read h r =
+        let phase : p.phase ≡ Open stamp since = sym (ap (λ (x : Progress). x.phase) read) ∙ is in
+        let made : q ≡ heard = h.so.heard ∙ (ap (λ f. record { phase = f; replies = p.replies ++ reply_in d.core stamp command ∷ [] }) phase ∙ ap (λ (x : Progress). record { phase = Open stamp since; replies = x.replies ++ reply_in d.core stamp command ∷ [] }) (sym read)) in
+        let moves : slice_set d.progress n q ≡ slice_set d.progress n heard = ap (slice_set d.progress n) made in
+        leaves turns.Replied (slice_set d.progress n q) (Open stamp since) heard.replies names capacity moves h.keeps h.city h.changes h.so.opened (λ t e. stamp_same stamp t e)
+        (replied_stands p q (slice_set d.progress n q) h.so) refl refl r (record {
+          stamp = stamp;
+          since = since;
+          is = record { command = command; next = is_next; goes_on = h.so.goes_on; answered = h.so.granted };
+          unrefused = h.so.unrefused;
+          moves = moves;
+          begun = refl;
+          ends = refl;
+        })
+    went_on turns.Waits p q names capacity read h r =
+        let moves : slice_set d.progress n q ≡ slice_set d.progress n (record { phase = Open stamp since; replies = replies_of d n }) = ap (slice_set d.progress n) (as_read p q h.so.same read) in
+        let same : slice_set d.progress n q ≡ d.progress = ap (slice_set d.progress n) (h.so.same ∙ sym read) ∙ set-get_or d.progress n nowhere in
+        leaves turns.Waits (slice_set d.progress n q) (Open stamp since) (replies_of d n) names capacity moves h.keeps h.city h.changes h.so.opened (λ t e. stamp_same stamp t e)
+        (waiting_stands p q (slice_set d.progress n q) h.so) refl refl r (record {
+          waits = record {
+            stamp = stamp;
+            since = since;
+            is = record { command = command; next = is_next; goes_on = h.so.goes_on; answered = h.so.waits };
+            other = h.so.blocked.0;
+            younger = h.so.blocked.1;
+            opened = open_at h.so.blocked.0 h.so.blocked.2;
+          };
+          progress = same;
+          begun = refl;
+          ends = refl;
+        })
+    went_on turns.Died p q names capacity read h r =
+        let moves : slice_set d.progress n q ≡ slice_set d.progress n (record { phase = Idle stamp; replies = [] }) = ap (slice_set d.progress n) h.so.idle in
+        leaves turns.Died (slice_set d.progress n q) (Idle stamp) [] names capacity moves h.keeps h.city h.changes h.so.closed (λ t e. stamp_same stamp t e) (refl, attempt.begun) refl refl r (record {
+          stamp = stamp;
+          since = since;
+          is = record { command = command; next = is_next; goes_on = h.so.goes_on; answered = h.so.dies };
+          other = h.so.blocked.0;
+          older = h.so.blocked.1;
+          opened = open_at h.so.blocked.0 h.so.blocked.2;
+          moves = moves;
+          begun = refl;
+          ends = refl;
+        })
+    went_on turns.Ended p q names capacity read h r = absurd h.so
+    went_on turns.AlreadyEnded p q names capacity read h r = absurd h.so
+
+    -- ---- its script ends
+
+    script_there : slice_get d.scripts n ≡ Some (slice_index_or d.scripts n ([], []))
+    script_there = slice_get-get_or d.scripts n ([], []) there
+
+    abbrev model : CityMap
+    model = model_after d.scripts (at d.start.1) d.ends
+
+    stands_on_model : Follows (held d.core stamp) model (answered (commands_at d.scripts n) (replies_of d n)) (view d.core stamp)
+    stands_on_model = subst (λ (m : CityMap). Follows (held d.core stamp) m (answered (commands_at d.scripts n) (replies_of d n)) (view d.core stamp)) s.city attempt.stands
+
+    result : (outcome : Outcome) → EndsAt (view d.core stamp) command (length (replies_of d n)) outcome → HasResult model (commands_at d.scripts n) (replies_of d n) outcome
+    result outcome e =
+        let number : length (replies_of d n) ≡ 0 + length (replies_of d n) = omega arith in
+        result_from (held d.core stamp) model (view d.core stamp) 0 (commands_at d.scripts n) (replies_of d n) command outcome
+        stands_on_model attempt.unrefused once next (subst (λ i. EndsAt (view d.core stamp) command i outcome) number e)
+
+    fits_here : (outcome : Outcome) → EndsAt (view d.core stamp) command (length (replies_of d n)) outcome → IsEndOf d.scripts model (length d.ends) (end_of d n since outcome)
+    fits_here outcome e = record {
+      script = slice_index_or d.scripts n ([], []);
+      is_there = script_there;
+      named = ap name_in script_there;
+      since = attempt.since;
+      result = subst (λ (cs : List Command). HasResult model cs (replies_of d n) outcome) (ap commands_of script_there) (result outcome e);
+    }
+
+    published : (outcome : Outcome) (b : Bool) → is_commit outcome ≡ b → EndsAt (view d.core stamp) command (length (replies_of d n)) outcome → Publishes b stamp d.core core changes after
+        → (committed core ≡ map_left model (commands_at d.scripts n) outcome) × AreChangesOf d.scripts (at d.start.1) (d.ends ++ end_of d n since outcome ∷ []) after
+    published outcome true one e p =
+        let by = commits (view d.core stamp) command (length (replies_of d n)) outcome one e in
+        let last : slice_get (commands_at d.scripts n) (length (replies_of d n)) ≡ Some Commit = next ∙ ap Some by.1 in
+        let left : map_left model (commands_at d.scripts n) outcome ≡ view d.core stamp =
+        ap (map_left model (commands_at d.scripts n)) by.0
+        ∙ committed_from (held d.core stamp) model (view d.core stamp) (commands_at d.scripts n) (replies_of d n) stands_on_model once last in
+        let made : model_after d.scripts (at d.start.1) (d.ends ++ end_of d n since outcome ∷ []) ≡ with_change model p.1.0 =
+        model_more d.scripts d.ends (end_of d n since outcome) (at d.start.1) ∙ (left ∙ (sym p.1.2 ∙ ap (λ m. with_change m p.1.0) s.city)) in (
+          p.0 ∙ sym left,
+          subst (λ cs. AreChangesOf d.scripts (at d.start.1) (d.ends ++ end_of d n since outcome ∷ []) cs) (sym p.1.1)
+              (changes_more d.scripts (at d.start.1) d.ends changes s.shelf (end_of d n since outcome) p.1.0 one made),
+        )
+    published outcome false one e p =
+        let left : map_left model (commands_at d.scripts n) outcome ≡ model = left_same model (commands_at d.scripts n) outcome one in (
+          p.0 ∙ (s.city ∙ sym left),
+          subst (λ cs. AreChangesOf d.scripts (at d.start.1) (d.ends ++ end_of d n since outcome ∷ []) cs) (sym p.1)
+              (changes_kept d.scripts (at d.start.1) d.ends changes s.shelf (end_of d n since outcome) one (model_more d.scripts d.ends (end_of d n since outcome) (at d.start.1) ∙ left)),
+        )
+
+    pub ended : (outcome : Outcome) (ends : List End) (progress : List Progress) (names left : List (List ℕ)) (name : List ℕ) (capacity room : ℕ)
+        → AttemptEnded stamp command (length (replies_of d n)) outcome d.core core changes after → ends ≡ d.ends ++ end_of d n since outcome ∷ [] → progress ≡ slice_set d.progress n (record { phase = Ended; replies = [] })
+        → HasRoom d names capacity → left ≡ slice_set names n name → room ≡ capacity → LeavesDesk n turns.Ended d (ended_at d ends progress core) left room changes after base
+    ended outcome ends progress names left name capacity room h more moves r taken same =
+        let e : DeskState = ended_at d ends progress core in
+        let long : length ends ≡ length d.ends + 1 = ap length more ∙ length-append d.ends (end_of d n since outcome ∷ []) in
+        let turn = turn_of e Ended [] refl moves (omega arith) (omega (arith, long)) h.keeps h.closed (λ j k. absurd (cc)) refl in
+        let both = published outcome (is_commit outcome) refl h.ends h.publishes in
+        let serial : IsSerial e after base = ended_serial d changes after base ends progress core n stamp (end_of d n since outcome) s h.keeps.frame turn more refl there going (fits_here outcome h.ends) both.0 both.1 in
+        let gained = gained_by (is_commit outcome) stamp d.core core changes after h.publishes in
+        record {
+          serial = serial;
+          room_left = room_ended d names left capacity room ends progress core n (end_of d n since outcome) name r within moves more going taken same;
+          turned = record {
+            keeps = record { start = refl; scripts = refl; taken = refl };
+            so = record {
+              since = since;
+              outcome = outcome;
+              due = subst (λ p. IsDue d n p since outcome) (sym is) (refl, record { command = command; next = is_next; ends = h.ends; granted = h.granted });
+              ends = more;
+              moves = moves;
+              begun = refl;
+            };
+          };
+          changes = counted d e changes after gained.0 base s serial gained.1;
+        }
+
+  -- ---- as the code reads the script and its progress, and writes its end
+
+  module _ (p : Progress) (x : Scripted) (cs : List Command) (number : ℕ) (command : Command) (read : p ≡ slice_index_or d.progress n p) (script : x ≡ slice_index_or d.scripts n x) (list : cs ≡ x.1)
+      (count : number ≡ length p.replies) (at_number : command ≡ slice_index_or cs number command) where
+    reads : slice_index_or d.progress n nowhere ≡ p
+    reads = progress_at d.progress n p within read
+
+    heard_so_far : replies_of d n ≡ p.replies
+    heard_so_far = ap (λ (q : Progress). q.replies) reads
+
+    next_read : slice_get (commands_at d.scripts n) (length (replies_of d n)) ≡ Some command
+    next_read =
+        let here : command ≡ slice_index_or cs (length (replies_of d n)) command = subst (λ k. command ≡ slice_index_or cs k command) (count ∙ sym (ap length heard_so_far)) at_number in
+        let few : length (replies_of d n) ≡ length p.replies = ap length heard_so_far in
+        let less = unfinished_at x cs p script list read in
+        next_at d.scripts n x cs (length (replies_of d n)) command there script list (omega arith) here
+
+    pub turn_goes_on : (turn : Turn) (q : Progress) (core : CoreState) (after : List Change) (names : List (List ℕ)) (capacity : ℕ) → HasStepped stamp command (Ok turn) p q d.core core changes after
+        → HasRoom d names capacity → LeavesDesk n turn d (now_at d (slice_set d.progress n q) d.begun core) names capacity changes after base
+    turn_goes_on turn q core after names capacity h r = went_on command next_read core after turn p q names capacity reads h r
+
+    pub turn_ends : (outcome : Outcome) (q w : Progress) (core : CoreState) (after : List Change) (ends : List End) (names : List (List ℕ)) (name taken : List ℕ) (capacity room : ℕ) → HasStepped stamp command (Err outcome) p q d.core core changes after
+        → w ≡ record { phase = Ended; replies = [] } → ends ≡ d.ends ++ (record { script = n; name = name; since = since; replies = q.replies; outcome = outcome }) ∷ [] → name ≡ slice_index_or names n name
+        → HasRoom d names capacity → room ≡ capacity → LeavesDesk n turns.Ended d (ended_at d ends (slice_set d.progress n w) core) (slice_set names n taken) room changes after base
+    turn_ends outcome q w core after ends names name taken capacity room h over more named r same =
+        let called : name ≡ name_at d.scripts n = sym (name_there names n name (subst (λ k. n < k) (sym r.names_long) there) named) ∙ r.named n there going in
+        let replies : q.replies ≡ replies_of d n = ap (λ (y : Progress). y.replies) h.0 ∙ sym heard_so_far in
+        let step : AttemptEnded stamp command (length (replies_of d n)) outcome d.core core changes after = subst (λ (rs : List Reply). AttemptEnded stamp command (length rs) outcome d.core core changes after) (sym heard_so_far) h.1 in
+        ended command next_read core after outcome ends (slice_set d.progress n w) names (slice_set names n taken) taken capacity room step
+        (end_as d.ends ends n since outcome name (name_at d.scripts n) q.replies (replies_of d n) more called replies) (ap (slice_set d.progress n) over) r refl same

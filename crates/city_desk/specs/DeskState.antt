@@ -1,0 +1,72 @@
+-- What contracts see of a desk: its opening city and scripts, the ends so far, how far each script is, and
+-- its core.
+use Rattle.std.specs.Prelude.{ℕ, Bool, true, false, List, [], Option, None, Some, slice_get, slice_index_or}
+use Rattle.city_model.specs.declared.command.Command.{Command}
+use Rattle.city_model.specs.declared.command.Reply.{Reply}
+use Rattle.city_model.specs.declared.end.End.{End}
+use Rattle.city_model.specs.Runs.{Scripted, commands_of}
+use Rattle.city_txn.specs.CoreState.{CoreState}
+use Rattle.city_model.specs.CityMap.{CityValue}
+use Rattle.city_desk.specs.declared.progress.Progress.{Progress}
+use Rattle.city_desk.specs.declared.progress.Phase.{Phase}
+use Rattle.city_desk.specs.declared.progress.Phase.TheVariants.{NotBegun, Idle, Open, Ended}
+
+pub record DeskState : Type 0 where
+  -- the city that the desk was opened over
+  pub start : CityValue
+  pub scripts : List Scripted
+  -- the ends, in the order in which they came
+  pub ends : List End
+  -- how many scripts were handed out
+  pub taken : ℕ
+  -- how many scripts have begun
+  pub begun : ℕ
+  -- how far each script is
+  pub progress : List Progress
+  pub core : CoreState
+
+-- how far a script is that isn't there
+abbrev pub nowhere : Progress
+nowhere = record { phase = Ended; replies = [] }
+
+abbrev pub phase_in : List Progress → ℕ → Phase
+phase_in progress n = (slice_index_or progress n nowhere).phase
+
+abbrev pub replies_in : List Progress → ℕ → List Reply
+replies_in progress n = (slice_index_or progress n nowhere).replies
+
+abbrev pub phase_of : DeskState → ℕ → Phase
+phase_of d n = phase_in d.progress n
+
+-- the replies of the script's open transaction
+abbrev pub replies_of : DeskState → ℕ → List Reply
+replies_of d n = replies_in d.progress n
+
+abbrev pub commands_at : List Scripted → ℕ → List Command
+commands_at scripts n = commands_of (slice_get scripts n)
+
+abbrev pub name_in : Option Scripted → List ℕ
+name_in None = []
+name_in (Some s) = s.0
+
+abbrev pub name_at : List Scripted → ℕ → List ℕ
+name_at scripts n = name_in (slice_get scripts n)
+
+abbrev pub is_ended : Phase → Bool
+is_ended NotBegun = false
+is_ended (Idle stamp) = false
+is_ended (Open stamp since) = false
+is_ended Ended = true
+
+abbrev pub is_open_phase : Phase → Bool
+is_open_phase NotBegun = false
+is_open_phase (Idle stamp) = false
+is_open_phase (Open stamp since) = true
+is_open_phase Ended = false
+
+-- the stamp that the script keeps until it ends
+abbrev pub stamp_of : Phase → Option ℕ
+stamp_of NotBegun = None
+stamp_of (Idle stamp) = Some stamp
+stamp_of (Open stamp since) = Some stamp
+stamp_of Ended = None

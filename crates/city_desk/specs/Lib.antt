@@ -1,0 +1,9 @@
+pub mod Attempt
+pub mod Closing
+pub mod DeskState
+pub mod InTurn
+pub mod Opening
+pub mod Ready
+pub mod Room
+pub mod Serial
+pub mod Turning

@@ -1,0 +1,28 @@
+-- A desk as it is opened.
+use Rattle.std.specs.Prelude.{ℕ, List, [], map}
+use Rattle.city_model.specs.Runs.{Scripted}
+use Rattle.city_model.specs.CityMap.{CityValue}
+use Rattle.city_desk.specs.declared.progress.Progress.{Progress}
+use Rattle.city_desk.specs.declared.progress.Phase.TheVariants.{NotBegun}
+use Rattle.city_desk.specs.DeskState.{DeskState}
+
+abbrev pub unbegun : Progress
+unbegun = record { phase = NotBegun; replies = [] }
+
+abbrev pub unbegun_each : List Scripted → List Progress
+unbegun_each scripts = map (λ script. unbegun) scripts
+
+abbrev pub names_of : List Scripted → List (List ℕ)
+names_of scripts = map (λ script. script.0) scripts
+
+-- over this city, with these scripts, none of them begun or handed out
+abbrev pub opened : CityValue → List Scripted → DeskState
+opened city scripts = record {
+  start = city;
+  scripts = scripts;
+  ends = [];
+  taken = 0;
+  begun = 0;
+  progress = unbegun_each scripts;
+  core = record { frame = city.0; city = city.1; writes = []; opened = []; locks = [] };
+}

@@ -1,0 +1,108 @@
+//! Where a desk puts the changes of its commits.
+ghost use Rattle.std.specs.Prelude.{◌≡◌, ◌+◌, ◌<◌, ◌^◌, ℕ, List, [], ◌∷◌, ◌++◌, length, Option, None, IfSome, IfOk, IsOk, OnOk, OnErr};
+ghost use Rattle.city_model.specs.CityMap.{at, CityValue};
+ghost use Rattle.city_model.specs.Relations.{IsLawful};
+ghost use Rattle.city_model.specs.Runs.{Change, shown};
+
+use city_model::OutOfMemory;
+use city_model::change::Change;
+use city_model::sequence::Sequence;
+use std::alloc::Global;
+use std::marker::Model;
+use std::sync::Wait;
+
+/// What takes the change of each commit, and can show them.
+///
+/// A shelf stands for a list of changes, and may have a base city and a name, which no call
+/// changes.
+pub trait Shelf: Drop {
+    /// What tells of the list as it was shown.
+    type Note: Drop + Send;
+
+    /// The changes that it took.
+    ghost list: { Self → List Change };
+    /// The city that they begin from, if it has one.
+    ghost base: { Self → Option CityValue };
+
+    ghost name: { Self → List ℕ };
+    /// The note stands for the list.
+    ghost tells: { Self → Self.Note → Type 0 };
+
+    /// Takes a change; where there is no memory the list stays.
+    fn take(&mut self, change: Change) -> Result<(), OutOfMemory>
+        requires room { length (list self.old) + 1 < 2 ^ 64 }
+        requires lawful { IfSome (base self.old) (λ city. IsLawful (shown (at city.1) (list self.old ++ change ∷ []))) }
+        ensures ok { OnOk result (list self.new ≡ list self.old ++ change ∷ []) }
+        ensures err { OnErr result (list self.new ≡ list self.old) }
+        ensures base { base self.new ≡ base self.old }
+        ensures name { name self.new ≡ name self.old };
+
+    /// Shows the list as it is; the list stays.
+    fn show<R: Wait>(&mut self, rt: &R) -> Result<Self::Note, OutOfMemory>
+        ensures list { list self.new ≡ list self.old }
+        ensures base { base self.new ≡ base self.old }
+        ensures name { name self.new ≡ name self.old }
+        ensures note { IfOk result (λ note. tells self.new note) };
+}
+
+/// The plain shelf: a list of changes that nobody looks at meanwhile.
+#[derive(Drop)]
+pub struct ListShelf {
+    changes: Sequence<Change>,
+}
+
+impl Model for ListShelf {
+    ghost use Rattle.city_model.specs.Runs.{Change};
+    ghost use Rattle.std.specs.Prelude.{List};
+
+    ghost Value = { List Change };
+
+    ghost use Rattle.std.specs.Coded.{codes};
+    ghost use Rattle.city_model.specs.DataCode.{coded_members};
+
+    ghost coded = { Prim.hlevel (codes, coded_members) };
+
+    ghost view = { λ s. s.changes };
+}
+
+impl ListShelf {
+    /// A shelf with no changes. Takes no memory.
+    pub fn new(alloc: Global) -> ListShelf
+        ensures { result ≡ [] }
+    {
+        ListShelf {
+            changes: Sequence::new(alloc),
+        }
+    }
+
+    /// The changes that it took. Takes no memory.
+    pub fn changes(&self) -> &[Change]
+        ensures { result.now ≡ self.now }
+    {
+        self.changes.as_slice()
+    }
+}
+
+impl Shelf for ListShelf {
+    type Note = ();
+
+    ghost list = { λ shelf. shelf };
+
+    ghost base = { λ shelf. None };
+
+    ghost name = { λ shelf. [] };
+
+    ghost tells = { λ shelf note. Unit {0} };
+
+    fn take(&mut self, change: Change) -> Result<(), OutOfMemory> {
+        self.changes.push(change)
+    }
+
+    /// Takes no memory, and answers Ok.
+    fn show<R: Wait>(&mut self, _rt: &R) -> Result<(), OutOfMemory>
+        ensures list { self.new ≡ self.old }
+        ensures ok { IsOk result }
+    {
+        Ok(())
+    }
+}
