@@ -1,5 +1,5 @@
 //! Shells and rings of worked examples, as they stand in documents.
-use crate::samples::{body, empty_city, geometry, point, surface, text, unrelated};
+use crate::samples::{body, empty_city, geometry, one, point, unrelated, with_object};
 use city_model::body_fault::body_fault;
 use city_model::city::City;
 use city_model::command::Cause;
@@ -9,7 +9,7 @@ use city_model::object_type::ObjectType;
 use city_model::rings::{has_same_twice, has_short_ring};
 use city_model::sequence::Sequence;
 use city_model::shells::{has_open_shell, shell_closed};
-use std::alloc::Global;
+use std::alloc::{AllocError, Global};
 use std::test::Fail;
 
 const CORNERS: [(i64, i64, i64); 8] = [
@@ -42,26 +42,22 @@ fn ring(alloc: Global, corners: &[usize]) -> Result<Ring, Fail> {
 
 /// A list of one surface, which has no hole.
 fn surfaces(alloc: Global, corners: &[usize]) -> Result<Sequence<Surface>, Fail> {
-    let surface = surface(alloc, ring(alloc, corners)?)?;
-    let mut surfaces = Sequence::new(alloc);
-    surfaces.push(surface)?;
-    Ok(surfaces)
+    let surface = one(alloc, ring(alloc, corners)?)?;
+    Ok(one(alloc, surface)?)
 }
 
 /// The unit cube, with this face above.
 fn cube(alloc: Global, above: &[usize]) -> Result<Shell, Fail> {
     let mut shell = surfaces(alloc, &BELOW)?;
-    shell.push(surface(alloc, ring(alloc, above)?)?)?;
+    shell.push(one(alloc, ring(alloc, above)?)?)?;
     for side in &SIDES {
-        shell.push(surface(alloc, ring(alloc, side)?)?)?;
+        shell.push(one(alloc, ring(alloc, side)?)?)?;
     }
     Ok(shell)
 }
 
-fn solid(alloc: Global, shell: Shell) -> Result<Shape, Fail> {
-    let mut shells = Sequence::new(alloc);
-    shells.push(shell)?;
-    Ok(Shape::Solid(shells))
+fn solid(alloc: Global, shell: Shell) -> Result<Shape, AllocError> {
+    Ok(Shape::Solid(one(alloc, shell)?))
 }
 
 fn building(alloc: Global, shapes: Vec<Shape>) -> Result<Body, Fail> {
@@ -75,10 +71,9 @@ fn building(alloc: Global, shapes: Vec<Shape>) -> Result<Body, Fail> {
 /// A city with one building, of this shell.
 fn city_of(alloc: Global, shell: Shell) -> Result<City, Fail> {
     let shape = solid(alloc, shell)?;
-    let body = building(alloc, vec![in alloc; shape]?)?;
-    let mut city = empty_city(alloc, [0, 0, 0], "{}")?;
-    drop(city.set(text(alloc, "c")?, unrelated(alloc, body))?);
-    Ok(city)
+    let building = building(alloc, vec![in alloc; shape]?)?;
+    let city = empty_city(alloc, [0, 0, 0], "{}")?;
+    with_object(alloc, city, "c", unrelated(alloc, building))
 }
 
 fn fault_of(alloc: Global, shapes: Vec<Shape>) -> Result<&'static str, Fail> {
@@ -132,7 +127,7 @@ fn shape(alloc: Global, drawn: &Drawn) -> Result<Shape, Fail> {
     let (name, corners) = *drawn;
     let surfaces = surfaces(alloc, corners)?;
     if name == "Solid" {
-        solid(alloc, surfaces)
+        Ok(solid(alloc, surfaces)?)
     } else {
         Ok(Shape::MultiSurface(surfaces))
     }
