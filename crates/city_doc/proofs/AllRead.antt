@@ -1,9 +1,10 @@
 -- Lists each of whose items is read.
-use Rattle.std.proofs.Common.{◌≡◌, ℕ, zero, suc, List, [], ◌∷◌, Bool, true, Option, Some, None, ◌++◌, option_map, refl, sym, ap, ◌∙◌, append_assoc}
+use Rattle.std.proofs.Common.{◌≡◌, ℕ, zero, suc, List, [], ◌∷◌, Bool, true, Option, Some, None, ◌++◌, option_map, refl, sym, ap, ◌∙◌}
 use Rattle.std.specs.Prelude.{option_and_then, slice_get}
 use Rattle.std.specs.List.{list_all}
 use Rattle.std.proofs.lemmas.Bool.{and_parts}
 use Rattle.city_doc.specs.ScriptTrees.{all_read}
+use Rattle.city_doc.proofs.Options.{map_grown}
 
 pub in_all : {A : Type 0} (test : A → Bool) (xs : List A) (n : ℕ) (x : A) → list_all test xs ≡ true → slice_get xs n ≡ Some x → test x ≡ true
 in_all test [] n x h at = absurd (let no : ⊥ = cc in no)
@@ -52,14 +53,10 @@ all_read-all read ok test one (x ∷ xs) ys pass h =
 
 -- ---- a step of a loop that reads
 
-read_more : {B : Type 0} (r : Option (List B)) (done : List B) (y : B) → option_map (λ ys. done ++ ys) (option_map (λ ys. y ∷ ys) r) ≡ option_map (λ ys. (done ++ y ∷ []) ++ ys) r
-read_more None done y = refl
-read_more (Some ys) done y = ap Some (sym (append_assoc done (y ∷ []) ys))
-
 -- one more item of what is left has been read
 pub all_read-step : {A B : Type 0} (read : A → Option B) (all : Option (List B)) (done next : List B) (left more : List A) (x : A) (y : B)
     → all ≡ option_map (λ ys. done ++ ys) (all_read read left) → left ≡ x ∷ more → read x ≡ Some y → next ≡ done ++ y ∷ []
     → all ≡ option_map (λ ys. next ++ ys) (all_read read more)
 all_read-step read all done next left more x y is split one grown =
     let here : all_read read left ≡ option_map (λ ys. y ∷ ys) (all_read read more) = ap (all_read read) split ∙ rw one refl in
-    is ∙ ap (option_map (λ ys. done ++ ys)) here ∙ read_more (all_read read more) done y ∙ ap (λ zs. option_map (λ ys. zs ++ ys) (all_read read more)) (sym grown)
+    is ∙ ap (option_map (λ ys. done ++ ys)) here ∙ map_grown (all_read read more) done y ∙ ap (λ zs. option_map (λ ys. zs ++ ys) (all_read read more)) (sym grown)

@@ -1,21 +1,24 @@
 -- A city that a text stands for is written so that it nests no deeper than what is read.
 use Rattle.std.proofs.Common.{◌≡◌, ℕ, suc, ◌≤◌, List, [], ◌∷◌, ℤ, Bool, true, false, Option, Some, None, codes, subst, arith}
 use Rattle.std.specs.Prelude.{option_map, option_and_then, if◌then◌else◌}
+use Rattle.std.specs.FinMap.{entries}
 use Rattle.serde_json.specs.Data.{Data, string, Members, no_members, put, depth, members_depth}
 use Rattle.serde_json.specs.Find.{get_member, as_object}
 use Rattle.serde_json.specs.Read.{max_depth}
 use Rattle.serde_json.proofs.Nesting.{depth-read}
-use Rattle.city_model.specs.CityMap.{Entries}
+use Rattle.city_model.specs.CityMap.{Entries, CityValue}
 use Rattle.city_model.specs.declared.frame.Frame.{Frame}
 use Rattle.city_model.specs.declared.object.Point.{Point}
 use Rattle.city_model.specs.Kept.{kept_at_top, kept_at_transform}
 use Rattle.city_model.specs.Members.{without}
+use Rattle.city_model.specs.declared.object.Object.{Object}
 use Rattle.city_doc.specs.Bodies.{kept_if}
-use Rattle.city_doc.specs.Canonical.{integer_data, triple_data, with_objects, objects_data, transform_data, vertex_data, vertices_data, frame_members, numbered_tree, tree_of}
-use Rattle.city_doc.specs.Documents.{CityValue, is_city_json, points_in, entries_in, city_of, StandsForCity}
+use Rattle.city_doc.specs.Canonical.{integer_data, triple_data, object_data, with_objects, objects_data, transform_data, vertex_data, vertices_data, frame_members, numbered_tree, tree_of}
+use Rattle.city_doc.specs.Documents.{is_city_json, points_in, entries_in, objects_of, city_of, StandsForCity}
 use Rattle.city_doc.specs.Frames.{triple_at, without_transform_members, without_top_members, more_of, frame_with, frame_of_rest, frame_of}
 use Rattle.city_doc.specs.Pool.{pool_of}
 use Rattle.city_doc.proofs.NestsNoDeeper.{Holds, holds_then, holds_map, put_depth, without_depth, kept_depth, member_depth, object_members_depth, list_depth, objects_within}
+use Rattle.city_doc.proofs.Listings.{OfEach, of_each_listed}
 
 triple_depth : (zs : List ℤ) → depth (triple_data zs) ≤ 1
 triple_depth zs = omega (arith, list_depth integer_data 0 (λ z. omega arith) zs)
@@ -72,26 +75,32 @@ module _ (k : ℕ) (deep : 1 ≤ k) where
 -- ---- the whole
 
 module _ (m : ℕ) (deep : 4 ≤ m) (pool : List Point) where
-  abbrev AreObjectsWithin : Entries → Type 0
-  AreObjectsWithin es = (ms : Members) → members_depth ms ≤ suc (suc (suc m)) → members_depth (with_objects pool ms es) ≤ suc (suc (suc m))
+  abbrev IsObjectWithin : Object → Type 0
+  IsObjectWithin o = depth (object_data pool o) ≤ suc (suc (suc m))
 
-  city_depth : (f : Frame) (es : Entries) → IsFrameWithin (suc (suc (suc m))) (omega arith) f → AreObjectsWithin es → depth (numbered_tree pool (f, es)) ≤ suc (suc (suc (suc (suc m))))
+  -- wherever the objects are put in
+  objects_depth : (es : Entries) → OfEach IsObjectWithin es → (ms : Members) → members_depth ms ≤ suc (suc (suc m)) → members_depth (with_objects pool ms es) ≤ suc (suc (suc m))
+  objects_depth [] h ms below = below
+  objects_depth (e ∷ es) h ms below = objects_depth es h.1 (put e.0 (object_data pool e.1) ms) (put_depth e.0 (object_data pool e.1) ms (suc (suc (suc m))) h.0 below)
+
+  city_depth : (f : Frame) (es : Entries) → IsFrameWithin (suc (suc (suc m))) (omega arith) f → OfEach IsObjectWithin es → depth (numbered_tree pool (f, objects_of es)) ≤ suc (suc (suc (suc (suc m))))
   city_depth f es h r =
       let n = suc (suc (suc (suc m))) in
-      let objects : depth (objects_data pool es) ≤ n = omega (arith, r no_members (omega arith)) in
+      let listed = entries (objects_of es) in
+      let objects : depth (objects_data pool listed) ≤ n = omega (arith, objects_depth listed (of_each_listed IsObjectWithin es r) no_members (omega arith)) in
       let a = put_depth (codes "vertices") (vertices_data pool) (frame_members f) n (omega (arith, vertices_depth pool)) (frame_members_depth (suc (suc (suc m))) (omega arith) f h) in
-      let b = put_depth (codes "CityObjects") (objects_data pool es) (put (codes "vertices") (vertices_data pool) (frame_members f)) n objects a in
+      let b = put_depth (codes "CityObjects") (objects_data pool listed) (put (codes "vertices") (vertices_data pool) (frame_members f)) n objects a in
       omega arith
 
   city_parts : (b : Bool) (points : Option (List Point)) (entries : List Point → Option Entries) (frame : Option Frame)
-      → ((ps : List Point) → Holds AreObjectsWithin (entries ps)) → Holds (IsFrameWithin (suc (suc (suc m))) (omega arith)) frame
+      → ((ps : List Point) → Holds (OfEach IsObjectWithin) (entries ps)) → Holds (IsFrameWithin (suc (suc (suc m))) (omega arith)) frame
       → Holds (λ c. depth (numbered_tree pool c) ≤ suc (suc (suc (suc (suc m)))))
-      (if b then option_and_then (λ points. option_and_then (λ entries. option_map (λ frame. (frame, entries)) frame) (entries points)) points else None)
+      (if b then option_and_then (λ points. option_and_then (λ entries. option_map (λ frame. (frame, objects_of entries)) frame) (entries points)) points else None)
   city_parts false points entries frame h r = tt
   city_parts true None entries frame h r = tt
   city_parts true (Some ps) entries frame h r =
-      holds_then AreObjectsWithin (λ c. depth (numbered_tree pool c) ≤ suc (suc (suc (suc (suc m))))) (λ es. option_map (λ f. (f, es)) frame)
-      (λ es within. holds_map (IsFrameWithin (suc (suc (suc m))) (omega arith)) (λ c. depth (numbered_tree pool c) ≤ suc (suc (suc (suc (suc m))))) (λ f. (f, es)) (λ f below. city_depth f es below within) frame r)
+      holds_then (OfEach IsObjectWithin) (λ c. depth (numbered_tree pool c) ≤ suc (suc (suc (suc (suc m))))) (λ es. option_map (λ f. (f, objects_of es)) frame)
+      (λ es within. holds_map (IsFrameWithin (suc (suc (suc m))) (omega arith)) (λ c. depth (numbered_tree pool c) ≤ suc (suc (suc (suc (suc m))))) (λ f. (f, objects_of es)) (λ f below. city_depth f es below within) frame r)
       (entries ps) (h ps)
 
   city_within : (d : Data) → depth d ≤ suc (suc (suc (suc (suc m)))) → Holds (λ c. depth (numbered_tree pool c) ≤ suc (suc (suc (suc (suc m))))) (city_of d)

@@ -9,7 +9,7 @@ use Rattle.city_model.specs.declared.command.Command.TheVariants.{Delete, Attach
 use Rattle.city_model.specs.Members.{without, members_count}
 use Rattle.city_model.proofs.MemberLaws.{get_member-without}
 use Rattle.city_doc.specs.CommandForms.{CommandForm, ReadForm, PutForm, DeleteForm, AttachForm, DetachForm, text_in, word_form, members_form, form_of, command_of_form, put_of}
-use Rattle.city_doc.specs.ScriptForms.{single_form, put_pair, relation_pair, pair_form, form_by_count}
+use Rattle.city_doc.specs.ScriptForms.{single_form, put_pair, relation_pair, pair_form}
 
 -- ---- forms by the number of members
 
@@ -64,7 +64,7 @@ not_both : (n : ℕ) → (n == 1 && n == 2) ≡ false
 not_both n = grind arith
 
 -- one member or two decide which forms there may be
-pub form-by_count : (ms : Members) → members_form ms ≡ form_by_count ms
+form-by_count : (ms : Members) → members_form ms ≡ (if members_count ms == 1 then single_form ms else (if members_count ms == 2 then pair_form ms else None))
 form-by_count ms =
     counted (members_count ms == 1) (members_count ms == 2) (text_in (codes "read") ms) (text_in (codes "delete") ms) (text_in (codes "put") ms) (text_in (codes "attach") ms) (text_in (codes "detach") ms)
     (text_in (codes "parent") ms) (get_member (codes "object") ms) (not_both (members_count ms))

@@ -15,13 +15,13 @@ use Rattle.city_model.specs.Integral.{is_integral}
 use Rattle.city_model.specs.Members.{members_count}
 use Rattle.city_doc.specs.Bodies.{body_of}
 use Rattle.city_doc.specs.ObjectFaults.{has_bad_vertex}
-use Rattle.city_doc.specs.BadCommands.{is_bad_object, is_bad_form, is_no_good_form, is_bad_command, is_misplaced_form, is_some_misplaced_form, is_misplaced}
+use Rattle.city_doc.specs.BadCommands.{is_bad_object, is_bad_form, is_no_good_form, is_bad_command, form_names_bad_vertex, some_form_names_bad_vertex, names_bad_vertex}
 use Rattle.city_doc.specs.CommandForms.{CommandForm, ReadForm, PutForm, DeleteForm, AttachForm, DetachForm, CommitForm, AbortForm, text_in, read_form, put_form, delete_form, attach_form, detach_form, members_form, form_of, names_relations, put_of, command_of_form, command_of}
 use Rattle.city_doc.specs.ScriptTrees.{is_end_word}
 use Rattle.city_doc.proofs.FaultlessBodies.{body_of-faultless}
 use Rattle.city_doc.proofs.Options.{and_then_some}
 use Rattle.city_doc.proofs.PutBodies.{good, body_of-good}
-use Rattle.city_doc.proofs.IntegralParts.{get_member-whole}
+use Rattle.city_doc.proofs.IntegralParts.{get_member-integral}
 
 -- ---- a property of the forms of an object
 
@@ -129,32 +129,32 @@ form_integral (string s) h = word_integral (bytes_eq s (codes "commit")) (bytes_
 form_integral (array ds) h = refl
 form_integral (object ms) h =
     members_hold integral_form ms (λ id. refl) (λ id. refl) (λ p. refl) (λ p. refl)
-    (put_integral (members_count ms == 2) (text_in (codes "put") ms) (get_member (codes "object") ms) (λ d e. get_member-whole (codes "object") ms d h e))
+    (put_integral (members_count ms == 2) (text_in (codes "put") ms) (get_member (codes "object") ms) (λ d e. get_member-integral (codes "object") ms d h e))
 
 put_some : (points : List Point) (id : List ℕ) (tree : Data) → is_integral tree ≡ true → is_bad_object tree ≡ false → has_bad_vertex (length points) tree ≡ false
     → (c : Command) × (put_of points id tree ≡ Some c)
-put_some points id tree whole fine placed = let r = body_of-good points tree whole fine placed in (Put id r.0, rw ((good tree fine).unrelated, r.1) refl)
+put_some points id tree integral fine placed = let r = body_of-good points tree integral fine placed in (Put id r.0, rw ((good tree fine).unrelated, r.1) refl)
 
-form_some : (points : List Point) (f : CommandForm) → integral_form f ≡ true → is_bad_form f ≡ false → is_misplaced_form (length points) f ≡ false → (c : Command) × (command_of_form points f ≡ Some c)
-form_some points (ReadForm id) whole fine placed = (Read id, refl)
-form_some points (PutForm id tree) whole fine placed = put_some points id tree whole fine placed
-form_some points (DeleteForm id) whole fine placed = (Delete id, refl)
-form_some points (AttachForm child parent) whole fine placed = (Attach child parent, refl)
-form_some points (DetachForm child parent) whole fine placed = (Detach child parent, refl)
-form_some points CommitForm whole fine placed = (Commit, refl)
-form_some points AbortForm whole fine placed = (Abort, refl)
+form_some : (points : List Point) (f : CommandForm) → integral_form f ≡ true → is_bad_form f ≡ false → form_names_bad_vertex (length points) f ≡ false → (c : Command) × (command_of_form points f ≡ Some c)
+form_some points (ReadForm id) integral fine placed = (Read id, refl)
+form_some points (PutForm id tree) integral fine placed = put_some points id tree integral fine placed
+form_some points (DeleteForm id) integral fine placed = (Delete id, refl)
+form_some points (AttachForm child parent) integral fine placed = (Attach child parent, refl)
+form_some points (DetachForm child parent) integral fine placed = (Detach child parent, refl)
+form_some points CommitForm integral fine placed = (Commit, refl)
+form_some points AbortForm integral fine placed = (Abort, refl)
 
-some_command : (points : List Point) (o : Option CommandForm) → holds integral_form o ≡ true → is_no_good_form o ≡ false → is_some_misplaced_form (length points) o ≡ false
+some_command : (points : List Point) (o : Option CommandForm) → holds integral_form o ≡ true → is_no_good_form o ≡ false → some_form_names_bad_vertex (length points) o ≡ false
     → (c : Command) × (option_and_then (command_of_form points) o ≡ Some c)
-some_command points None whole fine placed = absurd (true≢false fine)
-some_command points (Some f) whole fine placed = form_some points f whole fine placed
+some_command points None integral fine placed = absurd (true≢false fine)
+some_command points (Some f) integral fine placed = form_some points f integral fine placed
 
-pub command_of-some : (points : List Point) (d : Data) → is_integral d ≡ true → is_bad_command d ≡ false → is_misplaced (length points) d ≡ false → (c : Command) × (command_of points d ≡ Some c)
-command_of-some points d whole fine placed = some_command points (form_of d) (form_integral d whole) fine placed
+pub command_of-some : (points : List Point) (d : Data) → is_integral d ≡ true → is_bad_command d ≡ false → names_bad_vertex (length points) d ≡ false → (c : Command) × (command_of points d ≡ Some c)
+command_of-some points d integral fine placed = some_command points (form_of d) (form_integral d integral) fine placed
 
 -- ---- a command that is refused stands for none
 
-form_faultless : (points : List Point) (f : CommandForm) (c : Command) → command_of_form points f ≡ Some c → (is_bad_form f ≡ false) × (is_misplaced_form (length points) f ≡ false)
+form_faultless : (points : List Point) (f : CommandForm) (c : Command) → command_of_form points f ≡ Some c → (is_bad_form f ≡ false) × (form_names_bad_vertex (length points) f ≡ false)
 form_faultless points (ReadForm id) c h = (refl, refl)
 form_faultless points (PutForm id tree) c h = let r = put_parts (names_relations tree) (body_of points tree) id c h in body_of-faultless points tree r.1.0 r.0 r.1.1
 form_faultless points (DeleteForm id) c h = (refl, refl)
@@ -163,7 +163,7 @@ form_faultless points (DetachForm child parent) c h = (refl, refl)
 form_faultless points CommitForm c h = (refl, refl)
 form_faultless points AbortForm c h = (refl, refl)
 
-pub command_of-faultless : (points : List Point) (d : Data) (c : Command) → command_of points d ≡ Some c → (is_bad_command d ≡ false) × (is_misplaced (length points) d ≡ false)
+pub command_of-faultless : (points : List Point) (d : Data) (c : Command) → command_of points d ≡ Some c → (is_bad_command d ≡ false) × (names_bad_vertex (length points) d ≡ false)
 command_of-faultless points d c h =
     let r = and_then_some (command_of_form points) (form_of d) c h in
-    let f = form_faultless points r.0 c r.2 in (ap is_no_good_form r.1 ∙ f.0, ap (is_some_misplaced_form (length points)) r.1 ∙ f.1)
+    let f = form_faultless points r.0 c r.2 in (ap is_no_good_form r.1 ∙ f.0, ap (some_form_names_bad_vertex (length points)) r.1 ∙ f.1)

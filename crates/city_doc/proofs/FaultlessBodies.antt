@@ -16,7 +16,7 @@ use Rattle.city_doc.specs.Documents.{is_unsupported}
 use Rattle.city_doc.specs.ObjectFaults.{is_unknown_type, unsupported_name, is_bad_geometry, has_bad_vertex}
 use Rattle.city_doc.proofs.Cities.{get-object}
 use Rattle.city_doc.proofs.Options.{and_then_some, map_some, if_some}
-use Rattle.city_doc.proofs.ReadForms.{geometries_fit, place_fits, number_fits, geometries_supported}
+use Rattle.city_doc.proofs.ReadForms.{geometries_fit, position_fits, number_fits, geometries_supported}
 
 -- the parts of a body's tree
 record HasBodyParts (points : List Point) (d : Data) (b : Body) : Type 0 where
@@ -68,7 +68,7 @@ pub formed : (points : List Point) (d : Data) (b : Body) → body_of points d �
 formed points d b h = ap not (geometries_fit points _ (number_fits points) (get (codes "geometry") d) b.geometry (body_parts points d b h).geometry)
 
 pub placed : (points : List Point) (d : Data) (b : Body) → body_of points d ≡ Some b → has_bad_vertex (length points) d ≡ false
-placed points d b h = ap not (geometries_fit points _ (place_fits points) (get (codes "geometry") d) b.geometry (body_parts points d b h).geometry)
+placed points d b h = ap not (geometries_fit points _ (position_fits points) (get (codes "geometry") d) b.geometry (body_parts points d b h).geometry)
 
 pub is_object : (points : List Point) (d : Data) (b : Body) → body_of points d ≡ Some b → is_some (as_object d) ≡ true
 is_object points d b h = ap is_some (body_parts points d b h).is_object

@@ -4,13 +4,13 @@ use Rattle.std.specs.Prelude.{slice_get}
 use Rattle.std.specs.Option.{option_or}
 use Rattle.city_doc.specs.ScriptSearch.{first_at}
 
--- the item at this place has f, and no item before it has anything
+-- the item at this index has f, and no item before it has anything
 pub record IsFirst {A B : Type 0} (find : ℕ → A → Option B) (n : ℕ) (xs : List A) (f : B) : Type 0 where
-  pub place : ℕ
+  pub index : ℕ
   pub x : A
-  pub there : slice_get xs place ≡ Some x
-  pub found : find (n + place) x ≡ Some f
-  pub before : (j : ℕ) (y : A) → j < place → slice_get xs j ≡ Some y → find (n + j) y ≡ None
+  pub there : slice_get xs index ≡ Some x
+  pub found : find (n + index) x ≡ Some f
+  pub before : (j : ℕ) (y : A) → j < index → slice_get xs j ≡ Some y → find (n + j) y ≡ None
 
 shift : (n k : ℕ) → n + 1 + k ≡ n + suc k
 shift n k = omega arith
@@ -40,14 +40,14 @@ first_step : {A B : Type 0} (find : ℕ → A → Option B) (n : ℕ) (x : A) (x
 first_step find n x xs f None is h ih =
     let r = ih h in
     record {
-      place = suc r.place;
+      index = suc r.index;
       x = r.x;
       there = r.there;
-      found = moved find (n + 1 + r.place) (n + suc r.place) r.x (Some f) (shift n r.place) r.found;
-      before = before_from find n r.place x xs is r.before;
+      found = moved find (n + 1 + r.index) (n + suc r.index) r.x (Some f) (shift n r.index) r.found;
+      before = before_from find n r.index x xs is r.before;
     }
 first_step find n x xs f (Some g) is h ih =
-    record { place = 0; x = x; there = refl; found = moved find n (n + 0) x (Some f) (no_shift n) (is ∙ h); before = λ j y lower at. absurd (omega arith) }
+    record { index = 0; x = x; there = refl; found = moved find n (n + 0) x (Some f) (no_shift n) (is ∙ h); before = λ j y lower at. absurd (omega arith) }
 
 pub first_at-is : {A B : Type 0} (find : ℕ → A → Option B) (n : ℕ) (xs : List A) (f : B) → first_at find n xs ≡ Some f → IsFirst find n xs f
 first_at-is find n [] f h = absurd (let no : ⊥ = cc in no)

@@ -6,6 +6,7 @@ use Rattle.std.specs.Ordering.{nat_cmp, match_ordering}
 use Rattle.std.specs.Cmp.Lexicographic.{slice_cmp}
 use Rattle.std.specs.List.{list_all}
 use Rattle.std.proofs.lemmas.Bool.{and_parts, or_from, or_parts}
+use Rattle.std.specs.FinMap.{entries}
 use Rattle.serde_json.specs.Data.{Data, null, boolean, number, unsigned, negative, float, string, array, object, Items, no_items, item, Members, no_members, member, put}
 use Rattle.serde_json.specs.Find.{get_member}
 use Rattle.serde_json.specs.View.{items_of}
@@ -13,7 +14,7 @@ use Rattle.serde_json.specs.Written.{has_float, items_have_float, members_have_f
 use Rattle.city_model.specs.Integral.{is_integral, items_integral, members_integral}
 use Rattle.city_model.specs.Kept.{lacks, lacks_both, is_empty_object_or_absent, has_location, kept_at_top, kept_at_transform, kept_at_object, kept_at_geometry}
 use Rattle.city_model.specs.Shells.{Ring, Surface, Shell}
-use Rattle.city_model.specs.CityMap.{Entries}
+use Rattle.city_model.specs.CityMap.{Entries, CityValue}
 use Rattle.city_model.specs.declared.frame.Frame.{Frame}
 use Rattle.city_model.specs.declared.object.Point.{Point}
 use Rattle.city_model.specs.declared.object.Shape.{Shape}
@@ -21,7 +22,6 @@ use Rattle.city_model.specs.declared.object.Shape.TheVariants.{MultiSurface, Com
 use Rattle.city_model.specs.declared.object.Geometry.{Geometry}
 use Rattle.city_model.specs.declared.object.Object.{Object}
 use Rattle.city_model.specs.Types.{name_of}
-use Rattle.city_doc.specs.Documents.{CityValue}
 use Rattle.city_doc.specs.Canonical.{list_data, integer_data, triple_data, point_data, ring_data, surface_data, shell_data, boundaries_data, shape_name, geometry_data, put_list, object_data, with_objects, transform_data, vertex_data, vertices_data, frame_members, numbered_tree}
 use Rattle.city_doc.specs.KeptMembers.{is_kept_geometry, is_kept_object, are_kept_objects, IsKeptCity}
 
@@ -167,5 +167,5 @@ frame_is_floatless f h k =
 pub city_is_floatless : (pool : List Point) (c : CityValue) → IsKeptCity c → has_float (numbered_tree pool c) ≡ false
 city_is_floatless pool c h =
     let pooled = put (codes "vertices") (vertices_data pool) (frame_members c.0) in
-    put_is_floatless (codes "CityObjects") (object (with_objects pool no_members c.1)) pooled (objects_are_floatless pool no_members c.1 h.objects refl)
+    put_is_floatless (codes "CityObjects") (object (with_objects pool no_members (entries c.1))) pooled (objects_are_floatless pool no_members (entries c.1) h.objects refl)
     (put_is_floatless (codes "vertices") (vertices_data pool) (frame_members c.0) (vertices_are_floatless pool) (frame_is_floatless c.0 h.at_top h.at_transform))

@@ -1,16 +1,17 @@
 -- The parts of a tree of whole numbers are such trees.
-use Rattle.std.proofs.Common.{◌≡◌, ℕ, List, [], ◌∷◌, true, Ordering, Less, Equal, Greater, Option, Some, None, option_map, refl, ap, ◌∙◌, nat_cmp, length, map}
+use Rattle.std.proofs.Common.{◌≡◌, ℕ, List, [], ◌∷◌, true, Ordering, Less, Equal, Greater, Option, Some, None, option_map, refl, sym, ap, ◌∙◌, nat_cmp, length, map}
 use Rattle.std.proofs.lemmas.List.{length-map}
 use Rattle.std.specs.Ordering.{match_ordering}
 use Rattle.std.specs.Cmp.Lexicographic.{slice_cmp}
 use Rattle.std.specs.List.{list_all}
 use Rattle.std.proofs.lemmas.Bool.{and_parts}
-use Rattle.serde_json.specs.Data.{Data, null, boolean, number, string, array, object, Items, no_items, item, Members, no_members, member}
+use Rattle.serde_json.specs.Data.{Data, Items, no_items, item, Members, no_members, member}
 use Rattle.serde_json.specs.Find.{get_member, as_object, as_array}
 use Rattle.serde_json.specs.View.{view, items_of, items_view}
 use Rattle.serde_json.specs.declared.value.Value.{Value}
 use Rattle.city_model.specs.Integral.{is_integral, items_integral, members_integral}
 use Rattle.city_doc.specs.ScriptTrees.{items_list, array_of, count_of}
+use Rattle.city_doc.proofs.Trees.{array_is, object_is}
 
 pub items_list-of : (ds : List Data) → items_list (items_of ds) ≡ ds
 items_list-of [] = refl
@@ -20,40 +21,24 @@ items_list-of (d ∷ ds) = ap (λ es. d ∷ es) (items_list-of ds)
 pub count_of-items : (d : Data) (vs : List Value) → as_array d ≡ Some (items_view vs) → count_of (array_of d) ≡ length vs
 count_of-items d vs h = ap (λ o. count_of (option_map items_list o)) h ∙ ap length (items_list-of (map view vs)) ∙ length-map vs view
 
-items_list-whole : (ds : Items) → items_integral ds ≡ true → list_all is_integral (items_list ds) ≡ true
-items_list-whole no_items h = refl
-items_list-whole (item d ds) h = let hs = and_parts (is_integral d) (items_integral ds) h in rw (hs.0, items_list-whole ds hs.1) refl
+items_list-integral : (ds : Items) → items_integral ds ≡ true → list_all is_integral (items_list ds) ≡ true
+items_list-integral no_items h = refl
+items_list-integral (item d ds) h = let hs = and_parts (is_integral d) (items_integral ds) h in rw (hs.0, items_list-integral ds hs.1) refl
 
 array_integral : (o : Option Items) (ds : List Data) → ((es : Items) → o ≡ Some es → items_integral es ≡ true) → option_map items_list o ≡ Some ds → list_all is_integral ds ≡ true
 array_integral None ds h e = absurd (let no : ⊥ = cc in no)
-array_integral (Some es) ds h e = let is : ds ≡ items_list es = cc in ap (list_all is_integral) is ∙ items_list-whole es (h es refl)
+array_integral (Some es) ds h e = let is : ds ≡ items_list es = cc in ap (list_all is_integral) is ∙ items_list-integral es (h es refl)
 
-some_items : (a b : Items) → Some a ≡ Some b → items_integral a ≡ true → items_integral b ≡ true
-some_items a b e h = let is : b ≡ a = cc in ap items_integral is ∙ h
-
-as_array-whole : (d : Data) → is_integral d ≡ true → (es : Items) → as_array d ≡ Some es → items_integral es ≡ true
-as_array-whole null h es e = absurd (let no : ⊥ = cc in no)
-as_array-whole (boolean b) h es e = absurd (let no : ⊥ = cc in no)
-as_array-whole (number n) h es e = absurd (let no : ⊥ = cc in no)
-as_array-whole (string s) h es e = absurd (let no : ⊥ = cc in no)
-as_array-whole (array ds) h es e = some_items ds es e h
-as_array-whole (object ms) h es e = absurd (let no : ⊥ = cc in no)
+as_array-integral : (d : Data) → is_integral d ≡ true → (es : Items) → as_array d ≡ Some es → items_integral es ≡ true
+as_array-integral d h es e = ap is_integral (sym (array_is d es e)) ∙ h
 
 -- the items of an array
-pub array_of-whole : (d : Data) (ds : List Data) → is_integral d ≡ true → array_of d ≡ Some ds → list_all is_integral ds ≡ true
-array_of-whole d ds h e = array_integral (as_array d) ds (as_array-whole d h) e
-
-some_members : (a b : Members) → Some a ≡ Some b → members_integral a ≡ true → members_integral b ≡ true
-some_members a b e h = let is : b ≡ a = cc in ap members_integral is ∙ h
+pub array_of-integral : (d : Data) (ds : List Data) → is_integral d ≡ true → array_of d ≡ Some ds → list_all is_integral ds ≡ true
+array_of-integral d ds h e = array_integral (as_array d) ds (as_array-integral d h) e
 
 -- the members of an object
-pub as_object-whole : (d : Data) (ms : Members) → is_integral d ≡ true → as_object d ≡ Some ms → members_integral ms ≡ true
-as_object-whole null ms h e = absurd (let no : ⊥ = cc in no)
-as_object-whole (boolean b) ms h e = absurd (let no : ⊥ = cc in no)
-as_object-whole (number n) ms h e = absurd (let no : ⊥ = cc in no)
-as_object-whole (string s) ms h e = absurd (let no : ⊥ = cc in no)
-as_object-whole (array ds) ms h e = absurd (let no : ⊥ = cc in no)
-as_object-whole (object ns) ms h e = some_members ns ms e h
+pub as_object-integral : (d : Data) (ms : Members) → is_integral d ≡ true → as_object d ≡ Some ms → members_integral ms ≡ true
+as_object-integral d ms h e = ap is_integral (sym (object_is d ms e)) ∙ h
 
 some_data : (a b : Data) → Some a ≡ Some b → is_integral a ≡ true → is_integral b ≡ true
 some_data a b e h = let is : b ≡ a = cc in ap is_integral is ∙ h
@@ -64,8 +49,8 @@ found_integral Less r e d h one rest = rest h
 found_integral Equal r e d h one rest = some_data e d h one
 found_integral Greater r e d h one rest = rest h
 
-pub get_member-whole : (k : List ℕ) (ms : Members) (d : Data) → members_integral ms ≡ true → get_member k ms ≡ Some d → is_integral d ≡ true
-get_member-whole k no_members d h e = absurd (let no : ⊥ = cc in no)
-get_member-whole k (member l x ms) d h e =
+pub get_member-integral : (k : List ℕ) (ms : Members) (d : Data) → members_integral ms ≡ true → get_member k ms ≡ Some d → is_integral d ≡ true
+get_member-integral k no_members d h e = absurd (let no : ⊥ = cc in no)
+get_member-integral k (member l x ms) d h e =
     let hs = and_parts (is_integral x) (members_integral ms) h in
-    found_integral (slice_cmp nat_cmp k l) (get_member k ms) x d e hs.0 (get_member-whole k ms d hs.1)
+    found_integral (slice_cmp nat_cmp k l) (get_member k ms) x d e hs.0 (get_member-integral k ms d hs.1)

@@ -6,10 +6,11 @@ use Rattle.std.specs.List.{list_all}
 use Rattle.std.specs.Ordering.{match_ordering}
 use Rattle.std.proofs.lemmas.Bool.{lt-ltb, and_parts}
 use Rattle.std.proofs.lemmas.List.Sums.{prefix_len-le-length}
+use Rattle.std.specs.FinMap.{entries}
 use Rattle.serde_json.specs.Data.{Data, string, Members, no_members, member, put}
 use Rattle.serde_json.specs.Find.{get_member}
 use Rattle.serde_json.specs.View.{items_of}
-use Rattle.city_model.specs.CityMap.{Entries}
+use Rattle.city_model.specs.CityMap.{Entries, CityValue}
 use Rattle.city_model.specs.declared.frame.Frame.{Frame}
 use Rattle.city_model.specs.declared.object.Geometry.{Geometry}
 use Rattle.city_model.specs.declared.object.Object.{Object}
@@ -21,9 +22,8 @@ use Rattle.city_model.specs.Shells.{Ring, Surface, Shell, same_point}
 use Rattle.city_model.specs.Types.{name_of}
 use Rattle.city_model.specs.Integral.{is_integral, items_integral, members_integral}
 use Rattle.city_doc.specs.Canonical.{list_data, integer_data, triple_data, point_data, ring_data, surface_data, shell_data, boundaries_data, shape_name, geometry_data, put_list, object_data, with_objects, objects_data, transform_data, vertex_data, vertices_data, frame_members, numbered_tree}
-use Rattle.city_doc.specs.Documents.{CityValue}
 use Rattle.city_doc.specs.KeptMembers.{is_kept_geometry, is_kept_object, are_kept_objects, IsKeptCity}
-use Rattle.city_doc.specs.Pool.{place_of}
+use Rattle.city_doc.specs.Pool.{number_of}
 use Rattle.city_doc.specs.Ranges.{is_i64, is_i64_triple, is_i64_point, IsInRange}
 use Rattle.city_doc.proofs.TriplesRead.{integer_read}
 
@@ -82,9 +82,9 @@ at_object ms h =
 module _ (pool : List Point) (fewer : length pool < 2 ^ 63) where
   point_integral : (p : Point) → is_integral (point_data pool p) ≡ true
   point_integral p =
-      let within : place_of pool p ≤ length pool = prefix_len-le-length (λ q. not (same_point p q)) pool in
-      let small : place_of pool p < 2 ^ 63 = omega arith in
-      let fits : nat_lt (place_of pool p) (2 ^ 63) ≡ true = lt-ltb _ _ small in rw fits refl
+      let within : number_of pool p ≤ length pool = prefix_len-le-length (λ q. not (same_point p q)) pool in
+      let small : number_of pool p < 2 ^ 63 = omega arith in
+      let fits : nat_lt (number_of pool p) (2 ^ 63) ≡ true = lt-ltb _ _ small in rw fits refl
 
   ring_integral : (r : Ring) → is_integral (ring_data pool r) ≡ true
   ring_integral r = every_integral (point_data pool) point_integral r
@@ -153,5 +153,5 @@ city_integral pool c h r =
     let framed = put_integral (codes "transform") (transform_data c.0) versioned (transform_integral c.0 r.scale r.translate h.at_transform)
     (put_integral (codes "version") (string (codes "2.0")) typed refl (put_integral (codes "type") (string (codes "CityJSON")) c.0.extra refl (at_top c.0.extra h.at_top))) in
     let listed = list_integral vertex_data is_i64_point vertex_integral pool r.points in
-    put_integral (codes "CityObjects") (objects_data pool c.1) pooled (objects_integral pool r.fewer no_members c.1 h.objects refl)
+    put_integral (codes "CityObjects") (objects_data pool (entries c.1)) pooled (objects_integral pool r.fewer no_members (entries c.1) h.objects refl)
     (put_integral (codes "vertices") (vertices_data pool) (frame_members c.0) listed framed)

@@ -70,7 +70,7 @@ top_admitted top h extensions =
     let d = without (codes "version") c in
     let e = without (codes "vertices") d in
     let integral_c = members_integral-without (codes "type") b (members_integral-without (codes "transform") a (members_integral-without (codes "CityObjects") top h)) in
-    let whole = members_integral-without (codes "vertices") d (members_integral-without (codes "version") c integral_c) in
+    let integral = members_integral-without (codes "vertices") d (members_integral-without (codes "version") c integral_c) in
     let no_type = gone (codes "type") (codes "vertices") d refl (gone (codes "type") (codes "version") c refl (get_member-without_same (codes "type") b)) in
     let no_version = gone (codes "version") (codes "vertices") d refl (get_member-without_same (codes "version") c) in
     let no_transform = gone (codes "transform") (codes "vertices") d refl (gone (codes "transform") (codes "version") c refl (gone (codes "transform") (codes "type") b refl (get_member-without_same (codes "transform") a))) in
@@ -80,7 +80,7 @@ top_admitted top h extensions =
     let name = codes "extensions" in
     let stays_c = get_member-without name (codes "type") b refl ∙ (get_member-without name (codes "transform") a refl ∙ get_member-without name (codes "CityObjects") top refl) in
     let stays = get_member-without name (codes "vertices") d refl ∙ (get_member-without name (codes "version") c refl ∙ stays_c) in
-    all_five _ _ _ _ _ whole (lacking_both (codes "type") (codes "version") e no_type no_version) (lacking_both (codes "transform") (codes "CityObjects") e no_transform no_objects)
+    all_five _ _ _ _ _ integral (lacking_both (codes "type") (codes "version") e no_type no_version) (lacking_both (codes "transform") (codes "CityObjects") e no_transform no_objects)
     (lacking (codes "vertices") e no_vertices) (ap is_empty_object_or_absent stays ∙ extensions)
 
 pub geometry_admitted : (ms : Members) → members_integral ms ≡ true → kept_at_geometry (without_geometry_members ms) ≡ true
@@ -88,11 +88,11 @@ geometry_admitted ms h =
     let a = without (codes "type") ms in
     let b = without (codes "lod") a in
     let c = without (codes "boundaries") b in
-    let whole = members_integral-without (codes "boundaries") b (members_integral-without (codes "lod") a (members_integral-without (codes "type") ms h)) in
+    let integral = members_integral-without (codes "boundaries") b (members_integral-without (codes "lod") a (members_integral-without (codes "type") ms h)) in
     let no_type = gone (codes "type") (codes "boundaries") b refl (gone (codes "type") (codes "lod") a refl (get_member-without_same (codes "type") ms)) in
     let no_lod = gone (codes "lod") (codes "boundaries") b refl (get_member-without_same (codes "lod") a) in
     let no_boundaries = get_member-without_same (codes "boundaries") b in
-    all_three _ _ _ whole (lacking_both (codes "type") (codes "lod") c no_type no_lod) (lacking (codes "boundaries") c no_boundaries)
+    all_three _ _ _ integral (lacking_both (codes "type") (codes "lod") c no_type no_lod) (lacking (codes "boundaries") c no_boundaries)
 
 pub object_admitted : (ms : Members) → members_integral ms ≡ true → has_location (get_member (codes "address") ms) ≡ false → kept_at_object (without_object_members ms) ≡ true
 object_admitted ms h located =
@@ -100,12 +100,12 @@ object_admitted ms h located =
     let b = without (codes "geometry") a in
     let c = without (codes "parents") b in
     let d = without (codes "children") c in
-    let whole = members_integral-without (codes "children") c (members_integral-without (codes "parents") b (members_integral-without (codes "geometry") a (members_integral-without (codes "type") ms h))) in
+    let integral = members_integral-without (codes "children") c (members_integral-without (codes "parents") b (members_integral-without (codes "geometry") a (members_integral-without (codes "type") ms h))) in
     let no_type = gone (codes "type") (codes "children") c refl (gone (codes "type") (codes "parents") b refl (gone (codes "type") (codes "geometry") a refl (get_member-without_same (codes "type") ms))) in
     let no_geometry = gone (codes "geometry") (codes "children") c refl (gone (codes "geometry") (codes "parents") b refl (get_member-without_same (codes "geometry") a)) in
     let no_parents = gone (codes "parents") (codes "children") c refl (get_member-without_same (codes "parents") b) in
     let no_children = get_member-without_same (codes "children") c in
     let name = codes "address" in
     let stays = get_member-without name (codes "children") c refl ∙ (get_member-without name (codes "parents") b refl ∙ (get_member-without name (codes "geometry") a refl ∙ get_member-without name (codes "type") ms refl)) in
-    all_four _ _ _ _ whole (lacking_both (codes "type") (codes "geometry") d no_type no_geometry) (lacking_both (codes "parents") (codes "children") d no_parents no_children)
+    all_four _ _ _ _ integral (lacking_both (codes "type") (codes "geometry") d no_type no_geometry) (lacking_both (codes "parents") (codes "children") d no_parents no_children)
     (ap (λ o. not (has_location o)) stays ∙ ap not located)

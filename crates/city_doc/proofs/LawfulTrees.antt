@@ -12,15 +12,17 @@ use Rattle.city_model.specs.Members.{without}
 use Rattle.city_model.specs.Relations.{IsLawful}
 use Rattle.city_model.specs.Integral.{is_integral, members_integral}
 use Rattle.city_model.proofs.MemberLaws.{get_member-without}
+use Rattle.city_model.specs.CityMap.{CityValue}
 use Rattle.city_doc.specs.declared.fault.ReadFault.{ReadFault}
 use Rattle.city_doc.specs.declared.fault.ReadFault.TheVariants.{OutOfMemory, TooLong, NotJson, NotWhole, NotCityJson, UnknownType, Unsupported, BadGeometry, BadVertex, BadRing, Relations, OpenShell}
 use Rattle.city_doc.specs.Bodies.{read_items, kept_if}
 use Rattle.city_doc.specs.CityFaults.{or_empty}
-use Rattle.city_doc.specs.Documents.{CityValue, is_city_json, points_in, entries_of, entries_in, city_of, members_of, objects_in, vertices_in, is_unsupported, StandsIn, DocumentFault, IsAdmitted}
+use Rattle.city_doc.specs.Documents.{is_city_json, points_in, entries_of, entries_in, city_of, members_of, objects_of, objects_in, vertices_in, is_unsupported, StandsIn, DocumentFault, IsAdmitted}
 use Rattle.city_doc.specs.Frames.{is_text, has_triple, triple_at, is_transform, all_objects, are_all_objects, are_objects, are_vertices, first_wrong, wrong_member, frame_with, frame_of_rest, frame_of, without_top_members}
 use Rattle.city_doc.specs.ObjectFaults.{is_unknown_type, is_bad_geometry, has_bad_vertex}
 use Rattle.city_doc.specs.Triples.{integral_at, triple_of, point_of, points_of, all_triples, are_all_triples}
 use Rattle.city_doc.proofs.Cities.{get-object}
+use Rattle.city_doc.proofs.Listings.{at_listed}
 use Rattle.city_doc.proofs.FaultlessBodies.{known, supported, formed, placed, is_object}
 use Rattle.city_doc.proofs.NoFault.{read_as, no_object, no_bad_ring, no_open_shell, no_badly_related}
 use Rattle.city_doc.proofs.OneValue.{one_tree}
@@ -33,7 +35,9 @@ record StandsFor (d : Data) (c : CityValue) : Type 0 where
   json : is_city_json d ≡ true
   points : points_in d ≡ Some (vertices_in d)
   objects : option_and_then as_object (get (codes "CityObjects") d) ≡ Some (objects_in d)
-  entries : entries_of (vertices_in d) (objects_in d) ≡ Some c.1
+  list : city.Entries
+  entries : entries_of (vertices_in d) (objects_in d) ≡ Some list
+  made : c.1 ≡ objects_of list
   frame : frame_of d ≡ Some c.0
 
 stands_for : (d : Data) (c : CityValue) → city_of d ≡ Some c → StandsFor d c
@@ -45,12 +49,13 @@ stands_for d c h =
     let ms = and_then_some (entries_of ps.0) (option_and_then as_object (get (codes "CityObjects") d)) es.0 es.1 in
     let same_points : ps.0 ≡ vertices_in d = sym (ap or_empty ps.1) in
     let same_objects : ms.0 ≡ objects_in d = sym (ap members_of ms.1) in
-    let read : entries_of ps.0 ms.0 ≡ Some c.1 = ms.2 ∙ ap (λ x. Some x.1) (sym frame.2) in
     record {
       json = json.0;
       points = ps.1 ∙ ap Some same_points;
       objects = ms.1 ∙ ap Some same_objects;
-      entries = sym (ap (λ x. entries_of x (objects_in d)) same_points) ∙ (sym (ap (entries_of ps.0) same_objects) ∙ read);
+      list = es.0;
+      entries = sym (ap (λ x. entries_of x (objects_in d)) same_points) ∙ (sym (ap (entries_of ps.0) same_objects) ∙ ms.2);
+      made = ap (λ x. x.1) frame.2;
       frame = frame.1 ∙ ap (λ x. Some x.0) (sym frame.2);
     }
 
@@ -120,24 +125,27 @@ right d c h =
     let top = and_then_some (λ ms. frame_of_rest (without (codes "CityObjects") ms)) (as_object d) c.0 h.frame in
     let parts = frame_parts top.0 c.0 top.2 in
     none_wrong _ _ (is_transform (get (codes "transform") d)) (are_objects (get (codes "CityObjects") d)) (are_vertices (get (codes "vertices") d)) (is_empty_object_or_absent (get (codes "extensions") d)) json.0 json.1
-    (ap is_transform (get-object (codes "transform") d top.0 top.1) ∙ parts.transform) (ap are_all_objects h.objects ∙ all_are_objects (vertices_in d) (objects_in d) c.1 h.entries)
+    (ap is_transform (get-object (codes "transform") d top.0 top.1) ∙ parts.transform) (ap are_all_objects h.objects ∙ all_are_objects (vertices_in d) (objects_in d) h.list h.entries)
     (vertices_right (get (codes "vertices") d) (vertices_in d) h.points) (ap is_empty_object_or_absent (get-object (codes "extensions") d top.0 top.1) ∙ parts.extensions)
 
 -- ---- no fault
 
+lawful_list : (d : Data) (c : CityValue) (s : StandsFor d c) → IsLawful (city.at c.1) → IsLawful (city.found_in s.list)
+lawful_list d c s lawful = subst IsLawful (ap city.at s.made ∙ at_listed s.list) lawful
+
 stands_not : (d : Data) (c : CityValue) (f : ReadFault) → is_integral d ≡ true → StandsFor d c → IsLawful (city.at c.1) → StandsIn d f → ⊥
-stands_not d c OutOfMemory whole s lawful h = h
-stands_not d c TooLong whole s lawful h = h
-stands_not d c NotJson whole s lawful h = h
-stands_not d c NotWhole whole s lawful h = true≢false (sym whole ∙ h)
-stands_not d c (NotCityJson name) whole s lawful h = let clash : Some name ≡ None = sym h ∙ right d c s in cc
-stands_not d c (UnknownType id) whole s lawful h = no_object (vertices_in d) (objects_in d) c.1 s.entries lawful is_unknown_type (known (vertices_in d)) id h.0
-stands_not d c (Unsupported id name) whole s lawful h = no_object (vertices_in d) (objects_in d) c.1 s.entries lawful is_unsupported (supported (vertices_in d)) id h.0.0
-stands_not d c (BadGeometry id) whole s lawful h = no_object (vertices_in d) (objects_in d) c.1 s.entries lawful is_bad_geometry (formed (vertices_in d)) id h.0
-stands_not d c (BadVertex id) whole s lawful h = no_object (vertices_in d) (objects_in d) c.1 s.entries lawful (has_bad_vertex (length (vertices_in d))) (placed (vertices_in d)) id h.0
-stands_not d c (BadRing id) whole s lawful h = no_bad_ring (vertices_in d) (objects_in d) c.1 s.entries lawful id h.0
-stands_not d c (Relations id) whole s lawful h = no_badly_related (vertices_in d) (objects_in d) c.1 s.entries lawful id h.0
-stands_not d c (OpenShell id) whole s lawful h = no_open_shell (vertices_in d) (objects_in d) c.1 s.entries lawful id h.0
+stands_not d c OutOfMemory integral s lawful h = h
+stands_not d c TooLong integral s lawful h = h
+stands_not d c NotJson integral s lawful h = h
+stands_not d c NotWhole integral s lawful h = true≢false (sym integral ∙ h)
+stands_not d c (NotCityJson name) integral s lawful h = let clash : Some name ≡ None = sym h ∙ right d c s in cc
+stands_not d c (UnknownType id) integral s lawful h = no_object (vertices_in d) (objects_in d) s.list s.entries (lawful_list d c s lawful) is_unknown_type (known (vertices_in d)) id h.0
+stands_not d c (Unsupported id name) integral s lawful h = no_object (vertices_in d) (objects_in d) s.list s.entries (lawful_list d c s lawful) is_unsupported (supported (vertices_in d)) id h.0.0
+stands_not d c (BadGeometry id) integral s lawful h = no_object (vertices_in d) (objects_in d) s.list s.entries (lawful_list d c s lawful) is_bad_geometry (formed (vertices_in d)) id h.0
+stands_not d c (BadVertex id) integral s lawful h = no_object (vertices_in d) (objects_in d) s.list s.entries (lawful_list d c s lawful) (has_bad_vertex (length (vertices_in d))) (placed (vertices_in d)) id h.0
+stands_not d c (BadRing id) integral s lawful h = no_bad_ring (vertices_in d) (objects_in d) s.list s.entries (lawful_list d c s lawful) id h.0
+stands_not d c (Relations id) integral s lawful h = no_badly_related (vertices_in d) (objects_in d) s.list s.entries (lawful_list d c s lawful) id h.0
+stands_not d c (OpenShell id) integral s lawful h = no_open_shell (vertices_in d) (objects_in d) s.list s.entries (lawful_list d c s lawful) id h.0
 
 -- a text that is refused, but for want of memory, stands for no lawful city
 pub refused : (text : List ℕ) (f : ReadFault) → DocumentFault text f → (f ≡ OutOfMemory) ⊎ ((c : CityValue) → IsAdmitted text c → ⊥)

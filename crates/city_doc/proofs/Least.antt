@@ -4,20 +4,22 @@ use Rattle.std.specs.Prelude.{MatchOption, IfSome, IfNone, option_map, if◌then
 use Rattle.std.specs.Ordering.{is_lt, ordering_reverse}
 use Rattle.std.specs.Cmp.Lexicographic.{slice_cmp}
 use Rattle.std.proofs.lemmas.Cmp.{nat_list_cmp_total}
+use Rattle.std.specs.FinMap.{entries}
 use mathlib.Core.Path.{fun_ext}
 use Rattle.serde_json.specs.Data.{Members}
 use Rattle.city_model.specs.declared.object.Object.{Object}
 use Rattle.city_model.specs.declared.object.Point.{Point}
-use Rattle.city_model.specs.CityMap.{CityMap, Entries, at}
+use Rattle.city_model.specs.CityMap.{CityMap, Objects, at}
 use Rattle.city_model.specs.Misrelated.{IsMisrelatedAt, IsLeastMisrelated}
 use Rattle.city_model.specs.Relations.{IsInOrder, IsRelated, is_orphan}
 use Rattle.city_model.specs.Members.{AreOrdered}
-use Rattle.city_model.proofs.MemberLaws.{same_id-is}
+use Rattle.city_model.proofs.Ids.{same_id_true}
+use Rattle.city_model.proofs.Objects.{at_entries}
 use Rattle.city_doc.specs.CityFaults.{lenient_map_of, IsBadlyRelatedAt}
 use Rattle.city_doc.specs.LenientCities.{lesser, IsReadOf}
 use Rattle.city_doc.specs.ObjectFaults.{has_bad_list}
 use Rattle.city_doc.specs.Searches.{Has, IsLeastId, first_with}
-use Rattle.city_doc.proofs.LenientEntries.{at-lenient}
+use Rattle.city_doc.proofs.LenientEntries.{found-lenient}
 use Rattle.city_doc.proofs.Searches.{first_is_least, none_is_none}
 
 -- ---- of two least ids the lesser
@@ -36,7 +38,7 @@ module _ (P Q : List ℕ → Type 0) where
 
   above_both : (a b j : List ℕ) (o : Ordering) → slice_cmp nat_cmp b a ≡ o → is_lt o ≡ false → slice_cmp nat_cmp j a ≡ Less → slice_cmp nat_cmp j b ≡ Less
   above_both a b j Less is out lt = absurd (true≢false out)
-  above_both a b j Equal is out lt = subst (λ x. slice_cmp nat_cmp j x ≡ Less) (sym (same_id-is b a (ap is_eq is))) lt
+  above_both a b j Equal is out lt = subst (λ x. slice_cmp nat_cmp j x ≡ Less) (sym (same_id_true b a (ap is_eq is))) lt
   above_both a b j Greater is out lt = nat_list_cmp_total.trans j a b lt (nat_list_cmp_total.antisymm a b ∙ ap ordering_reverse is)
 
   below_both : (a b : List ℕ) (o : Ordering) → slice_cmp nat_cmp b a ≡ o → is_lt o ≡ true → slice_cmp nat_cmp b a ≡ Less
@@ -73,15 +75,15 @@ none_misrelated m related id h = let r = related id h.0 h.1 in in_order m id h.0
 pub least_misrelated : (m : CityMap) (id : List ℕ) → IsLeastMisrelated m id → IsLeastId (IsMisrelatedAt m) id
 least_misrelated m id h = (h.0, λ j less wrong. let r = h.1 j wrong.0 less wrong.1 in in_order m j wrong.0 r.0 r.1 wrong.2)
 
-pub same_map : (points : List Point) (objects : Members) (es : Entries) (bad : Option (List ℕ)) → IsReadOf points objects es bad → at es ≡ lenient_map_of points objects
-same_map points objects es bad h = fun_ext (at-lenient points objects es h.read)
+pub same_map : (points : List Point) (objects : Members) (city : Objects) (bad : Option (List ℕ)) → IsReadOf points objects (entries city) bad → at city ≡ lenient_map_of points objects
+same_map points objects city bad h = at_entries city ∙ fun_ext (found-lenient points objects (entries city) h.read)
 
 -- the least of both searches is the least badly related object
-pub least_badly_related : (points : List Point) (objects : Members) (es : Entries) (bad found : Option (List ℕ)) → IsReadOf points objects es bad → IsLeastIfAny (IsMisrelatedAt (at es)) found
+pub least_badly_related : (points : List Point) (objects : Members) (city : Objects) (bad found : Option (List ℕ)) → IsReadOf points objects (entries city) bad → IsLeastIfAny (IsMisrelatedAt (at city)) found
     → IsLeastIfAny (IsBadlyRelatedAt points objects) (lesser bad found)
-least_badly_related points objects es bad found h least =
+least_badly_related points objects city bad found h least =
     lesser_least (Has has_bad_list objects) (IsMisrelatedAt (lenient_map_of points objects)) bad found (least_list objects bad h.ordered h.lists)
-    (subst (λ m. IsLeastIfAny (IsMisrelatedAt m) found) (same_map points objects es bad h) least)
+    (subst (λ m. IsLeastIfAny (IsMisrelatedAt m) found) (same_map points objects city bad h) least)
 
 -- ---- of what searches answer
 
@@ -120,7 +122,7 @@ lesser-none None b h = (refl, h)
 lesser-none (Some a) None h = absurd (let no : ⊥ = cc in no)
 lesser-none (Some a) (Some b) h = absurd (some_choice (is_lt (slice_cmp nat_cmp b a)) a b h)
 
--- where the relations of the entries agree, and there is no bad list, no object is badly related
-pub none_badly_related : (points : List Point) (objects : Members) (es : Entries) (bad : Option (List ℕ)) → IsReadOf points objects es bad → bad ≡ None → IsRelated (at es) → (id : List ℕ) → IsBadlyRelatedAt points objects id → ⊥
-none_badly_related points objects es bad h none related id (inl list) = none_is_none has_bad_list objects id h.ordered (sym h.lists ∙ none) list
-none_badly_related points objects es bad h none related id (inr wrong) = none_misrelated (lenient_map_of points objects) (subst IsRelated (same_map points objects es bad h) related) id wrong
+-- where the relations of the objects agree, and there is no bad list, no object is badly related
+pub none_badly_related : (points : List Point) (objects : Members) (city : Objects) (bad : Option (List ℕ)) → IsReadOf points objects (entries city) bad → bad ≡ None → IsRelated (at city) → (id : List ℕ) → IsBadlyRelatedAt points objects id → ⊥
+none_badly_related points objects city bad h none related id (inl list) = none_is_none has_bad_list objects id h.ordered (sym h.lists ∙ none) list
+none_badly_related points objects city bad h none related id (inr wrong) = none_misrelated (lenient_map_of points objects) (subst IsRelated (same_map points objects city bad h) related) id wrong

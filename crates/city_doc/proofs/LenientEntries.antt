@@ -9,7 +9,7 @@ use Rattle.serde_json.specs.Find.{get_member}
 use Rattle.city_model.specs.declared.object.Body.{Body}
 use Rattle.city_model.specs.declared.object.Object.{Object}
 use Rattle.city_model.specs.declared.object.Point.{Point}
-use Rattle.city_model.specs.CityMap.{Entries, at}
+use Rattle.city_model.specs.CityMap.{Entries, found_in}
 use Rattle.city_doc.specs.Bodies.{body_of, object_of, ids_at}
 use Rattle.city_doc.specs.CityFaults.{body_has, or_empty, lenient_object_of, lenient_map_of}
 use Rattle.city_doc.specs.Documents.{entries_of}
@@ -47,11 +47,11 @@ at_order Less found d x rest further is h = h
 at_order Equal found d x rest further is h = sym is
 at_order Greater found d x rest further is h = h
 
-pub at-lenient : (points : List Point) (ms : Members) (es : Entries) → lenient_entries_of points ms ≡ Some es → (id : List ℕ) → at es id ≡ lenient_map_of points ms id
-at-lenient points no_members es h id = ap (λ x. at x id) (none_read points es h)
-at-lenient points (member k d ms) es h id =
+pub found-lenient : (points : List Point) (ms : Members) (es : Entries) → lenient_entries_of points ms ≡ Some es → (id : List ℕ) → found_in es id ≡ lenient_map_of points ms id
+found-lenient points no_members es h id = ap (λ x. found_in x id) (none_read points es h)
+found-lenient points (member k d ms) es h id =
     let s = starts_read points k d ms es h in
-    ap (λ x. at x id) s.are ∙ at_order (slice_cmp nat_cmp id k) (lenient_object_of points) d s.object (at s.entries id) (get_member id ms) s.first (at-lenient points ms s.entries s.rest id)
+    ap (λ x. found_in x id) s.are ∙ at_order (slice_cmp nat_cmp id k) (lenient_object_of points) d s.object (found_in s.entries id) (get_member id ms) s.first (found-lenient points ms s.entries s.rest id)
 
 -- ---- searches
 
@@ -83,11 +83,11 @@ found_body test true e o rest here further h = let same : e ≡ o = cc in ap (λ
 found_body test false e o rest here further h = further h
 
 -- where a search finds nothing, no object has it
-pub first_body-none : (test : Body → Bool) (es : Entries) → first_body test es ≡ None → (id : List ℕ) (o : Object) → at es id ≡ Some o → test o.body ≡ false
+pub first_body-none : (test : Body → Bool) (es : Entries) → first_body test es ≡ None → (id : List ℕ) (o : Object) → found_in es id ≡ Some o → test o.body ≡ false
 first_body-none test [] none id o h = cc
 first_body-none test (e ∷ es) none id o h =
     let n = none_first (test e.1.body) e.0 (first_body test es) none in
-    found_body test (is_eq (slice_cmp nat_cmp id e.0)) e.1 o (at es id) n.0 (first_body-none test es n.1 id o) h
+    found_body test (is_eq (slice_cmp nat_cmp id e.0)) e.1 o (found_in es id) n.0 (first_body-none test es n.1 id o) h
 
 -- ---- lists that are arrays of texts
 

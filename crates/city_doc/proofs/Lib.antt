@@ -15,6 +15,7 @@ pub mod LawfulTrees
 pub mod Least
 pub mod LenientEntries
 pub mod LenientObjects
+mod Listings
 mod ListsRead
 mod NestsNoDeeper
 pub mod NoFault
@@ -40,6 +41,7 @@ pub mod ScriptLists
 pub mod ScriptMeanings
 pub mod Searches
 pub mod Totals
+pub mod Trees
 mod TriplesRead
 mod Walks
 pub mod IntegralParts

@@ -19,8 +19,9 @@ use Rattle.city_model.specs.Members.{without}
 use Rattle.city_model.specs.Shells.{Ring, Surface, Shell}
 use Rattle.city_model.specs.Types.{name_of}
 use Rattle.city_doc.specs.Bodies.{read_items, list_of, list_or_absent, kept_if, without_geometry_members, geometry_of, geometry_with, shape_in, without_object_members, type_of, ids_at, body_of, object_of}
-use Rattle.city_doc.specs.Canonical.{list_data, point_data, ring_data, surface_data, shell_data, boundaries_data, shape_name, geometry_data, put_list, object_data, with_objects}
+use Rattle.city_doc.specs.Canonical.{list_data, point_data, ring_data, surface_data, shell_data, boundaries_data, shape_name, geometry_data, put_list, object_data}
 use Rattle.city_doc.specs.Documents.{entries_of, entries_in}
+use Rattle.city_doc.proofs.Listings.{OfEach}
 
 -- ---- what holds of an answer
 
@@ -222,18 +223,17 @@ module _ (pool points : List Point) (m : ℕ) (deep : 4 ≤ m) where
       (as_object d) (object_members_depth d (suc (suc m)) h))
       (list_or_absent_within (geometry_of points) (geometry_data pool) (suc m) (geometry_within pool points m deep) (get (codes "geometry") d) (get_depth (codes "geometry") d (suc (suc m)) h)))
 
-  -- wherever the objects are put in
   abbrev AreEntriesWithin : Entries → Type 0
-  AreEntriesWithin es = (ms : Members) → members_depth ms ≤ suc (suc (suc m)) → members_depth (with_objects pool ms es) ≤ suc (suc (suc m))
+  AreEntriesWithin es = OfEach (λ o. depth (object_data pool o) ≤ suc (suc (suc m))) es
 
   entry_within : (id : List ℕ) (o : Option Object) (es : Option Entries) → Holds (λ o. depth (object_data pool o) ≤ suc (suc (suc m))) o → Holds AreEntriesWithin es
       → Holds AreEntriesWithin (option_and_then (λ o. option_map (λ es. (id, o) ∷ es) es) o)
   entry_within id None es h r = tt
   entry_within id (Some o) None h r = tt
-  entry_within id (Some o) (Some es) h r = λ ms within. r (put id (object_data pool o) ms) (put_depth id (object_data pool o) ms (suc (suc (suc m))) h within)
+  entry_within id (Some o) (Some es) h r = (h, r)
 
   entries_within : (ms : Members) → members_depth ms ≤ suc (suc (suc m)) → Holds AreEntriesWithin (entries_of points ms)
-  entries_within no_members h = λ ms within. within
+  entries_within no_members h = tt
   entries_within (member id d ms) h = entry_within id (object_of points d) (entries_of points ms) (object_within d (omega arith)) (entries_within ms (omega arith))
 
   pub objects_within : (d : Data) → depth d ≤ suc (suc (suc (suc (suc m)))) → Holds AreEntriesWithin (entries_in points d)

@@ -11,7 +11,7 @@ use Rattle.city_model.specs.declared.command.Cause.TheVariants.{ShortRing, SameT
 use Rattle.city_model.specs.declared.object.Body.{Body}
 use Rattle.city_model.specs.declared.object.Object.{Object}
 use Rattle.city_model.specs.declared.object.Point.{Point}
-use Rattle.city_model.specs.CityMap.{Entries, at}
+use Rattle.city_model.specs.CityMap.{Entries, found_in}
 use Rattle.city_model.specs.Relations.{IsRelated, IsLawful}
 use Rattle.city_model.specs.Shells.{body_fault, some_shape, has_short_ring, has_same_twice, has_open_shell}
 use Rattle.city_doc.specs.Bodies.{body_of, ids_at, object_of}
@@ -21,7 +21,7 @@ use Rattle.city_doc.specs.LenientCities.{lenient_entries_of}
 use Rattle.city_doc.specs.ObjectFaults.{has_bad_list}
 use Rattle.city_doc.specs.Searches.{Has}
 use Rattle.city_doc.proofs.Least.{none_misrelated}
-use Rattle.city_doc.proofs.LenientEntries.{at-lenient}
+use Rattle.city_doc.proofs.LenientEntries.{found-lenient}
 use Rattle.city_doc.proofs.Options.{and_then_some, map_some}
 
 -- ---- an object that is read
@@ -53,13 +53,13 @@ found_at Less points first d further here rest is more h = more h
 found_at Equal points first d further here rest is more h = let same : first ≡ d = cc in (here, subst (λ x. object_of points x ≡ Some here) same is, refl)
 found_at Greater points first d further here rest is more h = more h
 
-pub found : (points : List Point) (ms : Members) (es : Entries) (id : List ℕ) (d : Data) → entries_of points ms ≡ Some es → get_member id ms ≡ Some d → (o : Object) × (object_of points d ≡ Some o) × (at es id ≡ Some o)
+pub found : (points : List Point) (ms : Members) (es : Entries) (id : List ℕ) (d : Data) → entries_of points ms ≡ Some es → get_member id ms ≡ Some d → (o : Object) × (object_of points d ≡ Some o) × (found_in es id ≡ Some o)
 found points no_members es id d read h = absurd (let no : ⊥ = cc in no)
 found points (member k x ms) es id d read h =
     let o = and_then_some (λ y. option_map (λ ys. (k, y) ∷ ys) (entries_of points ms)) (object_of points x) es read in
     let r = map_some (λ ys. (k, o.0) ∷ ys) (entries_of points ms) es o.2 in
-    let f = found_at (slice_cmp nat_cmp id k) points x d (get_member id ms) o.0 (at r.0 id) o.1 (found points ms r.0 id d r.1) h in
-    (f.0, f.1, ap (λ l. at l id) r.2 ∙ f.2)
+    let f = found_at (slice_cmp nat_cmp id k) points x d (get_member id ms) o.0 (found_in r.0 id) o.1 (found points ms r.0 id d r.1) h in
+    (f.0, f.1, ap (λ l. found_in l id) r.2 ∙ f.2)
 
 lenient : (points : List Point) (d : Data) (o : Object) → object_of points d ≡ Some o → faults.lenient_object_of points d ≡ Some o
 lenient points d o h = let r = read_as points d o h in rw (r.body, r.parents, r.children) refl
@@ -82,7 +82,7 @@ all_sound false false true h = absurd (let no : ⊥ = cc in no)
 all_sound false false false h = (refl, refl)
 
 -- of a lawful city's objects
-module _ (points : List Point) (ms : Members) (es : Entries) (read : entries_of points ms ≡ Some es) (lawful : IsLawful (at es)) where
+module _ (points : List Point) (ms : Members) (es : Entries) (read : entries_of points ms ≡ Some es) (lawful : IsLawful (found_in es)) where
   -- a test of trees that no object passes that is read
   pub no_object : (test : Data → Bool) → ((d : Data) (b : Body) → body_of points d ≡ Some b → test d ≡ false) → (id : List ℕ) → Has test ms id → ⊥
   no_object test out id h =
@@ -107,10 +107,10 @@ module _ (points : List Point) (ms : Members) (es : Entries) (read : entries_of 
       let r = read_as points h.0 o.0 o.1 in
       true≢false (sym h.2 ∙ or_from _ _ (ap is_none r.parents) (ap is_none r.children))
 
-  same_map : at es ≡ faults.lenient_map_of points ms
-  same_map = fun_ext (at-lenient points ms es (lenient_entries points ms es read))
+  same_map : found_in es ≡ faults.lenient_map_of points ms
+  same_map = fun_ext (found-lenient points ms es (lenient_entries points ms es read))
 
-  related : IsRelated (at es)
+  related : IsRelated (found_in es)
   related id o is = ((lawful.0 id o is).0, lawful.1 id o is)
 
   pub no_badly_related : (id : List ℕ) → faults.IsBadlyRelatedAt points ms id → ⊥

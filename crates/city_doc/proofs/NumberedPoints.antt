@@ -12,7 +12,7 @@ use Rattle.city_model.specs.declared.object.Shape.{Shape}
 use Rattle.city_model.specs.declared.object.Shape.TheVariants.{MultiSurface, CompositeSurface, Solid}
 use Rattle.city_model.specs.Shells.{Ring, Surface, Shell, same_point}
 use Rattle.city_doc.specs.Bodies.{point_at, list_of, surface_of, surfaces_of, shells_of, shape_of}
-use Rattle.city_doc.specs.Pool.{surface_points, shell_points, shape_points, without_repeats, place_of}
+use Rattle.city_doc.specs.Pool.{surface_points, shell_points, shape_points, without_repeats, number_of}
 use Rattle.city_doc.specs.Canonical.{point_data, ring_data, surface_data, shell_data, boundaries_data, shape_name}
 use Rattle.city_doc.proofs.ListsRead.{list_read}
 use Rattle.city_doc.proofs.Points.{same_point-symm, same_point-congr}
@@ -99,22 +99,22 @@ parts_in pool f xs h = parts (is_in pool) f xs h
 
 -- ---- a number is read as its point
 
-found_step : (b : Bool) (p q : Point) (pool : List Point) → same_point p q ≡ b → (b || is_in pool p) ≡ true → (is_in pool p ≡ true → slice_get pool (place_of pool p) ≡ Some p)
-    → slice_get (q ∷ pool) (cond (not b) (1 + place_of pool p) 0) ≡ Some p
+found_step : (b : Bool) (p q : Point) (pool : List Point) → same_point p q ≡ b → (b || is_in pool p) ≡ true → (is_in pool p ≡ true → slice_get pool (number_of pool p) ≡ Some p)
+    → slice_get (q ∷ pool) (cond (not b) (1 + number_of pool p) 0) ≡ Some p
 found_step true p q pool e h rest = ap Some (sym (same_point-is p q e))
-found_step false p q pool e h rest = let next : 1 + place_of pool p ≡ suc (place_of pool p) = omega arith in rw next (rest h)
+found_step false p q pool e h rest = let next : 1 + number_of pool p ≡ suc (number_of pool p) = omega arith in rw next (rest h)
 
--- at the place of a point stands that point
-found : (pool : List Point) (p : Point) → is_in pool p ≡ true → slice_get pool (place_of pool p) ≡ Some p
+-- at the number of a point stands that point
+found : (pool : List Point) (p : Point) → is_in pool p ≡ true → slice_get pool (number_of pool p) ≡ Some p
 found [] p h = absurd (true≢false (sym h))
 found (q ∷ pool) p h = found_step (same_point p q) p q pool refl h (found pool p)
 
-small_place : (pool : List Point) (p : Point) → length pool < 2 ^ 63 → is_in pool p ≡ true → place_of pool p < 2 ^ 63
-small_place pool p small h = let within : place_of pool p ≤ length pool = prefix_len-le-length (λ q. not (same_point p q)) pool in omega arith
+small_number : (pool : List Point) (p : Point) → length pool < 2 ^ 63 → is_in pool p ≡ true → number_of pool p < 2 ^ 63
+small_number pool p small h = let within : number_of pool p ≤ length pool = prefix_len-le-length (λ q. not (same_point p q)) pool in omega arith
 
 module _ (pool : List Point) (small : length pool < 2 ^ 63) where
   point_read : (p : Point) → is_in pool p ≡ true → point_at pool (point_data pool p) ≡ Some p
-  point_read p h = let fits : nat_lt (place_of pool p) (2 ^ 63) ≡ true = lt-ltb _ _ (small_place pool p small h) in rw fits (found pool p h)
+  point_read p h = let fits : nat_lt (number_of pool p) (2 ^ 63) ≡ true = lt-ltb _ _ (small_number pool p small h) in rw fits (found pool p h)
 
   ring_read : (r : Ring) → are_in pool r ≡ true → list_of (point_at pool) (ring_data pool r) ≡ Some r
   ring_read r h = list_read (point_at pool) (point_data pool) (is_in pool) point_read r h

@@ -1,5 +1,5 @@
 -- A loop that reads the members of a map in turn into a map in the order of their bytes.
-use Rattle.std.proofs.Common.{◌≡◌, ℕ, List, [], ◌∷◌, ◌++◌, map, Option, Some, None, option_map, String, Global, Ordering, Less, Greater, string_bytes, string_cmp, nat_cmp, refl, sym, ap, ◌∙◌, subst, append_assoc}
+use Rattle.std.proofs.Common.{◌≡◌, ℕ, List, [], ◌∷◌, ◌++◌, map, Some, None, option_map, String, Global, Ordering, Less, Greater, string_bytes, string_cmp, nat_cmp, refl, sym, ap, ◌∙◌, subst, append-nil}
 use Rattle.std.specs.List.{AllByRecursion}
 use Rattle.std.specs.List.Sorted.{IsStrictlySortedBy}
 use Rattle.std.specs.Map.{keys_of}
@@ -7,6 +7,7 @@ use Rattle.std.specs.BTreeMap.{insert_entry}
 use Rattle.std.specs.Cmp.{IsTotalOrder}
 use Rattle.std.specs.Cmp.Lexicographic.{slice_cmp}
 use Rattle.std.specs.Ordering.{ordering_reverse}
+use Rattle.std.proofs.lemmas.Iterator.Adapters.{option_map_id}
 use Rattle.serde_json.specs.Data.{Data, Members, member}
 use Rattle.serde_json.specs.View.{view, members_view}
 use Rattle.serde_json.proofs.Views.{Entry}
@@ -15,6 +16,7 @@ use Rattle.city_model.specs.declared.object.Object.{Object}
 use Rattle.city_model.specs.declared.object.Point.{Point}
 use Rattle.city_doc.specs.CityFaults.{lenient_object_of}
 use Rattle.city_doc.specs.LenientCities.{lenient_entries_of}
+use Rattle.city_doc.proofs.Options.{map_grown}
 
 module _ {K X : Type 0} {R : K → K → Ordering} (total : IsTotalOrder R) where
   -- a key in the middle is above the first
@@ -51,20 +53,12 @@ pub record IsReading (points : List Point) (all : Members) (done : Entries) (res
   pub read : lenient_entries_of points all ≡ option_map (λ es. done ++ es) (lenient_entries_of points (members_view rest))
   pub sorted : IsStrictlySortedBy (slice_cmp nat_cmp) (keys_of done ++ map string_bytes (keys_of rest))
 
-option_map-id : {A : Type 0} (o : Option A) → o ≡ option_map (λ x. x) o
-option_map-id None = refl
-option_map-id (Some x) = refl
-
 pub begins : (points : List Point) (es : List Entry) → IsStrictlySortedBy string_cmp (keys_of es) → IsReading points (members_view es) [] es
-begins points es h = record { read = option_map-id (lenient_entries_of points (members_view es)); sorted = sorted_bytes (keys_of es) h }
-
-push_map : {A : Type 0} (done : List A) (o : A) (rest : Option (List A)) → option_map (λ os. done ++ os) (option_map (λ os. o ∷ os) rest) ≡ option_map (λ os. (done ++ o ∷ []) ++ os) rest
-push_map done o None = refl
-push_map done o (Some os) = ap Some (sym (append_assoc done (o ∷ []) os))
+begins points es h = record { read = sym (option_map_id (lenient_entries_of points (members_view es))); sorted = sorted_bytes (keys_of es) h }
 
 entries_push : (points : List Point) (done : Entries) (k : List ℕ) (d : Data) (o : Object) (ms : Members) → lenient_object_of points d ≡ Some o
     → option_map (λ es. done ++ es) (lenient_entries_of points (member k d ms)) ≡ option_map (λ es. (done ++ (k, o) ∷ []) ++ es) (lenient_entries_of points ms)
-entries_push points done k d o ms is = rw is (push_map done (k, o) (lenient_entries_of points ms))
+entries_push points done k d o ms is = rw is (map_grown (lenient_entries_of points ms) done (k, o))
 
 entries_stop : (points : List Point) (done : Entries) (k : List ℕ) (d : Data) (ms : Members) → lenient_object_of points d ≡ None
     → option_map (λ es. done ++ es) (lenient_entries_of points (member k d ms)) ≡ None
@@ -79,10 +73,6 @@ goes_on points all done e left o is h = record {
 
 pub stops : (points : List Point) (all : Members) (done : Entries) (e : Entry) (left : List Entry) → lenient_object_of points (view e.1) ≡ None → IsReading points all done (e ∷ left) → None ≡ lenient_entries_of points all
 stops points all done e left is h = sym (h.read ∙ entries_stop points done (string_bytes e.0) (view e.1) (members_view left) is)
-
-append-nil : {A : Type 0} (done : List A) → done ++ [] ≡ done
-append-nil [] = refl
-append-nil (x ∷ xs) = ap (λ ys. x ∷ ys) (append-nil xs)
 
 pub ends : (points : List Point) (all : Members) (done : Entries) → IsReading points all done [] → Some done ≡ lenient_entries_of points all
 ends points all done h = sym (h.read ∙ ap Some (append-nil done))

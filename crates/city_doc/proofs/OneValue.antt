@@ -2,7 +2,8 @@
 use Rattle.std.proofs.Common.{◌≡◌, ℕ, List, Some, sym, ap, ◌∙◌}
 use Rattle.serde_json.specs.Data.{Data}
 use Rattle.city_model.specs.Runs.{Scripted}
-use Rattle.city_doc.specs.Documents.{CityValue, city_of, StandsForCity}
+use Rattle.city_model.specs.CityMap.{CityValue}
+use Rattle.city_doc.specs.Documents.{city_of, StandsForCity}
 use Rattle.city_doc.specs.ScriptTexts.{StandsForScripts}
 use Rattle.city_doc.specs.ScriptTrees.{scripts_of}
 use Rattle.city_doc.specs.Texts.{IsText}

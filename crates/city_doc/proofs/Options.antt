@@ -1,5 +1,5 @@
--- What an option that has a value was made of.
-use Rattle.std.proofs.Common.{◌≡◌, Bool, true, false, Option, Some, None, option_map, refl}
+-- What an option that has a value was made of, and lists that grow under one.
+use Rattle.std.proofs.Common.{◌≡◌, List, [], ◌∷◌, ◌++◌, Bool, true, false, Option, Some, None, option_map, refl, sym, ap, append_assoc}
 use Rattle.std.specs.Prelude.{option_and_then, if◌then◌else◌}
 
 pub and_then_some : {A B : Type 0} (g : A → Option B) (o : Option A) (y : B) → option_and_then g o ≡ Some y → (x : A) × (o ≡ Some x) × (g x ≡ Some y)
@@ -13,3 +13,8 @@ map_some f (Some x) y h = let is : y ≡ f x = cc in (x, refl, is)
 pub if_some : {A : Type 0} (b : Bool) (o : Option A) (x : A) → (if b then o else None) ≡ Some x → (b ≡ true) × (o ≡ Some x)
 if_some true o x h = (refl, h)
 if_some false o x h = absurd (let no : ⊥ = cc in no)
+
+-- a value that goes first in what follows goes last in what is there
+pub map_grown : {A : Type 0} (o : Option (List A)) (done : List A) (x : A) → option_map (λ xs. done ++ xs) (option_map (λ xs. x ∷ xs) o) ≡ option_map (λ xs. (done ++ x ∷ []) ++ xs) o
+map_grown None done x = refl
+map_grown (Some xs) done x = ap Some (sym (append_assoc done (x ∷ []) xs))

@@ -7,7 +7,7 @@ use Rattle.serde_json.specs.Find.{get_member}
 use Rattle.serde_json.proofs.Views.{get_member-put_other}
 use Rattle.city_model.specs.CityMap.{same_id}
 use Rattle.city_model.specs.Members.{without}
-use Rattle.city_model.proofs.MemberLaws.{same_id-refl}
+use Rattle.city_model.proofs.Ids.{same_id_itself}
 use Rattle.city_doc.specs.Canonical.{list_data, put_list}
 use Rattle.city_doc.proofs.WithoutMembers.{without-swap}
 
@@ -15,7 +15,7 @@ use Rattle.city_doc.proofs.WithoutMembers.{without-swap}
 
 -- the other names keep their values
 pub get_member-put_apart : (q k : List ℕ) (d : Data) (ms : Members) → same_id q k ≡ false → get_member q (put k d ms) ≡ get_member q ms
-get_member-put_apart q k d ms apart = get_member-put_other q k d ms (λ (e : q ≡ k). true≢false (sym (same_id-refl q) ∙ ap (same_id q) e ∙ apart))
+get_member-put_apart q k d ms apart = get_member-put_other q k d ms (λ (e : q ≡ k). true≢false (sym (same_id_itself q) ∙ ap (same_id q) e ∙ apart))
 
 pub get_member-put_list_apart : {A : Type 0} (q k : List ℕ) (f : A → Data) (xs : List A) (ms : Members) → same_id q k ≡ false → get_member q (put_list k f xs ms) ≡ get_member q ms
 get_member-put_list_apart q k f [] ms apart = refl
@@ -37,13 +37,13 @@ without-absent name (member k d ms) none = absent_step (slice_cmp nat_cmp name k
 put_step : (o : Ordering) (name l : List ℕ) (d e : Data) (ms : Members) → slice_cmp nat_cmp name l ≡ o → match_ordering o (get_member name ms) (Some e) (get_member name ms) ≡ None
     → without name (member l e ms) ≡ member l e ms → (get_member name ms ≡ None → without name (put name d ms) ≡ ms)
     → without name (match_ordering o (member name d (member l e ms)) (member l d ms) (member l e (put name d ms))) ≡ member l e ms
-put_step Less name l d e ms is none same rest = rw (same_id-refl name) same
+put_step Less name l d e ms is none same rest = rw (same_id_itself name) same
 put_step Equal name l d e ms is none same rest = absurd (let no : ⊥ = cc in no)
 put_step Greater name l d e ms is none same rest = rw is (ap (member l e) (rest none))
 
 -- what was put in at a new name is taken out again
 pub without-put : (name : List ℕ) (d : Data) (ms : Members) → get_member name ms ≡ None → without name (put name d ms) ≡ ms
-without-put name d no_members none = rw (same_id-refl name) refl
+without-put name d no_members none = rw (same_id_itself name) refl
 without-put name d (member l e ms) none = put_step (slice_cmp nat_cmp name l) name l d e ms refl none (without-absent name (member l e ms) none) (without-put name d ms)
 
 pub without-put_list : {A : Type 0} (name : List ℕ) (f : A → Data) (xs : List A) (ms : Members) → get_member name ms ≡ None → without name (put_list name f xs ms) ≡ ms

@@ -19,7 +19,7 @@ use Rattle.city_doc.proofs.Cities.{get-object}
 use Rattle.city_doc.proofs.KeptMembers.{kept_all, integral_member, object_admitted}
 use Rattle.city_doc.proofs.Readable.{geometries_some}
 use Rattle.city_doc.proofs.Right.{some_of}
-use Rattle.city_doc.proofs.IntegralParts.{as_object-whole}
+use Rattle.city_doc.proofs.IntegralParts.{as_object-integral}
 
 -- the member `geometry`, after `type` was taken out
 pub geometry_stays : (d : Data) (ms left : Members) (found : Option Data) → as_object d ≡ Some ms → left ≡ without (codes "type") ms → found ≡ get_member (codes "geometry") left → get (codes "geometry") d ≡ found
@@ -50,7 +50,7 @@ not_located false rest h = refl
 
 -- a tree of whole numbers that is an object of a known type, with nothing unsupported and with positions that name points
 pub record IsReadable (points : List Point) (d : Data) : Type 0 where
-  pub whole : is_integral d ≡ true
+  pub integral : is_integral d ≡ true
   pub is_object : is_some (as_object d) ≡ true
   pub known : is_unknown_type d ≡ false
   pub supported : is_unsupported d ≡ false
@@ -59,11 +59,11 @@ pub record IsReadable (points : List Point) (d : Data) : Type 0 where
 pub body_of-some : (points : List Point) (d : Data) → IsReadable points d → (body : Body) × (body_of points d ≡ Some body)
 body_of-some points d h =
     let ms = some_of (as_object d) h.is_object in
-    let whole = as_object-whole d ms.0 h.whole ms.1 in
+    let integral = as_object-integral d ms.0 h.integral ms.1 in
     let kind = known_some (type_of d) h.known in
     let located = not_located (has_location (get (codes "address") d)) _ h.supported in
     let elsewhere = ap has_location (sym (get-object (codes "address") d ms.0 ms.1)) ∙ located in
-    let kept = kept_all kept_at_object (without_object_members ms.0) (object_admitted ms.0 whole elsewhere) in
+    let kept = kept_all kept_at_object (without_object_members ms.0) (object_admitted ms.0 integral elsewhere) in
     let geometry = get-object (codes "geometry") d ms.0 ms.1 in
-    let gs = geometries_some points (get (codes "geometry") d) (λ g is. integral_member (codes "geometry") ms.0 g whole (sym geometry ∙ is)) (not-false _ h.placed) in
+    let gs = geometries_some points (get (codes "geometry") d) (λ g is. integral_member (codes "geometry") ms.0 g integral (sym geometry ∙ is)) (not-false _ h.placed) in
     (_, body_read points d kind.0 ms.0 kind.1 ms.1 gs.0 (without_object_members ms.0) gs.1 kept)

@@ -13,8 +13,8 @@ use Rattle.city_model.specs.declared.object.Point.{Point}
 use Rattle.city_model.specs.declared.object.Shape.{Shape}
 use Rattle.city_model.specs.declared.object.Shape.TheVariants.{MultiSurface, CompositeSurface, Solid}
 use Rattle.city_model.specs.Shells.{Ring, Surface, Shell}
-use Rattle.city_doc.specs.Bodies.{read_items, list_of, list_or_absent, point_at_place, point_at, surface_of, surfaces_of, shells_of, shape_of, shape_in, text_at, geometry_with, geometry_of}
-use Rattle.city_doc.specs.Geometries.{natural, is_below, is_number, is_place, all_items, are_items, is_list_of, are_surfaces, is_boundaries, are_boundaries_of, is_geometry, are_geometries}
+use Rattle.city_doc.specs.Bodies.{read_items, list_of, list_or_absent, point_at_position, point_at, surface_of, surfaces_of, shells_of, shape_of, shape_in, text_at, geometry_with, geometry_of}
+use Rattle.city_doc.specs.Geometries.{natural, is_below, is_number, is_position, all_items, are_items, is_list_of, are_surfaces, is_boundaries, are_boundaries_of, is_geometry, are_geometries}
 use Rattle.city_doc.specs.ObjectFaults.{unsupported_types, only_if, unsupported_type, first_unsupported}
 use Rattle.city_doc.proofs.Cities.{get-object}
 use Rattle.city_doc.proofs.Options.{and_then_some, map_some}
@@ -34,15 +34,15 @@ module _ {X : Type 0} (test : Data → Bool) (read : Data → Option X) (one : (
 
 -- ---- positions
 
-place_below : (points : List Point) (o : Option ℤ) (p : Point) → option_and_then (point_at_place points) o ≡ Some p → is_below (length points) (option_and_then natural o) ≡ true
-place_below points None p h = absurd (let no : ⊥ = cc in no)
-place_below points (Some (pos n)) p h = lt-ltb n (length points) (slice_get_within points n p h)
-place_below points (Some (negsuc n)) p h = absurd (let is : None ≡ Some p = h in let no : ⊥ = cc in no)
+position_below : (points : List Point) (o : Option ℤ) (p : Point) → option_and_then (point_at_position points) o ≡ Some p → is_below (length points) (option_and_then natural o) ≡ true
+position_below points None p h = absurd (let no : ⊥ = cc in no)
+position_below points (Some (pos n)) p h = lt-ltb n (length points) (slice_get_within points n p h)
+position_below points (Some (negsuc n)) p h = absurd (let is : None ≡ Some p = h in let no : ⊥ = cc in no)
 
-pub place_fits : (points : List Point) (d : Data) (p : Point) → point_at points d ≡ Some p → is_place (length points) d ≡ true
-place_fits points d p h = place_below points (option_and_then as_i64 (as_number d)) p h
+pub position_fits : (points : List Point) (d : Data) (p : Point) → point_at points d ≡ Some p → is_position (length points) d ≡ true
+position_fits points d p h = position_below points (option_and_then as_i64 (as_number d)) p h
 
-a_number : (points : List Point) (o : Option Num) (p : Point) → option_and_then (point_at_place points) (option_and_then as_i64 o) ≡ Some p → is_some o ≡ true
+a_number : (points : List Point) (o : Option Num) (p : Point) → option_and_then (point_at_position points) (option_and_then as_i64 o) ≡ Some p → is_some o ≡ true
 a_number points None p h = absurd (let no : ⊥ = cc in no)
 a_number points (Some n) p h = refl
 

@@ -12,20 +12,21 @@ use Rattle.city_model.specs.declared.object.Shape.TheVariants.{MultiSurface, Com
 use Rattle.city_model.specs.Kept.{kept_at_geometry}
 use Rattle.city_model.specs.Shells.{Ring, Surface, Shell}
 use Rattle.city_model.specs.Integral.{is_integral, items_integral}
-use Rattle.city_doc.specs.Bodies.{read_items, list_of, list_or_absent, point_at_place, point_at, surface_of, surfaces_of, shells_of, shape_of, shape_in, text_at, kept_if, without_geometry_members, geometry_with, geometry_of}
-use Rattle.city_doc.specs.Geometries.{natural, is_below, is_place, all_items, is_list_of, are_surfaces, is_boundaries, are_boundaries_of, is_geometry, are_geometries}
+use Rattle.city_doc.specs.Bodies.{read_items, list_of, list_or_absent, point_at_position, point_at, surface_of, surfaces_of, shells_of, shape_of, shape_in, text_at, kept_if, without_geometry_members, geometry_with, geometry_of}
+use Rattle.city_doc.specs.Geometries.{natural, is_below, is_position, all_items, is_list_of, are_surfaces, is_boundaries, are_boundaries_of, is_geometry, are_geometries}
 use Rattle.city_doc.proofs.Cities.{get-object}
 use Rattle.city_doc.proofs.KeptMembers.{kept_all, integral_member, geometry_admitted}
 use Rattle.city_doc.proofs.Right.{some_of, item_read}
-use Rattle.city_doc.proofs.IntegralParts.{as_object-whole}
+use Rattle.city_doc.proofs.IntegralParts.{as_object-integral}
+use Rattle.city_doc.proofs.Trees.{object_with}
 
 -- ---- lists
 
 module _ {X : Type 0} (test : Data → Bool) (read : Data → Option X) (one : (d : Data) → is_integral d ≡ true → test d ≡ true → (x : X) × (read d ≡ Some x)) where
   items_some : (ds : Items) → items_integral ds ≡ true → all_items test ds ≡ true → (xs : List X) × (read_items read ds ≡ Some xs)
-  items_some no_items whole h = ([], refl)
-  items_some (item d ds) whole h =
-      let ws = and_parts (is_integral d) (items_integral ds) whole in
+  items_some no_items integral h = ([], refl)
+  items_some (item d ds) integral h =
+      let ws = and_parts (is_integral d) (items_integral ds) integral in
       let hs = and_parts (test d) (all_items test ds) h in
       let x = one d ws.0 hs.0 in
       let xs = items_some ds ws.1 hs.1 in
@@ -33,12 +34,12 @@ module _ {X : Type 0} (test : Data → Bool) (read : Data → Option X) (one : (
 
   -- an array each of whose items can be read is read
   pub list_some : (d : Data) → is_integral d ≡ true → is_list_of test d ≡ true → (xs : List X) × (list_of read d ≡ Some xs)
-  list_some null whole h = absurd (true≢false (sym h))
-  list_some (boolean b) whole h = absurd (true≢false (sym h))
-  list_some (number n) whole h = absurd (true≢false (sym h))
-  list_some (string s) whole h = absurd (true≢false (sym h))
-  list_some (array ds) whole h = items_some ds whole h
-  list_some (object ms) whole h = absurd (true≢false (sym h))
+  list_some null integral h = absurd (true≢false (sym h))
+  list_some (boolean b) integral h = absurd (true≢false (sym h))
+  list_some (number n) integral h = absurd (true≢false (sym h))
+  list_some (string s) integral h = absurd (true≢false (sym h))
+  list_some (array ds) integral h = items_some ds integral h
+  list_some (object ms) integral h = absurd (true≢false (sym h))
 
 -- ---- positions
 
@@ -47,17 +48,17 @@ get_some [] n lt = absurd (omega arith)
 get_some (x ∷ xs) zero lt = (x, refl)
 get_some (x ∷ xs) (suc n) lt = let lower : n < length xs = omega arith in get_some xs n lower
 
-place_some : (points : List Point) (o : Option ℤ) → is_below (length points) (option_and_then natural o) ≡ true → (p : Point) × (option_and_then (point_at_place points) o ≡ Some p)
-place_some points None h = absurd (true≢false (sym h))
-place_some points (Some (pos n)) h = get_some points n (ltb-true n (length points) h)
-place_some points (Some (negsuc n)) h = absurd (true≢false (sym h))
+position_some : (points : List Point) (o : Option ℤ) → is_below (length points) (option_and_then natural o) ≡ true → (p : Point) × (option_and_then (point_at_position points) o ≡ Some p)
+position_some points None h = absurd (true≢false (sym h))
+position_some points (Some (pos n)) h = get_some points n (ltb-true n (length points) h)
+position_some points (Some (negsuc n)) h = absurd (true≢false (sym h))
 
 module _ (points : List Point) where
   abbrev fits : Data → Bool
-  fits = is_place (length points)
+  fits = is_position (length points)
 
   point_some : (d : Data) → is_integral d ≡ true → fits d ≡ true → (p : Point) × (point_at points d ≡ Some p)
-  point_some d whole h = place_some points (option_and_then as_i64 (as_number d)) h
+  point_some d integral h = position_some points (option_and_then as_i64 (as_number d)) h
 
   ring_some : (d : Data) → is_integral d ≡ true → is_list_of fits d ≡ true → (r : Ring) × (list_of (point_at points) d ≡ Some r)
   ring_some = list_some fits (point_at points) point_some
@@ -80,29 +81,20 @@ module _ (points : List Point) where
       → (if multi then are_surfaces fits d else (if composite then are_surfaces fits d else (if solid then is_list_of (are_surfaces fits) d else false))) ≡ true
       → (s : Shape) × ((if multi then option_map MultiSurface (surfaces_of points d) else (if composite then option_map CompositeSurface (surfaces_of points d) else (if solid then option_map Solid (shells_of points d) else None)))
       ≡ Some s)
-  shape_cases true composite solid d whole h = made MultiSurface (surfaces_of points d) (surfaces_some d whole h)
-  shape_cases false true solid d whole h = made CompositeSurface (surfaces_of points d) (surfaces_some d whole h)
-  shape_cases false false true d whole h = made Solid (shells_of points d) (shells_some d whole h)
-  shape_cases false false false d whole h = absurd (true≢false (sym h))
+  shape_cases true composite solid d integral h = made MultiSurface (surfaces_of points d) (surfaces_some d integral h)
+  shape_cases false true solid d integral h = made CompositeSurface (surfaces_of points d) (surfaces_some d integral h)
+  shape_cases false false true d integral h = made Solid (shells_of points d) (shells_some d integral h)
+  shape_cases false false false d integral h = absurd (true≢false (sym h))
 
   shape_some : (kind : List ℕ) (d : Data) → is_integral d ≡ true → is_boundaries fits kind d ≡ true → (s : Shape) × (shape_of points kind d ≡ Some s)
-  shape_some kind d whole h = shape_cases (bytes_eq kind (codes "MultiSurface")) (bytes_eq kind (codes "CompositeSurface")) (bytes_eq kind (codes "Solid")) d whole h
+  shape_some kind d integral h = shape_cases (bytes_eq kind (codes "MultiSurface")) (bytes_eq kind (codes "CompositeSurface")) (bytes_eq kind (codes "Solid")) d integral h
 
   bounded : (kind : Option (List ℕ)) (o : Option Data) → ((d : Data) → o ≡ Some d → is_integral d ≡ true) → are_boundaries_of fits kind o ≡ true
       → (s : Shape) × (option_and_then (λ k. option_and_then (shape_of points k) o) kind ≡ Some s)
-  bounded None None whole h = absurd (true≢false (sym h))
-  bounded None (Some d) whole h = absurd (true≢false (sym h))
-  bounded (Some kind) None whole h = absurd (true≢false (sym h))
-  bounded (Some kind) (Some d) whole h = shape_some kind d (whole d refl) h
-
-  -- a tree that has a member is an object
-  has_members : (name : List ℕ) (d : Data) → is_some (text_at name d) ≡ true → (ms : Members) × (as_object d ≡ Some ms)
-  has_members name null h = absurd (true≢false (sym h))
-  has_members name (boolean b) h = absurd (true≢false (sym h))
-  has_members name (number n) h = absurd (true≢false (sym h))
-  has_members name (string s) h = absurd (true≢false (sym h))
-  has_members name (array ds) h = absurd (true≢false (sym h))
-  has_members name (object ms) h = (ms, refl)
+  bounded None None integral h = absurd (true≢false (sym h))
+  bounded None (Some d) integral h = absurd (true≢false (sym h))
+  bounded (Some kind) None integral h = absurd (true≢false (sym h))
+  bounded (Some kind) (Some d) integral h = shape_some kind d (integral d refl) h
 
   geometry_made : (shape : Shape) (ms : Members) (lod : List ℕ) → option_and_then as_str (get_member (codes "lod") ms) ≡ Some lod
       → kept_if kept_at_geometry (without_geometry_members ms) ≡ Some (without_geometry_members ms)
@@ -113,10 +105,10 @@ module _ (points : List Point) where
   geometry_joined d shape ms g is_shape is_object made = rw (is_shape, is_object) made
 
   geometry_some : (d : Data) → is_integral d ≡ true → is_geometry fits d ≡ true → (g : Geometry) × (geometry_of points d ≡ Some g)
-  geometry_some d whole h =
+  geometry_some d integral h =
       let hs = and_parts (is_some (text_at (codes "lod") d)) (are_boundaries_of fits (text_at (codes "type") d) (get (codes "boundaries") d)) h in
-      let ms = has_members (codes "lod") d hs.0 in
-      let integral_members = as_object-whole d ms.0 whole ms.1 in
+      let ms = object_with (λ o. is_some (option_and_then as_str o)) refl (codes "lod") d hs.0 in
+      let integral_members = as_object-integral d ms.0 integral ms.1 in
       let boundaries = get-object (codes "boundaries") d ms.0 ms.1 in
       let shape = bounded (text_at (codes "type") d) (get (codes "boundaries") d) (λ b is. integral_member (codes "boundaries") ms.0 b integral_members (sym boundaries ∙ is)) hs.1 in
       let lod = some_of (text_at (codes "lod") d) hs.0 in
@@ -126,5 +118,5 @@ module _ (points : List Point) where
 
   -- a list of geometries, or none
   pub geometries_some : (o : Option Data) → ((d : Data) → o ≡ Some d → is_integral d ≡ true) → are_geometries fits o ≡ true → (gs : List Geometry) × (list_or_absent (geometry_of points) o ≡ Some gs)
-  geometries_some None whole h = ([], refl)
-  geometries_some (Some d) whole h = list_some (is_geometry fits) (geometry_of points) geometry_some d (whole d refl) h
+  geometries_some None integral h = ([], refl)
+  geometries_some (Some d) integral h = list_some (is_geometry fits) (geometry_of points) geometry_some d (integral d refl) h

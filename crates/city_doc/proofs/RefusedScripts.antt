@@ -6,7 +6,7 @@ use Rattle.city_model.specs.Runs.{Scripted}
 use Rattle.city_model.specs.Integral.{is_integral}
 use Rattle.city_doc.specs.declared.fault.ScriptFault.{ScriptFault}
 use Rattle.city_doc.specs.declared.fault.ScriptFault.TheVariants.{OutOfMemory}
-use Rattle.city_doc.specs.BadCommands.{is_bad_command, is_misplaced}
+use Rattle.city_doc.specs.BadCommands.{is_bad_command, names_bad_vertex}
 use Rattle.city_doc.specs.ScriptTexts.{IsReadAs, HasAt, PartsFault, ItemsFault, TreeFault, ScriptTextFault}
 use Rattle.city_doc.specs.ScriptTrees.{ScriptParts, all_read, parts_of, script_of, vertex_count, are_too_many, scripts_of_parts, scripts_of}
 use Rattle.city_doc.specs.Texts.{HasTree, IsTooLong, IsReadable}
@@ -37,7 +37,7 @@ parts_refused : (ps : List ScriptParts) (ss : List Scripted) (f : ScriptFault) �
 parts_refused ps ss f few read (inl h) = not_both (are_too_many ps) h.1 few
 parts_refused ps ss f few read (inr (inl h)) =
     has_none (λ count d. is_bad_command d) ps ss h.0 h.1 (λ p s d is at. (script_of-faultless p s h.1 d is at).0) read h.4.0
-parts_refused ps ss f few read (inr (inr h)) = has_none is_misplaced ps ss h.0 h.1 (λ p s d is at. (script_of-faultless p s h.1 d is at).1) read h.5.0
+parts_refused ps ss f few read (inr (inr h)) = has_none names_bad_vertex ps ss h.0 h.1 (λ p s d is at. (script_of-faultless p s h.1 d is at).1) read h.5.0
 
 -- ---- items and trees
 
@@ -78,5 +78,5 @@ refused text f (inr (inr (inr (inl h)))) = inr (λ ss is. not_both (is_integral 
 refused text f (inr (inr (inr (inr h)))) = inr (λ ss is. tree_refused h.0 ss f (ap scripts_of (same_tree text h.0 is.0 h.1 is.1) ∙ is.3) h.3)
 
 pub refused_or : (text : List ℕ) (d : Data) (f : ScriptFault) → HasTree text d → is_integral d ≡ true → (f ≡ OutOfMemory) ⊎ TreeFault d f → (f ≡ OutOfMemory) ⊎ ((ss : List Scripted) → IsReadAs text ss → ⊥)
-refused_or text d f tree whole (inl h) = inl h
-refused_or text d f tree whole (inr h) = refused text f (inr (inr (inr (inr (d, tree, whole, h)))))
+refused_or text d f tree integral (inl h) = inl h
+refused_or text d f tree integral (inr h) = refused text f (inr (inr (inr (inr (d, tree, integral, h)))))

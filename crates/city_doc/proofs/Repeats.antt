@@ -63,6 +63,6 @@ with_points-is pool (p ∷ ps) =
           ∙ append_assoc pool (p ∷ []) (filter (is_new pool) (filter (differs p) rest))
     ] refl
 
--- the pool that starts empty has each point once, in the order of their first places
+-- the pool that starts empty has each point once, in the order of their first occurrences
 pub pool_is_without_repeats : (ps : List Point) → with_points [] ps ≡ without_repeats ps
 pool_is_without_repeats ps = with_points-is [] ps ∙ filter_nothing (without_repeats ps)

@@ -1,13 +1,13 @@
 -- The canonical tree of a city stands for that city.
-use Rattle.std.proofs.Common.{◌≡◌, true, Some, codes, nat_cmp, refl, ap, ◌∙◌}
+use Rattle.std.proofs.Common.{◌≡◌, true, Some, codes, refl, ap, ◌∙◌}
 use Rattle.std.specs.Prelude.{option_and_then}
-use Rattle.std.specs.Cmp.Lexicographic.{slice_cmp}
-use Rattle.std.specs.List.Sorted.{IsStrictlySortedBy}
-use Rattle.std.specs.Map.{keys_of}
+use Rattle.std.specs.FinMap.{entries}
 use Rattle.serde_json.specs.Data.{Data}
 use Rattle.serde_json.specs.Find.{as_object}
 use Rattle.serde_json.proofs.Views.{get_member-put}
-use Rattle.city_doc.specs.Documents.{CityValue, is_city_json, points_in, entries_of, entries_in, city_of}
+use Rattle.city_model.specs.CityMap.{CityValue}
+use Rattle.city_model.proofs.Objects.{entries_ascend}
+use Rattle.city_doc.specs.Documents.{is_city_json, points_in, entries_of, entries_in, city_of}
 use Rattle.city_doc.specs.Frames.{frame_of, frame_of_rest}
 use Rattle.city_doc.specs.Canonical.{vertices_data, objects_data, frame_members, tree_of}
 use Rattle.city_doc.specs.KeptMembers.{IsKeptCity}
@@ -19,13 +19,14 @@ use Rattle.city_doc.proofs.FramesRead.{pooled, get_type, get_version, no_objects
 use Rattle.city_doc.proofs.NumberedPoints.{points_in_pool}
 use Rattle.city_doc.proofs.PutMembers.{get_member-put_apart, without-put}
 use Rattle.city_doc.proofs.TriplesRead.{vertices_read}
+use Rattle.city_doc.proofs.Listings.{listed_again}
 
-module _ (c : CityValue) (kept : IsKeptCity c) (numbers : IsInRange (pool_of c) c.0) (ordered : IsStrictlySortedBy (slice_cmp nat_cmp) (keys_of c.1)) where
+module _ (c : CityValue) (kept : IsKeptCity c) (numbers : IsInRange (pool_of c) c.0) where
   abbrev vertices : Data
   vertices = vertices_data (pool_of c)
 
   abbrev objects : Data
-  objects = objects_data (pool_of c) c.1
+  objects = objects_data (pool_of c) (entries c.1)
 
   is_document : is_city_json (tree_of c) ≡ true
   is_document =
@@ -39,11 +40,11 @@ module _ (c : CityValue) (kept : IsKeptCity c) (numbers : IsInRange (pool_of c) 
       (get_member-put_apart (codes "vertices") (codes "CityObjects") objects (pooled c.0 vertices) refl ∙ get_member-put (codes "vertices") vertices (frame_members c.0))
       ∙ vertices_read (pool_of c) numbers.points
 
-  objects_read : entries_in (pool_of c) (tree_of c) ≡ Some c.1
+  objects_read : entries_in (pool_of c) (tree_of c) ≡ Some (entries c.1)
   objects_read =
       ap (λ o. option_and_then (entries_of (pool_of c)) (option_and_then as_object o)) (get_member-put (codes "CityObjects") objects (pooled c.0 vertices))
-      ∙ ap (entries_of (pool_of c)) (written_in_turn (pool_of c) c.1 ordered)
-      ∙ entries_read (pool_of c) c.1 numbers.fewer kept.objects (points_in_pool (city_points c))
+      ∙ ap (entries_of (pool_of c)) (written_in_turn (pool_of c) (entries c.1) (entries_ascend c.1))
+      ∙ entries_read (pool_of c) (entries c.1) numbers.fewer kept.objects (points_in_pool (city_points c))
 
   top_read : frame_of (tree_of c) ≡ Some c.0
   top_read =
@@ -52,4 +53,4 @@ module _ (c : CityValue) (kept : IsKeptCity c) (numbers : IsInRange (pool_of c) 
 
   -- what is written stands for the city
   pub city_read : city_of (tree_of c) ≡ Some c
-  city_read = rw (is_document, points_read, objects_read, top_read) refl
+  city_read = rw (is_document, points_read, objects_read, top_read) (ap (λ objects. Some (c.0, objects)) (listed_again c.1))

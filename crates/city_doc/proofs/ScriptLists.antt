@@ -15,7 +15,7 @@ use Rattle.city_model.proofs.Endings.{zero_rest}
 use Rattle.city_doc.proofs.AllRead.{all_read-cons, all_read-nil}
 use Rattle.city_doc.proofs.CommandMeanings.{command_of-end}
 
--- ---- the place of the first word that ends a script
+-- ---- the index of the first word that ends a script
 
 is_last-length : {A : Type 0} (f : A → Data) (xs : List A) (n : ℕ) → length xs ≡ n → is_last (map f xs) ≡ (n == 0)
 is_last-length f [] n e = grind (arith, e)

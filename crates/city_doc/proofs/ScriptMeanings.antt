@@ -1,6 +1,6 @@
 -- What scripts stand for.
-use Rattle.std.proofs.Common.{◌≡◌, ℕ, suc, ℤ, List, [], ◌∷◌, length, Bool, true, false, true≢false, Option, Some, None, option_map, refl, sym, ap, ◌∙◌}
-use Rattle.std.specs.Prelude.{◌&&◌, option_and_then, is_some, codes, slice_get, if◌then◌else◌}
+use Rattle.std.proofs.Common.{◌≡◌, ℕ, suc, List, [], ◌∷◌, length, Bool, true, false, Option, Some, None, option_map, refl, sym, ap, ◌∙◌}
+use Rattle.std.specs.Prelude.{◌&&◌, option_and_then, codes, slice_get, if◌then◌else◌}
 use Rattle.std.specs.List.{list_all}
 use Rattle.std.proofs.lemmas.Bool.{and_parts}
 use Rattle.serde_json.specs.Data.{Data, Items, no_items, item, Members}
@@ -10,8 +10,8 @@ use Rattle.city_model.specs.declared.command.Command.{Command}
 use Rattle.city_model.specs.Runs.{Scripted}
 use Rattle.city_model.specs.Integral.{is_integral}
 use Rattle.city_doc.specs.Bodies.{read_items}
-use Rattle.city_doc.specs.Triples.{integral_at, triple_of, point_of}
-use Rattle.city_doc.specs.BadCommands.{is_bad_command, is_misplaced}
+use Rattle.city_doc.specs.Triples.{point_of}
+use Rattle.city_doc.specs.BadCommands.{is_bad_command, names_bad_vertex}
 use Rattle.city_doc.specs.CommandForms.{text_in, command_of}
 use Rattle.city_doc.specs.ScriptTexts.{AreFaultlessParts}
 use Rattle.city_doc.specs.ScriptTrees.{ScriptParts, items_list, array_of, all_read, ended, word_ends, are_vertices, commands_in, has_script_members, parts_in, parts_if, parts_of, vertex_points, count_of, vertex_count, script_of, are_too_many, scripts_of_parts, scripts_of}
@@ -19,20 +19,9 @@ use Rattle.city_doc.proofs.AllRead.{in_all, all_read-all, all_read-some, all_rea
 use Rattle.city_doc.proofs.CommandMeanings.{command_of-some, command_of-faultless}
 use Rattle.city_doc.proofs.Options.{and_then_some, map_some, if_some}
 use Rattle.city_doc.proofs.Right.{array_some}
-use Rattle.city_doc.proofs.IntegralParts.{array_of-whole, as_object-whole, get_member-whole}
+use Rattle.city_doc.proofs.IntegralParts.{array_of-integral, as_object-integral, get_member-integral}
 
 -- ---- the points of vertices
-
-three_points : (b : Bool) (x y z : Option ℤ) → is_some (if b then None else option_and_then (λ i. option_and_then (λ j. option_map (λ k. i ∷ j ∷ k ∷ []) z) y) x) ≡ true
-    → (p : Point) × ((if b then None else option_and_then (λ i. option_and_then (λ j. option_map (λ k. record { x = i; y = j; z = k }) z) y) x) ≡ Some p)
-three_points true x y z h = absurd (true≢false (sym h))
-three_points false None y z h = absurd (true≢false (sym h))
-three_points false (Some x) None z h = absurd (true≢false (sym h))
-three_points false (Some x) (Some y) None h = absurd (true≢false (sym h))
-three_points false (Some x) (Some y) (Some z) h = (record { x = x; y = y; z = z }, refl)
-
-triple-point : (d : Data) → is_some (triple_of d) ≡ true → (p : Point) × (point_of d ≡ Some p)
-triple-point d h = three_points (is_some (at 3 d)) (integral_at 0 d) (integral_at 1 d) (integral_at 2 d) h
 
 vertices-points : (v : Option Data) → are_vertices v ≡ true → (ps : List Point) × (vertex_points v ≡ Some ps)
 vertices-points None h = ([], refl)
@@ -67,36 +56,36 @@ ended_is true ds cs h = cc
 ended_is false ds cs h = absurd (let no : ⊥ = cc in no)
 
 commands_integral : (ms : Members) (cs : List Data) → ((d : Data) → get_member (codes "commands") ms ≡ Some d → is_integral d ≡ true) → commands_in ms ≡ Some cs → list_all is_integral cs ≡ true
-commands_integral ms cs whole h =
+commands_integral ms cs integral h =
     let r = and_then_some ended (option_and_then array_of (get_member (codes "commands") ms)) cs h in
     let q = and_then_some array_of (get_member (codes "commands") ms) r.0 r.1 in
-    ap (list_all is_integral) (sym (ended_is (word_ends r.0) r.0 cs r.2)) ∙ array_of-whole q.0 r.0 (whole q.0 q.1) q.2
+    ap (list_all is_integral) (sym (ended_is (word_ends r.0) r.0 cs r.2)) ∙ array_of-integral q.0 r.0 (integral q.0 q.1) q.2
 
 parts_in-good : (ms : Members) (p : ScriptParts) → has_script_members ms ≡ true → ((d : Data) → get_member (codes "commands") ms ≡ Some d → is_integral d ≡ true)
     → parts_in ms ≡ Some p → are_good_parts p ≡ true
-parts_in-good ms p shape whole h =
+parts_in-good ms p shape integral h =
     let r = and_then_some (λ (name : List ℕ). option_map (λ (commands : List Data). let q : ScriptParts = record { name = name; commands = commands; vertices = get_member (codes "vertices") ms } in q)
     (commands_in ms)) (text_in (codes "name") ms) p h in
     let q = map_some (λ (commands : List Data). let q : ScriptParts = record { name = r.0; commands = commands; vertices = get_member (codes "vertices") ms } in q) (commands_in ms) p r.2 in
     let vertices : are_vertices (get_member (codes "vertices") ms) ≡ true = (and_parts _ _ shape).1 in
-    let all : list_all is_integral q.0 ≡ true = commands_integral ms q.0 whole q.1 in
+    let all : list_all is_integral q.0 ≡ true = commands_integral ms q.0 integral q.1 in
     ap are_good_parts q.2 ∙ rw (vertices, all) refl
 
 pub parts_of-good : (d : Data) (p : ScriptParts) → is_integral d ≡ true → parts_of d ≡ Some p → are_good_parts p ≡ true
-parts_of-good d p whole h =
+parts_of-good d p integral h =
     let r = and_then_some parts_if (as_object d) p h in
     let q = if_some (has_script_members r.0) (parts_in r.0) p r.2 in
-    parts_in-good r.0 p q.0 (λ e at. get_member-whole (codes "commands") r.0 e (as_object-whole d r.0 whole r.1) at) q.1
+    parts_in-good r.0 p q.0 (λ e at. get_member-integral (codes "commands") r.0 e (as_object-integral d r.0 integral r.1) at) q.1
 
 pub all_good : (ds : List Data) (ps : List ScriptParts) → list_all is_integral ds ≡ true → all_read parts_of ds ≡ Some ps → list_all are_good_parts ps ≡ true
-all_good ds ps whole h = all_read-all parts_of is_integral are_good_parts parts_of-good ds ps whole h
+all_good ds ps integral h = all_read-all parts_of is_integral are_good_parts parts_of-good ds ps integral h
 
 -- ---- scripts
 
 -- no command of it is refused
 record IsFaultlessScript (p : ScriptParts) : Type 0 where
   good : (i : ℕ) (d : Data) → slice_get p.commands i ≡ Some d → is_bad_command d ≡ true → ⊥
-  placed : (i : ℕ) (d : Data) → slice_get p.commands i ≡ Some d → is_misplaced (vertex_count p.vertices) d ≡ true → ⊥
+  placed : (i : ℕ) (d : Data) → slice_get p.commands i ≡ Some d → names_bad_vertex (vertex_count p.vertices) d ≡ true → ⊥
 
 not_true : (b : Bool) → (b ≡ true → ⊥) → b ≡ false
 not_true true h = absurd (h refl)
@@ -104,10 +93,10 @@ not_true false h = refl
 
 command_there : (p : ScriptParts) (points : List Point) → list_all is_integral p.commands ≡ true → IsFaultlessScript p → vertex_points p.vertices ≡ Some points
     → (i : ℕ) (d : Data) → slice_get p.commands i ≡ Some d → (c : Command) × (command_of points d ≡ Some c)
-command_there p points whole h read i d at =
-    let placed : is_misplaced (length points) d ≡ false =
-    ap (λ n. is_misplaced n d) (vertex_points-as_many p.vertices points read) ∙ not_true (is_misplaced (vertex_count p.vertices) d) (h.placed i d at) in
-    command_of-some points d (in_all is_integral p.commands i d whole at) (not_true (is_bad_command d) (h.good i d at)) placed
+command_there p points integral h read i d at =
+    let placed : names_bad_vertex (length points) d ≡ false =
+    ap (λ n. names_bad_vertex n d) (vertex_points-as_many p.vertices points read) ∙ not_true (names_bad_vertex (vertex_count p.vertices) d) (h.placed i d at) in
+    command_of-some points d (in_all is_integral p.commands i d integral at) (not_true (is_bad_command d) (h.good i d at)) placed
 
 script_some : (p : ScriptParts) → are_good_parts p ≡ true → IsFaultlessScript p → (s : Scripted) × (script_of p ≡ Some s)
 script_some p ok h =
@@ -125,8 +114,8 @@ faultless_at ps h n p at = record { good = λ i d there bad. h.1 n i (p, d, at, 
 
 -- scripts of whole numbers in which no fault stands
 pub scripts-there : (ds : List Data) (ps : List ScriptParts) → list_all is_integral ds ≡ true → all_read parts_of ds ≡ Some ps → AreFaultlessParts ps → all_read script_of ps ≡ None → ⊥
-scripts-there ds ps whole read h none =
-    let ss = scripts_some ps (all_good ds ps whole read) (faultless_at ps h) in
+scripts-there ds ps integral read h none =
+    let ss = scripts_some ps (all_good ds ps integral read) (faultless_at ps h) in
     let there = ss.1 in cc
 
 -- ---- a script that stands for one has no fault
@@ -137,12 +126,12 @@ script_parts p s h =
     let q = map_some (λ cs. (p.name, cs)) (all_read (command_of r.0) p.commands) s r.2 in (r.0, r.1, (q.0, q.1))
 
 pub script_of-faultless : (p : ScriptParts) (s : Scripted) (i : ℕ) (d : Data) → script_of p ≡ Some s → slice_get p.commands i ≡ Some d
-    → (is_bad_command d ≡ false) × (is_misplaced (vertex_count p.vertices) d ≡ false)
+    → (is_bad_command d ≡ false) × (names_bad_vertex (vertex_count p.vertices) d ≡ false)
 script_of-faultless p s i d h at =
     let r = script_parts p s h in
     let c = all_read-each (command_of r.0) p.commands r.2.0 r.2.1 i d at in
     let f = command_of-faultless r.0 d c.0 c.1 in
-    (f.0, ap (λ n. is_misplaced n d) (sym (vertex_points-as_many p.vertices r.0 r.1)) ∙ f.1)
+    (f.0, ap (λ n. names_bad_vertex n d) (sym (vertex_points-as_many p.vertices r.0 r.1)) ∙ f.1)
 
 -- ---- the scripts of an array
 

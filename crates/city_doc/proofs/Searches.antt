@@ -7,7 +7,7 @@ use Rattle.std.proofs.lemmas.Cmp.{nat_list_cmp_total, tied_itself}
 use Rattle.serde_json.specs.Data.{Data, Members, no_members, member}
 use Rattle.serde_json.specs.Find.{get_member}
 use Rattle.city_model.specs.Members.{AreOrdered, AllAbove}
-use Rattle.city_model.proofs.MemberLaws.{same_id-is}
+use Rattle.city_model.proofs.Ids.{same_id_true}
 use Rattle.city_doc.specs.Searches.{Has, IsLeast, first_with}
 
 -- a look-up passes a key that is above
@@ -31,7 +31,7 @@ here : (k : List ℕ) (d : Data) (ms : Members) → get_member k (member k d ms)
 here k d ms = rw (tied_itself nat_list_cmp_total k)
 
 same_key : (j k : List ℕ) → slice_cmp nat_cmp j k ≡ Equal → j ≡ k
-same_key j k e = same_id-is j k (ap is_eq e)
+same_key j k e = same_id_true j k (ap is_eq e)
 
 found_at : (o : Ordering) (k j l : List ℕ) (d : Data) (ms : Members) (e : Data) → slice_cmp nat_cmp j l ≡ o → slice_cmp nat_cmp k l ≡ Less → (get_member j ms ≡ Some e → slice_cmp nat_cmp k j ≡ Less)
     → match_ordering o (get_member j ms) (Some d) (get_member j ms) ≡ Some e → slice_cmp nat_cmp k j ≡ Less

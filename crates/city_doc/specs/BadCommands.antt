@@ -3,7 +3,8 @@ use Rattle.std.specs.Prelude.{◌||◌, ℕ, Bool, true, false, Option, Some, No
 use Rattle.serde_json.specs.Data.{Data}
 use Rattle.serde_json.specs.Find.{as_object}
 use Rattle.city_doc.specs.ObjectFaults.{is_unknown_type, unsupported_name, is_bad_geometry, has_bad_vertex}
-use Rattle.city_doc.specs.CommandForms.{CommandForm, ReadForm, PutForm, DeleteForm, AttachForm, DetachForm, CommitForm, AbortForm, form_of, names_relations}
+use Rattle.city_doc.specs.CommandForms.{CommandForm, ReadForm, PutForm, DeleteForm, AttachForm, DetachForm}
+use Rattle.city_doc.specs.CommandForms.{CommitForm, AbortForm, form_of, names_relations}
 
 -- ---- commands without a meaning
 
@@ -36,19 +37,19 @@ is_bad_command d = is_no_good_form (form_of d)
 -- ---- positions
 
 -- a put of an object with a position that none of so many vertices has
-abbrev pub is_misplaced_form : ℕ → CommandForm → Bool
-is_misplaced_form count (ReadForm id) = false
-is_misplaced_form count (PutForm id tree) = has_bad_vertex count tree
-is_misplaced_form count (DeleteForm id) = false
-is_misplaced_form count (AttachForm child parent) = false
-is_misplaced_form count (DetachForm child parent) = false
-is_misplaced_form count CommitForm = false
-is_misplaced_form count AbortForm = false
+abbrev pub form_names_bad_vertex : ℕ → CommandForm → Bool
+form_names_bad_vertex count (ReadForm id) = false
+form_names_bad_vertex count (PutForm id tree) = has_bad_vertex count tree
+form_names_bad_vertex count (DeleteForm id) = false
+form_names_bad_vertex count (AttachForm child parent) = false
+form_names_bad_vertex count (DetachForm child parent) = false
+form_names_bad_vertex count CommitForm = false
+form_names_bad_vertex count AbortForm = false
 
-abbrev pub is_some_misplaced_form : ℕ → Option CommandForm → Bool
-is_some_misplaced_form count None = false
-is_some_misplaced_form count (Some f) = is_misplaced_form count f
+abbrev pub some_form_names_bad_vertex : ℕ → Option CommandForm → Bool
+some_form_names_bad_vertex count None = false
+some_form_names_bad_vertex count (Some f) = form_names_bad_vertex count f
 
 -- a position in the command is negative, or not less than the number of vertices
-abbrev pub is_misplaced : ℕ → Data → Bool
-is_misplaced count d = is_some_misplaced_form count (form_of d)
+abbrev pub names_bad_vertex : ℕ → Data → Bool
+names_bad_vertex count d = some_form_names_bad_vertex count (form_of d)

@@ -1,5 +1,7 @@
--- The canonical text of a city: compact JSON, keys in byte order, each point a number (CityJSON 2.0, sections 2 and 3).
+-- The canonical text of a city: compact JSON, keys in byte order, each point a number
+-- (CityJSON 2.0, sections 2 and 3).
 use Rattle.std.specs.Prelude.{ℕ, ℤ, List, [], ◌∷◌, map, codes}
+use Rattle.std.specs.FinMap.{entries}
 use Rattle.serde_json.specs.Data.{Data, number, unsigned, string, array, object, Members, no_members, put}
 use Rattle.serde_json.specs.Find.{of_integer}
 use Rattle.serde_json.specs.View.{items_of}
@@ -10,11 +12,10 @@ use Rattle.city_model.specs.declared.object.Shape.{Shape}
 use Rattle.city_model.specs.declared.object.Shape.TheVariants.{MultiSurface, CompositeSurface, Solid}
 use Rattle.city_model.specs.declared.object.Geometry.{Geometry}
 use Rattle.city_model.specs.declared.object.Object.{Object}
-use Rattle.city_model.specs.CityMap.{Entries}
+use Rattle.city_model.specs.CityMap.{Entries, CityValue}
 use Rattle.city_model.specs.Shells.{Ring, Surface, Shell}
 use Rattle.city_model.specs.Types.{name_of}
-use Rattle.city_doc.specs.Documents.{CityValue}
-use Rattle.city_doc.specs.Pool.{place_of, pool_of}
+use Rattle.city_doc.specs.Pool.{number_of, pool_of}
 
 -- an array of what is written for each
 abbrev pub list_data : {A : Type 0} → (A → Data) → List A → Data
@@ -29,7 +30,7 @@ triple_data xs = list_data integer_data xs
 -- ---- geometries
 
 abbrev pub point_data : List Point → Point → Data
-point_data pool p = number (unsigned (place_of pool p))
+point_data pool p = number (unsigned (number_of pool p))
 
 abbrev pub ring_data : List Point → Ring → Data
 ring_data pool points = list_data (point_data pool) points
@@ -52,7 +53,9 @@ shape_name (Solid shells) = codes "Solid"
 
 abbrev pub geometry_data : List Point → Geometry → Data
 geometry_data pool g =
-    object (put (codes "boundaries") (boundaries_data pool g.shape) (put (codes "lod") (string g.lod) (put (codes "type") (string (shape_name g.shape)) g.extra)))
+    object (put (codes "boundaries") (boundaries_data pool g.shape)
+    (put (codes "lod") (string g.lod)
+    (put (codes "type") (string (shape_name g.shape)) g.extra)))
 
 -- ---- objects
 
@@ -63,8 +66,10 @@ put_list name f (x ∷ xs) ms = put name (list_data f (x ∷ xs)) ms
 
 abbrev pub object_data : List Point → Object → Data
 object_data pool o =
-    object (put_list (codes "children") string o.children (put_list (codes "parents") string o.parents
-    (put_list (codes "geometry") (geometry_data pool) o.body.geometry (put (codes "type") (string (name_of o.body.kind)) o.body.extra))))
+    object (put_list (codes "children") string o.children
+    (put_list (codes "parents") string o.parents
+    (put_list (codes "geometry") (geometry_data pool) o.body.geometry
+    (put (codes "type") (string (name_of o.body.kind)) o.body.extra))))
 
 -- the members with the objects, each under its id
 abbrev pub with_objects : List Point → Members → Entries → Members
@@ -77,7 +82,9 @@ objects_data pool es = object (with_objects pool no_members es)
 -- ---- the top
 
 abbrev pub transform_data : Frame → Data
-transform_data f = object (put (codes "translate") (triple_data f.translate) (put (codes "scale") (triple_data f.scale) f.more))
+transform_data f =
+    object (put (codes "translate") (triple_data f.translate)
+    (put (codes "scale") (triple_data f.scale) f.more))
 
 abbrev pub vertex_data : Point → Data
 vertex_data p = triple_data (p.x ∷ p.y ∷ p.z ∷ [])
@@ -88,12 +95,15 @@ vertices_data pool = list_data vertex_data pool
 -- the members of the top that a frame gives
 abbrev pub frame_members : Frame → Members
 frame_members f =
-    put (codes "transform") (transform_data f) (put (codes "version") (string (codes "2.0")) (put (codes "type") (string (codes "CityJSON")) f.extra))
+    put (codes "transform") (transform_data f)
+    (put (codes "version") (string (codes "2.0"))
+    (put (codes "type") (string (codes "CityJSON")) f.extra))
 
 -- the tree of a city whose points have these numbers
 abbrev pub numbered_tree : List Point → CityValue → Data
 numbered_tree pool c =
-    object (put (codes "CityObjects") (objects_data pool c.1) (put (codes "vertices") (vertices_data pool) (frame_members c.0)))
+    object (put (codes "CityObjects") (objects_data pool (entries c.1))
+    (put (codes "vertices") (vertices_data pool) (frame_members c.0)))
 
 abbrev pub tree_of : CityValue → Data
 tree_of c = numbered_tree (pool_of c) c

@@ -1,12 +1,14 @@
 -- The command that a tree stands for, in the form that its members give it.
-use Rattle.std.specs.Prelude.{ℕ, ◌==◌, List, Bool, Option, Some, None, option_map, option_and_then, codes, is_some, ◌||◌, if◌then◌else◌}
+use Rattle.std.specs.Prelude.{ℕ, ◌==◌, List, Bool, Option, Some, None, option_map, option_and_then, codes}
+use Rattle.std.specs.Prelude.{is_some, ◌||◌, if◌then◌else◌}
 use Rattle.std.specs.Option.{option_or}
 use Rattle.std.specs.Str.{bytes_eq}
 use Rattle.serde_json.specs.Data.{Data, Members}
 use Rattle.serde_json.specs.Find.{get, get_member, as_str, as_object}
 use Rattle.city_model.specs.declared.object.Point.{Point}
 use Rattle.city_model.specs.declared.command.Command.{Command}
-use Rattle.city_model.specs.declared.command.Command.TheVariants.{Read, Put, Delete, Attach, Detach, Commit, Abort}
+use Rattle.city_model.specs.declared.command.Command.TheVariants.{Read, Put, Delete, Attach, Detach, Commit}
+use Rattle.city_model.specs.declared.command.Command.TheVariants.{Abort}
 use Rattle.city_model.specs.Members.{members_count}
 use Rattle.city_doc.specs.Bodies.{body_of}
 
@@ -23,12 +25,16 @@ one_text name ms = if members_count ms == 1 then text_in name ms else None
 -- the members are just these two, both of them texts
 abbrev pub two_texts : List ℕ → List ℕ → Members → Option (List ℕ × List ℕ)
 two_texts name other ms =
-    if members_count ms == 2 then option_and_then (λ s. option_map (λ t. (s, t)) (text_in other ms)) (text_in name ms) else None
+    if members_count ms == 2
+    then option_and_then (λ s. option_map (λ t. (s, t)) (text_in other ms)) (text_in name ms)
+    else None
 
 -- the members are just these two, the first of them a text
 abbrev pub text_and_value : List ℕ → List ℕ → Members → Option (List ℕ × Data)
 text_and_value name other ms =
-    if members_count ms == 2 then option_and_then (λ s. option_map (λ d. (s, d)) (get_member other ms)) (text_in name ms) else None
+    if members_count ms == 2
+    then option_and_then (λ s. option_map (λ d. (s, d)) (get_member other ms)) (text_in name ms)
+    else None
 
 -- ---- forms
 
@@ -43,7 +49,9 @@ pub data CommandForm : Type 0 where
   AbortForm : CommandForm
 
 abbrev pub word_form : List ℕ → Option CommandForm
-word_form s = if bytes_eq s (codes "commit") then Some CommitForm else (if bytes_eq s (codes "abort") then Some AbortForm else None)
+word_form s =
+    if bytes_eq s (codes "commit") then Some CommitForm
+    else (if bytes_eq s (codes "abort") then Some AbortForm else None)
 
 abbrev pub read_form : Members → Option CommandForm
 read_form ms = option_map ReadForm (one_text (codes "read") ms)
@@ -61,7 +69,9 @@ abbrev pub detach_form : Members → Option CommandForm
 detach_form ms = option_map (λ p. DetachForm p.0 p.1) (two_texts (codes "detach") (codes "parent") ms)
 
 abbrev pub members_form : Members → Option CommandForm
-members_form ms = option_or (read_form ms) (option_or (put_form ms) (option_or (delete_form ms) (option_or (attach_form ms) (detach_form ms))))
+members_form ms =
+    option_or (read_form ms) (option_or (put_form ms) (option_or (delete_form ms)
+    (option_or (attach_form ms) (detach_form ms))))
 
 -- a word, or an object with just the members of its command
 abbrev pub form_of : Data → Option CommandForm

@@ -1,5 +1,6 @@
 -- The top of a document: its frame, and which of its members is wrong (CityJSON 2.0, sections 2 and 4).
-use Rattle.std.specs.Prelude.{◌&&◌, ℕ, ℤ, List, [], ◌∷◌, Bool, true, false, Option, Some, None, option_and_then, option_map, codes, is_some, if◌then◌else◌}
+use Rattle.std.specs.Prelude.{◌&&◌, ℕ, ℤ, List, [], ◌∷◌, Bool, true, false, Option, Some, None}
+use Rattle.std.specs.Prelude.{option_and_then, option_map, codes, is_some, if◌then◌else◌}
 use Rattle.std.specs.Str.{bytes_eq}
 use Rattle.serde_json.specs.Data.{Data, Members, no_members, member}
 use Rattle.serde_json.specs.Find.{get, get_member, as_str, as_object}
@@ -19,20 +20,26 @@ without_transform_members ms = without (codes "translate") (without (codes "scal
 
 -- the kept members of a transform
 abbrev pub more_of : Data → Option Members
-more_of transform = option_and_then (λ ms. kept_if kept_at_transform (without_transform_members ms)) (as_object transform)
+more_of transform =
+    option_and_then (λ ms. kept_if kept_at_transform (without_transform_members ms)) (as_object transform)
 
 abbrev pub without_top_members : Members → Members
-without_top_members ms = without (codes "vertices") (without (codes "version") (without (codes "type") (without (codes "transform") ms)))
+without_top_members ms =
+    without (codes "vertices") (without (codes "version")
+    (without (codes "type") (without (codes "transform") ms)))
 
 -- the frame of a transform, and of the kept members of the top
 abbrev pub frame_with : Members → Data → Option Frame
 frame_with extra transform =
-    option_and_then (λ scale. option_and_then (λ translate. option_map (λ more. record { scale = scale; translate = translate; more = more; extra = extra })
+    option_and_then (λ scale. option_and_then (λ translate. option_map
+    (λ more. record { scale = scale; translate = translate; more = more; extra = extra })
     (more_of transform)) (triple_at (codes "translate") transform)) (triple_at (codes "scale") transform)
 
 -- of the members but `CityObjects`
 abbrev pub frame_of_rest : Members → Option Frame
-frame_of_rest rest = option_and_then (λ extra. option_and_then (frame_with extra) (get_member (codes "transform") rest)) (kept_if kept_at_top (without_top_members rest))
+frame_of_rest rest =
+    option_and_then (λ extra. option_and_then (frame_with extra) (get_member (codes "transform") rest))
+    (kept_if kept_at_top (without_top_members rest))
 
 abbrev pub frame_of : Data → Option Frame
 frame_of d = option_and_then (λ top. frame_of_rest (without (codes "CityObjects") top)) (as_object d)

@@ -1,5 +1,6 @@
 -- The form of the geometries of an object, whatever its positions name (CityJSON 2.0, section 3).
-use Rattle.std.specs.Prelude.{◌&&◌, nat_lt, ℕ, ℤ, pos, negsuc, List, Bool, true, false, Option, Some, None, option_and_then, codes, is_some, if◌then◌else◌}
+use Rattle.std.specs.Prelude.{◌&&◌, nat_lt, ℕ, ℤ, pos, negsuc, List, Bool, true, false, Option, Some, None}
+use Rattle.std.specs.Prelude.{option_and_then, codes, is_some, if◌then◌else◌}
 use Rattle.std.specs.Str.{bytes_eq}
 use Rattle.serde_json.specs.Data.{Data, Items, no_items, item}
 use Rattle.serde_json.specs.Find.{get, as_array, as_number, as_i64}
@@ -14,17 +15,17 @@ abbrev pub natural : ℤ → Option ℕ
 natural (pos n) = Some n
 natural (negsuc n) = None
 
--- the place in a list that a whole number names, where it isn't negative
-abbrev pub place_of : Data → Option ℕ
-place_of d = option_and_then natural (option_and_then as_i64 (as_number d))
+-- the position in a list that a whole number names, where it isn't negative
+abbrev pub position_of : Data → Option ℕ
+position_of d = option_and_then natural (option_and_then as_i64 (as_number d))
 
 abbrev pub is_below : ℕ → Option ℕ → Bool
 is_below count None = false
 is_below count (Some n) = nat_lt n count
 
 -- a position that names one of so many vertices
-abbrev pub is_place : ℕ → Data → Bool
-is_place count d = is_below count (place_of d)
+abbrev pub is_position : ℕ → Data → Bool
+is_position count d = is_below count (position_of d)
 
 -- ---- nested lists
 
@@ -48,7 +49,8 @@ are_surfaces leaf = is_list_of (is_list_of (is_list_of leaf))
 abbrev pub is_boundaries : (Data → Bool) → List ℕ → Data → Bool
 is_boundaries leaf kind d =
     if bytes_eq kind (codes "MultiSurface") then are_surfaces leaf d
-    else (if bytes_eq kind (codes "CompositeSurface") then are_surfaces leaf d else (if bytes_eq kind (codes "Solid") then is_list_of (are_surfaces leaf) d else false))
+    else (if bytes_eq kind (codes "CompositeSurface") then are_surfaces leaf d
+    else (if bytes_eq kind (codes "Solid") then is_list_of (are_surfaces leaf) d else false))
 
 -- ---- geometries
 
@@ -58,7 +60,9 @@ are_boundaries_of leaf _ _ = false
 
 -- an object with a type and a level of detail that are texts, and the boundaries of its type
 abbrev pub is_geometry : (Data → Bool) → Data → Bool
-is_geometry leaf d = is_some (text_at (codes "lod") d) && are_boundaries_of leaf (text_at (codes "type") d) (get (codes "boundaries") d)
+is_geometry leaf d =
+    is_some (text_at (codes "lod") d)
+    && are_boundaries_of leaf (text_at (codes "type") d) (get (codes "boundaries") d)
 
 -- an array of geometries; an absent one is the empty list
 abbrev pub are_geometries : (Data → Bool) → Option Data → Bool

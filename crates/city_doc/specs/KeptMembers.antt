@@ -1,13 +1,14 @@
--- Cities and replies whose kept members are all such as their places keep. A value of the program is always so; a value that a clause makes up may not be.
+-- Cities and replies whose kept members are all such as their places keep. A value of the program is
+-- always so; a value that a clause makes up may not be.
 use Rattle.std.specs.Prelude.{◌≡◌, ◌&&◌, List, Bool, true}
 use Rattle.std.specs.List.{list_all}
+use Rattle.std.specs.FinMap.{entries}
 use Rattle.city_model.specs.declared.object.Geometry.{Geometry}
 use Rattle.city_model.specs.declared.object.Object.{Object}
 use Rattle.city_model.specs.declared.command.Reply.{Reply}
 use Rattle.city_model.specs.declared.command.Reply.TheVariants.{Found}
-use Rattle.city_model.specs.CityMap.{Entries}
+use Rattle.city_model.specs.CityMap.{Entries, CityValue}
 use Rattle.city_model.specs.Kept.{kept_at_top, kept_at_transform, kept_at_object, kept_at_geometry}
-use Rattle.city_doc.specs.Documents.{CityValue}
 
 unfoldable pub is_kept_geometry : Geometry → Bool
 is_kept_geometry g = kept_at_geometry g.extra
@@ -29,4 +30,4 @@ are_kept_replies replies = list_all is_kept_reply replies
 pub record IsKeptCity (c : CityValue) : Type 0 where
   pub at_top : kept_at_top c.0.extra ≡ true
   pub at_transform : kept_at_transform c.0.more ≡ true
-  pub objects : are_kept_objects c.1 ≡ true
+  pub objects : are_kept_objects (entries c.1) ≡ true

@@ -1,13 +1,15 @@
--- The points of a city in walking order, and its vertices, each of which is there once (CityJSON 2.0, section 2, `vertices`).
+-- The points of a city in walking order, and its vertices, each of which is there once
+-- (CityJSON 2.0, section 2, `vertices`).
 use Rattle.std.specs.Prelude.{ℕ, not, List, [], ◌∷◌, ◌++◌, filter, flat_map, if◌then◌else◌}
 use Rattle.std.specs.List.{list_any, position_or_len}
+use Rattle.std.specs.FinMap.{entries}
 use Rattle.city_model.specs.declared.object.Point.{Point}
 use Rattle.city_model.specs.declared.object.Shape.{Shape}
 use Rattle.city_model.specs.declared.object.Shape.TheVariants.{MultiSurface, CompositeSurface, Solid}
 use Rattle.city_model.specs.declared.object.Geometry.{Geometry}
 use Rattle.city_model.specs.declared.object.Object.{Object}
 use Rattle.city_model.specs.Shells.{Surface, Shell, same_point}
-use Rattle.city_doc.specs.Documents.{CityValue}
+use Rattle.city_model.specs.CityMap.{CityValue}
 
 -- ---- the walk: ids in byte order, then geometries, shells, surfaces, rings and points, each in order
 
@@ -29,7 +31,7 @@ abbrev pub object_points : Object → List Point
 object_points o = flat_map geometry_points o.body.geometry
 
 abbrev pub city_points : CityValue → List Point
-city_points c = flat_map (λ e. object_points e.1) c.1
+city_points c = flat_map (λ e. object_points e.1) (entries c.1)
 
 -- ---- the vertices
 
@@ -42,9 +44,9 @@ without_repeats (p ∷ ps) = p ∷ filter (λ q. not (same_point p q)) (without_
 abbrev pub pool_of : CityValue → List Point
 pool_of c = without_repeats (city_points c)
 
--- the number of a point: the first place of an equal one, or the number of points where none is
-abbrev pub place_of : List Point → Point → ℕ
-place_of pool p = position_or_len (same_point p) pool
+-- the number of a point: the position of an equal one, or the number of points where none is
+abbrev pub number_of : List Point → Point → ℕ
+number_of pool p = position_or_len (same_point p) pool
 
 -- the pool with a point, which goes last where no equal one is there
 abbrev pub with_point : List Point → Point → List Point

@@ -1,4 +1,5 @@
--- Numbers that the program's types hold. A value of the program always has such; one that a clause makes up may not.
+-- Numbers that the program's types hold. A value of the program always has such; one that a clause
+-- makes up may not.
 use Rattle.std.specs.Prelude.{◌≡◌, ◌<◌, ◌^◌, ◌&&◌, ◌==◌, ℤ, pos, negsuc, List, Bool, true, length, nat_lt}
 use Rattle.std.specs.List.{list_all}
 use Rattle.city_model.specs.declared.frame.Frame.{Frame}

@@ -5,9 +5,13 @@ use Rattle.serde_json.specs.Written.{compact_text}
 use Rattle.city_model.specs.declared.object.Object.{Object}
 use Rattle.city_model.specs.declared.object.Point.{Point}
 use Rattle.city_model.specs.declared.command.Cause.{Cause}
-use Rattle.city_model.specs.declared.command.Cause.TheVariants.{NoObject, TypeFixed, HasChildren, WrongFamily, AlreadyAttached, NotAttached, ShortRing, SameTwice, OpenShell, Orphan}
+use Rattle.city_model.specs.declared.command.Cause.TheVariants.{NoObject, TypeFixed, HasChildren, WrongFamily}
+use Rattle.city_model.specs.declared.command.Cause.TheVariants.{AlreadyAttached, NotAttached, ShortRing}
+use Rattle.city_model.specs.declared.command.Cause.TheVariants.{SameTwice, OpenShell, Orphan}
 use Rattle.city_model.specs.declared.command.Reply.{Reply}
-use Rattle.city_model.specs.declared.command.Reply.TheVariants.{Found, Absent, Added, Replaced, Deleted, Attached, Detached, Committed, Aborted, Refused}
+use Rattle.city_model.specs.declared.command.Reply.TheVariants.{Found, Absent, Added, Replaced, Deleted}
+use Rattle.city_model.specs.declared.command.Reply.TheVariants.{Attached, Detached, Committed, Aborted}
+use Rattle.city_model.specs.declared.command.Reply.TheVariants.{Refused}
 use Rattle.city_model.specs.declared.end.End.{End}
 use Rattle.city_model.specs.declared.end.Outcome.{Outcome}
 use Rattle.city_doc.specs.Pool.{object_points, without_repeats}
@@ -20,7 +24,9 @@ count_data n = number (unsigned n)
 
 -- an object with points of these numbers, and the points
 abbrev pub numbered_object : List Point → Object → Data
-numbered_object pool o = object (put (codes "vertices") (vertices_data pool) (put (codes "object") (object_data pool o) no_members))
+numbered_object pool o =
+    object (put (codes "vertices") (vertices_data pool)
+    (put (codes "object") (object_data pool o) no_members))
 
 -- an object with its own vertices
 abbrev pub found_data : Object → Data
@@ -83,7 +89,9 @@ outcome_name (Outcome.NoMemory i) = codes "nomemory"
 
 -- the members with the number of a refused command, the cause, and the object that it names
 abbrev pub put_refusal : ℕ → Cause → Members → Members
-put_refusal i cause ms = put_id (cause_id cause) (put (codes "cause") (string (cause_name cause)) (put (codes "at") (count_data i) ms))
+put_refusal i cause ms =
+    put_id (cause_id cause)
+    (put (codes "cause") (string (cause_name cause)) (put (codes "at") (count_data i) ms))
 
 -- the members with the command that ended the script and the cause, where the outcome names them
 abbrev pub put_ending : Outcome → Members → Members
@@ -96,11 +104,15 @@ put_ending (Outcome.NoMemory i) ms = put (codes "at") (count_data i) ms
 
 -- which script ended, and when its last attempt began
 abbrev pub heading : End → Members
-heading e = put (codes "since") (count_data e.since) (put (codes "script") (count_data e.script) (put (codes "name") (string e.name) no_members))
+heading e =
+    put (codes "since") (count_data e.since)
+    (put (codes "script") (count_data e.script) (put (codes "name") (string e.name) no_members))
 
 abbrev pub end_data : End → Data
 end_data e =
-    object (put_ending e.outcome (put (codes "outcome") (string (outcome_name e.outcome)) (put (codes "replies") (list_data reply_data e.replies) (heading e))))
+    object (put_ending e.outcome
+    (put (codes "outcome") (string (outcome_name e.outcome))
+    (put (codes "replies") (list_data reply_data e.replies) (heading e))))
 
 -- the line of an end, with its newline
 abbrev pub end_line : End → List ℕ

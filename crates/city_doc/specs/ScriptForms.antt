@@ -1,19 +1,21 @@
 -- The forms of scripts and of commands that the reader holds.
-use Rattle.std.specs.Prelude.{◌==◌, List, map, Option, None, option_map, option_and_then, codes, if◌then◌else◌}
+use Rattle.std.specs.Prelude.{List, map, Option, option_map, option_and_then, codes}
 use Rattle.std.specs.Option.{option_or}
 use Rattle.serde_json.specs.Data.{Members}
 use Rattle.serde_json.specs.Find.{get_member}
 use Rattle.serde_json.specs.View.{view}
-use Rattle.city_model.specs.Members.{members_count}
 use Rattle.city_doc.specs.declared.command_form.Form.{Form}
-use Rattle.city_doc.specs.declared.command_form.Form.TheVariants.{Read, Put, Delete, Attach, Detach, Commit, Abort}
+use Rattle.city_doc.specs.declared.command_form.Form.TheVariants.{Read, Put, Delete, Attach, Detach, Commit}
+use Rattle.city_doc.specs.declared.command_form.Form.TheVariants.{Abort}
 use Rattle.city_doc.specs.declared.script_form.ScriptForm.{ScriptForm}
-use Rattle.city_doc.specs.CommandForms.{CommandForm, ReadForm, PutForm, DeleteForm, AttachForm, DetachForm, CommitForm, AbortForm, text_in}
+use Rattle.city_doc.specs.CommandForms.{CommandForm, ReadForm, PutForm, DeleteForm, AttachForm, DetachForm}
+use Rattle.city_doc.specs.CommandForms.{CommitForm, AbortForm, text_in}
 use Rattle.city_doc.specs.ScriptTrees.{ScriptParts}
 
 -- the parts that a form holds
 abbrev pub parts_view : ScriptForm → ScriptParts
-parts_view f = record { name = f.name; commands = map view f.commands.items; vertices = option_map view f.vertices }
+parts_view f =
+    record { name = f.name; commands = map view f.commands.items; vertices = option_map view f.vertices }
 
 abbrev pub parts_views : List ScriptForm → List ScriptParts
 parts_views fs = map parts_view fs
@@ -32,20 +34,23 @@ form_view Abort = AbortForm
 
 -- of one member
 abbrev pub single_form : Members → Option CommandForm
-single_form ms = option_or (option_map ReadForm (text_in (codes "read") ms)) (option_map DeleteForm (text_in (codes "delete") ms))
+single_form ms =
+    option_or (option_map ReadForm (text_in (codes "read") ms))
+    (option_map DeleteForm (text_in (codes "delete") ms))
 
 abbrev pub put_pair : Members → Option CommandForm
-put_pair ms = option_and_then (λ id. option_map (PutForm id) (get_member (codes "object") ms)) (text_in (codes "put") ms)
+put_pair ms =
+    option_and_then (λ id. option_map (PutForm id) (get_member (codes "object") ms))
+    (text_in (codes "put") ms)
 
 -- of a child and its parent
 abbrev pub relation_pair : Members → Option CommandForm
 relation_pair ms =
-    option_and_then (λ parent. option_or (option_map (λ child. AttachForm child parent) (text_in (codes "attach") ms)) (option_map (λ child. DetachForm child parent) (text_in (codes "detach") ms)))
+    option_and_then (λ parent. option_or
+    (option_map (λ child. AttachForm child parent) (text_in (codes "attach") ms))
+    (option_map (λ child. DetachForm child parent) (text_in (codes "detach") ms)))
     (text_in (codes "parent") ms)
 
 -- of two members
 abbrev pub pair_form : Members → Option CommandForm
 pair_form ms = option_or (put_pair ms) (relation_pair ms)
-
-abbrev pub form_by_count : Members → Option CommandForm
-form_by_count ms = if members_count ms == 1 then single_form ms else (if members_count ms == 2 then pair_form ms else None)

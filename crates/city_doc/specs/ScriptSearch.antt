@@ -22,16 +22,16 @@ bad_script n d = unless (parts_of d) (BadScript n)
 
 -- ---- commands that have something
 
-abbrev pub place_if : {A : Type 0} → (A → Bool) → ℕ → A → Option ℕ
-place_if test i x = if test x then Some i else None
+abbrev pub index_if : {A : Type 0} → (A → Bool) → ℕ → A → Option ℕ
+index_if test i x = if test x then Some i else None
 
 -- the first of a script's commands; the test is given the number of its vertices
 abbrev pub first_in : (ℕ → Data → Bool) → ℕ → List Data → Option ℕ
-first_in test vertices ds = first_at (place_if (test vertices)) 0 ds
+first_in test vertices ds = first_at (index_if (test vertices)) 0 ds
 
-abbrev pub place_in : (ℕ → Data → Bool) → ℕ → ScriptParts → Option (ℕ × ℕ)
-place_in test n p = option_map (λ i. (n, i)) (first_in test (vertex_count p.vertices) p.commands)
+abbrev pub index_in : (ℕ → Data → Bool) → ℕ → ScriptParts → Option (ℕ × ℕ)
+index_in test n p = option_map (λ i. (n, i)) (first_in test (vertex_count p.vertices) p.commands)
 
 -- the first script that has such a command, and its first such command
 abbrev pub first_command : (ℕ → Data → Bool) → List ScriptParts → Option (ℕ × ℕ)
-first_command test ps = first_at (place_in test) 0 ps
+first_command test ps = first_at (index_in test) 0 ps

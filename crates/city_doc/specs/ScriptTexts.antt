@@ -5,8 +5,9 @@ use Rattle.city_model.specs.Runs.{Scripted}
 use Rattle.city_model.specs.Integral.{is_integral}
 use Rattle.city_doc.specs.declared.fault.ScriptFault.{ScriptFault}
 use Rattle.city_doc.specs.Texts.{IsText, IsTooLong, IsNoJson, HasTree, HasOtherNumber}
-use Rattle.city_doc.specs.ScriptTrees.{ScriptParts, parts_of, array_of, all_read, are_too_many, vertex_count, scripts_of}
-use Rattle.city_doc.specs.BadCommands.{is_bad_command, is_misplaced}
+use Rattle.city_doc.specs.ScriptTrees.{ScriptParts, parts_of, array_of, all_read, are_too_many, vertex_count}
+use Rattle.city_doc.specs.ScriptTrees.{scripts_of}
+use Rattle.city_doc.specs.BadCommands.{is_bad_command, names_bad_vertex}
 
 -- the text is JSON, and its tree stands for these scripts
 abbrev pub StandsForScripts : List ℕ → List Scripted → Type 0
@@ -28,7 +29,9 @@ IsFirstBadScript ds n = IsBadScript ds n × ((k : ℕ) → k < n → IsBadScript
 
 -- command i of script n has it; the test is given the number of the script's vertices
 abbrev pub HasAt : (ℕ → Data → Bool) → List ScriptParts → ℕ → ℕ → Type 0
-HasAt test ps n i = (p : ScriptParts) × (d : Data) × (slice_get ps n ≡ Some p) × (slice_get p.commands i ≡ Some d) × (test (vertex_count p.vertices) d ≡ true)
+HasAt test ps n i =
+    (p : ScriptParts) × (d : Data) × (slice_get ps n ≡ Some p) × (slice_get p.commands i ≡ Some d)
+    × (test (vertex_count p.vertices) d ≡ true)
 
 -- command j of script k comes before command i of script n
 abbrev pub IsBefore : ℕ → ℕ → ℕ → ℕ → Type 0
@@ -48,18 +51,20 @@ IsFirstBadCommand ps n i = IsFirstAt (λ count d. is_bad_command d) ps n i
 
 -- a position in command i of script n is negative, or not less than the number of the script's vertices
 abbrev pub IsBadVertex : List ScriptParts → ℕ → ℕ → Type 0
-IsBadVertex ps n i = HasAt is_misplaced ps n i
+IsBadVertex ps n i = HasAt names_bad_vertex ps n i
 
 -- and none in a command before it
 abbrev pub IsFirstBadVertex : List ScriptParts → ℕ → ℕ → Type 0
-IsFirstBadVertex ps n i = IsFirstAt is_misplaced ps n i
+IsFirstBadVertex ps n i = IsFirstAt names_bad_vertex ps n i
 
 -- the first fault of scripts with these parts
 abbrev pub PartsFault : List ScriptParts → ScriptFault → Type 0
 PartsFault ps f =
     ((f ≡ ScriptFault.TooMany) × (are_too_many ps ≡ true))
-    ⊎ (((n : ℕ) × (i : ℕ) × (f ≡ ScriptFault.BadCommand n i) × (are_too_many ps ≡ false) × IsFirstBadCommand ps n i)
-    ⊎ ((n : ℕ) × (i : ℕ) × (f ≡ ScriptFault.BadVertex n i) × (are_too_many ps ≡ false) × ((k j : ℕ) → IsBadCommand ps k j → ⊥) × IsFirstBadVertex ps n i))
+    ⊎ (((n : ℕ) × (i : ℕ) × (f ≡ ScriptFault.BadCommand n i) × (are_too_many ps ≡ false)
+    × IsFirstBadCommand ps n i)
+    ⊎ ((n : ℕ) × (i : ℕ) × (f ≡ ScriptFault.BadVertex n i) × (are_too_many ps ≡ false)
+    × ((k j : ℕ) → IsBadCommand ps k j → ⊥) × IsFirstBadVertex ps n i))
 
 -- none of these faults stands
 abbrev pub AreFaultlessParts : List ScriptParts → Type 0
@@ -75,7 +80,8 @@ ItemsFault ds f =
 -- the first fault of a tree all of whose numbers are whole
 abbrev pub TreeFault : Data → ScriptFault → Type 0
 TreeFault d f =
-    ((f ≡ ScriptFault.NotScripts) × (array_of d ≡ None)) ⊎ ((ds : List Data) × (array_of d ≡ Some ds) × ItemsFault ds f)
+    ((f ≡ ScriptFault.NotScripts) × (array_of d ≡ None))
+    ⊎ ((ds : List Data) × (array_of d ≡ Some ds) × ItemsFault ds f)
 
 -- the first fault of a text; want of memory may be answered at any
 abbrev pub ScriptTextFault : List ℕ → ScriptFault → Type 0

@@ -1,5 +1,6 @@
 -- The scripts that a tree stands for.
-use Rattle.std.specs.Prelude.{◌==◌, ◌&&◌, ◌||◌, ℕ, nat_lt, List, [], ◌∷◌, length, Bool, true, false, Option, Some, None, option_map, option_and_then, codes, if◌then◌else◌}
+use Rattle.std.specs.Prelude.{◌==◌, ◌&&◌, ◌||◌, ℕ, nat_lt, List, [], ◌∷◌, length, Bool, true, false, Option}
+use Rattle.std.specs.Prelude.{Some, None, option_map, option_and_then, codes, if◌then◌else◌}
 use Rattle.std.specs.List.{list_any}
 use Rattle.std.specs.Str.{bytes_eq}
 use Rattle.serde_json.specs.Data.{Data, Items, no_items, item, Members}
@@ -69,11 +70,14 @@ commands_in ms = option_and_then ended (option_and_then array_of (get_member (co
 
 -- just `name`, `commands` and perhaps `vertices`
 abbrev pub has_script_members : Members → Bool
-has_script_members ms = (members_count ms == members_wanted (get_member (codes "vertices") ms)) && are_vertices (get_member (codes "vertices") ms)
+has_script_members ms =
+    (members_count ms == members_wanted (get_member (codes "vertices") ms))
+    && are_vertices (get_member (codes "vertices") ms)
 
 abbrev pub parts_in : Members → Option ScriptParts
 parts_in ms =
-    option_and_then (λ name. option_map (λ commands. record { name = name; commands = commands; vertices = get_member (codes "vertices") ms })
+    option_and_then (λ name. option_map
+    (λ commands. record { name = name; commands = commands; vertices = get_member (codes "vertices") ms })
     (commands_in ms)) (text_in (codes "name") ms)
 
 abbrev pub parts_if : Members → Option ScriptParts
@@ -100,7 +104,9 @@ vertex_count (Some d) = count_of (array_of d)
 
 -- the script of these parts: positions count in its own vertices
 abbrev pub script_of : ScriptParts → Option Scripted
-script_of p = option_and_then (λ points. option_map (λ cs. (p.name, cs)) (all_read (command_of points) p.commands)) (vertex_points p.vertices)
+script_of p =
+    option_and_then (λ points. option_map (λ cs. (p.name, cs)) (all_read (command_of points) p.commands))
+    (vertex_points p.vertices)
 
 abbrev pub max_scripts : ℕ
 max_scripts = 4096

@@ -1,18 +1,21 @@
 -- Three whole numbers, as a point or as a scale has them (CityJSON 2.0, section 4).
-use Rattle.std.specs.Prelude.{◌&&◌, ℕ, ℤ, List, [], ◌∷◌, Bool, true, false, Option, Some, None, option_and_then, option_map, is_some, if◌then◌else◌}
+use Rattle.std.specs.Prelude.{◌&&◌, ℕ, ℤ, List, [], ◌∷◌, Bool, true, false, Option, Some, None}
+use Rattle.std.specs.Prelude.{option_and_then, option_map, is_some, if◌then◌else◌}
 use Rattle.serde_json.specs.Data.{Data, Items, no_items, item}
 use Rattle.serde_json.specs.Find.{at, as_array, as_number, as_i64}
 use Rattle.city_model.specs.declared.object.Point.{Point}
 use Rattle.city_doc.specs.Bodies.{list_of}
 
--- the whole number that stands at place i
+-- the whole number that stands at index i
 abbrev pub integral_at : ℕ → Data → Option ℤ
 integral_at i d = option_and_then as_i64 (option_and_then as_number (at i d))
 
 -- what an array of three whole numbers makes
 abbrev pub three_of : {A : Type 0} → (ℤ → ℤ → ℤ → A) → Data → Option A
 three_of make d =
-    if is_some (at 3 d) then None else option_and_then (λ x. option_and_then (λ y. option_map (λ z. make x y z) (integral_at 2 d)) (integral_at 1 d)) (integral_at 0 d)
+    if is_some (at 3 d) then None
+    else option_and_then (λ x. option_and_then (λ y. option_map (λ z. make x y z)
+    (integral_at 2 d)) (integral_at 1 d)) (integral_at 0 d)
 
 abbrev pub triple_of : Data → Option (List ℤ)
 triple_of d = three_of (λ x y z. x ∷ y ∷ z ∷ []) d

@@ -2,7 +2,7 @@
 ghost use Rattle.std.specs.Prelude.{◌≡◌};
 ghost use Rattle.serde_json.specs.View.{view};
 ghost use Rattle.city_doc.specs.CommandForms.{names_relations};
-ghost use Rattle.city_doc.specs.BadCommands.{is_unreadable, is_bad_object, is_bad_command, is_misplaced};
+ghost use Rattle.city_doc.specs.BadCommands.{is_unreadable, is_bad_object, is_bad_command, names_bad_vertex};
 
 use crate::command_form::{Form, form_of};
 use crate::object_faults::{has_bad_vertex, is_bad_geometry, type_of, unsupported_name};
@@ -42,8 +42,8 @@ pub fn is_bad_command(command: &Value) -> bool
 }
 
 /// Whether a position in a command is negative, or not less than the number of vertices.
-pub fn is_misplaced(count: usize, command: &Value) -> bool
-    ensures { result ≡ is_misplaced count (view command.now) }
+pub fn names_bad_vertex(count: usize, command: &Value) -> bool
+    ensures { result ≡ names_bad_vertex count (view command.now) }
 {
     match form_of(command) {
         Some(Form::Put(_, object)) => has_bad_vertex(count, object),

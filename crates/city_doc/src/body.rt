@@ -8,15 +8,16 @@ ghost use Rattle.city_doc.specs.Bodies.{body_of, kept_if};
 use crate::geometry::geometries_of;
 use crate::object_faults::type_of;
 use city_model::kept::extra::Extra;
+use city_model::kept::place::AtObject;
 use city_model::members::{into_object, take};
 use city_model::object::{Body, Point};
-use city_model::kept::place::AtObject;
 use serde_json::{Map, Value};
 use std::alloc::{AllocError, Global};
 
 /// The members that are kept at an object, of those but `type` and `geometry`.
 fn kept(mut members: Map<String, Value>) -> Option<Extra<AtObject>>
-    ensures { result ≡ kept_if kept_at_object (without (codes "children") (without (codes "parents") (members_view members.entries))) }
+    ensures { result ≡ kept_if kept_at_object
+        (without (codes "children") (without (codes "parents") (members_view members.entries))) }
 {
     drop(take(&mut members, "parents"));
     drop(take(&mut members, "children"));

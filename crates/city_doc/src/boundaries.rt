@@ -32,7 +32,7 @@ impl Written for Point {
     ghost is_kept = { λ _. true };
 
     fn tree(&self, _alloc: Global, pool: &VertexPool) -> Result<Value, AllocError> {
-        Ok(Value::from(pool.place(*self)))
+        Ok(Value::from(pool.number(*self)))
     }
 }
 

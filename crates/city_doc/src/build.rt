@@ -4,7 +4,7 @@ ghost use Rattle.serde_json.specs.Find.{get_member, as_object};
 ghost use Rattle.serde_json.specs.View.{view, members_view};
 ghost use Rattle.city_model.specs.Members.{without};
 ghost use Rattle.city_doc.specs.CityFaults.{lenient_object_of};
-ghost use Rattle.city_doc.specs.LenientCities.{lenient_entries_of, lenient_city_of};
+ghost use Rattle.city_doc.specs.LenientCities.{listed, lenient_entries_of, lenient_city_of};
 
 use crate::body::body_of;
 use crate::ids::ids_or_none;
@@ -75,7 +75,7 @@ pub fn lenient_city_of(
     points: &[Point],
     tree: Value,
 ) -> Result<Option<City>, AllocError>
-    ensures { IfOk result (λ o. o ≡ lenient_city_of points.now (view tree)) }
+    ensures { IfOk result (λ o. option_map listed o ≡ lenient_city_of points.now (view tree)) }
 {
     let Some(mut top) = into_object(tree) else {
         return Ok(None);

@@ -1,6 +1,7 @@
 //! Judges a city that was read: its rings, its relations and its shells.
 ghost use Rattle.std.specs.Prelude.{◌≡◌, List, Bool, None, IfOk, IfSome, IfNone, MatchOption, option_map};
 ghost use Rattle.std.specs.List.{list_any};
+ghost use Rattle.std.specs.FinMap.{entries};
 ghost use Rattle.serde_json.specs.Data.{Members};
 ghost use Rattle.city_model.specs.declared.object.Body as b;
 ghost use Rattle.city_model.specs.declared.object.Point as p;
@@ -59,7 +60,7 @@ fn is_bad_ringed(body: &Body) -> bool
 
 /// The first id, in byte order, of an object whose body has it.
 fn first_body<J: BodyTest>(alloc: Global, city: &City) -> Result<Option<&Id>, AllocError>
-    ensures { IfOk result (λ o. option_map (λ id. id.now) o ≡ first_body J.test city.now.1) }
+    ensures { IfOk result (λ o. option_map (λ id. id.now) o ≡ first_body J.test (entries city.now.1)) }
 {
     for (id, object) in city.iter() {
         if J::judge(alloc, &object.body)? {
@@ -71,7 +72,8 @@ fn first_body<J: BodyTest>(alloc: Global, city: &City) -> Result<Option<&Id>, Al
 
 /// The lesser of two ids, in byte order, where there are any.
 fn lesser<'i>(one: Option<&'i Id>, other: Option<&'i Id>) -> Option<&'i Id>
-    ensures { option_map (λ id. id.now) result ≡ lesser (option_map (λ id. id.now) one.entry) (option_map (λ id. id.now) other.entry) }
+    ensures { option_map (λ id. id.now) result
+        ≡ lesser (option_map (λ id. id.now) one.entry) (option_map (λ id. id.now) other.entry) }
 {
     match one {
         None => other,
@@ -88,7 +90,7 @@ fn least_badly_related<'c>(bad_list: Option<&'c Id>, city: &'c City) -> Option<&
     ensures related { IfNone result (IsRelated (at city.now.1)) }
     ensures lists { IfNone result (option_map (λ id. id.now) bad_list.entry ≡ None) }
     ensures least { (points : List p.Point) (objects : Members)
-        → IsReadOf points objects city.now.1 (option_map (λ id. id.now) bad_list.entry)
+        → IsReadOf points objects (entries city.now.1) (option_map (λ id. id.now) bad_list.entry)
         → IfSome result (λ id. IsLeastBadlyRelated points objects id.now) }
 {
     lesser(bad_list, relations_fault(city))
@@ -103,7 +105,7 @@ pub fn city_fault(
     city: &City,
 ) -> Result<Option<ReadFault>, AllocError>
     ensures { IfOk result (λ o. (points : List p.Point) (objects : Members)
-        → IsReadOf points objects city.now.1 (option_map (λ id. id.now) bad_list.entry)
+        → IsReadOf points objects (entries city.now.1) (option_map (λ id. id.now) bad_list.entry)
         → MatchOption o (IsLawful (at city.now.1) × (option_map (λ id. id.now) bad_list.entry ≡ None))
         (λ f. IsFirst (StandsAmong points objects) f)) }
 {

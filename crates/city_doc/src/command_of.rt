@@ -40,7 +40,8 @@ fn word_command(word: &str) -> Option<Command>
 
 /// The command of one member.
 fn single_command(mut members: Map<String, Value>) -> Option<Command>
-    ensures { (points : List Point) → result ≡ option_and_then (command_of_form points) (single_form (members_view members.entries)) }
+    ensures { (points : List Point) → result
+        ≡ option_and_then (command_of_form points) (single_form (members_view members.entries)) }
 {
     if let Some(id) = take_text(&mut members, "read") {
         return Some(Command::Read(id));
@@ -72,7 +73,8 @@ fn put_command(
     points: &[Point],
     mut members: Map<String, Value>,
 ) -> Result<Option<Command>, AllocError>
-    ensures { IfOk result (λ o. o ≡ option_and_then (command_of_form points.now) (put_pair (members_view members.entries))) }
+    ensures { IfOk result (λ o. o
+        ≡ option_and_then (command_of_form points.now) (put_pair (members_view members.entries))) }
 {
     let Some(id) = take_text(&mut members, "put") else {
         return Ok(None);
@@ -85,7 +87,8 @@ fn put_command(
 
 /// The command of two members, one of which names a parent.
 fn relation_command(mut members: Map<String, Value>) -> Option<Command>
-    ensures { (points : List Point) → result ≡ option_and_then (command_of_form points) (relation_pair (members_view members.entries)) }
+    ensures { (points : List Point) → result
+        ≡ option_and_then (command_of_form points) (relation_pair (members_view members.entries)) }
 {
     let parent = take_text(&mut members, "parent")?;
     if let Some(child) = take_text(&mut members, "attach") {
@@ -108,7 +111,8 @@ fn pair_command(
     points: &[Point],
     members: Map<String, Value>,
 ) -> Result<Option<Command>, AllocError>
-    ensures { IfOk result (λ o. o ≡ option_and_then (command_of_form points.now) (pair_form (members_view members.entries))) }
+    ensures { IfOk result (λ o. o
+        ≡ option_and_then (command_of_form points.now) (pair_form (members_view members.entries))) }
 {
     if is_put(&members) {
         put_command(alloc, points, members)
@@ -123,7 +127,8 @@ fn members_command(
     points: &[Point],
     members: Map<String, Value>,
 ) -> Result<Option<Command>, AllocError>
-    ensures { IfOk result (λ o. o ≡ option_and_then (command_of_form points.now) (members_form (members_view members.entries))) }
+    ensures { IfOk result (λ o. o
+        ≡ option_and_then (command_of_form points.now) (members_form (members_view members.entries))) }
 {
     if members_count(&members) == 1 {
         Ok(single_command(members))

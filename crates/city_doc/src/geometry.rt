@@ -10,9 +10,9 @@ use crate::nested::Nested;
 use crate::object_faults::text_at;
 use crate::values::{into_array, into_text};
 use city_model::kept::extra::Extra;
+use city_model::kept::place::AtGeometry;
 use city_model::members::{into_object, take};
 use city_model::object::{Geometry, Point, Shape};
-use city_model::kept::place::AtGeometry;
 use city_model::sequence::Sequence;
 use city_model::text::Text;
 use serde_json::{Map, Value};
@@ -52,7 +52,8 @@ fn shape_in(alloc: Global, points: &[Point], geometry: &Value) -> Result<Option<
 
 /// The members that are kept at a geometry, of those but `type` and `lod`.
 fn kept(mut members: Map<String, Value>) -> Option<Extra<AtGeometry>>
-    ensures { result ≡ kept_if kept_at_geometry (without (codes "boundaries") (members_view members.entries)) }
+    ensures { result ≡ kept_if kept_at_geometry
+        (without (codes "boundaries") (members_view members.entries)) }
 {
     drop(take(&mut members, "boundaries"));
     match Extra::new(members) {
@@ -63,7 +64,8 @@ fn kept(mut members: Map<String, Value>) -> Option<Extra<AtGeometry>>
 
 /// Takes the type and the level of detail out, and gives the latter where it is a text.
 fn take_lod(members: &mut Map<String, Value>) -> Option<Text>
-    ensures found { result ≡ option_and_then as_str (get_member (codes "lod") (members_view members.old.entries)) }
+    ensures found { result
+        ≡ option_and_then as_str (get_member (codes "lod") (members_view members.old.entries)) }
     ensures left { members_view members.new.entries
         ≡ without (codes "lod") (without (codes "type") (members_view members.old.entries)) }
 {

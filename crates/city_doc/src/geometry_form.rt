@@ -21,7 +21,8 @@ fn is_boundaries<L: Leaf>(leaf: &L, kind: &str, value: &Value) -> bool
 }
 
 fn are_boundaries_of<L: Leaf>(leaf: &L, kind: Option<&str>, value: Option<&Value>) -> bool
-    ensures { result ≡ are_boundaries_of (L.test leaf.now) (option_map (λ s. s.now) kind.entry) (option_map (λ v. view v.now) value.entry) }
+    ensures { result ≡ are_boundaries_of (L.test leaf.now)
+        (option_map (λ s. s.now) kind.entry) (option_map (λ v. view v.now) value.entry) }
 {
     match kind {
         None => false,
@@ -51,7 +52,8 @@ fn all_geometries<L: Leaf>(leaf: &L, items: &Vec<Value>) -> bool
 }
 
 fn are_all_geometries<L: Leaf>(leaf: &L, items: Option<&Vec<Value>>) -> bool
-    ensures { result ≡ are_items (is_geometry (L.test leaf.now)) (option_map (λ v. items_view v.now.items) items.entry) }
+    ensures { result ≡ are_items (is_geometry (L.test leaf.now))
+        (option_map (λ v. items_view v.now.items) items.entry) }
 {
     match items {
         None => false,

@@ -25,7 +25,8 @@ fn has_other_item(items: &Vec<Value>) -> bool
 }
 
 fn is_other_list(items: Option<&Vec<Value>>) -> bool
-    ensures { result ≡ is_none (option_and_then (read_items as_str) (option_map (λ v. items_view v.now.items) items.entry)) }
+    ensures { result ≡ is_none (option_and_then (read_items as_str)
+        (option_map (λ v. items_view v.now.items) items.entry)) }
 {
     match items {
         None => true,

@@ -13,7 +13,7 @@ use crate::fault::ReadFault;
 use crate::ids::has_bad_list;
 use crate::object_faults::{has_bad_vertex, is_bad_geometry, type_of, unsupported_name};
 use crate::top::wrong_member;
-use city_model::members::{member, members_count};
+use city_model::members::member;
 use city_model::object::Point;
 use city_model::text::{Id, Text};
 use serde_json::{Map, Value};
@@ -81,9 +81,11 @@ impl ObjectTest for BadList {
     }
 }
 
-/// The first id, in byte order, of an object that has it.
+/// The first id of an object that has it; the ids are in byte order.
 fn first_with<'m, J: ObjectTest>(judge: &J, objects: &'m Map<String, Value>) -> Option<&'m str>
-    ensures { option_map (λ s. s.now) result ≡ first_with (J.test judge.now) (members_view objects.now.entries) }
+    ensures first { option_map (λ s. s.now) result
+        ≡ first_with (J.test judge.now) (members_view objects.now.entries) }
+    ensures ordered { AreOrdered (members_view objects.now.entries) }
 {
     for (id, object) in objects.iter() {
         if judge.judge(object) {
@@ -118,8 +120,6 @@ fn object_fault(
         (AreReadable (length points.now) (members_view objects.now.entries))
         (λ f. IsFirst (StandsAmong points.now (members_view objects.now.entries)) f)) }
 {
-    // (called for its promise that the ids ascend)
-    let _count = members_count(objects);
     if let Some(id) = first_with(&UnknownType, objects) {
         let id = named(alloc, id)?;
         return Ok(Some(ReadFault::UnknownType(id)));
@@ -159,7 +159,8 @@ pub fn first_fault(
     tree: &Value,
 ) -> Result<Option<ReadFault>, AllocError>
     ensures { is_integral (view tree.now) ≡ true → points.now ≡ vertices_in (view tree.now)
-        → IfOk result (λ o. MatchOption o (HasForm (view tree.now)) (λ f. IsFirst (StandsIn (view tree.now)) f)) }
+        → IfOk result (λ o. MatchOption o (HasForm (view tree.now))
+        (λ f. IsFirst (StandsIn (view tree.now)) f)) }
 {
     if let Some(name) = wrong_member(tree) {
         let name = named(alloc, name)?;
@@ -180,8 +181,6 @@ pub fn first_bad_list(alloc: Global, tree: &Value) -> Result<Option<Id>, AllocEr
     let Some(objects) = objects_in(tree) else {
         return Ok(None);
     };
-    // (called for its promise that the ids ascend)
-    let _count = members_count(objects);
     let Some(id) = first_with(&BadList, objects) else {
         return Ok(None);
     };

@@ -1,10 +1,11 @@
-//! Lists within lists down to positions, as boundaries have them: their form, and the points that they stand for.
+//! Lists within lists down to positions, as boundaries have them: their form, and the points that
+//! they stand for.
 ghost use Rattle.std.specs.Prelude.{◌≡◌, Bool, List, Option, IfOk};
 ghost use Rattle.serde_json.specs.Data.{Data};
 ghost use Rattle.serde_json.specs.View.{view, items_view};
 ghost use Rattle.city_model.specs.declared.object.Point as p;
 ghost use Rattle.city_doc.specs.Bodies.{read_items, list_of, point_at};
-ghost use Rattle.city_doc.specs.Geometries.{is_number, is_place, place_of, all_items, is_list_of};
+ghost use Rattle.city_doc.specs.Geometries.{is_number, is_position, position_of, all_items, is_list_of};
 
 use city_model::object::Point;
 use city_model::sequence::Sequence;
@@ -25,7 +26,7 @@ pub struct AnyNumber;
 
 /// The position of one of so many vertices.
 #[derive(Clone, Copy)]
-pub struct PlaceBelow(pub usize);
+pub struct PositionBelow(pub usize);
 
 impl Leaf for AnyNumber {
     ghost test = { λ _. is_number };
@@ -35,25 +36,25 @@ impl Leaf for AnyNumber {
     }
 }
 
-/// The place in a list that a value names, where it isn't negative.
-fn place_of(value: &Value) -> Option<usize>
-    ensures { result ≡ place_of (view value.now) }
+/// The position in a list that a value names, where it isn't negative.
+fn position_of(value: &Value) -> Option<usize>
+    ensures { result ≡ position_of (view value.now) }
 {
-    let place = value.as_i64()?;
-    if place < 0 {
+    let position = value.as_i64()?;
+    if position < 0 {
         None
     } else {
-        Some(place as usize)
+        Some(position as usize)
     }
 }
 
-impl Leaf for PlaceBelow {
-    ghost test = { λ s. is_place s.0 };
+impl Leaf for PositionBelow {
+    ghost test = { λ s. is_position s.0 };
 
     fn admits(&self, value: &Value) -> bool {
-        match place_of(value) {
+        match position_of(value) {
             None => false,
-            Some(place) => place < self.0,
+            Some(position) => position < self.0,
         }
     }
 }
@@ -84,10 +85,10 @@ impl Nested for Point {
     }
 
     fn read(_alloc: Global, points: &[Point], value: &Value) -> Result<Option<Point>, AllocError> {
-        let Some(place) = place_of(value) else {
+        let Some(position) = position_of(value) else {
             return Ok(None);
         };
-        Ok(points.get(place).copied())
+        Ok(points.get(position).copied())
     }
 }
 

@@ -7,9 +7,9 @@ ghost use Rattle.city_doc.specs.Bodies.{text_at, type_of};
 ghost use Rattle.city_doc.specs.ObjectFaults.{unsupported_types, unsupported_type, first_unsupported, unsupported_name, is_bad_geometry, has_bad_vertex};
 
 use crate::geometry_form::are_geometries;
-use crate::nested::{AnyNumber, PlaceBelow};
-use city_model::object_type::{self, ObjectType};
+use crate::nested::{AnyNumber, PositionBelow};
 use city_model::kept::place::has_location;
+use city_model::object_type::{self, ObjectType};
 use serde_json::Value;
 
 /// The text of a member, where it is one.
@@ -81,5 +81,5 @@ pub fn is_bad_geometry(object: &Value) -> bool
 pub fn has_bad_vertex(count: usize, object: &Value) -> bool
     ensures { result ≡ has_bad_vertex count (view object.now) }
 {
-    !are_geometries(&PlaceBelow(count), object.get("geometry"))
+    !are_geometries(&PositionBelow(count), object.get("geometry"))
 }

@@ -1,10 +1,7 @@
 //! The tree of a city object.
 ghost use Rattle.std.specs.Prelude.{◌≡◌, IfOk, OnOk, true};
-ghost use Rattle.std.specs.Cmp.Lexicographic.{slice_cmp};
 ghost use Rattle.std.specs.List.{list_all};
-ghost use Rattle.std.specs.List.Sorted.{IsStrictlySortedBy};
-ghost use Rattle.std.specs.Map.{keys_of};
-ghost use Rattle.std.specs.Ordering.{nat_cmp};
+ghost use Rattle.std.specs.FinMap.{entries};
 ghost use Rattle.serde_json.specs.View.{view, members_view};
 ghost use Rattle.city_doc.specs.Canonical.{put_list, object_data, objects_data};
 ghost use Rattle.city_doc.specs.KeptMembers.{is_kept_object, are_kept_objects};
@@ -59,10 +56,8 @@ pub fn object_tree(alloc: Global, object: &Object, pool: &VertexPool) -> Result<
 
 /// The objects of a city by their ids, each point as its number.
 pub fn objects_tree(alloc: Global, city: &City, pool: &VertexPool) -> Result<Value, AllocError>
-    ensures tree { IfOk result (λ v. view v ≡ objects_data pool.now city.now.1) }
-    ensures kept { IfOk result (λ _. are_kept_objects city.now.1 ≡ true) }
-    ensures ordered { IfOk result (λ _. IsStrictlySortedBy (slice_cmp nat_cmp)
-        (keys_of city.now.1)) }
+    ensures tree { IfOk result (λ v. view v ≡ objects_data pool.now (entries city.now.1)) }
+    ensures kept { IfOk result (λ _. are_kept_objects (entries city.now.1) ≡ true) }
 {
     let mut members = Map::new(alloc);
     for (id, object) in city.iter() {

@@ -31,7 +31,7 @@ pub enum TextFault {
 /// memory for the tree.
 pub fn parse(alloc: Global, bytes: &[u8]) -> Result<Value, TextFault>
     ensures tree { IfOk result (λ v. HasTree bytes.now (view v)) }
-    ensures whole { IfOk result (λ v. is_integral (view v) ≡ true) }
+    ensures integral { IfOk result (λ v. is_integral (view v) ≡ true) }
     ensures fault { IfErr result (λ f. IsRefused bytes.now f) }
 {
     if bytes.len() > MAX_TEXT {

@@ -1,6 +1,6 @@
 //! Numbers points in the order of their first meeting.
 ghost use Rattle.std.specs.Prelude.{◌≡◌, [], IfOk, OnOk, OnErr};
-ghost use Rattle.city_doc.specs.Pool.{place_of, with_point};
+ghost use Rattle.city_doc.specs.Pool.{number_of, with_point};
 
 use city_model::OutOfMemory;
 use city_model::object::Point;
@@ -8,7 +8,7 @@ use indexmap::IndexSet;
 use std::alloc::Global;
 use std::marker::Model;
 
-/// The points met so far, each once; the number of a point is its place.
+/// The points met so far, each once; numbered from 0 in that order.
 #[derive(Drop)]
 pub struct VertexPool {
     points: IndexSet<Point>,
@@ -37,17 +37,17 @@ impl VertexPool {
     ///
     /// Where there is no memory the pool is unchanged.
     pub fn add(&mut self, point: Point) -> Result<usize, OutOfMemory>
-        ensures place { IfOk result (λ i. i ≡ place_of self.old point) }
+        ensures number { IfOk result (λ i. i ≡ number_of self.old point) }
         ensures added { OnOk result (self.new ≡ with_point self.old point) }
         ensures unchanged { OnErr result (self.new ≡ self.old) }
     {
-        let (place, _) = self.points.insert_full(point)?;
-        Ok(place)
+        let (number, _) = self.points.insert_full(point)?;
+        Ok(number)
     }
 
     /// The number of a point, or how many points there are where it isn't there. Takes no memory.
-    pub(crate) fn place(&self, point: Point) -> usize
-        ensures { result ≡ place_of self.now point }
+    pub(crate) fn number(&self, point: Point) -> usize
+        ensures { result ≡ number_of self.now point }
     {
         self.points
             .get_index_of(&point)

@@ -1,10 +1,10 @@
 //! Reads a document.
 ghost use Rattle.std.specs.Prelude.{◌≡◌, ◌⊎◌, true, Some, IfOk, IfErr, OnOk};
 ghost use Rattle.serde_json.specs.View.{view};
-ghost use Rattle.city_model.specs.CityMap.{at};
+ghost use Rattle.city_model.specs.CityMap.{at, CityValue};
 ghost use Rattle.city_model.specs.Relations.{IsLawful};
 ghost use Rattle.city_model.specs.Integral.{is_integral};
-ghost use Rattle.city_doc.specs.Documents.{CityValue, city_of, StandsForCity, IsAdmitted, StandsIn, IsFirst, DocumentFault};
+ghost use Rattle.city_doc.specs.Documents.{city_of, StandsForCity, IsAdmitted, StandsIn, IsFirst, DocumentFault};
 ghost use Rattle.city_doc.specs.Texts.{IsReadable};
 
 use crate::build::lenient_city_of;

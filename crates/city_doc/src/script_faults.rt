@@ -2,13 +2,13 @@
 ghost use Rattle.std.specs.Prelude.{◌≡◌, ℕ, Bool, MatchOption, option_map, map};
 ghost use Rattle.serde_json.specs.Data.{Data};
 ghost use Rattle.serde_json.specs.View.{view};
-ghost use Rattle.city_doc.specs.BadCommands.{is_bad_command, is_misplaced};
+ghost use Rattle.city_doc.specs.BadCommands.{is_bad_command, names_bad_vertex};
 ghost use Rattle.city_doc.specs.ScriptTrees.{array_of, count_of, vertex_count};
 ghost use Rattle.city_doc.specs.ScriptForms.{parts_views};
 ghost use Rattle.city_doc.specs.ScriptSearch.{first_in, first_command};
 ghost use Rattle.city_doc.specs.ScriptTexts.{PartsFault, AreFaultlessParts};
 
-use crate::bad_command::{is_bad_command, is_misplaced};
+use crate::bad_command::{is_bad_command, names_bad_vertex};
 use crate::fault::ScriptFault;
 use crate::script_form::ScriptForm;
 use crate::script_forms::are_too_many;
@@ -25,7 +25,7 @@ trait CommandTest {
 
 struct BadCommand;
 
-struct Misplaced;
+struct NamesBadVertex;
 
 impl CommandTest for BadCommand {
     ghost test = { λ _ d. is_bad_command d };
@@ -35,11 +35,11 @@ impl CommandTest for BadCommand {
     }
 }
 
-impl CommandTest for Misplaced {
-    ghost test = { is_misplaced };
+impl CommandTest for NamesBadVertex {
+    ghost test = { names_bad_vertex };
 
     fn judge(vertices: usize, command: &Value) -> bool {
-        is_misplaced(vertices, command)
+        names_bad_vertex(vertices, command)
     }
 }
 
@@ -89,7 +89,8 @@ fn first_command<J: CommandTest>(forms: &[ScriptForm]) -> Option<(usize, usize)>
 
 /// The first fault of scripts of these forms.
 pub fn parts_fault(forms: &[ScriptForm]) -> Option<ScriptFault>
-    ensures { MatchOption result (AreFaultlessParts (parts_views forms.now)) (λ f. PartsFault (parts_views forms.now) f) }
+    ensures { MatchOption result (AreFaultlessParts (parts_views forms.now))
+        (λ f. PartsFault (parts_views forms.now) f) }
 {
     if are_too_many(forms) {
         return Some(ScriptFault::TooMany);
@@ -97,7 +98,7 @@ pub fn parts_fault(forms: &[ScriptForm]) -> Option<ScriptFault>
     if let Some((n, i)) = first_command::<BadCommand>(forms) {
         return Some(ScriptFault::BadCommand(n, i));
     }
-    if let Some((n, i)) = first_command::<Misplaced>(forms) {
+    if let Some((n, i)) = first_command::<NamesBadVertex>(forms) {
         return Some(ScriptFault::BadVertex(n, i));
     }
     None

@@ -71,8 +71,10 @@ fn has_script_members(members: &Map<String, Value>) -> bool
 
 /// Takes the commands of a script out, where exactly the last is a word that ends it.
 fn take_commands(members: &mut Map<String, Value>) -> Option<Vec<Value>>
-    ensures found { option_map (λ v. map view v.items) result ≡ commands_in (members_view members.old.entries) }
-    ensures left { members_view members.new.entries ≡ without (codes "commands") (members_view members.old.entries) }
+    ensures found { option_map (λ v. map view v.items) result
+        ≡ commands_in (members_view members.old.entries) }
+    ensures left { members_view members.new.entries
+        ≡ without (codes "commands") (members_view members.old.entries) }
     ensures ended { IfSome result (λ v. word_ends (map view v.items) ≡ true) }
 {
     let items = into_array(take(members, "commands")?)?;
@@ -115,7 +117,8 @@ fn parts_of(script: Value) -> Option<ScriptForm>
 /// for the list.
 pub fn forms_of(alloc: Global, items: Vec<Value>) -> Result<Sequence<ScriptForm>, ScriptFault>
     ensures forms { IfOk result (λ fs. all_read parts_of (map view items.items) ≡ Some (parts_views fs)) }
-    ensures fault { IfErr result (λ f. (f ≡ ScriptFault.OutOfMemory) ⊎ (first_at bad_script 0 (map view items.items) ≡ Some f)) }
+    ensures fault { IfErr result (λ f. (f ≡ ScriptFault.OutOfMemory)
+        ⊎ (first_at bad_script 0 (map view items.items) ≡ Some f)) }
 {
     let mut forms = Sequence::new(alloc);
     for item in items {

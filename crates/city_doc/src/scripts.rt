@@ -36,7 +36,8 @@ pub fn read_scripts(alloc: Global, bytes: &[u8]) -> Result<Sequence<Script>, Scr
     ensures readable { OnOk result (IsReadable bytes.now) }
     ensures fault { IfErr result (λ f. ScriptTextFault bytes.now f) }
     ensures read { IfOk result (λ ss. IsReadAs bytes.now ss) }
-    ensures refused { IfErr result (λ f. (f ≡ ScriptFault.OutOfMemory) ⊎ ((ss : List Scripted) → IsReadAs bytes.now ss → ⊥)) }
+    ensures refused { IfErr result (λ f. (f ≡ ScriptFault.OutOfMemory)
+        ⊎ ((ss : List Scripted) → IsReadAs bytes.now ss → ⊥)) }
 {
     match parse(alloc, bytes) {
         Ok(tree) => {
@@ -77,7 +78,8 @@ fn scripts_of_tree(alloc: Global, tree: Value) -> Result<Sequence<Script>, Scrip
 /// The scripts of an array's items, whose numbers are whole.
 fn scripts_of_items(alloc: Global, items: Vec<Value>) -> Result<Sequence<Script>, ScriptFault>
     requires { list_all is_integral (map view items.items) ≡ true }
-    ensures scripts { IfOk result (λ ss. option_and_then scripts_of_parts (all_read parts_of (map view items.items)) ≡ Some ss) }
+    ensures scripts { IfOk result (λ ss. option_and_then scripts_of_parts
+        (all_read parts_of (map view items.items)) ≡ Some ss) }
     ensures fault { IfErr result (λ f. (f ≡ ScriptFault.OutOfMemory) ⊎ ItemsFault (map view items.items) f) }
 {
     let forms = forms_of(alloc, items)?;

@@ -7,10 +7,10 @@ ghost use Rattle.city_doc.specs.Bodies.{kept_if};
 ghost use Rattle.city_doc.specs.Frames.{triple_at, more_of, frame_with, frame_of_rest, is_text, is_transform, all_objects, are_all_objects, are_objects, are_vertices, wrong_member, without_transform_members};
 
 use crate::triples::{are_triples, triple_of};
-use city_model::kept::extra::Extra;
 use city_model::frame::Frame;
-use city_model::members::{into_object, take};
+use city_model::kept::extra::Extra;
 use city_model::kept::place::{AtTop, AtTransform, is_empty_object_or_absent};
+use city_model::members::{into_object, take};
 use serde_json::{Map, Value};
 
 /// Whether the member is there and is this text.
@@ -98,7 +98,8 @@ pub fn wrong_member(tree: &Value) -> Option<&'static str>
 
 /// The members that are kept at a transform.
 fn kept_at_transform(mut transform: Map<String, Value>) -> Option<Extra<AtTransform>>
-    ensures { result ≡ kept_if kept_at_transform (without_transform_members (members_view transform.entries)) }
+    ensures { result ≡ kept_if kept_at_transform
+        (without_transform_members (members_view transform.entries)) }
 {
     drop(take(&mut transform, "scale"));
     drop(take(&mut transform, "translate"));

@@ -1,10 +1,6 @@
 //! The tree of a city.
 ghost use Rattle.std.specs.Prelude.{◌≡◌, ◌<◌, ◌^◌, IfOk, true, length};
-ghost use Rattle.std.specs.Cmp.Lexicographic.{slice_cmp};
 ghost use Rattle.std.specs.List.{list_all};
-ghost use Rattle.std.specs.List.Sorted.{IsStrictlySortedBy};
-ghost use Rattle.std.specs.Map.{keys_of};
-ghost use Rattle.std.specs.Ordering.{nat_cmp};
 ghost use Rattle.serde_json.specs.View.{view, members_view};
 ghost use Rattle.city_model.specs.Kept.{kept_at_top, kept_at_transform};
 ghost use Rattle.city_doc.specs.Canonical.{triple_data, transform_data, vertex_data, vertices_data, frame_members, numbered_tree};
@@ -101,8 +97,6 @@ pub fn city_tree(alloc: Global, city: &City, pool: &VertexPool) -> Result<Value,
     ensures tree { IfOk result (λ v. view v ≡ numbered_tree pool.now city.now) }
     ensures kept { IfOk result (λ _. IsKeptCity city.now) }
     ensures in_range { IfOk result (λ _. IsInRange pool.now city.now.0) }
-    ensures ordered { IfOk result (λ _. IsStrictlySortedBy (slice_cmp nat_cmp)
-        (keys_of city.now.1)) }
 {
     let mut top = frame_members(alloc, city.frame())?;
     put(&mut top, alloc, "vertices", vertices_tree(alloc, pool)?)?;

@@ -2,11 +2,11 @@
 ghost use Rattle.std.specs.Prelude.{◌≡◌, ◌≤◌, ℕ, List, IfOk};
 ghost use Rattle.serde_json.specs.Data.{depth};
 ghost use Rattle.serde_json.specs.Read.{max_depth};
-ghost use Rattle.city_model.specs.CityMap.{at};
+ghost use Rattle.city_model.specs.CityMap.{at, CityValue};
 ghost use Rattle.city_model.specs.Relations.{IsLawful};
 ghost use Rattle.city_doc.specs.Accepted.{IsAccepted};
 ghost use Rattle.city_doc.specs.Canonical.{tree_of, city_text};
-ghost use Rattle.city_doc.specs.Documents.{CityValue, StandsForCity};
+ghost use Rattle.city_doc.specs.Documents.{StandsForCity};
 ghost use Rattle.city_doc.specs.Texts.{IsReadable};
 
 use crate::tree::city_tree;

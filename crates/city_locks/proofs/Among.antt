@@ -1,7 +1,8 @@
 -- Among the holders of one id: what a holder added or taken out leaves, and that the holders stay lawful.
 use Rattle.std.proofs.Common.{◌≡◌, ◌≢◌, ℕ, ◌==◌, ◌&&◌, ◌||◌, cond, Bool, true, false, not, List, [], ◌∷◌, ◌++◌, take, drop, Option, None, Some, is_some, refl, ap, sym, ◌∙◌, ◌⊎◌, inl, inr, ◌+◌, nat_lt}
 use Rattle.std.specs.List.{list_any, list_all}
-use Rattle.std.proofs.lemmas.Bool.{false≢true, eqb-true, eqb-false, eq-eqb, ne_eqb}
+use Rattle.std.proofs.lemmas.Bool.{false≢true, eqb-true, eqb-false, eq-eqb, ne_eqb, or_parts, or_right}
+use Rattle.city_model.proofs.IdLists.{bool_cases}
 use Rattle.city_locks.specs.declared.mode.Mode.{Mode}
 use Rattle.city_locks.specs.declared.mode.Mode.TheVariants.{Shared, Exclusive}
 use Rattle.city_locks.specs.declared.answer.Answer.TheVariants.{Granted, Wait, Die}
@@ -9,65 +10,44 @@ use Rattle.city_locks.specs.declared.holder.Holder.{Holder}
 use Rattle.city_locks.specs.Mode.{is_exclusive, stronger}
 use Rattle.city_locks.specs.Holders.{in_conflict, gives_way, answer_among, mode_among, with_holder, without}
 
--- by the test, with what it tells
-pub by_test : {A : Type 0} (b : Bool) → (b ≡ true → A) → (b ≡ false → A) → A
-by_test true f g = f refl
-by_test false f g = g refl
-
 pub none_cond : (b : Bool) → None ≡ cond {A = Option Mode} b None None
 none_cond true = refl
 none_cond false = refl
-
-pub some_same : (m n : Mode) → Some m ≡ Some n → m ≡ n
-some_same m n e = cc
-
-or_off : (a b : Bool) → (a || b) ≡ false → a ≡ false
-or_off true b h = h
-or_off false b h = refl
-
-or_off_right : (a b : Bool) → (a || b) ≡ false → b ≡ false
-or_off_right true b h = absurd (false≢true (sym h))
-or_off_right false b h = h
-
-pub or_true : (a : Bool) → (a || true) ≡ true
-or_true true = refl
-or_true false = refl
 
 none_or_some : (o : Option Mode) → ((n : Mode) → o ≡ Some n → ⊥) → o ≡ None
 none_or_some None f = refl
 none_or_some (Some n) f = absurd (f n refl)
 
 pub none_from : (o : Option Mode) → (is_some o ≡ true → ⊥) → o ≡ None
-none_from None f = refl
-none_from (Some n) f = absurd (f refl)
+none_from o f = none_or_some o (λ n e. f (ap is_some e))
 
 -- ---- the modes after a holder was added, or taken out
 pub mode_with : (hs : List Holder) (s : ℕ) (m : Mode) (t : ℕ) →
     mode_among (with_holder hs s m) t ≡ cond (s == t) (Some (stronger m (mode_among hs s))) (mode_among hs t)
 mode_with [] s m t = refl
-mode_with (h ∷ hs) s m t = by_test (h.stamp == s)
+mode_with (h ∷ hs) s m t = bool_cases (h.stamp == s)
     (λ e. let p : h.stamp ≡ s = eqb-true h.stamp s e in
-    rw (e) (by_test (s == t)
+    rw (e) (bool_cases (s == t)
     (λ f. rw f refl)
     (λ f. let off : (h.stamp == t) ≡ false = ap (λ n. n == t) p ∙ f in rw (f, off) refl)))
-    (λ e. rw e (by_test (h.stamp == t)
+    (λ e. rw e (bool_cases (h.stamp == t)
     (λ f. let off : (s == t) ≡ false = ne_eqb s t (λ g. eqb-false h.stamp s e (eqb-true h.stamp t f ∙ sym g)) in rw (f, off) refl)
     (λ f. rw f (mode_with hs s m t))))
 
 pub mode_without : (hs : List Holder) (s t : ℕ) → mode_among (without hs s) t ≡ cond (s == t) None (mode_among hs t)
 mode_without [] s t = none_cond (s == t)
-mode_without (h ∷ hs) s t = by_test (h.stamp == s)
-    (λ e. rw e (mode_without hs s t ∙ by_test (s == t)
+mode_without (h ∷ hs) s t = bool_cases (h.stamp == s)
+    (λ e. rw e (mode_without hs s t ∙ bool_cases (s == t)
     (λ f. rw f refl)
     (λ f. let off : (h.stamp == t) ≡ false = ap (λ n. n == t) (eqb-true h.stamp s e) ∙ f in rw (f, off) refl)))
-    (λ e. rw e (by_test (h.stamp == t)
+    (λ e. rw e (bool_cases (h.stamp == t)
     (λ f. let off : (s == t) ≡ false = ne_eqb s t (λ g. eqb-false h.stamp s e (eqb-true h.stamp t f ∙ sym g)) in rw (f, off) refl)
     (λ f. rw f (mode_without hs s t))))
 
 -- a stamp that isn't among them is taken out in vain
 pub without_absent : (hs : List Holder) (s : ℕ) → mode_among hs s ≡ None → without hs s ≡ hs
 without_absent [] s h = refl
-without_absent (x ∷ xs) s h = by_test (x.stamp == s)
+without_absent (x ∷ xs) s h = bool_cases (x.stamp == s)
     (λ e. let bad : Some x.mode ≡ None = sym (ap (λ b. cond b (Some x.mode) (mode_among xs s)) e) ∙ h in cc)
     (λ e. rw e (ap (λ us. x ∷ us) (without_absent xs s (sym (ap (λ b. cond b (Some x.mode) (mode_among xs s)) e) ∙ h))))
 
@@ -89,19 +69,20 @@ LawfulAmong hs = (s t : ℕ) → s ≢ t → mode_among hs s ≡ Some Exclusive 
 pub no_conflict : (hs : List Holder) (s : ℕ) (m : Mode) (t : ℕ) (n : Mode) → (t == s) ≡ false → list_any (in_conflict s m) hs ≡ false →
     mode_among hs t ≡ Some n → (is_exclusive m || is_exclusive n) ≡ false
 no_conflict [] s m t n ne h e = cc
-no_conflict (x ∷ xs) s m t n ne h e = by_test (x.stamp == t)
-    (λ w. let q : x.mode ≡ n = some_same x.mode n (sym (ap (λ b. cond b (Some x.mode) (mode_among xs t)) w) ∙ e) in
-    let off : in_conflict s m x ≡ false = or_off (in_conflict s m x) (list_any (in_conflict s m) xs) h in
+no_conflict (x ∷ xs) s m t n ne h e = bool_cases (x.stamp == t)
+    (λ w. let some : Some x.mode ≡ Some n = sym (ap (λ b. cond b (Some x.mode) (mode_among xs t)) w) ∙ e in
+    let q : x.mode ≡ n = cc in
+    let off : in_conflict s m x ≡ false = (or_parts (in_conflict s m x) (list_any (in_conflict s m) xs) h).0 in
     let same : in_conflict s m x ≡ (is_exclusive m || is_exclusive n) =
     ap (λ a. not (a == s) && (is_exclusive m || is_exclusive x.mode)) (eqb-true x.stamp t w)
     ∙ ap (λ b. not b && (is_exclusive m || is_exclusive x.mode)) ne
     ∙ ap (λ k. is_exclusive m || is_exclusive k) q in
     sym same ∙ off)
-    (λ w. no_conflict xs s m t n ne (or_off_right (in_conflict s m x) (list_any (in_conflict s m) xs) h) (sym (ap (λ b. cond b (Some x.mode) (mode_among xs t)) w) ∙ e))
+    (λ w. no_conflict xs s m t n ne (or_parts (in_conflict s m x) (list_any (in_conflict s m) xs) h).1 (sym (ap (λ b. cond b (Some x.mode) (mode_among xs t)) w) ∙ e))
 
 pub granted_clear : (hs : List Holder) (s : ℕ) (m : Mode) → answer_among hs s m ≡ Granted → list_any (in_conflict s m) hs ≡ false
-granted_clear hs s m h = by_test (list_any (in_conflict s m) hs)
-    (λ e. by_test (list_all (gives_way s m) hs)
+granted_clear hs s m h = bool_cases (list_any (in_conflict s m) hs)
+    (λ e. bool_cases (list_all (gives_way s m) hs)
     (λ f. let bad : Wait ≡ Granted = sym (ap (λ b. cond b Wait Die) f) ∙ sym (ap (λ b. cond b (cond (list_all (gives_way s m) hs) Wait Die) Granted) e) ∙ h in cc)
     (λ f. let bad : Die ≡ Granted = sym (ap (λ b. cond b Wait Die) f) ∙ sym (ap (λ b. cond b (cond (list_all (gives_way s m) hs) Wait Die) Granted) e) ∙ h in cc))
     (λ e. e)
@@ -117,7 +98,7 @@ lawful_with hs s m l a r t ne x =
     let clear = granted_clear hs s m a in
     let ks = with_holder hs s m in
     let at : (b : ℕ) → mode_among ks b ≡ cond (s == b) (Some (stronger m (mode_among hs s))) (mode_among hs b) = λ b. mode_with hs s m b in
-    by_test (s == r)
+    bool_cases (s == r)
     (λ w. let sr : s ≡ r = eqb-true s r w in
     let ts : (t == s) ≡ false = ne_eqb t s (λ e. ne (sym (e ∙ sr))) in
     let st : (s == t) ≡ false = ne_eqb s t (λ e. ne (sym sr ∙ e)) in
@@ -128,15 +109,15 @@ lawful_with hs s m l a r t ne x =
     ] in
     at t ∙ ap (λ b. cond b (Some (stronger m (mode_among hs s))) (mode_among hs t)) st ∙ there)
     (λ w. let old : mode_among hs r ≡ Some Exclusive = sym (ap (λ b. cond b (Some (stronger m (mode_among hs s))) (mode_among hs r)) w) ∙ sym (at r) ∙ x in
-    by_test (s == t)
+    bool_cases (s == t)
     (λ v. let st : s ≡ t = eqb-true s t v in
     let rs : (r == s) ≡ false = ne_eqb r s (λ e. ne (e ∙ st)) in
-    absurd (false≢true (sym (no_conflict hs s m r Exclusive rs clear old) ∙ or_true (is_exclusive m))))
+    absurd (false≢true (sym (no_conflict hs s m r Exclusive rs clear old) ∙ or_right (is_exclusive m) true refl)))
     (λ v. at t ∙ ap (λ b. cond b (Some (stronger m (mode_among hs s))) (mode_among hs t)) v ∙ l r t ne old))
 
 pub lawful_without : (hs : List Holder) (s : ℕ) → LawfulAmong hs → LawfulAmong (without hs s)
 lawful_without hs s l r t ne x =
-    by_test (s == r)
+    bool_cases (s == r)
     (λ e. let bad : None ≡ Some Exclusive = sym (ap (λ b. cond b None (mode_among hs r)) e) ∙ sym (mode_without hs s r) ∙ x in cc)
     (λ e. mode_without hs s t ∙ ap (λ o. cond (s == t) None o) (l r t ne (sym (ap (λ b. cond b None (mode_among hs r)) e) ∙ sym (mode_without hs s r) ∙ x)) ∙ sym (none_cond (s == t)))
 
@@ -153,7 +134,7 @@ any_with s n (h ∷ hs) m =
     let new : Holder = record { stamp = s; mode = stronger m (Some h.mode) } in
     let here : (b : Bool) → (h.stamp == s) ≡ b → list_any (in_conflict s n) (with_holder (h ∷ hs) s m) ≡ list_any (in_conflict s n) (cond b (new ∷ hs) (h ∷ with_holder hs s m)) =
     λ b e. ap (λ x. list_any (in_conflict s n) (cond x (new ∷ hs) (h ∷ with_holder hs s m))) e in
-    by_test (h.stamp == s)
+    bool_cases (h.stamp == s)
     (λ e. here true e ∙ ap (λ b. b || list_any (in_conflict s n) hs) (own_quiet s n new (eq-eqb s s refl) ∙ sym (own_quiet s n h e)))
     (λ e. here false e ∙ ap (λ b. in_conflict s n h || b) (any_with s n hs m))
 
@@ -163,7 +144,7 @@ all_with s n (h ∷ hs) m =
     let new : Holder = record { stamp = s; mode = stronger m (Some h.mode) } in
     let here : (b : Bool) → (h.stamp == s) ≡ b → list_all (gives_way s n) (with_holder (h ∷ hs) s m) ≡ list_all (gives_way s n) (cond b (new ∷ hs) (h ∷ with_holder hs s m)) =
     λ b e. ap (λ x. list_all (gives_way s n) (cond x (new ∷ hs) (h ∷ with_holder hs s m))) e in
-    by_test (h.stamp == s)
+    bool_cases (h.stamp == s)
     (λ e. here true e ∙ ap (λ b. b && list_all (gives_way s n) hs) (own_gives_way s n new (eq-eqb s s refl) ∙ sym (own_gives_way s n h e)))
     (λ e. here false e ∙ ap (λ b. gives_way s n h && b) (all_with s n hs m))
 

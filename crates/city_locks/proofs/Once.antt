@@ -1,15 +1,17 @@
 -- Each stamp stands once among the holders of an id, so that its mode there says all; and what the answer says of the modes.
 use Rattle.std.proofs.Common.{◌≡◌, ℕ, ◌==◌, ◌&&◌, ◌||◌, ◌<◌, ◌≤◌, cond, Bool, true, false, not, List, [], ◌∷◌, Option, None, Some, refl, ap, sym, ◌∙◌, subst, nat_lt, arith}
 use Rattle.std.specs.List.{list_any, list_all}
-use Rattle.std.proofs.lemmas.Bool.{false≢true, eqb-true, eqb-false, eq-eqb, ne_eqb, ltb-true, ltb-false, and_parts, not-true, false_from_ne_true}
+use Rattle.std.proofs.lemmas.Bool.{false≢true, eqb-true, eqb-false, eq-eqb, ne_eqb, ltb-true, ltb-false, and_parts, and_from, or_right, not-true, not_from_false, false_from_ne_true}
+use Rattle.city_model.proofs.IdLists.{bool_cases}
 use Rattle.city_locks.specs.declared.mode.Mode.{Mode}
 use Rattle.city_locks.specs.declared.answer.Answer.{Answer}
 use Rattle.city_locks.specs.declared.answer.Answer.TheVariants.{Granted, Wait, Die}
 use Rattle.city_locks.specs.declared.holder.Holder.{Holder}
 use Rattle.city_locks.specs.Mode.{is_exclusive, stronger}
 use Rattle.city_locks.specs.Holders.{in_conflict, gives_way, answer_among, mode_among, with_holder, without, Once}
-use Rattle.city_locks.specs.WaitDie.{clashes, IsWaitDie}
-use Rattle.city_locks.proofs.Among.{some_same, by_test, mode_with, mode_without, none_cond, or_true}
+use Rattle.city_locks.specs.Locks.{Locks, holders_of, answer_of, mode_of}
+use Rattle.city_locks.specs.WaitDie.{IsInConflict, IsWaitDie}
+use Rattle.city_locks.proofs.Among.{mode_with, mode_without, none_cond}
 
 pub once_with : (hs : List Holder) (s : ℕ) (m : Mode) → Once hs → Once (with_holder hs s m)
 once_with [] s m o = (refl, tt)
@@ -17,7 +19,7 @@ once_with (h ∷ hs) s m o =
     let new : Holder = record { stamp = s; mode = stronger m (Some h.mode) } in
     let goes : (b : Bool) → (h.stamp == s) ≡ b → Once (cond b (new ∷ hs) (h ∷ with_holder hs s m)) → Once (with_holder (h ∷ hs) s m) =
     λ b e x. subst (λ c. Once (cond c (new ∷ hs) (h ∷ with_holder hs s m))) (sym e) x in
-    by_test (h.stamp == s)
+    bool_cases (h.stamp == s)
     (λ e. goes true e (ap (λ t. mode_among hs t) (sym (eqb-true h.stamp s e)) ∙ o.0, o.1))
     (λ e. let off : (s == h.stamp) ≡ false = ne_eqb s h.stamp (λ g. eqb-false h.stamp s e (sym g)) in
     goes false e (mode_with hs s m h.stamp ∙ ap (λ b. cond b (Some (stronger m (mode_among hs s))) (mode_among hs h.stamp)) off ∙ o.0, once_with hs s m o.1))
@@ -27,7 +29,7 @@ once_without [] s o = tt
 once_without (h ∷ hs) s o =
     let goes : (b : Bool) → (h.stamp == s) ≡ b → Once (cond (not b) (h ∷ without hs s) (without hs s)) → Once (without (h ∷ hs) s) =
     λ b e x. subst (λ c. Once (cond (not c) (h ∷ without hs s) (without hs s))) (sym e) x in
-    by_test (h.stamp == s)
+    bool_cases (h.stamp == s)
     (λ e. goes true e (once_without hs s o.1))
     (λ e. goes false e (mode_without hs s h.stamp ∙ ap (λ x. cond (s == h.stamp) None x) o.0 ∙ sym (none_cond (s == h.stamp)), once_without hs s o.1))
 
@@ -37,7 +39,7 @@ Found p hs = (t : ℕ) × ((held : Mode) × ((mode_among hs t ≡ Some held) × 
 
 found : (p : Holder → Bool) (hs : List Holder) → Once hs → list_any p hs ≡ true → Found p hs
 found p [] o h = absurd (false≢true h)
-found p (x ∷ xs) o h = by_test (p x)
+found p (x ∷ xs) o h = bool_cases (p x)
     (λ e. (x.stamp, (x.mode, (ap (λ b. cond b (Some x.mode) (mode_among xs x.stamp)) (eq-eqb x.stamp x.stamp refl), e))))
     (λ e. let f : Found p xs = found p xs o.1 (sym (ap (λ b. b || list_any p xs) e) ∙ h) in
     let other : (x.stamp == f.0) ≡ false = false_from_ne_true (x.stamp == f.0)
@@ -46,14 +48,15 @@ found p (x ∷ xs) o h = by_test (p x)
 
 any_at : (p : Holder → Bool) (hs : List Holder) (t : ℕ) (held : Mode) → mode_among hs t ≡ Some held → p (record { stamp = t; mode = held }) ≡ true → list_any p hs ≡ true
 any_at p [] t held h e = cc
-any_at p (x ∷ xs) t held h e = by_test (x.stamp == t)
-    (λ w. let m : x.mode ≡ held = some_same x.mode held (sym (ap (λ b. cond b (Some x.mode) (mode_among xs t)) w) ∙ h) in
+any_at p (x ∷ xs) t held h e = bool_cases (x.stamp == t)
+    (λ w. let some : Some x.mode ≡ Some held = sym (ap (λ b. cond b (Some x.mode) (mode_among xs t)) w) ∙ h in
+    let m : x.mode ≡ held = cc in
     ap (λ b. b || list_any p xs) (ap (λ s. p (record { stamp = s; mode = x.mode })) (eqb-true x.stamp t w) ∙ ap (λ n. p (record { stamp = t; mode = n })) m ∙ e))
-    (λ w. ap (λ b. p x || b) (any_at p xs t held (sym (ap (λ b. cond b (Some x.mode) (mode_among xs t)) w) ∙ h) e) ∙ or_true (p x))
+    (λ w. or_right (p x) (list_any p xs) (any_at p xs t held (sym (ap (λ b. cond b (Some x.mode) (mode_among xs t)) w) ∙ h) e))
 
 not_all : (p : Holder → Bool) (hs : List Holder) → list_all p hs ≡ false → list_any (λ h. not (p h)) hs ≡ true
 not_all p [] h = absurd (false≢true (sym h))
-not_all p (x ∷ xs) h = by_test (p x)
+not_all p (x ∷ xs) h = bool_cases (p x)
     (λ e. ap (λ b. not b || list_any (λ h. not (p h)) xs) e ∙ not_all p xs (sym (ap (λ b. b && list_all p xs) e) ∙ h))
     (λ e. ap (λ b. not b || list_any (λ h. not (p h)) xs) e)
 
@@ -61,78 +64,73 @@ all_at : (p : Holder → Bool) (hs : List Holder) (t : ℕ) (held : Mode) → mo
 all_at p [] t held h e = absurd (cc)
 all_at p (x ∷ xs) t held h e =
     let parts = and_parts (p x) (list_all p xs) e in
-    by_test (x.stamp == t)
-    (λ w. let m : x.mode ≡ held = some_same x.mode held (sym (ap (λ b. cond b (Some x.mode) (mode_among xs t)) w) ∙ h) in
+    bool_cases (x.stamp == t)
+    (λ w. let some : Some x.mode ≡ Some held = sym (ap (λ b. cond b (Some x.mode) (mode_among xs t)) w) ∙ h in
+    let m : x.mode ≡ held = cc in
     ap (λ n. p (record { stamp = t; mode = n })) (sym m) ∙ ap (λ s. p (record { stamp = s; mode = x.mode })) (sym (eqb-true x.stamp t w)) ∙ parts.0)
     (λ w. all_at p xs t held (sym (ap (λ b. cond b (Some x.mode) (mode_among xs t)) w) ∙ h) parts.1)
 
 -- ---- the answer, by the stamps in conflict
-abbrev pub conflicts_among : List Holder → ℕ → Mode → ℕ → Bool
-conflicts_among hs s m t = not (t == s) && clashes m (mode_among hs t)
-
-and_off : (a : Bool) → (a && false) ≡ true → ⊥
-and_off true h = false≢true h
-and_off false h = false≢true h
-
-clash : (a : Bool) (m : Mode) (o : Option Mode) → (a && clashes m o) ≡ true → (held : Mode) × ((o ≡ Some held) × ((a && (is_exclusive m || is_exclusive held)) ≡ true))
-clash a m None h = absurd (and_off a h)
-clash a m (Some held) h = (held, (refl, h))
-
-conflict_found : (hs : List Holder) (s : ℕ) (m : Mode) → Once hs → list_any (in_conflict s m) hs ≡ true → (t : ℕ) × (conflicts_among hs s m t ≡ true)
-conflict_found hs s m o h =
-    let f = found (in_conflict s m) hs o h in
-    (f.0, ap (λ x. not (f.0 == s) && clashes m x) f.1.1.0 ∙ f.1.1.1)
-
-conflict_any : (hs : List Holder) (s : ℕ) (m : Mode) (t : ℕ) → conflicts_among hs s m t ≡ true → list_any (in_conflict s m) hs ≡ true
-conflict_any hs s m t h =
-    let c = clash (not (t == s)) m (mode_among hs t) h in
-    any_at (in_conflict s m) hs t c.0 c.1.0 c.1.1
 
 not_or : (a b : Bool) → not (not a || b) ≡ true → (a ≡ true) × (b ≡ false)
 not_or true true h = absurd (false≢true h)
 not_or true false h = (refl, refl)
 not_or false b h = absurd (false≢true h)
 
-older_found : (hs : List Holder) (s : ℕ) (m : Mode) → Once hs → list_all (gives_way s m) hs ≡ false → (t : ℕ) × ((conflicts_among hs s m t ≡ true) × (t < s))
-older_found hs s m o h =
-    let f = found (λ x. not (gives_way s m x)) hs o (not_all (gives_way s m) hs h) in
-    let p = not_or (in_conflict s m (record { stamp = f.0; mode = f.1.0 })) (nat_lt s f.0) f.1.1.1 in
-    let q = and_parts (not (f.0 == s)) (is_exclusive m || is_exclusive f.1.0) p.0 in
-    let le : f.0 ≤ s = ltb-false s f.0 p.1 in
-    let ne : f.0 ≡ s → ⊥ = eqb-false f.0 s (not-true (f.0 == s) q.0) in
-    (f.0, (ap (λ x. not (f.0 == s) && clashes m x) f.1.1.0 ∙ p.0, omega arith))
+module _ (v : Locks) (id : List ℕ) (s : ℕ) (m : Mode) where
+  of_holder : (t : ℕ) (held : Mode) → mode_of v t id ≡ Some held → in_conflict s m (record { stamp = t; mode = held }) ≡ true → IsInConflict v s id m t
+  of_holder t held holds conflict =
+      let parts = and_parts (not (t == s)) (is_exclusive m || is_exclusive held) conflict in
+      record { other = eqb-false t s (not-true (t == s) parts.0); held = held; holds = holds; clash = parts.1 }
 
-or_from_not : (a b : Bool) → (not a || b) ≡ true → a ≡ true → b ≡ true
-or_from_not true b h e = h
-or_from_not false b h e = absurd (false≢true e)
+  to_holder : (t : ℕ) (c : IsInConflict v s id m t) → in_conflict s m (record { stamp = t; mode = c.held }) ≡ true
+  to_holder t c = and_from (not (t == s)) (is_exclusive m || is_exclusive c.held) (not_from_false (t == s) (ne_eqb t s c.other)) c.clash
 
-younger_all : (hs : List Holder) (s : ℕ) (m : Mode) → list_all (gives_way s m) hs ≡ true → (t : ℕ) → conflicts_among hs s m t ≡ true → s < t
-younger_all hs s m a t h =
-    let c = clash (not (t == s)) m (mode_among hs t) h in
-    ltb-true s t (or_from_not (in_conflict s m (record { stamp = t; mode = c.0 })) (nat_lt s t) (all_at (gives_way s m) hs t c.0 c.1.0 a) c.1.1)
+  conflict_found : Once (holders_of v id) → list_any (in_conflict s m) (holders_of v id) ≡ true → (t : ℕ) × IsInConflict v s id m t
+  conflict_found o h =
+      let f = found (in_conflict s m) (holders_of v id) o h in
+      (f.0, of_holder f.0 f.1.0 f.1.1.0 f.1.1.1)
 
-pub wait_die : (hs : List Holder) (s : ℕ) (m : Mode) (a : Answer) → Once hs → a ≡ answer_among hs s m → IsWaitDie (conflicts_among hs s m) s a
-wait_die hs s m a o h = by_test (list_any (in_conflict s m) hs)
-    (λ e. let some = conflict_found hs s m o e in
-    by_test (list_all (gives_way s m) hs)
-    (λ f. let is : a ≡ Wait = h ∙ ap (λ b. cond b (cond (list_all (gives_way s m) hs) Wait Die) Granted) e ∙ ap (λ b. cond b Wait Die) f in
-    let young = younger_all hs s m f in
-    record {
-      granted = (λ g. absurd (cc), λ g. absurd (false≢true (sym (g some.0) ∙ some.1)));
-      wait = (λ w. (some, young), λ w. is);
-      die = (λ d. absurd (cc), λ d. let lt : s < d.0 = young d.0 d.1.0 in let gt : d.0 < s = d.1.1 in absurd (omega arith));
-    })
-    (λ f. let is : a ≡ Die = h ∙ ap (λ b. cond b (cond (list_all (gives_way s m) hs) Wait Die) Granted) e ∙ ap (λ b. cond b Wait Die) f in
-    let old = older_found hs s m o f in
-    record {
-      granted = (λ g. absurd (cc), λ g. absurd (false≢true (sym (g some.0) ∙ some.1)));
-      wait = (λ w. absurd (cc), λ w. let lt : s < old.0 = w.1 old.0 old.1.0 in let gt : old.0 < s = old.1.1 in absurd (omega arith));
-      die = (λ d. old, λ d. is);
-    }))
-    (λ e. let is : a ≡ Granted = h ∙ ap (λ b. cond b (cond (list_all (gives_way s m) hs) Wait Die) Granted) e in
-    let none : (t : ℕ) → conflicts_among hs s m t ≡ false = λ t. false_from_ne_true (conflicts_among hs s m t) (λ x. false≢true (sym e ∙ conflict_any hs s m t x)) in
-    record {
-      granted = (λ g. none, λ g. is);
-      wait = (λ w. absurd (cc), λ w. absurd (false≢true (sym (none w.0.0) ∙ w.0.1)));
-      die = (λ d. absurd (cc), λ d. absurd (false≢true (sym (none d.0) ∙ d.1.0)));
-    })
+  conflict_any : (t : ℕ) → IsInConflict v s id m t → list_any (in_conflict s m) (holders_of v id) ≡ true
+  conflict_any t c = any_at (in_conflict s m) (holders_of v id) t c.held c.holds (to_holder t c)
+
+  older_found : Once (holders_of v id) → list_all (gives_way s m) (holders_of v id) ≡ false → (t : ℕ) × (IsInConflict v s id m t × (t < s))
+  older_found o h =
+      let f = found (λ x. not (gives_way s m x)) (holders_of v id) o (not_all (gives_way s m) (holders_of v id) h) in
+      let p = not_or (in_conflict s m (record { stamp = f.0; mode = f.1.0 })) (nat_lt s f.0) f.1.1.1 in
+      let c = of_holder f.0 f.1.0 f.1.1.0 p.0 in
+      let le : f.0 ≤ s = ltb-false s f.0 p.1 in
+      let ne : f.0 ≡ s → ⊥ = c.other in
+      (f.0, (c, omega arith))
+
+  younger_all : list_all (gives_way s m) (holders_of v id) ≡ true → (t : ℕ) → IsInConflict v s id m t → s < t
+  younger_all a t c =
+      ltb-true s t (sym (ap (λ b. not b || nat_lt s t) (to_holder t c)) ∙ all_at (gives_way s m) (holders_of v id) t c.held c.holds a)
+
+  pub wait_die : (a : Answer) → Once (holders_of v id) → a ≡ answer_of v s id m → IsWaitDie (IsInConflict v s id m) s a
+  wait_die a o h =
+      let hs = holders_of v id in
+      bool_cases (list_any (in_conflict s m) hs)
+      (λ e. let some = conflict_found o e in
+      bool_cases (list_all (gives_way s m) hs)
+      (λ f. let is : a ≡ Wait = h ∙ ap (λ b. cond b (cond (list_all (gives_way s m) hs) Wait Die) Granted) e ∙ ap (λ b. cond b Wait Die) f in
+      let young = younger_all f in
+      record {
+        granted = (λ g. absurd (cc), λ g. absurd (g some.0 some.1));
+        wait = (λ w. (some, young), λ w. is);
+        die = (λ d. absurd (cc), λ d. let lt : s < d.0 = young d.0 d.1.0 in let gt : d.0 < s = d.1.1 in absurd (omega arith));
+      })
+      (λ f. let is : a ≡ Die = h ∙ ap (λ b. cond b (cond (list_all (gives_way s m) hs) Wait Die) Granted) e ∙ ap (λ b. cond b Wait Die) f in
+      let old = older_found o f in
+      record {
+        granted = (λ g. absurd (cc), λ g. absurd (g some.0 some.1));
+        wait = (λ w. absurd (cc), λ w. let lt : s < old.0 = w.1 old.0 old.1.0 in let gt : old.0 < s = old.1.1 in absurd (omega arith));
+        die = (λ d. old, λ d. is);
+      }))
+      (λ e. let is : a ≡ Granted = h ∙ ap (λ b. cond b (cond (list_all (gives_way s m) hs) Wait Die) Granted) e in
+      let none : (t : ℕ) → IsInConflict v s id m t → ⊥ = λ t c. false≢true (sym e ∙ conflict_any t c) in
+      record {
+        granted = (λ g. none, λ g. is);
+        wait = (λ w. absurd (cc), λ w. absurd (none w.0.0 w.0.1));
+        die = (λ d. absurd (cc), λ d. absurd (none d.0 d.1.0));
+      })

@@ -1,20 +1,20 @@
 -- A lock added to a table, and the locks of a stamp taken out.
 use Rattle.std.proofs.Common.{◌≡◌, ℕ, ◌==◌, ◌&&◌, ◌||◌, cond, Bool, true, false, List, [], ◌∷◌, ◌++◌, None, Some, is_some, refl, ap, sym, subst, ◌∙◌, ◌+◌, ◌<◌, length, take, get_or}
 use Rattle.std.specs.BTreeMap.{BTreeMap}
-use Rattle.std.proofs.lemmas.Bool.{false≢true, eqb-true, eq-eqb, and_parts, or_left}
-use Rattle.std.proofs.lemmas.List.Folds.{list_any-append}
+use Rattle.std.proofs.lemmas.Bool.{false≢true, eqb-true, eq-eqb, and_parts}
 use Rattle.city_locks.specs.declared.mode.Mode.{Mode}
 use Rattle.city_locks.specs.declared.answer.Answer.TheVariants.{Granted}
 use Rattle.city_locks.specs.declared.holder.Holder.{Holder}
 use Rattle.city_locks.specs.Mode.{stronger}
 use Rattle.city_locks.specs.Holders.{answer_among, mode_among, with_holder, without, Once}
-use Rattle.city_model.specs.CityMap.{same_id}
-use Rattle.city_locks.specs.Locks.{Locks, lists, holders_of, answer_of, mode_of, Lawful}
+use Rattle.city_model.specs.CityMap.{same_id, has_id}
+use Rattle.city_locks.specs.Locks.{Locks, holders_of, answer_of, mode_of, Lawful}
 use Rattle.city_locks.specs.Listing.{ids_of, IsListed}
-use Rattle.city_locks.proofs.Among.{by_test, mode_with, mode_without, without_absent, without_twice, lawful_with, lawful_without, own_answers, none_from, or_true}
+use Rattle.city_locks.proofs.Among.{mode_with, mode_without, without_absent, without_twice, lawful_with, lawful_without, own_answers, none_from}
 use Rattle.city_locks.proofs.Once.{once_with, once_without}
+use Rattle.city_model.proofs.IdLists.{bool_cases, more_has, more_has_last}
 use Rattle.city_model.proofs.Ids.{same_id_true, same_id_itself}
-use Rattle.city_locks.proofs.Ids.{lists_more}
+use Rattle.city_locks.proofs.Ids.{has_id_more}
 
 cond_and : {A : Type 0} (a b : Bool) (x y : A) → b ≡ true → cond a x y ≡ cond (a && b) x y
 cond_and true b x y e = ap (λ c. cond c x y) (sym e)
@@ -36,14 +36,14 @@ elsewhere v w s id m q h e = h.holders q ∙ ap (λ b. cond b (with_holder (hold
 
 pub mode_added : (v w : Locks) (s : ℕ) (id : List ℕ) (m : Mode) → Adds v w s id m → (t : ℕ) (q : List ℕ) →
     mode_of w t q ≡ cond ((s == t) && same_id id q) (Some (stronger m (mode_of v s id))) (mode_of v t q)
-mode_added v w s id m h t q = by_test (same_id id q)
+mode_added v w s id m h t q = bool_cases (same_id id q)
     (λ e. ap (λ hs. mode_among hs t) (there v w s id m q h e) ∙ mode_with (holders_of v q) s m t
     ∙ ap (λ i. cond (s == t) (Some (stronger m (mode_of v s i))) (mode_of v t q)) (sym (same_id_true id q e))
     ∙ cond_and (s == t) (same_id id q) (Some (stronger m (mode_of v s id))) (mode_of v t q) e)
     (λ e. ap (λ hs. mode_among hs t) (elsewhere v w s id m q h e) ∙ cond_not (s == t) (same_id id q) (Some (stronger m (mode_of v s id))) (mode_of v t q) e)
 
 pub lawful_added : (v w : Locks) (s : ℕ) (id : List ℕ) (m : Mode) → Adds v w s id m → Lawful v → answer_of v s id m ≡ Granted → Lawful w
-lawful_added v w s id m h l g r t i ne x = by_test (same_id id i)
+lawful_added v w s id m h l g r t i ne x = bool_cases (same_id id i)
     (λ e. let k = there v w s id m i h e in
     let a : answer_among (holders_of v i) s m ≡ Granted = ap (λ j. answer_of v s j m) (sym (same_id_true id i e)) ∙ g in
     ap (λ hs. mode_among hs t) k ∙ lawful_with (holders_of v i) s m (λ a b. l a b i) a r t ne (sym (ap (λ hs. mode_among hs r) k) ∙ x))
@@ -51,23 +51,23 @@ lawful_added v w s id m h l g r t i ne x = by_test (same_id id i)
     ap (λ hs. mode_among hs t) k ∙ l r t i ne (sym (ap (λ hs. mode_among hs r) k) ∙ x))
 
 pub own_added : (v w : Locks) (s : ℕ) (id : List ℕ) (m : Mode) → Adds v w s id m → (q : List ℕ) (n : Mode) → answer_of w s q n ≡ answer_of v s q n
-own_added v w s id m h q n = by_test (same_id id q)
+own_added v w s id m h q n = bool_cases (same_id id q)
     (λ e. ap (λ hs. answer_among hs s n) (there v w s id m q h e) ∙ own_answers s n (holders_of v q) m)
     (λ e. ap (λ hs. answer_among hs s n) (elsewhere v w s id m q h e))
 
 pub once_added : (v w : Locks) (s : ℕ) (id : List ℕ) (m : Mode) → Adds v w s id m → ((q : List ℕ) → Once (holders_of v q)) → (q : List ℕ) → Once (holders_of w q)
-once_added v w s id m h o q = by_test (same_id id q)
+once_added v w s id m h o q = bool_cases (same_id id q)
     (λ e. subst (λ hs. Once hs) (sym (there v w s id m q h e)) (once_with (holders_of v q) s m (o q)))
     (λ e. subst (λ hs. Once hs) (sym (elsewhere v w s id m q h e)) (o q))
 
--- each lock stays listed, and the new one is
-pub listed_added : (v w : Locks) (l k : BTreeMap ℕ (List (List ℕ))) (s : ℕ) (id : List ℕ) (m : Mode) → Adds v w s id m → IsListed v l →
-    ((t : ℕ) (q : List ℕ) → lists (ids_of l t) q ≡ true → lists (ids_of k t) q ≡ true) → lists (ids_of k s) id ≡ true → IsListed w k
-listed_added v w l k s id m h i cover own = record {
-  listed = λ t q x. by_test ((s == t) && same_id id q)
+-- each lock stays listed where the new one is
+pub listed_added : (v w : Locks) (l : BTreeMap ℕ (List (List ℕ))) (s : ℕ) (id : List ℕ) (m : Mode) → Adds v w s id m → IsListed v l →
+    has_id (ids_of l s) id ≡ true → IsListed w l
+listed_added v w l s id m h i own = record {
+  listed = λ t q x. bool_cases ((s == t) && same_id id q)
       (λ e. let p = and_parts (s == t) (same_id id q) e in
-      ap (λ r. lists (ids_of k r) q) (sym (eqb-true s t p.0)) ∙ ap (λ j. lists (ids_of k s) j) (sym (same_id_true id q p.1)) ∙ own)
-      (λ e. cover t q (i.listed t q (sym (ap is_some (mode_added v w s id m h t q ∙ ap (λ b. cond b (Some (stronger m (mode_of v s id))) (mode_of v t q)) e)) ∙ x)));
+      ap (λ r. has_id (ids_of l r) q) (sym (eqb-true s t p.0)) ∙ ap (λ j. has_id (ids_of l s) j) (sym (same_id_true id q p.1)) ∙ own)
+      (λ e. i.listed t q (sym (ap is_some (mode_added v w s id m h t q ∙ ap (λ b. cond b (Some (stronger m (mode_of v s id))) (mode_of v t q)) e)) ∙ x));
 }
 
 -- ---- the lists after an id was listed
@@ -77,16 +77,17 @@ pub record Lists (l k : BTreeMap ℕ (List (List ℕ))) (s : ℕ) (id : List ℕ
 listed_own : (l k : BTreeMap ℕ (List (List ℕ))) (s : ℕ) (id : List ℕ) → Lists l k s id → ids_of k s ≡ ids_of l s ++ id ∷ []
 listed_own l k s id h = h.ids s ∙ ap (λ b. cond b (ids_of l s ++ id ∷ []) (ids_of l s)) (eq-eqb s s refl)
 
-pub listed_cover : (l k : BTreeMap ℕ (List (List ℕ))) (s : ℕ) (id : List ℕ) → Lists l k s id → (t : ℕ) (q : List ℕ) → lists (ids_of l t) q ≡ true → lists (ids_of k t) q ≡ true
-listed_cover l k s id h t q x = by_test (s == t)
-    (λ e. ap (λ r. lists (ids_of k r) q) (sym (eqb-true s t e)) ∙ ap (λ ids. lists ids q) (listed_own l k s id h)
-    ∙ list_any-append (λ d. same_id d q) (ids_of l s) (id ∷ [])
-    ∙ or_left (lists (ids_of l s) q) (lists (id ∷ []) q) (ap (λ r. lists (ids_of l r) q) (eqb-true s t e) ∙ x))
-    (λ e. ap (λ ids. lists ids q) (h.ids t ∙ ap (λ b. cond b (ids_of l s ++ id ∷ []) (ids_of l t)) e) ∙ x)
+pub listed_new : (l k : BTreeMap ℕ (List (List ℕ))) (s : ℕ) (id : List ℕ) → Lists l k s id → has_id (ids_of k s) id ≡ true
+listed_new l k s id h = ap (λ ids. has_id ids id) (listed_own l k s id h) ∙ more_has_last (ids_of l s) id id (same_id_itself id)
 
-pub listed_new : (l k : BTreeMap ℕ (List (List ℕ))) (s : ℕ) (id : List ℕ) → Lists l k s id → lists (ids_of k s) id ≡ true
-listed_new l k s id h = ap (λ ids. lists ids id) (listed_own l k s id h) ∙ list_any-append (λ d. same_id d id) (ids_of l s) (id ∷ [])
-    ∙ ap (λ b. lists (ids_of l s) id || (b || false)) (same_id_itself id) ∙ or_true (lists (ids_of l s) id)
+-- what is listed stays so
+pub still_listed : (v : Locks) (l k : BTreeMap ℕ (List (List ℕ))) (s : ℕ) (id : List ℕ) → Lists l k s id → IsListed v l → IsListed v k
+still_listed v l k s id h i = record {
+  listed = λ t q x. bool_cases (s == t)
+      (λ e. ap (λ r. has_id (ids_of k r) q) (sym (eqb-true s t e)) ∙ ap (λ ids. has_id ids q) (listed_own l k s id h)
+      ∙ more_has (ids_of l s) id q (ap (λ r. has_id (ids_of l r) q) (eqb-true s t e) ∙ i.listed t q x))
+      (λ e. ap (λ ids. has_id ids q) (h.ids t ∙ ap (λ b. cond b (ids_of l s ++ id ∷ []) (ids_of l t)) e) ∙ i.listed t q x);
+}
 
 -- ---- the locks of a stamp taken out
 pub record Frees (v w : Locks) (s : ℕ) : Type 0 where
@@ -106,16 +107,16 @@ once_freed v w s h o q = subst (λ hs. Once hs) (sym (h.holders q)) (once_withou
 pub listed_freed : (v w : Locks) (l k : BTreeMap ℕ (List (List ℕ))) (s : ℕ) → Frees v w s → IsListed v l →
     ((t : ℕ) → (s == t) ≡ false → ids_of k t ≡ ids_of l t) → IsListed w k
 listed_freed v w l k s h i others = record {
-  listed = λ t q x. by_test (s == t)
+  listed = λ t q x. bool_cases (s == t)
       (λ e. absurd (false≢true (sym (ap is_some (mode_freed v w s h t q ∙ ap (λ b. cond b None (mode_of v t q)) e)) ∙ x)))
-      (λ e. ap (λ ids. lists ids q) (others t e) ∙ i.listed t q (sym (ap is_some (mode_freed v w s h t q ∙ ap (λ b. cond b None (mode_of v t q)) e)) ∙ x));
+      (λ e. ap (λ ids. has_id ids q) (others t e) ∙ i.listed t q (sym (ap is_some (mode_freed v w s h t q ∙ ap (λ b. cond b None (mode_of v t q)) e)) ∙ x));
 }
 
 -- where all ids of the stamp were in the list, it holds nothing more
 pub freed_listed : (v w : Locks) (l : BTreeMap ℕ (List (List ℕ))) (s : ℕ) → IsListed v l →
-    ((q : List ℕ) → holders_of w q ≡ cond (lists (ids_of l s) q) (without (holders_of v q) s) (holders_of v q)) → Frees v w s
+    ((q : List ℕ) → holders_of w q ≡ cond (has_id (ids_of l s) q) (without (holders_of v q) s) (holders_of v q)) → Frees v w s
 freed_listed v w l s i h = record {
-  holders = λ q. by_test (lists (ids_of l s) q)
+  holders = λ q. bool_cases (has_id (ids_of l s) q)
       (λ e. h q ∙ ap (λ b. cond b (without (holders_of v q) s) (holders_of v q)) e)
       (λ e. let absent : mode_of v s q ≡ None = none_from (mode_of v s q) (λ x. false≢true (sym e ∙ i.listed s q x)) in
       h q ∙ ap (λ b. cond b (without (holders_of v q) s) (holders_of v q)) e ∙ sym (without_absent (holders_of v q) s absent));
@@ -129,12 +130,12 @@ release_both false true s h m n p q = q ∙ ap (λ u. without u s) p
 release_both false false s h m n p q = q ∙ p
 
 pub release_more : (v u w : Locks) (s : ℕ) (ids : List (List ℕ)) (i : ℕ) (id : List ℕ) → i < length ids → id ≡ get_or ids i id →
-    ((q : List ℕ) → holders_of u q ≡ cond (lists (take i ids) q) (without (holders_of v q) s) (holders_of v q)) →
+    ((q : List ℕ) → holders_of u q ≡ cond (has_id (take i ids) q) (without (holders_of v q) s) (holders_of v q)) →
     ((q : List ℕ) → holders_of w q ≡ cond (same_id id q) (without (holders_of u id) s) (holders_of u q)) →
-    (q : List ℕ) → holders_of w q ≡ cond (lists (take (i + 1) ids) q) (without (holders_of v q) s) (holders_of v q)
+    (q : List ℕ) → holders_of w q ≡ cond (has_id (take (i + 1) ids) q) (without (holders_of v q) s) (holders_of v q)
 release_more v u w s ids i id lt at before now q =
-    let here : holders_of w q ≡ cond (same_id id q) (without (holders_of u q) s) (holders_of u q) = by_test (same_id id q)
+    let here : holders_of w q ≡ cond (same_id id q) (without (holders_of u q) s) (holders_of u q) = bool_cases (same_id id q)
     (λ e. now q ∙ ap (λ d. cond (same_id id q) (without (holders_of u d) s) (holders_of u q)) (same_id_true id q e))
     (λ e. now q ∙ ap (λ b. cond b (without (holders_of u id) s) (holders_of u q)) e ∙ ap (λ b. cond b (without (holders_of u q) s) (holders_of u q)) (sym e)) in
-    release_both (lists (take i ids) q) (same_id id q) s (holders_of v q) (holders_of u q) (holders_of w q) (before q) here
-    ∙ ap (λ b. cond b (without (holders_of v q) s) (holders_of v q)) (sym (lists_more ids i id q lt at))
+    release_both (has_id (take i ids) q) (same_id id q) s (holders_of v q) (holders_of u q) (holders_of w q) (before q) here
+    ∙ ap (λ b. cond b (without (holders_of v q) s) (holders_of v q)) (sym (has_id_more ids i id q lt at))

@@ -1,5 +1,6 @@
 -- The wait-die answer among the holders of one id.
-use Rattle.std.specs.Prelude.{◌≡◌, ℕ, ◌==◌, ◌&&◌, ◌||◌, not, cond, Bool, List, [], ◌∷◌, filter, nat_lt, Option, None, Some}
+use Rattle.std.specs.Prelude.{◌≡◌, ℕ, ◌==◌, nat_lt, Bool, ◌&&◌, ◌||◌, not, cond, Option, None, Some}
+use Rattle.std.specs.Prelude.{List, [], ◌∷◌, filter}
 use Rattle.std.specs.List.{list_any, list_all}
 use Rattle.city_locks.specs.declared.mode.Mode.{Mode}
 use Rattle.city_locks.specs.declared.answer.Answer.{Answer}
@@ -18,7 +19,9 @@ gives_way stamp mode h = not (in_conflict stamp mode h) || nat_lt stamp h.stamp
 -- granted where no holder is in conflict, wait where the asker is older than all in conflict, else die
 abbrev pub answer_among : List Holder → ℕ → Mode → Answer
 answer_among holders stamp mode =
-    cond (list_any (in_conflict stamp mode) holders) (cond (list_all (gives_way stamp mode) holders) Wait Die) Granted
+    cond (list_any (in_conflict stamp mode) holders)
+    (cond (list_all (gives_way stamp mode) holders) Wait Die)
+    Granted
 
 -- the mode of the stamp among the holders
 abbrev pub mode_among : List Holder → ℕ → Option Mode
@@ -29,7 +32,9 @@ mode_among (h ∷ hs) stamp = cond (h.stamp == stamp) (Some h.mode) (mode_among 
 abbrev pub with_holder : List Holder → ℕ → Mode → List Holder
 with_holder [] stamp mode = (record { stamp = stamp; mode = mode }) ∷ []
 with_holder (h ∷ hs) stamp mode =
-    cond (h.stamp == stamp) ((record { stamp = stamp; mode = stronger mode (Some h.mode) }) ∷ hs) (h ∷ with_holder hs stamp mode)
+    cond (h.stamp == stamp)
+    ((record { stamp = stamp; mode = stronger mode (Some h.mode) }) ∷ hs)
+    (h ∷ with_holder hs stamp mode)
 
 -- the other holders
 abbrev pub without : List Holder → ℕ → List Holder

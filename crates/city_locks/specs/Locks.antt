@@ -1,11 +1,9 @@
 -- What contracts see of a lock table: each locked id with its holders, ids in the order of their bytes.
-use Rattle.std.specs.Prelude.{◌≡◌, ◌≢◌, ℕ, Bool, List, [], Option, None, Some, unwrap_or}
-use Rattle.std.specs.List.{list_any}
+use Rattle.std.specs.Prelude.{◌≡◌, ◌≢◌, ℕ, List, [], Option, None, Some, unwrap_or}
 use Rattle.std.specs.Map.{lookup}
 use Rattle.std.specs.Ordering.{nat_cmp}
 use Rattle.std.specs.Cmp.Lexicographic.{slice_cmp}
 use Rattle.std.specs.BTreeMap.{is_at}
-use Rattle.city_model.specs.CityMap.{same_id}
 use Rattle.city_locks.specs.declared.mode.Mode.{Mode}
 use Rattle.city_locks.specs.declared.mode.Mode.TheVariants.{Exclusive}
 use Rattle.city_locks.specs.declared.answer.Answer.{Answer}
@@ -14,10 +12,6 @@ use Rattle.city_locks.specs.Holders.{answer_among, mode_among}
 
 abbrev pub Locks : Type 0
 Locks = List (List ℕ × List Holder)
-
--- whether the id is in the list
-abbrev pub lists : List (List ℕ) → List ℕ → Bool
-lists ids q = list_any (λ id. same_id id q) ids
 
 -- the holders of the id
 abbrev pub holders_of : Locks → List ℕ → List Holder
@@ -33,4 +27,5 @@ mode_of locks stamp id = mode_among (holders_of locks id) stamp
 
 -- each id has one exclusive holder and no other, or shared holders only
 abbrev pub Lawful : Locks → Type 0
-Lawful locks = (s t : ℕ) (id : List ℕ) → s ≢ t → mode_of locks s id ≡ Some Exclusive → mode_of locks t id ≡ None
+Lawful locks = (s t : ℕ) (id : List ℕ) → s ≢ t
+    → mode_of locks s id ≡ Some Exclusive → mode_of locks t id ≡ None

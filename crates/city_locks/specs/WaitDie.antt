@@ -1,25 +1,23 @@
 -- The wait-die rule, in terms of the stamps that are in conflict with an asker.
-use Rattle.std.specs.Prelude.{◌≡◌, ℕ, ◌<◌, ◌↔◌, ◌==◌, ◌&&◌, ◌||◌, not, Bool, true, false, List, Option, None, Some}
+use Rattle.std.specs.Prelude.{◌≡◌, ◌≢◌, ℕ, ◌<◌, ◌↔◌, ◌||◌, true, List, Some}
 use Rattle.city_locks.specs.declared.mode.Mode.{Mode}
 use Rattle.city_locks.specs.declared.answer.Answer.{Answer}
 use Rattle.city_locks.specs.declared.answer.Answer.TheVariants.{Granted, Wait, Die}
 use Rattle.city_locks.specs.Mode.{is_exclusive}
 use Rattle.city_locks.specs.Locks.{Locks, mode_of}
 
--- whether a lock asked for in the mode can't stand beside one that is held
-abbrev pub clashes : Mode → Option Mode → Bool
-clashes mode None = false
-clashes mode (Some held) = is_exclusive mode || is_exclusive held
+-- t is another holder of the id than the asker, and the mode asked for or the one held is exclusive
+pub record IsInConflict (locks : Locks) (stamp : ℕ) (id : List ℕ) (mode : Mode) (t : ℕ) : Type 0 where
+  pub other : t ≢ stamp
+  pub held : Mode
+  pub holds : mode_of locks t id ≡ Some held
+  pub clash : (is_exclusive mode || is_exclusive held) ≡ true
 
--- whether t is another holder of the id, in conflict with the asker
-abbrev pub conflicts : Locks → ℕ → List ℕ → Mode → ℕ → Bool
-conflicts locks stamp id mode t = not (t == stamp) && clashes mode (mode_of locks t id)
-
--- the answer to the stamp, where `conflict` says which stamps are in conflict with it
-pub record IsWaitDie (conflict : ℕ → Bool) (stamp : ℕ) (answer : Answer) : Type 0 where
+-- the answer to the stamp, where `Conflict` says which stamps are in conflict with it
+pub record IsWaitDie (Conflict : ℕ → Type 0) (stamp : ℕ) (answer : Answer) : Type 0 where
   -- granted exactly where no stamp is in conflict
-  pub granted : (answer ≡ Granted) ↔ ((t : ℕ) → conflict t ≡ false)
+  pub granted : (answer ≡ Granted) ↔ ((t : ℕ) → Conflict t → ⊥)
   -- wait exactly where some stamp is, and the asker is older than all of them
-  pub wait : (answer ≡ Wait) ↔ (((t : ℕ) × (conflict t ≡ true)) × ((t : ℕ) → conflict t ≡ true → stamp < t))
+  pub wait : (answer ≡ Wait) ↔ (((t : ℕ) × Conflict t) × ((t : ℕ) → Conflict t → stamp < t))
   -- die exactly where some stamp in conflict is older than the asker
-  pub die : (answer ≡ Die) ↔ ((t : ℕ) × ((conflict t ≡ true) × (t < stamp)))
+  pub die : (answer ≡ Die) ↔ ((t : ℕ) × (Conflict t × (t < stamp)))

@@ -4,8 +4,8 @@ ghost use Rattle.std.specs.Ordering.{nat_cmp};
 ghost use Rattle.std.specs.Cmp.Lexicographic.{slice_cmp};
 ghost use Rattle.std.specs.BTreeMap.{get, is_at, IsOrdered};
 ghost use Rattle.city_locks.specs.Holders.{with_holder, without, mode_among};
-ghost use Rattle.city_model.specs.CityMap.{same_id};
-ghost use Rattle.city_locks.specs.Locks.{lists, holders_of, answer_of, mode_of};
+ghost use Rattle.city_model.specs.CityMap.{same_id, has_id};
+ghost use Rattle.city_locks.specs.Locks.{holders_of, answer_of, mode_of};
 
 use crate::answer::Answer;
 use crate::holders::Holders;
@@ -98,7 +98,7 @@ fn grant_first(
 
 /// Takes the stamp out of the holders of each of the ids.
 pub fn release_each(held: &mut BTreeMap<Id, Holders>, stamp: u64, ids: &[Id])
-    ensures { (q : List ℕ) → holders_of held.new.entries q ≡ cond (lists ids.now q) (without (holders_of held.old.entries q) stamp) (holders_of held.old.entries q) }
+    ensures { (q : List ℕ) → holders_of held.new.entries q ≡ cond (has_id ids.now q) (without (holders_of held.old.entries q) stamp) (holders_of held.old.entries q) }
 {
     for id in ids {
         release(held, stamp, id);

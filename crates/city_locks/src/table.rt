@@ -1,19 +1,19 @@
 //! The lock table.
-ghost use Rattle.std.specs.Prelude.{◌≡◌, ◌≢◌, ℕ, List, ◌==◌, ◌&&◌, cond, OnOk, OnErr, IfOk, None, Some, []};
+ghost use Rattle.std.specs.Prelude.{◌≡◌, ◌≢◌, ℕ, List, ◌==◌, ◌&&◌, cond, OnOk, OnErr, IfOk, None, Some, [], true};
 ghost use Rattle.city_locks.specs.declared.mode.Mode.{Mode};
 ghost use Rattle.city_locks.specs.Mode.{stronger};
 ghost use Rattle.city_locks.specs.Holders.{with_holder, without};
-ghost use Rattle.city_model.specs.CityMap.{same_id};
+ghost use Rattle.city_model.specs.CityMap.{same_id, has_id};
 ghost use Rattle.city_locks.specs.Locks.{holders_of, answer_of, mode_of, Lawful};
-ghost use Rattle.city_locks.specs.Listing.{IsListed};
-ghost use Rattle.city_locks.specs.WaitDie.{IsWaitDie, conflicts};
+ghost use Rattle.city_locks.specs.Listing.{ids_of, IsListed};
+ghost use Rattle.city_locks.specs.WaitDie.{IsWaitDie, IsInConflict};
 
 use crate::answer::Answer;
-use crate::held;
 use crate::holders::Holders;
-use crate::listing::{self, Ids};
 use crate::mode::Mode;
+use crate::{held, listing};
 use city_model::OutOfMemory;
+use city_model::sequence::Sequence;
 use city_model::text::Id;
 use std::alloc::Global;
 use std::collections::BTreeMap;
@@ -29,7 +29,7 @@ pub struct LockTable {
     alloc: Global,
     holders: BTreeMap<Id, Holders>,
     /// At each stamp, at least the ids that it holds.
-    locked: BTreeMap<u64, Ids>,
+    locked: BTreeMap<u64, Sequence<Id>>,
 }
 
 impl Model for LockTable {
@@ -65,7 +65,7 @@ impl LockTable {
     /// comes only in place of `Granted`, and never where the stamp holds the id already.
     pub fn ask(&mut self, stamp: u64, id: &Id, mode: Mode) -> Result<Answer, OutOfMemory>
         ensures answer { IfOk result (λ a. a ≡ answer_of self.old stamp id.now mode) }
-        ensures wait_die { IfOk result (IsWaitDie (conflicts self.old stamp id.now mode) stamp) }
+        ensures wait_die { IfOk result (IsWaitDie (IsInConflict self.old stamp id.now mode) stamp) }
         ensures granted { OnOk result (answer_of self.old stamp id.now mode ≡ Answer.Granted → (t : ℕ) (q : List ℕ) →
             mode_of self.new t q ≡ cond ((stamp == t) && same_id id.now q) (Some (stronger mode (mode_of self.old stamp id.now))) (mode_of self.old t q)) }
         ensures holders { OnOk result (answer_of self.old stamp id.now mode ≡ Answer.Granted → (q : List ℕ) →
@@ -111,42 +111,65 @@ impl LockTable {
     /// What `ask` would answer, want of memory aside. It takes no memory.
     pub fn would_answer(&self, stamp: u64, id: &Id, mode: Mode) -> Answer
         ensures answer { result ≡ answer_of self.now stamp id.now mode }
-        ensures wait_die { IsWaitDie (conflicts self.now stamp id.now mode) stamp result }
+        ensures wait_die { IsWaitDie (IsInConflict self.now stamp id.now mode) stamp result }
         ensures lawful { Lawful self.now }
     {
         held::answer_at(&self.holders, stamp, id, mode)
     }
 }
 
-/// Makes the stamp a holder of the id and lists the id at the stamp, or neither.
+/// Makes the stamp a holder of the id, and lists the id at the stamp.
+///
+/// Want of memory leaves all holders as they are. The id may be listed then, and isn't held: a
+/// release passes over it.
 fn take(
     holders: &mut BTreeMap<Id, Holders>,
-    locked: &mut BTreeMap<u64, Ids>,
+    locked: &mut BTreeMap<u64, Sequence<Id>>,
     alloc: Global,
     stamp: u64,
     id: &Id,
     mode: Mode,
 ) -> Result<(), OutOfMemory>
     requires { IsListed holders.old.entries locked.old }
-    ensures ok { OnOk result ((q : List ℕ) → holders_of holders.new.entries q ≡ cond (same_id id.now q) (with_holder (holders_of holders.old.entries id.now) stamp mode) (holders_of holders.old.entries q)) }
+    ensures ok { OnOk result ((q : List ℕ) → holders_of holders.new.entries q
+        ≡ cond (same_id id.now q) (with_holder (holders_of holders.old.entries id.now) stamp mode) (holders_of holders.old.entries q)) }
     ensures err { OnErr result (holders.new.entries ≡ holders.old.entries) }
     ensures absent { OnErr result (mode_of holders.old.entries stamp id.now ≡ None) }
     ensures listed { IsListed holders.new.entries locked.new }
 {
-    if held::mode_at(holders, stamp, id).is_some() {
-        held::grant(holders, alloc, stamp, id, mode)?;
-        return Ok(());
-    }
-    listing::list(locked, alloc, stamp, id)?;
-    let Ok(()) = held::grant(holders, alloc, stamp, id, mode) else {
-        listing::unlist(locked, stamp);
-        return Err(OutOfMemory);
-    };
+    list_unheld(holders, locked, alloc, stamp, id)?;
+    held::grant(holders, alloc, stamp, id, mode)?;
     Ok(())
 }
 
+/// Lists the id at the stamp, unless the stamp holds it and so has it listed.
+fn list_unheld(
+    holders: &BTreeMap<Id, Holders>,
+    locked: &mut BTreeMap<u64, Sequence<Id>>,
+    alloc: Global,
+    stamp: u64,
+    id: &Id,
+) -> Result<(), OutOfMemory>
+    requires { IsListed holders.now.entries locked.old }
+    ensures own { OnOk result (has_id (ids_of locked.new stamp) id.now ≡ true) }
+    ensures absent { OnErr result (mode_of holders.now.entries stamp id.now ≡ None) }
+    ensures listed { IsListed holders.now.entries locked.new }
+{
+    match held::mode_at(holders, stamp, id) {
+        Some(_) => Ok(()),
+        None => {
+            listing::list(locked, alloc, stamp, id)?;
+            Ok(())
+        }
+    }
+}
+
 /// Takes the stamp out of the holders of each id that is listed at it, and drops its list.
-fn give_back(holders: &mut BTreeMap<Id, Holders>, locked: &mut BTreeMap<u64, Ids>, stamp: u64)
+fn give_back(
+    holders: &mut BTreeMap<Id, Holders>,
+    locked: &mut BTreeMap<u64, Sequence<Id>>,
+    stamp: u64,
+)
     requires { IsListed holders.old.entries locked.old }
     ensures holders { (q : List ℕ) → holders_of holders.new.entries q ≡ without (holders_of holders.old.entries q) stamp }
     ensures listed { IsListed holders.new.entries locked.new }

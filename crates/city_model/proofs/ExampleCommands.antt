@@ -13,7 +13,7 @@ use Rattle.city_model.specs.declared.command.Reply.TheVariants.{Added, Replaced,
 use Rattle.city_model.specs.declared.end.Outcome.{Outcome}
 use Rattle.std.specs.Ordering.{nat_cmp}
 use Rattle.std.specs.Cmp.Lexicographic.{slice_cmp}
-use Rattle.city_model.specs.CityMap.{Entries, at, changed}
+use Rattle.city_model.specs.CityMap.{Entries, found_in, changed}
 use Rattle.city_model.specs.Meaning.{attached, detached}
 use Rattle.city_model.specs.Runs.{HasResult, map_left}
 use Rattle.city_model.proofs.ExampleCities.{one_id, bare, object, alone}
@@ -31,7 +31,7 @@ family =
 
 -- the script of this command and Commit is refused at its command by the cause
 abbrev IsRefusedBy : Command → Cause → Type 0
-IsRefusedBy command cause = HasResult (at family) (command ∷ Commit ∷ []) [] (Outcome.Refused 0 cause)
+IsRefusedBy command cause = HasResult (found_in family) (command ∷ Commit ∷ []) [] (Outcome.Refused 0 cause)
 
 pub type_is_fixed : IsRefusedBy (Put (codes "b") (bare Bridge)) (TypeFixed (codes "b"))
 type_is_fixed = (refl, refl)
@@ -61,15 +61,15 @@ no_such_parent = (refl, refl)
 abbrev detach_only : List Command
 detach_only = Detach (codes "p") (codes "b") ∷ Commit ∷ []
 
-pub detached_part_is_an_orphan : HasResult (at family) detach_only (Detached ∷ []) (Outcome.Refused 1 (Orphan (codes "p")))
+pub detached_part_is_an_orphan : HasResult (found_in family) detach_only (Detached ∷ []) (Outcome.Refused 1 (Orphan (codes "p")))
 detached_part_is_an_orphan =
-    let left = detached (at family) (codes "p") (codes "b") in
+    let left = detached (found_in family) (codes "p") (codes "b") in
     let others : (q : List ℕ) → slice_cmp nat_cmp q (codes "p") ≡ Less → is_orphan_there (left q) ≡ false =
-    λ q below. no_orphan_detached_below (at family) (codes "p") (codes "b") q below refl (no_orphan_at family q refl) in
+    λ q below. no_orphan_detached_below (found_in family) (codes "p") (codes "b") q below refl (no_orphan_at family q refl) in
     ((refl, refl, refl), (refl, (codes "p", refl, least_orphan left (codes "p") (object BuildingPart [] [], refl, refl) others)))
 
 -- and a refused script leaves the city as it was
-pub refused_script_leaves_the_map : map_left (at family) detach_only (Outcome.Refused 1 (Orphan (codes "p"))) ≡ at family
+pub refused_script_leaves_the_map : map_left (found_in family) detach_only (Outcome.Refused 1 (Orphan (codes "p"))) ≡ found_in family
 refused_script_leaves_the_map = refl
 
 -- ---- a new part of a building b
@@ -80,22 +80,22 @@ building = (codes "b", alone Building) ∷ []
 abbrev put_part : List Command
 put_part = Put (codes "p") (bare BuildingPart) ∷ Commit ∷ []
 
-pub new_part_is_an_orphan : HasResult (at building) put_part (Added ∷ []) (Outcome.Refused 1 (Orphan (codes "p")))
+pub new_part_is_an_orphan : HasResult (found_in building) put_part (Added ∷ []) (Outcome.Refused 1 (Orphan (codes "p")))
 new_part_is_an_orphan =
-    let left = changed (at building) (codes "p") (Some (alone BuildingPart)) in
+    let left = changed (found_in building) (codes "p") (Some (alone BuildingPart)) in
     let others : (q : List ℕ) → slice_cmp nat_cmp q (codes "p") ≡ Less → is_orphan_there (left q) ≡ false =
-    λ q below. orphan_below (at building) (codes "p") (Some (alone BuildingPart)) q below (no_orphan_at building q refl) in
+    λ q below. orphan_below (found_in building) (codes "p") (Some (alone BuildingPart)) q below (no_orphan_at building q refl) in
     ((refl, refl, refl), (refl, (codes "p", refl, least_orphan left (codes "p") (alone BuildingPart, refl, refl) others)))
 
-pub orphan_leaves_the_map : map_left (at building) put_part (Outcome.Refused 1 (Orphan (codes "p"))) ≡ at building
+pub orphan_leaves_the_map : map_left (found_in building) put_part (Outcome.Refused 1 (Orphan (codes "p"))) ≡ found_in building
 orphan_leaves_the_map = refl
 
 abbrev put_and_attach_part : List Command
 put_and_attach_part = Put (codes "p") (bare BuildingPart) ∷ Attach (codes "p") (codes "b") ∷ Commit ∷ []
 
-pub attached_part_is_committed : HasResult (at building) put_and_attach_part (Added ∷ Attached ∷ []) Outcome.Committed
+pub attached_part_is_committed : HasResult (found_in building) put_and_attach_part (Added ∷ Attached ∷ []) Outcome.Committed
 attached_part_is_committed =
-    let put = changed (at building) (codes "p") (Some (alone BuildingPart)) in
+    let put = changed (found_in building) (codes "p") (Some (alone BuildingPart)) in
     let left = attached put (codes "p") (codes "b") in (
       (refl, refl, refl),
       (
@@ -104,7 +104,7 @@ attached_part_is_committed =
           refl,
           no_orphan left (λ q.
               no_orphan_attached put (codes "p") (codes "b") q refl refl
-              (λ apart. orphan_apart (at building) (codes "p") (Some (alone BuildingPart)) q apart (no_orphan_at building q refl))),
+              (λ apart. orphan_apart (found_in building) (codes "p") (Some (alone BuildingPart)) q apart (no_orphan_at building q refl))),
         ),
       ),
     )
@@ -120,8 +120,8 @@ meadow = (codes "x", alone LandUse) ∷ []
 abbrev give_up : List Command
 give_up = Put (codes "x") (numbered 1) ∷ Put (codes "x") (numbered 2) ∷ Delete (codes "x") ∷ Put (codes "x") (numbered 3) ∷ Abort ∷ []
 
-pub abort_answers_as_if_it_stayed : HasResult (at meadow) give_up (Replaced ∷ Replaced ∷ Deleted ∷ Added ∷ []) Outcome.Aborted
+pub abort_answers_as_if_it_stayed : HasResult (found_in meadow) give_up (Replaced ∷ Replaced ∷ Deleted ∷ Added ∷ []) Outcome.Aborted
 abort_answers_as_if_it_stayed = ((refl, refl, refl), ((refl, refl, refl), ((refl, refl, refl), ((refl, refl, refl), refl))))
 
-pub abort_leaves_the_map : map_left (at meadow) give_up Outcome.Aborted ≡ at meadow
+pub abort_leaves_the_map : map_left (found_in meadow) give_up Outcome.Aborted ≡ found_in meadow
 abort_leaves_the_map = refl

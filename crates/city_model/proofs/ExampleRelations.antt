@@ -7,7 +7,7 @@ use Rattle.city_model.specs.declared.command.Command.TheVariants.{Put, Delete, A
 use Rattle.city_model.specs.declared.command.Reply.TheVariants.{Added, Deleted, Attached, Detached}
 use Rattle.city_model.specs.declared.end.End.{End}
 use Rattle.city_model.specs.declared.end.Outcome.{Outcome}
-use Rattle.city_model.specs.CityMap.{Entries, CityMap, at, changed}
+use Rattle.city_model.specs.CityMap.{Entries, CityMap, found_in, changed}
 use Rattle.city_model.specs.Meaning.{attached, detached, deleted}
 use Rattle.city_model.specs.Runs.{Scripted, HasResult, model_after, Fits}
 use Rattle.city_model.proofs.ExampleCities.{one_id, bare, object, alone}
@@ -39,7 +39,7 @@ abbrev deletes_ends : End
 deletes_ends = record { script = 2; name = codes "c"; since = 2; replies = Deleted ∷ []; outcome = Outcome.Committed }
 
 abbrev with_part : CityMap
-with_part = changed (at buildings) (codes "p") (Some (alone BuildingPart))
+with_part = changed (found_in buildings) (codes "p") (Some (alone BuildingPart))
 
 abbrev one_parent : CityMap
 one_parent = attached with_part (codes "p") (codes "b")
@@ -52,7 +52,7 @@ other_parent = detached two_parents (codes "p") (codes "b")
 
 one_parent_no_orphan : (q : List ℕ) → is_orphan_there (one_parent q) ≡ false
 one_parent_no_orphan q = no_orphan_attached with_part (codes "p") (codes "b") q refl refl
-    (λ apart. orphan_apart (at buildings) (codes "p") (Some (alone BuildingPart)) q apart (no_orphan_at buildings q refl))
+    (λ apart. orphan_apart (found_in buildings) (codes "p") (Some (alone BuildingPart)) q apart (no_orphan_at buildings q refl))
 
 two_parents_no_orphan : (q : List ℕ) → is_orphan_there (two_parents q) ≡ false
 two_parents_no_orphan q = no_orphan_attached one_parent (codes "p") (codes "r") q refl refl (λ apart. one_parent_no_orphan q)
@@ -60,7 +60,7 @@ two_parents_no_orphan q = no_orphan_attached one_parent (codes "p") (codes "r") 
 other_parent_no_orphan : (q : List ℕ) → is_orphan_there (other_parent q) ≡ false
 other_parent_no_orphan q = no_orphan_detached two_parents (codes "p") (codes "b") q refl refl (two_parents_no_orphan q)
 
-attaches_commits : HasResult (at buildings) attaches (Added ∷ Attached ∷ Attached ∷ []) Outcome.Committed
+attaches_commits : HasResult (found_in buildings) attaches (Added ∷ Attached ∷ Attached ∷ []) Outcome.Committed
 attaches_commits = ((refl, refl, refl), ((refl, refl, refl), ((refl, refl, refl), (refl, no_orphan two_parents two_parents_no_orphan))))
 
 detaches_commits : HasResult two_parents detaches (Detached ∷ []) Outcome.Committed
@@ -69,7 +69,7 @@ detaches_commits = ((refl, refl, refl), (refl, no_orphan other_parent other_pare
 deletes_commits : HasResult other_parent deletes (Deleted ∷ []) Outcome.Committed
 deletes_commits = ((refl, refl, refl), (refl, no_orphan (deleted other_parent (codes "p")) (λ q. no_orphan_deleted other_parent (codes "p") q (other_parent_no_orphan q))))
 
-pub three_scripts_in_turn_fit : Fits scripts (at buildings) (attaches_ends ∷ detaches_ends ∷ deletes_ends ∷ [])
+pub three_scripts_in_turn_fit : Fits scripts (found_in buildings) (attaches_ends ∷ detaches_ends ∷ deletes_ends ∷ [])
 three_scripts_in_turn_fit = (
   record { script = (codes "a", attaches); is_there = refl; named = refl; since = omega arith; result = attaches_commits },
   (λ same. omega arith, (λ same. omega arith, tt)),
@@ -87,7 +87,7 @@ three_scripts_in_turn_fit = (
 -- ---- after the second script
 
 abbrev after_two : CityMap
-after_two = model_after scripts (at buildings) (attaches_ends ∷ detaches_ends ∷ [])
+after_two = model_after scripts (found_in buildings) (attaches_ends ∷ detaches_ends ∷ [])
 
 pub detached_part_keeps_its_other_parent : after_two (codes "p") ≡ Some (object BuildingPart (one_id (codes "r")) [])
 detached_part_keeps_its_other_parent = refl
@@ -101,7 +101,7 @@ other_parent_keeps_the_part = refl
 -- ---- after the third
 
 abbrev after_three : CityMap
-after_three = model_after scripts (at buildings) (attaches_ends ∷ detaches_ends ∷ deletes_ends ∷ [])
+after_three = model_after scripts (found_in buildings) (attaches_ends ∷ detaches_ends ∷ deletes_ends ∷ [])
 
 pub deleted_part_is_gone : after_three (codes "p") ≡ None
 deleted_part_is_gone = refl

@@ -2,16 +2,17 @@
 use Rattle.std.proofs.Common.{◌≡◌, refl, ap, ◌∙◌, arith}
 use Rattle.std.specs.Prelude.{option_map, ℕ, List, [], ◌∷◌, false, Some, None, codes}
 use Rattle.std.proofs.lemmas.Bool.{or_parts}
+use Rattle.std.proofs.lemmas.Map.{update_other}
 use Rattle.city_model.specs.declared.object_type.ObjectType.TheVariants.{Building, BuildingPart, Road}
 use Rattle.city_model.specs.declared.command.Command.{Command}
 use Rattle.city_model.specs.declared.command.Command.TheVariants.{Read, Put, Delete, Attach, Commit}
 use Rattle.city_model.specs.declared.command.Reply.TheVariants.{Absent, Added, Deleted, Attached}
 use Rattle.city_model.specs.declared.end.End.{End}
 use Rattle.city_model.specs.declared.end.Outcome.{Outcome}
-use Rattle.city_model.specs.CityMap.{same_id, has_id, Entries, CityMap, at, changed}
+use Rattle.city_model.specs.CityMap.{same_id, has_id, Entries, CityMap, found_in, changed}
 use Rattle.city_model.specs.Meaning.{without_child, attached, deleted}
 use Rattle.city_model.specs.Runs.{Scripted, HasResult, model_after, Fits}
-use Rattle.city_model.proofs.Changed.{at_absent, changed_apart, attached_apart, deleted_apart}
+use Rattle.city_model.proofs.Changed.{at_absent, attached_apart, deleted_apart}
 use Rattle.city_model.proofs.ExampleCities.{one_id, bare, object, alone}
 use Rattle.city_model.proofs.Ids.{same_id_back}
 use Rattle.city_model.specs.Relations.{is_orphan_there}
@@ -43,23 +44,23 @@ attach_then_delete =
     ∷ []
 
 abbrev with_part : CityMap
-with_part = changed (at two_buildings) (codes "q") (Some (alone BuildingPart))
+with_part = changed (found_in two_buildings) (codes "q") (Some (alone BuildingPart))
 
 abbrev both_parts : CityMap
 both_parts = attached with_part (codes "q") (codes "b2")
 
 both_parts_no_orphan : (q : List ℕ) → is_orphan_there (both_parts q) ≡ false
 both_parts_no_orphan q = no_orphan_attached with_part (codes "q") (codes "b2") q refl refl
-    (λ apart. orphan_apart (at two_buildings) (codes "q") (Some (alone BuildingPart)) q apart (no_orphan_at two_buildings q refl))
+    (λ apart. orphan_apart (found_in two_buildings) (codes "q") (Some (alone BuildingPart)) q apart (no_orphan_at two_buildings q refl))
 
-attaches_commits : HasResult (at two_buildings) attaches (Added ∷ Attached ∷ []) Outcome.Committed
+attaches_commits : HasResult (found_in two_buildings) attaches (Added ∷ Attached ∷ []) Outcome.Committed
 attaches_commits = ((refl, refl, refl), ((refl, refl, refl), (refl, no_orphan both_parts both_parts_no_orphan)))
 
 deletes_commits : HasResult both_parts deletes (Deleted ∷ []) Outcome.Committed
 deletes_commits = ((refl, refl, refl), (refl, no_orphan (deleted both_parts (codes "p")) (λ q. no_orphan_deleted both_parts (codes "p") q (both_parts_no_orphan q))))
 
 -- these ends are those of the scripts, run one at a time
-pub attach_then_delete_fits : Fits delete_and_attach (at two_buildings) attach_then_delete
+pub attach_then_delete_fits : Fits delete_and_attach (found_in two_buildings) attach_then_delete
 attach_then_delete_fits = (
   record { script = (codes "b", attaches); is_there = refl; named = refl; since = omega arith; result = attaches_commits },
   (λ same. omega arith, tt),
@@ -71,7 +72,7 @@ attach_then_delete_fits = (
 )
 
 abbrev left : CityMap
-left = model_after delete_and_attach (at two_buildings) attach_then_delete
+left = model_after delete_and_attach (found_in two_buildings) attach_then_delete
 
 -- the deleted part is gone from both of its parents, and the attached part stays
 pub delete_takes_the_child_out_of_the_first_parent : left (codes "b1") ≡ Some (alone Building)
@@ -92,8 +93,8 @@ no_other_object_comes id h =
     let b2 = or_parts (same_id id (codes "b2")) (has_id (codes "p" ∷ codes "q" ∷ []) id) b1.1 in
     let p = or_parts (same_id id (codes "p")) (has_id (codes "q" ∷ []) id) b2.1 in
     let q = or_parts (same_id id (codes "q")) false p.1 in
-    let before : at two_buildings id ≡ None = at_absent two_buildings id (rw (b1.0, b2.0, p.0) refl) in
-    let put : with_part id ≡ None = changed_apart (at two_buildings) (codes "q") (Some (alone BuildingPart)) id (same_id_back (codes "q") id ∙ q.0) ∙ before in
+    let before : found_in two_buildings id ≡ None = at_absent two_buildings id (rw (b1.0, b2.0, p.0) refl) in
+    let put : with_part id ≡ None = update_other same_id (found_in two_buildings) (codes "q") (Some (alone BuildingPart)) id (same_id_back (codes "q") id ∙ q.0) ∙ before in
     let tied : both_parts id ≡ None = attached_apart with_part (codes "q") (codes "b2") id (same_id_back (codes "q") id ∙ q.0) (same_id_back (codes "b2") id ∙ b2.0) ∙ put in
     deleted_apart both_parts (codes "p") id (same_id_back (codes "p") id ∙ p.0) ∙ ap (option_map (without_child (codes "p"))) tied
 
@@ -118,13 +119,13 @@ read_then_put =
     ∷ record { script = 1; name = codes "b"; since = 1; replies = Added ∷ []; outcome = Outcome.Committed }
     ∷ []
 
-reads_commits : HasResult (at no_objects) reads_twice (Absent ∷ Absent ∷ []) Outcome.Committed
-reads_commits = ((refl, refl, refl), ((refl, refl, refl), (refl, no_orphan (at no_objects) (λ q. refl))))
+reads_commits : HasResult (found_in no_objects) reads_twice (Absent ∷ Absent ∷ []) Outcome.Committed
+reads_commits = ((refl, refl, refl), ((refl, refl, refl), (refl, no_orphan (found_in no_objects) (λ q. refl))))
 
-puts_commits : HasResult (at no_objects) puts_road (Added ∷ []) Outcome.Committed
-puts_commits = ((refl, refl, refl), (refl, no_orphan (changed (at no_objects) (codes "h") (Some (alone Road))) (λ q. no_orphan_put (at no_objects) (codes "h") (Some (alone Road)) q refl refl)))
+puts_commits : HasResult (found_in no_objects) puts_road (Added ∷ []) Outcome.Committed
+puts_commits = ((refl, refl, refl), (refl, no_orphan (changed (found_in no_objects) (codes "h") (Some (alone Road))) (λ q. no_orphan_put (found_in no_objects) (codes "h") (Some (alone Road)) q refl refl)))
 
-pub read_then_put_fits : Fits read_and_put (at no_objects) read_then_put
+pub read_then_put_fits : Fits read_and_put (found_in no_objects) read_then_put
 read_then_put_fits = (
   record { script = (codes "a", reads_twice); is_there = refl; named = refl; since = omega arith; result = reads_commits },
   (λ same. omega arith, tt),
@@ -135,5 +136,5 @@ read_then_put_fits = (
   ),
 )
 
-pub put_road_is_there : model_after read_and_put (at no_objects) read_then_put (codes "h") ≡ Some (alone Road)
+pub put_road_is_there : model_after read_and_put (found_in no_objects) read_then_put (codes "h") ≡ Some (alone Road)
 put_road_is_there = refl

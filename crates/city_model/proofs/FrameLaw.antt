@@ -2,6 +2,7 @@
 use Rattle.std.proofs.Common.{◌≡◌, ℕ, List, [], ◌∷◌, length, Bool, true, false, ◌||◌, Option, Some, None, refl, ap, sym, ◌∙◌}
 use Rattle.std.specs.Prelude.{◌==◌, if◌then◌else◌, option_map}
 use Rattle.std.proofs.lemmas.Bool.{false≢true, false_from_ne_true, or_parts, or_left, or_right}
+use Rattle.std.proofs.lemmas.Map.{update_other}
 use Rattle.city_model.specs.declared.object.Object.{Object}
 use Rattle.city_model.specs.declared.command.Cause.{Cause}
 use Rattle.city_model.specs.declared.command.Cause.TheVariants.{HasChildren}
@@ -12,7 +13,8 @@ use Rattle.city_model.specs.Meaning.{read_reply, with_body, put_cause, put_done,
 use Rattle.city_model.specs.Shells.{body_fault}
 use Rattle.city_model.specs.Relations.{IsSound}
 use Rattle.city_model.specs.Standing.{Lock, exclusive_ids, names, names_exclusively}
-use Rattle.city_model.proofs.Changed.{changed_apart, attached_apart, detached_apart, deleted_apart}
+use Rattle.city_model.specs.FrameLaw.{AgreeOn, FrameLaw}
+use Rattle.city_model.proofs.Changed.{attached_apart, detached_apart, deleted_apart}
 use Rattle.city_model.proofs.Ids.{same_id_itself, same_id_back}
 use Rattle.city_model.proofs.IdLists.{bool_cases, not_both, without_absent}
 
@@ -70,7 +72,7 @@ two_apart child parent q h =
 pub frame : (m : CityMap) (c : Command) (q : List ℕ) → IsSound m → names_exclusively (locks_of m c) q ≡ false → after m c q ≡ m q
 frame m (Read id) q s h = refl
 frame m (Put id body) q s h = unless_same (cause_of m (Put id body)) m (effect_of m (Put id body)) q
-    (λ e. changed_apart m id (Some (with_body body (m id))) q (same_id_back id q ∙ (or_parts (same_id q id) false h).0))
+    (λ e. update_other same_id m id (Some (with_body body (m id))) q (same_id_back id q ∙ (or_parts (same_id q id) false h).0))
 frame m (Delete id) q s h = unless_same (cause_of m (Delete id)) m (effect_of m (Delete id)) q (λ e. frame_delete m id q (m id) refl s h e)
 frame m (Attach child parent) q s h =
     let apart = two_apart child parent q h in
@@ -82,9 +84,6 @@ frame m Commit q s h = refl
 frame m Abort q s h = refl
 
 -- ---- two maps that agree where the first one's locks name an id
-
-abbrev pub AgreeOn : List Lock → CityMap → CityMap → Type 0
-AgreeOn ls m n = (id : List ℕ) → names ls id ≡ true → m id ≡ n id
 
 first_is_named : (id : List ℕ) (b : Bool) (ls : List Lock) → names ((id, b) ∷ ls) id ≡ true
 first_is_named id b ls = or_left (same_id id id) (names ls id) (same_id_itself id)
@@ -163,17 +162,8 @@ same_where_agreed m n c q a e =
 pub same_after : (m n : CityMap) (c : Command) (q : List ℕ) → AgreeOn (locks_of m c) m n → names_exclusively (locks_of m c) q ≡ true → after m c q ≡ after n c q
 same_after m n c q a h = same_where_agreed m n c q a (a q (exclusive_is_named (locks_of m c) q h))
 
--- of one command at two maps: the same cause, reply and locks; each id that is locked exclusively is the same before and after, and each other id keeps its object
-pub record IsFramed (m n : CityMap) (c : Command) : Type 0 where
-  pub cause : cause_of m c ≡ cause_of n c
-  pub reply : reply_to m c ≡ reply_to n c
-  pub locks : locks_of m c ≡ locks_of n c
-  pub written : (id : List ℕ) → names_exclusively (locks_of m c) id ≡ true → (m id ≡ n id) × (after m c id ≡ after n c id)
-  pub kept : (id : List ℕ) → names_exclusively (locks_of m c) id ≡ false → (after m c id ≡ m id) × (after n c id ≡ n id)
-
--- a command does the same at two sound maps that agree on the ids that it locks
-pub frame_law : (m n : CityMap) (c : Command) → IsSound m → IsSound n → AgreeOn (locks_of m c) m n → IsFramed m n c
-frame_law m n c s t a = record {
+pub frame_law : (m : CityMap) (c : Command) → IsSound m → FrameLaw m c
+frame_law m c s n t a = record {
   cause = same_cause m n c a;
   reply = same_reply m n c a;
   locks = same_locks m n c a;

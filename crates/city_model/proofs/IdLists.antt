@@ -6,7 +6,7 @@ use Rattle.std.proofs.lemmas.List.Folds.{list_any-append}
 use Rattle.city_model.specs.CityMap.{same_id, has_id}
 use Rattle.city_model.specs.Meaning.{without_id}
 use Rattle.city_model.specs.Relations.{AreDistinct}
-use Rattle.city_model.proofs.Ids.{same_id_true, same_id_back}
+use Rattle.city_model.proofs.Ids.{same_id_true, same_id_itself, same_id_back, by_id}
 
 -- ---- tests
 
@@ -47,9 +47,8 @@ stays false b h f = refl
 
 pub has_without : (id : List ℕ) (ids : List (List ℕ)) (q : List ℕ) → has_id (without_id id ids) q ≡ (not (same_id id q) && has_id ids q)
 has_without id [] q = sym (and_right (not (same_id id q)) false refl)
-has_without id (x ∷ xs) q = bool_cases (same_id id x)
-    (λ e. rw e (has_without id xs q
-    ∙ taken_out (same_id id q) (same_id q x) (has_id xs q) (ap (same_id q) (sym (same_id_true id x e)) ∙ same_id_back q id)))
+has_without id (x ∷ xs) q = by_id id x
+    (λ is. rw (← is, same_id_itself id) (has_without id xs q ∙ taken_out (same_id id q) (same_id q id) (has_id xs q) (same_id_back q id)))
     (λ e. rw e (ap (λ h. same_id q x || h) (has_without id xs q)
     ∙ stays (same_id id q) (same_id q x) (has_id xs q) (λ t. ap (same_id id) (same_id_true q x t) ∙ e)))
 
@@ -74,8 +73,8 @@ more_has_last ids id q h = list_any-append (same_id q) ids (id ∷ []) ∙ or_ri
 
 pub distinct_without : (id : List ℕ) (ids : List (List ℕ)) → AreDistinct ids → AreDistinct (without_id id ids)
 distinct_without id [] d = tt
-distinct_without id (x ∷ xs) d = bool_cases (same_id id x)
-    (λ e. rw e (distinct_without id xs d.1))
+distinct_without id (x ∷ xs) d = by_id id x
+    (λ is. rw (← is, same_id_itself id) (distinct_without id xs d.1))
     (λ e. rw e (has_without id xs x ∙ and_right (not (same_id id x)) (has_id xs x) d.0, distinct_without id xs d.1))
 
 none_more : (a b : Bool) → a ≡ false → b ≡ false → (a || (b || false)) ≡ false

@@ -1,5 +1,5 @@
 -- When two ids are the same.
-use Rattle.std.proofs.Common.{◌≡◌, ℕ, List, true, false, Ordering, Less, Equal, Greater, refl, ap, sym, ◌∙◌}
+use Rattle.std.proofs.Common.{◌≡◌, ℕ, List, Bool, true, false, Ordering, Less, Equal, Greater, refl, ap, sym, ◌∙◌}
 use Rattle.std.specs.Ordering.{nat_cmp, is_eq}
 use Rattle.std.specs.Cmp.Lexicographic.{slice_cmp}
 use Rattle.std.proofs.lemmas.Bool.{false≢true}
@@ -27,3 +27,11 @@ same_id_of_equal id q e = ap (same_id id) (sym e) ∙ same_id_itself id
 -- an id that another one is below is another one
 pub below_is_apart : (q id : List ℕ) → slice_cmp nat_cmp q id ≡ Less → same_id id q ≡ false
 below_is_apart q id h = same_id_back id q ∙ ap is_eq h
+
+-- two ids are equal, or the test tells them apart
+pub by_id : {P : Type 0} (id q : List ℕ) → (id ≡ q → P) → (same_id id q ≡ false → P) → P
+by_id {P} id q here apart = by (same_id id q) refl
+  where
+    by : (b : Bool) → same_id id q ≡ b → P
+    by true t = here (same_id_true id q t)
+    by false t = apart t

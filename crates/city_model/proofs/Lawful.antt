@@ -1,5 +1,5 @@
 -- What a script leaves of a sound map is sound, and of a lawful map lawful.
-use Rattle.std.proofs.Common.{◌≡◌, ℕ, ◌+◌, List, [], ◌∷◌, true, Some, refl, ap, sym, subst, ◌∙◌}
+use Rattle.std.proofs.Common.{◌≡◌, ℕ, ◌+◌, List, [], ◌∷◌, true, refl, ap, sym, subst, ◌∙◌}
 use Rattle.std.specs.Prelude.{slice_get, if◌then◌else◌}
 use Rattle.std.proofs.lemmas.Bool.{false≢true}
 use Rattle.city_model.specs.declared.command.Command.{Command}
@@ -10,15 +10,15 @@ use Rattle.city_model.specs.declared.end.Outcome.{Outcome}
 use Rattle.city_model.specs.CityMap.{CityMap}
 use Rattle.city_model.specs.Relations.{HasNoOrphan, IsSound, IsLawful}
 use Rattle.city_model.specs.Meaning.{after}
-use Rattle.city_model.specs.Runs.{Scripted, EndsFrom, HasResult, map_after, map_left, commands_of, model_after, FitsFrom, Fits}
-use Rattle.city_model.specs.Scripts.{is_end, is_empty_list, ends_once}
+use Rattle.city_model.specs.Runs.{Scripted, EndsFrom, HasResult, map_after, map_left, left_by, commands_of, model_after, FitsFrom, Fits}
+use Rattle.city_model.specs.Scripts.{is_end, is_empty_list, ends_once, AreScripts}
 use Rattle.city_model.proofs.SoundAfter.{sound_after}
 
 pub sound_after_all : (m : CityMap) (cs : List Command) → IsSound m → IsSound (map_after m cs)
 sound_after_all m [] s = s
 sound_after_all m (c ∷ cs) s = sound_after_all (after m c) cs (sound_after m c s)
 
-nothing_more : (cs : List Command) → is_empty_list cs ≡ true → cs ≡ []
+pub nothing_more : (cs : List Command) → is_empty_list cs ≡ true → cs ≡ []
 nothing_more [] h = refl
 nothing_more (c ∷ cs) h = absurd (false≢true h)
 
@@ -44,18 +44,14 @@ lawful_left m cs rs Outcome.Aborted e s h = s
 lawful_left m cs rs (Outcome.Refused i cause) e s h = s
 lawful_left m cs rs (Outcome.NoMemory i) e s h = s
 
--- each of them is a script
-abbrev pub AreScripts : List Scripted → Type 0
-AreScripts scripts = (i : ℕ) (s : Scripted) → slice_get scripts i ≡ Some s → ends_once s.1 ≡ true
-
 lawful_from : (scripts : List Scripted) (m : CityMap) (place : ℕ) (ends : List End) → AreScripts scripts → IsLawful m → FitsFrom scripts m place ends → IsLawful (model_after scripts m ends)
 lawful_from scripts m place [] all l h = l
 lawful_from scripts m place (e ∷ es) all l h =
     let commands : h.0.script.1 ≡ commands_of (slice_get scripts e.script) = sym (ap commands_of h.0.is_there) in
-    let left : IsLawful (map_left m (commands_of (slice_get scripts e.script)) e.outcome) =
+    let left : IsLawful (left_by scripts m e) =
     subst (λ (cs : List Command). IsLawful (map_left m cs e.outcome)) commands
     (lawful_left m h.0.script.1 e.replies e.outcome (all e.script h.0.script h.0.is_there) l h.0.result) in
-    lawful_from scripts (map_left m (commands_of (slice_get scripts e.script)) e.outcome) (place + 1) es all left h.2
+    lawful_from scripts (left_by scripts m e) (place + 1) es all left h.2
 
 -- after scripts run one at a time a lawful map is lawful
 pub lawful_after : (scripts : List Scripted) (m : CityMap) (ends : List End) → AreScripts scripts → IsLawful m → Fits scripts m ends → IsLawful (model_after scripts m ends)

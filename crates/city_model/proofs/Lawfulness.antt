@@ -1,34 +1,31 @@
 -- Lawful maps, by the relations and the bodies of their entries.
 use Rattle.std.proofs.Common.{◌≡◌, ℕ, Bool, true, false, List, ◌∷◌, ◌⊎◌, inl, inr, Option, Some, None, refl, ap, sym, ◌∙◌}
 use Rattle.std.specs.Prelude.{is_none, is_some}
-use Rattle.std.specs.Ordering.{nat_cmp}
 use Rattle.std.specs.List.{list_all}
-use Rattle.std.specs.List.Sorted.{IsStrictlySortedBy}
-use Rattle.std.specs.Cmp.Lexicographic.{slice_cmp}
-use Rattle.std.specs.Map.{keys_of}
+use Rattle.std.specs.FinMap.{entries}
 use Rattle.std.proofs.lemmas.Bool.{false≢true, and_parts}
 use Rattle.city_model.specs.declared.object.Object.{Object}
 use Rattle.city_model.specs.declared.command.Cause.{Cause}
-use Rattle.city_model.specs.CityMap.{Entries, CityMap, at}
+use Rattle.city_model.specs.CityMap.{Objects, Entries, CityMap, at}
 use Rattle.city_model.specs.Faultless.{IsFaultless}
 use Rattle.city_model.specs.Misrelated.{IsMisrelatedAt, IsLeastMisrelated}
 use Rattle.city_model.specs.Relations.{IsInOrder, IsRelated, IsLawful, is_orphan}
 use Rattle.city_model.specs.RelationTests.{is_misrelated}
 use Rattle.city_model.specs.Shells.{body_fault}
-use Rattle.city_model.proofs.FirstEntry.{first_that, least_that, none_that, all_at, at_all}
+use Rattle.city_model.proofs.FirstEntry.{first_that, least_in, none_in, all_in, in_all}
 use Rattle.city_model.proofs.RelationLaws.{misrelated_true, misrelated_false}
 
 -- ---- relations
 
-pub least_misrelated : (es : Entries) (id : List ℕ) → IsStrictlySortedBy (slice_cmp nat_cmp) (keys_of es) → first_that (is_misrelated (at es)) es ≡ Some id → IsLeastMisrelated (at es) id
-least_misrelated es id sorted found =
-    let least = least_that (is_misrelated (at es)) es id sorted found in (
-      (least.0.0, least.0.1, misrelated_true (at es) id least.0.0 least.0.2),
-      λ q o below there. misrelated_false (at es) q o (least.1 q o below there),
+pub least_misrelated : (objects : Objects) (id : List ℕ) → first_that (is_misrelated (at objects)) (entries objects) ≡ Some id → IsLeastMisrelated (at objects) id
+least_misrelated objects id found =
+    let least = least_in (is_misrelated (at objects)) objects id found in (
+      (least.0.0, least.0.1, misrelated_true (at objects) id least.0.0 least.0.2),
+      λ q o below there. misrelated_false (at objects) q o (least.1 q o below there),
     )
 
-pub all_related : (es : Entries) → first_that (is_misrelated (at es)) es ≡ None → IsRelated (at es)
-all_related es none id o there = misrelated_false (at es) id o (none_that (is_misrelated (at es)) es id o none there)
+pub all_related : (objects : Objects) → first_that (is_misrelated (at objects)) (entries objects) ≡ None → IsRelated (at objects)
+all_related objects none id o there = misrelated_false (at objects) id o (none_in (is_misrelated (at objects)) objects id o none there)
 
 -- ---- bodies
 
@@ -42,11 +39,11 @@ none_of : (fault : Option Cause) → is_none fault ≡ true → fault ≡ None
 none_of None h = refl
 none_of (Some cause) h = absurd (false≢true h)
 
-pub faultless_by : (es : Entries) → all_faultless es ≡ true → IsFaultless (at es)
-faultless_by es all id o there = none_of (body_fault o.body) (all_at has_no_fault es id o all there)
+pub faultless_by : (objects : Objects) → all_faultless (entries objects) ≡ true → IsFaultless (at objects)
+faultless_by objects all id o there = none_of (body_fault o.body) (all_in has_no_fault objects id o all there)
 
-pub faultless_all : (es : Entries) → IsStrictlySortedBy (slice_cmp nat_cmp) (keys_of es) → IsFaultless (at es) → all_faultless es ≡ true
-faultless_all es sorted f = at_all has_no_fault es sorted (λ id o there. ap is_none (f id o there))
+pub faultless_all : (objects : Objects) → IsFaultless (at objects) → all_faultless (entries objects) ≡ true
+faultless_all objects f = in_all has_no_fault objects (λ id o there. ap is_none (f id o there))
 
 -- an entry whose body has a fault, among those that are left
 pub faulty_entry : (all left : Entries) (e : List ℕ × Object) (rest : Entries) → all_faultless all ≡ all_faultless left → left ≡ e ∷ rest

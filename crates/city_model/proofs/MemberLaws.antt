@@ -3,14 +3,12 @@ use Rattle.std.proofs.Common.{◌≡◌, ℕ, ◌+◌, List, [], ◌∷◌, leng
 use Rattle.std.specs.Prelude.{if◌then◌else◌}
 use Rattle.std.specs.Ordering.{match_ordering}
 use Rattle.std.specs.Cmp.Lexicographic.{slice_cmp}
-use Rattle.std.proofs.lemmas.Cmp.{nat_list_cmp_total, tied_itself}
-use Rattle.std.proofs.lemmas.Map.Text.{is_eq-slice_cmp}
-use Rattle.std.proofs.lemmas.Slice.Eq.{bytes_eq-Decides}
 use Rattle.std.specs.List.{AllByRecursion}
 use Rattle.std.specs.List.Sorted.{IsStrictlySortedBy}
-use Rattle.std.specs.Map.{keys_of, remove_entry}
+use Rattle.std.specs.Map.{keys_of, lookup, remove_entry}
 use Rattle.std.specs.BTreeMap.{is_at}
 use Rattle.std.proofs.lemmas.Bool.{and_parts}
+use Rattle.std.proofs.lemmas.Map.{NonePasses, none_passes_from_lookup}
 use Rattle.serde_json.specs.Data.{Data, Members, no_members, member}
 use Rattle.serde_json.specs.Find.{get_member}
 use Rattle.serde_json.specs.View.{view, members_view}
@@ -18,16 +16,7 @@ use Rattle.serde_json.proofs.Views.{Entry}
 use Rattle.city_model.specs.CityMap.{same_id}
 use Rattle.city_model.specs.Members.{without, members_count, AllAbove, AreOrdered}
 use Rattle.city_model.specs.Integral.{is_integral, members_integral}
-
--- ids that the test finds the same are the same
-pub same_id-is : (j k : List ℕ) → same_id j k ≡ true → j ≡ k
-same_id-is j k e = (bytes_eq-Decides j k).0 (sym (is_eq-slice_cmp j k) ∙ e)
-
-pub same_id-refl : (k : List ℕ) → same_id k k ≡ true
-same_id-refl k = ap is_eq (tied_itself nat_list_cmp_total k)
-
-less_apart : (o : Ordering) → o ≡ Less → is_eq o ≡ false
-less_apart o e = ap is_eq e
+use Rattle.city_model.proofs.Ids.{same_id_true}
 
 -- ---- the order of the names
 
@@ -46,20 +35,28 @@ members_count-view (e ∷ es) = ap (λ n. 1 + n) (members_count-view es) ∙ ome
 
 -- ---- taking out
 
--- where every name is above it, nothing is taken out
-without_below : (name : List ℕ) (ms : Members) → AllAbove name ms → without name ms ≡ ms
-without_below name no_members h = refl
-without_below name (member k d ms) h = rw (less_apart _ h.0) (ap (member k d) (without_below name ms h.1))
+module _ (name : List ℕ) where
+  abbrev is_named : String Global → Bool
+  is_named k = same_id name (string_bytes k)
 
-without_step : (b : Bool) (name : List ℕ) (e : Entry) (es rest : List Entry) → same_id name (string_bytes e.0) ≡ b → AllAbove (string_bytes e.0) (members_view es) → members_view rest ≡ without name (members_view es)
-    → members_view (cond b es (e ∷ rest)) ≡ (if b then without name (members_view es) else member (string_bytes e.0) (view e.1) (without name (members_view es)))
-without_step true name e es rest is above h = sym (without_below name (members_view es) (rw (same_id-is name (string_bytes e.0) is) above))
-without_step false name e es rest is above h = ap (member (string_bytes e.0) (view e.1)) h
+  -- where no member has the name, nothing is taken out
+  without_none : (es : List Entry) → NonePasses is_named es → without name (members_view es) ≡ members_view es
+  without_none [] none = refl
+  without_none (e ∷ es) none = rw none.0 (ap (member (string_bytes e.0) (view e.1)) (without_none es none.1))
 
-pub members_view-remove_entry : (name : List ℕ) (es : List Entry) → AreOrdered (members_view es)
-    → members_view (remove_entry (is_at (λ k. slice_cmp nat_cmp name (string_bytes k))) es) ≡ without name (members_view es)
-members_view-remove_entry name [] h = refl
-members_view-remove_entry name (e ∷ es) h = without_step (same_id name (string_bytes e.0)) name e es _ refl h.0 (members_view-remove_entry name es h.1)
+  taken_step : (b : Bool) (e : Entry) (es rest : List Entry) → (NonePasses is_named rest → members_view rest ≡ without name (members_view es)) → NonePasses is_named (cond b es (e ∷ rest))
+      → members_view (cond b es (e ∷ rest)) ≡ (if b then without name (members_view es) else member (string_bytes e.0) (view e.1) (without name (members_view es)))
+  taken_step true e es rest later none = sym (without_none es none)
+  taken_step false e es rest later none = ap (member (string_bytes e.0) (view e.1)) (later none.1)
+
+  taken : (es : List Entry) → NonePasses is_named (remove_entry is_named es) → members_view (remove_entry is_named es) ≡ without name (members_view es)
+  taken [] none = refl
+  taken (e ∷ es) none = taken_step (is_named e.0) e es (remove_entry is_named es) (taken es) none
+
+  -- an entry was taken out after which none has the name
+  pub members_view-remove_entry : (es : List Entry) → lookup (is_at (λ k. slice_cmp nat_cmp name (string_bytes k))) (remove_entry (is_at (λ k. slice_cmp nat_cmp name (string_bytes k))) es) ≡ None
+      → members_view (remove_entry (is_at (λ k. slice_cmp nat_cmp name (string_bytes k))) es) ≡ without name (members_view es)
+  members_view-remove_entry es none = taken es (none_passes_from_lookup is_named (remove_entry is_named es) none)
 
 -- ---- looking up what is left
 
@@ -82,7 +79,7 @@ get_member-without_same name (member k d ms) = without_same (same_id name k) nam
 without_other : (b : Bool) (name other k : List ℕ) (d : Data) (ms : Members) → same_id other k ≡ b → same_id name other ≡ false → get_member name (without other ms) ≡ get_member name ms
     → get_member name (if b then without other ms else member k d (without other ms)) ≡ get_member name (member k d ms)
 without_other true name other k d ms is apart h =
-    let same : other ≡ k = same_id-is other k is in
+    let same : other ≡ k = same_id_true other k is in
     h ∙ sym (get_member_other (slice_cmp nat_cmp name k) _ _ (rw (← same) apart))
 without_other false name other k d ms is apart h = ap (λ r. match_ordering (slice_cmp nat_cmp name k) r (Some d) r) h
 

@@ -5,7 +5,7 @@ use Rattle.std.specs.Ordering.{nat_cmp}
 use Rattle.std.specs.Cmp.Lexicographic.{slice_cmp}
 use Rattle.std.proofs.lemmas.Bool.{false≢true}
 use Rattle.city_model.specs.declared.object.Object.{Object}
-use Rattle.city_model.specs.CityMap.{Entries, CityMap, at, changed, same_id}
+use Rattle.city_model.specs.CityMap.{Entries, CityMap, found_in, changed, same_id}
 use Rattle.city_model.specs.Relations.{is_orphan, is_orphan_there, HasNoOrphan, IsOrphanAt, IsLeastOrphan}
 use Rattle.city_model.specs.Meaning.{deleted, without_child, without_parent, with_child, with_parent, attached, detached}
 use Rattle.city_model.proofs.Ids.{below_is_apart}
@@ -32,11 +32,11 @@ abbrev pub has_orphan : Entries → Bool
 has_orphan [] = false
 has_orphan (e ∷ es) = if is_orphan e.1 then true else has_orphan es
 
-pub no_orphan_at : (es : Entries) (q : List ℕ) → has_orphan es ≡ false → is_orphan_there (at es q) ≡ false
+pub no_orphan_at : (es : Entries) (q : List ℕ) → has_orphan es ≡ false → is_orphan_there (found_in es q) ≡ false
 no_orphan_at [] q h = refl
 no_orphan_at (e ∷ es) q h =
     let parts = neither (is_orphan e.1) (has_orphan es) h in
-    neither_orphan (same_id q e.0) (Some e.1) (at es q) parts.0 (no_orphan_at es q parts.1)
+    neither_orphan (same_id q e.0) (Some e.1) (found_in es q) parts.0 (no_orphan_at es q parts.1)
 
 -- ---- after a command
 

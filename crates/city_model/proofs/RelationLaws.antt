@@ -7,7 +7,7 @@ use Rattle.city_model.specs.declared.object.Object.{Object}
 use Rattle.city_model.specs.CityMap.{CityMap, same_id, has_id, parents_of, children_of}
 use Rattle.city_model.specs.Relations.{AreDistinct, IsInOrder, is_second_level, same_family, is_orphan}
 use Rattle.city_model.specs.RelationTests.{are_distinct, relatives_once, level_fits, parent_fits, parents_fit, children_fit, is_in_order, is_misrelated}
-use Rattle.city_model.proofs.Ids.{same_id_true, same_id_itself}
+use Rattle.city_model.proofs.Ids.{same_id_itself, by_id}
 use Rattle.city_model.proofs.IdLists.{bool_cases, not_both, or_first}
 
 -- ---- lists
@@ -25,9 +25,9 @@ all_there : (test : List ℕ → Bool) (ids : List (List ℕ)) (p : List ℕ) �
 all_there test [] p h k = absurd (false≢true k)
 all_there test (x ∷ xs) p h k =
     let parts = and_parts (test x) (list_all test xs) h in
-    bool_cases (same_id p x)
-    (λ e. ap test (same_id_true p x e) ∙ parts.0)
-    (λ e. all_there test xs p parts.1 (sym (ap (λ b. b || has_id xs p) e) ∙ k))
+    by_id p x
+    (λ is. ap test is ∙ parts.0)
+    (λ apart. all_there test xs p parts.1 (sym (ap (λ b. b || has_id xs p) apart) ∙ k))
 
 there_all : (test : List ℕ → Bool) (ids : List (List ℕ)) → ((p : List ℕ) → has_id ids p ≡ true → test p ≡ true) → list_all test ids ≡ true
 there_all test [] f = refl

@@ -1,12 +1,12 @@
 -- Parents and children that agree, and that they still do when an object goes, is attached or is detached.
-use Rattle.std.proofs.Common.{◌≡◌, ℕ, List, [], ◌∷◌, ◌++◌, true, false, ap, sym, subst, ◌∙◌}
+use Rattle.std.proofs.Common.{◌≡◌, ℕ, List, [], ◌∷◌, ◌++◌, true, false, refl, ap, sym, subst, ◌∙◌}
 use Rattle.std.specs.Prelude.{if◌then◌else◌}
 use Rattle.std.proofs.lemmas.Bool.{false≢true, false_from_ne_true}
 use Rattle.city_model.specs.CityMap.{same_id, has_id}
 use Rattle.city_model.specs.Meaning.{without_id}
 use Rattle.city_model.specs.Relations.{AreDistinct}
-use Rattle.city_model.proofs.Ids.{same_id_true, same_id_itself, same_id_back}
-use Rattle.city_model.proofs.IdLists.{bool_cases, not_both, in_without, without_has, in_more, more_has, more_has_last, distinct_without, distinct_more}
+use Rattle.city_model.proofs.Ids.{same_id_itself, same_id_back, by_id}
+use Rattle.city_model.proofs.IdLists.{not_both, in_without, without_has, in_more, more_has, more_has_last, distinct_without, distinct_more}
 
 -- the parents of each id, or its children
 abbrev pub Relatives : Type 0
@@ -21,22 +21,8 @@ pub record AreAgreed (parents children : Relatives) : Type 0 where
 abbrev pub set_at : Relatives → List ℕ → List (List ℕ) → Relatives
 set_at of id ids = λ q. if same_id id q then ids else of q
 
-set_there : (of : Relatives) (id : List ℕ) (ids : List (List ℕ)) (q : List ℕ) → same_id id q ≡ true → set_at of id ids q ≡ ids
-set_there of id ids q h = ap (λ b. if b then ids else of q) h
-
-set_apart : (of : Relatives) (id : List ℕ) (ids : List (List ℕ)) (q : List ℕ) → same_id id q ≡ false → set_at of id ids q ≡ of q
-set_apart of id ids q h = ap (λ b. if b then ids else of q) h
-
 set_distinct : (of : Relatives) (id : List ℕ) (ids : List (List ℕ)) → ((q : List ℕ) → AreDistinct (of q)) → AreDistinct ids → (q : List ℕ) → AreDistinct (set_at of id ids q)
-set_distinct of id ids all here q = bool_cases (same_id id q)
-    (λ e. subst AreDistinct (sym (set_there of id ids q e)) here)
-    (λ e. subst AreDistinct (sym (set_apart of id ids q e)) (all q))
-
-pub has_there : (of : Relatives) (id : List ℕ) (ids : List (List ℕ)) (q x : List ℕ) → same_id id q ≡ true → has_id (set_at of id ids q) x ≡ has_id ids x
-has_there of id ids q x h = ap (λ ks. has_id ks x) (set_there of id ids q h)
-
-pub has_apart : (of : Relatives) (id : List ℕ) (ids : List (List ℕ)) (q x : List ℕ) → same_id id q ≡ false → has_id (set_at of id ids q) x ≡ has_id (of q) x
-has_apart of id ids q x h = ap (λ ks. has_id ks x) (set_apart of id ids q h)
+set_distinct of id ids all here q = by_id id q (λ is. rw (← is, same_id_itself id) here) (λ apart. rw apart (all q))
 
 -- relatives that are the same at each id agree too
 pub agreed_as : (parents children others young : Relatives) → ((q : List ℕ) → others q ≡ parents q) → ((q : List ℕ) → young q ≡ children q) → AreAgreed parents children → AreAgreed others young
@@ -48,23 +34,19 @@ agreed_as parents children others young e f a =
 -- a parent in a list with one more is an old one or that one
 pub one_more : {A : Type 0} (parents : Relatives) (child parent id p : List ℕ) → has_id (set_at parents child (parents child ++ parent ∷ []) id) p ≡ true
     → (has_id (parents id) p ≡ true → A) → (child ≡ id → parent ≡ p → A) → A
-one_more parents child parent id p h old new = bool_cases (same_id child id)
-    (λ e. bool_cases (same_id p parent)
-    (λ f. new (same_id_true child id e) (sym (same_id_true p parent f)))
-    (λ f. old (ap (λ k. has_id (parents k) p) (sym (same_id_true child id e))
-    ∙ in_more (parents child) parent p (sym (has_there parents child (parents child ++ parent ∷ []) id p e) ∙ h) f)))
-    (λ e. old (sym (has_apart parents child (parents child ++ parent ∷ []) id p e) ∙ h))
+one_more parents child parent id p = by_id child id
+    (λ is. rw (← is, same_id_itself child) (λ h old new. by_id p parent (λ last. new refl (sym last)) (λ apart. old (in_more (parents child) parent p h apart))))
+    (λ apart. rw apart (λ h old new. old h))
 
 pub one_less : (parents : Relatives) (child parent id p : List ℕ) → has_id (set_at parents child (without_id parent (parents child)) id) p ≡ true → has_id (parents id) p ≡ true
-one_less parents child parent id p h = bool_cases (same_id child id)
-    (λ e. ap (λ k. has_id (parents k) p) (sym (same_id_true child id e))
-    ∙ (in_without parent (parents child) p (sym (has_there parents child (without_id parent (parents child)) id p e) ∙ h)).1)
-    (λ e. sym (has_apart parents child (without_id parent (parents child)) id p e) ∙ h)
+one_less parents child parent id p = by_id child id
+    (λ is. rw (← is, same_id_itself child) (λ h. (in_without parent (parents child) p h).1))
+    (λ apart. rw apart (λ h. h))
 
 pub none_there : (parents : Relatives) (gone id p : List ℕ) → has_id (set_at parents gone [] id) p ≡ true → has_id (parents id) p ≡ true
-none_there parents gone id p h = bool_cases (same_id gone id)
-    (λ e. absurd (false≢true (sym (has_there parents gone [] id p e) ∙ h)))
-    (λ e. sym (has_apart parents gone [] id p e) ∙ h)
+none_there parents gone id p = by_id gone id
+    (λ is. rw (← is, same_id_itself gone) (λ h. absurd (false≢true h)))
+    (λ apart. rw apart (λ h. h))
 
 module _ (parents children : Relatives) (a : AreAgreed parents children) where
   -- ---- an object without children goes
@@ -73,20 +55,18 @@ module _ (parents children : Relatives) (a : AreAgreed parents children) where
   agreed_deleted id none = record {
     parents_once = set_distinct parents id [] a.parents_once tt;
     children_once = set_distinct (λ q. without_id id (children q)) id [] (λ q. distinct_without id (children q) (a.children_once q)) tt;
-    parents_know_it = λ d p h. bool_cases (same_id id d)
-        (λ e. absurd (false≢true (sym (has_there parents id [] d p e) ∙ h)))
-        (λ e.
-        let old = a.parents_know_it d p (sym (has_apart parents id [] d p e) ∙ h) in (
+    parents_know_it = λ d p. by_id id d
+        (λ is. rw (← is, same_id_itself id) (λ h. absurd (false≢true h)))
+        (λ apart. rw apart (λ h.
+        let old = a.parents_know_it d p h in (
           old.0,
-          bool_cases (same_id id p)
-              (λ f. absurd (false≢true (ap (λ ks. has_id ks d) (sym none ∙ ap children (same_id_true id p f)) ∙ old.1)))
-              (λ f. has_apart (λ q. without_id id (children q)) id [] p d f ∙ without_has id (children p) d e old.1),
-        ));
-    children_know_it = λ q d h. bool_cases (same_id id q)
-        (λ e. absurd (false≢true (sym (has_there (λ r. without_id id (children r)) id [] q d e) ∙ h)))
-        (λ e.
-        let old = in_without id (children q) d (sym (has_apart (λ r. without_id id (children r)) id [] q d e) ∙ h) in
-        has_apart parents id [] d q old.0 ∙ a.children_know_it q d old.1);
+          by_id id p
+              (λ is. absurd (false≢true (ap (λ ks. has_id ks d) (sym none ∙ ap children is) ∙ old.1)))
+              (λ other. rw other (without_has id (children p) d apart old.1)),
+        )));
+    children_know_it = λ q d. by_id id q
+        (λ is. rw (← is, same_id_itself id) (λ h. absurd (false≢true h)))
+        (λ apart. rw apart (λ h. let old = in_without id (children q) d h in rw old.0 (a.children_know_it q d old.1)));
   }
 
   -- ---- a child gets a parent
@@ -102,51 +82,37 @@ module _ (parents children : Relatives) (a : AreAgreed parents children) where
     new_child = false_from_ne_true (has_id (children parent) child) (λ t. not_both (has_id (parents child) parent) (a.children_know_it parent child t) new)
 
     parents_stay : (q x : List ℕ) → has_id (parents q) x ≡ true → has_id (more_parents q) x ≡ true
-    parents_stay q x h = bool_cases (same_id child q)
-        (λ e. has_there parents child (parents child ++ parent ∷ []) q x e
-        ∙ more_has (parents child) parent x (ap (λ k. has_id (parents k) x) (same_id_true child q e) ∙ h))
-        (λ e. has_apart parents child (parents child ++ parent ∷ []) q x e ∙ h)
+    parents_stay q x = by_id child q (λ is. rw (← is, same_id_itself child) (more_has (parents child) parent x)) (λ other. rw other (λ h. h))
 
     children_stay : (q x : List ℕ) → has_id (children q) x ≡ true → has_id (more_children q) x ≡ true
-    children_stay q x h = bool_cases (same_id parent q)
-        (λ e. has_there children parent (children parent ++ child ∷ []) q x e
-        ∙ more_has (children parent) child x (ap (λ k. has_id (children k) x) (same_id_true parent q e) ∙ h))
-        (λ e. has_apart children parent (children parent ++ child ∷ []) q x e ∙ h)
+    children_stay q x = by_id parent q (λ is. rw (← is, same_id_itself parent) (more_has (children parent) child x)) (λ other. rw other (λ h. h))
 
     child_has : has_id (more_parents child) parent ≡ true
-    child_has = has_there parents child (parents child ++ parent ∷ []) child parent (same_id_itself child)
-        ∙ more_has_last (parents child) parent parent (same_id_itself parent)
+    child_has = rw (same_id_itself child) (more_has_last (parents child) parent parent (same_id_itself parent))
 
     parent_has : has_id (more_children parent) child ≡ true
-    parent_has = has_there children parent (children parent ++ child ∷ []) parent child (same_id_itself parent)
-        ∙ more_has_last (children parent) child child (same_id_itself child)
+    parent_has = rw (same_id_itself parent) (more_has_last (children parent) child child (same_id_itself child))
 
     child_knows : (x : List ℕ) → has_id (parents child ++ parent ∷ []) x ≡ true → (same_id x child ≡ false) × (has_id (more_children x) child ≡ true)
-    child_knows x h = bool_cases (same_id x parent)
-        (λ e.
-        let is : parent ≡ x = sym (same_id_true x parent e) in
-        subst (λ y. (same_id y child ≡ false) × (has_id (more_children y) child ≡ true)) is (same_id_back parent child ∙ apart, parent_has))
-        (λ e. let old = a.parents_know_it child x (in_more (parents child) parent x h e) in (old.0, children_stay x child old.1))
+    child_knows x h = by_id x parent
+        (λ is. rw is (same_id_back parent child ∙ apart, parent_has))
+        (λ other. let old = a.parents_know_it child x (in_more (parents child) parent x h other) in (old.0, children_stay x child old.1))
 
     parent_knows : (x : List ℕ) → has_id (children parent ++ child ∷ []) x ≡ true → has_id (more_parents x) parent ≡ true
-    parent_knows x h = bool_cases (same_id x child)
-        (λ e. subst (λ y. has_id (more_parents y) parent ≡ true) (sym (same_id_true x child e)) child_has)
-        (λ e. parents_stay x parent (a.children_know_it parent x (in_more (children parent) child x h e)))
+    parent_knows x h = by_id x child
+        (λ is. rw is child_has)
+        (λ other. parents_stay x parent (a.children_know_it parent x (in_more (children parent) child x h other)))
 
     pub agreed_attached : AreAgreed more_parents more_children
     agreed_attached = record {
       parents_once = set_distinct parents child (parents child ++ parent ∷ []) a.parents_once (distinct_more (parents child) parent (a.parents_once child) new);
       children_once = set_distinct children parent (children parent ++ child ∷ []) a.children_once (distinct_more (children parent) child (a.children_once parent) new_child);
-      parents_know_it = λ d p h. bool_cases (same_id child d)
-          (λ e. subst (λ q. (same_id p q ≡ false) × (has_id (more_children p) q ≡ true)) (same_id_true child d e)
-          (child_knows p (sym (has_there parents child (parents child ++ parent ∷ []) d p e) ∙ h)))
-          (λ e.
-          let old = a.parents_know_it d p (sym (has_apart parents child (parents child ++ parent ∷ []) d p e) ∙ h) in
-          (old.0, children_stay p d old.1));
-      children_know_it = λ q d h. bool_cases (same_id parent q)
-          (λ e. subst (λ p. has_id (more_parents d) p ≡ true) (same_id_true parent q e)
-          (parent_knows d (sym (has_there children parent (children parent ++ child ∷ []) q d e) ∙ h)))
-          (λ e. parents_stay d q (a.children_know_it q d (sym (has_apart children parent (children parent ++ child ∷ []) q d e) ∙ h)));
+      parents_know_it = λ d p. by_id child d
+          (λ is. rw (← is, same_id_itself child) (child_knows p))
+          (λ other. rw other (λ h. let old = a.parents_know_it d p h in (old.0, children_stay p d old.1)));
+      children_know_it = λ q d. by_id parent q
+          (λ is. rw (← is, same_id_itself parent) (parent_knows d))
+          (λ other. rw other (λ h. parents_stay d q (a.children_know_it q d h)));
     }
 
   -- ---- a child loses a parent
@@ -160,40 +126,32 @@ module _ (parents children : Relatives) (a : AreAgreed parents children) where
 
     -- the child is no child of another's that it loses
     children_but_it : (q d : List ℕ) → same_id child d ≡ false → has_id (children q) d ≡ true → has_id (less_children q) d ≡ true
-    children_but_it q d other h = bool_cases (same_id parent q)
-        (λ e. has_there children parent (without_id child (children parent)) q d e
-        ∙ without_has child (children parent) d other (ap (λ k. has_id (children k) d) (same_id_true parent q e) ∙ h))
-        (λ e. has_apart children parent (without_id child (children parent)) q d e ∙ h)
+    children_but_it q d other = by_id parent q
+        (λ is. rw (← is, same_id_itself parent) (without_has child (children parent) d other))
+        (λ apart. rw apart (λ h. h))
 
     parents_but_it : (d q : List ℕ) → same_id parent q ≡ false → has_id (parents d) q ≡ true → has_id (less_parents d) q ≡ true
-    parents_but_it d q other h = bool_cases (same_id child d)
-        (λ e. has_there parents child (without_id parent (parents child)) d q e
-        ∙ without_has parent (parents child) q other (ap (λ k. has_id (parents k) q) (same_id_true child d e) ∙ h))
-        (λ e. has_apart parents child (without_id parent (parents child)) d q e ∙ h)
+    parents_but_it d q other = by_id child d
+        (λ is. rw (← is, same_id_itself child) (without_has parent (parents child) q other))
+        (λ apart. rw apart (λ h. h))
 
     child_still_knows : (x : List ℕ) → has_id (without_id parent (parents child)) x ≡ true → (same_id x child ≡ false) × (has_id (less_children x) child ≡ true)
     child_still_knows x h =
         let kept = in_without parent (parents child) x h in
         let old = a.parents_know_it child x kept.1 in
-        (old.0, has_apart children parent (without_id child (children parent)) x child kept.0 ∙ old.1)
+        (old.0, rw kept.0 old.1)
 
     parent_still_knows : (x : List ℕ) → has_id (without_id child (children parent)) x ≡ true → has_id (less_parents x) parent ≡ true
-    parent_still_knows x h =
-        let kept = in_without child (children parent) x h in
-        has_apart parents child (without_id parent (parents child)) x parent kept.0 ∙ a.children_know_it parent x kept.1
+    parent_still_knows x h = let kept = in_without child (children parent) x h in rw kept.0 (a.children_know_it parent x kept.1)
 
     pub agreed_detached : AreAgreed less_parents less_children
     agreed_detached = record {
       parents_once = set_distinct parents child (without_id parent (parents child)) a.parents_once (distinct_without parent (parents child) (a.parents_once child));
       children_once = set_distinct children parent (without_id child (children parent)) a.children_once (distinct_without child (children parent) (a.children_once parent));
-      parents_know_it = λ d p h. bool_cases (same_id child d)
-          (λ e. subst (λ q. (same_id p q ≡ false) × (has_id (less_children p) q ≡ true)) (same_id_true child d e)
-          (child_still_knows p (sym (has_there parents child (without_id parent (parents child)) d p e) ∙ h)))
-          (λ e.
-          let old = a.parents_know_it d p (sym (has_apart parents child (without_id parent (parents child)) d p e) ∙ h) in
-          (old.0, children_but_it p d e old.1));
-      children_know_it = λ q d h. bool_cases (same_id parent q)
-          (λ e. subst (λ p. has_id (less_parents d) p ≡ true) (same_id_true parent q e)
-          (parent_still_knows d (sym (has_there children parent (without_id child (children parent)) q d e) ∙ h)))
-          (λ e. parents_but_it d q e (a.children_know_it q d (sym (has_apart children parent (without_id child (children parent)) q d e) ∙ h)));
+      parents_know_it = λ d p. by_id child d
+          (λ is. rw (← is, same_id_itself child) (child_still_knows p))
+          (λ apart. rw apart (λ h. let old = a.parents_know_it d p h in (old.0, children_but_it p d apart old.1)));
+      children_know_it = λ q d. by_id parent q
+          (λ is. rw (← is, same_id_itself parent) (parent_still_knows d))
+          (λ apart. rw apart (λ h. parents_but_it d q apart (a.children_know_it q d h)));
     }

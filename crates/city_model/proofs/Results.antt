@@ -16,7 +16,7 @@ use Rattle.city_model.specs.declared.end.Outcome.{Outcome}
 use Rattle.city_model.specs.CityMap.{CityMap}
 use Rattle.city_model.specs.Relations.{IsLeastOrphan, HasNoOrphan}
 use Rattle.city_model.specs.Meaning.{after}
-use Rattle.city_model.specs.Runs.{Scripted, Refuses, EndsAt, Continues, EndsFrom, HasResult, map_left, commands_of, IsEndOf, FitsFrom, Fits}
+use Rattle.city_model.specs.Runs.{Scripted, Refuses, EndsAt, Continues, EndsFrom, HasResult, left_by, IsEndOf, FitsFrom, Fits}
 use Rattle.city_model.specs.Scripts.{is_end}
 use Rattle.city_model.specs.SerialEnds.{is_no_memory, IsSerialFrom}
 
@@ -136,9 +136,9 @@ ends_from scripts m k [] (y ∷ fs) o h g = absurd o
 ends_from scripts m k (x ∷ es) [] o h g = absurd o
 ends_from scripts m k (x ∷ es) (y ∷ fs) o h g =
     let first : x ≡ y = end_of_script_is_unique scripts m k x y o.0 o.1 o.2 o.3 h.0 g.0 in
-    let same : map_left m (commands_of (slice_get scripts x.script)) x.outcome ≡ map_left m (commands_of (slice_get scripts y.script)) y.outcome =
-    ap (λ (z : End). map_left m (commands_of (slice_get scripts z.script)) z.outcome) first in
-    let rest : es ≡ fs = ends_from scripts (map_left m (commands_of (slice_get scripts y.script)) y.outcome) (k + 1) es fs o.4
+    let same : left_by scripts m x ≡ left_by scripts m y =
+    ap (λ (z : End). left_by scripts m z) first in
+    let rest : es ≡ fs = ends_from scripts (left_by scripts m y) (k + 1) es fs o.4
     (subst (λ (n : CityMap). FitsFrom scripts n (k + 1) es) same h.2) g.2 in
     ap (λ z. z ∷ es) first ∙ ap (λ zs. y ∷ zs) rest
 

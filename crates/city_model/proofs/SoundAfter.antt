@@ -12,8 +12,7 @@ use Rattle.city_model.specs.CityMap.{CityMap, same_id, has_id, changed, parents_
 use Rattle.city_model.specs.Meaning.{with_body, put_cause, delete_cause, attach_cause, detach_cause, is_wrong_family, without_id, without_child, without_parent, with_child, with_parent, deleted, attached, detached, cause_of, effect_of, map_unless, after}
 use Rattle.city_model.specs.Shells.{body_fault}
 use Rattle.city_model.specs.Relations.{is_second_level, same_type, same_family, IsSound}
-use Rattle.city_model.proofs.Changed.{changed_apart, changed_there}
-use Rattle.city_model.proofs.Ids.{same_id_true, same_id_back}
+use Rattle.city_model.proofs.Ids.{same_id_itself, same_id_back, by_id}
 use Rattle.city_model.proofs.IdLists.{bool_cases}
 use Rattle.city_model.proofs.Relatives.{set_at, agreed_as, one_more, one_less, none_there, agreed_deleted, agreed_attached, agreed_detached}
 use Rattle.city_model.proofs.Soundness.{AreInAgreement, HasNoFault, SameKinds, HasTiesOf, IsRightTie, sound_agrees, sound_has_no_fault, sound_has_right_ties, sound_by_ties}
@@ -49,9 +48,9 @@ mapped f keep (Some o) q e = let same : q ≡ f o = cc in (o, refl, ap (λ (x : 
 -- ---- Delete
 
 deleted_bodies : (m : CityMap) (id : List ℕ) → SameBodies m (deleted m id)
-deleted_bodies m id q o e = bool_cases (same_id id q)
-    (λ t. let gone : None ≡ Some o = sym (changed_there (λ r. option_map (without_child id) (m r)) id None q t) ∙ e in cc)
-    (λ t. mapped (without_child id) (λ x. refl) (m q) o (sym (changed_apart (λ r. option_map (without_child id) (m r)) id None q t) ∙ e))
+deleted_bodies m id q o = by_id id q
+    (λ is. rw (← is, same_id_itself id) (λ e. cc))
+    (λ apart. rw apart (mapped (without_child id) (λ x. refl) (m q) o))
 
 deleted_parents : (b : Bool) (id : List ℕ) (w : Option Object) → parents_of (if b then None else option_map (without_child id) w) ≡ (if b then [] else parents_of w)
 deleted_parents true id w = refl
@@ -87,17 +86,9 @@ two_changed m child parent f g = changed (changed m child (option_map f (m child
 
 module _ (m : CityMap) (child parent : List ℕ) (f g : Object → Object) where
   two_bodies : ((o : Object) → (f o).body ≡ o.body) → ((o : Object) → (g o).body ≡ o.body) → SameBodies m (two_changed m child parent f g)
-  two_bodies of_f of_g q o e = bool_cases (same_id parent q)
-      (λ t.
-      let old = mapped g of_g (m parent) o (sym (changed_there (changed m child (option_map f (m child))) parent (option_map g (m parent)) q t) ∙ e) in
-      (old.0, ap m (sym (same_id_true parent q t)) ∙ old.1, old.2))
-      (λ t.
-      let k : changed m child (option_map f (m child)) q ≡ Some o = sym (changed_apart (changed m child (option_map f (m child))) parent (option_map g (m parent)) q t) ∙ e in
-      bool_cases (same_id child q)
-      (λ u.
-      let old = mapped f of_f (m child) o (sym (changed_there m child (option_map f (m child)) q u) ∙ k) in
-      (old.0, ap m (sym (same_id_true child q u)) ∙ old.1, old.2))
-      (λ u. (o, sym (changed_apart m child (option_map f (m child)) q u) ∙ k, refl)))
+  two_bodies of_f of_g q o = by_id parent q
+      (λ is. rw (← is, same_id_itself parent) (mapped g of_g (m parent) o))
+      (λ apart. rw apart (by_id child q (λ is. rw (← is, same_id_itself child) (mapped f of_f (m child) o)) (λ other. rw other (λ e. (o, e, refl)))))
 
   pick : (b : Bool) (x y : Option Object) → parents_of (if b then x else y) ≡ (if b then parents_of x else parents_of y)
   pick true x y = refl
@@ -105,28 +96,15 @@ module _ (m : CityMap) (child parent : List ℕ) (f g : Object → Object) where
 
   two_parents : same_id child parent ≡ false → parents_of (option_map g (m parent)) ≡ parents_of (m parent) → (q : List ℕ)
       → parents_of (two_changed m child parent f g q) ≡ set_at (λ r. parents_of (m r)) child (parents_of (option_map f (m child))) q
-  two_parents apart same q = bool_cases (same_id parent q)
-      (λ t.
-      let is : parent ≡ q = same_id_true parent q t in
-      let other : same_id child q ≡ false = ap (same_id child) (sym is) ∙ apart in
-      ap parents_of (changed_there (changed m child (option_map f (m child))) parent (option_map g (m parent)) q t)
-      ∙ same ∙ ap (λ k. parents_of (m k)) is ∙ sym (ap (λ b. if b then parents_of (option_map f (m child)) else parents_of (m q)) other))
-      (λ t.
-      ap parents_of (changed_apart (changed m child (option_map f (m child))) parent (option_map g (m parent)) q t)
-      ∙ pick (same_id child q) (option_map f (m child)) (m q))
+  two_parents apart same q = by_id parent q
+      (λ is. rw (← is, same_id_itself parent, apart) same)
+      (λ other. rw other (pick (same_id child q) (option_map f (m child)) (m q)))
 
   two_children : children_of (option_map f (m child)) ≡ children_of (m child) → (q : List ℕ)
       → children_of (two_changed m child parent f g q) ≡ set_at (λ r. children_of (m r)) parent (children_of (option_map g (m parent))) q
-  two_children same q = bool_cases (same_id parent q)
-      (λ t.
-      ap children_of (changed_there (changed m child (option_map f (m child))) parent (option_map g (m parent)) q t)
-      ∙ sym (ap (λ b. if b then children_of (option_map g (m parent)) else children_of (m q)) t))
-      (λ t.
-      ap children_of (changed_apart (changed m child (option_map f (m child))) parent (option_map g (m parent)) q t)
-      ∙ bool_cases (same_id child q)
-      (λ u. ap children_of (changed_there m child (option_map f (m child)) q u) ∙ same ∙ ap (λ k. children_of (m k)) (same_id_true child q u))
-      (λ u. ap children_of (changed_apart m child (option_map f (m child)) q u))
-      ∙ sym (ap (λ b. if b then children_of (option_map g (m parent)) else children_of (m q)) t))
+  two_children same q = by_id parent q
+      (λ is. rw (← is, same_id_itself parent) refl)
+      (λ apart. rw apart (by_id child q (λ is. rw (← is, same_id_itself child) same) (λ other. rw other refl)))
 
 with_child_parents : (id : List ℕ) (w : Option Object) → parents_of (option_map (with_child id) w) ≡ parents_of w
 with_child_parents id None = refl
@@ -213,38 +191,24 @@ module _ (m : CityMap) (s : IsSound m) (id : List ℕ) (body : Body) (done : cau
   put = changed m id (Some (with_body body (m id)))
 
   same_parents : (q : List ℕ) → parents_of (put q) ≡ parents_of (m q)
-  same_parents q = bool_cases (same_id id q)
-      (λ t. ap parents_of (changed_there m id (Some (with_body body (m id))) q t) ∙ put_parents body (m id) ∙ ap (λ k. parents_of (m k)) (same_id_true id q t))
-      (λ t. ap parents_of (changed_apart m id (Some (with_body body (m id))) q t))
+  same_parents q = by_id id q (λ is. rw (← is, same_id_itself id) (put_parents body (m id))) (λ apart. rw apart refl)
 
   same_children : (q : List ℕ) → children_of (put q) ≡ children_of (m q)
-  same_children q = bool_cases (same_id id q)
-      (λ t. ap children_of (changed_there m id (Some (with_body body (m id))) q t) ∙ put_children body (m id) ∙ ap (λ k. children_of (m k)) (same_id_true id q t))
-      (λ t. ap children_of (changed_apart m id (Some (with_body body (m id))) q t))
+  same_children q = by_id id q (λ is. rw (← is, same_id_itself id) (put_children body (m id))) (λ apart. rw apart refl)
 
-  put_body : (q : List ℕ) (o : Object) → same_id id q ≡ true → put q ≡ Some o → o.body ≡ body
-  put_body q o t e =
-      let is : Some (with_body body (m id)) ≡ Some o = sym (changed_there m id (Some (with_body body (m id))) q t) ∙ e in
-      let same : o ≡ with_body body (m id) = cc in
-      ap (λ (x : Object). x.body) same ∙ new_body body (m id)
-
-  put_other : (q : List ℕ) (o : Object) → same_id id q ≡ false → put q ≡ Some o → m q ≡ Some o
-  put_other q o t e = sym (changed_apart m id (Some (with_body body (m id))) q t) ∙ e
+  body_put : (o : Object) → Some (with_body body (m id)) ≡ Some o → o.body ≡ body
+  body_put o now = let same : o ≡ with_body body (m id) = cc in ap (λ (x : Object). x.body) same ∙ new_body body (m id)
 
   put_kinds : SameKinds m put
-  put_kinds q o n is at = bool_cases (same_id id q)
-      (λ t.
-      let here : m id ≡ Some o = ap m (same_id_true id q t) ∙ is in
-      ap (λ (b : Body). b.kind) (put_body q n t at) ∙ put_kind id body o (body_fault body) (ap (λ w. put_cause id body w (body_fault body)) (sym here) ∙ done))
-      (λ t.
-      let both : Some o ≡ Some n = sym is ∙ put_other q n t at in
-      let same : n ≡ o = cc in
-      ap (λ (x : Object). x.body.kind) same)
+  put_kinds q o n = by_id id q
+      (λ is. rw (← is, same_id_itself id) (λ was now.
+      ap (λ (b : Body). b.kind) (body_put n now) ∙ put_kind id body o (body_fault body) (ap (λ w. put_cause id body w (body_fault body)) (sym was) ∙ done)))
+      (λ apart. rw apart (λ was now. let same : n ≡ o = let both : Some n ≡ Some o = sym now ∙ was in cc in ap (λ (x : Object). x.body.kind) same))
 
   put_faultless : HasNoFault put
-  put_faultless q o e = bool_cases (same_id id q)
-      (λ t. ap body_fault (put_body q o t e) ∙ put_bodies_fault id body (m id) (body_fault body) done)
-      (λ t. sound_has_no_fault m s q o (put_other q o t e))
+  put_faultless q o = by_id id q
+      (λ is. rw (← is, same_id_itself id) (λ now. ap body_fault (body_put o now) ∙ put_bodies_fault id body (m id) (body_fault body) done))
+      (λ apart. rw apart (sound_has_no_fault m s q o))
 
   sound_put : IsSound put
   sound_put = sound_by_ties m put put_kinds

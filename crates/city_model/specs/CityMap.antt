@@ -1,22 +1,36 @@
 -- A city as a map: what each id stands for (CityJSON 2.0, section 2, `CityObjects`).
-use Rattle.std.specs.Prelude.{ℕ, List, [], Bool, Option, Some, None, if◌then◌else◌}
+use Rattle.std.specs.Prelude.{ℕ, List, [], Bool, Option, Some, None}
 use Rattle.std.specs.List.{list_any}
 use Rattle.std.specs.Ordering.{nat_cmp, is_eq}
 use Rattle.std.specs.Cmp.Lexicographic.{slice_cmp}
-use Rattle.std.specs.Map.{lookup}
+use Rattle.std.specs.FinMap.{FinMap, get}
+use Rattle.std.specs.Map.{lookup, update}
 use Rattle.std.specs.BTreeMap.{is_at}
+use Rattle.city_model.specs.declared.frame.Frame.{Frame}
 use Rattle.city_model.specs.declared.object.Object.{Object}
 
--- the objects by their ids, in byte order, as a city holds them
-abbrev pub Entries : Type 0
-Entries = List (List ℕ × Object)
+-- a finite map from ids, in byte order, to objects
+abbrev pub Objects : Type 0
+Objects = FinMap (slice_cmp nat_cmp) Object
+
+-- what a city is: a frame, and the objects by their ids
+abbrev pub CityValue : Type 0
+CityValue = Frame × Objects
 
 -- what each id stands for
 abbrev pub CityMap : Type 0
 CityMap = List ℕ → Option Object
 
-abbrev pub at : Entries → CityMap
-at es id = lookup (is_at (slice_cmp nat_cmp id)) es
+abbrev pub at : Objects → CityMap
+at objects id = get objects id
+
+-- ids and objects as a text lists them, in any order
+abbrev pub Entries : Type 0
+Entries = List (List ℕ × Object)
+
+-- what an id stands for in a list: the first of its objects
+abbrev pub found_in : Entries → CityMap
+found_in es id = lookup (is_at (slice_cmp nat_cmp id)) es
 
 abbrev pub same_id : List ℕ → List ℕ → Bool
 same_id id other = is_eq (slice_cmp nat_cmp id other)
@@ -26,7 +40,7 @@ has_id ids id = list_any (same_id id) ids
 
 -- the map with another object, or none, at an id
 abbrev pub changed : CityMap → List ℕ → Option Object → CityMap
-changed m id object = λ q. if same_id id q then object else m q
+changed m id object = update same_id m id object
 
 abbrev pub parents_of : Option Object → List (List ℕ)
 parents_of None = []

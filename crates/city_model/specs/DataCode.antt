@@ -5,7 +5,8 @@ use Rattle.std.proofs.Common.{ap, sym, ◌∙◌}
 use Rattle.std.proofs.lemmas.List.{append_assoc, append-nil}
 use Rattle.std.specs.Coded.{Coded, code_by, coded×, coded_ℕ, coded_ℤ, coded_list}
 use base.Stored.{coded_float}
-use Rattle.serde_json.specs.Data.{unsigned, negative, float, Data, null, boolean, number, string, array, object, Items, no_items, item, Members, no_members, member}
+use Rattle.serde_json.specs.Data.{unsigned, negative, float, Data, null, boolean, number, string, array}
+use Rattle.serde_json.specs.Data.{object, Items, no_items, item, Members, no_members, member}
 
 -- a token: its kind, and what it carries
 abbrev pub Token : Type 0
@@ -58,10 +59,18 @@ push_member k _ = []
 
 abbrev pub step : Token → List Node → List Node
 step t st =
-    cond (t.0 == 0) (D null ∷ st) (cond (t.0 == 1) (D (boolean true) ∷ st) (cond (t.0 == 2) (D (boolean false) ∷ st)
-    (cond (t.0 == 3) (D (number (unsigned t.1.0)) ∷ st) (cond (t.0 == 4) (D (number (negative t.1.1.1.0)) ∷ st) (cond (t.0 == 5) (D (number (float t.1.1.1.1)) ∷ st)
-    (cond (t.0 == 6) (D (string t.1.1.0) ∷ st) (cond (t.0 == 7) (push_array st) (cond (t.0 == 8) (push_object st)
-    (cond (t.0 == 9) (I no_items ∷ st) (cond (t.0 == 10) (push_item st) (cond (t.0 == 11) (M no_members ∷ st) (push_member t.1.1.0 st))))))))))))
+    cond (t.0 == 0) (D null ∷ st)
+    (cond (t.0 == 1) (D (boolean true) ∷ st)
+    (cond (t.0 == 2) (D (boolean false) ∷ st)
+    (cond (t.0 == 3) (D (number (unsigned t.1.0)) ∷ st)
+    (cond (t.0 == 4) (D (number (negative t.1.1.1.0)) ∷ st)
+    (cond (t.0 == 5) (D (number (float t.1.1.1.1)) ∷ st)
+    (cond (t.0 == 6) (D (string t.1.1.0) ∷ st)
+    (cond (t.0 == 7) (push_array st)
+    (cond (t.0 == 8) (push_object st)
+    (cond (t.0 == 9) (I no_items ∷ st)
+    (cond (t.0 == 10) (push_item st)
+    (cond (t.0 == 11) (M no_members ∷ st) (push_member t.1.1.0 st))))))))))))
 
 abbrev pub stack_of : List Token → List Node
 stack_of [] = []
@@ -97,11 +106,14 @@ top_members _ = no_members
 
 pub members_back : (ms : Members) → top_members (stack_of (members_tokens ms)) ≡ ms
 members_back ms =
-    ap (λ ts. top_members (stack_of ts)) (sym (append-nil (members_tokens ms))) ∙ ap top_members (read_members ms [])
+    ap (λ ts. top_members (stack_of ts)) (sym (append-nil (members_tokens ms)))
+    ∙ ap top_members (read_members ms [])
 
 abbrev pub coded_token : Coded Token
 coded_token = coded× coded_ℕ (coded× coded_ℕ (coded× (coded_list coded_ℕ) (coded× coded_ℤ coded_float)))
 
 -- members are stored as their tokens
 abbrev pub coded_members : Coded Members
-coded_members = code_by (List Token) (coded_list coded_token) members_tokens (λ ts. top_members (stack_of ts)) members_back
+coded_members =
+    code_by (List Token) (coded_list coded_token) members_tokens
+    (λ ts. top_members (stack_of ts)) members_back

@@ -1,5 +1,7 @@
--- Which members are kept at each place of a document (CityJSON 2.0, sections 2, 3 and 5: members that this profile doesn't read).
-use Rattle.std.specs.Prelude.{ℕ, List, Bool, true, false, ◌&&◌, ◌||◌, not, Option, Some, None, codes, is_some, is_none}
+-- Which members are kept at each place of a document: those that this profile doesn't read
+-- (CityJSON 2.0, sections 2, 3 and 5).
+use Rattle.std.specs.Prelude.{ℕ, List, Bool, true, false, ◌&&◌, ◌||◌, not, Option, Some, None, codes, is_some}
+use Rattle.std.specs.Prelude.{is_none}
 use Rattle.serde_json.specs.Data.{Data, Items, no_items, item, Members, no_members, member}
 use Rattle.serde_json.specs.Find.{get, get_member, as_array, as_object}
 use Rattle.city_model.specs.Integral.{members_integral}
@@ -45,7 +47,8 @@ has_location (Some d) = is_located d || any_located_in (as_array d)
 
 abbrev pub kept_at_top : Members → Bool
 kept_at_top ms =
-    members_integral ms && lacks_both (codes "type") (codes "version") ms && lacks_both (codes "transform") (codes "CityObjects") ms && lacks (codes "vertices") ms
+    members_integral ms && lacks_both (codes "type") (codes "version") ms
+    && lacks_both (codes "transform") (codes "CityObjects") ms && lacks (codes "vertices") ms
     && is_empty_object_or_absent (get_member (codes "extensions") ms)
 
 abbrev pub kept_at_transform : Members → Bool
@@ -53,8 +56,10 @@ kept_at_transform ms = members_integral ms && lacks_both (codes "scale") (codes 
 
 abbrev pub kept_at_object : Members → Bool
 kept_at_object ms =
-    members_integral ms && lacks_both (codes "type") (codes "geometry") ms && lacks_both (codes "parents") (codes "children") ms
+    members_integral ms && lacks_both (codes "type") (codes "geometry") ms
+    && lacks_both (codes "parents") (codes "children") ms
     && not (has_location (get_member (codes "address") ms))
 
 abbrev pub kept_at_geometry : Members → Bool
-kept_at_geometry ms = members_integral ms && lacks_both (codes "type") (codes "lod") ms && lacks (codes "boundaries") ms
+kept_at_geometry ms =
+    members_integral ms && lacks_both (codes "type") (codes "lod") ms && lacks (codes "boundaries") ms

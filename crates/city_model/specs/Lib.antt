@@ -1,10 +1,13 @@
 pub mod CityMap
 pub mod DataCode
 pub mod Faultless
+pub mod FrameLaw
+pub mod Integral
 pub mod Kept
 pub mod Meaning
 pub mod Members
 pub mod Misrelated
+pub mod Plans
 pub mod RelationTests
 pub mod Relations
 pub mod Runs
@@ -13,4 +16,4 @@ pub mod SerialEnds
 pub mod Shells
 pub mod Standing
 pub mod Types
-pub mod Integral
+pub mod Writing

@@ -1,13 +1,18 @@
 -- What each command means, on the whole map.
-use Rattle.std.specs.Prelude.{◌==◌, ◌||◌, not, ℕ, List, [], ◌∷◌, ◌++◌, length, filter, map, Bool, true, false, Option, Some, None, option_map, if◌then◌else◌}
+use Rattle.std.specs.Prelude.{◌==◌, ◌||◌, not, ℕ, List, [], ◌∷◌, ◌++◌, length, filter, map, Bool, true, false}
+use Rattle.std.specs.Prelude.{Option, Some, None, option_map, if◌then◌else◌}
 use Rattle.city_model.specs.declared.object.Object.{Object}
 use Rattle.city_model.specs.declared.object.Body.{Body}
 use Rattle.city_model.specs.declared.command.Command.{Command}
-use Rattle.city_model.specs.declared.command.Command.TheVariants.{Read, Put, Delete, Attach, Detach, Commit, Abort}
+use Rattle.city_model.specs.declared.command.Command.TheVariants.{Read, Put, Delete, Attach, Detach, Commit}
+use Rattle.city_model.specs.declared.command.Command.TheVariants.{Abort}
 use Rattle.city_model.specs.declared.command.Cause.{Cause}
-use Rattle.city_model.specs.declared.command.Cause.TheVariants.{NoObject, TypeFixed, HasChildren, WrongFamily, AlreadyAttached, NotAttached}
+use Rattle.city_model.specs.declared.command.Cause.TheVariants.{NoObject, TypeFixed, HasChildren, WrongFamily}
+use Rattle.city_model.specs.declared.command.Cause.TheVariants.{AlreadyAttached, NotAttached}
 use Rattle.city_model.specs.declared.command.Reply.{Reply}
-use Rattle.city_model.specs.declared.command.Reply.TheVariants.{Found, Absent, Added, Replaced, Deleted, Attached, Detached, Committed, Aborted, Refused}
+use Rattle.city_model.specs.declared.command.Reply.TheVariants.{Found, Absent, Added, Replaced, Deleted}
+use Rattle.city_model.specs.declared.command.Reply.TheVariants.{Attached, Detached, Committed, Aborted}
+use Rattle.city_model.specs.declared.command.Reply.TheVariants.{Refused}
 use Rattle.city_model.specs.CityMap.{CityMap, same_id, has_id, changed}
 use Rattle.city_model.specs.Relations.{is_second_level, same_type, same_family}
 use Rattle.city_model.specs.Shells.{body_fault}
@@ -64,23 +69,32 @@ with_parent id o = record { body = o.body; parents = o.parents ++ id ∷ []; chi
 
 -- the child can't have this parent
 abbrev pub is_wrong_family : List ℕ → Object → List ℕ → Object → Bool
-is_wrong_family child c parent p = same_id child parent || not (is_second_level c.body.kind) || not (same_family c.body.kind p.body.kind)
+is_wrong_family child child_object parent parent_object =
+    same_id child parent || not (is_second_level child_object.body.kind)
+    || not (same_family child_object.body.kind parent_object.body.kind)
 
 abbrev pub attach_cause : List ℕ → Option Object → List ℕ → Option Object → Option Cause
-attach_cause child None parent p = Some (NoObject child)
-attach_cause child (Some c) parent None = Some (NoObject parent)
-attach_cause child (Some c) parent (Some p) = if is_wrong_family child c parent p then Some WrongFamily else (if has_id c.parents parent then Some AlreadyAttached else None)
+attach_cause child None parent parent_object = Some (NoObject child)
+attach_cause child (Some child_object) parent None = Some (NoObject parent)
+attach_cause child (Some child_object) parent (Some parent_object) =
+    if is_wrong_family child child_object parent parent_object then Some WrongFamily
+    else (if has_id child_object.parents parent then Some AlreadyAttached else None)
 
 abbrev pub detach_cause : List ℕ → Option Object → List ℕ → Option Object → Option Cause
-detach_cause child None parent p = Some (NoObject child)
-detach_cause child (Some c) parent None = Some (NoObject parent)
-detach_cause child (Some c) parent (Some p) = if has_id c.parents parent then None else Some NotAttached
+detach_cause child None parent parent_object = Some (NoObject child)
+detach_cause child (Some child_object) parent None = Some (NoObject parent)
+detach_cause child (Some child_object) parent (Some parent_object) =
+    if has_id child_object.parents parent then None else Some NotAttached
 
 abbrev pub attached : CityMap → List ℕ → List ℕ → CityMap
-attached m child parent = changed (changed m child (option_map (with_parent parent) (m child))) parent (option_map (with_child child) (m parent))
+attached m child parent =
+    changed (changed m child (option_map (with_parent parent) (m child)))
+    parent (option_map (with_child child) (m parent))
 
 abbrev pub detached : CityMap → List ℕ → List ℕ → CityMap
-detached m child parent = changed (changed m child (option_map (without_parent parent) (m child))) parent (option_map (without_child child) (m parent))
+detached m child parent =
+    changed (changed m child (option_map (without_parent parent) (m child)))
+    parent (option_map (without_child child) (m parent))
 
 -- ---- every command
 
@@ -122,6 +136,18 @@ abbrev pub refused_or : Option Cause → Reply → Reply
 refused_or (Some cause) reply = Refused cause
 refused_or None reply = reply
 
+abbrev pub is_refusal : Reply → Bool
+is_refusal (Refused cause) = true
+is_refusal (Found object) = false
+is_refusal Absent = false
+is_refusal Added = false
+is_refusal Replaced = false
+is_refusal Deleted = false
+is_refusal Attached = false
+is_refusal Detached = false
+is_refusal Committed = false
+is_refusal Aborted = false
+
 -- the map after the command; a refusal leaves it
 abbrev pub after : CityMap → Command → CityMap
 after m c = map_unless (cause_of m c) m (effect_of m c)
@@ -130,7 +156,7 @@ after m c = map_unless (cause_of m c) m (effect_of m c)
 abbrev pub reply_to : CityMap → Command → Reply
 reply_to m c = refused_or (cause_of m c) (done_reply m c)
 
--- ---- the locks of a command: ids, and whether the lock is exclusive, in the order in which they are asked for
+-- ---- the locks of a command: ids, and whether the lock is exclusive, in the order of asking
 
 abbrev pub exclusively : List (List ℕ) → List (List ℕ × Bool)
 exclusively ids = map (λ id. (id, true)) ids

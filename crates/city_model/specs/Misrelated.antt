@@ -14,4 +14,6 @@ IsMisrelatedAt m id = (o : Object) × (m id ≡ Some o) × ((IsInOrder m id o �
 -- the least id of such an object, in byte order
 abbrev pub IsLeastMisrelated : CityMap → List ℕ → Type 0
 IsLeastMisrelated m id =
-    IsMisrelatedAt m id × ((q : List ℕ) (o : Object) → slice_cmp nat_cmp q id ≡ Less → m q ≡ Some o → IsInOrder m q o × (is_orphan o ≡ false))
+    IsMisrelatedAt m id
+    × ((q : List ℕ) (o : Object) → slice_cmp nat_cmp q id ≡ Less → m q ≡ Some o
+    → IsInOrder m q o × (is_orphan o ≡ false))

@@ -1,5 +1,6 @@
 -- The relations of an object, as tests that compute.
-use Rattle.std.specs.Prelude.{◌==◌, ◌&&◌, ◌||◌, not, ℕ, List, [], ◌∷◌, length, Bool, true, false, Option, Some, None}
+use Rattle.std.specs.Prelude.{◌==◌, ◌&&◌, ◌||◌, not, ℕ, List, [], ◌∷◌, length, Bool, true, false, Option}
+use Rattle.std.specs.Prelude.{Some, None}
 use Rattle.std.specs.List.{list_all}
 use Rattle.std.specs.Ordering.{nat_cmp, is_lt}
 use Rattle.std.specs.Cmp.Lexicographic.{slice_cmp}
@@ -29,10 +30,12 @@ relatives_once o = are_distinct o.parents && are_distinct o.children
 abbrev pub level_fits : Object → Bool
 level_fits o = is_second_level o.body.kind || (length o.parents == 0)
 
--- what stands at the id p may be a parent of the object: it is there, is another one, has it as a child, and is of its family
+-- what stands at the id p may be a parent of the object: it is there, is another one,
+-- has it as a child, and is of its family
 abbrev pub parent_fits : List ℕ → Object → List ℕ → Option Object → Bool
 parent_fits id o p None = false
-parent_fits id o p (Some q) = not (same_id p id) && has_id q.children id && same_family q.body.kind o.body.kind
+parent_fits id o p (Some q) =
+    not (same_id p id) && has_id q.children id && same_family q.body.kind o.body.kind
 
 abbrev pub parents_fit : CityMap → List ℕ → Object → Bool
 parents_fit m id o = list_all (λ p. parent_fits id o p (m p)) o.parents

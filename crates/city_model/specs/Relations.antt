@@ -1,5 +1,6 @@
 -- Levels, families, parents and children (CityJSON 2.0, section 2).
-use Rattle.std.specs.Prelude.{◌≡◌, ◌==◌, ◌&&◌, ℕ, List, [], ◌∷◌, length, Bool, true, false, Option, Some, None}
+use Rattle.std.specs.Prelude.{◌≡◌, ◌==◌, ◌&&◌, ℕ, List, [], ◌∷◌, length, Bool, true, false, Option, Some}
+use Rattle.std.specs.Prelude.{None}
 use Rattle.std.specs.Str.{bytes_eq}
 use Rattle.std.specs.declared.cmp.Ordering.TheVariants.{Less}
 use Rattle.std.specs.Ordering.{nat_cmp}
@@ -28,10 +29,12 @@ AreDistinct (id ∷ ids) = (has_id ids id ≡ false) × AreDistinct ids
 pub record IsInOrder (m : CityMap) (id : List ℕ) (o : Object) : Type 0 where
   pub parents_once : AreDistinct o.parents
   pub children_once : AreDistinct o.children
-  pub parents_know_it : (p : List ℕ) → has_id o.parents p ≡ true → (same_id p id ≡ false) × (has_id (children_of (m p)) id ≡ true)
+  pub parents_know_it : (p : List ℕ) → has_id o.parents p ≡ true
+      → (same_id p id ≡ false) × (has_id (children_of (m p)) id ≡ true)
   pub children_know_it : (d : List ℕ) → has_id o.children d ≡ true → has_id (parents_of (m d)) id ≡ true
   pub first_level : is_second_level o.body.kind ≡ false → o.parents ≡ []
-  pub one_family : (p : List ℕ) (q : Object) → has_id o.parents p ≡ true → m p ≡ Some q → same_family q.body.kind o.body.kind ≡ true
+  pub one_family : (p : List ℕ) (q : Object) → has_id o.parents p ≡ true → m p ≡ Some q
+      → same_family q.body.kind o.body.kind ≡ true
 
 -- second-level, and without a parent
 abbrev pub is_orphan : Object → Bool
@@ -60,4 +63,6 @@ IsOrphanAt m id = (o : Object) × (m id ≡ Some o) × (is_orphan o ≡ true)
 
 -- the least id of an orphan, in byte order
 abbrev pub IsLeastOrphan : CityMap → List ℕ → Type 0
-IsLeastOrphan m id = IsOrphanAt m id × ((q : List ℕ) (o : Object) → slice_cmp nat_cmp q id ≡ Less → m q ≡ Some o → is_orphan o ≡ false)
+IsLeastOrphan m id =
+    IsOrphanAt m id
+    × ((q : List ℕ) (o : Object) → slice_cmp nat_cmp q id ≡ Less → m q ≡ Some o → is_orphan o ≡ false)

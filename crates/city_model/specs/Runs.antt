@@ -1,5 +1,7 @@
 -- Scripts run one after another, each as a whole.
-use Rattle.std.specs.Prelude.{◌≡◌, ◌≤◌, ◌+◌, ℕ, List, [], ◌∷◌, false, Option, Some, None, slice_get}
+use Rattle.std.specs.Prelude.{◌≡◌, ◌≤◌, ◌==◌, ◌+◌, ℕ, List, [], ◌∷◌, Bool, false, Option, Some, None}
+use Rattle.std.specs.Prelude.{slice_get}
+use Rattle.std.specs.List.{list_any}
 use Rattle.city_model.specs.declared.object.Object.{Object}
 use Rattle.city_model.specs.declared.command.Command.{Command}
 use Rattle.city_model.specs.declared.command.Command.TheVariants.{Commit, Abort}
@@ -21,10 +23,6 @@ Scripted = List ℕ × List Command
 abbrev pub map_after : CityMap → List Command → CityMap
 map_after m [] = m
 map_after m (c ∷ cs) = map_after (after m c) cs
-
-abbrev pub replies_to : CityMap → List Command → List Reply
-replies_to m [] = []
-replies_to m (c ∷ cs) = reply_to m c ∷ replies_to (after m c) cs
 
 -- the command is refused by this cause
 abbrev pub Refuses : CityMap → Command → Cause → Type 0
@@ -48,7 +46,8 @@ EndsFrom m i [] replies outcome = ⊥
 EndsFrom m i (c ∷ cs) [] outcome = EndsAt m c i outcome
 EndsFrom m i (c ∷ cs) (r ∷ rs) outcome = Continues m c r × EndsFrom (after m c) (i + 1) cs rs outcome
 
--- what a script gives at the map m: the replies before its ending command, and how it ends. Want of memory may end it at any command
+-- what a script gives at the map m: the replies before its ending command, and how it ends;
+-- want of memory may end it at any command
 abbrev pub HasResult : CityMap → List Command → List Reply → Outcome → Type 0
 HasResult m commands replies outcome = EndsFrom m 0 commands replies outcome
 
@@ -63,10 +62,14 @@ abbrev pub commands_of : Option Scripted → List Command
 commands_of None = []
 commands_of (Some s) = s.1
 
+-- the map that the script of an end leaves
+abbrev pub left_by : List Scripted → CityMap → End → CityMap
+left_by scripts m e = map_left m (commands_of (slice_get scripts e.script)) e.outcome
+
 -- the map after the scripts that ended so, one at a time, in this order
 abbrev pub model_after : List Scripted → CityMap → List End → CityMap
 model_after scripts m [] = m
-model_after scripts m (e ∷ es) = model_after scripts (map_left m (commands_of (slice_get scripts e.script)) e.outcome) es
+model_after scripts m (e ∷ es) = model_after scripts (left_by scripts m e) es
 
 -- the end, which has this place in the list, is one that its script has at the map m
 pub record IsEndOf (scripts : List Scripted) (m : CityMap) (place : ℕ) (e : End) : Type 0 where
@@ -81,11 +84,15 @@ abbrev pub NoEndOf : ℕ → List End → Type 0
 NoEndOf script [] = Unit {0}
 NoEndOf script (e ∷ es) = (e.script ≡ script → ⊥) × NoEndOf script es
 
+-- whether an end of the list is of this script
+abbrev pub has_end : ℕ → List End → Bool
+has_end script ends = list_any (λ e. e.script == script) ends
+
 -- the ends from this place on are those of scripts run one at a time from the map m, no script twice
 abbrev pub FitsFrom : List Scripted → CityMap → ℕ → List End → Type 0
 FitsFrom scripts m place [] = Unit {0}
 FitsFrom scripts m place (e ∷ es) =
-    IsEndOf scripts m place e × NoEndOf e.script es × FitsFrom scripts (map_left m (commands_of (slice_get scripts e.script)) e.outcome) (place + 1) es
+    IsEndOf scripts m place e × NoEndOf e.script es × FitsFrom scripts (left_by scripts m e) (place + 1) es
 
 abbrev pub Fits : List Scripted → CityMap → List End → Type 0
 Fits scripts m ends = FitsFrom scripts m 0 ends

@@ -1,7 +1,8 @@
 -- Which lists of commands are scripts.
-use Rattle.std.specs.Prelude.{List, [], ◌∷◌, Bool, true, false, if◌then◌else◌}
+use Rattle.std.specs.Prelude.{◌≡◌, ℕ, List, [], ◌∷◌, Bool, true, false, Some, slice_get, if◌then◌else◌}
 use Rattle.city_model.specs.declared.command.Command.{Command}
-use Rattle.city_model.specs.declared.command.Command.TheVariants.{Read, Put, Delete, Attach, Detach, Commit, Abort}
+use Rattle.city_model.specs.declared.command.Command.TheVariants.{Read, Put, Delete, Attach, Detach, Commit}
+use Rattle.city_model.specs.declared.command.Command.TheVariants.{Abort}
 
 abbrev pub is_end : Command → Bool
 is_end (Read id) = false
@@ -20,3 +21,7 @@ is_empty_list (c ∷ cs) = false
 abbrev pub ends_once : List Command → Bool
 ends_once [] = false
 ends_once (c ∷ cs) = if is_end c then is_empty_list cs else ends_once cs
+
+-- each of these names and lists of commands is a script
+abbrev pub AreScripts : List (List ℕ × List Command) → Type 0
+AreScripts scripts = (i : ℕ) (s : List ℕ × List Command) → slice_get scripts i ≡ Some s → ends_once s.1 ≡ true

@@ -1,5 +1,5 @@
--- Ends of scripts that were run one after the other in their order, none of them for want of memory.
-use Rattle.std.specs.Prelude.{◌≡◌, ◌+◌, ℕ, List, [], ◌∷◌, Bool, true, false}
+-- How scripts end: by a commit, for want of memory, and one after the other in their order.
+use Rattle.std.specs.Prelude.{◌≡◌, ◌+◌, ℕ, List, [], ◌∷◌, Bool, true, false, count_by}
 use Rattle.city_model.specs.declared.end.End.{End}
 use Rattle.city_model.specs.declared.end.Outcome.{Outcome}
 
@@ -10,7 +10,19 @@ is_no_memory Outcome.Aborted = false
 is_no_memory (Outcome.Refused i cause) = false
 is_no_memory (Outcome.NoMemory i) = true
 
--- from place k on, the end at each place is that of the script of that number, which began there, and none is for want of memory
+abbrev pub is_commit : Outcome → Bool
+is_commit Outcome.Committed = true
+is_commit Outcome.Aborted = false
+is_commit (Outcome.Refused i cause) = false
+is_commit (Outcome.NoMemory i) = false
+
+-- how many of the ends are commits
+abbrev pub commits_in : List End → ℕ
+commits_in ends = count_by (λ e. is_commit e.outcome) ends
+
+-- from place k on, the end at each place is that of the script of that number, which began there,
+-- and none is for want of memory
 abbrev pub IsSerialFrom : ℕ → List End → Type 0
 IsSerialFrom k [] = Unit {0}
-IsSerialFrom k (e ∷ es) = (e.script ≡ k) × (e.since ≡ k) × (is_no_memory e.outcome ≡ false) × IsSerialFrom (k + 1) es
+IsSerialFrom k (e ∷ es) =
+    (e.script ≡ k) × (e.since ≡ k) × (is_no_memory e.outcome ≡ false) × IsSerialFrom (k + 1) es

@@ -1,5 +1,6 @@
 -- Rings, surfaces and closed shells, over points (CityJSON 2.0, section 3.2).
-use Rattle.std.specs.Prelude.{ℕ, ◌+◌, ◌==◌, ◌&&◌, ◌||◌, not, nat_lt, List, [], ◌∷◌, ◌++◌, Bool, length, take, drop, Option, Some, None, if◌then◌else◌}
+use Rattle.std.specs.Prelude.{ℕ, ◌+◌, ◌==◌, ◌&&◌, ◌||◌, not, nat_lt, List, [], ◌∷◌, ◌++◌, Bool, length, take}
+use Rattle.std.specs.Prelude.{drop, Option, Some, None, if◌then◌else◌}
 use Rattle.std.specs.Ordering.{int_eq}
 use Rattle.std.specs.List.{list_any, list_all, zip}
 use Rattle.city_model.specs.declared.object.Point.{Point}
@@ -110,4 +111,6 @@ some_shape test body = list_any (λ g. test g.shape) body.geometry
 -- the first of the three causes that some geometry has
 abbrev pub body_fault : Body → Option Cause
 body_fault body =
-    if some_shape has_short_ring body then Some ShortRing else (if some_shape has_same_twice body then Some SameTwice else (if some_shape has_open_shell body then Some OpenShell else None))
+    if some_shape has_short_ring body then Some ShortRing
+    else (if some_shape has_same_twice body then Some SameTwice
+    else (if some_shape has_open_shell body then Some OpenShell else None))

@@ -1,5 +1,7 @@
--- The commands of an open transaction stand: from the committed map they get the replies that they got, each under its locks.
-use Rattle.std.specs.Prelude.{◌≡◌, ℕ, List, [], ◌∷◌, Bool, true, false, not, Option, Some, None, map, if◌then◌else◌}
+-- The commands of an open transaction stand: from the committed map they get the replies that they got,
+-- each under its locks.
+use Rattle.std.specs.Prelude.{◌≡◌, ℕ, List, [], ◌∷◌, Bool, true, false, not, Option, Some, None, map}
+use Rattle.std.specs.Prelude.{if◌then◌else◌}
 use Rattle.city_model.specs.declared.command.Command.{Command}
 use Rattle.city_model.specs.declared.command.Reply.{Reply}
 use Rattle.city_model.specs.CityMap.{CityMap, has_id}
@@ -27,10 +29,17 @@ AllHeld held (l ∷ ls) = (covers (held l.0) l.1 ≡ true) × AllHeld held ls
 abbrev pub Answered : Type 0
 Answered = Command × Reply
 
+-- the first of the commands, each with its reply
+abbrev pub answered : List Command → List Reply → List Answered
+answered cs [] = []
+answered [] (r ∷ rs) = []
+answered (c ∷ cs) (r ∷ rs) = (c, r) ∷ answered cs rs
+
 -- from the first map the commands get these replies, each with its locks held, and lead to the second
 abbrev pub Follows : Held → CityMap → List Answered → CityMap → Type 0
-Follows held m [] n = (q : List ℕ) → n q ≡ m q
-Follows held m (d ∷ ds) n = AllHeld held (locks_of m d.0) × (reply_to m d.0 ≡ d.1) × Follows held (after m d.0) ds n
+Follows held m [] n = n ≡ m
+Follows held m (d ∷ ds) n =
+    AllHeld held (locks_of m d.0) × (reply_to m d.0 ≡ d.1) × Follows held (after m d.0) ds n
 
 -- ---- what locks name
 

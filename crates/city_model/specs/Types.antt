@@ -2,7 +2,23 @@
 use Rattle.std.specs.Prelude.{ℕ, List, [], ◌∷◌, Option, Some, None, codes, if◌then◌else◌}
 use Rattle.std.specs.Str.{bytes_eq}
 use Rattle.city_model.specs.declared.object_type.ObjectType.{ObjectType}
-use Rattle.city_model.specs.declared.object_type.ObjectType.TheVariants.{Building, Bridge, Tunnel, CityFurniture, LandUse, OtherConstruction, PlantCover, SolitaryVegetationObject, TINRelief, Road, Railway, Waterway, TransportSquare, WaterBody, GenericCityObject, BuildingPart, BuildingInstallation, BuildingConstructiveElement, BuildingFurniture, BuildingStorey, BuildingRoom, BuildingUnit, BridgePart, BridgeInstallation, BridgeConstructiveElement, BridgeRoom, BridgeFurniture, TunnelPart, TunnelInstallation, TunnelConstructiveElement, TunnelHollowSpace, TunnelFurniture}
+use Rattle.city_model.specs.declared.object_type.ObjectType.TheVariants.{Building, Bridge, Tunnel}
+use Rattle.city_model.specs.declared.object_type.ObjectType.TheVariants.{CityFurniture, LandUse}
+use Rattle.city_model.specs.declared.object_type.ObjectType.TheVariants.{OtherConstruction, PlantCover}
+use Rattle.city_model.specs.declared.object_type.ObjectType.TheVariants.{SolitaryVegetationObject, TINRelief}
+use Rattle.city_model.specs.declared.object_type.ObjectType.TheVariants.{Road, Railway, Waterway}
+use Rattle.city_model.specs.declared.object_type.ObjectType.TheVariants.{TransportSquare, WaterBody}
+use Rattle.city_model.specs.declared.object_type.ObjectType.TheVariants.{GenericCityObject, BuildingPart}
+use Rattle.city_model.specs.declared.object_type.ObjectType.TheVariants.{BuildingInstallation}
+use Rattle.city_model.specs.declared.object_type.ObjectType.TheVariants.{BuildingConstructiveElement}
+use Rattle.city_model.specs.declared.object_type.ObjectType.TheVariants.{BuildingFurniture, BuildingStorey}
+use Rattle.city_model.specs.declared.object_type.ObjectType.TheVariants.{BuildingRoom, BuildingUnit}
+use Rattle.city_model.specs.declared.object_type.ObjectType.TheVariants.{BridgePart, BridgeInstallation}
+use Rattle.city_model.specs.declared.object_type.ObjectType.TheVariants.{BridgeConstructiveElement}
+use Rattle.city_model.specs.declared.object_type.ObjectType.TheVariants.{BridgeRoom, BridgeFurniture}
+use Rattle.city_model.specs.declared.object_type.ObjectType.TheVariants.{TunnelPart, TunnelInstallation}
+use Rattle.city_model.specs.declared.object_type.ObjectType.TheVariants.{TunnelConstructiveElement}
+use Rattle.city_model.specs.declared.object_type.ObjectType.TheVariants.{TunnelHollowSpace, TunnelFurniture}
 
 abbrev pub name_of : ObjectType → List ℕ
 name_of Building = codes "Building"
@@ -39,7 +55,13 @@ name_of TunnelHollowSpace = codes "TunnelHollowSpace"
 name_of TunnelFurniture = codes "TunnelFurniture"
 
 abbrev pub all_types : List ObjectType
-all_types = Building ∷ Bridge ∷ Tunnel ∷ CityFurniture ∷ LandUse ∷ OtherConstruction ∷ PlantCover ∷ SolitaryVegetationObject ∷ TINRelief ∷ Road ∷ Railway ∷ Waterway ∷ TransportSquare ∷ WaterBody ∷ GenericCityObject ∷ BuildingPart ∷ BuildingInstallation ∷ BuildingConstructiveElement ∷ BuildingFurniture ∷ BuildingStorey ∷ BuildingRoom ∷ BuildingUnit ∷ BridgePart ∷ BridgeInstallation ∷ BridgeConstructiveElement ∷ BridgeRoom ∷ BridgeFurniture ∷ TunnelPart ∷ TunnelInstallation ∷ TunnelConstructiveElement ∷ TunnelHollowSpace ∷ TunnelFurniture ∷ []
+all_types =
+    Building ∷ Bridge ∷ Tunnel ∷ CityFurniture ∷ LandUse ∷ OtherConstruction ∷ PlantCover
+    ∷ SolitaryVegetationObject ∷ TINRelief ∷ Road ∷ Railway ∷ Waterway ∷ TransportSquare ∷ WaterBody
+    ∷ GenericCityObject ∷ BuildingPart ∷ BuildingInstallation ∷ BuildingConstructiveElement
+    ∷ BuildingFurniture ∷ BuildingStorey ∷ BuildingRoom ∷ BuildingUnit ∷ BridgePart ∷ BridgeInstallation
+    ∷ BridgeConstructiveElement ∷ BridgeRoom ∷ BridgeFurniture ∷ TunnelPart ∷ TunnelInstallation
+    ∷ TunnelConstructiveElement ∷ TunnelHollowSpace ∷ TunnelFurniture ∷ []
 
 -- the first of the types whose name is s
 abbrev pub first_named : List ℕ → List ObjectType → Option ObjectType

@@ -1,14 +1,10 @@
 //! The city: a frame and a map from ids to objects.
-ghost use Rattle.std.specs.Prelude.{◌≡◌, ◌==◌, ℕ, List, [], Some, None, IfOk, IsOk, IsSome, OnOk, OnErr, length, option_copied};
-ghost use Rattle.std.specs.Ordering.{nat_cmp};
-ghost use Rattle.std.specs.Cmp.Lexicographic.{slice_cmp};
-ghost use Rattle.std.specs.Map.{keys_of, remove_entry};
-ghost use Rattle.std.specs.List.Sorted.{IsStrictlySortedBy};
-ghost use Rattle.std.specs.BTreeMap.{insert_entry, is_at};
+ghost use Rattle.std.specs.Prelude.{◌≡◌, ◌==◌, Some, None, IfOk, IsOk, IsSome, OnOk, OnErr, option_copied};
+ghost use Rattle.std.specs.FinMap.{empty, entries, insert, len, remove};
 ghost use Rattle.city_model.specs.CityMap.{at, changed};
 
 use crate::OutOfMemory;
-use crate::copied::Copied;
+use crate::copied::{Copied, copy_map};
 use crate::frame::Frame;
 use crate::object::Object;
 use crate::text::Id;
@@ -24,31 +20,39 @@ pub struct City {
 }
 
 impl Model for City {
-    ghost use Rattle.std.specs.Prelude.{List, ℕ};
-    ghost use Rattle.city_model.specs.declared.frame.Frame.{Frame};
-    ghost use Rattle.city_model.specs.declared.object.Object.{Object};
+    ghost use Rattle.city_model.specs.CityMap.{CityValue};
 
-    ghost Value = { Frame × List (List ℕ × Object) };
+    ghost Value = { CityValue };
 
-    ghost use Rattle.std.specs.Coded.{codes};
+    ghost use Rattle.std.specs.Coded.{codes, coded×, coded_list, coded_ℕ};
+    ghost use Rattle.std.specs.FinMap.{code, from_sorted};
     ghost use Rattle.city_model.specs.DataCode.{coded_members};
 
-    ghost coded = { Prim.hlevel (codes, coded_members) };
+    ghost coded = { coded× (Prim.hlevel (codes, coded_members)) (code (coded_list coded_ℕ) (Prim.hlevel (codes, coded_members))) };
 
-    ghost view = { λ c. (c.frame, c.objects.entries) };
+    ghost view = { λ c. (c.frame, from_sorted c.objects.entries) };
+
+    ghost use Rattle.std.specs.Ordering.{nat_cmp};
+    ghost use Rattle.std.specs.Cmp.Lexicographic.{slice_cmp};
+    ghost use Rattle.std.specs.BTreeMap.{IsOrdered};
+
+    ghost invariant = { λ c. IsOrdered (slice_cmp nat_cmp) c.objects };
 }
 
 impl City {
-    /// A city of these objects.
+    /// A city of these objects. Takes no memory.
     pub fn from_parts(frame: Frame, objects: BTreeMap<Id, Object>) -> Self
-        ensures { result ≡ (frame, objects.entries) }
+        ensures frame { result.0 ≡ frame }
+        ensures entries { entries result.1 ≡ objects.entries }
     {
+        // (called for its promise that the ids ascend)
+        let _count = objects.len();
         City { frame, objects }
     }
 
     /// A city without objects. Takes no memory.
     pub fn new(alloc: Global, frame: Frame) -> Self
-        ensures { result ≡ (frame, []) }
+        ensures { result ≡ (frame, empty) }
     {
         City {
             frame,
@@ -65,15 +69,14 @@ impl City {
 
     /// How many objects there are. Takes no memory.
     pub fn len(&self) -> usize
-        ensures len { result ≡ length self.now.1 }
-        ensures ordered { IsStrictlySortedBy (slice_cmp nat_cmp) (keys_of self.now.1) }
+        ensures { result ≡ len self.now.1 }
     {
         self.objects.len()
     }
 
     /// Whether there is no object. Takes no memory.
     pub fn is_empty(&self) -> bool
-        ensures { result ≡ (length self.now.1 == 0) }
+        ensures { result ≡ (len self.now.1 == 0) }
     {
         self.len() == 0
     }
@@ -87,8 +90,7 @@ impl City {
 
     /// The pairs of id and object, the ids in byte order. Takes no memory.
     pub fn iter(&self) -> btree_map::Iter<'_, Id, Object>
-        ensures rest { result ≡ self.now.1 }
-        ensures ordered { IsStrictlySortedBy (slice_cmp nat_cmp) (keys_of self.now.1) }
+        ensures { result ≡ entries self.now.1 }
     {
         self.objects.iter()
     }
@@ -98,13 +100,10 @@ impl City {
     /// Where there is no memory the city is unchanged; for an id that is there no memory is taken.
     pub fn set(&mut self, id: Id, object: Object) -> Result<Option<Object>, OutOfMemory>
         ensures old { IfOk result (λ old. old ≡ at self.old.1 id) }
-        ensures entries { OnOk result (self.new
-            ≡ (self.old.0, insert_entry (slice_cmp nat_cmp) self.old.1 id object)) }
-        ensures map { OnOk result ((q : List ℕ) →
-            at self.new.1 q ≡ changed (at self.old.1) id (Some object) q) }
+        ensures objects { OnOk result (self.new ≡ (self.old.0, insert self.old.1 id object)) }
+        ensures map { OnOk result (at self.new.1 ≡ changed (at self.old.1) id (Some object)) }
         ensures present { IsSome (at self.old.1 id) → IsOk result }
         ensures unchanged { OnErr result (self.new ≡ self.old) }
-        ensures ordered { IsStrictlySortedBy (slice_cmp nat_cmp) (keys_of self.new.1) }
     {
         Ok(self.objects.insert(id, object)?)
     }
@@ -112,10 +111,8 @@ impl City {
     /// Takes the object of an id out, and gives it. Takes no memory.
     pub fn remove(&mut self, id: &Id) -> Option<Object>
         ensures old { result ≡ at self.old.1 id.now }
-        ensures entries { self.new
-            ≡ (self.old.0, remove_entry (is_at (slice_cmp nat_cmp id.now)) self.old.1) }
-        ensures map { (q : List ℕ) → at self.new.1 q ≡ changed (at self.old.1) id.now None q }
-        ensures ordered { IsStrictlySortedBy (slice_cmp nat_cmp) (keys_of self.new.1) }
+        ensures objects { self.new ≡ (self.old.0, remove self.old.1 id.now) }
+        ensures map { at self.new.1 ≡ changed (at self.old.1) id.now None }
     {
         self.objects.remove(id)
     }
@@ -123,13 +120,8 @@ impl City {
 
 impl Copied for City {
     fn copy(&self, alloc: Global) -> Result<City, AllocError> {
-        let frame = self.frame().copy(alloc)?;
-        let mut objects = BTreeMap::new(alloc);
-        for (id, object) in self.iter() {
-            let key = id.copy(alloc)?;
-            let value = object.copy(alloc)?;
-            drop(objects.insert(key, value)?);
-        }
+        let frame = self.frame.copy(alloc)?;
+        let objects = copy_map(alloc, &self.objects)?;
         Ok(City { frame, objects })
     }
 }

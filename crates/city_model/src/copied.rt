@@ -1,13 +1,14 @@
 //! Values that can be copied where there is memory.
 ghost use Rattle.std.specs.Prelude.{◌≡◌, IfOk};
 
-use crate::kept::extra::Extra;
 use crate::frame::Frame;
-use crate::object::{Body, Geometry, Object, Point, Shape};
+use crate::kept::extra::Extra;
 use crate::kept::place::Place;
+use crate::object::{Body, Geometry, Object, Point, Shape};
 use crate::sequence::Sequence;
 use crate::text::Text;
 use std::alloc::{AllocError, Global};
+use std::collections::BTreeMap;
 
 /// A value of which an equal one can be made.
 pub trait Copied {
@@ -95,4 +96,37 @@ impl Copied for Frame {
             extra: self.extra.copy(alloc)?,
         })
     }
+}
+
+impl<T: Copied> Copied for Option<T> {
+    fn copy(&self, alloc: Global) -> Result<Option<T>, AllocError> {
+        match self {
+            None => Ok(None),
+            Some(item) => Ok(Some(item.copy(alloc)?)),
+        }
+    }
+}
+
+impl<A: Copied + Drop, B: Copied> Copied for (A, B) {
+    fn copy(&self, alloc: Global) -> Result<(A, B), AllocError> {
+        let first = self.0.copy(alloc)?;
+        let second = self.1.copy(alloc)?;
+        Ok((first, second))
+    }
+}
+
+/// A copy of an ordered map. The only refusal is want of memory.
+pub fn copy_map<K: Copied + Ord + Drop, V: Copied + Drop>(
+    alloc: Global,
+    map: &BTreeMap<K, V>,
+) -> Result<BTreeMap<K, V>, AllocError>
+    ensures { IfOk result (λ c. c.entries ≡ map.now.entries) }
+{
+    let mut copies = BTreeMap::new(alloc);
+    for (key, value) in map.iter() {
+        let key_copy = key.copy(alloc)?;
+        let value_copy = value.copy(alloc)?;
+        drop(copies.insert(key_copy, value_copy)?);
+    }
+    Ok(copies)
 }

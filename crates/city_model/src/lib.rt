@@ -17,12 +17,12 @@ pub mod members;
 pub mod object;
 pub mod object_type;
 pub mod orphans;
+pub mod plan;
 pub mod relations;
 pub mod rings;
 pub mod script;
 pub mod sequence;
 pub mod shells;
-pub mod stand_in;
 pub mod text;
 
 /// The one answer for want of memory, the same unit type in all crates.

@@ -18,8 +18,6 @@ pub fn take(members: &mut Map<String, Value>, name: &str) -> Option<Value>
     ensures found { option_map view result ≡ get_member name.now (members_view members.old.entries) }
     ensures left { members_view members.new.entries ≡ without name.now (members_view members.old.entries) }
 {
-    // (called for its promise that the names ascend)
-    let _count = members.len();
     members.remove(name)
 }
 

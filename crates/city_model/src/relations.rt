@@ -33,12 +33,17 @@ pub fn relations_fault(city: &City) -> Option<&Id>
 
 /// Whether the first object can't be a child of the second: they are the same object, the child isn't
 /// second-level, or they are of different families (CityJSON 2.0, section 2).
-pub fn is_wrong_family(child: &Id, young: &Object, parent: &Id, old: &Object) -> bool
-    ensures { result ≡ is_wrong_family child.now young.now parent.now old.now }
+pub fn is_wrong_family(
+    child: &Id,
+    child_object: &Object,
+    parent: &Id,
+    parent_object: &Object,
+) -> bool
+    ensures { result ≡ is_wrong_family child.now child_object.now parent.now parent_object.now }
 {
     is_same_id(child, parent)
-        || level(young.body.kind) != 2
-        || !is_same_family(young.body.kind, old.body.kind)
+        || level(child_object.body.kind) != 2
+        || !is_same_family(child_object.body.kind, parent_object.body.kind)
 }
 
 /// Whether the object isn't in order, or is an orphan.

@@ -1,25 +1,28 @@
 -- What a store's value has at an id, from what its city and its images have there.
-use Rattle.std.proofs.Common.{◌≡◌, ◌==◌, ℕ, List, [], ◌∷◌, Bool, true, false, Option, None, Some, is_some, refl, ap, sym, ◌∙◌}
+use Rattle.std.proofs.Common.{◌≡◌, ◌==◌, ℕ, List, [], ◌∷◌, Bool, true, false, not, ◌&&◌, Option, None, Some, is_some, Less, refl, ap, sym, ◌∙◌}
 use Rattle.std.specs.Prelude.{if◌then◌else◌}
 use Rattle.std.specs.Map.{lookup, keys_of}
 use Rattle.std.specs.Cmp.{unsigned_tied, eq_by_cmp_equiv}
 use Rattle.std.specs.Ordering.{nat_cmp, eq_by_cmp}
 use Rattle.std.specs.Cmp.Lexicographic.{slice_cmp}
 use Rattle.std.specs.BTreeMap.{is_at}
+use Rattle.std.specs.FinMap.{entries, from_sorted}
+use Rattle.std.specs.List.{AllByRecursion}
 use Rattle.std.specs.List.Sorted.{IsStrictlySortedBy}
-use Rattle.std.proofs.lemmas.Bool.{false≢true, eq-eqb}
+use Rattle.std.proofs.lemmas.Bool.{false≢true}
 use Rattle.std.proofs.lemmas.Cmp.{nat_list_cmp_total}
 use Rattle.std.proofs.lemmas.Map.{lookup-none}
 use Rattle.std.proofs.lemmas.Map.Keys.{IsDistinct-from_sorted, sorted_tail}
 use Rattle.std.proofs.lemmas.Map.Entries.{none_past_head}
 use Rattle.city_model.specs.declared.object.Object.{Object}
-use Rattle.city_model.specs.CityMap.{Entries, at, same_id}
+use Rattle.city_model.specs.CityMap.{Entries, Objects, at, same_id}
+use Rattle.city_model.proofs.Objects.{at_entries, entries_ascend, at_sorted, same_objects}
 use Rattle.city_model.proofs.Ids.{same_id_true}
 use Rattle.city_model.proofs.IdLists.{bool_cases}
 use Rattle.city_txn.specs.declared.image.Image.{Image}
 use Rattle.city_txn.specs.declared.store.Store.TheInside.{Inside}
-use Rattle.city_txn.specs.Images.{seen_under, seen_at, committed_at, write_at, writer_of, is_gone}
-use Rattle.city_txn.specs.State.{write_of, has_room, own_or, committed, view}
+use Rattle.city_txn.specs.Images.{seen_under, before_image, seen_by, committed_at, write_at, writer_of}
+use Rattle.city_txn.specs.State.{write_of, own_or, committed, view}
 use Rattle.city_txn.specs.Changing.{or_else}
 use Rattle.city_txn.specs.InPlace.{with_some, made_by, image_at, state_of, is_writer, IsInPlace}
 
@@ -62,6 +65,28 @@ at_made f (e ∷ es) q s = at_first e.0 (f e.0 e.1) (made_by f es) q ∙ bool_ca
     ∙ at_made f es q (sorted_tail (slice_cmp nat_cmp) e.0 (keys_of es) s)
     ∙ sym (ap (λ b. through (f q) (if b then Some e.1 else lookup (is_at (slice_cmp nat_cmp q)) es)) t))
 
+-- and ascend where those do
+above_step : {Y : Type 0} (k id : List ℕ) (y : Option Y) (es : List (List ℕ × Y)) → slice_cmp nat_cmp k id ≡ Less → AllByRecursion (λ j. slice_cmp nat_cmp k j ≡ Less) (keys_of es) →
+    AllByRecursion (λ j. slice_cmp nat_cmp k j ≡ Less) (keys_of (with_some id y es))
+above_step k id None es l a = a
+above_step k id (Some y) es l a = (l, a)
+
+above_made : {X Y : Type 0} (f : List ℕ → X → Option Y) (k : List ℕ) (es : List (List ℕ × X)) → AllByRecursion (λ j. slice_cmp nat_cmp k j ≡ Less) (keys_of es) →
+    AllByRecursion (λ j. slice_cmp nat_cmp k j ≡ Less) (keys_of (made_by f es))
+above_made f k [] a = tt
+above_made f k (e ∷ es) a = above_step k e.0 (f e.0 e.1) (made_by f es) a.0 (above_made f k es a.1)
+
+sorted_step : {Y : Type 0} (id : List ℕ) (y : Option Y) (es : List (List ℕ × Y)) → AllByRecursion (λ j. slice_cmp nat_cmp id j ≡ Less) (keys_of es) →
+    IsStrictlySortedBy (slice_cmp nat_cmp) (keys_of es) → IsStrictlySortedBy (slice_cmp nat_cmp) (keys_of (with_some id y es))
+unfolding IsStrictlySortedBy
+sorted_step id None es a s = s
+sorted_step id (Some y) es a s = (a, s)
+
+pub sorted_made : {X Y : Type 0} (f : List ℕ → X → Option Y) (es : List (List ℕ × X)) → IsStrictlySortedBy (slice_cmp nat_cmp) (keys_of es) → IsStrictlySortedBy (slice_cmp nat_cmp) (keys_of (made_by f es))
+unfolding IsStrictlySortedBy
+sorted_made f [] s = s
+sorted_made f (e ∷ es) s = sorted_step e.0 (f e.0 e.1) (made_by f es) (above_made f e.0 es s.0) (sorted_made f es s.1)
+
 -- ---- the value at an id
 
 committed_point : (x : Option Object) (i : Option Image) → (is_some i ≡ true → is_some x ≡ true) → through (λ o. committed_at (Some o) i) x ≡ committed_at x i
@@ -79,7 +104,11 @@ here a q = at a.city.1 q
 
 module _ (a : Inside) (k : IsInPlace a) (q : List ℕ) where
   pub city_is : committed (state_of a) q ≡ committed_at (here a q) (image_at a q)
-  city_is = at_made (λ r o. committed_at (Some o) (image_at a r)) a.city.1 q k.city_ordered ∙ committed_point (here a q) (image_at a q) (k.placed q)
+  city_is =
+      ap (λ f. f q) (at_sorted (made_by (λ r o. committed_at (Some o) (image_at a r)) (entries a.city.1)) (sorted_made (λ r o. committed_at (Some o) (image_at a r)) (entries a.city.1) (entries_ascend a.city.1)))
+      ∙ at_made (λ r o. committed_at (Some o) (image_at a r)) (entries a.city.1) q (entries_ascend a.city.1)
+      ∙ ap (λ f. through (λ o. committed_at (Some o) (image_at a q)) (f q)) (sym (at_entries a.city.1))
+      ∙ committed_point (here a q) (image_at a q) (k.has_slot q)
 
   pub writes_is : write_of (state_of a).writes q ≡ write_at (here a q) (image_at a q)
   writes_is = at_made (λ r i. write_at (here a r) (Some i)) a.images.entries q k.images_ordered ∙ write_point (here a q) (image_at a q)
@@ -90,41 +119,42 @@ module _ (a : Inside) (k : IsInPlace a) (q : List ℕ) where
 -- ---- what a transaction sees, from its image
 
 pub own_seen : (s : ℕ) (x : Option Object) (i : Image) → (i.by == s) ≡ true → own_or s (write_at x (Some i)) (committed_at x (Some i)) ≡ seen_under x i
-own_seen s x i e = bool_cases i.fresh
+own_seen s x i e = bool_cases i.unwritten
     (λ f. ap (λ b. own_or s (if b then None else Some (i.by, seen_under x i)) (if b then seen_under x i else i.before)) f)
     (λ f. ap (λ b. own_or s (if b then None else Some (i.by, seen_under x i)) (if b then seen_under x i else i.before)) f
     ∙ ap (λ b. if b then seen_under x i else i.before) e)
 
 -- the write of another
 pub own_committed : (s : ℕ) (x o : Option Object) (i : Image) → (i.by == s) ≡ false → own_or s (write_at x (Some i)) o ≡ o
-own_committed s x o i e = bool_cases i.fresh
+own_committed s x o i e = bool_cases i.unwritten
     (λ f. ap (λ b. own_or s (if b then None else Some (i.by, seen_under x i)) o) f)
     (λ f. ap (λ b. own_or s (if b then None else Some (i.by, seen_under x i)) o) f ∙ ap (λ b. if b then seen_under x i else o) e)
 
-read_point : (s : ℕ) (x : Option Object) (i : Option Image) → ((t : ℕ) → is_writer t (writer_of i) ≡ true → t ≡ s) → own_or s (write_at x i) (committed_at x i) ≡ seen_at x i
-read_point s x None h = refl
-read_point s x (Some i) h = own_seen s x i (eq-eqb i.by s (h i.by (eq-eqb i.by i.by refl)))
-
-seen_unless_gone : (x : Option Object) (i : Option Image) → seen_at x i ≡ (if is_gone i then None else x)
-seen_unless_gone x None = refl
-seen_unless_gone x (Some i) = refl
-
--- what the stamp sees where no other has room
-pub view_read : (a : Inside) (s : ℕ) (id : List ℕ) → IsInPlace a → ((t : ℕ) → has_room (state_of a) t id ≡ true → t ≡ s) →
-    view (state_of a) s id ≡ (if is_gone (image_at a id) then None else here a id)
-view_read a s id k h =
-    view_is a k id s ∙ read_point s (here a id) (image_at a id) (λ t e. h t (k.listed t id ∙ e)) ∙ seen_unless_gone (here a id) (image_at a id)
+pub seen_point : (s : ℕ) (x : Option Object) (i : Image) → own_or s (write_at x (Some i)) (committed_at x (Some i)) ≡ seen_by s x i
+seen_point s x i = bool_cases (i.by == s)
+    (λ e. own_seen s x i e ∙ sym (ap (λ b. if not b && not i.unwritten then i.before else seen_under x i) e))
+    (λ e. own_committed s x (committed_at x (Some i)) i e ∙ before_seen x i ∙ sym (ap (λ b. if not b && not i.unwritten then i.before else seen_under x i) e))
+  where
+    before_seen : (x : Option Object) (i : Image) → before_image x i ≡ (if not i.unwritten then i.before else seen_under x i)
+    before_seen x i = bool_cases i.unwritten
+        (λ f. ap (λ b. if b then seen_under x i else i.before) f ∙ sym (ap (λ b. if not b then i.before else seen_under x i) f))
+        (λ f. ap (λ b. if b then seen_under x i else i.before) f ∙ sym (ap (λ b. if not b then i.before else seen_under x i) f))
 
 -- ---- a new store
 
-pub all_made : (es : Entries) → made_by (λ r o. Some o) es ≡ es
+all_made : (es : Entries) → made_by (λ r o. Some o) es ≡ es
 all_made [] = refl
 all_made (e ∷ es) = ap (λ r. (e.0, e.1) ∷ r) (all_made es)
 
-pub new_state : (a : Inside) → a.images.entries ≡ [] → a.rooms.entries ≡ [] → state_of a ≡ record { frame = a.city.0; city = a.city.1; writes = []; opened = [] }
+-- with no image put back the city is as it is
+pub all_there : (objects : Objects) → from_sorted (made_by (λ r o. Some o) (entries objects)) ≡ objects
+all_there objects = ap (λ (es : Entries). from_sorted es) (all_made (entries objects))
+    ∙ same_objects (from_sorted (entries objects)) objects (at_sorted (entries objects) (entries_ascend objects) ∙ sym (at_entries objects))
+
+pub new_state : (a : Inside) → a.images.entries ≡ [] → a.reservations.entries ≡ [] → state_of a ≡ record { frame = a.city.0; city = a.city.1; writes = []; opened = [] }
 new_state a none shut i = record {
   frame = a.city.0;
-  city = (ap (λ (is : List (List ℕ × Image)). made_by (λ r o. committed_at (Some o) (lookup (is_at (slice_cmp nat_cmp r)) is)) a.city.1) none ∙ all_made a.city.1) i;
+  city = (ap (λ (is : List (List ℕ × Image)). from_sorted (made_by (λ r o. committed_at (Some o) (lookup (is_at (slice_cmp nat_cmp r)) is)) (entries a.city.1))) none ∙ all_there a.city.1) i;
   writes = ap (λ (is : List (List ℕ × Image)). made_by (λ r j. write_at (here a r) (Some j)) is) none i;
   opened = shut i;
 }

@@ -1,12 +1,12 @@
 -- What a transaction wrote, listed as a change, makes its view of the committed map.
-use Rattle.std.proofs.Common.{◌≡◌, ◌||◌, ◌==◌, ℕ, ◌+◌, ◌<◌, ◌≤◌, List, [], ◌∷◌, length, take, get_or, Bool, true, false, Option, None, Some, is_some, Result, Ok, Err, Less, refl, ap, sym, ◌∙◌, arith}
+use Rattle.std.proofs.Common.{◌≡◌, ◌||◌, ◌==◌, ℕ, ◌+◌, ◌<◌, ◌≤◌, List, [], ◌∷◌, length, take, get_or, Bool, true, false, Option, None, Some, is_some, Result, Ok, Err, refl, ap, sym, subst, ◌∙◌, arith}
 use Rattle.std.specs.Prelude.{if◌then◌else◌, IfOk}
 use Rattle.std.specs.Map.{lookup, keys_of}
 use Rattle.std.specs.Cmp.{eq_by_cmp_equiv}
 use Rattle.std.specs.Ordering.{nat_cmp, eq_by_cmp}
 use Rattle.std.specs.Cmp.Lexicographic.{slice_cmp}
 use Rattle.std.specs.BTreeMap.{is_at}
-use Rattle.std.specs.List.{AllByRecursion}
+use Rattle.std.specs.FinMap.{from_sorted}
 use Rattle.std.specs.List.Sorted.{IsStrictlySortedBy}
 use Rattle.std.proofs.lemmas.List.Folds.{list_any_more}
 use Rattle.std.proofs.lemmas.Cmp.{nat_list_cmp_total}
@@ -14,20 +14,21 @@ use Rattle.std.proofs.lemmas.Map.{lookup-none}
 use Rattle.std.proofs.lemmas.Map.Keys.{IsDistinct-from_sorted, sorted_tail}
 use Rattle.std.proofs.lemmas.Map.Entries.{none_past_head}
 use Rattle.city_model.specs.declared.object.Object.{Object}
-use Rattle.city_model.specs.CityMap.{CityMap, at, same_id, has_id, changed}
-use Rattle.city_model.specs.Relations.{is_orphan, is_orphan_there, HasNoOrphan, IsLeastOrphan}
+use Rattle.city_model.specs.CityMap.{CityMap, found_in, same_id, has_id, changed}
+use Rattle.city_model.specs.Relations.{is_orphan, is_orphan_there, HasNoOrphan, IsLeastOrphan, IsSound}
 use Rattle.city_model.specs.Runs.{Change, with_change}
 use Rattle.city_model.proofs.Ids.{same_id_true, same_id_back}
 use Rattle.city_model.proofs.IdLists.{bool_cases}
-use Rattle.city_model.proofs.FirstOrphan.{first_orphan}
+use Rattle.city_model.proofs.FirstOrphan.{first_orphan, is_least_orphan, has_no_orphan}
+use Rattle.city_model.proofs.Objects.{entries_of, at_sorted}
 use Rattle.city_txn.specs.declared.image.Image.{Image}
 use Rattle.city_txn.specs.declared.store.Store.TheInside.{Inside}
 use Rattle.city_txn.specs.Images.{seen_under, written_at, write_at, writer_of}
-use Rattle.city_txn.specs.State.{Write, write_of, rooms_of, own_or, own_write, is_by}
+use Rattle.city_txn.specs.State.{Write, write_of, reservations_of, own_or, own_write, is_by}
 use Rattle.city_txn.specs.CoreState.{CoreState, committed, view}
 use Rattle.city_txn.specs.InPlace.{with_some, made_by, image_at, state_of, is_writer, IsInPlace}
 use Rattle.city_txn.specs.Changing.{or_else, objects_in, IsChangeOf}
-use Rattle.city_txn.proofs.AtOneId.{through, at_made, here, writes_is}
+use Rattle.city_txn.proofs.AtOneId.{through, at_made, sorted_made, here, writes_is}
 
 -- ---- writes noted
 
@@ -53,19 +54,19 @@ noted_more f x y ids i id lt is before step q =
     ∙ ap (λ b. if b then f q else None)
     (ap (λ b. has_id (take i ids) q || b) (same_id_back id q ∙ ap (same_id q) is) ∙ sym (list_any_more (same_id q) ids i id lt))
 
--- what is listed at the ids to which the transaction has room is what it wrote
+-- what is listed at the ids that the transaction has reserved is what it wrote
 either_none : {Y : Type 0} (b : Bool) → ◌≡◌ {A = Option Y} (if b then None else None) None
 either_none true = refl
 either_none false = refl
 
 own_point : (s : ℕ) (x : Option Object) (i : Option Image) → (if is_writer s (writer_of i) then written_at x i else None) ≡ own_write s (write_at x i)
 own_point s x None = refl
-own_point s x (Some i) = bool_cases i.fresh
+own_point s x (Some i) = bool_cases i.unwritten
     (λ e. ap (λ b. if i.by == s then (if b then None else Some (seen_under x i)) else None) e ∙ either_none (i.by == s) ∙ sym (ap (λ b. own_write s (if b then None else Some (i.by, seen_under x i))) e))
     (λ e. ap (λ b. if i.by == s then (if b then None else Some (seen_under x i)) else None) e ∙ sym (ap (λ b. own_write s (if b then None else Some (i.by, seen_under x i))) e))
 
 pub own_written : (a : Inside) → IsInPlace a → (s : ℕ) (q : List ℕ) →
-    (if has_id (rooms_of a.rooms.entries s) q then written_at (here a q) (image_at a q) else None) ≡ own_write s (write_of (state_of a).writes q)
+    (if has_id (reservations_of a.reservations.entries s) q then written_at (here a q) (image_at a q) else None) ≡ own_write s (write_of (state_of a).writes q)
 own_written a k s q = ap (λ b. if b then written_at (here a q) (image_at a q) else None) (k.listed s q) ∙ own_point s (here a q) (image_at a q) ∙ sym (ap (own_write s) (writes_is a k q))
 
 pub none_sorted : IsStrictlySortedBy (slice_cmp nat_cmp) []
@@ -77,27 +78,6 @@ if_ok (Ok x) f p = f x p
 if_ok (Err e) f p = tt
 
 -- ---- its objects
-
-above_step : {Y : Type 0} (k id : List ℕ) (y : Option Y) (es : List (List ℕ × Y)) → slice_cmp nat_cmp k id ≡ Less → AllByRecursion (λ j. slice_cmp nat_cmp k j ≡ Less) (keys_of es) →
-    AllByRecursion (λ j. slice_cmp nat_cmp k j ≡ Less) (keys_of (with_some id y es))
-above_step k id None es l a = a
-above_step k id (Some y) es l a = (l, a)
-
-above_made : {X Y : Type 0} (f : List ℕ → X → Option Y) (k : List ℕ) (es : List (List ℕ × X)) → AllByRecursion (λ j. slice_cmp nat_cmp k j ≡ Less) (keys_of es) →
-    AllByRecursion (λ j. slice_cmp nat_cmp k j ≡ Less) (keys_of (made_by f es))
-above_made f k [] a = tt
-above_made f k (e ∷ es) a = above_step k e.0 (f e.0 e.1) (made_by f es) a.0 (above_made f k es a.1)
-
-sorted_step : {Y : Type 0} (id : List ℕ) (y : Option Y) (es : List (List ℕ × Y)) → AllByRecursion (λ j. slice_cmp nat_cmp id j ≡ Less) (keys_of es) →
-    IsStrictlySortedBy (slice_cmp nat_cmp) (keys_of es) → IsStrictlySortedBy (slice_cmp nat_cmp) (keys_of (with_some id y es))
-unfolding IsStrictlySortedBy
-sorted_step id None es a s = s
-sorted_step id (Some y) es a s = (a, s)
-
-pub sorted_made : {X Y : Type 0} (f : List ℕ → X → Option Y) (es : List (List ℕ × X)) → IsStrictlySortedBy (slice_cmp nat_cmp) (keys_of es) → IsStrictlySortedBy (slice_cmp nat_cmp) (keys_of (made_by f es))
-unfolding IsStrictlySortedBy
-sorted_made f [] s = s
-sorted_made f (e ∷ es) s = sorted_step e.0 (f e.0 e.1) (made_by f es) (above_made f e.0 es s.0) (sorted_made f es s.1)
 
 orphan_here : (id : List ℕ) (x : Option Object) (es : List (List ℕ × Object)) → is_orphan_there x ≡ true → first_orphan (with_some id x es) ≡ Some id
 orphan_here id None es h = cc
@@ -111,6 +91,17 @@ orphan_first (x ∷ xs) w some is h = orphan_here x.0 x.1 (objects_in xs) (ap (�
 pub none_left : (left : Change) → length left < 1 → first_orphan (objects_in left) ≡ None
 none_left [] none = refl
 none_left (x ∷ xs) none = absurd (omega arith)
+
+objects_ascend : (c : Change) → IsStrictlySortedBy (slice_cmp nat_cmp) (keys_of c) → IsStrictlySortedBy (slice_cmp nat_cmp) (keys_of (objects_in c))
+objects_ascend c s = sorted_made (λ id object. object) c s
+
+pub least_in_change : (c : Change) (id : List ℕ) → IsStrictlySortedBy (slice_cmp nat_cmp) (keys_of c) → first_orphan (objects_in c) ≡ Some id → IsLeastOrphan (found_in (objects_in c)) id
+least_in_change c id s e = subst (λ (m : CityMap). IsLeastOrphan m id) (at_sorted (objects_in c) (objects_ascend c s))
+    (is_least_orphan (from_sorted (objects_in c)) id (ap first_orphan (entries_of (objects_in c) (objects_ascend c s)) ∙ e))
+
+pub none_in_change : (c : Change) → IsStrictlySortedBy (slice_cmp nat_cmp) (keys_of c) → first_orphan (objects_in c) ≡ None → HasNoOrphan (found_in (objects_in c))
+none_in_change c s e = subst (λ (m : CityMap). HasNoOrphan m) (at_sorted (objects_in c) (objects_ascend c s))
+    (has_no_orphan (from_sorted (objects_in c)) (ap first_orphan (entries_of (objects_in c) (objects_ascend c s)) ∙ e))
 
 -- ---- the map with the change
 
@@ -163,22 +154,22 @@ module _ (v : CoreState) (s : ℕ) (c : Change) (lists : (q : List ℕ) → look
   view_over : (q : List ℕ) → view v s q ≡ over (lookup (is_at (slice_cmp nat_cmp q)) c) (committed v q)
   view_over q = own_over s (write_of v.writes q) (committed v q) ∙ sym (ap (λ x. over x (committed v q)) (lists q))
 
-  objects_at : (q : List ℕ) → at (objects_in c) q ≡ through (λ z. z) (lookup (is_at (slice_cmp nat_cmp q)) c)
+  objects_at : (q : List ℕ) → found_in (objects_in c) q ≡ through (λ z. z) (lookup (is_at (slice_cmp nat_cmp q)) c)
   objects_at q = at_made (λ id object. object) c q sorted
 
-  not_orphan : (q : List ℕ) (o : Object) → view v s q ≡ Some o → (at (objects_in c) q ≡ Some o → is_orphan o ≡ false) → is_orphan o ≡ false
+  not_orphan : (q : List ℕ) (o : Object) → view v s q ≡ Some o → (found_in (objects_in c) q ≡ Some o → is_orphan o ≡ false) → is_orphan o ≡ false
   not_orphan q o is f = over_cases (lookup (is_at (slice_cmp nat_cmp q)) c) (committed v q) o (sym (view_over q) ∙ is) (λ h. f (objects_at q ∙ h)) (λ h. none q o h)
 
-  pub least_of_view : (id : List ℕ) → IsLeastOrphan (at (objects_in c)) id → IsLeastOrphan (view v s) id
+  pub least_of_view : (id : List ℕ) → IsLeastOrphan (found_in (objects_in c)) id → IsLeastOrphan (view v s) id
   least_of_view id l = (
     (l.0.0, view_over id ∙ over_written (lookup (is_at (slice_cmp nat_cmp id)) c) (committed v id) l.0.0 (sym (objects_at id) ∙ l.0.1), l.0.2),
     λ q o less is. not_orphan q o is (l.1 q o less),
   )
 
-  pub is_change_of : HasNoOrphan (at (objects_in c)) → IsChangeOf v s c
-  is_change_of h = record {
-    makes_view = λ q. changed_by c (committed v) q sorted ∙ sym (view_over q);
+  pub is_change_of : IsSound (view v s) → HasNoOrphan (found_in (objects_in c)) → IsChangeOf v s c
+  is_change_of sound h = record {
+    makes_view = λ i q. (changed_by c (committed v) q sorted ∙ sym (view_over q)) i;
     ids = λ q. key_listed c q ∙ ap is_some (lists q) ∙ own_by s (write_of v.writes q);
     in_byte_order = sorted;
-    no_orphan = λ q o is. not_orphan q o is (h q o);
+    lawful = (sound, λ q o is. not_orphan q o is (h q o));
   }

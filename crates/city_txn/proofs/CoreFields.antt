@@ -8,7 +8,7 @@ use Rattle.std.specs.BTreeMap.{is_at}
 use Rattle.std.proofs.lemmas.Option.{none-some}
 use Rattle.std.proofs.lemmas.Bool.{false≢true, eqb-true, or_right}
 use Rattle.city_model.specs.declared.frame.Frame.{Frame}
-use Rattle.city_model.specs.CityMap.{Entries, at}
+use Rattle.city_model.specs.CityMap.{Objects, at}
 use Rattle.city_model.specs.Relations.{IsLawful, HasNoOrphan}
 use Rattle.city_model.proofs.IdLists.{bool_cases}
 use Rattle.city_model.proofs.History.{follows_same}
@@ -16,13 +16,13 @@ use Rattle.city_locks.proofs.Among.{none_from}
 use Rattle.city_locks.specs.declared.mode.Mode.TheVariants.{Exclusive}
 use Rattle.city_locks.specs.Locks.{Locks, mode_of, Lawful}
 use Rattle.city_txn.specs.State as store
-use Rattle.city_txn.specs.State.{State, Write, write_of, own_or, has_room, is_by, Forgets}
+use Rattle.city_txn.specs.State.{State, Write, write_of, own_or, is_reserved, is_by, Forgets}
 use Rattle.city_model.specs.Standing.{Answered, covers}
-use Rattle.city_txn.specs.CoreState.{CoreState, committed, view, is_open, held, held_in, Stands, IsConsistent, IsOver}
+use Rattle.city_txn.specs.CoreState.{CoreState, committed, view, is_open, held, held_in, Stands, IsConsistent, KeepsOthers, IsOver, IsUndone}
 use Rattle.city_txn.specs.Core.{core_state, IsCore}
 use Rattle.city_txn.specs.declared.txn_core.Core.TheInside.{Inside}
 use Rattle.city_txn.proofs.AtOneId.{tied}
-use Rattle.city_txn.proofs.Ended.{Ended, stands_committed, committed_consistent, stands_aborted, aborted_consistent, own_unless}
+use Rattle.city_txn.proofs.Ended.{Ended, own_not, is_over, stands_committed, committed_consistent, view_undone, stands_aborted, aborted_consistent}
 
 -- ---- which stamps are open
 
@@ -44,48 +44,62 @@ open_is a s = listed_open a.store.opened s
 none_some_write : {A : Type 0} {w : Write} → None ≡ Some w → A
 none_some_write e = absurd (cc)
 
-fresh_core : (a : Inside) (frame : Frame) (city : Entries) → IsLawful (at city) → IsCore (record a { store = record { frame = frame; city = city; writes = []; opened = [] }; locks = [] })
+fresh_core : (a : Inside) (frame : Frame) (city : Objects) → IsLawful (at city) → IsCore (record a { store = record { frame = frame; city = city; writes = []; opened = [] }; locks = [] })
 fresh_core a frame city l = record {
   state = record {
     lawful = λ s t id ne e. refl;
     locked = λ q w e. none_some_write e;
     open_only = λ s q h. absurd (false≢true h);
     city = l;
-    history = λ s. ([], λ q. refl);
+    history = λ s. ([], refl);
   };
-  room = λ t q h. absurd (false≢true h);
+  reserved = λ t q h. absurd (false≢true h);
 }
 
-pub opened_core : (a : Inside) (frame : Frame) (city : Entries) → a.store ≡ record { frame = frame; city = city; writes = []; opened = [] } → a.locks ≡ [] → IsLawful (at city) → IsCore a
+pub opened_core : (a : Inside) (frame : Frame) (city : Objects) → a.store ≡ record { frame = frame; city = city; writes = []; opened = [] } → a.locks ≡ [] → IsLawful (at city) → IsCore a
 opened_core a frame city e f l =
     subst (λ (x : State). IsCore (record a { store = x })) (sym e)
     (subst (λ (x : Locks). IsCore (record a { store = record { frame = frame; city = city; writes = []; opened = [] }; locks = x })) (sym f) (fresh_core a frame city l))
 
 -- ---- begun
 
-not_by : (s : ℕ) (x : Option Write) → ((w : Write) → x ≡ Some w → (w.0 == s) ≡ true → ⊥) → is_by s x ≡ false
+not_by : (s : ℕ) (x : Option Write) → ((w : Write) → x ≡ Some w → (w.0 == s) ≡ false) → is_by s x ≡ false
 not_by s None h = refl
-not_by s (Some w) h = bool_cases (w.0 == s) (λ e. absurd (h w refl e)) (λ e. e)
+not_by s (Some w) h = h w refl
 
 -- what isn't open holds nothing and wrote nothing
 pub shut_unlocked : (v : CoreState) (s : ℕ) (q : List ℕ) → IsConsistent v → is_open v s ≡ false → mode_of v.locks s q ≡ None
 shut_unlocked v s q c h = none_from (mode_of v.locks s q) (λ e. false≢true (sym h ∙ c.open_only s q e))
 
-pub shut_unwritten : (v : CoreState) (s : ℕ) (q : List ℕ) → IsConsistent v → is_open v s ≡ false → is_by s (write_of v.writes q) ≡ false
-shut_unwritten v s q c h = not_by s (write_of v.writes q)
-    (λ w e f. absurd (none-some Exclusive (sym (shut_unlocked v s q c h) ∙ ap (λ k. mode_of v.locks k q) (sym (eqb-true w.0 s f)) ∙ c.locked q w e)))
+shut_writer : (v : CoreState) (s : ℕ) (q : List ℕ) → IsConsistent v → is_open v s ≡ false → (w : Write) → write_of v.writes q ≡ Some w → (w.0 == s) ≡ false
+shut_writer v s q c h w e = bool_cases (w.0 == s)
+    (λ f. absurd (none-some Exclusive (sym (shut_unlocked v s q c h) ∙ ap (λ k. mode_of v.locks k q) (sym (eqb-true w.0 s f)) ∙ c.locked q w e)))
+    (λ f. f)
 
-module _ (a b : Inside) (k : IsCore a) (s : ℕ) (city : b.store.city ≡ a.store.city) (writes : b.store.writes ≡ a.store.writes) (locks : b.locks ≡ a.locks)
+pub shut_unwritten : (v : CoreState) (s : ℕ) (q : List ℕ) → IsConsistent v → is_open v s ≡ false → is_by s (write_of v.writes q) ≡ false
+shut_unwritten v s q c h = not_by s (write_of v.writes q) (shut_writer v s q c h)
+
+module _ (a b : Inside) (k : IsCore a) (s : ℕ) (shut : is_open (core_state a) s ≡ false) (frame : b.store.frame ≡ a.store.frame) (city : b.store.city ≡ a.store.city) (writes : b.store.writes ≡ a.store.writes) (locks : b.locks ≡ a.locks)
     (opened : (t : ℕ) → store.is_open b.store t ≡ ((s == t) || store.is_open a.store t))
-    (room : (t : ℕ) (q : List ℕ) → has_room b.store t q ≡ has_room a.store t q) where
+    (reserved : (t : ℕ) (q : List ℕ) → is_reserved b.store t q ≡ is_reserved a.store t q) where
   pub begun_open : (t : ℕ) → is_open (core_state b) t ≡ ((s == t) || is_open (core_state a) t)
   begun_open t = open_is b t ∙ opened t ∙ ap (λ c. (s == t) || c) (sym (open_is a t))
+
+  -- the new one did nothing, so its view is the committed map
+  pub begun_own : Stands (core_state b) s []
+  begun_own = λ i q. (own_not s (write_of b.store.writes q) (at b.store.city q) (λ w e. shut_writer (core_state a) s q k.state shut w (ap (λ ws. write_of ws q) (sym writes) ∙ e))) i
 
   begun_stands : (t : ℕ) (done : List Answered) → Stands (core_state a) t done → Stands (core_state b) t done
   begun_stands t done f = follows_same (held (core_state a) t) (held (core_state b) t) (committed (core_state a)) (committed (core_state b)) done (view (core_state a) t) (view (core_state b) t)
       (λ q c h. ap (λ hs. covers (held_in hs t q) c) locks ∙ h)
-      (λ q. ap (λ es. at es q) (sym city))
-      (λ q. ap (λ ws. own_or t (write_of ws q) (at a.store.city q)) (sym writes) ∙ ap (λ es. own_or t (write_of b.store.writes q) (at es q)) (sym city)) f
+      (λ i. at (sym city i)) (λ i q. own_or t (write_of (sym writes i) q) (at (sym city i) q)) f
+
+  pub begun_keeps : KeepsOthers s (core_state a) (core_state b)
+  begun_keeps = record {
+    frame = frame;
+    opened = λ t ne. begun_open t ∙ ap (λ c. c || is_open (core_state a) t) ne;
+    others = λ t done ne f. begun_stands t done f;
+  }
 
   pub begun_core : IsCore b
   begun_core = record {
@@ -96,7 +110,7 @@ module _ (a b : Inside) (k : IsCore a) (s : ℕ) (city : b.store.city ≡ a.stor
       city = subst (λ es. IsLawful (at es)) (sym city) k.state.city;
       history = λ t. ((k.state.history t).0, begun_stands t (k.state.history t).0 (k.state.history t).1);
     };
-    room = λ t q h. ap (λ hs. mode_of hs t q) locks ∙ k.room t q (sym (room t q) ∙ h);
+    reserved = λ t q h. ap (λ hs. mode_of hs t q) locks ∙ k.reserved t q (sym (reserved t q) ∙ h);
   }
 
 -- ---- over
@@ -107,7 +121,7 @@ none_left false c h = (refl, h)
 
 module _ (a b : Inside) (k : IsCore a) (s : ℕ) (f : Forgets s a.store b.store)
     (modes : (t : ℕ) (q : List ℕ) → mode_of b.locks t q ≡ cond (s == t) None (mode_of a.locks t q)) (lawful : Lawful b.locks) where
-  pub ended : Ended s (core_state a) (core_state b)
+  ended : Ended s (core_state a) (core_state b)
   ended = record {
     writes = f.writes;
     locks = modes;
@@ -115,26 +129,25 @@ module _ (a b : Inside) (k : IsCore a) (s : ℕ) (f : Forgets s a.store b.store)
     lawful = lawful;
   }
 
-  room_left : (t : ℕ) (q : List ℕ) → has_room b.store t q ≡ true → mode_of b.locks t q ≡ Some Exclusive
-  room_left t q h =
-      let left = none_left (s == t) (has_room a.store t q) (sym (f.room t q) ∙ h) in
-      modes t q ∙ ap (λ c. cond c None (mode_of a.locks t q)) left.0 ∙ k.room t q left.1
+  reserved_left : (t : ℕ) (q : List ℕ) → is_reserved b.store t q ≡ true → mode_of b.locks t q ≡ Some Exclusive
+  reserved_left t q h =
+      let left = none_left (s == t) (is_reserved a.store t q) (sym (f.reserved t q) ∙ h) in
+      modes t q ∙ ap (λ c. cond c None (mode_of a.locks t q)) left.0 ∙ k.reserved t q left.1
 
-  over : ((t : ℕ) (done : List Answered) → (s == t) ≡ false → Stands (core_state a) t done → Stands (core_state b) t done) → IsOver s (core_state a) (core_state b)
-  over stands = record { frame = f.frame; writes = f.writes; locks = modes; opened = ended.opened; others = stands }
+  module _ (city : store.committed b.store ≡ store.view a.store s) where
+    pub committed_over : IsOver s (core_state a) (core_state b)
+    committed_over = is_over s (core_state a) (core_state b) ended f.frame (λ t done ne g. stands_committed s t (core_state a) (core_state b) done k.state ended city ne g)
 
-  pub committed_over : ((q : List ℕ) → store.committed b.store q ≡ store.view a.store s q) → IsOver s (core_state a) (core_state b)
-  committed_over city = over (λ t done ne g. stands_committed s t (core_state a) (core_state b) done k.state ended city ne g)
+    pub committed_core : HasNoOrphan (view (core_state a) s) → IsCore b
+    committed_core orphans = record { state = committed_consistent s (core_state a) (core_state b) k.state ended city orphans; reserved = reserved_left }
 
-  pub committed_core : ((q : List ℕ) → store.committed b.store q ≡ store.view a.store s q) → HasNoOrphan (view (core_state a) s) → IsCore b
-  committed_core city orphans = record { state = committed_consistent s (core_state a) (core_state b) k.state ended city orphans; room = room_left }
+  module _ (city : store.committed b.store ≡ store.committed a.store) where
+    pub undone : IsUndone s (core_state a) (core_state b)
+    undone = record {
+      city = city;
+      views = λ t ne. view_undone s t (core_state a) (core_state b) ended city ne;
+      over = is_over s (core_state a) (core_state b) ended f.frame (λ t done ne g. stands_aborted s t (core_state a) (core_state b) done ended city ne g);
+    }
 
-  pub aborted_over : ((q : List ℕ) → store.committed b.store q ≡ store.committed a.store q) → IsOver s (core_state a) (core_state b)
-  aborted_over city = over (λ t done ne g. stands_aborted s t (core_state a) (core_state b) done ended city ne g)
-
-  pub aborted_core : ((q : List ℕ) → store.committed b.store q ≡ store.committed a.store q) → IsCore b
-  aborted_core city = record { state = aborted_consistent s (core_state a) (core_state b) k.state ended city; room = room_left }
-
-  pub aborted_views : ((q : List ℕ) → store.committed b.store q ≡ store.committed a.store q) → (t : ℕ) (q : List ℕ) → (s == t) ≡ false → view (core_state b) t q ≡ view (core_state a) t q
-  aborted_views city t q ne = ap (λ w. own_or t w (committed (core_state b) q)) (f.writes q) ∙ own_unless s t (write_of a.store.writes q) (committed (core_state b) q) ne
-      ∙ ap (own_or t (write_of a.store.writes q)) (city q)
+    pub undone_core : IsCore b
+    undone_core = record { state = aborted_consistent s (core_state a) (core_state b) k.state ended city; reserved = reserved_left }

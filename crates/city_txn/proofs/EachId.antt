@@ -6,16 +6,14 @@ use Rattle.std.specs.Cmp.Lexicographic.{slice_cmp}
 use Rattle.std.specs.BTreeMap.{BTreeMap, get}
 use Rattle.std.proofs.lemmas.Bool.{false≢true}
 use Rattle.std.proofs.lemmas.List.Folds.{list_any_more}
-use Rattle.std.proofs.Math.Bool.{and-true, and-false}
-use Rattle.city_model.specs.declared.frame.Frame.{Frame}
 use Rattle.city_model.specs.declared.object.Object.{Object}
-use Rattle.city_model.specs.CityMap.{Entries, CityMap, at, same_id, has_id, changed}
-use Rattle.city_model.proofs.Changed.{changed_apart, changed_there}
-use Rattle.city_model.proofs.Ids.{same_id_true, same_id_back, same_id_of_equal}
+use Rattle.city_model.specs.CityMap.{CityValue, CityMap, at, same_id, has_id, changed}
+use Rattle.std.proofs.lemmas.Map.{update_other, update_same}
+use Rattle.city_model.proofs.Ids.{same_id_true, same_id_back, same_id_of_equal, by_id}
 use Rattle.city_model.proofs.IdLists.{bool_cases}
 use Rattle.city_txn.specs.declared.image.Image.{Image}
 use Rattle.city_txn.specs.Ending.{AreEnded}
-use Rattle.city_txn.specs.Images.{seen_under, before_image, seen_at, committed_at, is_gone}
+use Rattle.city_txn.specs.Images.{seen_under, before_image, seen_at, committed_at, is_deleted}
 
 -- one more id of a list
 pub has_more : (ids : List (List ℕ)) (n : ℕ) (id q : List ℕ) → n < length ids → id ≡ get_or ids n id → has_id (take (n + 1) ids) q ≡ (has_id (take n ids) q || same_id id q)
@@ -45,10 +43,10 @@ at_that f id q x = bool_cases (same_id id q)
 
 -- ---- one id after another
 
-pub none_ended : (f : Option Object → Option Image → Option Object) (a : Frame × Entries) (i : BTreeMap (List ℕ) Image) → AreEnded f (has_id []) a i a i
-none_ended f a i = record { frame = refl; city = λ q. refl; images = λ q. refl; city_ordered = λ o. o; images_ordered = λ o. o }
+pub none_ended : (f : Option Object → Option Image → Option Object) (a : CityValue) (i : BTreeMap (List ℕ) Image) → AreEnded f (has_id []) a i a i
+none_ended f a i = record { frame = refl; city = λ q. refl; images = λ q. refl; images_ordered = λ o. o }
 
-pub one_more_ended : (f : Option Object → Option Image → Option Object) → ((x : Option Object) → f x None ≡ x) → (a b c : Frame × Entries) (i j k : BTreeMap (List ℕ) Image) (ids : List (List ℕ)) (n : ℕ) (id : List ℕ) →
+pub one_more_ended : (f : Option Object → Option Image → Option Object) → ((x : Option Object) → f x None ≡ x) → (a b c : CityValue) (i j k : BTreeMap (List ℕ) Image) (ids : List (List ℕ)) (n : ℕ) (id : List ℕ) →
     n < length ids → id ≡ get_or ids n id → AreEnded f (has_id (take n ids)) a i b j → AreEnded f (same_id id) b j c k → AreEnded f (has_id (take (n + 1) ids)) a i c k
 one_more_ended f idle a b c i j k ids n id lt is before one = record {
   frame = one.frame ∙ before.frame;
@@ -56,7 +54,6 @@ one_more_ended f idle a b c i j k ids n id lt is before one = record {
       ∙ ap (λ d. if d then f (at a.1 q) (image i q) else at a.1 q) (sym (has_more ids n id q lt is));
   images = λ q. gone_again (has_id (take n ids) q) (same_id id q) (image i q) (image j q) (image k q) (before.images q) (one.images q)
       ∙ ap (λ d. if d then None else image i q) (sym (has_more ids n id q lt is));
-  city_ordered = λ o. one.city_ordered (before.city_ordered o);
   images_ordered = λ o. one.images_ordered (before.images_ordered o);
 }
   where
@@ -64,36 +61,38 @@ one_more_ended f idle a b c i j k ids n id lt is before one = record {
     image images q = get (slice_cmp nat_cmp) images q
 
 -- an image that is left is of an id in the city
-placed_point : (f : Option Object → Option Image → Option Object) (b : Bool) (x : Option Object) (i : Option Image) → (is_some i ≡ true → is_some x ≡ true) →
+has_slot_point : (f : Option Object → Option Image → Option Object) (b : Bool) (x : Option Object) (i : Option Image) → (is_some i ≡ true → is_some x ≡ true) →
     is_some (if b then None else i) ≡ true → is_some (if b then f x i else x) ≡ true
-placed_point f true x i p h = absurd (false≢true h)
-placed_point f false x i p h = p h
+has_slot_point f true x i p h = absurd (false≢true h)
+has_slot_point f false x i p h = p h
 
-pub still_placed : (f : Option Object → Option Image → Option Object) (x y : Option Object) (i j : Option Image) (b : Bool) → (is_some i ≡ true → is_some x ≡ true) →
+pub still_has_slot : (f : Option Object → Option Image → Option Object) (x y : Option Object) (i j : Option Image) (b : Bool) → (is_some i ≡ true → is_some x ≡ true) →
     y ≡ (if b then f x i else x) → j ≡ (if b then None else i) → is_some j ≡ true → is_some y ≡ true
-still_placed f x y i j b p c m h = ap is_some c ∙ placed_point f b x i p (sym (ap is_some m) ∙ h)
+still_has_slot f x y i j b p c m h = ap is_some c ∙ has_slot_point f b x i p (sym (ap is_some m) ∙ h)
 
 -- ---- one id
 
--- a stand-in that is taken out leaves what the transaction saw
-pub cleared_seen : (x y : List ℕ → Option Object) (i : Option Image) (id : List ℕ) (gone : Bool) → gone ≡ is_gone i →
-    ((q : List ℕ) → y q ≡ (if gone && same_id id q then None else x q)) → (q : List ℕ) → y q ≡ (if same_id id q then seen_at (x id) i else x q)
-cleared_seen x y i id gone is h q = h q ∙ bool_cases (same_id id q)
-    (λ e. ap (λ b. if gone && b then None else x q) e ∙ ap (λ b. if b then None else x q) (and-true gone ∙ is)
-    ∙ ap (λ r. if is_gone i then None else x r) (sym (same_id_true id q e)) ∙ by_image i
-    ∙ sym (ap (λ b. if b then seen_at (x id) i else x q) e))
-    (λ e. ap (λ b. if gone && b then None else x q) e ∙ ap (λ b. if b then None else x q) (and-false gone)
-    ∙ sym (ap (λ b. if b then seen_at (x id) i else x q) e))
+-- what stands at an id, set there again
+unchanged : (m : CityMap) (id : List ℕ) → m ≡ changed m id (m id)
+unchanged m id = λ i q. at q i
   where
-    by_image : (i : Option Image) → (if is_gone i then None else x id) ≡ seen_at (x id) i
-    by_image None = refl
-    by_image (Some i) = refl
+    at : (q : List ℕ) → m q ≡ changed m id (m id) q
+    at q = by_id id q
+        (λ is. ap m (sym is) ∙ sym (update_same same_id m id (m id) q (same_id_of_equal id q is)))
+        (λ apart. sym (update_other same_id m id (m id) q apart))
 
--- and of an image that is fresh, what stood there before
-pub cleared_before : (x y : List ℕ → Option Object) (id : List ℕ) (i : Image) → i.fresh ≡ true →
-    ((q : List ℕ) → y q ≡ (if i.gone && same_id id q then None else x q)) → (q : List ℕ) → y q ≡ (if same_id id q then before_image (x id) i else x q)
-cleared_before x y id i fresh h q = cleared_seen x y (Some i) id i.gone refl h q
-    ∙ ap (λ o. if same_id id q then o else x q) (sym (ap (λ b. if b then seen_under (x id) i else i.before) fresh))
+-- a placeholder that is taken out leaves what the transaction saw
+pub cleared_seen : (m : CityMap) (id : List ℕ) (i : Option Image) → (if is_deleted i then changed m id None else m) ≡ changed m id (seen_at (m id) i)
+cleared_seen m id None = unchanged m id
+cleared_seen m id (Some i) = by_deleted i.deleted
+  where
+    by_deleted : (deleted : Bool) → (if deleted then changed m id None else m) ≡ changed m id (if deleted then None else m id)
+    by_deleted true = refl
+    by_deleted false = unchanged m id
+
+-- and of an unwritten image, what stood there before
+pub cleared_before : (m : CityMap) (id : List ℕ) (i : Image) → i.unwritten ≡ true → (if i.deleted then changed m id None else m) ≡ changed m id (before_image (m id) i)
+cleared_before m id i unwritten = cleared_seen m id (Some i) ∙ ap (λ o. changed m id o) (sym (ap (λ b. if b then seen_under (m id) i else i.before) unwritten))
 
 -- an image that is put back
 pub back_point : (x y : List ℕ → Option Object) (id : List ℕ) (i : Option Image) (j : Image) → i ≡ Some j → ((q : List ℕ) → y q ≡ (if same_id id q then before_image (x id) j else x q)) →
@@ -113,12 +112,12 @@ added_and_forgotten i j k id new none add forget q = forget q ∙ bool_cases (sa
     (λ e. ap (λ b. if b then None else j q) e ∙ sym (ap i (sym (same_id_true id q e)) ∙ none))
     (λ e. ap (λ b. if b then None else j q) e ∙ add q ∙ ap (λ b. if b then Some new else i q) e)
 
--- ---- a place that is made
+-- ---- a slot that is made
 
 pub made_there : (m : CityMap) (key id : List ℕ) (o : Object) → key ≡ id → is_some (changed m key (Some o) id) ≡ true
-made_there m key id o e = ap is_some (changed_there m key (Some o) id (same_id_of_equal key id e))
+made_there m key id o e = ap is_some (update_same same_id m key (Some o) id (same_id_of_equal key id e))
 
 pub made_beside : (m : CityMap) (key id : List ℕ) (o : Object) → key ≡ id → is_some (m id) ≡ false → (q : List ℕ) → is_some (m q) ≡ true → changed m key (Some o) q ≡ m q
 made_beside m key id o e absent q h = bool_cases (same_id key q)
     (λ t. absurd (false≢true (sym absent ∙ ap (λ r. is_some (m r)) (sym e ∙ same_id_true key q t) ∙ h)))
-    (λ t. changed_apart m key (Some o) q t)
+    (λ t. update_other same_id m key (Some o) q t)

@@ -2,25 +2,24 @@
 use Rattle.std.proofs.Common.{◌≡◌, ◌==◌, ℕ, List, [], true, false, Option, None, Some, is_some, refl, ap, sym, ◌∙◌, subst, inl, inr}
 use Rattle.std.specs.Prelude.{if◌then◌else◌, option_map, cond}
 use Rattle.std.proofs.lemmas.Option.{none-some}
-use Rattle.std.proofs.lemmas.Bool.{false≢true, eqb-true, eqb-false, ne_eqb, cases_eq}
+use Rattle.std.proofs.lemmas.Bool.{false≢true, eqb-true, eqb-false, eq-eqb, ne_eqb, cases_eq}
 use Rattle.city_model.specs.declared.object.Object.{Object}
 use Rattle.city_model.specs.CityMap.{CityMap, at}
 use Rattle.city_model.specs.Relations.{IsSound, HasNoOrphan, IsLawful}
 use Rattle.city_model.proofs.IdLists.{bool_cases}
-use Rattle.city_model.proofs.History.{history_kept, follows_same, follows_sound}
-use Rattle.city_locks.specs.declared.mode.Mode.TheVariants.{Exclusive}
+use Rattle.city_model.proofs.History.{carried, history_kept, follows_same, follows_sound}
+use Rattle.city_locks.specs.declared.mode.Mode.{Mode}
+use Rattle.city_locks.specs.declared.mode.Mode.TheVariants.{Shared, Exclusive}
 use Rattle.city_locks.specs.Mode.{is_exclusive}
 use Rattle.city_locks.specs.Locks.{mode_of, Lawful}
 use Rattle.city_txn.specs.State.{Write, write_of, own_or, unless_by}
 use Rattle.city_model.specs.Standing.{Held, Answered, Follows, covers}
-use Rattle.city_txn.specs.CoreState.{CoreState, committed, view, is_open, held, Stands, IsConsistent}
+use Rattle.city_txn.specs.CoreState.{CoreState, committed, view, is_open, held, Stands, IsConsistent, KeepsOthers, IsOver}
 
--- a map that is sound by another at each id
-pub same_sound : (m n : CityMap) → ((q : List ℕ) → m q ≡ n q) → IsSound m → IsSound n
-same_sound m n h s = let e : m ≡ n = λ i q. h q i in subst IsSound e s
-
-pub same_lawful : (m n : CityMap) → ((q : List ℕ) → m q ≡ n q) → IsLawful m → IsLawful n
-same_lawful m n h s = let e : m ≡ n = λ i q. h q i in subst IsLawful e s
+pub held_exclusively : (o : Option Mode) → covers (option_map is_exclusive o) true ≡ true → o ≡ Some Exclusive
+held_exclusively None h = absurd (false≢true h)
+held_exclusively (Some Shared) h = absurd (false≢true h)
+held_exclusively (Some Exclusive) h = refl
 
 -- every view is sound
 pub sound_view : (v : CoreState) (s : ℕ) → IsConsistent v → IsSound (view v s)
@@ -96,31 +95,44 @@ others_locked v t q c h w e = bool_cases (w.0 == t)
     (λ f. f)
 
 nothing_done : (s : ℕ) (v w : CoreState) → Ended s v w → Stands w s []
-nothing_done s v w k q = ap (λ x. own_or s x (at w.city q)) (k.writes q) ∙ own_gone s (write_of v.writes q) (at w.city q)
+nothing_done s v w k = λ i q. (ap (λ x. own_or s x (at w.city q)) (k.writes q) ∙ own_gone s (write_of v.writes q) (at w.city q)) i
+
+-- what another sees, over what is committed then
+others_view : (s t : ℕ) (v w : CoreState) → Ended s v w → (s == t) ≡ false → (q : List ℕ) → view w t q ≡ own_or t (write_of v.writes q) (committed w q)
+others_view s t v w k ne q = ap (λ x. own_or t x (at w.city q)) (k.writes q) ∙ own_unless s t (write_of v.writes q) (at w.city q) ne
+
+pub is_over : (s : ℕ) (v w : CoreState) → Ended s v w → w.frame ≡ v.frame → ((t : ℕ) (done : List Answered) → (s == t) ≡ false → Stands v t done → Stands w t done) → IsOver s v w
+is_over s v w k frame stands = record {
+  writes = k.writes;
+  locks = k.locks;
+  closed = k.opened s ∙ ap (λ b. if b then false else is_open v s) (eq-eqb s s refl);
+  keeps = record { frame = frame; opened = λ t ne. k.opened t ∙ ap (λ b. if b then false else is_open v t) ne; others = stands };
+}
 
 -- ---- a commit
 
-pub stands_committed : (s t : ℕ) (v w : CoreState) (done : List Answered) → IsConsistent v → Ended s v w → ((q : List ℕ) → committed w q ≡ view v s q) →
+pub stands_committed : (s t : ℕ) (v w : CoreState) (done : List Answered) → IsConsistent v → Ended s v w → committed w ≡ view v s →
     (s == t) ≡ false → Stands v t done → Stands w t done
 stands_committed s t v w done c k city ne f =
     let agree : (q : List ℕ) → is_some (held v t q) ≡ true → committed v q ≡ committed w q =
-    λ q h. sym (city q ∙ own_not s (write_of v.writes q) (at v.city q) (unwritten v s t q c ne h)) in
-    let mine : (q : List ℕ) (o : Option Object) → own_or t (write_of w.writes q) o ≡ own_or t (write_of v.writes q) o =
-    λ q o. ap (λ x. own_or t x o) (k.writes q) ∙ own_unless s t (write_of v.writes q) o ne in
+    λ q h. sym (ap (λ (m : CityMap). m q) city ∙ own_not s (write_of v.writes q) (at v.city q) (unwritten v s t q c ne h)) in
+    let seen : (q : List ℕ) → carried (held v t) (committed w) (view v t) q ≡ view w t q =
+    λ q. bool_cases (covers (held v t q) true)
+    (λ e. ap (λ b. if b then view v t q else committed w q) e
+    ∙ ap (own_or t (write_of v.writes q)) (agree q (ap (λ o. is_some (option_map is_exclusive o)) (held_exclusively (mode_of v.locks t q) e))) ∙ sym (others_view s t v w k ne q))
+    (λ e. ap (λ b. if b then view v t q else committed w q) e
+    ∙ sym (others_view s t v w k ne q ∙ own_not t (write_of v.writes q) (at w.city q) (others_locked v t q c e))) in
+    let same : carried (held v t) (committed w) (view v t) ≡ view w t = λ i q. seen q i in
     subst (λ (h : Held). Follows h (committed w) done (view w t)) (same_held s t v w k ne)
-    (history_kept (held v t) (committed v) (committed w) done (view v t) (view w t) c.city.0
-    (same_sound (view v s) (committed w) (λ q. sym (city q)) (sound_view v s c))
-    agree
-    (λ q h. ap (own_or t (write_of v.writes q)) (agree q h) ∙ sym (mine q (at w.city q)))
-    (λ q h. mine q (at w.city q) ∙ own_not t (write_of v.writes q) (at w.city q) (others_locked v t q c h))
-    f)
+    (subst (λ (m : CityMap). Follows (held v t) (committed w) done m) same
+    (history_kept (held v t) (committed v) (committed w) done (view v t) c.city.0 (subst IsSound (sym city) (sound_view v s c)) agree f))
 
-pub committed_consistent : (s : ℕ) (v w : CoreState) → IsConsistent v → Ended s v w → ((q : List ℕ) → committed w q ≡ view v s q) → HasNoOrphan (view v s) → IsConsistent w
+pub committed_consistent : (s : ℕ) (v w : CoreState) → IsConsistent v → Ended s v w → committed w ≡ view v s → HasNoOrphan (view v s) → IsConsistent w
 committed_consistent s v w c k city orphans = record {
   lawful = k.lawful;
   locked = ended_locked s v w c k;
   open_only = ended_open s v w c k;
-  city = same_lawful (view v s) (committed w) (λ q. sym (city q)) (sound_view v s c, orphans);
+  city = subst IsLawful (sym city) (sound_view v s c, orphans);
   history = λ t. elim (cases_eq s t) [
     | inl e ↦ ([], subst (λ r. Stands w r []) e (nothing_done s v w k))
     | inr e ↦ ((c.history t).0, stands_committed s t v w (c.history t).0 c k city (ne_eqb s t e) (c.history t).1)
@@ -129,21 +141,22 @@ committed_consistent s v w c k city orphans = record {
 
 -- ---- an abort
 
-pub stands_aborted : (s t : ℕ) (v w : CoreState) (done : List Answered) → Ended s v w → ((q : List ℕ) → committed w q ≡ committed v q) →
+pub view_undone : (s t : ℕ) (v w : CoreState) → Ended s v w → committed w ≡ committed v → (s == t) ≡ false → view w t ≡ view v t
+view_undone s t v w k city ne = λ i q. (others_view s t v w k ne q ∙ ap (λ (m : CityMap). own_or t (write_of v.writes q) (m q)) city) i
+
+pub stands_aborted : (s t : ℕ) (v w : CoreState) (done : List Answered) → Ended s v w → committed w ≡ committed v →
     (s == t) ≡ false → Stands v t done → Stands w t done
 stands_aborted s t v w done k city ne f =
     follows_same (held v t) (held w t) (committed v) (committed w) done (view v t) (view w t)
     (λ q b h. ap (λ (g : Held). covers (g q) b) (sym (same_held s t v w k ne)) ∙ h)
-    (λ q. sym (city q))
-    (λ q. sym (ap (λ x. own_or t x (at w.city q)) (k.writes q) ∙ own_unless s t (write_of v.writes q) (at w.city q) ne ∙ ap (own_or t (write_of v.writes q)) (city q)))
-    f
+    (sym city) (sym (view_undone s t v w k city ne)) f
 
-pub aborted_consistent : (s : ℕ) (v w : CoreState) → IsConsistent v → Ended s v w → ((q : List ℕ) → committed w q ≡ committed v q) → IsConsistent w
+pub aborted_consistent : (s : ℕ) (v w : CoreState) → IsConsistent v → Ended s v w → committed w ≡ committed v → IsConsistent w
 aborted_consistent s v w c k city = record {
   lawful = k.lawful;
   locked = ended_locked s v w c k;
   open_only = ended_open s v w c k;
-  city = same_lawful (committed v) (committed w) (λ q. sym (city q)) c.city;
+  city = subst IsLawful (sym city) c.city;
   history = λ t. elim (cases_eq s t) [
     | inl e ↦ ([], subst (λ r. Stands w r []) e (nothing_done s v w k))
     | inr e ↦ ((c.history t).0, stands_aborted s t v w (c.history t).0 k city (ne_eqb s t e) (c.history t).1)

@@ -11,32 +11,32 @@ use Rattle.city_txn.specs.declared.image.Image.{Image}
 use Rattle.city_txn.specs.declared.store.Store.TheInside.{Inside}
 use Rattle.city_txn.specs.Ending.{AreEnded}
 use Rattle.city_txn.specs.Images.{seen_under, seen_at, committed_at, write_at, writer_of}
-use Rattle.city_txn.specs.State.{rooms_of, is_open, has_room, own_or, committed, view, unless_by, Forgets}
+use Rattle.city_txn.specs.State.{reservations_of, is_open, is_reserved, own_or, committed, view, unless_by, Forgets}
 use Rattle.city_txn.specs.InPlace.{image_at, state_of, is_writer, IsInPlace}
 use Rattle.city_txn.proofs.AtOneId.{tied, here, city_is, writes_is, view_is, own_seen, own_committed}
 
 -- ---- at one id, where x stands in the city
 
-kept_point : (s : ℕ) (x : Option Object) (i : Option Image) →
+commit_point : (s : ℕ) (x : Option Object) (i : Option Image) →
     committed_at (if is_writer s (writer_of i) then seen_at x i else x) (if is_writer s (writer_of i) then None else i)
     ≡ own_or s (write_at x i) (committed_at x i)
-kept_point s x None = refl
-kept_point s x (Some i) = bool_cases (i.by == s)
+commit_point s x None = refl
+commit_point s x (Some i) = bool_cases (i.by == s)
     (λ e. ap (λ b. committed_at (if b then seen_under x i else x) (if b then None else Some i)) e ∙ sym (own_seen s x i e))
     (λ e. ap (λ b. committed_at (if b then seen_under x i else x) (if b then None else Some i)) e ∙ sym (own_committed s x (committed_at x (Some i)) i e))
 
-restored_point : (b : Bool) (x : Option Object) (i : Option Image) →
+roll_back_point : (b : Bool) (x : Option Object) (i : Option Image) →
     committed_at (if b then committed_at x i else x) (if b then None else i) ≡ committed_at x i
-restored_point true x i = refl
-restored_point false x i = refl
+roll_back_point true x i = refl
+roll_back_point false x i = refl
 
 own_write : (s : ℕ) (x : Option Object) (i : Image) → (i.by == s) ≡ true → unless_by s (write_at x (Some i)) ≡ None
-own_write s x i e = bool_cases i.fresh
+own_write s x i e = bool_cases i.unwritten
     (λ f. ap (λ b. unless_by s (if b then None else Some (i.by, seen_under x i))) f)
     (λ f. ap (λ b. unless_by s (if b then None else Some (i.by, seen_under x i))) f ∙ ap (λ b. if b then None else Some (i.by, seen_under x i)) e)
 
 others_write : (s : ℕ) (x : Option Object) (i : Image) → (i.by == s) ≡ false → unless_by s (write_at x (Some i)) ≡ write_at x (Some i)
-others_write s x i e = bool_cases i.fresh
+others_write s x i e = bool_cases i.unwritten
     (λ f. ap (λ b. unless_by s (if b then None else Some (i.by, seen_under x i))) f ∙ sym (ap (λ b. if b then None else Some (i.by, seen_under x i)) f))
     (λ f. ap (λ b. unless_by s (if b then None else Some (i.by, seen_under x i))) f ∙ ap (λ b. if b then None else Some (i.by, seen_under x i)) e
     ∙ sym (ap (λ b. if b then None else Some (i.by, seen_under x i)) f))
@@ -69,9 +69,9 @@ others_stay s t (Some i) = bool_cases (i.by == s)
 -- ---- the whole
 
 -- f says what stands in the city where an image of the stamp s was
-module _ (a b : Inside) (k : IsInPlace a) (s : ℕ) (ids : List (List ℕ)) (are : ids ≡ rooms_of a.rooms.entries s)
+module _ (a b : Inside) (k : IsInPlace a) (s : ℕ) (ids : List (List ℕ)) (are : ids ≡ reservations_of a.reservations.entries s)
     (f : Option Object → Option Image → Option Object) (ended : AreEnded f (has_id ids) a.city a.images b.city b.images)
-    (rooms : (t : ℕ) → get nat_cmp b.rooms t ≡ (if is_at (nat_cmp s) t then None else get nat_cmp a.rooms t)) where
+    (reservations : (t : ℕ) → get nat_cmp b.reservations t ≡ (if is_at (nat_cmp s) t then None else get nat_cmp a.reservations t)) where
   mine : (q : List ℕ) → has_id ids q ≡ is_writer s (writer_of (image_at a q))
   mine q = ap (λ xs. has_id xs q) are ∙ k.listed s q
 
@@ -81,30 +81,29 @@ module _ (a b : Inside) (k : IsInPlace a) (s : ℕ) (ids : List (List ℕ)) (are
   images_at : (q : List ℕ) → image_at b q ≡ (if is_writer s (writer_of (image_at a q)) then None else image_at a q)
   images_at q = ended.images q ∙ ap (λ c. if c then None else image_at a q) (mine q)
 
-  room_left : (t : ℕ) (q : List ℕ) → has_room (state_of b) t q ≡ (if s == t then false else has_room (state_of a) t q)
-  room_left t q = ap (λ o. has_id (unwrap_or o []) q) (rooms t) ∙ ap (λ c. has_id (unwrap_or (if c then None else get nat_cmp a.rooms t) []) q) (tied s t)
+  reserved_left : (t : ℕ) (q : List ℕ) → is_reserved (state_of b) t q ≡ (if s == t then false else is_reserved (state_of a) t q)
+  reserved_left t q = ap (λ o. has_id (unwrap_or o []) q) (reservations t) ∙ ap (λ c. has_id (unwrap_or (if c then None else get nat_cmp a.reservations t) []) q) (tied s t)
       ∙ by_case (s == t)
     where
-      by_case : (c : Bool) → has_id (unwrap_or (if c then None else get nat_cmp a.rooms t) []) q ≡ (if c then false else has_room (state_of a) t q)
+      by_case : (c : Bool) → has_id (unwrap_or (if c then None else get nat_cmp a.reservations t) []) q ≡ (if c then false else is_reserved (state_of a) t q)
       by_case true = refl
       by_case false = refl
 
   open_left : (t : ℕ) → is_open (state_of b) t ≡ (if s == t then false else is_open (state_of a) t)
-  open_left t = ap is_some (rooms t) ∙ ap (λ c. is_some (if c then None else get nat_cmp a.rooms t)) (tied s t) ∙ by_case (s == t)
+  open_left t = ap is_some (reservations t) ∙ ap (λ c. is_some (if c then None else get nat_cmp a.reservations t)) (tied s t) ∙ by_case (s == t)
     where
-      by_case : (c : Bool) → is_some (if c then None else get nat_cmp a.rooms t) ≡ (if c then false else is_open (state_of a) t)
+      by_case : (c : Bool) → is_some (if c then None else get nat_cmp a.reservations t) ≡ (if c then false else is_open (state_of a) t)
       by_case true = refl
       by_case false = refl
 
   pub forgotten_in_place : IsInPlace b
   forgotten_in_place = record {
-    placed = λ q h. bool_cases (has_id ids q)
+    has_slot = λ q h. bool_cases (has_id ids q)
         (λ e. absurd (false≢true (sym (ap is_some (ended.images q ∙ ap (λ c. if c then None else image_at a q) e)) ∙ h)))
         (λ e. ap is_some (ended.city q ∙ ap (λ c. if c then f (here a q) (image_at a q) else here a q) e)
-        ∙ k.placed q (sym (ap is_some (ended.images q ∙ ap (λ c. if c then None else image_at a q) e)) ∙ h));
-    listed = λ t q. room_left t q ∙ ap (λ c. if s == t then false else c) (k.listed t q) ∙ others_stay s t (image_at a q)
+        ∙ k.has_slot q (sym (ap is_some (ended.images q ∙ ap (λ c. if c then None else image_at a q) e)) ∙ h));
+    listed = λ t q. reserved_left t q ∙ ap (λ c. if s == t then false else c) (k.listed t q) ∙ others_stay s t (image_at a q)
         ∙ sym (ap (λ i. is_writer t (writer_of i)) (images_at q));
-    city_ordered = ended.city_ordered k.city_ordered;
     images_ordered = ended.images_ordered k.images_ordered;
   }
 
@@ -115,7 +114,7 @@ module _ (a b : Inside) (k : IsInPlace a) (s : ℕ) (ids : List (List ℕ)) (are
         ∙ ap (write_at (if is_writer s (writer_of (image_at a q)) then f (here a q) (image_at a q) else here a q)) (images_at q)
         ∙ dropped_point s (here a q) (f (here a q) (image_at a q)) (image_at a q) ∙ sym (ap (unless_by s) (writes_is a k q));
     opened = open_left;
-    room = room_left;
+    reserved = reserved_left;
   }
 
   committed_left : (q : List ℕ) → committed (state_of b) q
@@ -123,12 +122,18 @@ module _ (a b : Inside) (k : IsInPlace a) (s : ℕ) (ids : List (List ℕ)) (are
   committed_left q = city_is b forgotten_in_place q ∙ ap (λ x. committed_at x (image_at b q)) (city_at q)
       ∙ ap (committed_at (if is_writer s (writer_of (image_at a q)) then f (here a q) (image_at a q) else here a q)) (images_at q)
 
-  pub kept_city : ((x : Option Object) (i : Option Image) → f x i ≡ seen_at x i) → (q : List ℕ) → committed (state_of b) q ≡ view (state_of a) s q
-  kept_city is q = committed_left q
+  as_seen : ((x : Option Object) (i : Option Image) → f x i ≡ seen_at x i) → (q : List ℕ) → committed (state_of b) q ≡ view (state_of a) s q
+  as_seen is q = committed_left q
       ∙ ap (λ y. committed_at (if is_writer s (writer_of (image_at a q)) then y else here a q) (if is_writer s (writer_of (image_at a q)) then None else image_at a q)) (is (here a q) (image_at a q))
-      ∙ kept_point s (here a q) (image_at a q) ∙ sym (view_is a k q s)
+      ∙ commit_point s (here a q) (image_at a q) ∙ sym (view_is a k q s)
 
-  pub restored_city : ((x : Option Object) (i : Option Image) → f x i ≡ committed_at x i) → (q : List ℕ) → committed (state_of b) q ≡ committed (state_of a) q
-  restored_city is q = committed_left q
+  pub committed_city : ((x : Option Object) (i : Option Image) → f x i ≡ seen_at x i) → committed (state_of b) ≡ view (state_of a) s
+  committed_city is = λ j q. as_seen is q j
+
+  as_before : ((x : Option Object) (i : Option Image) → f x i ≡ committed_at x i) → (q : List ℕ) → committed (state_of b) q ≡ committed (state_of a) q
+  as_before is q = committed_left q
       ∙ ap (λ y. committed_at (if is_writer s (writer_of (image_at a q)) then y else here a q) (if is_writer s (writer_of (image_at a q)) then None else image_at a q)) (is (here a q) (image_at a q))
-      ∙ restored_point (is_writer s (writer_of (image_at a q))) (here a q) (image_at a q) ∙ sym (city_is a k q)
+      ∙ roll_back_point (is_writer s (writer_of (image_at a q))) (here a q) (image_at a q) ∙ sym (city_is a k q)
+
+  pub rolled_back_city : ((x : Option Object) (i : Option Image) → f x i ≡ committed_at x i) → committed (state_of b) ≡ committed (state_of a)
+  rolled_back_city is = λ j q. as_before is q j

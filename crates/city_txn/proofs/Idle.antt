@@ -2,26 +2,28 @@
 use Rattle.std.proofs.Common.{◌≡◌, ◌==◌, ◌||◌, ℕ, List, [], ◌∷◌, false, Option, None, Some, refl, ap, sym, ◌∙◌}
 use Rattle.std.specs.Map.{keys_of}
 use Rattle.std.specs.List.{list_any}
+use Rattle.std.specs.FinMap.{entries, from_sorted}
 use Rattle.std.proofs.lemmas.Bool.{false≢true, eq-eqb}
 use Rattle.city_model.specs.CityMap.{has_id}
 use Rattle.city_txn.specs.declared.image.Image.{Image}
 use Rattle.city_txn.specs.declared.store.Store.TheInside.{Inside}
 use Rattle.city_txn.specs.Images.{committed_at, writer_of}
-use Rattle.city_txn.specs.State.{rooms_of}
+use Rattle.city_txn.specs.State.{reservations_of}
 use Rattle.city_txn.specs.InPlace.{made_by, image_at, state_of, is_writer, IsInPlace}
-use Rattle.city_txn.proofs.AtOneId.{all_made}
+use Rattle.city_txn.proofs.AtOneId.{all_there}
 
 unwritten : (i : Option Image) → ((s : ℕ) → is_writer s (writer_of i) ≡ false) → i ≡ None
 unwritten None h = refl
 unwritten (Some i) h = absurd (false≢true (sym (h i.by) ∙ eq-eqb i.by i.by refl))
 
-no_image : (a : Inside) → IsInPlace a → a.rooms.entries ≡ [] → (id : List ℕ) → image_at a id ≡ None
-no_image a k shut id = unwritten (image_at a id) (λ s. sym (k.listed s id) ∙ ap (λ rooms. has_id (rooms_of rooms s) id) shut)
+no_image : (a : Inside) → IsInPlace a → a.reservations.entries ≡ [] → (id : List ℕ) → image_at a id ≡ None
+no_image a k shut id = unwritten (image_at a id) (λ s. sym (k.listed s id) ∙ ap (λ reservations. has_id (reservations_of reservations s) id) shut)
 
-pub idle_city : (a : Inside) → IsInPlace a → a.rooms.entries ≡ [] → a.city ≡ ((state_of a).frame, (state_of a).city)
+pub idle_city : (a : Inside) → IsInPlace a → a.reservations.entries ≡ [] → a.city ≡ ((state_of a).frame, (state_of a).city)
 idle_city a k shut =
     let none : image_at a ≡ (λ id. None) = λ i id. no_image a k shut id i in
-    let same : (state_of a).city ≡ a.city.1 = ap (λ (images : List ℕ → Option Image). made_by (λ id o. committed_at (Some o) (images id)) a.city.1) none ∙ all_made a.city.1 in
+    let same : (state_of a).city ≡ a.city.1 =
+    ap (λ (images : List ℕ → Option Image). from_sorted (made_by (λ id o. committed_at (Some o) (images id)) (entries a.city.1))) none ∙ all_there a.city.1 in
     λ i. (a.city.0, sym same i)
 
 -- where no stamp is open there is none

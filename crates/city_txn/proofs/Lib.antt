@@ -9,8 +9,6 @@ pub mod Forgotten
 pub mod Idle
 pub mod LocksAsked
 pub mod LocksGained
-pub mod PerformDone
-pub mod PlanMade
 pub mod PlanWritten
-pub mod RoomMade
+pub mod ReservationMade
 pub mod Written

@@ -1,9 +1,11 @@
 -- Locks asked for in turn: one, and more after them.
-use Rattle.std.proofs.Common.{◌≡◌, ◌≢◌, ◌||◌, ℕ, ◌+◌, ◌<◌, List, [], ◌∷◌, ◌++◌, length, take, drop, get_or, Bool, true, false, Option, Result, Ok, Err, refl, ap, sym, ◌∙◌, subst, append_assoc}
-use Rattle.std.specs.Prelude.{IfOk, OnOk, IsErr}
+use Rattle.std.proofs.Common.{◌≡◌, ◌≢◌, ◌⊎◌, inl, inr, ◌||◌, ℕ, ◌+◌, ◌<◌, List, [], ◌∷◌, ◌++◌, length, take, drop, get_or, Bool, true, false, Option, None, Some, is_some, Result, Ok, Err, refl, ap, sym, ◌∙◌, subst, append_assoc}
+use Rattle.std.specs.Prelude.{IfOk, OnOk, IsErr, option_map}
+use Rattle.std.proofs.Math.Nat.{ne_of_lt, ne_of_gt}
+use Rattle.std.proofs.lemmas.Result.{on_ok_weaker, IfOk-weaker}
 use Rattle.std.proofs.lemmas.List.{append-nil, map-append, take-append-drop, take_more}
 use Rattle.std.proofs.lemmas.List.Folds.{list_any-append}
-use Rattle.std.proofs.lemmas.Bool.{false≢true, or_parts}
+use Rattle.std.proofs.lemmas.Bool.{false≢true, or_parts, or_left, or_right, ne_eqb}
 use Rattle.city_model.specs.CityMap.{same_id, has_id}
 use Rattle.city_model.specs.Meaning.{exclusively}
 use Rattle.city_locks.specs.declared.mode.Mode.{Mode}
@@ -11,11 +13,13 @@ use Rattle.city_locks.specs.declared.mode.Mode.TheVariants.{Shared, Exclusive}
 use Rattle.city_locks.specs.declared.answer.Answer.{Answer}
 use Rattle.city_locks.specs.declared.answer.Answer.TheVariants.{Granted, Wait, Die}
 use Rattle.city_locks.specs.Mode.{is_exclusive}
-use Rattle.city_locks.specs.Locks.{Locks, answer_of, Lawful}
-use Rattle.city_model.specs.Standing.{AllHeld, Lock, locked_ids, names}
+use Rattle.city_locks.specs.Locks.{Locks, answer_of, mode_of, Lawful}
+use Rattle.city_locks.specs.WaitDie.{IsInConflict, IsWaitDie}
+use Rattle.city_model.specs.Standing.{AllHeld, Lock, covers, locked_ids, names, names_exclusively, exclusive_ids}
+use Rattle.city_model.proofs.IdLists.{bool_cases}
 use Rattle.city_txn.specs.CoreState.{held_in}
-use Rattle.city_txn.specs.Locking.{mode_for, go_on, first_answer, first_if, granted_before, MoreLocks, GainsFirst, Asked}
-use Rattle.city_txn.proofs.LocksGained.{Adds, no_more_locks, one_asked, asked_held, all_granted}
+use Rattle.city_txn.specs.Locking.{mode_for, go_on, first_answer, first_if, granted_before, MoreLocks, GainsFirst, HoldsLock, IsBlocked, Asked}
+use Rattle.city_txn.proofs.LocksGained.{Adds, no_more_locks, either, one_asked, asked_held, all_granted}
 
 -- ---- lists of locks
 
@@ -28,6 +32,10 @@ neither_names ls ms q h = or_parts (names ls q) (names ms q) (sym (names_append 
 held_both : (held : List ℕ → Option Bool) (ls ms : List Lock) → AllHeld held ls → AllHeld held ms → AllHeld held (ls ++ ms)
 held_both held [] ms a b = b
 held_both held (l ∷ ls) ms a b = (a.0, held_both held ls ms a.1 b)
+
+held_parts : (held : List ℕ → Option Bool) (ls ms : List Lock) → AllHeld held (ls ++ ms) → AllHeld held ls × AllHeld held ms
+held_parts held [] ms a = (tt, a)
+held_parts held (l ∷ ls) ms a = let rest = held_parts held ls ms a.1 in ((a.0, rest.0), rest.1)
 
 -- the locks, where all before them were granted
 abbrev pub only_after : Answer → List Lock → List Lock
@@ -77,11 +85,22 @@ same_before s hs ks (l ∷ ls) e = ap (λ a. first_if a l (granted_before ks s l
 
 -- ---- locks gained, and then more
 
+exclusive_append : (ls ms : List Lock) → exclusive_ids (ls ++ ms) ≡ exclusive_ids ls ++ exclusive_ids ms
+exclusive_append [] ms = refl
+exclusive_append ((id, true) ∷ ls) ms = ap (λ ids. id ∷ ids) (exclusive_append ls ms)
+exclusive_append ((id, false) ∷ ls) ms = exclusive_append ls ms
+
+exclusively_append : (ls ms : List Lock) (q : List ℕ) → names_exclusively (ls ++ ms) q ≡ (names_exclusively ls q || names_exclusively ms q)
+exclusively_append ls ms q = ap (λ ids. has_id ids q) (exclusive_append ls ms) ∙ list_any-append (same_id q) (exclusive_ids ls) (exclusive_ids ms)
+
 more_then : (s : ℕ) (ls ms : List Lock) (hs ks us : Locks) → MoreLocks s ls hs ks → MoreLocks s ms ks us → MoreLocks s (ls ++ ms) hs us
 more_then s ls ms hs ks us a b = record {
   others = λ t q e. b.others t q e ∙ a.others t q e;
   more = λ q x e. b.more q x (a.more q x e);
   only = λ q h. let n = neither_names ls ms q h in b.only q n.1 ∙ a.only q n.0;
+  modes = λ q h. either
+      (λ x. either (λ y. inl y) (λ y. inr (exclusively_append ls ms q ∙ or_left (names_exclusively ls q) (names_exclusively ms q) y)) (a.modes q x))
+      (λ y. inr (exclusively_append ls ms q ∙ or_right (names_exclusively ls q) (names_exclusively ms q) y)) (b.modes q h);
   lawful = λ x. b.lawful (a.lawful x);
   answers = λ q n. b.answers q n ∙ a.answers q n;
 }
@@ -93,6 +112,26 @@ more_named s ls ms hs ks a = more_then s ls ms hs ks ks a (no_more_locks s ms ks
 still_held : (s : ℕ) (ls ms : List Lock) (ks us : Locks) → MoreLocks s ms ks us → AllHeld (held_in ks s) ls → AllHeld (held_in us s) ls
 still_held s [] ms ks us b h = tt
 still_held s (l ∷ ls) ms ks us b h = (b.more l.0 l.1 h.0, still_held s ls ms ks us b h.1)
+
+-- ---- who holds a lock that the stamp is refused
+
+pub blocked_weaker : (P Q : ℕ → Type 0) (s : ℕ) → ((t : ℕ) → s ≢ t → P t → Q t) → (a : Answer) → IsBlocked P s a → IsBlocked Q s a
+blocked_weaker P Q s f Granted b = tt
+blocked_weaker P Q s f Wait b = (b.0, b.1, f b.0 (ne_of_lt b.1) b.2)
+blocked_weaker P Q s f Die b = (b.0, b.1, f b.0 (ne_of_gt b.1) b.2)
+
+-- another holds a lock after the stamp has gained some only if it did before
+held_before : (s : ℕ) (ls : List Lock) (v u : Locks) → MoreLocks s ls v u → (t : ℕ) → s ≢ t → HoldsLock u t → HoldsLock v t
+held_before s ls v u k t ne h = (h.0, ap is_some (sym (k.others t h.0 (ne_eqb s t ne))) ∙ h.1)
+
+wait_die_blocked : (hs : Locks) (s : ℕ) (id : List ℕ) (m : Mode) (a : Answer) → IsWaitDie (IsInConflict hs s id m) s a → IsBlocked (HoldsLock hs) s a
+wait_die_blocked hs s id m Granted w = tt
+wait_die_blocked hs s id m Wait w =
+    let found = w.wait.0 refl in
+    (found.0.0, found.1 found.0.0 found.0.1, (id, ap is_some found.0.1.holds))
+wait_die_blocked hs s id m Die w =
+    let found = w.die.0 refl in
+    (found.0, found.1.1, (id, ap is_some found.1.0.holds))
 
 -- ---- all of some locks are granted
 
@@ -117,11 +156,9 @@ granted_asked {E} s ls v w a =
       answer = sym a.all;
       gains = record { gained = ls; left = []; parts = are ∙ sym (append-nil ls); held = a.held; locks = a.locks };
       held = subst (AllHeld (held_in w s)) (sym are) a.held;
+      blocked = tt;
+      answered = λ h. refl;
     }
-
-on_ok : {A E : Type 0} (r : Result A E) {P Q : Type 0} → (P → Q) → OnOk r P → OnOk r Q
-on_ok (Ok x) f p = f p
-on_ok (Err e) f p = tt
 
 -- and then the next are asked for
 pub asked_more : {E : Type 0} (s : ℕ) (ls ms : List Lock) (r : Result Answer E) (v u w : Locks) → AllGranted s ls v u → Asked s ms r u w → Asked s (ls ++ ms) r v w
@@ -143,7 +180,10 @@ asked_more {E} s ls ms r v u w a b =
         held = held_both (held_in w s) ls b.gains.gained old b.gains.held;
         locks = more_then s ls b.gains.gained v u w a.locks b.gains.locks;
       };
-      held = on_ok r (λ h. subst (AllHeld (held_in w s)) (sym before) (held_both (held_in w s) ls (granted_before u s ms) old h)) b.held;
+      held = on_ok_weaker r (λ h. subst (AllHeld (held_in w s)) (sym before) (held_both (held_in w s) ls (granted_before u s ms) old h)) b.held;
+      blocked = IfOk-weaker r (IsBlocked (HoldsLock u) s) (IsBlocked (HoldsLock v) s)
+          (blocked_weaker (HoldsLock u) (HoldsLock v) s (held_before s ls v u a.locks)) b.blocked;
+      answered = λ h. b.answered (still_held s (granted_before u s ms) ls v u a.locks (held_parts (held_in v s) ls (granted_before u s ms) (subst (AllHeld (held_in v s)) before h)).1);
     }
 
 -- ---- some lock isn't granted, and the next aren't asked for
@@ -171,12 +211,14 @@ asked_short {E} s ls ms r v w n a = record {
     locks = a.gains.locks;
   };
   held = short_held s ls ms v w r n a.answer a.held;
+  blocked = a.blocked;
+  answered = λ h. a.answered (held_parts (held_in v s) (granted_before v s ls) (only_after (first_answer v s ls) (granted_before v s ms)) (subst (AllHeld (held_in v s)) (before_append v s ls ms) h)).0;
 }
 
 -- no memory for one of the first
 pub asked_failed : {E F : Type 0} (s : ℕ) (ls ms : List Lock) (r : Result Answer E) (f : F) (v w : Locks) → IsErr r → Asked s ls (Err f) v w → Asked s (ls ++ ms) r v w
 asked_failed {E} {F} s ls ms (Ok x) f v w bad a = absurd (false≢true bad)
-asked_failed {E} {F} s ls ms (Err e) f v w bad a = asked_short s ls ms (Err e) v w tt (record { answer = tt; gains = a.gains; held = tt })
+asked_failed {E} {F} s ls ms (Err e) f v w bad a = asked_short s ls ms (Err e) v w tt (record { answer = tt; gains = a.gains; held = tt; blocked = tt; answered = a.answered })
 
 -- ---- one lock
 
@@ -194,36 +236,52 @@ before_one s id m hs = ap (λ n. first_if (answer_of hs s id n) (id, is_exclusiv
 pub gains_nothing : (s : ℕ) (ls : List Lock) (hs : Locks) → GainsFirst s ls hs hs
 gains_nothing s ls hs = record { gained = []; left = ls; parts = refl; held = tt; locks = no_more_locks s [] hs }
 
-asked_by : {E : Type 0} (s : ℕ) (id : List ℕ) (m : Mode) (hs ks : Locks) (a : Answer) → a ≡ answer_of hs s id m → (a ≡ Granted → Adds s id m hs ks) → (a ≢ Granted → ks ≡ hs)
-    → MoreLocks s ((id, is_exclusive m) ∷ []) hs ks → Asked {E = E} s ((id, is_exclusive m) ∷ []) (Ok a) hs ks
-asked_by {E} s id m hs ks Granted e g n l =
-    let are : granted_before hs s ((id, is_exclusive m) ∷ []) ≡ (id, is_exclusive m) ∷ [] = before_one s id m hs ∙ ap (λ x. first_if x (id, is_exclusive m) []) (sym e) in
-    let h : AllHeld (held_in ks s) ((id, is_exclusive m) ∷ []) = (asked_held s id m hs ks (g refl), tt) in
-    record {
-      answer = sym (first_one s id m hs ∙ ap (λ x. go_on x Granted) (sym e));
-      gains = record { gained = (id, is_exclusive m) ∷ []; left = []; parts = are; held = h; locks = l };
-      held = subst (AllHeld (held_in ks s)) (sym are) h;
-    }
-asked_by {E} s id m hs ks Wait e g n l = record {
-  answer = sym (first_one s id m hs ∙ ap (λ x. go_on x Granted) (sym e));
-  gains = subst (GainsFirst s (granted_before hs s ((id, is_exclusive m) ∷ [])) hs) (sym (n (λ x. cc))) (gains_nothing s (granted_before hs s ((id, is_exclusive m) ∷ [])) hs);
-  held = subst (AllHeld (held_in ks s)) (sym (before_one s id m hs ∙ ap (λ x. first_if x (id, is_exclusive m) []) (sym e))) tt;
-}
-asked_by {E} s id m hs ks Die e g n l = record {
-  answer = sym (first_one s id m hs ∙ ap (λ x. go_on x Granted) (sym e));
-  gains = subst (GainsFirst s (granted_before hs s ((id, is_exclusive m) ∷ [])) hs) (sym (n (λ x. cc))) (gains_nothing s (granted_before hs s ((id, is_exclusive m) ∷ [])) hs);
-  held = subst (AllHeld (held_in ks s)) (sym (before_one s id m hs ∙ ap (λ x. first_if x (id, is_exclusive m) []) (sym e))) tt;
-}
+module _ (s : ℕ) (id : List ℕ) (m : Mode) (hs : Locks) where
+  abbrev one : List Lock
+  one = (id, is_exclusive m) ∷ []
 
--- what the lock table ensures is what is asked of it
-pub asked_one : {E : Type 0} (s : ℕ) (id : List ℕ) (m : Mode) (hs ks : Locks) (a : Answer) → a ≡ answer_of hs s id m → (answer_of hs s id m ≡ Granted → Adds s id m hs ks) →
-    (answer_of hs s id m ≢ Granted → ks ≡ hs) → Lawful ks → ((q : List ℕ) (n : Mode) → answer_of ks s q n ≡ answer_of hs s q n) → Asked {E = E} s ((id, is_exclusive m) ∷ []) (Ok a) hs ks
-asked_one {E} s id m hs ks a e g n l o = asked_by s id m hs ks a e (λ x. g (sym e ∙ x)) (λ x. n (λ y. x (e ∙ y))) (one_asked s id m hs ks g n l o)
+  -- the lock isn't granted, and nothing is gained
+  not_gained : {E : Type 0} (ks : Locks) (a : Answer) → ks ≡ hs → a ≡ answer_of hs s id m → go_on a Granted ≡ a → first_if a (id, is_exclusive m) [] ≡ [] → IsBlocked (HoldsLock hs) s a → Asked {E = E} s one (Ok a) hs ks
+  not_gained {E} ks a same e stays none w = record {
+    answer = sym (first_one s id m hs ∙ ap (λ x. go_on x Granted) (sym e) ∙ stays);
+    gains = subst (GainsFirst s (granted_before hs s one) hs) (sym same) (gains_nothing s (granted_before hs s one) hs);
+    held = subst (AllHeld (held_in ks s)) (sym (before_one s id m hs ∙ ap (λ x. first_if x (id, is_exclusive m) []) (sym e) ∙ none)) tt;
+    blocked = w;
+    answered = λ h. refl;
+  }
 
--- no memory for the first lock
-pub asked_none : {E : Type 0} (s : ℕ) (ls : List Lock) (r : Result Answer E) (hs ks : Locks) → IsErr r → ks ≡ hs → Asked s ls r hs ks
-asked_none {E} s ls (Ok a) hs ks bad same = absurd (false≢true bad)
-asked_none {E} s ls (Err e) hs ks bad same = record { answer = tt; gains = subst (GainsFirst s (granted_before hs s ls) hs) (sym same) (gains_nothing s (granted_before hs s ls) hs); held = tt }
+  asked_by : {E : Type 0} (ks : Locks) (a : Answer) → a ≡ answer_of hs s id m → (a ≡ Granted → Adds s id m hs ks) → (a ≢ Granted → ks ≡ hs)
+      → MoreLocks s one hs ks → IsBlocked (HoldsLock hs) s a → Asked {E = E} s one (Ok a) hs ks
+  asked_by {E} ks Granted e g n l w =
+      let are : granted_before hs s one ≡ one = before_one s id m hs ∙ ap (λ x. first_if x (id, is_exclusive m) []) (sym e) in
+      let h : AllHeld (held_in ks s) one = (asked_held s id m hs ks (g refl), tt) in
+      record {
+        answer = sym (first_one s id m hs ∙ ap (λ x. go_on x Granted) (sym e));
+        gains = record { gained = one; left = []; parts = are; held = h; locks = l };
+        held = subst (AllHeld (held_in ks s)) (sym are) h;
+        blocked = tt;
+        answered = λ h. refl;
+      }
+  asked_by {E} ks Wait e g n l w = not_gained ks Wait (n (λ x. cc)) e refl refl w
+  asked_by {E} ks Die e g n l w = not_gained ks Die (n (λ x. cc)) e refl refl w
+
+  -- what the lock table ensures is what is asked of it
+  pub asked_one : {E : Type 0} (ks : Locks) (a : Answer) → a ≡ answer_of hs s id m → IsWaitDie (IsInConflict hs s id m) s a → (answer_of hs s id m ≡ Granted → Adds s id m hs ks)
+      → (answer_of hs s id m ≢ Granted → ks ≡ hs) → Lawful ks → ((q : List ℕ) (n : Mode) → answer_of ks s q n ≡ answer_of hs s q n) → Asked {E = E} s one (Ok a) hs ks
+  asked_one {E} ks a e w g n l o = asked_by ks a e (λ x. g (sym e ∙ x)) (λ x. n (λ y. x (e ∙ y))) (one_asked s id m hs ks g n l o) (wait_die_blocked hs s id m a w)
+
+  -- no memory for the lock, which is granted and wasn't held
+  pub asked_none : {E : Type 0} (r : Result Answer E) (ks : Locks) → IsErr r → ks ≡ hs → answer_of hs s id m ≡ Granted → mode_of hs s id ≡ None → Asked s one r hs ks
+  asked_none {E} (Ok a) ks bad same granted unheld = absurd (false≢true bad)
+  asked_none {E} (Err e) ks bad same granted unheld = record {
+    answer = tt;
+    gains = subst (GainsFirst s (granted_before hs s one) hs) (sym same) (gains_nothing s (granted_before hs s one) hs);
+    held = tt;
+    blocked = tt;
+    answered = λ h.
+        let all : AllHeld (held_in hs s) one = subst (AllHeld (held_in hs s)) (before_one s id m hs ∙ ap (λ x. first_if x (id, is_exclusive m) []) granted) h in
+        absurd (false≢true (sym (ap (λ o. covers (option_map is_exclusive o) (is_exclusive m)) unheld) ∙ all.0));
+  }
 
 -- ---- exclusive locks on many ids
 

@@ -1,73 +1,82 @@
--- Planned writes worked through: room for one more, and one more written.
+-- List ℕ × Option Object writes worked through: one more reserved, and one more written.
 use Rattle.std.proofs.Common.{◌≡◌, ◌==◌, ◌&&◌, ◌||◌, ℕ, ◌+◌, ◌<◌, List, [], ◌∷◌, ◌++◌, length, take, get_or, Bool, true, false, Option, Some, refl, ap, sym, ◌∙◌, subst}
 use Rattle.std.specs.Prelude.{if◌then◌else◌}
+use Rattle.std.specs.List.{list_any}
+use Rattle.city_model.specs.declared.object.Object.{Object}
 use Rattle.std.proofs.lemmas.Bool.{eqb-true, eq-eqb, or_left, and_parts, and_from, or_right}
 use Rattle.std.proofs.lemmas.List.Folds.{list_any_more, list_any_at, list_any-append}
 use Rattle.std.proofs.Math.Bool.{or-false}
 use Rattle.city_model.specs.CityMap.{CityMap, same_id, has_id}
 use Rattle.city_model.proofs.Ids.{same_id_true, same_id_itself, same_id_back}
-use Rattle.city_txn.specs.declared.writing.Planned.{Planned}
-use Rattle.city_txn.specs.State.{State, Write, has_room, rooms_of, SeesSame}
-use Rattle.city_txn.specs.Planning.{plans, AreOf}
+use Rattle.city_txn.specs.State.{State, Write, is_reserved, reservations_of, SeesSame}
+use Rattle.city_txn.specs.Performing.{plans}
+use Rattle.city_model.specs.Plans.{AreOf}
+use Rattle.city_model.specs.Runs.{Change}
 
 pub or_cases : (a b : Bool) {A : Type 0} → (a || b) ≡ true → (a ≡ true → A) → (b ≡ true → A) → A
 or_cases true b h f g = f refl
 or_cases false b h f g = g h
 
--- ---- room
+listed : (ws : Change) (q : List ℕ) → plans ws q ≡ list_any (λ w. same_id q w.0) ws
+listed [] q = refl
+listed (w ∷ ws) q = ap (λ b. same_id q w.0 || b) (listed ws q)
 
-pub plans_more : (ws : List Planned) (n : ℕ) (w : Planned) (q : List ℕ) → n < length ws → w ≡ get_or ws n w → plans (take (n + 1) ws) q ≡ (plans (take n ws) q || same_id q w.id)
-plans_more ws n w q lt is = list_any_more (λ x. same_id q x.id) ws n w lt ∙ ap (λ x. plans (take n ws) q || same_id q x.id) (sym is)
+-- ---- reserved
 
-plans_got : (ws : List Planned) (n : ℕ) (w : Planned) → n < length ws → w ≡ get_or ws n w → plans ws w.id ≡ true
-plans_got ws n w lt is = list_any_at (λ x. same_id w.id x.id) ws n w lt (ap (λ x. same_id w.id x.id) (sym is) ∙ same_id_itself w.id)
+pub plans_more : (ws : Change) (n : ℕ) (w : List ℕ × Option Object) (q : List ℕ) → n < length ws → w ≡ get_or ws n w → plans (take (n + 1) ws) q ≡ (plans (take n ws) q || same_id q w.0)
+plans_more ws n w q lt is = listed (take (n + 1) ws) q ∙ list_any_more (λ x. same_id q x.0) ws n w lt
+    ∙ ap (λ b. b || same_id q (get_or ws n w).0) (sym (listed (take n ws) q)) ∙ ap (λ x. plans (take n ws) q || same_id q x.0) (sym is)
 
--- v is the store at the start, u where room was made for the first n, and w with room for one more
-module _ (v u w : State) (s : ℕ) (ws : List Planned) (n : ℕ) (p : Planned) (lt : n < length ws) (is : p ≡ get_or ws n p)
-    (alone : (q : List ℕ) → plans ws q ≡ true → (t : ℕ) → has_room v t q ≡ true → t ≡ s)
-    (room : (t : ℕ) (q : List ℕ) → has_room u t q ≡ true → (has_room v t q || ((s == t) && plans ws q)) ≡ true) where
-  pub still_alone : (t : ℕ) → has_room u t p.id ≡ true → t ≡ s
-  still_alone t h = or_cases (has_room v t p.id) ((s == t) && plans ws p.id) (room t p.id h)
-      (λ e. alone p.id (plans_got ws n p lt is) t e)
-      (λ e. sym (eqb-true s t (and_parts (s == t) (plans ws p.id) e).0))
+plans_got : (ws : Change) (n : ℕ) (w : List ℕ × Option Object) → n < length ws → w ≡ get_or ws n w → plans ws w.0 ≡ true
+plans_got ws n w lt is = listed ws w.0 ∙ list_any_at (λ x. same_id w.0 x.0) ws n w lt (ap (λ x. same_id w.0 x.0) (sym is) ∙ same_id_itself w.0)
 
-  module _ (more : (t : ℕ) (q : List ℕ) → has_room w t q ≡ (((s == t) && same_id p.id q) || has_room u t q)) where
-    pub room_more : (t : ℕ) (q : List ℕ) → has_room w t q ≡ true → (has_room v t q || ((s == t) && plans ws q)) ≡ true
-    room_more t q h = or_cases ((s == t) && same_id p.id q) (has_room u t q) (sym (more t q) ∙ h)
-        (λ e. let parts = and_parts (s == t) (same_id p.id q) e in
-        or_right (has_room v t q) ((s == t) && plans ws q)
-        (and_from (s == t) (plans ws q) parts.0 (ap (plans ws) (sym (same_id_true p.id q parts.1)) ∙ plans_got ws n p lt is)))
-        (λ e. room t q e)
+-- v is the store at the start, u where the first n were reserved, and w with one more reserved
+module _ (v u w : State) (s : ℕ) (ws : Change) (n : ℕ) (p : List ℕ × Option Object) (lt : n < length ws) (is : p ≡ get_or ws n p)
+    (alone : (q : List ℕ) → plans ws q ≡ true → (t : ℕ) → is_reserved v t q ≡ true → t ≡ s)
+    (reserved : (t : ℕ) (q : List ℕ) → is_reserved u t q ≡ true → (is_reserved v t q || ((s == t) && plans ws q)) ≡ true) where
+  pub still_alone : (t : ℕ) → is_reserved u t p.0 ≡ true → t ≡ s
+  still_alone t h = or_cases (is_reserved v t p.0) ((s == t) && plans ws p.0) (reserved t p.0 h)
+      (λ e. alone p.0 (plans_got ws n p lt is) t e)
+      (λ e. sym (eqb-true s t (and_parts (s == t) (plans ws p.0) e).0))
 
-    pub done_more : ((q : List ℕ) → plans (take n ws) q ≡ true → has_room u s q ≡ true) → (q : List ℕ) → plans (take (n + 1) ws) q ≡ true → has_room w s q ≡ true
-    done_more done q h = more s q ∙ or_cases (plans (take n ws) q) (same_id q p.id) (sym (plans_more ws n p q lt is) ∙ h)
-        (λ e. or_right ((s == s) && same_id p.id q) (has_room u s q) (done q e))
-        (λ e. or_left ((s == s) && same_id p.id q) (has_room u s q) (and_from (s == s) (same_id p.id q) (eq-eqb s s refl) (same_id_back p.id q ∙ e)))
+  module _ (more : (t : ℕ) (q : List ℕ) → is_reserved w t q ≡ (((s == t) && same_id p.0 q) || is_reserved u t q)) where
+    pub reserved_more : (t : ℕ) (q : List ℕ) → is_reserved w t q ≡ true → (is_reserved v t q || ((s == t) && plans ws q)) ≡ true
+    reserved_more t q h = or_cases ((s == t) && same_id p.0 q) (is_reserved u t q) (sym (more t q) ∙ h)
+        (λ e. let parts = and_parts (s == t) (same_id p.0 q) e in
+        or_right (is_reserved v t q) ((s == t) && plans ws q)
+        (and_from (s == t) (plans ws q) parts.0 (ap (plans ws) (sym (same_id_true p.0 q parts.1)) ∙ plans_got ws n p lt is)))
+        (λ e. reserved t q e)
+
+    pub done_more : ((q : List ℕ) → plans (take n ws) q ≡ true → is_reserved u s q ≡ true) → (q : List ℕ) → plans (take (n + 1) ws) q ≡ true → is_reserved w s q ≡ true
+    done_more done q h = more s q ∙ or_cases (plans (take n ws) q) (same_id q p.0) (sym (plans_more ws n p q lt is) ∙ h)
+        (λ e. or_right ((s == s) && same_id p.0 q) (is_reserved u s q) (done q e))
+        (λ e. or_left ((s == s) && same_id p.0 q) (is_reserved u s q) (and_from (s == s) (same_id p.0 q) (eq-eqb s s refl) (same_id_back p.0 q ∙ e)))
 
 pub sees_on : (v u w : State) → SeesSame v u → SeesSame u w → SeesSame v w
 sees_on v u w a b = record {
   frame = b.frame ∙ a.frame;
-  city = λ q. b.city q ∙ a.city q;
+  city = b.city ∙ a.city;
   writes = λ q. b.writes q ∙ a.writes q;
   opened = λ t. b.opened t ∙ a.opened t;
 }
 
 -- ---- writes, from the last to the first
 
-plans_last : (ws : List Planned) (p : Planned) (q : List ℕ) → plans (ws ++ p ∷ []) q ≡ (plans ws q || same_id q p.id)
-plans_last ws p q = list_any-append (λ x. same_id q x.id) ws (p ∷ []) ∙ ap (λ b. plans ws q || b) (or-false (same_id q p.id))
+plans_last : (ws : Change) (p : List ℕ × Option Object) (q : List ℕ) → plans (ws ++ p ∷ []) q ≡ (plans ws q || same_id q p.0)
+plans_last ws p q = listed (ws ++ p ∷ []) q ∙ list_any-append (λ x. same_id q x.0) ws (p ∷ []) ∙ ap (λ b. b || (same_id q p.0 || false)) (sym (listed ws q))
+    ∙ ap (λ b. plans ws q || b) (or-false (same_id q p.0))
 
-pub plans_before : (all ws : List Planned) (p : Planned) (q : List ℕ) → all ≡ ws ++ p ∷ [] → plans ws q ≡ true → plans all q ≡ true
-plans_before all ws p q e h = ap (λ xs. plans xs q) e ∙ plans_last ws p q ∙ or_left (plans ws q) (same_id q p.id) h
+pub plans_before : (all ws : Change) (p : List ℕ × Option Object) (q : List ℕ) → all ≡ ws ++ p ∷ [] → plans ws q ≡ true → plans all q ≡ true
+plans_before all ws p q e h = ap (λ xs. plans xs q) e ∙ plans_last ws p q ∙ or_left (plans ws q) (same_id q p.0) h
 
-pub plans_this : (all ws : List Planned) (p : Planned) → all ≡ ws ++ p ∷ [] → plans all p.id ≡ true
-plans_this all ws p e = ap (λ xs. plans xs p.id) e ∙ plans_last ws p p.id ∙ or_right (plans ws p.id) (same_id p.id p.id) (same_id_itself p.id)
+pub plans_this : (all ws : Change) (p : List ℕ × Option Object) → all ≡ ws ++ p ∷ [] → plans all p.0 ≡ true
+plans_this all ws p e = ap (λ xs. plans xs p.0) e ∙ plans_last ws p p.0 ∙ or_right (plans ws p.0) (same_id p.0 p.0) (same_id_itself p.0)
 
-of_parts : (f : CityMap) (ws : List Planned) (p : Planned) → AreOf f (ws ++ p ∷ []) → AreOf f ws × (p.object ≡ f p.id)
+of_parts : (f : CityMap) (ws : Change) (p : List ℕ × Option Object) → AreOf f (ws ++ p ∷ []) → AreOf f ws × (p.1 ≡ f p.0)
 of_parts f [] p h = (tt, h.0)
 of_parts f (x ∷ xs) p h = let rest = of_parts f xs p h.1 in ((h.0, rest.0), rest.1)
 
-pub of_before : (f : CityMap) (all ws : List Planned) (p : Planned) → all ≡ ws ++ p ∷ [] → AreOf f all → AreOf f ws
+pub of_before : (f : CityMap) (all ws : Change) (p : List ℕ × Option Object) → all ≡ ws ++ p ∷ [] → AreOf f all → AreOf f ws
 of_before f all ws p e h = (of_parts f ws p (subst (AreOf f) e h)).0
 
 written_point : (a b : Bool) (x y z : Option Write) → (b ≡ true → y ≡ x) → (if a then x else (if b then y else z)) ≡ (if a || b then x else z)
@@ -75,14 +84,14 @@ written_point true b x y z h = refl
 written_point false true x y z h = h refl
 written_point false false x y z h = refl
 
-pub written_last : (f : CityMap) (all ws : List Planned) (p : Planned) (s : ℕ) (x y : Option Write) (q : List ℕ) → all ≡ ws ++ p ∷ [] → AreOf f all →
-    y ≡ (if same_id p.id q then Some (s, p.object) else x) → (if plans ws q then Some (s, f q) else y) ≡ (if plans all q then Some (s, f q) else x)
+pub written_last : (f : CityMap) (all ws : Change) (p : List ℕ × Option Object) (s : ℕ) (x y : Option Write) (q : List ℕ) → all ≡ ws ++ p ∷ [] → AreOf f all →
+    y ≡ (if same_id p.0 q then Some (s, p.1) else x) → (if plans ws q then Some (s, f q) else y) ≡ (if plans all q then Some (s, f q) else x)
 written_last f all ws p s x y q e of is =
-    let here : p.object ≡ f p.id = (of_parts f ws p (subst (AreOf f) e of)).1 in
-    ap (λ z. if plans ws q then Some (s, f q) else z) (is ∙ ap (λ b. if b then Some (s, p.object) else x) (same_id_back p.id q))
-    ∙ written_point (plans ws q) (same_id q p.id) (Some (s, f q)) (Some (s, p.object)) x
-    (λ t. ap (λ o. Some (s, o)) (here ∙ ap f (sym (same_id_true q p.id t))))
+    let here : p.1 ≡ f p.0 = (of_parts f ws p (subst (AreOf f) e of)).1 in
+    ap (λ z. if plans ws q then Some (s, f q) else z) (is ∙ ap (λ b. if b then Some (s, p.1) else x) (same_id_back p.0 q))
+    ∙ written_point (plans ws q) (same_id q p.0) (Some (s, f q)) (Some (s, p.1)) x
+    (λ t. ap (λ o. Some (s, o)) (here ∙ ap f (sym (same_id_true q p.0 t))))
     ∙ ap (λ b. if b then Some (s, f q) else x) (sym (ap (λ xs. plans xs q) e ∙ plans_last ws p q))
 
-pub room_by : (v w : State) (s : ℕ) (q : List ℕ) → w.opened ≡ v.opened → has_room w s q ≡ has_room v s q
-room_by v w s q e = ap (λ o. has_id (rooms_of o s) q) e
+pub reserved_by : (v w : State) (s : ℕ) (q : List ℕ) → w.opened ≡ v.opened → is_reserved w s q ≡ is_reserved v s q
+reserved_by v w s q e = ap (λ o. has_id (reservations_of o s) q) e

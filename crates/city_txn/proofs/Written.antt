@@ -1,11 +1,9 @@
--- One id written, for which its transaction has room.
+-- One id written, which its transaction has reserved.
 use Rattle.std.proofs.Common.{◌≡◌, ℕ, List, Bool, true, false, not, Option, None, Some, is_some, refl, ap, sym, ◌∙◌}
 use Rattle.std.specs.Prelude.{if◌then◌else◌, option_map}
-use Rattle.std.specs.Map.{keys_of}
 use Rattle.std.specs.Ordering.{nat_cmp}
 use Rattle.std.specs.Cmp.Lexicographic.{slice_cmp}
 use Rattle.std.specs.BTreeMap.{IsOrdered}
-use Rattle.std.specs.List.Sorted.{IsStrictlySortedBy}
 use Rattle.std.proofs.lemmas.Bool.{false≢true, eqb-true}
 use Rattle.city_model.specs.declared.object.Object.{Object}
 use Rattle.city_model.specs.CityMap.{at, same_id, has_id, changed}
@@ -14,7 +12,7 @@ use Rattle.city_model.proofs.IdLists.{bool_cases}
 use Rattle.city_txn.specs.declared.image.Image.{Image}
 use Rattle.city_txn.specs.declared.store.Store.TheInside.{Inside}
 use Rattle.city_txn.specs.Images.{committed_at, write_at, writer_of, written_over}
-use Rattle.city_txn.specs.State.{write_of, rooms_of, has_room, committed}
+use Rattle.city_txn.specs.State.{write_of, reservations_of, is_reserved, committed}
 use Rattle.city_txn.specs.InPlace.{image_at, state_of, is_writer, IsInPlace}
 use Rattle.city_txn.proofs.AtOneId.{here, city_is, writes_is}
 
@@ -24,73 +22,75 @@ some_writer : (s : ℕ) (i : Option Image) → is_writer s (writer_of i) ≡ tru
 some_writer s None h = absurd (false≢true h)
 some_writer s (Some i) h = refl
 
-committed_written : (x y : Option Object) (gone : Bool) (i : Option Image) → is_some i ≡ true → committed_at y (option_map (written_over x gone) i) ≡ committed_at x i
-committed_written x y gone None h = absurd (false≢true h)
-committed_written x y gone (Some i) h = refl
+committed_written : (x y : Option Object) (deleted : Bool) (i : Option Image) → is_some i ≡ true → committed_at y (option_map (written_over x deleted) i) ≡ committed_at x i
+committed_written x y deleted None h = absurd (false≢true h)
+committed_written x y deleted (Some i) h = refl
 
-write_written : (x y w : Option Object) (gone : Bool) (s : ℕ) (i : Option Image) → is_writer s (writer_of i) ≡ true → (if gone then None else y) ≡ w →
-    write_at y (option_map (written_over x gone) i) ≡ Some (s, w)
-write_written x y w gone s None h g = absurd (false≢true h)
-write_written x y w gone s (Some i) h g = ap (λ t. Some (t, if gone then None else y)) (eqb-true i.by s h) ∙ ap (λ z. Some (s, z)) g
+write_written : (x y w : Option Object) (deleted : Bool) (s : ℕ) (i : Option Image) → is_writer s (writer_of i) ≡ true → (if deleted then None else y) ≡ w →
+    write_at y (option_map (written_over x deleted) i) ≡ Some (s, w)
+write_written x y w deleted s None h g = absurd (false≢true h)
+write_written x y w deleted s (Some i) h g = ap (λ t. Some (t, if deleted then None else y)) (eqb-true i.by s h) ∙ ap (λ z. Some (s, z)) g
 
-writer_written : (x : Option Object) (gone : Bool) (i : Option Image) → writer_of (option_map (written_over x gone) i) ≡ writer_of i
-writer_written x gone None = refl
-writer_written x gone (Some i) = refl
+writer_written : (x : Option Object) (deleted : Bool) (i : Option Image) → writer_of (option_map (written_over x deleted) i) ≡ writer_of i
+writer_written x deleted None = refl
+writer_written x deleted (Some i) = refl
 
--- the object that a stand-in stands for, where none is there
-pub not_gone : (o : Option Object) (gone : Bool) (r : Object) → is_some o ≡ not gone → (if is_some o then Some r else None) ≡ o → (if gone then None else Some r) ≡ o
-not_gone o true r e h = sym (ap (λ b. if b then Some r else None) e) ∙ h
-not_gone o false r e h = sym (ap (λ b. if b then Some r else None) e) ∙ h
+-- the object that a placeholder stands for, where none is there
+pub not_deleted : (o : Option Object) (deleted : Bool) (r : Object) → is_some o ≡ not deleted → (if is_some o then Some r else None) ≡ o → (if deleted then None else Some r) ≡ o
+not_deleted o true r e h = sym (ap (λ b. if b then Some r else None) e) ∙ h
+not_deleted o false r e h = sym (ap (λ b. if b then Some r else None) e) ∙ h
 
 -- ---- the whole
 
-module _ (a b : Inside) (k : IsInPlace a) (s : ℕ) (id : List ℕ) (room : has_room (state_of a) s id ≡ true) (gone : Bool) (y : Object) (w : Option Object)
-    (is : (if gone then None else Some y) ≡ w)
-    (city : (q : List ℕ) → here b q ≡ changed (at a.city.1) id (Some y) q)
-    (images : (q : List ℕ) → image_at b q ≡ (if same_id id q then option_map (written_over (here a id) gone) (image_at a id) else image_at a q))
-    (rooms : b.rooms ≡ a.rooms)
-    (city_ordered : IsStrictlySortedBy (slice_cmp nat_cmp) (keys_of b.city.1)) (images_ordered : IsOrdered (slice_cmp nat_cmp) b.images) where
+module _ (a b : Inside) (k : IsInPlace a) (s : ℕ) (id : List ℕ) (reserved : is_reserved (state_of a) s id ≡ true) (deleted : Bool) (y : Object) (w : Option Object)
+    (is : (if deleted then None else Some y) ≡ w)
+    (city : at b.city.1 ≡ changed (at a.city.1) id (Some y))
+    (images : (q : List ℕ) → image_at b q ≡ (if same_id id q then option_map (written_over (here a id) deleted) (image_at a id) else image_at a q))
+    (reservations : b.reservations ≡ a.reservations)
+    (images_ordered : IsOrdered (slice_cmp nat_cmp) b.images) where
   writer : is_writer s (writer_of (image_at a id)) ≡ true
-  writer = sym (k.listed s id) ∙ room
+  writer = sym (k.listed s id) ∙ reserved
 
   city_there : (q : List ℕ) → same_id id q ≡ true → here b q ≡ Some y
-  city_there q e = city q ∙ ap (λ c. if c then Some y else here a q) e
+  city_there q e = ap (λ m. m q) city ∙ ap (λ c. if c then Some y else here a q) e
 
   city_apart : (q : List ℕ) → same_id id q ≡ false → here b q ≡ here a q
-  city_apart q e = city q ∙ ap (λ c. if c then Some y else here a q) e
+  city_apart q e = ap (λ m. m q) city ∙ ap (λ c. if c then Some y else here a q) e
 
-  image_there : (q : List ℕ) → same_id id q ≡ true → image_at b q ≡ option_map (written_over (here a id) gone) (image_at a id)
-  image_there q e = images q ∙ ap (λ c. if c then option_map (written_over (here a id) gone) (image_at a id) else image_at a q) e
+  image_there : (q : List ℕ) → same_id id q ≡ true → image_at b q ≡ option_map (written_over (here a id) deleted) (image_at a id)
+  image_there q e = images q ∙ ap (λ c. if c then option_map (written_over (here a id) deleted) (image_at a id) else image_at a q) e
 
   image_apart : (q : List ℕ) → same_id id q ≡ false → image_at b q ≡ image_at a q
-  image_apart q e = images q ∙ ap (λ c. if c then option_map (written_over (here a id) gone) (image_at a id) else image_at a q) e
+  image_apart q e = images q ∙ ap (λ c. if c then option_map (written_over (here a id) deleted) (image_at a id) else image_at a q) e
 
   same_writers : (q : List ℕ) → writer_of (image_at b q) ≡ writer_of (image_at a q)
   same_writers q = bool_cases (same_id id q)
-      (λ e. ap writer_of (image_there q e) ∙ writer_written (here a id) gone (image_at a id) ∙ ap (λ r. writer_of (image_at a r)) (same_id_true id q e))
+      (λ e. ap writer_of (image_there q e) ∙ writer_written (here a id) deleted (image_at a id) ∙ ap (λ r. writer_of (image_at a r)) (same_id_true id q e))
       (λ e. ap writer_of (image_apart q e))
 
   pub written_in_place : IsInPlace b
   written_in_place = record {
-    placed = λ q h. bool_cases (same_id id q)
+    has_slot = λ q h. bool_cases (same_id id q)
         (λ e. ap is_some (city_there q e))
-        (λ e. ap is_some (city_apart q e) ∙ k.placed q (sym (ap is_some (image_apart q e)) ∙ h));
-    listed = λ t q. ap (λ r. has_id (rooms_of r.entries t) q) rooms ∙ k.listed t q ∙ ap (is_writer t) (sym (same_writers q));
-    city_ordered = city_ordered;
+        (λ e. ap is_some (city_apart q e) ∙ k.has_slot q (sym (ap is_some (image_apart q e)) ∙ h));
+    listed = λ t q. ap (λ r. has_id (reservations_of r.entries t) q) reservations ∙ k.listed t q ∙ ap (is_writer t) (sym (same_writers q));
     images_ordered = images_ordered;
   }
 
-  pub written_city : (q : List ℕ) → committed (state_of b) q ≡ committed (state_of a) q
-  written_city q = city_is b written_in_place q ∙ bool_cases (same_id id q)
-      (λ e. ap (committed_at (here b q)) (image_there q e) ∙ committed_written (here a id) (here b q) gone (image_at a id) (some_writer s (image_at a id) writer)
+  written_at_id : (q : List ℕ) → committed (state_of b) q ≡ committed (state_of a) q
+  written_at_id q = city_is b written_in_place q ∙ bool_cases (same_id id q)
+      (λ e. ap (committed_at (here b q)) (image_there q e) ∙ committed_written (here a id) (here b q) deleted (image_at a id) (some_writer s (image_at a id) writer)
       ∙ ap (λ r. committed_at (here a r) (image_at a r)) (same_id_true id q e))
       (λ e. ap (λ x. committed_at x (image_at b q)) (city_apart q e) ∙ ap (committed_at (here a q)) (image_apart q e))
       ∙ sym (city_is a k q)
 
+  pub written_city : committed (state_of b) ≡ committed (state_of a)
+  written_city = λ i q. written_at_id q i
+
   pub written_writes : (q : List ℕ) → write_of (state_of b).writes q ≡ (if same_id id q then Some (s, w) else write_of (state_of a).writes q)
   written_writes q = writes_is b written_in_place q ∙ bool_cases (same_id id q)
       (λ e. ap (λ x. write_at x (image_at b q)) (city_there q e) ∙ ap (write_at (Some y)) (image_there q e)
-      ∙ write_written (here a id) (Some y) w gone s (image_at a id) writer is
+      ∙ write_written (here a id) (Some y) w deleted s (image_at a id) writer is
       ∙ sym (ap (λ c. if c then Some (s, w) else write_of (state_of a).writes q) e))
       (λ e. ap (λ x. write_at x (image_at b q)) (city_apart q e) ∙ ap (write_at (here a q)) (image_apart q e) ∙ sym (writes_is a k q)
       ∙ sym (ap (λ c. if c then Some (s, w) else write_of (state_of a).writes q) e))

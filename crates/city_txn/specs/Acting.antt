@@ -1,9 +1,13 @@
 -- What a command does to a core.
-use Rattle.std.specs.Prelude.{◌≡◌, ◌==◌, ◌&&◌, ◌||◌, ℕ, Bool, true, false, List, [], ◌∷◌, ◌++◌, is_none, Result, Ok, Err, IfOk, IfErr, OnOk, IsErr, if◌then◌else◌}
+use Rattle.std.specs.Prelude.{◌≡◌, ◌≢◌, ◌==◌, ◌&&◌, ◌||◌, ℕ, Bool, true, false, List, [], ◌∷◌, ◌++◌, is_none}
+use Rattle.std.specs.Prelude.{if◌then◌else◌}
+use Rattle.std.specs.Prelude.{Result, Ok, Err, IfOk, IfErr, OnOk, IsOk, IsErr}
 use Rattle.city_model.specs.declared.command.Command.{Command}
 use Rattle.city_model.specs.declared.command.Reply.{Reply}
 use Rattle.city_model.specs.CityMap.{CityMap}
-use Rattle.city_model.specs.Meaning.{cause_of, after, reply_to, locks_of}
+use Rattle.city_model.specs.Runs.{EndsAt}
+use Rattle.city_model.specs.declared.end.Outcome.{Outcome}
+use Rattle.city_model.specs.Meaning.{cause_of, after, reply_to, is_refusal, locks_of}
 use Rattle.city_locks.specs.declared.answer.Answer.{Answer}
 use Rattle.city_locks.specs.declared.answer.Answer.TheVariants.{Granted, Wait, Die}
 use Rattle.city_txn.specs.declared.step.Step.{Step}
@@ -11,13 +15,30 @@ use Rattle.city_txn.specs.declared.step.Step.TheVariants as steps
 use Rattle.city_txn.specs.declared.step.TxnFault.{TxnFault}
 use Rattle.city_txn.specs.declared.step.TxnFault.TheVariants.{NotOpen, OutOfMemory}
 use Rattle.city_txn.specs.State.{write_of, is_by}
-use Rattle.city_model.specs.Standing.{Answered, AllHeld, names_exclusively}
-use Rattle.city_txn.specs.CoreState.{CoreState, committed, view, is_open, held, Stands}
-use Rattle.city_txn.specs.Locking.{first_answer, granted_before, GainsFirst}
+use Rattle.city_model.specs.Standing.{Lock, Answered, AllHeld, names_exclusively}
+use Rattle.city_txn.specs.CoreState.{CoreState, committed, view, is_open, held, Stands, KeepsOthers}
+use Rattle.city_txn.specs.Locking.{first_answer, granted_before, GainsFirst, IsBlocked}
 
--- whether the command, done at this map, writes the id: not where it is refused, and else each id that it locks exclusively
+-- whether the command, done at this map, writes the id: not where it is refused, and else each id that it
+-- locks exclusively
 abbrev pub writes_id : CityMap → Command → List ℕ → Bool
 writes_id m command id = is_none (cause_of m command) && names_exclusively (locks_of m command) id
+
+-- what the transaction would be replied to the command
+abbrev pub reply_in : CoreState → ℕ → Command → Reply
+reply_in v stamp command = reply_to (view v stamp) command
+
+-- what its locks would be answered: the first that isn't granted, or Granted
+abbrev pub answer_in : CoreState → ℕ → Command → Answer
+answer_in v stamp command = first_answer v.locks stamp (locks_of (view v stamp) command)
+
+-- the locks before the first that isn't granted
+abbrev pub granted_in : CoreState → ℕ → Command → List Lock
+granted_in v stamp command = granted_before v.locks stamp (locks_of (view v stamp) command)
+
+-- so the transaction ends at the command, which is number `number` of its script
+abbrev pub EndsIn : CoreState → ℕ → Command → ℕ → Outcome → Type 0
+EndsIn v stamp command number outcome = EndsAt (view v stamp) command number outcome
 
 -- the step that an answer of the locks and a reply give
 abbrev pub step_of : Answer → Reply → Step
@@ -39,23 +60,33 @@ with_step (Ok steps.Die) command done = done
 with_step (Err fault) command done = done
 
 -- A call by the stamp to do the command: what it answers, and what becomes of the core.
-pub record Acted (stamp : ℕ) (command : Command) (result : Result Step TxnFault) (old new : CoreState) : Type 0 where
+pub record Acted (stamp : ℕ) (command : Command) (result : Result Step TxnFault)
+    (old new : CoreState) : Type 0 where
   -- done where each lock is granted, and else the answer of the first that isn't
-  pub step : IfOk result (λ step. step ≡ step_of (first_answer old.locks stamp (locks_of (view old stamp) command)) (reply_to (view old stamp) command))
+  pub step : IfOk result (λ step. step ≡ step_of (answer_in old stamp command) (reply_in old stamp command))
   pub fault : IfErr result (λ fault. fault ≡ (if is_open old stamp then OutOfMemory else NotOpen stamp))
   pub not_open : is_open old stamp ≡ false → IsErr result
+  -- want of memory hides no Wait and no Die, where it holds the locks before
+  pub answered : is_open old stamp ≡ true → answer_in old stamp command ≢ Granted
+      → AllHeld (held old stamp) (granted_in old stamp command) → IsOk result
+  -- told to wait, it is older than another open one; told to die, it is younger than one
+  pub blocked : OnOk result (IsBlocked (λ t. is_open old t ≡ true) stamp (answer_in old stamp command))
   -- its view is that after the command, where that is done; all else that is seen stays
-  pub seen : (id : List ℕ) → view new stamp id ≡ (if is_done result then after (view old stamp) command id else view old stamp id)
-  pub frame : new.frame ≡ old.frame
-  pub city : (id : List ℕ) → committed new id ≡ committed old id
-  pub views : (t : ℕ) (id : List ℕ) → (stamp == t) ≡ false → view new t id ≡ view old t id
-  pub opened : (t : ℕ) → is_open new t ≡ is_open old t
-  -- of the locks before the first that isn't granted it gains the first so many, in their order, and no others; where there is memory, all of them. It loses none; the others keep theirs
-  pub locks : GainsFirst stamp (granted_before old.locks stamp (locks_of (view old stamp) command)) old.locks new.locks
-  pub granted : OnOk result (AllHeld (held new stamp) (granted_before old.locks stamp (locks_of (view old stamp) command)))
+  pub seen : view new stamp ≡ (if is_done result then after (view old stamp) command else view old stamp)
+  pub city : committed new ≡ committed old
+  pub views : (t : ℕ) → (stamp == t) ≡ false → view new t ≡ view old t
+  pub opened : is_open new stamp ≡ is_open old stamp
+  -- of the locks before the first that isn't granted it gains the first so many, in their order, and no
+  -- others; where there is memory, all of them. It loses none; the others keep theirs
+  pub locks : GainsFirst stamp (granted_in old stamp command) old.locks new.locks
+  pub granted : OnOk result (AllHeld (held new stamp) (granted_in old stamp command))
   -- its writes gain just the ids that the command writes; the other writes stay
-  pub written : (id : List ℕ) → is_by stamp (write_of new.writes id) ≡ ((is_done result && writes_id (view old stamp) command id) || is_by stamp (write_of old.writes id))
-  pub unwritten : (id : List ℕ) → (is_done result && writes_id (view old stamp) command id) ≡ false → write_of new.writes id ≡ write_of old.writes id
-  -- all commands that stood stand, and this one with them
+  pub written : (id : List ℕ) → is_by stamp (write_of new.writes id)
+      ≡ ((is_done result && writes_id (view old stamp) command id) || is_by stamp (write_of old.writes id))
+  pub unwritten : (id : List ℕ) → (is_done result && writes_id (view old stamp) command id) ≡ false
+      → write_of new.writes id ≡ write_of old.writes id
+  -- all commands that stood stand, and this one with them; without it too, where it is refused
   pub own : (done : List Answered) → Stands old stamp done → Stands new stamp (with_step result command done)
-  pub others : (t : ℕ) (done : List Answered) → (stamp == t) ≡ false → Stands old t done → Stands new t done
+  pub refused : is_refusal (reply_in old stamp command) ≡ true
+      → (done : List Answered) → Stands old stamp done → Stands new stamp done
+  pub keeps : KeepsOthers stamp old new

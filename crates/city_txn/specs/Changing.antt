@@ -6,13 +6,15 @@ use Rattle.std.specs.Cmp.Lexicographic.{slice_cmp}
 use Rattle.std.specs.List.Sorted.{IsStrictlySortedBy}
 use Rattle.city_model.specs.declared.command.Command.TheVariants.{Commit}
 use Rattle.city_model.specs.CityMap.{Entries, has_id}
-use Rattle.city_model.specs.Relations.{HasNoOrphan}
-use Rattle.city_model.specs.Runs.{Change, Refuses, shown}
+use Rattle.city_model.specs.Relations.{IsLawful}
+use Rattle.city_model.specs.Runs.{Change, with_change}
+use Rattle.city_model.specs.declared.end.Outcome.TheVariants as Outcome
 use Rattle.city_txn.specs.declared.step.Prepared.{Prepared}
 use Rattle.city_txn.specs.declared.step.Prepared.TheVariants.{Ready, Refused}
 use Rattle.city_txn.specs.State.{write_of, is_by}
 use Rattle.city_txn.specs.InPlace.{made_by}
 use Rattle.city_txn.specs.CoreState.{CoreState, committed, view}
+use Rattle.city_txn.specs.Acting.{EndsIn}
 
 -- the first, or where there is none the second
 abbrev pub or_else : {Y : Type 0} → Option Y → Option Y → Option Y
@@ -23,14 +25,16 @@ or_else (Some x) y = Some x
 abbrev pub objects_in : Change → Entries
 objects_in change = made_by (λ id object. object) change
 
--- The change turns the committed map into the transaction's view, in which no object is an orphan; its ids are those that the transaction wrote, in byte order, each once.
+-- The change turns the committed map into the transaction's view, which is lawful; its ids are those that the
+-- transaction wrote, in byte order, each once.
 pub record IsChangeOf (v : CoreState) (stamp : ℕ) (change : Change) : Type 0 where
-  pub makes_view : (id : List ℕ) → shown (committed v) (change ∷ []) id ≡ view v stamp id
+  pub makes_view : with_change (committed v) change ≡ view v stamp
   pub ids : (id : List ℕ) → has_id (keys_of change) id ≡ is_by stamp (write_of v.writes id)
   pub in_byte_order : IsStrictlySortedBy (slice_cmp nat_cmp) (keys_of change)
-  pub no_orphan : HasNoOrphan (view v stamp)
+  pub lawful : IsLawful (view v stamp)
 
 -- ready with its change, or refused as a commit is: by the least orphan of its view
 abbrev pub IsPrepared : CoreState → ℕ → Prepared → Type 0
 IsPrepared v stamp (Ready change) = IsChangeOf v stamp change
-IsPrepared v stamp (Refused cause) = Refuses (view v stamp) Commit cause
+IsPrepared v stamp (Refused cause) =
+    (number : ℕ) → EndsIn v stamp Commit number (Outcome.Refused number cause)

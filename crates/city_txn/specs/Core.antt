@@ -4,13 +4,20 @@ use Rattle.std.specs.Map.{keys_of}
 use Rattle.city_locks.specs.declared.mode.Mode.TheVariants.{Exclusive}
 use Rattle.city_locks.specs.Locks.{mode_of}
 use Rattle.city_txn.specs.declared.txn_core.Core.TheInside.{Inside}
-use Rattle.city_txn.specs.State.{has_room}
+use Rattle.city_txn.specs.State.{is_reserved}
 use Rattle.city_txn.specs.CoreState.{CoreState, IsConsistent}
 
 abbrev pub core_state : Inside → CoreState
-core_state a = record { frame = a.store.frame; city = a.store.city; writes = a.store.writes; opened = keys_of a.store.opened; locks = a.locks }
+core_state a = record {
+  frame = a.store.frame;
+  city = a.store.city;
+  writes = a.store.writes;
+  opened = keys_of a.store.opened;
+  locks = a.locks;
+}
 
--- and there is room to write only under an exclusive lock
+-- and an id is reserved only under an exclusive lock
 pub record IsCore (a : Inside) : Type 0 where
   pub state : IsConsistent (core_state a)
-  pub room : (t : ℕ) (id : List ℕ) → has_room a.store t id ≡ true → mode_of a.locks t id ≡ Some Exclusive
+  pub reserved : (t : ℕ) (id : List ℕ)
+      → is_reserved a.store t id ≡ true → mode_of a.locks t id ≡ Some Exclusive

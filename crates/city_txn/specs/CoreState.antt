@@ -1,8 +1,9 @@
 -- What contracts see of a core: its committed city, and the writes and the locks of its open transactions.
-use Rattle.std.specs.Prelude.{◌≡◌, ◌==◌, ℕ, Bool, true, false, List, None, Some, is_some, option_map, if◌then◌else◌}
+use Rattle.std.specs.Prelude.{◌≡◌, ◌==◌, ℕ, Bool, true, false, List, None, Some, is_some, option_map}
+use Rattle.std.specs.Prelude.{if◌then◌else◌}
 use Rattle.std.specs.List.{list_any}
 use Rattle.city_model.specs.declared.frame.Frame.{Frame}
-use Rattle.city_model.specs.CityMap.{Entries, CityMap, at}
+use Rattle.city_model.specs.CityMap.{Objects, CityMap, at}
 use Rattle.city_model.specs.Relations.{IsLawful}
 use Rattle.city_locks.specs.declared.mode.Mode.TheVariants.{Exclusive}
 use Rattle.city_locks.specs.Mode.{is_exclusive}
@@ -13,7 +14,7 @@ use Rattle.city_model.specs.Standing.{Held, Answered, Follows}
 pub record CoreState : Type 0 where
   -- the committed city
   pub frame : Frame
-  pub city : Entries
+  pub city : Objects
   -- the written ids, each with its writer and what stands there for the writer
   pub writes : List (List ℕ × Write)
   -- the stamps of the open transactions
@@ -37,7 +38,8 @@ held_in locks stamp id = option_map is_exclusive (mode_of locks stamp id)
 abbrev pub held : CoreState → ℕ → Held
 held v stamp = held_in v.locks stamp
 
--- the commands of the transaction stand: from the committed map they get these replies, with their locks held, and lead to its view
+-- the commands of the transaction stand: from the committed map they get these replies, with their locks
+-- held, and lead to its view
 abbrev pub Stands : CoreState → ℕ → List Answered → Type 0
 Stands v stamp done = Follows (held v stamp) (committed v) done (view v stamp)
 
@@ -45,16 +47,30 @@ Stands v stamp done = Follows (held v stamp) (committed v) done (view v stamp)
 -- lawful, and each view comes of commands that stand
 pub record IsConsistent (v : CoreState) : Type 0 where
   pub lawful : Lawful v.locks
-  pub locked : (id : List ℕ) (w : Write) → write_of v.writes id ≡ Some w → mode_of v.locks w.0 id ≡ Some Exclusive
-  pub open_only : (stamp : ℕ) (id : List ℕ) → is_some (mode_of v.locks stamp id) ≡ true → is_open v stamp ≡ true
+  pub locked : (id : List ℕ) (w : Write) → write_of v.writes id ≡ Some w
+      → mode_of v.locks w.0 id ≡ Some Exclusive
+  pub open_only : (stamp : ℕ) (id : List ℕ)
+      → is_some (mode_of v.locks stamp id) ≡ true → is_open v stamp ≡ true
   pub city : IsLawful (committed v)
   pub history : (stamp : ℕ) → (done : List Answered) × Stands v stamp done
 
--- the transaction of the stamp is over: its writes and its locks are gone, and it is no longer open; the others' stay
-pub record IsOver (stamp : ℕ) (old new : CoreState) : Type 0 where
+-- each other transaction stays open or not, and its commands stand as they stood
+pub record KeepsOthers (stamp : ℕ) (old new : CoreState) : Type 0 where
   pub frame : new.frame ≡ old.frame
-  pub writes : (id : List ℕ) → write_of new.writes id ≡ unless_by stamp (write_of old.writes id)
-  pub locks : (t : ℕ) (id : List ℕ) → mode_of new.locks t id ≡ (if stamp == t then None else mode_of old.locks t id)
-  pub opened : (t : ℕ) → is_open new t ≡ (if stamp == t then false else is_open old t)
-  -- the commands of each other transaction stand as they stood
+  pub opened : (t : ℕ) → (stamp == t) ≡ false → is_open new t ≡ is_open old t
   pub others : (t : ℕ) (done : List Answered) → (stamp == t) ≡ false → Stands old t done → Stands new t done
+
+-- the transaction of the stamp is over: its writes and its locks are gone, and it is no longer open; the
+-- others' stay
+pub record IsOver (stamp : ℕ) (old new : CoreState) : Type 0 where
+  pub writes : (id : List ℕ) → write_of new.writes id ≡ unless_by stamp (write_of old.writes id)
+  pub locks : (t : ℕ) (id : List ℕ)
+      → mode_of new.locks t id ≡ (if stamp == t then None else mode_of old.locks t id)
+  pub closed : is_open new stamp ≡ false
+  pub keeps : KeepsOthers stamp old new
+
+-- it is over, and what it wrote is taken back: all else that is seen stays
+pub record IsUndone (stamp : ℕ) (old new : CoreState) : Type 0 where
+  pub city : committed new ≡ committed old
+  pub views : (t : ℕ) → (stamp == t) ≡ false → view new t ≡ view old t
+  pub over : IsOver stamp old new

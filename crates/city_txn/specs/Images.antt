@@ -1,15 +1,19 @@
 -- What an undo image says of its id, where x is what the city has there.
-use Rattle.std.specs.Prelude.{ℕ, Bool, true, false, Option, None, Some, if◌then◌else◌}
+use Rattle.std.specs.Prelude.{◌==◌, ◌&&◌, not, ℕ, Bool, true, false, Option, None, Some, if◌then◌else◌}
 use Rattle.city_model.specs.declared.object.Object.{Object}
 use Rattle.city_txn.specs.declared.image.Image.{Image}
 
--- what its transaction sees: nothing where a stand-in holds the place
+-- what its transaction sees: nothing where a placeholder holds the slot
 abbrev pub seen_under : Option Object → Image → Option Object
-seen_under x i = if i.gone then None else x
+seen_under x i = if i.deleted then None else x
 
 -- what stood there before: until the first write, what is there now
 abbrev pub before_image : Option Object → Image → Option Object
-before_image x i = if i.fresh then seen_under x i else i.before
+before_image x i = if i.unwritten then seen_under x i else i.before
+
+-- what a stamp sees: what the image's transaction does, or once that has written, what stood there before
+abbrev pub seen_by : ℕ → Option Object → Image → Option Object
+seen_by stamp x i = if not (i.by == stamp) && not i.unwritten then i.before else seen_under x i
 
 -- the same where there may be no image
 abbrev pub seen_at : Option Object → Option Image → Option Object
@@ -23,24 +27,25 @@ committed_at x (Some i) = before_image x i
 -- the write that the image stands for: its transaction, and what stands there for it
 abbrev pub write_at : Option Object → Option Image → Option (ℕ × Option Object)
 write_at x None = None
-write_at x (Some i) = if i.fresh then None else Some (i.by, seen_under x i)
+write_at x (Some i) = if i.unwritten then None else Some (i.by, seen_under x i)
 
 -- what stands there for the transaction, where it wrote the id
 abbrev pub written_at : Option Object → Option Image → Option (Option Object)
 written_at x None = None
-written_at x (Some i) = if i.fresh then None else Some (seen_under x i)
+written_at x (Some i) = if i.unwritten then None else Some (seen_under x i)
 
 abbrev pub writer_of : Option Image → Option ℕ
 writer_of None = None
 writer_of (Some i) = Some i.by
 
-abbrev pub is_gone : Option Image → Bool
-is_gone None = false
-is_gone (Some i) = i.gone
+abbrev pub is_deleted : Option Image → Bool
+is_deleted None = false
+is_deleted (Some i) = i.deleted
 
 -- the image after a write over x
 abbrev pub written_over : Option Object → Bool → Image → Image
-written_over x gone i = record { by = i.by; fresh = false; gone = gone; before = before_image x i }
+written_over x deleted i =
+    record { by = i.by; unwritten = false; deleted = deleted; before = before_image x i }
 
-abbrev pub fresh_image : ℕ → Bool → Image
-fresh_image stamp gone = record { by = stamp; fresh = true; gone = gone; before = None }
+abbrev pub unwritten_image : ℕ → Bool → Image
+unwritten_image stamp deleted = record { by = stamp; unwritten = true; deleted = deleted; before = None }

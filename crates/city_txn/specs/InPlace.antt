@@ -1,14 +1,13 @@
 -- One city as the open transactions have written it, with an undo image of each written id.
 use Rattle.std.specs.Prelude.{◌≡◌, ◌==◌, ℕ, Bool, true, false, List, [], ◌∷◌, Option, None, Some, is_some}
-use Rattle.std.specs.Map.{keys_of}
 use Rattle.std.specs.Ordering.{nat_cmp}
 use Rattle.std.specs.Cmp.Lexicographic.{slice_cmp}
 use Rattle.std.specs.BTreeMap.{get, IsOrdered}
-use Rattle.std.specs.List.Sorted.{IsStrictlySortedBy}
+use Rattle.std.specs.FinMap.{entries, from_sorted}
 use Rattle.city_model.specs.CityMap.{at, has_id}
 use Rattle.city_txn.specs.declared.image.Image.{Image}
 use Rattle.city_txn.specs.declared.store.Store.TheInside.{Inside}
-use Rattle.city_txn.specs.State.{State, rooms_of}
+use Rattle.city_txn.specs.State.{State, reservations_of}
 use Rattle.city_txn.specs.Images.{committed_at, write_at, writer_of}
 
 abbrev pub with_some : {Y : Type 0} → List ℕ → Option Y → List (List ℕ × Y) → List (List ℕ × Y)
@@ -27,19 +26,19 @@ image_at a id = get (slice_cmp nat_cmp) a.images id
 abbrev pub state_of : Inside → State
 state_of a = record {
   frame = a.city.0;
-  city = made_by (λ id o. committed_at (Some o) (image_at a id)) a.city.1;
+  city = from_sorted (made_by (λ id o. committed_at (Some o) (image_at a id)) (entries a.city.1));
   writes = made_by (λ id i. write_at (at a.city.1 id) (Some i)) a.images.entries;
-  opened = a.rooms.entries;
+  opened = a.reservations.entries;
 }
 
 abbrev pub is_writer : ℕ → Option ℕ → Bool
 is_writer stamp None = false
 is_writer stamp (Some t) = t == stamp
 
--- each image is of an id that is in the city, if only by a stand-in, and of one to which its
--- transaction, and no other, has room
+-- each image is of an id that is in the city, if only by a placeholder, and of one that its
+-- transaction, and no other, has reserved
 pub record IsInPlace (a : Inside) : Type 0 where
-  pub placed : (id : List ℕ) → is_some (image_at a id) ≡ true → is_some (at a.city.1 id) ≡ true
-  pub listed : (stamp : ℕ) (id : List ℕ) → has_id (rooms_of a.rooms.entries stamp) id ≡ is_writer stamp (writer_of (image_at a id))
-  pub city_ordered : IsStrictlySortedBy (slice_cmp nat_cmp) (keys_of a.city.1)
+  pub has_slot : (id : List ℕ) → is_some (image_at a id) ≡ true → is_some (at a.city.1 id) ≡ true
+  pub listed : (stamp : ℕ) (id : List ℕ)
+      → has_id (reservations_of a.reservations.entries stamp) id ≡ is_writer stamp (writer_of (image_at a id))
   pub images_ordered : IsOrdered (slice_cmp nat_cmp) a.images

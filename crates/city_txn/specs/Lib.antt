@@ -1,5 +1,6 @@
 pub mod Acting
 pub mod Changing
+pub mod Codes
 pub mod Core
 pub mod CoreState
 pub mod Ending
@@ -7,5 +8,4 @@ pub mod Images
 pub mod InPlace
 pub mod Locking
 pub mod Performing
-pub mod Planning
 pub mod State

@@ -1,12 +1,13 @@
 -- What contracts see of the store: the committed city, and for each open transaction what it wrote.
-use Rattle.std.specs.Prelude.{◌≡◌, ◌==◌, ℕ, Bool, false, List, Option, None, Some, is_some, unwrap_or, [], if◌then◌else◌}
+use Rattle.std.specs.Prelude.{◌≡◌, ◌==◌, ℕ, Bool, false, List, Option, None, Some, is_some, unwrap_or, []}
+use Rattle.std.specs.Prelude.{if◌then◌else◌}
 use Rattle.std.specs.Map.{lookup}
 use Rattle.std.specs.Ordering.{nat_cmp}
 use Rattle.std.specs.Cmp.Lexicographic.{slice_cmp}
 use Rattle.std.specs.BTreeMap.{is_at}
 use Rattle.city_model.specs.declared.frame.Frame.{Frame}
 use Rattle.city_model.specs.declared.object.Object.{Object}
-use Rattle.city_model.specs.CityMap.{Entries, CityMap, at, has_id}
+use Rattle.city_model.specs.CityMap.{Objects, CityMap, at, has_id}
 
 -- a written id: who wrote it, and what stands there for the writer
 abbrev pub Write : Type 0
@@ -15,24 +16,24 @@ Write = ℕ × Option Object
 pub record State : Type 0 where
   -- the committed city
   pub frame : Frame
-  pub city : Entries
+  pub city : Objects
   -- the written ids, in byte order
   pub writes : List (List ℕ × Write)
-  -- the open transactions by their stamps, each with the ids that it has room to write
+  -- the open transactions by their stamps, each with the ids that it has reserved
   pub opened : List (ℕ × List (List ℕ))
 
 abbrev pub write_of : List (List ℕ × Write) → List ℕ → Option Write
 write_of ws id = lookup (is_at (slice_cmp nat_cmp id)) ws
 
-abbrev pub rooms_of : List (ℕ × List (List ℕ)) → ℕ → List (List ℕ)
-rooms_of opened stamp = unwrap_or (lookup (is_at (nat_cmp stamp)) opened) []
+abbrev pub reservations_of : List (ℕ × List (List ℕ)) → ℕ → List (List ℕ)
+reservations_of opened stamp = unwrap_or (lookup (is_at (nat_cmp stamp)) opened) []
 
 abbrev pub is_open : State → ℕ → Bool
 is_open v stamp = is_some (lookup (is_at (nat_cmp stamp)) v.opened)
 
--- whether the transaction has room to write the id
-abbrev pub has_room : State → ℕ → List ℕ → Bool
-has_room v stamp id = has_id (rooms_of v.opened stamp) id
+-- whether the transaction has reserved the id
+abbrev pub is_reserved : State → ℕ → List ℕ → Bool
+is_reserved v stamp id = has_id (reservations_of v.opened stamp) id
 
 abbrev pub is_by : ℕ → Option Write → Bool
 is_by stamp None = false
@@ -62,13 +63,14 @@ unless_by stamp w = if is_by stamp w then None else w
 -- what anyone sees is the same
 pub record SeesSame (v w : State) : Type 0 where
   pub frame : w.frame ≡ v.frame
-  pub city : (id : List ℕ) → committed w id ≡ committed v id
+  pub city : committed w ≡ committed v
   pub writes : (id : List ℕ) → write_of w.writes id ≡ write_of v.writes id
   pub opened : (stamp : ℕ) → is_open w stamp ≡ is_open v stamp
 
--- the transaction is no longer open, and its writes and its room are gone; the others' stay
+-- the transaction is no longer open, and its writes and its reservations are gone; the others' stay
 pub record Forgets (stamp : ℕ) (v w : State) : Type 0 where
   pub frame : w.frame ≡ v.frame
   pub writes : (id : List ℕ) → write_of w.writes id ≡ unless_by stamp (write_of v.writes id)
   pub opened : (t : ℕ) → is_open w t ≡ (if stamp == t then false else is_open v t)
-  pub room : (t : ℕ) (id : List ℕ) → has_room w t id ≡ (if stamp == t then false else has_room v t id)
+  pub reserved : (t : ℕ) (id : List ℕ)
+      → is_reserved w t id ≡ (if stamp == t then false else is_reserved v t id)

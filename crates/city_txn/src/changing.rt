@@ -5,7 +5,7 @@ ghost use Rattle.std.specs.Ordering.{nat_cmp};
 ghost use Rattle.std.specs.Cmp.Lexicographic.{slice_cmp};
 ghost use Rattle.std.specs.BTreeMap.{get, is_at, IsOrdered};
 ghost use Rattle.std.specs.List.Sorted.{IsStrictlySortedBy};
-ghost use Rattle.city_model.specs.CityMap.{at, has_id, same_id};
+ghost use Rattle.city_model.specs.CityMap.{at, found_in, has_id, same_id};
 ghost use Rattle.city_model.specs.Relations.{is_orphan_there, HasNoOrphan, IsLeastOrphan};
 ghost use Rattle.city_txn.specs.Images.{written_at};
 ghost use Rattle.city_txn.specs.Changing.{or_else, objects_in};
@@ -68,10 +68,10 @@ fn note(
     let Some(image) = images.get(id) else {
         return Ok(());
     };
-    if image.fresh {
+    if image.unwritten {
         return Ok(());
     }
-    let object = if image.gone {
+    let object = if image.deleted {
         None
     } else {
         copy_at(city, alloc, id)?
@@ -104,8 +104,8 @@ fn in_order(alloc: Global, mut writes: Writes) -> Result<Change, OutOfMemory>
 /// The least id of an orphan among what was written; none where no object of it is one.
 pub fn orphan_in(change: &[(Id, Option<Object>)]) -> Option<&Id>
     requires { IsStrictlySortedBy (slice_cmp nat_cmp) (keys_of change.now) }
-    ensures least { IfSome result (λ id. IsLeastOrphan (at (objects_in change.now)) id.now) }
-    ensures none { IfNone result (HasNoOrphan (at (objects_in change.now))) }
+    ensures least { IfSome result (λ id. IsLeastOrphan (found_in (objects_in change.now)) id.now) }
+    ensures none { IfNone result (HasNoOrphan (found_in (objects_in change.now))) }
 {
     let mut left = change;
     while let [write, rest @ ..] = left {

@@ -2,16 +2,13 @@
 #![tactic(auto)]
 
 mod changing;
-mod deleting;
 mod image;
 mod lock;
-mod objects;
 mod perform;
-mod place;
-mod plan;
-mod planning;
-mod relating;
-mod rooms;
+mod placeholder;
+mod reservations;
+mod seen;
+mod slot;
 pub mod step;
 mod store;
 pub mod txn_core;

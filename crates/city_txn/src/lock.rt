@@ -5,8 +5,8 @@ ghost use Rattle.city_model.specs.Scripts.{is_end};
 ghost use Rattle.city_model.specs.declared.command.Command.{Command};
 ghost use Rattle.city_locks.specs.declared.mode.Mode.{Mode};
 ghost use Rattle.city_locks.specs.Mode.{is_exclusive};
-ghost use Rattle.city_locks.specs.Locks.{mode_of, Lawful};
-ghost use Rattle.city_txn.specs.State.{has_room, view};
+ghost use Rattle.city_locks.specs.Locks.{Lawful};
+ghost use Rattle.city_txn.specs.State.{view};
 ghost use Rattle.city_txn.specs.Locking.{Asked};
 
 use crate::store::Store;
@@ -26,7 +26,6 @@ pub fn lock(
     command: &Command,
 ) -> Result<Answer, OutOfMemory>
     requires no_end { is_end command.now ≡ false }
-    requires room { (t : ℕ) (id : List ℕ) → has_room store.now t id ≡ true → mode_of locks.old t id ≡ Some Mode.Exclusive }
     ensures { Asked stamp (locks_of (view store.now stamp) command.now) result locks.old locks.new }
 {
     match command {
@@ -47,7 +46,6 @@ fn lock_delete(
     stamp: u64,
     id: &Id,
 ) -> Result<Answer, OutOfMemory>
-    requires { (t : ℕ) (q : List ℕ) → has_room store.now t q ≡ true → mode_of locks.old t q ≡ Some Mode.Exclusive }
     ensures { Asked stamp ((id.now, true) ∷ delete_locks (view store.now stamp id.now)) result locks.old locks.new }
 {
     let answer = lock_one(locks, stamp, id, Mode::Exclusive)?;
@@ -59,7 +57,6 @@ fn lock_delete(
 
 /// The parents that a delete of the id locks: those of an object without children.
 pub fn parents_to_lock<'a>(store: &'a Store, stamp: u64, id: &Id) -> &'a [Id]
-    requires { (t : ℕ) → has_room store.now t id.now ≡ true → t ≡ stamp }
     ensures { delete_locks (view store.now stamp id.now) ≡ exclusively result.now }
 {
     match store.read(stamp, id) {

@@ -7,13 +7,13 @@ ghost use Rattle.std.specs.List.Sorted.{IsStrictlySortedBy};
 ghost use Rattle.std.specs.BTreeMap.{get, is_at, IsOrdered};
 ghost use Rattle.city_model.specs.CityMap.{at, has_id, same_id, changed};
 ghost use Rattle.city_txn.specs.Ending.{AreEnded};
-ghost use Rattle.city_txn.specs.Images.{seen_at, committed_at, fresh_image, written_over};
-ghost use Rattle.city_txn.specs.State.{State, rooms_of, write_of, has_room, is_open, committed, view, own_write, SeesSame, Forgets};
+ghost use Rattle.city_txn.specs.Images.{seen_at, committed_at, unwritten_image, written_over};
+ghost use Rattle.city_txn.specs.State.{State, reservations_of, write_of, is_reserved, is_open, committed, view, own_write, SeesSame, Forgets};
 
 use crate::changing::change_of;
 use crate::image::{self, Image, Images};
-use crate::place;
-use crate::rooms::{self, Rooms};
+use crate::reservations::{self, Reservations};
+use crate::slot;
 use city_model::OutOfMemory;
 use city_model::change::Change;
 use city_model::city::City;
@@ -27,13 +27,13 @@ use std::marker::Model;
 /// One city as the open transactions have written it, with an undo image of each written id.
 ///
 /// Contracts see the committed city, which is that city with all images put back, the writes of
-/// the open transactions, and the ids that each of them has room to write. An id has room for one
+/// the open transactions, and the ids that each of them has reserved. An id is reserved by one
 /// transaction at most.
 #[derive(Drop)]
 pub struct Store {
     city: City,
     images: Images,
-    rooms: Rooms,
+    reservations: Reservations,
 }
 
 impl Model for Store {
@@ -43,8 +43,9 @@ impl Model for Store {
 
     ghost use Rattle.std.specs.Coded.{codes};
     ghost use Rattle.city_model.specs.DataCode.{coded_members};
+    ghost use Rattle.city_txn.specs.Codes.{coded_objects};
 
-    ghost coded = { Prim.hlevel (codes, coded_members) };
+    ghost coded = { Prim.hlevel (codes, coded_members, coded_objects) };
 
     ghost use Rattle.city_txn.specs.InPlace.{state_of, IsInPlace};
 
@@ -58,12 +59,10 @@ impl Store {
     pub fn new(alloc: Global, city: City) -> Self
         ensures { result ≡ record { frame = city.0; city = city.1; writes = []; opened = [] } }
     {
-        // (called for its promise that the ids ascend)
-        let _count = city.len();
         Store {
             city,
             images: BTreeMap::new(alloc),
-            rooms: BTreeMap::new(alloc),
+            reservations: BTreeMap::new(alloc),
         }
     }
 
@@ -71,10 +70,10 @@ impl Store {
     pub fn is_open(&self, stamp: u64) -> bool
         ensures { result ≡ is_open self.now stamp }
     {
-        self.rooms.contains_key(&stamp)
+        self.reservations.contains_key(&stamp)
     }
 
-    /// Opens the stamp, which isn't open, with no writes and no room. Want of memory leaves the
+    /// Opens the stamp, which isn't open, with no writes and nothing reserved. Want of memory leaves the
     /// store.
     pub fn begin(&mut self, alloc: Global, stamp: u64) -> Result<(), OutOfMemory>
         requires { is_open self.old stamp ≡ false }
@@ -82,60 +81,66 @@ impl Store {
         ensures city { self.new.city ≡ self.old.city }
         ensures writes { self.new.writes ≡ self.old.writes }
         ensures opened { OnOk result ((t : ℕ) → is_open self.new t ≡ ((stamp == t) || is_open self.old t)) }
-        ensures room { (t : ℕ) (id : List ℕ) → has_room self.new t id ≡ has_room self.old t id }
+        ensures reserved { (t : ℕ) (id : List ℕ) → is_reserved self.new t id ≡ is_reserved self.old t id }
         ensures err { OnErr result (self.new ≡ self.old) }
     {
-        rooms::open(&mut self.rooms, alloc, stamp)?;
+        reservations::open(&mut self.reservations, alloc, stamp)?;
         Ok(())
     }
 
-    /// What the stamp sees at an id for which no other has room. Takes no memory.
+    /// What the stamp sees at an id. Takes no memory.
     pub fn read(&self, stamp: u64, id: &Id) -> Option<&Object>
-        requires { (t : ℕ) → has_room self.now t id.now ≡ true → t ≡ stamp }
         ensures { option_copied result ≡ view self.now stamp id.now }
     {
-        if image::is_gone(&self.images, id) {
-            return None;
+        match self.images.get(id) {
+            Some(image) => image::seen_by(image, stamp, self.city.get(id)),
+            None => self.city.get(id),
         }
-        self.city.get(id)
     }
 
-    /// Makes room for the stamp, which is open, to write an id for which no other has room.
-    /// Nobody sees a difference; want of memory leaves all room as it is.
-    pub fn touch(&mut self, alloc: Global, stamp: u64, id: &Id) -> Result<(), OutOfMemory>
+    /// Reserves for the stamp, which is open, an id that no other has reserved.
+    /// Nobody sees a difference; want of memory leaves all reservations as they are.
+    pub fn reserve(&mut self, alloc: Global, stamp: u64, id: &Id) -> Result<(), OutOfMemory>
         requires opened { is_open self.old stamp ≡ true }
-        requires alone { (t : ℕ) → has_room self.old t id.now ≡ true → t ≡ stamp }
+        requires alone { (t : ℕ) → is_reserved self.old t id.now ≡ true → t ≡ stamp }
         ensures same { SeesSame self.old self.new }
-        ensures ok { OnOk result ((t : ℕ) (q : List ℕ) → has_room self.new t q ≡ (((stamp == t) && same_id id.now q) || has_room self.old t q)) }
-        ensures err { OnErr result ((t : ℕ) (q : List ℕ) → has_room self.new t q ≡ has_room self.old t q) }
+        ensures ok { OnOk result ((t : ℕ) (q : List ℕ) → is_reserved self.new t q ≡ (((stamp == t) && same_id id.now q) || is_reserved self.old t q)) }
+        ensures err { OnErr result ((t : ℕ) (q : List ℕ) → is_reserved self.new t q ≡ is_reserved self.old t q) }
     {
         if self.images.contains_key(id) {
             return Ok(());
         }
-        let gone = place::make(&mut self.city, alloc, id)?;
-        let Ok(()) = add_listed(&mut self.images, &mut self.rooms, alloc, stamp, id, gone) else {
-            place::clear(&mut self.city, id, gone);
+        let deleted = slot::make(&mut self.city, alloc, id)?;
+        let Ok(()) = add_listed(
+            &mut self.images,
+            &mut self.reservations,
+            alloc,
+            stamp,
+            id,
+            deleted,
+        ) else {
+            slot::clear(&mut self.city, id, deleted);
             return Err(OutOfMemory);
         };
         Ok(())
     }
 
-    /// Writes an id for which the stamp has room: an object, or that none is there. Takes no
+    /// Writes an id that the stamp has reserved: an object, or that none is there. Takes no
     /// memory.
     pub fn set(&mut self, alloc: Global, stamp: u64, id: Id, object: Option<Object>)
-        requires { has_room self.old stamp id ≡ true }
+        requires { is_reserved self.old stamp id ≡ true }
         ensures frame { self.new.frame ≡ self.old.frame }
-        ensures city { (q : List ℕ) → committed self.new q ≡ committed self.old q }
+        ensures city { committed self.new ≡ committed self.old }
         ensures writes { (q : List ℕ) → write_of self.new.writes q ≡ (if same_id id q then Some (stamp, object) else write_of self.old.writes q) }
         ensures opened { self.new.opened ≡ self.old.opened }
     {
-        let gone = object.is_none();
+        let deleted = object.is_none();
         write(
             &mut self.city,
             &mut self.images,
             id,
-            place::standing(alloc, object),
-            gone,
+            slot::standing(alloc, object),
+            deleted,
         );
     }
 
@@ -144,7 +149,7 @@ impl Store {
         ensures lists { IfOk result (λ change. (q : List ℕ) → lookup (is_at (slice_cmp nat_cmp q)) change ≡ own_write stamp (write_of self.now.writes q)) }
         ensures ordered { IfOk result (λ change. IsStrictlySortedBy (slice_cmp nat_cmp) (keys_of change)) }
     {
-        match self.rooms.get(&stamp) {
+        match self.reservations.get(&stamp) {
             Some(ids) => change_of(&self.city, &self.images, alloc, ids.as_slice()),
             None => Ok(Sequence::new(alloc)),
         }
@@ -162,28 +167,28 @@ impl Store {
     pub fn is_idle(&self) -> bool
         ensures { IsTrue result ↔ (self.now.opened ≡ []) }
     {
-        self.rooms.is_empty()
+        self.reservations.is_empty()
     }
 
     /// Makes what the stamp wrote the committed city, and closes the stamp. It works through the
-    /// ids that the stamp has room to write, and takes no memory.
-    pub fn keep(&mut self, stamp: u64)
-        ensures city { (id : List ℕ) → committed self.new id ≡ view self.old stamp id }
+    /// ids that the stamp has reserved, and takes no memory.
+    pub fn commit(&mut self, stamp: u64)
+        ensures city { committed self.new ≡ view self.old stamp }
         ensures forgets { Forgets stamp self.old self.new }
     {
-        if let Some(ids) = self.rooms.remove(&stamp) {
-            keep_each(&mut self.city, &mut self.images, ids.as_slice());
+        if let Some(ids) = self.reservations.remove(&stamp) {
+            commit_each(&mut self.city, &mut self.images, ids.as_slice());
         }
     }
 
     /// Takes back what the stamp wrote, and closes the stamp. It works through the ids that the
-    /// stamp has room to write, and takes no memory.
-    pub fn restore(&mut self, stamp: u64)
-        ensures city { (id : List ℕ) → committed self.new id ≡ committed self.old id }
+    /// stamp has reserved, and takes no memory.
+    pub fn roll_back(&mut self, stamp: u64)
+        ensures city { committed self.new ≡ committed self.old }
         ensures forgets { Forgets stamp self.old self.new }
     {
-        if let Some(ids) = self.rooms.remove(&stamp) {
-            restore_each(&mut self.city, &mut self.images, ids.as_slice());
+        if let Some(ids) = self.reservations.remove(&stamp) {
+            roll_back_each(&mut self.city, &mut self.images, ids.as_slice());
         }
     }
 }
@@ -191,24 +196,24 @@ impl Store {
 /// Adds an image of an id without one, and lists the id at the stamp, or neither.
 fn add_listed(
     images: &mut Images,
-    rooms: &mut Rooms,
+    reservations: &mut Reservations,
     alloc: Global,
     stamp: u64,
     id: &Id,
-    gone: bool,
+    deleted: bool,
 ) -> Result<(), OutOfMemory>
-    requires opened { is_some (get nat_cmp rooms.old stamp) ≡ true }
+    requires opened { is_some (get nat_cmp reservations.old stamp) ≡ true }
     requires absent { get (slice_cmp nat_cmp) images.old id.now ≡ None }
     ensures images { OnOk result ((q : List ℕ) → get (slice_cmp nat_cmp) images.new q
-        ≡ (if same_id id.now q then Some (fresh_image stamp gone) else get (slice_cmp nat_cmp) images.old q)) }
-    ensures rooms { OnOk result ((t : ℕ) → get nat_cmp rooms.new t
-        ≡ (if is_at (nat_cmp stamp) t then Some (rooms_of rooms.old.entries stamp ++ id.now ∷ []) else get nat_cmp rooms.old t)) }
+        ≡ (if same_id id.now q then Some (unwritten_image stamp deleted) else get (slice_cmp nat_cmp) images.old q)) }
+    ensures reservations { OnOk result ((t : ℕ) → get nat_cmp reservations.new t
+        ≡ (if is_at (nat_cmp stamp) t then Some (reservations_of reservations.old.entries stamp ++ id.now ∷ []) else get nat_cmp reservations.old t)) }
     ensures images_back { OnErr result ((q : List ℕ) → get (slice_cmp nat_cmp) images.new q ≡ get (slice_cmp nat_cmp) images.old q) }
-    ensures rooms_back { OnErr result (rooms.new.entries ≡ rooms.old.entries) }
+    ensures reservations_back { OnErr result (reservations.new.entries ≡ reservations.old.entries) }
     ensures ordered { IsOrdered (slice_cmp nat_cmp) images.old → IsOrdered (slice_cmp nat_cmp) images.new }
 {
-    image::add(images, alloc, stamp, id, gone)?;
-    let Ok(()) = rooms::list(rooms, alloc, stamp, id) else {
+    image::add(images, alloc, stamp, id, deleted)?;
+    let Ok(()) = reservations::list(reservations, alloc, stamp, id) else {
         let _ = image::forget(images, id);
         return Err(OutOfMemory);
     };
@@ -216,58 +221,57 @@ fn add_listed(
 }
 
 /// Puts the object at the id, and what stood there into the image.
-fn write(city: &mut City, images: &mut Images, id: Id, object: Object, gone: bool)
-    requires placed { is_some (at city.old.1 id) ≡ true }
+fn write(city: &mut City, images: &mut Images, id: Id, object: Object, deleted: bool)
+    requires has_slot { is_some (at city.old.1 id) ≡ true }
     requires there { is_some (get (slice_cmp nat_cmp) images.old id) ≡ true }
     ensures frame { city.new.0 ≡ city.old.0 }
-    ensures city { (q : List ℕ) → at city.new.1 q ≡ changed (at city.old.1) id (Some object) q }
+    ensures city { at city.new.1 ≡ changed (at city.old.1) id (Some object) }
     ensures images { (q : List ℕ) → get (slice_cmp nat_cmp) images.new q
-        ≡ (if same_id id q then option_map (written_over (at city.old.1 id) gone) (get (slice_cmp nat_cmp) images.old id) else get (slice_cmp nat_cmp) images.old q) }
-    ensures city_ordered { IsStrictlySortedBy (slice_cmp nat_cmp) (keys_of city.new.1) }
+        ≡ (if same_id id q then option_map (written_over (at city.old.1 id) deleted) (get (slice_cmp nat_cmp) images.old id) else get (slice_cmp nat_cmp) images.old q) }
     ensures images_ordered { IsOrdered (slice_cmp nat_cmp) images.old → IsOrdered (slice_cmp nat_cmp) images.new }
 {
     match images.get_mut(&id) {
         Some(image) => {
-            let old = place::swap(city, id, object);
-            image::write_over(image, old, gone);
+            let old = slot::swap(city, id, object);
+            image::write_over(image, old, deleted);
         }
         None => unreachable!(),
     }
 }
 
-/// Drops the images of the ids, and the stand-ins that hold their places.
-fn keep_each(city: &mut City, images: &mut Images, ids: &[Id])
+/// Drops the images of the ids, and the placeholders that hold their slots.
+fn commit_each(city: &mut City, images: &mut Images, ids: &[Id])
     ensures { AreEnded seen_at (has_id ids.now) city.old images.old city.new images.new }
 {
     for id in ids {
-        keep_one(city, images, id);
+        commit_one(city, images, id);
     }
 }
 
-/// Drops the image of the id, if there is one, and the stand-in, if one holds its place.
-fn keep_one(city: &mut City, images: &mut Images, id: &Id)
+/// Drops the image of the id, if there is one, and the placeholder, if one holds its slot.
+fn commit_one(city: &mut City, images: &mut Images, id: &Id)
     ensures { AreEnded seen_at (same_id id.now) city.old images.old city.new images.new }
 {
-    let gone = image::forget(images, id);
-    place::clear(city, id, gone);
+    let deleted = image::forget(images, id);
+    slot::clear(city, id, deleted);
 }
 
 /// Puts the images of the ids back.
-fn restore_each(city: &mut City, images: &mut Images, ids: &[Id])
+fn roll_back_each(city: &mut City, images: &mut Images, ids: &[Id])
     requires { (q : List ℕ) → is_some (get (slice_cmp nat_cmp) images.old q) ≡ true → is_some (at city.old.1 q) ≡ true }
     ensures { AreEnded committed_at (has_id ids.now) city.old images.old city.new images.new }
 {
     for id in ids {
-        restore_one(city, images, id);
+        roll_back_one(city, images, id);
     }
 }
 
 /// Puts the image of the id back, if there is one.
-fn restore_one(city: &mut City, images: &mut Images, id: &Id)
+fn roll_back_one(city: &mut City, images: &mut Images, id: &Id)
     requires { is_some (get (slice_cmp nat_cmp) images.old id.now) ≡ true → is_some (at city.old.1 id.now) ≡ true }
     ensures { AreEnded committed_at (same_id id.now) city.old images.old city.new images.new }
 {
     if let Some((key, image)) = images.remove_entry(id) {
-        place::give_back(city, key, image);
+        slot::give_back(city, key, image);
     }
 }

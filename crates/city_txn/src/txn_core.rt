@@ -1,17 +1,15 @@
 //! The transaction core: strict two-phase locking over one city.
 ghost use Rattle.std.specs.Prelude.{◌≡◌, ◌==◌, ◌&&◌, ◌||◌, ℕ, List, [], None, true, false, Some, is_some, OnOk, OnErr, IfOk, IfErr, IsErr, IsOk, ◌↔◌, if◌then◌else◌};
 ghost use Rattle.city_model.specs.CityMap.{at};
-ghost use Rattle.city_model.specs.Meaning.{locks_of};
 ghost use Rattle.city_model.specs.Scripts.{is_end};
 ghost use Rattle.city_model.specs.Relations.{IsLawful, HasNoOrphan, IsSound};
 ghost use Rattle.city_locks.specs.declared.mode.Mode.{Mode};
 ghost use Rattle.city_locks.specs.Locks.{mode_of};
 ghost use Rattle.city_txn.specs.State.{write_of, is_by};
-ghost use Rattle.city_model.specs.Standing.{Answered};
-ghost use Rattle.city_txn.specs.CoreState.{committed, view, is_open, IsOver};
-ghost use Rattle.city_txn.specs.Acting.{Acted};
+ghost use Rattle.city_txn.specs.CoreState.{committed, view, is_open, Stands, KeepsOthers, IsOver, IsUndone};
+ghost use Rattle.city_txn.specs.Acting.{answer_in, Acted};
 ghost use Rattle.city_txn.specs.Changing.{IsPrepared};
-ghost use Rattle.city_txn.specs.Locking.{first_answer, is_wait};
+ghost use Rattle.city_txn.specs.Locking.{is_wait};
 
 use crate::changing::orphan_in;
 use crate::lock::lock;
@@ -45,8 +43,9 @@ impl Model for Core {
 
     ghost use Rattle.std.specs.Coded.{codes};
     ghost use Rattle.city_model.specs.DataCode.{coded_members};
+    ghost use Rattle.city_txn.specs.Codes.{coded_objects};
 
-    ghost coded = { Prim.hlevel (codes, coded_members) };
+    ghost coded = { Prim.hlevel (codes, coded_members, coded_objects) };
 
     ghost use Rattle.city_txn.specs.Core.{core_state, IsCore};
 
@@ -73,11 +72,12 @@ impl Core {
     /// `StampOpen` comes exactly where the stamp is open; then, and for want of memory, nothing
     /// changes.
     pub fn begin(&mut self, stamp: u64) -> Result<(), TxnFault>
-        ensures frame { self.new.frame ≡ self.old.frame }
         ensures city { self.new.city ≡ self.old.city }
         ensures writes { self.new.writes ≡ self.old.writes }
         ensures locks { self.new.locks ≡ self.old.locks }
-        ensures opened { OnOk result ((t : ℕ) → is_open self.new t ≡ ((stamp == t) || is_open self.old t)) }
+        ensures opened { OnOk result (is_open self.new stamp ≡ true) }
+        ensures own { OnOk result (Stands self.new stamp []) }
+        ensures keeps { OnOk result (KeepsOthers stamp self.old self.new) }
         ensures unlocked { OnOk result ((id : List ℕ) → mode_of self.new.locks stamp id ≡ None) }
         ensures unwritten { OnOk result ((id : List ℕ) → is_by stamp (write_of self.new.writes id) ≡ false) }
         ensures err { OnErr result (self.new ≡ self.old) }
@@ -125,7 +125,7 @@ impl Core {
     /// Takes no memory.
     pub fn would_wait(&self, stamp: u64, command: &Command) -> bool
         requires { is_end command.now ≡ false }
-        ensures { result ≡ (is_open self.now stamp && is_wait (first_answer self.now.locks stamp (locks_of (view self.now stamp) command.now))) }
+        ensures { result ≡ (is_open self.now stamp && is_wait (answer_in self.now stamp command.now)) }
     {
         if !self.store.is_open(stamp) {
             return false;
@@ -165,21 +165,28 @@ impl Core {
     pub fn commit(&mut self, stamp: u64)
         requires opened { is_open self.old stamp ≡ true }
         requires no_orphan { HasNoOrphan (view self.old stamp) }
-        ensures city { (id : List ℕ) → committed self.new id ≡ view self.old stamp id }
+        ensures city { committed self.new ≡ view self.old stamp }
         ensures over { IsOver stamp self.old self.new }
         ensures lawful { IsLawful (committed self.new) }
     {
-        self.store.keep(stamp);
+        self.store.commit(stamp);
+        self.locks.release_all(stamp);
+    }
+
+    /// Undoes what the transaction, which is open, wrote, and gives its locks back. Takes no memory.
+    pub fn roll_back(&mut self, stamp: u64)
+        requires { is_open self.old stamp ≡ true }
+        ensures { IsUndone stamp self.old self.new }
+    {
+        self.store.roll_back(stamp);
         self.locks.release_all(stamp);
     }
 
     /// Undoes what the transaction wrote, and gives its locks back. Takes no memory.
     ///
-    /// `NotOpen` comes exactly where the stamp isn't open, and then nothing changes.
+    /// It is `roll_back` for a stamp that may not be open: `NotOpen` comes exactly where the stamp isn't open, and then nothing changes.
     pub fn abort(&mut self, stamp: u64) -> Result<(), TxnFault>
-        ensures city { (id : List ℕ) → committed self.new id ≡ committed self.old id }
-        ensures views { (t : ℕ) (id : List ℕ) → (stamp == t) ≡ false → view self.new t id ≡ view self.old t id }
-        ensures over { OnOk result (IsOver stamp self.old self.new) }
+        ensures undone { OnOk result (IsUndone stamp self.old self.new) }
         ensures err { OnErr result (self.new ≡ self.old) }
         ensures fault { IfErr result (λ fault. fault ≡ TxnFault.NotOpen stamp) }
         ensures opened { is_open self.old stamp ≡ true → IsOk result }
@@ -188,8 +195,7 @@ impl Core {
         if !self.store.is_open(stamp) {
             return Err(TxnFault::NotOpen(stamp));
         }
-        self.store.restore(stamp);
-        self.locks.release_all(stamp);
+        self.roll_back(stamp);
         Ok(())
     }
 

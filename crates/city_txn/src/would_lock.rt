@@ -3,8 +3,7 @@ ghost use Rattle.std.specs.Prelude.{◌≡◌, ℕ, List, [], ◌∷◌, true, f
 ghost use Rattle.city_model.specs.Meaning.{delete_locks, exclusively, locks_of};
 ghost use Rattle.city_model.specs.Scripts.{is_end};
 ghost use Rattle.city_locks.specs.declared.mode.Mode.{Mode};
-ghost use Rattle.city_locks.specs.Locks.{mode_of};
-ghost use Rattle.city_txn.specs.State.{has_room, view};
+ghost use Rattle.city_txn.specs.State.{view};
 ghost use Rattle.city_txn.specs.Locking.{first_answer};
 
 use crate::lock::parents_to_lock;
@@ -18,7 +17,6 @@ use city_model::text::Id;
 /// What `lock` would answer, want of memory aside. Takes no memory.
 pub fn would_lock(locks: &LockTable, store: &Store, stamp: u64, command: &Command) -> Answer
     requires no_end { is_end command.now ≡ false }
-    requires room { (t : ℕ) (id : List ℕ) → has_room store.now t id ≡ true → mode_of locks.now t id ≡ Some Mode.Exclusive }
     ensures { result ≡ first_answer locks.now stamp (locks_of (view store.now stamp) command.now) }
 {
     match command {
@@ -33,7 +31,6 @@ pub fn would_lock(locks: &LockTable, store: &Store, stamp: u64, command: &Comman
 
 /// The answer to a delete: that for the id, and then for the parents of an object without children.
 fn would_lock_delete(locks: &LockTable, store: &Store, stamp: u64, id: &Id) -> Answer
-    requires { (t : ℕ) (q : List ℕ) → has_room store.now t q ≡ true → mode_of locks.now t q ≡ Some Mode.Exclusive }
     ensures { result ≡ first_answer locks.now stamp ((id.now, true) ∷ delete_locks (view store.now stamp id.now)) }
 {
     match locks.would_answer(stamp, id, Mode::Exclusive) {

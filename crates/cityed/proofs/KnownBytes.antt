@@ -1,30 +1,10 @@
 -- Known bytes that are read or written part by part.
-use Rattle.std.proofs.Common.{◌≡◌, ◌≤◌, ◌-◌, ℕ, List, [], ◌++◌, length, take, drop, Option, Some, None, IfSome, refl, sym, ap, subst, ◌∙◌, append_assoc, append-nil, arith, length-drop}
-use Rattle.std.proofs.lemmas.List.{take-append-drop, take-append-le, take_all}
+use Rattle.std.proofs.Common.{◌≡◌, ◌≤◌, ◌+◌, ◌-◌, ℕ, List, [], ◌++◌, length, take, drop, Option, Some, None, IfSome, refl, sym, ap, subst, ◌∙◌, append_assoc, append-nil, arith, length-append, length-drop}
+use Rattle.std.proofs.lemmas.List.{length-take, take-append-drop, take-append-le, take_all}
 use Rattle.std.specs.Io.KnownBytes.{Appends, Consumes, IsAtEnd, Keeps}
-use Rattle.cityed.specs.ServedTexts.{AppendsSome}
-
-pub keeps_itself : (u : Option (List ℕ)) → Keeps u u
-keeps_itself None = tt
-keeps_itself (Some xs) = refl
-
-pub keeps_then : (u v w : Option (List ℕ)) → Keeps u v → Keeps v w → Keeps u w
-keeps_then None v w h k = tt
-keeps_then (Some xs) None w h k = absurd h
-keeps_then (Some xs) (Some ys) None h k = k
-keeps_then (Some xs) (Some ys) (Some zs) h k = k ∙ h
+use Rattle.cityed.specs.ServedTexts.{LosesAtMost, AppendsSome}
 
 -- ---- writing
-
-pub appends_nothing : (u : Option (List ℕ)) → Appends u u []
-appends_nothing None = tt
-appends_nothing (Some xs) = sym (append-nil xs)
-
-pub keeps_then_appends : (u v w : Option (List ℕ)) (a : List ℕ) → Keeps u v → Appends v w a → Appends u w a
-keeps_then_appends None v w a h k = tt
-keeps_then_appends (Some xs) None w a h k = absurd h
-keeps_then_appends (Some xs) (Some ys) None a h k = k
-keeps_then_appends (Some xs) (Some ys) (Some zs) a h k = k ∙ ap (λ t. t ++ a) h
 
 pub appends_then_keeps : (u v w : Option (List ℕ)) (a : List ℕ) → Appends u v a → Keeps v w → Appends u w a
 appends_then_keeps None v w a h k = tt
@@ -54,17 +34,13 @@ more_written done rest bytes n all =
 
 -- ---- reading
 
-pub consumes_nothing : (u : Option (List ℕ)) → Consumes u u []
-consumes_nothing None = tt
-consumes_nothing (Some xs) = refl
+pub consumes_then_keeps : (u v w : Option (List ℕ)) (a : List ℕ) → Consumes u v a → Keeps v w → Consumes u w a
+consumes_then_keeps None v w a h k = tt
+consumes_then_keeps (Some xs) None w a h k = absurd h
+consumes_then_keeps (Some xs) (Some ys) None a h k = absurd k
+consumes_then_keeps (Some xs) (Some ys) (Some zs) a h k = h ∙ ap (λ t. a ++ t) (sym k)
 
-pub keeps_then_consumes : (u v w : Option (List ℕ)) (a : List ℕ) → Keeps u v → Consumes v w a → Consumes u w a
-keeps_then_consumes None v w a h k = tt
-keeps_then_consumes (Some xs) None w a h k = absurd h
-keeps_then_consumes (Some xs) (Some ys) None a h k = k
-keeps_then_consumes (Some xs) (Some ys) (Some zs) a h k = sym h ∙ k
-
-pub consumes_more : (u v w : Option (List ℕ)) (a b : List ℕ) → Consumes u v a → Consumes v w b → Consumes u w (a ++ b)
+consumes_more : (u v w : Option (List ℕ)) (a b : List ℕ) → Consumes u v a → Consumes v w b → Consumes u w (a ++ b)
 consumes_more None v w a b h k = tt
 consumes_more (Some xs) None w a b h k = absurd h
 consumes_more (Some xs) (Some ys) None a b h k = k
@@ -91,3 +67,8 @@ pub end_read : (u v w : Option (List ℕ)) (items chunk : List ℕ) (n most : �
 end_read u v w items chunk n most h k none end within =
     let nothing : items ++ take n chunk ≡ items = ap (λ m. items ++ take m chunk) none ∙ append-nil items in
     all_read u w items most (subst (Consumes u w) nothing (consumes_more u v w items (take n chunk) h k)) end within
+
+-- a read took no more than was still wanted
+pub loses_more : (u v w : Option (List ℕ)) (items chunk : List ℕ) (n most : ℕ) → Consumes u v items → Consumes v w (take n chunk) → length items + n ≤ most → LosesAtMost most u w
+loses_more u v w items chunk n most h k within =
+    (items ++ take n chunk, consumes_more u v w items (take n chunk) h k, omega (arith, length-append items (take n chunk), length-take n chunk))

@@ -6,6 +6,7 @@ pub mod NamedFiles
 pub mod OneRun
 pub mod Options
 pub mod PlayedSoFar
+pub mod PutBack
 pub mod Relating
 pub mod RunFaults
 pub mod RunSoFar

@@ -3,13 +3,12 @@ use Rattle.std.proofs.Common.{◌≡◌, ℕ, ◌+◌, List, [], ◌∷◌, ◌+
 use Rattle.std.specs.Prelude.{not}
 use Rattle.std.proofs.lemmas.Bool.{and_parts, not-true}
 use Rattle.city_model.specs.declared.end.End.{End}
-use Rattle.city_model.specs.CityMap.{Entries, at}
+use Rattle.city_model.specs.CityMap.{CityValue, Objects, at}
 use Rattle.city_model.specs.Runs.{Scripted, Fits}
 use Rattle.city_model.specs.SerialEnds.{is_no_memory, IsSerialFrom}
 use Rattle.city_model.proofs.Results.{serial_ends_are_unique}
-use Rattle.city_model.proofs.SameEntries.{same_entries}
+use Rattle.city_model.proofs.Objects.{same_objects}
 use Rattle.city_doc.specs.Canonical.{city_text}
-use Rattle.city_doc.specs.Documents.{CityValue}
 use Rattle.city_doc.specs.Outputs.{IsOutput}
 use Rattle.city_doc.specs.Reports.{report_text}
 use Rattle.city_doc.proofs.OneValue.{one_city, one_list}
@@ -27,8 +26,8 @@ serial k (e ∷ es) turns had =
 
 one_output : (city : CityValue) (list : List Scripted) (ends : List End) (bytes written : List ℕ) → IsOutput city list ends bytes → IsOutput city list ends written → written ≡ bytes
 one_output city list ends bytes written h k =
-    let same : k.entries ≡ h.entries = same_entries k.entries h.entries k.model.ordered h.model.ordered (λ q. k.model.answers q ∙ sym (h.model.answers q)) in
-    k.text ∙ ap (λ (es : Entries). report_text ends ++ city_text (city.0, es) ++ 10 ∷ []) same ∙ sym h.text
+    let same : k.model ≡ h.model = same_objects k.model h.model (k.left ∙ sym h.left) in
+    k.text ∙ ap (λ (m : Objects). report_text ends ++ city_text (city.0, m) ++ 10 ∷ []) same ∙ sym h.text
 
 pub decided : (document scripts : List ℕ) (ends : List End) (bytes : List ℕ) → IsSerialRun document scripts ends bytes → IsDecided document scripts ends bytes
 decided document scripts ends bytes h had others written k too =

@@ -28,7 +28,7 @@ childless_goes id o none = ap (λ n. if n == 0 then None else Some (HasChildren 
 
 -- an object without children is taken out, and then out of the children of its parents
 pub delete_done : (m n k : CityMap) (id : List ℕ) (o : Object) → IsSound m → m id ≡ Some o → length o.children ≡ 0
-    → ((q : List ℕ) → n q ≡ changed m id None q) → ((q : List ℕ) → k q ≡ dropped n o.parents id q) → Continues m (Delete id) Deleted × (k ≡ after m (Delete id))
+    → n ≡ changed m id None → ((q : List ℕ) → k q ≡ dropped n o.parents id q) → Continues m (Delete id) Deleted × (k ≡ after m (Delete id))
 delete_done m n k id o sound is none out left =
     let cause : delete_cause id (m id) ≡ None = ap (delete_cause id) is ∙ childless_goes id o none in
     let made : k ≡ deleted m id = λ i q. deleted_by_parents m n k id o sound is out left q i in

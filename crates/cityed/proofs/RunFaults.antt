@@ -3,7 +3,8 @@ use Rattle.std.proofs.Common.{◌≡◌, ℕ, List, Result, Ok, Err, sym, subst}
 use Rattle.std.specs.Result.{IfErr, IsErrAnd}
 use Rattle.city_doc.specs.declared.fault.ReadFault.{ReadFault}
 use Rattle.city_doc.specs.declared.fault.ScriptFault.{ScriptFault}
-use Rattle.city_doc.specs.Documents.{CityValue, StandsForCity, DocumentFault}
+use Rattle.city_model.specs.CityMap.{CityValue}
+use Rattle.city_doc.specs.Documents.{IsAdmitted, DocumentFault}
 use Rattle.city_doc.specs.ScriptTexts.{ScriptTextFault}
 use Rattle.cityed.specs.declared.fault.RunFault.{RunFault}
 use Rattle.cityed.specs.SerialRuns.{IsRunFault, fault_of_document, fault_of_scripts}
@@ -25,7 +26,7 @@ document_fault document scripts (ReadFault.OpenShell id) fault = ((λ e. absurd 
 pub document_refused : (document scripts : List ℕ) (f : ReadFault) (r : RunFault) → r ≡ fault_of_document f → DocumentFault document f → IsRunFault document scripts r
 document_refused document scripts f r is fault = subst (λ g. IsRunFault document scripts g) (sym is) (document_fault document scripts f fault)
 
-scripts_fault : (document scripts : List ℕ) (city : CityValue) (f : ScriptFault) → StandsForCity document city → ScriptTextFault scripts f → IsRunFault document scripts (fault_of_scripts f)
+scripts_fault : (document scripts : List ℕ) (city : CityValue) (f : ScriptFault) → IsAdmitted document city → ScriptTextFault scripts f → IsRunFault document scripts (fault_of_scripts f)
 scripts_fault document scripts city ScriptFault.OutOfMemory stands fault = tt
 scripts_fault document scripts city ScriptFault.TooLong stands fault = ((λ e. absurd (cc)), (city, stands), fault)
 scripts_fault document scripts city ScriptFault.NotJson stands fault = ((λ e. absurd (cc)), (city, stands), fault)
@@ -36,7 +37,7 @@ scripts_fault document scripts city ScriptFault.TooMany stands fault = ((λ e. a
 scripts_fault document scripts city (ScriptFault.BadCommand n i) stands fault = ((λ e. absurd (cc)), (city, stands), fault)
 scripts_fault document scripts city (ScriptFault.BadVertex n i) stands fault = ((λ e. absurd (cc)), (city, stands), fault)
 
-pub scripts_refused : (document scripts : List ℕ) (city : CityValue) (f : ScriptFault) (r : RunFault) → r ≡ fault_of_scripts f → StandsForCity document city → ScriptTextFault scripts f → IsRunFault document scripts r
+pub scripts_refused : (document scripts : List ℕ) (city : CityValue) (f : ScriptFault) (r : RunFault) → r ≡ fault_of_scripts f → IsAdmitted document city → ScriptTextFault scripts f → IsRunFault document scripts r
 scripts_refused document scripts city f r is stands fault = subst (λ g. IsRunFault document scripts g) (sym is) (scripts_fault document scripts city f stands fault)
 
 -- what holds of the error of a result that is one

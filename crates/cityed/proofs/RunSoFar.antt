@@ -19,18 +19,18 @@ no_end_more : (s : ℕ) (es : List End) (e : End) → NoEndOf s es → (e.script
 no_end_more s [] e none other = (other, tt)
 no_end_more s (f ∷ fs) e none other = (none.0, no_end_more s fs e none.1 other)
 
-place_moved : (scripts : List Scripted) (m : CityMap) (p q : ℕ) (e : End) → p ≡ q → IsEndOf scripts m p e → IsEndOf scripts m q e
-place_moved scripts m p q e same is = subst (λ k. IsEndOf scripts m k e) same is
+index_moved : (scripts : List Scripted) (m : CityMap) (p q : ℕ) (e : End) → p ≡ q → IsEndOf scripts m p e → IsEndOf scripts m q e
+index_moved scripts m p q e same is = subst (λ k. IsEndOf scripts m k e) same is
 
 -- an end goes last where the ends before it are of earlier scripts
 fits_more : (scripts : List Scripted) (es : List End) (e : End) (m : CityMap) (p k : ℕ) → FitsFrom scripts m p es → AreInTurn k es → e.script ≡ k + length es → IsEndOf scripts (model_after scripts m es) (p + length es) e → FitsFrom scripts m p (es ++ e ∷ [])
-fits_more scripts [] e m p k fits turns script is = (place_moved scripts m (p + 0) p e (omega arith) is, tt, tt)
+fits_more scripts [] e m p k fits turns script is = (index_moved scripts m (p + 0) p e (omega arith) is, tt, tt)
 fits_more scripts (f ∷ fs) e m p k fits turns script is =
     let first : f.script ≡ k = turns.0 in (
       fits.0,
       no_end_more f.script fs e fits.1 (λ same. absurd (omega (arith, same, first, script))),
       fits_more scripts fs e (map_left m (commands_of (slice_get scripts f.script)) f.outcome) (p + 1) (k + 1) fits.2 turns.2 (omega (arith, script))
-          (place_moved scripts (model_after scripts m (f ∷ fs)) (p + length (f ∷ fs)) (p + 1 + length fs) e (omega arith) is),
+          (index_moved scripts (model_after scripts m (f ∷ fs)) (p + length (f ∷ fs)) (p + 1 + length fs) e (omega arith) is),
     )
 
 model_more : (scripts : List Scripted) (es : List End) (e : End) (m : CityMap) → model_after scripts m (es ++ e ∷ []) ≡ map_left (model_after scripts m es) (commands_of (slice_get scripts e.script)) e.outcome
@@ -91,7 +91,7 @@ one_more_run scripts start m n ends s ss e so_far once script since named result
       rest = ap (λ k. drop k scripts) next ∙ left_more scripts (length ends) s ss so_far.rest;
       count = omega (arith, long, so_far.count);
       in_turn = turn_more ends e 0 so_far.in_turn (script ∙ omega arith) (since ∙ omega arith);
-      fits = fits_more scripts ends e start 0 0 so_far.fits so_far.in_turn (script ∙ omega arith) (place_moved scripts (model_after scripts start ends) (length ends) (0 + length ends) e (omega arith) (subst (λ k. IsEndOf scripts k (length ends) e) so_far.model is));
+      fits = fits_more scripts ends e start 0 0 so_far.fits so_far.in_turn (script ∙ omega arith) (index_moved scripts (model_after scripts start ends) (length ends) (0 + length ends) e (omega arith) (subst (λ k. IsEndOf scripts k (length ends) e) so_far.model is));
       model = model;
       lawful = lawful;
       throughout = first_more (λ es. IsLawful (model_after scripts start es)) ends e so_far.throughout (subst IsLawful model lawful);

@@ -1,5 +1,6 @@
 -- What the words of a command line ask for.
-use Rattle.std.specs.Prelude.{◌≡◌, ◌≢◌, ◌⊎◌, ⊤, ℕ, List, [], ◌∷◌, ◌++◌, Option, Some, None, Result, Ok, Err, true, codes, slice_get, All, IsErr}
+use Rattle.std.specs.Prelude.{◌≡◌, ◌≢◌, ◌⊎◌, ⊤, ℕ, true, List, [], ◌∷◌, ◌++◌, codes, slice_get, All}
+use Rattle.std.specs.Prelude.{Option, Some, None, Result, Ok, Err, IsErr}
 use Rattle.std.specs.Result.{IsOkAnd}
 use Rattle.clap.specs.Words.{App, new_rule, with_rule}
 use Rattle.clap.specs.Lexer.{long_of}
@@ -41,7 +42,8 @@ IsShown r = IsOkAnd r IsText ⊎ IsWantOfMemory r
 
 -- the word asks for help or for the version
 abbrev pub AsksForText : List ℕ → Type 0
-AsksForText word = (word ≡ codes "--help") ⊎ (word ≡ codes "-h") ⊎ (word ≡ codes "--version") ⊎ (word ≡ codes "-V")
+AsksForText word =
+    (word ≡ codes "--help") ⊎ (word ≡ codes "-h") ⊎ (word ≡ codes "--version") ⊎ (word ≡ codes "-V")
 
 -- the word is `--name` or `--name=value`, and the name is neither help nor version
 pub record IsUnknownOption (word : List ℕ) : Type 0 where

@@ -1,4 +1,5 @@
--- The line that tells a fault: its number, its name and its fields, texts as JSON texts and numbers in decimal.
+-- The line that tells a fault: its number, its name and its fields, texts as JSON texts and numbers in
+-- decimal.
 use Rattle.std.specs.Prelude.{ℕ, List, ◌++◌, codes}
 use Rattle.std.specs.Fmt.{decimal}
 use Rattle.serde_json.specs.Data.{string}
@@ -19,7 +20,8 @@ model_text ReadFault.NotJson = codes "cityed: model: 2 NotJson"
 model_text ReadFault.NotWhole = codes "cityed: model: 3 NotWhole"
 model_text (ReadFault.NotCityJson member) = codes "cityed: model: 4 NotCityJson " ++ quoted member
 model_text (ReadFault.UnknownType id) = codes "cityed: model: 5 UnknownType " ++ quoted id
-model_text (ReadFault.Unsupported id name) = codes "cityed: model: 6 Unsupported " ++ quoted id ++ codes " " ++ quoted name
+model_text (ReadFault.Unsupported id name) =
+    codes "cityed: model: 6 Unsupported " ++ quoted id ++ codes " " ++ quoted name
 model_text (ReadFault.BadGeometry id) = codes "cityed: model: 7 BadGeometry " ++ quoted id
 model_text (ReadFault.BadVertex id) = codes "cityed: model: 8 BadVertex " ++ quoted id
 model_text (ReadFault.BadRing id) = codes "cityed: model: 9 BadRing " ++ quoted id
@@ -34,8 +36,10 @@ scripts_text ScriptFault.NotWhole = codes "cityed: scripts: 3 NotWhole"
 scripts_text ScriptFault.NotScripts = codes "cityed: scripts: 4 NotScripts"
 scripts_text (ScriptFault.BadScript n) = codes "cityed: scripts: 5 BadScript " ++ decimal n
 scripts_text ScriptFault.TooMany = codes "cityed: scripts: 6 TooMany"
-scripts_text (ScriptFault.BadCommand n i) = codes "cityed: scripts: 7 BadCommand " ++ decimal n ++ codes " " ++ decimal i
-scripts_text (ScriptFault.BadVertex n i) = codes "cityed: scripts: 8 BadVertex " ++ decimal n ++ codes " " ++ decimal i
+scripts_text (ScriptFault.BadCommand n i) =
+    codes "cityed: scripts: 7 BadCommand " ++ decimal n ++ codes " " ++ decimal i
+scripts_text (ScriptFault.BadVertex n i) =
+    codes "cityed: scripts: 8 BadVertex " ++ decimal n ++ codes " " ++ decimal i
 
 abbrev pub run_text : RunFault → List ℕ
 run_text (RunFault.Read f) = model_text f

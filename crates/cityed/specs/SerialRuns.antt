@@ -2,28 +2,32 @@
 use Rattle.std.specs.Prelude.{◌≡◌, ◌≢◌, ◌+◌, ℕ, List, [], ◌∷◌, length, take, Bool, true, not}
 use Rattle.std.specs.List.{list_all}
 use Rattle.city_model.specs.declared.end.End.{End}
-use Rattle.city_model.specs.CityMap.{at}
+use Rattle.city_model.specs.CityMap.{CityValue, at}
 use Rattle.city_model.specs.Relations.{IsLawful}
 use Rattle.city_model.specs.Runs.{Scripted, Fits, model_after}
 use Rattle.city_model.specs.SerialEnds.{is_no_memory}
 use Rattle.city_doc.specs.declared.fault.ReadFault.{ReadFault}
 use Rattle.city_doc.specs.declared.fault.ScriptFault.{ScriptFault}
-use Rattle.city_doc.specs.Documents.{CityValue, StandsForCity, DocumentFault}
-use Rattle.city_doc.specs.ScriptTexts.{StandsForScripts, ScriptTextFault}
+use Rattle.city_doc.specs.Documents.{StandsForCity, IsAdmitted, DocumentFault}
+use Rattle.city_doc.specs.ScriptTexts.{StandsForScripts, IsReadAs, ScriptTextFault}
 use Rattle.city_doc.specs.Outputs.{IsOutput}
 use Rattle.cityed.specs.declared.fault.RunFault.{RunFault}
 
--- the ends are those of script k and the ones after it, in their order, each begun when just those before it had ended
+-- the ends are those of script k and the ones after it, in their order, each begun when just those
+-- before it had ended
 abbrev pub AreInTurn : ℕ → List End → Type 0
 AreInTurn k [] = Unit {0}
 AreInTurn k (e ∷ es) = (e.script ≡ k) × (e.since ≡ k) × AreInTurn (k + 1) es
 
--- the scripts of a text, run one after the other on the city of a document: their ends, and what is written. After each of the ends the model is lawful
+-- the scripts of a text, run one after the other on the city of a document: their ends, and what is
+-- written. After each of the ends the model is lawful
 pub record IsSerialRun (document scripts : List ℕ) (ends : List End) (bytes : List ℕ) : Type 0 where
   pub city : CityValue
   pub list : List Scripted
   pub stands_for_city : StandsForCity document city
   pub stands_for_scripts : StandsForScripts scripts list
+  pub admitted : IsAdmitted document city
+  pub read_as : IsReadAs scripts list
   pub each_once : length ends ≡ length list
   pub in_turn : AreInTurn 0 ends
   pub fits : Fits list (at city.1) ends
@@ -34,16 +38,20 @@ pub record IsSerialRun (document scripts : List ℕ) (ends : List End) (bytes : 
 abbrev pub had_memory : List End → Bool
 had_memory ends = list_all (λ e. not (is_no_memory e.outcome)) ends
 
--- the texts decide the ends and what is written: where each script had its memory, no other run of them in which each has it differs
+-- the texts decide the ends and what is written: where each script had its memory, no other run of them
+-- in which each has it differs
 abbrev pub IsDecided : List ℕ → List ℕ → List End → List ℕ → Type 0
 IsDecided document scripts ends bytes =
-    had_memory ends ≡ true → (others : List End) (written : List ℕ) → IsSerialRun document scripts others written → had_memory others ≡ true → (others ≡ ends) × (written ≡ bytes)
+    had_memory ends ≡ true → (others : List End) (written : List ℕ)
+    → IsSerialRun document scripts others written → had_memory others ≡ true
+    → (others ≡ ends) × (written ≡ bytes)
 
 -- the document is judged before the scripts, and nothing but the two texts and memory can be at fault
 abbrev pub IsRunFault : List ℕ → List ℕ → RunFault → Type 0
 IsRunFault document scripts (RunFault.Read f) = (f ≢ ReadFault.OutOfMemory) × DocumentFault document f
 IsRunFault document scripts (RunFault.Script f) =
-    (f ≢ ScriptFault.OutOfMemory) × ((city : CityValue) × StandsForCity document city) × ScriptTextFault scripts f
+    (f ≢ ScriptFault.OutOfMemory) × ((city : CityValue) × IsAdmitted document city)
+    × ScriptTextFault scripts f
 IsRunFault document scripts RunFault.OutOfMemory = Unit {0}
 IsRunFault document scripts RunFault.NoPlace = ⊥
 IsRunFault document scripts RunFault.Unfinished = ⊥

@@ -1,15 +1,19 @@
 -- What is written for an input: a document in its first line, and scripts in the rest.
-use Rattle.std.specs.Prelude.{◌==◌, ◌≡◌, ◌⊎◌, ℕ, List, Bool, true, Option, IfSome, take}
+use Rattle.std.specs.Prelude.{◌==◌, ◌≡◌, ◌⊎◌, ◌+◌, ◌*◌, ℕ, List, Bool, true, Option, IfSome, take}
 use Rattle.std.specs.List.{before_first, after_first}
 use Rattle.std.specs.Io.KnownBytes.{Keeps}
+use Rattle.city_doc.specs.Texts.{max_text}
 use Rattle.cityed.specs.SerialRuns.{IsRunFault}
 use Rattle.cityed.specs.ServedTexts.{AreServed, AreCutShort}
 use Rattle.cityed.specs.declared.fault.RunFault.{RunFault}
 use Rattle.cityed.specs.declared.fault.ServeFault.{ServeFault}
 
--- the bytes of an input that are read: enough for two texts of the greatest length, the newline, and one more
+-- how many bytes are read: enough for two texts of the greatest length, the newline, and one more
+abbrev pub max_input : ℕ
+max_input = 2 * max_text + 2
+
 abbrev pub read_of : List ℕ → List ℕ
-read_of input = take 134217730 input
+read_of input = take max_input input
 
 abbrev pub is_newline : ℕ → Bool
 is_newline byte = byte == 10
@@ -32,9 +36,13 @@ IsCutShort input old new = AreCutShort (document_of (read_of input)) (scripts_of
 abbrev pub IsReadFault : Bool → ServeFault → Type 0
 IsReadFault failed f = ((f ≡ ServeFault.Read) × (failed ≡ true)) ⊎ (f ≡ ServeFault.Run RunFault.OutOfMemory)
 
--- Read comes only where the reader has failed, and Write only where the writer has. Where the reader or the run is at fault, the writer has got nothing
-abbrev pub IsServeFault : Option (List ℕ) → Bool → Option (List ℕ) → Option (List ℕ) → Bool → ServeFault → Type 0
-IsServeFault input reader_failed old new writer_failed ServeFault.Read = Keeps old new × (reader_failed ≡ true)
+-- Read comes only where the reader has failed, and Write only where the writer has. Where the reader or
+-- the run is at fault, the writer has got nothing
+abbrev pub IsServeFault : Option (List ℕ) → Bool → Option (List ℕ) → Option (List ℕ) → Bool → ServeFault
+    → Type 0
+IsServeFault input reader_failed old new writer_failed ServeFault.Read =
+    Keeps old new × (reader_failed ≡ true)
 IsServeFault input reader_failed old new writer_failed (ServeFault.Run f) =
     Keeps old new × IfSome input (λ all. IsRunFault (document_of (read_of all)) (scripts_of (read_of all)) f)
-IsServeFault input reader_failed old new writer_failed ServeFault.Write = IfSome input (λ all. IsCutShort all old new) × (writer_failed ≡ true)
+IsServeFault input reader_failed old new writer_failed ServeFault.Write =
+    IfSome input (λ all. IsCutShort all old new) × (writer_failed ≡ true)

@@ -10,7 +10,8 @@ use Rattle.city_model.specs.Relations.{HasNoOrphan}
 use Rattle.city_model.specs.Runs.{Continues, EndsAt, Refuses}
 use Rattle.cityed.specs.declared.step.Step.{Step}
 
--- the command was answered so at the map m, and left the map n; where the script ends by anything but a commit, n doesn't count
+-- the command was answered so at the map m, and left the map n; where the script ends by anything but a
+-- commit, n doesn't count
 abbrev pub IsStep : CityMap → Command → CityMap → Step → Type 0
 IsStep m c n (Step.Replied reply) = Continues m c reply × (n ≡ after m c)
 IsStep m c n (Step.Refused cause) = Refuses m c cause

@@ -24,16 +24,16 @@ pub fn attach(alloc: Global, city: &mut City, child: Id, parent: Id) -> Result<S
     ensures step { IfOk result (λ step. IsStep (at city.old.1) (Command.Attach child parent) (at city.new.1) step) }
     ensures frame { city.new.0 ≡ city.old.0 }
 {
-    let Some(young) = city.get(&child) else {
+    let Some(child_object) = city.get(&child) else {
         return Ok(Step::Refused(Cause::NoObject(child)));
     };
-    let Some(old) = city.get(&parent) else {
+    let Some(parent_object) = city.get(&parent) else {
         return Ok(Step::Refused(Cause::NoObject(parent)));
     };
-    if is_wrong_family(&child, young, &parent, old) {
+    if is_wrong_family(&child, child_object, &parent, parent_object) {
         return Ok(Step::Refused(Cause::WrongFamily));
     }
-    if has_id(young.parents.as_slice(), &parent) {
+    if has_id(child_object.parents.as_slice(), &parent) {
         return Ok(Step::Refused(Cause::AlreadyAttached));
     }
     add_both(alloc, city, child, parent)?;
@@ -46,8 +46,8 @@ fn add_both(alloc: Global, city: &mut City, child: Id, parent: Id) -> Result<(),
     ensures map { OnOk result (at city.new.1 ≡ attached (at city.old.1) child parent) }
     ensures frame { city.new.0 ≡ city.old.0 }
 {
-    let young = child.copy(alloc)?;
-    let old = parent.copy(alloc)?;
-    add_parent(city, child, old)?;
-    add_child(city, parent, young)
+    let child_copy = child.copy(alloc)?;
+    let parent_copy = parent.copy(alloc)?;
+    add_parent(city, child, parent_copy)?;
+    add_child(city, parent, child_copy)
 }

@@ -25,13 +25,13 @@ pub fn detach(alloc: Global, city: &mut City, child: Id, parent: Id) -> Result<S
     ensures step { IfOk result (λ step. IsStep (at city.old.1) (Command.Detach child parent) (at city.new.1) step) }
     ensures frame { city.new.0 ≡ city.old.0 }
 {
-    let Some(young) = city.get(&child) else {
+    let Some(child_object) = city.get(&child) else {
         return Ok(Step::Refused(Cause::NoObject(child)));
     };
     if city.get(&parent).is_none() {
         return Ok(Step::Refused(Cause::NoObject(parent)));
     }
-    if !has_id(young.parents.as_slice(), &parent) {
+    if !has_id(child_object.parents.as_slice(), &parent) {
         return Ok(Step::Refused(Cause::NotAttached));
     }
     drop_both(alloc, city, child, parent)?;
@@ -44,7 +44,7 @@ fn drop_both(alloc: Global, city: &mut City, child: Id, parent: Id) -> Result<()
     ensures map { OnOk result (at city.new.1 ≡ detached (at city.old.1) child parent) }
     ensures frame { city.new.0 ≡ city.old.0 }
 {
-    let young = child.copy(alloc)?;
+    let child_copy = child.copy(alloc)?;
     drop_parent(city, child, &parent)?;
-    drop_child(city, parent, &young)
+    drop_child(city, parent, &child_copy)
 }

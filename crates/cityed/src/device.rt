@@ -1,5 +1,5 @@
 //! A reader or a writer that keeps whether it has failed.
-ghost use Rattle.std.specs.Prelude.{◌≡◌, ◌<◌, ◌≤◌, true, false, length, take, IfOk, IfErr, IfSome, IsSome, IsNone, OnOk};
+ghost use Rattle.std.specs.Prelude.{◌≡◌, ◌<◌, ◌≤◌, true, false, length, take, IfOk, IfErr, IfSome, IsSome, IsNone, OnOk, OnErr};
 ghost use Rattle.std.specs.Io.KnownBytes.{Appends, Consumes, IsAtEnd, Keeps};
 ghost use Rattle.cityed.specs.Served.{IsReadFault};
 
@@ -41,13 +41,15 @@ impl<D> Device<D> {
 impl<R: Read> Device<R> {
     /// Reads some bytes into the chunk: how many, and none only at the end.
     ///
-    /// Refused with `Read` where the reader fails, and else for want of memory.
+    /// Refused with `Read` where the reader fails, and else for want of memory; either way the reader
+    /// has given nothing.
     pub fn read_some(&mut self, chunk: &mut [u8]) -> Result<usize, ServeFault>
         requires { 0 < length chunk.old }
         ensures within { IfOk result (λ n. n ≤ length chunk.new) }
         ensures bytes { IfOk result (λ n. Consumes (R.remaining self.old.0) (R.remaining self.new.0) (take n chunk.new)) }
         ensures end { IfOk result (λ n. n ≡ 0 → IsAtEnd (R.remaining self.new.0)) }
         ensures unfailed { OnOk result (self.new.1 ≡ self.old.1) }
+        ensures kept { OnErr result (Keeps (R.remaining self.old.0) (R.remaining self.new.0)) }
         ensures fault { IfErr result (IsReadFault self.new.1) }
     {
         for _ in 0..u64::MAX {

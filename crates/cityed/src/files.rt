@@ -1,11 +1,13 @@
 //! Reads a text from a file.
-ghost use Rattle.std.specs.Prelude.{◌≡◌, true, take, IfOk, IfErr, IfSome, OnOk};
+ghost use Rattle.std.specs.Prelude.{◌≡◌, ◌+◌, true, take, IfOk, IfErr, IfSome, OnOk};
+ghost use Rattle.city_doc.specs.Texts.{max_text};
 ghost use Rattle.cityed.specs.Served.{IsReadFault};
 ghost use Rattle.cityed.specs.ServedTexts.{IsEnoughOf};
 
 use crate::device::Device;
 use crate::fault::{RunFault, ServeFault};
 use crate::serve::read_at_most;
+use city_doc::parse::MAX_TEXT;
 use std::alloc::Global;
 use std::fs;
 use std::fs::Files;
@@ -13,9 +15,9 @@ use std::io::{ErrorKind, Read};
 
 /// The most bytes that are read of a text: by one more than it may have, a text that is too long is
 /// told from one that isn't.
-const MOST: usize = 67_108_865;
+const MOST: usize = MAX_TEXT + 1;
 
-/// The text that a file has, or where it is too long its first 67,108,865 bytes.
+/// The text that a file has, or where it is too long its first `MAX_TEXT` + 1 bytes.
 ///
 /// A file that can't be opened or read is the fault Read.
 pub fn read_file<R: Files + AllocGlobal>(rt: &R, path: &str) -> Result<Vec<u8>, ServeFault>
@@ -37,10 +39,10 @@ fn open_fault(kind: ErrorKind) -> ServeFault
     }
 }
 
-/// The text that a reader gives, or where it is too long its first 67,108,865 bytes.
+/// The text that a reader gives, or where it is too long its first `MAX_TEXT` + 1 bytes.
 pub fn read_text<R: Read>(alloc: Global, reader: &mut Device<R>) -> Result<Vec<u8>, ServeFault>
     ensures read { IfOk result (λ v. IfSome (R.remaining reader.old.0)
-        (λ all. v.items ≡ take 67108865 all)) }
+        (λ all. v.items ≡ take (max_text + 1) all)) }
     ensures enough { IfOk result (λ v. IfSome (R.remaining reader.old.0)
         (λ all. IsEnoughOf all v.items)) }
     ensures unfailed { OnOk result (reader.new.1 ≡ reader.old.1) }

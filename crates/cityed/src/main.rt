@@ -14,6 +14,8 @@ mod command_tests;
 mod delete;
 mod detach;
 mod device;
+#[cfg(test)]
+mod device_tests;
 mod fault;
 mod fault_line;
 mod files;

@@ -1,9 +1,5 @@
 //! Runs the scripts of a text on the city of a document, one after the other.
 ghost use Rattle.std.specs.Prelude.{◌≡◌, ◌++◌, ◌∷◌, [], ℕ, length, take, IfOk, IfErr};
-ghost use Rattle.std.specs.Ordering.{nat_cmp};
-ghost use Rattle.std.specs.Cmp.Lexicographic.{slice_cmp};
-ghost use Rattle.std.specs.List.Sorted.{IsStrictlySortedBy};
-ghost use Rattle.std.specs.Map.{keys_of};
 ghost use Rattle.city_model.specs.CityMap.{at};
 ghost use Rattle.city_model.specs.Relations.{IsLawful};
 ghost use Rattle.city_model.specs.Runs.{Fits, model_after};
@@ -82,12 +78,8 @@ fn run_each(
 
 /// The report, then the model's text and a newline.
 fn output_bytes(alloc: Global, city: &City, ends: &[End]) -> Result<Vec<u8>, OutOfMemory>
-    ensures text { IfOk result (λ b.
-        b.items ≡ report_text ends.now ++ city_text city.now ++ 10 ∷ []) }
-    ensures ordered { IsStrictlySortedBy (slice_cmp nat_cmp) (keys_of city.now.1) }
+    ensures { IfOk result (λ b. b.items ≡ report_text ends.now ++ city_text city.now ++ 10 ∷ []) }
 {
-    // Taken for its promise alone, that the ids are in byte order.
-    let _entries = city.iter();
     let mut bytes = write_report(alloc, ends)?;
     let model = write_city(alloc, city)?;
     bytes.extend_from_slice(model.as_slice())?;

@@ -1,22 +1,23 @@
 //! Serves a document and its scripts from a reader to a writer.
 ghost use Rattle.std.specs.Prelude.{◌≡◌, [], true, false, IfOk, IfErr, IfSome, OnOk, position, take};
 ghost use Rattle.std.specs.Io.KnownBytes.{Appends};
-ghost use Rattle.cityed.specs.Served.{is_newline, document_of, scripts_of, IsServed, IsReadFault, IsServeFault};
-ghost use Rattle.cityed.specs.ServedTexts.{AppendsSome};
+ghost use Rattle.cityed.specs.Served.{is_newline, max_input, document_of, scripts_of, IsServed, IsReadFault, IsServeFault};
+ghost use Rattle.cityed.specs.ServedTexts.{LosesAtMost, AppendsSome};
 
 use crate::device::Device;
 use crate::fault::ServeFault;
 use crate::serve_texts::serve_texts;
+use city_doc::parse::MAX_TEXT;
 use std::alloc::Global;
 use std::io::{Read, Write};
 
-/// The most bytes that are read.
-const MOST: usize = 134_217_730;
+/// The most bytes that are read: two texts of the greatest length, the newline, and one more.
+const MOST: usize = 2 * MAX_TEXT + 2;
 
 /// Reads a document and, after the first newline, scripts; runs the scripts on the document; writes
 /// the output.
 ///
-/// No more than 134,217,730 bytes are read. Without a newline there are no scripts. Where the reader
+/// No more bytes are taken from the reader than 2 * `MAX_TEXT` + 2. Without a newline there are no scripts. Where the reader
 /// fails, or the run has no output, nothing is written; where the writer fails, it has got the first
 /// bytes of the output. `Read` and `Write` come only where the reader or the writer has failed, and
 /// where either fails in this call there is no `Ok`.
@@ -32,6 +33,7 @@ pub fn serve<R: Read, W: Write>(
     ensures served { OnOk result (IfSome (R.remaining reader.old.0)
         (λ input. IsServed input (W.contents writer.old.0) (W.contents writer.new.0))) }
     ensures seen { IfOk result (λ seen. seen.items ≡ []) }
+    ensures taken { LosesAtMost max_input (R.remaining reader.old.0) (R.remaining reader.new.0) }
     ensures unfailed { OnOk result ((reader.new.1 ≡ reader.old.1) × (writer.new.1 ≡ writer.old.1)) }
     ensures fault { IfErr result (IsServeFault (R.remaining reader.old.0) reader.new.1
         (W.contents writer.old.0) (W.contents writer.new.0) writer.new.1) }
@@ -41,7 +43,7 @@ pub fn serve<R: Read, W: Write>(
     serve_texts(alloc, document, scripts, writer, workers, viewers)
 }
 
-/// What a reader gives, but no more than so many bytes.
+/// What a reader gives, but no more than so many bytes; nor are more taken from it.
 pub(crate) fn read_at_most<R: Read>(
     alloc: Global,
     reader: &mut Device<R>,
@@ -49,6 +51,7 @@ pub(crate) fn read_at_most<R: Read>(
 ) -> Result<Vec<u8>, ServeFault>
     ensures input { IfOk result (λ v. IfSome (R.remaining reader.old.0)
         (λ all. v.items ≡ take most all)) }
+    ensures taken { LosesAtMost most (R.remaining reader.old.0) (R.remaining reader.new.0) }
     ensures unfailed { OnOk result (reader.new.1 ≡ reader.old.1) }
     ensures fault { IfErr result (IsReadFault reader.new.1) }
 {

@@ -8,7 +8,6 @@ use city_doc::fault::{ReadFault, ScriptFault};
 use city_model::end::Outcome;
 use city_model::text::Text;
 use std::alloc::{AllocError, Global};
-use std::io::{self, Read, Write};
 use std::test::Fail;
 
 /// A document of whole units.
@@ -152,70 +151,6 @@ fn refused_inputs_are_told_and_nothing_is_written(rt: HostRuntime) -> Result<(),
         assert!(rt; written.is_empty());
     }
     Ok(())
-}
-
-/// A writer that takes some bytes and then fails.
-#[derive(Drop)]
-struct Narrow {
-    taken: Vec<u8>,
-    room: usize,
-}
-
-impl Write for Narrow {
-    fn write(&mut self, buf: &[u8]) -> io::Result<usize> {
-        if self.room == 0 {
-            return Err(io::Error::other("full"));
-        }
-        let count = buf.len().min(self.room);
-        self.taken.extend_from_slice(&buf[..count])?;
-        self.room -= count;
-        Ok(count)
-    }
-
-    fn flush(&mut self) -> io::Result<()> {
-        Ok(())
-    }
-}
-
-/// A reader that gives some bytes and then fails.
-#[derive(Drop)]
-struct Broken {
-    left: usize,
-}
-
-impl Read for Broken {
-    fn read(&mut self, buf: &mut [u8]) -> io::Result<usize> {
-        if self.left == 0 || buf.is_empty() {
-            return Err(io::Error::other("broken"));
-        }
-        buf[0] = b'{';
-        self.left -= 1;
-        Ok(1)
-    }
-}
-
-#[test]
-fn a_writer_that_fails_has_the_first_bytes(rt: HostRuntime) -> Result<(), Fail> {
-    let text = input(rt.alloc(), NOTHING_TO_DO.document, NOTHING_TO_DO.scripts)?;
-    let mut reader = Device::new(text.as_bytes());
-    let mut writer = Narrow {
-        taken: Vec::new(rt.alloc()),
-        room: 10,
-    };
-    let answer = serve(rt.alloc(), &mut reader, &mut Device::new(&mut writer), 1, 0);
-    assert!(rt; matches!(answer, Err(ServeFault::Write)));
-    assert_eq!(rt; writer.taken.as_slice(), "{\"CityObje".as_bytes());
-    Ok(())
-}
-
-#[test]
-fn a_reader_that_fails_is_told_and_nothing_is_written(rt: HostRuntime) {
-    let mut reader = Device::new(Broken { left: 3 });
-    let mut written = Vec::new(rt.alloc());
-    let mut writer = Device::new(&mut written);
-    let answer = serve(rt.alloc(), &mut reader, &mut writer, 1, 0);
-    assert!(rt; matches!(answer, Err(ServeFault::Read)));
-    assert!(rt; written.is_empty());
 }
 
 #[test]

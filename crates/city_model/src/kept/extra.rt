@@ -2,14 +2,16 @@
 ghost use Rattle.std.specs.Prelude.{◌≡◌, true, false, IfOk, IfErr, IsTrue, is_ok};
 
 use crate::kept::place::Place;
+use crate::members::members_count;
 use serde_json::{Map, Value};
 use std::alloc::AllocError;
 use std::marker::{Model, PhantomData};
 
 /// The members that are kept at the place `P`: as JSON values, word for word.
 ///
-/// None of them is one that is read at the place, no number in them is anything but an `i64`, at an
-/// object there is no `address` with a `location`, and at the top no `extensions` that isn't empty.
+/// Their names ascend, so that none is there twice. None of them is one that is read at the place, no
+/// number in them is anything but an `i64`, at an object there is no `address` with a `location`, and
+/// at the top no `extensions` that isn't empty.
 #[derive(Drop)]
 pub struct Extra<P: Place> {
     map: Map<String, Value>,
@@ -30,11 +32,14 @@ impl<P: Place> Model for Extra<P> {
 
     ghost view = { λ a. members_view a.map.entries };
 
-    ghost invariant = { λ a. P.keeps (members_view a.map.entries) ≡ true };
+    ghost use Rattle.city_model.specs.Members.{AreOrdered};
+
+    ghost invariant = { λ a. (P.keeps (members_view a.map.entries) ≡ true) × AreOrdered (members_view a.map.entries) };
 }
 
 impl<P: Place> Extra<P> {
     ghost use Rattle.serde_json.specs.View.{members_view};
+    ghost use Rattle.city_model.specs.Members.{AreOrdered};
 
     /// The members as those of the place, or the map back where the place doesn't admit it. Takes
     /// no memory.
@@ -43,6 +48,8 @@ impl<P: Place> Extra<P> {
         ensures kept { IfOk result (λ e. e ≡ members_view map.entries) }
         ensures back { IfErr result (λ m. m ≡ map) }
     {
+        // (called for its promise that the names ascend)
+        let _count = members_count(&map);
         if P::admits(&map) {
             Ok(Extra {
                 map,
@@ -57,6 +64,7 @@ impl<P: Place> Extra<P> {
     pub fn map(&self) -> &Map<String, Value>
         ensures members { members_view result.now.entries ≡ self.now }
         ensures kept { P.keeps self.now ≡ true }
+        ensures ordered { AreOrdered self.now }
     {
         &self.map
     }
@@ -65,6 +73,7 @@ impl<P: Place> Extra<P> {
     pub fn to_map(&self) -> Result<Map<String, Value>, AllocError>
         ensures members { IfOk result (λ m. members_view m.entries ≡ self.now) }
         ensures kept { P.keeps self.now ≡ true }
+        ensures ordered { AreOrdered self.now }
     {
         let copy = self.map.clone()?;
         Ok(copy)

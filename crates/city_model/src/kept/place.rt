@@ -4,8 +4,8 @@ ghost use Rattle.serde_json.specs.Data.{Members};
 ghost use Rattle.serde_json.specs.View.{view, members_view};
 ghost use Rattle.city_model.specs.Kept.{lacks, lacks_both, kept_at_top, kept_at_transform, kept_at_object, kept_at_geometry, is_empty_object_or_absent, has_location, is_located, any_located, any_located_in, has_no_member};
 
-use crate::members::member;
 use crate::integral::have_integral;
+use crate::members::member;
 use serde_json::{Map, Value};
 
 /// A place of a document that keeps the members which aren't read there.

@@ -5,7 +5,7 @@ use Rattle.city_doc.proofs.Order.{fault_in}
 use Rattle.city_doc.proofs.judge.first_fault.Goals as goal
 
 pub returns : goal.returns
-returns c = λ whole same.
+returns c = λ integral same.
     let right = sym c.wrong_member.ensures ∙ ap (option_map (λ s. s.now)) c.in_default.is in
     let there = sym c.objects_in.ensures ∙ ap (option_map (λ m. members_view m.now.entries)) c.in-Some-objects_in.is in
-    fault_in (view c.args.tree.now) c.args.points.now _ c.in_ok-fault.fault (sym same) (ap members_of there) whole right c.in_ok-fault.ensures
+    fault_in (view c.args.tree.now) c.args.points.now _ c.in_ok-fault.fault (sym same) (ap members_of there) integral right c.in_ok-fault.ensures

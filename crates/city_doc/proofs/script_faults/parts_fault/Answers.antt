@@ -1,5 +1,5 @@
 use Rattle.std.proofs.Common.{◌∙◌, sym}
-use Rattle.city_doc.specs.BadCommands.{is_bad_command, is_misplaced}
+use Rattle.city_doc.specs.BadCommands.{is_bad_command, names_bad_vertex}
 use Rattle.city_doc.specs.ScriptForms.{parts_views}
 use Rattle.city_doc.proofs.ScriptFaults.{bad_command-fault, bad_vertex-fault, first_command-none}
 use Rattle.city_doc.proofs.script_faults.parts_fault.Goals as goal
@@ -17,5 +17,5 @@ pub returns : goal.returns
 returns c = (
   sym c.are_too_many.ensures ∙ c.if-are_too_many.false,
   first_command-none (λ count d. is_bad_command d) (parts_views c.args.forms.now) (sym c.first_command.ensures ∙ c.in_default.is),
-  first_command-none is_misplaced (parts_views c.args.forms.now) (sym c.first_command-2.ensures ∙ c.in_default-first_command.is),
+  first_command-none names_bad_vertex (parts_views c.args.forms.now) (sym c.first_command-2.ensures ∙ c.in_default-first_command.is),
 )

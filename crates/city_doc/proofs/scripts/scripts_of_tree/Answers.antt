@@ -1,13 +1,13 @@
 use Rattle.std.proofs.Common.{sym, refl, map, inl, inr}
 use Rattle.std.proofs.lemmas.Result.{err_from_is_err_and}
 use Rattle.serde_json.specs.View.{view}
-use Rattle.city_doc.proofs.IntegralParts.{array_of-whole}
+use Rattle.city_doc.proofs.IntegralParts.{array_of-integral}
 use Rattle.city_doc.proofs.ScriptFaults.{items_fault_or}
 use Rattle.city_doc.proofs.ScriptMeanings.{scripts_of-array}
 use Rattle.city_doc.proofs.scripts.scripts_of_tree.Goals as goal
 
 pub scripts_of_items-requires : goal.scripts_of_items-requires
-scripts_of_items-requires c = array_of-whole (view c.args.tree) (map view c.in-Some.items.items) c.requires (sym c.in-Some.ensures.list)
+scripts_of_items-requires c = array_of-integral (view c.args.tree) (map view c.in-Some.items.items) c.requires (sym c.in-Some.ensures.list)
 
 pub returns-in-None-clause-fault : goal.returns-in-None-clause-fault
 returns-in-None-clause-fault c = inr (inl (refl, sym c.in-None.ensures.list))

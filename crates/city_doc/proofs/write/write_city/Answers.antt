@@ -3,9 +3,10 @@ use Rattle.std.specs.Str.{IsUtf8}
 use Rattle.serde_json.specs.Data.{Data, depth}
 use Rattle.serde_json.specs.Read.{read, max_depth}
 use Rattle.serde_json.specs.Written.{compact_text, has_float}
+use Rattle.city_model.specs.CityMap.{CityValue}
 use Rattle.city_doc.specs.Pool.{pool_of}
 use Rattle.city_doc.specs.Canonical.{numbered_tree, tree_of, city_text}
-use Rattle.city_doc.specs.Documents.{CityValue, city_of, StandsForCity}
+use Rattle.city_doc.specs.Documents.{city_of, StandsForCity}
 use Rattle.city_doc.specs.Ranges.{IsInRange}
 use Rattle.city_doc.specs.Texts.{IsText}
 use Rattle.city_doc.proofs.CityNests.{written_within}
@@ -33,15 +34,15 @@ returns c =
     let tree = c.in_ok-tree.ensures.tree ∙ ap (λ pool. numbered_tree pool city) c.in_ok-pool.ensures in
     let numbers = subst (λ pool. IsInRange pool city.0) c.in_ok-pool.ensures c.in_ok-tree.ensures.in_range in
     let text = writes _ city _ tree c.in_ok-text.ensures.text (city_is_floatless (pool_of city) city c.in_ok-tree.ensures.kept) in
-    let again = stands _ city _ tree c.in_ok-text.ensures.utf8 c.in_ok-text.ensures.reads_back (city_read city c.in_ok-tree.ensures.kept numbers c.in_ok-tree.ensures.ordered) in
+    let again = stands _ city _ tree c.in_ok-text.ensures.utf8 c.in_ok-text.ensures.reads_back (city_read city c.in_ok-tree.ensures.kept numbers) in
     record {
       text = text;
       read_again = again;
       canonical = λ shallow other other_stands. ap city_text (one_city _ other city other_stands (again shallow)) ∙ sym text;
       accepted = λ shallow readable lawful fault.
-          let whole = city_integral (pool_of city) city c.in_ok-tree.ensures.kept numbers in
+          let integral = city_integral (pool_of city) city c.in_ok-tree.ensures.kept numbers in
           let read = one_text _ city _ tree c.in_ok-text.ensures.utf8 c.in_ok-text.ensures.reads_back shallow in
-          let same = city_read city c.in_ok-tree.ensures.kept numbers c.in_ok-tree.ensures.ordered in
-          not_refused _ city (tree_of city, (readable, read), whole, same, lawful) fault;
+          let same = city_read city c.in_ok-tree.ensures.kept numbers in
+          not_refused _ city (tree_of city, (readable, read), integral, same, lawful) fault;
       rewritten = λ document read. again (written_within document city read);
     }

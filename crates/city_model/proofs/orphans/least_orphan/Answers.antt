@@ -4,7 +4,7 @@ use Rattle.city_model.proofs.orphans.least_orphan.Goals as goal
 
 pub returns-then-is_orphan-clause-least : goal.returns-then-is_orphan-clause-least
 returns-then-is_orphan-clause-least c =
-    is_least_orphan c.args.city.now.1 c.in-Some.id.now c.iter-id-items.ensures.ordered
+    is_least_orphan c.args.city.now.1 c.in-Some.id.now
     (c.loop-id.invariant ∙ (ap first_orphan c.in-Some.ensures.steps
     ∙ ap (λ b. cond b (Some c.in-Some.id.now) (first_orphan c.next.new.self)) (sym c.is_orphan.ensures ∙ c.if-is_orphan.true)))
 

@@ -8,7 +8,7 @@ use Rattle.city_model.proofs.relations.relations_fault.Goals as goal
 pub returns-then-is_misrelated-clause-fault : goal.returns-then-is_misrelated-clause-fault
 returns-then-is_misrelated-clause-fault c =
     let test = is_misrelated (at c.args.city.now.1) in
-    least_misrelated c.args.city.now.1 c.in-Some.id.now c.iter-id-items.ensures.ordered
+    least_misrelated c.args.city.now.1 c.in-Some.id.now
     (c.loop-id.invariant ∙ (ap (first_that test) c.in-Some.ensures.steps
     ∙ ap (λ b. cond b (Some c.in-Some.id.now) (first_that test c.next.new.self)) (sym c.is_misrelated.ensures ∙ c.if-is_misrelated.true)))
 

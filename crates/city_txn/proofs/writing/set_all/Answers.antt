@@ -1,11 +1,11 @@
 use Rattle.std.proofs.Common.{◌≡◌, ◌∙◌, ◌∷◌, ◌++◌, []}
 use Rattle.city_txn.specs.State.{write_of}
-use Rattle.city_txn.proofs.PlanWritten.{plans_this, plans_before, of_before, written_last, room_by}
+use Rattle.city_txn.proofs.PlanWritten.{plans_this, plans_before, of_before, written_last, reserved_by}
 use Rattle.city_txn.proofs.writing.set_all.Goals as goal
 
 pub set-requires : goal.set-requires
 set-requires c =
-    c.loop-write.invariant.room c.in-Some.write.id (plans_this c.loop-write.writes.items c.pop.new.self.items c.in-Some.write c.in-Some.ensures.items)
+    c.loop-write.invariant.reserved c.in-Some.write.0 (plans_this c.loop-write.writes.items c.pop.new.self.items c.in-Some.write c.in-Some.ensures.items)
 
 pub loop-write-preserved : goal.loop-write-preserved
 loop-write-preserved c =
@@ -16,9 +16,9 @@ loop-write-preserved c =
     let e : all ≡ left ++ w ∷ [] = c.in-Some.ensures.items in
     record {
       frame = c.set.ensures.frame ∙ i.frame;
-      city = λ q. c.set.ensures.city q ∙ i.city q;
+      city = c.set.ensures.city ∙ i.city;
       opened = c.set.ensures.opened ∙ i.opened;
-      room = λ q h. room_by c.loop-write.store c.set.new.self c.args.stamp q c.set.ensures.opened ∙ i.room q (plans_before all left w q e h);
+      reserved = λ q h. reserved_by c.loop-write.store c.set.new.self c.args.stamp q c.set.ensures.opened ∙ i.reserved q (plans_before all left w q e h);
       of = λ f h. of_before f all left w e (i.of f h);
       writes = λ f h q. written_last f all left w c.args.stamp (write_of c.loop-write.store.writes q) (write_of c.set.new.self.writes q) q e (i.of f h) (c.set.ensures.writes q) ∙ i.writes f h q;
     }

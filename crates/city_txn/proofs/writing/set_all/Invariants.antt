@@ -1,16 +1,17 @@
 use Rattle.std.proofs.Common.{◌≡◌, ℕ, List, Some, true, vec_len}
 use Rattle.std.specs.Prelude.{if◌then◌else◌}
 use Rattle.city_model.specs.CityMap.{CityMap}
-use Rattle.city_txn.specs.State.{write_of, has_room, committed}
-use Rattle.city_txn.specs.Planning.{plans, AreOf}
+use Rattle.city_txn.specs.State.{write_of, is_reserved, committed}
+use Rattle.city_model.specs.Plans.{AreOf}
+use Rattle.city_txn.specs.Performing.{plans}
 use Rattle.city_txn.proofs.writing.set_all.Given as goal
 
 abbrev pub invariant-loop-write : goal.invariant-loop-write
 invariant-loop-write l = record {
   frame : l.store.frame ≡ l.initial.store.frame;
-  city : (q : List ℕ) → committed l.store q ≡ committed l.initial.store q;
+  city : committed l.store ≡ committed l.initial.store;
   opened : l.store.opened ≡ l.initial.store.opened;
-  room : (q : List ℕ) → plans l.writes.items q ≡ true → has_room l.store l.stamp q ≡ true;
+  reserved : (q : List ℕ) → plans l.writes.items q ≡ true → is_reserved l.store l.stamp q ≡ true;
   of : (f : CityMap) → AreOf f l.initial.writes.items → AreOf f l.writes.items;
   writes : (f : CityMap) → AreOf f l.initial.writes.items → (q : List ℕ) →
       (if plans l.writes.items q then Some (l.stamp, f q) else write_of l.store.writes q) ≡ (if plans l.initial.writes.items q then Some (l.stamp, f q) else write_of l.initial.store.writes q);

@@ -4,4 +4,4 @@ use Rattle.cityed.proofs.attach.attach.Goals as goal
 
 pub add_both-requires : goal.add_both-requires
 add_both-requires c =
-    apart_where_allowed c.args.child c.in-Some.young.now c.args.parent c.in-Some-get.old.now (sym c.is_wrong_family.ensures ∙ c.if-is_wrong_family.false)
+    apart_where_allowed c.args.child c.in-Some.child_object.now c.args.parent c.in-Some-get.parent_object.now (sym c.is_wrong_family.ensures ∙ c.if-is_wrong_family.false)

@@ -1,8 +1,7 @@
 use Rattle.std.proofs.Common.{List, subst, sym}
 use Rattle.city_model.specs.declared.command.Reply.{Reply}
 use Rattle.city_model.specs.declared.end.Outcome.{Outcome}
-use Rattle.city_model.specs.declared.frame.Frame.{Frame}
-use Rattle.city_model.specs.CityMap.{Entries, at}
+use Rattle.city_model.specs.CityMap.{CityValue, at}
 use Rattle.city_model.specs.Relations.{IsSound}
 use Rattle.city_model.specs.Runs.{HasResult}
 use Rattle.cityed.proofs.PlayedSoFar.{no_room}
@@ -14,4 +13,4 @@ returns-in_default-clause-result c =
     subst P (sym c.new.ensures) (no_room (at c.args.city.now.1) c.args.commands c.requires.ends)
 
 pub play-played-requires-clause-sound : goal.play-played-requires-clause-sound
-play-played-requires-clause-sound c = subst (λ (v : Frame × Entries). IsSound (at v.1)) (sym c.in-Ok.ensures) c.requires.sound
+play-played-requires-clause-sound c = subst (λ (v : CityValue). IsSound (at v.1)) (sym c.in-Ok.ensures) c.requires.sound

@@ -1,5 +1,4 @@
 use Rattle.std.proofs.Common.{◌≡◌, List, [], ◌∷◌, ◌++◌, ap, ◌∙◌}
-use Rattle.city_model.specs.CityMap.{CityMap}
 use Rattle.city_doc.specs.Canonical.{city_text}
 use Rattle.city_doc.specs.Reports.{report_text}
 use Rattle.city_model.specs.declared.end.End.{End}
@@ -20,14 +19,16 @@ returns-clause-ran c =
       list = c.in_ok-scripts.scripts;
       stands_for_city = c.in_ok-city.ensures.stands;
       stands_for_scripts = c.in_ok-scripts.ensures.stands;
+      admitted = c.in_ok-city.ensures.admitted;
+      read_as = c.in_ok-scripts.ensures.read;
       each_once = run.each_once;
       in_turn = run.in_turn;
       fits = run.fits;
       lawful = run.lawful;
       output = record {
-        entries = left.1;
-        model = record { ordered = c.in_ok-bytes.ensures.ordered; answers = λ id. ap (λ (m : CityMap). m id) run.model };
-        text = c.in_ok-bytes.ensures.text ∙ ap (λ (es : List End). report_text es ++ city_text left ++ 10 ∷ []) c.as_slice.ensures ∙ ap (λ (f : Frame). report_text c.in_ok-ends.ends ++ city_text (f, left.1) ++ 10 ∷ []) run.frame;
+        model = left.1;
+        left = run.model;
+        text = c.in_ok-bytes.ensures ∙ ap (λ (es : List End). report_text es ++ city_text left ++ 10 ∷ []) c.as_slice.ensures ∙ ap (λ (f : Frame). report_text c.in_ok-ends.ends ++ city_text (f, left.1) ++ 10 ∷ []) run.frame;
       };
     }
 
@@ -44,4 +45,4 @@ pub returns-in_err-scripts-clause-fault : goal.returns-in_err-scripts-clause-fau
 returns-in_err-scripts-clause-fault c =
     let P : RunFault → Type 0 = λ r. r ≡ fault_of_scripts c.in_err-scripts.field-0.0 in
     of_error P (IsRunFault c.args.document.now c.args.scripts.now) c.from_residual-in_err-scripts.result c.from_residual-in_err-scripts.ensures.1
-    (λ r is. scripts_refused c.args.document.now c.args.scripts.now c.in_ok-city.city c.in_err-scripts.field-0.0 r is c.in_ok-city.ensures.stands c.in_err-scripts.ensures.fault)
+    (λ r is. scripts_refused c.args.document.now c.args.scripts.now c.in_ok-city.city c.in_err-scripts.field-0.0 r is c.in_ok-city.ensures.admitted c.in_err-scripts.ensures.fault)

@@ -1,19 +1,13 @@
-use Rattle.std.proofs.Common.{◌≡◌, ◌∷◌, [], ◌++◌, ◌∙◌, sym, ap, subst, nat_cmp, append_assoc}
-use Rattle.std.proofs.lemmas.Cmp.{nat_list_cmp_total}
+use Rattle.std.proofs.Common.{nat_cmp, subst, sym, ◌∙◌}
 use Rattle.std.specs.Cmp.Lexicographic.{slice_cmp}
+use Rattle.std.specs.FinMap.{from_sorted}
 use Rattle.std.specs.List.Sorted.{IsStrictlySortedBy}
 use Rattle.std.specs.Map.{keys_of}
-use Rattle.city_model.proofs.Cloned.{insert_last}
+use Rattle.city_model.specs.CityMap.{Entries}
 use Rattle.city_model.proofs.city.CityCopied.copy.Goals as goal
 
-pub loop-id-preserved : goal.loop-id-preserved
-loop-id-preserved c =
-    let id = c.in-Some.id.now in
-    let object = c.in-Some.object.now in
-    let left = c.next.new.self in
-    let done = c.loop-id.objects.entries in
-    let all : c.args.self.now.1 ≡ done ++ (id, object) ∷ left = c.loop-id.invariant ∙ ap (λ es. done ++ es) c.in-Some.ensures.steps in
-    let sorted = subst (λ es. IsStrictlySortedBy (slice_cmp nat_cmp) (keys_of es)) all c.iter-id-items.ensures.ordered in
-    let put : c.insert.new.self.entries ≡ done ++ (id, object) ∷ [] =
-    rw (c.in_ok-insert.ensures.entries, c.in_ok-key.ensures, c.in_ok-value.ensures) (insert_last nat_list_cmp_total done id object left sorted) in
-    all ∙ (sym (append_assoc done ((id, object) ∷ []) left) ∙ ap (λ es. es ++ left) (sym put))
+pub invariant_of-result : goal.invariant_of-result
+invariant_of-result c = subst (λ (es : Entries). IsStrictlySortedBy (slice_cmp nat_cmp) (keys_of es)) (sym c.in_ok-objects.ensures) c.self.invariant
+
+pub returns : goal.returns
+returns c = (λ i. (c.in_ok-frame.ensures i, from_sorted (c.in_ok-objects.ensures i))) ∙ c.self.view_is

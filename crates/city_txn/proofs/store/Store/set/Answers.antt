@@ -1,37 +1,37 @@
 use Rattle.std.proofs.Common.{◌≡◌, ◌∙◌, ap, Some, true, refl}
 use Rattle.std.specs.Prelude.{if◌then◌else◌}
 use Rattle.city_model.specs.CityMap.{same_id}
-use Rattle.city_txn.specs.State.{State, write_of, has_room, committed}
+use Rattle.city_txn.specs.State.{State, write_of, is_reserved, committed}
 use Rattle.city_txn.specs.InPlace.{state_of}
 use Rattle.city_txn.specs.declared.store.Store.TheInside.{Inside}
-use Rattle.city_txn.proofs.Written.{not_gone, written_in_place, written_city, written_writes}
+use Rattle.city_txn.proofs.Written.{not_deleted, written_in_place, written_city, written_writes}
 use Rattle.city_txn.proofs.store.Store.set.Goals as goal
 
 pub invariant_of-self : goal.invariant_of-self
 invariant_of-self c =
     let a = c.self.inside in
-    let b : Inside = record { city = c.write.new.city; images = c.write.new.images; rooms = a.rooms } in
-    let room : has_room (state_of a) c.args.stamp c.args.id ≡ true = ap (λ (v : State). has_room v c.args.stamp c.args.id) c.self.view_is ∙ c.requires in
-    written_in_place a b c.self.invariant c.args.stamp c.args.id room c.is_none-gone.result c.standing.result c.args.object
-    (not_gone c.args.object c.is_none-gone.result c.standing.result c.is_none-gone.ensures c.standing.ensures)
-    c.write.ensures.city c.write.ensures.images refl c.write.ensures.city_ordered (c.write.ensures.images_ordered c.self.invariant.images_ordered)
+    let b : Inside = record { city = c.write.new.city; images = c.write.new.images; reservations = a.reservations } in
+    let reserved : is_reserved (state_of a) c.args.stamp c.args.id ≡ true = ap (λ (v : State). is_reserved v c.args.stamp c.args.id) c.self.view_is ∙ c.requires in
+    written_in_place a b c.self.invariant c.args.stamp c.args.id reserved c.is_none-deleted.result c.standing.result c.args.object
+    (not_deleted c.args.object c.is_none-deleted.result c.standing.result c.is_none-deleted.ensures c.standing.ensures)
+    c.write.ensures.city c.write.ensures.images refl (c.write.ensures.images_ordered c.self.invariant.images_ordered)
 
 pub returns-clause-city : goal.returns-clause-city
-returns-clause-city c q =
+returns-clause-city c =
     let a = c.self.inside in
-    let b : Inside = record { city = c.write.new.city; images = c.write.new.images; rooms = a.rooms } in
-    let room : has_room (state_of a) c.args.stamp c.args.id ≡ true = ap (λ (v : State). has_room v c.args.stamp c.args.id) c.self.view_is ∙ c.requires in
-    written_city a b c.self.invariant c.args.stamp c.args.id room c.is_none-gone.result c.standing.result c.args.object
-    (not_gone c.args.object c.is_none-gone.result c.standing.result c.is_none-gone.ensures c.standing.ensures)
-    c.write.ensures.city c.write.ensures.images refl c.write.ensures.city_ordered (c.write.ensures.images_ordered c.self.invariant.images_ordered) q
-    ∙ ap (λ (v : State). committed v q) c.self.view_is
+    let b : Inside = record { city = c.write.new.city; images = c.write.new.images; reservations = a.reservations } in
+    let reserved : is_reserved (state_of a) c.args.stamp c.args.id ≡ true = ap (λ (v : State). is_reserved v c.args.stamp c.args.id) c.self.view_is ∙ c.requires in
+    written_city a b c.self.invariant c.args.stamp c.args.id reserved c.is_none-deleted.result c.standing.result c.args.object
+    (not_deleted c.args.object c.is_none-deleted.result c.standing.result c.is_none-deleted.ensures c.standing.ensures)
+    c.write.ensures.city c.write.ensures.images refl (c.write.ensures.images_ordered c.self.invariant.images_ordered)
+    ∙ ap committed c.self.view_is
 
 pub returns-clause-writes : goal.returns-clause-writes
 returns-clause-writes c q =
     let a = c.self.inside in
-    let b : Inside = record { city = c.write.new.city; images = c.write.new.images; rooms = a.rooms } in
-    let room : has_room (state_of a) c.args.stamp c.args.id ≡ true = ap (λ (v : State). has_room v c.args.stamp c.args.id) c.self.view_is ∙ c.requires in
-    written_writes a b c.self.invariant c.args.stamp c.args.id room c.is_none-gone.result c.standing.result c.args.object
-    (not_gone c.args.object c.is_none-gone.result c.standing.result c.is_none-gone.ensures c.standing.ensures)
-    c.write.ensures.city c.write.ensures.images refl c.write.ensures.city_ordered (c.write.ensures.images_ordered c.self.invariant.images_ordered) q
+    let b : Inside = record { city = c.write.new.city; images = c.write.new.images; reservations = a.reservations } in
+    let reserved : is_reserved (state_of a) c.args.stamp c.args.id ≡ true = ap (λ (v : State). is_reserved v c.args.stamp c.args.id) c.self.view_is ∙ c.requires in
+    written_writes a b c.self.invariant c.args.stamp c.args.id reserved c.is_none-deleted.result c.standing.result c.args.object
+    (not_deleted c.args.object c.is_none-deleted.result c.standing.result c.is_none-deleted.ensures c.standing.ensures)
+    c.write.ensures.city c.write.ensures.images refl (c.write.ensures.images_ordered c.self.invariant.images_ordered) q
     ∙ ap (λ (v : State). if same_id c.args.id q then Some (c.args.stamp, c.args.object) else write_of v.writes q) c.self.view_is

@@ -8,59 +8,57 @@ pub returns-then-not-is_open : goal.returns-then-not-is_open
 returns-then-not-is_open c =
     not_open_acted c.self.inside c.self.invariant c.self.view_is c.args.stamp c.args.command.now (sym c.is_open.ensures ∙ c.if-not-is_open.true)
 
-pub lock-requires-clause-room : goal.lock-requires-clause-room
-lock-requires-clause-room c = c.self.invariant.room
-
 pub invariant_of-self : goal.invariant_of-self
 invariant_of-self c =
-    asked_core c.self.inside c.self.invariant c.self.view_is c.args.stamp c.args.command.now (sym c.is_open.ensures ∙ c.if-not-is_open.false) c.lock.new.locks c.lock.ensures.gains
+    asked_core c.self.inside c.self.invariant c.self.view_is c.args.stamp c.args.command.now (sym c.is_open.ensures ∙ c.if-not-is_open.false) c.lock.new.locks c.lock.ensures
 
 pub returns-in_default : goal.returns-in_default
 returns-in_default c =
-    asked_failed c.self.inside c.self.invariant c.self.view_is c.args.stamp c.args.command.now (sym c.is_open.ensures ∙ c.if-not-is_open.false) c.lock.new.locks c.lock.ensures.gains
+    asked_failed c.self.inside c.self.invariant c.self.view_is c.args.stamp c.args.command.now (sym c.is_open.ensures ∙ c.if-not-is_open.false) c.lock.new.locks
+    c.in_default.field-0 c.in_default.ensures
 
 pub invariant_of-self-in-Wait : goal.invariant_of-self-in-Wait
 invariant_of-self-in-Wait c =
-    asked_core c.self.inside c.self.invariant c.self.view_is c.args.stamp c.args.command.now (sym c.is_open.ensures ∙ c.if-not-is_open.false) c.lock.new.locks c.lock.ensures.gains
+    asked_core c.self.inside c.self.invariant c.self.view_is c.args.stamp c.args.command.now (sym c.is_open.ensures ∙ c.if-not-is_open.false) c.lock.new.locks c.lock.ensures
 
 pub returns-in-Wait : goal.returns-in-Wait
 returns-in-Wait c =
-    asked_wait c.self.inside c.self.invariant c.self.view_is c.args.stamp c.args.command.now (sym c.is_open.ensures ∙ c.if-not-is_open.false) c.lock.new.locks c.lock.ensures.gains
-    c.in-Ok.ensures.held (sym c.in-Ok.ensures.answer ∙ c.in-Wait.is)
+    asked_wait c.self.inside c.self.invariant c.self.view_is c.args.stamp c.args.command.now (sym c.is_open.ensures ∙ c.if-not-is_open.false) c.lock.new.locks
+    c.in-Ok.ensures c.in-Wait.is
 
 pub invariant_of-self-in-Die : goal.invariant_of-self-in-Die
 invariant_of-self-in-Die c =
-    asked_core c.self.inside c.self.invariant c.self.view_is c.args.stamp c.args.command.now (sym c.is_open.ensures ∙ c.if-not-is_open.false) c.lock.new.locks c.lock.ensures.gains
+    asked_core c.self.inside c.self.invariant c.self.view_is c.args.stamp c.args.command.now (sym c.is_open.ensures ∙ c.if-not-is_open.false) c.lock.new.locks c.lock.ensures
 
 pub returns-in-Die : goal.returns-in-Die
 returns-in-Die c =
-    asked_die c.self.inside c.self.invariant c.self.view_is c.args.stamp c.args.command.now (sym c.is_open.ensures ∙ c.if-not-is_open.false) c.lock.new.locks c.lock.ensures.gains
-    c.in-Ok.ensures.held (sym c.in-Ok.ensures.answer ∙ c.in-Die.is)
+    asked_die c.self.inside c.self.invariant c.self.view_is c.args.stamp c.args.command.now (sym c.is_open.ensures ∙ c.if-not-is_open.false) c.lock.new.locks
+    c.in-Ok.ensures c.in-Die.is
 
 pub perform-requires-clause-sound : goal.perform-requires-clause-sound
 perform-requires-clause-sound c = sound_view (core_state c.self.inside) c.args.stamp c.self.invariant.state
 
 pub perform-requires-clause-alone : goal.perform-requires-clause-alone
 perform-requires-clause-alone c =
-    alone_named c.self.inside c.self.invariant c.self.view_is c.args.stamp c.args.command.now (sym c.is_open.ensures ∙ c.if-not-is_open.false) c.lock.new.locks c.lock.ensures.gains
-    c.in-Ok.ensures.held (sym c.in-Ok.ensures.answer ∙ c.in-Granted.is)
+    alone_named c.self.inside c.self.invariant c.self.view_is c.args.stamp c.args.command.now (sym c.is_open.ensures ∙ c.if-not-is_open.false) c.lock.new.locks
+    c.in-Ok.ensures c.in-Granted.is
 
 pub invariant_of-self-in_default-perform : goal.invariant_of-self-in_default-perform
 invariant_of-self-in_default-perform c =
-    failed_core c.self.inside c.self.invariant c.self.view_is c.args.stamp c.args.command.now (sym c.is_open.ensures ∙ c.if-not-is_open.false) c.lock.new.locks c.lock.ensures.gains
-    c.in-Ok.ensures.held (sym c.in-Ok.ensures.answer ∙ c.in-Granted.is) c.in_default-perform.field-0 c.perform.new.store c.in_default-perform.ensures
+    failed_core c.self.inside c.self.invariant c.self.view_is c.args.stamp c.args.command.now (sym c.is_open.ensures ∙ c.if-not-is_open.false) c.lock.new.locks
+    c.in-Ok.ensures c.in-Granted.is c.in_default-perform.field-0 c.perform.new.store c.in_default-perform.ensures
 
 pub returns-in_default-perform : goal.returns-in_default-perform
 returns-in_default-perform c =
-    failed_acted c.self.inside c.self.invariant c.self.view_is c.args.stamp c.args.command.now (sym c.is_open.ensures ∙ c.if-not-is_open.false) c.lock.new.locks c.lock.ensures.gains
-    c.in-Ok.ensures.held (sym c.in-Ok.ensures.answer ∙ c.in-Granted.is) c.in_default-perform.field-0 c.perform.new.store c.in_default-perform.ensures
+    failed_acted c.self.inside c.self.invariant c.self.view_is c.args.stamp c.args.command.now (sym c.is_open.ensures ∙ c.if-not-is_open.false) c.lock.new.locks
+    c.in-Ok.ensures c.in-Granted.is c.in_default-perform.field-0 c.perform.new.store c.in_default-perform.ensures
 
 pub invariant_of-self-2 : goal.invariant_of-self-2
 invariant_of-self-2 c =
-    performed_core c.self.inside c.self.invariant c.self.view_is c.args.stamp c.args.command.now (sym c.is_open.ensures ∙ c.if-not-is_open.false) c.lock.new.locks c.lock.ensures.gains
-    c.in-Ok.ensures.held (sym c.in-Ok.ensures.answer ∙ c.in-Granted.is) c.in-Ok-perform.reply c.perform.new.store c.in-Ok-perform.ensures
+    performed_core c.self.inside c.self.invariant c.self.view_is c.args.stamp c.args.command.now (sym c.is_open.ensures ∙ c.if-not-is_open.false) c.lock.new.locks
+    c.in-Ok.ensures c.in-Granted.is c.in-Ok-perform.reply c.perform.new.store c.in-Ok-perform.ensures
 
 pub returns : goal.returns
 returns c =
-    performed_acted c.self.inside c.self.invariant c.self.view_is c.args.stamp c.args.command.now (sym c.is_open.ensures ∙ c.if-not-is_open.false) c.lock.new.locks c.lock.ensures.gains
-    c.in-Ok.ensures.held (sym c.in-Ok.ensures.answer ∙ c.in-Granted.is) c.in-Ok-perform.reply c.perform.new.store c.in-Ok-perform.ensures
+    performed_acted c.self.inside c.self.invariant c.self.view_is c.args.stamp c.args.command.now (sym c.is_open.ensures ∙ c.if-not-is_open.false) c.lock.new.locks
+    c.in-Ok.ensures c.in-Granted.is c.in-Ok-perform.reply c.perform.new.store c.in-Ok-perform.ensures

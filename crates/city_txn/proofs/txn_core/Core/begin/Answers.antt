@@ -1,11 +1,12 @@
-use Rattle.std.proofs.Common.{◌≡◌, ◌∙◌, sym, ap, true, false, ◌||◌, ◌==◌}
+use Rattle.std.proofs.Common.{◌≡◌, ◌∙◌, refl, sym, ap, subst, true, false, ◌||◌}
+use Rattle.std.proofs.lemmas.Bool.{eq-eqb}
 use Rattle.std.specs.Prelude.{if◌then◌else◌}
 use Rattle.city_txn.specs.State.{is_by, write_of}
-use Rattle.city_txn.specs.CoreState.{CoreState, is_open}
+use Rattle.city_txn.specs.CoreState.{CoreState, is_open, KeepsOthers}
 use Rattle.city_txn.specs.Core.{core_state}
 use Rattle.city_txn.specs.declared.step.TxnFault.TheVariants.{StampOpen, OutOfMemory}
 use Rattle.city_txn.specs.declared.txn_core.Core.TheInside.{Inside}
-use Rattle.city_txn.proofs.CoreFields.{open_is, begun_core, begun_open, shut_unlocked, shut_unwritten}
+use Rattle.city_txn.proofs.CoreFields.{open_is, begun_core, begun_open, begun_own, begun_keeps, shut_unlocked, shut_unwritten}
 use Rattle.city_txn.proofs.txn_core.Core.begin.Goals as goal
 
 pub returns-then-is_open-clause-fault : goal.returns-then-is_open-clause-fault
@@ -22,14 +23,27 @@ pub invariant_of-self-2 : goal.invariant_of-self-2
 invariant_of-self-2 c =
     let a = c.self.inside in
     let b : Inside = record { alloc = a.alloc; store = c.begin.new.self; locks = a.locks } in
-    begun_core a b c.self.invariant c.args.stamp c.begin.ensures.city c.begin.ensures.writes (λ i. a.locks) c.in-Ok.ensures.opened c.begin.ensures.room
+    begun_core a b c.self.invariant c.args.stamp (open_is a c.args.stamp ∙ sym c.is_open.ensures ∙ c.if-is_open.false) c.begin.ensures.frame c.begin.ensures.city c.begin.ensures.writes (λ i. a.locks) c.in-Ok.ensures.opened c.begin.ensures.reserved
 
 pub returns-clause-opened : goal.returns-clause-opened
-returns-clause-opened c t =
+returns-clause-opened c =
     let a = c.self.inside in
     let b : Inside = record { alloc = a.alloc; store = c.begin.new.self; locks = a.locks } in
-    begun_open a b c.self.invariant c.args.stamp c.begin.ensures.city c.begin.ensures.writes (λ i. a.locks) c.in-Ok.ensures.opened c.begin.ensures.room t
-    ∙ ap (λ (v : CoreState). (c.args.stamp == t) || is_open v t) c.self.view_is
+    begun_open a b c.self.invariant c.args.stamp (open_is a c.args.stamp ∙ sym c.is_open.ensures ∙ c.if-is_open.false) c.begin.ensures.frame c.begin.ensures.city c.begin.ensures.writes (λ i. a.locks) c.in-Ok.ensures.opened c.begin.ensures.reserved c.args.stamp
+    ∙ ap (λ b. b || is_open (core_state a) c.args.stamp) (eq-eqb c.args.stamp c.args.stamp refl)
+
+pub returns-clause-own : goal.returns-clause-own
+returns-clause-own c =
+    let a = c.self.inside in
+    let b : Inside = record { alloc = a.alloc; store = c.begin.new.self; locks = a.locks } in
+    begun_own a b c.self.invariant c.args.stamp (open_is a c.args.stamp ∙ sym c.is_open.ensures ∙ c.if-is_open.false) c.begin.ensures.frame c.begin.ensures.city c.begin.ensures.writes (λ i. a.locks) c.in-Ok.ensures.opened c.begin.ensures.reserved
+
+pub returns-clause-keeps : goal.returns-clause-keeps
+returns-clause-keeps c =
+    let a = c.self.inside in
+    let b : Inside = record { alloc = a.alloc; store = c.begin.new.self; locks = a.locks } in
+    subst (λ (v : CoreState). KeepsOthers c.args.stamp v (core_state b)) c.self.view_is
+    (begun_keeps a b c.self.invariant c.args.stamp (open_is a c.args.stamp ∙ sym c.is_open.ensures ∙ c.if-is_open.false) c.begin.ensures.frame c.begin.ensures.city c.begin.ensures.writes (λ i. a.locks) c.in-Ok.ensures.opened c.begin.ensures.reserved)
 
 pub returns-clause-unlocked : goal.returns-clause-unlocked
 returns-clause-unlocked c q =

@@ -1,0 +1,71 @@
+-- A script whose first commands stand: its result where the next one ends it, and one more reply.
+use Rattle.std.proofs.Common.{◌≡◌, ℕ, ◌+◌, true, false, List, [], ◌∷◌, ◌++◌, length, Option, Some, None, refl, ap, sym, subst, ◌∙◌, arith}
+use Rattle.std.specs.Prelude.{slice_get, if◌then◌else◌}
+use Rattle.std.specs.List.{list_any}
+use Rattle.std.proofs.lemmas.Bool.{false≢true, or_parts}
+use Rattle.city_model.specs.declared.command.Command.{Command}
+use Rattle.city_model.specs.declared.command.Command.TheVariants.{Commit}
+use Rattle.city_model.specs.declared.command.Cause.{Cause}
+use Rattle.city_model.specs.declared.command.Reply.{Reply}
+use Rattle.city_model.specs.declared.end.Outcome.{Outcome}
+use Rattle.city_model.specs.CityMap.{CityMap}
+use Rattle.city_model.specs.Meaning.{cause_of, after, refused_or, done_reply, is_refusal}
+use Rattle.city_model.specs.Runs.{EndsAt, EndsFrom, map_after}
+use Rattle.city_model.specs.Scripts.{is_end, is_empty_list, ends_once}
+use Rattle.city_model.specs.Standing.{Held, answered, Follows}
+use Rattle.city_model.proofs.IdLists.{bool_cases}
+use Rattle.city_model.proofs.Lawful.{nothing_more}
+
+-- ---- one command
+
+unrefused : (cause : Option Cause) (done r : Reply) → refused_or cause done ≡ r → is_refusal r ≡ false → cause ≡ None
+unrefused None done r e h = refl
+unrefused (Some cause) done r e h = absurd (false≢true (sym h ∙ sym (ap is_refusal e)))
+
+nothing_after : (cs : List Command) (k : ℕ) (c : Command) → is_empty_list cs ≡ true → slice_get cs k ≡ Some c → ⊥
+nothing_after [] k c e h = cc
+nothing_after (d ∷ cs) k c e h = false≢true e
+
+-- a command with another after it doesn't end its script
+pub goes_on : (d : Command) (cs : List Command) (k : ℕ) (c : Command) → ends_once (d ∷ cs) ≡ true → slice_get cs k ≡ Some c → is_end d ≡ false
+goes_on d cs k c e h = bool_cases (is_end d)
+    (λ end. absurd (nothing_after cs k c (sym (ap (λ b. if b then is_empty_list cs else ends_once cs) end) ∙ e) h))
+    (λ on. on)
+
+pub ends_later : (d : Command) (cs : List Command) → ends_once (d ∷ cs) ≡ true → is_end d ≡ false → ends_once cs ≡ true
+ends_later d cs e on = sym (ap (λ b. if b then is_empty_list cs else ends_once cs) on) ∙ e
+
+-- ---- all of them
+
+pub answered_more : (cs : List Command) (rs : List Reply) (c : Command) (r : Reply) → slice_get cs (length rs) ≡ Some c → answered cs (rs ++ r ∷ []) ≡ answered cs rs ++ (c, r) ∷ []
+answered_more [] rs c r h = absurd (cc)
+answered_more (d ∷ cs) [] c r h = let same : d ≡ c = cc in ap (λ k. (k, r) ∷ []) same
+answered_more (d ∷ cs) (s ∷ rs) c r h = ap (λ l. (d, s) ∷ l) (answered_more cs rs c r h)
+
+-- the result of a script whose first commands stand so, and whose next command ends it so
+pub result_from : (held : Held) (m n : CityMap) (i : ℕ) (cs : List Command) (rs : List Reply) (c : Command) (o : Outcome)
+    → Follows held m (answered cs rs) n → list_any is_refusal rs ≡ false → ends_once cs ≡ true → slice_get cs (length rs) ≡ Some c
+    → EndsAt n c (i + length rs) o → EndsFrom m i cs rs o
+result_from held m n i [] rs c o f u e h k = absurd (cc)
+result_from held m n i (d ∷ cs) [] c o f u e h k =
+    let same : c ≡ d = cc in
+    let number : i + 0 ≡ i = omega arith in
+    subst (λ (x : CityMap). EndsAt x d i o) f (subst (λ (x : Command). EndsAt n x i o) same (subst (λ (j : ℕ). EndsAt n c j o) number k))
+result_from held m n i (d ∷ cs) (r ∷ rs) c o f u e h k =
+    let parts = or_parts (is_refusal r) (list_any is_refusal rs) u in
+    let on : is_end d ≡ false = goes_on d cs (length rs) c e h in
+    let number : i + length (r ∷ rs) ≡ i + 1 + length rs = omega arith in (
+      (on, unrefused (cause_of m d) (done_reply m d) r f.1 parts.0, f.1),
+      result_from held (after m d) n (i + 1) cs rs c o f.2 parts.1 (ends_later d cs e on) h (subst (λ (j : ℕ). EndsAt n c j o) number k),
+    )
+
+-- a script whose next command is Commit leaves what its first commands lead to
+pub committed_from : (held : Held) (m n : CityMap) (cs : List Command) (rs : List Reply)
+    → Follows held m (answered cs rs) n → ends_once cs ≡ true → slice_get cs (length rs) ≡ Some Commit → map_after m cs ≡ n
+committed_from held m n [] rs f e h = absurd (cc)
+committed_from held m n (d ∷ cs) [] f e h =
+    let same : d ≡ Commit = cc in
+    let last : ends_once (Commit ∷ cs) ≡ true = subst (λ (x : Command). ends_once (x ∷ cs) ≡ true) same e in
+    let none : cs ≡ [] = nothing_more cs last in
+    ap (λ (x : Command). map_after m (x ∷ cs)) same ∙ ap (λ (xs : List Command). map_after m (Commit ∷ xs)) none ∙ sym f
+committed_from held m n (d ∷ cs) (r ∷ rs) f e h = committed_from held (after m d) n cs rs f.2 (ends_later d cs e (goes_on d cs (length rs) Commit e h)) h

@@ -1,0 +1,18 @@
+use Rattle.std.proofs.Common.{◌≡◌, ◌∙◌, ◌==◌, ◌++◌, List, ℕ, Option, [], ◌∷◌, None, sym, ap, map, length, true, rules}
+use Rattle.city_model.specs.declared.object.Object.{Object}
+use Rattle.city_model.specs.Runs.{Change}
+use Rattle.city_model.specs.Plans.{unlinked}
+use Rattle.city_model.proofs.Planned.{delete_writes}
+use Rattle.city_model.proofs.plan.deleting.plan_delete.Goals as goal
+
+abbrev first_write : List ℕ → List ℕ × Option Object
+first_write id = (id, None)
+
+pub returns : goal.returns
+returns g c =
+    let m = g.V.View.map c.args.view.now in
+    let none : (length c.in-Some.object.now.children == 0) ≡ true = search rules in
+    let first : c.push.new.self ≡ first_write c.args.id.now ∷ [] = search rules in
+    delete_writes m c.args.id.now c.in-Some.object.now c.unlink_each.new.change c.requires.sound (sym c.in-Some.ensures) none
+    (c.in_ok-unlink_each.ensures ∙ ap (λ (ws : Change). ws ++ map (unlinked m c.args.id.now) c.as_slice.result.now) first
+    ∙ ap (λ ids. first_write c.args.id.now ∷ map (unlinked m c.args.id.now) ids) c.as_slice.ensures)

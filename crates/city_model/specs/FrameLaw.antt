@@ -1,0 +1,26 @@
+-- A command reads and writes only what it locks: at another map that agrees there it does the same.
+use Rattle.std.specs.Prelude.{◌≡◌, ℕ, List, true, false}
+use Rattle.city_model.specs.declared.command.Command.{Command}
+use Rattle.city_model.specs.CityMap.{CityMap}
+use Rattle.city_model.specs.Meaning.{cause_of, reply_to, after, locks_of}
+use Rattle.city_model.specs.Relations.{IsSound}
+use Rattle.city_model.specs.Standing.{Lock, names, names_exclusively}
+
+-- two maps have the same at each id that the locks name
+abbrev pub AgreeOn : List Lock → CityMap → CityMap → Type 0
+AgreeOn ls m n = (id : List ℕ) → names ls id ≡ true → m id ≡ n id
+
+-- of one command at two maps: the same cause, reply and locks; each id that is locked exclusively
+-- is the same before and after, and each other id keeps its object
+pub record IsFramed (m n : CityMap) (c : Command) : Type 0 where
+  pub cause : cause_of m c ≡ cause_of n c
+  pub reply : reply_to m c ≡ reply_to n c
+  pub locks : locks_of m c ≡ locks_of n c
+  pub written : (id : List ℕ) → names_exclusively (locks_of m c) id ≡ true
+      → (m id ≡ n id) × (after m c id ≡ after n c id)
+  pub kept : (id : List ℕ) → names_exclusively (locks_of m c) id ≡ false
+      → (after m c id ≡ m id) × (after n c id ≡ n id)
+
+-- the command does the same at each other sound map that agrees with this one on the ids that it locks here
+abbrev pub FrameLaw : CityMap → Command → Type 0
+FrameLaw m c = (n : CityMap) → IsSound n → AgreeOn (locks_of m c) m n → IsFramed m n c

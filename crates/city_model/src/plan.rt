@@ -1,0 +1,52 @@
+//! What is to come of a command, and what it writes.
+ghost use Rattle.std.specs.Prelude.{◌≡◌, false, IfOk};
+ghost use Rattle.city_model.specs.FrameLaw.{FrameLaw};
+ghost use Rattle.city_model.specs.Plans.{IsPlan};
+ghost use Rattle.city_model.specs.Relations.{IsSound};
+ghost use Rattle.city_model.specs.Scripts.{is_end};
+
+use crate::OutOfMemory;
+use crate::change::Change;
+use crate::command::{Cause, Command, Reply};
+use crate::plan::deleting::plan_delete;
+use crate::plan::putting::{plan_put, plan_read};
+use crate::plan::relating::{plan_attach, plan_detach};
+use crate::plan::view::View;
+use std::alloc::Global;
+
+mod deleting;
+mod objects;
+mod putting;
+mod relating;
+pub mod view;
+mod writes;
+
+/// What is to come of a command.
+#[derive(Drop)]
+pub enum Plan {
+    /// It is refused.
+    Refused(Cause),
+    /// It is answered so, and writes this change.
+    Writes(Reply, Change),
+}
+
+/// What is to come of a command that doesn't end its script, at a sound city; nothing is written.
+///
+/// It copies the objects that the command gives or changes; the one refusal is want of memory.
+/// The plan is as good at each other sound city that agrees with this one on the ids that the
+/// command locks.
+pub fn plan_of<V: View>(alloc: Global, view: &V, command: &Command) -> Result<Plan, OutOfMemory>
+    requires no_end { is_end command.now ≡ false }
+    requires sound { IsSound (V.map view.now) }
+    ensures plan { IfOk result (IsPlan (V.map view.now) command.now) }
+    ensures frame { FrameLaw (V.map view.now) command.now }
+{
+    match command {
+        Command::Read(id) => plan_read(alloc, view, id),
+        Command::Put(id, body) => plan_put(alloc, view, id, body),
+        Command::Delete(id) => plan_delete(alloc, view, id),
+        Command::Attach(child, parent) => plan_attach(alloc, view, child, parent),
+        Command::Detach(child, parent) => plan_detach(alloc, view, child, parent),
+        Command::Commit | Command::Abort => unreachable!(),
+    }
+}

@@ -1,0 +1,67 @@
+//! What is to come of a delete.
+ghost use Rattle.std.specs.Prelude.{◌≡◌, ◌++◌, map, IfOk, OnOk};
+ghost use Rattle.city_model.specs.Plans.{IsPlan, unlinked};
+ghost use Rattle.city_model.specs.Relations.{IsSound};
+ghost use Rattle.city_model.specs.declared.command.Command.{Command};
+
+use crate::OutOfMemory;
+use crate::change::Change;
+use crate::command::{Cause, Reply};
+use crate::copied::Copied;
+use crate::object::Object;
+use crate::plan::Plan;
+use crate::plan::objects::without_child;
+use crate::plan::view::View;
+use crate::plan::writes::no_object;
+use crate::text::Id;
+use std::alloc::Global;
+
+/// What is to come of a delete.
+pub fn plan_delete<V: View>(alloc: Global, view: &V, id: &Id) -> Result<Plan, OutOfMemory>
+    requires sound { IsSound (V.map view.now) }
+    ensures { IfOk result (IsPlan (V.map view.now) (Command.Delete id.now)) }
+{
+    let Some(object) = view.look(id) else {
+        return no_object(alloc, id);
+    };
+    if object.children.len() != 0 {
+        return Ok(Plan::Refused(Cause::HasChildren(id.copy(alloc)?)));
+    }
+    let mut change = Change::new(alloc);
+    change.push((id.copy(alloc)?, None))?;
+    unlink_each(alloc, view, id, object.parents.as_slice(), &mut change)?;
+    Ok(Plan::Writes(Reply::Deleted, change))
+}
+
+/// Adds to the change that none of the parents has the child.
+fn unlink_each<V: View>(
+    alloc: Global,
+    view: &V,
+    child: &Id,
+    parents: &[Id],
+    change: &mut Change,
+) -> Result<(), OutOfMemory>
+    ensures { OnOk result (change.new
+        ≡ change.old ++ map (unlinked (V.map view.now) child.now) parents.now) }
+{
+    for parent in parents {
+        change.push(unlink(alloc, view, child, parent)?)?;
+    }
+    Ok(())
+}
+
+/// The parent, and its object without the child.
+fn unlink<V: View>(
+    alloc: Global,
+    view: &V,
+    child: &Id,
+    parent: &Id,
+) -> Result<(Id, Option<Object>), OutOfMemory>
+    ensures { IfOk result (λ write. write ≡ unlinked (V.map view.now) child.now parent.now) }
+{
+    let object = match view.look(parent) {
+        None => None,
+        Some(object) => Some(without_child(alloc, child, object)?),
+    };
+    Ok((parent.copy(alloc)?, object))
+}

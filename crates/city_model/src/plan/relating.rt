@@ -1,0 +1,68 @@
+//! What is to come of an attach and of a detach.
+ghost use Rattle.std.specs.Prelude.{IfOk};
+ghost use Rattle.city_model.specs.Plans.{IsPlan};
+ghost use Rattle.city_model.specs.Relations.{IsSound};
+ghost use Rattle.city_model.specs.declared.command.Command.{Command};
+
+use crate::OutOfMemory;
+use crate::command::{Cause, Reply};
+use crate::id_list::has_id;
+use crate::plan::Plan;
+use crate::plan::objects::{with_child, with_parent, without_child, without_parent};
+use crate::plan::view::View;
+use crate::plan::writes::{no_object, two};
+use crate::relations::is_wrong_family;
+use crate::text::Id;
+use std::alloc::Global;
+
+/// What is to come of an attach.
+pub fn plan_attach<V: View>(
+    alloc: Global,
+    view: &V,
+    child: &Id,
+    parent: &Id,
+) -> Result<Plan, OutOfMemory>
+    ensures { IfOk result (IsPlan (V.map view.now) (Command.Attach child.now parent.now)) }
+{
+    let Some(child_object) = view.look(child) else {
+        return no_object(alloc, child);
+    };
+    let Some(parent_object) = view.look(parent) else {
+        return no_object(alloc, parent);
+    };
+    if is_wrong_family(child, child_object, parent, parent_object) {
+        return Ok(Plan::Refused(Cause::WrongFamily));
+    }
+    if has_id(child_object.parents.as_slice(), parent) {
+        return Ok(Plan::Refused(Cause::AlreadyAttached));
+    }
+    let below = with_parent(alloc, parent, child_object)?;
+    let above = with_child(alloc, child, parent_object)?;
+    let change = two(alloc, child, below, parent, above)?;
+    Ok(Plan::Writes(Reply::Attached, change))
+}
+
+/// What is to come of a detach.
+pub fn plan_detach<V: View>(
+    alloc: Global,
+    view: &V,
+    child: &Id,
+    parent: &Id,
+) -> Result<Plan, OutOfMemory>
+    requires sound { IsSound (V.map view.now) }
+    ensures { IfOk result (IsPlan (V.map view.now) (Command.Detach child.now parent.now)) }
+{
+    let Some(child_object) = view.look(child) else {
+        return no_object(alloc, child);
+    };
+    let Some(parent_object) = view.look(parent) else {
+        return no_object(alloc, parent);
+    };
+    if !has_id(child_object.parents.as_slice(), parent) {
+        return Ok(Plan::Refused(Cause::NotAttached));
+    }
+    let below = without_parent(alloc, parent, child_object)?;
+    let above = without_child(alloc, child, parent_object)?;
+    let change = two(alloc, child, below, parent, above)?;
+    Ok(Plan::Writes(Reply::Detached, change))
+}

@@ -1,0 +1,25 @@
+//! A city in which objects can be looked up.
+ghost use Rattle.std.specs.Prelude.{◌≡◌, option_copied};
+ghost use Rattle.city_model.specs.CityMap.{CityMap, at};
+
+use crate::city::City;
+use crate::object::Object;
+use crate::text::Id;
+
+/// What stands for a map from ids to objects.
+pub trait View {
+    /// The map.
+    ghost map: { Self → CityMap };
+
+    /// The object of an id. Takes no memory.
+    fn look(&self, id: &Id) -> Option<&Object>
+        ensures { option_copied result ≡ map self.now id.now };
+}
+
+impl View for City {
+    ghost map = { λ city. at city.1 };
+
+    fn look(&self, id: &Id) -> Option<&Object> {
+        self.get(id)
+    }
+}

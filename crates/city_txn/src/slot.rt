@@ -1,0 +1,100 @@
+//! Slots of the city: placeholders, and objects put back.
+ghost use Rattle.std.specs.Prelude.{◌≡◌, ℕ, List, None, Some, IfOk, OnOk, OnErr, is_some, not, true, false, if◌then◌else◌};
+ghost use Rattle.city_model.specs.CityMap.{at, changed, same_id};
+ghost use Rattle.city_txn.specs.Images.{before_image};
+
+use crate::image::Image;
+use crate::placeholder::placeholder;
+use city_model::OutOfMemory;
+use city_model::city::City;
+use city_model::copied::Copied;
+use city_model::object::Object;
+use city_model::text::Id;
+use std::alloc::Global;
+
+/// Gives the id a slot: a placeholder where no object is there, and says whether that was made.
+/// Want of memory leaves the city.
+pub fn make(city: &mut City, alloc: Global, id: &Id) -> Result<bool, OutOfMemory>
+    ensures made { IfOk result (λ made. made ≡ not (is_some (at city.old.1 id.now))) }
+    ensures there { OnOk result (is_some (at city.new.1 id.now) ≡ true) }
+    ensures kept { (q : List ℕ) → is_some (at city.old.1 q) ≡ true → at city.new.1 q ≡ at city.old.1 q }
+    ensures others { (q : List ℕ) → same_id id.now q ≡ false → at city.new.1 q ≡ at city.old.1 q }
+    ensures err { OnErr result (city.new ≡ city.old) }
+    ensures frame { city.new.0 ≡ city.old.0 }
+{
+    if city.get(id).is_some() {
+        return Ok(false);
+    }
+    let key = id.copy(alloc)?;
+    city.set(key, placeholder(alloc))?;
+    Ok(true)
+}
+
+/// Takes out the placeholder, if one is there.
+pub fn clear(city: &mut City, id: &Id, deleted: bool)
+    ensures after { at city.new.1 ≡ (if deleted then changed (at city.old.1) id.now None else at city.old.1) }
+    ensures frame { city.new.0 ≡ city.old.0 }
+{
+    if deleted {
+        let _ = city.remove(id);
+    }
+}
+
+/// Sets the object of an id that has a slot, and gives the one that stood there.
+pub fn swap(city: &mut City, id: Id, object: Object) -> Object
+    requires { is_some (at city.old.1 id) ≡ true }
+    ensures old { at city.old.1 id ≡ Some result }
+    ensures after { at city.new.1 ≡ changed (at city.old.1) id (Some object) }
+    ensures frame { city.new.0 ≡ city.old.0 }
+{
+    match city.set(id, object) {
+        Ok(Some(old)) => old,
+        Ok(None) => unreachable!(),
+        Err(_) => unreachable!(),
+    }
+}
+
+/// The object, or a placeholder.
+pub fn standing(alloc: Global, object: Option<Object>) -> Object
+    ensures { (if is_some object then Some result else None) ≡ object }
+{
+    match object {
+        Some(o) => o,
+        None => placeholder(alloc),
+    }
+}
+
+/// Undoes what the image stands for.
+pub fn give_back(city: &mut City, id: Id, image: Image)
+    requires { is_some (at city.old.1 id) ≡ true }
+    ensures after { at city.new.1 ≡ changed (at city.old.1) id (before_image (at city.old.1 id) image) }
+    ensures frame { city.new.0 ≡ city.old.0 }
+{
+    let Image {
+        by: _,
+        unwritten,
+        deleted,
+        before,
+    } = image;
+    if unwritten {
+        clear(city, &id, deleted);
+    } else {
+        put(city, id, before);
+    }
+}
+
+/// Sets the object of an id that has a slot, or takes it out.
+fn put(city: &mut City, id: Id, object: Option<Object>)
+    requires { is_some (at city.old.1 id) ≡ true }
+    ensures after { at city.new.1 ≡ changed (at city.old.1) id object }
+    ensures frame { city.new.0 ≡ city.old.0 }
+{
+    match object {
+        Some(o) => {
+            let _ = swap(city, id, o);
+        }
+        None => {
+            let _ = city.remove(&id);
+        }
+    }
+}
