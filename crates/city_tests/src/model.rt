@@ -88,34 +88,40 @@ fn an_object_is_copied(rt: HostRuntime) -> Result<(), Fail> {
     Ok(())
 }
 
+/// Members of an object, and whether they are kept.
+const OF_OBJECT: [(&str, bool); 10] = [
+    ("{\"attributes\":{\"h\":-3}}", true),
+    ("{\"address\":[{}]}", true),
+    ("{\"type\":0}", false),
+    ("{\"geometry\":[]}", false),
+    ("{\"parents\":[]}", false),
+    ("{\"children\":[]}", false),
+    ("{\"attributes\":{\"h\":[1.0]}}", false),
+    ("{\"attributes\":9223372036854775808}", false),
+    ("{\"address\":{\"location\":{}}}", false),
+    ("{\"address\":[{},{\"location\":{}}]}", false),
+];
+
 #[test]
 fn members_are_kept_where_nothing_reads_them(rt: HostRuntime) -> Result<(), Fail> {
-    for (json, expected) in [
-        ("{\"attributes\":{\"h\":-3}}", true),
-        ("{\"address\":[{}]}", true),
-        ("{\"type\":0}", false),
-        ("{\"geometry\":[]}", false),
-        ("{\"parents\":[]}", false),
-        ("{\"children\":[]}", false),
-        ("{\"attributes\":{\"h\":[1.0]}}", false),
-        ("{\"attributes\":9223372036854775808}", false),
-        ("{\"address\":{\"location\":{}}}", false),
-        ("{\"address\":[{},{\"location\":{}}]}", false),
-    ] {
-        assert_eq!(rt; is_kept::<AtObject>(rt.alloc(), json)?, expected, "{json}");
+    for (json, expected) in &OF_OBJECT {
+        assert_eq!(rt; is_kept::<AtObject>(rt.alloc(), json)?, *expected, "{json}");
     }
     Ok(())
 }
 
+/// Members of a document, and whether they are kept.
+const AT_TOP: [(&str, bool); 4] = [
+    ("{\"extensions\":{}}", true),
+    ("{\"extensions\":{\"a\":1}}", false),
+    ("{\"extensions\":[]}", false),
+    ("{\"vertices\":[]}", false),
+];
+
 #[test]
 fn extensions_are_kept_where_they_are_empty(rt: HostRuntime) -> Result<(), Fail> {
-    for (json, expected) in [
-        ("{\"extensions\":{}}", true),
-        ("{\"extensions\":{\"a\":1}}", false),
-        ("{\"extensions\":[]}", false),
-        ("{\"vertices\":[]}", false),
-    ] {
-        assert_eq!(rt; is_kept::<AtTop>(rt.alloc(), json)?, expected, "{json}");
+    for (json, expected) in &AT_TOP {
+        assert_eq!(rt; is_kept::<AtTop>(rt.alloc(), json)?, *expected, "{json}");
     }
     Ok(())
 }

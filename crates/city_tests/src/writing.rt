@@ -77,47 +77,50 @@ fn written(alloc: Global, text: &[u8]) -> Result<Vec<u8>, Fail> {
     }
 }
 
+/// Objects and vertices, and those of the document that is written.
+const CANONICAL: [(&str, &str, &str, &str); 6] = [
+    (
+        "{\"c\":{\"type\":\"Building\",\"geometry\":[{\"type\":\"Solid\",\"lod\":\"1\",\"boundaries\":[[[[0,3,2,1]],[[4,5,6,7]],[[0,1,5,4]],[[1,2,6,5]],[[2,3,7,6]],[[3,0,4,7]]]]}]}}",
+        "[[0,0,0],[1,0,0],[1,1,0],[0,1,0],[0,0,1],[1,0,1],[1,1,1],[0,1,1]]",
+        "{\"c\":{\"geometry\":[{\"boundaries\":[[[[0,1,2,3]],[[4,5,6,7]],[[0,3,5,4]],[[3,2,6,5]],[[2,1,7,6]],[[1,0,4,7]]]],\"lod\":\"1\",\"type\":\"Solid\"}],\"type\":\"Building\"}}",
+        "[[0,0,0],[0,1,0],[1,1,0],[1,0,0],[0,0,1],[1,0,1],[1,1,1],[0,1,1]]",
+    ),
+    (
+        "{\"c\":{\"type\":\"Building\",\"geometry\":[{\"type\":\"Solid\",\"lod\":\"1\",\"boundaries\":[[[[0,1,2,3]],[[4,5,6,7]],[[8,9,10,11]],[[12,13,14,15]],[[16,17,18,19]],[[20,21,22,23]]]]}]}}",
+        "[[0,0,0],[0,1,0],[1,1,0],[1,0,0],[0,0,1],[1,0,1],[1,1,1],[0,1,1],[0,0,0],[1,0,0],[1,0,1],[0,0,1],[1,0,0],[1,1,0],[1,1,1],[1,0,1],[1,1,0],[0,1,0],[0,1,1],[1,1,1],[0,1,0],[0,0,0],[0,0,1],[0,1,1]]",
+        "{\"c\":{\"geometry\":[{\"boundaries\":[[[[0,1,2,3]],[[4,5,6,7]],[[0,3,5,4]],[[3,2,6,5]],[[2,1,7,6]],[[1,0,4,7]]]],\"lod\":\"1\",\"type\":\"Solid\"}],\"type\":\"Building\"}}",
+        "[[0,0,0],[0,1,0],[1,1,0],[1,0,0],[0,0,1],[1,0,1],[1,1,1],[0,1,1]]",
+    ),
+    (
+        "{\"s\":{\"geometry\":[{\"boundaries\":[[[0,1,2]]],\"lod\":\"2.2\",\"semantics\":{\"surfaces\":[{\"type\":\"RoofSurface\"}],\"values\":[0]},\"type\":\"MultiSurface\"}],\"type\":\"Building\"}}",
+        "[[0,0,0],[1,0,0],[0,1,0]]",
+        "{\"s\":{\"geometry\":[{\"boundaries\":[[[0,1,2]]],\"lod\":\"2.2\",\"semantics\":{\"surfaces\":[{\"type\":\"RoofSurface\"}],\"values\":[0]},\"type\":\"MultiSurface\"}],\"type\":\"Building\"}}",
+        "[[0,0,0],[1,0,0],[0,1,0]]",
+    ),
+    (
+        "{\"s\":{\"geometry\":[{\"boundaries\":[[[0,1,2]]],\"lod\":\"1\",\"type\":\"MultiSurface\"}],\"type\":\"Building\"}}",
+        "[[-9223372036854775808,0,9223372036854775807],[0,0,0],[1,0,0]]",
+        "{\"s\":{\"geometry\":[{\"boundaries\":[[[0,1,2]]],\"lod\":\"1\",\"type\":\"MultiSurface\"}],\"type\":\"Building\"}}",
+        "[[-9223372036854775808,0,9223372036854775807],[0,0,0],[1,0,0]]",
+    ),
+    (
+        "{\"s\":{\"geometry\":[{\"boundaries\":[],\"lod\":\"1\",\"type\":\"CompositeSurface\"}],\"type\":\"Building\"}}",
+        "[[0,0,0],[1,0,0],[0,1,0]]",
+        "{\"s\":{\"geometry\":[{\"boundaries\":[],\"lod\":\"1\",\"type\":\"CompositeSurface\"}],\"type\":\"Building\"}}",
+        "[]",
+    ),
+    (
+        "{\"b\":{\"children\":[\"p\"],\"type\":\"Building\"},\"p\":{\"parents\":[\"b\"],\"type\":\"BuildingPart\"}}",
+        "[]",
+        "{\"b\":{\"children\":[\"p\"],\"type\":\"Building\"},\"p\":{\"parents\":[\"b\"],\"type\":\"BuildingPart\"}}",
+        "[]",
+    ),
+];
+
 #[test]
 fn documents_are_written_canonically(rt: HostRuntime) -> Result<(), Fail> {
     let alloc = rt.alloc();
-    for (objects, vertices, want, want_vertices) in [
-        (
-            "{\"c\":{\"type\":\"Building\",\"geometry\":[{\"type\":\"Solid\",\"lod\":\"1\",\"boundaries\":[[[[0,3,2,1]],[[4,5,6,7]],[[0,1,5,4]],[[1,2,6,5]],[[2,3,7,6]],[[3,0,4,7]]]]}]}}",
-            "[[0,0,0],[1,0,0],[1,1,0],[0,1,0],[0,0,1],[1,0,1],[1,1,1],[0,1,1]]",
-            "{\"c\":{\"geometry\":[{\"boundaries\":[[[[0,1,2,3]],[[4,5,6,7]],[[0,3,5,4]],[[3,2,6,5]],[[2,1,7,6]],[[1,0,4,7]]]],\"lod\":\"1\",\"type\":\"Solid\"}],\"type\":\"Building\"}}",
-            "[[0,0,0],[0,1,0],[1,1,0],[1,0,0],[0,0,1],[1,0,1],[1,1,1],[0,1,1]]",
-        ),
-        (
-            "{\"c\":{\"type\":\"Building\",\"geometry\":[{\"type\":\"Solid\",\"lod\":\"1\",\"boundaries\":[[[[0,1,2,3]],[[4,5,6,7]],[[8,9,10,11]],[[12,13,14,15]],[[16,17,18,19]],[[20,21,22,23]]]]}]}}",
-            "[[0,0,0],[0,1,0],[1,1,0],[1,0,0],[0,0,1],[1,0,1],[1,1,1],[0,1,1],[0,0,0],[1,0,0],[1,0,1],[0,0,1],[1,0,0],[1,1,0],[1,1,1],[1,0,1],[1,1,0],[0,1,0],[0,1,1],[1,1,1],[0,1,0],[0,0,0],[0,0,1],[0,1,1]]",
-            "{\"c\":{\"geometry\":[{\"boundaries\":[[[[0,1,2,3]],[[4,5,6,7]],[[0,3,5,4]],[[3,2,6,5]],[[2,1,7,6]],[[1,0,4,7]]]],\"lod\":\"1\",\"type\":\"Solid\"}],\"type\":\"Building\"}}",
-            "[[0,0,0],[0,1,0],[1,1,0],[1,0,0],[0,0,1],[1,0,1],[1,1,1],[0,1,1]]",
-        ),
-        (
-            "{\"s\":{\"geometry\":[{\"boundaries\":[[[0,1,2]]],\"lod\":\"2.2\",\"semantics\":{\"surfaces\":[{\"type\":\"RoofSurface\"}],\"values\":[0]},\"type\":\"MultiSurface\"}],\"type\":\"Building\"}}",
-            "[[0,0,0],[1,0,0],[0,1,0]]",
-            "{\"s\":{\"geometry\":[{\"boundaries\":[[[0,1,2]]],\"lod\":\"2.2\",\"semantics\":{\"surfaces\":[{\"type\":\"RoofSurface\"}],\"values\":[0]},\"type\":\"MultiSurface\"}],\"type\":\"Building\"}}",
-            "[[0,0,0],[1,0,0],[0,1,0]]",
-        ),
-        (
-            "{\"s\":{\"geometry\":[{\"boundaries\":[[[0,1,2]]],\"lod\":\"1\",\"type\":\"MultiSurface\"}],\"type\":\"Building\"}}",
-            "[[-9223372036854775808,0,9223372036854775807],[0,0,0],[1,0,0]]",
-            "{\"s\":{\"geometry\":[{\"boundaries\":[[[0,1,2]]],\"lod\":\"1\",\"type\":\"MultiSurface\"}],\"type\":\"Building\"}}",
-            "[[-9223372036854775808,0,9223372036854775807],[0,0,0],[1,0,0]]",
-        ),
-        (
-            "{\"s\":{\"geometry\":[{\"boundaries\":[],\"lod\":\"1\",\"type\":\"CompositeSurface\"}],\"type\":\"Building\"}}",
-            "[[0,0,0],[1,0,0],[0,1,0]]",
-            "{\"s\":{\"geometry\":[{\"boundaries\":[],\"lod\":\"1\",\"type\":\"CompositeSurface\"}],\"type\":\"Building\"}}",
-            "[]",
-        ),
-        (
-            "{\"b\":{\"children\":[\"p\"],\"type\":\"Building\"},\"p\":{\"parents\":[\"b\"],\"type\":\"BuildingPart\"}}",
-            "[]",
-            "{\"b\":{\"children\":[\"p\"],\"type\":\"Building\"},\"p\":{\"parents\":[\"b\"],\"type\":\"BuildingPart\"}}",
-            "[]",
-        ),
-    ] {
+    for (objects, vertices, want, want_vertices) in &CANONICAL {
         let text = document(alloc, objects, vertices)?;
         let want = document(alloc, want, want_vertices)?;
         let once = written(alloc, text.as_bytes())?;
