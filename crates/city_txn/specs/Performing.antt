@@ -28,4 +28,4 @@ pub record Performed {E : Type 0} (stamp : ℕ) (command : Command) (result : Re
   -- what is newly reserved is the transaction's, at ids that the command locks exclusively
   pub reserved : (t : ℕ) (id : List ℕ) → is_reserved new t id ≡ true
       → (is_reserved old t id
-         || ((stamp == t) && names_exclusively (locks_of (view old stamp) command) id)) ≡ true
+      || ((stamp == t) && names_exclusively (locks_of (view old stamp) command) id)) ≡ true
