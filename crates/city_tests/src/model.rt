@@ -1,10 +1,14 @@
 //! Cities, objects, kept members, scripts and types, where there is memory.
-use crate::samples::{bare, empty_city, geometry, members, point, text, triangle};
+use crate::samples::{
+    bare, body_of, empty_city, geometry, kept, members, one, point, related, text, triangle,
+    with_object,
+};
+use city_model::city::City;
 use city_model::command::Command;
 use city_model::copied::Copied;
 use city_model::kept::extra::Extra;
 use city_model::kept::place::{AtObject, AtTop, Place};
-use city_model::object::{Object, Shape};
+use city_model::object::{Geometry, Object, Shape};
 use city_model::object_type::{self, ObjectType};
 use city_model::script::Script;
 use city_model::sequence::Sequence;
@@ -18,22 +22,18 @@ fn is_kept<P: Place>(alloc: Global, json: &str) -> Result<bool, Fail> {
     Ok(extra.is_ok())
 }
 
-fn with_triangle(alloc: Global) -> Result<Shape, Fail> {
+fn with_triangle(alloc: Global) -> Result<Geometry, Fail> {
     let (a, b) = (point(0, 0, i64::MIN), point(1, 0, i64::MIN));
     let surface = triangle(alloc, a, b, point(0, i64::MAX, i64::MIN))?;
-    let mut surfaces = Sequence::new(alloc);
-    surfaces.push(surface)?;
-    Ok(Shape::MultiSurface(surfaces))
+    let shape = Shape::MultiSurface(one(alloc, surface)?);
+    geometry(alloc, "1.2", shape, "{\"semantics\":null}")
 }
 
 /// A land use with these members and a triangle, whose parent is `p` and whose child is `d`.
 fn land_use(alloc: Global, json: &str) -> Result<Object, Fail> {
-    let shape = with_triangle(alloc)?;
-    let geometry = geometry(alloc, "1.2", shape, "{\"semantics\":null}")?;
-    let mut object = bare(alloc, ObjectType::LandUse, json)?;
-    object.body.geometry.push(geometry)?;
-    object.parents.push(text(alloc, "p")?)?;
-    object.children.push(text(alloc, "d")?)?;
+    let mut object = related(alloc, ObjectType::LandUse, "p", "d")?;
+    let geometry = one(alloc, with_triangle(alloc)?)?;
+    object.body = body_of(ObjectType::LandUse, geometry, kept(alloc, json)?);
     Ok(object)
 }
 
@@ -41,15 +41,23 @@ fn number(object: &Object) -> Option<i64> {
     object.body.extra.map().get("n").and_then(Value::as_i64)
 }
 
+/// The city with a land use of this number as `f`, and the number of the one that stood there.
+fn renumbered(alloc: Global, mut city: City, json: &str) -> Result<(City, Option<i64>), Fail> {
+    let f = text(alloc, "f")?;
+    let old = city.set(f, bare(alloc, ObjectType::LandUse, json)?)?;
+    Ok((city, old.as_ref().and_then(number)))
+}
+
 #[test]
 fn set_gives_the_object_that_stood_there(rt: HostRuntime) -> Result<(), Fail> {
     let alloc = rt.alloc();
-    let mut city = empty_city(alloc, [0, 0, -5], "{\"extensions\":{}}")?;
-    let none = city.set(text(alloc, "f")?, land_use(alloc, "{\"n\":1}")?)?;
-    let old = city.set(text(alloc, "f")?, land_use(alloc, "{\"n\":2}")?)?;
-    let now = city.remove(&text(alloc, "f")?);
-    assert!(rt; none.is_none());
-    assert_eq!(rt; old.as_ref().and_then(number), Some(1));
+    let f = text(alloc, "f")?;
+    let city = empty_city(alloc, [0, 0, -5], "{\"extensions\":{}}")?;
+    let (city, none) = renumbered(alloc, city, "{\"n\":1}")?;
+    let (mut city, old) = renumbered(alloc, city, "{\"n\":2}")?;
+    let now = city.remove(&f);
+    assert_eq!(rt; none, None);
+    assert_eq!(rt; old, Some(1));
     assert_eq!(rt; now.as_ref().and_then(number), Some(2));
     assert!(rt; city.is_empty());
     Ok(())
@@ -59,8 +67,8 @@ fn set_gives_the_object_that_stood_there(rt: HostRuntime) -> Result<(), Fail> {
 fn a_copy_of_a_city_stands_by_itself(rt: HostRuntime) -> Result<(), Fail> {
     let alloc = rt.alloc();
     let f = text(alloc, "f")?;
-    let mut city = empty_city(alloc, [0, 0, -5], "{\"extensions\":{}}")?;
-    drop(city.set(text(alloc, "f")?, land_use(alloc, "{\"n\":3}")?)?);
+    let city = empty_city(alloc, [0, 0, -5], "{\"extensions\":{}}")?;
+    let mut city = with_object(alloc, city, "f", land_use(alloc, "{\"n\":3}")?)?;
     let copy = city.copy(alloc)?;
     drop(city.remove(&f));
     assert_eq!(rt; copy.len(), 1);
@@ -80,34 +88,40 @@ fn an_object_is_copied(rt: HostRuntime) -> Result<(), Fail> {
     Ok(())
 }
 
+/// Members of an object, and whether they are kept.
+const OF_OBJECT: [(&str, bool); 10] = [
+    ("{\"attributes\":{\"h\":-3}}", true),
+    ("{\"address\":[{}]}", true),
+    ("{\"type\":0}", false),
+    ("{\"geometry\":[]}", false),
+    ("{\"parents\":[]}", false),
+    ("{\"children\":[]}", false),
+    ("{\"attributes\":{\"h\":[1.0]}}", false),
+    ("{\"attributes\":9223372036854775808}", false),
+    ("{\"address\":{\"location\":{}}}", false),
+    ("{\"address\":[{},{\"location\":{}}]}", false),
+];
+
 #[test]
 fn members_are_kept_where_nothing_reads_them(rt: HostRuntime) -> Result<(), Fail> {
-    for (json, expected) in [
-        ("{\"attributes\":{\"h\":-3}}", true),
-        ("{\"address\":[{}]}", true),
-        ("{\"type\":0}", false),
-        ("{\"geometry\":[]}", false),
-        ("{\"parents\":[]}", false),
-        ("{\"children\":[]}", false),
-        ("{\"attributes\":{\"h\":[1.0]}}", false),
-        ("{\"attributes\":9223372036854775808}", false),
-        ("{\"address\":{\"location\":{}}}", false),
-        ("{\"address\":[{},{\"location\":{}}]}", false),
-    ] {
-        assert_eq!(rt; is_kept::<AtObject>(rt.alloc(), json)?, expected, "{json}");
+    for (json, expected) in &OF_OBJECT {
+        assert_eq!(rt; is_kept::<AtObject>(rt.alloc(), json)?, *expected, "{json}");
     }
     Ok(())
 }
 
+/// Members of a document, and whether they are kept.
+const AT_TOP: [(&str, bool); 4] = [
+    ("{\"extensions\":{}}", true),
+    ("{\"extensions\":{\"a\":1}}", false),
+    ("{\"extensions\":[]}", false),
+    ("{\"vertices\":[]}", false),
+];
+
 #[test]
 fn extensions_are_kept_where_they_are_empty(rt: HostRuntime) -> Result<(), Fail> {
-    for (json, expected) in [
-        ("{\"extensions\":{}}", true),
-        ("{\"extensions\":{\"a\":1}}", false),
-        ("{\"extensions\":[]}", false),
-        ("{\"vertices\":[]}", false),
-    ] {
-        assert_eq!(rt; is_kept::<AtTop>(rt.alloc(), json)?, expected, "{json}");
+    for (json, expected) in &AT_TOP {
+        assert_eq!(rt; is_kept::<AtTop>(rt.alloc(), json)?, *expected, "{json}");
     }
     Ok(())
 }

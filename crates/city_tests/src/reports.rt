@@ -1,5 +1,5 @@
 //! Reports of one script's end.
-use crate::samples::{bare, geometry, point, text, triangle};
+use crate::samples::{bare, body_of, geometry, kept, one, point, text, triangle, unrelated};
 use city_doc::report::write_report;
 use city_model::command::{Cause, Reply};
 use city_model::end::{End, Outcome};
@@ -79,13 +79,11 @@ fn end_without_memory_names_the_command(rt: HostRuntime) -> Result<(), Fail> {
 
 fn roofed(alloc: Global) -> Result<Object, Fail> {
     let (a, b, c) = (point(4, 5, 6), point(1, 2, 3), point(7, 8, 9));
-    let mut surfaces = Sequence::new(alloc);
-    surfaces.push(triangle(alloc, a, b, c)?)?;
-    surfaces.push(triangle(alloc, c, a, b)?)?;
-    let roof = geometry(alloc, "1", Shape::MultiSurface(surfaces), "{}")?;
-    let mut object = bare(alloc, ObjectType::Building, "{}")?;
-    object.body.geometry.push(roof)?;
-    Ok(object)
+    let both = vec![in alloc; triangle(alloc, a, b, c)?, triangle(alloc, c, a, b)?]?;
+    let shape = Shape::MultiSurface(Sequence::from_vec(both));
+    let roof = one(alloc, geometry(alloc, "1", shape, "{}")?)?;
+    let body = body_of(ObjectType::Building, roof, kept(alloc, "{}")?);
+    Ok(unrelated(alloc, body))
 }
 
 #[test]

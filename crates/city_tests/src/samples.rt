@@ -3,7 +3,7 @@ use city_model::city::City;
 use city_model::frame::Frame;
 use city_model::kept::extra::Extra;
 use city_model::kept::place::{AtObject, AtTop, AtTransform, Place};
-use city_model::object::{Body, Geometry, Object, Point, Ring, Shape, Surface};
+use city_model::object::{Body, Geometry, Object, Point, Shape, Surface};
 use city_model::object_type::ObjectType;
 use city_model::sequence::Sequence;
 use city_model::text::Text;
@@ -64,14 +64,25 @@ pub fn empty_city(alloc: Global, translate: [i64; 3], top: &str) -> Result<City,
     Ok(City::new(alloc, frame(translate, more, extra)))
 }
 
+/// A list of one item.
+pub fn one<T: Drop>(alloc: Global, item: T) -> Result<Sequence<T>, AllocError> {
+    let mut list = Sequence::new(alloc);
+    list.push(item)?;
+    Ok(list)
+}
+
+pub fn body_of(kind: ObjectType, geometry: Sequence<Geometry>, extra: Extra<AtObject>) -> Body {
+    Body {
+        kind,
+        geometry,
+        extra,
+    }
+}
+
 /// A body without geometry, with these kept members.
 pub fn body(alloc: Global, kind: ObjectType, json: &str) -> Result<Body, Fail> {
     let extra = kept(alloc, json)?;
-    Ok(Body {
-        kind,
-        geometry: Sequence::new(alloc),
-        extra,
-    })
+    Ok(body_of(kind, Sequence::new(alloc), extra))
 }
 
 /// An object of this body, without relations.
@@ -89,13 +100,16 @@ pub fn bare(alloc: Global, kind: ObjectType, json: &str) -> Result<Object, Fail>
     Ok(unrelated(alloc, body))
 }
 
-/// An id, a type, and the ids of parents and of children, a space between two.
-pub type Row<'a> = (&'a str, ObjectType, &'a str, &'a str);
-
-fn related(alloc: Global, kind: ObjectType, parents: &str, children: &str) -> Result<Object, Fail> {
-    let body = body(alloc, kind, "{}")?;
+/// An object without geometry, with the ids of parents and of children, a space between two.
+pub fn related(
+    alloc: Global,
+    kind: ObjectType,
+    parents: &str,
+    children: &str,
+) -> Result<Object, Fail> {
     let parents = texts(alloc, parents)?;
     let children = texts(alloc, children)?;
+    let body = body(alloc, kind, "{}")?;
     Ok(Object {
         body,
         parents,
@@ -103,12 +117,20 @@ fn related(alloc: Global, kind: ObjectType, parents: &str, children: &str) -> Re
     })
 }
 
+/// The city with an object more.
+pub fn with_object(alloc: Global, mut city: City, id: &str, object: Object) -> Result<City, Fail> {
+    drop(city.set(text(alloc, id)?, object)?);
+    Ok(city)
+}
+
+/// An id, a type, and the ids of parents and of children, a space between two.
+pub type Row<'a> = (&'a str, ObjectType, &'a str, &'a str);
+
 /// A city of objects without geometry.
 pub fn city(alloc: Global, rows: &[Row]) -> Result<City, Fail> {
     let mut city = empty_city(alloc, [0, 0, 0], "{}")?;
     for (id, kind, parents, children) in rows {
-        let object = related(alloc, *kind, parents, children)?;
-        drop(city.set(text(alloc, id)?, object)?);
+        city = with_object(alloc, city, id, related(alloc, *kind, parents, children)?)?;
     }
     Ok(city)
 }
@@ -117,17 +139,10 @@ pub fn point(x: i64, y: i64, z: i64) -> Point {
     Point { x, y, z }
 }
 
-/// A surface of one ring.
-pub fn surface(alloc: Global, ring: Ring) -> Result<Surface, AllocError> {
-    let mut surface = Sequence::new(alloc);
-    surface.push(ring)?;
-    Ok(surface)
-}
-
 /// A surface of one ring of three points.
 pub fn triangle(alloc: Global, a: Point, b: Point, c: Point) -> Result<Surface, AllocError> {
     let ring = Sequence::from_vec(vec![in alloc; a, b, c]?);
-    surface(alloc, ring)
+    one(alloc, ring)
 }
 
 /// A geometry with these kept members.

@@ -107,52 +107,148 @@ fn commits_after(alloc: Global, first: &str, count: usize) -> Result<String, All
     Ok(text)
 }
 
+/// The first text that isn't answered as wanted, with its answer; nothing where all are.
+fn misread(rt: &HostRuntime, rows: &[(&str, &str)]) -> Result<String, Fail> {
+    for (text, want) in rows {
+        let got = answer(rt, text)?;
+        if got.as_str() != *want {
+            return Ok(format!(in rt.alloc(); "{text}: {got}")?);
+        }
+    }
+    Ok(String::new(rt.alloc()))
+}
+
+const READ_AS: [(&str, &str); 6] = [
+    ("[]", ""),
+    ("[{\"name\":\"\",\"commands\":[\"abort\"]}]", ": abort;"),
+    (
+        "[{\"name\":\"\\u0061\\n\",\"vertices\":[[1,-2,3]],\"commands\":[{\"read\":\"\\u00e9\"},\"commit\"]}]",
+        "a\n: read \u{e9}; commit;",
+    ),
+    (
+        "[{\"name\":\"a\",\"commands\":[{\"read\":\"f\"},{\"put\":\"g\",\"object\":{\"type\":\"Road\",\"attributes\":{\"lanes\":2}}},{\"read\":\"h\"},\"commit\"]},{\"name\":\"b\",\"commands\":[{\"put\":\"f\",\"object\":{\"type\":\"LandUse\",\"attributes\":{\"use\":\"park\"}}},\"abort\"]}]",
+        "a: read f; put g Road 1; read h; commit;b: put f LandUse 1; abort;",
+    ),
+    (
+        "[{\"name\":\"a\",\"vertices\":[],\"commands\":[{\"object\":{\"geometry\":[],\"type\":\"TINRelief\"},\"put\":\"t\"},\"commit\"]}]",
+        "a: put t TINRelief 0; commit;",
+    ),
+    (
+        "[{\"name\":\"a\",\"commands\":[{\"delete\":\"p\"},\"commit\"]},{\"name\":\"b\",\"commands\":[{\"put\":\"q\",\"object\":{\"type\":\"BuildingPart\"}},{\"attach\":\"q\",\"parent\":\"b2\"},{\"parent\":\"b\",\"detach\":\"p\"},\"abort\"]}]",
+        "a: delete p; commit;b: put q BuildingPart 0; attach q to b2; detach p from b; abort;",
+    ),
+];
+
 #[test]
 fn scripts_are_read(rt: HostRuntime) -> Result<(), Fail> {
-    for (text, want) in [
-        ("[]", ""),
-        ("[{\"name\":\"\",\"commands\":[\"abort\"]}]", ": abort;"),
-        (
-            "[{\"name\":\"\\u0061\\n\",\"vertices\":[[1,-2,3]],\"commands\":[{\"read\":\"\\u00e9\"},\"commit\"]}]",
-            "a\n: read \u{e9}; commit;",
-        ),
-        (
-            "[{\"name\":\"a\",\"commands\":[{\"read\":\"f\"},{\"put\":\"g\",\"object\":{\"type\":\"Road\",\"attributes\":{\"lanes\":2}}},{\"read\":\"h\"},\"commit\"]},{\"name\":\"b\",\"commands\":[{\"put\":\"f\",\"object\":{\"type\":\"LandUse\",\"attributes\":{\"use\":\"park\"}}},\"abort\"]}]",
-            "a: read f; put g Road 1; read h; commit;b: put f LandUse 1; abort;",
-        ),
-        (
-            "[{\"name\":\"a\",\"vertices\":[],\"commands\":[{\"object\":{\"geometry\":[],\"type\":\"TINRelief\"},\"put\":\"t\"},\"commit\"]}]",
-            "a: put t TINRelief 0; commit;",
-        ),
-        (
-            "[{\"name\":\"a\",\"commands\":[{\"delete\":\"p\"},\"commit\"]},{\"name\":\"b\",\"commands\":[{\"put\":\"q\",\"object\":{\"type\":\"BuildingPart\"}},{\"attach\":\"q\",\"parent\":\"b2\"},{\"parent\":\"b\",\"detach\":\"p\"},\"abort\"]}]",
-            "a: delete p; commit;b: put q BuildingPart 0; attach q to b2; detach p from b; abort;",
-        ),
-    ] {
-        let got = answer(&rt, text)?;
-        assert_eq!(rt; got.as_str(), want, "at {text}");
-    }
+    assert_eq!(rt; misread(&rt, &READ_AS)?.as_str(), "");
     Ok(())
 }
 
 /// Scripts with vertices of their own, and what their puts are read as.
+const POSITIONS: [(&str, &str); 2] = [
+    (
+        "[{\"name\":\"s\",\"vertices\":[[0,0,0],[1,0,0],[0,1,0]],\"commands\":[{\"put\":\"s\",\"object\":{\"type\":\"Building\",\"geometry\":[{\"type\":\"MultiSurface\",\"lod\":\"1\",\"boundaries\":[[[0,1]]]}]}},\"commit\"]},{\"name\":\"s\",\"vertices\":[[0,0,0],[1,0,0],[0,1,0]],\"commands\":[{\"put\":\"s\",\"object\":{\"type\":\"Building\",\"geometry\":[{\"type\":\"MultiSurface\",\"lod\":\"1\",\"boundaries\":[[[0,1,1]]]}]}},\"commit\"]},{\"name\":\"s\",\"vertices\":[[0,0,0],[1,0,0],[0,1,0]],\"commands\":[{\"put\":\"s\",\"object\":{\"type\":\"Building\",\"geometry\":[{\"type\":\"Solid\",\"lod\":\"1\",\"boundaries\":[[[[0,1,2]]]]}]}},\"commit\"]}]",
+        "s: put s Building 0 1 MultiSurface 0,0,0 1,0,0/; commit;s: put s Building 0 1 MultiSurface 0,0,0 1,0,0 1,0,0/; commit;s: put s Building 0 1 Solid 0,0,0 1,0,0 0,1,0/; commit;",
+    ),
+    (
+        "[{\"name\":\"a\",\"vertices\":[[1,2,3]],\"commands\":[{\"put\":\"x\",\"object\":{\"type\":\"Road\",\"geometry\":[{\"type\":\"MultiSurface\",\"lod\":\"1\",\"boundaries\":[]},{\"type\":\"CompositeSurface\",\"lod\":\"2.2\",\"boundaries\":[[[0],[0]],[]]}]}},\"commit\"]},{\"name\":\"b\",\"vertices\":[[4,5,-6]],\"commands\":[{\"put\":\"x\",\"object\":{\"type\":\"Road\",\"geometry\":[{\"type\":\"MultiSurface\",\"lod\":\"1\",\"boundaries\":[[[0]]]}]}},\"commit\"]}]",
+        "a: put x Road 0 1 MultiSurface 2.2 CompositeSurface 1,2,3/ 1,2,3/; commit;b: put x Road 0 1 MultiSurface 4,5,-6/; commit;",
+    ),
+];
+
 #[test]
 fn positions_count_in_the_vertices_of_the_script(rt: HostRuntime) -> Result<(), Fail> {
-    for (text, want) in [
-        (
-            "[{\"name\":\"s\",\"vertices\":[[0,0,0],[1,0,0],[0,1,0]],\"commands\":[{\"put\":\"s\",\"object\":{\"type\":\"Building\",\"geometry\":[{\"type\":\"MultiSurface\",\"lod\":\"1\",\"boundaries\":[[[0,1]]]}]}},\"commit\"]},{\"name\":\"s\",\"vertices\":[[0,0,0],[1,0,0],[0,1,0]],\"commands\":[{\"put\":\"s\",\"object\":{\"type\":\"Building\",\"geometry\":[{\"type\":\"MultiSurface\",\"lod\":\"1\",\"boundaries\":[[[0,1,1]]]}]}},\"commit\"]},{\"name\":\"s\",\"vertices\":[[0,0,0],[1,0,0],[0,1,0]],\"commands\":[{\"put\":\"s\",\"object\":{\"type\":\"Building\",\"geometry\":[{\"type\":\"Solid\",\"lod\":\"1\",\"boundaries\":[[[[0,1,2]]]]}]}},\"commit\"]}]",
-            "s: put s Building 0 1 MultiSurface 0,0,0 1,0,0/; commit;s: put s Building 0 1 MultiSurface 0,0,0 1,0,0 1,0,0/; commit;s: put s Building 0 1 Solid 0,0,0 1,0,0 0,1,0/; commit;",
-        ),
-        (
-            "[{\"name\":\"a\",\"vertices\":[[1,2,3]],\"commands\":[{\"put\":\"x\",\"object\":{\"type\":\"Road\",\"geometry\":[{\"type\":\"MultiSurface\",\"lod\":\"1\",\"boundaries\":[]},{\"type\":\"CompositeSurface\",\"lod\":\"2.2\",\"boundaries\":[[[0],[0]],[]]}]}},\"commit\"]},{\"name\":\"b\",\"vertices\":[[4,5,-6]],\"commands\":[{\"put\":\"x\",\"object\":{\"type\":\"Road\",\"geometry\":[{\"type\":\"MultiSurface\",\"lod\":\"1\",\"boundaries\":[[[0]]]}]}},\"commit\"]}]",
-            "a: put x Road 0 1 MultiSurface 2.2 CompositeSurface 1,2,3/ 1,2,3/; commit;b: put x Road 0 1 MultiSurface 4,5,-6/; commit;",
-        ),
-    ] {
-        let got = answer(&rt, text)?;
-        assert_eq!(rt; got.as_str(), want, "at {text}");
-    }
+    assert_eq!(rt; misread(&rt, &POSITIONS)?.as_str(), "");
     Ok(())
 }
+
+const BAD_SCRIPTS: [(&str, &str); 24] = [
+    ("", "NotJson"),
+    ("[{\"name\":\"s\"", "NotJson"),
+    ("[1.5,", "NotJson"),
+    ("[1.5]", "NotWhole"),
+    ("{\"a\":9223372036854775808}", "NotWhole"),
+    ("{}", "NotScripts"),
+    ("\"commit\"", "NotScripts"),
+    ("[1]", "BadScript(0)"),
+    ("[{}]", "BadScript(0)"),
+    ("[{\"name\":\"s\"}]", "BadScript(0)"),
+    ("[{\"commands\":[\"commit\"]}]", "BadScript(0)"),
+    ("[{\"name\":1,\"commands\":[\"commit\"]}]", "BadScript(0)"),
+    ("[{\"name\":\"s\",\"commands\":\"commit\"}]", "BadScript(0)"),
+    ("[{\"name\":\"s\",\"commands\":[]}]", "BadScript(0)"),
+    (
+        "[{\"name\":\"s\",\"commands\":[{\"read\":\"x\"}]}]",
+        "BadScript(0)",
+    ),
+    (
+        "[{\"name\":\"s\",\"commands\":[\"commit\",\"commit\"]}]",
+        "BadScript(0)",
+    ),
+    (
+        "[{\"name\":\"s\",\"commands\":[\"abort\",{\"read\":\"x\"},\"commit\"]}]",
+        "BadScript(0)",
+    ),
+    (
+        "[{\"name\":\"s\",\"commands\":[\"commit\"],\"more\":1}]",
+        "BadScript(0)",
+    ),
+    (
+        "[{\"name\":\"s\",\"commands\":[\"commit\"],\"vertices\":[],\"more\":1}]",
+        "BadScript(0)",
+    ),
+    (
+        "[{\"name\":\"s\",\"commands\":[\"commit\"],\"vertices\":1}]",
+        "BadScript(0)",
+    ),
+    (
+        "[{\"name\":\"s\",\"commands\":[\"commit\"],\"vertices\":[[1,2]]}]",
+        "BadScript(0)",
+    ),
+    (
+        "[{\"name\":\"s\",\"commands\":[\"commit\"],\"vertices\":[[1,2,3,4]]}]",
+        "BadScript(0)",
+    ),
+    (
+        "[{\"name\":\"s\",\"commands\":[{\"read\":1},\"commit\"]},{},1]",
+        "BadScript(1)",
+    ),
+    (
+        "[{\"name\":\"s\",\"commands\":[{\"read\":1},\"commit\"]}]",
+        "BadCommand(0, 0)",
+    ),
+];
+
+#[test]
+fn bad_forms_of_scripts_are_refused(rt: HostRuntime) -> Result<(), Fail> {
+    assert_eq!(rt; misread(&rt, &BAD_SCRIPTS)?.as_str(), "");
+    Ok(())
+}
+
+const LAST: &str =
+    "{\"put\":\"x\",\"object\":{\"type\":\"Road\",\"geometry\":[{\"type\":\"MultiSurface\",\"lod\":\"1\",\"boundaries\":[[[0,1]]]}]}},";
+
+const PAST: &str =
+    "{\"put\":\"x\",\"object\":{\"type\":\"Road\",\"geometry\":[{\"type\":\"MultiSurface\",\"lod\":\"1\",\"boundaries\":[[[0,2]]]}]}},";
+
+const BELOW: &str =
+    "{\"put\":\"x\",\"object\":{\"type\":\"Road\",\"geometry\":[{\"type\":\"Solid\",\"lod\":\"1\",\"boundaries\":[[[[-1]]]]}]}},";
+
+const BAD: &str = "{\"read\":1},";
+
+const READ: &str = "{\"read\":\"x\"},";
+
+/// Commands of a first script, of a second, and the fault.
+const UNPLACED: [(&str, &str, &str); 7] = [
+    (PAST, READ, "BadVertex(0, 0)"),
+    (BELOW, "", "BadVertex(0, 0)"),
+    (LAST, LAST, "BadVertex(1, 0)"),
+    (READ, LAST, "BadVertex(1, 0)"),
+    (PAST, LAST, "BadVertex(0, 0)"),
+    (PAST, BAD, "BadCommand(1, 0)"),
+    (BAD, PAST, "BadCommand(0, 0)"),
+];
 
 /// A text of two scripts with these commands, the first of which has two vertices and the second
 /// none.
@@ -164,166 +260,91 @@ fn two_scripts(alloc: Global, first: &str, second: &str) -> Result<String, Alloc
 
 #[test]
 fn positions_without_a_vertex_are_refused(rt: HostRuntime) -> Result<(), Fail> {
-    let last =
-        "{\"put\":\"x\",\"object\":{\"type\":\"Road\",\"geometry\":[{\"type\":\"MultiSurface\",\"lod\":\"1\",\"boundaries\":[[[0,1]]]}]}},";
-    let past =
-        "{\"put\":\"x\",\"object\":{\"type\":\"Road\",\"geometry\":[{\"type\":\"MultiSurface\",\"lod\":\"1\",\"boundaries\":[[[0,2]]]}]}},";
-    let below =
-        "{\"put\":\"x\",\"object\":{\"type\":\"Road\",\"geometry\":[{\"type\":\"Solid\",\"lod\":\"1\",\"boundaries\":[[[[-1]]]]}]}},";
-    let bad = "{\"read\":1},";
-    let read = "{\"read\":\"x\"},";
-    for (first, second, want) in [
-        (past, read, "BadVertex(0, 0)"),
-        (below, "", "BadVertex(0, 0)"),
-        (last, last, "BadVertex(1, 0)"),
-        (read, last, "BadVertex(1, 0)"),
-        (past, last, "BadVertex(0, 0)"),
-        (past, bad, "BadCommand(1, 0)"),
-        (bad, past, "BadCommand(0, 0)"),
-    ] {
+    for (first, second, want) in &UNPLACED {
         let text = two_scripts(rt.alloc(), first, second)?;
         let got = answer(&rt, text.as_str())?;
-        assert_eq!(rt; got.as_str(), want, "at {text}");
+        assert_eq!(rt; got.as_str(), *want, "at {first} {second}");
     }
     Ok(())
 }
 
-#[test]
-fn bad_forms_of_scripts_are_refused(rt: HostRuntime) -> Result<(), Fail> {
-    for (text, want) in [
-        ("", "NotJson"),
-        ("[{\"name\":\"s\"", "NotJson"),
-        ("[1.5,", "NotJson"),
-        ("[1.5]", "NotWhole"),
-        ("{\"a\":9223372036854775808}", "NotWhole"),
-        ("{}", "NotScripts"),
-        ("\"commit\"", "NotScripts"),
-        ("[1]", "BadScript(0)"),
-        ("[{}]", "BadScript(0)"),
-        ("[{\"name\":\"s\"}]", "BadScript(0)"),
-        ("[{\"commands\":[\"commit\"]}]", "BadScript(0)"),
-        ("[{\"name\":1,\"commands\":[\"commit\"]}]", "BadScript(0)"),
-        ("[{\"name\":\"s\",\"commands\":\"commit\"}]", "BadScript(0)"),
-        ("[{\"name\":\"s\",\"commands\":[]}]", "BadScript(0)"),
-        (
-            "[{\"name\":\"s\",\"commands\":[{\"read\":\"x\"}]}]",
-            "BadScript(0)",
-        ),
-        (
-            "[{\"name\":\"s\",\"commands\":[\"commit\",\"commit\"]}]",
-            "BadScript(0)",
-        ),
-        (
-            "[{\"name\":\"s\",\"commands\":[\"abort\",{\"read\":\"x\"},\"commit\"]}]",
-            "BadScript(0)",
-        ),
-        (
-            "[{\"name\":\"s\",\"commands\":[\"commit\"],\"more\":1}]",
-            "BadScript(0)",
-        ),
-        (
-            "[{\"name\":\"s\",\"commands\":[\"commit\"],\"vertices\":[],\"more\":1}]",
-            "BadScript(0)",
-        ),
-        (
-            "[{\"name\":\"s\",\"commands\":[\"commit\"],\"vertices\":1}]",
-            "BadScript(0)",
-        ),
-        (
-            "[{\"name\":\"s\",\"commands\":[\"commit\"],\"vertices\":[[1,2]]}]",
-            "BadScript(0)",
-        ),
-        (
-            "[{\"name\":\"s\",\"commands\":[\"commit\"],\"vertices\":[[1,2,3,4]]}]",
-            "BadScript(0)",
-        ),
-        (
-            "[{\"name\":\"s\",\"commands\":[{\"read\":1},\"commit\"]},{},1]",
-            "BadScript(1)",
-        ),
-    ] {
-        let got = answer(&rt, text)?;
-        assert_eq!(rt; got.as_str(), want, "at {text}");
-    }
-    Ok(())
+const BAD_COMMANDS: [&str; 33] = [
+    "{\"read\":1}",
+    "1",
+    "null",
+    "\"begin\"",
+    "[]",
+    "{}",
+    "{\"read\":\"x\",\"more\":1}",
+    "{\"put\":\"x\"}",
+    "{\"object\":{\"type\":\"Road\"}}",
+    "{\"put\":1,\"object\":{\"type\":\"Road\"}}",
+    "{\"put\":\"x\",\"object\":1}",
+    "{\"put\":\"x\",\"object\":{\"type\":\"Road\"},\"more\":1}",
+    "{\"put\":\"x\",\"object\":{\"type\":\"Road\",\"parents\":[]}}",
+    "{\"put\":\"x\",\"object\":{\"type\":\"Road\",\"children\":[]}}",
+    "{\"put\":\"x\",\"object\":{}}",
+    "{\"put\":\"x\",\"object\":{\"type\":\"Foo\"}}",
+    "{\"put\":\"x\",\"object\":{\"type\":\"Road\",\"address\":{\"location\":1}}}",
+    "{\"put\":\"x\",\"object\":{\"type\":\"Road\",\"geometry\":{}}}",
+    "{\"put\":\"x\",\"object\":{\"type\":\"Road\",\"geometry\":[{\"type\":\"MultiPoint\"}]}}",
+    "{\"put\":\"x\",\"object\":{\"type\":\"Road\",\"geometry\":[{\"type\":\"Solid\",\"lod\":\"1\"}]}}",
+    "{\"put\":\"x\",\"object\":{\"type\":\"Road\",\"geometry\":[{\"type\":\"Solid\",\"lod\":1,\"boundaries\":[]}]}}",
+    "{\"put\":\"x\",\"object\":{\"type\":\"Road\",\"geometry\":[{\"type\":\"Solid\",\"lod\":\"1\",\"boundaries\":[[[0]]]}]}}",
+    "{\"put\":\"x\",\"object\":{\"type\":\"Road\",\"geometry\":[{\"type\":\"MultiSurface\",\"lod\":\"1\",\"boundaries\":[[[\"0\"]]]}]}}",
+    "{\"delete\":1}",
+    "{\"delete\":\"x\",\"read\":\"x\"}",
+    "{\"attach\":\"x\"}",
+    "{\"attach\":1,\"parent\":\"y\"}",
+    "{\"attach\":\"x\",\"parent\":1}",
+    "{\"attach\":\"x\",\"detach\":\"y\"}",
+    "{\"attach\":\"x\",\"parent\":\"y\",\"more\":1}",
+    "{\"detach\":\"x\",\"parent\":\"y\",\"more\":1}",
+    "{\"detach\":\"x\",\"object\":{}}",
+    "{\"parent\":\"y\",\"more\":\"x\"}",
+];
+
+/// A text of two scripts, where this command of the second is the first fault.
+fn second_script_with(alloc: Global, command: &str) -> Result<String, AllocError> {
+    format!(in alloc;
+        "[{{\"name\":\"a\",\"commands\":[\"abort\"]}},{{\"name\":\"s\",\"commands\":[{{\"read\":\"x\"}},{command},{{\"read\":2}},\"commit\"]}}]"
+    )
 }
 
 #[test]
 fn bad_forms_of_commands_are_refused(rt: HostRuntime) -> Result<(), Fail> {
-    for command in [
-        "{\"read\":1}",
-        "1",
-        "null",
-        "\"begin\"",
-        "[]",
-        "{}",
-        "{\"read\":\"x\",\"more\":1}",
-        "{\"put\":\"x\"}",
-        "{\"object\":{\"type\":\"Road\"}}",
-        "{\"put\":1,\"object\":{\"type\":\"Road\"}}",
-        "{\"put\":\"x\",\"object\":1}",
-        "{\"put\":\"x\",\"object\":{\"type\":\"Road\"},\"more\":1}",
-        "{\"put\":\"x\",\"object\":{\"type\":\"Road\",\"parents\":[]}}",
-        "{\"put\":\"x\",\"object\":{\"type\":\"Road\",\"children\":[]}}",
-        "{\"put\":\"x\",\"object\":{}}",
-        "{\"put\":\"x\",\"object\":{\"type\":\"Foo\"}}",
-        "{\"put\":\"x\",\"object\":{\"type\":\"Road\",\"address\":{\"location\":1}}}",
-        "{\"put\":\"x\",\"object\":{\"type\":\"Road\",\"geometry\":{}}}",
-        "{\"put\":\"x\",\"object\":{\"type\":\"Road\",\"geometry\":[{\"type\":\"MultiPoint\"}]}}",
-        "{\"put\":\"x\",\"object\":{\"type\":\"Road\",\"geometry\":[{\"type\":\"Solid\",\"lod\":\"1\"}]}}",
-        "{\"put\":\"x\",\"object\":{\"type\":\"Road\",\"geometry\":[{\"type\":\"Solid\",\"lod\":1,\"boundaries\":[]}]}}",
-        "{\"put\":\"x\",\"object\":{\"type\":\"Road\",\"geometry\":[{\"type\":\"Solid\",\"lod\":\"1\",\"boundaries\":[[[0]]]}]}}",
-        "{\"put\":\"x\",\"object\":{\"type\":\"Road\",\"geometry\":[{\"type\":\"MultiSurface\",\"lod\":\"1\",\"boundaries\":[[[\"0\"]]]}]}}",
-        "{\"delete\":1}",
-        "{\"delete\":\"x\",\"read\":\"x\"}",
-        "{\"attach\":\"x\"}",
-        "{\"attach\":1,\"parent\":\"y\"}",
-        "{\"attach\":\"x\",\"parent\":1}",
-        "{\"attach\":\"x\",\"detach\":\"y\"}",
-        "{\"attach\":\"x\",\"parent\":\"y\",\"more\":1}",
-        "{\"detach\":\"x\",\"parent\":\"y\",\"more\":1}",
-        "{\"detach\":\"x\",\"object\":{}}",
-        "{\"parent\":\"y\",\"more\":\"x\"}",
-    ] {
-        let text = format!(in rt.alloc();
-            "[{{\"name\":\"a\",\"commands\":[\"abort\"]}},{{\"name\":\"s\",\"commands\":[{{\"read\":\"x\"}},{command},{{\"read\":2}},\"commit\"]}}]"
-        )?;
+    for command in &BAD_COMMANDS {
+        let text = second_script_with(rt.alloc(), command)?;
         let got = answer(&rt, text.as_str())?;
         assert_eq!(rt; got.as_str(), "BadCommand(1, 1)", "at {command}");
     }
-    let first = answer(
-        &rt,
-        "[{\"name\":\"s\",\"commands\":[{\"read\":1},\"commit\"]}]",
-    )?;
-    assert_eq!(rt; first.as_str(), "BadCommand(0, 0)");
     Ok(())
 }
 
 #[test]
 fn more_than_the_limits_allow_is_refused(rt: HostRuntime) -> Result<(), Fail> {
     let alloc = rt.alloc();
-    for (text, want) in [
-        (commits_after(alloc, COMMIT, 4_096)?, "TooMany"),
-        (commits_after(alloc, "1", 4_097)?, "BadScript(0)"),
-        (reads(alloc, 1_024)?, "TooMany"),
-    ] {
-        let got = answer(&rt, text.as_str())?;
-        assert_eq!(rt; got.as_str(), want);
-    }
+    let scripts = commits_after(alloc, COMMIT, 4_096)?;
+    assert_eq!(rt; answer(&rt, scripts.as_str())?.as_str(), "TooMany");
+    let bad = commits_after(alloc, "1", 4_097)?;
+    assert_eq!(rt; answer(&rt, bad.as_str())?.as_str(), "BadScript(0)");
+    let commands = reads(alloc, 1_024)?;
+    assert_eq!(rt; answer(&rt, commands.as_str())?.as_str(), "TooMany");
     Ok(())
+}
+
+/// How many scripts are read from a text, where it isn't refused.
+fn count_read(alloc: Global, text: &str) -> Option<usize> {
+    let scripts = read_scripts(alloc, text.as_bytes()).ok()?;
+    Some(scripts.len())
 }
 
 #[test]
 fn as_many_as_the_limits_allow_are_read(rt: HostRuntime) -> Result<(), Fail> {
     let alloc = rt.alloc();
-    for (text, want) in [
-        (commits_after(alloc, COMMIT, 4_095)?, 4_096),
-        (reads(alloc, 1_023)?, 1),
-    ] {
-        match read_scripts(alloc, text.as_bytes()) {
-            Ok(scripts) => assert_eq!(rt; scripts.len(), want),
-            Err(_) => assert!(rt; false),
-        }
-    }
+    let scripts = commits_after(alloc, COMMIT, 4_095)?;
+    assert_eq!(rt; count_read(alloc, scripts.as_str()), Some(4_096));
+    let commands = reads(alloc, 1_023)?;
+    assert_eq!(rt; count_read(alloc, commands.as_str()), Some(1));
     Ok(())
 }

@@ -1,5 +1,5 @@
 //! Shells and rings of worked examples, as they stand in documents.
-use crate::samples::{body, empty_city, geometry, point, surface, text, unrelated};
+use crate::samples::{body, empty_city, geometry, one, point, unrelated, with_object};
 use city_model::body_fault::body_fault;
 use city_model::city::City;
 use city_model::command::Cause;
@@ -9,7 +9,7 @@ use city_model::object_type::ObjectType;
 use city_model::rings::{has_same_twice, has_short_ring};
 use city_model::sequence::Sequence;
 use city_model::shells::{has_open_shell, shell_closed};
-use std::alloc::Global;
+use std::alloc::{AllocError, Global};
 use std::test::Fail;
 
 const CORNERS: [(i64, i64, i64); 8] = [
@@ -42,26 +42,22 @@ fn ring(alloc: Global, corners: &[usize]) -> Result<Ring, Fail> {
 
 /// A list of one surface, which has no hole.
 fn surfaces(alloc: Global, corners: &[usize]) -> Result<Sequence<Surface>, Fail> {
-    let surface = surface(alloc, ring(alloc, corners)?)?;
-    let mut surfaces = Sequence::new(alloc);
-    surfaces.push(surface)?;
-    Ok(surfaces)
+    let surface = one(alloc, ring(alloc, corners)?)?;
+    Ok(one(alloc, surface)?)
 }
 
 /// The unit cube, with this face above.
 fn cube(alloc: Global, above: &[usize]) -> Result<Shell, Fail> {
     let mut shell = surfaces(alloc, &BELOW)?;
-    shell.push(surface(alloc, ring(alloc, above)?)?)?;
+    shell.push(one(alloc, ring(alloc, above)?)?)?;
     for side in &SIDES {
-        shell.push(surface(alloc, ring(alloc, side)?)?)?;
+        shell.push(one(alloc, ring(alloc, side)?)?)?;
     }
     Ok(shell)
 }
 
-fn solid(alloc: Global, shell: Shell) -> Result<Shape, Fail> {
-    let mut shells = Sequence::new(alloc);
-    shells.push(shell)?;
-    Ok(Shape::Solid(shells))
+fn solid(alloc: Global, shell: Shell) -> Result<Shape, AllocError> {
+    Ok(Shape::Solid(one(alloc, shell)?))
 }
 
 fn building(alloc: Global, shapes: Vec<Shape>) -> Result<Body, Fail> {
@@ -75,10 +71,9 @@ fn building(alloc: Global, shapes: Vec<Shape>) -> Result<Body, Fail> {
 /// A city with one building, of this shell.
 fn city_of(alloc: Global, shell: Shell) -> Result<City, Fail> {
     let shape = solid(alloc, shell)?;
-    let body = building(alloc, vec![in alloc; shape]?)?;
-    let mut city = empty_city(alloc, [0, 0, 0], "{}")?;
-    drop(city.set(text(alloc, "c")?, unrelated(alloc, body))?);
-    Ok(city)
+    let building = building(alloc, vec![in alloc; shape]?)?;
+    let city = empty_city(alloc, [0, 0, 0], "{}")?;
+    with_object(alloc, city, "c", unrelated(alloc, building))
 }
 
 fn fault_of(alloc: Global, shapes: Vec<Shape>) -> Result<&'static str, Fail> {
@@ -92,26 +87,39 @@ fn fault_of(alloc: Global, shapes: Vec<Shape>) -> Result<&'static str, Fail> {
     Ok(name)
 }
 
+/// Whether the cube with this face above is closed, in the words of each judge.
+fn cube_closed(alloc: Global, above: &[usize]) -> Result<(bool, bool), Fail> {
+    let shell = cube(alloc, above)?;
+    let closed = shell_closed(alloc, &shell)?;
+    let open = has_open_shell(alloc, &solid(alloc, shell)?)?;
+    Ok((closed, !open))
+}
+
+fn cube_fault(alloc: Global, above: &[usize]) -> Result<&'static str, Fail> {
+    let shape = solid(alloc, cube(alloc, above)?)?;
+    fault_of(alloc, vec![in alloc; shape]?)
+}
+
+fn cube_lawful(alloc: Global, above: &[usize]) -> Result<bool, Fail> {
+    let city = city_of(alloc, cube(alloc, above)?)?;
+    Ok(is_lawful(alloc, &city)?)
+}
+
 #[test]
-fn cube_is_closed_and_turned_face_is_an_open_shell(rt: HostRuntime) -> Result<(), Fail> {
+fn cube_is_closed_and_lawful(rt: HostRuntime) -> Result<(), Fail> {
     let alloc = rt.alloc();
-    for (above, closed, fault) in [(ABOVE, true, "None"), (ABOVE_TURNED, false, "OpenShell")] {
-        let shell = cube(alloc, &above)?;
-        assert_eq!(rt; shell_closed(alloc, &shell)?, closed, "{fault}");
-        let shape = solid(alloc, shell)?;
-        assert_eq!(rt; has_open_shell(alloc, &shape)?, !closed, "{fault}");
-        assert_eq!(rt; fault_of(alloc, vec![in alloc; shape]?)?, fault);
-    }
+    assert!(rt; cube_closed(alloc, &ABOVE)? == (true, true));
+    assert_eq!(rt; cube_fault(alloc, &ABOVE)?, "None");
+    assert!(rt; cube_lawful(alloc, &ABOVE)?);
     Ok(())
 }
 
 #[test]
-fn cube_is_lawful_and_turned_face_is_not(rt: HostRuntime) -> Result<(), Fail> {
+fn turned_face_is_an_open_shell(rt: HostRuntime) -> Result<(), Fail> {
     let alloc = rt.alloc();
-    for (above, expected) in [(ABOVE, true), (ABOVE_TURNED, false)] {
-        let city = city_of(alloc, cube(alloc, &above)?)?;
-        assert_eq!(rt; is_lawful(alloc, &city)?, expected);
-    }
+    assert!(rt; cube_closed(alloc, &ABOVE_TURNED)? == (false, false));
+    assert_eq!(rt; cube_fault(alloc, &ABOVE_TURNED)?, "OpenShell");
+    assert!(rt; !cube_lawful(alloc, &ABOVE_TURNED)?);
     Ok(())
 }
 
@@ -132,7 +140,7 @@ fn shape(alloc: Global, drawn: &Drawn) -> Result<Shape, Fail> {
     let (name, corners) = *drawn;
     let surfaces = surfaces(alloc, corners)?;
     if name == "Solid" {
-        solid(alloc, surfaces)
+        Ok(solid(alloc, surfaces)?)
     } else {
         Ok(Shape::MultiSurface(surfaces))
     }
@@ -146,41 +154,52 @@ fn shapes(alloc: Global, all: &[Drawn]) -> Result<Vec<Shape>, Fail> {
     Ok(shapes)
 }
 
+const DRAWN: [(&[Drawn], &str); 4] = [
+    (&[("MultiSurface", &[0, 1])], "ShortRing"),
+    (&[("MultiSurface", &[0, 1, 1])], "SameTwice"),
+    (&[("Solid", &[0, 1, 3])], "OpenShell"),
+    (
+        &[("Solid", &[0, 1, 3]), ("MultiSurface", &[0, 1])],
+        "ShortRing",
+    ),
+];
+
 #[test]
 fn rings_are_judged_before_shells(rt: HostRuntime) -> Result<(), Fail> {
-    for (drawn, fault) in [
-        (
-            [("MultiSurface", [0, 1].as_slice())].as_slice(),
-            "ShortRing",
-        ),
-        (&[("MultiSurface", &[0, 1, 1])], "SameTwice"),
-        (&[("Solid", &[0, 1, 3])], "OpenShell"),
-        (
-            &[("Solid", &[0, 1, 3]), ("MultiSurface", &[0, 1])],
-            "ShortRing",
-        ),
-    ] {
-        assert_eq!(rt; fault_of(rt.alloc(), shapes(rt.alloc(), drawn)?)?, fault);
+    for (drawn, fault) in &DRAWN {
+        let shapes = shapes(rt.alloc(), drawn)?;
+        assert_eq!(rt; fault_of(rt.alloc(), shapes)?, *fault);
     }
     Ok(())
 }
 
+/// Corners of a ring, whether it is short, and whether it has a point twice.
+const RINGS: [(&[usize], bool, bool); 5] = [
+    (&[0, 1, 3], false, false),
+    (&[0, 1], true, false),
+    (&[], true, false),
+    (&[0, 1, 1], false, true),
+    (&[0, 1, 3, 0], false, true),
+];
+
+fn ring_judged(shape: &Shape) -> (bool, bool) {
+    (has_short_ring(shape), has_same_twice(shape))
+}
+
+fn flat_judged(alloc: Global, corners: &[usize]) -> Result<(bool, bool), Fail> {
+    Ok(ring_judged(&Shape::CompositeSurface(surfaces(alloc, corners)?)))
+}
+
+fn thin_judged(alloc: Global, corners: &[usize]) -> Result<(bool, bool), Fail> {
+    Ok(ring_judged(&solid(alloc, surfaces(alloc, corners)?)?))
+}
+
 #[test]
 fn rings_of_a_shape_are_judged(rt: HostRuntime) -> Result<(), Fail> {
-    let alloc = rt.alloc();
-    for (corners, short, same) in [
-        ([0, 1, 3].as_slice(), false, false),
-        (&[0, 1], true, false),
-        (&[], true, false),
-        (&[0, 1, 1], false, true),
-        (&[0, 1, 3, 0], false, true),
-    ] {
-        let flat = Shape::CompositeSurface(surfaces(alloc, corners)?);
-        assert_eq!(rt; has_short_ring(&flat), short, "{corners:?}");
-        assert_eq!(rt; has_same_twice(&flat), same, "{corners:?}");
-        let thin = solid(alloc, surfaces(alloc, corners)?)?;
-        assert_eq!(rt; has_short_ring(&thin), short, "{corners:?}");
-        assert_eq!(rt; has_same_twice(&thin), same, "{corners:?}");
+    for (corners, short, same) in &RINGS {
+        let wanted = (*short, *same);
+        assert!(rt; flat_judged(rt.alloc(), corners)? == wanted, "{corners:?}");
+        assert!(rt; thin_judged(rt.alloc(), corners)? == wanted, "{corners:?}");
     }
     Ok(())
 }

@@ -8,10 +8,12 @@ use city_model::command::{Cause, Command, Reply};
 use city_model::is_lawful::is_lawful;
 use city_model::object::Object;
 use city_model::object_type::{ObjectType, name, type_named};
+use city_model::text::Text;
 use city_txn::step::{Prepared, Step, TxnFault};
 use city_txn::txn_core::Core;
 use serde_json::Value;
 use std::alloc::Global;
+use std::fmt::Write;
 use std::test::Fail;
 
 fn core_over(alloc: Global, rows: &[Row]) -> Result<Core, Fail> {
@@ -47,19 +49,25 @@ fn command(alloc: Global, verb: &str, id: &str, other: &str) -> Result<Command, 
     Ok(Command::Put(at, body(alloc, ObjectType::LandUse, &json)?))
 }
 
+/// The name of a cause, and the id that it names.
+fn cause_words(cause: &Cause) -> (&'static str, &str) {
+    match cause {
+        Cause::NoObject(id) => ("NoObject ", id.as_str()),
+        Cause::TypeFixed(id) => ("TypeFixed ", id.as_str()),
+        Cause::HasChildren(id) => ("HasChildren ", id.as_str()),
+        Cause::Orphan(id) => ("Orphan ", id.as_str()),
+        Cause::WrongFamily => ("WrongFamily", ""),
+        Cause::AlreadyAttached => ("AlreadyAttached", ""),
+        Cause::NotAttached => ("NotAttached", ""),
+        Cause::ShortRing => ("ShortRing", ""),
+        Cause::SameTwice => ("SameTwice", ""),
+        Cause::OpenShell => ("OpenShell", ""),
+    }
+}
+
 fn cause_text(alloc: Global, cause: &Cause) -> Result<String, Fail> {
-    Ok(match cause {
-        Cause::NoObject(id) => format!(in alloc; "NoObject {id}")?,
-        Cause::TypeFixed(id) => format!(in alloc; "TypeFixed {id}")?,
-        Cause::HasChildren(id) => format!(in alloc; "HasChildren {id}")?,
-        Cause::Orphan(id) => format!(in alloc; "Orphan {id}")?,
-        Cause::WrongFamily => "WrongFamily".to_string(alloc)?,
-        Cause::AlreadyAttached => "AlreadyAttached".to_string(alloc)?,
-        Cause::NotAttached => "NotAttached".to_string(alloc)?,
-        Cause::ShortRing => "ShortRing".to_string(alloc)?,
-        Cause::SameTwice => "SameTwice".to_string(alloc)?,
-        Cause::OpenShell => "OpenShell".to_string(alloc)?,
-    })
+    let (name, id) = cause_words(cause);
+    Ok(format!(in alloc; "{name}{id}")?)
 }
 
 fn fault_text(alloc: Global, fault: TxnFault) -> Result<String, Fail> {
@@ -83,39 +91,53 @@ fn object_text(alloc: Global, object: &Object) -> Result<String, Fail> {
 }
 
 fn reply_text(alloc: Global, reply: &Reply) -> Result<String, Fail> {
-    match reply {
-        Reply::Found(object) => object_text(alloc, object),
-        Reply::Refused(cause) => cause_text(alloc, cause),
-        Reply::Absent => Ok("absent".to_string(alloc)?),
-        Reply::Added => Ok("added".to_string(alloc)?),
-        Reply::Replaced => Ok("replaced".to_string(alloc)?),
-        Reply::Deleted => Ok("deleted".to_string(alloc)?),
-        Reply::Attached => Ok("attached".to_string(alloc)?),
-        Reply::Detached => Ok("detached".to_string(alloc)?),
-        Reply::Committed | Reply::Aborted => Err(Fail::new("no reply of a command")),
-    }
+    let word = match reply {
+        Reply::Found(object) => return object_text(alloc, object),
+        Reply::Refused(cause) => return cause_text(alloc, cause),
+        Reply::Absent => "absent",
+        Reply::Added => "added",
+        Reply::Replaced => "replaced",
+        Reply::Deleted => "deleted",
+        Reply::Attached => "attached",
+        Reply::Detached => "detached",
+        Reply::Committed | Reply::Aborted => return Err(Fail::new("no reply of a command")),
+    };
+    Ok(word.to_string(alloc)?)
 }
 
-/// What a command is answered; `would_wait` must have foretold it.
-fn act(core: &mut Core, alloc: Global, stamp: u64, command: &Command) -> Result<String, Fail>
-    requires { is_end command.now ≡ false }
-{
-    let foretold = core.would_wait(stamp, command);
-    let step = match core.act(stamp, command) {
-        Err(fault) => return fault_text(alloc, fault),
-        Ok(step) => step,
-    };
-    if foretold != matches!(&step, Step::Wait) {
+/// What a step answers; `would_wait` must have foretold it.
+fn step_text(alloc: Global, foretold: bool, step: &Step) -> Result<String, Fail> {
+    if foretold != matches!(step, Step::Wait) {
         return Err(Fail::new("would_wait didn't foretell the answer"));
     }
     match step {
-        Step::Done(reply) => reply_text(alloc, &reply),
+        Step::Done(reply) => reply_text(alloc, reply),
         Step::Wait => Ok("wait".to_string(alloc)?),
         Step::Die => Ok("die".to_string(alloc)?),
     }
 }
 
-/// The ids that a commit sets and takes out, or why it is refused.
+fn act(core: &mut Core, alloc: Global, stamp: u64, command: &Command) -> Result<String, Fail>
+    requires { is_end command.now ≡ false }
+{
+    let foretold = core.would_wait(stamp, command);
+    match core.act(stamp, command) {
+        Err(fault) => fault_text(alloc, fault),
+        Ok(step) => step_text(alloc, foretold, &step),
+    }
+}
+
+/// The ids that a change sets and takes out.
+fn change_text(alloc: Global, change: &[(Text, Option<Object>)]) -> Result<String, Fail> {
+    let mut all = "committed".to_string(alloc)?;
+    for (id, object) in change {
+        all.push_str(if object.is_some() { " +" } else { " -" })?;
+        all.push_str(id.as_str())?;
+    }
+    Ok(all)
+}
+
+/// What a commit changes, or why it is refused.
 fn commit(core: &mut Core, alloc: Global, stamp: u64) -> Result<String, Fail> {
     if !core.is_open(stamp) {
         return fault_text(alloc, TxnFault::NotOpen(stamp));
@@ -125,12 +147,7 @@ fn commit(core: &mut Core, alloc: Global, stamp: u64) -> Result<String, Fail> {
         Ok(Prepared::Refused(cause)) => cause_text(alloc, &cause),
         Ok(Prepared::Ready(change)) => {
             core.commit(stamp);
-            let mut all = "committed".to_string(alloc)?;
-            for (id, object) in change.as_slice() {
-                all.push_str(if object.is_some() { " +" } else { " -" })?;
-                all.push_str(id.as_str())?;
-            }
-            Ok(all)
+            change_text(alloc, change.as_slice())
         }
     }
 }
@@ -156,35 +173,46 @@ fn answer(core: &mut Core, alloc: Global, turn: &Turn) -> Result<String, Fail> {
     }
 }
 
+/// Adds each id after its mark.
+fn push_ids(all: &mut String, mark: &str, ids: &[Text]) -> Result<(), Fail> {
+    for id in ids {
+        all.push_str(mark)?;
+        all.push_str(id.as_str())?;
+    }
+    Ok(())
+}
+
 /// The objects of a city: id, type, `<` and parents, `>` and children.
 fn outline(alloc: Global, city: &City) -> Result<String, Fail> {
     let mut all = String::new(alloc);
     for (id, object) in city.iter() {
-        all.push_str(id.as_str())?;
-        all.push_str(" ")?;
-        all.push_str(&object_text(alloc, object)?)?;
-        for parent in object.parents.as_slice() {
-            all.push_str(" <")?;
-            all.push_str(parent.as_str())?;
-        }
-        for child in object.children.as_slice() {
-            all.push_str(" >")?;
-            all.push_str(child.as_str())?;
-        }
+        let kind = object_text(alloc, object)?;
+        write!(all, "{id} {kind}")?;
+        push_ids(&mut all, " <", object.parents.as_slice())?;
+        push_ids(&mut all, " >", object.children.as_slice())?;
         all.push_str("; ")?;
     }
     Ok(all)
 }
 
+/// The first turn that isn't answered as wanted, and its answer.
+fn misplayed(core: &mut Core, alloc: Global, turns: &[Turn]) -> Result<Option<String>, Fail> {
+    for turn in turns {
+        let said = answer(core, alloc, turn)?;
+        let (stamp, verb, id, other, want) = *turn;
+        if said.as_str() != want {
+            let wrong = format!(in alloc; "{stamp} {verb} {id} {other}: {said}")?;
+            return Ok(Some(wrong));
+        }
+    }
+    Ok(None)
+}
+
 /// The city that the turns leave, or the first turn that isn't answered as wanted.
 pub fn played(alloc: Global, rows: &[Row], turns: &[Turn]) -> Result<String, Fail> {
     let mut core = core_over(alloc, rows)?;
-    for turn in turns {
-        let said = answer(&mut core, alloc, turn)?;
-        let (stamp, verb, id, other, want) = *turn;
-        if said.as_str() != want {
-            return Ok(format!(in alloc; "{stamp} {verb} {id} {other}: {said}")?);
-        }
+    if let Some(wrong) = misplayed(&mut core, alloc, turns)? {
+        return Ok(wrong);
     }
     match core.into_city() {
         Ok(city) => outline(alloc, &city),
