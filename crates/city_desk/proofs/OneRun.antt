@@ -12,7 +12,8 @@ use Rattle.city_doc.specs.Canonical.{city_text}
 use Rattle.city_doc.specs.Outputs.{IsOutput}
 use Rattle.city_doc.specs.Reports.{report_text}
 use Rattle.city_doc.proofs.OneValue.{one_city, one_list}
-use Rattle.cityed.specs.SerialRuns.{AreInTurn, IsSerialRun, had_memory, IsDecided}
+use Rattle.city_desk.specs.InTurn.{AreInTurn}
+use Rattle.city_desk.specs.SerialRuns.{IsSerialRun, had_memory, IsDecided}
 
 -- ---- ends in turn
 

@@ -3,11 +3,11 @@ use Rattle.city_doc.specs.Canonical.{city_text}
 use Rattle.city_doc.specs.Reports.{report_text}
 use Rattle.city_model.specs.declared.end.End.{End}
 use Rattle.city_model.specs.declared.frame.Frame.{Frame}
-use Rattle.cityed.specs.declared.fault.RunFault.{RunFault}
-use Rattle.cityed.specs.SerialRuns.{IsRunFault, fault_of_document, fault_of_scripts}
-use Rattle.cityed.proofs.OneRun.{decided}
-use Rattle.cityed.proofs.RunFaults.{of_error, document_refused, scripts_refused}
-use Rattle.cityed.proofs.run.run_serial.Goals as goal
+use Rattle.city_desk.specs.declared.fault.RunFault.{RunFault}
+use Rattle.city_desk.specs.RunFaults.{IsRunFault, fault_of_document, fault_of_scripts}
+use Rattle.city_desk.proofs.OneRun.{decided}
+use Rattle.city_desk.proofs.RunFaults.{of_error, document_refused, scripts_refused}
+use Rattle.city_desk.proofs.serial_run.run_serial.Goals as goal
 
 pub returns-clause-ran : goal.returns-clause-ran
 returns-clause-ran c =

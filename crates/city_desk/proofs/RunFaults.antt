@@ -6,8 +6,8 @@ use Rattle.city_doc.specs.declared.fault.ScriptFault.{ScriptFault}
 use Rattle.city_model.specs.CityMap.{CityValue}
 use Rattle.city_doc.specs.Documents.{IsAdmitted, DocumentFault}
 use Rattle.city_doc.specs.ScriptTexts.{ScriptTextFault}
-use Rattle.cityed.specs.declared.fault.RunFault.{RunFault}
-use Rattle.cityed.specs.SerialRuns.{IsRunFault, fault_of_document, fault_of_scripts}
+use Rattle.city_desk.specs.declared.fault.RunFault.{RunFault}
+use Rattle.city_desk.specs.RunFaults.{IsRunFault, fault_of_document, fault_of_scripts}
 
 document_fault : (document scripts : List ℕ) (f : ReadFault) → DocumentFault document f → IsRunFault document scripts (fault_of_document f)
 document_fault document scripts ReadFault.OutOfMemory fault = tt
