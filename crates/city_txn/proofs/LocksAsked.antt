@@ -1,5 +1,5 @@
 -- Locks asked for in turn: one, and more after them.
-use Rattle.std.proofs.Common.{◌≡◌, ◌≢◌, ◌⊎◌, inl, inr, ◌||◌, ℕ, ◌+◌, ◌<◌, List, [], ◌∷◌, ◌++◌, length, take, drop, get_or, Bool, true, false, Option, None, Some, is_some, Result, Ok, Err, refl, ap, sym, ◌∙◌, subst, append_assoc}
+use Rattle.std.proofs.Common.{◌≡◌, ◌≢◌, inl, inr, ◌||◌, ℕ, ◌+◌, ◌<◌, List, [], ◌∷◌, ◌++◌, length, take, drop, get_or, Bool, true, false, Option, None, is_some, Result, Ok, Err, refl, ap, sym, ◌∙◌, subst, append_assoc}
 use Rattle.std.specs.Prelude.{IfOk, OnOk, IsErr, option_map}
 use Rattle.std.proofs.Math.Nat.{ne_of_lt, ne_of_gt}
 use Rattle.std.proofs.lemmas.Result.{on_ok_weaker, IfOk-weaker}
@@ -16,7 +16,6 @@ use Rattle.city_locks.specs.Mode.{is_exclusive}
 use Rattle.city_locks.specs.Locks.{Locks, answer_of, mode_of, Lawful}
 use Rattle.city_locks.specs.WaitDie.{IsInConflict, IsWaitDie}
 use Rattle.city_model.specs.Standing.{AllHeld, Lock, covers, locked_ids, names, names_exclusively, exclusive_ids}
-use Rattle.city_model.proofs.IdLists.{bool_cases}
 use Rattle.city_txn.specs.CoreState.{held_in}
 use Rattle.city_txn.specs.Locking.{mode_for, go_on, first_answer, first_if, granted_before, MoreLocks, GainsFirst, HoldsLock, IsBlocked, Asked}
 use Rattle.city_txn.proofs.LocksGained.{Adds, no_more_locks, either, one_asked, asked_held, all_granted}

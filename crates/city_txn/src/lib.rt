@@ -2,6 +2,7 @@
 #![tactic(auto)]
 
 mod changing;
+mod ending;
 mod image;
 mod lock;
 mod perform;
