@@ -2,6 +2,7 @@
 #![tactic(auto)]
 
 mod changing;
+mod command_locks;
 mod ending;
 mod image;
 mod lock;
