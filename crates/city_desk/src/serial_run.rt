@@ -3,7 +3,6 @@ ghost use Rattle.std.specs.Prelude.{◌≡◌, [], IfOk, IfErr};
 ghost use Rattle.city_desk.specs.RunFaults.{IsRunFault};
 ghost use Rattle.city_desk.specs.SerialRuns.{IsSerialRun, IsDecided};
 
-use crate::desk::Finished;
 use crate::fault::RunFault;
 use crate::in_turn::run_each;
 use crate::output::{Output, output_bytes};
@@ -24,10 +23,10 @@ pub fn run_serial(alloc: Global, document: &[u8], scripts: &[u8]) -> Result<Outp
 {
     let city = read_city(alloc, document)?;
     let scripts = read_scripts(alloc, scripts)?;
-    let Finished { city, ends, shelf: _ } = run_each(alloc, city, scripts)?;
-    let bytes = output_bytes(alloc, &city, ends.as_slice())?;
+    let finished = run_each(alloc, city, scripts)?;
+    let bytes = output_bytes(alloc, &finished.city, finished.ends.as_slice())?;
     Ok(Output {
-        ends,
+        ends: finished.ends,
         bytes,
         seen: Vec::new(alloc),
     })

@@ -21,10 +21,10 @@ use Rattle.city_model.proofs.Ids.{same_id_true}
 use Rattle.city_model.proofs.IdLists.{bool_cases}
 use Rattle.city_txn.specs.declared.image.Image.{Image}
 use Rattle.city_txn.specs.declared.store.Store.TheInside.{Inside}
-use Rattle.city_txn.specs.Images.{seen_under, before_image, seen_by, committed_at, write_at, writer_of}
+use Rattle.city_txn.specs.Images.{seen_under, before_image, seen_by, committed_at, write_at}
 use Rattle.city_txn.specs.State.{write_of, own_or, committed, view}
 use Rattle.city_txn.specs.Changing.{or_else}
-use Rattle.city_txn.specs.InPlace.{with_some, made_by, image_at, state_of, is_writer, IsInPlace}
+use Rattle.city_txn.specs.InPlace.{with_some, made_by, image_at, state_of, IsInPlace}
 
 -- the test of a map's keys is that of numbers
 pub tied : (s t : ℕ) → is_at (nat_cmp s) t ≡ (s == t)

@@ -26,7 +26,7 @@ use Rattle.city_txn.specs.declared.store.Store.TheInside.{Inside}
 use Rattle.city_txn.specs.Images.{seen_under, written_at, write_at, writer_of}
 use Rattle.city_txn.specs.State.{Write, write_of, reservations_of, own_or, own_write, is_by}
 use Rattle.city_txn.specs.CoreState.{CoreState, committed, view}
-use Rattle.city_txn.specs.InPlace.{with_some, made_by, image_at, state_of, is_writer, IsInPlace}
+use Rattle.city_txn.specs.InPlace.{with_some, image_at, state_of, is_writer, IsInPlace}
 use Rattle.city_txn.specs.Changing.{or_else, objects_in, IsChangeOf}
 use Rattle.city_txn.proofs.AtOneId.{through, at_made, sorted_made, here, writes_is}
 

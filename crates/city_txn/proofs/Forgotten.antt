@@ -9,26 +9,36 @@ use Rattle.city_model.specs.CityMap.{has_id}
 use Rattle.city_model.proofs.IdLists.{bool_cases}
 use Rattle.city_txn.specs.declared.image.Image.{Image}
 use Rattle.city_txn.specs.declared.store.Store.TheInside.{Inside}
-use Rattle.city_txn.specs.Ending.{AreEnded}
-use Rattle.city_txn.specs.Images.{seen_under, seen_at, committed_at, write_at, writer_of}
-use Rattle.city_txn.specs.State.{reservations_of, is_open, is_reserved, own_or, committed, view, unless_by, Forgets}
+use Rattle.city_txn.specs.declared.ending.End.{End}
+use Rattle.city_txn.specs.declared.ending.End.TheVariants.{Commit, RollBack}
+use Rattle.city_txn.specs.Ending.{left_by, city_after, AreEnded}
+use Rattle.city_txn.specs.Images.{seen_under, committed_at, write_at, writer_of}
+use Rattle.city_txn.specs.State.{reservations_of, is_open, is_reserved, own_or, committed, unless_by, Forgets}
 use Rattle.city_txn.specs.InPlace.{image_at, state_of, is_writer, IsInPlace}
 use Rattle.city_txn.proofs.AtOneId.{tied, here, city_is, writes_is, view_is, own_seen, own_committed}
 
 -- ---- at one id, where x stands in the city
 
-commit_point : (s : ℕ) (x : Option Object) (i : Option Image) →
-    committed_at (if is_writer s (writer_of i) then seen_at x i else x) (if is_writer s (writer_of i) then None else i)
-    ≡ own_or s (write_at x i) (committed_at x i)
-commit_point s x None = refl
-commit_point s x (Some i) = bool_cases (i.by == s)
-    (λ e. ap (λ b. committed_at (if b then seen_under x i else x) (if b then None else Some i)) e ∙ sym (own_seen s x i e))
-    (λ e. ap (λ b. committed_at (if b then seen_under x i else x) (if b then None else Some i)) e ∙ sym (own_committed s x (committed_at x (Some i)) i e))
+-- what is committed there after the end
+abbrev committed_after : End → ℕ → Option Object → Option Image → Option Object
+committed_after Commit s x i = own_or s (write_at x i) (committed_at x i)
+committed_after RollBack s x i = committed_at x i
 
-roll_back_point : (b : Bool) (x : Option Object) (i : Option Image) →
-    committed_at (if b then committed_at x i else x) (if b then None else i) ≡ committed_at x i
+roll_back_point : (b : Bool) (x : Option Object) (i : Option Image) → committed_at (if b then committed_at x i else x) (if b then None else i) ≡ committed_at x i
 roll_back_point true x i = refl
 roll_back_point false x i = refl
+
+ended_point : (end : End) (s : ℕ) (x : Option Object) (i : Option Image) →
+    committed_at (if is_writer s (writer_of i) then left_by end x i else x) (if is_writer s (writer_of i) then None else i) ≡ committed_after end s x i
+ended_point Commit s x None = refl
+ended_point Commit s x (Some i) = bool_cases (i.by == s)
+    (λ e. rw e (sym (own_seen s x i e)))
+    (λ e. rw e (sym (own_committed s x (committed_at x (Some i)) i e)))
+ended_point RollBack s x i = roll_back_point (is_writer s (writer_of i)) x i
+
+city_after_is : (end : End) (a : Inside) → IsInPlace a → (s : ℕ) (q : List ℕ) → city_after end (state_of a) s q ≡ committed_after end s (here a q) (image_at a q)
+city_after_is Commit a k s q = view_is a k q s
+city_after_is RollBack a k s q = city_is a k q
 
 own_write : (s : ℕ) (x : Option Object) (i : Image) → (i.by == s) ≡ true → unless_by s (write_at x (Some i)) ≡ None
 own_write s x i e = bool_cases i.unwritten
@@ -68,15 +78,14 @@ others_stay s t (Some i) = bool_cases (i.by == s)
 
 -- ---- the whole
 
--- f says what stands in the city where an image of the stamp s was
 module _ (a b : Inside) (k : IsInPlace a) (s : ℕ) (ids : List (List ℕ)) (are : ids ≡ reservations_of a.reservations.entries s)
-    (f : Option Object → Option Image → Option Object) (ended : AreEnded f (has_id ids) a.city a.images b.city b.images)
+    (end : End) (ended : AreEnded end (has_id ids) a.city a.images b.city b.images)
     (reservations : (t : ℕ) → get nat_cmp b.reservations t ≡ (if is_at (nat_cmp s) t then None else get nat_cmp a.reservations t)) where
   mine : (q : List ℕ) → has_id ids q ≡ is_writer s (writer_of (image_at a q))
   mine q = ap (λ xs. has_id xs q) are ∙ k.listed s q
 
-  city_at : (q : List ℕ) → here b q ≡ (if is_writer s (writer_of (image_at a q)) then f (here a q) (image_at a q) else here a q)
-  city_at q = ended.city q ∙ ap (λ c. if c then f (here a q) (image_at a q) else here a q) (mine q)
+  city_at : (q : List ℕ) → here b q ≡ (if is_writer s (writer_of (image_at a q)) then left_by end (here a q) (image_at a q) else here a q)
+  city_at q = ended.city q ∙ ap (λ c. if c then left_by end (here a q) (image_at a q) else here a q) (mine q)
 
   images_at : (q : List ℕ) → image_at b q ≡ (if is_writer s (writer_of (image_at a q)) then None else image_at a q)
   images_at q = ended.images q ∙ ap (λ c. if c then None else image_at a q) (mine q)
@@ -100,7 +109,7 @@ module _ (a b : Inside) (k : IsInPlace a) (s : ℕ) (ids : List (List ℕ)) (are
   forgotten_in_place = record {
     has_slot = λ q h. bool_cases (has_id ids q)
         (λ e. absurd (false≢true (sym (ap is_some (ended.images q ∙ ap (λ c. if c then None else image_at a q) e)) ∙ h)))
-        (λ e. ap is_some (ended.city q ∙ ap (λ c. if c then f (here a q) (image_at a q) else here a q) e)
+        (λ e. ap is_some (ended.city q ∙ ap (λ c. if c then left_by end (here a q) (image_at a q) else here a q) e)
         ∙ k.has_slot q (sym (ap is_some (ended.images q ∙ ap (λ c. if c then None else image_at a q) e)) ∙ h));
     listed = λ t q. reserved_left t q ∙ ap (λ c. if s == t then false else c) (k.listed t q) ∙ others_stay s t (image_at a q)
         ∙ sym (ap (λ i. is_writer t (writer_of i)) (images_at q));
@@ -111,29 +120,16 @@ module _ (a b : Inside) (k : IsInPlace a) (s : ℕ) (ids : List (List ℕ)) (are
   forgets = record {
     frame = ended.frame;
     writes = λ q. writes_is b forgotten_in_place q ∙ ap (λ x. write_at x (image_at b q)) (city_at q)
-        ∙ ap (write_at (if is_writer s (writer_of (image_at a q)) then f (here a q) (image_at a q) else here a q)) (images_at q)
-        ∙ dropped_point s (here a q) (f (here a q) (image_at a q)) (image_at a q) ∙ sym (ap (unless_by s) (writes_is a k q));
+        ∙ ap (write_at (if is_writer s (writer_of (image_at a q)) then left_by end (here a q) (image_at a q) else here a q)) (images_at q)
+        ∙ dropped_point s (here a q) (left_by end (here a q) (image_at a q)) (image_at a q) ∙ sym (ap (unless_by s) (writes_is a k q));
     opened = open_left;
     reserved = reserved_left;
   }
 
-  committed_left : (q : List ℕ) → committed (state_of b) q
-      ≡ committed_at (if is_writer s (writer_of (image_at a q)) then f (here a q) (image_at a q) else here a q) (if is_writer s (writer_of (image_at a q)) then None else image_at a q)
-  committed_left q = city_is b forgotten_in_place q ∙ ap (λ x. committed_at x (image_at b q)) (city_at q)
-      ∙ ap (committed_at (if is_writer s (writer_of (image_at a q)) then f (here a q) (image_at a q) else here a q)) (images_at q)
+  ended_at : (q : List ℕ) → committed (state_of b) q ≡ city_after end (state_of a) s q
+  ended_at q = city_is b forgotten_in_place q ∙ ap (λ x. committed_at x (image_at b q)) (city_at q)
+      ∙ ap (committed_at (if is_writer s (writer_of (image_at a q)) then left_by end (here a q) (image_at a q) else here a q)) (images_at q)
+      ∙ ended_point end s (here a q) (image_at a q) ∙ sym (city_after_is end a k s q)
 
-  as_seen : ((x : Option Object) (i : Option Image) → f x i ≡ seen_at x i) → (q : List ℕ) → committed (state_of b) q ≡ view (state_of a) s q
-  as_seen is q = committed_left q
-      ∙ ap (λ y. committed_at (if is_writer s (writer_of (image_at a q)) then y else here a q) (if is_writer s (writer_of (image_at a q)) then None else image_at a q)) (is (here a q) (image_at a q))
-      ∙ commit_point s (here a q) (image_at a q) ∙ sym (view_is a k q s)
-
-  pub committed_city : ((x : Option Object) (i : Option Image) → f x i ≡ seen_at x i) → committed (state_of b) ≡ view (state_of a) s
-  committed_city is = λ j q. as_seen is q j
-
-  as_before : ((x : Option Object) (i : Option Image) → f x i ≡ committed_at x i) → (q : List ℕ) → committed (state_of b) q ≡ committed (state_of a) q
-  as_before is q = committed_left q
-      ∙ ap (λ y. committed_at (if is_writer s (writer_of (image_at a q)) then y else here a q) (if is_writer s (writer_of (image_at a q)) then None else image_at a q)) (is (here a q) (image_at a q))
-      ∙ roll_back_point (is_writer s (writer_of (image_at a q))) (here a q) (image_at a q) ∙ sym (city_is a k q)
-
-  pub rolled_back_city : ((x : Option Object) (i : Option Image) → f x i ≡ committed_at x i) → committed (state_of b) ≡ committed (state_of a)
-  rolled_back_city is = λ j q. as_before is q j
+  pub ended_city : committed (state_of b) ≡ city_after end (state_of a) s
+  ended_city = λ j q. ended_at q j

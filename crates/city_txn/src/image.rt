@@ -4,7 +4,7 @@ ghost use Rattle.std.specs.Ordering.{nat_cmp};
 ghost use Rattle.std.specs.Cmp.Lexicographic.{slice_cmp};
 ghost use Rattle.std.specs.BTreeMap.{get, IsOrdered};
 ghost use Rattle.city_model.specs.CityMap.{same_id};
-ghost use Rattle.city_txn.specs.Images.{is_deleted, seen_by, written_over, unwritten_image};
+ghost use Rattle.city_txn.specs.Images.{seen_by, written_over, unwritten_image};
 
 use city_model::OutOfMemory;
 use city_model::copied::Copied;
@@ -61,19 +61,6 @@ pub fn add(
     };
     images.insert(key, image)?;
     Ok(())
-}
-
-/// Takes out the image of the id, and says whether a placeholder holds its slot.
-pub fn forget(images: &mut Images, id: &Id) -> bool
-    ensures deleted { result ≡ is_deleted (get (slice_cmp nat_cmp) images.old id.now) }
-    ensures after { (q : List ℕ) → get (slice_cmp nat_cmp) images.new q
-        ≡ (if same_id id.now q then None else get (slice_cmp nat_cmp) images.old q) }
-    ensures ordered { IsOrdered (slice_cmp nat_cmp) images.new }
-{
-    match images.remove(id) {
-        Some(image) => image.deleted,
-        None => false,
-    }
 }
 
 /// Notes a write: what stood there goes into the image at the first one, and is dropped at a later

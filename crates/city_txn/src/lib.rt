@@ -2,6 +2,8 @@
 #![tactic(auto)]
 
 mod changing;
+mod command_locks;
+mod ending;
 mod image;
 mod lock;
 mod perform;

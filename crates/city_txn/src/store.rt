@@ -5,12 +5,13 @@ ghost use Rattle.std.specs.Cmp.Lexicographic.{slice_cmp};
 ghost use Rattle.std.specs.Map.{keys_of, lookup};
 ghost use Rattle.std.specs.List.Sorted.{IsStrictlySortedBy};
 ghost use Rattle.std.specs.BTreeMap.{get, is_at, IsOrdered};
-ghost use Rattle.city_model.specs.CityMap.{at, has_id, same_id, changed};
-ghost use Rattle.city_txn.specs.Ending.{AreEnded};
-ghost use Rattle.city_txn.specs.Images.{seen_at, committed_at, unwritten_image, written_over};
+ghost use Rattle.city_model.specs.CityMap.{at, same_id, changed};
+ghost use Rattle.city_txn.specs.Ending.{city_after};
+ghost use Rattle.city_txn.specs.Images.{unwritten_image, written_over};
 ghost use Rattle.city_txn.specs.State.{State, reservations_of, write_of, is_reserved, is_open, committed, view, own_write, SeesSame, Forgets};
 
 use crate::changing::change_of;
+use crate::ending::{End, end_each};
 use crate::image::{self, Image, Images};
 use crate::reservations::{self, Reservations};
 use crate::slot;
@@ -176,9 +177,7 @@ impl Store {
         ensures city { committed self.new ≡ view self.old stamp }
         ensures forgets { Forgets stamp self.old self.new }
     {
-        if let Some(ids) = self.reservations.remove(&stamp) {
-            commit_each(&mut self.city, &mut self.images, ids.as_slice());
-        }
+        self.end(stamp, End::Commit);
     }
 
     /// Takes back what the stamp wrote, and closes the stamp. It works through the ids that the
@@ -187,8 +186,16 @@ impl Store {
         ensures city { committed self.new ≡ committed self.old }
         ensures forgets { Forgets stamp self.old self.new }
     {
+        self.end(stamp, End::RollBack);
+    }
+
+    /// Ends at each id that the stamp has reserved, and closes the stamp. Takes no memory.
+    fn end(&mut self, stamp: u64, end: End)
+        ensures city { committed self.new ≡ city_after end self.old stamp }
+        ensures forgets { Forgets stamp self.old self.new }
+    {
         if let Some(ids) = self.reservations.remove(&stamp) {
-            roll_back_each(&mut self.city, &mut self.images, ids.as_slice());
+            end_each(&mut self.city, &mut self.images, end, ids.as_slice());
         }
     }
 }
@@ -214,7 +221,7 @@ fn add_listed(
 {
     image::add(images, alloc, stamp, id, deleted)?;
     let Ok(()) = reservations::list(reservations, alloc, stamp, id) else {
-        let _ = image::forget(images, id);
+        let _ = images.remove(id);
         return Err(OutOfMemory);
     };
     Ok(())
@@ -236,42 +243,5 @@ fn write(city: &mut City, images: &mut Images, id: Id, object: Object, deleted: 
             image::write_over(image, old, deleted);
         }
         None => unreachable!(),
-    }
-}
-
-/// Drops the images of the ids, and the placeholders that hold their slots.
-fn commit_each(city: &mut City, images: &mut Images, ids: &[Id])
-    ensures { AreEnded seen_at (has_id ids.now) city.old images.old city.new images.new }
-{
-    for id in ids {
-        commit_one(city, images, id);
-    }
-}
-
-/// Drops the image of the id, if there is one, and the placeholder, if one holds its slot.
-fn commit_one(city: &mut City, images: &mut Images, id: &Id)
-    ensures { AreEnded seen_at (same_id id.now) city.old images.old city.new images.new }
-{
-    let deleted = image::forget(images, id);
-    slot::clear(city, id, deleted);
-}
-
-/// Puts the images of the ids back.
-fn roll_back_each(city: &mut City, images: &mut Images, ids: &[Id])
-    requires { (q : List ℕ) → is_some (get (slice_cmp nat_cmp) images.old q) ≡ true → is_some (at city.old.1 q) ≡ true }
-    ensures { AreEnded committed_at (has_id ids.now) city.old images.old city.new images.new }
-{
-    for id in ids {
-        roll_back_one(city, images, id);
-    }
-}
-
-/// Puts the image of the id back, if there is one.
-fn roll_back_one(city: &mut City, images: &mut Images, id: &Id)
-    requires { is_some (get (slice_cmp nat_cmp) images.old id.now) ≡ true → is_some (at city.old.1 id.now) ≡ true }
-    ensures { AreEnded committed_at (same_id id.now) city.old images.old city.new images.new }
-{
-    if let Some((key, image)) = images.remove_entry(id) {
-        slot::give_back(city, key, image);
     }
 }

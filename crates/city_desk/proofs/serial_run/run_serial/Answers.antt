@@ -12,8 +12,8 @@ use Rattle.city_desk.proofs.serial_run.run_serial.Goals as goal
 pub returns-clause-ran : goal.returns-clause-ran
 returns-clause-ran c =
     let city = c.in_ok-city.city in
-    let left = c.run_each.new.city in
-    let run = c.in_ok-ends.ensures in
+    let run = c.in_ok-finished.ensures in
+    let left = c.in_ok-finished.finished.city in
     record {
       city = city;
       list = c.in_ok-scripts.scripts;
@@ -28,7 +28,7 @@ returns-clause-ran c =
       output = record {
         model = left.1;
         left = run.model;
-        text = c.in_ok-bytes.ensures ∙ ap (λ (es : List End). report_text es ++ city_text left ++ 10 ∷ []) c.as_slice.ensures ∙ ap (λ (f : Frame). report_text c.in_ok-ends.ends ++ city_text (f, left.1) ++ 10 ∷ []) run.frame;
+        text = c.in_ok-bytes.ensures ∙ ap (λ (es : List End). report_text es ++ city_text left ++ 10 ∷ []) c.as_slice.ensures ∙ ap (λ (f : Frame). report_text c.in_ok-finished.finished.ends ++ city_text (f, left.1) ++ 10 ∷ []) run.frame;
       };
     }
 
