@@ -15,7 +15,7 @@ use Rattle.city_model.proofs.IdLists.{bool_cases}
 use Rattle.city_model.proofs.FrameLaw.{frame}
 use Rattle.city_model.proofs.History as history
 use Rattle.city_locks.specs.declared.answer.Answer.{Answer}
-use Rattle.city_locks.specs.declared.answer.Answer.TheVariants.{Granted, Wait, Die}
+use Rattle.city_locks.specs.declared.answer.Answer.TheVariants.{Granted}
 use Rattle.city_locks.specs.declared.mode.Mode.{Mode}
 use Rattle.city_locks.specs.declared.mode.Mode.TheVariants.{Exclusive}
 use Rattle.city_locks.specs.Mode.{is_exclusive}
@@ -180,12 +180,9 @@ module _ (a : Inside) (k : IsCore a) {v : CoreState} (seen : core_state a ≡ v)
   asked_failed {E} e ask = stopped ask (Err OutOfMemory) (core_state locked) (gained ask) refl tt refl (λ n. ask.answered) tt ask.gains tt
 
   module _ {E : Type 0} {x : Answer} (ask : Asked {E = E} s (locks_of m c) (Ok x) a.locks ks) where
-    pub asked_wait : x ≡ Wait → Acted s c (Ok steps.Wait) v (core_state locked)
-    asked_wait e = stopped ask (Ok steps.Wait) (core_state locked) (gained ask) refl (sym (ap (λ b. step_of b (reply_in (core_state a) s c)) (sym ask.answer ∙ e))) tt
-        (λ n h. refl) (subst (IsBlocked (HoldsLock a.locks) s) ask.answer ask.blocked) ask.gains ask.held
-
-    pub asked_die : x ≡ Die → Acted s c (Ok steps.Die) v (core_state locked)
-    asked_die e = stopped ask (Ok steps.Die) (core_state locked) (gained ask) refl (sym (ap (λ b. step_of b (reply_in (core_state a) s c)) (sym ask.answer ∙ e))) tt
+    -- a lock isn't granted
+    pub asked_refused : (step : Step) → is_done (Ok step) ≡ false → step ≡ step_of x (reply_in (core_state a) s c) → Acted s c (Ok step) v (core_state locked)
+    asked_refused step idle is = stopped ask (Ok step) (core_state locked) (gained ask) idle (is ∙ ap (λ b. step_of b (reply_in (core_state a) s c)) ask.answer) tt
         (λ n h. refl) (subst (IsBlocked (HoldsLock a.locks) s) ask.answer ask.blocked) ask.gains ask.held
 
     -- ---- all locks are granted, and the command is done on the store

@@ -5,8 +5,7 @@ use Rattle.std.proofs.lemmas.Bool.{false≢true}
 use Rattle.std.proofs.lemmas.List.Folds.{list_any_more}
 use Rattle.city_model.specs.declared.object.Object.{Object}
 use Rattle.city_model.specs.CityMap.{CityValue, CityMap, at, same_id, has_id, changed}
-use Rattle.city_model.proofs.Ids.{same_id_true, same_id_back}
-use Rattle.city_model.proofs.IdLists.{bool_cases}
+use Rattle.city_model.proofs.Ids.{same_id_back, same_id_of_equal, by_id}
 use Rattle.city_txn.specs.declared.image.Image.{Image}
 use Rattle.city_txn.specs.declared.ending.End.{End}
 use Rattle.city_txn.specs.declared.ending.End.TheVariants.{Commit, RollBack}
@@ -37,9 +36,7 @@ gone_again false false i j k p q = q ∙ p
 
 -- what holds of an id holds of any that is the same
 at_that : (f : List ℕ → Option Object) (id q : List ℕ) (x : Option Object) → (if same_id id q then f id else x) ≡ (if same_id id q then f q else x)
-at_that f id q x = bool_cases (same_id id q)
-    (λ e. ap (λ r. if same_id id q then f r else x) (same_id_true id q e))
-    (λ e. ap (λ b. if b then f id else x) e ∙ sym (ap (λ b. if b then f q else x) e))
+at_that f id q x = by_id id q (λ is. ap (λ r. if same_id id q then f r else x) is) (λ apart. rw apart refl)
 
 -- ---- one id after another
 
@@ -104,6 +101,6 @@ idle_there end m id i e = unchanged m id (m id) refl ∙ ap (λ o. changed m id 
 -- an image that was added and taken out again
 pub added_and_forgotten : (i j k : List ℕ → Option Image) (id : List ℕ) (new : Image) → i id ≡ None → ((q : List ℕ) → j q ≡ (if same_id id q then Some new else i q)) →
     ((q : List ℕ) → k q ≡ (if same_id id q then None else j q)) → (q : List ℕ) → k q ≡ i q
-added_and_forgotten i j k id new none add forget q = forget q ∙ bool_cases (same_id id q)
-    (λ e. ap (λ b. if b then None else j q) e ∙ sym (ap i (sym (same_id_true id q e)) ∙ none))
-    (λ e. ap (λ b. if b then None else j q) e ∙ add q ∙ ap (λ b. if b then Some new else i q) e)
+added_and_forgotten i j k id new none add forget q = forget q ∙ by_id id q
+    (λ is. rw (same_id_of_equal id q is) (sym none ∙ ap i is))
+    (λ apart. rw apart (add q ∙ rw apart refl))

@@ -1,8 +1,10 @@
-use Rattle.std.proofs.Common.{◌∙◌, sym}
+use Rattle.std.proofs.Common.{◌∙◌, sym, ap, refl}
+use Rattle.city_txn.specs.declared.step.Step.TheVariants as steps
+use Rattle.city_txn.specs.Acting.{reply_in, step_of}
 use Rattle.city_txn.specs.Core.{core_state}
 use Rattle.city_txn.proofs.Ended.{sound_view}
 use Rattle.city_txn.proofs.CoreFields.{open_stored}
-use Rattle.city_txn.proofs.ActDone.{asked_core, asked_failed, asked_wait, asked_die, not_open_acted, alone_named, failed_core, failed_acted, performed_core, performed_acted}
+use Rattle.city_txn.proofs.ActDone.{asked_core, asked_failed, asked_refused, not_open_acted, alone_named, failed_core, failed_acted, performed_core, performed_acted}
 use Rattle.city_txn.proofs.txn_core.Core.act.Goals as goal
 
 pub returns-then-not-is_open : goal.returns-then-not-is_open
@@ -24,8 +26,8 @@ invariant_of-self-in-Wait c =
 
 pub returns-in-Wait : goal.returns-in-Wait
 returns-in-Wait c =
-    asked_wait c.self.inside c.self.invariant c.self.view_is c.args.stamp c.args.command.now (sym c.is_open.ensures.opened ∙ c.if-not-is_open.false) c.lock.new.locks
-    c.in-Ok.ensures c.in-Wait.is
+    asked_refused c.self.inside c.self.invariant c.self.view_is c.args.stamp c.args.command.now (sym c.is_open.ensures.opened ∙ c.if-not-is_open.false) c.lock.new.locks
+    c.in-Ok.ensures steps.Wait refl (ap (λ b. step_of b (reply_in (core_state c.self.inside) c.args.stamp c.args.command.now)) (sym c.in-Wait.is))
 
 pub invariant_of-self-in-Die : goal.invariant_of-self-in-Die
 invariant_of-self-in-Die c =
@@ -33,8 +35,8 @@ invariant_of-self-in-Die c =
 
 pub returns-in-Die : goal.returns-in-Die
 returns-in-Die c =
-    asked_die c.self.inside c.self.invariant c.self.view_is c.args.stamp c.args.command.now (sym c.is_open.ensures.opened ∙ c.if-not-is_open.false) c.lock.new.locks
-    c.in-Ok.ensures c.in-Die.is
+    asked_refused c.self.inside c.self.invariant c.self.view_is c.args.stamp c.args.command.now (sym c.is_open.ensures.opened ∙ c.if-not-is_open.false) c.lock.new.locks
+    c.in-Ok.ensures steps.Die refl (ap (λ b. step_of b (reply_in (core_state c.self.inside) c.args.stamp c.args.command.now)) (sym c.in-Die.is))
 
 pub perform-requires-clause-opened : goal.perform-requires-clause-opened
 perform-requires-clause-opened c = open_stored c.self.inside c.self.view_is c.args.stamp ∙ sym c.is_open.ensures.opened ∙ c.if-not-is_open.false
