@@ -1,9 +1,6 @@
 -- Ids worked through one after another, each the same way.
 use Rattle.std.proofs.Common.{◌≡◌, ℕ, ◌+◌, ◌<◌, List, [], length, take, get_or, Bool, true, false, ◌||◌, Option, None, Some, is_some, refl, ap, sym, ◌∙◌}
 use Rattle.std.specs.Prelude.{if◌then◌else◌}
-use Rattle.std.specs.Ordering.{nat_cmp}
-use Rattle.std.specs.Cmp.Lexicographic.{slice_cmp}
-use Rattle.std.specs.BTreeMap.{BTreeMap, get, IsOrdered}
 use Rattle.std.proofs.lemmas.Bool.{false≢true}
 use Rattle.std.proofs.lemmas.List.Folds.{list_any_more}
 use Rattle.city_model.specs.declared.object.Object.{Object}
@@ -16,13 +13,11 @@ use Rattle.city_txn.specs.declared.ending.End.{End}
 use Rattle.city_txn.specs.declared.ending.End.TheVariants.{Commit, RollBack}
 use Rattle.city_txn.specs.Ending.{left_by, AreEnded}
 use Rattle.city_txn.specs.Images.{seen_under, before_image, seen_at, is_deleted}
+use Rattle.city_txn.specs.UndoState.{UndoState, image_at}
 
 -- one more id of a list
 pub has_more : (ids : List (List ℕ)) (n : ℕ) (id q : List ℕ) → n < length ids → id ≡ get_or ids n id → has_id (take (n + 1) ids) q ≡ (has_id (take n ids) q || same_id id q)
 has_more ids n id q lt is = list_any_more (same_id q) ids n id lt ∙ ap (λ d. has_id (take n ids) q || same_id q d) (sym is) ∙ ap (λ b. has_id (take n ids) q || b) (same_id_back q id)
-
-abbrev image : BTreeMap (List ℕ) Image → List ℕ → Option Image
-image images q = get (slice_cmp nat_cmp) images q
 
 -- ---- at one id
 
@@ -52,19 +47,19 @@ idle : (end : End) (x : Option Object) → left_by end x None ≡ x
 idle Commit x = refl
 idle RollBack x = refl
 
-pub none_ended : (end : End) (a : CityValue) (i : BTreeMap (List ℕ) Image) → AreEnded end (has_id []) a i a i
-none_ended end a i = record { frame = refl; city = λ q. refl; images = λ q. refl; images_ordered = λ o. o }
+pub none_ended : (end : End) (a : CityValue) (u : UndoState) → AreEnded end (has_id []) a u a u
+none_ended end a u = record { frame = refl; city = λ q. refl; images = λ q. refl; reservations = refl }
 
-pub one_more_ended : (end : End) (a b c : CityValue) (i j k : BTreeMap (List ℕ) Image) (ids : List (List ℕ)) (n : ℕ) (id : List ℕ) →
-    n < length ids → id ≡ get_or ids n id → AreEnded end (has_id (take n ids)) a i b j → AreEnded end (same_id id) b j c k → AreEnded end (has_id (take (n + 1) ids)) a i c k
-one_more_ended end a b c i j k ids n id lt is before one =
+pub one_more_ended : (end : End) (a b c : CityValue) (u v w : UndoState) (ids : List (List ℕ)) (n : ℕ) (id : List ℕ) →
+    n < length ids → id ≡ get_or ids n id → AreEnded end (has_id (take n ids)) a u b v → AreEnded end (same_id id) b v c w → AreEnded end (has_id (take (n + 1) ids)) a u c w
+one_more_ended end a b c u v w ids n id lt is before one =
     let more : (q : List ℕ) → has_id (take (n + 1) ids) q ≡ (has_id (take n ids) q || same_id id q) = λ q. has_more ids n id q lt is in
     record {
       frame = one.frame ∙ before.frame;
-      city = λ q. rw (more q) (ended_again (left_by end) (idle end) (has_id (take n ids) q) (same_id id q) (at a.1 q) (at b.1 q) (at c.1 q) (image i q) (image j q)
+      city = λ q. rw (more q) (ended_again (left_by end) (idle end) (has_id (take n ids) q) (same_id id q) (at a.1 q) (at b.1 q) (at c.1 q) (image_at u q) (image_at v q)
           (before.city q) (before.images q) (one.city q));
-      images = λ q. rw (more q) (gone_again (has_id (take n ids) q) (same_id id q) (image i q) (image j q) (image k q) (before.images q) (one.images q));
-      images_ordered = λ o. one.images_ordered (before.images_ordered o);
+      images = λ q. rw (more q) (gone_again (has_id (take n ids) q) (same_id id q) (image_at u q) (image_at v q) (image_at w q) (before.images q) (one.images q));
+      reservations = one.reservations ∙ before.reservations;
     }
 
 -- an image that is left is of an id in the city
@@ -102,13 +97,13 @@ pub cleared_before : (m : CityMap) (id : List ℕ) (i : Image) → i.unwritten �
 cleared_before m id i unwritten = cleared_seen m id (Some i) ∙ ap (λ o. changed m id o) (sym (ap (λ b. if b then seen_under (m id) i else i.before) unwritten))
 
 -- ended at one id, whether it has an image or not
-pub one_ended : (end : End) (a b : CityValue) (i j : BTreeMap (List ℕ) Image) (id : List ℕ) → b.0 ≡ a.0 → at b.1 ≡ changed (at a.1) id (left_by end (at a.1 id) (image i id)) →
-    ((q : List ℕ) → image j q ≡ (if same_id id q then None else image i q)) → IsOrdered (slice_cmp nat_cmp) j → AreEnded end (same_id id) a i b j
-one_ended end a b i j id frame after gone ordered = record {
+pub one_ended : (end : End) (a b : CityValue) (u v : UndoState) (id : List ℕ) → b.0 ≡ a.0 → at b.1 ≡ changed (at a.1) id (left_by end (at a.1 id) (image_at u id)) →
+    ((q : List ℕ) → image_at v q ≡ (if same_id id q then None else image_at u q)) → v.reservations ≡ u.reservations → AreEnded end (same_id id) a u b v
+one_ended end a b u v id frame after gone reservations = record {
   frame = frame;
-  city = λ q. ap (λ m. m q) after ∙ at_that (λ r. left_by end (at a.1 r) (image i r)) id q (at a.1 q);
+  city = λ q. ap (λ m. m q) after ∙ at_that (λ r. left_by end (at a.1 r) (image_at u r)) id q (at a.1 q);
   images = gone;
-  images_ordered = λ o. ordered;
+  reservations = reservations;
 }
 
 -- no image: all stays
