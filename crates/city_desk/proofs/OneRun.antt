@@ -31,7 +31,9 @@ one_output city list ends bytes written h k =
     k.text ∙ ap (λ (m : Objects). report_text ends ++ city_text (city.0, m) ++ 10 ∷ []) same ∙ sym h.text
 
 pub decided : (document scripts : List ℕ) (ends : List End) (bytes : List ℕ) → IsSerialRun document scripts ends bytes → IsDecided document scripts ends bytes
-decided document scripts ends bytes h had others written k too =
+decided document scripts ends bytes serial_run had others written other too =
+    let h = serial_run.run in
+    let k = other.run in
     let city : k.city ≡ h.city = one_city document k.city h.city k.stands_for_city h.stands_for_city in
     let list : k.list ≡ h.list = one_list scripts k.list h.list k.stands_for_scripts h.stands_for_scripts in
     let fits : Fits h.list (at h.city.1) others =
@@ -39,5 +41,5 @@ decided document scripts ends bytes h had others written k too =
     let output : IsOutput h.city h.list others written =
     subst (λ (c : CityValue). IsOutput c h.list others written) city (subst (λ (l : List Scripted). IsOutput k.city l others written) list k.output) in
     let same : others ≡ ends =
-    serial_ends_are_unique h.list (at h.city.1) others ends (k.each_once ∙ ap length list) h.each_once (serial 0 others k.in_turn too) (serial 0 ends h.in_turn had) fits h.fits in
+    serial_ends_are_unique h.list (at h.city.1) others ends (k.each_once ∙ ap length list) h.each_once (serial 0 others other.in_turn too) (serial 0 ends serial_run.in_turn had) fits h.fits in
     (same, one_output h.city h.list ends bytes written h.output (subst (λ (es : List End). IsOutput h.city h.list es written) same output))

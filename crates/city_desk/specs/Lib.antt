@@ -8,4 +8,5 @@ pub mod Room
 pub mod RunFaults
 pub mod Serial
 pub mod SerialRuns
+pub mod TextRuns
 pub mod Turning

@@ -1,6 +1,6 @@
 //! Runs the scripts of a text on the city of a document, one after the other.
 ghost use Rattle.std.specs.Prelude.{◌≡◌, [], IfOk, IfErr};
-ghost use Rattle.city_desk.specs.RunFaults.{IsRunFault};
+ghost use Rattle.city_desk.specs.RunFaults.{IsSerialFault};
 ghost use Rattle.city_desk.specs.SerialRuns.{IsSerialRun, IsDecided};
 
 use crate::fault::RunFault;
@@ -19,7 +19,7 @@ pub fn run_serial(alloc: Global, document: &[u8], scripts: &[u8]) -> Result<Outp
     ensures ran { IfOk result (λ o. IsSerialRun document.now scripts.now o.ends o.bytes.items) }
     ensures decided { IfOk result (λ o. IsDecided document.now scripts.now o.ends o.bytes.items) }
     ensures seen { IfOk result (λ o. o.seen.items ≡ []) }
-    ensures fault { IfErr result (λ f. IsRunFault document.now scripts.now f) }
+    ensures fault { IfErr result (λ f. IsSerialFault document.now scripts.now f) }
 {
     let city = read_city(alloc, document)?;
     let scripts = read_scripts(alloc, scripts)?;

@@ -1,12 +1,12 @@
 -- What a store's value has at an id, from what its city and its images have there.
-use Rattle.std.proofs.Common.{◌≡◌, ◌==◌, ℕ, List, [], ◌∷◌, Bool, true, false, not, ◌&&◌, Option, None, Some, is_some, Less, refl, ap, sym, ◌∙◌}
+use Rattle.std.proofs.Common.{◌≡◌, ◌==◌, ℕ, List, [], ◌∷◌, Bool, true, false, Option, None, Some, is_some, Less, refl, ap, sym, ◌∙◌}
 use Rattle.std.specs.Prelude.{if◌then◌else◌}
 use Rattle.std.specs.Map.{lookup, keys_of}
 use Rattle.std.specs.Cmp.{unsigned_tied, eq_by_cmp_equiv}
 use Rattle.std.specs.Ordering.{nat_cmp, eq_by_cmp}
 use Rattle.std.specs.Cmp.Lexicographic.{slice_cmp}
 use Rattle.std.specs.BTreeMap.{is_at}
-use Rattle.std.specs.FinMap.{entries, from_sorted}
+use Rattle.std.specs.FinMap.{entries, get, from_sorted}
 use Rattle.std.specs.List.{AllByRecursion}
 use Rattle.std.specs.List.Sorted.{IsStrictlySortedBy}
 use Rattle.std.proofs.lemmas.Bool.{false≢true}
@@ -15,16 +15,18 @@ use Rattle.std.proofs.lemmas.Map.{lookup-none}
 use Rattle.std.proofs.lemmas.Map.Keys.{IsDistinct-from_sorted, sorted_tail}
 use Rattle.std.proofs.lemmas.Map.Entries.{none_past_head}
 use Rattle.city_model.specs.declared.object.Object.{Object}
-use Rattle.city_model.specs.CityMap.{Entries, Objects, at, same_id}
+use Rattle.city_model.specs.CityMap.{Entries, Objects, at, has_id, same_id}
 use Rattle.city_model.proofs.Objects.{at_entries, entries_ascend, at_sorted, same_objects}
-use Rattle.city_model.proofs.Ids.{same_id_true}
+use Rattle.city_model.proofs.Ids.{same_id_of_equal, by_id}
 use Rattle.city_model.proofs.IdLists.{bool_cases}
 use Rattle.city_txn.specs.declared.image.Image.{Image}
 use Rattle.city_txn.specs.declared.store.Store.TheInside.{Inside}
-use Rattle.city_txn.specs.Images.{seen_under, before_image, seen_by, committed_at, write_at}
+use Rattle.city_txn.specs.Images.{seen_under, seen_by, committed_at, write_at, writer_of}
 use Rattle.city_txn.specs.State.{write_of, own_or, committed, view}
 use Rattle.city_txn.specs.Changing.{or_else}
-use Rattle.city_txn.specs.InPlace.{with_some, made_by, image_at, state_of, IsInPlace}
+use Rattle.city_txn.specs.InPlace.{with_some, made_by, state_of, is_writer, IsInPlace}
+use Rattle.city_txn.specs.UndoState.{Images, image_at, reservations_of}
+use Rattle.city_txn.proofs.ImagesHeld.{images_ascend, image_listed}
 
 -- the test of a map's keys is that of numbers
 pub tied : (s t : ℕ) → is_at (nat_cmp s) t ≡ (s == t)
@@ -53,17 +55,13 @@ at_first id (Some y) es q = refl
 pub at_made : {X Y : Type 0} (f : List ℕ → X → Option Y) (es : List (List ℕ × X)) (q : List ℕ) → IsStrictlySortedBy (slice_cmp nat_cmp) (keys_of es) →
     lookup (is_at (slice_cmp nat_cmp q)) (made_by f es) ≡ through (f q) (lookup (is_at (slice_cmp nat_cmp q)) es)
 at_made f [] q s = refl
-at_made f (e ∷ es) q s = at_first e.0 (f e.0 e.1) (made_by f es) q ∙ bool_cases (same_id q e.0)
-    (λ t. let none : lookup (is_at (slice_cmp nat_cmp q)) es ≡ None =
+at_made f (e ∷ es) q s = at_first e.0 (f e.0 e.1) (made_by f es) q ∙ by_id q e.0
+    (λ is. let t : same_id q e.0 ≡ true = same_id_of_equal q e.0 is in
+    let none : lookup (is_at (slice_cmp nat_cmp q)) es ≡ None =
     lookup-none (is_at (slice_cmp nat_cmp q)) es (none_past_head {eq = eq_by_cmp (slice_cmp nat_cmp)} (eq_by_cmp_equiv nat_list_cmp_total) q e es (IsDistinct-from_sorted (slice_cmp nat_cmp) (keys_of (e ∷ es)) s) t) in
     let rest : lookup (is_at (slice_cmp nat_cmp q)) (made_by f es) ≡ None = at_made f es q (sorted_tail (slice_cmp nat_cmp) e.0 (keys_of es) s) ∙ ap (through (f q)) none in
-    ap (λ b. if b then or_else (f e.0 e.1) (lookup (is_at (slice_cmp nat_cmp q)) (made_by f es)) else lookup (is_at (slice_cmp nat_cmp q)) (made_by f es)) t
-    ∙ ap (or_else (f e.0 e.1)) rest ∙ or_none (f e.0 e.1)
-    ∙ ap (λ k. f k e.1) (sym (same_id_true q e.0 t))
-    ∙ sym (ap (λ b. through (f q) (if b then Some e.1 else lookup (is_at (slice_cmp nat_cmp q)) es)) t))
-    (λ t. ap (λ b. if b then or_else (f e.0 e.1) (lookup (is_at (slice_cmp nat_cmp q)) (made_by f es)) else lookup (is_at (slice_cmp nat_cmp q)) (made_by f es)) t
-    ∙ at_made f es q (sorted_tail (slice_cmp nat_cmp) e.0 (keys_of es) s)
-    ∙ sym (ap (λ b. through (f q) (if b then Some e.1 else lookup (is_at (slice_cmp nat_cmp q)) es)) t))
+    rw (t, rest) (or_none (f e.0 e.1) ∙ ap (λ k. f k e.1) (sym is)))
+    (λ apart. rw apart (at_made f es q (sorted_tail (slice_cmp nat_cmp) e.0 (keys_of es) s)))
 
 -- and ascend where those do
 above_step : {Y : Type 0} (k id : List ℕ) (y : Option Y) (es : List (List ℕ × Y)) → slice_cmp nat_cmp k id ≡ Less → AllByRecursion (λ j. slice_cmp nat_cmp k j ≡ Less) (keys_of es) →
@@ -103,42 +101,33 @@ abbrev pub here : Inside → List ℕ → Option Object
 here a q = at a.city.1 q
 
 module _ (a : Inside) (k : IsInPlace a) (q : List ℕ) where
-  pub city_is : committed (state_of a) q ≡ committed_at (here a q) (image_at a q)
+  pub city_is : committed (state_of a) q ≡ committed_at (here a q) (image_at a.undo q)
   city_is =
-      ap (λ f. f q) (at_sorted (made_by (λ r o. committed_at (Some o) (image_at a r)) (entries a.city.1)) (sorted_made (λ r o. committed_at (Some o) (image_at a r)) (entries a.city.1) (entries_ascend a.city.1)))
-      ∙ at_made (λ r o. committed_at (Some o) (image_at a r)) (entries a.city.1) q (entries_ascend a.city.1)
-      ∙ ap (λ f. through (λ o. committed_at (Some o) (image_at a q)) (f q)) (sym (at_entries a.city.1))
-      ∙ committed_point (here a q) (image_at a q) (k.has_slot q)
+      ap (λ f. f q) (at_sorted (made_by (λ r o. committed_at (Some o) (image_at a.undo r)) (entries a.city.1)) (sorted_made (λ r o. committed_at (Some o) (image_at a.undo r)) (entries a.city.1) (entries_ascend a.city.1)))
+      ∙ at_made (λ r o. committed_at (Some o) (image_at a.undo r)) (entries a.city.1) q (entries_ascend a.city.1)
+      ∙ ap (λ f. through (λ o. committed_at (Some o) (image_at a.undo q)) (f q)) (sym (at_entries a.city.1))
+      ∙ committed_point (here a q) (image_at a.undo q) (k.has_slot q)
 
-  pub writes_is : write_of (state_of a).writes q ≡ write_at (here a q) (image_at a q)
-  writes_is = at_made (λ r i. write_at (here a r) (Some i)) a.images.entries q k.images_ordered ∙ write_point (here a q) (image_at a q)
+  pub writes_is : write_of (state_of a).writes q ≡ write_at (here a q) (image_at a.undo q)
+  writes_is = at_made (λ r i. write_at (here a r) (Some i)) (entries a.undo.images) q (images_ascend a.undo.images)
+      ∙ ap (through (λ i. write_at (here a q) (Some i))) (sym (image_listed a.undo.images q)) ∙ write_point (here a q) (image_at a.undo q)
 
-  pub view_is : (s : ℕ) → view (state_of a) s q ≡ own_or s (write_at (here a q) (image_at a q)) (committed_at (here a q) (image_at a q))
-  view_is s = ap (λ w. own_or s w (committed (state_of a) q)) writes_is ∙ ap (own_or s (write_at (here a q) (image_at a q))) city_is
+  pub view_is : (s : ℕ) → view (state_of a) s q ≡ own_or s (write_at (here a q) (image_at a.undo q)) (committed_at (here a q) (image_at a.undo q))
+  view_is s = ap (λ w. own_or s w (committed (state_of a) q)) writes_is ∙ ap (own_or s (write_at (here a q) (image_at a.undo q))) city_is
 
 -- ---- what a transaction sees, from its image
 
 pub own_seen : (s : ℕ) (x : Option Object) (i : Image) → (i.by == s) ≡ true → own_or s (write_at x (Some i)) (committed_at x (Some i)) ≡ seen_under x i
-own_seen s x i e = bool_cases i.unwritten
-    (λ f. ap (λ b. own_or s (if b then None else Some (i.by, seen_under x i)) (if b then seen_under x i else i.before)) f)
-    (λ f. ap (λ b. own_or s (if b then None else Some (i.by, seen_under x i)) (if b then seen_under x i else i.before)) f
-    ∙ ap (λ b. if b then seen_under x i else i.before) e)
+own_seen s x i e = bool_cases i.unwritten (λ f. rw f refl) (λ f. rw (f, e) refl)
 
 -- the write of another
 pub own_committed : (s : ℕ) (x o : Option Object) (i : Image) → (i.by == s) ≡ false → own_or s (write_at x (Some i)) o ≡ o
-own_committed s x o i e = bool_cases i.unwritten
-    (λ f. ap (λ b. own_or s (if b then None else Some (i.by, seen_under x i)) o) f)
-    (λ f. ap (λ b. own_or s (if b then None else Some (i.by, seen_under x i)) o) f ∙ ap (λ b. if b then seen_under x i else o) e)
+own_committed s x o i e = bool_cases i.unwritten (λ f. rw f refl) (λ f. rw (f, e) refl)
 
 pub seen_point : (s : ℕ) (x : Option Object) (i : Image) → own_or s (write_at x (Some i)) (committed_at x (Some i)) ≡ seen_by s x i
 seen_point s x i = bool_cases (i.by == s)
-    (λ e. own_seen s x i e ∙ sym (ap (λ b. if not b && not i.unwritten then i.before else seen_under x i) e))
-    (λ e. own_committed s x (committed_at x (Some i)) i e ∙ before_seen x i ∙ sym (ap (λ b. if not b && not i.unwritten then i.before else seen_under x i) e))
-  where
-    before_seen : (x : Option Object) (i : Image) → before_image x i ≡ (if not i.unwritten then i.before else seen_under x i)
-    before_seen x i = bool_cases i.unwritten
-        (λ f. ap (λ b. if b then seen_under x i else i.before) f ∙ sym (ap (λ b. if not b then i.before else seen_under x i) f))
-        (λ f. ap (λ b. if b then seen_under x i else i.before) f ∙ sym (ap (λ b. if not b then i.before else seen_under x i) f))
+    (λ e. bool_cases i.unwritten (λ f. rw (f, e) refl) (λ f. rw (f, e) refl))
+    (λ e. bool_cases i.unwritten (λ f. rw (f, e) refl) (λ f. rw (f, e) refl))
 
 -- ---- a new store
 
@@ -151,10 +140,19 @@ pub all_there : (objects : Objects) → from_sorted (made_by (λ r o. Some o) (e
 all_there objects = ap (λ (es : Entries). from_sorted es) (all_made (entries objects))
     ∙ same_objects (from_sorted (entries objects)) objects (at_sorted (entries objects) (entries_ascend objects) ∙ sym (at_entries objects))
 
-pub new_state : (a : Inside) → a.images.entries ≡ [] → a.reservations.entries ≡ [] → state_of a ≡ record { frame = a.city.0; city = a.city.1; writes = []; opened = [] }
+no_image_listed : (images : Images) → entries images ≡ [] → (q : List ℕ) → get images q ≡ None
+no_image_listed images none q = image_listed images q ∙ ap (λ is. lookup (is_at (slice_cmp nat_cmp q)) is) none
+
+pub new_state : (a : Inside) → entries a.undo.images ≡ [] → a.undo.reservations ≡ [] → state_of a ≡ record { frame = a.city.0; city = a.city.1; writes = []; opened = [] }
 new_state a none shut i = record {
   frame = a.city.0;
-  city = (ap (λ (is : List (List ℕ × Image)). from_sorted (made_by (λ r o. committed_at (Some o) (lookup (is_at (slice_cmp nat_cmp r)) is)) (entries a.city.1))) none ∙ all_there a.city.1) i;
+  city = ((λ j. from_sorted (made_by (λ r o. committed_at (Some o) (no_image_listed a.undo.images none r j)) (entries a.city.1))) ∙ all_there a.city.1) i;
   writes = ap (λ (is : List (List ℕ × Image)). made_by (λ r j. write_at (here a r) (Some j)) is) none i;
   opened = shut i;
+}
+
+pub new_in_place : (a : Inside) → entries a.undo.images ≡ [] → a.undo.reservations ≡ [] → IsInPlace a
+new_in_place a none shut = record {
+  has_slot = λ id h. absurd (false≢true (sym (ap is_some (no_image_listed a.undo.images none id)) ∙ h));
+  listed = λ s id. ap (λ r. has_id (reservations_of r s) id) shut ∙ sym (ap (λ i. is_writer s (writer_of i)) (no_image_listed a.undo.images none id));
 }

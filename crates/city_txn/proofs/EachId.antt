@@ -1,28 +1,22 @@
 -- Ids worked through one after another, each the same way.
 use Rattle.std.proofs.Common.{◌≡◌, ℕ, ◌+◌, ◌<◌, List, [], length, take, get_or, Bool, true, false, ◌||◌, Option, None, Some, is_some, refl, ap, sym, ◌∙◌}
 use Rattle.std.specs.Prelude.{if◌then◌else◌}
-use Rattle.std.specs.Ordering.{nat_cmp}
-use Rattle.std.specs.Cmp.Lexicographic.{slice_cmp}
-use Rattle.std.specs.BTreeMap.{BTreeMap, get, IsOrdered}
 use Rattle.std.proofs.lemmas.Bool.{false≢true}
 use Rattle.std.proofs.lemmas.List.Folds.{list_any_more}
 use Rattle.city_model.specs.declared.object.Object.{Object}
 use Rattle.city_model.specs.CityMap.{CityValue, CityMap, at, same_id, has_id, changed}
-use Rattle.std.proofs.lemmas.Map.{update_other, update_same}
-use Rattle.city_model.proofs.Ids.{same_id_true, same_id_back, same_id_of_equal, by_id}
-use Rattle.city_model.proofs.IdLists.{bool_cases}
+use Rattle.city_model.proofs.Ids.{same_id_back, same_id_of_equal, by_id}
 use Rattle.city_txn.specs.declared.image.Image.{Image}
 use Rattle.city_txn.specs.declared.ending.End.{End}
 use Rattle.city_txn.specs.declared.ending.End.TheVariants.{Commit, RollBack}
 use Rattle.city_txn.specs.Ending.{left_by, AreEnded}
 use Rattle.city_txn.specs.Images.{seen_under, before_image, seen_at, is_deleted}
+use Rattle.city_txn.specs.UndoState.{UndoState, image_at}
+use Rattle.city_txn.proofs.Slots.{unchanged}
 
 -- one more id of a list
 pub has_more : (ids : List (List ℕ)) (n : ℕ) (id q : List ℕ) → n < length ids → id ≡ get_or ids n id → has_id (take (n + 1) ids) q ≡ (has_id (take n ids) q || same_id id q)
 has_more ids n id q lt is = list_any_more (same_id q) ids n id lt ∙ ap (λ d. has_id (take n ids) q || same_id q d) (sym is) ∙ ap (λ b. has_id (take n ids) q || b) (same_id_back q id)
-
-abbrev image : BTreeMap (List ℕ) Image → List ℕ → Option Image
-image images q = get (slice_cmp nat_cmp) images q
 
 -- ---- at one id
 
@@ -42,9 +36,7 @@ gone_again false false i j k p q = q ∙ p
 
 -- what holds of an id holds of any that is the same
 at_that : (f : List ℕ → Option Object) (id q : List ℕ) (x : Option Object) → (if same_id id q then f id else x) ≡ (if same_id id q then f q else x)
-at_that f id q x = bool_cases (same_id id q)
-    (λ e. ap (λ r. if same_id id q then f r else x) (same_id_true id q e))
-    (λ e. ap (λ b. if b then f id else x) e ∙ sym (ap (λ b. if b then f q else x) e))
+at_that f id q x = by_id id q (λ is. ap (λ r. if same_id id q then f r else x) is) (λ apart. rw apart refl)
 
 -- ---- one id after another
 
@@ -52,19 +44,19 @@ idle : (end : End) (x : Option Object) → left_by end x None ≡ x
 idle Commit x = refl
 idle RollBack x = refl
 
-pub none_ended : (end : End) (a : CityValue) (i : BTreeMap (List ℕ) Image) → AreEnded end (has_id []) a i a i
-none_ended end a i = record { frame = refl; city = λ q. refl; images = λ q. refl; images_ordered = λ o. o }
+pub none_ended : (end : End) (a : CityValue) (u : UndoState) → AreEnded end (has_id []) a u a u
+none_ended end a u = record { frame = refl; city = λ q. refl; images = λ q. refl; reservations = refl }
 
-pub one_more_ended : (end : End) (a b c : CityValue) (i j k : BTreeMap (List ℕ) Image) (ids : List (List ℕ)) (n : ℕ) (id : List ℕ) →
-    n < length ids → id ≡ get_or ids n id → AreEnded end (has_id (take n ids)) a i b j → AreEnded end (same_id id) b j c k → AreEnded end (has_id (take (n + 1) ids)) a i c k
-one_more_ended end a b c i j k ids n id lt is before one =
+pub one_more_ended : (end : End) (a b c : CityValue) (u v w : UndoState) (ids : List (List ℕ)) (n : ℕ) (id : List ℕ) →
+    n < length ids → id ≡ get_or ids n id → AreEnded end (has_id (take n ids)) a u b v → AreEnded end (same_id id) b v c w → AreEnded end (has_id (take (n + 1) ids)) a u c w
+one_more_ended end a b c u v w ids n id lt is before one =
     let more : (q : List ℕ) → has_id (take (n + 1) ids) q ≡ (has_id (take n ids) q || same_id id q) = λ q. has_more ids n id q lt is in
     record {
       frame = one.frame ∙ before.frame;
-      city = λ q. rw (more q) (ended_again (left_by end) (idle end) (has_id (take n ids) q) (same_id id q) (at a.1 q) (at b.1 q) (at c.1 q) (image i q) (image j q)
+      city = λ q. rw (more q) (ended_again (left_by end) (idle end) (has_id (take n ids) q) (same_id id q) (at a.1 q) (at b.1 q) (at c.1 q) (image_at u q) (image_at v q)
           (before.city q) (before.images q) (one.city q));
-      images = λ q. rw (more q) (gone_again (has_id (take n ids) q) (same_id id q) (image i q) (image j q) (image k q) (before.images q) (one.images q));
-      images_ordered = λ o. one.images_ordered (before.images_ordered o);
+      images = λ q. rw (more q) (gone_again (has_id (take n ids) q) (same_id id q) (image_at u q) (image_at v q) (image_at w q) (before.images q) (one.images q));
+      reservations = one.reservations ∙ before.reservations;
     }
 
 -- an image that is left is of an id in the city
@@ -79,55 +71,36 @@ still_has_slot f x y i j b p c m h = ap is_some c ∙ has_slot_point f b x i p (
 
 -- ---- one id
 
--- what stands at an id, set there again
-unchanged : (m : CityMap) (id : List ℕ) → m ≡ changed m id (m id)
-unchanged m id = λ i q. at q i
-  where
-    at : (q : List ℕ) → m q ≡ changed m id (m id) q
-    at q = by_id id q
-        (λ is. ap m (sym is) ∙ sym (update_same same_id m id (m id) q (same_id_of_equal id q is)))
-        (λ apart. sym (update_other same_id m id (m id) q apart))
-
 -- a placeholder that is taken out leaves what the transaction saw
 pub cleared_seen : (m : CityMap) (id : List ℕ) (i : Option Image) → (if is_deleted i then changed m id None else m) ≡ changed m id (seen_at (m id) i)
-cleared_seen m id None = unchanged m id
+cleared_seen m id None = unchanged m id (m id) refl
 cleared_seen m id (Some i) = by_deleted i.deleted
   where
     by_deleted : (deleted : Bool) → (if deleted then changed m id None else m) ≡ changed m id (if deleted then None else m id)
     by_deleted true = refl
-    by_deleted false = unchanged m id
+    by_deleted false = unchanged m id (m id) refl
 
 -- and of an unwritten image, what stood there before
 pub cleared_before : (m : CityMap) (id : List ℕ) (i : Image) → i.unwritten ≡ true → (if i.deleted then changed m id None else m) ≡ changed m id (before_image (m id) i)
 cleared_before m id i unwritten = cleared_seen m id (Some i) ∙ ap (λ o. changed m id o) (sym (ap (λ b. if b then seen_under (m id) i else i.before) unwritten))
 
 -- ended at one id, whether it has an image or not
-pub one_ended : (end : End) (a b : CityValue) (i j : BTreeMap (List ℕ) Image) (id : List ℕ) → b.0 ≡ a.0 → at b.1 ≡ changed (at a.1) id (left_by end (at a.1 id) (image i id)) →
-    ((q : List ℕ) → image j q ≡ (if same_id id q then None else image i q)) → IsOrdered (slice_cmp nat_cmp) j → AreEnded end (same_id id) a i b j
-one_ended end a b i j id frame after gone ordered = record {
+pub one_ended : (end : End) (a b : CityValue) (u v : UndoState) (id : List ℕ) → b.0 ≡ a.0 → at b.1 ≡ changed (at a.1) id (left_by end (at a.1 id) (image_at u id)) →
+    ((q : List ℕ) → image_at v q ≡ (if same_id id q then None else image_at u q)) → v.reservations ≡ u.reservations → AreEnded end (same_id id) a u b v
+one_ended end a b u v id frame after gone reservations = record {
   frame = frame;
-  city = λ q. ap (λ m. m q) after ∙ at_that (λ r. left_by end (at a.1 r) (image i r)) id q (at a.1 q);
+  city = λ q. ap (λ m. m q) after ∙ at_that (λ r. left_by end (at a.1 r) (image_at u r)) id q (at a.1 q);
   images = gone;
-  images_ordered = λ o. ordered;
+  reservations = reservations;
 }
 
 -- no image: all stays
 pub idle_there : (end : End) (m : CityMap) (id : List ℕ) (i : Option Image) → i ≡ None → m ≡ changed m id (left_by end (m id) i)
-idle_there end m id i e = unchanged m id ∙ ap (λ o. changed m id o) (sym (ap (left_by end (m id)) e ∙ idle end (m id)))
+idle_there end m id i e = unchanged m id (m id) refl ∙ ap (λ o. changed m id o) (sym (ap (left_by end (m id)) e ∙ idle end (m id)))
 
 -- an image that was added and taken out again
 pub added_and_forgotten : (i j k : List ℕ → Option Image) (id : List ℕ) (new : Image) → i id ≡ None → ((q : List ℕ) → j q ≡ (if same_id id q then Some new else i q)) →
     ((q : List ℕ) → k q ≡ (if same_id id q then None else j q)) → (q : List ℕ) → k q ≡ i q
-added_and_forgotten i j k id new none add forget q = forget q ∙ bool_cases (same_id id q)
-    (λ e. ap (λ b. if b then None else j q) e ∙ sym (ap i (sym (same_id_true id q e)) ∙ none))
-    (λ e. ap (λ b. if b then None else j q) e ∙ add q ∙ ap (λ b. if b then Some new else i q) e)
-
--- ---- a slot that is made
-
-pub made_there : (m : CityMap) (key id : List ℕ) (o : Object) → key ≡ id → is_some (changed m key (Some o) id) ≡ true
-made_there m key id o e = ap is_some (update_same same_id m key (Some o) id (same_id_of_equal key id e))
-
-pub made_beside : (m : CityMap) (key id : List ℕ) (o : Object) → key ≡ id → is_some (m id) ≡ false → (q : List ℕ) → is_some (m q) ≡ true → changed m key (Some o) q ≡ m q
-made_beside m key id o e absent q h = bool_cases (same_id key q)
-    (λ t. absurd (false≢true (sym absent ∙ ap (λ r. is_some (m r)) (sym e ∙ same_id_true key q t) ∙ h)))
-    (λ t. update_other same_id m key (Some o) q t)
+added_and_forgotten i j k id new none add forget q = forget q ∙ by_id id q
+    (λ is. rw (same_id_of_equal id q is) (sym none ∙ ap i is))
+    (λ apart. rw apart (add q ∙ rw apart refl))

@@ -7,8 +7,11 @@ pub mod EachId
 pub mod Ended
 pub mod Forgotten
 pub mod Idle
+pub mod ImagesHeld
 pub mod LocksAsked
 pub mod LocksGained
+pub mod OneIdChanged
 pub mod PlanWritten
 pub mod ReservationMade
+pub mod Slots
 pub mod Written

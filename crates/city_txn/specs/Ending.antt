@@ -1,8 +1,5 @@
 -- What the end of a transaction does at the ids that it had reserved.
 use Rattle.std.specs.Prelude.{◌≡◌, ℕ, Bool, List, Option, None, if◌then◌else◌}
-use Rattle.std.specs.Ordering.{nat_cmp}
-use Rattle.std.specs.Cmp.Lexicographic.{slice_cmp}
-use Rattle.std.specs.BTreeMap.{BTreeMap, get, IsOrdered}
 use Rattle.city_model.specs.declared.object.Object.{Object}
 use Rattle.city_model.specs.CityMap.{CityValue, CityMap, at}
 use Rattle.city_txn.specs.declared.ending.End.{End}
@@ -10,6 +7,7 @@ use Rattle.city_txn.specs.declared.ending.End.TheVariants.{Commit, RollBack}
 use Rattle.city_txn.specs.declared.image.Image.{Image}
 use Rattle.city_txn.specs.Images.{seen_at, committed_at}
 use Rattle.city_txn.specs.State.{State, committed, view}
+use Rattle.city_txn.specs.UndoState.{UndoState, image_at}
 
 -- what the end leaves of the object and the image at an id: what the transaction sees, or what stood there
 -- before
@@ -24,11 +22,10 @@ city_after RollBack v stamp = committed v
 
 -- from this city and these images to those: at the ids the image is gone, and what the end leaves stands
 -- there; at all others nothing changes
-pub record AreEnded (end : End) (is_one : List ℕ → Bool) (old : CityValue) (before : BTreeMap (List ℕ) Image)
-    (new : CityValue) (after : BTreeMap (List ℕ) Image) : Type 0 where
+pub record AreEnded (end : End) (is_one : List ℕ → Bool) (old : CityValue) (before : UndoState)
+    (new : CityValue) (after : UndoState) : Type 0 where
   pub frame : new.0 ≡ old.0
   pub city : (id : List ℕ) → at new.1 id
-      ≡ (if is_one id then left_by end (at old.1 id) (get (slice_cmp nat_cmp) before id) else at old.1 id)
-  pub images : (id : List ℕ) → get (slice_cmp nat_cmp) after id
-      ≡ (if is_one id then None else get (slice_cmp nat_cmp) before id)
-  pub images_ordered : IsOrdered (slice_cmp nat_cmp) before → IsOrdered (slice_cmp nat_cmp) after
+      ≡ (if is_one id then left_by end (at old.1 id) (image_at before id) else at old.1 id)
+  pub images : (id : List ℕ) → image_at after id ≡ (if is_one id then None else image_at before id)
+  pub reservations : after.reservations ≡ before.reservations

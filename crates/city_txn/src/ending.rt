@@ -1,13 +1,12 @@
 //! The end of a transaction, at the ids that it has reserved.
 ghost use Rattle.std.specs.Prelude.{◌≡◌, ℕ, List, Some, is_some, true};
-ghost use Rattle.std.specs.Ordering.{nat_cmp};
-ghost use Rattle.std.specs.Cmp.Lexicographic.{slice_cmp};
-ghost use Rattle.std.specs.BTreeMap.{get};
 ghost use Rattle.city_model.specs.CityMap.{at, changed, has_id, same_id};
 ghost use Rattle.city_txn.specs.Ending.{left_by, AreEnded};
+ghost use Rattle.city_txn.specs.UndoState.{image_at};
 
-use crate::image::{Image, Images};
+use crate::image::Image;
 use crate::slot;
+use crate::undo::Undo;
 use city_model::city::City;
 use city_model::text::Id;
 
@@ -21,21 +20,21 @@ pub enum End {
 }
 
 /// Ends at the ids, one after another. Takes no memory.
-pub fn end_each(city: &mut City, images: &mut Images, end: End, ids: &[Id])
-    requires { (q : List ℕ) → is_some (get (slice_cmp nat_cmp) images.old q) ≡ true → is_some (at city.old.1 q) ≡ true }
-    ensures { AreEnded end (has_id ids.now) city.old images.old city.new images.new }
+pub fn end_each(city: &mut City, undo: &mut Undo, end: End, ids: &[Id])
+    requires { (q : List ℕ) → is_some (image_at undo.old q) ≡ true → is_some (at city.old.1 q) ≡ true }
+    ensures { AreEnded end (has_id ids.now) city.old undo.old city.new undo.new }
 {
     for id in ids {
-        end_one(city, images, end, id);
+        end_one(city, undo, end, id);
     }
 }
 
 /// Ends at the id: its image, if there is one, is gone.
-fn end_one(city: &mut City, images: &mut Images, end: End, id: &Id)
-    requires { is_some (get (slice_cmp nat_cmp) images.old id.now) ≡ true → is_some (at city.old.1 id.now) ≡ true }
-    ensures { AreEnded end (same_id id.now) city.old images.old city.new images.new }
+fn end_one(city: &mut City, undo: &mut Undo, end: End, id: &Id)
+    requires { is_some (image_at undo.old id.now) ≡ true → is_some (at city.old.1 id.now) ≡ true }
+    ensures { AreEnded end (same_id id.now) city.old undo.old city.new undo.new }
 {
-    if let Some((key, image)) = images.remove_entry(id) {
+    if let Some((key, image)) = undo.take(id) {
         settle(city, end, key, image);
     }
 }

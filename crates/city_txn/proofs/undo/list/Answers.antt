@@ -3,7 +3,7 @@ use Rattle.std.proofs.lemmas.Map.Steps.{set_value_same}
 use Rattle.std.specs.Map.{lookup}
 use Rattle.std.specs.Ordering.{nat_cmp}
 use Rattle.std.specs.BTreeMap.{is_at}
-use Rattle.city_txn.proofs.reservations.list.Goals as goal
+use Rattle.city_txn.proofs.undo.list.Goals as goal
 
 -- the list as it was, written back
 pub returns-in_err-push-in-Some-clause-err : goal.returns-in_err-push-in-Some-clause-err
