@@ -1,7 +1,7 @@
 -- Posters and viewers may go to other threads.
 use denote.RattleType.{RattleType}
-use denote.Struct.Declared.{Declared, shape, row, field}
-use denote.Param.Send.{IsSend, IsSync, recorded_send, struct_send, view_send, sendable}
+use denote.Struct.Declared.{shape}
+use denote.Param.Send.{IsSend, IsSync, struct_send, view_send, sendable}
 use Rattle.std.proofs.Crossing as values
 use Rattle.std.proofs.MapsCrossing as maps
 use Rattle.city_model.proofs.Crossing.{text_sends, object_sends, city_field_sends, city_field_syncs}
@@ -27,6 +27,7 @@ use Rattle.city_crew.specs.contracts.version.Version as Version
 use Rattle.city_crew.specs.contracts.viewer.Viewer as Viewer
 use Rattle.city_crew.specs.contracts.watcher.Watcher as Watcher
 use Rattle.city_crew.specs.contracts.writer.OwnWriter as OwnWriter
+use Rattle.city_crew.proofs.DeskCrossing.{declared_sends}
 
 -- ---- versions, edits and viewers
 
@@ -53,10 +54,6 @@ writer_sends = writer.the_field_send Version.the_row Edit.the_row Known.the_row 
 
 own_field_sends : (R : RattleType) → IsSend R → IsSend (OwnWriter.the_field R).row
 own_field_sends R s = search (s, writer_sends, sendable) depth 60 fits 20000
-
--- a struct may go where its fields may
-declared_sends : (T : Declared) → IsSend (field T).row → IsSend (row T)
-declared_sends T s = recorded_send (field T).row T.D T.to T.to_one s
 
 own_sends : (R : RattleType) → IsSend R → IsSend (OwnWriter.the_row R)
 own_sends R s = declared_sends (OwnWriter.the_type R) (own_field_sends R s)

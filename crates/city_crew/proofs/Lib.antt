@@ -3,6 +3,7 @@ pub mod Applied
 pub mod CrewFaults
 pub mod CrewResults
 pub mod Crossing
+pub mod DeskCrossing
 pub mod HeldEdits
 pub mod KeptRule
 pub mod LaterVersions
@@ -10,4 +11,5 @@ pub mod Placed
 pub mod Prefixes
 pub mod Results
 pub mod Risen
+pub mod StateCrossing
 pub mod WritesOnce

@@ -62,7 +62,9 @@ pub fn run_crew<R: Threads + Wait + Sync, G: Gate + Sync>(
     let city = read_city(alloc, document)?;
     let list = read_scripts(alloc, scripts)?;
     let (state, places) = open(rt, alloc, document, scripts, city, list, viewers)?;
-    let output = run(rt, alloc, document, scripts, state, places, workers, viewers, gate)?;
+    let output = run(
+        rt, alloc, document, scripts, state, places, workers, viewers, gate,
+    )?;
     Ok(output)
 }
 
@@ -109,7 +111,10 @@ fn run<R: Threads + Wait + Sync, G: Gate + Sync>(
         moved: Condvar::new(),
     };
     let watchers = run_threads(rt, alloc, &shared, gate, workers, watchers)?;
-    let Shared { turns, moved: _moved } = shared;
+    let Shared {
+        turns,
+        moved: _moved,
+    } = shared;
     let finished = turns.into_inner().end(document, scripts)?;
     let Finished {
         city,

@@ -75,5 +75,7 @@ fn turn_once<R: Wait, T: Turns>(rt: &R, shared: &Shared<T>, script: usize) -> Tu
 /// Waits until another turn has ended a script or killed it.
 fn wait<R: Wait, T: Turns>(rt: &R, shared: &Shared<T>, turns: MutexGuard<'_, T>) {
     let seen = turns.moves();
-    let _turns = shared.moved.wait_while(rt, turns, |now| now.moves() == seen);
+    let _turns = shared
+        .moved
+        .wait_while(rt, turns, |now| now.moves() == seen);
 }

@@ -10,7 +10,7 @@ returns-in-Ok g c =
     let document : s.document.items ≡ c.args.document.now = search rules in
     let scripts : s.scripts.items ≡ c.args.scripts.now = search rules in
     let read : IsReadFrom c.args.document.now c.args.scripts.now d.start d.scripts =
-        subst (λ (t : List ℕ). IsReadFrom c.args.document.now t d.start d.scripts) scripts
-          (subst (λ (t : List ℕ). IsReadFrom t s.scripts.items d.start d.scripts) document c.self.invariant) in
+    subst (λ (t : List ℕ). IsReadFrom c.args.document.now t d.start d.scripts) scripts
+    (subst (λ (t : List ℕ). IsReadFrom t s.scripts.items d.start d.scripts) document c.self.invariant) in
     is_result c.args.document.now c.args.scripts.now d _ _ c.in-Ok.finished.city c.in-Ok.finished.ends
-      read c.in-Ok.ensures.serial c.in-Ok.ensures.each_once c.in-Ok.ensures.frame c.in-Ok.ensures.city c.in-Ok.ensures.ends
+    read c.in-Ok.ensures.serial c.in-Ok.ensures.each_once c.in-Ok.ensures.frame c.in-Ok.ensures.city c.in-Ok.ensures.ends

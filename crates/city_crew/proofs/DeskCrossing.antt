@@ -1,0 +1,89 @@
+-- A desk may go to other threads where its shelf may.
+use denote.RattleType.{RattleType}
+use denote.Struct.Declared.{Declared, shape, row, field}
+use denote.Param.Send.{IsSend, recorded_send, struct_send, view_send, sendable}
+use Rattle.std.proofs.Crossing as values
+use Rattle.std.proofs.MapsCrossing as maps
+use Rattle.city_model.proofs.Crossing.{text_sends, body_sends, object_sends, city_field_sends}
+use Rattle.city_model.specs.contracts.command.Cause as Cause
+use Rattle.city_model.specs.contracts.command.Command as Command
+use Rattle.city_model.specs.contracts.command.Reply as Reply
+use Rattle.city_model.specs.contracts.end.End as End
+use Rattle.city_model.specs.contracts.end.Outcome as Outcome
+use Rattle.city_model.specs.contracts.script.Script as Script
+use Rattle.city_locks.specs.contracts.table.LockTable as LockTable
+use Rattle.city_txn.specs.contracts.store.Store as Store
+use Rattle.city_txn.specs.contracts.txn_core.Core as Core
+use Rattle.city_desk.specs.contracts.desk.Desk as Desk
+use Rattle.city_desk.specs.contracts.desk.Desk.TheInside as DeskInside
+use Rattle.city_desk.specs.declared.shelf.Shelf.{Ghosts}
+use Rattle.city_desk.specs.contracts.progress.Progress as Progress
+
+cause_sends : IsSend Cause.the_field.row
+cause_sends = search (text_sends, values.crosses, sendable) depth 60 fits 20000
+
+command_sends : IsSend Command.the_field.row
+command_sends = search (text_sends, body_sends, values.crosses, sendable) depth 60 fits 20000
+
+reply_sends : IsSend Reply.the_field.row
+reply_sends = search (object_sends, cause_sends, values.crosses, sendable) depth 60 fits 20000
+
+script_sends : IsSend Script.the_row
+script_sends = search (text_sends, command_sends, values.crosses, sendable) depth 60 fits 20000
+
+outcome_sends : IsSend Outcome.the_field.row
+outcome_sends = search (cause_sends, values.crosses, sendable) depth 60 fits 20000
+
+end_sends : IsSend End.the_row
+end_sends = search (text_sends, reply_sends, outcome_sends, values.crosses, sendable) depth 60 fits 20000
+
+progress_sends : IsSend Progress.the_row
+progress_sends = search (reply_sends, values.crosses, sendable) depth 60 fits 20000
+
+store_sends : IsSend Store.the_field.row
+store_sends = search (text_sends, object_sends, city_field_sends, maps.crosses, values.crosses, sendable) depth 60 fits 20000
+
+locks_send : IsSend LockTable.the_field.row
+locks_send = search (text_sends, maps.crosses, values.crosses, sendable) depth 60 fits 20000
+
+core_sends : IsSend Core.the_field.row
+core_sends = search (store_sends, locks_send, values.crosses, sendable) depth 60 fits 20000
+
+desk_inside_sends : (S N : RattleType) (G : Ghosts S.Denot N.Denot) → IsSend S → IsSend (DeskInside.the_field S N G).row
+desk_inside_sends S N G s =
+    struct_send (shape (DeskInside.the_type S N G)) (
+      search sendable depth 20,
+      (
+        city_field_sends,
+        (
+          search (script_sends, values.crosses, sendable) depth 60 fits 20000,
+          (
+            search (text_sends, values.crosses, sendable) depth 60 fits 20000,
+            (
+              search (end_sends, values.crosses, sendable) depth 60 fits 20000,
+              (
+                search (progress_sends, values.crosses, sendable) depth 60 fits 20000,
+                (
+                  search sendable depth 20,
+                  (
+                    search sendable depth 20,
+                    (
+                      core_sends,
+                      (s, tt),
+                    ),
+                  ),
+                ),
+              ),
+            ),
+          ),
+        ),
+      ),
+    )
+
+-- a struct may go where its fields may
+pub declared_sends : (T : Declared) → IsSend (field T).row → IsSend (row T)
+declared_sends T s = recorded_send (field T).row T.D T.to T.to_one s
+
+-- where the desk is a field of another struct
+pub desk_field_sends : (S N : RattleType) (G : Ghosts S.Denot N.Denot) → IsSend S → IsSend (Desk.the_field S N G).row
+desk_field_sends S N G s = view_send _ _ _ _ _ (declared_sends (DeskInside.the_type S N G) (desk_inside_sends S N G s))
