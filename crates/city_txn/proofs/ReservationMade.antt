@@ -100,7 +100,3 @@ pub reserved_already : (a : Inside) (s : ℕ) (id : List ℕ) → IsInPlace a �
 reserved_already a s id k f h t q = already (s == t) (same_id id q) (is_reserved (state_of a) t q)
     (λ e d. ap (λ r. is_reserved (state_of a) r q) (sym (eqb-true s t e)) ∙ ap (is_reserved (state_of a) s) (sym (same_id_true id q d))
     ∙ k.listed s id ∙ only_writer s (image_at a.undo id) h (λ r g. f r (k.listed r id ∙ g)))
-
-pub absent_from : (i : Option Image) → is_some i ≡ false → i ≡ None
-absent_from None h = refl
-absent_from (Some i) h = absurd (false≢true (sym h))

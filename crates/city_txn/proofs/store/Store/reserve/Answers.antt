@@ -5,8 +5,8 @@ use Rattle.city_txn.specs.State.{State, is_reserved, is_open, SeesSame}
 use Rattle.city_txn.specs.InPlace.{state_of, IsInPlace}
 use Rattle.city_txn.specs.UndoState.{image_at}
 use Rattle.city_txn.specs.declared.store.Store.TheInside.{Inside}
-use Rattle.city_txn.proofs.Slots.{slot_cleared}
-use Rattle.city_txn.proofs.ReservationMade.{same_city, more_reserved, reserved_in_place, reserved_seen, reserved_already, absent_from}
+use Rattle.city_txn.proofs.Slots.{slot_cleared, absent_from}
+use Rattle.city_txn.proofs.ReservationMade.{same_city, more_reserved, reserved_in_place, reserved_seen, reserved_already}
 use Rattle.city_txn.proofs.store.Store.reserve.Goals as goal
 
 pub returns-then-has_image-clause-ok : goal.returns-then-has_image-clause-ok
