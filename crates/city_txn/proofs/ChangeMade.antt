@@ -112,8 +112,8 @@ changed_by (w ∷ ws) m q s =
     changed_by ws (changed m w.0 w.1) q (sorted_tail (slice_cmp nat_cmp) w.0 (keys_of ws) s) ∙ bool_cases (same_id q w.0)
     (λ t. let none : rest ≡ None =
     lookup-none (is_at (slice_cmp nat_cmp q)) ws (none_past_head {eq = eq_by_cmp (slice_cmp nat_cmp)} (eq_by_cmp_equiv nat_list_cmp_total) q w ws (IsDistinct-from_sorted (slice_cmp nat_cmp) (keys_of (w ∷ ws)) s) t) in
-    ap (λ x. over x (changed m w.0 w.1 q)) none ∙ ap (λ b. if b then w.1 else m q) (same_id_back w.0 q ∙ t) ∙ sym (ap (λ b. over (if b then Some w.1 else rest) (m q)) t))
-    (λ t. ap (λ b. over rest (if b then w.1 else m q)) (same_id_back w.0 q ∙ t) ∙ sym (ap (λ b. over (if b then Some w.1 else rest) (m q)) t))
+    rw (none, same_id_back w.0 q, t) refl)
+    (λ t. rw (same_id_back w.0 q, t) refl)
 
 key_listed : {Y : Type 0} (es : List (List ℕ × Y)) (q : List ℕ) → has_id (keys_of es) q ≡ is_some (lookup (is_at (slice_cmp nat_cmp q)) es)
 key_listed [] q = refl

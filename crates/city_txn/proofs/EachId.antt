@@ -10,7 +10,7 @@ use Rattle.city_txn.specs.declared.image.Image.{Image}
 use Rattle.city_txn.specs.declared.ending.End.{End}
 use Rattle.city_txn.specs.declared.ending.End.TheVariants.{Commit, RollBack}
 use Rattle.city_txn.specs.Ending.{left_by, AreEnded}
-use Rattle.city_txn.specs.Images.{seen_under, before_image, seen_at, is_deleted}
+use Rattle.city_txn.specs.Images.{before_image}
 use Rattle.city_txn.specs.UndoState.{UndoState, image_at}
 use Rattle.city_txn.proofs.Slots.{unchanged}
 
@@ -72,17 +72,13 @@ still_has_slot f x y i j b p c m h = ap is_some c ∙ has_slot_point f b x i p (
 -- ---- one id
 
 -- a placeholder that is taken out leaves what the transaction saw
-pub cleared_seen : (m : CityMap) (id : List ℕ) (i : Option Image) → (if is_deleted i then changed m id None else m) ≡ changed m id (seen_at (m id) i)
-cleared_seen m id None = unchanged m id (m id) refl
-cleared_seen m id (Some i) = by_deleted i.deleted
-  where
-    by_deleted : (deleted : Bool) → (if deleted then changed m id None else m) ≡ changed m id (if deleted then None else m id)
-    by_deleted true = refl
-    by_deleted false = unchanged m id (m id) refl
+pub cleared_seen : (m : CityMap) (id : List ℕ) (deleted : Bool) → (if deleted then changed m id None else m) ≡ changed m id (if deleted then None else m id)
+cleared_seen m id true = refl
+cleared_seen m id false = unchanged m id (m id) refl
 
 -- and of an unwritten image, what stood there before
 pub cleared_before : (m : CityMap) (id : List ℕ) (i : Image) → i.unwritten ≡ true → (if i.deleted then changed m id None else m) ≡ changed m id (before_image (m id) i)
-cleared_before m id i unwritten = cleared_seen m id (Some i) ∙ ap (λ o. changed m id o) (sym (ap (λ b. if b then seen_under (m id) i else i.before) unwritten))
+cleared_before m id i unwritten = cleared_seen m id i.deleted ∙ rw unwritten refl
 
 -- ended at one id, whether it has an image or not
 pub one_ended : (end : End) (a b : CityValue) (u v : UndoState) (id : List ℕ) → b.0 ≡ a.0 → at b.1 ≡ changed (at a.1) id (left_by end (at a.1 id) (image_at u id)) →

@@ -53,6 +53,10 @@ module _ (v u w : State) (s : ℕ) (ws : Change) (n : ℕ) (p : List ℕ × Opti
         (λ e. or_right ((s == s) && same_id p.0 q) (is_reserved u s q) (done q e))
         (λ e. or_left ((s == s) && same_id p.0 q) (is_reserved u s q) (and_from (s == s) (same_id p.0 q) (eq-eqb s s refl) (same_id_back p.0 q ∙ e)))
 
+-- where nothing was reserved for want of memory
+pub sees_unchanged : (v u w : State) → SeesSame v u → w ≡ u → SeesSame v w
+sees_unchanged v u w a e = subst (SeesSame v) (sym e) a
+
 pub sees_on : (v u w : State) → SeesSame v u → SeesSame u w → SeesSame v w
 sees_on v u w a b = record {
   frame = b.frame ∙ a.frame;

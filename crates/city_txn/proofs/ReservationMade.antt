@@ -13,15 +13,12 @@ use Rattle.city_model.proofs.Objects.{same_objects}
 use Rattle.city_txn.specs.declared.image.Image.{Image}
 use Rattle.city_txn.specs.declared.store.Store.TheInside.{Inside}
 use Rattle.city_txn.specs.Images.{committed_at, write_at, writer_of, unwritten_image}
-use Rattle.city_txn.specs.State.{State, write_of, is_open, is_reserved, SeesSame}
+use Rattle.city_txn.specs.State.{write_of, is_open, is_reserved, SeesSame}
 use Rattle.city_txn.specs.InPlace.{state_of, is_writer, IsInPlace}
 use Rattle.city_txn.specs.UndoState.{image_at, listed_by, reservations_of}
 use Rattle.city_txn.specs.Slots.{placeholder, with_slot}
 use Rattle.city_txn.proofs.AtOneId.{tied, here, writes_is}
 use Rattle.city_txn.proofs.OneIdChanged.{at_each, image_there, image_beside, slots_kept, committed_kept, write_changed}
-
-pub sees_itself : (v : State) → SeesSame v v
-sees_itself v = record { frame = refl; city = refl; writes = λ q. refl; opened = λ t. refl }
 
 -- cities with one frame that answer alike are the same
 pub same_city : (z x : CityValue) → z.0 ≡ x.0 → at z.1 ≡ at x.1 → z ≡ x
@@ -103,7 +100,3 @@ pub reserved_already : (a : Inside) (s : ℕ) (id : List ℕ) → IsInPlace a �
 reserved_already a s id k f h t q = already (s == t) (same_id id q) (is_reserved (state_of a) t q)
     (λ e d. ap (λ r. is_reserved (state_of a) r q) (sym (eqb-true s t e)) ∙ ap (is_reserved (state_of a) s) (sym (same_id_true id q d))
     ∙ k.listed s id ∙ only_writer s (image_at a.undo id) h (λ r g. f r (k.listed r id ∙ g)))
-
-pub absent_from : (i : Option Image) → is_some i ≡ false → i ≡ None
-absent_from None h = refl
-absent_from (Some i) h = absurd (false≢true (sym h))

@@ -25,15 +25,15 @@ was_there : (x : Option Object) → is_some x ≡ true → x ≡ Some (unwrap_or
 was_there None h = absurd (false≢true h)
 was_there (Some o) h = refl
 
-was_absent : (x : Option Object) → is_some x ≡ false → x ≡ None
-was_absent None h = refl
-was_absent (Some o) h = absurd (false≢true (sym h))
+pub absent_from : {X : Type 0} (x : Option X) → is_some x ≡ false → x ≡ None
+absent_from None h = refl
+absent_from (Some o) h = absurd (false≢true (sym h))
 
 pub has_slot_already : (m : CityMap) (id : List ℕ) → is_some (m id) ≡ true → m ≡ with_slot m id
 has_slot_already m id h = unchanged m id (Some (unwrap_or (m id) placeholder)) (was_there (m id) h)
 
 pub slot_made : (m : CityMap) (id : List ℕ) → is_some (m id) ≡ false → changed m id (Some placeholder) ≡ with_slot m id
-slot_made m id h = ap (λ x. changed m id (Some (unwrap_or x placeholder))) (sym (was_absent (m id) h))
+slot_made m id h = ap (λ x. changed m id (Some (unwrap_or x placeholder))) (sym (absent_from (m id) h))
 
 -- a slot that was made and cleared
 pub slot_cleared : (m : CityMap) (id : List ℕ) (deleted : Bool) → deleted ≡ not (is_some (m id)) → (if deleted then changed (with_slot m id) id None else with_slot m id) ≡ m
@@ -41,4 +41,4 @@ slot_cleared m id deleted is = by_there (is_some (m id)) refl
   where
     by_there : (there : Bool) → is_some (m id) ≡ there → (if deleted then changed (with_slot m id) id None else with_slot m id) ≡ m
     by_there true h = rw (is ∙ ap not h) (sym (has_slot_already m id h))
-    by_there false h = rw (is ∙ ap not h) (changed_back m id (Some (unwrap_or (m id) placeholder)) (was_absent (m id) h))
+    by_there false h = rw (is ∙ ap not h) (changed_back m id (Some (unwrap_or (m id) placeholder)) (absent_from (m id) h))

@@ -38,10 +38,6 @@ abbrev pub writer_of : Option Image → Option ℕ
 writer_of None = None
 writer_of (Some i) = Some i.by
 
-abbrev pub is_deleted : Option Image → Bool
-is_deleted None = false
-is_deleted (Some i) = i.deleted
-
 -- the image after a write over x
 abbrev pub written_over : Option Object → Bool → Image → Image
 written_over x deleted i =

@@ -34,4 +34,5 @@ is_writer stamp (Some t) = t == stamp
 pub record IsInPlace (a : Inside) : Type 0 where
   pub has_slot : (id : List ℕ) → is_some (image_at a.undo id) ≡ true → is_some (at a.city.1 id) ≡ true
   pub listed : (stamp : ℕ) (id : List ℕ)
-      → has_id (reservations_of a.undo.reservations stamp) id ≡ is_writer stamp (writer_of (image_at a.undo id))
+      → has_id (reservations_of a.undo.reservations stamp) id
+      ≡ is_writer stamp (writer_of (image_at a.undo id))

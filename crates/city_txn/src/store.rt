@@ -90,13 +90,13 @@ impl Store {
     }
 
     /// Reserves for the stamp, which is open, an id that no other has reserved.
-    /// Nobody sees a difference; want of memory leaves all reservations as they are.
+    /// Nobody sees a difference; want of memory leaves the store.
     pub fn reserve(&mut self, alloc: Global, stamp: u64, id: &Id) -> Result<(), OutOfMemory>
         requires opened { is_open self.old stamp ≡ true }
         requires alone { (t : ℕ) → is_reserved self.old t id.now ≡ true → t ≡ stamp }
-        ensures same { SeesSame self.old self.new }
+        ensures same { OnOk result (SeesSame self.old self.new) }
         ensures ok { OnOk result ((t : ℕ) (q : List ℕ) → is_reserved self.new t q ≡ (((stamp == t) && same_id id.now q) || is_reserved self.old t q)) }
-        ensures err { OnErr result ((t : ℕ) (q : List ℕ) → is_reserved self.new t q ≡ is_reserved self.old t q) }
+        ensures err { OnErr result (self.new ≡ self.old) }
     {
         if self.undo.has_image(id) {
             return Ok(());

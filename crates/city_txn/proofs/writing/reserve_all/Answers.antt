@@ -1,5 +1,5 @@
 use Rattle.std.proofs.Common.{◌∙◌, length, ◌<◌, arith}
-use Rattle.city_txn.proofs.PlanWritten.{still_alone, reserved_more, done_more, sees_on}
+use Rattle.city_txn.proofs.PlanWritten.{still_alone, reserved_more, done_more, sees_on, sees_unchanged}
 use Rattle.city_txn.proofs.writing.reserve_all.Goals as goal
 
 pub reserve-requires-clause-opened : goal.reserve-requires-clause-opened
@@ -16,7 +16,7 @@ loop-write-preserved c =
     let i = c.loop-write.invariant in
     let lt : c.loop-write.write-index < length c.args.writes.now = omega arith in
     record {
-      same = sees_on c.args.store.now c.loop-write.store c.reserve.new.self i.same c.reserve.ensures.same;
+      same = sees_on c.args.store.now c.loop-write.store c.reserve.new.self i.same c.in_ok-reserve.ensures.same;
       done = done_more c.args.store.now c.loop-write.store c.reserve.new.self c.args.stamp c.args.writes.now c.loop-write.write-index c.write-item.result lt c.write-item.is
           c.requires.alone i.reserved c.in_ok-reserve.ensures.ok i.done;
       reserved = reserved_more c.args.store.now c.loop-write.store c.reserve.new.self c.args.stamp c.args.writes.now c.loop-write.write-index c.write-item.result lt c.write-item.is
@@ -24,4 +24,4 @@ loop-write-preserved c =
     }
 
 pub returns-in_err-reserve-clause-same : goal.returns-in_err-reserve-clause-same
-returns-in_err-reserve-clause-same c = sees_on c.args.store.now c.loop-write.store c.reserve.new.self c.loop-write.invariant.same c.reserve.ensures.same
+returns-in_err-reserve-clause-same c = sees_unchanged c.args.store.now c.loop-write.store c.reserve.new.self c.loop-write.invariant.same c.in_err-reserve.ensures.err

@@ -5,8 +5,8 @@ use Rattle.city_txn.specs.State.{State, is_reserved, is_open, SeesSame}
 use Rattle.city_txn.specs.InPlace.{state_of, IsInPlace}
 use Rattle.city_txn.specs.UndoState.{image_at}
 use Rattle.city_txn.specs.declared.store.Store.TheInside.{Inside}
-use Rattle.city_txn.proofs.Slots.{slot_cleared}
-use Rattle.city_txn.proofs.ReservationMade.{same_city, sees_itself, more_reserved, reserved_in_place, reserved_seen, reserved_already, absent_from}
+use Rattle.city_txn.proofs.Slots.{slot_cleared, absent_from}
+use Rattle.city_txn.proofs.ReservationMade.{same_city, more_reserved, reserved_in_place, reserved_seen, reserved_already}
 use Rattle.city_txn.proofs.store.Store.reserve.Goals as goal
 
 pub returns-then-has_image-clause-ok : goal.returns-then-has_image-clause-ok
@@ -26,21 +26,13 @@ invariant_of-self-in_default c =
     (c.clear.ensures.after ∙ ap (λ m. if made.deleted then changed m c.args.id.now None else m) made.ensures.after ∙ slot_cleared (at a.city.1) c.args.id.now made.deleted made.ensures.made) in
     subst IsInPlace (λ i. record { city = sym city i; undo = sym c.in_default.ensures.err i }) c.self.invariant
 
-pub returns-in_default-clause-same : goal.returns-in_default-clause-same
-returns-in_default-clause-same c =
-    let a = c.self.inside in
-    let made = c.in_ok-deleted in
-    let city = same_city c.clear.new.city a.city (c.clear.ensures.frame ∙ c.make.ensures.frame)
-    (c.clear.ensures.after ∙ ap (λ m. if made.deleted then changed m c.args.id.now None else m) made.ensures.after ∙ slot_cleared (at a.city.1) c.args.id.now made.deleted made.ensures.made) in
-    subst (SeesSame c.args.self.now) (sym ((λ i. state_of (record { city = city i; undo = c.in_default.ensures.err i })) ∙ c.self.view_is)) (sees_itself c.args.self.now)
-
 pub returns-in_default-clause-err : goal.returns-in_default-clause-err
-returns-in_default-clause-err c t q =
+returns-in_default-clause-err c =
     let a = c.self.inside in
     let made = c.in_ok-deleted in
     let city = same_city c.clear.new.city a.city (c.clear.ensures.frame ∙ c.make.ensures.frame)
     (c.clear.ensures.after ∙ ap (λ m. if made.deleted then changed m c.args.id.now None else m) made.ensures.after ∙ slot_cleared (at a.city.1) c.args.id.now made.deleted made.ensures.made) in
-    ap (λ (v : State). is_reserved v t q) ((λ i. state_of (record { city = city i; undo = c.in_default.ensures.err i })) ∙ c.self.view_is)
+    (λ i. state_of (record { city = city i; undo = c.in_default.ensures.err i })) ∙ c.self.view_is
 
 pub invariant_of-self-in-Ok : goal.invariant_of-self-in-Ok
 invariant_of-self-in-Ok c =
