@@ -1,7 +1,7 @@
 -- What holds of two texts holds of the two parts of an input, where they are the parts of what was read of it.
 use Rattle.std.proofs.Common.{◌≡◌, ℕ, List, Bool, Option, Some, None, IfSome, subst}
 use Rattle.cityed.specs.declared.fault.ServeFault.{ServeFault}
-use Rattle.city_desk.specs.RunFaults.{IsRunFault}
+use Rattle.city_desk.specs.RunFaults.{IsSerialFault}
 use Rattle.cityed.specs.ServedTexts.{AreCutShort, IsTextsFault}
 use Rattle.cityed.specs.Served.{read_of, document_of, scripts_of, IsServeFault}
 
@@ -18,5 +18,5 @@ module _ (input : Option (List ℕ)) (read document scripts : List ℕ)
   pub fault_of_input : (old new : Option (List ℕ)) (reader_failed failed : Bool) (f : ServeFault) → IsTextsFault document scripts old new failed f
       → IsServeFault input reader_failed old new failed f
   fault_of_input old new reader_failed failed ServeFault.Read h = absurd h
-  fault_of_input old new reader_failed failed (ServeFault.Run f) h = (h.0, of_input (λ d s. IsRunFault d s f) h.1)
+  fault_of_input old new reader_failed failed (ServeFault.Run f) h = (h.0, of_input (λ d s. IsSerialFault d s f) h.1)
   fault_of_input old new reader_failed failed ServeFault.Write h = (of_input (λ d s. AreCutShort d s old new) h.0, h.1)

@@ -3,7 +3,7 @@ use Rattle.std.specs.Prelude.{◌==◌, ◌≡◌, ◌⊎◌, ◌+◌, ◌*◌, 
 use Rattle.std.specs.List.{before_first, after_first}
 use Rattle.std.specs.Io.KnownBytes.{Keeps}
 use Rattle.city_doc.specs.Texts.{max_text}
-use Rattle.city_desk.specs.RunFaults.{IsRunFault}
+use Rattle.city_desk.specs.RunFaults.{IsSerialFault}
 use Rattle.cityed.specs.ServedTexts.{AreServed, AreCutShort}
 use Rattle.city_desk.specs.declared.fault.RunFault.{RunFault}
 use Rattle.cityed.specs.declared.fault.ServeFault.{ServeFault}
@@ -43,6 +43,6 @@ abbrev pub IsServeFault : Option (List ℕ) → Bool → Option (List ℕ) → O
 IsServeFault input reader_failed old new writer_failed ServeFault.Read =
     Keeps old new × (reader_failed ≡ true)
 IsServeFault input reader_failed old new writer_failed (ServeFault.Run f) =
-    Keeps old new × IfSome input (λ all. IsRunFault (document_of (read_of all)) (scripts_of (read_of all)) f)
+    Keeps old new × IfSome input (λ all. IsSerialFault (document_of (read_of all)) (scripts_of (read_of all)) f)
 IsServeFault input reader_failed old new writer_failed ServeFault.Write =
     IfSome input (λ all. IsCutShort all old new) × (writer_failed ≡ true)

@@ -3,7 +3,7 @@ use Rattle.std.specs.Prelude.{◌≡◌, ◌⊎◌, ◌<◌, ◌≤◌, ℕ, Boo
 use Rattle.std.specs.Io.KnownBytes.{Keeps, Appends, Consumes}
 use Rattle.city_model.specs.declared.end.End.{End}
 use Rattle.city_doc.specs.Texts.{max_text}
-use Rattle.city_desk.specs.RunFaults.{IsRunFault}
+use Rattle.city_desk.specs.RunFaults.{IsSerialFault}
 use Rattle.city_desk.specs.SerialRuns.{IsSerialRun}
 use Rattle.cityed.specs.declared.fault.ServeFault.{ServeFault}
 
@@ -35,7 +35,7 @@ abbrev pub IsTextsFault : List ℕ → List ℕ → Option (List ℕ) → Option
     → Type 0
 IsTextsFault document scripts old new failed ServeFault.Read = ⊥
 IsTextsFault document scripts old new failed (ServeFault.Run f) =
-    Keeps old new × IsRunFault document scripts f
+    Keeps old new × IsSerialFault document scripts f
 IsTextsFault document scripts old new failed ServeFault.Write =
     AreCutShort document scripts old new × (failed ≡ true)
 
