@@ -1,9 +1,12 @@
 pub mod Adding
 pub mod Applied
+pub mod CrewFaults
+pub mod Crossing
 pub mod HeldEdits
 pub mod KeptRule
 pub mod LaterVersions
 pub mod Placed
 pub mod Prefixes
 pub mod Results
+pub mod Risen
 pub mod WritesOnce

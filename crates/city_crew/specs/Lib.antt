@@ -1,6 +1,9 @@
 pub mod BoardRule
 pub mod BoardValues
+pub mod CrewFaults
+pub mod CrewRuns
 pub mod HistoryRule
 pub mod HistoryValue
 pub mod NoCity
+pub mod Rising
 pub mod Versions

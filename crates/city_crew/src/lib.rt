@@ -1,9 +1,13 @@
-//! The board: versions of a city that one poster publishes, and that viewers look at without waiting.
+//! Workers and viewers: scripts of one city run side by side, while viewers look at whole versions.
 #![tactic(auto)]
 
 mod apply;
 pub mod board;
+mod counts;
+mod fault;
+pub mod gate;
 mod history;
+mod last_looks;
 pub mod look;
 pub mod note;
 mod opening;
@@ -12,8 +16,13 @@ mod places;
 pub mod poster;
 mod publish;
 mod rule;
+pub mod run;
 mod shelf;
+mod state;
+mod threads;
 mod version;
 pub mod viewer;
+mod watcher;
+mod work;
 mod writer;
 mod writes;

@@ -1,0 +1,75 @@
+-- Posters and viewers may go to other threads.
+use denote.RattleType.{RattleType}
+use denote.Struct.Declared.{Declared, shape, row, field}
+use denote.Param.Send.{IsSend, IsSync, recorded_send, struct_send, view_send, sendable}
+use Rattle.std.proofs.Crossing as values
+use Rattle.std.proofs.MapsCrossing as maps
+use Rattle.city_model.proofs.Crossing.{text_sends, object_sends, city_field_sends, city_field_syncs}
+use Rattle.std.below.std_heap.specs.contracts.Global as Heap
+use Rattle.std.below.std_heap.specs.contracts.GlobalAllocator.TheImpl.{ghosts}
+use Rattle.std.specs.contracts.collections.VecDeque as VecDeque
+use Rattle.std.specs.contracts.option.Option as Option
+use Rattle.std.proofs.option.Option.TheSendSync as option
+use Rattle.left_right.specs.contracts.writer.Writer as Writer
+use Rattle.left_right.proofs.writer.Writer.TheSendSync as writer
+use Rattle.left_right.proofs.reader.Reader.TheSendSync as reader
+use Rattle.city_crew.proofs.history.History.TheSendSync as history
+use Rattle.city_crew.proofs.history.Head.TheSendSync as head
+use Rattle.city_crew.proofs.opening.OpeningCity.TheSendSync as opening
+use Rattle.city_crew.specs.contracts.poster.Poster as Poster
+use Rattle.city_crew.specs.contracts.poster.Poster.TheInside as PosterInside
+use Rattle.city_crew.specs.contracts.rule.BoardRule as BoardRule
+use Rattle.city_crew.specs.contracts.rule.BoardRuleProtocolVersionKnown.TheImpl as protocol
+use Rattle.city_crew.specs.contracts.rule.Known as Known
+use Rattle.city_crew.specs.contracts.version.VersionAbsorbEdit.TheImpl as absorb
+use Rattle.city_crew.specs.contracts.version.Edit as Edit
+use Rattle.city_crew.specs.contracts.version.Version as Version
+use Rattle.city_crew.specs.contracts.viewer.Viewer as Viewer
+use Rattle.city_crew.specs.contracts.watcher.Watcher as Watcher
+use Rattle.city_crew.specs.contracts.writer.OwnWriter as OwnWriter
+
+-- ---- versions, edits and viewers
+
+version_sends : IsSend Version.the_row
+version_sends = search (city_field_sends, opening.the_send, history.the_send, values.crosses, sendable) depth 60 fits 20000
+
+version_syncs : IsSync Version.the_row
+version_syncs = search (city_field_syncs, opening.the_sync, history.the_sync, values.crosses, sendable) depth 60 fits 20000
+
+edit_sends : IsSend Edit.the_row
+edit_sends = search (text_sends, object_sends, history.the_send, maps.crosses, values.crosses, sendable) depth 60 fits 20000
+
+pub viewer_sends : IsSend Viewer.the_row
+viewer_sends = search (reader.the_field_send, version_syncs, history.the_send, values.frees, values.send, values.sync, sendable) depth 60 fits 20000
+
+pub watcher_sends : IsSend Watcher.the_row
+watcher_sends = search (viewer_sends, values.crosses, sendable) depth 60 fits 20000
+
+-- ---- the poster
+
+writer_sends : IsSend (Writer.the_field Version.the_row Edit.the_row Known.the_row BoardRule.the_row Heap.the_row Version.the_row absorb.ghosts protocol.ghosts ghosts).row
+writer_sends = writer.the_field_send Version.the_row Edit.the_row Known.the_row BoardRule.the_row Heap.the_row Version.the_row absorb.ghosts protocol.ghosts ghosts
+    version_sends edit_sends values.send version_syncs values.sync values.frees
+
+own_field_sends : (R : RattleType) → IsSend R → IsSend (OwnWriter.the_field R).row
+own_field_sends R s = search (s, writer_sends, sendable) depth 60 fits 20000
+
+-- a struct may go where its fields may
+declared_sends : (T : Declared) → IsSend (field T).row → IsSend (row T)
+declared_sends T s = recorded_send (field T).row T.D T.to T.to_one s
+
+own_sends : (R : RattleType) → IsSend R → IsSend (OwnWriter.the_row R)
+own_sends R s = declared_sends (OwnWriter.the_type R) (own_field_sends R s)
+
+waiting_sends : IsSend (VecDeque.the_field Edit.the_row Heap.the_row ghosts).row
+waiting_sends = values.Deque-send Edit.the_row edit_sends
+
+maybe_own_sends : (R : RattleType) → IsSend R → IsSend (Option.the_field (OwnWriter.the_row R)).row
+maybe_own_sends R s = option.the_field_send (OwnWriter.the_row R) (own_sends R s)
+
+poster_inside_sends : (R : RattleType) → IsSend R → IsSend (PosterInside.the_field R).row
+poster_inside_sends R s =
+    struct_send (shape (PosterInside.the_type R)) (search sendable depth 20, (maybe_own_sends R s, (head.the_send, (opening.the_send, (history.the_send, (history.the_send, (waiting_sends, tt)))))))
+
+pub poster_sends : (R : RattleType) → IsSend R → IsSend (Poster.the_row R)
+poster_sends R s = view_send _ _ _ _ _ (declared_sends (PosterInside.the_type R) (poster_inside_sends R s))

@@ -1,0 +1,48 @@
+//! Why a crew of workers and viewers has no output.
+use crate::board::BoardFault;
+use city_desk::fault::RunFault;
+use city_model::OutOfMemory;
+
+/// Why a run over texts that were read has no output.
+#[derive(Clone, Copy, Debug, PartialEq, Eq, Drop)]
+pub enum CrewFault {
+    /// There was no memory, or a thread couldn't be made.
+    OutOfMemory,
+    /// A viewer's place or one of its looks was refused.
+    NoPlace,
+    /// A script had not ended when the workers had.
+    Unfinished,
+    /// What was gathered isn't of this run.
+    Mixed,
+}
+
+impl From<OutOfMemory> for CrewFault {
+    fn from(_: OutOfMemory) -> CrewFault {
+        CrewFault::OutOfMemory
+    }
+}
+
+impl From<BoardFault> for CrewFault {
+    fn from(fault: BoardFault) -> CrewFault {
+        match fault {
+            BoardFault::OutOfMemory => CrewFault::OutOfMemory,
+            BoardFault::NoPlace => CrewFault::NoPlace,
+        }
+    }
+}
+
+impl From<CrewFault> for RunFault {
+    ghost use Rattle.std.specs.Prelude.{◌≡◌};
+    ghost use Rattle.city_crew.specs.CrewFaults.{fault_of_crew};
+
+    ghost from_gives = { λ f r. r ≡ fault_of_crew f };
+
+    fn from(fault: CrewFault) -> RunFault {
+        match fault {
+            CrewFault::OutOfMemory => RunFault::OutOfMemory,
+            CrewFault::NoPlace => RunFault::NoPlace,
+            CrewFault::Unfinished => RunFault::Unfinished,
+            CrewFault::Mixed => RunFault::Mixed,
+        }
+    }
+}

@@ -1,0 +1,123 @@
+//! Runs the scripts of a text on the city of a document, with workers and viewers.
+ghost use Rattle.std.specs.Prelude.{◌≡◌, ◌≤◌, All, IfOk, IfErr, vec_len};
+ghost use Rattle.city_model.specs.CityMap.{at};
+ghost use Rattle.city_model.specs.Relations.{IsLawful};
+ghost use Rattle.city_model.specs.SerialEnds.{commits_in};
+ghost use Rattle.city_crew.specs.CrewFaults.{IsCrewRunFault};
+ghost use Rattle.city_crew.specs.CrewRuns.{IsReadFrom, IsCrewRun};
+ghost use Rattle.city_crew.specs.Rising.{Rises, last_of};
+
+use crate::board::board;
+use crate::fault::CrewFault;
+use crate::gate::Gate;
+use crate::last_looks::{count_commits, last_looks};
+use crate::poster::Poster;
+use crate::state::State;
+use crate::threads::run_threads;
+use crate::viewer::Viewer;
+use crate::watcher::watchers_of;
+use crate::work::Shared;
+use city_desk::desk::{Desk, Finished};
+use city_desk::fault::RunFault;
+use city_desk::output::{Output, output_bytes};
+use city_desk::shelf::Shelf;
+use city_doc::read::read_city;
+use city_doc::scripts::read_scripts;
+use city_model::city::City;
+use city_model::copied::Copied;
+use city_model::script::Script;
+use city_model::sequence::Sequence;
+use std::alloc::Global;
+use std::sync::{Condvar, Mutex, Wait};
+use std::thread::Threads;
+
+/// Runs the scripts on the document's city by so many workers, while so many viewers look.
+///
+/// Workers are 1 to 16. The document is judged before the scripts. However the workers' turns
+/// interleave, the ends and the bytes are those of the scripts run one at a time, each once, in the
+/// order of the ends. A script that finds no memory ends so and changes nothing.
+///
+/// For each viewer `seen` has the number of changes at its first look, and then each larger number
+/// that it saw; the last look comes after all workers have ended.
+///
+/// It is `OutOfMemory` also where a thread couldn't be made, `NoPlace` where a viewer's place or
+/// look was refused, `Unfinished` where a script hadn't ended when the workers had, and `Mixed`
+/// where what was gathered then isn't of these texts, or a viewer is missing or saw too little.
+pub fn run_crew<R: Threads + Wait + Sync, G: Gate + Sync>(
+    rt: &R,
+    alloc: Global,
+    document: &[u8],
+    scripts: &[u8],
+    workers: usize,
+    viewers: usize,
+    gate: &G,
+) -> Result<Output, RunFault>
+    requires viewers { viewers ≤ 4 }
+    ensures ran { IfOk result (λ o. IsCrewRun document.now scripts.now o.ends o.bytes.items) }
+    ensures viewers { IfOk result (λ o. vec_len o.seen ≡ viewers) }
+    ensures seen { IfOk result (λ o. All (λ s. Rises s.items × (commits_in o.ends ≤ last_of s.items)) o.seen.items) }
+    ensures fault { IfErr result (λ f. IsCrewRunFault document.now scripts.now f) }
+{
+    let city = read_city(alloc, document)?;
+    let list = read_scripts(alloc, scripts)?;
+    let (state, places) = open(rt, alloc, document, scripts, city, list, viewers)?;
+    let output = run(rt, alloc, document, scripts, state, places, workers, viewers, gate)?;
+    Ok(output)
+}
+
+/// A desk over a city and scripts, whose shelf is a board's poster, and the board's viewers.
+fn open<'r, R: Wait>(
+    rt: &'r R,
+    alloc: Global,
+    document: &[u8],
+    scripts: &[u8],
+    city: City,
+    list: Sequence<Script>,
+    viewers: usize,
+) -> Result<(State<Poster<&'r R>>, Vec<Viewer>), CrewFault>
+    requires lawful { IsLawful (at city.1) }
+    requires read { IsReadFrom document.now scripts.now city list }
+    requires viewers { viewers ≤ 4 }
+{
+    let document = Vec::from_slice(alloc, document)?;
+    let scripts = Vec::from_slice(alloc, scripts)?;
+    let copy = city.copy(alloc)?;
+    let (poster, viewers) = board(rt, alloc, copy, viewers)?;
+    let desk = Desk::open(alloc, city, list, poster)?;
+    Ok((State::new(document, scripts, desk), viewers))
+}
+
+/// Runs the workers and the viewers to their ends, and gathers what they leave.
+fn run<R: Threads + Wait + Sync, G: Gate + Sync>(
+    rt: &R,
+    alloc: Global,
+    document: &[u8],
+    scripts: &[u8],
+    state: State<Poster<&R>>,
+    places: Vec<Viewer>,
+    workers: usize,
+    viewers: usize,
+    gate: &G,
+) -> Result<Output, CrewFault>
+    ensures ran { IfOk result (λ o. IsCrewRun document.now scripts.now o.ends o.bytes.items) }
+    ensures viewers { IfOk result (λ o. vec_len o.seen ≡ viewers) }
+    ensures seen { IfOk result (λ o. All (λ s. Rises s.items × (commits_in o.ends ≤ last_of s.items)) o.seen.items) }
+{
+    let watchers = watchers_of(alloc, places)?;
+    let shared = Shared {
+        state: Mutex::new(state),
+        moved: Condvar::new(),
+    };
+    let watchers = run_threads(rt, alloc, &shared, gate, workers, watchers)?;
+    let Shared { state, moved: _moved } = shared;
+    let Finished {
+        city,
+        ends,
+        mut shelf,
+    } = state.into_inner().end(document, scripts)?;
+    shelf.show(rt)?;
+    let commits = count_commits(ends.as_slice());
+    let seen = last_looks(alloc, watchers, viewers, commits)?;
+    let bytes = output_bytes(alloc, &city, ends.as_slice())?;
+    Ok(Output { ends, bytes, seen })
+}
