@@ -1,19 +1,23 @@
 #!/usr/bin/env python3
 """Prints scripts that edit a plain city of make_city.py, as the program reads them.
 
-usage: make_scripts.py SCRIPTS COMMANDS OBJECTS [SHARED] > scripts.json
+usage: make_scripts.py KIND SCRIPTS COMMANDS OBJECTS [SHARED] > scripts.json
 
-Each script has so many commands, the last of which is its commit: reads and puts in turn, of ids that
-step through the city's OBJECTS. With SHARED, each script's second half is of the first SHARED objects, so
-that scripts which run at once meet there.
+Each script has so many commands, the last of which is its commit. KIND says what they are:
+  reads   reads of the city's OBJECTS, each of which is replied whole
+  puts    puts of a short body at them
+  makes   puts of new objects and deletes of them, in turn
+The ids step through the city, so that scripts seldom meet; with SHARED, each script's second half is of
+the first SHARED objects, where scripts that run at once do meet.
 """
 import json
 import sys
 
-if len(sys.argv) not in (4, 5):
+if len(sys.argv) not in (5, 6):
     sys.exit(__doc__)
-scripts, commands, objects = (int(word) for word in sys.argv[1:4])
-shared = int(sys.argv[4]) if len(sys.argv) == 5 else 0
+kind = sys.argv[1]
+scripts, commands, objects = (int(word) for word in sys.argv[2:5])
+shared = int(sys.argv[5]) if len(sys.argv) == 6 else 0
 TYPES = ["LandUse", "Road", "Building", "WaterBody", "PlantCover", "CityFurniture"]
 
 
@@ -22,10 +26,13 @@ def command(script, n):
     if shared and n >= commands // 2:
         number = (script + n) % shared
     name = f"object-{number:08}"
-    if n % 2 == 0:
+    if kind == "reads":
         return {"read": name}
-    attributes = {"number": number, "remark": f"edited by script {script}"}
-    return {"put": name, "object": {"type": TYPES[number % len(TYPES)], "attributes": attributes}}
+    if kind == "puts":
+        return {"put": name, "object": {"type": TYPES[number % len(TYPES)]}}
+    if n % 2 == 0:
+        return {"put": f"new-{script}-{n}", "object": {"type": "Road"}}
+    return {"delete": f"new-{script}-{n - 1}"}
 
 
 edits = [

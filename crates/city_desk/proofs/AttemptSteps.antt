@@ -8,10 +8,10 @@ use Rattle.city_model.specs.declared.command.Cause.{Cause}
 use Rattle.city_model.specs.declared.command.Reply.{Reply}
 use Rattle.city_model.specs.declared.command.Reply.TheVariants as replies
 use Rattle.city_model.specs.declared.end.Outcome.{Outcome}
-use Rattle.city_model.specs.declared.object.Object.{Object}
 use Rattle.city_model.specs.CityMap.{CityMap, at, CityValue}
 use Rattle.city_model.specs.Relations.{IsLawful}
-use Rattle.city_model.specs.Meaning.{cause_of, reply_to, refused_or, done_reply, read_reply, put_done, is_refusal}
+use Rattle.city_model.specs.Meaning.{cause_of, reply_to, refused_or, done_reply, is_refusal}
+use Rattle.city_model.proofs.Refused.{done_unrefused}
 use Rattle.city_model.specs.Runs.{Refuses, Change, with_change, shown}
 use Rattle.city_model.specs.Scripts.{is_end}
 use Rattle.city_locks.specs.declared.answer.Answer.{Answer}
@@ -58,33 +58,16 @@ by_die Die reply e = refl
 
 -- ---- a refused command
 
-read_not : (o : Option Object) → is_refusal (read_reply o) ≡ false
-read_not None = refl
-read_not (Some o) = refl
-
-put_not : (o : Option Object) → is_refusal (put_done o) ≡ false
-put_not None = refl
-put_not (Some o) = refl
-
-not_refused : (m : CityMap) (c : Command) → is_refusal (done_reply m c) ≡ false
-not_refused m (Read id) = read_not (m id)
-not_refused m (Put id body) = put_not (m id)
-not_refused m (Delete id) = refl
-not_refused m (Attach child parent) = refl
-not_refused m (Detach child parent) = refl
-not_refused m Commit = refl
-not_refused m Abort = refl
-
 why : (cause : Option Cause) (done : Reply) (x : Cause) → refused_or cause done ≡ replies.Refused x → is_refusal done ≡ false → cause ≡ Some x
 why None done x e h = absurd (false≢true (sym h ∙ ap is_refusal e))
 why (Some cause) done x e h = cc
 
 refused_by : (m : CityMap) (c : Command) (x : Cause) → is_end c ≡ false → reply_to m c ≡ replies.Refused x → Refuses m c x
-refused_by m (Read id) x g e = why (cause_of m (Read id)) (done_reply m (Read id)) x e (not_refused m (Read id))
-refused_by m (Put id body) x g e = why (cause_of m (Put id body)) (done_reply m (Put id body)) x e (not_refused m (Put id body))
-refused_by m (Delete id) x g e = why (cause_of m (Delete id)) (done_reply m (Delete id)) x e (not_refused m (Delete id))
-refused_by m (Attach child parent) x g e = why (cause_of m (Attach child parent)) (done_reply m (Attach child parent)) x e (not_refused m (Attach child parent))
-refused_by m (Detach child parent) x g e = why (cause_of m (Detach child parent)) (done_reply m (Detach child parent)) x e (not_refused m (Detach child parent))
+refused_by m (Read id) x g e = why (cause_of m (Read id)) (done_reply m (Read id)) x e (done_unrefused m (Read id))
+refused_by m (Put id body) x g e = why (cause_of m (Put id body)) (done_reply m (Put id body)) x e (done_unrefused m (Put id body))
+refused_by m (Delete id) x g e = why (cause_of m (Delete id)) (done_reply m (Delete id)) x e (done_unrefused m (Delete id))
+refused_by m (Attach child parent) x g e = why (cause_of m (Attach child parent)) (done_reply m (Attach child parent)) x e (done_unrefused m (Attach child parent))
+refused_by m (Detach child parent) x g e = why (cause_of m (Detach child parent)) (done_reply m (Detach child parent)) x e (done_unrefused m (Detach child parent))
 refused_by m Commit x g e = absurd (false≢true (sym g))
 refused_by m Abort x g e = absurd (false≢true (sym g))
 
