@@ -1,6 +1,7 @@
 pub mod Adding
 pub mod Applied
 pub mod CrewFaults
+pub mod CrewResults
 pub mod Crossing
 pub mod HeldEdits
 pub mod KeptRule

@@ -6,4 +6,5 @@ pub mod HistoryRule
 pub mod HistoryValue
 pub mod NoCity
 pub mod Rising
+pub mod Seen
 pub mod Versions

@@ -1,11 +1,9 @@
 //! What the viewers of a run saw.
-ghost use Rattle.std.specs.Prelude.{◌≡◌, ◌≤◌, All, IfOk, vec_len};
-ghost use Rattle.city_model.specs.SerialEnds.{commits_in};
-ghost use Rattle.city_crew.specs.Rising.{Rises, last_of};
+ghost use Rattle.std.specs.Prelude.{◌≡◌, ◌≤◌, All, IfOk};
+ghost use Rattle.city_crew.specs.Seen.{AreSeen};
 
 use crate::fault::CrewFault;
 use crate::watcher::Watcher;
-use city_model::end::{End, Outcome};
 use std::alloc::Global;
 
 /// Has each watcher look once more, after so many commits, and gives what each of so many saw.
@@ -17,8 +15,7 @@ pub fn last_looks(
     count: usize,
     commits: u64,
 ) -> Result<Vec<Vec<u64>>, CrewFault>
-    ensures count { IfOk result (λ seen. vec_len seen ≡ count) }
-    ensures seen { IfOk result (λ seen. All (λ s. Rises s.items × (commits ≤ last_of s.items)) seen.items) }
+    ensures { IfOk result (λ seen. AreSeen count commits seen.items) }
 {
     let mut seen = Vec::new(alloc);
     for watcher in watchers {
@@ -43,24 +40,4 @@ pub fn last_looks(
         return Err(CrewFault::Mixed);
     }
     Ok(seen)
-}
-
-/// How many of the ends are commits.
-pub fn count_commits(ends: &[End]) -> u64
-    ensures { result ≡ commits_in ends.now }
-{
-    let mut commits = 0;
-    for end in ends {
-        if is_commit(&end.outcome) {
-            commits += 1;
-        }
-    }
-    commits
-}
-
-/// Whether it is that of a commit.
-fn is_commit(outcome: &Outcome) -> bool
-    ensures { result ≡ is_commit outcome.now }
-{
-    matches!(outcome, Outcome::Committed)
 }

@@ -3,6 +3,7 @@
 
 mod apply;
 pub mod board;
+mod commits;
 mod counts;
 mod fault;
 pub mod gate;

@@ -1,17 +1,17 @@
 //! Runs the scripts of a text on the city of a document, with workers and viewers.
-ghost use Rattle.std.specs.Prelude.{◌≡◌, ◌≤◌, All, IfOk, IfErr, vec_len};
+ghost use Rattle.std.specs.Prelude.{◌≡◌, ◌≤◌, IfOk, IfErr};
 ghost use Rattle.city_model.specs.CityMap.{at};
 ghost use Rattle.city_model.specs.Relations.{IsLawful};
 ghost use Rattle.city_model.specs.SerialEnds.{commits_in};
 ghost use Rattle.city_crew.specs.CrewFaults.{IsCrewRunFault};
 ghost use Rattle.city_crew.specs.CrewRuns.{IsReadFrom, IsCrewRun};
-ghost use Rattle.city_crew.specs.Rising.{Rises, last_of};
+ghost use Rattle.city_crew.specs.Seen.{AreSeen};
 
 use crate::board::board;
+use crate::commits::count_commits;
 use crate::fault::CrewFault;
 use crate::gate::Gate;
-use crate::last_looks::{count_commits, last_looks};
-use crate::poster::Poster;
+use crate::last_looks::last_looks;
 use crate::state::State;
 use crate::threads::run_threads;
 use crate::viewer::Viewer;
@@ -52,10 +52,10 @@ pub fn run_crew<R: Threads + Wait + Sync, G: Gate + Sync>(
     viewers: usize,
     gate: &G,
 ) -> Result<Output, RunFault>
+    requires workers { (1 ≤ workers) × (workers ≤ 16) }
     requires viewers { viewers ≤ 4 }
     ensures ran { IfOk result (λ o. IsCrewRun document.now scripts.now o.ends o.bytes.items) }
-    ensures viewers { IfOk result (λ o. vec_len o.seen ≡ viewers) }
-    ensures seen { IfOk result (λ o. All (λ s. Rises s.items × (commits_in o.ends ≤ last_of s.items)) o.seen.items) }
+    ensures seen { IfOk result (λ o. AreSeen viewers (commits_in o.ends) o.seen.items) }
     ensures fault { IfErr result (λ f. IsCrewRunFault document.now scripts.now f) }
 {
     let city = read_city(alloc, document)?;
@@ -74,7 +74,7 @@ fn open<'r, R: Wait>(
     city: City,
     list: Sequence<Script>,
     viewers: usize,
-) -> Result<(State<Poster<&'r R>>, Vec<Viewer>), CrewFault>
+) -> Result<(State<&'r R>, Vec<Viewer>), CrewFault>
     requires lawful { IsLawful (at city.1) }
     requires read { IsReadFrom document.now scripts.now city list }
     requires viewers { viewers ≤ 4 }
@@ -93,28 +93,27 @@ fn run<R: Threads + Wait + Sync, G: Gate + Sync>(
     alloc: Global,
     document: &[u8],
     scripts: &[u8],
-    state: State<Poster<&R>>,
+    state: State<&R>,
     places: Vec<Viewer>,
     workers: usize,
     viewers: usize,
     gate: &G,
 ) -> Result<Output, CrewFault>
     ensures ran { IfOk result (λ o. IsCrewRun document.now scripts.now o.ends o.bytes.items) }
-    ensures viewers { IfOk result (λ o. vec_len o.seen ≡ viewers) }
-    ensures seen { IfOk result (λ o. All (λ s. Rises s.items × (commits_in o.ends ≤ last_of s.items)) o.seen.items) }
+    ensures seen { IfOk result (λ o. AreSeen viewers (commits_in o.ends) o.seen.items) }
 {
     let watchers = watchers_of(alloc, places)?;
     let shared = Shared {
-        state: Mutex::new(state),
+        turns: Mutex::new(state),
         moved: Condvar::new(),
     };
     let watchers = run_threads(rt, alloc, &shared, gate, workers, watchers)?;
-    let Shared { state, moved: _moved } = shared;
+    let Shared { turns, moved: _moved } = shared;
     let Finished {
         city,
         ends,
         mut shelf,
-    } = state.into_inner().end(document, scripts)?;
+    } = turns.into_inner().end(document, scripts)?;
     shelf.show(rt)?;
     let commits = count_commits(ends.as_slice());
     let seen = last_looks(alloc, watchers, viewers, commits)?;

@@ -2,12 +2,13 @@
 ghost use Rattle.std.specs.Prelude.{◌≡◌, IfOk};
 ghost use Rattle.city_crew.specs.CrewRuns.{IsReadFrom, IsResult};
 
+use crate::commits::is_commit;
 use crate::fault::CrewFault;
+use crate::poster::Poster;
+use crate::work::Turns;
 use city_desk::desk::{Desk, Finished};
-use city_desk::shelf::Shelf;
 use city_desk::turn::Turn;
-use city_model::OutOfMemory;
-use city_model::end::Outcome;
+use city_model::end::End;
 use std::marker::Model;
 use std::sync::Wait;
 
@@ -15,15 +16,15 @@ use std::sync::Wait;
 ///
 /// Contracts see nothing of it before its end.
 #[derive(Drop)]
-pub struct State<S: Shelf> {
+pub struct State<R: Wait + Drop> {
     document: Vec<u8>,
     scripts: Vec<u8>,
-    desk: Desk<S>,
+    desk: Desk<Poster<R>>,
     /// How many turns ended a script or killed it.
     moves: u64,
 }
 
-impl<S: Shelf> Model for State<S> {
+impl<R: Wait + Drop> Model for State<R> {
     ghost use Rattle.city_crew.specs.CrewRuns.{IsReadFrom};
 
     ghost Value = { Unit {0} };
@@ -33,9 +34,9 @@ impl<S: Shelf> Model for State<S> {
     ghost invariant = { λ s. IsReadFrom s.document.items s.scripts.items s.desk.0.start s.desk.0.scripts };
 }
 
-impl<S: Shelf> State<S> {
+impl<R: Wait + Drop> State<R> {
     /// A desk that was opened over what the texts stand for.
-    pub fn new(document: Vec<u8>, scripts: Vec<u8>, desk: Desk<S>) -> State<S>
+    pub fn new(document: Vec<u8>, scripts: Vec<u8>, desk: Desk<Poster<R>>) -> State<R>
         requires { IsReadFrom document.items scripts.items desk.0.start desk.0.scripts }
     {
         State {
@@ -46,44 +47,9 @@ impl<S: Shelf> State<S> {
         }
     }
 
-    /// The next script to be worked on.
-    pub fn take(&mut self) -> Option<usize> {
-        self.desk.take()
-    }
-
-    /// How many turns ended a script or killed it.
-    pub fn moves(&self) -> u64 {
-        self.moves
-    }
-
-    /// The next turn of a script; it has ended already where there is no such script.
-    pub fn turn(&mut self, script: usize) -> Turn {
-        if script >= self.desk.scripts() {
-            return Turn::AlreadyEnded;
-        }
-        let turn = self.desk.turn(script);
-        if matches!(turn, Turn::Ended | Turn::Died) {
-            self.moves = self.moves.wrapping_add(1);
-        }
-        turn
-    }
-
-    /// Whether the script that ended last was committed.
-    pub fn was_committed(&self) -> bool {
-        match self.desk.ends().last() {
-            Some(end) => matches!(end.outcome, Outcome::Committed),
-            None => false,
-        }
-    }
-
-    /// Shows the shelf as it is.
-    pub fn show<R: Wait>(&mut self, rt: &R) -> Result<S::Note, OutOfMemory> {
-        self.desk.show(rt)
-    }
-
     /// What the run came to. It is mixed up where its texts aren't these, and unfinished where a
     /// script hasn't ended.
-    pub fn end(self, document: &[u8], scripts: &[u8]) -> Result<Finished<S>, CrewFault>
+    pub fn end(self, document: &[u8], scripts: &[u8]) -> Result<Finished<Poster<R>>, CrewFault>
         ensures { IfOk result (λ f. IsResult document.now scripts.now f.city f.ends) }
     {
         if self.document.as_slice() != document || self.scripts.as_slice() != scripts {
@@ -99,5 +65,40 @@ impl<S: Shelf> State<S> {
             Ok(finished) => Ok(finished),
             Err(_) => Err(CrewFault::Unfinished),
         }
+    }
+}
+
+impl<R: Wait + Drop> Turns for State<R> {
+    fn take(&mut self) -> Option<usize> {
+        self.desk.take()
+    }
+
+    fn turn(&mut self, script: usize) -> Turn {
+        if script >= self.desk.scripts() {
+            return Turn::AlreadyEnded;
+        }
+        let turn = self.desk.turn(script);
+        if matches!(turn, Turn::Ended | Turn::Died) {
+            self.moves = self.moves.wrapping_add(1);
+        }
+        turn
+    }
+
+    fn moves(&self) -> u64 {
+        self.moves
+    }
+
+    fn show_commit<Q: Wait>(&mut self, rt: &Q) {
+        if was_committed(self.desk.ends().last()) {
+            drop(self.desk.show(rt));
+        }
+    }
+}
+
+/// Whether there is an end, and it is a commit's.
+fn was_committed(last: Option<&End>) -> bool {
+    match last {
+        Some(end) => is_commit(&end.outcome),
+        None => false,
     }
 }

@@ -2,8 +2,7 @@
 use crate::fault::CrewFault;
 use crate::gate::Gate;
 use crate::watcher::Watch;
-use crate::work::{Shared, work};
-use city_desk::shelf::Shelf;
+use crate::work::{Shared, Turns, work};
 use std::alloc::Global;
 use std::sync::Wait;
 use std::sync::atomic::{AtomicBool, Ordering};
@@ -13,10 +12,10 @@ use std::thread::{JoinHandle, Scope, Threads};
 /// Runs so many workers to their ends, and the watchers beside them; gives the watchers back.
 ///
 /// All threads are joined, also where one couldn't be made.
-pub fn run_threads<R: Threads + Wait + Sync, S: Shelf + Send, G: Gate + Sync, W: Watch + Send>(
+pub fn run_threads<R: Threads + Wait + Sync, T: Turns + Send, G: Gate + Sync, W: Watch + Send>(
     rt: &R,
     alloc: Global,
-    shared: &Shared<S>,
+    shared: &Shared<T>,
     gate: &G,
     workers: usize,
     watchers: Vec<W>,
@@ -41,9 +40,9 @@ pub fn run_threads<R: Threads + Wait + Sync, S: Shelf + Send, G: Gate + Sync, W:
 }
 
 /// Runs so many workers to their ends. False where one of their threads couldn't be made.
-fn run_workers<R: Threads + Wait + Sync, S: Shelf + Send, G: Gate + Sync>(
+fn run_workers<R: Threads + Wait + Sync, T: Turns + Send, G: Gate + Sync>(
     rt: &R,
-    shared: &Shared<S>,
+    shared: &Shared<T>,
     gate: &G,
     workers: usize,
 ) -> bool {

@@ -1,22 +1,36 @@
 //! The workers of a run.
 use crate::gate::Gate;
-use crate::state::State;
-use city_desk::shelf::Shelf;
 use city_desk::turn::Turn;
 use std::sync::{Condvar, Mutex, MutexGuard, Wait};
 
+/// Scripts that take turns, of which workers hand out the next one to themselves.
+pub trait Turns: Drop {
+    /// The next script to be worked on.
+    fn take(&mut self) -> Option<usize>;
+
+    /// The next turn of a script; it has ended already where there is no such script.
+    fn turn(&mut self, script: usize) -> Turn;
+
+    /// How many turns ended a script or killed it.
+    fn moves(&self) -> u64;
+
+    /// Shows the change of the script that ended last, if it was committed. Where that is refused a
+    /// later one shows it.
+    fn show_commit<R: Wait>(&mut self, rt: &R);
+}
+
 /// What the workers share.
 #[derive(Drop)]
-pub struct Shared<S: Shelf> {
-    pub state: Mutex<State<S>>,
+pub struct Shared<T: Turns> {
+    pub turns: Mutex<T>,
     /// Notified by each turn that ends a script or kills it.
     pub moved: Condvar,
 }
 
 /// Turns scripts to their ends, one after the other, until all were handed out.
-pub fn work<R: Wait, S: Shelf, G: Gate>(rt: &R, shared: &Shared<S>, gate: &G) {
+pub fn work<R: Wait, T: Turns, G: Gate>(rt: &R, shared: &Shared<T>, gate: &G) {
     for _ in rt.forever() {
-        let taken = shared.state.lock(rt).take();
+        let taken = shared.turns.lock(rt).take();
         let Some(script) = taken else {
             return;
         };
@@ -25,7 +39,7 @@ pub fn work<R: Wait, S: Shelf, G: Gate>(rt: &R, shared: &Shared<S>, gate: &G) {
 }
 
 /// Turns a script to its end.
-fn turn_to_end<R: Wait, S: Shelf, G: Gate>(rt: &R, shared: &Shared<S>, gate: &G, script: usize) {
+fn turn_to_end<R: Wait, T: Turns, G: Gate>(rt: &R, shared: &Shared<T>, gate: &G, script: usize) {
     let mut replies = 0usize;
     for _ in rt.forever() {
         gate.pass(script, replies);
@@ -38,21 +52,19 @@ fn turn_to_end<R: Wait, S: Shelf, G: Gate>(rt: &R, shared: &Shared<S>, gate: &G,
     }
 }
 
-/// One turn of a script. One that waits or died returns after another turn ended a script or killed
-/// it. The change of a commit is shown; where that is refused a later one shows it.
-fn turn_once<R: Wait, S: Shelf>(rt: &R, shared: &Shared<S>, script: usize) -> Turn {
-    let mut state = shared.state.lock(rt);
-    let turn = state.turn(script);
+/// One turn of a script. One that waits or died returns after another turn has ended a script or
+/// killed it.
+fn turn_once<R: Wait, T: Turns>(rt: &R, shared: &Shared<T>, script: usize) -> Turn {
+    let mut turns = shared.turns.lock(rt);
+    let turn = turns.turn(script);
     match turn {
-        Turn::Waits => wait(rt, shared, state),
+        Turn::Waits => wait(rt, shared, turns),
         Turn::Died => {
             shared.moved.notify_all();
-            wait(rt, shared, state);
+            wait(rt, shared, turns);
         }
         Turn::Ended => {
-            if state.was_committed() {
-                drop(state.show(rt));
-            }
+            turns.show_commit(rt);
             shared.moved.notify_all();
         }
         _ => {}
@@ -61,7 +73,7 @@ fn turn_once<R: Wait, S: Shelf>(rt: &R, shared: &Shared<S>, script: usize) -> Tu
 }
 
 /// Waits until another turn has ended a script or killed it.
-fn wait<R: Wait, S: Shelf>(rt: &R, shared: &Shared<S>, state: MutexGuard<'_, State<S>>) {
-    let seen = state.moves();
-    let _state = shared.moved.wait_while(rt, state, |now| now.moves() == seen);
+fn wait<R: Wait, T: Turns>(rt: &R, shared: &Shared<T>, turns: MutexGuard<'_, T>) {
+    let seen = turns.moves();
+    let _turns = shared.moved.wait_while(rt, turns, |now| now.moves() == seen);
 }

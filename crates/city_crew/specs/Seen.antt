@@ -1,0 +1,10 @@
+-- What the viewers of a run saw.
+use Rattle.std.specs.Prelude.{◌≡◌, ◌≤◌, ℕ, List, length, All}
+use Rattle.std.specs.Global.{Vec}
+use Rattle.city_crew.specs.Rising.{Rises, last_of}
+
+-- so many viewers saw more and more changes, each of them at last no fewer than so many
+pub record AreSeen (viewers commits : ℕ) (seen : List (Vec ℕ)) : Type 0 where
+  pub one_each : length seen ≡ viewers
+  pub rising : All (λ s. Rises s.items) seen
+  pub enough : All (λ s. commits ≤ last_of s.items) seen
