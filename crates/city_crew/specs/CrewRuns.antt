@@ -1,12 +1,11 @@
 -- Scripts run by workers whose steps interleave in any way.
-use Rattle.std.specs.Prelude.{◌≡◌, ◌<◌, ℕ, List, length, take, true}
+use Rattle.std.specs.Prelude.{◌≡◌, ℕ, List, length, take}
 use Rattle.city_model.specs.declared.end.End.{End}
 use Rattle.city_model.specs.CityMap.{CityValue, at}
 use Rattle.city_model.specs.Relations.{IsLawful}
-use Rattle.city_model.specs.Runs.{Scripted, Fits, model_after, has_end}
+use Rattle.city_model.specs.Runs.{Scripted, Fits, model_after}
 use Rattle.city_doc.specs.Documents.{StandsForCity, IsAdmitted}
 use Rattle.city_doc.specs.ScriptTexts.{StandsForScripts, IsReadAs}
-use Rattle.city_doc.specs.Outputs.{IsOutput}
 
 -- the city and the scripts that two texts stand for
 pub record IsReadFrom (document scripts : List ℕ) (city : CityValue) (list : List Scripted) : Type 0 where
@@ -20,23 +19,8 @@ pub record IsResult (document scripts : List ℕ) (left : CityValue) (ends : Lis
   pub city : CityValue
   pub list : List Scripted
   pub read : IsReadFrom document scripts city list
-  pub all_ended : (n : ℕ) → n < length list → has_end n ends ≡ true
+  pub each_once : length ends ≡ length list
   pub fits : Fits list (at city.1) ends
   pub lawful : (n : ℕ) → IsLawful (model_after list (at city.1) (take n ends))
   pub frame : left.0 ≡ city.0
   pub model : at left.1 ≡ model_after list (at city.1) ends
-
--- The scripts of a text, run on the city of a document: their ends, and what is written. All scripts have
--- ended. The ends are those of scripts run one at a time in this order, none of them twice, and after each
--- of them the model is lawful. What is written is their report, and the model that they leave.
-pub record IsCrewRun (document scripts : List ℕ) (ends : List End) (bytes : List ℕ) : Type 0 where
-  pub city : CityValue
-  pub list : List Scripted
-  pub stands_for_city : StandsForCity document city
-  pub stands_for_scripts : StandsForScripts scripts list
-  pub admitted : IsAdmitted document city
-  pub read_as : IsReadAs scripts list
-  pub all_ended : (n : ℕ) → n < length list → has_end n ends ≡ true
-  pub fits : Fits list (at city.1) ends
-  pub lawful : (n : ℕ) → IsLawful (model_after list (at city.1) (take n ends))
-  pub output : IsOutput city list ends bytes

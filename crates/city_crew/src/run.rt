@@ -3,8 +3,9 @@ ghost use Rattle.std.specs.Prelude.{◌≡◌, ◌≤◌, IfOk, IfErr};
 ghost use Rattle.city_model.specs.CityMap.{at};
 ghost use Rattle.city_model.specs.Relations.{IsLawful};
 ghost use Rattle.city_model.specs.SerialEnds.{commits_in};
-ghost use Rattle.city_crew.specs.CrewFaults.{IsCrewRunFault};
-ghost use Rattle.city_crew.specs.CrewRuns.{IsReadFrom, IsCrewRun};
+ghost use Rattle.city_desk.specs.RunFaults.{IsRunFault};
+ghost use Rattle.city_desk.specs.TextRuns.{IsRun};
+ghost use Rattle.city_crew.specs.CrewRuns.{IsReadFrom};
 ghost use Rattle.city_crew.specs.Seen.{AreSeen};
 
 use crate::board::board;
@@ -54,9 +55,9 @@ pub fn run_crew<R: Threads + Wait + Sync, G: Gate + Sync>(
 ) -> Result<Output, RunFault>
     requires workers { (1 ≤ workers) × (workers ≤ 16) }
     requires viewers { viewers ≤ 4 }
-    ensures ran { IfOk result (λ o. IsCrewRun document.now scripts.now o.ends o.bytes.items) }
+    ensures ran { IfOk result (λ o. IsRun document.now scripts.now o.ends o.bytes.items) }
     ensures seen { IfOk result (λ o. AreSeen viewers (commits_in o.ends) o.seen.items) }
-    ensures fault { IfErr result (λ f. IsCrewRunFault document.now scripts.now f) }
+    ensures fault { IfErr result (λ f. IsRunFault document.now scripts.now f) }
 {
     let city = read_city(alloc, document)?;
     let list = read_scripts(alloc, scripts)?;
@@ -99,7 +100,7 @@ fn run<R: Threads + Wait + Sync, G: Gate + Sync>(
     viewers: usize,
     gate: &G,
 ) -> Result<Output, CrewFault>
-    ensures ran { IfOk result (λ o. IsCrewRun document.now scripts.now o.ends o.bytes.items) }
+    ensures ran { IfOk result (λ o. IsRun document.now scripts.now o.ends o.bytes.items) }
     ensures seen { IfOk result (λ o. AreSeen viewers (commits_in o.ends) o.seen.items) }
 {
     let watchers = watchers_of(alloc, places)?;
@@ -109,11 +110,12 @@ fn run<R: Threads + Wait + Sync, G: Gate + Sync>(
     };
     let watchers = run_threads(rt, alloc, &shared, gate, workers, watchers)?;
     let Shared { turns, moved: _moved } = shared;
+    let finished = turns.into_inner().end(document, scripts)?;
     let Finished {
         city,
         ends,
         mut shelf,
-    } = turns.into_inner().end(document, scripts)?;
+    } = finished;
     shelf.show(rt)?;
     let commits = count_commits(ends.as_slice());
     let seen = last_looks(alloc, watchers, viewers, commits)?;

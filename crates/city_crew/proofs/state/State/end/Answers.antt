@@ -1,4 +1,4 @@
-use Rattle.std.proofs.Common.{rules, ◌≡◌, ℕ, List, refl, subst}
+use Rattle.std.proofs.Common.{rules, ◌≡◌, ℕ, List, subst}
 use Rattle.city_crew.specs.CrewRuns.{IsReadFrom}
 use Rattle.city_crew.proofs.CrewResults.{is_result}
 use Rattle.city_crew.proofs.state.State.end.Goals as goal
@@ -13,4 +13,4 @@ returns-in-Ok g c =
         subst (λ (t : List ℕ). IsReadFrom c.args.document.now t d.start d.scripts) scripts
           (subst (λ (t : List ℕ). IsReadFrom t s.scripts.items d.start d.scripts) document c.self.invariant) in
     is_result c.args.document.now c.args.scripts.now d _ _ c.in-Ok.finished.city c.in-Ok.finished.ends
-      read c.in-Ok.ensures.serial (c.in-Ok.ensures.ended.0 refl) c.in-Ok.ensures.frame c.in-Ok.ensures.city c.in-Ok.ensures.ends
+      read c.in-Ok.ensures.serial c.in-Ok.ensures.each_once c.in-Ok.ensures.frame c.in-Ok.ensures.city c.in-Ok.ensures.ends
