@@ -98,6 +98,23 @@ fn runs_write_the_report_and_the_model(rt: HostRuntime) -> Result<(), Fail> {
 }
 
 #[test]
+fn two_workers_and_a_viewer_leave_the_same_model(rt: HostRuntime) -> Result<(), Fail> {
+    let text = input(rt.alloc(), COMMIT_AND_ABORT.document, COMMIT_AND_ABORT.scripts)?;
+    let mut reader = Device::new(text.as_bytes());
+    let mut written = Vec::new(rt.alloc());
+    let mut writer = Device::new(&mut written);
+    let seen = serve(&rt, rt.alloc(), &mut reader, &mut writer, 2, 1)?;
+    let mut model = COMMIT_AND_ABORT.model.to_string(rt.alloc())?;
+    model.push_str("\n")?;
+    assert!(rt; written.as_slice().ends_with(model.as_bytes()));
+    assert_eq!(rt; seen.len(), 1);
+    for numbers in seen.as_slice() {
+        assert_eq!(rt; numbers.last(), Some(&1));
+    }
+    Ok(())
+}
+
+#[test]
 fn refused_inputs_are_told_and_nothing_is_written(rt: HostRuntime) -> Result<(), Fail> {
     let cases = [
         ("{\"type\":\"CityJSON\"\n[]", "cityed: model: 2 NotJson"),
