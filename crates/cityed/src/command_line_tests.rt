@@ -103,7 +103,7 @@ fn two_texts_are_served_or_refused_in_their_order(rt: HostRuntime) -> Result<(),
         let mut written = Vec::new(rt.alloc());
         let mut writer = Device::new(&mut written);
         let texts = (document.as_bytes(), scripts.as_bytes());
-        let line = match serve_texts(rt.alloc(), texts.0, texts.1, &mut writer, 1, 0) {
+        let line = match serve_texts(&rt, rt.alloc(), texts.0, texts.1, &mut writer, 1, 0) {
             Ok(_) => "".to_string(rt.alloc())?,
             Err(fault) => fault_line(rt.alloc(), &fault)?,
         };

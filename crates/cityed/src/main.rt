@@ -14,6 +14,8 @@ mod device_tests;
 mod fault;
 mod fault_line;
 mod files;
+mod run;
+mod seen_line;
 mod serve;
 mod serve_texts;
 #[cfg(test)]
@@ -24,10 +26,13 @@ use device::Device;
 use city_desk::fault::RunFault;
 use fault::ServeFault;
 use files::read_file;
+use seen_line::seen_line;
 use serve::{serve, write_output};
 use serve_texts::serve_texts;
 use std::io::ErrorKind;
 use std::process::ExitCode;
+use std::sync::Wait;
+use std::thread::Threads;
 use std::{env, io};
 
 fn main(rt: HostRuntime) -> ExitCode {
@@ -36,7 +41,7 @@ fn main(rt: HostRuntime) -> ExitCode {
         Err(fault) => return refuse_line(&rt, &fault),
     };
     match asked_by(rt.alloc(), words.as_slice()) {
-        Ok(asked) => match answer(&rt, &asked) {
+        Ok(asked) => match answer(&rt, &rt, &asked) {
             Ok(()) => ExitCode::SUCCESS,
             Err(fault) => refuse(&rt, &fault),
         },
@@ -55,8 +60,12 @@ fn words(rt: &HostRuntime) -> Result<Vec<String>, LineFault> {
     }
 }
 
-/// Does what is asked for.
-fn answer(rt: &HostRuntime, asked: &Asked<'_>) -> Result<(), ServeFault> {
+/// Does what is asked for. `threads` is the runtime again, which has threads in `main` alone.
+fn answer<T: Threads + Wait + Sync>(
+    rt: &HostRuntime,
+    threads: &T,
+    asked: &Asked<'_>,
+) -> Result<(), ServeFault> {
     let alloc = rt.alloc();
     let mut output = Device::new(io::writer(rt));
     match asked {
@@ -64,14 +73,29 @@ fn answer(rt: &HostRuntime, asked: &Asked<'_>) -> Result<(), ServeFault> {
             if !write_output(&mut output, text.as_bytes()) {
                 return Err(ServeFault::Write);
             }
+            Ok(())
         }
-        Asked::Input => drop(serve(alloc, &mut Device::new(rt.reader()), &mut output, 1, 0)?),
+        Asked::Input => {
+            let mut input = Device::new(rt.reader());
+            let seen = serve(threads, alloc, &mut input, &mut output, 1, 0)?;
+            tell_seen(rt, seen.as_slice())
+        }
         Asked::Files(model, scripts) => {
             let document = read_file(rt, *model)?;
             let scripts = read_file(rt, *scripts)?;
             let (document, scripts) = (document.as_slice(), scripts.as_slice());
-            drop(serve_texts(alloc, document, scripts, &mut output, 1, 0)?);
+            let seen = serve_texts(threads, alloc, document, scripts, &mut output, 1, 0)?;
+            tell_seen(rt, seen.as_slice())
         }
+    }
+}
+
+/// Tells on standard error what each viewer saw.
+fn tell_seen(rt: &HostRuntime, seen: &[Vec<u64>]) -> Result<(), ServeFault> {
+    for (viewer, numbers) in seen.iter().enumerate() {
+        let line = seen_line(rt.alloc(), viewer, numbers.as_slice())?;
+        // The output is written by then; where standard error fails, the status still says so.
+        let _ = rt.eprintln(line.as_str());
     }
     Ok(())
 }

@@ -1,5 +1,5 @@
 //! Serves a document and its scripts from a reader to a writer.
-ghost use Rattle.std.specs.Prelude.{◌≡◌, [], true, false, IfOk, IfErr, IfSome, OnOk, position, take};
+ghost use Rattle.std.specs.Prelude.{◌≡◌, ◌≤◌, true, false, IfOk, IfErr, IfSome, OnOk, position, take};
 ghost use Rattle.std.specs.Io.KnownBytes.{Appends};
 ghost use Rattle.cityed.specs.Served.{is_newline, max_input, document_of, scripts_of, IsServed, IsReadFault, IsServeFault};
 ghost use Rattle.cityed.specs.ServedTexts.{LosesAtMost, AppendsSome};
@@ -10,6 +10,8 @@ use crate::serve_texts::serve_texts;
 use city_doc::parse::MAX_TEXT;
 use std::alloc::Global;
 use std::io::{Read, Write};
+use std::sync::Wait;
+use std::thread::Threads;
 
 /// The most bytes that are read: two texts of the greatest length, the newline, and one more.
 const MOST: usize = 2 * MAX_TEXT + 2;
@@ -17,30 +19,31 @@ const MOST: usize = 2 * MAX_TEXT + 2;
 /// Reads a document and, after the first newline, scripts; runs the scripts on the document; writes
 /// the output.
 ///
-/// No more bytes are taken from the reader than 2 * `MAX_TEXT` + 2. Without a newline there are no scripts. Where the reader
-/// fails, or the run has no output, nothing is written; where the writer fails, it has got the first
-/// bytes of the output. `Read` and `Write` come only where the reader or the writer has failed, and
-/// where either fails in this call there is no `Ok`.
-pub fn serve<R: Read, W: Write>(
+/// Workers are 1 to 16, viewers 0 to 4. No more bytes are taken from the reader than 2 * `MAX_TEXT` + 2.
+/// Without a newline there are no scripts. Where the reader fails, or the run has no output, nothing is
+/// written; where the writer fails, it has got the first bytes of the output. `Read` and `Write` come only
+/// where the reader or the writer has failed, and where either fails in this call there is no `Ok`. The
+/// answer has, for each viewer, the numbers of changes that it saw.
+pub fn serve<T: Threads + Wait + Sync, R: Read, W: Write>(
+    rt: &T,
     alloc: Global,
     reader: &mut Device<R>,
     writer: &mut Device<W>,
     workers: usize,
     viewers: usize,
 ) -> Result<Vec<Vec<u64>>, ServeFault>
-    requires one_worker { workers ≡ 1 }
-    requires no_viewer { viewers ≡ 0 }
-    ensures served { OnOk result (IfSome (R.remaining reader.old.0)
-        (λ input. IsServed input (W.contents writer.old.0) (W.contents writer.new.0))) }
-    ensures seen { IfOk result (λ seen. seen.items ≡ []) }
+    requires workers { (1 ≤ workers) × (workers ≤ 16) }
+    requires viewers { viewers ≤ 4 }
+    ensures served { IfOk result (λ seen. IfSome (R.remaining reader.old.0) (λ input.
+        IsServed input workers viewers seen.items (W.contents writer.old.0) (W.contents writer.new.0))) }
     ensures taken { LosesAtMost max_input (R.remaining reader.old.0) (R.remaining reader.new.0) }
     ensures unfailed { OnOk result ((reader.new.1 ≡ reader.old.1) × (writer.new.1 ≡ writer.old.1)) }
-    ensures fault { IfErr result (IsServeFault (R.remaining reader.old.0) reader.new.1
+    ensures fault { IfErr result (IsServeFault (R.remaining reader.old.0) workers viewers reader.new.1
         (W.contents writer.old.0) (W.contents writer.new.0) writer.new.1) }
 {
     let input = read_at_most(alloc, reader, MOST)?;
     let (document, scripts) = cut(input.as_slice());
-    serve_texts(alloc, document, scripts, writer, workers, viewers)
+    serve_texts(rt, alloc, document, scripts, writer, workers, viewers)
 }
 
 /// What a reader gives, but no more than so many bytes; nor are more taken from it.
