@@ -12,7 +12,7 @@ use city_model::text::Text;
 use city_txn::step::{Prepared, Step, TxnFault};
 use city_txn::txn_core::Core;
 use serde_json::Value;
-use std::alloc::Global;
+use std::alloc::{AllocError, Global};
 use std::fmt::Write;
 use std::test::Fail;
 
@@ -128,7 +128,10 @@ fn act(core: &mut Core, alloc: Global, stamp: u64, command: &Command) -> Result<
 }
 
 /// The ids that a change sets and takes out.
-fn change_text(alloc: Global, change: &[(Text, Option<Object>)]) -> Result<String, Fail> {
+pub fn change_text(
+    alloc: Global,
+    change: &[(Text, Option<Object>)],
+) -> Result<String, AllocError> {
     let mut all = "committed".to_string(alloc)?;
     for (id, object) in change {
         all.push_str(if object.is_some() { " +" } else { " -" })?;
@@ -147,7 +150,7 @@ fn commit(core: &mut Core, alloc: Global, stamp: u64) -> Result<String, Fail> {
         Ok(Prepared::Refused(cause)) => cause_text(alloc, &cause),
         Ok(Prepared::Ready(change)) => {
             core.commit(stamp);
-            change_text(alloc, change.as_slice())
+            Ok(change_text(alloc, change.as_slice())?)
         }
     }
 }
