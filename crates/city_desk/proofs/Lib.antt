@@ -3,10 +3,12 @@ pub mod AttemptSteps
 pub mod AttemptsKept
 pub mod BeginTurns
 pub mod Closed
+pub mod OneRun
 pub mod OpenTurns
 pub mod Opened
-pub mod ScriptReads
 pub mod RoomKept
+pub mod RunFaults
+pub mod ScriptReads
 pub mod Scripted
 pub mod SerialKept
 pub mod Shelved

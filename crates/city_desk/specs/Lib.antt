@@ -5,5 +5,8 @@ pub mod InTurn
 pub mod Opening
 pub mod Ready
 pub mod Room
+pub mod RunFaults
 pub mod Serial
+pub mod SerialRuns
+pub mod TextRuns
 pub mod Turning

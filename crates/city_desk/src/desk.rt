@@ -260,6 +260,7 @@ impl<S: Shelf> Desk<S> {
     /// Takes no memory.
     pub fn finish(self) -> Result<Finished<S>, Desk<S>>
         ensures ended { IsOk result ↔ ((n : ℕ) → n < length self.0.scripts → has_end n self.0.ends ≡ true) }
+        ensures each_once { IfOk result (λ f. length f.ends ≡ length self.0.scripts) }
         ensures frame { IfOk result (λ f. f.city.0 ≡ self.0.start.0) }
         ensures city { IfOk result (λ f. at f.city.1 ≡ model_after self.0.scripts (at self.0.start.1) self.0.ends) }
         ensures ends { IfOk result (λ f. f.ends ≡ self.0.ends) }

@@ -38,17 +38,17 @@ module _ {K X : Type 0} (R : K → K → Ordering) where
   them_above k [] h = tt
   them_above k (e ∷ es) h = let parts = T_and (is_lt (R k e.0)) (below_all R k es) h in (less_by (R k e.0) parts.0, them_above k es parts.1)
 
-  in_order : (es : List (K × X)) → IsStrictlySortedBy R (keys_of es) → T (is_sorted R es)
+  pub in_order : (es : List (K × X)) → IsStrictlySortedBy R (keys_of es) → T (is_sorted R es)
   unfolding IsStrictlySortedBy
   in_order [] h = tt
   in_order (e ∷ es) h = and_T (below_all R e.0 es) (is_sorted R es) (below_them e.0 es h.0) (in_order es h.1)
 
-  ascending : (es : List (K × X)) → T (is_sorted R es) → IsStrictlySortedBy R (keys_of es)
+  pub ascending : (es : List (K × X)) → T (is_sorted R es) → IsStrictlySortedBy R (keys_of es)
   unfolding IsStrictlySortedBy
   ascending [] h = tt
   ascending (e ∷ es) h = let parts = T_and (below_all R e.0 es) (is_sorted R es) h in (them_above e.0 es parts.0, ascending es parts.1)
 
-  find_is_lookup : (q : K) (es : List (K × X)) → find R q es ≡ lookup (is_at (R q)) es
+  pub find_is_lookup : (q : K) (es : List (K × X)) → find R q es ≡ lookup (is_at (R q)) es
   find_is_lookup q [] = refl
   find_is_lookup q (e ∷ es) = ap (λ r. cond (eq_by_cmp R q e.0) (Some e.1) r) (find_is_lookup q es)
 

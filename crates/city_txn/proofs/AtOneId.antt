@@ -6,7 +6,7 @@ use Rattle.std.specs.Cmp.{unsigned_tied, eq_by_cmp_equiv}
 use Rattle.std.specs.Ordering.{nat_cmp, eq_by_cmp}
 use Rattle.std.specs.Cmp.Lexicographic.{slice_cmp}
 use Rattle.std.specs.BTreeMap.{is_at}
-use Rattle.std.specs.FinMap.{entries, from_sorted}
+use Rattle.std.specs.FinMap.{entries, get, from_sorted}
 use Rattle.std.specs.List.{AllByRecursion}
 use Rattle.std.specs.List.Sorted.{IsStrictlySortedBy}
 use Rattle.std.proofs.lemmas.Bool.{false≢true}
@@ -15,7 +15,7 @@ use Rattle.std.proofs.lemmas.Map.{lookup-none}
 use Rattle.std.proofs.lemmas.Map.Keys.{IsDistinct-from_sorted, sorted_tail}
 use Rattle.std.proofs.lemmas.Map.Entries.{none_past_head}
 use Rattle.city_model.specs.declared.object.Object.{Object}
-use Rattle.city_model.specs.CityMap.{Entries, Objects, at, same_id}
+use Rattle.city_model.specs.CityMap.{Entries, Objects, at, has_id, same_id}
 use Rattle.city_model.proofs.Objects.{at_entries, entries_ascend, at_sorted, same_objects}
 use Rattle.city_model.proofs.Ids.{same_id_true}
 use Rattle.city_model.proofs.IdLists.{bool_cases}
@@ -24,7 +24,9 @@ use Rattle.city_txn.specs.declared.store.Store.TheInside.{Inside}
 use Rattle.city_txn.specs.Images.{seen_under, before_image, seen_by, committed_at, write_at, writer_of}
 use Rattle.city_txn.specs.State.{write_of, own_or, committed, view}
 use Rattle.city_txn.specs.Changing.{or_else}
-use Rattle.city_txn.specs.InPlace.{with_some, made_by, image_at, state_of, is_writer, IsInPlace}
+use Rattle.city_txn.specs.InPlace.{with_some, made_by, state_of, is_writer, IsInPlace}
+use Rattle.city_txn.specs.UndoState.{Images, image_at, reservations_of}
+use Rattle.city_txn.proofs.ImagesHeld.{images_ascend, image_listed}
 
 -- the test of a map's keys is that of numbers
 pub tied : (s t : ℕ) → is_at (nat_cmp s) t ≡ (s == t)
@@ -103,18 +105,19 @@ abbrev pub here : Inside → List ℕ → Option Object
 here a q = at a.city.1 q
 
 module _ (a : Inside) (k : IsInPlace a) (q : List ℕ) where
-  pub city_is : committed (state_of a) q ≡ committed_at (here a q) (image_at a q)
+  pub city_is : committed (state_of a) q ≡ committed_at (here a q) (image_at a.undo q)
   city_is =
-      ap (λ f. f q) (at_sorted (made_by (λ r o. committed_at (Some o) (image_at a r)) (entries a.city.1)) (sorted_made (λ r o. committed_at (Some o) (image_at a r)) (entries a.city.1) (entries_ascend a.city.1)))
-      ∙ at_made (λ r o. committed_at (Some o) (image_at a r)) (entries a.city.1) q (entries_ascend a.city.1)
-      ∙ ap (λ f. through (λ o. committed_at (Some o) (image_at a q)) (f q)) (sym (at_entries a.city.1))
-      ∙ committed_point (here a q) (image_at a q) (k.has_slot q)
+      ap (λ f. f q) (at_sorted (made_by (λ r o. committed_at (Some o) (image_at a.undo r)) (entries a.city.1)) (sorted_made (λ r o. committed_at (Some o) (image_at a.undo r)) (entries a.city.1) (entries_ascend a.city.1)))
+      ∙ at_made (λ r o. committed_at (Some o) (image_at a.undo r)) (entries a.city.1) q (entries_ascend a.city.1)
+      ∙ ap (λ f. through (λ o. committed_at (Some o) (image_at a.undo q)) (f q)) (sym (at_entries a.city.1))
+      ∙ committed_point (here a q) (image_at a.undo q) (k.has_slot q)
 
-  pub writes_is : write_of (state_of a).writes q ≡ write_at (here a q) (image_at a q)
-  writes_is = at_made (λ r i. write_at (here a r) (Some i)) a.images.entries q k.images_ordered ∙ write_point (here a q) (image_at a q)
+  pub writes_is : write_of (state_of a).writes q ≡ write_at (here a q) (image_at a.undo q)
+  writes_is = at_made (λ r i. write_at (here a r) (Some i)) (entries a.undo.images) q (images_ascend a.undo.images)
+      ∙ ap (through (λ i. write_at (here a q) (Some i))) (sym (image_listed a.undo.images q)) ∙ write_point (here a q) (image_at a.undo q)
 
-  pub view_is : (s : ℕ) → view (state_of a) s q ≡ own_or s (write_at (here a q) (image_at a q)) (committed_at (here a q) (image_at a q))
-  view_is s = ap (λ w. own_or s w (committed (state_of a) q)) writes_is ∙ ap (own_or s (write_at (here a q) (image_at a q))) city_is
+  pub view_is : (s : ℕ) → view (state_of a) s q ≡ own_or s (write_at (here a q) (image_at a.undo q)) (committed_at (here a q) (image_at a.undo q))
+  view_is s = ap (λ w. own_or s w (committed (state_of a) q)) writes_is ∙ ap (own_or s (write_at (here a q) (image_at a.undo q))) city_is
 
 -- ---- what a transaction sees, from its image
 
@@ -151,10 +154,19 @@ pub all_there : (objects : Objects) → from_sorted (made_by (λ r o. Some o) (e
 all_there objects = ap (λ (es : Entries). from_sorted es) (all_made (entries objects))
     ∙ same_objects (from_sorted (entries objects)) objects (at_sorted (entries objects) (entries_ascend objects) ∙ sym (at_entries objects))
 
-pub new_state : (a : Inside) → a.images.entries ≡ [] → a.reservations.entries ≡ [] → state_of a ≡ record { frame = a.city.0; city = a.city.1; writes = []; opened = [] }
+no_image_listed : (images : Images) → entries images ≡ [] → (q : List ℕ) → get images q ≡ None
+no_image_listed images none q = image_listed images q ∙ ap (λ is. lookup (is_at (slice_cmp nat_cmp q)) is) none
+
+pub new_state : (a : Inside) → entries a.undo.images ≡ [] → a.undo.reservations ≡ [] → state_of a ≡ record { frame = a.city.0; city = a.city.1; writes = []; opened = [] }
 new_state a none shut i = record {
   frame = a.city.0;
-  city = (ap (λ (is : List (List ℕ × Image)). from_sorted (made_by (λ r o. committed_at (Some o) (lookup (is_at (slice_cmp nat_cmp r)) is)) (entries a.city.1))) none ∙ all_there a.city.1) i;
+  city = ((λ j. from_sorted (made_by (λ r o. committed_at (Some o) (no_image_listed a.undo.images none r j)) (entries a.city.1))) ∙ all_there a.city.1) i;
   writes = ap (λ (is : List (List ℕ × Image)). made_by (λ r j. write_at (here a r) (Some j)) is) none i;
   opened = shut i;
+}
+
+pub new_in_place : (a : Inside) → entries a.undo.images ≡ [] → a.undo.reservations ≡ [] → IsInPlace a
+new_in_place a none shut = record {
+  has_slot = λ id h. absurd (false≢true (sym (ap is_some (no_image_listed a.undo.images none id)) ∙ h));
+  listed = λ s id. ap (λ r. has_id (reservations_of r s) id) shut ∙ sym (ap (λ i. is_writer s (writer_of i)) (no_image_listed a.undo.images none id));
 }

@@ -24,9 +24,10 @@ use Rattle.city_model.proofs.Objects.{entries_of, at_sorted}
 use Rattle.city_txn.specs.declared.image.Image.{Image}
 use Rattle.city_txn.specs.declared.store.Store.TheInside.{Inside}
 use Rattle.city_txn.specs.Images.{seen_under, written_at, write_at, writer_of}
-use Rattle.city_txn.specs.State.{Write, write_of, reservations_of, own_or, own_write, is_by}
+use Rattle.city_txn.specs.State.{Write, write_of, own_or, own_write, is_by}
 use Rattle.city_txn.specs.CoreState.{CoreState, committed, view}
-use Rattle.city_txn.specs.InPlace.{with_some, made_by, image_at, state_of, is_writer, IsInPlace}
+use Rattle.city_txn.specs.InPlace.{with_some, state_of, is_writer, IsInPlace}
+use Rattle.city_txn.specs.UndoState.{image_at, reservations_of}
 use Rattle.city_txn.specs.Changing.{or_else, objects_in, IsChangeOf}
 use Rattle.city_txn.proofs.AtOneId.{through, at_made, sorted_made, here, writes_is}
 
@@ -66,8 +67,8 @@ own_point s x (Some i) = bool_cases i.unwritten
     (λ e. ap (λ b. if i.by == s then (if b then None else Some (seen_under x i)) else None) e ∙ sym (ap (λ b. own_write s (if b then None else Some (i.by, seen_under x i))) e))
 
 pub own_written : (a : Inside) → IsInPlace a → (s : ℕ) (q : List ℕ) →
-    (if has_id (reservations_of a.reservations.entries s) q then written_at (here a q) (image_at a q) else None) ≡ own_write s (write_of (state_of a).writes q)
-own_written a k s q = ap (λ b. if b then written_at (here a q) (image_at a q) else None) (k.listed s q) ∙ own_point s (here a q) (image_at a q) ∙ sym (ap (own_write s) (writes_is a k q))
+    (if has_id (reservations_of a.undo.reservations s) q then written_at (here a q) (image_at a.undo q) else None) ≡ own_write s (write_of (state_of a).writes q)
+own_written a k s q = ap (λ b. if b then written_at (here a q) (image_at a.undo q) else None) (k.listed s q) ∙ own_point s (here a q) (image_at a.undo q) ∙ sym (ap (own_write s) (writes_is a k q))
 
 pub none_sorted : IsStrictlySortedBy (slice_cmp nat_cmp) []
 unfolding IsStrictlySortedBy

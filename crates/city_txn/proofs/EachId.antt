@@ -1,9 +1,6 @@
 -- Ids worked through one after another, each the same way.
-use Rattle.std.proofs.Common.{◌≡◌, ℕ, ◌+◌, ◌<◌, List, [], length, take, get_or, Bool, true, false, ◌&&◌, ◌||◌, Option, None, Some, is_some, refl, ap, sym, ◌∙◌}
+use Rattle.std.proofs.Common.{◌≡◌, ℕ, ◌+◌, ◌<◌, List, [], length, take, get_or, Bool, true, false, ◌||◌, Option, None, Some, is_some, refl, ap, sym, ◌∙◌}
 use Rattle.std.specs.Prelude.{if◌then◌else◌}
-use Rattle.std.specs.Ordering.{nat_cmp}
-use Rattle.std.specs.Cmp.Lexicographic.{slice_cmp}
-use Rattle.std.specs.BTreeMap.{BTreeMap, get}
 use Rattle.std.proofs.lemmas.Bool.{false≢true}
 use Rattle.std.proofs.lemmas.List.Folds.{list_any_more}
 use Rattle.city_model.specs.declared.object.Object.{Object}
@@ -12,8 +9,11 @@ use Rattle.std.proofs.lemmas.Map.{update_other, update_same}
 use Rattle.city_model.proofs.Ids.{same_id_true, same_id_back, same_id_of_equal, by_id}
 use Rattle.city_model.proofs.IdLists.{bool_cases}
 use Rattle.city_txn.specs.declared.image.Image.{Image}
-use Rattle.city_txn.specs.Ending.{AreEnded}
-use Rattle.city_txn.specs.Images.{seen_under, before_image, seen_at, committed_at, is_deleted}
+use Rattle.city_txn.specs.declared.ending.End.{End}
+use Rattle.city_txn.specs.declared.ending.End.TheVariants.{Commit, RollBack}
+use Rattle.city_txn.specs.Ending.{left_by, AreEnded}
+use Rattle.city_txn.specs.Images.{seen_under, before_image, seen_at, is_deleted}
+use Rattle.city_txn.specs.UndoState.{UndoState, image_at}
 
 -- one more id of a list
 pub has_more : (ids : List (List ℕ)) (n : ℕ) (id q : List ℕ) → n < length ids → id ≡ get_or ids n id → has_id (take (n + 1) ids) q ≡ (has_id (take n ids) q || same_id id q)
@@ -36,29 +36,31 @@ gone_again false true i j k p q = q
 gone_again false false i j k p q = q ∙ p
 
 -- what holds of an id holds of any that is the same
-pub at_that : (f : List ℕ → Option Object) (id q : List ℕ) (x : Option Object) → (if same_id id q then f id else x) ≡ (if same_id id q then f q else x)
+at_that : (f : List ℕ → Option Object) (id q : List ℕ) (x : Option Object) → (if same_id id q then f id else x) ≡ (if same_id id q then f q else x)
 at_that f id q x = bool_cases (same_id id q)
     (λ e. ap (λ r. if same_id id q then f r else x) (same_id_true id q e))
     (λ e. ap (λ b. if b then f id else x) e ∙ sym (ap (λ b. if b then f q else x) e))
 
 -- ---- one id after another
 
-pub none_ended : (f : Option Object → Option Image → Option Object) (a : CityValue) (i : BTreeMap (List ℕ) Image) → AreEnded f (has_id []) a i a i
-none_ended f a i = record { frame = refl; city = λ q. refl; images = λ q. refl; images_ordered = λ o. o }
+idle : (end : End) (x : Option Object) → left_by end x None ≡ x
+idle Commit x = refl
+idle RollBack x = refl
 
-pub one_more_ended : (f : Option Object → Option Image → Option Object) → ((x : Option Object) → f x None ≡ x) → (a b c : CityValue) (i j k : BTreeMap (List ℕ) Image) (ids : List (List ℕ)) (n : ℕ) (id : List ℕ) →
-    n < length ids → id ≡ get_or ids n id → AreEnded f (has_id (take n ids)) a i b j → AreEnded f (same_id id) b j c k → AreEnded f (has_id (take (n + 1) ids)) a i c k
-one_more_ended f idle a b c i j k ids n id lt is before one = record {
-  frame = one.frame ∙ before.frame;
-  city = λ q. ended_again f idle (has_id (take n ids) q) (same_id id q) (at a.1 q) (at b.1 q) (at c.1 q) (image i q) (image j q) (before.city q) (before.images q) (one.city q)
-      ∙ ap (λ d. if d then f (at a.1 q) (image i q) else at a.1 q) (sym (has_more ids n id q lt is));
-  images = λ q. gone_again (has_id (take n ids) q) (same_id id q) (image i q) (image j q) (image k q) (before.images q) (one.images q)
-      ∙ ap (λ d. if d then None else image i q) (sym (has_more ids n id q lt is));
-  images_ordered = λ o. one.images_ordered (before.images_ordered o);
-}
-  where
-    image : BTreeMap (List ℕ) Image → List ℕ → Option Image
-    image images q = get (slice_cmp nat_cmp) images q
+pub none_ended : (end : End) (a : CityValue) (u : UndoState) → AreEnded end (has_id []) a u a u
+none_ended end a u = record { frame = refl; city = λ q. refl; images = λ q. refl; reservations = refl }
+
+pub one_more_ended : (end : End) (a b c : CityValue) (u v w : UndoState) (ids : List (List ℕ)) (n : ℕ) (id : List ℕ) →
+    n < length ids → id ≡ get_or ids n id → AreEnded end (has_id (take n ids)) a u b v → AreEnded end (same_id id) b v c w → AreEnded end (has_id (take (n + 1) ids)) a u c w
+one_more_ended end a b c u v w ids n id lt is before one =
+    let more : (q : List ℕ) → has_id (take (n + 1) ids) q ≡ (has_id (take n ids) q || same_id id q) = λ q. has_more ids n id q lt is in
+    record {
+      frame = one.frame ∙ before.frame;
+      city = λ q. rw (more q) (ended_again (left_by end) (idle end) (has_id (take n ids) q) (same_id id q) (at a.1 q) (at b.1 q) (at c.1 q) (image_at u q) (image_at v q)
+          (before.city q) (before.images q) (one.city q));
+      images = λ q. rw (more q) (gone_again (has_id (take n ids) q) (same_id id q) (image_at u q) (image_at v q) (image_at w q) (before.images q) (one.images q));
+      reservations = one.reservations ∙ before.reservations;
+    }
 
 -- an image that is left is of an id in the city
 has_slot_point : (f : Option Object → Option Image → Option Object) (b : Bool) (x : Option Object) (i : Option Image) → (is_some i ≡ true → is_some x ≡ true) →
@@ -94,16 +96,19 @@ cleared_seen m id (Some i) = by_deleted i.deleted
 pub cleared_before : (m : CityMap) (id : List ℕ) (i : Image) → i.unwritten ≡ true → (if i.deleted then changed m id None else m) ≡ changed m id (before_image (m id) i)
 cleared_before m id i unwritten = cleared_seen m id (Some i) ∙ ap (λ o. changed m id o) (sym (ap (λ b. if b then seen_under (m id) i else i.before) unwritten))
 
--- an image that is put back
-pub back_point : (x y : List ℕ → Option Object) (id : List ℕ) (i : Option Image) (j : Image) → i ≡ Some j → ((q : List ℕ) → y q ≡ (if same_id id q then before_image (x id) j else x q)) →
-    (q : List ℕ) → y q ≡ (if same_id id q then committed_at (x id) i else x q)
-back_point x y id i j e h q = h q ∙ ap (λ o. if same_id id q then committed_at (x id) o else x q) (sym e)
+-- ended at one id, whether it has an image or not
+pub one_ended : (end : End) (a b : CityValue) (u v : UndoState) (id : List ℕ) → b.0 ≡ a.0 → at b.1 ≡ changed (at a.1) id (left_by end (at a.1 id) (image_at u id)) →
+    ((q : List ℕ) → image_at v q ≡ (if same_id id q then None else image_at u q)) → v.reservations ≡ u.reservations → AreEnded end (same_id id) a u b v
+one_ended end a b u v id frame after gone reservations = record {
+  frame = frame;
+  city = λ q. ap (λ m. m q) after ∙ at_that (λ r. left_by end (at a.1 r) (image_at u r)) id q (at a.1 q);
+  images = gone;
+  reservations = reservations;
+}
 
 -- no image: all stays
-pub back_none : (x : List ℕ → Option Object) (id : List ℕ) (i : Option Image) → i ≡ None → (q : List ℕ) → x q ≡ (if same_id id q then committed_at (x id) i else x q)
-back_none x id i e q = bool_cases (same_id id q)
-    (λ t. ap x (sym (same_id_true id q t)) ∙ ap (committed_at (x id)) (sym e) ∙ sym (ap (λ b. if b then committed_at (x id) i else x q) t))
-    (λ t. sym (ap (λ b. if b then committed_at (x id) i else x q) t))
+pub idle_there : (end : End) (m : CityMap) (id : List ℕ) (i : Option Image) → i ≡ None → m ≡ changed m id (left_by end (m id) i)
+idle_there end m id i e = unchanged m id ∙ ap (λ o. changed m id o) (sym (ap (left_by end (m id)) e ∙ idle end (m id)))
 
 -- an image that was added and taken out again
 pub added_and_forgotten : (i j k : List ℕ → Option Image) (id : List ℕ) (new : Image) → i id ≡ None → ((q : List ℕ) → j q ≡ (if same_id id q then Some new else i q)) →

@@ -14,7 +14,7 @@ use Rattle.city_locks.specs.Mode.{is_exclusive}
 use Rattle.city_locks.specs.Locks.{mode_of, Lawful}
 use Rattle.city_txn.specs.State.{Write, write_of, own_or, unless_by}
 use Rattle.city_model.specs.Standing.{Held, Answered, Follows, covers}
-use Rattle.city_txn.specs.CoreState.{CoreState, committed, view, is_open, held, Stands, IsConsistent, KeepsOthers, IsOver}
+use Rattle.city_txn.specs.CoreState.{CoreState, committed, view, is_open, held, Stands, IsConsistent, IsOver}
 
 pub held_exclusively : (o : Option Mode) → covers (option_map is_exclusive o) true ≡ true → o ≡ Some Exclusive
 held_exclusively None h = absurd (false≢true h)

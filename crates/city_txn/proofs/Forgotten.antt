@@ -2,33 +2,46 @@
 use Rattle.std.proofs.Common.{◌≡◌, ◌==◌, ℕ, List, [], Bool, true, false, Option, None, Some, is_some, refl, ap, sym, ◌∙◌}
 use Rattle.std.specs.Prelude.{if◌then◌else◌, unwrap_or}
 use Rattle.std.specs.Ordering.{nat_cmp}
-use Rattle.std.specs.BTreeMap.{get, is_at}
-use Rattle.std.proofs.lemmas.Bool.{false≢true, eqb-true}
+use Rattle.std.specs.BTreeMap.{is_at}
+use Rattle.std.specs.FinMap.{get}
+use Rattle.std.proofs.lemmas.Bool.{eqb-true}
 use Rattle.city_model.specs.declared.object.Object.{Object}
 use Rattle.city_model.specs.CityMap.{has_id}
 use Rattle.city_model.proofs.IdLists.{bool_cases}
 use Rattle.city_txn.specs.declared.image.Image.{Image}
 use Rattle.city_txn.specs.declared.store.Store.TheInside.{Inside}
-use Rattle.city_txn.specs.Ending.{AreEnded}
-use Rattle.city_txn.specs.Images.{seen_under, seen_at, committed_at, write_at, writer_of}
-use Rattle.city_txn.specs.State.{reservations_of, is_open, is_reserved, own_or, committed, view, unless_by, Forgets}
-use Rattle.city_txn.specs.InPlace.{image_at, state_of, is_writer, IsInPlace}
+use Rattle.city_txn.specs.declared.ending.End.{End}
+use Rattle.city_txn.specs.declared.ending.End.TheVariants.{Commit, RollBack}
+use Rattle.city_txn.specs.Ending.{left_by, city_after, AreEnded}
+use Rattle.city_txn.specs.Images.{seen_under, committed_at, write_at, writer_of}
+use Rattle.city_txn.specs.State.{is_open, is_reserved, own_or, committed, unless_by, Forgets}
+use Rattle.city_txn.specs.InPlace.{state_of, is_writer, IsInPlace}
+use Rattle.city_txn.specs.UndoState.{UndoState, image_at, listed_by, reservations_of}
+use Rattle.city_txn.proofs.EachId.{still_has_slot}
 use Rattle.city_txn.proofs.AtOneId.{tied, here, city_is, writes_is, view_is, own_seen, own_committed}
 
 -- ---- at one id, where x stands in the city
 
-commit_point : (s : ℕ) (x : Option Object) (i : Option Image) →
-    committed_at (if is_writer s (writer_of i) then seen_at x i else x) (if is_writer s (writer_of i) then None else i)
-    ≡ own_or s (write_at x i) (committed_at x i)
-commit_point s x None = refl
-commit_point s x (Some i) = bool_cases (i.by == s)
-    (λ e. ap (λ b. committed_at (if b then seen_under x i else x) (if b then None else Some i)) e ∙ sym (own_seen s x i e))
-    (λ e. ap (λ b. committed_at (if b then seen_under x i else x) (if b then None else Some i)) e ∙ sym (own_committed s x (committed_at x (Some i)) i e))
+-- what is committed there after the end
+abbrev committed_after : End → ℕ → Option Object → Option Image → Option Object
+committed_after Commit s x i = own_or s (write_at x i) (committed_at x i)
+committed_after RollBack s x i = committed_at x i
 
-roll_back_point : (b : Bool) (x : Option Object) (i : Option Image) →
-    committed_at (if b then committed_at x i else x) (if b then None else i) ≡ committed_at x i
+roll_back_point : (b : Bool) (x : Option Object) (i : Option Image) → committed_at (if b then committed_at x i else x) (if b then None else i) ≡ committed_at x i
 roll_back_point true x i = refl
 roll_back_point false x i = refl
+
+ended_point : (end : End) (s : ℕ) (x : Option Object) (i : Option Image) →
+    committed_at (if is_writer s (writer_of i) then left_by end x i else x) (if is_writer s (writer_of i) then None else i) ≡ committed_after end s x i
+ended_point Commit s x None = refl
+ended_point Commit s x (Some i) = bool_cases (i.by == s)
+    (λ e. rw e (sym (own_seen s x i e)))
+    (λ e. rw e (sym (own_committed s x (committed_at x (Some i)) i e)))
+ended_point RollBack s x i = roll_back_point (is_writer s (writer_of i)) x i
+
+city_after_is : (end : End) (a : Inside) → IsInPlace a → (s : ℕ) (q : List ℕ) → city_after end (state_of a) s q ≡ committed_after end s (here a q) (image_at a.undo q)
+city_after_is Commit a k s q = view_is a k q s
+city_after_is RollBack a k s q = city_is a k q
 
 own_write : (s : ℕ) (x : Option Object) (i : Image) → (i.by == s) ≡ true → unless_by s (write_at x (Some i)) ≡ None
 own_write s x i e = bool_cases i.unwritten
@@ -68,72 +81,59 @@ others_stay s t (Some i) = bool_cases (i.by == s)
 
 -- ---- the whole
 
--- f says what stands in the city where an image of the stamp s was
-module _ (a b : Inside) (k : IsInPlace a) (s : ℕ) (ids : List (List ℕ)) (are : ids ≡ reservations_of a.reservations.entries s)
-    (f : Option Object → Option Image → Option Object) (ended : AreEnded f (has_id ids) a.city a.images b.city b.images)
-    (reservations : (t : ℕ) → get nat_cmp b.reservations t ≡ (if is_at (nat_cmp s) t then None else get nat_cmp a.reservations t)) where
-  mine : (q : List ℕ) → has_id ids q ≡ is_writer s (writer_of (image_at a q))
+-- the stamp s is closed, and then each of its ids is ended
+module _ (a b : Inside) (k : IsInPlace a) (s : ℕ) (ids : List (List ℕ)) (are : ids ≡ reservations_of a.undo.reservations s) (u : UndoState) (images : u.images ≡ a.undo.images)
+    (closed : (t : ℕ) → listed_by u.reservations t ≡ (if is_at (nat_cmp s) t then None else listed_by a.undo.reservations t))
+    (end : End) (ended : AreEnded end (has_id ids) a.city u b.city b.undo) where
+  mine : (q : List ℕ) → has_id ids q ≡ is_writer s (writer_of (image_at a.undo q))
   mine q = ap (λ xs. has_id xs q) are ∙ k.listed s q
 
-  city_at : (q : List ℕ) → here b q ≡ (if is_writer s (writer_of (image_at a q)) then f (here a q) (image_at a q) else here a q)
-  city_at q = ended.city q ∙ ap (λ c. if c then f (here a q) (image_at a q) else here a q) (mine q)
+  city_at : (q : List ℕ) → here b q ≡ (if is_writer s (writer_of (image_at a.undo q)) then left_by end (here a q) (image_at a.undo q) else here a q)
+  city_at q = ended.city q ∙ ap (λ c. if c then left_by end (here a q) (image_at u q) else here a q) (mine q)
+      ∙ ap (λ is. if is_writer s (writer_of (image_at a.undo q)) then left_by end (here a q) (get is q) else here a q) images
 
-  images_at : (q : List ℕ) → image_at b q ≡ (if is_writer s (writer_of (image_at a q)) then None else image_at a q)
-  images_at q = ended.images q ∙ ap (λ c. if c then None else image_at a q) (mine q)
+  images_at : (q : List ℕ) → image_at b.undo q ≡ (if is_writer s (writer_of (image_at a.undo q)) then None else image_at a.undo q)
+  images_at q = ended.images q ∙ ap (λ c. if c then None else image_at u q) (mine q) ∙ ap (λ is. if is_writer s (writer_of (image_at a.undo q)) then None else get is q) images
+
+  reservations : (t : ℕ) → listed_by b.undo.reservations t ≡ (if is_at (nat_cmp s) t then None else listed_by a.undo.reservations t)
+  reservations t = ap (λ r. listed_by r t) ended.reservations ∙ closed t
 
   reserved_left : (t : ℕ) (q : List ℕ) → is_reserved (state_of b) t q ≡ (if s == t then false else is_reserved (state_of a) t q)
-  reserved_left t q = ap (λ o. has_id (unwrap_or o []) q) (reservations t) ∙ ap (λ c. has_id (unwrap_or (if c then None else get nat_cmp a.reservations t) []) q) (tied s t)
+  reserved_left t q = ap (λ o. has_id (unwrap_or o []) q) (reservations t) ∙ ap (λ c. has_id (unwrap_or (if c then None else listed_by a.undo.reservations t) []) q) (tied s t)
       ∙ by_case (s == t)
     where
-      by_case : (c : Bool) → has_id (unwrap_or (if c then None else get nat_cmp a.reservations t) []) q ≡ (if c then false else is_reserved (state_of a) t q)
+      by_case : (c : Bool) → has_id (unwrap_or (if c then None else listed_by a.undo.reservations t) []) q ≡ (if c then false else is_reserved (state_of a) t q)
       by_case true = refl
       by_case false = refl
 
   open_left : (t : ℕ) → is_open (state_of b) t ≡ (if s == t then false else is_open (state_of a) t)
-  open_left t = ap is_some (reservations t) ∙ ap (λ c. is_some (if c then None else get nat_cmp a.reservations t)) (tied s t) ∙ by_case (s == t)
+  open_left t = ap is_some (reservations t) ∙ ap (λ c. is_some (if c then None else listed_by a.undo.reservations t)) (tied s t) ∙ by_case (s == t)
     where
-      by_case : (c : Bool) → is_some (if c then None else get nat_cmp a.reservations t) ≡ (if c then false else is_open (state_of a) t)
+      by_case : (c : Bool) → is_some (if c then None else listed_by a.undo.reservations t) ≡ (if c then false else is_open (state_of a) t)
       by_case true = refl
       by_case false = refl
 
   pub forgotten_in_place : IsInPlace b
   forgotten_in_place = record {
-    has_slot = λ q h. bool_cases (has_id ids q)
-        (λ e. absurd (false≢true (sym (ap is_some (ended.images q ∙ ap (λ c. if c then None else image_at a q) e)) ∙ h)))
-        (λ e. ap is_some (ended.city q ∙ ap (λ c. if c then f (here a q) (image_at a q) else here a q) e)
-        ∙ k.has_slot q (sym (ap is_some (ended.images q ∙ ap (λ c. if c then None else image_at a q) e)) ∙ h));
-    listed = λ t q. reserved_left t q ∙ ap (λ c. if s == t then false else c) (k.listed t q) ∙ others_stay s t (image_at a q)
+    has_slot = λ q. still_has_slot (left_by end) (here a q) (here b q) (image_at a.undo q) (image_at b.undo q) (is_writer s (writer_of (image_at a.undo q))) (k.has_slot q) (city_at q) (images_at q);
+    listed = λ t q. reserved_left t q ∙ ap (λ c. if s == t then false else c) (k.listed t q) ∙ others_stay s t (image_at a.undo q)
         ∙ sym (ap (λ i. is_writer t (writer_of i)) (images_at q));
-    images_ordered = ended.images_ordered k.images_ordered;
   }
 
   pub forgets : Forgets s (state_of a) (state_of b)
   forgets = record {
     frame = ended.frame;
-    writes = λ q. writes_is b forgotten_in_place q ∙ ap (λ x. write_at x (image_at b q)) (city_at q)
-        ∙ ap (write_at (if is_writer s (writer_of (image_at a q)) then f (here a q) (image_at a q) else here a q)) (images_at q)
-        ∙ dropped_point s (here a q) (f (here a q) (image_at a q)) (image_at a q) ∙ sym (ap (unless_by s) (writes_is a k q));
+    writes = λ q. writes_is b forgotten_in_place q ∙ ap (λ x. write_at x (image_at b.undo q)) (city_at q)
+        ∙ ap (write_at (if is_writer s (writer_of (image_at a.undo q)) then left_by end (here a q) (image_at a.undo q) else here a q)) (images_at q)
+        ∙ dropped_point s (here a q) (left_by end (here a q) (image_at a.undo q)) (image_at a.undo q) ∙ sym (ap (unless_by s) (writes_is a k q));
     opened = open_left;
     reserved = reserved_left;
   }
 
-  committed_left : (q : List ℕ) → committed (state_of b) q
-      ≡ committed_at (if is_writer s (writer_of (image_at a q)) then f (here a q) (image_at a q) else here a q) (if is_writer s (writer_of (image_at a q)) then None else image_at a q)
-  committed_left q = city_is b forgotten_in_place q ∙ ap (λ x. committed_at x (image_at b q)) (city_at q)
-      ∙ ap (committed_at (if is_writer s (writer_of (image_at a q)) then f (here a q) (image_at a q) else here a q)) (images_at q)
+  ended_at : (q : List ℕ) → committed (state_of b) q ≡ city_after end (state_of a) s q
+  ended_at q = city_is b forgotten_in_place q ∙ ap (λ x. committed_at x (image_at b.undo q)) (city_at q)
+      ∙ ap (committed_at (if is_writer s (writer_of (image_at a.undo q)) then left_by end (here a q) (image_at a.undo q) else here a q)) (images_at q)
+      ∙ ended_point end s (here a q) (image_at a.undo q) ∙ sym (city_after_is end a k s q)
 
-  as_seen : ((x : Option Object) (i : Option Image) → f x i ≡ seen_at x i) → (q : List ℕ) → committed (state_of b) q ≡ view (state_of a) s q
-  as_seen is q = committed_left q
-      ∙ ap (λ y. committed_at (if is_writer s (writer_of (image_at a q)) then y else here a q) (if is_writer s (writer_of (image_at a q)) then None else image_at a q)) (is (here a q) (image_at a q))
-      ∙ commit_point s (here a q) (image_at a q) ∙ sym (view_is a k q s)
-
-  pub committed_city : ((x : Option Object) (i : Option Image) → f x i ≡ seen_at x i) → committed (state_of b) ≡ view (state_of a) s
-  committed_city is = λ j q. as_seen is q j
-
-  as_before : ((x : Option Object) (i : Option Image) → f x i ≡ committed_at x i) → (q : List ℕ) → committed (state_of b) q ≡ committed (state_of a) q
-  as_before is q = committed_left q
-      ∙ ap (λ y. committed_at (if is_writer s (writer_of (image_at a q)) then y else here a q) (if is_writer s (writer_of (image_at a q)) then None else image_at a q)) (is (here a q) (image_at a q))
-      ∙ roll_back_point (is_writer s (writer_of (image_at a q))) (here a q) (image_at a q) ∙ sym (city_is a k q)
-
-  pub rolled_back_city : ((x : Option Object) (i : Option Image) → f x i ≡ committed_at x i) → committed (state_of b) ≡ committed (state_of a)
-  rolled_back_city is = λ j q. as_before is q j
+  pub ended_city : committed (state_of b) ≡ city_after end (state_of a) s
+  ended_city = λ j q. ended_at q j

@@ -8,20 +8,20 @@ use Rattle.city_model.specs.CityMap.{has_id}
 use Rattle.city_txn.specs.declared.image.Image.{Image}
 use Rattle.city_txn.specs.declared.store.Store.TheInside.{Inside}
 use Rattle.city_txn.specs.Images.{committed_at, writer_of}
-use Rattle.city_txn.specs.State.{reservations_of}
-use Rattle.city_txn.specs.InPlace.{made_by, image_at, state_of, is_writer, IsInPlace}
+use Rattle.city_txn.specs.UndoState.{image_at, reservations_of}
+use Rattle.city_txn.specs.InPlace.{made_by, state_of, is_writer, IsInPlace}
 use Rattle.city_txn.proofs.AtOneId.{all_there}
 
 unwritten : (i : Option Image) → ((s : ℕ) → is_writer s (writer_of i) ≡ false) → i ≡ None
 unwritten None h = refl
 unwritten (Some i) h = absurd (false≢true (sym (h i.by) ∙ eq-eqb i.by i.by refl))
 
-no_image : (a : Inside) → IsInPlace a → a.reservations.entries ≡ [] → (id : List ℕ) → image_at a id ≡ None
-no_image a k shut id = unwritten (image_at a id) (λ s. sym (k.listed s id) ∙ ap (λ reservations. has_id (reservations_of reservations s) id) shut)
+no_image : (a : Inside) → IsInPlace a → a.undo.reservations ≡ [] → (id : List ℕ) → image_at a.undo id ≡ None
+no_image a k shut id = unwritten (image_at a.undo id) (λ s. sym (k.listed s id) ∙ ap (λ reservations. has_id (reservations_of reservations s) id) shut)
 
-pub idle_city : (a : Inside) → IsInPlace a → a.reservations.entries ≡ [] → a.city ≡ ((state_of a).frame, (state_of a).city)
+pub idle_city : (a : Inside) → IsInPlace a → a.undo.reservations ≡ [] → a.city ≡ ((state_of a).frame, (state_of a).city)
 idle_city a k shut =
-    let none : image_at a ≡ (λ id. None) = λ i id. no_image a k shut id i in
+    let none : image_at a.undo ≡ (λ id. None) = λ i id. no_image a k shut id i in
     let same : (state_of a).city ≡ a.city.1 =
     ap (λ (images : List ℕ → Option Image). from_sorted (made_by (λ id o. committed_at (Some o) (images id)) (entries a.city.1))) none ∙ all_there a.city.1 in
     λ i. (a.city.0, sym same i)

@@ -7,6 +7,7 @@ pub mod EachId
 pub mod Ended
 pub mod Forgotten
 pub mod Idle
+pub mod ImagesHeld
 pub mod LocksAsked
 pub mod LocksGained
 pub mod PlanWritten

@@ -1,10 +1,10 @@
 -- Locks gained: the commands of every open transaction stand as before.
-use Rattle.std.proofs.Common.{◌≡◌, ◌≢◌, ◌⊎◌, inl, inr, ◌==◌, ◌&&◌, ◌||◌, ℕ, List, [], ◌∷◌, Bool, true, false, Option, None, Some, is_some, refl, ap, sym, ◌∙◌, subst}
+use Rattle.std.proofs.Common.{◌≡◌, ◌⊎◌, inl, inr, ◌==◌, ◌&&◌, ℕ, List, [], ◌∷◌, Bool, true, false, Option, None, Some, is_some, refl, ap, sym, ◌∙◌, subst}
 use Rattle.std.specs.Prelude.{option_map, cond}
-use Rattle.std.proofs.lemmas.Bool.{false≢true, eqb-true, eq-eqb}
+use Rattle.std.proofs.lemmas.Bool.{false≢true, eqb-true, eq-eqb, or_parts, or_right}
 use Rattle.city_model.specs.CityMap.{same_id}
 use Rattle.city_model.specs.Relations.{IsLawful}
-use Rattle.city_model.proofs.Ids.{same_id_true, same_id_itself}
+use Rattle.city_model.proofs.Ids.{same_id_itself, same_id_back, same_id_of_equal, by_id}
 use Rattle.city_model.proofs.IdLists.{bool_cases}
 use Rattle.city_model.proofs.History.{follows_same}
 use Rattle.city_locks.specs.declared.mode.Mode.{Mode}
@@ -78,7 +78,7 @@ stronger_parts Exclusive o h = inr refl
 stronger_parts Shared None h = absurd (false≢true h)
 stronger_parts Shared (Some n) h = inl h
 
-pub either : {A B C : Type 0} → (A → C) → (B → C) → A ⊎ B → C
+either : {A B C : Type 0} → (A → C) → (B → C) → A ⊎ B → C
 either f g (inl a) = f a
 either f g (inr b) = g b
 
@@ -86,49 +86,64 @@ either f g (inr b) = g b
 abbrev pub Adds : ℕ → List ℕ → Mode → Locks → Locks → Type 0
 Adds s id m hs ks = (t : ℕ) (q : List ℕ) → mode_of ks t q ≡ cond ((s == t) && same_id id q) (Some (stronger m (mode_of hs s id))) (mode_of hs t q)
 
-module _ (s : ℕ) (id : List ℕ) (m : Mode) (hs ks : Locks) (h : Adds s id m hs ks) where
-  own_mode : (q : List ℕ) → mode_of ks s q ≡ cond (same_id id q) (Some (stronger m (mode_of hs s id))) (mode_of hs s q)
-  own_mode q = h s q ∙ ap (λ b. cond (b && same_id id q) (Some (stronger m (mode_of hs s id))) (mode_of hs s q)) (eq-eqb s s refl)
-
-  pub asked_others : (t : ℕ) (q : List ℕ) → (s == t) ≡ false → mode_of ks t q ≡ mode_of hs t q
-  asked_others t q e = h t q ∙ ap (λ b. cond (b && same_id id q) (Some (stronger m (mode_of hs s id))) (mode_of hs t q)) e
-
-  pub asked_only : (q : List ℕ) → same_id id q ≡ false → mode_of ks s q ≡ mode_of hs s q
-  asked_only q e = own_mode q ∙ ap (λ b. cond b (Some (stronger m (mode_of hs s id))) (mode_of hs s q)) e
-
-  pub asked_more : (q : List ℕ) (b : Bool) → covers (held_in hs s q) b ≡ true → covers (held_in ks s q) b ≡ true
-  asked_more q b g = bool_cases (same_id id q)
-      (λ e. ap (λ o. covers (option_map is_exclusive o) b) (own_mode q ∙ ap (λ c. cond c (Some (stronger m (mode_of hs s id))) (mode_of hs s q)) e)
-      ∙ stronger_covers m (mode_of hs s id) b (ap (λ r. covers (held_in hs s r) b) (same_id_true id q e) ∙ g))
-      (λ e. ap (λ o. covers (option_map is_exclusive o) b) (asked_only q e) ∙ g)
-
-  pub asked_held : covers (held_in ks s id) (is_exclusive m) ≡ true
-  asked_held = ap (λ o. covers (option_map is_exclusive o) (is_exclusive m))
-      (own_mode id ∙ ap (λ c. cond c (Some (stronger m (mode_of hs s id))) (mode_of hs s id)) (same_id_itself id)) ∙ stronger_asked m (mode_of hs s id)
-
-  pub asked_modes : (q : List ℕ) → covers (held_in ks s q) true ≡ true → (covers (held_in hs s q) true ≡ true) ⊎ ((same_id id q ≡ true) × (is_exclusive m ≡ true))
-  asked_modes q g = bool_cases (same_id id q)
-      (λ e. either (λ x. inl (ap (λ r. covers (held_in hs s r) true) (sym (same_id_true id q e)) ∙ x)) (λ y. inr (e, y))
-      (stronger_parts m (mode_of hs s id) (sym (ap (λ o. covers (option_map is_exclusive o) true) (own_mode q ∙ ap (λ c. cond c (Some (stronger m (mode_of hs s id))) (mode_of hs s q)) e)) ∙ g)))
-      (λ e. inl (sym (ap (λ o. covers (option_map is_exclusive o) true) (asked_only q e)) ∙ g))
-
 -- nothing gained
 pub no_more_locks : (s : ℕ) (ls : List Lock) (hs : Locks) → MoreLocks s ls hs hs
 no_more_locks s ls hs = record { others = λ t q e. refl; more = λ q b h. h; only = λ q h. refl; modes = λ q h. inl h; lawful = λ l. l; answers = λ q n. refl }
 
--- one lock more, which ls names
-pub one_more_lock : (s : ℕ) (ls : List Lock) (id : List ℕ) (m : Mode) (hs ks us : Locks) → MoreLocks s ls hs ks → Adds s id m ks us → Lawful us
-    → ((q : List ℕ) (n : Mode) → answer_of us s q n ≡ answer_of ks s q n) → names ls id ≡ true → (is_exclusive m ≡ true → names_exclusively ls id ≡ true) → MoreLocks s ls hs us
-one_more_lock s ls id m hs ks us g h l a named ex = record {
-  others = λ t q e. asked_others s id m ks us h t q e ∙ g.others t q e;
-  more = λ q b e. asked_more s id m ks us h q b (g.more q b e);
-  only = λ q e. asked_only s id m ks us h q (bool_cases (same_id id q)
-      (λ t. absurd (false≢true (sym e ∙ ap (names ls) (sym (same_id_true id q t)) ∙ named)))
-      (λ t. t)) ∙ g.only q e;
-  modes = λ q e. either (λ x. g.modes q x) (λ y. inr (ap (names_exclusively ls) (sym (same_id_true id q y.0)) ∙ ex y.1)) (asked_modes s id m ks us h q e);
-  lawful = λ x. l;
-  answers = λ q n. a q n ∙ g.answers q n;
-}
+first_named : (l : Lock) (ls : List Lock) (q : List ℕ) → same_id q l.0 ≡ true → l.1 ≡ true → names_exclusively (l ∷ ls) q ≡ true
+first_named l ls q e x = rw (x, e) refl
+
+later_named : (l : Lock) (ls : List Lock) (q : List ℕ) → names_exclusively ls q ≡ true → names_exclusively (l ∷ ls) q ≡ true
+later_named (id, true) ls q h = or_right (same_id q id) (names_exclusively ls q) h
+later_named (id, false) ls q h = h
+
+module _ (s : ℕ) (id : List ℕ) (m : Mode) (hs ks : Locks) (h : Adds s id m hs ks) where
+  abbrev granted : Option Mode
+  granted = Some (stronger m (mode_of hs s id))
+
+  own_mode : (q : List ℕ) → mode_of ks s q ≡ cond (same_id id q) granted (mode_of hs s q)
+  own_mode q = h s q ∙ ap (λ b. cond (b && same_id id q) granted (mode_of hs s q)) (eq-eqb s s refl)
+
+  mode_there : mode_of ks s id ≡ granted
+  mode_there = own_mode id ∙ ap (λ b. cond b granted (mode_of hs s id)) (same_id_itself id)
+
+  mode_beside : (q : List ℕ) → same_id id q ≡ false → mode_of ks s q ≡ mode_of hs s q
+  mode_beside q e = own_mode q ∙ ap (λ b. cond b granted (mode_of hs s q)) e
+
+  pub mode_of_another : (t : ℕ) (q : List ℕ) → (s == t) ≡ false → mode_of ks t q ≡ mode_of hs t q
+  mode_of_another t q e = h t q ∙ ap (λ b. cond (b && same_id id q) granted (mode_of hs t q)) e
+
+  pub asked_held : covers (held_in ks s id) (is_exclusive m) ≡ true
+  asked_held = ap (λ o. covers (option_map is_exclusive o) (is_exclusive m)) mode_there ∙ stronger_asked m (mode_of hs s id)
+
+  held_there : (b : Bool) → covers (held_in hs s id) b ≡ true → covers (held_in ks s id) b ≡ true
+  held_there b g = ap (λ o. covers (option_map is_exclusive o) b) mode_there ∙ stronger_covers m (mode_of hs s id) b g
+
+  pub still_held : (q : List ℕ) (b : Bool) → covers (held_in hs s q) b ≡ true → covers (held_in ks s q) b ≡ true
+  still_held q b = by_id id q
+      (λ is. subst (λ r. covers (held_in hs s r) b ≡ true → covers (held_in ks s r) b ≡ true) is (held_there b))
+      (λ apart g. ap (λ o. covers (option_map is_exclusive o) b) (mode_beside q apart) ∙ g)
+
+  held_or_asked : (ls : List Lock) (q : List ℕ) → covers (held_in ks s q) true ≡ true →
+      (covers (held_in hs s q) true ≡ true) ⊎ (names_exclusively ((id, is_exclusive m) ∷ ls) q ≡ true)
+  held_or_asked ls q g = by_id id q
+      (λ is. either
+      (λ x. inl (subst (λ r. covers (held_in hs s r) true ≡ true) is x))
+      (λ y. inr (first_named (id, is_exclusive m) ls q (same_id_of_equal q id (sym is)) y))
+      (stronger_parts m (mode_of hs s id) (sym (ap (λ o. covers (option_map is_exclusive o) true) mode_there) ∙ subst (λ r. covers (held_in ks s r) true ≡ true) (sym is) g)))
+      (λ apart. inl (sym (ap (λ o. covers (option_map is_exclusive o) true) (mode_beside q apart)) ∙ g))
+
+  -- one lock gained, and then more
+  pub one_and_more : (ls : List Lock) (us : Locks) → Lawful ks → ((q : List ℕ) (n : Mode) → answer_of ks s q n ≡ answer_of hs s q n) → MoreLocks s ls ks us →
+      MoreLocks s ((id, is_exclusive m) ∷ ls) hs us
+  one_and_more ls us lawful own g = record {
+    others = λ t q e. g.others t q e ∙ mode_of_another t q e;
+    more = λ q b x. g.more q b (still_held q b x);
+    only = λ q e. let n = or_parts (same_id q id) (names ls q) e in g.only q n.1 ∙ mode_beside q (same_id_back id q ∙ n.0);
+    modes = λ q e. either (held_or_asked ls q) (λ y. inr (later_named (id, is_exclusive m) ls q y)) (g.modes q e);
+    lawful = λ x. g.lawful lawful;
+    answers = λ q n. g.answers q n ∙ own q n;
+  }
 
 -- ---- all granted
 
@@ -141,21 +156,3 @@ granted_too Die l ls b before f e = cc
 pub all_granted : (hs : Locks) (s : ℕ) (ls : List Lock) → first_answer hs s ls ≡ Granted → granted_before hs s ls ≡ ls
 all_granted hs s [] e = refl
 all_granted hs s (l ∷ ls) e = granted_too (answer_of hs s l.0 (mode_for l.1)) l ls (first_answer hs s ls) (granted_before hs s ls) (λ f. all_granted hs s ls f) e
-
--- ---- one lock asked for
-
-wait_granted : Wait ≡ Granted → ⊥
-wait_granted e = cc
-
-die_granted : Die ≡ Granted → ⊥
-die_granted e = cc
-
-asked_by : (a : Answer) (s : ℕ) (id : List ℕ) (m : Mode) (hs ks : Locks) → (a ≡ Granted → Adds s id m hs ks) → (a ≢ Granted → ks ≡ hs) → Lawful ks
-    → ((q : List ℕ) (n : Mode) → answer_of ks s q n ≡ answer_of hs s q n) → MoreLocks s ((id, is_exclusive m) ∷ []) hs ks
-asked_by Granted s id m hs ks g n l o = one_more_lock s ((id, is_exclusive m) ∷ []) id m hs hs ks (no_more_locks s ((id, is_exclusive m) ∷ []) hs) (g refl) l o (ap (λ b. b || false) (same_id_itself id)) (λ x. ap (λ c. names_exclusively ((id, c) ∷ []) id) x ∙ ap (λ b. b || false) (same_id_itself id))
-asked_by Wait s id m hs ks g n l o = subst (MoreLocks s ((id, is_exclusive m) ∷ []) hs) (sym (n (λ e. wait_granted e))) (no_more_locks s ((id, is_exclusive m) ∷ []) hs)
-asked_by Die s id m hs ks g n l o = subst (MoreLocks s ((id, is_exclusive m) ∷ []) hs) (sym (n (λ e. die_granted e))) (no_more_locks s ((id, is_exclusive m) ∷ []) hs)
-
-pub one_asked : (s : ℕ) (id : List ℕ) (m : Mode) (hs ks : Locks) → (answer_of hs s id m ≡ Granted → Adds s id m hs ks) → (answer_of hs s id m ≢ Granted → ks ≡ hs) → Lawful ks
-    → ((q : List ℕ) (n : Mode) → answer_of ks s q n ≡ answer_of hs s q n) → MoreLocks s ((id, is_exclusive m) ∷ []) hs ks
-one_asked s id m hs ks g n l o = asked_by (answer_of hs s id m) s id m hs ks g n l o

@@ -8,7 +8,8 @@ use Rattle.std.proofs.lemmas.List.Folds.{list_any_more, list_any_at, list_any-ap
 use Rattle.std.proofs.Math.Bool.{or-false}
 use Rattle.city_model.specs.CityMap.{CityMap, same_id, has_id}
 use Rattle.city_model.proofs.Ids.{same_id_true, same_id_itself, same_id_back}
-use Rattle.city_txn.specs.State.{State, Write, is_reserved, reservations_of, SeesSame}
+use Rattle.city_txn.specs.UndoState.{reservations_of}
+use Rattle.city_txn.specs.State.{State, Write, is_reserved, SeesSame}
 use Rattle.city_txn.specs.Performing.{plans}
 use Rattle.city_model.specs.Plans.{AreOf}
 use Rattle.city_model.specs.Runs.{Change}

@@ -1,13 +1,10 @@
 -- One city as the open transactions have written it, with an undo image of each written id.
 use Rattle.std.specs.Prelude.{◌≡◌, ◌==◌, ℕ, Bool, true, false, List, [], ◌∷◌, Option, None, Some, is_some}
-use Rattle.std.specs.Ordering.{nat_cmp}
-use Rattle.std.specs.Cmp.Lexicographic.{slice_cmp}
-use Rattle.std.specs.BTreeMap.{get, IsOrdered}
 use Rattle.std.specs.FinMap.{entries, from_sorted}
 use Rattle.city_model.specs.CityMap.{at, has_id}
-use Rattle.city_txn.specs.declared.image.Image.{Image}
 use Rattle.city_txn.specs.declared.store.Store.TheInside.{Inside}
-use Rattle.city_txn.specs.State.{State, reservations_of}
+use Rattle.city_txn.specs.State.{State}
+use Rattle.city_txn.specs.UndoState.{image_at, reservations_of}
 use Rattle.city_txn.specs.Images.{committed_at, write_at, writer_of}
 
 abbrev pub with_some : {Y : Type 0} → List ℕ → Option Y → List (List ℕ × Y) → List (List ℕ × Y)
@@ -19,16 +16,13 @@ abbrev pub made_by : {X Y : Type 0} → (List ℕ → X → Option Y) → List (
 made_by f [] = []
 made_by f (e ∷ es) = with_some e.0 (f e.0 e.1) (made_by f es)
 
-abbrev pub image_at : Inside → List ℕ → Option Image
-image_at a id = get (slice_cmp nat_cmp) a.images id
-
 -- the committed city is the one city with all images put back
 abbrev pub state_of : Inside → State
 state_of a = record {
   frame = a.city.0;
-  city = from_sorted (made_by (λ id o. committed_at (Some o) (image_at a id)) (entries a.city.1));
-  writes = made_by (λ id i. write_at (at a.city.1 id) (Some i)) a.images.entries;
-  opened = a.reservations.entries;
+  city = from_sorted (made_by (λ id o. committed_at (Some o) (image_at a.undo id)) (entries a.city.1));
+  writes = made_by (λ id i. write_at (at a.city.1 id) (Some i)) (entries a.undo.images);
+  opened = a.undo.reservations;
 }
 
 abbrev pub is_writer : ℕ → Option ℕ → Bool
@@ -38,7 +32,6 @@ is_writer stamp (Some t) = t == stamp
 -- each image is of an id that is in the city, if only by a placeholder, and of one that its
 -- transaction, and no other, has reserved
 pub record IsInPlace (a : Inside) : Type 0 where
-  pub has_slot : (id : List ℕ) → is_some (image_at a id) ≡ true → is_some (at a.city.1 id) ≡ true
+  pub has_slot : (id : List ℕ) → is_some (image_at a.undo id) ≡ true → is_some (at a.city.1 id) ≡ true
   pub listed : (stamp : ℕ) (id : List ℕ)
-      → has_id (reservations_of a.reservations.entries stamp) id ≡ is_writer stamp (writer_of (image_at a id))
-  pub images_ordered : IsOrdered (slice_cmp nat_cmp) a.images
+      → has_id (reservations_of a.undo.reservations stamp) id ≡ is_writer stamp (writer_of (image_at a.undo id))

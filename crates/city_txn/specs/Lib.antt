@@ -9,3 +9,4 @@ pub mod InPlace
 pub mod Locking
 pub mod Performing
 pub mod State
+pub mod UndoState

@@ -1,5 +1,5 @@
 -- What contracts see of the store: the committed city, and for each open transaction what it wrote.
-use Rattle.std.specs.Prelude.{◌≡◌, ◌==◌, ℕ, Bool, false, List, Option, None, Some, is_some, unwrap_or, []}
+use Rattle.std.specs.Prelude.{◌≡◌, ◌==◌, ℕ, Bool, false, List, Option, None, Some, is_some}
 use Rattle.std.specs.Prelude.{if◌then◌else◌}
 use Rattle.std.specs.Map.{lookup}
 use Rattle.std.specs.Ordering.{nat_cmp}
@@ -8,6 +8,7 @@ use Rattle.std.specs.BTreeMap.{is_at}
 use Rattle.city_model.specs.declared.frame.Frame.{Frame}
 use Rattle.city_model.specs.declared.object.Object.{Object}
 use Rattle.city_model.specs.CityMap.{Objects, CityMap, at, has_id}
+use Rattle.city_txn.specs.UndoState.{Reservations, listed_by, reservations_of}
 
 -- a written id: who wrote it, and what stands there for the writer
 abbrev pub Write : Type 0
@@ -20,16 +21,13 @@ pub record State : Type 0 where
   -- the written ids, in byte order
   pub writes : List (List ℕ × Write)
   -- the open transactions by their stamps, each with the ids that it has reserved
-  pub opened : List (ℕ × List (List ℕ))
+  pub opened : Reservations
 
 abbrev pub write_of : List (List ℕ × Write) → List ℕ → Option Write
 write_of ws id = lookup (is_at (slice_cmp nat_cmp id)) ws
 
-abbrev pub reservations_of : List (ℕ × List (List ℕ)) → ℕ → List (List ℕ)
-reservations_of opened stamp = unwrap_or (lookup (is_at (nat_cmp stamp)) opened) []
-
 abbrev pub is_open : State → ℕ → Bool
-is_open v stamp = is_some (lookup (is_at (nat_cmp stamp)) v.opened)
+is_open v stamp = is_some (listed_by v.opened stamp)
 
 -- whether the transaction has reserved the id
 abbrev pub is_reserved : State → ℕ → List ℕ → Bool

@@ -1,5 +1,5 @@
 //! What a transaction wrote, as a change.
-ghost use Rattle.std.specs.Prelude.{◌≡◌, ◌++◌, ℕ, List, None, true, IfOk, IfSome, IfNone, OnOk, if◌then◌else◌};
+ghost use Rattle.std.specs.Prelude.{◌≡◌, ℕ, List, None, IfOk, IfSome, IfNone, OnOk, if◌then◌else◌};
 ghost use Rattle.std.specs.Map.{keys_of, lookup};
 ghost use Rattle.std.specs.Ordering.{nat_cmp};
 ghost use Rattle.std.specs.Cmp.Lexicographic.{slice_cmp};
@@ -9,8 +9,9 @@ ghost use Rattle.city_model.specs.CityMap.{at, found_in, has_id, same_id};
 ghost use Rattle.city_model.specs.Relations.{is_orphan_there, HasNoOrphan, IsLeastOrphan};
 ghost use Rattle.city_txn.specs.Images.{written_at};
 ghost use Rattle.city_txn.specs.Changing.{or_else, objects_in};
+ghost use Rattle.city_txn.specs.UndoState.{image_at};
 
-use crate::image::Images;
+use crate::undo::Undo;
 use city_model::OutOfMemory;
 use city_model::change::Change;
 use city_model::city::City;
@@ -26,29 +27,24 @@ use std::collections::BTreeMap;
 type Writes = BTreeMap<Id, Option<Object>>;
 
 /// What was written at the ids, in byte order. It copies the objects.
-pub fn change_of(
-    city: &City,
-    images: &Images,
-    alloc: Global,
-    ids: &[Id],
-) -> Result<Change, OutOfMemory>
+pub fn change_of(city: &City, undo: &Undo, alloc: Global, ids: &[Id]) -> Result<Change, OutOfMemory>
     ensures lists { IfOk result (λ change. (q : List ℕ) → lookup (is_at (slice_cmp nat_cmp q)) change
-        ≡ (if has_id ids.now q then written_at (at city.now.1 q) (get (slice_cmp nat_cmp) images.now q) else None)) }
+        ≡ (if has_id ids.now q then written_at (at city.now.1 q) (image_at undo.now q) else None)) }
     ensures ordered { IfOk result (λ change. IsStrictlySortedBy (slice_cmp nat_cmp) (keys_of change)) }
 {
-    let writes = note_each(city, images, alloc, ids)?;
+    let writes = note_each(city, undo, alloc, ids)?;
     in_order(alloc, writes)
 }
 
 /// Notes what was written at the ids.
-fn note_each(city: &City, images: &Images, alloc: Global, ids: &[Id]) -> Result<Writes, OutOfMemory>
+fn note_each(city: &City, undo: &Undo, alloc: Global, ids: &[Id]) -> Result<Writes, OutOfMemory>
     ensures lists { IfOk result (λ writes. (q : List ℕ) → get (slice_cmp nat_cmp) writes q
-        ≡ (if has_id ids.now q then written_at (at city.now.1 q) (get (slice_cmp nat_cmp) images.now q) else None)) }
+        ≡ (if has_id ids.now q then written_at (at city.now.1 q) (image_at undo.now q) else None)) }
     ensures ordered { IfOk result (IsOrdered (slice_cmp nat_cmp)) }
 {
     let mut writes = BTreeMap::new(alloc);
     for id in ids {
-        note(&mut writes, city, images, alloc, id)?;
+        note(&mut writes, city, undo, alloc, id)?;
     }
     Ok(writes)
 }
@@ -57,15 +53,15 @@ fn note_each(city: &City, images: &Images, alloc: Global, ids: &[Id]) -> Result<
 fn note(
     writes: &mut Writes,
     city: &City,
-    images: &Images,
+    undo: &Undo,
     alloc: Global,
     id: &Id,
 ) -> Result<(), OutOfMemory>
     ensures noted { OnOk result ((q : List ℕ) → get (slice_cmp nat_cmp) writes.new q
-        ≡ (if same_id id.now q then or_else (written_at (at city.now.1 id.now) (get (slice_cmp nat_cmp) images.now id.now)) (get (slice_cmp nat_cmp) writes.old q) else get (slice_cmp nat_cmp) writes.old q)) }
+        ≡ (if same_id id.now q then or_else (written_at (at city.now.1 id.now) (image_at undo.now id.now)) (get (slice_cmp nat_cmp) writes.old q) else get (slice_cmp nat_cmp) writes.old q)) }
     ensures ordered { IsOrdered (slice_cmp nat_cmp) writes.old → IsOrdered (slice_cmp nat_cmp) writes.new }
 {
-    let Some(image) = images.get(id) else {
+    let Some(image) = undo.image(id) else {
         return Ok(());
     };
     if image.unwritten {

@@ -1,17 +1,8 @@
 //! Undo images: what stood at an id before a transaction wrote it.
-ghost use Rattle.std.specs.Prelude.{◌≡◌, ℕ, List, None, Some, OnOk, OnErr, option_copied, if◌then◌else◌};
-ghost use Rattle.std.specs.Ordering.{nat_cmp};
-ghost use Rattle.std.specs.Cmp.Lexicographic.{slice_cmp};
-ghost use Rattle.std.specs.BTreeMap.{get, IsOrdered};
-ghost use Rattle.city_model.specs.CityMap.{same_id};
-ghost use Rattle.city_txn.specs.Images.{is_deleted, seen_by, written_over, unwritten_image};
+ghost use Rattle.std.specs.Prelude.{◌≡◌, Some, option_copied};
+ghost use Rattle.city_txn.specs.Images.{seen_by, written_over, unwritten_image};
 
-use city_model::OutOfMemory;
-use city_model::copied::Copied;
 use city_model::object::Object;
-use city_model::text::Id;
-use std::alloc::Global;
-use std::collections::BTreeMap;
 
 /// What stood at an id before a transaction wrote it.
 #[derive(Drop)]
@@ -26,64 +17,38 @@ pub struct Image {
     pub before: Option<Object>,
 }
 
-/// The images by their ids.
-pub type Images = BTreeMap<Id, Image>;
-
-/// What the stamp sees at the id of the image, where the city has `here`.
-pub fn seen_by<'a>(image: &'a Image, stamp: u64, here: Option<&'a Object>) -> Option<&'a Object>
-    ensures { option_copied result ≡ seen_by stamp (option_copied here.entry) image.now }
-{
-    if image.by != stamp && !image.unwritten {
-        return image.before.as_ref();
+impl Image {
+    /// The image of an id that nobody has written. Takes no memory.
+    pub fn unwritten(stamp: u64, deleted: bool) -> Self
+        ensures { result ≡ unwritten_image stamp deleted }
+    {
+        Image {
+            by: stamp,
+            unwritten: true,
+            deleted,
+            before: None,
+        }
     }
-    if image.deleted { None } else { here }
-}
 
-/// Adds an image of an id that nobody has written; want of memory leaves the images.
-pub fn add(
-    images: &mut Images,
-    alloc: Global,
-    stamp: u64,
-    id: &Id,
-    deleted: bool,
-) -> Result<(), OutOfMemory>
-    ensures ok { OnOk result ((q : List ℕ) → get (slice_cmp nat_cmp) images.new q
-        ≡ (if same_id id.now q then Some (unwritten_image stamp deleted) else get (slice_cmp nat_cmp) images.old q)) }
-    ensures err { OnErr result (images.new.entries ≡ images.old.entries) }
-    ensures ordered { IsOrdered (slice_cmp nat_cmp) images.old → IsOrdered (slice_cmp nat_cmp) images.new }
-{
-    let key = id.copy(alloc)?;
-    let image = Image {
-        by: stamp,
-        unwritten: true,
-        deleted,
-        before: None,
-    };
-    images.insert(key, image)?;
-    Ok(())
-}
-
-/// Takes out the image of the id, and says whether a placeholder holds its slot.
-pub fn forget(images: &mut Images, id: &Id) -> bool
-    ensures deleted { result ≡ is_deleted (get (slice_cmp nat_cmp) images.old id.now) }
-    ensures after { (q : List ℕ) → get (slice_cmp nat_cmp) images.new q
-        ≡ (if same_id id.now q then None else get (slice_cmp nat_cmp) images.old q) }
-    ensures ordered { IsOrdered (slice_cmp nat_cmp) images.new }
-{
-    match images.remove(id) {
-        Some(image) => image.deleted,
-        None => false,
+    /// What the stamp sees at the id of the image, where the city has `here`.
+    pub fn seen_by<'a>(&'a self, stamp: u64, here: Option<&'a Object>) -> Option<&'a Object>
+        ensures { option_copied result ≡ seen_by stamp (option_copied here.entry) self.now }
+    {
+        if self.by != stamp && !self.unwritten {
+            return self.before.as_ref();
+        }
+        if self.deleted { None } else { here }
     }
-}
 
-/// Notes a write: what stood there goes into the image at the first one, and is dropped at a later
-/// one.
-pub fn write_over(image: &mut Image, old: Object, deleted: bool)
-    ensures { image.new ≡ written_over (Some old) deleted image.old }
-{
-    if image.unwritten {
-        image.before = if image.deleted { None } else { Some(old) };
+    /// Notes a write: what stood there goes into the image at the first one, and is dropped at a
+    /// later one.
+    pub fn write_over(&mut self, old: Object, deleted: bool)
+        ensures { self.new ≡ written_over (Some old) deleted self.old }
+    {
+        if self.unwritten {
+            self.before = if self.deleted { None } else { Some(old) };
+        }
+        self.unwritten = false;
+        self.deleted = deleted;
     }
-    image.unwritten = false;
-    image.deleted = deleted;
 }

@@ -2,15 +2,17 @@
 #![tactic(auto)]
 
 mod changing;
+mod command_locks;
+mod ending;
 mod image;
 mod lock;
 mod perform;
 mod placeholder;
-mod reservations;
 mod seen;
 mod slot;
 pub mod step;
 mod store;
 pub mod txn_core;
+mod undo;
 mod would_lock;
 mod writing;

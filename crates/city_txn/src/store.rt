@@ -1,27 +1,24 @@
 //! The city as the open transactions have written it, and how it is put back.
-ghost use Rattle.std.specs.Prelude.{◌≡◌, ◌↔◌, IsTrue, ℕ, List, [], None, Some, OnOk, OnErr, IfOk, is_some, true, false, ◌==◌, ◌&&◌, ◌||◌, ◌∷◌, ◌++◌, option_map, option_copied, if◌then◌else◌};
+ghost use Rattle.std.specs.Prelude.{◌≡◌, ◌↔◌, IsTrue, ℕ, List, [], None, Some, OnOk, OnErr, IfOk, true, false, ◌==◌, ◌&&◌, ◌||◌, option_copied, if◌then◌else◌};
 ghost use Rattle.std.specs.Ordering.{nat_cmp};
 ghost use Rattle.std.specs.Cmp.Lexicographic.{slice_cmp};
 ghost use Rattle.std.specs.Map.{keys_of, lookup};
 ghost use Rattle.std.specs.List.Sorted.{IsStrictlySortedBy};
-ghost use Rattle.std.specs.BTreeMap.{get, is_at, IsOrdered};
-ghost use Rattle.city_model.specs.CityMap.{at, has_id, same_id, changed};
-ghost use Rattle.city_txn.specs.Ending.{AreEnded};
-ghost use Rattle.city_txn.specs.Images.{seen_at, committed_at, unwritten_image, written_over};
-ghost use Rattle.city_txn.specs.State.{State, reservations_of, write_of, is_reserved, is_open, committed, view, own_write, SeesSame, Forgets};
+ghost use Rattle.std.specs.BTreeMap.{is_at};
+ghost use Rattle.city_model.specs.CityMap.{same_id};
+ghost use Rattle.city_txn.specs.Ending.{city_after};
+ghost use Rattle.city_txn.specs.State.{State, write_of, is_reserved, is_open, committed, view, own_write, SeesSame, Forgets};
 
 use crate::changing::change_of;
-use crate::image::{self, Image, Images};
-use crate::reservations::{self, Reservations};
+use crate::ending::{End, end_each};
 use crate::slot;
+use crate::undo::Undo;
 use city_model::OutOfMemory;
 use city_model::change::Change;
 use city_model::city::City;
 use city_model::object::Object;
-use city_model::sequence::Sequence;
 use city_model::text::Id;
 use std::alloc::Global;
-use std::collections::BTreeMap;
 use std::marker::Model;
 
 /// One city as the open transactions have written it, with an undo image of each written id.
@@ -32,8 +29,7 @@ use std::marker::Model;
 #[derive(Drop)]
 pub struct Store {
     city: City,
-    images: Images,
-    reservations: Reservations,
+    undo: Undo,
 }
 
 impl Model for Store {
@@ -61,8 +57,7 @@ impl Store {
     {
         Store {
             city,
-            images: BTreeMap::new(alloc),
-            reservations: BTreeMap::new(alloc),
+            undo: Undo::new(alloc),
         }
     }
 
@@ -70,12 +65,12 @@ impl Store {
     pub fn is_open(&self, stamp: u64) -> bool
         ensures { result ≡ is_open self.now stamp }
     {
-        self.reservations.contains_key(&stamp)
+        self.undo.is_open(stamp)
     }
 
     /// Opens the stamp, which isn't open, with no writes and nothing reserved. Want of memory leaves the
     /// store.
-    pub fn begin(&mut self, alloc: Global, stamp: u64) -> Result<(), OutOfMemory>
+    pub fn begin(&mut self, stamp: u64) -> Result<(), OutOfMemory>
         requires { is_open self.old stamp ≡ false }
         ensures frame { self.new.frame ≡ self.old.frame }
         ensures city { self.new.city ≡ self.old.city }
@@ -84,7 +79,7 @@ impl Store {
         ensures reserved { (t : ℕ) (id : List ℕ) → is_reserved self.new t id ≡ is_reserved self.old t id }
         ensures err { OnErr result (self.new ≡ self.old) }
     {
-        reservations::open(&mut self.reservations, alloc, stamp)?;
+        self.undo.open(stamp)?;
         Ok(())
     }
 
@@ -92,8 +87,8 @@ impl Store {
     pub fn read(&self, stamp: u64, id: &Id) -> Option<&Object>
         ensures { option_copied result ≡ view self.now stamp id.now }
     {
-        match self.images.get(id) {
-            Some(image) => image::seen_by(image, stamp, self.city.get(id)),
+        match self.undo.image(id) {
+            Some(image) => image.seen_by(stamp, self.city.get(id)),
             None => self.city.get(id),
         }
     }
@@ -107,18 +102,11 @@ impl Store {
         ensures ok { OnOk result ((t : ℕ) (q : List ℕ) → is_reserved self.new t q ≡ (((stamp == t) && same_id id.now q) || is_reserved self.old t q)) }
         ensures err { OnErr result ((t : ℕ) (q : List ℕ) → is_reserved self.new t q ≡ is_reserved self.old t q) }
     {
-        if self.images.contains_key(id) {
+        if self.undo.has_image(id) {
             return Ok(());
         }
         let deleted = slot::make(&mut self.city, alloc, id)?;
-        let Ok(()) = add_listed(
-            &mut self.images,
-            &mut self.reservations,
-            alloc,
-            stamp,
-            id,
-            deleted,
-        ) else {
+        let Ok(()) = self.undo.reserve(stamp, id, deleted) else {
             slot::clear(&mut self.city, id, deleted);
             return Err(OutOfMemory);
         };
@@ -135,13 +123,8 @@ impl Store {
         ensures opened { self.new.opened ≡ self.old.opened }
     {
         let deleted = object.is_none();
-        write(
-            &mut self.city,
-            &mut self.images,
-            id,
-            slot::standing(alloc, object),
-            deleted,
-        );
+        let standing = slot::standing(alloc, object);
+        self.undo.write(&mut self.city, id, standing, deleted);
     }
 
     /// What the stamp wrote, ids in byte order. It copies the objects.
@@ -149,10 +132,7 @@ impl Store {
         ensures lists { IfOk result (λ change. (q : List ℕ) → lookup (is_at (slice_cmp nat_cmp q)) change ≡ own_write stamp (write_of self.now.writes q)) }
         ensures ordered { IfOk result (λ change. IsStrictlySortedBy (slice_cmp nat_cmp) (keys_of change)) }
     {
-        match self.reservations.get(&stamp) {
-            Some(ids) => change_of(&self.city, &self.images, alloc, ids.as_slice()),
-            None => Ok(Sequence::new(alloc)),
-        }
+        change_of(&self.city, &self.undo, alloc, self.undo.reserved(stamp))
     }
 
     /// The city, where no stamp is open. Takes no memory.
@@ -167,7 +147,7 @@ impl Store {
     pub fn is_idle(&self) -> bool
         ensures { IsTrue result ↔ (self.now.opened ≡ []) }
     {
-        self.reservations.is_empty()
+        self.undo.is_idle()
     }
 
     /// Makes what the stamp wrote the committed city, and closes the stamp. It works through the
@@ -176,9 +156,7 @@ impl Store {
         ensures city { committed self.new ≡ view self.old stamp }
         ensures forgets { Forgets stamp self.old self.new }
     {
-        if let Some(ids) = self.reservations.remove(&stamp) {
-            commit_each(&mut self.city, &mut self.images, ids.as_slice());
-        }
+        self.end(stamp, End::Commit);
     }
 
     /// Takes back what the stamp wrote, and closes the stamp. It works through the ids that the
@@ -187,91 +165,15 @@ impl Store {
         ensures city { committed self.new ≡ committed self.old }
         ensures forgets { Forgets stamp self.old self.new }
     {
-        if let Some(ids) = self.reservations.remove(&stamp) {
-            roll_back_each(&mut self.city, &mut self.images, ids.as_slice());
-        }
+        self.end(stamp, End::RollBack);
     }
-}
 
-/// Adds an image of an id without one, and lists the id at the stamp, or neither.
-fn add_listed(
-    images: &mut Images,
-    reservations: &mut Reservations,
-    alloc: Global,
-    stamp: u64,
-    id: &Id,
-    deleted: bool,
-) -> Result<(), OutOfMemory>
-    requires opened { is_some (get nat_cmp reservations.old stamp) ≡ true }
-    requires absent { get (slice_cmp nat_cmp) images.old id.now ≡ None }
-    ensures images { OnOk result ((q : List ℕ) → get (slice_cmp nat_cmp) images.new q
-        ≡ (if same_id id.now q then Some (unwritten_image stamp deleted) else get (slice_cmp nat_cmp) images.old q)) }
-    ensures reservations { OnOk result ((t : ℕ) → get nat_cmp reservations.new t
-        ≡ (if is_at (nat_cmp stamp) t then Some (reservations_of reservations.old.entries stamp ++ id.now ∷ []) else get nat_cmp reservations.old t)) }
-    ensures images_back { OnErr result ((q : List ℕ) → get (slice_cmp nat_cmp) images.new q ≡ get (slice_cmp nat_cmp) images.old q) }
-    ensures reservations_back { OnErr result (reservations.new.entries ≡ reservations.old.entries) }
-    ensures ordered { IsOrdered (slice_cmp nat_cmp) images.old → IsOrdered (slice_cmp nat_cmp) images.new }
-{
-    image::add(images, alloc, stamp, id, deleted)?;
-    let Ok(()) = reservations::list(reservations, alloc, stamp, id) else {
-        let _ = image::forget(images, id);
-        return Err(OutOfMemory);
-    };
-    Ok(())
-}
-
-/// Puts the object at the id, and what stood there into the image.
-fn write(city: &mut City, images: &mut Images, id: Id, object: Object, deleted: bool)
-    requires has_slot { is_some (at city.old.1 id) ≡ true }
-    requires there { is_some (get (slice_cmp nat_cmp) images.old id) ≡ true }
-    ensures frame { city.new.0 ≡ city.old.0 }
-    ensures city { at city.new.1 ≡ changed (at city.old.1) id (Some object) }
-    ensures images { (q : List ℕ) → get (slice_cmp nat_cmp) images.new q
-        ≡ (if same_id id q then option_map (written_over (at city.old.1 id) deleted) (get (slice_cmp nat_cmp) images.old id) else get (slice_cmp nat_cmp) images.old q) }
-    ensures images_ordered { IsOrdered (slice_cmp nat_cmp) images.old → IsOrdered (slice_cmp nat_cmp) images.new }
-{
-    match images.get_mut(&id) {
-        Some(image) => {
-            let old = slot::swap(city, id, object);
-            image::write_over(image, old, deleted);
-        }
-        None => unreachable!(),
-    }
-}
-
-/// Drops the images of the ids, and the placeholders that hold their slots.
-fn commit_each(city: &mut City, images: &mut Images, ids: &[Id])
-    ensures { AreEnded seen_at (has_id ids.now) city.old images.old city.new images.new }
-{
-    for id in ids {
-        commit_one(city, images, id);
-    }
-}
-
-/// Drops the image of the id, if there is one, and the placeholder, if one holds its slot.
-fn commit_one(city: &mut City, images: &mut Images, id: &Id)
-    ensures { AreEnded seen_at (same_id id.now) city.old images.old city.new images.new }
-{
-    let deleted = image::forget(images, id);
-    slot::clear(city, id, deleted);
-}
-
-/// Puts the images of the ids back.
-fn roll_back_each(city: &mut City, images: &mut Images, ids: &[Id])
-    requires { (q : List ℕ) → is_some (get (slice_cmp nat_cmp) images.old q) ≡ true → is_some (at city.old.1 q) ≡ true }
-    ensures { AreEnded committed_at (has_id ids.now) city.old images.old city.new images.new }
-{
-    for id in ids {
-        roll_back_one(city, images, id);
-    }
-}
-
-/// Puts the image of the id back, if there is one.
-fn roll_back_one(city: &mut City, images: &mut Images, id: &Id)
-    requires { is_some (get (slice_cmp nat_cmp) images.old id.now) ≡ true → is_some (at city.old.1 id.now) ≡ true }
-    ensures { AreEnded committed_at (same_id id.now) city.old images.old city.new images.new }
-{
-    if let Some((key, image)) = images.remove_entry(id) {
-        slot::give_back(city, key, image);
+    /// Ends at each id that the stamp has reserved, and closes the stamp. Takes no memory.
+    fn end(&mut self, stamp: u64, end: End)
+        ensures city { committed self.new ≡ city_after end self.old stamp }
+        ensures forgets { Forgets stamp self.old self.new }
+    {
+        let ids = self.undo.close(stamp);
+        end_each(&mut self.city, &mut self.undo, end, ids.as_slice());
     }
 }

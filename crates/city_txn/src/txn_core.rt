@@ -1,5 +1,5 @@
 //! The transaction core: strict two-phase locking over one city.
-ghost use Rattle.std.specs.Prelude.{◌≡◌, ◌==◌, ◌&&◌, ◌||◌, ℕ, List, [], None, true, false, Some, is_some, OnOk, OnErr, IfOk, IfErr, IsErr, IsOk, ◌↔◌, if◌then◌else◌};
+ghost use Rattle.std.specs.Prelude.{◌≡◌, ◌&&◌, ℕ, List, [], None, true, false, Some, is_some, OnOk, OnErr, IfOk, IfErr, IsErr, IsOk, ◌↔◌, if◌then◌else◌};
 ghost use Rattle.city_model.specs.CityMap.{at};
 ghost use Rattle.city_model.specs.Scripts.{is_end};
 ghost use Rattle.city_model.specs.Relations.{IsLawful, HasNoOrphan, IsSound};
@@ -87,7 +87,7 @@ impl Core {
         if self.store.is_open(stamp) {
             return Err(TxnFault::StampOpen(stamp));
         }
-        let Ok(()) = self.store.begin(self.alloc, stamp) else {
+        let Ok(()) = self.store.begin(stamp) else {
             return Err(TxnFault::OutOfMemory);
         };
         Ok(())

@@ -1,7 +1,7 @@
 -- What holds of two texts holds of the two parts of an input, where they are the parts of what was read of it.
 use Rattle.std.proofs.Common.{◌≡◌, ℕ, List, Bool, Option, Some, None, IfSome, subst}
 use Rattle.cityed.specs.declared.fault.ServeFault.{ServeFault}
-use Rattle.cityed.specs.SerialRuns.{IsRunFault}
+use Rattle.city_desk.specs.RunFaults.{IsRunFault}
 use Rattle.cityed.specs.ServedTexts.{AreCutShort, IsTextsFault}
 use Rattle.cityed.specs.Served.{read_of, document_of, scripts_of, IsServeFault}
 

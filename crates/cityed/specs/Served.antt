@@ -3,9 +3,9 @@ use Rattle.std.specs.Prelude.{◌==◌, ◌≡◌, ◌⊎◌, ◌+◌, ◌*◌, 
 use Rattle.std.specs.List.{before_first, after_first}
 use Rattle.std.specs.Io.KnownBytes.{Keeps}
 use Rattle.city_doc.specs.Texts.{max_text}
-use Rattle.cityed.specs.SerialRuns.{IsRunFault}
+use Rattle.city_desk.specs.RunFaults.{IsRunFault}
 use Rattle.cityed.specs.ServedTexts.{AreServed, AreCutShort}
-use Rattle.cityed.specs.declared.fault.RunFault.{RunFault}
+use Rattle.city_desk.specs.declared.fault.RunFault.{RunFault}
 use Rattle.cityed.specs.declared.fault.ServeFault.{ServeFault}
 
 -- how many bytes are read: enough for two texts of the greatest length, the newline, and one more

@@ -3,7 +3,8 @@ use Rattle.std.specs.Prelude.{◌≡◌, ◌⊎◌, ◌<◌, ◌≤◌, ℕ, Boo
 use Rattle.std.specs.Io.KnownBytes.{Keeps, Appends, Consumes}
 use Rattle.city_model.specs.declared.end.End.{End}
 use Rattle.city_doc.specs.Texts.{max_text}
-use Rattle.cityed.specs.SerialRuns.{IsSerialRun, IsRunFault}
+use Rattle.city_desk.specs.RunFaults.{IsRunFault}
+use Rattle.city_desk.specs.SerialRuns.{IsSerialRun}
 use Rattle.cityed.specs.declared.fault.ServeFault.{ServeFault}
 
 -- a reader that had known bytes has lost the first of them, so many at the most

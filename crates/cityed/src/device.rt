@@ -3,7 +3,8 @@ ghost use Rattle.std.specs.Prelude.{◌≡◌, ◌<◌, ◌≤◌, true, false, 
 ghost use Rattle.std.specs.Io.KnownBytes.{Appends, Consumes, IsAtEnd, Keeps};
 ghost use Rattle.cityed.specs.Served.{IsReadFault};
 
-use crate::fault::{RunFault, ServeFault};
+use crate::fault::ServeFault;
+use city_desk::fault::RunFault;
 use std::io::{ErrorKind, Read, Write};
 use std::marker::Model;
 

@@ -3,7 +3,8 @@ ghost use Rattle.std.specs.Prelude.{◌≡◌, ◌++◌, IfOk, codes, string_byt
 ghost use Rattle.std.specs.Fmt.{decimal};
 ghost use Rattle.cityed.specs.FaultTexts.{quoted, model_text, scripts_text, run_text, fault_text};
 
-use crate::fault::{RunFault, ServeFault};
+use crate::fault::ServeFault;
+use city_desk::fault::RunFault;
 use city_doc::fault::{ReadFault, ScriptFault};
 use city_model::OutOfMemory;
 use city_model::text::Text;

@@ -5,7 +5,8 @@ ghost use Rattle.cityed.specs.Served.{IsReadFault};
 ghost use Rattle.cityed.specs.ServedTexts.{IsEnoughOf};
 
 use crate::device::Device;
-use crate::fault::{RunFault, ServeFault};
+use crate::fault::ServeFault;
+use city_desk::fault::RunFault;
 use crate::serve::read_at_most;
 use city_doc::parse::MAX_TEXT;
 use std::alloc::Global;

@@ -5,34 +5,24 @@
 //! and the model. Status 1: a fault, told on standard error; 2: a command line that is refused.
 #![tactic(auto)]
 
-mod attach;
 mod command_line;
 #[cfg(test)]
 mod command_line_tests;
-#[cfg(test)]
-mod command_tests;
-mod delete;
-mod detach;
 mod device;
 #[cfg(test)]
 mod device_tests;
 mod fault;
 mod fault_line;
 mod files;
-mod perform;
-mod play;
-mod put;
-mod relatives;
-mod run;
 mod serve;
 mod serve_texts;
-mod step;
 #[cfg(test)]
 mod tests;
 
 use command_line::{Asked, LineFault, asked_by};
 use device::Device;
-use fault::{RunFault, ServeFault};
+use city_desk::fault::RunFault;
+use fault::ServeFault;
 use files::read_file;
 use serve::{serve, write_output};
 use serve_texts::serve_texts;

@@ -4,7 +4,7 @@ ghost use Rattle.cityed.specs.ServedTexts.{AreServed, IsTextsFault};
 
 use crate::device::Device;
 use crate::fault::ServeFault;
-use crate::run::run_serial;
+use city_desk::serial_run::run_serial;
 use crate::serve::write_output;
 use std::alloc::Global;
 use std::io::Write;

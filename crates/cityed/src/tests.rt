@@ -1,8 +1,9 @@
 //! What the program answers, beside the answers that the format's worked examples give.
 use crate::device::Device;
-use crate::fault::{RunFault, ServeFault};
+use crate::fault::ServeFault;
+use city_desk::fault::RunFault;
 use crate::fault_line::fault_line;
-use crate::run::run_serial;
+use city_desk::serial_run::run_serial;
 use crate::serve::serve;
 use city_doc::fault::{ReadFault, ScriptFault};
 use city_model::end::Outcome;

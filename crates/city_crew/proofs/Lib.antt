@@ -1,0 +1,9 @@
+pub mod Adding
+pub mod Applied
+pub mod HeldEdits
+pub mod KeptRule
+pub mod LaterVersions
+pub mod Placed
+pub mod Prefixes
+pub mod Results
+pub mod WritesOnce

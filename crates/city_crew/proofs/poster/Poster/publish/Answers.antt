@@ -1,0 +1,52 @@
+use Rattle.std.proofs.Common.{rules, Some, ◌≡◌, ◌++◌, [], List, drop, ap, sym, ◌∙◌, subst, refl}
+use Rattle.std.proofs.lemmas.List.{append-nil}
+use Rattle.left_right.specs.Sides.{view}
+use Rattle.city_crew.specs.BoardRule.{HoldsEdits}
+use Rattle.city_crew.specs.declared.version.Edit.{Edit}
+use Rattle.city_crew.proofs.HeldEdits.{holds_published}
+use Rattle.city_crew.proofs.LaterVersions.{all_later}
+use Rattle.city_crew.proofs.Prefixes.{prefix_self}
+use Rattle.city_crew.proofs.Results.{from_some, from_ok}
+use Rattle.city_crew.proofs.poster.Poster.publish.Goals as goal
+
+pub publish-writer-requires : goal.publish-writer-requires
+publish-writer-requires g c =
+    let p = c.self.inside in
+    let w = c.append_all.new.writer in
+    let there : p.writer ≡ Some c.in-Some.own = sym c.take.ensures.value ∙ c.in-Some.is in
+    let old = from_some p.writer c.in-Some.own _ there c.self.invariant.3 in
+    let desk : c.in-Some.own.writer.desk ≡ w.desk = search rules in
+    let none : c.append_all.new.waiting.items ≡ [] = search rules in
+    let edits : drop c.in-Some.own.writer.behind c.in-Some.own.writer.log.items ++ p.waiting.items ≡ drop w.behind w.log.items =
+    ap (λ z. drop z.behind z.log.items ++ p.waiting.items) (sym c.into_parts-writer.ensures.writer) ∙ (sym c.append_all.ensures.edits ∙ (ap (λ (l : List Edit). drop w.behind w.log.items ++ l) none ∙ append-nil (drop w.behind w.log.items))) in
+    let held : HoldsEdits w.desk.shown.value (view w.desk.place) (drop w.behind w.log.items) p.opening p.published p.taken =
+    subst (λ d. HoldsEdits d.shown.value (view d.place) (drop w.behind w.log.items) p.opening p.published p.taken) desk
+    (subst (λ (es : List Edit). HoldsEdits c.in-Some.own.writer.desk.shown.value (view c.in-Some.own.writer.desk.place) es p.opening p.published p.taken) edits old) in
+    record { later = (all_later w.desk.shown.value (drop w.behind w.log.items) p.taken held.faithful held.lead).0 }
+
+pub invariant_of-self-in-Ok : goal.invariant_of-self-in-Ok
+invariant_of-self-in-Ok g c =
+    let p = c.self.inside in
+    let w = c.append_all.new.writer in
+    let r = c.publish-writer.result.0 in
+    let there : p.writer ≡ Some c.in-Some.own = sym c.take.ensures.value ∙ c.in-Some.is in
+    let old = from_some p.writer c.in-Some.own _ there c.self.invariant.3 in
+    let desk : c.in-Some.own.writer.desk ≡ w.desk = search rules in
+    let none : c.append_all.new.waiting.items ≡ [] = search rules in
+    let edits : drop c.in-Some.own.writer.behind c.in-Some.own.writer.log.items ++ p.waiting.items ≡ drop w.behind w.log.items =
+    ap (λ z. drop z.behind z.log.items ++ p.waiting.items) (sym c.into_parts-writer.ensures.writer) ∙ (sym c.append_all.ensures.edits ∙ (ap (λ (l : List Edit). drop w.behind w.log.items ++ l) none ∙ append-nil (drop w.behind w.log.items))) in
+    let held : HoldsEdits w.desk.shown.value (view w.desk.place) (drop w.behind w.log.items) p.opening p.published p.taken =
+    subst (λ d. HoldsEdits d.shown.value (view d.place) (drop w.behind w.log.items) p.opening p.published p.taken) desk
+    (subst (λ (es : List Edit). HoldsEdits c.in-Some.own.writer.desk.shown.value (view c.in-Some.own.writer.desk.place) es p.opening p.published p.taken) edits old) in
+    let done = from_ok _ _ _ _ c.in-Ok.is c.publish-writer.ensures in
+    let now : HoldsEdits r.desk.shown.value (view r.desk.place) [] p.opening p.taken p.taken =
+    holds_published w.desk.shown.value r.desk.shown.value (view w.desk.place) (view r.desk.place) (drop w.behind w.log.items) p.opening p.published p.taken held done.0 done.2 in
+    let empty : drop r.behind r.log.items ≡ [] = done.1 in
+    let rest : drop r.behind r.log.items ++ c.append_all.new.waiting.items ≡ [] = ap (λ (l : List Edit). l ++ c.append_all.new.waiting.items) empty ∙ none in
+    let again : c.again.result ≡ p.taken = c.again.ensures in
+    rw (again, rest) (
+      c.self.invariant.0 ∙ sym c.self.invariant.1,
+      refl,
+      prefix_self p.taken.changes,
+      now,
+    )

@@ -1,0 +1,54 @@
+//! Writing a change into a city: all of it or nothing.
+ghost use Rattle.std.specs.Prelude.{◌≡◌, ℕ, List, true, is_some, MatchResult};
+ghost use Rattle.std.specs.Map.{keys_of};
+ghost use Rattle.city_model.specs.CityMap.{at, changed, has_id};
+ghost use Rattle.city_model.specs.Runs.{with_change};
+ghost use Rattle.city_crew.specs.Versions.{city_after};
+
+use crate::places::make_places;
+use crate::writes::Writes;
+use city_model::city::City;
+use city_model::object::Object;
+use city_model::text::Id;
+use std::alloc::Global;
+
+/// Writes all to the city. Where there is no memory the city is unchanged, and all comes back.
+///
+/// The city isn't copied; memory is taken for the places of new ids alone.
+pub fn apply(alloc: Global, city: &mut City, writes: Writes) -> Result<(), Writes>
+    ensures { MatchResult result
+        (λ _. city.new ≡ city_after city.old writes.entries)
+        (λ back. (back ≡ writes) × (city.new ≡ city.old)) }
+{
+    if make_places(alloc, city, &writes).is_err() {
+        return Err(writes);
+    }
+    write_all(city, writes);
+    Ok(())
+}
+
+/// Writes all to the city, in which each id has a place. Takes no memory.
+fn write_all(city: &mut City, mut writes: Writes)
+    requires { (q : List ℕ) → has_id (keys_of writes.entries) q ≡ true → is_some (at city.old.1 q) ≡ true }
+    ensures frame { city.new.0 ≡ city.old.0 }
+    ensures objects { at city.new.1 ≡ with_change (at city.old.1) writes.entries }
+{
+    while let Some((id, object)) = writes.pop_first() {
+        write(city, id, object);
+    }
+}
+
+/// Sets the object of an id that has a place, or takes it out. Takes no memory.
+fn write(city: &mut City, id: Id, object: Option<Object>)
+    requires { is_some (at city.old.1 id) ≡ true }
+    ensures frame { city.new.0 ≡ city.old.0 }
+    ensures objects { at city.new.1 ≡ changed (at city.old.1) id object }
+{
+    match object {
+        Some(o) => match city.set(id, o) {
+            Ok(old) => drop(old),
+            Err(_) => unreachable!(),
+        },
+        None => drop(city.remove(&id)),
+    }
+}

@@ -1,0 +1,66 @@
+//! The city that a board was made over, for the proofs alone.
+ghost use Rattle.std.specs.Prelude.{◌≡◌};
+
+use city_model::city::City;
+use logbook::{Opening as FirstEntry, Rule, Seen, Start};
+use std::marker::Model;
+
+/// A record that is never added to.
+pub struct NoRule;
+
+impl Rule<City, u64> for NoRule {
+    ghost use Rattle.std.specs.Prelude.{[]};
+    ghost use base.Fml.{ftrue};
+
+    ghost holds = { λ cells log. Unit {0} };
+
+    ghost first = { [] };
+
+    ghost hinted = { λ n log. Unit {0} };
+
+    ghost shows = { λ log. [] };
+
+    ghost keeps = { λ names log. ftrue };
+
+    ghost moves = { λ ask before after answer. Unit {0} };
+}
+
+/// The record's one entry is the city.
+pub struct OneCity;
+
+impl FirstEntry<City, City> for OneCity {
+    ghost use Rattle.std.specs.Prelude.{[], ◌∷◌};
+
+    ghost log = { λ count city. city ∷ [] };
+}
+
+/// The city that a board was made over. It has no bytes; contracts see the city.
+#[derive(Drop)]
+pub struct OpeningCity {
+    seen: Seen<City, u64, NoRule>,
+}
+
+impl Model for OpeningCity {
+    ghost use Rattle.std.specs.Prelude.{slice_index_or};
+    ghost use Rattle.std.specs.Coded.{codes};
+    ghost use Rattle.city_model.specs.DataCode.{coded_members};
+    ghost use Rattle.city_txn.specs.Codes.{coded_objects};
+    ghost use Rattle.city_model.specs.CityMap.{CityValue};
+    ghost use Rattle.city_crew.specs.NoCity.{no_city};
+
+    ghost Value = { CityValue };
+
+    ghost coded = { Prim.hlevel (codes, coded_members, coded_objects) };
+
+    ghost view = { λ o. slice_index_or o.seen.log 0 no_city };
+}
+
+impl OpeningCity {
+    /// A record of the city. Takes no memory.
+    pub fn of(city: &City) -> OpeningCity
+        ensures { result ≡ city.now }
+    {
+        let (seen, _pens) = Seen::open_row::<City, OneCity>(city, Start::alone(), 0);
+        OpeningCity { seen }
+    }
+}

@@ -1,0 +1,31 @@
+//! A poster as the shelf of a desk.
+use crate::note::Note;
+use crate::poster::Poster;
+use city_desk::shelf::Shelf;
+use city_model::OutOfMemory;
+use city_model::change::Change;
+use std::sync::Wait;
+
+/// The list is that of all changes that were taken; the base is the city that the board was made
+/// over.
+impl<R: Wait + Drop> Shelf for Poster<R> {
+    type Note = Note;
+
+    ghost use Rattle.std.specs.Prelude.{◌≡◌, [], ◌∷◌, Some};
+
+    ghost list = { λ poster. poster.taken };
+
+    ghost base = { λ poster. Some poster.opening };
+
+    ghost name = { λ poster. poster.name.number ∷ poster.name.log_name ∷ poster.name.cells_name ∷ [] };
+
+    ghost tells = { λ poster note. (note.changes ≡ poster.taken) × (note.name ≡ poster.name) };
+
+    fn take(&mut self, change: Change) -> Result<(), OutOfMemory> {
+        self.append(change)
+    }
+
+    fn show<Q: Wait>(&mut self, _rt: &Q) -> Result<Note, OutOfMemory> {
+        self.publish()
+    }
+}

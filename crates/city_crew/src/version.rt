@@ -1,0 +1,55 @@
+//! A version of the city, as viewers look at it, and what the poster does to it.
+use crate::apply::apply;
+use crate::history::History;
+use crate::opening::OpeningCity;
+use crate::writes::Writes;
+use city_model::city::City;
+use city_model::copied::copy_map;
+use left_right::Absorb;
+use std::alloc::{AllocError, Global};
+
+/// The city after the changes of `history`.
+#[derive(Drop)]
+pub struct Version {
+    pub alloc: Global,
+    pub city: City,
+    pub opening: OpeningCity,
+    pub history: History,
+}
+
+/// What a change writes, and the history up to it.
+#[derive(Drop)]
+pub struct Edit {
+    pub writes: Writes,
+    pub history: History,
+}
+
+impl Absorb<Edit> for Version {
+    type State = Version;
+
+    ghost use Rattle.city_crew.specs.Versions.{edited};
+
+    ghost state = { λ version. version };
+
+    ghost applied = { edited };
+
+    fn absorb_first(&mut self, edit: &Edit, _other: &Version) -> Result<(), AllocError> {
+        let writes = copy_map(self.alloc, &edit.writes)?;
+        if apply(self.alloc, &mut self.city, writes).is_err() {
+            return Err(AllocError);
+        }
+        self.history = edit.history.again();
+        Ok(())
+    }
+
+    fn absorb_second(&mut self, edit: Edit, _other: &Version) -> Result<(), Edit> {
+        let Edit { writes, history } = edit;
+        match apply(self.alloc, &mut self.city, writes) {
+            Ok(()) => {
+                self.history = history;
+                Ok(())
+            }
+            Err(writes) => Err(Edit { writes, history }),
+        }
+    }
+}

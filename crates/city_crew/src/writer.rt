@@ -1,0 +1,46 @@
+//! A board's writer, as its poster keeps it.
+ghost use Rattle.std.specs.Prelude.{◌≡◌, ◌++◌, [], drop, IsTrue};
+
+use crate::publish::BoardWriter;
+use crate::version::Edit;
+use std::collections::VecDeque;
+use std::sync::Wait;
+
+/// A writer, and the runtime that ends it: the drop waits for the looks that aren't left.
+pub struct OwnWriter<R: Wait + Drop> {
+    pub writer: BoardWriter,
+    pub rt: R,
+}
+
+impl<R: Wait + Drop> OwnWriter<R> {
+    /// Its parts, of which the caller has to end the writer.
+    pub fn into_parts(self) -> (BoardWriter, R)
+        ensures writer { result.0 ≡ self.writer }
+        ensures rt { result.1 ≡ self.rt }
+    {
+        let Self { writer, rt } = self;
+        (writer, rt)
+    }
+}
+
+impl<R: Wait + Drop> Drop for OwnWriter<R> {
+    fn drop(self) {
+        let Self { writer, rt } = self;
+        writer.take(&rt);
+    }
+}
+
+/// Hands the edits to the writer. Where there is no memory it is false, and the rest of them stay.
+pub fn append_all(writer: &mut BoardWriter, waiting: &mut VecDeque<Edit>) -> bool
+    ensures desk { writer.new.desk ≡ writer.old.desk }
+    ensures edits { drop writer.new.behind writer.new.log.items ++ waiting.new.items ≡ drop writer.old.behind writer.old.log.items ++ waiting.old.items }
+    ensures all { IsTrue result → waiting.new.items ≡ [] }
+{
+    while let Some(edit) = waiting.pop_front() {
+        if let Err(edit) = writer.append(edit) {
+            waiting.push_front_reserved(edit);
+            return false;
+        }
+    }
+    true
+}

@@ -1,0 +1,41 @@
+-- Why a run of a document and scripts has no output.
+use Rattle.std.specs.Prelude.{◌≡◌, ◌≢◌, ℕ, List, Bool, true, false}
+use Rattle.city_model.specs.CityMap.{CityValue}
+use Rattle.city_doc.specs.declared.fault.ReadFault.{ReadFault}
+use Rattle.city_doc.specs.declared.fault.ScriptFault.{ScriptFault}
+use Rattle.city_doc.specs.Documents.{IsAdmitted, DocumentFault}
+use Rattle.city_doc.specs.ScriptTexts.{ScriptTextFault}
+use Rattle.city_desk.specs.declared.fault.RunFault.{RunFault}
+
+-- The document is judged before the scripts. What isn't a fault of a text says nothing of the texts
+abbrev pub IsRunFault : List ℕ → List ℕ → RunFault → Type 0
+IsRunFault document scripts (RunFault.Read f) = (f ≢ ReadFault.OutOfMemory) × DocumentFault document f
+IsRunFault document scripts (RunFault.Script f) =
+    (f ≢ ScriptFault.OutOfMemory) × ((city : CityValue) × IsAdmitted document city)
+    × ScriptTextFault scripts f
+IsRunFault document scripts RunFault.OutOfMemory = Unit {0}
+IsRunFault document scripts RunFault.NoPlace = Unit {0}
+IsRunFault document scripts RunFault.Unfinished = Unit {0}
+IsRunFault document scripts RunFault.Mixed = Unit {0}
+
+-- whether a fault comes of several workers or of viewers alone
+abbrev pub is_of_crew : RunFault → Bool
+is_of_crew (RunFault.Read f) = false
+is_of_crew (RunFault.Script f) = false
+is_of_crew RunFault.OutOfMemory = false
+is_of_crew RunFault.NoPlace = true
+is_of_crew RunFault.Unfinished = true
+is_of_crew RunFault.Mixed = true
+
+-- nothing but the two texts and memory is at fault
+abbrev pub IsSerialFault : List ℕ → List ℕ → RunFault → Type 0
+IsSerialFault document scripts f = IsRunFault document scripts f × (is_of_crew f ≡ false)
+
+-- want of memory for a text is want of memory
+abbrev pub fault_of_document : ReadFault → RunFault
+fault_of_document ReadFault.OutOfMemory = RunFault.OutOfMemory
+fault_of_document f = RunFault.Read f
+
+abbrev pub fault_of_scripts : ScriptFault → RunFault
+fault_of_scripts ScriptFault.OutOfMemory = RunFault.OutOfMemory
+fault_of_scripts f = RunFault.Script f

@@ -1,0 +1,34 @@
+//! What a run answers.
+ghost use Rattle.std.specs.Prelude.{◌≡◌, ◌++◌, ◌∷◌, [], IfOk};
+ghost use Rattle.city_doc.specs.Canonical.{city_text};
+ghost use Rattle.city_doc.specs.Reports.{report_text};
+
+use city_doc::report::write_report;
+use city_doc::write::write_city;
+use city_model::OutOfMemory;
+use city_model::city::City;
+use city_model::end::End;
+use city_model::sequence::Sequence;
+use std::alloc::Global;
+
+/// What a run answers.
+#[derive(Drop)]
+pub struct Output {
+    /// The ends of the scripts, in the order in which they ended.
+    pub ends: Sequence<End>,
+    /// The report of the ends, then the model's text and a newline.
+    pub bytes: Vec<u8>,
+    /// For each viewer the numbers of edits that it saw.
+    pub seen: Vec<Vec<u64>>,
+}
+
+/// The report of the ends, then the model's text and a newline.
+pub fn output_bytes(alloc: Global, city: &City, ends: &[End]) -> Result<Vec<u8>, OutOfMemory>
+    ensures { IfOk result (λ b. b.items ≡ report_text ends.now ++ city_text city.now ++ 10 ∷ []) }
+{
+    let mut bytes = write_report(alloc, ends)?;
+    let model = write_city(alloc, city)?;
+    bytes.extend_from_slice(model.as_slice())?;
+    bytes.push(b'\n')?;
+    Ok(bytes)
+}

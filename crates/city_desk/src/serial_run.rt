@@ -1,0 +1,33 @@
+//! Runs the scripts of a text on the city of a document, one after the other.
+ghost use Rattle.std.specs.Prelude.{◌≡◌, [], IfOk, IfErr};
+ghost use Rattle.city_desk.specs.RunFaults.{IsSerialFault};
+ghost use Rattle.city_desk.specs.SerialRuns.{IsSerialRun, IsDecided};
+
+use crate::fault::RunFault;
+use crate::in_turn::run_each;
+use crate::output::{Output, output_bytes};
+use city_doc::read::read_city;
+use city_doc::scripts::read_scripts;
+use std::alloc::Global;
+
+/// Runs the scripts on the document's city, one after the other in their order.
+///
+/// The document is judged before the scripts. A script that finds no memory ends so and changes
+/// nothing; want of memory for a text, for the desk or for the output ends the run. Where each script
+/// had its memory, the two texts alone decide the ends and the bytes.
+pub fn run_serial(alloc: Global, document: &[u8], scripts: &[u8]) -> Result<Output, RunFault>
+    ensures ran { IfOk result (λ o. IsSerialRun document.now scripts.now o.ends o.bytes.items) }
+    ensures decided { IfOk result (λ o. IsDecided document.now scripts.now o.ends o.bytes.items) }
+    ensures seen { IfOk result (λ o. o.seen.items ≡ []) }
+    ensures fault { IfErr result (λ f. IsSerialFault document.now scripts.now f) }
+{
+    let city = read_city(alloc, document)?;
+    let scripts = read_scripts(alloc, scripts)?;
+    let finished = run_each(alloc, city, scripts)?;
+    let bytes = output_bytes(alloc, &finished.city, finished.ends.as_slice())?;
+    Ok(Output {
+        ends: finished.ends,
+        bytes,
+        seen: Vec::new(alloc),
+    })
+}

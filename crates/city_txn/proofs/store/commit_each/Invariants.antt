@@ -1,8 +1,0 @@
-use Rattle.std.proofs.Common.{take}
-use Rattle.city_model.specs.CityMap.{has_id}
-use Rattle.city_txn.specs.Ending.{AreEnded}
-use Rattle.city_txn.specs.Images.{seen_at}
-use Rattle.city_txn.proofs.store.commit_each.Given as goal
-
-abbrev pub invariant-loop-id : goal.invariant-loop-id
-invariant-loop-id l = AreEnded seen_at (has_id (take l.id-index l.ids)) l.initial.city l.initial.images l.city l.images

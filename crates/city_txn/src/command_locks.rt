@@ -1,0 +1,48 @@
+//! The locks of a command, in the order in which they are asked for.
+ghost use Rattle.std.specs.Prelude.{◌≡◌, ◌∷◌, false, drop};
+ghost use Rattle.city_model.specs.CityMap.{CityMap};
+ghost use Rattle.city_model.specs.Meaning.{delete_locks, exclusively, locks_of};
+ghost use Rattle.city_model.specs.Scripts.{is_end};
+ghost use Rattle.city_locks.specs.Mode.{is_exclusive};
+ghost use Rattle.city_txn.specs.State.{view};
+
+use crate::store::Store;
+use city_locks::mode::Mode;
+use city_model::command::Command;
+use city_model::text::Id;
+use std::slice;
+
+/// The id that a command locks first, and the mode.
+pub fn first_lock(command: &Command) -> (&Id, Mode)
+    requires { is_end command.now ≡ false }
+    ensures { (m : CityMap) → locks_of m command.now ≡ (result.0.now, is_exclusive result.1) ∷ drop 1 (locks_of m command.now) }
+{
+    match command {
+        Command::Read(id) => (id, Mode::Shared),
+        Command::Put(id, _) | Command::Delete(id) => (id, Mode::Exclusive),
+        Command::Attach(child, _) | Command::Detach(child, _) => (child, Mode::Exclusive),
+        Command::Commit | Command::Abort => unreachable!(),
+    }
+}
+
+/// The ids that a command locks after the first, exclusively. Once the first is locked nobody else
+/// changes what they are.
+pub fn further_locks<'a>(store: &'a Store, stamp: u64, command: &'a Command) -> &'a [Id]
+    ensures { drop 1 (locks_of (view store.now stamp) command.now) ≡ exclusively result.now }
+{
+    match command {
+        Command::Delete(id) => parents_to_lock(store, stamp, id),
+        Command::Attach(_, parent) | Command::Detach(_, parent) => slice::from_ref(parent),
+        Command::Read(_) | Command::Put(_, _) | Command::Commit | Command::Abort => &[],
+    }
+}
+
+/// The parents that a delete of the id locks: those of an object without children.
+fn parents_to_lock<'a>(store: &'a Store, stamp: u64, id: &Id) -> &'a [Id]
+    ensures { delete_locks (view store.now stamp id.now) ≡ exclusively result.now }
+{
+    match store.read(stamp, id) {
+        Some(object) if object.children.len() == 0 => object.parents.as_slice(),
+        _ => &[],
+    }
+}

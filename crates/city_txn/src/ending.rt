@@ -1,0 +1,52 @@
+//! The end of a transaction, at the ids that it has reserved.
+ghost use Rattle.std.specs.Prelude.{◌≡◌, ℕ, List, Some, is_some, true};
+ghost use Rattle.city_model.specs.CityMap.{at, changed, has_id, same_id};
+ghost use Rattle.city_txn.specs.Ending.{left_by, AreEnded};
+ghost use Rattle.city_txn.specs.UndoState.{image_at};
+
+use crate::image::Image;
+use crate::slot;
+use crate::undo::Undo;
+use city_model::city::City;
+use city_model::text::Id;
+
+/// How a transaction ends.
+#[derive(Clone, Copy)]
+pub enum End {
+    /// What it wrote stays, and is committed.
+    Commit,
+    /// What it wrote is taken back.
+    RollBack,
+}
+
+/// Ends at the ids, one after another. Takes no memory.
+pub fn end_each(city: &mut City, undo: &mut Undo, end: End, ids: &[Id])
+    requires { (q : List ℕ) → is_some (image_at undo.old q) ≡ true → is_some (at city.old.1 q) ≡ true }
+    ensures { AreEnded end (has_id ids.now) city.old undo.old city.new undo.new }
+{
+    for id in ids {
+        end_one(city, undo, end, id);
+    }
+}
+
+/// Ends at the id: its image, if there is one, is gone.
+fn end_one(city: &mut City, undo: &mut Undo, end: End, id: &Id)
+    requires { is_some (image_at undo.old id.now) ≡ true → is_some (at city.old.1 id.now) ≡ true }
+    ensures { AreEnded end (same_id id.now) city.old undo.old city.new undo.new }
+{
+    if let Some((key, image)) = undo.take(id) {
+        settle(city, end, key, image);
+    }
+}
+
+/// Leaves at the id of the image what stands there from now on.
+fn settle(city: &mut City, end: End, id: Id, image: Image)
+    requires { is_some (at city.old.1 id) ≡ true }
+    ensures after { at city.new.1 ≡ changed (at city.old.1) id (left_by end (at city.old.1 id) (Some image)) }
+    ensures frame { city.new.0 ≡ city.old.0 }
+{
+    match end {
+        End::Commit => slot::clear(city, &id, image.deleted),
+        End::RollBack => slot::give_back(city, id, image),
+    }
+}

@@ -1,0 +1,203 @@
+//! What it takes to end the open transactions: undo images and reservations.
+ghost use Rattle.std.specs.Prelude.{◌≡◌, ◌↔◌, IsTrue, ℕ, List, [], ◌∷◌, ◌++◌, None, Some, IfSome, OnOk, OnErr, is_some, true, option_copied, option_map, if◌then◌else◌};
+ghost use Rattle.std.specs.Ordering.{nat_cmp};
+ghost use Rattle.std.specs.Cmp.Lexicographic.{slice_cmp};
+ghost use Rattle.std.specs.BTreeMap.{get, is_at, IsOrdered};
+ghost use Rattle.std.specs.FinMap.{entries};
+ghost use Rattle.city_model.specs.CityMap.{at, changed, same_id};
+ghost use Rattle.city_txn.specs.Images.{unwritten_image, written_over};
+ghost use Rattle.city_txn.specs.UndoState.{image_at, listed_by, reservations_of};
+
+use crate::image::Image;
+use crate::slot;
+use city_model::OutOfMemory;
+use city_model::city::City;
+use city_model::copied::Copied;
+use city_model::object::Object;
+use city_model::sequence::Sequence;
+use city_model::text::Id;
+use std::alloc::Global;
+use std::collections::BTreeMap;
+use std::marker::Model;
+
+/// An undo image for each reserved id, and for each open transaction, by its stamp, the ids that it
+/// has reserved.
+///
+/// Contracts see two finite maps.
+#[derive(Drop)]
+pub struct Undo {
+    alloc: Global,
+    images: BTreeMap<Id, Image>,
+    reservations: BTreeMap<u64, Sequence<Id>>,
+}
+
+impl Model for Undo {
+    ghost use Rattle.city_txn.specs.UndoState.{UndoState};
+
+    ghost Value = { UndoState };
+
+    ghost use Rattle.std.specs.Coded.{codes};
+    ghost use Rattle.city_txn.specs.Codes.{coded_images};
+
+    ghost coded = { Prim.hlevel (codes, coded_images) };
+
+    ghost use Rattle.std.specs.FinMap.{from_sorted};
+
+    ghost view = { λ u. record { images = from_sorted u.images.entries; reservations = u.reservations.entries } };
+
+    ghost use Rattle.std.specs.Ordering.{nat_cmp};
+    ghost use Rattle.std.specs.Cmp.Lexicographic.{slice_cmp};
+    ghost use Rattle.std.specs.BTreeMap.{IsOrdered};
+
+    ghost invariant = { λ u. IsOrdered (slice_cmp nat_cmp) u.images };
+}
+
+impl Undo {
+    /// No stamp is open, and no id reserved. Takes no memory.
+    pub fn new(alloc: Global) -> Self
+        ensures images { entries result.images ≡ [] }
+        ensures reservations { result.reservations ≡ [] }
+    {
+        Undo {
+            alloc,
+            images: BTreeMap::new(alloc),
+            reservations: BTreeMap::new(alloc),
+        }
+    }
+
+    /// Whether the stamp is open. Takes no memory.
+    pub fn is_open(&self, stamp: u64) -> bool
+        ensures { result ≡ is_some (listed_by self.now.reservations stamp) }
+    {
+        self.reservations.contains_key(&stamp)
+    }
+
+    /// Whether no stamp is open. Takes no memory.
+    pub fn is_idle(&self) -> bool
+        ensures { IsTrue result ↔ (self.now.reservations ≡ []) }
+    {
+        self.reservations.is_empty()
+    }
+
+    /// Whether the id is reserved. Takes no memory.
+    pub fn has_image(&self, id: &Id) -> bool
+        ensures { result ≡ is_some (image_at self.now id.now) }
+    {
+        self.images.contains_key(id)
+    }
+
+    /// The image of the id, if it is reserved. Takes no memory.
+    pub fn image(&self, id: &Id) -> Option<&Image>
+        ensures { option_copied result ≡ image_at self.now id.now }
+    {
+        self.images.get(id)
+    }
+
+    /// The ids that the stamp has reserved: none where it isn't open. Takes no memory.
+    pub fn reserved(&self, stamp: u64) -> &[Id]
+        ensures { result.now ≡ reservations_of self.now.reservations stamp }
+    {
+        match self.reservations.get(&stamp) {
+            Some(ids) => ids.as_slice(),
+            None => &[],
+        }
+    }
+
+    /// Opens the stamp, with no id reserved. Want of memory leaves all as it is.
+    pub fn open(&mut self, stamp: u64) -> Result<(), OutOfMemory>
+        ensures images { self.new.images ≡ self.old.images }
+        ensures ok { OnOk result ((t : ℕ) → listed_by self.new.reservations t
+            ≡ (if is_at (nat_cmp stamp) t then Some [] else listed_by self.old.reservations t)) }
+        ensures err { OnErr result (self.new ≡ self.old) }
+    {
+        self.reservations.insert(stamp, Sequence::new(self.alloc))?;
+        Ok(())
+    }
+
+    /// Reserves an id without image for the stamp, which is open: its image is unwritten, and says
+    /// whether a placeholder holds its slot. Want of memory leaves all as it is.
+    pub fn reserve(&mut self, stamp: u64, id: &Id, deleted: bool) -> Result<(), OutOfMemory>
+        requires opened { is_some (listed_by self.old.reservations stamp) ≡ true }
+        requires absent { image_at self.old id.now ≡ None }
+        ensures images { OnOk result ((q : List ℕ) → image_at self.new q
+            ≡ (if same_id id.now q then Some (unwritten_image stamp deleted) else image_at self.old q)) }
+        ensures reservations { OnOk result ((t : ℕ) → listed_by self.new.reservations t
+            ≡ (if is_at (nat_cmp stamp) t then Some (reservations_of self.old.reservations stamp ++ id.now ∷ []) else listed_by self.old.reservations t)) }
+        ensures err { OnErr result (self.new ≡ self.old) }
+    {
+        let key = id.copy(self.alloc)?;
+        let image = Image::unwritten(stamp, deleted);
+        self.images.insert(key, image)?;
+        let Ok(()) = list(&mut self.reservations, self.alloc, stamp, id) else {
+            let _ = self.images.remove(id);
+            return Err(OutOfMemory);
+        };
+        Ok(())
+    }
+
+    /// Puts the object at a reserved id of the city, and what stood there into its image. Takes no
+    /// memory.
+    pub fn write(&mut self, city: &mut City, id: Id, object: Object, deleted: bool)
+        requires has_slot { is_some (at city.old.1 id) ≡ true }
+        requires there { is_some (image_at self.old id) ≡ true }
+        ensures frame { city.new.0 ≡ city.old.0 }
+        ensures city { at city.new.1 ≡ changed (at city.old.1) id (Some object) }
+        ensures images { (q : List ℕ) → image_at self.new q
+            ≡ (if same_id id q then option_map (written_over (at city.old.1 id) deleted) (image_at self.old id) else image_at self.old q) }
+        ensures reservations { self.new.reservations ≡ self.old.reservations }
+    {
+        match self.images.get_mut(&id) {
+            Some(image) => {
+                let old = slot::swap(city, id, object);
+                image.write_over(old, deleted);
+            }
+            None => unreachable!(),
+        }
+    }
+
+    /// Takes the image of the id out, with the id. Takes no memory.
+    pub fn take(&mut self, id: &Id) -> Option<(Id, Image)>
+        ensures key { IfSome result (λ taken. taken.0 ≡ id.now) }
+        ensures image { option_map (λ taken. taken.1) result ≡ image_at self.old id.now }
+        ensures images { (q : List ℕ) → image_at self.new q ≡ (if same_id id.now q then None else image_at self.old q) }
+        ensures reservations { self.new.reservations ≡ self.old.reservations }
+    {
+        self.images.remove_entry(id)
+    }
+
+    /// Closes the stamp, and gives the ids that it had reserved: none where it wasn't open. Takes no
+    /// memory.
+    pub fn close(&mut self, stamp: u64) -> Sequence<Id>
+        ensures ids { result ≡ reservations_of self.old.reservations stamp }
+        ensures images { self.new.images ≡ self.old.images }
+        ensures closed { (t : ℕ) → listed_by self.new.reservations t
+            ≡ (if is_at (nat_cmp stamp) t then None else listed_by self.old.reservations t) }
+    {
+        match self.reservations.remove(&stamp) {
+            Some(ids) => ids,
+            None => Sequence::new(self.alloc),
+        }
+    }
+}
+
+/// Lists the id at a stamp that is open. Want of memory leaves all as it is.
+fn list(
+    reservations: &mut BTreeMap<u64, Sequence<Id>>,
+    alloc: Global,
+    stamp: u64,
+    id: &Id,
+) -> Result<(), OutOfMemory>
+    requires { is_some (get nat_cmp reservations.old stamp) ≡ true }
+    ensures ok { OnOk result ((t : ℕ) → get nat_cmp reservations.new t
+        ≡ (if is_at (nat_cmp stamp) t then Some (reservations_of reservations.old.entries stamp ++ id.now ∷ []) else get nat_cmp reservations.old t)) }
+    ensures err { OnErr result (reservations.new.entries ≡ reservations.old.entries) }
+{
+    let copy = id.copy(alloc)?;
+    match reservations.get_mut(&stamp) {
+        Some(ids) => {
+            ids.push(copy)?;
+            Ok(())
+        }
+        None => unreachable!(),
+    }
+}
