@@ -15,7 +15,7 @@ use Rattle.city_model.proofs.IdLists.{bool_cases}
 use Rattle.city_model.proofs.FrameLaw.{frame}
 use Rattle.city_model.proofs.History as history
 use Rattle.city_locks.specs.declared.answer.Answer.{Answer}
-use Rattle.city_locks.specs.declared.answer.Answer.TheVariants.{Granted, Wait, Die}
+use Rattle.city_locks.specs.declared.answer.Answer.TheVariants.{Granted}
 use Rattle.city_locks.specs.declared.mode.Mode.{Mode}
 use Rattle.city_locks.specs.declared.mode.Mode.TheVariants.{Exclusive}
 use Rattle.city_locks.specs.Mode.{is_exclusive}
@@ -24,7 +24,6 @@ use Rattle.city_txn.specs.declared.step.Step.{Step}
 use Rattle.city_txn.specs.declared.step.Step.TheVariants as steps
 use Rattle.city_txn.specs.declared.step.TxnFault.{TxnFault}
 use Rattle.city_txn.specs.declared.step.TxnFault.TheVariants.{NotOpen, OutOfMemory}
-use Rattle.city_txn.specs.State as store
 use Rattle.city_txn.specs.State.{State, Write, write_of, own_or, is_by, is_reserved}
 use Rattle.city_model.specs.Standing.{Lock, Answered, AllHeld, names, names_exclusively}
 use Rattle.city_txn.specs.CoreState.{CoreState, view, is_open, held, held_in, Stands, IsConsistent}
@@ -141,7 +140,7 @@ some_mode (Some m) h = refl
 
 -- ---- a call, of a core that is seen as v: its locks are asked for, and ks are the locks then
 
-module _ (a : Inside) (k : IsCore a) {v : CoreState} (seen : core_state a ≡ v) (s : ℕ) (c : Command) (here : store.is_open a.store s ≡ true) (ks : Locks) where
+module _ (a : Inside) (k : IsCore a) {v : CoreState} (seen : core_state a ≡ v) (s : ℕ) (c : Command) (here : is_open v s ≡ true) (ks : Locks) where
   abbrev m : CityMap
   m = view (core_state a) s
 
@@ -149,7 +148,7 @@ module _ (a : Inside) (k : IsCore a) {v : CoreState} (seen : core_state a ≡ v)
   locked = record a { locks = ks }
 
   o : is_open (core_state a) s ≡ true
-  o = open_is a s ∙ here
+  o = ap (λ u. is_open u s) seen ∙ here
 
   module _ {E : Type 0} {r : Result Answer E} (ask : Asked s (locks_of m c) r a.locks ks) where
     gained : LocksGained s ask.gains.gained (core_state a) (core_state locked)
@@ -181,12 +180,9 @@ module _ (a : Inside) (k : IsCore a) {v : CoreState} (seen : core_state a ≡ v)
   asked_failed {E} e ask = stopped ask (Err OutOfMemory) (core_state locked) (gained ask) refl tt refl (λ n. ask.answered) tt ask.gains tt
 
   module _ {E : Type 0} {x : Answer} (ask : Asked {E = E} s (locks_of m c) (Ok x) a.locks ks) where
-    pub asked_wait : x ≡ Wait → Acted s c (Ok steps.Wait) v (core_state locked)
-    asked_wait e = stopped ask (Ok steps.Wait) (core_state locked) (gained ask) refl (sym (ap (λ b. step_of b (reply_in (core_state a) s c)) (sym ask.answer ∙ e))) tt
-        (λ n h. refl) (subst (IsBlocked (HoldsLock a.locks) s) ask.answer ask.blocked) ask.gains ask.held
-
-    pub asked_die : x ≡ Die → Acted s c (Ok steps.Die) v (core_state locked)
-    asked_die e = stopped ask (Ok steps.Die) (core_state locked) (gained ask) refl (sym (ap (λ b. step_of b (reply_in (core_state a) s c)) (sym ask.answer ∙ e))) tt
+    -- a lock isn't granted
+    pub asked_refused : (step : Step) → is_done (Ok step) ≡ false → step ≡ step_of x (reply_in (core_state a) s c) → Acted s c (Ok step) v (core_state locked)
+    asked_refused step idle is = stopped ask (Ok step) (core_state locked) (gained ask) idle (is ∙ ap (λ b. step_of b (reply_in (core_state a) s c)) ask.answer) tt
         (λ n h. refl) (subst (IsBlocked (HoldsLock a.locks) s) ask.answer ask.blocked) ask.gains ask.held
 
     -- ---- all locks are granted, and the command is done on the store
@@ -293,8 +289,7 @@ module _ (a : Inside) (k : IsCore a) {v : CoreState} (seen : core_state a ≡ v)
             (acted_done s c r (core_state a) (core_state locked) (core_state (record a { store = st; locks = ks })) ask.gains.gained o (gained ask) performed ask.gains granted)
 
 -- a stamp that isn't open
-pub not_open_acted : (a : Inside) (k : IsCore a) {v : CoreState} (seen : core_state a ≡ v) (s : ℕ) (c : Command) → store.is_open a.store s ≡ false → Acted s c (Err (NotOpen s)) v v
-not_open_acted a k seen s c e =
-    let shut : is_open (core_state a) s ≡ false = open_is a s ∙ e in
-    subst (λ u. Acted s c (Err (NotOpen s)) u u) seen (not_done s c (Err (NotOpen s)) (core_state a) (core_state a) [] (nothing_gained s [] (core_state a) k.state.lawful) refl tt
-    (sym (ap (λ b. if b then OutOfMemory else NotOpen s) shut)) (λ f. refl) (λ f. absurd (false≢true (sym shut ∙ f))) tt (gains_nothing s (granted_in (core_state a) s c) a.locks) tt)
+pub not_open_acted : (a : Inside) (k : IsCore a) {v : CoreState} (seen : core_state a ≡ v) (s : ℕ) (c : Command) → is_open v s ≡ false → Acted s c (Err (NotOpen s)) v v
+not_open_acted a k {v} seen s c shut =
+    not_done s c (Err (NotOpen s)) v v [] (nothing_gained s [] v (subst (λ (u : CoreState). Lawful u.locks) seen k.state.lawful)) refl tt
+    (sym (ap (λ b. if b then OutOfMemory else NotOpen s) shut)) (λ f. refl) (λ f. absurd (false≢true (sym shut ∙ f))) tt (gains_nothing s (granted_in v s c) v.locks) tt

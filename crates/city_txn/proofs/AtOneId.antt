@@ -1,5 +1,5 @@
 -- What a store's value has at an id, from what its city and its images have there.
-use Rattle.std.proofs.Common.{◌≡◌, ◌==◌, ℕ, List, [], ◌∷◌, Bool, true, false, not, ◌&&◌, Option, None, Some, is_some, Less, refl, ap, sym, ◌∙◌}
+use Rattle.std.proofs.Common.{◌≡◌, ◌==◌, ℕ, List, [], ◌∷◌, Bool, true, false, Option, None, Some, is_some, Less, refl, ap, sym, ◌∙◌}
 use Rattle.std.specs.Prelude.{if◌then◌else◌}
 use Rattle.std.specs.Map.{lookup, keys_of}
 use Rattle.std.specs.Cmp.{unsigned_tied, eq_by_cmp_equiv}
@@ -17,11 +17,11 @@ use Rattle.std.proofs.lemmas.Map.Entries.{none_past_head}
 use Rattle.city_model.specs.declared.object.Object.{Object}
 use Rattle.city_model.specs.CityMap.{Entries, Objects, at, has_id, same_id}
 use Rattle.city_model.proofs.Objects.{at_entries, entries_ascend, at_sorted, same_objects}
-use Rattle.city_model.proofs.Ids.{same_id_true}
+use Rattle.city_model.proofs.Ids.{same_id_of_equal, by_id}
 use Rattle.city_model.proofs.IdLists.{bool_cases}
 use Rattle.city_txn.specs.declared.image.Image.{Image}
 use Rattle.city_txn.specs.declared.store.Store.TheInside.{Inside}
-use Rattle.city_txn.specs.Images.{seen_under, before_image, seen_by, committed_at, write_at, writer_of}
+use Rattle.city_txn.specs.Images.{seen_under, seen_by, committed_at, write_at, writer_of}
 use Rattle.city_txn.specs.State.{write_of, own_or, committed, view}
 use Rattle.city_txn.specs.Changing.{or_else}
 use Rattle.city_txn.specs.InPlace.{with_some, made_by, state_of, is_writer, IsInPlace}
@@ -55,17 +55,13 @@ at_first id (Some y) es q = refl
 pub at_made : {X Y : Type 0} (f : List ℕ → X → Option Y) (es : List (List ℕ × X)) (q : List ℕ) → IsStrictlySortedBy (slice_cmp nat_cmp) (keys_of es) →
     lookup (is_at (slice_cmp nat_cmp q)) (made_by f es) ≡ through (f q) (lookup (is_at (slice_cmp nat_cmp q)) es)
 at_made f [] q s = refl
-at_made f (e ∷ es) q s = at_first e.0 (f e.0 e.1) (made_by f es) q ∙ bool_cases (same_id q e.0)
-    (λ t. let none : lookup (is_at (slice_cmp nat_cmp q)) es ≡ None =
+at_made f (e ∷ es) q s = at_first e.0 (f e.0 e.1) (made_by f es) q ∙ by_id q e.0
+    (λ is. let t : same_id q e.0 ≡ true = same_id_of_equal q e.0 is in
+    let none : lookup (is_at (slice_cmp nat_cmp q)) es ≡ None =
     lookup-none (is_at (slice_cmp nat_cmp q)) es (none_past_head {eq = eq_by_cmp (slice_cmp nat_cmp)} (eq_by_cmp_equiv nat_list_cmp_total) q e es (IsDistinct-from_sorted (slice_cmp nat_cmp) (keys_of (e ∷ es)) s) t) in
     let rest : lookup (is_at (slice_cmp nat_cmp q)) (made_by f es) ≡ None = at_made f es q (sorted_tail (slice_cmp nat_cmp) e.0 (keys_of es) s) ∙ ap (through (f q)) none in
-    ap (λ b. if b then or_else (f e.0 e.1) (lookup (is_at (slice_cmp nat_cmp q)) (made_by f es)) else lookup (is_at (slice_cmp nat_cmp q)) (made_by f es)) t
-    ∙ ap (or_else (f e.0 e.1)) rest ∙ or_none (f e.0 e.1)
-    ∙ ap (λ k. f k e.1) (sym (same_id_true q e.0 t))
-    ∙ sym (ap (λ b. through (f q) (if b then Some e.1 else lookup (is_at (slice_cmp nat_cmp q)) es)) t))
-    (λ t. ap (λ b. if b then or_else (f e.0 e.1) (lookup (is_at (slice_cmp nat_cmp q)) (made_by f es)) else lookup (is_at (slice_cmp nat_cmp q)) (made_by f es)) t
-    ∙ at_made f es q (sorted_tail (slice_cmp nat_cmp) e.0 (keys_of es) s)
-    ∙ sym (ap (λ b. through (f q) (if b then Some e.1 else lookup (is_at (slice_cmp nat_cmp q)) es)) t))
+    rw (t, rest) (or_none (f e.0 e.1) ∙ ap (λ k. f k e.1) (sym is)))
+    (λ apart. rw apart (at_made f es q (sorted_tail (slice_cmp nat_cmp) e.0 (keys_of es) s)))
 
 -- and ascend where those do
 above_step : {Y : Type 0} (k id : List ℕ) (y : Option Y) (es : List (List ℕ × Y)) → slice_cmp nat_cmp k id ≡ Less → AllByRecursion (λ j. slice_cmp nat_cmp k j ≡ Less) (keys_of es) →
@@ -122,26 +118,16 @@ module _ (a : Inside) (k : IsInPlace a) (q : List ℕ) where
 -- ---- what a transaction sees, from its image
 
 pub own_seen : (s : ℕ) (x : Option Object) (i : Image) → (i.by == s) ≡ true → own_or s (write_at x (Some i)) (committed_at x (Some i)) ≡ seen_under x i
-own_seen s x i e = bool_cases i.unwritten
-    (λ f. ap (λ b. own_or s (if b then None else Some (i.by, seen_under x i)) (if b then seen_under x i else i.before)) f)
-    (λ f. ap (λ b. own_or s (if b then None else Some (i.by, seen_under x i)) (if b then seen_under x i else i.before)) f
-    ∙ ap (λ b. if b then seen_under x i else i.before) e)
+own_seen s x i e = bool_cases i.unwritten (λ f. rw f refl) (λ f. rw (f, e) refl)
 
 -- the write of another
 pub own_committed : (s : ℕ) (x o : Option Object) (i : Image) → (i.by == s) ≡ false → own_or s (write_at x (Some i)) o ≡ o
-own_committed s x o i e = bool_cases i.unwritten
-    (λ f. ap (λ b. own_or s (if b then None else Some (i.by, seen_under x i)) o) f)
-    (λ f. ap (λ b. own_or s (if b then None else Some (i.by, seen_under x i)) o) f ∙ ap (λ b. if b then seen_under x i else o) e)
+own_committed s x o i e = bool_cases i.unwritten (λ f. rw f refl) (λ f. rw (f, e) refl)
 
 pub seen_point : (s : ℕ) (x : Option Object) (i : Image) → own_or s (write_at x (Some i)) (committed_at x (Some i)) ≡ seen_by s x i
 seen_point s x i = bool_cases (i.by == s)
-    (λ e. own_seen s x i e ∙ sym (ap (λ b. if not b && not i.unwritten then i.before else seen_under x i) e))
-    (λ e. own_committed s x (committed_at x (Some i)) i e ∙ before_seen x i ∙ sym (ap (λ b. if not b && not i.unwritten then i.before else seen_under x i) e))
-  where
-    before_seen : (x : Option Object) (i : Image) → before_image x i ≡ (if not i.unwritten then i.before else seen_under x i)
-    before_seen x i = bool_cases i.unwritten
-        (λ f. ap (λ b. if b then seen_under x i else i.before) f ∙ sym (ap (λ b. if not b then i.before else seen_under x i) f))
-        (λ f. ap (λ b. if b then seen_under x i else i.before) f ∙ sym (ap (λ b. if not b then i.before else seen_under x i) f))
+    (λ e. bool_cases i.unwritten (λ f. rw (f, e) refl) (λ f. rw (f, e) refl))
+    (λ e. bool_cases i.unwritten (λ f. rw (f, e) refl) (λ f. rw (f, e) refl))
 
 -- ---- a new store
 

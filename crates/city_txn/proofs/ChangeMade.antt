@@ -23,7 +23,7 @@ use Rattle.city_model.proofs.FirstOrphan.{first_orphan, is_least_orphan, has_no_
 use Rattle.city_model.proofs.Objects.{entries_of, at_sorted}
 use Rattle.city_txn.specs.declared.image.Image.{Image}
 use Rattle.city_txn.specs.declared.store.Store.TheInside.{Inside}
-use Rattle.city_txn.specs.Images.{seen_under, written_at, write_at, writer_of}
+use Rattle.city_txn.specs.Images.{written_at, write_at, writer_of}
 use Rattle.city_txn.specs.State.{Write, write_of, own_or, own_write, is_by}
 use Rattle.city_txn.specs.CoreState.{CoreState, committed, view}
 use Rattle.city_txn.specs.InPlace.{with_some, state_of, is_writer, IsInPlace}
@@ -62,17 +62,11 @@ either_none false = refl
 
 own_point : (s : ℕ) (x : Option Object) (i : Option Image) → (if is_writer s (writer_of i) then written_at x i else None) ≡ own_write s (write_at x i)
 own_point s x None = refl
-own_point s x (Some i) = bool_cases i.unwritten
-    (λ e. ap (λ b. if i.by == s then (if b then None else Some (seen_under x i)) else None) e ∙ either_none (i.by == s) ∙ sym (ap (λ b. own_write s (if b then None else Some (i.by, seen_under x i))) e))
-    (λ e. ap (λ b. if i.by == s then (if b then None else Some (seen_under x i)) else None) e ∙ sym (ap (λ b. own_write s (if b then None else Some (i.by, seen_under x i))) e))
+own_point s x (Some i) = bool_cases i.unwritten (λ e. rw e (either_none (i.by == s))) (λ e. rw e refl)
 
 pub own_written : (a : Inside) → IsInPlace a → (s : ℕ) (q : List ℕ) →
     (if has_id (reservations_of a.undo.reservations s) q then written_at (here a q) (image_at a.undo q) else None) ≡ own_write s (write_of (state_of a).writes q)
 own_written a k s q = ap (λ b. if b then written_at (here a q) (image_at a.undo q) else None) (k.listed s q) ∙ own_point s (here a q) (image_at a.undo q) ∙ sym (ap (own_write s) (writes_is a k q))
-
-pub none_sorted : IsStrictlySortedBy (slice_cmp nat_cmp) []
-unfolding IsStrictlySortedBy
-none_sorted = tt
 
 pub if_ok : {A E : Type 0} {P Q : A → Type 0} (r : Result A E) → ((x : A) → P x → Q x) → IfOk r P → IfOk r Q
 if_ok (Ok x) f p = f x p
@@ -123,21 +117,15 @@ changed_by (w ∷ ws) m q s =
 
 key_listed : {Y : Type 0} (es : List (List ℕ × Y)) (q : List ℕ) → has_id (keys_of es) q ≡ is_some (lookup (is_at (slice_cmp nat_cmp q)) es)
 key_listed [] q = refl
-key_listed (e ∷ es) q = bool_cases (same_id q e.0)
-    (λ t. ap (λ b. b || has_id (keys_of es) q) t ∙ sym (ap (λ b. is_some (if b then Some e.1 else lookup (is_at (slice_cmp nat_cmp q)) es)) t))
-    (λ t. ap (λ b. b || has_id (keys_of es) q) t ∙ key_listed es q ∙ sym (ap (λ b. is_some (if b then Some e.1 else lookup (is_at (slice_cmp nat_cmp q)) es)) t))
+key_listed (e ∷ es) q = bool_cases (same_id q e.0) (λ t. rw t refl) (λ t. rw t (key_listed es q))
 
 own_over : (s : ℕ) (w : Option Write) (o : Option Object) → own_or s w o ≡ over (own_write s w) o
 own_over s None o = refl
-own_over s (Some w) o = bool_cases (w.0 == s)
-    (λ e. ap (λ b. if b then w.1 else o) e ∙ sym (ap (λ b. over (if b then Some w.1 else None) o) e))
-    (λ e. ap (λ b. if b then w.1 else o) e ∙ sym (ap (λ b. over (if b then Some w.1 else None) o) e))
+own_over s (Some w) o = bool_cases (w.0 == s) (λ e. rw e refl) (λ e. rw e refl)
 
 own_by : (s : ℕ) (w : Option Write) → is_some (own_write s w) ≡ is_by s w
 own_by s None = refl
-own_by s (Some w) = bool_cases (w.0 == s)
-    (λ e. ap (λ b. is_some (if b then Some w.1 else None)) e ∙ sym e)
-    (λ e. ap (λ b. is_some (if b then Some w.1 else None)) e ∙ sym e)
+own_by s (Some w) = bool_cases (w.0 == s) (λ e. rw e refl) (λ e. rw e refl)
 
 -- ---- orphans
 

@@ -6,7 +6,7 @@ use Rattle.std.specs.Map.{keys_of, lookup}
 use Rattle.std.specs.Ordering.{nat_cmp}
 use Rattle.std.specs.BTreeMap.{is_at}
 use Rattle.std.proofs.lemmas.Option.{none-some}
-use Rattle.std.proofs.lemmas.Bool.{false≢true, eqb-true, or_right}
+use Rattle.std.proofs.lemmas.Bool.{false≢true, eqb-true, eq-eqb, or_right}
 use Rattle.city_model.specs.declared.frame.Frame.{Frame}
 use Rattle.city_model.specs.CityMap.{Objects, at}
 use Rattle.city_model.specs.Relations.{IsLawful, HasNoOrphan}
@@ -16,7 +16,7 @@ use Rattle.city_locks.proofs.Among.{none_from}
 use Rattle.city_locks.specs.declared.mode.Mode.TheVariants.{Exclusive}
 use Rattle.city_locks.specs.Locks.{Locks, mode_of, Lawful}
 use Rattle.city_txn.specs.State as store
-use Rattle.city_txn.specs.State.{State, Write, write_of, own_or, is_reserved, is_by, Forgets}
+use Rattle.city_txn.specs.State.{State, Write, write_of, own_or, is_reserved, is_by, Begins, Forgets}
 use Rattle.city_model.specs.Standing.{Answered, covers}
 use Rattle.city_txn.specs.CoreState.{CoreState, committed, view, is_open, held, held_in, Stands, IsConsistent, KeepsOthers, IsOver, IsUndone}
 use Rattle.city_txn.specs.Core.{core_state, IsCore}
@@ -38,6 +38,9 @@ listed_open (e ∷ es) s =
 
 pub open_is : (a : Inside) (s : ℕ) → is_open (core_state a) s ≡ store.is_open a.store s
 open_is a s = listed_open a.store.opened s
+
+pub open_stored : (a : Inside) {v : CoreState} → core_state a ≡ v → (s : ℕ) → store.is_open a.store s ≡ is_open v s
+open_stored a seen s = sym (open_is a s) ∙ ap (λ u. is_open u s) seen
 
 -- ---- opened
 
@@ -79,38 +82,40 @@ shut_writer v s q c h w e = bool_cases (w.0 == s)
 pub shut_unwritten : (v : CoreState) (s : ℕ) (q : List ℕ) → IsConsistent v → is_open v s ≡ false → is_by s (write_of v.writes q) ≡ false
 shut_unwritten v s q c h = not_by s (write_of v.writes q) (shut_writer v s q c h)
 
-module _ (a b : Inside) (k : IsCore a) (s : ℕ) (shut : is_open (core_state a) s ≡ false) (frame : b.store.frame ≡ a.store.frame) (city : b.store.city ≡ a.store.city) (writes : b.store.writes ≡ a.store.writes) (locks : b.locks ≡ a.locks)
-    (opened : (t : ℕ) → store.is_open b.store t ≡ ((s == t) || store.is_open a.store t))
-    (reserved : (t : ℕ) (q : List ℕ) → is_reserved b.store t q ≡ is_reserved a.store t q) where
-  pub begun_open : (t : ℕ) → is_open (core_state b) t ≡ ((s == t) || is_open (core_state a) t)
-  begun_open t = open_is b t ∙ opened t ∙ ap (λ c. (s == t) || c) (sym (open_is a t))
+module _ (a b : Inside) (k : IsCore a) {v : CoreState} (seen : core_state a ≡ v) (s : ℕ) (shut : is_open v s ≡ false) (begins : Begins s a.store b.store) (locks : b.locks ≡ a.locks) where
+  begun_open : (t : ℕ) → is_open (core_state b) t ≡ ((s == t) || is_open (core_state a) t)
+  begun_open t = open_is b t ∙ begins.opened t ∙ ap (λ c. (s == t) || c) (sym (open_is a t))
+
+  pub begun_opened : is_open (core_state b) s ≡ true
+  begun_opened = begun_open s ∙ rw (eq-eqb s s refl) refl
 
   -- the new one did nothing, so its view is the committed map
   pub begun_own : Stands (core_state b) s []
-  begun_own = λ i q. (own_not s (write_of b.store.writes q) (at b.store.city q) (λ w e. shut_writer (core_state a) s q k.state shut w (ap (λ ws. write_of ws q) (sym writes) ∙ e))) i
+  begun_own = λ i q. own_not s (write_of b.store.writes q) (at b.store.city q)
+      (λ w e. shut_writer (core_state a) s q k.state (ap (λ u. is_open u s) seen ∙ shut) w (ap (λ ws. write_of ws q) (sym begins.writes) ∙ e)) i
 
   begun_stands : (t : ℕ) (done : List Answered) → Stands (core_state a) t done → Stands (core_state b) t done
   begun_stands t done f = follows_same (held (core_state a) t) (held (core_state b) t) (committed (core_state a)) (committed (core_state b)) done (view (core_state a) t) (view (core_state b) t)
       (λ q c h. ap (λ hs. covers (held_in hs t q) c) locks ∙ h)
-      (λ i. at (sym city i)) (λ i q. own_or t (write_of (sym writes i) q) (at (sym city i) q)) f
+      (λ i. at (sym begins.city i)) (λ i q. own_or t (write_of (sym begins.writes i) q) (at (sym begins.city i) q)) f
 
-  pub begun_keeps : KeepsOthers s (core_state a) (core_state b)
-  begun_keeps = record {
-    frame = frame;
+  pub begun_keeps : KeepsOthers s v (core_state b)
+  begun_keeps = subst (λ u. KeepsOthers s u (core_state b)) seen (record {
+    frame = begins.frame;
     opened = λ t ne. begun_open t ∙ ap (λ c. c || is_open (core_state a) t) ne;
     others = λ t done ne f. begun_stands t done f;
-  }
+  })
 
   pub begun_core : IsCore b
   begun_core = record {
     state = record {
       lawful = subst Lawful (sym locks) k.state.lawful;
-      locked = λ q w e. ap (λ hs. mode_of hs w.0 q) locks ∙ k.state.locked q w (ap (λ ws. write_of ws q) (sym writes) ∙ e);
+      locked = λ q w e. ap (λ hs. mode_of hs w.0 q) locks ∙ k.state.locked q w (ap (λ ws. write_of ws q) (sym begins.writes) ∙ e);
       open_only = λ t q h. begun_open t ∙ or_right (s == t) (is_open (core_state a) t) (k.state.open_only t q (ap (λ hs. is_some (mode_of hs t q)) (sym locks) ∙ h));
-      city = subst (λ es. IsLawful (at es)) (sym city) k.state.city;
+      city = subst (λ es. IsLawful (at es)) (sym begins.city) k.state.city;
       history = λ t. ((k.state.history t).0, begun_stands t (k.state.history t).0 (k.state.history t).1);
     };
-    reserved = λ t q h. ap (λ hs. mode_of hs t q) locks ∙ k.reserved t q (sym (reserved t q) ∙ h);
+    reserved = λ t q h. ap (λ hs. mode_of hs t q) locks ∙ k.reserved t q (sym (begins.reserved t q) ∙ h);
   }
 
 -- ---- over

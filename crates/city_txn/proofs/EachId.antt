@@ -5,15 +5,14 @@ use Rattle.std.proofs.lemmas.Bool.{false≢true}
 use Rattle.std.proofs.lemmas.List.Folds.{list_any_more}
 use Rattle.city_model.specs.declared.object.Object.{Object}
 use Rattle.city_model.specs.CityMap.{CityValue, CityMap, at, same_id, has_id, changed}
-use Rattle.std.proofs.lemmas.Map.{update_other, update_same}
-use Rattle.city_model.proofs.Ids.{same_id_true, same_id_back, same_id_of_equal, by_id}
-use Rattle.city_model.proofs.IdLists.{bool_cases}
+use Rattle.city_model.proofs.Ids.{same_id_back, same_id_of_equal, by_id}
 use Rattle.city_txn.specs.declared.image.Image.{Image}
 use Rattle.city_txn.specs.declared.ending.End.{End}
 use Rattle.city_txn.specs.declared.ending.End.TheVariants.{Commit, RollBack}
 use Rattle.city_txn.specs.Ending.{left_by, AreEnded}
 use Rattle.city_txn.specs.Images.{seen_under, before_image, seen_at, is_deleted}
 use Rattle.city_txn.specs.UndoState.{UndoState, image_at}
+use Rattle.city_txn.proofs.Slots.{unchanged}
 
 -- one more id of a list
 pub has_more : (ids : List (List ℕ)) (n : ℕ) (id q : List ℕ) → n < length ids → id ≡ get_or ids n id → has_id (take (n + 1) ids) q ≡ (has_id (take n ids) q || same_id id q)
@@ -37,9 +36,7 @@ gone_again false false i j k p q = q ∙ p
 
 -- what holds of an id holds of any that is the same
 at_that : (f : List ℕ → Option Object) (id q : List ℕ) (x : Option Object) → (if same_id id q then f id else x) ≡ (if same_id id q then f q else x)
-at_that f id q x = bool_cases (same_id id q)
-    (λ e. ap (λ r. if same_id id q then f r else x) (same_id_true id q e))
-    (λ e. ap (λ b. if b then f id else x) e ∙ sym (ap (λ b. if b then f q else x) e))
+at_that f id q x = by_id id q (λ is. ap (λ r. if same_id id q then f r else x) is) (λ apart. rw apart refl)
 
 -- ---- one id after another
 
@@ -74,23 +71,14 @@ still_has_slot f x y i j b p c m h = ap is_some c ∙ has_slot_point f b x i p (
 
 -- ---- one id
 
--- what stands at an id, set there again
-unchanged : (m : CityMap) (id : List ℕ) → m ≡ changed m id (m id)
-unchanged m id = λ i q. at q i
-  where
-    at : (q : List ℕ) → m q ≡ changed m id (m id) q
-    at q = by_id id q
-        (λ is. ap m (sym is) ∙ sym (update_same same_id m id (m id) q (same_id_of_equal id q is)))
-        (λ apart. sym (update_other same_id m id (m id) q apart))
-
 -- a placeholder that is taken out leaves what the transaction saw
 pub cleared_seen : (m : CityMap) (id : List ℕ) (i : Option Image) → (if is_deleted i then changed m id None else m) ≡ changed m id (seen_at (m id) i)
-cleared_seen m id None = unchanged m id
+cleared_seen m id None = unchanged m id (m id) refl
 cleared_seen m id (Some i) = by_deleted i.deleted
   where
     by_deleted : (deleted : Bool) → (if deleted then changed m id None else m) ≡ changed m id (if deleted then None else m id)
     by_deleted true = refl
-    by_deleted false = unchanged m id
+    by_deleted false = unchanged m id (m id) refl
 
 -- and of an unwritten image, what stood there before
 pub cleared_before : (m : CityMap) (id : List ℕ) (i : Image) → i.unwritten ≡ true → (if i.deleted then changed m id None else m) ≡ changed m id (before_image (m id) i)
@@ -108,21 +96,11 @@ one_ended end a b u v id frame after gone reservations = record {
 
 -- no image: all stays
 pub idle_there : (end : End) (m : CityMap) (id : List ℕ) (i : Option Image) → i ≡ None → m ≡ changed m id (left_by end (m id) i)
-idle_there end m id i e = unchanged m id ∙ ap (λ o. changed m id o) (sym (ap (left_by end (m id)) e ∙ idle end (m id)))
+idle_there end m id i e = unchanged m id (m id) refl ∙ ap (λ o. changed m id o) (sym (ap (left_by end (m id)) e ∙ idle end (m id)))
 
 -- an image that was added and taken out again
 pub added_and_forgotten : (i j k : List ℕ → Option Image) (id : List ℕ) (new : Image) → i id ≡ None → ((q : List ℕ) → j q ≡ (if same_id id q then Some new else i q)) →
     ((q : List ℕ) → k q ≡ (if same_id id q then None else j q)) → (q : List ℕ) → k q ≡ i q
-added_and_forgotten i j k id new none add forget q = forget q ∙ bool_cases (same_id id q)
-    (λ e. ap (λ b. if b then None else j q) e ∙ sym (ap i (sym (same_id_true id q e)) ∙ none))
-    (λ e. ap (λ b. if b then None else j q) e ∙ add q ∙ ap (λ b. if b then Some new else i q) e)
-
--- ---- a slot that is made
-
-pub made_there : (m : CityMap) (key id : List ℕ) (o : Object) → key ≡ id → is_some (changed m key (Some o) id) ≡ true
-made_there m key id o e = ap is_some (update_same same_id m key (Some o) id (same_id_of_equal key id e))
-
-pub made_beside : (m : CityMap) (key id : List ℕ) (o : Object) → key ≡ id → is_some (m id) ≡ false → (q : List ℕ) → is_some (m q) ≡ true → changed m key (Some o) q ≡ m q
-made_beside m key id o e absent q h = bool_cases (same_id key q)
-    (λ t. absurd (false≢true (sym absent ∙ ap (λ r. is_some (m r)) (sym e ∙ same_id_true key q t) ∙ h)))
-    (λ t. update_other same_id m key (Some o) q t)
+added_and_forgotten i j k id new none add forget q = forget q ∙ by_id id q
+    (λ is. rw (same_id_of_equal id q is) (sym none ∙ ap i is))
+    (λ apart. rw apart (add q ∙ rw apart refl))

@@ -27,21 +27,17 @@ sound_view v s c = follows_sound (held v s) (committed v) (c.history s).0 (view 
 
 pub own_not : (s : ℕ) (x : Option Write) (o : Option Object) → ((w : Write) → x ≡ Some w → (w.0 == s) ≡ false) → own_or s x o ≡ o
 own_not s None o h = refl
-own_not s (Some w) o h = ap (λ b. if b then w.1 else o) (h w refl)
+own_not s (Some w) o h = rw (h w refl) refl
 
 -- what another sees of its own writes
 pub own_unless : (s t : ℕ) (x : Option Write) (o : Option Object) → (s == t) ≡ false → own_or t (unless_by s x) o ≡ own_or t x o
 own_unless s t None o ne = refl
-own_unless s t (Some w) o ne = bool_cases (w.0 == s)
-    (λ e. ap (λ b. own_or t (if b then None else Some w) o) e ∙ sym (ap (λ b. if b then w.1 else o) (ap (λ k. k == t) (eqb-true w.0 s e) ∙ ne)))
-    (λ e. ap (λ b. own_or t (if b then None else Some w) o) e)
+own_unless s t (Some w) o ne = bool_cases (w.0 == s) (λ e. rw (e, eqb-true w.0 s e, ne) refl) (λ e. rw e refl)
 
 -- what s wrote is gone
 own_gone : (s : ℕ) (x : Option Write) (o : Option Object) → own_or s (unless_by s x) o ≡ o
 own_gone s None o = refl
-own_gone s (Some w) o = bool_cases (w.0 == s)
-    (λ e. ap (λ b. own_or s (if b then None else Some w) o) e)
-    (λ e. ap (λ b. own_or s (if b then None else Some w) o) e ∙ ap (λ b. if b then w.1 else o) e)
+own_gone s (Some w) o = bool_cases (w.0 == s) (λ e. rw e refl) (λ e. rw (e, e) refl)
 
 abbrev from_some : Write → Option Write → Write
 from_some d None = d

@@ -13,7 +13,7 @@ use Rattle.city_txn.specs.declared.store.Store.TheInside.{Inside}
 use Rattle.city_txn.specs.declared.ending.End.{End}
 use Rattle.city_txn.specs.declared.ending.End.TheVariants.{Commit, RollBack}
 use Rattle.city_txn.specs.Ending.{left_by, city_after, AreEnded}
-use Rattle.city_txn.specs.Images.{seen_under, committed_at, write_at, writer_of}
+use Rattle.city_txn.specs.Images.{committed_at, write_at, writer_of}
 use Rattle.city_txn.specs.State.{is_open, is_reserved, own_or, committed, unless_by, Forgets}
 use Rattle.city_txn.specs.InPlace.{state_of, is_writer, IsInPlace}
 use Rattle.city_txn.specs.UndoState.{UndoState, image_at, listed_by, reservations_of}
@@ -44,22 +44,15 @@ city_after_is Commit a k s q = view_is a k q s
 city_after_is RollBack a k s q = city_is a k q
 
 own_write : (s : ℕ) (x : Option Object) (i : Image) → (i.by == s) ≡ true → unless_by s (write_at x (Some i)) ≡ None
-own_write s x i e = bool_cases i.unwritten
-    (λ f. ap (λ b. unless_by s (if b then None else Some (i.by, seen_under x i))) f)
-    (λ f. ap (λ b. unless_by s (if b then None else Some (i.by, seen_under x i))) f ∙ ap (λ b. if b then None else Some (i.by, seen_under x i)) e)
+own_write s x i e = bool_cases i.unwritten (λ f. rw f refl) (λ f. rw (f, e) refl)
 
 others_write : (s : ℕ) (x : Option Object) (i : Image) → (i.by == s) ≡ false → unless_by s (write_at x (Some i)) ≡ write_at x (Some i)
-others_write s x i e = bool_cases i.unwritten
-    (λ f. ap (λ b. unless_by s (if b then None else Some (i.by, seen_under x i))) f ∙ sym (ap (λ b. if b then None else Some (i.by, seen_under x i)) f))
-    (λ f. ap (λ b. unless_by s (if b then None else Some (i.by, seen_under x i))) f ∙ ap (λ b. if b then None else Some (i.by, seen_under x i)) e
-    ∙ sym (ap (λ b. if b then None else Some (i.by, seen_under x i)) f))
+others_write s x i e = bool_cases i.unwritten (λ f. rw f refl) (λ f. rw (f, e) refl)
 
 dropped_point : (s : ℕ) (x y : Option Object) (i : Option Image) →
     write_at (if is_writer s (writer_of i) then y else x) (if is_writer s (writer_of i) then None else i) ≡ unless_by s (write_at x i)
 dropped_point s x y None = refl
-dropped_point s x y (Some i) = bool_cases (i.by == s)
-    (λ e. ap (λ b. write_at (if b then y else x) (if b then None else Some i)) e ∙ sym (own_write s x i e))
-    (λ e. ap (λ b. write_at (if b then y else x) (if b then None else Some i)) e ∙ sym (others_write s x i e))
+dropped_point s x y (Some i) = bool_cases (i.by == s) (λ e. rw e (sym (own_write s x i e))) (λ e. rw e (sym (others_write s x i e)))
 
 no_writer : (b : Bool) → (if b then false else false) ≡ false
 no_writer true = refl
@@ -69,11 +62,10 @@ others_stay : (s t : ℕ) (i : Option Image) →
     (if s == t then false else is_writer t (writer_of i)) ≡ is_writer t (writer_of (if is_writer s (writer_of i) then None else i))
 others_stay s t None = no_writer (s == t)
 others_stay s t (Some i) = bool_cases (i.by == s)
-    (λ e. let same : i.by ≡ s = eqb-true i.by s e in
-    ap (λ u. if s == t then false else u == t) same ∙ either (s == t) ∙ sym (ap (λ b. is_writer t (writer_of (if b then None else Some i))) e))
+    (λ e. rw (e, eqb-true i.by s e) (either (s == t)))
     (λ e. bool_cases (s == t)
-    (λ f. ap (λ b. if b then false else i.by == t) f ∙ sym (ap (λ u. i.by == u) (sym (eqb-true s t f)) ∙ e) ∙ sym (ap (λ b. is_writer t (writer_of (if b then None else Some i))) e))
-    (λ f. ap (λ b. if b then false else i.by == t) f ∙ sym (ap (λ b. is_writer t (writer_of (if b then None else Some i))) e)))
+    (λ f. rw (f, e) (sym (ap (λ u. i.by == u) (sym (eqb-true s t f)) ∙ e)))
+    (λ f. rw (f, e) refl))
   where
     either : (b : Bool) → (if b then false else b) ≡ false
     either true = refl
@@ -99,19 +91,10 @@ module _ (a b : Inside) (k : IsInPlace a) (s : ℕ) (ids : List (List ℕ)) (are
   reservations t = ap (λ r. listed_by r t) ended.reservations ∙ closed t
 
   reserved_left : (t : ℕ) (q : List ℕ) → is_reserved (state_of b) t q ≡ (if s == t then false else is_reserved (state_of a) t q)
-  reserved_left t q = ap (λ o. has_id (unwrap_or o []) q) (reservations t) ∙ ap (λ c. has_id (unwrap_or (if c then None else listed_by a.undo.reservations t) []) q) (tied s t)
-      ∙ by_case (s == t)
-    where
-      by_case : (c : Bool) → has_id (unwrap_or (if c then None else listed_by a.undo.reservations t) []) q ≡ (if c then false else is_reserved (state_of a) t q)
-      by_case true = refl
-      by_case false = refl
+  reserved_left t q = ap (λ o. has_id (unwrap_or o []) q) (reservations t) ∙ bool_cases (s == t) (λ e. rw (tied s t ∙ e, e) refl) (λ e. rw (tied s t ∙ e, e) refl)
 
   open_left : (t : ℕ) → is_open (state_of b) t ≡ (if s == t then false else is_open (state_of a) t)
-  open_left t = ap is_some (reservations t) ∙ ap (λ c. is_some (if c then None else listed_by a.undo.reservations t)) (tied s t) ∙ by_case (s == t)
-    where
-      by_case : (c : Bool) → is_some (if c then None else listed_by a.undo.reservations t) ≡ (if c then false else is_open (state_of a) t)
-      by_case true = refl
-      by_case false = refl
+  open_left t = ap is_some (reservations t) ∙ bool_cases (s == t) (λ e. rw (tied s t ∙ e, e) refl) (λ e. rw (tied s t ∙ e, e) refl)
 
   pub forgotten_in_place : IsInPlace b
   forgotten_in_place = record {

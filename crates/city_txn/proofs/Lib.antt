@@ -10,6 +10,8 @@ pub mod Idle
 pub mod ImagesHeld
 pub mod LocksAsked
 pub mod LocksGained
+pub mod OneIdChanged
 pub mod PlanWritten
 pub mod ReservationMade
+pub mod Slots
 pub mod Written

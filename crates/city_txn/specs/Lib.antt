@@ -8,5 +8,6 @@ pub mod Images
 pub mod InPlace
 pub mod Locking
 pub mod Performing
+pub mod Slots
 pub mod State
 pub mod UndoState

@@ -1,5 +1,5 @@
 -- What contracts see of the store: the committed city, and for each open transaction what it wrote.
-use Rattle.std.specs.Prelude.{◌≡◌, ◌==◌, ℕ, Bool, false, List, Option, None, Some, is_some}
+use Rattle.std.specs.Prelude.{◌≡◌, ◌==◌, ◌||◌, ℕ, Bool, false, List, Option, None, Some, is_some}
 use Rattle.std.specs.Prelude.{if◌then◌else◌}
 use Rattle.std.specs.Map.{lookup}
 use Rattle.std.specs.Ordering.{nat_cmp}
@@ -64,6 +64,14 @@ pub record SeesSame (v w : State) : Type 0 where
   pub city : committed w ≡ committed v
   pub writes : (id : List ℕ) → write_of w.writes id ≡ write_of v.writes id
   pub opened : (stamp : ℕ) → is_open w stamp ≡ is_open v stamp
+
+-- the transaction is open, with nothing reserved; all else stays
+pub record Begins (stamp : ℕ) (v w : State) : Type 0 where
+  pub frame : w.frame ≡ v.frame
+  pub city : w.city ≡ v.city
+  pub writes : w.writes ≡ v.writes
+  pub opened : (t : ℕ) → is_open w t ≡ ((stamp == t) || is_open v t)
+  pub reserved : (t : ℕ) (id : List ℕ) → is_reserved w t id ≡ is_reserved v t id
 
 -- the transaction is no longer open, and its writes and its reservations are gone; the others' stay
 pub record Forgets (stamp : ℕ) (v w : State) : Type 0 where

@@ -1,7 +1,6 @@
 //! An object that holds a slot.
-ghost use Rattle.std.specs.Prelude.{◌≡◌, []};
-ghost use Rattle.serde_json.specs.Data.{no_members};
-ghost use Rattle.city_model.specs.declared.object_type.ObjectType.{ObjectType};
+ghost use Rattle.std.specs.Prelude.{◌≡◌};
+ghost use Rattle.city_txn.specs.Slots.{placeholder};
 
 use city_model::kept::extra::Extra;
 use city_model::object::{Body, Object};
@@ -13,7 +12,7 @@ use std::alloc::Global;
 /// A generic object without geometry, kept members and relations, to hold the slot of an object
 /// that isn't there. Takes no memory.
 pub fn placeholder(alloc: Global) -> Object
-    ensures { result ≡ record { body = record { kind = ObjectType.GenericCityObject; geometry = []; extra = no_members }; parents = []; children = [] } }
+    ensures { result ≡ placeholder }
 {
     let Ok(extra) = Extra::new(Map::new(alloc)) else {
         unreachable!()

@@ -1,7 +1,8 @@
 //! Slots of the city: placeholders, and objects put back.
-ghost use Rattle.std.specs.Prelude.{◌≡◌, ℕ, List, None, Some, IfOk, OnOk, OnErr, is_some, not, true, false, if◌then◌else◌};
-ghost use Rattle.city_model.specs.CityMap.{at, changed, same_id};
+ghost use Rattle.std.specs.Prelude.{◌≡◌, None, Some, unwrap_or, IfOk, OnOk, OnErr, is_some, not, true, if◌then◌else◌};
+ghost use Rattle.city_model.specs.CityMap.{at, changed};
 ghost use Rattle.city_txn.specs.Images.{before_image};
+ghost use Rattle.city_txn.specs.Slots.{placeholder, with_slot};
 
 use crate::image::Image;
 use crate::placeholder::placeholder;
@@ -16,11 +17,9 @@ use std::alloc::Global;
 /// Want of memory leaves the city.
 pub fn make(city: &mut City, alloc: Global, id: &Id) -> Result<bool, OutOfMemory>
     ensures made { IfOk result (λ made. made ≡ not (is_some (at city.old.1 id.now))) }
-    ensures there { OnOk result (is_some (at city.new.1 id.now) ≡ true) }
-    ensures kept { (q : List ℕ) → is_some (at city.old.1 q) ≡ true → at city.new.1 q ≡ at city.old.1 q }
-    ensures others { (q : List ℕ) → same_id id.now q ≡ false → at city.new.1 q ≡ at city.old.1 q }
-    ensures err { OnErr result (city.new ≡ city.old) }
+    ensures after { OnOk result (at city.new.1 ≡ with_slot (at city.old.1) id.now) }
     ensures frame { city.new.0 ≡ city.old.0 }
+    ensures err { OnErr result (city.new ≡ city.old) }
 {
     if city.get(id).is_some() {
         return Ok(false);
@@ -56,7 +55,7 @@ pub fn swap(city: &mut City, id: Id, object: Object) -> Object
 
 /// The object, or a placeholder.
 pub fn standing(alloc: Global, object: Option<Object>) -> Object
-    ensures { (if is_some object then Some result else None) ≡ object }
+    ensures { result ≡ unwrap_or object placeholder }
 {
     match object {
         Some(o) => o,

@@ -7,7 +7,7 @@ ghost use Rattle.std.specs.List.Sorted.{IsStrictlySortedBy};
 ghost use Rattle.std.specs.BTreeMap.{is_at};
 ghost use Rattle.city_model.specs.CityMap.{same_id};
 ghost use Rattle.city_txn.specs.Ending.{city_after};
-ghost use Rattle.city_txn.specs.State.{State, write_of, is_reserved, is_open, committed, view, own_write, SeesSame, Forgets};
+ghost use Rattle.city_txn.specs.State.{State, write_of, is_reserved, is_open, committed, view, own_write, SeesSame, Begins, Forgets};
 
 use crate::changing::change_of;
 use crate::ending::{End, end_each};
@@ -72,11 +72,7 @@ impl Store {
     /// store.
     pub fn begin(&mut self, stamp: u64) -> Result<(), OutOfMemory>
         requires { is_open self.old stamp ≡ false }
-        ensures frame { self.new.frame ≡ self.old.frame }
-        ensures city { self.new.city ≡ self.old.city }
-        ensures writes { self.new.writes ≡ self.old.writes }
-        ensures opened { OnOk result ((t : ℕ) → is_open self.new t ≡ ((stamp == t) || is_open self.old t)) }
-        ensures reserved { (t : ℕ) (id : List ℕ) → is_reserved self.new t id ≡ is_reserved self.old t id }
+        ensures begins { OnOk result (Begins stamp self.old self.new) }
         ensures err { OnErr result (self.new ≡ self.old) }
     {
         self.undo.open(stamp)?;

@@ -84,7 +84,7 @@ impl Core {
         ensures fault { IfErr result (λ fault. fault ≡ (if is_open self.old stamp then TxnFault.StampOpen stamp else TxnFault.OutOfMemory)) }
         ensures stamp_open { is_open self.old stamp ≡ true → IsErr result }
     {
-        if self.store.is_open(stamp) {
+        if self.is_open(stamp) {
             return Err(TxnFault::StampOpen(stamp));
         }
         let Ok(()) = self.store.begin(stamp) else {
@@ -104,7 +104,7 @@ impl Core {
         requires { is_end command.now ≡ false }
         ensures { Acted stamp command.now result self.old self.new }
     {
-        if !self.store.is_open(stamp) {
+        if !self.is_open(stamp) {
             return Err(TxnFault::NotOpen(stamp));
         }
         let Ok(answer) = lock(&mut self.locks, &self.store, stamp, command) else {
@@ -127,7 +127,7 @@ impl Core {
         requires { is_end command.now ≡ false }
         ensures { result ≡ (is_open self.now stamp && is_wait (answer_in self.now stamp command.now)) }
     {
-        if !self.store.is_open(stamp) {
+        if !self.is_open(stamp) {
             return false;
         }
         match would_lock(&self.locks, &self.store, stamp, command) {
@@ -146,7 +146,7 @@ impl Core {
         ensures fault { IfErr result (λ fault. fault ≡ (if is_open self.now stamp then TxnFault.OutOfMemory else TxnFault.NotOpen stamp)) }
         ensures not_open { is_open self.now stamp ≡ false → IsErr result }
     {
-        if !self.store.is_open(stamp) {
+        if !self.is_open(stamp) {
             return Err(TxnFault::NotOpen(stamp));
         }
         let Ok(change) = self.store.change(self.alloc, stamp) else {
@@ -192,7 +192,7 @@ impl Core {
         ensures opened { is_open self.old stamp ≡ true → IsOk result }
         ensures not_open { is_open self.old stamp ≡ false → IsErr result }
     {
-        if !self.store.is_open(stamp) {
+        if !self.is_open(stamp) {
             return Err(TxnFault::NotOpen(stamp));
         }
         self.roll_back(stamp);

@@ -1,4 +1,4 @@
-use Rattle.std.proofs.Common.{◌≡◌, ◌∙◌, ap, Some, true}
+use Rattle.std.proofs.Common.{None, ◌≡◌, ◌∙◌, ap, Some, true}
 use Rattle.std.specs.Prelude.{if◌then◌else◌}
 use Rattle.city_model.specs.CityMap.{same_id}
 use Rattle.city_txn.specs.State.{State, write_of, is_reserved, committed}
@@ -13,7 +13,7 @@ invariant_of-self c =
     let b : Inside = record { city = c.write.new.city; undo = c.write.new.self } in
     let reserved : is_reserved (state_of a) c.args.stamp c.args.id ≡ true = ap (λ (v : State). is_reserved v c.args.stamp c.args.id) c.self.view_is ∙ c.requires in
     written_in_place a b c.self.invariant c.args.stamp c.args.id reserved c.is_none-deleted.result c.standing-standing.result c.args.object
-    (not_deleted c.args.object c.is_none-deleted.result c.standing-standing.result c.is_none-deleted.ensures c.standing-standing.ensures)
+    (ap (λ y. if c.is_none-deleted.result then None else Some y) c.standing-standing.ensures ∙ not_deleted c.args.object c.is_none-deleted.result c.is_none-deleted.ensures)
     c.write.ensures.city c.write.ensures.images c.write.ensures.reservations
 
 pub returns-clause-city : goal.returns-clause-city
@@ -22,7 +22,7 @@ returns-clause-city c =
     let b : Inside = record { city = c.write.new.city; undo = c.write.new.self } in
     let reserved : is_reserved (state_of a) c.args.stamp c.args.id ≡ true = ap (λ (v : State). is_reserved v c.args.stamp c.args.id) c.self.view_is ∙ c.requires in
     written_city a b c.self.invariant c.args.stamp c.args.id reserved c.is_none-deleted.result c.standing-standing.result c.args.object
-    (not_deleted c.args.object c.is_none-deleted.result c.standing-standing.result c.is_none-deleted.ensures c.standing-standing.ensures)
+    (ap (λ y. if c.is_none-deleted.result then None else Some y) c.standing-standing.ensures ∙ not_deleted c.args.object c.is_none-deleted.result c.is_none-deleted.ensures)
     c.write.ensures.city c.write.ensures.images c.write.ensures.reservations
     ∙ ap committed c.self.view_is
 
@@ -32,6 +32,6 @@ returns-clause-writes c q =
     let b : Inside = record { city = c.write.new.city; undo = c.write.new.self } in
     let reserved : is_reserved (state_of a) c.args.stamp c.args.id ≡ true = ap (λ (v : State). is_reserved v c.args.stamp c.args.id) c.self.view_is ∙ c.requires in
     written_writes a b c.self.invariant c.args.stamp c.args.id reserved c.is_none-deleted.result c.standing-standing.result c.args.object
-    (not_deleted c.args.object c.is_none-deleted.result c.standing-standing.result c.is_none-deleted.ensures c.standing-standing.ensures)
+    (ap (λ y. if c.is_none-deleted.result then None else Some y) c.standing-standing.ensures ∙ not_deleted c.args.object c.is_none-deleted.result c.is_none-deleted.ensures)
     c.write.ensures.city c.write.ensures.images c.write.ensures.reservations q
     ∙ ap (λ (v : State). if same_id c.args.id q then Some (c.args.stamp, c.args.object) else write_of v.writes q) c.self.view_is
