@@ -180,13 +180,12 @@ const IN_ORDER: [(Run, &str, &str); 3] = [
     ),
 ];
 
-
-/// What all the turns leave, where they are answered as they are written.
-fn played(alloc: Global, run: &Run, turns: &str) -> Option<String> {
+/// What the first of the turns leave, where they finish the desk.
+fn played(alloc: Global, run: &Run, turns: &str, count: usize) -> Option<String> {
     let Some(mut desk) = opened(alloc, run) else {
         return None;
     };
-    let taken = are_taken(&mut desk, alloc, turns, usize::MAX);
+    let taken = are_taken(&mut desk, alloc, turns, count);
     let left = left_finished(desk, alloc, run);
     if taken { left } else { None }
 }
@@ -211,7 +210,7 @@ fn turns_are_answered_and_leave_a_serial_history(rt: HostRuntime) -> Result<(), 
     let alloc = rt.alloc();
     for schedule in &SCHEDULES {
         let (run, report) = (&schedule.run, schedule.report);
-        let left = played(alloc, run, schedule.turns).ok_or(run.shows)?;
+        let left = played(alloc, run, schedule.turns, usize::MAX).ok_or(run.shows)?;
         let wanted = wanted(alloc, report, run.model, schedule.changes)?;
         assert_eq!(rt; left.as_str(), wanted.as_str(), "{}", run.shows);
     }
@@ -222,7 +221,7 @@ fn turns_are_answered_and_leave_a_serial_history(rt: HostRuntime) -> Result<(), 
 fn scripts_in_their_order_leave_what_a_serial_run_does(rt: HostRuntime) -> Result<(), Fail> {
     let alloc = rt.alloc();
     for (run, turns, changes) in &IN_ORDER {
-        let left = played(alloc, run, turns).ok_or(run.shows)?;
+        let left = played(alloc, run, turns, usize::MAX).ok_or(run.shows)?;
         let wanted = wanted(alloc, run.report, run.model, changes)?;
         assert_eq!(rt; left.as_str(), wanted.as_str(), "{}", run.shows);
     }
@@ -238,7 +237,11 @@ fn are_stopped(alloc: Global, run: &Run, turns: &str) -> bool {
 fn a_stop_after_any_turn_leaves_a_serial_history(rt: HostRuntime) {
     for schedule in &SCHEDULES {
         let run = &schedule.run;
-        assert!(rt; are_stopped(rt.alloc(), run, schedule.turns), "{}", run.shows);
+        assert!(rt;
+            are_stopped(rt.alloc(), run, schedule.turns),
+            "{}",
+            run.shows
+        );
     }
 }
 
@@ -287,13 +290,20 @@ fn handed_back(desk: Desk<ListShelf>) -> Option<Desk<ListShelf>> {
     }
 }
 
-/// Whether the last of the turns finishes the desk of the run, and none before it; the script that is
-/// ready after five of them is 1.
+/// Whether these are the first eleven answers of the skewed run, and script 1 is ready after five,
+/// where script 0 waits for it.
+fn are_eleven_taken(desk: &mut Desk<ListShelf>, alloc: Global) -> bool {
+    let five = "0 Began, 1 Began, 0 Replied, 1 Replied, 0 Waits";
+    let six = "1 Died, 0 Replied, 1 Began, 0 Ended, 1 Replied, 1 Replied";
+    are_taken(desk, alloc, five, 5) && desk.ready() == Some(1) && are_taken(desk, alloc, six, 6)
+}
+
+/// Whether `finish` hands the desk back after eleven of the twelve turns, and the twelfth ends it.
 fn is_finished_late(alloc: Global) -> bool {
-    let Some(mut desk) = opened(alloc, &SKEW.run) else {
+    let Some(mut desk) = opened(alloc, &TWO_READERS) else {
         return false;
     };
-    let eleven = are_taken(&mut desk, alloc, SKEW.turns, 11);
+    let eleven = are_eleven_taken(&mut desk, alloc);
     let Some(mut desk) = handed_back(desk) else {
         return false;
     };
@@ -306,30 +316,16 @@ fn finish_hands_the_desk_back_before_the_last_end(rt: HostRuntime) {
     assert!(rt; is_finished_late(rt.alloc()));
 }
 
-/// The script that is ready after the first of the turns of a run.
-fn ready_after(alloc: Global, run: &Run, turns: &str, count: usize) -> Option<usize> {
-    let Some(mut desk) = opened(alloc, run) else {
-        return None;
-    };
-    let taken = are_taken(&mut desk, alloc, turns, count);
-    if taken { desk.ready() } else { None }
-}
-
-#[test]
-fn a_waiting_script_is_not_ready(rt: HostRuntime) {
-    assert!(rt; ready_after(rt.alloc(), &SKEW.run, SKEW.turns, 5) == Some(1));
-}
-
-/// The scripts that a desk of the run hands out, and whether one is ready; where nothing is
-/// committed, to show the shelf leaves it as it is.
+/// The scripts that a new desk of the run hands out, whether its shelf is shown, and whether a script
+/// is ready.
 fn handed_out(rt: &impl Wait, alloc: Global, run: &Run) -> Option<String> {
     let Some(mut desk) = opened(alloc, run) else {
         return None;
     };
-    taken_text(rt, alloc, &mut desk)
+    handed_out_by(rt, alloc, &mut desk)
 }
 
-fn taken_text(rt: &impl Wait, alloc: Global, desk: &mut Desk<ListShelf>) -> Option<String> {
+fn handed_out_by(rt: &impl Wait, alloc: Global, desk: &mut Desk<ListShelf>) -> Option<String> {
     let (first, second, third) = (desk.take(), desk.take(), desk.take());
     let (shown, ready) = (desk.show(rt).is_ok(), desk.ready().is_some());
     format!(in alloc; "{first:?} {second:?} {third:?}, shown {shown}, ready {ready}").ok()
@@ -338,25 +334,20 @@ fn taken_text(rt: &impl Wait, alloc: Global, desk: &mut Desk<ListShelf>) -> Opti
 #[test]
 fn scripts_are_handed_out_once(rt: HostRuntime) -> Result<(), Fail> {
     let two = handed_out(&rt, rt.alloc(), &COMMIT_AND_ABORT).ok_or("not handed out")?;
-    assert_eq!(rt; two.as_str(), "Some(0) Some(1) None, shown true, ready true");
+    assert_eq!(rt;
+        two.as_str(),
+        "Some(0) Some(1) None, shown true, ready true"
+    );
     let none = handed_out(&rt, rt.alloc(), &NOTHING_TO_DO).ok_or("not handed out")?;
     assert_eq!(rt; none.as_str(), "None None None, shown true, ready false");
     Ok(())
 }
 
-/// What a desk of the run leaves without a turn, where it is finished then.
-fn untouched(alloc: Global, run: &Run) -> Option<String> {
-    let Some(desk) = opened(alloc, run) else {
-        return None;
-    };
-    left_finished(desk, alloc, run)
-}
-
 #[test]
 fn a_desk_is_finished_at_once_without_scripts_alone(rt: HostRuntime) -> Result<(), Fail> {
-    let left = untouched(rt.alloc(), &NOTHING_TO_DO).ok_or("not finished")?;
+    let left = played(rt.alloc(), &NOTHING_TO_DO, "", 0).ok_or("not finished")?;
     let wanted = wanted(rt.alloc(), "", NOTHING_TO_DO.model, "")?;
     assert_eq!(rt; left.as_str(), wanted.as_str());
-    assert!(rt; untouched(rt.alloc(), &COMMIT_AND_ABORT).is_none());
+    assert!(rt; played(rt.alloc(), &COMMIT_AND_ABORT, "", 0).is_none());
     Ok(())
 }

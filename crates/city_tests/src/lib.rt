@@ -35,7 +35,11 @@ mod runs;
 #[cfg(test)]
 mod samples;
 #[cfg(test)]
+mod schedules;
+#[cfg(test)]
 mod scripts;
+#[cfg(test)]
+mod serial;
 #[cfg(test)]
 mod shells;
 #[cfg(test)]

@@ -112,11 +112,13 @@ fn play_on_copy(
     ensures { IsSound (at city.new.1) }
 {
     let mut copy = city.copy(alloc)?;
-    let outcome = play(alloc, &mut copy, commands, replies);
-    if matches!(outcome, Ok(Outcome::Committed)) {
-        *city = copy;
+    match play(alloc, &mut copy, commands, replies) {
+        Ok(Outcome::Committed) => {
+            *city = copy;
+            Ok(Outcome::Committed)
+        }
+        other => other,
     }
-    outcome
 }
 
 /// The end of the script of this end when it is played on the city, which changes where the script
@@ -159,22 +161,25 @@ fn written(alloc: Global, city: &City, ends: &[End]) -> Option<String> {
     text_of(alloc, report, model).ok()
 }
 
-/// What the scripts of these ends give on the city, played one at a time in this order: the report,
-/// then the model's text and a newline.
-fn replay(alloc: Global, city: &mut City, scripts: &[Script], ends: &[End]) -> Option<String>
+/// What the scripts of these ends give on the city, played one at a time in this order.
+fn replay_scripts(
+    alloc: Global,
+    city: &mut City,
+    scripts: &[Script],
+    ends: &[End],
+) -> Option<String>
     requires { IsSound (at city.old.1) }
 {
     let again = ends_again(alloc, city, scripts, ends)?;
     written(alloc, city, again.as_slice())
 }
 
-/// What the scripts of these ends of a run give, played one at a time in this order.
-fn replay_run(alloc: Global, run: &Run, ends: &[End]) -> Option<String> {
-    let Ok(mut city) = read_city(alloc, run.document.as_bytes()) else {
-        return None;
-    };
-    match read_scripts(alloc, run.scripts.as_bytes()) {
-        Ok(scripts) => replay(alloc, &mut city, scripts.as_slice(), ends),
+/// What the scripts of a text give on the city.
+fn replay_text(alloc: Global, city: &mut City, scripts: &str, ends: &[End]) -> Option<String>
+    requires { IsSound (at city.old.1) }
+{
+    match read_scripts(alloc, scripts.as_bytes()) {
+        Ok(scripts) => replay_scripts(alloc, city, scripts.as_slice(), ends),
         Err(_) => None,
     }
 }
@@ -182,15 +187,35 @@ fn replay_run(alloc: Global, run: &Run, ends: &[End]) -> Option<String> {
 /// Whether each script ends once, and none since more ends than there were before it.
 fn are_placed(ends: &[End]) -> bool {
     ends.iter().enumerate().all(|(place, end)| {
-        let once = ends.iter().filter(|other| other.script == end.script).count() == 1;
+        let once = ends
+            .iter()
+            .filter(|other| other.script == end.script)
+            .count()
+            == 1;
         once && end.since <= place
     })
 }
 
+/// What the scripts of these ends of a run give, played one at a time in this order: the report, then
+/// the model's text and a newline. None where a script ends twice, or since an end that comes later.
+pub fn replay(alloc: Global, run: &Run, ends: &[End]) -> Option<String> {
+    if !are_placed(ends) {
+        return None;
+    }
+    match read_city(alloc, run.document.as_bytes()) {
+        Ok(mut city) => replay_text(alloc, &mut city, run.scripts, ends),
+        Err(_) => None,
+    }
+}
+
 /// The report of these ends of a run, then the text of the model that they left and a newline: none
-/// where the scripts give something else when they are played one at a time in this order, each once.
+/// where the scripts give something else when they are played one at a time in this order.
 pub fn replayed(alloc: Global, run: &Run, city: &City, ends: &[End]) -> Option<String> {
     let text = written(alloc, city, ends)?;
-    let again = replay_run(alloc, run, ends)?;
-    (are_placed(ends) && again.as_str() == text.as_str()).then_some(text)
+    let again = replay(alloc, run, ends)?;
+    if again.as_str() == text.as_str() {
+        Some(text)
+    } else {
+        None
+    }
 }

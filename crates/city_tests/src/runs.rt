@@ -296,3 +296,62 @@ pub const UNLIKE_ENDS: Run = Run {
     ),
     model: model!(r#"{"b":{"type":"Building"}}"#, "[]"),
 };
+
+pub const OPPOSITE_ORDERS: Run = Run {
+    shows: "two scripts write the same objects in opposite orders",
+    document: model!(r#"{"x":{"type":"LandUse"},"y":{"type":"LandUse"}}"#, "[]"),
+    scripts: concat!(
+        r#"[{"name":"a","commands":["#,
+        r#"{"put":"x","object":{"type":"LandUse","attributes":{"n":0}}},"#,
+        r#"{"put":"y","object":{"type":"LandUse","attributes":{"n":0}}},"commit"]},"#,
+        r#"{"name":"b","commands":["#,
+        r#"{"put":"y","object":{"type":"LandUse","attributes":{"n":1}}},"#,
+        r#"{"put":"x","object":{"type":"LandUse","attributes":{"n":1}}},"commit"]}]"#
+    ),
+    report: concat!(
+        r#"{"name":"a","outcome":"committed","replies":["replaced","replaced"],"script":0,"since":0}"#,
+        "\n",
+        r#"{"name":"b","outcome":"committed","replies":["replaced","replaced"],"script":1,"since":1}"#,
+        "\n"
+    ),
+    model: model!(
+        r#"{"x":{"attributes":{"n":1},"type":"LandUse"},"y":{"attributes":{"n":1},"type":"LandUse"}}"#,
+        "[]"
+    ),
+};
+
+pub const UNDONE_WRITES: Run = Run {
+    shows: "nobody reads what an abort undoes",
+    document: model!(r#"{"x":{"type":"LandUse"}}"#, "[]"),
+    scripts: concat!(
+        r#"[{"name":"a","commands":[{"delete":"x"},{"put":"y","object":{"type":"Road"}},"abort"]},"#,
+        r#"{"name":"b","commands":[{"read":"y"},{"read":"x"},"commit"]}]"#
+    ),
+    report: concat!(
+        r#"{"name":"a","outcome":"aborted","replies":["deleted","added"],"script":0,"since":0}"#,
+        "\n",
+        r#"{"name":"b","outcome":"committed","replies":["absent",{"found":{"object":{"type":"LandUse"},"vertices":[]}}],"script":1,"since":1}"#,
+        "\n"
+    ),
+    model: model!(r#"{"x":{"type":"LandUse"}}"#, "[]"),
+};
+
+pub const PARENT_AND_CHILD: Run = Run {
+    shows: "a parent goes with its child, or is read and put before",
+    document: model!(
+        r#"{"x":{"children":["y"],"type":"Building"},"y":{"parents":["x"],"type":"BuildingPart"}}"#,
+        "[]"
+    ),
+    scripts: concat!(
+        r#"[{"name":"a","commands":[{"delete":"y"},{"delete":"x"},"commit"]},"#,
+        r#"{"name":"b","commands":[{"read":"y"},"#,
+        r#"{"put":"x","object":{"type":"Building","attributes":{"n":1}}},"commit"]}]"#
+    ),
+    report: concat!(
+        r#"{"name":"a","outcome":"committed","replies":["deleted","deleted"],"script":0,"since":0}"#,
+        "\n",
+        r#"{"name":"b","outcome":"committed","replies":["absent","added"],"script":1,"since":1}"#,
+        "\n"
+    ),
+    model: model!(r#"{"x":{"attributes":{"n":1},"type":"Building"}}"#, "[]"),
+};

@@ -128,10 +128,7 @@ fn act(core: &mut Core, alloc: Global, stamp: u64, command: &Command) -> Result<
 }
 
 /// The ids that a change sets and takes out.
-pub fn change_text(
-    alloc: Global,
-    change: &[(Text, Option<Object>)],
-) -> Result<String, AllocError> {
+pub fn change_text(alloc: Global, change: &[(Text, Option<Object>)]) -> Result<String, AllocError> {
     let mut all = "committed".to_string(alloc)?;
     for (id, object) in change {
         all.push_str(if object.is_some() { " +" } else { " -" })?;
@@ -211,14 +208,24 @@ fn misplayed(core: &mut Core, alloc: Global, turns: &[Turn]) -> Result<Option<St
     Ok(None)
 }
 
+fn open_text(alloc: Global) -> Result<String, Fail> {
+    Ok("a transaction is open".to_string(alloc)?)
+}
+
+/// The objects of the city that a core leaves.
+fn left(core: Core, alloc: Global) -> Result<String, Fail> {
+    match core.into_city() {
+        Ok(city) => outline(alloc, &city),
+        Err(_) => open_text(alloc),
+    }
+}
+
 /// The city that the turns leave, or the first turn that isn't answered as wanted.
 pub fn played(alloc: Global, rows: &[Row], turns: &[Turn]) -> Result<String, Fail> {
     let mut core = core_over(alloc, rows)?;
-    if let Some(wrong) = misplayed(&mut core, alloc, turns)? {
-        return Ok(wrong);
-    }
-    match core.into_city() {
-        Ok(city) => outline(alloc, &city),
-        Err(_) => Ok("a transaction is open".to_string(alloc)?),
+    match misplayed(&mut core, alloc, turns) {
+        Ok(None) => left(core, alloc),
+        Ok(Some(wrong)) => Ok(wrong),
+        Err(fail) => Err(fail),
     }
 }
