@@ -1,175 +1,353 @@
-//! Scripts that take turns at a desk: each turn with its answer, and then the report and the model.
+//! Scripts that take turns at a desk: each turn with its answer, and then the report and the model,
+//! which are those of the scripts played one at a time.
+use crate::replay::replayed;
+use crate::runs::{
+    ABORTED, CHILD_OF_TWO, COMMIT_AND_ABORT, NOTHING_TO_DO, ORPHAN, READ_TWICE, REFUSED, Run,
+    TWO_READERS, TWO_WRITERS, UNLIKE_ENDS,
+};
+use crate::turns::change_text;
 use city_desk::desk::Desk;
 use city_desk::shelf::ListShelf;
+use city_desk::turn::Turn;
 use city_doc::read::read_city;
-use city_doc::report::write_report;
 use city_doc::scripts::read_scripts;
-use city_doc::write::write_city;
-use std::alloc::Global;
+use city_model::city::City;
+use city_model::end::End;
+use std::alloc::{AllocError, Global};
+use std::fmt::Write;
+use std::sync::Wait;
 use std::test::Fail;
 
-/// A desk over the city of a document, with the scripts of a text.
-fn opened(alloc: Global, document: &str, scripts: &str) -> Result<Desk<ListShelf>, Fail> {
-    let city = read_city(alloc, document.as_bytes())?;
-    let scripts = read_scripts(alloc, scripts.as_bytes())?;
-    Ok(Desk::open(alloc, city, scripts, ListShelf::new(alloc))?)
+/// A desk over the city of the run's document, with the run's scripts.
+pub fn opened(alloc: Global, run: &Run) -> Option<Desk<ListShelf>> {
+    let Ok(city) = read_city(alloc, run.document.as_bytes()) else {
+        return None;
+    };
+    let Ok(scripts) = read_scripts(alloc, run.scripts.as_bytes()) else {
+        return None;
+    };
+    Desk::open(alloc, city, scripts, ListShelf::new(alloc)).ok()
 }
 
-/// What the turn of script n answers, as `0 Began`. No turn waits that was said to be ready.
-fn turn(desk: &mut Desk<ListShelf>, alloc: Global, n: usize) -> Result<String, Fail> {
+/// The turn of script n, if there is one; none either where it waits though it was said to be ready.
+pub fn turn(desk: &mut Desk<ListShelf>, n: usize) -> Option<Turn> {
     if n >= desk.scripts() {
-        return Err(Fail::new("no such script"));
+        return None;
     }
     let was_ready = desk.ready() == Some(n);
-    let answer = format!(in alloc; "{n} {:?}", desk.turn(n))?;
-    if was_ready && answer.as_str().ends_with("Waits") {
-        return Err(Fail::new("a ready script waits"));
+    let answer = desk.turn(n);
+    if was_ready && answer == Turn::Waits {
+        return None;
     }
-    Ok(answer)
+    Some(answer)
 }
 
-/// Takes the turns that are listed, as `0 Began, 1 Waits`: whether each has this answer.
-fn are_taken(desk: &mut Desk<ListShelf>, alloc: Global, turns: &str) -> Result<bool, Fail> {
-    for wanted in turns.split(", ") {
-        let n = match wanted.split_once(' ') {
-            Some((number, _)) => number.parse::<usize>()?,
-            None => return Err(Fail::new("no turn")),
-        };
-        if turn(desk, alloc, n)?.as_str() != wanted {
-            return Ok(false);
+/// The turn that is written so, as `0 Began`, with its answer.
+fn answered(desk: &mut Desk<ListShelf>, alloc: Global, written: &str) -> Option<String> {
+    let (number, _) = written.split_once(' ')?;
+    let answer = turn(desk, number.parse::<usize>().ok()?)?;
+    format!(in alloc; "{number} {answer:?}").ok()
+}
+
+/// Takes the first of the turns that are listed, as `0 Began, 1 Waits`: whether each is answered so.
+fn are_taken(desk: &mut Desk<ListShelf>, alloc: Global, turns: &str, count: usize) -> bool {
+    for wanted in turns.split(", ").take(count) {
+        if !answered(desk, alloc, wanted).is_some_and(|answer| answer.as_str() == wanted) {
+            return false;
         }
     }
-    Ok(true)
+    true
 }
 
-/// The report and the model that a desk leaves, once all scripts have ended.
-fn left(desk: Desk<ListShelf>, alloc: Global) -> Result<Vec<u8>, Fail> {
-    let mut text = write_report(alloc, desk.ends())?;
-    let Ok(finished) = desk.finish() else {
-        return Err(Fail::new("unfinished"));
-    };
-    let model = write_city(alloc, &finished.city)?;
-    text.extend_from_slice(model.as_slice())?;
-    Ok(text)
+/// What a desk leaves: its report, its model, and what each change on its shelf sets and takes out.
+fn told(alloc: Global, run: &Run, city: &City, ends: &[End], shelf: &ListShelf) -> Option<String> {
+    let mut text = replayed(alloc, run, city, ends)?;
+    for change in shelf.changes() {
+        let change = change_text(alloc, change.as_slice()).ok()?;
+        writeln!(text, "{change}").ok()?;
+    }
+    Some(text)
 }
 
-/// Whether the scripts get these answers turn by turn, and leave this report and this model.
-fn is_played(alloc: Global, row: &Row) -> Result<bool, Fail> {
-    let mut desk = opened(alloc, row.document, row.scripts)?;
-    let taken = are_taken(&mut desk, alloc, row.turns)?;
-    let text = left(desk, alloc)?;
-    Ok(taken && text.as_slice() == row.left.as_bytes())
+/// What a desk leaves that is closed.
+fn left_closed(desk: Desk<ListShelf>, alloc: Global, run: &Run) -> Option<String> {
+    let (city, ends, shelf) = desk.close();
+    told(alloc, run, &city, ends.as_slice(), &shelf)
 }
 
-/// A document, scripts, their turns, and the report and the model that they leave.
+/// What a desk leaves whose scripts have ended; none where one hasn't.
+pub fn left_finished(desk: Desk<ListShelf>, alloc: Global, run: &Run) -> Option<String> {
+    match desk.finish() {
+        Ok(left) => told(alloc, run, &left.city, left.ends.as_slice(), &left.shelf),
+        Err(_) => None,
+    }
+}
+
+/// A run whose scripts take these turns, and leave this report, the run's model and these changes.
 #[derive(Clone, Copy)]
-struct Row {
-    name: &'static str,
-    document: &'static str,
-    scripts: &'static str,
+struct Schedule {
+    run: Run,
     turns: &'static str,
-    left: &'static str,
+    report: &'static str,
+    changes: &'static str,
 }
 
-const ROWS: [Row; 5] = [
-    Row {
-        name: "a delete waits for an attached sibling",
-        document: r#"{"CityObjects":{"b1":{"children":["p"],"type":"Building"},"b2":{"children":["p"],"type":"Building"},"p":{"parents":["b1","b2"],"type":"BuildingPart"}},"transform":{"scale":[1,1,1],"translate":[0,0,0]},"type":"CityJSON","version":"2.0","vertices":[]}"#,
-        scripts: r#"[{"name":"a","commands":[{"delete":"p"},"commit"]},{"name":"b","commands":[{"put":"q","object":{"type":"BuildingPart"}},{"attach":"q","parent":"b2"},"commit"]}]"#,
-        turns: "0 Began, 1 Began, 1 Replied, 1 Replied, 0 Waits, 1 Ended, 0 Replied, 0 Ended",
-        left: concat!(
-            r#"{"name":"b","outcome":"committed","replies":["added","attached"],"script":1,"since":0}"#,
-            "\n",
-            r#"{"name":"a","outcome":"committed","replies":["deleted"],"script":0,"since":0}"#,
-            "\n",
-            r#"{"CityObjects":{"b1":{"type":"Building"},"b2":{"children":["q"],"type":"Building"},"q":{"parents":["b2"],"type":"BuildingPart"}},"transform":{"scale":[1,1,1],"translate":[0,0,0]},"type":"CityJSON","version":"2.0","vertices":[]}"#
-        ),
-    },
-    Row {
-        name: "write skew is undone",
-        document: r#"{"CityObjects":{"x":{"type":"LandUse"},"y":{"type":"LandUse"}},"transform":{"scale":[1,1,1],"translate":[0,0,0]},"type":"CityJSON","version":"2.0","vertices":[]}"#,
-        scripts: r#"[{"name":"a","commands":[{"read":"y"},{"put":"x","object":{"type":"LandUse","attributes":{"by":"a"}}},"commit"]},{"name":"b","commands":[{"read":"x"},{"put":"y","object":{"type":"LandUse","attributes":{"by":"b"}}},"commit"]}]"#,
-        turns: "0 Began, 1 Began, 0 Replied, 1 Replied, 0 Waits, 1 Died, 0 Replied, 1 Began, 0 Ended, 1 Replied, 1 Replied, 1 Ended",
-        left: concat!(
-            r#"{"name":"a","outcome":"committed","replies":[{"found":{"object":{"type":"LandUse"},"vertices":[]}},"replaced"],"script":0,"since":0}"#,
-            "\n",
-            r#"{"name":"b","outcome":"committed","replies":[{"found":{"object":{"attributes":{"by":"a"},"type":"LandUse"},"vertices":[]}},"replaced"],"script":1,"since":0}"#,
-            "\n",
-            r#"{"CityObjects":{"x":{"attributes":{"by":"a"},"type":"LandUse"},"y":{"attributes":{"by":"b"},"type":"LandUse"}},"transform":{"scale":[1,1,1],"translate":[0,0,0]},"type":"CityJSON","version":"2.0","vertices":[]}"#
-        ),
-    },
-    Row {
-        name: "a read of nothing is repeated",
-        document: r#"{"CityObjects":{},"transform":{"scale":[1,1,1],"translate":[0,0,0]},"type":"CityJSON","version":"2.0","vertices":[]}"#,
-        scripts: r#"[{"name":"a","commands":[{"read":"h"},{"read":"h"},"commit"]},{"name":"b","commands":[{"put":"h","object":{"type":"Road"}},"commit"]}]"#,
-        turns: "0 Began, 1 Began, 0 Replied, 1 Died, 0 Replied, 0 Ended, 1 Began, 1 Replied, 1 Ended",
-        left: concat!(
-            r#"{"name":"a","outcome":"committed","replies":["absent","absent"],"script":0,"since":0}"#,
-            "\n",
-            r#"{"name":"b","outcome":"committed","replies":["added"],"script":1,"since":1}"#,
-            "\n",
-            r#"{"CityObjects":{"h":{"type":"Road"}},"transform":{"scale":[1,1,1],"translate":[0,0,0]},"type":"CityJSON","version":"2.0","vertices":[]}"#
-        ),
-    },
-    Row {
-        name: "no update is lost",
-        document: r#"{"CityObjects":{"x":{"type":"LandUse"}},"transform":{"scale":[1,1,1],"translate":[0,0,0]},"type":"CityJSON","version":"2.0","vertices":[]}"#,
-        scripts: r#"[{"name":"a","commands":[{"read":"x"},{"put":"x","object":{"type":"LandUse","attributes":{"n":0}}},"commit"]},{"name":"b","commands":[{"read":"x"},{"put":"x","object":{"type":"LandUse","attributes":{"n":1}}},"commit"]}]"#,
-        turns: "0 Began, 1 Began, 0 Replied, 1 Replied, 0 Waits, 1 Died, 0 Replied, 0 Ended, 1 Began, 1 Replied, 1 Replied, 1 Ended",
-        left: concat!(
-            r#"{"name":"a","outcome":"committed","replies":[{"found":{"object":{"type":"LandUse"},"vertices":[]}},"replaced"],"script":0,"since":0}"#,
-            "\n",
-            r#"{"name":"b","outcome":"committed","replies":[{"found":{"object":{"attributes":{"n":0},"type":"LandUse"},"vertices":[]}},"replaced"],"script":1,"since":1}"#,
-            "\n",
-            r#"{"CityObjects":{"x":{"attributes":{"n":1},"type":"LandUse"}},"transform":{"scale":[1,1,1],"translate":[0,0,0]},"type":"CityJSON","version":"2.0","vertices":[]}"#
-        ),
-    },
-    Row {
-        name: "an orphan ends its script and leaves nothing",
-        document: r#"{"CityObjects":{"b":{"type":"Building"}},"transform":{"scale":[1,1,1],"translate":[0,0,0]},"type":"CityJSON","version":"2.0","vertices":[]}"#,
-        scripts: r#"[{"name":"a","commands":[{"put":"p","object":{"type":"BuildingPart"}},"commit"]},{"name":"b","commands":[{"delete":"z"},"commit"]},{"name":"c","commands":[{"put":"b","object":{"type":"Building","attributes":{"n":1}}},"abort"]}]"#,
-        turns: "2 Began, 0 Began, 0 Replied, 2 Replied, 0 Ended, 1 Began, 1 Ended, 2 Ended, 0 AlreadyEnded",
-        left: concat!(
-            r#"{"at":1,"cause":"Orphan","id":"p","name":"a","outcome":"refused","replies":["added"],"script":0,"since":0}"#,
-            "\n",
-            r#"{"at":0,"cause":"NoObject","id":"z","name":"b","outcome":"refused","replies":[],"script":1,"since":1}"#,
-            "\n",
-            r#"{"name":"c","outcome":"aborted","replies":["replaced"],"script":2,"since":0}"#,
-            "\n",
-            r#"{"CityObjects":{"b":{"type":"Building"}},"transform":{"scale":[1,1,1],"translate":[0,0,0]},"type":"CityJSON","version":"2.0","vertices":[]}"#
-        ),
-    },
+/// A delete waits for an attached sibling.
+const SIBLING: Schedule = Schedule {
+    run: CHILD_OF_TWO,
+    turns: "0 Began, 1 Began, 1 Replied, 1 Replied, 0 Waits, 1 Ended, 0 Replied, 0 Ended",
+    report: concat!(
+        r#"{"name":"b","outcome":"committed","replies":["added","attached"],"script":1,"since":0}"#,
+        "\n",
+        r#"{"name":"a","outcome":"committed","replies":["deleted"],"script":0,"since":0}"#,
+        "\n"
+    ),
+    changes: "committed +b2 +q\ncommitted +b1 +b2 -p\n",
+};
+
+/// Write skew is undone.
+const SKEW: Schedule = Schedule {
+    run: TWO_READERS,
+    turns: "0 Began, 1 Began, 0 Replied, 1 Replied, 0 Waits, 1 Died, 0 Replied, 1 Began, 0 Ended, 1 Replied, 1 Replied, 1 Ended",
+    report: concat!(
+        r#"{"name":"a","outcome":"committed","replies":[{"found":{"object":{"type":"LandUse"},"vertices":[]}},"replaced"],"script":0,"since":0}"#,
+        "\n",
+        r#"{"name":"b","outcome":"committed","replies":[{"found":{"object":{"attributes":{"by":"a"},"type":"LandUse"},"vertices":[]}},"replaced"],"script":1,"since":0}"#,
+        "\n"
+    ),
+    changes: "committed +x\ncommitted +y\n",
+};
+
+/// A read of nothing is repeated.
+const UNBORN: Schedule = Schedule {
+    run: READ_TWICE,
+    turns: "0 Began, 1 Began, 0 Replied, 1 Died, 0 Replied, 0 Ended, 1 Began, 1 Replied, 1 Ended",
+    report: concat!(
+        r#"{"name":"a","outcome":"committed","replies":["absent","absent"],"script":0,"since":0}"#,
+        "\n",
+        r#"{"name":"b","outcome":"committed","replies":["added"],"script":1,"since":1}"#,
+        "\n"
+    ),
+    changes: "committed\ncommitted +h\n",
+};
+
+/// No update is lost.
+const UPDATES: Schedule = Schedule {
+    run: TWO_WRITERS,
+    turns: "0 Began, 1 Began, 0 Replied, 1 Replied, 0 Waits, 1 Died, 0 Replied, 0 Ended, 1 Began, 1 Replied, 1 Replied, 1 Ended",
+    report: concat!(
+        r#"{"name":"a","outcome":"committed","replies":[{"found":{"object":{"type":"LandUse"},"vertices":[]}},"replaced"],"script":0,"since":0}"#,
+        "\n",
+        r#"{"name":"b","outcome":"committed","replies":[{"found":{"object":{"attributes":{"n":0},"type":"LandUse"},"vertices":[]}},"replaced"],"script":1,"since":1}"#,
+        "\n"
+    ),
+    changes: "committed +x\ncommitted +x\n",
+};
+
+/// An end stays.
+const UNLIKE: Schedule = Schedule {
+    run: UNLIKE_ENDS,
+    turns: "2 Began, 0 Began, 0 Replied, 2 Replied, 0 Ended, 1 Began, 1 Ended, 2 Ended, 0 AlreadyEnded",
+    report: concat!(
+        r#"{"at":1,"cause":"Orphan","id":"p","name":"a","outcome":"refused","replies":["added"],"script":0,"since":0}"#,
+        "\n",
+        r#"{"at":0,"cause":"NoObject","id":"z","name":"b","outcome":"refused","replies":[],"script":1,"since":1}"#,
+        "\n",
+        r#"{"name":"c","outcome":"aborted","replies":["replaced"],"script":2,"since":0}"#,
+        "\n"
+    ),
+    changes: "",
+};
+
+const SCHEDULES: [Schedule; 5] = [SIBLING, SKEW, UNBORN, UPDATES, UNLIKE];
+
+/// Runs whose scripts take their turns one after the other, and the changes that they leave.
+const IN_ORDER: [(Run, &str, &str); 3] = [
+    (
+        ABORTED,
+        "0 Began, 0 Replied, 0 Replied, 0 Replied, 0 Replied, 0 Ended",
+        "",
+    ),
+    (
+        ORPHAN,
+        "0 Began, 0 Replied, 0 Ended, 1 Began, 1 Replied, 1 Replied, 1 Ended",
+        "committed +b +p\n",
+    ),
+    (
+        REFUSED,
+        "0 Began, 0 Ended, 1 Began, 1 Ended, 2 Began, 2 Ended, 3 Began, 3 Ended, 4 Began, 4 Ended, 5 Began, 5 Ended, 6 Began, 6 Ended, 7 Began, 7 Ended, 8 Began, 8 Replied, 8 Ended",
+        "",
+    ),
 ];
+
+/// What the first of the turns leave, where they finish the desk.
+fn played(alloc: Global, run: &Run, turns: &str, count: usize) -> Option<String> {
+    let Some(mut desk) = opened(alloc, run) else {
+        return None;
+    };
+    let taken = are_taken(&mut desk, alloc, turns, count);
+    let left = left_finished(desk, alloc, run);
+    if taken { left } else { None }
+}
+
+/// What the first of the turns leave, where the desk is closed after them.
+fn stopped(alloc: Global, run: &Run, turns: &str, count: usize) -> Option<String> {
+    let Some(mut desk) = opened(alloc, run) else {
+        return None;
+    };
+    let taken = are_taken(&mut desk, alloc, turns, count);
+    let left = left_closed(desk, alloc, run);
+    if taken { left } else { None }
+}
+
+/// A report, the text of a model and a newline, and then changes.
+fn wanted(alloc: Global, report: &str, model: &str, changes: &str) -> Result<String, AllocError> {
+    format!(in alloc; "{report}{model}\n{changes}")
+}
 
 #[test]
 fn turns_are_answered_and_leave_a_serial_history(rt: HostRuntime) -> Result<(), Fail> {
-    for row in &ROWS {
-        let played = is_played(rt.alloc(), row)?;
-        assert!(rt; played, "{}", row.name);
+    let alloc = rt.alloc();
+    for schedule in &SCHEDULES {
+        let (run, report) = (&schedule.run, schedule.report);
+        let left = played(alloc, run, schedule.turns, usize::MAX).ok_or(run.shows)?;
+        let wanted = wanted(alloc, report, run.model, schedule.changes)?;
+        assert_eq!(rt; left.as_str(), wanted.as_str(), "{}", run.shows);
     }
     Ok(())
 }
 
-const NO_OBJECTS: &str =
-    r#"{"CityObjects":{},"transform":{"scale":[1,1,1],"translate":[0,0,0]},"type":"CityJSON","version":"2.0","vertices":[]}"#;
+#[test]
+fn scripts_in_their_order_leave_what_a_serial_run_does(rt: HostRuntime) -> Result<(), Fail> {
+    let alloc = rt.alloc();
+    for (run, turns, changes) in &IN_ORDER {
+        let left = played(alloc, run, turns, usize::MAX).ok_or(run.shows)?;
+        let wanted = wanted(alloc, run.report, run.model, changes)?;
+        assert_eq!(rt; left.as_str(), wanted.as_str(), "{}", run.shows);
+    }
+    Ok(())
+}
+
+/// Whether what a stop leaves is a serial history, after none of the turns, after one of them, ..
+fn are_stopped(alloc: Global, run: &Run, turns: &str) -> bool {
+    (0..=turns.split(", ").count()).all(|count| stopped(alloc, run, turns, count).is_some())
+}
 
 #[test]
-fn scripts_are_handed_out_once_and_finish_waits_for_all(rt: HostRuntime) -> Result<(), Fail> {
-    let scripts = r#"[{"name":"a","commands":["commit"]},{"name":"b","commands":["abort"]}]"#;
-    let mut desk = opened(rt.alloc(), NO_OBJECTS, scripts)?;
-    assert!(rt; desk.take() == Some(0) && desk.take() == Some(1) && desk.take().is_none());
-    assert!(rt; desk.ready().is_some());
-    let Err(mut desk) = desk.finish() else {
-        return Err(Fail::new("finished before any turn"));
+fn a_stop_after_any_turn_leaves_a_serial_history(rt: HostRuntime) {
+    for schedule in &SCHEDULES {
+        let run = &schedule.run;
+        assert!(rt;
+            are_stopped(rt.alloc(), run, schedule.turns),
+            "{}",
+            run.shows
+        );
+    }
+}
+
+/// Numbers of turns, and the report, the model and the changes that a stop leaves after so many.
+const SKEW_STOPPED: [(usize, usize, &str, &str, &str); 2] = [
+    (
+        0,
+        8,
+        "",
+        model!(r#"{"x":{"type":"LandUse"},"y":{"type":"LandUse"}}"#, "[]"),
+        "",
+    ),
+    (
+        9,
+        11,
+        concat!(
+            r#"{"name":"a","outcome":"committed","replies":[{"found":{"object":{"type":"LandUse"},"vertices":[]}},"replaced"],"script":0,"since":0}"#,
+            "\n"
+        ),
+        model!(
+            r#"{"x":{"attributes":{"by":"a"},"type":"LandUse"},"y":{"type":"LandUse"}}"#,
+            "[]"
+        ),
+        "committed +x\n",
+    ),
+];
+
+#[test]
+fn a_stop_leaves_nothing_of_open_transactions(rt: HostRuntime) -> Result<(), Fail> {
+    let alloc = rt.alloc();
+    for (first, last, report, model, changes) in &SKEW_STOPPED {
+        let wanted = wanted(alloc, report, model, changes)?;
+        for count in *first..=*last {
+            let left = stopped(alloc, &SKEW.run, SKEW.turns, count).ok_or("not stopped")?;
+            assert_eq!(rt; left.as_str(), wanted.as_str(), "after {count} turns");
+        }
+    }
+    Ok(())
+}
+
+/// The desk, handed back by `finish`; none where its scripts have ended.
+fn handed_back(desk: Desk<ListShelf>) -> Option<Desk<ListShelf>> {
+    match desk.finish() {
+        Ok(_) => None,
+        Err(desk) => Some(desk),
+    }
+}
+
+/// Whether these are the first eleven answers of the skewed run, and script 1 is ready after five,
+/// where script 0 waits for it.
+fn are_eleven_taken(desk: &mut Desk<ListShelf>, alloc: Global) -> bool {
+    let five = "0 Began, 1 Began, 0 Replied, 1 Replied, 0 Waits";
+    let six = "1 Died, 0 Replied, 1 Began, 0 Ended, 1 Replied, 1 Replied";
+    are_taken(desk, alloc, five, 5) && desk.ready() == Some(1) && are_taken(desk, alloc, six, 6)
+}
+
+/// Whether `finish` hands the desk back after eleven of the twelve turns, and the twelfth ends it.
+fn is_finished_late(alloc: Global) -> bool {
+    let Some(mut desk) = opened(alloc, &TWO_READERS) else {
+        return false;
     };
-    assert!(rt; are_taken(&mut desk, rt.alloc(), "0 Began, 1 Began, 1 Ended, 0 Ended")?);
-    assert!(rt; desk.ready().is_none() && desk.finish().is_ok());
+    let eleven = are_eleven_taken(&mut desk, alloc);
+    let Some(mut desk) = handed_back(desk) else {
+        return false;
+    };
+    let last = turn(&mut desk, 1) == Some(Turn::Ended) && desk.ready().is_none();
+    eleven && last && desk.finish().is_ok()
+}
+
+#[test]
+fn finish_hands_the_desk_back_before_the_last_end(rt: HostRuntime) {
+    assert!(rt; is_finished_late(rt.alloc()));
+}
+
+/// The scripts that a new desk of the run hands out, whether its shelf is shown, and whether a script
+/// is ready.
+fn handed_out(rt: &impl Wait, alloc: Global, run: &Run) -> Option<String> {
+    let Some(mut desk) = opened(alloc, run) else {
+        return None;
+    };
+    handed_out_by(rt, alloc, &mut desk)
+}
+
+fn handed_out_by(rt: &impl Wait, alloc: Global, desk: &mut Desk<ListShelf>) -> Option<String> {
+    let (first, second, third) = (desk.take(), desk.take(), desk.take());
+    let (shown, ready) = (desk.show(rt).is_ok(), desk.ready().is_some());
+    format!(in alloc; "{first:?} {second:?} {third:?}, shown {shown}, ready {ready}").ok()
+}
+
+#[test]
+fn scripts_are_handed_out_once(rt: HostRuntime) -> Result<(), Fail> {
+    let two = handed_out(&rt, rt.alloc(), &COMMIT_AND_ABORT).ok_or("not handed out")?;
+    assert_eq!(rt;
+        two.as_str(),
+        "Some(0) Some(1) None, shown true, ready true"
+    );
+    let none = handed_out(&rt, rt.alloc(), &NOTHING_TO_DO).ok_or("not handed out")?;
+    assert_eq!(rt; none.as_str(), "None None None, shown true, ready false");
     Ok(())
 }
 
 #[test]
-fn a_desk_without_scripts_is_finished(rt: HostRuntime) -> Result<(), Fail> {
-    let desk = opened(rt.alloc(), NO_OBJECTS, "[]")?;
-    assert!(rt; desk.ready().is_none() && desk.ends().is_empty() && desk.finish().is_ok());
+fn a_desk_is_finished_at_once_without_scripts_alone(rt: HostRuntime) -> Result<(), Fail> {
+    let left = played(rt.alloc(), &NOTHING_TO_DO, "", 0).ok_or("not finished")?;
+    let wanted = wanted(rt.alloc(), "", NOTHING_TO_DO.model, "")?;
+    assert_eq!(rt; left.as_str(), wanted.as_str());
+    assert!(rt; played(rt.alloc(), &COMMIT_AND_ABORT, "", 0).is_none());
     Ok(())
 }

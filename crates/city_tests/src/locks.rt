@@ -1,116 +1,149 @@
 //! What askers for locks are answered, and what is held then.
 use crate::samples::text;
-use city_locks::answer::Answer;
 use city_locks::mode::Mode;
 use city_locks::table::LockTable;
 use city_model::text::Text;
+use std::alloc::Global;
 use std::test::Fail;
 
-/// A stamp, the mode that it asks for, and its answer.
-type Asked = (u64, Mode, Answer);
+/// A stamp, what it does with the lock of which id, and the answer.
+///
+/// It asks to `share` the id or to have it `alone`, `holds` it in a mode, or gives back all its locks.
+type Step = (u64, &'static str, &'static str, &'static str);
 
-/// The first stamp that isn't foretold and answered as wanted; `None` where all are.
-fn misanswered(table: &mut LockTable, id: &Text, rows: &[Asked]) -> Result<Option<u64>, Fail> {
-    for (stamp, mode, want) in rows {
-        let foretold = table.would_answer(*stamp, id, *mode);
-        if foretold != *want || table.ask(*stamp, id, *mode)? != *want {
-            return Ok(Some(*stamp));
-        }
+/// What an asker is answered, as it was foretold.
+fn asked(
+    table: &mut LockTable,
+    alloc: Global,
+    stamp: u64,
+    id: &Text,
+    mode: Mode,
+) -> Option<String> {
+    let foretold = table.would_answer(stamp, id, mode);
+    let answer = table.ask(stamp, id, mode).ok()?;
+    if answer == foretold {
+        format!(in alloc; "{answer:?}").ok()
+    } else {
+        None
     }
-    Ok(None)
 }
 
-const MEETING: [Asked; 7] = [
-    (3, Mode::Shared, Answer::Granted),
-    (7, Mode::Shared, Answer::Granted),
-    (5, Mode::Exclusive, Answer::Die),
-    (2, Mode::Exclusive, Answer::Wait),
-    (7, Mode::Exclusive, Answer::Die),
-    (3, Mode::Exclusive, Answer::Wait),
-    (9, Mode::Shared, Answer::Granted),
+fn answer(table: &mut LockTable, alloc: Global, step: &Step) -> Option<String> {
+    let (stamp, does, id, _) = *step;
+    let id = text(alloc, id).ok()?;
+    if does == "share" {
+        return asked(table, alloc, stamp, &id, Mode::Shared);
+    }
+    if does == "alone" {
+        return asked(table, alloc, stamp, &id, Mode::Exclusive);
+    }
+    if does == "release" {
+        table.release_all(stamp);
+        return "".to_string(alloc).ok();
+    }
+    match table.mode(stamp, &id) {
+        Some(mode) => format!(in alloc; "{mode:?}").ok(),
+        None => "None".to_string(alloc).ok(),
+    }
+}
+
+/// The number of the first step that isn't answered as wanted, from 0; none where all are.
+fn first_wrong(table: &mut LockTable, alloc: Global, steps: &[Step]) -> Option<usize> {
+    steps.iter().position(|step| {
+        let (_, _, _, wanted) = *step;
+        !answer(table, alloc, step).is_some_and(|answer| answer.as_str() == wanted)
+    })
+}
+
+/// The number of the first step with a new table that isn't answered as wanted.
+fn misanswered(alloc: Global, steps: &[Step]) -> Option<usize> {
+    let mut table = LockTable::new(alloc);
+    first_wrong(&mut table, alloc, steps)
+}
+
+const MEETING: &[Step] = &[
+    (3, "share", "x", "Granted"),
+    (7, "share", "x", "Granted"),
+    (5, "alone", "x", "Die"),
+    (2, "alone", "x", "Wait"),
+    (7, "alone", "x", "Die"),
+    (3, "alone", "x", "Wait"),
+    (9, "share", "x", "Granted"),
+    (3, "holds", "x", "Shared"),
+    (7, "holds", "x", "Shared"),
+    (5, "holds", "x", "None"),
+    (2, "holds", "x", "None"),
+    (9, "holds", "x", "Shared"),
 ];
 
 #[test]
-fn the_asker_waits_only_where_it_is_older_than_all_in_conflict(
-    rt: HostRuntime,
-) -> Result<(), Fail> {
-    let x = text(rt.alloc(), "x")?;
-    let mut table = LockTable::new(rt.alloc());
-    assert_eq!(rt; misanswered(&mut table, &x, &MEETING)?, None);
-    assert_eq!(rt; table.mode(3, &x), Some(Mode::Shared));
-    assert_eq!(rt; table.mode(7, &x), Some(Mode::Shared));
-    assert_eq!(rt; table.mode(5, &x), None);
-    assert_eq!(rt; table.mode(2, &x), None);
-    assert_eq!(rt; table.mode(9, &x), Some(Mode::Shared));
-    Ok(())
+fn the_asker_waits_only_where_it_is_older_than_all_in_conflict(rt: HostRuntime) {
+    assert_eq!(rt; misanswered(rt.alloc(), MEETING), None);
 }
 
-const STRONGER: [Asked; 5] = [
-    (4, Mode::Shared, Answer::Granted),
-    (4, Mode::Exclusive, Answer::Granted),
-    (4, Mode::Shared, Answer::Granted),
-    (2, Mode::Shared, Answer::Wait),
-    (6, Mode::Shared, Answer::Die),
+const STRONGER: &[Step] = &[
+    (4, "share", "x", "Granted"),
+    (4, "alone", "x", "Granted"),
+    (4, "share", "x", "Granted"),
+    (4, "holds", "x", "Exclusive"),
+    (2, "share", "x", "Wait"),
+    (6, "share", "x", "Die"),
+    (4, "release", "", ""),
+    (4, "holds", "x", "None"),
+    (6, "share", "x", "Granted"),
+    (9, "release", "", ""),
+    (6, "holds", "x", "Shared"),
 ];
 
 #[test]
-fn the_stronger_mode_is_kept_until_the_release(rt: HostRuntime) -> Result<(), Fail> {
-    let x = text(rt.alloc(), "x")?;
-    let mut table = LockTable::new(rt.alloc());
-    assert_eq!(rt; misanswered(&mut table, &x, &STRONGER)?, None);
-    assert_eq!(rt; table.mode(4, &x), Some(Mode::Exclusive));
-    table.release_all(4);
-    assert_eq!(rt; table.mode(4, &x), None);
-    assert_eq!(rt; table.ask(6, &x, Mode::Shared)?, Answer::Granted);
-    table.release_all(9);
-    assert_eq!(rt; table.mode(6, &x), Some(Mode::Shared));
-    Ok(())
+fn the_stronger_mode_is_kept_until_the_release(rt: HostRuntime) {
+    assert_eq!(rt; misanswered(rt.alloc(), STRONGER), None);
 }
 
-const READERS: [Asked; 2] = [
-    (1, Mode::Shared, Answer::Granted),
-    (2, Mode::Shared, Answer::Granted),
+const READERS: &[Step] = &[
+    (1, "share", "x", "Granted"),
+    (2, "share", "x", "Granted"),
+    (1, "alone", "y", "Granted"),
+    (1, "release", "", ""),
+    (1, "holds", "x", "None"),
+    (1, "holds", "y", "None"),
+    (2, "holds", "x", "Shared"),
+    (3, "alone", "y", "Granted"),
 ];
 
 #[test]
-fn a_release_gives_back_all_ids_of_its_stamp_alone(rt: HostRuntime) -> Result<(), Fail> {
-    let (x, y) = (text(rt.alloc(), "x")?, text(rt.alloc(), "y")?);
-    let mut table = LockTable::new(rt.alloc());
-    assert_eq!(rt; misanswered(&mut table, &x, &READERS)?, None);
-    assert_eq!(rt; table.ask(1, &y, Mode::Exclusive)?, Answer::Granted);
-    table.release_all(1);
-    assert_eq!(rt; table.mode(1, &x), None);
-    assert_eq!(rt; table.mode(1, &y), None);
-    assert_eq!(rt; table.mode(2, &x), Some(Mode::Shared));
-    assert_eq!(rt; table.ask(3, &y, Mode::Exclusive)?, Answer::Granted);
-    Ok(())
+fn a_release_gives_back_all_ids_of_its_stamp_alone(rt: HostRuntime) {
+    assert_eq!(rt; misanswered(rt.alloc(), READERS), None);
 }
 
 /// Whether the mode is held once it was asked for: a refused ask left nothing behind then, and
 /// the same ask succeeded when it was asked again.
-fn is_held_at_last(table: &mut LockTable, stamp: u64, id: &Text, mode: Mode) -> Result<bool, Fail> {
+fn is_held_at_last(table: &mut LockTable, stamp: u64, id: &Text, mode: Mode) -> bool {
     let before = table.mode(stamp, id);
     if table.ask(stamp, id, mode).is_err() {
         let unchanged = before.is_none() && table.mode(stamp, id).is_none();
-        if !unchanged || table.ask(stamp, id, mode)? != Answer::Granted {
-            return Ok(false);
+        if !unchanged || table.ask(stamp, id, mode).is_err() {
+            return false;
         }
     }
-    Ok(table.mode(stamp, id) == Some(mode))
+    table.mode(stamp, id) == Some(mode)
+}
+
+/// Whether two stamps hold what they ask for at last, and what one releases is the other's still.
+fn are_held_at_last(table: &mut LockTable, x: &Text, y: &Text) -> bool {
+    let held = is_held_at_last(table, 1, x, Mode::Shared)
+        && is_held_at_last(table, 1, y, Mode::Exclusive)
+        && is_held_at_last(table, 2, x, Mode::Shared)
+        && is_held_at_last(table, 2, x, Mode::Shared);
+    table.release_all(1);
+    let released = table.mode(1, x).is_none() && table.mode(1, y).is_none();
+    held && released && table.mode(2, x) == Some(Mode::Shared)
 }
 
 /// With one allocation refused, wherever it is.
 #[test]
 fn a_refused_growth_leaves_the_table_as_it_was(rt: HostRuntime) -> Result<(), Fail> {
     let (x, y) = (text(rt.alloc(), "x")?, text(rt.alloc(), "y")?);
-    let mut table = LockTable::new(rt.alloc());
-    assert!(rt; is_held_at_last(&mut table, 1, &x, Mode::Shared)?);
-    assert!(rt; is_held_at_last(&mut table, 1, &y, Mode::Exclusive)?);
-    assert!(rt; is_held_at_last(&mut table, 2, &x, Mode::Shared)?);
-    assert!(rt; is_held_at_last(&mut table, 2, &x, Mode::Shared)?);
-    table.release_all(1);
-    assert_eq!(rt; table.mode(1, &x), None);
-    assert_eq!(rt; table.mode(1, &y), None);
-    assert_eq!(rt; table.mode(2, &x), Some(Mode::Shared));
+    assert!(rt; are_held_at_last(&mut LockTable::new(rt.alloc()), &x, &y));
     Ok(())
 }

@@ -1,22 +1,28 @@
 //! Documents that are read, and documents that are refused.
 use crate::samples::document;
+use city_doc::fault::ReadFault;
 use city_doc::read::read_city;
 use city_model::city::City;
-use std::alloc::Global;
+use std::alloc::{AllocError, Global};
 use std::test::Fail;
 
-/// What reading a text answers, in words.
-fn answer(alloc: Global, text: &str) -> Result<String, Fail> {
-    match read_city(alloc, text.as_bytes()) {
-        Ok(city) => Ok(format!(in alloc; "{} objects", city.len())?),
-        Err(fault) => Ok(format!(in alloc; "{fault}")?),
+/// How many objects were read, or why none, in words.
+fn told(alloc: Global, read: &Result<City, ReadFault>) -> Result<String, AllocError> {
+    match read {
+        Ok(city) => format!(in alloc; "{} objects", city.len()),
+        Err(fault) => format!(in alloc; "{fault}"),
     }
+}
+
+/// What reading a text answers, in words.
+fn answer(alloc: Global, text: &str) -> Result<String, AllocError> {
+    told(alloc, &read_city(alloc, text.as_bytes()))
 }
 
 /// What reading a document of these objects and vertices answers.
 fn answer_of(alloc: Global, objects: &str, vertices: &str) -> Result<String, Fail> {
     let text = document(alloc, objects, vertices)?;
-    answer(alloc, text.as_str())
+    Ok(answer(alloc, text.as_str())?)
 }
 
 /// Objects, and what a document of them without vertices answers.

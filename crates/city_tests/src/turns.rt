@@ -12,7 +12,7 @@ use city_model::text::Text;
 use city_txn::step::{Prepared, Step, TxnFault};
 use city_txn::txn_core::Core;
 use serde_json::Value;
-use std::alloc::Global;
+use std::alloc::{AllocError, Global};
 use std::fmt::Write;
 use std::test::Fail;
 
@@ -128,7 +128,7 @@ fn act(core: &mut Core, alloc: Global, stamp: u64, command: &Command) -> Result<
 }
 
 /// The ids that a change sets and takes out.
-fn change_text(alloc: Global, change: &[(Text, Option<Object>)]) -> Result<String, Fail> {
+pub fn change_text(alloc: Global, change: &[(Text, Option<Object>)]) -> Result<String, AllocError> {
     let mut all = "committed".to_string(alloc)?;
     for (id, object) in change {
         all.push_str(if object.is_some() { " +" } else { " -" })?;
@@ -147,7 +147,7 @@ fn commit(core: &mut Core, alloc: Global, stamp: u64) -> Result<String, Fail> {
         Ok(Prepared::Refused(cause)) => cause_text(alloc, &cause),
         Ok(Prepared::Ready(change)) => {
             core.commit(stamp);
-            change_text(alloc, change.as_slice())
+            Ok(change_text(alloc, change.as_slice())?)
         }
     }
 }
@@ -208,14 +208,24 @@ fn misplayed(core: &mut Core, alloc: Global, turns: &[Turn]) -> Result<Option<St
     Ok(None)
 }
 
+fn open_text(alloc: Global) -> Result<String, Fail> {
+    Ok("a transaction is open".to_string(alloc)?)
+}
+
+/// The objects of the city that a core leaves.
+fn left(core: Core, alloc: Global) -> Result<String, Fail> {
+    match core.into_city() {
+        Ok(city) => outline(alloc, &city),
+        Err(_) => open_text(alloc),
+    }
+}
+
 /// The city that the turns leave, or the first turn that isn't answered as wanted.
 pub fn played(alloc: Global, rows: &[Row], turns: &[Turn]) -> Result<String, Fail> {
     let mut core = core_over(alloc, rows)?;
-    if let Some(wrong) = misplayed(&mut core, alloc, turns)? {
-        return Ok(wrong);
-    }
-    match core.into_city() {
-        Ok(city) => outline(alloc, &city),
-        Err(_) => Ok("a transaction is open".to_string(alloc)?),
+    match misplayed(&mut core, alloc, turns) {
+        Ok(None) => left(core, alloc),
+        Ok(Some(wrong)) => Ok(wrong),
+        Err(fail) => Err(fail),
     }
 }

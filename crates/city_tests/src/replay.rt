@@ -1,0 +1,221 @@
+//! The scripts of a list of ends, played one at a time in the order of their ends.
+//!
+//! A script is played by the plans of its commands, on a copy of the city that is kept where the
+//! script commits: no lock, no transaction and no desk has a part in it.
+ghost use Rattle.std.specs.Prelude.{◌≡◌, false, OnOk};
+ghost use Rattle.city_model.specs.CityMap.{at};
+ghost use Rattle.city_model.specs.Relations.{IsSound};
+ghost use Rattle.city_model.specs.Runs.{with_change};
+ghost use Rattle.city_model.specs.Scripts.{is_end};
+
+use crate::runs::{Run, text_of};
+use city_doc::read::read_city;
+use city_doc::report::write_report;
+use city_doc::scripts::read_scripts;
+use city_doc::write::write_city;
+use city_model::OutOfMemory;
+use city_model::change::Change;
+use city_model::city::City;
+use city_model::command::{Cause, Command, Reply};
+use city_model::copied::Copied;
+use city_model::end::{End, Outcome};
+use city_model::orphans::least_orphan;
+use city_model::plan::{Plan, plan_of};
+use city_model::script::{Script, is_end};
+use city_model::sequence::Sequence;
+use std::alloc::Global;
+
+/// Writes a change into the city.
+fn write(city: &mut City, change: Change) -> Result<(), OutOfMemory>
+    ensures { OnOk result (at city.new.1 ≡ with_change (at city.old.1) change) }
+{
+    for (id, object) in change.into_vec() {
+        match object {
+            Some(object) => drop(city.set(id, object)?),
+            None => drop(city.remove(&id)),
+        }
+    }
+    Ok(())
+}
+
+/// The reply to a command that doesn't end its script, which is written into the city.
+fn perform(alloc: Global, city: &mut City, command: &Command) -> Result<Reply, OutOfMemory>
+    requires no_end { is_end command.now ≡ false }
+    requires sound { IsSound (at city.old.1) }
+    ensures { OnOk result (IsSound (at city.new.1)) }
+{
+    match plan_of(alloc, city, command)? {
+        Plan::Refused(cause) => Ok(Reply::Refused(cause)),
+        Plan::Writes(reply, change) => {
+            write(city, change)?;
+            Ok(reply)
+        }
+    }
+}
+
+/// How the command, which is number `number` and ends its script, ends it.
+fn ended(
+    alloc: Global,
+    city: &City,
+    command: &Command,
+    number: usize,
+) -> Result<Outcome, OutOfMemory> {
+    if matches!(command, Command::Abort) {
+        return Ok(Outcome::Aborted);
+    }
+    match least_orphan(city) {
+        None => Ok(Outcome::Committed),
+        Some(id) => Ok(Outcome::Refused(number, Cause::Orphan(id.copy(alloc)?))),
+    }
+}
+
+/// Plays the commands, and gives how they end: where none of them ends the script, for want of
+/// memory at the next one.
+fn play(
+    alloc: Global,
+    city: &mut City,
+    commands: &[Command],
+    replies: &mut Sequence<Reply>,
+) -> Result<Outcome, OutOfMemory>
+    requires { IsSound (at city.old.1) }
+    ensures { OnOk result (IsSound (at city.new.1)) }
+{
+    for (number, command) in commands.iter().enumerate() {
+        if is_end(command) {
+            return ended(alloc, city, command, number);
+        }
+        match perform(alloc, city, command)? {
+            Reply::Refused(cause) => return Ok(Outcome::Refused(number, cause)),
+            reply => replies.push(reply)?,
+        }
+    }
+    Ok(Outcome::NoMemory(commands.len()))
+}
+
+/// The commands of the script that were tried before it ended: all, but for want of memory.
+fn tried<'a>(script: &'a Script, outcome: &Outcome) -> &'a [Command] {
+    let commands = script.commands();
+    match outcome {
+        Outcome::NoMemory(number) if *number <= commands.len() => &commands[..*number],
+        _ => commands,
+    }
+}
+
+/// Plays the commands on a copy of the city, which is kept where they commit.
+fn play_on_copy(
+    alloc: Global,
+    city: &mut City,
+    commands: &[Command],
+    replies: &mut Sequence<Reply>,
+) -> Result<Outcome, OutOfMemory>
+    requires { IsSound (at city.old.1) }
+    ensures { IsSound (at city.new.1) }
+{
+    let mut copy = city.copy(alloc)?;
+    match play(alloc, &mut copy, commands, replies) {
+        Ok(Outcome::Committed) => {
+            *city = copy;
+            Ok(Outcome::Committed)
+        }
+        other => other,
+    }
+}
+
+/// The end of the script of this end when it is played on the city, which changes where the script
+/// commits; none where there is no such script, or no memory.
+fn end_again(alloc: Global, city: &mut City, scripts: &[Script], end: &End) -> Option<End>
+    requires { IsSound (at city.old.1) }
+    ensures { IsSound (at city.new.1) }
+{
+    let script = scripts.get(end.script)?;
+    let name = script.name().copy(alloc).ok()?;
+    let commands = tried(script, &end.outcome);
+    let mut replies = Sequence::new(alloc);
+    let outcome = play_on_copy(alloc, city, commands, &mut replies).ok()?;
+    Some(End {
+        script: end.script,
+        name,
+        since: end.since,
+        replies,
+        outcome,
+    })
+}
+
+/// The ends of the scripts of these ends, when they are played one after the other on the city.
+fn ends_again(alloc: Global, city: &mut City, scripts: &[Script], ends: &[End]) -> Option<Vec<End>>
+    requires { IsSound (at city.old.1) }
+{
+    let mut again = Vec::new(alloc);
+    for end in ends {
+        again.push(end_again(alloc, city, scripts, end)?).ok()?;
+    }
+    Some(again)
+}
+
+/// The report of the ends, then the model's text and a newline.
+fn written(alloc: Global, city: &City, ends: &[End]) -> Option<String> {
+    let report = write_report(alloc, ends).ok()?;
+    let model = write_city(alloc, city).ok()?;
+    let report = str::from_utf8(report.as_slice()).ok()?;
+    let model = str::from_utf8(model.as_slice()).ok()?;
+    text_of(alloc, report, model).ok()
+}
+
+/// What the scripts of these ends give on the city, played one at a time in this order.
+fn replay_scripts(
+    alloc: Global,
+    city: &mut City,
+    scripts: &[Script],
+    ends: &[End],
+) -> Option<String>
+    requires { IsSound (at city.old.1) }
+{
+    let again = ends_again(alloc, city, scripts, ends)?;
+    written(alloc, city, again.as_slice())
+}
+
+/// What the scripts of a text give on the city.
+fn replay_text(alloc: Global, city: &mut City, scripts: &str, ends: &[End]) -> Option<String>
+    requires { IsSound (at city.old.1) }
+{
+    match read_scripts(alloc, scripts.as_bytes()) {
+        Ok(scripts) => replay_scripts(alloc, city, scripts.as_slice(), ends),
+        Err(_) => None,
+    }
+}
+
+/// Whether each script ends once, and none since more ends than there were before it.
+fn are_placed(ends: &[End]) -> bool {
+    ends.iter().enumerate().all(|(place, end)| {
+        let once = ends
+            .iter()
+            .filter(|other| other.script == end.script)
+            .count()
+            == 1;
+        once && end.since <= place
+    })
+}
+
+/// What the scripts of these ends of a run give, played one at a time in this order: the report, then
+/// the model's text and a newline. None where a script ends twice, or since an end that comes later.
+pub fn replay(alloc: Global, run: &Run, ends: &[End]) -> Option<String> {
+    if !are_placed(ends) {
+        return None;
+    }
+    match read_city(alloc, run.document.as_bytes()) {
+        Ok(mut city) => replay_text(alloc, &mut city, run.scripts, ends),
+        Err(_) => None,
+    }
+}
+
+/// The report of these ends of a run, then the text of the model that they left and a newline: none
+/// where the scripts give something else when they are played one at a time in this order.
+pub fn replayed(alloc: Global, run: &Run, city: &City, ends: &[End]) -> Option<String> {
+    let text = written(alloc, city, ends)?;
+    let again = replay(alloc, run, ends)?;
+    if again.as_str() == text.as_str() {
+        Some(text)
+    } else {
+        None
+    }
+}

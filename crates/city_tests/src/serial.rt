@@ -1,0 +1,119 @@
+//! Serial runs, from the texts to the bytes that are written.
+use crate::replay::replay;
+use crate::runs::{
+    ABORTED, CHILD_OF_TWO, COMMIT_AND_ABORT, CUBE, FAULTY_BODIES, NOTHING_TO_DO, OPPOSITE_ORDERS,
+    ORPHAN, PARENT_AND_CHILD, READ_TWICE, REFUSED, Run, TWO_PARENTS, TWO_READERS, TWO_WRITERS,
+    TYPE_IS_FIXED, UNDONE_WRITES, UNLIKE_ENDS, text_of,
+};
+use city_desk::fault::RunFault;
+use city_desk::output::Output;
+use city_desk::serial_run::run_serial;
+use std::alloc::Global;
+use std::test::Fail;
+
+/// What a run wrote, where its scripts give the same when they are played again.
+fn written(alloc: Global, run: &Run, output: &Output) -> Option<String> {
+    let text = str::from_utf8(output.bytes.as_slice()).ok()?;
+    let again = replay(alloc, run, output.ends.as_slice())?;
+    if again.as_str() == text && output.seen.is_empty() {
+        Some(again)
+    } else {
+        None
+    }
+}
+
+/// What a serial run writes, or why it is refused.
+fn answer(alloc: Global, run: &Run) -> Option<String> {
+    match run_serial(alloc, run.document.as_bytes(), run.scripts.as_bytes()) {
+        Ok(output) => written(alloc, run, &output),
+        Err(fault) => format!(in alloc; "{fault}").ok(),
+    }
+}
+
+const RUNS: [Run; 17] = [
+    NOTHING_TO_DO,
+    COMMIT_AND_ABORT,
+    TYPE_IS_FIXED,
+    CUBE,
+    CHILD_OF_TWO,
+    TWO_READERS,
+    READ_TWICE,
+    TWO_WRITERS,
+    ABORTED,
+    ORPHAN,
+    REFUSED,
+    FAULTY_BODIES,
+    TWO_PARENTS,
+    UNLIKE_ENDS,
+    OPPOSITE_ORDERS,
+    UNDONE_WRITES,
+    PARENT_AND_CHILD,
+];
+
+#[test]
+fn scripts_run_in_their_order(rt: HostRuntime) -> Result<(), Fail> {
+    for run in &RUNS {
+        let written = answer(rt.alloc(), run).ok_or(run.shows)?;
+        let wanted = text_of(rt.alloc(), run.report, run.model)?;
+        assert_eq!(rt; written.as_str(), wanted.as_str(), "{}", run.shows);
+    }
+    Ok(())
+}
+
+/// A document and scripts, and why their run is refused.
+const REFUSALS: [(&str, &str, &str); 4] = [
+    (
+        "{\"type\":\"CityJSON\"",
+        "[]",
+        "the document is refused: the text isn't JSON",
+    ),
+    // the document is judged first
+    (
+        "{\"type\":\"CityJSON\"",
+        "",
+        "the document is refused: the text isn't JSON",
+    ),
+    (NOTHING, "", "the scripts are refused: the text isn't JSON"),
+    (
+        NOTHING,
+        "[1]",
+        "the scripts are refused: item 0 isn't a script",
+    ),
+];
+
+const NOTHING: &str = model!("{}", "[]");
+
+fn refusal(alloc: Global, document: &str, scripts: &str) -> Option<String> {
+    match run_serial(alloc, document.as_bytes(), scripts.as_bytes()) {
+        Ok(_) => None,
+        Err(fault) => format!(in alloc; "{fault}").ok(),
+    }
+}
+
+#[test]
+fn the_document_is_judged_before_the_scripts(rt: HostRuntime) -> Result<(), Fail> {
+    for (document, scripts, wanted) in &REFUSALS {
+        let refusal = refusal(rt.alloc(), document, scripts).ok_or("not refused")?;
+        assert_eq!(rt; refusal.as_str(), *wanted);
+    }
+    Ok(())
+}
+
+/// Whether a run is refused for want of memory alone, or its scripts give the same when they are
+/// played again; the first time there may be no memory for that.
+fn is_short_of_memory_alone(alloc: Global, run: &Run) -> bool {
+    match run_serial(alloc, run.document.as_bytes(), run.scripts.as_bytes()) {
+        Ok(output) => {
+            written(alloc, run, &output).is_some() || written(alloc, run, &output).is_some()
+        }
+        Err(fault) => matches!(fault, RunFault::OutOfMemory),
+    }
+}
+
+/// For runs with an allocation that fails, whichever it is: a script that finds no memory ends so,
+/// with the replies before, and leaves nothing.
+#[test]
+fn want_of_memory_leaves_a_serial_history(rt: HostRuntime) {
+    assert!(rt; is_short_of_memory_alone(rt.alloc(), &ORPHAN));
+    assert!(rt; is_short_of_memory_alone(rt.alloc(), &TWO_READERS));
+}
