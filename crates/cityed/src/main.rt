@@ -65,8 +65,8 @@ fn answer(rt: &HostRuntime, asked: &Asked<'_>) -> Result<(), ServeFault> {
                 return Err(ServeFault::Write);
             }
         }
-        Asked::Input => drop(serve(alloc, &mut Device::new(rt.reader()), &mut output, 1, 0)?),
-        Asked::Files(model, scripts) => {
+        Asked::Input(_) => drop(serve(alloc, &mut Device::new(rt.reader()), &mut output, 1, 0)?),
+        Asked::Files(_, model, scripts) => {
             let document = read_file(rt, *model)?;
             let scripts = read_file(rt, *scripts)?;
             let (document, scripts) = (document.as_slice(), scripts.as_slice());
