@@ -6,13 +6,15 @@ use Rattle.std.specs.Str.{bytes_eq}
 use Rattle.clap.specs.Lexer.{long_of}
 use Rattle.std.proofs.lemmas.Slice.Eq.{bytes_eq-Decides}
 use Rattle.clap.proofs.OnLiterals.{clap_on_literals}
-use Rattle.clap.specs.Walk.{Held, Text, Walk, arg_by_long, idle, nothing_held, walk, walked, word_met}
+use Rattle.clap.specs.Walk.{Held, Text, Walk, arg_by_long, idle, nothing_held, walk, walk_from, walked, word_met}
 use Rattle.clap.specs.Kinds.{IsAmong, Kinds, or_else}
 use Rattle.clap.specs.Faults.{flag_word_fault, long_fault, step_fault, turn_fault, walk_fault, word_fault}
 use Rattle.clap.specs.declared.error.kind.ErrorKind.TheVariants.{DisplayHelp, DisplayVersion, OutOfMemory, UnknownArgument}
 use Rattle.clap.specs.declared.error.kind.ErrorKind.{ErrorKind}
 use Rattle.cityed.specs.CommandLines.{AsksForText, IsName, IsShown, IsUnknownOption, IsWantOfMemory, MeetsUnknownOption}
-use Rattle.cityed.proofs.NamedFiles.{Answer, after_one, after_two, ending, fault, fault_of_more, faults_one, faults_two, first_named, only, others_named, rules, start, top}
+use Rattle.cityed.proofs.GivenOptions.{Passes, nothing_passes, rules, start, top}
+use Rattle.cityed.proofs.LineAnswers.{Answer, not_free, only, want_is_err}
+use Rattle.cityed.proofs.NamedFiles.{after_one, after_two, ending, fault, fault_of_more, first_named, one_passes, others_named, two_pass}
 
 module _ (option : Text) (unknown : IsUnknownOption option) where
   no_dashes_alone : bytes_eq option (45 ∷ 45 ∷ []) ≡ false
@@ -33,7 +35,13 @@ module _ (option : Text) (unknown : IsUnknownOption option) where
       by_test false other = refl
 
   no_rule : arg_by_long rules unknown.name ≡ None
-  no_rule = rw (named_other (codes "help") unknown.no_help, named_other (codes "version") unknown.no_version) refl
+  no_rule =
+      rw (
+        named_other (codes "help") unknown.no_help,
+        named_other (codes "version") unknown.no_version,
+        named_other (codes "workers") unknown.no_workers,
+        named_other (codes "watch") unknown.no_watch,
+      ) refl
 
   option_refused : (h : Held) → word_fault top [] false idle option h ≡ UnknownArgument ∷ []
   option_refused h =
@@ -49,19 +57,23 @@ module _ (option : Text) (unknown : IsUnknownOption option) where
   unfolding walk_fault
   walk_refused w h p rest is = ap (λ (f : Kinds). or_else f (walk_fault top [] (walked rules [] w option) rest)) (turn_refused w h p is)
 
+  -- after words that clap passes over
+  refused_then : (words rest : List Text) (h : Held) (p : ℕ) → Passes (start None None) words (record (walk_from h) { position = p })
+      → fault (words ++ option ∷ rest) ≡ UnknownArgument ∷ []
+  refused_then words rest h p passes =
+      ap (λ (f : Kinds). ending (walk rules [] nothing_held (words ++ option ∷ rest)) f)
+      (passes.faults (option ∷ rest) ∙ walk_refused (record (walk_from h) { position = p }) h p rest refl)
+
   refused_after : (names rest : List Text) → All IsName names → fault (names ++ option ∷ rest) ≡ UnknownArgument ∷ []
-  refused_after [] rest named =
-      ap (λ (f : Kinds). ending (walk rules [] nothing_held (option ∷ rest)) f) (walk_refused start start.held 1 rest refl)
+  refused_after [] rest named = refused_then [] rest nothing_held 1 (nothing_passes (start None None))
   refused_after (m ∷ []) rest named =
-      ap (λ (f : Kinds). ending (walk rules [] nothing_held (m ∷ option ∷ rest)) f)
-      (faults_one m (first_named m [] named) (option ∷ rest) ∙ walk_refused (after_one m) (after_one m).held 2 rest refl)
+      refused_then (m ∷ []) rest (after_one None None m).held 2 (one_passes None None m (first_named m [] named))
   refused_after (m ∷ s ∷ []) rest named =
-      let after = others_named m (s ∷ []) named in
-      ap (λ (f : Kinds). ending (walk rules [] nothing_held (m ∷ s ∷ option ∷ rest)) f)
-      (faults_one m (first_named m (s ∷ []) named) (s ∷ option ∷ rest) ∙ faults_two m s (first_named s [] after) (option ∷ rest) ∙ walk_refused (after_two m s) (after_two m s).held 3 rest refl)
+      refused_then (m ∷ s ∷ []) rest (after_two None None m s).held 3
+      (two_pass None None m (first_named m (s ∷ []) named) s (first_named s [] (others_named m (s ∷ []) named)))
   refused_after (m ∷ s ∷ x ∷ names) rest named =
       let after = others_named m (s ∷ x ∷ names) named in
-      fault_of_more m s x (names ++ option ∷ rest) (first_named m (s ∷ x ∷ names) named) (first_named s (x ∷ names) after) (first_named x names (others_named s (x ∷ names) after))
+      fault_of_more None None tt tt m s x (names ++ option ∷ rest) (first_named m (s ∷ x ∷ names) named) (first_named s (x ∷ names) after) (first_named x names (others_named s (x ∷ names) after))
 
 help_fault : (rest : List Text) → fault (codes "--help" ∷ rest) ≡ DisplayHelp ∷ []
 unfolding clap_on_literals
@@ -88,11 +100,6 @@ text_fault word rest (inr (inr (inr is))) = inr (ap (λ (w : Text). fault (w ∷
 text_fault_of : (args : List Text) (word : Text) (rest : List Text) → AsksForText word → args ≡ word ∷ rest → (fault args ≡ DisplayHelp ∷ []) ⊎ (fault args ≡ DisplayVersion ∷ [])
 text_fault_of args word rest asks are = subst (λ (ws : List Text). (fault ws ≡ DisplayHelp ∷ []) ⊎ (fault ws ≡ DisplayVersion ∷ [])) (sym are) (text_fault word rest asks)
 
-not_free : (kind : ErrorKind) (kinds : Kinds) → kinds ≡ kind ∷ [] → kinds ≡ [] → ⊥
-not_free kind kinds one none =
-    let bad : kind ∷ [] ≡ [] = sym one ∙ none in
-    absurd (cc)
-
 pub text_never_free : (args : List Text) (word : Text) (rest : List Text) → AsksForText word → args ≡ word ∷ rest → fault args ≡ [] → ⊥
 text_never_free args word rest asks are none = elim (text_fault_of args word rest asks are) [
   | inl help ↦ not_free DisplayHelp (fault args) help none
@@ -112,9 +119,6 @@ unknown_fault args met = ap fault met.are ∙ refused_after met.word met.unknown
 
 pub unknown_never_free : (args : List Text) → MeetsUnknownOption args → fault args ≡ [] → ⊥
 unknown_never_free args met none = not_free UnknownArgument (fault args) (unknown_fault args met) none
-
-pub want_is_err : (r : Answer) → IsWantOfMemory r → IsErr r
-want_is_err r short = rw short refl
 
 pub unknown_refused : (args : List Text) (kind : ErrorKind) (r : Answer) → MeetsUnknownOption args → (kind ≡ OutOfMemory → IsWantOfMemory r) → (kind ≡ UnknownArgument → IsErr r)
     → (kind ≡ OutOfMemory) ⊎ IsAmong kind (fault args) → IsErr r

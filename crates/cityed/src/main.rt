@@ -1,9 +1,12 @@
 //! Edits a CityJSON 2.0 document by scripts.
 //!
-//! Two arguments name files, the model's and the scripts'. Without arguments standard input has the
-//! document in its first line and the scripts after it. Standard output gets a line for each script
-//! and the model. Status 1: a fault, told on standard error; 2: a command line that is refused.
+//! Two names are files, the model's and the scripts'. Without names standard input has the document in
+//! its first line and the scripts after it. `--workers` and `--watch` say how many workers run the
+//! scripts and how many viewers look on. Standard output gets a line for each script and the model,
+//! standard error one for each viewer. Status 1: a fault, told on standard error; 2: a command line that is
+//! refused.
 #![tactic(auto)]
+ghost use Rattle.cityed.specs.CommandLines.{HasCrew};
 
 mod command_line;
 #[cfg(test)]
@@ -21,9 +24,9 @@ mod serve_texts;
 #[cfg(test)]
 mod tests;
 
+use city_desk::fault::RunFault;
 use command_line::{Asked, LineFault, asked_by};
 use device::Device;
-use city_desk::fault::RunFault;
 use fault::ServeFault;
 use files::read_file;
 use seen_line::seen_line;
@@ -65,7 +68,9 @@ fn answer<T: Threads + Wait + Sync>(
     rt: &HostRuntime,
     threads: &T,
     asked: &Asked<'_>,
-) -> Result<(), ServeFault> {
+) -> Result<(), ServeFault>
+    requires { HasCrew asked.now }
+{
     let alloc = rt.alloc();
     let mut output = Device::new(io::writer(rt));
     match asked {
@@ -75,16 +80,26 @@ fn answer<T: Threads + Wait + Sync>(
             }
             Ok(())
         }
-        Asked::Input => {
+        Asked::Input(crew) => {
             let mut input = Device::new(rt.reader());
-            let seen = serve(threads, alloc, &mut input, &mut output, 1, 0)?;
+            let (workers, viewers) = (crew.workers, crew.viewers);
+            let seen = serve(threads, alloc, &mut input, &mut output, workers, viewers)?;
             tell_seen(rt, seen.as_slice())
         }
-        Asked::Files(model, scripts) => {
+        Asked::Files(crew, model, scripts) => {
             let document = read_file(rt, *model)?;
             let scripts = read_file(rt, *scripts)?;
             let (document, scripts) = (document.as_slice(), scripts.as_slice());
-            let seen = serve_texts(threads, alloc, document, scripts, &mut output, 1, 0)?;
+            let (workers, viewers) = (crew.workers, crew.viewers);
+            let seen = serve_texts(
+                threads,
+                alloc,
+                document,
+                scripts,
+                &mut output,
+                workers,
+                viewers,
+            )?;
             tell_seen(rt, seen.as_slice())
         }
     }
