@@ -46,6 +46,6 @@ IsServeFault input workers viewers reader_failed old new writer_failed ServeFaul
     Keeps old new × (reader_failed ≡ true)
 IsServeFault input workers viewers reader_failed old new writer_failed (ServeFault.Run f) =
     Keeps old new × IfSome input (λ all.
-        IsFaultOfRun (document_of (read_of all)) (scripts_of (read_of all)) workers viewers f)
+    IsFaultOfRun (document_of (read_of all)) (scripts_of (read_of all)) workers viewers f)
 IsServeFault input workers viewers reader_failed old new writer_failed ServeFault.Write =
     IfSome input (λ all. IsCutShort all workers viewers old new) × (writer_failed ≡ true)

@@ -164,7 +164,14 @@ fn a_writer_that_holds_what_it_gets_is_flushed(rt: HostRuntime) -> Result<(), Fa
             flushes,
         };
         let mut reader = Device::new(INPUT.as_bytes());
-        let answer = serve(&rt, rt.alloc(), &mut reader, &mut Device::new(&mut writer), 1, 0);
+        let answer = serve(
+            &rt,
+            rt.alloc(),
+            &mut reader,
+            &mut Device::new(&mut writer),
+            1,
+            0,
+        );
         if flushes {
             assert!(rt; answer.is_ok());
             assert_eq!(rt; writer.passed_on.as_slice(), OUTPUT.as_bytes());
@@ -183,7 +190,14 @@ fn a_writer_that_fails_is_asked_no_more_and_has_the_first_bytes(rt: HostRuntime)
             room,
         };
         let mut reader = Device::new(INPUT.as_bytes());
-        let answer = serve(&rt, rt.alloc(), &mut reader, &mut Device::new(&mut writer), 1, 0);
+        let answer = serve(
+            &rt,
+            rt.alloc(),
+            &mut reader,
+            &mut Device::new(&mut writer),
+            1,
+            0,
+        );
         assert!(rt; matches!(answer, Err(ServeFault::Write)));
         assert_eq!(rt; writer.taken.as_slice(), OUTPUT[..room].as_bytes());
     }

@@ -6,8 +6,8 @@ ghost use Rattle.cityed.specs.ServedTexts.{IsEnoughOf};
 
 use crate::device::Device;
 use crate::fault::ServeFault;
-use city_desk::fault::RunFault;
 use crate::serve::read_at_most;
+use city_desk::fault::RunFault;
 use city_doc::parse::MAX_TEXT;
 use std::alloc::Global;
 use std::fs;

@@ -6,6 +6,7 @@
 //! standard error one for each viewer. Status 1: a fault, told on standard error; 2: a command line that is
 //! refused.
 #![tactic(auto)]
+
 ghost use Rattle.cityed.specs.CommandLines.{HasCrew};
 
 mod command_line;

@@ -99,7 +99,11 @@ fn runs_write_the_report_and_the_model(rt: HostRuntime) -> Result<(), Fail> {
 
 #[test]
 fn two_workers_and_a_viewer_leave_the_same_model(rt: HostRuntime) -> Result<(), Fail> {
-    let text = input(rt.alloc(), COMMIT_AND_ABORT.document, COMMIT_AND_ABORT.scripts)?;
+    let text = input(
+        rt.alloc(),
+        COMMIT_AND_ABORT.document,
+        COMMIT_AND_ABORT.scripts,
+    )?;
     let mut reader = Device::new(text.as_bytes());
     let mut written = Vec::new(rt.alloc());
     let mut writer = Device::new(&mut written);
