@@ -27,8 +27,12 @@ EMPTY = (
     b'{"CityObjects":{},"transform":{"scale":[1,1,1],"translate":[0,0,0]},'
     b'"type":"CityJSON","version":"2.0","vertices":[]}'
 )
+PUT_AND_READ = (
+    b'[{"name":"s","commands":[{"put":"a","object":{"type":"Road","more":%s}},{"read":"a"},"commit"]}]'
+)
 BYTES = [b'"', b"\\", b"{", b"}", b"[", b"]", b",", b":", b"0", b"-", b".", b"e", b" ", b"\n", b"\x00", b"\xff"]
-VALUES = [None, True, 0, -1, 3, 10**19, 1.5, "", "b", "Road", "MultiPoint", [], [0], [[]], [[0, 0, 0]], {}, {"location": 0}]
+VALUES = [None, True, 0, -1, 3, 10**19, 1.5, "", "b", "Road", "MultiPoint", [], [0], [[]], [[0, 0, 0]], {}]
+VALUES.append({"location": 0})
 
 
 class Different(Exception):
@@ -152,8 +156,7 @@ def nested():
             yield text, b"[]"
             yield EMPTY, text
             yield EMPTY.replace(b'"vertices"', b'"more":' + text + b',"vertices"'), b"[]"
-            script = b'[{"name":"","commands":[{"put":"a","object":{"type":"Road","more":' + text + b'}},{"read":"a"},"commit"]}]'
-            yield EMPTY, script
+            yield EMPTY, PUT_AND_READ % text
     yield b"[" * 10_000_000, b"[]"
     yield b'{"a":' * 5_000_000, b"[]"
     yield EMPTY, b"[" * 10_000_000
@@ -209,15 +212,15 @@ def json_table():
         yield text, b"[]"
         yield EMPTY, text
         yield EMPTY.replace(b'"vertices"', b'"more":' + text + b',"vertices"'), b"[]"
-        yield EMPTY, b'[{"name":"s","commands":[{"put":"a","object":{"type":"Road","more":' + text + b'}},{"read":"a"},"commit"]}]'
+        yield EMPTY, PUT_AND_READ % text
 
 
 KINDS = [prefixes, removed_bytes, replaced_bytes, changed_values, nested, limits, several_faults, json_table]
 
 
-def try_kind(program, kind, threads):
+def try_kind(program, kind):
     count = 0
-    with ThreadPoolExecutor(threads) as pool:
+    with ThreadPoolExecutor(1 if kind is limits else 4) as pool:
         for _ in pool.map(lambda pair: program.compare(*pair), kind()):
             count += 1
     return count
@@ -232,6 +235,35 @@ def verdicts(program):
             raise Different(text, b"[]", error, verdict)
         count += 1
     return count
+
+
+NAMED = [
+    (b"[" * 128 + b"]" * 128, b"[]", "model: 2 NotJson"),
+    (b"[" * 127 + b"]" * 127, b"[]", 'model: 4 NotCityJson "type"'),
+    (b" " * 67_108_865, b"[]", "model: 1 TooLong"),
+    (EMPTY, b" " * 67_108_865, "scripts: 1 TooLong"),
+    (b'{"a":"\xff"}', b"[]", "model: 2 NotJson"),
+    (
+        EMPTY.replace(b"{}", b'{"a":{"type":"Road","geometry":[{"type":"MultiPoint"}]},"z":{"type":"Foo"}}'),
+        b"[]",
+        'model: 5 UnknownType "z"',
+    ),
+    (EMPTY, b'[{"name":"s","commands":["commit","commit"]}]', "scripts: 5 BadScript 0"),
+    (EMPTY, b'[{"name":"s","commands":[{"read":1},"commit"]}]', "scripts: 7 BadCommand 0 0"),
+]
+
+
+def named_faults(program):
+    """A few faults by hand, and a text that has no end."""
+    for document, scripts, line in NAMED:
+        program.agree(document, scripts, program.answer(document, scripts), (None, "cityed: " + line))
+    endless = "import sys\nwhile True: sys.stdout.buffer.write(b' ' * 65536)"
+    with subprocess.Popen([sys.executable, "-c", endless], stdout=subprocess.PIPE, stderr=subprocess.DEVNULL) as writer:
+        ran = subprocess.run([program.path], stdin=writer.stdout, stdout=subprocess.PIPE, stderr=subprocess.PIPE)
+        writer.stdout.close()
+        writer.kill()
+    program.agree(b"", b"", (ran.returncode, ran.stdout, ran.stderr), (None, "cityed: model: 1 TooLong"))
+    return len(NAMED) + 1
 
 
 def random_texts(program, seed, count):
@@ -252,8 +284,7 @@ def random_workers(program, seed, count):
         document, scripts = random_runs.texts(choose, broken=False)
         workers, viewers = choose.choice([1, 2, 4, 16]), choose.choice([0, 1, 4])
         status, output, error = program.answer(document, scripts, "--workers", str(workers), "--watch", str(viewers))
-        order, since = ends_in(output, scripts)
-        wanted, _ = second.run(document, scripts, order, since)
+        wanted, _ = second.run(document, scripts, ends_in(output, scripts))
         commits = output.count(b'"outcome":"committed"')
         if (status, output) != (0, wanted) or not are_seen(error, viewers, commits):
             raise Different(document, scripts, (status, output, error), wanted)
@@ -261,12 +292,12 @@ def random_workers(program, seed, count):
 
 
 def ends_in(output, scripts):
-    """The scripts as they ended, and at how many ends each began, by the report."""
+    """The report's ends: each script once, begun before it ended."""
     ends = [json.loads(line) for line in output.splitlines()[:-1]]
-    order, since = [end["script"] for end in ends], [end["since"] for end in ends]
-    if sorted(order) != list(range(len(json.loads(scripts)))) or any(not 0 <= s <= at for at, s in enumerate(since)):
+    each_once = sorted(end["script"] for end in ends) == list(range(len(json.loads(scripts))))
+    if not each_once or any(not 0 <= end["since"] <= place for place, end in enumerate(ends)):
         raise Different(b"", scripts, output, "each script once, begun before it ended")
-    return order, since
+    return ends
 
 
 def are_seen(error, viewers, commits):
@@ -286,7 +317,8 @@ def tell(different):
     for name, text in (("model", document), ("scripts", scripts)):
         with open(os.path.join(folder, name), "wb") as file:
             file.write(text)
-    print(f"DIFFERENT: {folder}/model {folder}/scripts\n  the program: {str(answer)[:600]}\n  wanted: {str(wanted)[:600]}")
+    print(f"DIFFERENT: {folder}/model {folder}/scripts")
+    print(f"  the program: {str(answer)[:600]}\n  wanted: {str(wanted)[:600]}")
 
 
 def main():
@@ -298,8 +330,9 @@ def main():
     asked = asked.parse_args()
     with tempfile.TemporaryDirectory() as folder:
         program = Program(os.path.abspath(asked.program), folder)
-        tries = [(kind.__name__, lambda kind=kind: try_kind(program, kind, 1 if kind is limits else 4)) for kind in KINDS]
+        tries = [(kind.__name__, lambda kind=kind: try_kind(program, kind)) for kind in KINDS]
         tries.append(("verdicts", lambda: verdicts(program)))
+        tries.append(("named_faults", lambda: named_faults(program)))
         tries.append(("random_texts", lambda: random_texts(program, asked.seed, asked.runs)))
         tries.append(("random_workers", lambda: random_workers(program, asked.seed, asked.runs // 4)))
         for name, attempt in tries:

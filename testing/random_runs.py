@@ -6,7 +6,8 @@ POINTS = [[x, y, z] for x in (0, 1) for y in (0, 1) for z in (0, 1)]
 CUBE = [[[0, 1, 3, 2]], [[4, 6, 7, 5]], [[0, 4, 5, 1]], [[2, 3, 7, 6]], [[0, 2, 6, 4]], [[1, 5, 7, 3]]]
 NAMES = ["a", "b", "c", "d", "e", "f", "g", "h\u00e9", "z\"", ""]
 TYPES = ["Building", "BuildingPart", "BuildingRoom", "Bridge", "BridgePart", "Road", "LandUse"]
-FAMILY = {"Building": "Building", "BuildingPart": "Building", "BuildingRoom": "Building", "Bridge": "Bridge", "BridgePart": "Bridge"}
+FAMILY = {"Bridge": "Bridge", "BridgePart": "Bridge"}
+FAMILY |= {"Building": "Building", "BuildingPart": "Building", "BuildingRoom": "Building"}
 
 
 WHOLE = ["cube", "surface", "empty"]
@@ -114,7 +115,8 @@ def texts(choose, broken):
         "CityObjects": city(choose, broken),
         "vertices": POINTS + POINTS[: choose.randint(0, 3)],
     }
-    types = {name: obj["type"] for name, obj in document["CityObjects"].items() if obj["type"] in TYPES} or {"a": "Road"}
+    objects = document["CityObjects"].items()
+    types = {name: obj["type"] for name, obj in objects if obj["type"] in TYPES} or {"a": "Road"}
     scripts = [script(choose, number, types, broken) for number in range(choose.randint(0, 12))]
     laid_out = choose.choice([None, 1])
     return json.dumps(document, indent=laid_out).encode("utf-8"), json.dumps(scripts, indent=laid_out).encode("utf-8")

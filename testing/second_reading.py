@@ -482,10 +482,15 @@ def command_of(command, vertices):
 # ---- what commands do
 
 
-def play(city, commands):
-    """Returns the city that a script leaves, its outcome and its replies."""
+def play(city, commands, memory_until=None):
+    """Returns the city that a script leaves, its outcome and its replies.
+
+    Want of memory ends it at the command of that place, if one is named.
+    """
     view, replies = dict(city), []
     for place, command in enumerate(commands):
+        if place == memory_until:
+            return city, {"outcome": "nomemory", "at": place}, replies
         try:
             reply = done(view, command)
         except Refusal as refusal:
@@ -584,11 +589,11 @@ def fault_text(part, fault):
     return " ".join([f"cityed: {part}: {number} {name}"] + [print_tree(field) for field in fields])
 
 
-def run(document, scripts, order=None, since=None):
+def run(document, scripts, report=None):
     """What the program answers: its output, or the line of its fault.
 
-    `order` lists the scripts as they ended, and `since` at how many ends each began; both are those of a run of one
-    script after the other where they are left out.
+    `report` is the list of ends that a program told, of which the order, `since` and want of memory are taken over;
+    where it is left out the scripts run one after the other, and memory isn't short.
     """
     try:
         frame, city = read_city(document)
@@ -599,10 +604,10 @@ def run(document, scripts, order=None, since=None):
     except Fault as fault:
         return None, fault_text("scripts", fault)
     lines = []
-    for place, number in enumerate(range(len(listed)) if order is None else order):
-        name, commands = listed[number]
-        city, ending, replies = play(city, commands)
-        began = place if since is None else since[place]
-        lines.append(print_tree({"name": name, "replies": replies, "script": number, "since": began, **ending}))
+    for end in report or [{"script": number, "since": number} for number in range(len(listed))]:
+        name, commands = listed[end["script"]]
+        memory_until = end["at"] if end.get("outcome") == "nomemory" else None
+        city, ending, replies = play(city, commands, memory_until)
+        lines.append(print_tree({"name": name, "replies": replies, "script": end["script"], "since": end["since"], **ending}))
     lines.append(city_text(frame, city))
     return "".join(line + "\n" for line in lines).encode("utf-8"), None
