@@ -10,7 +10,7 @@ use Rattle.serde_json.specs.Data.{Members}
 use Rattle.city_model.specs.declared.object.Object.{Object}
 use Rattle.city_model.specs.declared.object.Point.{Point}
 use Rattle.city_model.specs.CityMap.{CityMap, Objects, at}
-use Rattle.city_model.specs.Misrelated.{IsMisrelatedAt, IsLeastMisrelated}
+use Rattle.city_model.specs.Misrelated.{IsMisrelatedAt}
 use Rattle.city_model.specs.Relations.{IsInOrder, IsRelated, is_orphan}
 use Rattle.city_model.specs.Members.{AreOrdered}
 use Rattle.city_model.proofs.Ids.{same_id_true}
@@ -71,9 +71,6 @@ in_order m id o order parented (inr orphan) = true≢false (sym orphan ∙ paren
 -- where all relations agree nothing is misrelated
 pub none_misrelated : (m : CityMap) → IsRelated m → (id : List ℕ) → IsMisrelatedAt m id → ⊥
 none_misrelated m related id h = let r = related id h.0 h.1 in in_order m id h.0 r.0 r.1 h.2
-
-pub least_misrelated : (m : CityMap) (id : List ℕ) → IsLeastMisrelated m id → IsLeastId (IsMisrelatedAt m) id
-least_misrelated m id h = (h.0, λ j less wrong. let r = h.1 j wrong.0 less wrong.1 in in_order m j wrong.0 r.0 r.1 wrong.2)
 
 pub same_map : (points : List Point) (objects : Members) (city : Objects) (bad : Option (List ℕ)) → IsReadOf points objects (entries city) bad → at city ≡ lenient_map_of points objects
 same_map points objects city bad h = at_entries city ∙ fun_ext (found-lenient points objects (entries city) h.read)

@@ -1,4 +1,5 @@
 pub mod AllRead
+pub mod ArrangedCities
 pub mod Cities
 mod CityNests
 pub mod CommandLaws

@@ -1,4 +1,5 @@
 pub mod Accepted
+pub mod Arranged
 pub mod BadCommands
 pub mod Bodies
 pub mod Canonical

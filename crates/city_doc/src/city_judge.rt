@@ -12,12 +12,13 @@ ghost use Rattle.city_doc.specs.CityFaults.{is_bad_ringed, IsLeastBadlyRelated};
 ghost use Rattle.city_doc.specs.Documents.{StandsAmong, IsFirst};
 ghost use Rattle.city_doc.specs.LenientCities.{first_body, lesser, IsReadOf};
 
+use crate::arranged::least_misrelated;
 use crate::fault::ReadFault;
 use crate::judge::named;
 use city_model::body_fault::{any_open_shell, any_same_twice, any_short_ring};
 use city_model::city::City;
+use city_model::copied::Copied;
 use city_model::object::Body;
-use city_model::relations::relations_fault;
 use city_model::text::Id;
 use std::alloc::{AllocError, Global};
 
@@ -84,16 +85,32 @@ fn lesser<'i>(one: Option<&'i Id>, other: Option<&'i Id>) -> Option<&'i Id>
     }
 }
 
+/// A copy of an id, where there is one.
+fn copied(alloc: Global, id: Option<&Id>) -> Result<Option<Id>, AllocError>
+    ensures { IfOk result (λ o. o ≡ option_map (λ id. id.now) id.entry) }
+{
+    match id {
+        None => Ok(None),
+        Some(id) => Ok(Some(id.copy(alloc)?)),
+    }
+}
+
 /// The least id of an object that has a list which isn't an array of texts, or whose parents and
 /// children don't agree; the former is given.
-fn least_badly_related<'c>(bad_list: Option<&'c Id>, city: &'c City) -> Option<&'c Id>
-    ensures related { IfNone result (IsRelated (at city.now.1)) }
-    ensures lists { IfNone result (option_map (λ id. id.now) bad_list.entry ≡ None) }
-    ensures least { (points : List p.Point) (objects : Members)
+fn least_badly_related(
+    alloc: Global,
+    bad_list: Option<&Id>,
+    city: &City,
+) -> Result<Option<Id>, AllocError>
+    ensures related { IfOk result (λ o. IfNone o (IsRelated (at city.now.1))) }
+    ensures lists { IfOk result (λ o. IfNone o (option_map (λ id. id.now) bad_list.entry ≡ None)) }
+    ensures least { IfOk result (λ o. (points : List p.Point) (objects : Members)
         → IsReadOf points objects (entries city.now.1) (option_map (λ id. id.now) bad_list.entry)
-        → IfSome result (λ id. IsLeastBadlyRelated points objects id.now) }
+        → IfSome o (λ id. IsLeastBadlyRelated points objects id)) }
 {
-    lesser(bad_list, relations_fault(city))
+    let misrelated = least_misrelated(alloc, city)?;
+    let least = copied(alloc, lesser(bad_list, misrelated.as_ref()))?;
+    Ok(least)
 }
 
 /// The first fault of a city that was read, where a list of ids that isn't an array of texts counts
@@ -113,8 +130,8 @@ pub fn city_fault(
         let id = named(alloc, id.as_str())?;
         return Ok(Some(ReadFault::BadRing(id)));
     }
-    if let Some(id) = least_badly_related(bad_list, city) {
-        let id = named(alloc, id.as_str())?;
+    let badly_related = least_badly_related(alloc, bad_list, city)?;
+    if let Some(id) = badly_related {
         return Ok(Some(ReadFault::Relations(id)));
     }
     if let Some(id) = first_body::<OpenShell>(alloc, city)? {

@@ -1,6 +1,7 @@
 //! Reads and writes the texts of city models: documents, scripts and reports.
 #![tactic(auto)]
 
+mod arranged;
 mod bad_command;
 pub mod body;
 mod boundaries;
