@@ -107,7 +107,7 @@ fn read_geometries(
 ) -> Result<Option<Sequence<Geometry>>, AllocError>
     ensures { IfOk result (λ o. o ≡ read_items (geometry_of points.now) (items_view items.items)) }
 {
-    let mut found = Sequence::new(alloc);
+    let mut found = Sequence::from_vec(Vec::with_capacity(alloc, items.len())?);
     for item in items {
         match geometry_of(alloc, points, item)? {
             Some(geometry) => found.push(geometry)?,
