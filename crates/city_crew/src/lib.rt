@@ -1,6 +1,7 @@
 //! Workers and viewers: scripts of one city run side by side, while viewers look at whole versions.
 #![tactic(auto)]
 
+mod ages;
 mod apply;
 pub mod board;
 mod commits;

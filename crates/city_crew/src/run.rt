@@ -61,7 +61,7 @@ pub fn run_crew<R: Threads + Wait + Sync, G: Gate + Sync>(
 {
     let city = read_city(alloc, document)?;
     let list = read_scripts(alloc, scripts)?;
-    let (state, places) = open(rt, alloc, document, scripts, city, list, viewers)?;
+    let (state, places) = open(rt, alloc, document, scripts, city, list, workers, viewers)?;
     let output = run(
         rt, alloc, document, scripts, state, places, workers, viewers, gate,
     )?;
@@ -76,6 +76,7 @@ fn open<'r, R: Wait>(
     scripts: &[u8],
     city: City,
     list: Sequence<Script>,
+    workers: usize,
     viewers: usize,
 ) -> Result<(State<&'r R>, Vec<Viewer>), CrewFault>
     requires lawful { IsLawful (at city.1) }
@@ -85,9 +86,10 @@ fn open<'r, R: Wait>(
     let document = Vec::from_slice(alloc, document)?;
     let scripts = Vec::from_slice(alloc, scripts)?;
     let copy = city.copy(alloc)?;
-    let (poster, viewers) = board(rt, alloc, copy, viewers)?;
+    let (poster, places) = board(rt, alloc, copy, viewers)?;
     let desk = Desk::open(alloc, city, list, poster)?;
-    Ok((State::new(document, scripts, desk), viewers))
+    let state = State::new(alloc, document, scripts, desk, workers, viewers)?;
+    Ok((state, places))
 }
 
 /// Runs the workers and the viewers to their ends, and gathers what they leave.
@@ -121,7 +123,9 @@ fn run<R: Threads + Wait + Sync, G: Gate + Sync>(
         ends,
         mut shelf,
     } = finished;
-    shelf.show(rt)?;
+    if viewers > 0 {
+        shelf.show(rt)?;
+    }
     let commits = count_commits(ends.as_slice());
     let seen = last_looks(alloc, watchers, viewers, commits)?;
     let bytes = output_bytes(alloc, &city, ends.as_slice())?;

@@ -2,13 +2,16 @@
 ghost use Rattle.std.specs.Prelude.{◌≡◌, IfOk};
 ghost use Rattle.city_crew.specs.CrewRuns.{IsReadFrom, IsResult};
 
+use crate::ages::Ages;
 use crate::commits::is_commit;
 use crate::fault::CrewFault;
 use crate::poster::Poster;
 use crate::work::Turns;
 use city_desk::desk::{Desk, Finished};
 use city_desk::turn::Turn;
+use city_model::OutOfMemory;
 use city_model::end::End;
+use std::alloc::Global;
 use std::marker::Model;
 use std::sync::Wait;
 
@@ -22,6 +25,9 @@ pub struct State<R: Wait + Drop> {
     desk: Desk<Poster<R>>,
     /// How many turns ended a script or killed it.
     moves: u64,
+    ages: Ages,
+    /// Whether there are viewers to show commits to.
+    watched: bool,
 }
 
 impl<R: Wait + Drop> Model for State<R> {
@@ -35,16 +41,27 @@ impl<R: Wait + Drop> Model for State<R> {
 }
 
 impl<R: Wait + Drop> State<R> {
-    /// A desk that was opened over what the texts stand for.
-    pub fn new(document: Vec<u8>, scripts: Vec<u8>, desk: Desk<Poster<R>>) -> State<R>
+    /// A desk that was opened over what the texts stand for, for so many workers. Each commit is
+    /// shown as it comes where there are viewers.
+    pub fn new(
+        alloc: Global,
+        document: Vec<u8>,
+        scripts: Vec<u8>,
+        desk: Desk<Poster<R>>,
+        workers: usize,
+        viewers: usize,
+    ) -> Result<State<R>, OutOfMemory>
         requires { IsReadFrom document.items scripts.items desk.0.start desk.0.scripts }
     {
-        State {
+        let ages = Ages::new(alloc, workers)?;
+        Ok(State {
             document,
             scripts,
             desk,
             moves: 0,
-        }
+            ages,
+            watched: viewers > 0,
+        })
     }
 
     /// What the run came to. It is mixed up where its texts aren't these, and unfinished where a
@@ -60,6 +77,8 @@ impl<R: Wait + Drop> State<R> {
             scripts: _scripts,
             desk,
             moves: _,
+            ages: _ages,
+            watched: _,
         } = self;
         match desk.finish() {
             Ok(finished) => Ok(finished),
@@ -78,8 +97,14 @@ impl<R: Wait + Drop> Turns for State<R> {
             return Turn::AlreadyEnded;
         }
         let turn = self.desk.turn(script);
-        if matches!(turn, Turn::Ended | Turn::Died) {
-            self.moves = self.moves.wrapping_add(1);
+        match turn {
+            Turn::Began => self.ages.begin(script),
+            Turn::Died => self.moves = self.moves.wrapping_add(1),
+            Turn::Ended => {
+                self.ages.end(script);
+                self.moves = self.moves.wrapping_add(1);
+            }
+            _ => {}
         }
         turn
     }
@@ -88,8 +113,12 @@ impl<R: Wait + Drop> Turns for State<R> {
         self.moves
     }
 
+    fn is_oldest(&self, script: usize) -> bool {
+        self.ages.is_oldest(script)
+    }
+
     fn show_commit<Q: Wait>(&mut self, rt: &Q) {
-        if was_committed(self.desk.ends().last()) {
+        if self.watched && was_committed(self.desk.ends().last()) {
             drop(self.desk.show(rt));
         }
     }

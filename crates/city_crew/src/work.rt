@@ -14,6 +14,9 @@ pub trait Turns: Drop {
     /// How many turns ended a script or killed it.
     fn moves(&self) -> u64;
 
+    /// Whether no other script that has begun and not ended began before this one.
+    fn is_oldest(&self, script: usize) -> bool;
+
     /// Shows the change of the script that ended last, if it was committed. Where that is refused a
     /// later one shows it.
     fn show_commit<R: Wait>(&mut self, rt: &R);
@@ -52,16 +55,16 @@ fn turn_to_end<R: Wait, T: Turns, G: Gate>(rt: &R, shared: &Shared<T>, gate: &G,
     }
 }
 
-/// One turn of a script. One that waits or died returns after another turn has ended a script or
-/// killed it.
+/// One turn of a script. One that waits returns after another turn has ended a script or killed it.
+/// One that died returns when it is the oldest under way, which no turn kills: so it dies once.
 fn turn_once<R: Wait, T: Turns>(rt: &R, shared: &Shared<T>, script: usize) -> Turn {
     let mut turns = shared.turns.lock(rt);
     let turn = turns.turn(script);
     match turn {
-        Turn::Waits => wait(rt, shared, turns),
+        Turn::Waits => wait_for_a_move(rt, shared, turns),
         Turn::Died => {
             shared.moved.notify_all();
-            wait(rt, shared, turns);
+            wait_for_the_older(rt, shared, turns, script);
         }
         Turn::Ended => {
             turns.show_commit(rt);
@@ -73,9 +76,21 @@ fn turn_once<R: Wait, T: Turns>(rt: &R, shared: &Shared<T>, script: usize) -> Tu
 }
 
 /// Waits until another turn has ended a script or killed it.
-fn wait<R: Wait, T: Turns>(rt: &R, shared: &Shared<T>, turns: MutexGuard<'_, T>) {
+fn wait_for_a_move<R: Wait, T: Turns>(rt: &R, shared: &Shared<T>, turns: MutexGuard<'_, T>) {
     let seen = turns.moves();
     let _turns = shared
         .moved
         .wait_while(rt, turns, |now| now.moves() == seen);
+}
+
+/// Waits until all scripts that began before this one have ended.
+fn wait_for_the_older<R: Wait, T: Turns>(
+    rt: &R,
+    shared: &Shared<T>,
+    turns: MutexGuard<'_, T>,
+    script: usize,
+) {
+    let _turns = shared
+        .moved
+        .wait_while(rt, turns, |now| !now.is_oldest(script));
 }

@@ -1,7 +1,8 @@
 use Rattle.std.proofs.Common.{◌<◌, length, arith, take, None, sym, ap, ◌∙◌}
 use Rattle.std.specs.Prelude.{if◌then◌else◌}
 use Rattle.city_model.specs.CityMap.{CityMap, CityValue, at, has_id, same_id}
-use Rattle.city_crew.proofs.Placed.{has_more, cleared_more}
+use Rattle.city_txn.proofs.EachId.{has_more}
+use Rattle.city_crew.proofs.Placed.{cleared_more}
 use Rattle.city_crew.proofs.places.clear.Goals as goal
 
 pub loop-id-preserved : goal.loop-id-preserved
