@@ -1,5 +1,5 @@
 -- Each stamp stands once among the holders of an id, so that its mode there says all; and what the answer says of the modes.
-use Rattle.std.proofs.Common.{◌≡◌, ℕ, ◌==◌, ◌&&◌, ◌||◌, ◌<◌, ◌≤◌, cond, Bool, true, false, not, List, [], ◌∷◌, Option, None, Some, refl, ap, sym, ◌∙◌, subst, nat_lt, arith}
+use Rattle.std.proofs.Common.{◌≡◌, ℕ, ◌==◌, ◌&&◌, ◌||◌, ◌<◌, ◌≤◌, cond, Bool, true, false, not, List, [], ◌∷◌, None, Some, refl, ap, sym, ◌∙◌, subst, nat_lt, arith}
 use Rattle.std.specs.List.{list_any, list_all}
 use Rattle.std.proofs.lemmas.Bool.{false≢true, eqb-true, eqb-false, eq-eqb, ne_eqb, ltb-true, ltb-false, and_parts, and_from, or_right, not-true, not_from_false, false_from_ne_true}
 use Rattle.city_model.proofs.IdLists.{bool_cases}
@@ -8,7 +8,7 @@ use Rattle.city_locks.specs.declared.answer.Answer.{Answer}
 use Rattle.city_locks.specs.declared.answer.Answer.TheVariants.{Granted, Wait, Die}
 use Rattle.city_locks.specs.declared.holder.Holder.{Holder}
 use Rattle.city_locks.specs.Mode.{is_exclusive, stronger}
-use Rattle.city_locks.specs.Holders.{in_conflict, gives_way, answer_among, mode_among, with_holder, without, Once}
+use Rattle.city_locks.specs.Holders.{in_conflict, gives_way, mode_among, with_holder, without, Once}
 use Rattle.city_locks.specs.Locks.{Locks, holders_of, answer_of, mode_of}
 use Rattle.city_locks.specs.WaitDie.{IsInConflict, IsWaitDie}
 use Rattle.city_locks.proofs.Among.{mode_with, mode_without, none_cond}

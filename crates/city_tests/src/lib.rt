@@ -17,7 +17,11 @@ macro_rules! model {
 }
 
 #[cfg(test)]
+mod crew;
+#[cfg(test)]
 mod desk;
+#[cfg(test)]
+mod gates;
 #[cfg(test)]
 mod locks;
 #[cfg(test)]

@@ -1,0 +1,161 @@
+#!/usr/bin/env python3
+"""Measures how processor time grows with the text: each kind of text at a size, and at four times the size.
+
+    python3 bench/growth.py PROGRAM [--only KIND]
+
+PROGRAM is a built cityed. Prints for each kind both lengths and times, less the time of an empty model, and how
+many times the second is the first. Four times the text should take at most six times the time.
+"""
+
+import argparse
+import json
+import os
+import random
+import resource
+import subprocess
+import sys
+import tempfile
+
+EMPTY = {"type": "CityJSON", "version": "2.0", "transform": {"scale": [1, 1, 1], "translate": [0, 0, 0]}}
+
+
+def model(objects, vertices=()):
+    return {**EMPTY, "CityObjects": objects, "vertices": list(vertices)}
+
+
+def shuffled(count):
+    names = [f"part-{number:08}" for number in range(count)]
+    random.Random(count).shuffle(names)
+    return names
+
+
+def unordered_children(count):
+    names = shuffled(count)
+    parts = {name: {"type": "BuildingPart", "parents": ["building"]} for name in names}
+    return model({"building": {"type": "Building", "children": names}, **parts}), []
+
+
+def unordered_parents(count):
+    names = shuffled(count)
+    buildings = {name: {"type": "Building", "children": ["part"]} for name in names}
+    return model({"part": {"type": "BuildingPart", "parents": names}, **buildings}), []
+
+
+def repeated_child(count):
+    """Refused: the last child is the first again."""
+    document, _ = unordered_children(count)
+    children = document["CityObjects"]["building"]["children"]
+    children.append(children[0])
+    return document, []
+
+
+def one_solid(count):
+    """A block whose roof and floor have many points, and a wall between each two of them."""
+    roof, floor = range(count), range(count, 2 * count)
+    walls = [[[floor[n], floor[(n + 1) % count], roof[(n + 1) % count], roof[n]]] for n in range(count)]
+    points = [[n % 1000, n // 1000, height] for height in (1, 0) for n in range(count)]
+    shell = [[list(roof)], [list(reversed(floor))], *walls]
+    return model({"a": solid([shell])}, points), []
+
+
+def solid(shells):
+    return {"type": "Building", "geometry": [{"type": "Solid", "lod": "1", "boundaries": shells}]}
+
+
+def open_solid(count):
+    """Refused: the last wall is missing."""
+    document, _ = one_solid(count)
+    document["CityObjects"]["a"]["geometry"][0]["boundaries"][0].pop()
+    return document, []
+
+
+def one_ring(count):
+    points = [[n % 1000, n // 1000, 0] for n in range(count)]
+    surface = {"type": "MultiSurface", "lod": "1", "boundaries": [[list(range(count))]]}
+    return model({"a": {"type": "Road", "geometry": [surface]}}, points), []
+
+
+def many_objects(count):
+    return model({f"object-{number:08}": {"type": "Road"} for number in range(count)}), []
+
+
+def many_members(count):
+    return model({"a": {"type": "Road", "attributes": {name: 1 for name in shuffled(count)}}}), []
+
+
+def many_scripts(count):
+    return model({}), [script([{"put": f"r{n}", "object": {"type": "Road"}}]) for n in range(count)]
+
+
+def script(commands):
+    return {"name": "s", "commands": [*commands, "commit"]}
+
+
+def attached_children(count):
+    """One script of so many parts that are attached to one building."""
+    commands = []
+    for name in shuffled(count):
+        commands += [{"put": name, "object": {"type": "BuildingPart"}}, {"attach": name, "parent": "building"}]
+    return model({"building": {"type": "Building"}}), [script(commands)]
+
+
+def deep_edits(count):
+    """Scripts that detach and attach parts of one building which has many."""
+    document, _ = unordered_children(16 * count)
+    parts = document["CityObjects"]["building"]["children"][:count]
+    document["CityObjects"]["other"] = {"type": "Building"}
+    scripts = [
+        script([{"attach": part, "parent": "other"}, {"detach": part, "parent": "building"}]) for part in parts
+    ]
+    return document, scripts
+
+
+KINDS = {
+    unordered_children: 16_000,
+    unordered_parents: 16_000,
+    repeated_child: 16_000,
+    one_solid: 50_000,
+    open_solid: 50_000,
+    one_ring: 250_000,
+    many_objects: 50_000,
+    many_members: 50_000,
+    many_scripts: 1_000,
+    attached_children: 127,
+    deep_edits: 200,
+}
+
+
+def processor_time(program, document, scripts):
+    with tempfile.TemporaryDirectory() as folder:
+        names = [os.path.join(folder, name) for name in ("model", "scripts")]
+        for name, tree in zip(names, (document, scripts)):
+            with open(name, "w", encoding="utf-8") as file:
+                json.dump(tree, file, separators=(",", ":"))
+        length = sum(map(os.path.getsize, names))
+        before = resource.getrusage(resource.RUSAGE_CHILDREN)
+        subprocess.run([program, *names], stdout=subprocess.DEVNULL, stderr=subprocess.DEVNULL, check=False)
+        after = resource.getrusage(resource.RUSAGE_CHILDREN)
+    return length, after.ru_utime + after.ru_stime - before.ru_utime - before.ru_stime
+
+
+def main():
+    asked = argparse.ArgumentParser(description=__doc__, formatter_class=argparse.RawDescriptionHelpFormatter)
+    asked.add_argument("program")
+    asked.add_argument("--only")
+    asked = asked.parse_args()
+    idle = min(processor_time(asked.program, model({}), [])[1] for _ in range(3))
+    for kind, count in KINDS.items():
+        if asked.only not in (None, kind.__name__):
+            continue
+        told = []
+        for size in (count, 4 * count):
+            document, scripts = kind(size)
+            length, time = min((processor_time(asked.program, document, scripts) for _ in range(3)), key=lambda one: one[1])
+            told.append((length, max(time - idle, 0.001)))
+        (short, quick), (long, slow) = told
+        print(f"{kind.__name__}: {short:,} bytes {quick:.3f} s, {long:,} bytes {slow:.3f} s, {slow / quick:.1f} times", flush=True)
+    return 0
+
+
+if __name__ == "__main__":
+    sys.exit(main())

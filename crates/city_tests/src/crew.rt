@@ -1,0 +1,77 @@
+//! Runs of several workers, each compared with the same scripts played one at a time.
+ghost use Rattle.std.specs.Prelude.{◌≤◌};
+
+use crate::replay::replay;
+use crate::runs::{CHILD_OF_TWO, READ_TWICE, Run, TWO_READERS, TWO_WRITERS};
+use city_crew::gate::{Gate, OpenGate};
+use city_crew::run::run_crew;
+use city_desk::output::Output;
+use std::alloc::Global;
+use std::sync::Wait;
+use std::thread::Threads;
+
+/// What a run wrote, where its scripts give the same when they are played one at a time in the order
+/// of its ends.
+fn written(alloc: Global, run: &Run, output: &Output) -> Option<String> {
+    let text = str::from_utf8(output.bytes.as_slice()).ok()?;
+    let again = replay(alloc, run, output.ends.as_slice())?;
+    if again.as_str() == text {
+        Some(again)
+    } else {
+        None
+    }
+}
+
+/// What so many workers write of a run, under a gate and before so many viewers.
+pub fn written_by<R: Threads + Wait + Sync, G: Gate + Sync>(
+    rt: &R,
+    alloc: Global,
+    run: &Run,
+    workers: usize,
+    viewers: usize,
+    gate: &G,
+) -> Option<String>
+    requires workers { (1 ≤ workers) × (workers ≤ 16) }
+    requires viewers { viewers ≤ 4 }
+{
+    let (document, scripts) = (run.document.as_bytes(), run.scripts.as_bytes());
+    match run_crew(rt, alloc, document, scripts, workers, viewers, gate) {
+        Ok(output) => written(alloc, run, &output),
+        Err(_) => None,
+    }
+}
+
+/// Runs that leave one model in whichever order their scripts end.
+const RUNS: [Run; 3] = [CHILD_OF_TWO, TWO_READERS, READ_TWICE];
+
+/// Whether so many workers leave a run's model, at the end of what they write.
+fn leave_the_model<R: Threads + Wait + Sync>(
+    rt: &R,
+    alloc: Global,
+    run: &Run,
+    workers: usize,
+) -> bool
+    requires { (1 ≤ workers) × (workers ≤ 16) }
+{
+    match written_by(rt, alloc, run, workers, 0, &OpenGate) {
+        Some(text) => text.as_str().trim_end().ends_with(run.model),
+        None => false,
+    }
+}
+
+#[test]
+fn workers_leave_what_some_order_leaves(rt: HostRuntime) {
+    for run in &RUNS {
+        assert!(&rt; leave_the_model(&rt, rt.alloc(), run, 2), "{}", run.shows);
+        assert!(&rt; leave_the_model(&rt, rt.alloc(), run, 4), "{}", run.shows);
+        assert!(&rt; leave_the_model(&rt, rt.alloc(), run, 16), "{}", run.shows);
+    }
+}
+
+#[test]
+fn workers_that_write_one_object_end_one_after_the_other(rt: HostRuntime) {
+    let run = &TWO_WRITERS;
+    assert!(&rt; written_by(&rt, rt.alloc(), run, 2, 0, &OpenGate).is_some());
+    assert!(&rt; written_by(&rt, rt.alloc(), run, 4, 1, &OpenGate).is_some());
+    assert!(&rt; written_by(&rt, rt.alloc(), run, 16, 4, &OpenGate).is_some());
+}

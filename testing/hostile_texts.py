@@ -1,0 +1,350 @@
+#!/usr/bin/env python3
+"""Runs cityed on texts that are cut, changed, deep, long, random or broken, and compares it with second_reading.py.
+
+    python3 testing/hostile_texts.py PROGRAM [--seed N] [--only KIND] [--runs N]
+
+PROGRAM is a built cityed. Prints one line for each kind of text with how many were tried, and ends at the first
+difference with status 1, the two texts in files and what each side said.
+"""
+
+import argparse
+import itertools
+import json
+import os
+import random
+import re
+import subprocess
+import sys
+import tempfile
+from concurrent.futures import ThreadPoolExecutor
+
+import json_texts
+import random_runs
+import second_reading as second
+
+HERE = os.path.dirname(os.path.abspath(__file__))
+EMPTY = (
+    b'{"CityObjects":{},"transform":{"scale":[1,1,1],"translate":[0,0,0]},'
+    b'"type":"CityJSON","version":"2.0","vertices":[]}'
+)
+PUT_AND_READ = (
+    b'[{"name":"s","commands":[{"put":"a","object":{"type":"Road","more":%s}},{"read":"a"},"commit"]}]'
+)
+BYTES = [b'"', b"\\", b"{", b"}", b"[", b"]", b",", b":", b"0", b"-", b".", b"e", b" ", b"\n", b"\x00", b"\xff"]
+VALUES = [None, True, 0, -1, 3, 10**19, 1.5, "", "b", "Road", "MultiPoint", [], [0], [[]], [[0, 0, 0]], {}]
+VALUES.append({"location": 0})
+
+
+class Different(Exception):
+    """The program and the second reading disagree."""
+
+
+def sample(name):
+    with open(os.path.join(HERE, name), "rb") as file:
+        return file.read()
+
+
+class Program:
+    """A built cityed, called with files."""
+
+    def __init__(self, path, folder):
+        self.path, self.folder, self.numbers = path, folder, itertools.count()
+
+    def answer(self, document, scripts, *options):
+        """Returns status, output and error text."""
+        names = []
+        number = next(self.numbers)
+        for part, text in (("model", document), ("scripts", scripts)):
+            name = os.path.join(self.folder, f"{number}.{part}")
+            with open(name, "wb") as file:
+                file.write(text)
+            names.append(name)
+        ran = subprocess.run([self.path, *options, *names], stdout=subprocess.PIPE, stderr=subprocess.PIPE)
+        for name in names:
+            os.remove(name)
+        return ran.returncode, ran.stdout, ran.stderr
+
+    def compare(self, document, scripts):
+        self.agree(document, scripts, self.answer(document, scripts), second.run(document, scripts))
+
+    def agree(self, document, scripts, answer, wanted):
+        output, fault = wanted
+        as_wanted = (0, output, b"") if fault is None else (1, b"", fault.encode("utf-8") + b"\n")
+        if answer != as_wanted:
+            raise Different(document, scripts, answer, as_wanted)
+
+
+# ---- kinds of texts: each gives pairs of a document and scripts
+
+
+def prefixes():
+    city, scripts = sample("sample.city.json").rstrip(), sample("sample.scripts.json").rstrip()
+    for end in range(len(city)):
+        yield city[:end], b"[]"
+    for end in range(len(scripts)):
+        yield EMPTY, scripts[:end]
+
+
+def replaced_bytes():
+    city, scripts = sample("sample.city.json"), sample("sample.scripts.json")
+    for at, byte in itertools.product(range(len(city)), BYTES):
+        yield city[:at] + byte + city[at + 1 :], b"[]"
+    for at, byte in itertools.product(range(len(scripts)), BYTES):
+        yield city, scripts[:at] + byte + scripts[at + 1 :]
+
+
+def removed_bytes():
+    city, scripts = sample("sample.city.json"), sample("sample.scripts.json")
+    for at in range(len(city)):
+        yield city[:at] + city[at + 1 :], b"[]"
+    for at in range(len(scripts)):
+        yield city, scripts[:at] + scripts[at + 1 :]
+
+
+def places(tree, path=()):
+    """The paths of all members and items."""
+    for name in tree if isinstance(tree, dict) else range(len(tree)) if isinstance(tree, list) else ():
+        yield (*path, name)
+        yield from places(tree[name], (*path, name))
+
+
+def with_change(tree, path, change):
+    """The text of a copy of the tree, changed at the path."""
+    copy = json.loads(json.dumps(tree))
+    parent = copy
+    for name in path[:-1]:
+        parent = parent[name]
+    change(parent, path[-1])
+    return json.dumps(copy).encode("utf-8")
+
+
+def removed(parent, name):
+    del parent[name]
+
+
+def renamed(parent, name):
+    if isinstance(parent, dict):
+        parent[str(name) + "x"] = parent.pop(name)
+
+
+def repeated(parent, name):
+    if isinstance(parent, list):
+        parent.insert(name, parent[name])
+
+
+def changes_of(tree):
+    for path in places(tree):
+        for change in (removed, renamed, repeated):
+            yield with_change(tree, path, change)
+        for value in VALUES:
+            yield with_change(tree, path, lambda parent, name: parent.__setitem__(name, value))
+
+
+def changed_values():
+    city, scripts = sample("sample.city.json"), sample("sample.scripts.json")
+    for text in changes_of(json.loads(city)):
+        yield text, b"[]"
+    for text in changes_of(json.loads(scripts)):
+        yield city, text
+
+
+def nested():
+    for depth in range(120, 135):
+        arrays, objects = b"[" * depth + b"]" * depth, b'{"a":' * depth + b"1" + b"}" * depth
+        mixed = (b'[{"a":' * depth)[: 0 if depth % 2 else None] + b"1" + b"}]" * (0 if depth % 2 else depth)
+        for text in (arrays, objects, mixed):
+            yield text, b"[]"
+            yield EMPTY, text
+            yield EMPTY.replace(b'"vertices"', b'"more":' + text + b',"vertices"'), b"[]"
+            yield EMPTY, PUT_AND_READ % text
+    yield b"[" * 10_000_000, b"[]"
+    yield b'{"a":' * 5_000_000, b"[]"
+    yield EMPTY, b"[" * 10_000_000
+
+
+def script_text(count):
+    return b'{"name":"s","commands":[' + b'{"read":"f"},' * (count - 1) + b'"commit"]}'
+
+
+def limits():
+    longest = second.LONGEST
+    for length in (longest, longest + 1):
+        yield EMPTY + b" " * (length - len(EMPTY)), b"[]"
+        yield EMPTY, b"[]" + b" " * (length - 2)
+        yield b" " * length, b"[]"
+    for count in (4095, 4096, 4097):
+        yield EMPTY, b"[" + b",".join([script_text(1)] * count) + b"]"
+    for count in (1023, 1024, 1025):
+        yield EMPTY, b"[" + script_text(count) + b"]"
+        yield EMPTY, b"[" + script_text(1) + b"," + script_text(count) + b"," + b'{"name":"t","commands":["commit"]}]'
+    yield EMPTY, b"[" + b",".join([script_text(1)] * 4097) + b",0]"
+
+
+def several_faults():
+    """Two broken places at once: the first fault of the table is the one that counts, at the least id."""
+    broken = [
+        b'{"type":"Foo"}',
+        b'{"type":"Road","address":{"location":1}}',
+        b'{"type":"Road","geometry":[{"type":"MultiPoint"}]}',
+        b'{"type":"Road","geometry":{}}',
+        b'{"type":"Road","geometry":[{"type":"MultiSurface","lod":"1","boundaries":[[[0,1,-1]]]}]}',
+        b'{"type":"Road","geometry":[{"type":"MultiSurface","lod":"1","boundaries":[[]]}]}',
+        b'{"type":"Road","parents":["a"]}',
+        b'{"type":"Building","children":1}',
+        b'{"type":"Road","geometry":[{"type":"Solid","lod":"1","boundaries":[[[[0,1,2]]]]}]}',
+        b'{"type":"Road"}',
+        b"1",
+    ]
+    for first, second_one in itertools.product(broken, broken):
+        objects = b'{"a":' + first + b',"b":' + second_one + b"}"
+        text = EMPTY.replace(b"[]}", b"[[0,0,0],[1,0,0],[0,1,0]]}").replace(b"{}", objects)
+        yield text, b"[]"
+        yield text, b"["
+        yield text.replace(b'"2.0"', b'"1.1"'), b"[]"
+        puts = b",".join(b'{"put":"a","object":' + obj + b"}" for obj in (first, second_one))
+        script = b'{"name":"s","vertices":[[0,0,0],[1,0,0],[0,1,0]],"commands":[' + puts + b',"commit"]}'
+        yield EMPTY, b"[" + script + b"]"
+        yield EMPTY, b"[" + script_text(1) + b"," + script + b"]"
+
+
+def json_table():
+    for _, text in json_texts.texts():
+        yield text, b"[]"
+        yield EMPTY, text
+        yield EMPTY.replace(b'"vertices"', b'"more":' + text + b',"vertices"'), b"[]"
+        yield EMPTY, PUT_AND_READ % text
+
+
+KINDS = [prefixes, removed_bytes, replaced_bytes, changed_values, nested, limits, several_faults, json_table]
+
+
+def try_kind(program, kind):
+    count = 0
+    with ThreadPoolExecutor(1 if kind is limits else 4) as pool:
+        for _ in pool.map(lambda pair: program.compare(*pair), kind()):
+            count += 1
+    return count
+
+
+def verdicts(program):
+    """The table of JSON texts by its own word: a text is NotJson exactly where it is invalid."""
+    count = 0
+    for verdict, text in json_texts.texts():
+        _, _, error = program.answer(text, b"[]")
+        if verdict != "either" and (error == b"cityed: model: 2 NotJson\n") != (verdict == "invalid"):
+            raise Different(text, b"[]", error, verdict)
+        count += 1
+    return count
+
+
+NAMED = [
+    (b"[" * 128 + b"]" * 128, b"[]", "model: 2 NotJson"),
+    (b"[" * 127 + b"]" * 127, b"[]", 'model: 4 NotCityJson "type"'),
+    (b" " * 67_108_865, b"[]", "model: 1 TooLong"),
+    (EMPTY, b" " * 67_108_865, "scripts: 1 TooLong"),
+    (b'{"a":"\xff"}', b"[]", "model: 2 NotJson"),
+    (
+        EMPTY.replace(b"{}", b'{"a":{"type":"Road","geometry":[{"type":"MultiPoint"}]},"z":{"type":"Foo"}}'),
+        b"[]",
+        'model: 5 UnknownType "z"',
+    ),
+    (EMPTY, b'[{"name":"s","commands":["commit","commit"]}]', "scripts: 5 BadScript 0"),
+    (EMPTY, b'[{"name":"s","commands":[{"read":1},"commit"]}]', "scripts: 7 BadCommand 0 0"),
+]
+
+
+def named_faults(program):
+    """A few faults by hand, and a text that has no end."""
+    for document, scripts, line in NAMED:
+        program.agree(document, scripts, program.answer(document, scripts), (None, "cityed: " + line))
+    endless = "import sys\nwhile True: sys.stdout.buffer.write(b' ' * 65536)"
+    with subprocess.Popen([sys.executable, "-c", endless], stdout=subprocess.PIPE, stderr=subprocess.DEVNULL) as writer:
+        ran = subprocess.run([program.path], stdin=writer.stdout, stdout=subprocess.PIPE, stderr=subprocess.PIPE)
+        writer.stdout.close()
+        writer.kill()
+    program.agree(b"", b"", (ran.returncode, ran.stdout, ran.stderr), (None, "cityed: model: 1 TooLong"))
+    return len(NAMED) + 1
+
+
+def random_texts(program, seed, count):
+    """Random documents and scripts, many of them broken, run one at a time."""
+    choose = random.Random(seed)
+    for _ in range(count):
+        program.compare(*random_runs.texts(choose, broken=choose.random() < 0.5))
+    return count
+
+
+def random_workers(program, seed, count):
+    """Random lawful documents and scripts that meet at few ids, run by several workers.
+
+    What is written has to be what the scripts give one at a time in the order of the report.
+    """
+    choose = random.Random(seed)
+    for _ in range(count):
+        document, scripts = random_runs.texts(choose, broken=False)
+        workers, viewers = choose.choice([1, 2, 4, 16]), choose.choice([0, 1, 4])
+        status, output, error = program.answer(document, scripts, "--workers", str(workers), "--watch", str(viewers))
+        wanted, _ = second.run(document, scripts, ends_in(output, scripts))
+        commits = output.count(b'"outcome":"committed"')
+        if (status, output) != (0, wanted) or not are_seen(error, viewers, commits):
+            raise Different(document, scripts, (status, output, error), wanted)
+    return count
+
+
+def ends_in(output, scripts):
+    """The report's ends: each script once, begun before it ended."""
+    ends = [json.loads(line) for line in output.splitlines()[:-1]]
+    each_once = sorted(end["script"] for end in ends) == list(range(len(json.loads(scripts))))
+    if not each_once or any(not 0 <= end["since"] <= place for place, end in enumerate(ends)):
+        raise Different(b"", scripts, output, "each script once, begun before it ended")
+    return ends
+
+
+def are_seen(error, viewers, commits):
+    """One line for each viewer, its numbers rising strictly up to that of the commits."""
+    lines = error.decode("utf-8").splitlines()
+    for number, line in enumerate(lines):
+        match = re.fullmatch(rf"viewer {number}: ([0-9 ]+)", line)
+        seen = [int(word) for word in match.group(1).split()] if match else []
+        if not seen or seen[-1] != commits or any(a >= b for a, b in zip(seen, seen[1:])):
+            return False
+    return len(lines) == viewers
+
+
+def tell(different):
+    document, scripts, answer, wanted = different.args
+    folder = tempfile.mkdtemp(prefix="cityed-different-")
+    for name, text in (("model", document), ("scripts", scripts)):
+        with open(os.path.join(folder, name), "wb") as file:
+            file.write(text)
+    print(f"DIFFERENT: {folder}/model {folder}/scripts")
+    print(f"  the program: {str(answer)[:600]}\n  wanted: {str(wanted)[:600]}")
+
+
+def main():
+    asked = argparse.ArgumentParser(description=__doc__, formatter_class=argparse.RawDescriptionHelpFormatter)
+    asked.add_argument("program")
+    asked.add_argument("--seed", type=int, default=1)
+    asked.add_argument("--only")
+    asked.add_argument("--runs", type=int, default=2000)
+    asked = asked.parse_args()
+    with tempfile.TemporaryDirectory() as folder:
+        program = Program(os.path.abspath(asked.program), folder)
+        tries = [(kind.__name__, lambda kind=kind: try_kind(program, kind)) for kind in KINDS]
+        tries.append(("verdicts", lambda: verdicts(program)))
+        tries.append(("named_faults", lambda: named_faults(program)))
+        tries.append(("random_texts", lambda: random_texts(program, asked.seed, asked.runs)))
+        tries.append(("random_workers", lambda: random_workers(program, asked.seed, asked.runs // 4)))
+        for name, attempt in tries:
+            if asked.only in (None, name):
+                try:
+                    print(f"{name}: {attempt()} agree", flush=True)
+                except Different as different:
+                    print(name)
+                    tell(different)
+                    return 1
+    return 0
+
+
+if __name__ == "__main__":
+    sys.exit(main())

@@ -1,0 +1,122 @@
+"""Random documents and scripts: small cities whose objects are few, so that scripts meet."""
+
+import json
+
+POINTS = [[x, y, z] for x in (0, 1) for y in (0, 1) for z in (0, 1)]
+CUBE = [[[0, 1, 3, 2]], [[4, 6, 7, 5]], [[0, 4, 5, 1]], [[2, 3, 7, 6]], [[0, 2, 6, 4]], [[1, 5, 7, 3]]]
+NAMES = ["a", "b", "c", "d", "e", "f", "g", "h\u00e9", "z\"", ""]
+TYPES = ["Building", "BuildingPart", "BuildingRoom", "Bridge", "BridgePart", "Road", "LandUse"]
+FAMILY = {"Bridge": "Bridge", "BridgePart": "Bridge"}
+FAMILY |= {"Building": "Building", "BuildingPart": "Building", "BuildingRoom": "Building"}
+
+
+WHOLE = ["cube", "surface", "empty"]
+REFUSED = ["open", "flipped", "short", "twice"]
+
+
+def shape(choose, kinds):
+    kind = choose.choice(kinds)
+    if kind == "cube":
+        return "Solid", [CUBE]
+    if kind == "surface":
+        return choose.choice(["MultiSurface", "CompositeSurface"]), [[choose.sample(range(8), choose.randint(3, 6))]]
+    if kind == "empty":
+        return choose.choice(["Solid", "MultiSurface"]), []
+    if kind == "open":
+        return "Solid", [CUBE[:5]]
+    if kind == "flipped":
+        return "Solid", [CUBE[:5] + [[CUBE[5][0][::-1]]]]
+    if kind == "short":
+        return "MultiSurface", [[[0, 1]]]
+    if kind == "twice":
+        return "MultiSurface", [[[0, 1, 2, 0]]]
+    return "MultiSurface", [[[0, 1, choose.choice([8, -1])]]]
+
+
+def body(choose, shapes, kind):
+    made = {"type": kind}
+    if choose.random() < 0.5:
+        made["geometry"] = []
+        for _ in range(choose.randint(0, 2)):
+            name, boundaries = shape(choose, shapes)
+            made["geometry"].append({"type": name, "lod": choose.choice(["1", "2.2"]), "boundaries": boundaries})
+    if choose.random() < 0.5:
+        made["attributes"] = {"n": choose.randint(-5, 5), "t": choose.choice(["", "\n", "\u00e9\U0001f600"])}
+    return made
+
+
+def city(choose, broken):
+    objects = {}
+    shapes = WHOLE * 4 + (REFUSED + ["outside"] if broken else [])
+    for name in choose.sample(NAMES, choose.randint(0, 7)):
+        kind = choose.choice(TYPES)
+        parents = [other for other, obj in objects.items() if FAMILY.get(obj["type"], other) == FAMILY.get(kind)]
+        if kind not in ("Building", "Bridge", "Road", "LandUse"):
+            if not parents:
+                continue
+            chosen = choose.sample(parents, choose.randint(1, min(2, len(parents))))
+            objects[name] = {**body(choose, shapes, kind), "parents": chosen}
+            for parent in chosen:
+                objects[parent].setdefault("children", []).append(name)
+        else:
+            objects[name] = body(choose, shapes, kind)
+    if broken:
+        break_relations(choose, objects)
+    return objects
+
+
+def break_relations(choose, objects):
+    for obj in objects.values():
+        for kind in ("parents", "children"):
+            if choose.random() < 0.1:
+                items = obj.get(kind, [])
+                obj[kind] = choose.choice([items + items, items[1:], items + [choose.choice(NAMES)], [0], "a", {}])
+        if choose.random() < 0.05:
+            obj["type"] = choose.choice(TYPES + ["Foo", 1])
+
+
+def command(choose, types, broken):
+    """A command on the objects of the document or on others; `types` tells the types that they have."""
+    verb = choose.choice(["read", "put", "put", "delete", "attach", "attach", "detach"])
+    name, other = (choose.choice(list(types) if choose.random() < 0.8 else NAMES) for _ in range(2))
+    if verb == "put":
+        shapes = WHOLE * 6 + REFUSED + (["outside"] if broken else [])
+        kind = types.get(name, choose.choice(TYPES)) if choose.random() < 0.9 else choose.choice(TYPES)
+        return {"put": name, "object": body(choose, shapes, kind)}
+    if verb in ("attach", "detach"):
+        parts = [part for part, kind in types.items() if FAMILY.get(kind, kind) != kind]
+        child = choose.choice(parts) if parts and choose.random() < 0.8 else name
+        return {verb: child, "parent": other}
+    return {verb: name}
+
+
+def new_part(choose, types):
+    """A new part and its parent, as a planner would write it."""
+    part, parent = choose.choice(NAMES), choose.choice(list(types))
+    return [{"put": part, "object": {"type": "BuildingPart"}}, {"attach": part, "parent": parent}]
+
+
+def script(choose, number, types, broken):
+    commands = new_part(choose, types) if choose.random() < 0.3 else []
+    commands += [command(choose, types, broken) for _ in range(choose.randint(0, 4))]
+    return {
+        "name": choose.choice(["s", ""]) + str(number),
+        "vertices": POINTS + ([[9, 9, 9]] if not broken else []),
+        "commands": commands + [choose.choice(["commit", "commit", "commit", "abort"])],
+    }
+
+
+def texts(choose, broken):
+    """A document and scripts as texts. A position may be outside only where they are broken."""
+    document = {
+        "type": "CityJSON",
+        "version": "2.0",
+        "transform": {"scale": [1, 1, 1], "translate": [0, 0, 0]},
+        "CityObjects": city(choose, broken),
+        "vertices": POINTS + POINTS[: choose.randint(0, 3)],
+    }
+    objects = document["CityObjects"].items()
+    types = {name: obj["type"] for name, obj in objects if obj["type"] in TYPES} or {"a": "Road"}
+    scripts = [script(choose, number, types, broken) for number in range(choose.randint(0, 12))]
+    laid_out = choose.choice([None, 1])
+    return json.dumps(document, indent=laid_out).encode("utf-8"), json.dumps(scripts, indent=laid_out).encode("utf-8")

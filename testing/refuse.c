@@ -1,0 +1,87 @@
+/* Preloaded into a program: refuses chosen calls for memory, threads, reading or writing.
+ *
+ *   REFUSE_GROWTH=N     the Nth call of malloc, realloc or pthread_create is refused
+ *   REFUSE_GROWTH=N-    and each later one too
+ *   REFUSE_READ=N       the Nth read fails
+ *   REFUSE_WRITE=N      the Nth write to standard output fails
+ *   SHORT=1             a read or a write moves one byte at most
+ *   INTERRUPT=1         every other read and write is interrupted
+ *   REFUSED_FD=F        a byte is written there for each refusal
+ */
+#define _GNU_SOURCE
+#include <dlfcn.h>
+#include <errno.h>
+#include <pthread.h>
+#include <stdatomic.h>
+#include <stdlib.h>
+#include <string.h>
+#include <unistd.h>
+
+struct plan {
+    const char *name;
+    long first;
+    int each_later;
+    atomic_long calls;
+};
+
+static struct plan growth = {.name = "REFUSE_GROWTH"}, reading = {.name = "REFUSE_READ"}, writing = {.name = "REFUSE_WRITE"};
+static int moves_one_byte, interrupts, told;
+static atomic_int turns;
+static void *(*real_malloc)(size_t);
+static void *(*real_realloc)(void *, size_t);
+static int (*real_create)(pthread_t *, const pthread_attr_t *, void *(*)(void *), void *);
+static ssize_t (*real_read)(int, void *, size_t);
+static ssize_t (*real_write)(int, const void *, size_t);
+
+static void read_plan(struct plan *plan) {
+    const char *text = getenv(plan->name);
+    if (text) {
+        plan->first = atol(text);
+        plan->each_later = text[strlen(text) - 1] == '-';
+    }
+}
+
+__attribute__((constructor)) static void begin(void) {
+    const char *fd = getenv("REFUSED_FD");
+    read_plan(&growth), read_plan(&reading), read_plan(&writing);
+    moves_one_byte = getenv("SHORT") != NULL;
+    interrupts = getenv("INTERRUPT") != NULL;
+    told = fd ? atoi(fd) : -1;
+}
+
+#define REAL(call, name) (call ? call : (call = dlsym(RTLD_NEXT, name)))
+
+static int refuses(struct plan *plan) {
+    if (plan->first == 0) return 0;
+    long call = atomic_fetch_add(&plan->calls, 1) + 1;
+    if (call != plan->first && !(plan->each_later && call > plan->first)) return 0;
+    if (told >= 0) REAL(real_write, "write")(told, "!", 1);
+    return 1;
+}
+
+void *malloc(size_t size) {
+    if (refuses(&growth)) return errno = ENOMEM, NULL;
+    return REAL(real_malloc, "malloc")(size);
+}
+
+void *realloc(void *old, size_t size) {
+    if (refuses(&growth)) return errno = ENOMEM, NULL;
+    return REAL(real_realloc, "realloc")(old, size);
+}
+
+int pthread_create(pthread_t *thread, const pthread_attr_t *attributes, void *(*start)(void *), void *argument) {
+    if (refuses(&growth)) return EAGAIN;
+    return REAL(real_create, "pthread_create")(thread, attributes, start, argument);
+}
+
+ssize_t read(int fd, void *into, size_t size) {
+    if (interrupts && atomic_fetch_add(&turns, 1) % 2 == 0) return errno = EINTR, -1;
+    if (refuses(&reading)) return errno = EIO, -1;
+    return REAL(real_read, "read")(fd, into, moves_one_byte && size > 1 ? 1 : size);
+}
+
+ssize_t write(int fd, const void *from, size_t size) {
+    if (interrupts && atomic_fetch_add(&turns, 1) % 2 == 0) return errno = EINTR, -1;
+    if (fd == 1 && refuses(&writing)) return errno = EIO, -1;
+    return REAL(real_write, "write")(fd, from, moves_one_byte && size > 1 ? 1 : size);
+}

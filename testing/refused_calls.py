@@ -1,0 +1,139 @@
+#!/usr/bin/env python3
+"""Refuses calls of cityed in turn: each for memory or a thread, each read and each write.
+
+    python3 testing/refused_calls.py PROGRAM
+
+PROGRAM is a built cityed. Needs a C compiler named cc, for refuse.c. After a refusal the program answers that
+memory was short with nothing written, or writes a report that second_reading.py agrees with, in which a script
+may have ended for want of memory. Prints one line for each kind with how many calls were refused, and ends at the
+first other answer with status 1.
+"""
+
+import itertools
+import json
+import os
+import subprocess
+import sys
+import tempfile
+
+import second_reading as second
+
+HERE = os.path.dirname(os.path.abspath(__file__))
+SHORT_ANSWERS = (b"cityed: out of memory\n", b"cityed: no viewer place\n")
+CREWS = ([], ["--workers", "2"], ["--workers", "4", "--watch", "2"], ["--workers", "16", "--watch", "1"])
+
+
+class Wrong(Exception):
+    """The program answered something else than it should."""
+
+
+def sample(name):
+    with open(os.path.join(HERE, name), "rb") as file:
+        return file.read()
+
+
+class Refused:
+    """A built cityed that is run with refusals."""
+
+    def __init__(self, path, folder):
+        self.path, self.library = path, os.path.join(folder, "refuse.so")
+        source = os.path.join(HERE, "refuse.c")
+        subprocess.run(["cc", "-O1", "-shared", "-fPIC", "-o", self.library, source, "-ldl"], check=True)
+
+    def answer(self, arguments, text, **refusals):
+        """Returns whether a call was refused, status, output and error text."""
+        told, tells = os.pipe()
+        variables = {**os.environ, "LD_PRELOAD": self.library, "REFUSED_FD": str(tells), **refusals}
+        ran = subprocess.run(
+            [self.path, *arguments], input=text, capture_output=True, env=variables, pass_fds=[tells], timeout=60
+        )
+        os.close(tells)
+        with os.fdopen(told, "rb") as file:
+            refused = file.read() != b""
+        return refused, ran.returncode, ran.stdout, ran.stderr
+
+
+def refuse_growths(program, document, scripts, arguments, later):
+    """Refuses the Nth growth (and each later one), for each N until a run meets none."""
+    text = document.replace(b"\n", b" ") + b"\n" + scripts
+    counts = {"refused": 0, "answered": 0}
+    for number in itertools.count(1):
+        refused, status, output, error = program.answer(arguments, text, REFUSE_GROWTH=f"{number}{later}")
+        if status == 1 and output == b"" and error in SHORT_ANSWERS:
+            counts["refused"] += 1
+        elif is_run(output, document, scripts) and (status == 0 or error.endswith(SHORT_ANSWERS[0])):
+            counts["answered"] += 1
+        else:
+            raise Wrong(arguments, f"growth {number}{later}", status, output, error)
+        if not refused:
+            return f"{number - 1} growths: {counts['refused']} out of memory, {counts['answered'] - 1} went on"
+
+
+def is_run(output, document, scripts):
+    """Whether this is the output of a run. What viewers saw is told after it, and may find no memory by itself."""
+    report = [json.loads(line) for line in output.splitlines()[:-1]]
+    return output == second.run(document, scripts, report)[0]
+
+
+def refuse_reads(program, folder, document, scripts):
+    """Refuses the Nth read, for each N until a run meets none, from files and from standard input, byte by byte."""
+    names = [os.path.join(folder, name) for name in ("model", "scripts")]
+    for name, text in zip(names, (document, scripts)):
+        with open(name, "wb") as file:
+            file.write(text)
+    one_line = document.replace(b"\n", b" ") + b"\n" + scripts
+    return sum(refuse_each_read(program, arguments, text) for arguments, text in ((names, b""), ([], one_line)))
+
+
+def refuse_each_read(program, arguments, text):
+    for number in itertools.count(1):
+        refused, status, output, error = program.answer(arguments, text, REFUSE_READ=str(number), SHORT="1")
+        if not refused:
+            return number - 1
+        if (status, output, error) != (1, b"", b"cityed: cannot read\n"):
+            raise Wrong(arguments, f"read {number}", status, output, error)
+
+
+def refuse_writes(program, document, scripts):
+    """Refuses the Nth write, for each N until a run meets none; each write before it moved one byte."""
+    text, wanted = document.replace(b"\n", b" ") + b"\n" + scripts, second.run(document, scripts)[0]
+    for number in itertools.count(1):
+        refused, status, output, error = program.answer([], text, REFUSE_WRITE=str(number), SHORT="1")
+        if not refused:
+            return number - 1
+        if (status, output, error) != (1, wanted[: number - 1], b"cityed: cannot write\n"):
+            raise Wrong([], f"write {number}", status, output, error)
+
+
+def go_on(program, document, scripts):
+    """Reads and writes that are short or interrupted change nothing."""
+    text, wanted = document.replace(b"\n", b" ") + b"\n" + scripts, second.run(document, scripts)[0]
+    ways = [{"SHORT": "1"}, {"INTERRUPT": "1"}, {"SHORT": "1", "INTERRUPT": "1"}]
+    for way in ways:
+        if program.answer([], text, **way) != (False, 0, wanted, b""):
+            raise Wrong([], way)
+    return len(ways)
+
+
+def main():
+    if len(sys.argv) != 2:
+        print(__doc__)
+        return 2
+    document, scripts = sample("sample.city.json"), sample("sample.scripts.json")
+    with tempfile.TemporaryDirectory() as folder:
+        program = Refused(os.path.abspath(sys.argv[1]), folder)
+        try:
+            for arguments, later in itertools.product(CREWS, ("", "-")):
+                told = refuse_growths(program, document, scripts, arguments, later)
+                print(f"{' '.join(arguments) or 'one worker'}{', and each later one' if later else ''}: {told}", flush=True)
+            print(f"reads: {refuse_reads(program, folder, document, scripts)} refused", flush=True)
+            print(f"writes: {refuse_writes(program, document, scripts)} refused", flush=True)
+            print(f"short and interrupted: {go_on(program, document, scripts)} ways agree", flush=True)
+        except Wrong as wrong:
+            print("WRONG:", *(str(part)[:800] for part in wrong.args))
+            return 1
+    return 0
+
+
+if __name__ == "__main__":
+    sys.exit(main())
