@@ -3,11 +3,13 @@
 
 usage: make_city.py plain [OBJECTS] [BYTES_EACH] [SCRIPTS] > input
        make_city.py solids [BUILDINGS] [SCRIPTS] > input
+       make_city.py parts [PARTS] [SCRIPTS] > input
 
 `plain` has objects of attributes alone; `solids` has buildings, each with a part that has a block
-and a gabled house as its geometries.
+and a gabled house as its geometries; `parts` has one building that lists its parts in no order.
 """
 import json
+import random
 import sys
 
 from houses import Vertices, box, gabled
@@ -42,6 +44,14 @@ def solid_city(count):
     return objects, vertices
 
 
+def parts_city(count):
+    parts = [f"object-{n:08}" for n in range(count)]
+    objects = {part: {"type": "BuildingPart", "parents": ["tower"]} for part in parts}
+    random.Random(1).shuffle(parts)
+    objects["tower"] = {"type": "Building", "children": parts}
+    return objects, Vertices()
+
+
 def number_at(place, otherwise):
     return int(sys.argv[place]) if len(sys.argv) > place else otherwise
 
@@ -52,6 +62,9 @@ if kind == "plain":
     scripts = number_at(4, 1)
 elif kind == "solids":
     objects, vertices = solid_city(number_at(2, 70_000))
+    scripts = number_at(3, 1)
+elif kind == "parts":
+    objects, vertices = parts_city(number_at(2, 64_000))
     scripts = number_at(3, 1)
 else:
     sys.exit(__doc__)

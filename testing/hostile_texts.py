@@ -275,20 +275,31 @@ def random_texts(program, seed, count):
 
 
 def random_workers(program, seed, count):
-    """Random lawful documents and scripts that meet at few ids, run by several workers.
-
-    What is written has to be what the scripts give one at a time in the order of the report.
-    """
+    """Random lawful documents and scripts, run by several workers."""
     choose = random.Random(seed)
-    for _ in range(count):
-        document, scripts = random_runs.texts(choose, broken=False)
+    return by_workers(program, choose, (random_runs.texts(choose, broken=False) for _ in range(count)))
+
+
+def contended_workers(program, seed, count):
+    """Many scripts and long ones that meet at eight objects, run by several workers."""
+    choose = random.Random(seed)
+    return by_workers(program, choose, (random_runs.contended_texts(choose) for _ in range(count)))
+
+
+def by_workers(program, choose, pairs):
+    """What is written has to be what the scripts give one at a time in the order of the report."""
+    counts = {"agree": 0, "in another order": 0}
+    for document, scripts in pairs:
         workers, viewers = choose.choice([1, 2, 4, 16]), choose.choice([0, 1, 4])
         status, output, error = program.answer(document, scripts, "--workers", str(workers), "--watch", str(viewers))
-        wanted, _ = second.run(document, scripts, ends_in(output, scripts))
+        report = ends_in(output, scripts)
+        wanted, _ = second.run(document, scripts, report)
         commits = output.count(b'"outcome":"committed"')
         if (status, output) != (0, wanted) or not are_seen(error, viewers, commits):
             raise Different(document, scripts, (status, output, error), wanted)
-    return count
+        counts["agree"] += 1
+        counts["in another order"] += [end["script"] for end in report] != sorted(end["script"] for end in report)
+    return f"{counts['agree']}, of which {counts['in another order']} ended in another order than the text's,"
 
 
 def ends_in(output, scripts):
@@ -335,6 +346,7 @@ def main():
         tries.append(("named_faults", lambda: named_faults(program)))
         tries.append(("random_texts", lambda: random_texts(program, asked.seed, asked.runs)))
         tries.append(("random_workers", lambda: random_workers(program, asked.seed, asked.runs // 4)))
+        tries.append(("contended_workers", lambda: contended_workers(program, asked.seed, asked.runs // 20)))
         for name, attempt in tries:
             if asked.only in (None, name):
                 try:

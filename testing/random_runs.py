@@ -1,7 +1,8 @@
-"""Random documents and scripts: small cities whose objects are few, so that scripts meet."""
+"""Random documents and scripts: cities whose objects are few, so that scripts meet."""
 
 import json
 
+HEAD = {"type": "CityJSON", "version": "2.0", "transform": {"scale": [1, 1, 1], "translate": [0, 0, 0]}}
 POINTS = [[x, y, z] for x in (0, 1) for y in (0, 1) for z in (0, 1)]
 CUBE = [[[0, 1, 3, 2]], [[4, 6, 7, 5]], [[0, 4, 5, 1]], [[2, 3, 7, 6]], [[0, 2, 6, 4]], [[1, 5, 7, 3]]]
 NAMES = ["a", "b", "c", "d", "e", "f", "g", "h\u00e9", "z\"", ""]
@@ -108,15 +109,48 @@ def script(choose, number, types, broken):
 
 def texts(choose, broken):
     """A document and scripts as texts. A position may be outside only where they are broken."""
-    document = {
-        "type": "CityJSON",
-        "version": "2.0",
-        "transform": {"scale": [1, 1, 1], "translate": [0, 0, 0]},
-        "CityObjects": city(choose, broken),
-        "vertices": POINTS + POINTS[: choose.randint(0, 3)],
-    }
+    vertices = POINTS + POINTS[: choose.randint(0, 3)]
+    document = {**HEAD, "CityObjects": city(choose, broken), "vertices": vertices}
     objects = document["CityObjects"].items()
     types = {name: obj["type"] for name, obj in objects if obj["type"] in TYPES} or {"a": "Road"}
     scripts = [script(choose, number, types, broken) for number in range(choose.randint(0, 12))]
     laid_out = choose.choice([None, 1])
     return json.dumps(document, indent=laid_out).encode("utf-8"), json.dumps(scripts, indent=laid_out).encode("utf-8")
+
+
+BUILDINGS, PARTS = [f"building-{n}" for n in range(4)], [f"part-{n}" for n in range(4)]
+# how many scripts, how many commands each has at most, and how often each command comes
+CONTENDED = [
+    (60, 200, {"read": 8, "put": 1}),
+    (60, 200, {"put": 1}),
+    (400, 6, {"attach": 6, "detach": 3, "put": 2, "read": 2}),
+    (400, 6, {"read": 6, "put": 6, "delete": 1, "attach": 3, "detach": 1}),
+]
+
+
+def contended_command(choose, verb):
+    if verb in ("attach", "detach"):
+        return {verb: choose.choice(PARTS), "parent": choose.choice(BUILDINGS)}
+    name = choose.choice(BUILDINGS + PARTS)
+    if verb != "put":
+        return {verb: name}
+    # one in a thousand is refused for its type
+    usual = "Building" if name in BUILDINGS else "BuildingPart"
+    kind = usual if choose.random() < 0.999 else "Road"
+    return {"put": name, "object": {"type": kind, "attributes": {"n": choose.randrange(1000)}}}
+
+
+def contended_texts(choose):
+    """Four buildings, each with a part, and many scripts or long ones that meet at these eight objects."""
+    objects = {}
+    for building, part in zip(BUILDINGS, PARTS):
+        objects[building] = {"type": "Building", "children": [part]}
+        objects[part] = {"type": "BuildingPart", "parents": [building]}
+    count, longest, weights = choose.choice(CONTENDED)
+    scripts = []
+    for number in range(count):
+        verbs = choose.choices(list(weights), list(weights.values()), k=choose.randint(1, longest))
+        commands = [contended_command(choose, verb) for verb in verbs]
+        scripts.append({"name": f"s{number}", "commands": commands + [choose.choice(["commit"] * 9 + ["abort"])]})
+    document = {**HEAD, "CityObjects": objects, "vertices": []}
+    return json.dumps(document).encode("utf-8"), json.dumps(scripts).encode("utf-8")
