@@ -1,9 +1,15 @@
 //! What the program answers, beside the answers that the format's worked examples give.
+ghost use Rattle.std.specs.Prelude.{◌≤◌, ◌<◌};
+
 use crate::device::Device;
+use crate::fault::ServeFault;
 use crate::fault_line::fault_line;
 use crate::serve::serve;
+use crate::serve_texts::serve_texts;
 use std::alloc::{AllocError, Global};
+use std::sync::Wait;
 use std::test::Fail;
+use std::thread::Threads;
 
 /// A document of whole units.
 macro_rules! model {
@@ -111,6 +117,69 @@ fn two_workers_and_a_viewer_leave_the_same_model(rt: HostRuntime) -> Result<(), 
     let mut model = COMMIT_AND_ABORT.model.to_string(rt.alloc())?;
     model.push_str("\n")?;
     assert!(rt; written.as_slice().ends_with(model.as_bytes()));
+    assert_eq!(rt; seen.len(), 1);
+    for numbers in seen.as_slice() {
+        assert_eq!(rt; numbers.last(), Some(&1));
+    }
+    Ok(())
+}
+
+/// What so many workers write of a run before so many viewers, and the changes that each viewer saw.
+fn served<R: Threads + Wait + Sync>(
+    rt: &R,
+    alloc: Global,
+    run: &Run,
+    workers: usize,
+    viewers: usize,
+) -> Result<(Vec<u8>, Vec<Vec<u64>>), ServeFault>
+    requires workers { (1 ≤ workers) × (workers ≤ 16) }
+    requires viewers { viewers ≤ 4 }
+{
+    let (document, scripts) = (run.document.as_bytes(), run.scripts.as_bytes());
+    let mut written = Vec::new(alloc);
+    let mut writer = Device::new(&mut written);
+    let seen = serve_texts(rt, alloc, document, scripts, &mut writer, workers, viewers)?;
+    drop(writer);
+    Ok((written, seen))
+}
+
+/// Runs that several workers can end in one order alone.
+const OF_ONE_ORDER: [Run; 2] = [NOTHING_TO_DO, TYPE_IS_FIXED];
+
+#[test]
+fn workers_write_what_one_does_where_there_is_one_order(rt: HostRuntime) -> Result<(), Fail> {
+    for run in &OF_ONE_ORDER {
+        let wanted = format!(in rt.alloc(); "{}{}\n", run.report, run.model)?;
+        let (written, seen) = served(&rt, rt.alloc(), run, 4, 2)?;
+        assert_eq!(rt; written.as_slice(), wanted.as_bytes(), "{}", run.shows);
+        let all = format!(in rt.alloc(); "{seen:?}")?;
+        assert_eq!(rt; all.as_str(), "[[0], [0]]", "{}", run.shows);
+    }
+    Ok(())
+}
+
+/// The lines of the two scripts of `COMMIT_AND_ABORT`, up to the number of ends that each began after.
+const LINES: [&str; 2] = [
+    r#"{"name":"a","outcome":"committed","replies":[{"found":{"object":{"type":"LandUse"},"vertices":[]}},"added","absent"],"script":0,"since":"#,
+    r#"{"name":"b","outcome":"aborted","replies":["replaced"],"script":1,"since":"#,
+];
+
+/// Whether a text has the two lines in this order, and then the model.
+fn is_in_order(alloc: Global, text: &[u8], first: usize, second: usize) -> Result<bool, AllocError>
+    requires { (first < 2) × (second < 2) }
+{
+    let (first, second, model) = (LINES[first], LINES[second], COMMIT_AND_ABORT.model);
+    let apart = format!(in alloc; "{first}0}}\n{second}1}}\n{model}\n")?;
+    let together = format!(in alloc; "{first}0}}\n{second}0}}\n{model}\n")?;
+    Ok(text == apart.as_bytes() || text == together.as_bytes())
+}
+
+#[test]
+fn two_workers_write_two_scripts_in_either_order(rt: HostRuntime) -> Result<(), Fail> {
+    let (text, seen) = served(&rt, rt.alloc(), &COMMIT_AND_ABORT, 2, 1)?;
+    let in_order = is_in_order(rt.alloc(), text.as_slice(), 0, 1)?;
+    let reversed = is_in_order(rt.alloc(), text.as_slice(), 1, 0)?;
+    assert!(rt; in_order || reversed);
     assert_eq!(rt; seen.len(), 1);
     for numbers in seen.as_slice() {
         assert_eq!(rt; numbers.last(), Some(&1));
