@@ -25,6 +25,8 @@ mod gates;
 #[cfg(test)]
 mod locks;
 #[cfg(test)]
+mod long_lists;
+#[cfg(test)]
 mod model;
 #[cfg(test)]
 mod reading;

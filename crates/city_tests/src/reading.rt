@@ -20,7 +20,7 @@ fn answer(alloc: Global, text: &str) -> Result<String, AllocError> {
 }
 
 /// What reading a document of these objects and vertices answers.
-fn answer_of(alloc: Global, objects: &str, vertices: &str) -> Result<String, Fail> {
+pub fn answer_of(alloc: Global, objects: &str, vertices: &str) -> Result<String, Fail> {
     let text = document(alloc, objects, vertices)?;
     Ok(answer(alloc, text.as_str())?)
 }
