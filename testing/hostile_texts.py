@@ -19,6 +19,7 @@ import tempfile
 from concurrent.futures import ThreadPoolExecutor
 
 import json_texts
+import json_tree
 import random_runs
 import second_reading as second
 
@@ -167,7 +168,7 @@ def script_text(count):
 
 
 def limits():
-    longest = second.LONGEST
+    longest = json_tree.LONGEST
     for length in (longest, longest + 1):
         yield EMPTY + b" " * (length - len(EMPTY)), b"[]"
         yield EMPTY, b"[]" + b" " * (length - 2)

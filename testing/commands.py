@@ -1,0 +1,171 @@
+"""Scripts, and what their commands do (docs/COMMANDS.md)."""
+
+from documents import FAMILY_OF, Pool, has_open_shell, has_same_twice, has_short_ring, object_fault, object_tree
+from documents import position_fault, with_points
+from json_tree import Fault, are_triples, tree_of
+
+MOST_SCRIPTS = 4096
+MOST_COMMANDS = 1024
+
+
+class Refusal(Exception):
+    """A command is refused: the cause, and the id that it names."""
+
+
+def read_scripts(text):
+    """Returns each script's name and commands; a command is its verb and what it has."""
+    tree = tree_of(text)
+    if not isinstance(tree, list):
+        raise Fault(4, "NotScripts")
+    for number, script in enumerate(tree):
+        if not is_script(script):
+            raise Fault(5, "BadScript", number)
+    if len(tree) > MOST_SCRIPTS or any(len(script["commands"]) > MOST_COMMANDS for script in tree):
+        raise Fault(6, "TooMany")
+    for number, script in enumerate(tree):
+        for place, command in enumerate(script["commands"]):
+            if not is_command(command):
+                raise Fault(7, "BadCommand", number, place)
+    for number, script in enumerate(tree):
+        count = len(script.get("vertices", []))
+        for place, command in enumerate(script["commands"]):
+            if "object" in command and not isinstance(command, str) and position_fault(command["object"], count):
+                raise Fault(8, "BadVertex", number, place)
+    return [
+        (script["name"], [command_of(command, script.get("vertices", [])) for command in script["commands"]])
+        for script in tree
+    ]
+
+
+def is_script(script):
+    if not isinstance(script, dict) or not {"name", "commands"} <= set(script) <= {"name", "commands", "vertices"}:
+        return False
+    commands = script["commands"]
+    if not isinstance(script["name"], str) or not isinstance(commands, list) or not are_triples(script.get("vertices", [])):
+        return False
+    ends = [command in ("commit", "abort") for command in commands]
+    return bool(ends) and ends[-1] and not any(ends[:-1])
+
+
+def is_command(command):
+    if isinstance(command, str):
+        return command in ("commit", "abort")
+    if not isinstance(command, dict):
+        return False
+    for members in (["read"], ["delete"], ["attach", "parent"], ["detach", "parent"]):
+        if set(command) == set(members):
+            return all(isinstance(command[name], str) for name in members)
+    if set(command) != {"put", "object"} or not isinstance(command["put"], str):
+        return False
+    obj = command["object"]
+    return isinstance(obj, dict) and "parents" not in obj and "children" not in obj and object_fault(obj) is None
+
+
+def command_of(command, vertices):
+    if isinstance(command, str):
+        return (command,)
+    verb = next(name for name in ("read", "put", "delete", "attach", "detach") if name in command)
+    if verb == "put":
+        return verb, command["put"], with_points(command["object"], vertices)
+    if verb in ("attach", "detach"):
+        return verb, command[verb], command["parent"]
+    return verb, command[verb]
+
+
+def play(city, commands, memory_until=None):
+    """Returns the city that a script leaves, its outcome and its replies.
+
+    Want of memory ends it at the command of that place, if one is named.
+    """
+    view, replies = dict(city), []
+    for place, command in enumerate(commands):
+        if place == memory_until:
+            return city, {"outcome": "nomemory", "at": place}, replies
+        try:
+            reply = done(view, command)
+        except Refusal as refusal:
+            cause, *named = refusal.args
+            return city, {"outcome": "refused", "at": place, "cause": cause, **({"id": named[0]} if named else {})}, replies
+        if reply == "committed":
+            return view, {"outcome": reply}, replies
+        if reply == "aborted":
+            return city, {"outcome": reply}, replies
+        replies.append(reply)
+    raise AssertionError("a script ends by commit or abort")
+
+
+def done(view, command):
+    return globals()["do_" + command[0]](view, *command[1:])
+
+
+def do_read(view, name):
+    if name not in view:
+        return "absent"
+    pool = Pool()
+    return {"found": {"object": object_tree(view[name], pool), "vertices": pool.points()}}
+
+
+def do_put(view, name, body):
+    for has, cause in ((has_short_ring, "ShortRing"), (has_same_twice, "SameTwice"), (has_open_shell, "OpenShell")):
+        if has(body):
+            raise Refusal(cause)
+    there = view.get(name)
+    if there and there["type"] != body["type"]:
+        raise Refusal("TypeFixed", name)
+    relations = {kind: there[kind] if there else [] for kind in ("parents", "children")}
+    view[name] = {**body, **relations}
+    return "replaced" if there else "added"
+
+
+def changed(view, name, kind, items):
+    view[name] = {**view[name], kind: items}
+
+
+def do_delete(view, name):
+    if name not in view:
+        raise Refusal("NoObject", name)
+    if view[name]["children"]:
+        raise Refusal("HasChildren", name)
+    del view[name]
+    for other in list(view):
+        if name in view[other]["children"]:
+            changed(view, other, "children", [child for child in view[other]["children"] if child != name])
+    return "deleted"
+
+
+def both(view, child, parent):
+    for name in (child, parent):
+        if name not in view:
+            raise Refusal("NoObject", name)
+
+
+def do_attach(view, child, parent):
+    both(view, child, parent)
+    kind, over = view[child]["type"], view[parent]["type"]
+    if child == parent or kind == FAMILY_OF[kind] or FAMILY_OF[kind] != FAMILY_OF[over]:
+        raise Refusal("WrongFamily")
+    if parent in view[child]["parents"]:
+        raise Refusal("AlreadyAttached")
+    changed(view, child, "parents", view[child]["parents"] + [parent])
+    changed(view, parent, "children", view[parent]["children"] + [child])
+    return "attached"
+
+
+def do_detach(view, child, parent):
+    both(view, child, parent)
+    if parent not in view[child]["parents"]:
+        raise Refusal("NotAttached")
+    changed(view, child, "parents", [name for name in view[child]["parents"] if name != parent])
+    changed(view, parent, "children", [name for name in view[parent]["children"] if name != child])
+    return "detached"
+
+
+def do_commit(view):
+    orphans = [name for name, obj in view.items() if obj["type"] != FAMILY_OF[obj["type"]] and not obj["parents"]]
+    if orphans:
+        raise Refusal("Orphan", min(orphans))
+    return "committed"
+
+
+def do_abort(view):
+    return "aborted"
