@@ -17,6 +17,8 @@ macro_rules! model {
 }
 
 #[cfg(test)]
+mod board;
+#[cfg(test)]
 mod crew;
 #[cfg(test)]
 mod desk;

@@ -1,0 +1,367 @@
+//! Viewers of a board whose poster is a desk's shelf: what each sees between commits, shows and notes.
+ghost use Rattle.std.specs.Prelude.{◌≡◌, ◌≤◌, All, IfSome};
+ghost use Rattle.city_model.specs.CityMap.{at};
+ghost use Rattle.city_model.specs.Relations.{IsLawful};
+
+use city_crew::board::board;
+use city_crew::note::Note;
+use city_crew::poster::Poster;
+use city_crew::viewer::Viewer;
+use city_desk::desk::Desk;
+use city_desk::shelf::Shelf;
+use city_desk::turn::Turn;
+use city_doc::read::read_city;
+use city_doc::scripts::read_scripts;
+use city_model::city::City;
+use city_model::copied::Copied;
+use city_model::script::Script;
+use city_model::sequence::Sequence;
+use std::alloc::Global;
+use std::sync::Wait;
+use std::test::Fail;
+use std::thread::{Threads, join};
+
+/// A lawful city without objects.
+fn empty(alloc: Global) -> Option<City>
+    ensures { IfSome result (λ city. IsLawful (at city.1)) }
+{
+    match read_city(alloc, model!("{}", "[]").as_bytes()) {
+        Ok(city) => Some(city),
+        Err(_) => None,
+    }
+}
+
+/// Three scripts that put a Road each.
+const PUTS: &str = concat!(
+    r#"[{"name":"a","commands":[{"put":"g","object":{"type":"Road"}},"commit"]},"#,
+    r#"{"name":"b","commands":[{"put":"h","object":{"type":"Road"}},"commit"]},"#,
+    r#"{"name":"c","commands":[{"put":"i","object":{"type":"Road"}},"commit"]}]"#
+);
+
+/// Two scripts that put a Road each, and one that takes the first away.
+const PUTS_AND_A_DELETE: &str = concat!(
+    r#"[{"name":"a","commands":[{"put":"g","object":{"type":"Road"}},"commit"]},"#,
+    r#"{"name":"b","commands":[{"put":"h","object":{"type":"Road"}},"commit"]},"#,
+    r#"{"name":"c","commands":[{"delete":"g"},"commit"]}]"#
+);
+
+fn scripts_of(alloc: Global, text: &str) -> Option<Sequence<Script>> {
+    match read_scripts(alloc, text.as_bytes()) {
+        Ok(scripts) => Some(scripts),
+        Err(_) => None,
+    }
+}
+
+/// A desk over a city without objects, whose shelf is a board's poster, and the board's viewers.
+fn opened<'r, R: Wait>(
+    rt: &'r R,
+    alloc: Global,
+    scripts: Sequence<Script>,
+    city: City,
+    places: usize,
+) -> Option<(Desk<Poster<&'r R>>, Vec<Viewer>)>
+    requires lawful { IsLawful (at city.1) }
+    requires places { places ≤ 4 }
+    ensures { IfSome result (λ r. All (λ v. v.name ≡ r.0.1.name) r.1.items) }
+{
+    let Ok(copy) = city.copy(alloc) else {
+        return None;
+    };
+    let (poster, viewers) = board(rt, alloc, copy, places).ok()?;
+    let desk = Desk::open(alloc, city, scripts, poster).ok()?;
+    Some((desk, viewers))
+}
+
+/// One of the viewers that are left of a desk's board.
+fn one_of<R: Wait + Drop>(desk: &Desk<Poster<R>>, viewers: &mut Vec<Viewer>) -> Option<Viewer>
+    requires { All (λ v. v.name ≡ desk.now.1.name) viewers.old.items }
+    ensures one { IfSome result (λ v. v.name ≡ desk.now.1.name) }
+    ensures rest { All (λ v. v.name ≡ desk.now.1.name) viewers.new.items }
+{
+    let _ = desk;
+    viewers.pop()
+}
+
+/// The next turn of a script, if there is one.
+fn turn<S: Shelf>(desk: &mut Desk<S>, script: usize) -> Option<Turn>
+    ensures { S.name desk.new.1 ≡ S.name desk.old.1 }
+{
+    if script < desk.scripts() {
+        Some(desk.turn(script))
+    } else {
+        None
+    }
+}
+
+/// Turns the next script, which has two commands, to its end: whether it ended.
+fn end_next<S: Shelf>(desk: &mut Desk<S>) -> bool
+    ensures { S.name desk.new.1 ≡ S.name desk.old.1 }
+{
+    let Some(script) = desk.take() else {
+        return false;
+    };
+    let _began = turn(desk, script);
+    let _replied = turn(desk, script);
+    turn(desk, script) == Some(Turn::Ended)
+}
+
+/// The same at a desk whose shelf is a poster.
+fn commit_next<R: Wait + Drop>(desk: &mut Desk<Poster<R>>) -> bool
+    ensures { desk.new.1.name ≡ desk.old.1.name }
+{
+    end_next(desk)
+}
+
+/// Shows all commits so far, and gives a note of them.
+fn shown<R: Wait + Drop, Q: Wait>(rt: &Q, desk: &mut Desk<Poster<R>>) -> Option<Note>
+    ensures desk { desk.new.1.name ≡ desk.old.1.name }
+    ensures note { IfSome result (λ note. note.name ≡ desk.old.1.name) }
+{
+    desk.show(rt).ok()
+}
+
+/// How many changes a viewer sees; none where its look is refused, where it sees fewer than before, or
+/// where there isn't an object for each.
+fn counted(viewer: Viewer, before: u64) -> Option<(Viewer, u64)>
+    ensures { IfSome result (λ r. r.0.name ≡ viewer.name) }
+{
+    let Ok(look) = viewer.look() else {
+        return None;
+    };
+    let (edits, objects) = (look.edits(), look.city().len());
+    let viewer = look.leave();
+    if before <= edits && objects as u64 == edits {
+        Some((viewer, edits))
+    } else {
+        None
+    }
+}
+
+/// The ids of a city's objects, a space before each.
+fn ids(alloc: Global, city: &City) -> Option<String> {
+    let mut all = String::new(alloc);
+    for (id, _) in city.iter() {
+        all.push_str(" ").ok()?;
+        all.push_str(id.as_str()).ok()?;
+    }
+    Some(all)
+}
+
+/// Writes down how many changes a viewer sees, and which objects.
+fn noted(alloc: Global, viewer: Viewer, seen: &mut String) -> Option<Viewer>
+    ensures { IfSome result (λ v. v.name ≡ viewer.name) }
+{
+    let Ok(look) = viewer.look() else {
+        return None;
+    };
+    let (edits, objects) = (look.edits(), ids(alloc, look.city()));
+    let viewer = look.leave();
+    let objects = objects?;
+    let line = format!(in alloc; "{edits}{objects}\n").ok()?;
+    seen.push_str(&line).ok()?;
+    Some(viewer)
+}
+
+/// Does what a word says: `commit` ends the next script, `show` shows the commits so far and tells
+/// the viewer, and `look` writes down what the viewer sees.
+fn follow<R: Wait + Drop, Q: Wait>(
+    rt: &Q,
+    alloc: Global,
+    desk: &mut Desk<Poster<R>>,
+    viewer: Viewer,
+    word: &str,
+    seen: &mut String,
+) -> Option<Viewer>
+    requires { viewer.name ≡ desk.old.1.name }
+    ensures desk { desk.new.1.name ≡ desk.old.1.name }
+    ensures viewer { IfSome result (λ v. v.name ≡ viewer.name) }
+{
+    if word == "look" {
+        return noted(alloc, viewer, seen);
+    }
+    if word == "show" {
+        let note = shown(rt, desk)?;
+        return Some(viewer.learn(&note));
+    }
+    if commit_next(desk) {
+        Some(viewer)
+    } else {
+        None
+    }
+}
+
+/// Does what the words say, one after the other.
+fn follow_all<R: Wait + Drop, Q: Wait>(
+    rt: &Q,
+    alloc: Global,
+    desk: &mut Desk<Poster<R>>,
+    viewer: Viewer,
+    words: &str,
+    seen: &mut String,
+) -> Option<Viewer>
+    requires { viewer.name ≡ desk.old.1.name }
+    ensures desk { desk.new.1.name ≡ desk.old.1.name }
+    ensures viewer { IfSome result (λ v. v.name ≡ viewer.name) }
+{
+    let mut viewer = viewer;
+    for word in words.split_whitespace() {
+        viewer = follow(rt, alloc, desk, viewer, word, seen)?;
+    }
+    Some(viewer)
+}
+
+/// The lines that are written down, and then the objects of the desk's city at the end.
+fn ended<S: Shelf>(alloc: Global, desk: Desk<S>, seen: &str) -> Option<String> {
+    let Ok(finished) = desk.finish() else {
+        return None;
+    };
+    let objects = ids(alloc, &finished.city)?;
+    format!(in alloc; "{seen}{objects}").ok()
+}
+
+/// What the viewer of a board sees where these words are followed, and the objects at the end.
+fn seen_by_one<R: Wait>(rt: &R, alloc: Global, words: &str) -> Option<String> {
+    let scripts = scripts_of(alloc, PUTS)?;
+    let city = empty(alloc)?;
+    let (mut desk, mut viewers) = opened(rt, alloc, scripts, city, 1)?;
+    let viewer = one_of(&desk, &mut viewers)?;
+    let mut seen = String::new(alloc);
+    let _viewer = follow_all(rt, alloc, &mut desk, viewer, words, &mut seen)?;
+    ended(alloc, desk, &seen)
+}
+
+#[test]
+fn a_viewer_sees_what_was_shown(rt: HostRuntime) -> Result<(), Fail> {
+    let words = "look commit look show look commit commit look show look";
+    let seen = seen_by_one(&rt, rt.alloc(), words).ok_or("not looked at")?;
+    assert_eq!(rt; seen.as_str(), "0\n0\n1 g\n1 g\n3 g h i\n g h i");
+    Ok(())
+}
+
+#[test]
+fn a_show_of_nothing_changes_nothing(rt: HostRuntime) -> Result<(), Fail> {
+    let words = "show look commit show show look show commit commit look";
+    let seen = seen_by_one(&rt, rt.alloc(), words).ok_or("not looked at")?;
+    assert_eq!(rt; seen.as_str(), "0\n1 g\n1 g\n g h i");
+    Ok(())
+}
+
+/// What two viewers of a board see, of whom each is told of other shows, and the objects at the end.
+fn seen_by_two<R: Wait>(rt: &R, alloc: Global) -> Option<String> {
+    let scripts = scripts_of(alloc, PUTS_AND_A_DELETE)?;
+    let city = empty(alloc)?;
+    let (mut desk, mut viewers) = opened(rt, alloc, scripts, city, 2)?;
+    let first = one_of(&desk, &mut viewers)?;
+    let second = one_of(&desk, &mut viewers)?;
+    let mut seen = String::new(alloc);
+    see_by_turns(rt, alloc, &mut desk, first, second, &mut seen)?;
+    ended(alloc, desk, &seen)
+}
+
+/// Writes down what the viewers see when they follow words of their own, the first again after the
+/// second.
+fn see_by_turns<R: Wait + Drop, Q: Wait>(
+    rt: &Q,
+    alloc: Global,
+    desk: &mut Desk<Poster<R>>,
+    first: Viewer,
+    second: Viewer,
+    seen: &mut String,
+) -> Option<()>
+    requires first { first.name ≡ desk.old.1.name }
+    requires second { second.name ≡ desk.old.1.name }
+{
+    let first = follow_all(rt, alloc, desk, first, "commit commit look", seen)?;
+    let words = "look show look commit look show look";
+    let _second = follow_all(rt, alloc, desk, second, words, seen)?;
+    let _first = follow_all(rt, alloc, desk, first, "show look", seen)?;
+    Some(())
+}
+
+#[test]
+fn each_viewer_sees_all_that_it_was_told_of(rt: HostRuntime) -> Result<(), Fail> {
+    let seen = seen_by_two(&rt, rt.alloc()).ok_or("not looked at")?;
+    assert_eq!(rt; seen.as_str(), "0\n0\n2 g h\n2 g h\n3 h\n3 h\n h");
+    Ok(())
+}
+
+/// Whether a board may have no viewer.
+fn is_shown_to_nobody<R: Wait>(rt: &R, alloc: Global) -> Option<bool> {
+    let scripts = scripts_of(alloc, PUTS)?;
+    let city = empty(alloc)?;
+    let (mut desk, viewers) = opened(rt, alloc, scripts, city, 0)?;
+    let committed = commit_next(&mut desk);
+    Some(committed && shown(rt, &mut desk).is_some() && viewers.is_empty())
+}
+
+#[test]
+fn a_board_may_have_no_viewer(rt: HostRuntime) {
+    assert_eq!(rt; is_shown_to_nobody(&rt, rt.alloc()), Some(true));
+}
+
+/// How often a viewer looks at most.
+const LOOKS: u64 = 10_000_000;
+
+/// Looks until so many changes are seen, and gives how many were: none where a look was refused, saw
+/// fewer changes than the one before, or other objects than one for each.
+fn look_on(viewer: Viewer, enough: u64) -> Option<(Viewer, u64)>
+    ensures { IfSome result (λ r. r.0.name ≡ viewer.name) }
+{
+    let (mut viewer, mut last) = (viewer, 0);
+    for _ in 0..LOOKS {
+        if last >= enough {
+            break;
+        }
+        (viewer, last) = counted(viewer, last)?;
+    }
+    Some((viewer, last))
+}
+
+/// Ends the three scripts of a desk, shows each commit, and gives a note of the last.
+fn drive<R: Wait + Drop, Q: Wait>(rt: &Q, desk: Desk<Poster<R>>) -> Option<(Desk<Poster<R>>, Note)>
+    ensures { IfSome result (λ r. r.1.name ≡ desk.1.name) }
+{
+    let mut desk = desk;
+    let _first = commit_and_show(rt, &mut desk)?;
+    let _second = commit_and_show(rt, &mut desk)?;
+    let third = commit_and_show(rt, &mut desk)?;
+    Some((desk, third))
+}
+
+/// Ends the next script, and gives a note of all that is shown then.
+fn commit_and_show<R: Wait + Drop, Q: Wait>(rt: &Q, desk: &mut Desk<Poster<R>>) -> Option<Note>
+    ensures desk { desk.new.1.name ≡ desk.old.1.name }
+    ensures note { IfSome result (λ note. note.name ≡ desk.old.1.name) }
+{
+    if commit_next(desk) {
+        shown(rt, desk)
+    } else {
+        None
+    }
+}
+
+/// How many changes a viewer sees at last that has looked on from a thread of its own.
+fn seen_beside<R: Threads + Wait + Sync>(rt: &R, alloc: Global) -> Option<u64> {
+    let scripts = scripts_of(alloc, PUTS)?;
+    let city = empty(alloc)?;
+    let (desk, mut viewers) = opened(rt, alloc, scripts, city, 1)?;
+    let viewer = one_of(&desk, &mut viewers)?;
+    let (looked, driven) = join(
+        rt,
+        move || -> Option<(Viewer, u64)>
+            ensures { IfSome result (λ r. r.0.name ≡ viewer.name) }
+        { look_on(viewer, 3) },
+        move || -> Option<(Desk<Poster<&R>>, Note)>
+            ensures { IfSome result (λ r. r.1.name ≡ desk.entry.1.name) }
+        { drive(rt, desk) },
+    );
+    let (viewer, last) = looked?;
+    let (_desk, note) = driven?;
+    let (_viewer, edits) = counted(viewer.learn(&note), last)?;
+    Some(edits)
+}
+
+#[test]
+fn a_viewer_looks_on_from_a_thread_of_its_own(rt: HostRuntime) {
+    assert_eq!(rt; seen_beside(&rt, rt.alloc()), Some(3));
+}
