@@ -22,7 +22,7 @@ use std::test::Fail;
 use std::thread::{Threads, join};
 
 /// A lawful city without objects.
-fn empty(alloc: Global) -> Option<City>
+pub fn empty(alloc: Global) -> Option<City>
     ensures { IfSome result (λ city. IsLawful (at city.1)) }
 {
     match read_city(alloc, model!("{}", "[]").as_bytes()) {
@@ -32,7 +32,7 @@ fn empty(alloc: Global) -> Option<City>
 }
 
 /// Three scripts that put a Road each.
-const PUTS: &str = concat!(
+pub const PUTS: &str = concat!(
     r#"[{"name":"a","commands":[{"put":"g","object":{"type":"Road"}},"commit"]},"#,
     r#"{"name":"b","commands":[{"put":"h","object":{"type":"Road"}},"commit"]},"#,
     r#"{"name":"c","commands":[{"put":"i","object":{"type":"Road"}},"commit"]}]"#
@@ -45,7 +45,7 @@ const PUTS_AND_A_DELETE: &str = concat!(
     r#"{"name":"c","commands":[{"delete":"g"},"commit"]}]"#
 );
 
-fn scripts_of(alloc: Global, text: &str) -> Option<Sequence<Script>> {
+pub fn scripts_of(alloc: Global, text: &str) -> Option<Sequence<Script>> {
     match read_scripts(alloc, text.as_bytes()) {
         Ok(scripts) => Some(scripts),
         Err(_) => None,
@@ -53,7 +53,7 @@ fn scripts_of(alloc: Global, text: &str) -> Option<Sequence<Script>> {
 }
 
 /// A desk over a city without objects, whose shelf is a board's poster, and the board's viewers.
-fn opened<'r, R: Wait>(
+pub fn opened<'r, R: Wait>(
     rt: &'r R,
     alloc: Global,
     scripts: Sequence<Script>,
@@ -73,7 +73,7 @@ fn opened<'r, R: Wait>(
 }
 
 /// One of the viewers that are left of a desk's board.
-fn one_of<R: Wait + Drop>(desk: &Desk<Poster<R>>, viewers: &mut Vec<Viewer>) -> Option<Viewer>
+pub fn one_of<R: Wait + Drop>(desk: &Desk<Poster<R>>, viewers: &mut Vec<Viewer>) -> Option<Viewer>
     requires { All (λ v. v.name ≡ desk.now.1.name) viewers.old.items }
     ensures one { IfSome result (λ v. v.name ≡ desk.now.1.name) }
     ensures rest { All (λ v. v.name ≡ desk.now.1.name) viewers.new.items }
@@ -83,7 +83,7 @@ fn one_of<R: Wait + Drop>(desk: &Desk<Poster<R>>, viewers: &mut Vec<Viewer>) -> 
 }
 
 /// The next turn of a script, if there is one.
-fn turn<S: Shelf>(desk: &mut Desk<S>, script: usize) -> Option<Turn>
+pub fn turn<S: Shelf>(desk: &mut Desk<S>, script: usize) -> Option<Turn>
     ensures { S.name desk.new.1 ≡ S.name desk.old.1 }
 {
     if script < desk.scripts() {
@@ -106,14 +106,14 @@ fn end_next<S: Shelf>(desk: &mut Desk<S>) -> bool
 }
 
 /// The same at a desk whose shelf is a poster.
-fn commit_next<R: Wait + Drop>(desk: &mut Desk<Poster<R>>) -> bool
+pub fn commit_next<R: Wait + Drop>(desk: &mut Desk<Poster<R>>) -> bool
     ensures { desk.new.1.name ≡ desk.old.1.name }
 {
     end_next(desk)
 }
 
 /// Shows all commits so far, and gives a note of them.
-fn shown<R: Wait + Drop, Q: Wait>(rt: &Q, desk: &mut Desk<Poster<R>>) -> Option<Note>
+pub fn shown<R: Wait + Drop, Q: Wait>(rt: &Q, desk: &mut Desk<Poster<R>>) -> Option<Note>
     ensures desk { desk.new.1.name ≡ desk.old.1.name }
     ensures note { IfSome result (λ note. note.name ≡ desk.old.1.name) }
 {
@@ -122,7 +122,7 @@ fn shown<R: Wait + Drop, Q: Wait>(rt: &Q, desk: &mut Desk<Poster<R>>) -> Option<
 
 /// How many changes a viewer sees; none where its look is refused, where it sees fewer than before, or
 /// where there isn't an object for each.
-fn counted(viewer: Viewer, before: u64) -> Option<(Viewer, u64)>
+pub fn counted(viewer: Viewer, before: u64) -> Option<(Viewer, u64)>
     ensures { IfSome result (λ r. r.0.name ≡ viewer.name) }
 {
     let Ok(look) = viewer.look() else {
