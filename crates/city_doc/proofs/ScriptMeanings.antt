@@ -113,10 +113,11 @@ faultless_at : (ps : List ScriptParts) → AreFaultlessParts ps → (n : ℕ) (p
 faultless_at ps h n p at = record { good = λ i d there bad. h.1 n i (p, d, at, there, bad); placed = λ i d there bad. h.2 n i (p, d, at, there, bad) }
 
 -- scripts of whole numbers in which no fault stands
-pub scripts-there : (ds : List Data) (ps : List ScriptParts) → list_all is_integral ds ≡ true → all_read parts_of ds ≡ Some ps → AreFaultlessParts ps → all_read script_of ps ≡ None → ⊥
+pub scripts-there : (ds : List Data) (ps : List ScriptParts) → list_all is_integral ds ≡ true → all_read parts_of ds ≡ Some ps → AreFaultlessParts ps
+    → option_and_then scripts_of_parts (all_read parts_of ds) ≡ None → ⊥
 scripts-there ds ps integral read h none =
     let ss = scripts_some ps (all_good ds ps integral read) (faultless_at ps h) in
-    let there = ss.1 in cc
+    let there : option_and_then scripts_of_parts (all_read parts_of ds) ≡ Some ss.0 = rw (read, h.0) ss.1 in cc
 
 -- ---- a script that stands for one has no fault
 
@@ -135,9 +136,5 @@ script_of-faultless p s i d h at =
 
 -- ---- the scripts of an array
 
-pub scripts_of-parts : (ds : List Data) (ps : List ScriptParts) (ss : List Scripted) → all_read parts_of ds ≡ Some ps → are_too_many ps ≡ false → all_read script_of ps ≡ Some ss
-    → option_and_then scripts_of_parts (all_read parts_of ds) ≡ Some ss
-scripts_of-parts ds ps ss read few h = rw (read, few) h
-
-pub scripts_of-array : (d : Data) (ds : List Data) (ss : List Scripted) → array_of d ≡ Some ds → option_and_then scripts_of_parts (all_read parts_of ds) ≡ Some ss → scripts_of d ≡ Some ss
-scripts_of-array d ds ss is h = rw is h
+pub scripts_of-array : (d : Data) (o : Option (List Data)) → array_of d ≡ o → scripts_of d ≡ option_and_then scripts_of_parts (option_and_then (all_read parts_of) o)
+scripts_of-array d o is = ap (λ ds. option_and_then scripts_of_parts (option_and_then (all_read parts_of) ds)) is

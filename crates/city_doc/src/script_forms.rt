@@ -3,7 +3,7 @@ ghost use Rattle.std.specs.Prelude.{◌≡◌, ◌⊎◌, true, map, Some, IfOk,
 ghost use Rattle.city_model.specs.Members.{without};
 ghost use Rattle.serde_json.specs.View.{view, members_view};
 ghost use Rattle.city_doc.specs.ScriptTrees.{all_read, is_end_text, is_end_word, word_ends, are_vertices, has_script_members, commands_in, parts_of, parts_in, are_too_many};
-ghost use Rattle.city_doc.specs.ScriptForms.{parts_view, parts_views};
+ghost use Rattle.city_doc.specs.ScriptForms.{parts_view, parts_views, has_too_many_commands};
 ghost use Rattle.city_doc.specs.ScriptSearch.{first_at, bad_script};
 
 use crate::command_of::take_text;
@@ -100,7 +100,7 @@ fn parts_in(mut members: Map<String, Value>) -> Option<ScriptForm>
 }
 
 /// The parts of a script, where the tree has the form of one.
-fn parts_of(script: Value) -> Option<ScriptForm>
+pub fn parts_of(script: Value) -> Option<ScriptForm>
     ensures { option_map parts_view result ≡ parts_of (view script) }
 {
     let members = into_object(script)?;
@@ -130,6 +130,13 @@ pub fn forms_of(alloc: Global, items: Vec<Value>) -> Result<Sequence<ScriptForm>
     Ok(forms)
 }
 
+/// Whether a script has too many commands.
+pub fn has_too_many_commands(form: &ScriptForm) -> bool
+    ensures { result ≡ has_too_many_commands (parts_view form.now) }
+{
+    form.commands.len() > MAX_COMMANDS
+}
+
 /// Whether there are too many scripts, or too many commands in one.
 pub fn are_too_many(forms: &[ScriptForm]) -> bool
     ensures { result ≡ are_too_many (parts_views forms.now) }
@@ -138,7 +145,7 @@ pub fn are_too_many(forms: &[ScriptForm]) -> bool
         return true;
     }
     for form in forms {
-        if form.commands.len() > MAX_COMMANDS {
+        if has_too_many_commands(form) {
             return true;
         }
     }
