@@ -1,5 +1,6 @@
 pub mod AllRead
 pub mod ArrangedCities
+pub mod BuiltObjects
 pub mod BuiltScripts
 pub mod Cities
 mod CityNests
