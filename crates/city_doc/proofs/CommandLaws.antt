@@ -152,7 +152,3 @@ form_fits (object ms) = members_hold (fits (object ms)) ms (λ id. (refl, tt)) (
 
 pub form_fit : (d : Data) (f : CommandForm) → form_of d ≡ Some f → fits d f
 form_fit d f h = subst (holds (fits d)) h (form_fits d)
-
--- the command of a put, whose object is looked up anew
-pub put_formed : (points : List Point) (d : Data) (id : List ℕ) (tree : Data) → form_of d ≡ Some (PutForm id tree) → option_and_then (put_of points id) (get (codes "object") d) ≡ command_of points d
-put_formed points d id tree h = let own = (form_fit d (PutForm id tree) h).1 in rw (own, h) refl

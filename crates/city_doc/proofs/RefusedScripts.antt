@@ -79,9 +79,6 @@ refused text f (inr (inr (inr (inr h)))) = inr (λ ss is. tree_refused h.0 ss f 
 
 -- ---- a text whose tree stands for no scripts
 
-pub none_stands : (text : List ℕ) (d : Data) → HasTree text d → scripts_of d ≡ None → (ss : List Scripted) → IsReadAs text ss → ⊥
-none_stands text d tree none ss is = none_some (scripts_of d) ss none (ap scripts_of (same_tree text d is.0 tree is.1) ∙ is.3)
-
 none_of : {A : Type 0} (o : Option A) → ((x : A) → o ≡ Some x → ⊥) → o ≡ None
 none_of None h = refl
 none_of (Some x) h = absurd (h x refl)

@@ -2,16 +2,12 @@
 use Rattle.std.proofs.Common.{◌≡◌, ℕ, ◌+◌, ◌<◌, List, Bool, true, false, true≢false, Option, Some, None, option_map, refl, sym, ap, subst, ◌∙◌, inl, inr, zero-add}
 use Rattle.std.specs.Prelude.{◌⊎◌, slice_get, if◌then◌else◌}
 use Rattle.serde_json.specs.Data.{Data}
-use Rattle.city_model.specs.Integral.{is_integral}
 use Rattle.city_doc.specs.declared.fault.ScriptFault.{ScriptFault}
 use Rattle.city_doc.specs.declared.fault.ScriptFault.TheVariants.{OutOfMemory, BadScript, BadCommand, BadVertex}
-use Rattle.city_doc.specs.declared.parse.TextFault.{TextFault}
 use Rattle.city_doc.specs.BadCommands.{is_bad_command, names_bad_vertex}
 use Rattle.city_doc.specs.ScriptTrees.{ScriptParts, array_of, all_read, vertex_count, parts_of, are_too_many}
-use Rattle.city_doc.specs.ScriptTexts.{HasAt, IsBefore, IsFirstAt, PartsFault, ItemsFault, TreeFault, ScriptTextFault}
+use Rattle.city_doc.specs.ScriptTexts.{HasAt, IsBefore, IsFirstAt, PartsFault, ItemsFault, TreeFault}
 use Rattle.city_doc.specs.ScriptSearch.{first_at, unless, bad_script, index_if, first_in, index_in, first_command}
-use Rattle.city_doc.specs.TextFaults.{script_fault}
-use Rattle.city_doc.specs.Texts.{HasTree, IsRefused}
 use Rattle.city_doc.proofs.FirstAt.{first_at-is, first_at-none}
 
 unless_some : {A B : Type 0} (o : Option A) (y z : B) → unless o y ≡ Some z → (o ≡ None) × (z ≡ y)
@@ -108,15 +104,3 @@ parts_fault-items ds ps f read h = inr (ps, read, h)
 pub items_fault_or : (d : Data) (ds : List Data) (f : ScriptFault) → array_of d ≡ Some ds → (f ≡ OutOfMemory) ⊎ ItemsFault ds f → (f ≡ OutOfMemory) ⊎ TreeFault d f
 items_fault_or d ds f is (inl h) = inl h
 items_fault_or d ds f is (inr h) = inr (inr (ds, is, h))
-
--- ---- the fault of a text
-
-pub text_fault : (text : List ℕ) (t : TextFault) → IsRefused text t → ScriptTextFault text (script_fault t)
-text_fault text TextFault.OutOfMemory h = inl refl
-text_fault text TextFault.TooLong h = inr (inl (refl, h))
-text_fault text TextFault.NotJson h = inr (inr (inl (refl, h)))
-text_fault text TextFault.NotWhole h = inr (inr (inr (inl (refl, h))))
-
-pub tree_fault_or : (text : List ℕ) (d : Data) (f : ScriptFault) → HasTree text d → is_integral d ≡ true → (f ≡ OutOfMemory) ⊎ TreeFault d f → ScriptTextFault text f
-tree_fault_or text d f tree integral (inl h) = inl h
-tree_fault_or text d f tree integral (inr h) = inr (inr (inr (inr (d, tree, integral, h))))

@@ -2,7 +2,7 @@
 use Rattle.std.proofs.Common.{◌≡◌, ℕ, suc, List, [], ◌∷◌, length, Bool, true, false, Option, Some, None, option_map, refl, sym, ap, ◌∙◌}
 use Rattle.std.specs.Prelude.{◌&&◌, option_and_then, codes, slice_get, if◌then◌else◌}
 use Rattle.std.specs.List.{list_all}
-use Rattle.std.proofs.lemmas.Bool.{and_parts}
+use Rattle.std.proofs.lemmas.Bool.{and_parts, false_from_ne_true}
 use Rattle.serde_json.specs.Data.{Data, Items, no_items, item, Members}
 use Rattle.serde_json.specs.Find.{at, get_member, as_object, as_array}
 use Rattle.city_model.specs.declared.object.Point.{Point}
@@ -87,16 +87,12 @@ record IsFaultlessScript (p : ScriptParts) : Type 0 where
   good : (i : ℕ) (d : Data) → slice_get p.commands i ≡ Some d → is_bad_command d ≡ true → ⊥
   placed : (i : ℕ) (d : Data) → slice_get p.commands i ≡ Some d → names_bad_vertex (vertex_count p.vertices) d ≡ true → ⊥
 
-not_true : (b : Bool) → (b ≡ true → ⊥) → b ≡ false
-not_true true h = absurd (h refl)
-not_true false h = refl
-
 command_there : (p : ScriptParts) (points : List Point) → list_all is_integral p.commands ≡ true → IsFaultlessScript p → vertex_points p.vertices ≡ Some points
     → (i : ℕ) (d : Data) → slice_get p.commands i ≡ Some d → (c : Command) × (command_of points d ≡ Some c)
 command_there p points integral h read i d at =
     let placed : names_bad_vertex (length points) d ≡ false =
-    ap (λ n. names_bad_vertex n d) (vertex_points-as_many p.vertices points read) ∙ not_true (names_bad_vertex (vertex_count p.vertices) d) (h.placed i d at) in
-    command_of-some points d (in_all is_integral p.commands i d integral at) (not_true (is_bad_command d) (h.good i d at)) placed
+    ap (λ n. names_bad_vertex n d) (vertex_points-as_many p.vertices points read) ∙ false_from_ne_true (names_bad_vertex (vertex_count p.vertices) d) (h.placed i d at) in
+    command_of-some points d (in_all is_integral p.commands i d integral at) (false_from_ne_true (is_bad_command d) (h.good i d at)) placed
 
 script_some : (p : ScriptParts) → are_good_parts p ≡ true → IsFaultlessScript p → (s : Scripted) × (script_of p ≡ Some s)
 script_some p ok h =

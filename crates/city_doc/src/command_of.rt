@@ -7,7 +7,7 @@ ghost use Rattle.city_doc.specs.CommandForms.{put_of, command_of};
 use crate::bad_command::names_relations;
 use crate::body::body_of;
 use crate::command_form::{Form, form_of};
-use crate::judge::named;
+use crate::values::named;
 use city_model::command::Command;
 use city_model::members::{into_object, take};
 use city_model::object::Point;

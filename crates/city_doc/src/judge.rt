@@ -16,10 +16,11 @@ use crate::ids::has_bad_list;
 use crate::object_faults::{has_bad_vertex, is_bad_geometry, type_of, unsupported_name};
 use crate::parse::parse;
 use crate::top::wrong_member;
+use crate::values::named;
 use crate::vertices::vertices_in;
 use city_model::members::member;
 use city_model::object::Point;
-use city_model::text::{Id, Text};
+use city_model::text::Id;
 use serde_json::{Map, Value};
 use std::alloc::{AllocError, Global};
 
@@ -97,13 +98,6 @@ fn first_with<'m, J: ObjectTest>(judge: &J, objects: &'m Map<String, Value>) -> 
         }
     }
     None
-}
-
-/// A copy of a name.
-pub fn named(alloc: Global, name: &str) -> Result<Text, AllocError>
-    ensures { IfOk result (λ text. text ≡ name.now) }
-{
-    Ok(Text::new(name.to_string(alloc)?))
 }
 
 /// What isn't supported in the object of an id.
