@@ -1,5 +1,5 @@
 -- Lists each of whose items is read.
-use Rattle.std.proofs.Common.{◌≡◌, ℕ, zero, suc, List, [], ◌∷◌, Bool, true, Option, Some, None, ◌++◌, option_map, refl, sym, ap, ◌∙◌}
+use Rattle.std.proofs.Common.{◌≡◌, ℕ, zero, suc, List, [], ◌∷◌, length, Bool, true, Option, Some, None, ◌++◌, option_map, refl, sym, ap, ◌∙◌}
 use Rattle.std.specs.Prelude.{option_and_then, slice_get}
 use Rattle.std.specs.List.{list_all}
 use Rattle.std.proofs.lemmas.Bool.{and_parts}
@@ -24,6 +24,11 @@ all_read-cons read x xs ys h = read_step (read x) (all_read read xs) ys h
 
 pub all_read-nil : {A B : Type 0} (read : A → Option B) (ys : List B) → all_read read [] ≡ Some ys → ys ≡ []
 all_read-nil read ys h = let is : Some [] ≡ Some ys = h in cc
+
+-- as many are read as there are
+pub all_read-length : {A B : Type 0} (read : A → Option B) (xs : List A) (ys : List B) → all_read read xs ≡ Some ys → length ys ≡ length xs
+all_read-length read [] ys h = ap length (all_read-nil read ys h)
+all_read-length read (x ∷ xs) ys h = let r = all_read-cons read x xs ys h in ap length r.4 ∙ ap suc (all_read-length read xs r.1 r.3)
 
 -- each item of a list that is read is read
 pub all_read-each : {A B : Type 0} (read : A → Option B) (xs : List A) (ys : List B) → all_read read xs ≡ Some ys → (n : ℕ) (x : A) → slice_get xs n ≡ Some x → (y : B) × (read x ≡ Some y)

@@ -1,15 +1,15 @@
--- Forms of commands: how many members they have, and what is taken out of them.
-use Rattle.std.proofs.Common.{◌≡◌, ℕ, List, Bool, true, false, true≢false, Option, Some, None, option_map, refl, sym, ap, ◌∙◌, arith}
-use Rattle.std.specs.Prelude.{◌==◌, ◌&&◌, option_and_then, codes, is_some, if◌then◌else◌}
+-- Forms of commands: how many members they have, and what they tell of their trees.
+use Rattle.std.proofs.Common.{◌≡◌, ℕ, List, Bool, true, false, true≢false, Option, Some, None, option_map, refl, subst, ◌∙◌, arith}
+use Rattle.std.specs.Prelude.{◌==◌, ◌&&◌, ◌||◌, option_and_then, codes, if◌then◌else◌}
 use Rattle.std.specs.Option.{option_or}
+use Rattle.std.specs.Str.{bytes_eq}
 use Rattle.serde_json.specs.Data.{Data, null, boolean, number, string, array, object, Members}
-use Rattle.serde_json.specs.Find.{get_member, as_str}
+use Rattle.serde_json.specs.Find.{get, get_member}
 use Rattle.city_model.specs.declared.object.Point.{Point}
-use Rattle.city_model.specs.declared.command.Command.TheVariants.{Delete, Attach, Detach}
-use Rattle.city_model.specs.Members.{without, members_count}
-use Rattle.city_model.proofs.MemberLaws.{get_member-without}
-use Rattle.city_doc.specs.CommandForms.{CommandForm, ReadForm, PutForm, DeleteForm, AttachForm, DetachForm, text_in, word_form, members_form, form_of, command_of_form, put_of}
-use Rattle.city_doc.specs.ScriptForms.{single_form, put_pair, relation_pair, pair_form}
+use Rattle.city_model.specs.Members.{members_count}
+use Rattle.city_doc.specs.CommandForms.{CommandForm, ReadForm, PutForm, DeleteForm, AttachForm, DetachForm, CommitForm, AbortForm, text_in, read_form, put_form, delete_form, attach_form, detach_form, members_form, form_of, put_of, command_of}
+use Rattle.city_doc.specs.ScriptForms.{single_form, pair_form}
+use Rattle.city_doc.specs.ScriptTrees.{is_end_word}
 
 -- ---- forms by the number of members
 
@@ -81,73 +81,74 @@ no_form n single pair one two = grind (arith, one, two)
 pub form-by_none : (ms : Members) → (members_count ms ≡ 1 → ⊥) → (members_count ms ≡ 2 → ⊥) → members_form ms ≡ None
 form-by_none ms one two = form-by_count ms ∙ no_form (members_count ms) (single_form ms) (pair_form ms) one two
 
-no_put : (put relation : Option CommandForm) → is_some put ≡ false → option_or put relation ≡ relation
-no_put None relation h = refl
-no_put (Some f) relation h = absurd (true≢false h)
+-- ---- a property of the forms of an object
 
--- two members that aren't those of a put
-pub pair-relation : (ms : Members) → is_some (put_pair ms) ≡ false → pair_form ms ≡ relation_pair ms
-pair-relation ms h = no_put (put_pair ms) (relation_pair ms) h
+abbrev holds : (CommandForm → Type 0) → Option CommandForm → Type 0
+holds P None = Unit {0}
+holds P (Some f) = P f
 
-or_none : {A : Type 0} (o : Option A) → option_or o None ≡ o
-or_none None = refl
-or_none (Some x) = refl
+or_holds : (P : CommandForm → Type 0) (a b : Option CommandForm) → holds P a → holds P b → holds P (option_or a b)
+or_holds P None b h k = k
+or_holds P (Some f) b h k = h
 
--- a text is a command only where it is a word
-pub form-word : (d : Data) (s : List ℕ) → as_str d ≡ Some s → form_of d ≡ word_form s
-form-word null s h = absurd (let no : ⊥ = cc in no)
-form-word (boolean b) s h = absurd (let no : ⊥ = cc in no)
-form-word (number n) s h = absurd (let no : ⊥ = cc in no)
-form-word (string t) s h = let is : Some t ≡ Some s = h in let same : t ≡ s = cc in or_none (word_form t) ∙ ap word_form same
-form-word (array ds) s h = absurd (let no : ⊥ = cc in no)
-form-word (object ms) s h = absurd (let no : ⊥ = cc in no)
+map_holds : {A : Type 0} (P : CommandForm → Type 0) (make : A → CommandForm) (o : Option A) → ((x : A) → P (make x)) → holds P (option_map make o)
+map_holds P make None h = tt
+map_holds P make (Some x) h = h x
 
--- ---- members that are taken out one after another
+-- of a put, where its object is known
+put_holds : (P : CommandForm → Type 0) (b : Bool) (t : Option (List ℕ)) (r : Option Data) → ((id : List ℕ) (d : Data) → r ≡ Some d → P (PutForm id d))
+    → holds P (option_map (λ (p : List ℕ × Data). PutForm p.0 p.1) (if b then option_and_then (λ s. option_map (λ d. (s, d)) r) t else None))
+put_holds P false t r h = tt
+put_holds P true None r h = tt
+put_holds P true (Some s) None h = tt
+put_holds P true (Some s) (Some d) h = h s d refl
 
-put_found : (points : List Point) (id : List ℕ) (o : Option Data) → option_and_then (command_of_form points) (option_map (PutForm id) o) ≡ option_and_then (put_of points id) o
-put_found points id None = refl
-put_found points id (Some d) = refl
+members_hold : (P : CommandForm → Type 0) (ms : Members) → ((id : List ℕ) → P (ReadForm id)) → ((id : List ℕ) → P (DeleteForm id)) → ((p : List ℕ × List ℕ) → P (AttachForm p.0 p.1))
+    → ((p : List ℕ × List ℕ) → P (DetachForm p.0 p.1)) → ((id : List ℕ) (d : Data) → get_member (codes "object") ms ≡ Some d → P (PutForm id d)) → holds P (members_form ms)
+members_hold P ms read delete attach detach put =
+    or_holds P (read_form ms) _ (map_holds P ReadForm _ read)
+    (or_holds P (put_form ms) _ (put_holds P (members_count ms == 2) (text_in (codes "put") ms) (get_member (codes "object") ms) put)
+    (or_holds P (delete_form ms) _ (map_holds P DeleteForm _ delete)
+    (or_holds P (attach_form ms) (detach_form ms) (map_holds P (λ (p : List ℕ × List ℕ). AttachForm p.0 p.1) _ attach)
+    (map_holds P (λ (p : List ℕ × List ℕ). DetachForm p.0 p.1) _ detach))))
 
--- a put, whose object is looked up after the id is taken out
-pub put-taken : (points : List Point) (ms rest : Members) (id : List ℕ) (o : Option Data) → text_in (codes "put") ms ≡ Some id → rest ≡ without (codes "put") ms → o ≡ get_member (codes "object") rest
-    → option_and_then (command_of_form points) (put_pair ms) ≡ option_and_then (put_of points id) o
-put-taken points ms rest id o is left found =
-    let same : get_member (codes "object") ms ≡ o = sym (found ∙ ap (get_member (codes "object")) left ∙ get_member-without (codes "object") (codes "put") ms refl) in
-    rw (is, same) (put_found points id o)
+-- ---- what a form tells of its tree
 
-deleted : (points : List Point) (o : Option (List ℕ)) → option_and_then (command_of_form points) (option_map DeleteForm o) ≡ option_map Delete o
-deleted points None = refl
-deleted points (Some id) = refl
+abbrev pub is_end_form : CommandForm → Bool
+is_end_form (ReadForm id) = false
+is_end_form (PutForm id tree) = false
+is_end_form (DeleteForm id) = false
+is_end_form (AttachForm child parent) = false
+is_end_form (DetachForm child parent) = false
+is_end_form CommitForm = true
+is_end_form AbortForm = true
 
-detached : (points : List Point) (parent : List ℕ) (o : Option (List ℕ))
-    → option_and_then (command_of_form points) (option_map (λ child. DetachForm child parent) o) ≡ option_map (λ child. Detach child parent) o
-detached points parent None = refl
-detached points parent (Some child) = refl
+-- what is put is the tree's own
+abbrev pub puts_own : Data → CommandForm → Type 0
+puts_own d (ReadForm id) = Unit {0}
+puts_own d (PutForm id tree) = get (codes "object") d ≡ Some tree
+puts_own d (DeleteForm id) = Unit {0}
+puts_own d (AttachForm child parent) = Unit {0}
+puts_own d (DetachForm child parent) = Unit {0}
+puts_own d CommitForm = Unit {0}
+puts_own d AbortForm = Unit {0}
 
--- no read: what is left decides
-pub single-taken : (points : List Point) (ms rest : Members) (o : Option (List ℕ)) → text_in (codes "read") ms ≡ None → rest ≡ without (codes "read") ms → o ≡ text_in (codes "delete") rest
-    → option_and_then (command_of_form points) (single_form ms) ≡ option_map Delete o
-single-taken points ms rest o none left found =
-    let same : text_in (codes "delete") ms ≡ o =
-    sym (found ∙ ap (text_in (codes "delete")) left ∙ ap (option_and_then as_str) (get_member-without (codes "delete") (codes "read") ms refl)) in
-    rw (none, same) (deleted points o)
+-- it ends a script where the tree is a word that does, and puts what the tree has
+abbrev pub fits : Data → CommandForm → Type 0
+fits d f = (is_end_form f ≡ is_end_word d) × puts_own d f
 
--- the child of an attach, looked up after the parent is taken out
-pub attach-taken : (points : List Point) (ms rest : Members) (parent child : List ℕ) → text_in (codes "parent") ms ≡ Some parent → rest ≡ without (codes "parent") ms → text_in (codes "attach") rest ≡ Some child
-    → option_and_then (command_of_form points) (relation_pair ms) ≡ Some (Attach child parent)
-attach-taken points ms rest parent child is left found =
-    let same : text_in (codes "attach") ms ≡ Some child =
-    sym (ap (text_in (codes "attach")) left ∙ ap (option_and_then as_str) (get_member-without (codes "attach") (codes "parent") ms refl)) ∙ found in
-    rw (is, same) refl
+word_fits : (s : List ℕ) (a b : Bool) → holds (λ f. (is_end_form f ≡ (a || b)) × puts_own (string s) f) (option_or (if a then Some CommitForm else (if b then Some AbortForm else None)) None)
+word_fits s true b = (refl, tt)
+word_fits s false true = (refl, tt)
+word_fits s false false = tt
 
--- the child of a detach, looked up after the parent and what isn't the child of an attach are taken out
-pub detach-taken : (points : List Point) (ms rest last : Members) (parent : List ℕ) (o : Option (List ℕ)) → text_in (codes "parent") ms ≡ Some parent → rest ≡ without (codes "parent") ms
-    → text_in (codes "attach") rest ≡ None → last ≡ without (codes "attach") rest → o ≡ text_in (codes "detach") last
-    → option_and_then (command_of_form points) (relation_pair ms) ≡ option_map (λ child. Detach child parent) o
-detach-taken points ms rest last parent o is left none gone found =
-    let no_attach : text_in (codes "attach") ms ≡ None =
-    sym (ap (text_in (codes "attach")) left ∙ ap (option_and_then as_str) (get_member-without (codes "attach") (codes "parent") ms refl)) ∙ none in
-    let same : text_in (codes "detach") ms ≡ o =
-    sym (found ∙ ap (text_in (codes "detach")) gone ∙ ap (option_and_then as_str) (get_member-without (codes "detach") (codes "attach") rest refl)
-    ∙ ap (text_in (codes "detach")) left ∙ ap (option_and_then as_str) (get_member-without (codes "detach") (codes "parent") ms refl)) in
-    rw (is, no_attach, same) (detached points parent o)
+form_fits : (d : Data) → holds (fits d) (form_of d)
+form_fits null = tt
+form_fits (boolean b) = tt
+form_fits (number n) = tt
+form_fits (string s) = word_fits s (bytes_eq s (codes "commit")) (bytes_eq s (codes "abort"))
+form_fits (array ds) = tt
+form_fits (object ms) = members_hold (fits (object ms)) ms (λ id. (refl, tt)) (λ id. (refl, tt)) (λ p. (refl, tt)) (λ p. (refl, tt)) (λ id d h. (refl, h))
+
+pub form_fit : (d : Data) (f : CommandForm) → form_of d ≡ Some f → fits d f
+form_fit d f h = subst (holds (fits d)) h (form_fits d)

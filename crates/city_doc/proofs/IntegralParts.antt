@@ -5,8 +5,8 @@ use Rattle.std.specs.Ordering.{match_ordering}
 use Rattle.std.specs.Cmp.Lexicographic.{slice_cmp}
 use Rattle.std.specs.List.{list_all}
 use Rattle.std.proofs.lemmas.Bool.{and_parts}
-use Rattle.serde_json.specs.Data.{Data, Items, no_items, item, Members, no_members, member}
-use Rattle.serde_json.specs.Find.{get_member, as_object, as_array}
+use Rattle.serde_json.specs.Data.{Data, null, boolean, number, string, array, object, Items, no_items, item, Members, no_members, member}
+use Rattle.serde_json.specs.Find.{get, get_member, as_object, as_array}
 use Rattle.serde_json.specs.View.{view, items_of, items_view}
 use Rattle.serde_json.specs.declared.value.Value.{Value}
 use Rattle.city_model.specs.Integral.{is_integral, items_integral, members_integral}
@@ -54,3 +54,11 @@ get_member-integral k no_members d h e = absurd (let no : ⊥ = cc in no)
 get_member-integral k (member l x ms) d h e =
     let hs = and_parts (is_integral x) (members_integral ms) h in
     found_integral (slice_cmp nat_cmp k l) (get_member k ms) x d e hs.0 (get_member-integral k ms d hs.1)
+
+pub get-integral : (k : List ℕ) (d e : Data) → is_integral d ≡ true → get k d ≡ Some e → is_integral e ≡ true
+get-integral k null e h at = absurd (let no : ⊥ = cc in no)
+get-integral k (boolean b) e h at = absurd (let no : ⊥ = cc in no)
+get-integral k (number n) e h at = absurd (let no : ⊥ = cc in no)
+get-integral k (string s) e h at = absurd (let no : ⊥ = cc in no)
+get-integral k (array ds) e h at = absurd (let no : ⊥ = cc in no)
+get-integral k (object ms) e h at = get_member-integral k ms e h at

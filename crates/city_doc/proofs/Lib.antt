@@ -1,5 +1,7 @@
 pub mod AllRead
 pub mod ArrangedCities
+pub mod BuiltObjects
+pub mod BuiltScripts
 pub mod Cities
 mod CityNests
 pub mod CommandLaws

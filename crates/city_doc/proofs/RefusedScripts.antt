@@ -12,7 +12,7 @@ use Rattle.city_doc.specs.ScriptTrees.{ScriptParts, all_read, parts_of, script_o
 use Rattle.city_doc.specs.Texts.{HasTree, IsTooLong, IsReadable}
 use Rattle.city_doc.proofs.AllRead.{all_read-each}
 use Rattle.city_doc.proofs.Options.{and_then_some}
-use Rattle.city_doc.proofs.ScriptMeanings.{script_of-faultless}
+use Rattle.city_doc.proofs.ScriptMeanings.{script_of-faultless, scripts_of-array}
 
 not_both : (b : Bool) → b ≡ true → b ≡ false → ⊥
 not_both b h k = true≢false (sym h ∙ k)
@@ -55,9 +55,9 @@ items_refused ds ps ss f parts few read (inr h) =
 
 tree_refused : (d : Data) (ss : List Scripted) (f : ScriptFault) → scripts_of d ≡ Some ss → TreeFault d f → ⊥
 tree_refused d ss f stands (inl h) =
-    let is : scripts_of d ≡ None = ap (λ o. option_and_then scripts_of_parts (option_and_then (all_read parts_of) o)) h.1 in none_some (scripts_of d) ss is stands
+    none_some (scripts_of d) ss (scripts_of-array d None h.1) stands
 tree_refused d ss f stands (inr h) =
-    let here : option_and_then scripts_of_parts (all_read parts_of h.0) ≡ Some ss = sym (ap (λ o. option_and_then scripts_of_parts (option_and_then (all_read parts_of) o)) h.1) ∙ stands in
+    let here : option_and_then scripts_of_parts (all_read parts_of h.0) ≡ Some ss = sym (scripts_of-array d (Some h.0) h.1) ∙ stands in
     let ps = and_then_some scripts_of_parts (all_read parts_of h.0) ss here in
     let r = few_scripts (are_too_many ps.0) (all_read script_of ps.0) ss ps.2 in items_refused h.0 ps.0 ss f ps.1 r.0 r.1 h.2
 
@@ -77,6 +77,11 @@ refused text f (inr (inr (inl h))) = inr (λ ss is. h.1.1 is.0 is.1.1)
 refused text f (inr (inr (inr (inl h)))) = inr (λ ss is. not_both (is_integral is.0) is.2 (ap is_integral (same_tree text is.0 h.1.0 is.1 h.1.1) ∙ h.1.2))
 refused text f (inr (inr (inr (inr h)))) = inr (λ ss is. tree_refused h.0 ss f (ap scripts_of (same_tree text h.0 is.0 h.1 is.1) ∙ is.3) h.3)
 
-pub refused_or : (text : List ℕ) (d : Data) (f : ScriptFault) → HasTree text d → is_integral d ≡ true → (f ≡ OutOfMemory) ⊎ TreeFault d f → (f ≡ OutOfMemory) ⊎ ((ss : List Scripted) → IsReadAs text ss → ⊥)
-refused_or text d f tree integral (inl h) = inl h
-refused_or text d f tree integral (inr h) = refused text f (inr (inr (inr (inr (d, tree, integral, h)))))
+-- ---- a text whose tree stands for no scripts
+
+none_of : {A : Type 0} (o : Option A) → ((x : A) → o ≡ Some x → ⊥) → o ≡ None
+none_of None h = refl
+none_of (Some x) h = absurd (h x refl)
+
+pub no_scripts : (text : List ℕ) (d : Data) → HasTree text d → is_integral d ≡ true → ((ss : List Scripted) → IsReadAs text ss → ⊥) → scripts_of d ≡ None
+no_scripts text d tree integral none = none_of (scripts_of d) (λ ss is. none ss (d, tree, integral, is))

@@ -2,7 +2,7 @@
 use Rattle.std.proofs.Common.{◌≡◌, ℕ, suc, List, [], ◌∷◌, length, Bool, true, false, Option, Some, None, option_map, refl, sym, ap, ◌∙◌}
 use Rattle.std.specs.Prelude.{◌&&◌, option_and_then, codes, slice_get, if◌then◌else◌}
 use Rattle.std.specs.List.{list_all}
-use Rattle.std.proofs.lemmas.Bool.{and_parts}
+use Rattle.std.proofs.lemmas.Bool.{and_parts, false_from_ne_true}
 use Rattle.serde_json.specs.Data.{Data, Items, no_items, item, Members}
 use Rattle.serde_json.specs.Find.{at, get_member, as_object, as_array}
 use Rattle.city_model.specs.declared.object.Point.{Point}
@@ -87,16 +87,12 @@ record IsFaultlessScript (p : ScriptParts) : Type 0 where
   good : (i : ℕ) (d : Data) → slice_get p.commands i ≡ Some d → is_bad_command d ≡ true → ⊥
   placed : (i : ℕ) (d : Data) → slice_get p.commands i ≡ Some d → names_bad_vertex (vertex_count p.vertices) d ≡ true → ⊥
 
-not_true : (b : Bool) → (b ≡ true → ⊥) → b ≡ false
-not_true true h = absurd (h refl)
-not_true false h = refl
-
 command_there : (p : ScriptParts) (points : List Point) → list_all is_integral p.commands ≡ true → IsFaultlessScript p → vertex_points p.vertices ≡ Some points
     → (i : ℕ) (d : Data) → slice_get p.commands i ≡ Some d → (c : Command) × (command_of points d ≡ Some c)
 command_there p points integral h read i d at =
     let placed : names_bad_vertex (length points) d ≡ false =
-    ap (λ n. names_bad_vertex n d) (vertex_points-as_many p.vertices points read) ∙ not_true (names_bad_vertex (vertex_count p.vertices) d) (h.placed i d at) in
-    command_of-some points d (in_all is_integral p.commands i d integral at) (not_true (is_bad_command d) (h.good i d at)) placed
+    ap (λ n. names_bad_vertex n d) (vertex_points-as_many p.vertices points read) ∙ false_from_ne_true (names_bad_vertex (vertex_count p.vertices) d) (h.placed i d at) in
+    command_of-some points d (in_all is_integral p.commands i d integral at) (false_from_ne_true (is_bad_command d) (h.good i d at)) placed
 
 script_some : (p : ScriptParts) → are_good_parts p ≡ true → IsFaultlessScript p → (s : Scripted) × (script_of p ≡ Some s)
 script_some p ok h =
@@ -113,10 +109,11 @@ faultless_at : (ps : List ScriptParts) → AreFaultlessParts ps → (n : ℕ) (p
 faultless_at ps h n p at = record { good = λ i d there bad. h.1 n i (p, d, at, there, bad); placed = λ i d there bad. h.2 n i (p, d, at, there, bad) }
 
 -- scripts of whole numbers in which no fault stands
-pub scripts-there : (ds : List Data) (ps : List ScriptParts) → list_all is_integral ds ≡ true → all_read parts_of ds ≡ Some ps → AreFaultlessParts ps → all_read script_of ps ≡ None → ⊥
+pub scripts-there : (ds : List Data) (ps : List ScriptParts) → list_all is_integral ds ≡ true → all_read parts_of ds ≡ Some ps → AreFaultlessParts ps
+    → option_and_then scripts_of_parts (all_read parts_of ds) ≡ None → ⊥
 scripts-there ds ps integral read h none =
     let ss = scripts_some ps (all_good ds ps integral read) (faultless_at ps h) in
-    let there = ss.1 in cc
+    let there : option_and_then scripts_of_parts (all_read parts_of ds) ≡ Some ss.0 = rw (read, h.0) ss.1 in cc
 
 -- ---- a script that stands for one has no fault
 
@@ -135,9 +132,5 @@ script_of-faultless p s i d h at =
 
 -- ---- the scripts of an array
 
-pub scripts_of-parts : (ds : List Data) (ps : List ScriptParts) (ss : List Scripted) → all_read parts_of ds ≡ Some ps → are_too_many ps ≡ false → all_read script_of ps ≡ Some ss
-    → option_and_then scripts_of_parts (all_read parts_of ds) ≡ Some ss
-scripts_of-parts ds ps ss read few h = rw (read, few) h
-
-pub scripts_of-array : (d : Data) (ds : List Data) (ss : List Scripted) → array_of d ≡ Some ds → option_and_then scripts_of_parts (all_read parts_of ds) ≡ Some ss → scripts_of d ≡ Some ss
-scripts_of-array d ds ss is h = rw is h
+pub scripts_of-array : (d : Data) (o : Option (List Data)) → array_of d ≡ o → scripts_of d ≡ option_and_then scripts_of_parts (option_and_then (all_read parts_of) o)
+scripts_of-array d o is = ap (λ ds. option_and_then scripts_of_parts (option_and_then (all_read parts_of) ds)) is

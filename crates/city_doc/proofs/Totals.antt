@@ -19,10 +19,11 @@ use Rattle.city_doc.specs.declared.fault.ReadFault.{ReadFault}
 use Rattle.city_doc.specs.Bodies.{kept_if, body_of, ids_at}
 use Rattle.city_doc.specs.CityFaults.{or_empty}
 use Rattle.city_doc.specs.Documents.{city_of, objects_of, objects_in, points_in, vertices_in, is_unsupported, AreReadable, HasForm, StandsAmong, StandsIn, IsFirst}
-use Rattle.city_doc.specs.Frames.{triple_at, has_triple, more_of, frame_with, frame_of_rest, is_transform, all_objects, are_all_objects, are_objects, without_transform_members, without_top_members}
+use Rattle.city_doc.specs.Frames.{triple_at, has_triple, wrong_member, more_of, frame_with, frame_of_rest, is_transform, all_objects, are_all_objects, are_objects, without_transform_members, without_top_members}
 use Rattle.city_doc.specs.LenientCities.{listed, lenient_entries_of, lenient_city_of, IsReadOf}
 use Rattle.city_doc.specs.ObjectFaults.{is_unknown_type, is_bad_geometry, has_bad_vertex, has_bad_list}
 use Rattle.city_doc.specs.Searches.{first_with}
+use Rattle.city_doc.proofs.BuiltObjects.{has_form}
 use Rattle.city_doc.proofs.Cities.{get-object, objects_at, city_joined}
 use Rattle.city_doc.proofs.KeptMembers.{kept_all, integral_member, transform_admitted, top_admitted}
 use Rattle.city_doc.proofs.LenientEntries.{none_first, entries_of-lenient}
@@ -183,7 +184,7 @@ has_city : (d : Data) → is_integral d ≡ true → HasForm d → (c : Frame ×
 has_city d integral h = let right = is_right d h.right in city_with d right h.objects (has_parts d integral right)
 
 -- a tree that has the form of a document has a city
-no_city : (d : Data) → is_integral d ≡ true → HasForm d → lenient_city_of (vertices_in d) d ≡ None → ⊥
+pub no_city : (d : Data) → is_integral d ≡ true → HasForm d → lenient_city_of (vertices_in d) d ≡ None → ⊥
 no_city d integral h missing = let c = has_city d integral h in let there_is = c.1 in cc
 
 is_list_of : (d : Data) (c : Frame × Entries) → is_integral d ≡ true → HasForm d → lenient_city_of (vertices_in d) d ≡ Some c → IsListOf d c
@@ -204,13 +205,12 @@ judged_as d c bad None integral form lists is h = (is.city (sym lists ∙ h.1) �
 judged_as d c bad (Some f) integral form lists is h = first_in d f integral form.right h
 
 -- what is found of a city that was read of a tree is what stands in the tree
-pub judged : (d : Data) (points : List Point) (c : CityValue) (bad : Option (List ℕ)) (fault : Option ReadFault) → is_integral d ≡ true → HasForm d → points ≡ vertices_in d → lenient_city_of points d ≡ Some (listed c)
-    → AreOrdered (objects_in d) → bad ≡ first_with has_bad_list (objects_in d)
+pub judged : (d : Data) (points : List Point) (c : CityValue) (bad : Option (List ℕ)) (fault : Option ReadFault) → is_integral d ≡ true → wrong_member d ≡ None → points ≡ vertices_in d
+    → lenient_city_of points d ≡ Some (listed c) → AreOrdered (objects_in d) → bad ≡ first_with has_bad_list (objects_in d)
     → ((ps : List Point) (ms : Members) → IsReadOf ps ms (entries c.1) bad → MatchOption fault (IsLawful (at c.1) × (bad ≡ None)) (λ f. IsFirst (StandsAmong ps ms) f))
     → MatchOption fault ((city_of d ≡ Some c) × IsLawful (at c.1)) (λ f. IsFirst (StandsIn d) f)
-judged d points c bad fault integral form same built ordered lists found =
-    let is = is_list_of d (listed c) integral form (ap (λ ps. lenient_city_of ps d) (sym same) ∙ built) in
+judged d points c bad fault integral right same built ordered lists found =
+    let here = ap (λ ps. lenient_city_of ps d) (sym same) ∙ built in
+    let form = has_form d (listed c) right here in
+    let is = is_list_of d (listed c) integral form here in
     judged_as d c bad fault integral form lists is (found (vertices_in d) (objects_in d) (is_read_of d c bad form ordered lists is))
-
-pub unbuilt : (d : Data) (points : List Point) → is_integral d ≡ true → HasForm d → points ≡ vertices_in d → lenient_city_of points d ≡ None → ⊥
-unbuilt d points integral form same none = no_city d integral form (ap (λ ps. lenient_city_of ps d) (sym same) ∙ none)

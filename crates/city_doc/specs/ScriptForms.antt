@@ -1,7 +1,7 @@
 -- The forms of scripts and of commands that the reader holds.
-use Rattle.std.specs.Prelude.{List, map, Option, option_map, option_and_then, codes}
+use Rattle.std.specs.Prelude.{List, map, length, nat_lt, Bool, Option, None, option_map, option_and_then, codes, if◌then◌else◌}
 use Rattle.std.specs.Option.{option_or}
-use Rattle.serde_json.specs.Data.{Members}
+use Rattle.serde_json.specs.Data.{Data, Members}
 use Rattle.serde_json.specs.Find.{get_member}
 use Rattle.serde_json.specs.View.{view}
 use Rattle.city_doc.specs.declared.command_form.Form.{Form}
@@ -10,7 +10,8 @@ use Rattle.city_doc.specs.declared.command_form.Form.TheVariants.{Abort}
 use Rattle.city_doc.specs.declared.script_form.ScriptForm.{ScriptForm}
 use Rattle.city_doc.specs.CommandForms.{CommandForm, ReadForm, PutForm, DeleteForm, AttachForm, DetachForm}
 use Rattle.city_doc.specs.CommandForms.{CommitForm, AbortForm, text_in}
-use Rattle.city_doc.specs.ScriptTrees.{ScriptParts}
+use Rattle.city_doc.specs.ScriptTrees.{ScriptParts, parts_of, script_of, max_commands}
+use Rattle.city_model.specs.Runs.{Scripted}
 
 -- the parts that a form holds
 abbrev pub parts_view : ScriptForm → ScriptParts
@@ -19,6 +20,17 @@ parts_view f =
 
 abbrev pub parts_views : List ScriptForm → List ScriptParts
 parts_views fs = map parts_view fs
+
+-- a script has too many commands
+abbrev pub has_too_many_commands : ScriptParts → Bool
+has_too_many_commands p = nat_lt max_commands (length p.commands)
+
+abbrev pub fit_script_of : ScriptParts → Option Scripted
+fit_script_of p = if has_too_many_commands p then None else script_of p
+
+-- the script of one item of an array
+abbrev pub script_of_item : Data → Option Scripted
+script_of_item d = option_and_then fit_script_of (parts_of d)
 
 -- what the tree says that a form was lent from
 abbrev pub form_view : Form → CommandForm

@@ -14,7 +14,7 @@ ghost use Rattle.city_doc.specs.LenientCities.{first_body, lesser, IsReadOf};
 
 use crate::arranged::least_misrelated;
 use crate::fault::ReadFault;
-use crate::judge::named;
+use crate::values::named;
 use city_model::body_fault::{any_open_shell, any_same_twice, any_short_ring};
 use city_model::city::City;
 use city_model::copied::Copied;

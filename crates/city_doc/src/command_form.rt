@@ -23,7 +23,7 @@ pub enum Form<'v> {
 }
 
 /// The member of a name, where it is a text.
-pub fn text_in<'v>(members: &'v Map<String, Value>, name: &str) -> Option<&'v str>
+fn text_in<'v>(members: &'v Map<String, Value>, name: &str) -> Option<&'v str>
     ensures { option_map (λ s. s.now) result ≡ text_in name.now (members_view members.now.entries) }
 {
     member(members, name).and_then(Value::as_str)

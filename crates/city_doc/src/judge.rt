@@ -1,21 +1,26 @@
 //! Judges the objects of a document by their trees: the first fault that stands in them.
-ghost use Rattle.std.specs.Prelude.{◌≡◌, true, Bool, IfOk, OnOk, MatchOption, length, option_map, option_and_then, codes};
+ghost use Rattle.std.specs.Prelude.{◌≡◌, true, Bool, None, IfOk, OnOk, MatchOption, length, option_map, option_and_then, codes};
 ghost use Rattle.serde_json.specs.Data.{Data};
 ghost use Rattle.serde_json.specs.Find.{get, as_object};
 ghost use Rattle.serde_json.specs.View.{view, members_view};
 ghost use Rattle.city_model.specs.Members.{AreOrdered};
 ghost use Rattle.city_model.specs.Integral.{is_integral};
-ghost use Rattle.city_doc.specs.Documents.{objects_in, vertices_in, is_unsupported, unsupported_at, StandsAmong, StandsIn, IsFirst, AreReadable, HasForm};
+ghost use Rattle.city_doc.specs.Documents.{objects_in, vertices_in, is_unsupported, unsupported_at, StandsAmong, StandsIn, IsFirst, DocumentFault, AreReadable, HasForm};
+ghost use Rattle.city_doc.specs.LenientCities.{lenient_city_of};
 ghost use Rattle.city_doc.specs.ObjectFaults.{is_unknown_type, is_bad_geometry, has_bad_vertex, has_bad_list};
 ghost use Rattle.city_doc.specs.Searches.{first_with};
+ghost use Rattle.city_doc.specs.Texts.{HasTree};
 
 use crate::fault::ReadFault;
 use crate::ids::has_bad_list;
 use crate::object_faults::{has_bad_vertex, is_bad_geometry, type_of, unsupported_name};
+use crate::parse::parse;
 use crate::top::wrong_member;
+use crate::values::named;
+use crate::vertices::vertices_in;
 use city_model::members::member;
 use city_model::object::Point;
-use city_model::text::{Id, Text};
+use city_model::text::Id;
 use serde_json::{Map, Value};
 use std::alloc::{AllocError, Global};
 
@@ -93,13 +98,6 @@ fn first_with<'m, J: ObjectTest>(judge: &J, objects: &'m Map<String, Value>) -> 
         }
     }
     None
-}
-
-/// A copy of a name.
-pub fn named(alloc: Global, name: &str) -> Result<Text, AllocError>
-    ensures { IfOk result (λ text. text ≡ name.now) }
-{
-    Ok(Text::new(name.to_string(alloc)?))
 }
 
 /// What isn't supported in the object of an id.
@@ -186,4 +184,32 @@ pub fn first_bad_list(alloc: Global, tree: &Value) -> Result<Option<Id>, AllocEr
     };
     let id = named(alloc, id)?;
     Ok(Some(id))
+}
+
+/// The first fault of a tree of whole numbers of which no city can be built, or want of memory.
+fn tree_fault(alloc: Global, tree: &Value) -> Result<ReadFault, AllocError>
+    requires whole { is_integral (view tree.now) ≡ true }
+    requires unbuilt { lenient_city_of (vertices_in (view tree.now)) (view tree.now) ≡ None }
+    ensures { IfOk result (λ f. IsFirst (StandsIn (view tree.now)) f) }
+{
+    let points = vertices_in(alloc, tree)?;
+    match first_fault(alloc, points.as_slice(), tree)? {
+        Some(fault) => Ok(fault),
+        None => unreachable!(),
+    }
+}
+
+/// The first fault of a text of whose tree no city can be built, or want of memory.
+pub fn objects_fault(alloc: Global, bytes: &[u8]) -> ReadFault
+    requires { (d : Data) → HasTree bytes.now d → is_integral d ≡ true → lenient_city_of (vertices_in d) d ≡ None }
+    ensures { DocumentFault bytes.now result }
+{
+    let tree = match parse(alloc, bytes) {
+        Ok(tree) => tree,
+        Err(fault) => return fault.into(),
+    };
+    match tree_fault(alloc, &tree) {
+        Ok(fault) => fault,
+        Err(_) => ReadFault::OutOfMemory,
+    }
 }

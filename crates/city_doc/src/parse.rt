@@ -4,7 +4,7 @@ ghost use Rattle.serde_json.specs.View.{view};
 ghost use Rattle.city_model.specs.Integral.{is_integral};
 ghost use Rattle.city_doc.specs.Texts.{HasTree, IsRefused};
 
-use crate::fault::ReadFault;
+use crate::fault::{ReadFault, ScriptFault};
 use city_model::integral::is_integral;
 use serde_json::Value;
 use std::alloc::Global;
@@ -64,6 +64,22 @@ impl From<TextFault> for ReadFault {
             TextFault::TooLong => ReadFault::TooLong,
             TextFault::NotJson => ReadFault::NotJson,
             TextFault::NotWhole => ReadFault::NotWhole,
+        }
+    }
+}
+
+impl From<TextFault> for ScriptFault {
+    ghost use Rattle.std.specs.Prelude.{◌≡◌};
+    ghost use Rattle.city_doc.specs.TextFaults.{script_fault};
+
+    ghost from_gives = { λ t f. f ≡ script_fault t };
+
+    fn from(fault: TextFault) -> ScriptFault {
+        match fault {
+            TextFault::OutOfMemory => ScriptFault::OutOfMemory,
+            TextFault::TooLong => ScriptFault::TooLong,
+            TextFault::NotJson => ScriptFault::NotJson,
+            TextFault::NotWhole => ScriptFault::NotWhole,
         }
     }
 }

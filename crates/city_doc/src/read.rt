@@ -1,17 +1,20 @@
-//! Reads a document.
-ghost use Rattle.std.specs.Prelude.{◌≡◌, ◌⊎◌, true, Some, IfOk, IfErr, OnOk};
+//! Reads a document: its tree is taken apart, and the city is built at once.
+ghost use Rattle.std.specs.Prelude.{◌≡◌, ◌⊎◌, true, Some, None, IfOk, IfErr, IfSome, IfNone, OnOk};
 ghost use Rattle.serde_json.specs.View.{view};
 ghost use Rattle.city_model.specs.CityMap.{at, CityValue};
 ghost use Rattle.city_model.specs.Relations.{IsLawful};
 ghost use Rattle.city_model.specs.Integral.{is_integral};
-ghost use Rattle.city_doc.specs.Documents.{city_of, StandsForCity, IsAdmitted, StandsIn, IsFirst, DocumentFault};
+ghost use Rattle.city_doc.specs.Documents.{city_of, vertices_in, StandsForCity, IsAdmitted, StandsIn, IsFirst, DocumentFault};
+ghost use Rattle.city_doc.specs.LenientCities.{lenient_city_of};
 ghost use Rattle.city_doc.specs.Texts.{IsReadable};
 
 use crate::build::lenient_city_of;
 use crate::city_judge::city_fault;
 use crate::fault::ReadFault;
-use crate::judge::{first_bad_list, first_fault};
+use crate::judge::{first_bad_list, objects_fault};
 use crate::parse::parse;
+use crate::top::wrong_member;
+use crate::values::named;
 use crate::vertices::vertices_in;
 use city_model::city::City;
 use serde_json::Value;
@@ -34,29 +37,33 @@ pub fn read_city(alloc: Global, bytes: &[u8]) -> Result<City, ReadFault>
         ⊎ ((c : CityValue) → IsAdmitted bytes.now c → ⊥)) }
 {
     let tree = parse(alloc, bytes)?;
-    let city = city_of_tree(alloc, tree)?;
-    Ok(city)
+    match city_of_tree(alloc, tree)? {
+        Some(city) => Ok(city),
+        None => Err(objects_fault(alloc, bytes)),
+    }
 }
 
-/// The city that a tree of whole numbers stands for, which is lawful.
-fn city_of_tree(alloc: Global, tree: Value) -> Result<City, ReadFault>
+/// The city that a tree of whole numbers stands for, which is lawful; None where an object can't be
+/// built.
+fn city_of_tree(alloc: Global, tree: Value) -> Result<Option<City>, ReadFault>
     requires { is_integral (view tree) ≡ true }
-    ensures stands { IfOk result (λ c. city_of (view tree) ≡ Some c) }
-    ensures lawful { IfOk result (λ c. IsLawful (at c.1)) }
+    ensures stands { IfOk result (λ o. IfSome o (λ c. city_of (view tree) ≡ Some c)) }
+    ensures lawful { IfOk result (λ o. IfSome o (λ c. IsLawful (at c.1))) }
+    ensures unbuilt { IfOk result (λ o. IfNone o (lenient_city_of (vertices_in (view tree)) (view tree) ≡ None)) }
     ensures fault { IfErr result (λ f. (f ≡ ReadFault.OutOfMemory) ⊎ IsFirst (StandsIn (view tree)) f) }
 {
-    let points = vertices_in(alloc, &tree)?;
-    let fault = first_fault(alloc, points.as_slice(), &tree)?;
-    if let Some(fault) = fault {
-        return Err(fault);
+    if let Some(name) = wrong_member(&tree) {
+        let name = named(alloc, name)?;
+        return Err(ReadFault::NotCityJson(name));
     }
+    let points = vertices_in(alloc, &tree)?;
     let bad_list = first_bad_list(alloc, &tree)?;
     let Some(city) = lenient_city_of(alloc, points.as_slice(), tree)? else {
-        unreachable!()
+        return Ok(None);
     };
     let fault = city_fault(alloc, bad_list.as_ref(), &city)?;
     match fault {
         Some(fault) => Err(fault),
-        None => Ok(city),
+        None => Ok(Some(city)),
     }
 }

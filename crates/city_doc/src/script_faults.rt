@@ -1,18 +1,24 @@
-//! Judges the commands of scripts: the first fault that stands in them.
-ghost use Rattle.std.specs.Prelude.{◌≡◌, ℕ, Bool, MatchOption, option_map, map};
+//! Judges a text of scripts: the first fault that stands in it.
+ghost use Rattle.std.specs.Prelude.{◌≡◌, ◌⊎◌, ℕ, List, true, Bool, None, MatchOption, option_map, option_and_then, map};
+ghost use Rattle.std.specs.List.{list_all};
 ghost use Rattle.serde_json.specs.Data.{Data};
 ghost use Rattle.serde_json.specs.View.{view};
+ghost use Rattle.city_model.specs.Integral.{is_integral};
+ghost use Rattle.city_model.specs.Runs.{Scripted};
 ghost use Rattle.city_doc.specs.BadCommands.{is_bad_command, names_bad_vertex};
-ghost use Rattle.city_doc.specs.ScriptTrees.{array_of, count_of, vertex_count};
+ghost use Rattle.city_doc.specs.ScriptTrees.{array_of, count_of, vertex_count, all_read, parts_of, scripts_of_parts, scripts_of};
 ghost use Rattle.city_doc.specs.ScriptForms.{parts_views};
 ghost use Rattle.city_doc.specs.ScriptSearch.{first_in, first_command};
-ghost use Rattle.city_doc.specs.ScriptTexts.{PartsFault, AreFaultlessParts};
+ghost use Rattle.city_doc.specs.ScriptTexts.{PartsFault, AreFaultlessParts, ItemsFault, TreeFault, IsReadAs, ScriptTextFault};
 
 use crate::bad_command::{is_bad_command, names_bad_vertex};
 use crate::fault::ScriptFault;
+use crate::parse::parse;
 use crate::script_form::ScriptForm;
-use crate::script_forms::are_too_many;
+use crate::script_forms::{are_too_many, forms_of};
+use crate::values::into_array;
 use serde_json::Value;
+use std::alloc::Global;
 
 /// What may be wrong with a command.
 trait CommandTest {
@@ -102,4 +108,43 @@ pub fn parts_fault(forms: &[ScriptForm]) -> Option<ScriptFault>
         return Some(ScriptFault::BadVertex(n, i));
     }
     None
+}
+
+/// The first fault of an array's items that stand for no scripts.
+fn items_fault(alloc: Global, items: Vec<Value>) -> ScriptFault
+    requires whole { list_all is_integral (map view items.items) ≡ true }
+    requires none { option_and_then scripts_of_parts (all_read parts_of (map view items.items)) ≡ None }
+    ensures { (result ≡ ScriptFault.OutOfMemory) ⊎ ItemsFault (map view items.items) result }
+{
+    let forms = match forms_of(alloc, items) {
+        Ok(forms) => forms,
+        Err(fault) => return fault,
+    };
+    match parts_fault(forms.as_slice()) {
+        Some(fault) => fault,
+        None => unreachable!(),
+    }
+}
+
+/// The first fault of a tree of whole numbers that stands for no scripts.
+fn tree_fault(alloc: Global, tree: Value) -> ScriptFault
+    requires whole { is_integral (view tree) ≡ true }
+    requires none { scripts_of (view tree) ≡ None }
+    ensures { (result ≡ ScriptFault.OutOfMemory) ⊎ TreeFault (view tree) result }
+{
+    match into_array(tree) {
+        Some(items) => items_fault(alloc, items),
+        None => ScriptFault::NotScripts,
+    }
+}
+
+/// The first fault of a text that stands for no scripts, or want of memory.
+pub fn first_fault(alloc: Global, bytes: &[u8]) -> ScriptFault
+    requires { (ss : List Scripted) → IsReadAs bytes.now ss → ⊥ }
+    ensures { ScriptTextFault bytes.now result }
+{
+    match parse(alloc, bytes) {
+        Ok(tree) => tree_fault(alloc, tree),
+        Err(fault) => fault.into(),
+    }
 }

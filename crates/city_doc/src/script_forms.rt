@@ -2,17 +2,18 @@
 ghost use Rattle.std.specs.Prelude.{◌≡◌, ◌⊎◌, true, map, Some, IfOk, IfErr, IfSome, codes, option_map};
 ghost use Rattle.city_model.specs.Members.{without};
 ghost use Rattle.serde_json.specs.View.{view, members_view};
+ghost use Rattle.city_doc.specs.CommandForms.{text_in};
 ghost use Rattle.city_doc.specs.ScriptTrees.{all_read, is_end_text, is_end_word, word_ends, are_vertices, has_script_members, commands_in, parts_of, parts_in, are_too_many};
-ghost use Rattle.city_doc.specs.ScriptForms.{parts_view, parts_views};
+ghost use Rattle.city_doc.specs.ScriptForms.{parts_view, parts_views, has_too_many_commands};
 ghost use Rattle.city_doc.specs.ScriptSearch.{first_at, bad_script};
 
-use crate::command_of::take_text;
 use crate::fault::ScriptFault;
 use crate::script_form::ScriptForm;
 use crate::triples::are_triples;
-use crate::values::into_array;
+use crate::values::{into_array, into_text};
 use city_model::members::{into_object, member, members_count, take};
 use city_model::sequence::Sequence;
+use city_model::text::Text;
 use serde_json::{Map, Value};
 use std::alloc::Global;
 
@@ -69,6 +70,15 @@ fn has_script_members(members: &Map<String, Value>) -> bool
     members_count(members) == wanted && are_vertices(vertices)
 }
 
+/// Takes the name of a script out, where it is a text.
+fn take_name(members: &mut Map<String, Value>) -> Option<Text>
+    ensures found { result ≡ text_in (codes "name") (members_view members.old.entries) }
+    ensures left { members_view members.new.entries
+        ≡ without (codes "name") (members_view members.old.entries) }
+{
+    into_text(take(members, "name")?)
+}
+
 /// Takes the commands of a script out, where exactly the last is a word that ends it.
 fn take_commands(members: &mut Map<String, Value>) -> Option<Vec<Value>>
     ensures found { option_map (λ v. map view v.items) result
@@ -89,7 +99,7 @@ fn take_commands(members: &mut Map<String, Value>) -> Option<Vec<Value>>
 fn parts_in(mut members: Map<String, Value>) -> Option<ScriptForm>
     ensures { option_map parts_view result ≡ parts_in (members_view members.entries) }
 {
-    let name = take_text(&mut members, "name")?;
+    let name = take_name(&mut members)?;
     let commands = take_commands(&mut members)?;
     let vertices = take(&mut members, "vertices");
     Some(ScriptForm {
@@ -100,7 +110,7 @@ fn parts_in(mut members: Map<String, Value>) -> Option<ScriptForm>
 }
 
 /// The parts of a script, where the tree has the form of one.
-fn parts_of(script: Value) -> Option<ScriptForm>
+pub fn parts_of(script: Value) -> Option<ScriptForm>
     ensures { option_map parts_view result ≡ parts_of (view script) }
 {
     let members = into_object(script)?;
@@ -130,6 +140,13 @@ pub fn forms_of(alloc: Global, items: Vec<Value>) -> Result<Sequence<ScriptForm>
     Ok(forms)
 }
 
+/// Whether a script has too many commands.
+pub fn has_too_many_commands(form: &ScriptForm) -> bool
+    ensures { result ≡ has_too_many_commands (parts_view form.now) }
+{
+    form.commands.len() > MAX_COMMANDS
+}
+
 /// Whether there are too many scripts, or too many commands in one.
 pub fn are_too_many(forms: &[ScriptForm]) -> bool
     ensures { result ≡ are_too_many (parts_views forms.now) }
@@ -138,7 +155,7 @@ pub fn are_too_many(forms: &[ScriptForm]) -> bool
         return true;
     }
     for form in forms {
-        if form.commands.len() > MAX_COMMANDS {
+        if has_too_many_commands(form) {
             return true;
         }
     }

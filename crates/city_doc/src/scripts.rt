@@ -1,21 +1,19 @@
-//! Reads a text of scripts.
-ghost use Rattle.std.specs.Prelude.{◌≡◌, ◌⊎◌, ℕ, List, true, map, IfOk, IfErr, OnOk, Some, option_map, option_and_then};
+//! Reads a text of scripts: its tree is taken apart, and each command is built at once.
+ghost use Rattle.std.specs.Prelude.{◌≡◌, ◌⊎◌, List, map, IfOk, IfErr, OnOk, option_map};
 ghost use Rattle.serde_json.specs.View.{view};
-ghost use Rattle.std.specs.List.{list_all};
 ghost use Rattle.city_model.specs.Runs.{Scripted};
-ghost use Rattle.city_model.specs.Integral.{is_integral};
-ghost use Rattle.city_doc.specs.Texts.{IsReadable, IsRefused};
-ghost use Rattle.city_doc.specs.ScriptTexts.{StandsForScripts, IsReadAs, TreeFault, ItemsFault, ScriptTextFault};
+ghost use Rattle.city_doc.specs.Texts.{IsReadable};
+ghost use Rattle.city_doc.specs.ScriptTexts.{StandsForScripts, IsReadAs, ScriptTextFault};
 ghost use Rattle.city_doc.specs.CommandForms.{command_of};
-ghost use Rattle.city_doc.specs.ScriptTrees.{all_read, parts_of, vertex_points, script_of, scripts_of_parts, scripts_of};
-ghost use Rattle.city_doc.specs.ScriptForms.{parts_view, parts_views};
+ghost use Rattle.city_doc.specs.ScriptTrees.{all_read, vertex_points, script_of, scripts_of};
+ghost use Rattle.city_doc.specs.ScriptForms.{parts_view, script_of_item};
 
 use crate::command_of::command_of;
 use crate::fault::ScriptFault;
-use crate::parse::{TextFault, parse};
-use crate::script_faults::parts_fault;
+use crate::parse::parse;
+use crate::script_faults::first_fault;
 use crate::script_form::ScriptForm;
-use crate::script_forms::forms_of;
+use crate::script_forms::{MAX_SCRIPTS, has_too_many_commands, parts_of};
 use crate::values::into_array;
 use crate::vertices::points_of;
 use city_model::command::Command;
@@ -39,74 +37,54 @@ pub fn read_scripts(alloc: Global, bytes: &[u8]) -> Result<Sequence<Script>, Scr
     ensures refused { IfErr result (λ f. (f ≡ ScriptFault.OutOfMemory)
         ⊎ ((ss : List Scripted) → IsReadAs bytes.now ss → ⊥)) }
 {
-    match parse(alloc, bytes) {
-        Ok(tree) => {
-            let scripts = scripts_of_tree(alloc, tree)?;
-            Ok(scripts)
-        }
-        Err(fault) => Err(text_fault(fault)),
+    let tree = parse(alloc, bytes)?;
+    match scripts_of(alloc, tree)? {
+        Some(scripts) => Ok(scripts),
+        None => Err(first_fault(alloc, bytes)),
     }
 }
 
-/// The fault of a text that has no tree of whole numbers.
-fn text_fault(fault: TextFault) -> ScriptFault
-    ensures { (text : List ℕ) → IsRefused text fault → ScriptTextFault text result }
+/// The scripts that a tree stands for, where it stands for any.
+fn scripts_of(alloc: Global, tree: Value) -> Result<Option<Sequence<Script>>, AllocError>
+    ensures { IfOk result (λ o. o ≡ scripts_of (view tree)) }
 {
-    match fault {
-        TextFault::OutOfMemory => ScriptFault::OutOfMemory,
-        TextFault::TooLong => ScriptFault::TooLong,
-        TextFault::NotJson => ScriptFault::NotJson,
-        TextFault::NotWhole => ScriptFault::NotWhole,
-    }
-}
-
-/// The scripts of a tree of whole numbers.
-fn scripts_of_tree(alloc: Global, tree: Value) -> Result<Sequence<Script>, ScriptFault>
-    requires { is_integral (view tree) ≡ true }
-    ensures scripts { IfOk result (λ ss. scripts_of (view tree) ≡ Some ss) }
-    ensures fault { IfErr result (λ f. (f ≡ ScriptFault.OutOfMemory) ⊎ TreeFault (view tree) f) }
-{
-    match into_array(tree) {
-        Some(items) => {
-            let scripts = scripts_of_items(alloc, items)?;
-            Ok(scripts)
-        }
-        None => Err(ScriptFault::NotScripts),
-    }
-}
-
-/// The scripts of an array's items, whose numbers are whole.
-fn scripts_of_items(alloc: Global, items: Vec<Value>) -> Result<Sequence<Script>, ScriptFault>
-    requires { list_all is_integral (map view items.items) ≡ true }
-    ensures scripts { IfOk result (λ ss. option_and_then scripts_of_parts
-        (all_read parts_of (map view items.items)) ≡ Some ss) }
-    ensures fault { IfErr result (λ f. (f ≡ ScriptFault.OutOfMemory) ⊎ ItemsFault (map view items.items) f) }
-{
-    let forms = forms_of(alloc, items)?;
-    if let Some(fault) = parts_fault(forms.as_slice()) {
-        return Err(fault);
-    }
-    let Some(scripts) = scripts_of(alloc, forms)? else {
-        unreachable!()
+    let Some(items) = into_array(tree) else {
+        return Ok(None);
     };
-    Ok(scripts)
+    if items.len() > MAX_SCRIPTS {
+        return Ok(None);
+    }
+    scripts_of_items(alloc, items)
 }
 
-/// The scripts of these forms, where they stand for any.
-fn scripts_of(
+/// The scripts that an array's items stand for, where each stands for one.
+fn scripts_of_items(
     alloc: Global,
-    forms: Sequence<ScriptForm>,
+    items: Vec<Value>,
 ) -> Result<Option<Sequence<Script>>, AllocError>
-    ensures { IfOk result (λ o. o ≡ all_read script_of (parts_views forms)) }
+    ensures { IfOk result (λ o. o ≡ all_read script_of_item (map view items.items)) }
 {
-    let mut scripts = Sequence::new(alloc);
-    for form in forms.into_vec() {
-        let Some(script) = script_of(alloc, form)? else {
+    let mut scripts = Sequence::from_vec(Vec::with_capacity(alloc, items.len())?);
+    for item in items {
+        let Some(script) = script_of_item(alloc, item)? else {
             return Ok(None);
         };
         scripts.push(script)?;
     }
     Ok(Some(scripts))
+}
+
+/// The script that an item stands for, where it has not too many commands.
+fn script_of_item(alloc: Global, item: Value) -> Result<Option<Script>, AllocError>
+    ensures { IfOk result (λ o. o ≡ script_of_item (view item)) }
+{
+    let Some(form) = parts_of(item) else {
+        return Ok(None);
+    };
+    if has_too_many_commands(&form) {
+        return Ok(None);
+    }
+    script_of(alloc, form)
 }
 
 /// The script of a form, where it stands for any.
@@ -152,7 +130,7 @@ fn commands_of(
 ) -> Result<Option<Sequence<Command>>, AllocError>
     ensures { IfOk result (λ o. o ≡ all_read (command_of points.now) (map view items.items)) }
 {
-    let mut commands = Sequence::new(alloc);
+    let mut commands = Sequence::from_vec(Vec::with_capacity(alloc, items.len())?);
     for item in items {
         let Some(command) = command_of(alloc, points, item)? else {
             return Ok(None);

@@ -1,11 +1,12 @@
-//! Takes out of values the texts and the items that they are.
-ghost use Rattle.std.specs.Prelude.{◌≡◌, map, option_map};
+//! Takes out of values the texts and the items that they are, and copies names.
+ghost use Rattle.std.specs.Prelude.{◌≡◌, IfOk, map, option_map};
 ghost use Rattle.serde_json.specs.Find.{as_str, as_array};
 ghost use Rattle.serde_json.specs.View.{view, items_view};
 ghost use Rattle.city_doc.specs.ScriptTrees.{array_of};
 
 use city_model::text::Text;
 use serde_json::Value;
+use std::alloc::{AllocError, Global};
 
 /// The text that a value is, which it gives up.
 pub fn into_text(value: Value) -> Option<Text>
@@ -26,4 +27,11 @@ pub fn into_array(value: Value) -> Option<Vec<Value>>
         Value::Array(items) => Some(items),
         _ => None,
     }
+}
+
+/// A copy of a name.
+pub fn named(alloc: Global, name: &str) -> Result<Text, AllocError>
+    ensures { IfOk result (λ text. text ≡ name.now) }
+{
+    Ok(Text::new(name.to_string(alloc)?))
 }

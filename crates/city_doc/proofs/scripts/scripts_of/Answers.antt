@@ -1,10 +1,10 @@
-use Rattle.std.proofs.Common.{◌∙◌, sym, ap}
-use Rattle.city_doc.specs.ScriptTrees.{script_of}
-use Rattle.city_doc.specs.ScriptForms.{parts_view, parts_views}
-use Rattle.city_doc.proofs.AllRead.{all_read-step}
+use Rattle.std.proofs.Common.{◌∙◌, sym}
+use Rattle.serde_json.specs.View.{view}
+use Rattle.city_doc.proofs.BuiltScripts.{built_many, built_few}
 use Rattle.city_doc.proofs.scripts.scripts_of.Goals as goal
 
-pub loop-form-preserved : goal.loop-form-preserved
-loop-form-preserved c =
-    all_read-step script_of _ c.loop-form.scripts _ _ _ (parts_view c.in-Some.form) c.in-Some-2.script c.loop-form.invariant (ap parts_views c.in-Some.ensures.steps.0)
-    (sym c.in_ok-script.ensures ∙ c.in-Some-2.is) c.in_ok-push.ensures.ok
+pub returns-then-len-gt-MAX_SCRIPTS : goal.returns-then-len-gt-MAX_SCRIPTS
+returns-then-len-gt-MAX_SCRIPTS c = built_many view (view c.args.tree) c.in-Some.items.items c.len.result c.in-Some.ensures.list (c.len.ensures ∙ c.in-Some.items.ok.0) c.if-len-gt-MAX_SCRIPTS.true
+
+pub returns : goal.returns
+returns c = rw (built_few view (view c.args.tree) c.in-Some.items.items c.len.result c.in-Some.ensures.list (c.len.ensures ∙ c.in-Some.items.ok.0) c.if-len-gt-MAX_SCRIPTS.false) c.scripts_of_items.ensures
