@@ -5,7 +5,7 @@ ghost use Rattle.std.specs.Prelude.{IfSome};
 ghost use Rattle.city_model.specs.CityMap.{at};
 ghost use Rattle.city_model.specs.Relations.{IsLawful};
 
-use crate::board::{PUTS, commit_next, counted, empty, one_of, opened, scripts_of, shown, turn};
+use crate::board::{PUTS, commit_next, counted, opened, opened_to_one, scripts_of, shown, turn};
 use crate::replay::replayed;
 use crate::runs::{ABORTED, CHILD_OF_TWO, CUBE, ORPHAN, Run, TWO_READERS};
 use crate::samples::{Row, text};
@@ -180,10 +180,7 @@ fn commits<S: Shelf>(desk: &Desk<S>) -> u64 {
 /// Whether a viewer sees nothing after a first show that is refused, and then what was committed,
 /// which is nothing where the script found no memory.
 fn is_shown_at_last<R: Wait>(rt: &R, alloc: Global) -> Option<bool> {
-    let scripts = scripts_of(alloc, PUTS)?;
-    let city = empty(alloc)?;
-    let (mut desk, mut viewers) = opened(rt, alloc, scripts, city, 1)?;
-    let viewer = one_of(&desk, &mut viewers)?;
+    let (mut desk, viewer) = opened_to_one(rt, alloc, PUTS)?;
     let _ended = commit_next(&mut desk);
     let wanted = commits(&desk);
     let first = shown(rt, &mut desk);
