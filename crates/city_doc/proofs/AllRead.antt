@@ -1,10 +1,9 @@
 -- Lists each of whose items is read.
-use Rattle.std.proofs.Common.{◌≡◌, ℕ, zero, suc, List, [], ◌∷◌, length, Bool, true, Option, Some, None, ◌++◌, option_map, refl, sym, ap, ◌∙◌}
+use Rattle.std.proofs.Common.{◌≡◌, ℕ, zero, suc, List, [], ◌∷◌, length, Bool, true, Option, Some, None, option_map, refl, sym, ap, ◌∙◌}
 use Rattle.std.specs.Prelude.{option_and_then, slice_get}
 use Rattle.std.specs.List.{list_all}
 use Rattle.std.proofs.lemmas.Bool.{and_parts}
 use Rattle.city_doc.specs.ScriptTrees.{all_read}
-use Rattle.city_doc.proofs.Options.{map_grown}
 
 pub in_all : {A : Type 0} (test : A → Bool) (xs : List A) (n : ℕ) (x : A) → list_all test xs ≡ true → slice_get xs n ≡ Some x → test x ≡ true
 in_all test [] n x h at = absurd (let no : ⊥ = cc in no)
@@ -30,13 +29,6 @@ pub all_read-length : {A B : Type 0} (read : A → Option B) (xs : List A) (ys :
 all_read-length read [] ys h = ap length (all_read-nil read ys h)
 all_read-length read (x ∷ xs) ys h = let r = all_read-cons read x xs ys h in ap length r.4 ∙ ap suc (all_read-length read xs r.1 r.3)
 
--- each item of a list that is read is read
-pub all_read-each : {A B : Type 0} (read : A → Option B) (xs : List A) (ys : List B) → all_read read xs ≡ Some ys → (n : ℕ) (x : A) → slice_get xs n ≡ Some x → (y : B) × (read x ≡ Some y)
-all_read-each read [] ys h n x at = absurd (let no : ⊥ = cc in no)
-all_read-each read (w ∷ ws) ys h zero x at =
-    let r = all_read-cons read w ws ys h in let is : Some w ≡ Some x = at in let same : w ≡ x = cc in (r.0, ap read (sym same) ∙ r.2)
-all_read-each read (w ∷ ws) ys h (suc n) x at = let r = all_read-cons read w ws ys h in all_read-each read ws r.1 r.3 n x at
-
 -- where each item is read, so is the list
 pub all_read-some : {A B : Type 0} (read : A → Option B) (xs : List A) → ((n : ℕ) (x : A) → slice_get xs n ≡ Some x → (y : B) × (read x ≡ Some y)) → (ys : List B) × (all_read read xs ≡ Some ys)
 all_read-some read [] each = ([], refl)
@@ -55,13 +47,3 @@ all_read-all read ok test one (x ∷ xs) ys pass h =
     let first : test r.0 ≡ true = one x r.0 hs.0 r.2 in
     let rest : list_all test r.1 ≡ true = all_read-all read ok test one xs r.1 hs.1 r.3 in
     rw (r.4, first) rest
-
--- ---- a step of a loop that reads
-
--- one more item of what is left has been read
-pub all_read-step : {A B : Type 0} (read : A → Option B) (all : Option (List B)) (done next : List B) (left more : List A) (x : A) (y : B)
-    → all ≡ option_map (λ ys. done ++ ys) (all_read read left) → left ≡ x ∷ more → read x ≡ Some y → next ≡ done ++ y ∷ []
-    → all ≡ option_map (λ ys. next ++ ys) (all_read read more)
-all_read-step read all done next left more x y is split one grown =
-    let here : all_read read left ≡ option_map (λ ys. y ∷ ys) (all_read read more) = ap (all_read read) split ∙ rw one refl in
-    is ∙ ap (option_map (λ ys. done ++ ys)) here ∙ map_grown (all_read read more) done y ∙ ap (λ zs. option_map (λ ys. zs ++ ys) (all_read read more)) (sym grown)

@@ -1,5 +1,5 @@
 -- Objects that are built have no fault that their trees show.
-use Rattle.std.proofs.Common.{◌≡◌, List, length, Bool, false, None, Some, refl, sym, ap, ◌∙◌}
+use Rattle.std.proofs.Common.{◌≡◌, List, length, Bool, false, None, Some, refl, ap, ◌∙◌}
 use Rattle.std.specs.Prelude.{option_and_then, option_map, codes}
 use Rattle.serde_json.specs.Data.{Data, Members, no_members, member}
 use Rattle.serde_json.specs.Find.{get_member, as_object}

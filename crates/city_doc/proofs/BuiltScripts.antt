@@ -8,7 +8,6 @@ use Rattle.city_model.specs.Runs.{Scripted}
 use Rattle.city_doc.specs.ScriptForms.{has_too_many_commands, fit_script_of, script_of_item}
 use Rattle.city_doc.specs.ScriptTrees.{ScriptParts, all_read, parts_of, script_of, max_scripts, array_of, scripts_of_parts, scripts_of}
 use Rattle.city_doc.proofs.AllRead.{all_read-length}
-use Rattle.city_doc.proofs.ScriptMeanings.{scripts_of-array}
 
 -- the scripts of these parts, where none has too many commands
 abbrev fit_scripts_of : List ScriptParts → Option (List Scripted)
@@ -60,7 +59,7 @@ as_many f xs n h = length-map xs f ∙ sym h
 built_array : {A : Type 0} (f : A → Data) (d : Data) (xs : List A) (n : ℕ) → Some (map f xs) ≡ array_of d → n ≡ length xs
     → scripts_of d ≡ (if nat_lt max_scripts n then None else all_read script_of_item (map f xs))
 built_array f d xs n is count =
-    scripts_of-array d (Some (map f xs)) (sym is) ∙ built (map f xs) ∙ ap (λ k. if nat_lt max_scripts k then None else all_read script_of_item (map f xs)) (as_many f xs n count)
+    ap (λ o. option_and_then scripts_of_parts (option_and_then (all_read parts_of) o)) (sym is) ∙ built (map f xs) ∙ ap (λ k. if nat_lt max_scripts k then None else all_read script_of_item (map f xs)) (as_many f xs n count)
 
 many_none : {A : Type 0} (n : ℕ) (o : Option A) → max_scripts < n → (if nat_lt max_scripts n then None else o) ≡ None
 many_none n o h = grind (arith, h)

@@ -5,9 +5,8 @@ use Rattle.std.specs.Option.{option_or}
 use Rattle.std.specs.Str.{bytes_eq}
 use Rattle.serde_json.specs.Data.{Data, null, boolean, number, string, array, object, Members}
 use Rattle.serde_json.specs.Find.{get, get_member}
-use Rattle.city_model.specs.declared.object.Point.{Point}
 use Rattle.city_model.specs.Members.{members_count}
-use Rattle.city_doc.specs.CommandForms.{CommandForm, ReadForm, PutForm, DeleteForm, AttachForm, DetachForm, CommitForm, AbortForm, text_in, read_form, put_form, delete_form, attach_form, detach_form, members_form, form_of, put_of, command_of}
+use Rattle.city_doc.specs.CommandForms.{CommandForm, ReadForm, PutForm, DeleteForm, AttachForm, DetachForm, CommitForm, AbortForm, text_in, read_form, put_form, delete_form, attach_form, detach_form, members_form, form_of}
 use Rattle.city_doc.specs.ScriptForms.{single_form, pair_form}
 use Rattle.city_doc.specs.ScriptTrees.{is_end_word}
 

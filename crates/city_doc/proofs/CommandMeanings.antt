@@ -14,7 +14,6 @@ use Rattle.city_doc.specs.BadCommands.{is_bad_object, is_bad_form, is_no_good_fo
 use Rattle.city_doc.specs.CommandForms.{CommandForm, ReadForm, PutForm, DeleteForm, AttachForm, DetachForm, CommitForm, AbortForm, form_of, names_relations, put_of, command_of_form, command_of}
 use Rattle.city_doc.specs.ScriptTrees.{is_end_word}
 use Rattle.city_doc.proofs.CommandLaws.{is_end_form, puts_own, form_fit}
-use Rattle.city_doc.proofs.FaultlessBodies.{body_of-faultless}
 use Rattle.city_doc.proofs.Options.{and_then_some}
 use Rattle.city_doc.proofs.PutBodies.{good, body_of-good}
 use Rattle.city_doc.proofs.IntegralParts.{get-integral}
@@ -62,19 +61,3 @@ some_command points d (Some f) integral own fine placed = form_some points d f i
 
 pub command_of-some : (points : List Point) (d : Data) → is_integral d ≡ true → is_bad_command d ≡ false → names_bad_vertex (length points) d ≡ false → (c : Command) × (command_of points d ≡ Some c)
 command_of-some points d integral fine placed = some_command points d (form_of d) integral (λ f h. (form_fit d f h).1) fine placed
-
--- ---- a command that is refused stands for none
-
-form_faultless : (points : List Point) (f : CommandForm) (c : Command) → command_of_form points f ≡ Some c → (is_bad_form f ≡ false) × (form_names_bad_vertex (length points) f ≡ false)
-form_faultless points (ReadForm id) c h = (refl, refl)
-form_faultless points (PutForm id tree) c h = let r = put_parts (names_relations tree) (body_of points tree) id c h in body_of-faultless points tree r.1.0 r.0 r.1.1
-form_faultless points (DeleteForm id) c h = (refl, refl)
-form_faultless points (AttachForm child parent) c h = (refl, refl)
-form_faultless points (DetachForm child parent) c h = (refl, refl)
-form_faultless points CommitForm c h = (refl, refl)
-form_faultless points AbortForm c h = (refl, refl)
-
-pub command_of-faultless : (points : List Point) (d : Data) (c : Command) → command_of points d ≡ Some c → (is_bad_command d ≡ false) × (names_bad_vertex (length points) d ≡ false)
-command_of-faultless points d c h =
-    let r = and_then_some (command_of_form points) (form_of d) c h in
-    let f = form_faultless points r.0 c r.2 in (ap is_no_good_form r.1 ∙ f.0, ap (some_form_names_bad_vertex (length points)) r.1 ∙ f.1)

@@ -9,11 +9,9 @@ use Rattle.city_model.specs.declared.object.Point.{Point}
 use Rattle.city_model.specs.Kept.{kept_at_object, has_location}
 use Rattle.city_model.specs.Members.{without}
 use Rattle.city_model.proofs.MemberLaws.{get_member-without}
-use Rattle.city_doc.specs.BadCommands.{is_bad_object}
 use Rattle.city_doc.specs.Bodies.{type_of, kept_if, without_object_members, list_or_absent, geometry_of, body_of}
-use Rattle.city_doc.specs.CommandForms.{names_relations}
 use Rattle.city_doc.specs.Documents.{is_unsupported}
-use Rattle.city_doc.specs.ObjectFaults.{is_unknown_type, unsupported_name, is_bad_geometry, has_bad_vertex}
+use Rattle.city_doc.specs.ObjectFaults.{is_unknown_type, is_bad_geometry, has_bad_vertex}
 use Rattle.city_doc.proofs.Cities.{get-object}
 use Rattle.city_doc.proofs.Options.{and_then_some, map_some, if_some}
 use Rattle.city_doc.proofs.ReadForms.{geometries_fit, position_fits, number_fits, geometries_supported}
@@ -72,11 +70,3 @@ placed points d b h = ap not (geometries_fit points _ (position_fits points) (ge
 
 pub is_object : (points : List Point) (d : Data) (b : Body) → body_of points d ≡ Some b → is_some (as_object d) ≡ true
 is_object points d b h = ap is_some (body_parts points d b h).is_object
-
--- an object without relations whose body was read isn't bad, and its positions name points
-pub body_of-faultless : (points : List Point) (d : Data) (b : Body) → names_relations d ≡ false → body_of points d ≡ Some b → (is_bad_object d ≡ false) × (has_bad_vertex (length points) d ≡ false)
-body_of-faultless points d b unrelated h =
-    let there : is_none (as_object d) ≡ false = ap is_none (body_parts points d b h).is_object in
-    let typed : is_none (type_of d) ≡ false = known points d b h in
-    let plain : is_some (unsupported_name d) ≡ false = supported points d b h in
-    (rw (there, unrelated, typed, plain, formed points d b h) refl, placed points d b h)

@@ -35,7 +35,6 @@ pub mod ReadBodies
 pub mod ReadForms
 pub mod ReadLists
 pub mod Readable
-pub mod RefusedScripts
 mod Repeats
 pub mod Right
 mod RoundTrip

@@ -5,8 +5,8 @@ use Rattle.serde_json.specs.Data.{Data}
 use Rattle.city_doc.specs.declared.fault.ScriptFault.{ScriptFault}
 use Rattle.city_doc.specs.declared.fault.ScriptFault.TheVariants.{OutOfMemory, BadScript, BadCommand, BadVertex}
 use Rattle.city_doc.specs.BadCommands.{is_bad_command, names_bad_vertex}
-use Rattle.city_doc.specs.ScriptTrees.{ScriptParts, array_of, all_read, vertex_count, parts_of, are_too_many}
-use Rattle.city_doc.specs.ScriptTexts.{HasAt, IsBefore, IsFirstAt, PartsFault, ItemsFault, TreeFault}
+use Rattle.city_doc.specs.ScriptTrees.{ScriptParts, vertex_count, parts_of, are_too_many}
+use Rattle.city_doc.specs.ScriptTexts.{HasAt, IsBefore, IsFirstAt, PartsFault, ItemsFault}
 use Rattle.city_doc.specs.ScriptSearch.{first_at, unless, bad_script, index_if, first_in, index_in, first_command}
 use Rattle.city_doc.proofs.FirstAt.{first_at-is, first_at-none}
 
@@ -97,10 +97,3 @@ bad_vertex-fault ps n i few good h = inr (inr (n, i, refl, few, first_command-no
 pub script_fault_or : (ds : List Data) (f : ScriptFault) → (f ≡ OutOfMemory) ⊎ (first_at bad_script 0 ds ≡ Some f) → (f ≡ OutOfMemory) ⊎ ItemsFault ds f
 script_fault_or ds f (inl h) = inl h
 script_fault_or ds f (inr h) = inr (first_bad_script ds f h)
-
-pub parts_fault-items : (ds : List Data) (ps : List ScriptParts) (f : ScriptFault) → all_read parts_of ds ≡ Some ps → PartsFault ps f → ItemsFault ds f
-parts_fault-items ds ps f read h = inr (ps, read, h)
-
-pub items_fault_or : (d : Data) (ds : List Data) (f : ScriptFault) → array_of d ≡ Some ds → (f ≡ OutOfMemory) ⊎ ItemsFault ds f → (f ≡ OutOfMemory) ⊎ TreeFault d f
-items_fault_or d ds f is (inl h) = inl h
-items_fault_or d ds f is (inr h) = inr (inr (ds, is, h))

@@ -14,9 +14,9 @@ use Rattle.city_doc.specs.Triples.{point_of}
 use Rattle.city_doc.specs.BadCommands.{is_bad_command, names_bad_vertex}
 use Rattle.city_doc.specs.CommandForms.{text_in, command_of}
 use Rattle.city_doc.specs.ScriptTexts.{AreFaultlessParts}
-use Rattle.city_doc.specs.ScriptTrees.{ScriptParts, items_list, array_of, all_read, ended, word_ends, are_vertices, commands_in, has_script_members, parts_in, parts_if, parts_of, vertex_points, count_of, vertex_count, script_of, are_too_many, scripts_of_parts, scripts_of}
-use Rattle.city_doc.proofs.AllRead.{in_all, all_read-all, all_read-some, all_read-each}
-use Rattle.city_doc.proofs.CommandMeanings.{command_of-some, command_of-faultless}
+use Rattle.city_doc.specs.ScriptTrees.{ScriptParts, items_list, array_of, all_read, ended, word_ends, are_vertices, commands_in, has_script_members, parts_in, parts_if, parts_of, vertex_points, count_of, vertex_count, script_of, scripts_of_parts}
+use Rattle.city_doc.proofs.AllRead.{in_all, all_read-all, all_read-some}
+use Rattle.city_doc.proofs.CommandMeanings.{command_of-some}
 use Rattle.city_doc.proofs.Options.{and_then_some, map_some, if_some}
 use Rattle.city_doc.proofs.Right.{array_some}
 use Rattle.city_doc.proofs.IntegralParts.{array_of-integral, as_object-integral, get_member-integral}
@@ -114,23 +114,3 @@ pub scripts-there : (ds : List Data) (ps : List ScriptParts) → list_all is_int
 scripts-there ds ps integral read h none =
     let ss = scripts_some ps (all_good ds ps integral read) (faultless_at ps h) in
     let there : option_and_then scripts_of_parts (all_read parts_of ds) ≡ Some ss.0 = rw (read, h.0) ss.1 in cc
-
--- ---- a script that stands for one has no fault
-
-script_parts : (p : ScriptParts) (s : Scripted) → script_of p ≡ Some s → (points : List Point) × (vertex_points p.vertices ≡ Some points) × ((cs : List Command) × (all_read (command_of points) p.commands ≡ Some cs))
-script_parts p s h =
-    let r = and_then_some (λ points. option_map (λ cs. (p.name, cs)) (all_read (command_of points) p.commands)) (vertex_points p.vertices) s h in
-    let q = map_some (λ cs. (p.name, cs)) (all_read (command_of r.0) p.commands) s r.2 in (r.0, r.1, (q.0, q.1))
-
-pub script_of-faultless : (p : ScriptParts) (s : Scripted) (i : ℕ) (d : Data) → script_of p ≡ Some s → slice_get p.commands i ≡ Some d
-    → (is_bad_command d ≡ false) × (names_bad_vertex (vertex_count p.vertices) d ≡ false)
-script_of-faultless p s i d h at =
-    let r = script_parts p s h in
-    let c = all_read-each (command_of r.0) p.commands r.2.0 r.2.1 i d at in
-    let f = command_of-faultless r.0 d c.0 c.1 in
-    (f.0, ap (λ n. names_bad_vertex n d) (sym (vertex_points-as_many p.vertices r.0 r.1)) ∙ f.1)
-
--- ---- the scripts of an array
-
-pub scripts_of-array : (d : Data) (o : Option (List Data)) → array_of d ≡ o → scripts_of d ≡ option_and_then scripts_of_parts (option_and_then (all_read parts_of) o)
-scripts_of-array d o is = ap (λ ds. option_and_then scripts_of_parts (option_and_then (all_read parts_of) ds)) is

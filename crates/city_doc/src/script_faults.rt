@@ -1,15 +1,15 @@
 //! Judges a text of scripts: the first fault that stands in it.
-ghost use Rattle.std.specs.Prelude.{◌≡◌, ◌⊎◌, ℕ, List, true, Bool, None, MatchOption, option_map, option_and_then, map};
+ghost use Rattle.std.specs.Prelude.{◌≡◌, ◌⊎◌, ℕ, true, Bool, None, MatchOption, option_map, option_and_then, map};
 ghost use Rattle.std.specs.List.{list_all};
 ghost use Rattle.serde_json.specs.Data.{Data};
 ghost use Rattle.serde_json.specs.View.{view};
 ghost use Rattle.city_model.specs.Integral.{is_integral};
-ghost use Rattle.city_model.specs.Runs.{Scripted};
 ghost use Rattle.city_doc.specs.BadCommands.{is_bad_command, names_bad_vertex};
 ghost use Rattle.city_doc.specs.ScriptTrees.{array_of, count_of, vertex_count, all_read, parts_of, scripts_of_parts, scripts_of};
 ghost use Rattle.city_doc.specs.ScriptForms.{parts_views};
 ghost use Rattle.city_doc.specs.ScriptSearch.{first_in, first_command};
-ghost use Rattle.city_doc.specs.ScriptTexts.{PartsFault, AreFaultlessParts, ItemsFault, TreeFault, IsReadAs, ScriptTextFault};
+ghost use Rattle.city_doc.specs.ScriptTexts.{PartsFault, AreFaultlessParts, ItemsFault, TreeFault, ScriptTextFault};
+ghost use Rattle.city_doc.specs.Texts.{HasTree};
 
 use crate::bad_command::{is_bad_command, names_bad_vertex};
 use crate::fault::ScriptFault;
@@ -140,7 +140,7 @@ fn tree_fault(alloc: Global, tree: Value) -> ScriptFault
 
 /// The first fault of a text that stands for no scripts, or want of memory.
 pub fn first_fault(alloc: Global, bytes: &[u8]) -> ScriptFault
-    requires { (ss : List Scripted) → IsReadAs bytes.now ss → ⊥ }
+    requires { (d : Data) → HasTree bytes.now d → scripts_of d ≡ None }
     ensures { ScriptTextFault bytes.now result }
 {
     match parse(alloc, bytes) {

@@ -1,4 +1,4 @@
-use Rattle.std.proofs.Common.{◌∙◌, sym}
+use Rattle.std.proofs.Common.{◌∙◌}
 use Rattle.serde_json.specs.View.{view}
 use Rattle.city_doc.proofs.BuiltScripts.{built_many, built_few}
 use Rattle.city_doc.proofs.scripts.scripts_of.Goals as goal
