@@ -6,6 +6,7 @@ ghost use Rattle.serde_json.specs.View.{view, members_view};
 ghost use Rattle.city_model.specs.Members.{AreOrdered};
 ghost use Rattle.city_model.specs.Integral.{is_integral};
 ghost use Rattle.city_doc.specs.Documents.{objects_in, vertices_in, is_unsupported, unsupported_at, StandsAmong, StandsIn, IsFirst, DocumentFault, AreReadable, HasForm};
+ghost use Rattle.city_doc.specs.Frames.{wrong_member};
 ghost use Rattle.city_doc.specs.LenientCities.{lenient_city_of};
 ghost use Rattle.city_doc.specs.ObjectFaults.{is_unknown_type, is_bad_geometry, has_bad_vertex, has_bad_list};
 ghost use Rattle.city_doc.specs.Searches.{first_with};
@@ -15,7 +16,6 @@ use crate::fault::ReadFault;
 use crate::ids::has_bad_list;
 use crate::object_faults::{has_bad_vertex, is_bad_geometry, type_of, unsupported_name};
 use crate::parse::parse;
-use crate::top::wrong_member;
 use crate::values::named;
 use crate::vertices::vertices_in;
 use city_model::members::member;
@@ -149,21 +149,18 @@ fn objects_in(tree: &Value) -> Option<&Map<String, Value>>
     tree.get("CityObjects").and_then(Value::as_object)
 }
 
-/// The first fault of a tree whose numbers are whole that it alone shows, where its positions name
-/// these points.
-pub fn first_fault(
+/// The first fault that the trees of the objects of a tree show, where its positions name these
+/// points.
+fn first_fault(
     alloc: Global,
     points: &[Point],
     tree: &Value,
 ) -> Result<Option<ReadFault>, AllocError>
-    ensures { is_integral (view tree.now) ≡ true → points.now ≡ vertices_in (view tree.now)
+    ensures { is_integral (view tree.now) ≡ true → wrong_member (view tree.now) ≡ None
+        → points.now ≡ vertices_in (view tree.now)
         → IfOk result (λ o. MatchOption o (HasForm (view tree.now))
         (λ f. IsFirst (StandsIn (view tree.now)) f)) }
 {
-    if let Some(name) = wrong_member(tree) {
-        let name = named(alloc, name)?;
-        return Ok(Some(ReadFault::NotCityJson(name)));
-    }
     let Some(objects) = objects_in(tree) else {
         return Ok(None);
     };
@@ -186,9 +183,10 @@ pub fn first_bad_list(alloc: Global, tree: &Value) -> Result<Option<Id>, AllocEr
     Ok(Some(id))
 }
 
-/// The first fault of a tree of whole numbers of which no city can be built, or want of memory.
+/// The first fault of a tree of whole numbers whose top is right and of which no city can be built.
 fn tree_fault(alloc: Global, tree: &Value) -> Result<ReadFault, AllocError>
     requires whole { is_integral (view tree.now) ≡ true }
+    requires right { wrong_member (view tree.now) ≡ None }
     requires unbuilt { lenient_city_of (vertices_in (view tree.now)) (view tree.now) ≡ None }
     ensures { IfOk result (λ f. IsFirst (StandsIn (view tree.now)) f) }
 {
@@ -199,9 +197,11 @@ fn tree_fault(alloc: Global, tree: &Value) -> Result<ReadFault, AllocError>
     }
 }
 
-/// The first fault of a text of whose tree no city can be built, or want of memory.
+/// The first fault of a text whose top is right and of whose tree no city can be built, or want of
+/// memory.
 pub fn objects_fault(alloc: Global, bytes: &[u8]) -> ReadFault
-    requires { (d : Data) → HasTree bytes.now d → is_integral d ≡ true → lenient_city_of (vertices_in d) d ≡ None }
+    requires right { (d : Data) → HasTree bytes.now d → wrong_member d ≡ None }
+    requires unbuilt { (d : Data) → HasTree bytes.now d → lenient_city_of (vertices_in d) d ≡ None }
     ensures { DocumentFault bytes.now result }
 {
     let tree = match parse(alloc, bytes) {

@@ -5,6 +5,7 @@ ghost use Rattle.city_model.specs.CityMap.{at, CityValue};
 ghost use Rattle.city_model.specs.Relations.{IsLawful};
 ghost use Rattle.city_model.specs.Integral.{is_integral};
 ghost use Rattle.city_doc.specs.Documents.{city_of, vertices_in, StandsForCity, IsAdmitted, StandsIn, IsFirst, DocumentFault};
+ghost use Rattle.city_doc.specs.Frames.{wrong_member};
 ghost use Rattle.city_doc.specs.LenientCities.{lenient_city_of};
 ghost use Rattle.city_doc.specs.Texts.{IsReadable};
 
@@ -49,8 +50,11 @@ fn city_of_tree(alloc: Global, tree: Value) -> Result<Option<City>, ReadFault>
     requires { is_integral (view tree) ≡ true }
     ensures stands { IfOk result (λ o. IfSome o (λ c. city_of (view tree) ≡ Some c)) }
     ensures lawful { IfOk result (λ o. IfSome o (λ c. IsLawful (at c.1))) }
-    ensures unbuilt { IfOk result (λ o. IfNone o (lenient_city_of (vertices_in (view tree)) (view tree) ≡ None)) }
-    ensures fault { IfErr result (λ f. (f ≡ ReadFault.OutOfMemory) ⊎ IsFirst (StandsIn (view tree)) f) }
+    ensures right { IfOk result (λ _. wrong_member (view tree) ≡ None) }
+    ensures unbuilt { IfOk result (λ o. IfNone o
+        (lenient_city_of (vertices_in (view tree)) (view tree) ≡ None)) }
+    ensures fault { IfErr result (λ f. (f ≡ ReadFault.OutOfMemory)
+        ⊎ IsFirst (StandsIn (view tree)) f) }
 {
     if let Some(name) = wrong_member(&tree) {
         let name = named(alloc, name)?;

@@ -113,7 +113,8 @@ pub fn parts_fault(forms: &[ScriptForm]) -> Option<ScriptFault>
 /// The first fault of an array's items that stand for no scripts.
 fn items_fault(alloc: Global, items: Vec<Value>) -> ScriptFault
     requires whole { list_all is_integral (map view items.items) ≡ true }
-    requires none { option_and_then scripts_of_parts (all_read parts_of (map view items.items)) ≡ None }
+    requires none { option_and_then scripts_of_parts (all_read parts_of (map view items.items))
+        ≡ None }
     ensures { (result ≡ ScriptFault.OutOfMemory) ⊎ ItemsFault (map view items.items) result }
 {
     let forms = match forms_of(alloc, items) {

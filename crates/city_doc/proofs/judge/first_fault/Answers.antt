@@ -5,7 +5,6 @@ use Rattle.city_doc.proofs.Order.{fault_in}
 use Rattle.city_doc.proofs.judge.first_fault.Goals as goal
 
 pub returns : goal.returns
-returns c = λ integral same.
-    let right = sym c.wrong_member.ensures ∙ ap (option_map (λ s. s.now)) c.in_default.is in
-    let there = sym c.objects_in.ensures ∙ ap (option_map (λ m. members_view m.now.entries)) c.in-Some-objects_in.is in
+returns c = λ integral right same.
+    let there = sym c.objects_in.ensures ∙ ap (option_map (λ m. members_view m.now.entries)) c.in-Some.is in
     fault_in (view c.args.tree.now) c.args.points.now _ c.in_ok-fault.fault (sym same) (ap members_of there) integral right c.in_ok-fault.ensures
