@@ -22,8 +22,8 @@ import json_texts
 import json_tree
 import random_runs
 import second_reading as second
+from samples import sample
 
-HERE = os.path.dirname(os.path.abspath(__file__))
 EMPTY = (
     b'{"CityObjects":{},"transform":{"scale":[1,1,1],"translate":[0,0,0]},'
     b'"type":"CityJSON","version":"2.0","vertices":[]}'
@@ -38,11 +38,6 @@ VALUES.append({"location": 0})
 
 class Different(Exception):
     """The program and the second reading disagree."""
-
-
-def sample(name):
-    with open(os.path.join(HERE, name), "rb") as file:
-        return file.read()
 
 
 class Program:

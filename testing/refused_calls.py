@@ -12,45 +12,19 @@ first other answer with status 1.
 import itertools
 import json
 import os
-import subprocess
 import sys
 import tempfile
 
 import second_reading as second
+from refusals import Refused
+from samples import sample
 
-HERE = os.path.dirname(os.path.abspath(__file__))
 SHORT_ANSWERS = (b"cityed: out of memory\n", b"cityed: no viewer place\n")
 CREWS = ([], ["--workers", "2"], ["--workers", "4", "--watch", "2"], ["--workers", "16", "--watch", "1"])
 
 
 class Wrong(Exception):
     """The program answered something else than it should."""
-
-
-def sample(name):
-    with open(os.path.join(HERE, name), "rb") as file:
-        return file.read()
-
-
-class Refused:
-    """A built cityed that is run with refusals."""
-
-    def __init__(self, path, folder):
-        self.path, self.library = path, os.path.join(folder, "refuse.so")
-        source = os.path.join(HERE, "refuse.c")
-        subprocess.run(["cc", "-O1", "-shared", "-fPIC", "-o", self.library, source, "-ldl"], check=True)
-
-    def answer(self, arguments, text, **refusals):
-        """Returns whether a call was refused, status, output and error text."""
-        told, tells = os.pipe()
-        variables = {**os.environ, "LD_PRELOAD": self.library, "REFUSED_FD": str(tells), **refusals}
-        ran = subprocess.run(
-            [self.path, *arguments], input=text, capture_output=True, env=variables, pass_fds=[tells], timeout=60
-        )
-        os.close(tells)
-        with os.fdopen(told, "rb") as file:
-            refused = file.read() != b""
-        return refused, ran.returncode, ran.stdout, ran.stderr
 
 
 def refuse_growths(program, document, scripts, arguments, later):
@@ -121,7 +95,7 @@ def main():
         return 2
     document, scripts = sample("sample.city.json"), sample("sample.scripts.json")
     with tempfile.TemporaryDirectory() as folder:
-        program = Refused(os.path.abspath(sys.argv[1]), folder)
+        program = Refused(sys.argv[1], folder)
         try:
             for arguments, later in itertools.product(CREWS, ("", "-")):
                 told = refuse_growths(program, document, scripts, arguments, later)

@@ -7,6 +7,7 @@ pub mod DeskCrossing
 pub mod HeldEdits
 pub mod KeptRule
 pub mod LaterVersions
+pub mod LawfulCopy
 pub mod Placed
 pub mod Prefixes
 pub mod Results

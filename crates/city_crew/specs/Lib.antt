@@ -2,6 +2,7 @@ pub mod BoardRule
 pub mod BoardValues
 pub mod CrewFaults
 pub mod CrewRuns
+pub mod CrewShelves
 pub mod HistoryRule
 pub mod HistoryValue
 pub mod NoCity

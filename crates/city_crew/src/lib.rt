@@ -6,6 +6,7 @@ mod apply;
 pub mod board;
 mod commits;
 mod counts;
+mod crew_shelf;
 mod fault;
 pub mod gate;
 mod history;

@@ -1,15 +1,17 @@
 //! Runs the scripts of a text on the city of a document, with workers and viewers.
-ghost use Rattle.std.specs.Prelude.{◌≡◌, ◌≤◌, IfOk, IfErr};
+ghost use Rattle.std.specs.Prelude.{◌≡◌, ◌≤◌, [], IfOk, IfErr, IfSome};
 ghost use Rattle.city_model.specs.CityMap.{at};
 ghost use Rattle.city_model.specs.Relations.{IsLawful};
 ghost use Rattle.city_model.specs.SerialEnds.{commits_in};
 ghost use Rattle.city_desk.specs.RunFaults.{IsRunFault};
 ghost use Rattle.city_desk.specs.TextRuns.{IsRun};
 ghost use Rattle.city_crew.specs.CrewRuns.{IsReadFrom};
+ghost use Rattle.city_crew.specs.CrewShelves.{taken_by, base_of};
 ghost use Rattle.city_crew.specs.Seen.{AreSeen};
 
 use crate::board::board;
 use crate::commits::count_commits;
+use crate::crew_shelf::CrewShelf;
 use crate::fault::CrewFault;
 use crate::gate::Gate;
 use crate::last_looks::last_looks;
@@ -21,7 +23,7 @@ use crate::work::Shared;
 use city_desk::desk::{Desk, Finished};
 use city_desk::fault::RunFault;
 use city_desk::output::{Output, output_bytes};
-use city_desk::shelf::Shelf;
+use city_desk::shelf::{ListShelf, Shelf};
 use city_doc::read::read_city;
 use city_doc::scripts::read_scripts;
 use city_model::city::City;
@@ -68,7 +70,7 @@ pub fn run_crew<R: Threads + Wait + Sync, G: Gate + Sync>(
     Ok(output)
 }
 
-/// A desk over a city and scripts, whose shelf is a board's poster, and the board's viewers.
+/// A desk over a city and scripts, and the viewers of its shelf's board.
 fn open<'r, R: Wait>(
     rt: &'r R,
     alloc: Global,
@@ -85,11 +87,30 @@ fn open<'r, R: Wait>(
 {
     let document = Vec::from_slice(alloc, document)?;
     let scripts = Vec::from_slice(alloc, scripts)?;
+    let (shelf, places) = new_shelf(rt, alloc, &city, viewers)?;
+    let desk = Desk::open(alloc, city, list, shelf)?;
+    let state = State::new(alloc, document, scripts, desk, workers)?;
+    Ok((state, places))
+}
+
+/// A shelf for changes of the city, and the viewers of its board: without viewers it has none.
+fn new_shelf<'r, R: Wait>(
+    rt: &'r R,
+    alloc: Global,
+    city: &City,
+    viewers: usize,
+) -> Result<(CrewShelf<&'r R>, Vec<Viewer>), CrewFault>
+    requires lawful { IsLawful (at city.now.1) }
+    requires viewers { viewers ≤ 4 }
+    ensures empty { IfOk result (λ made. taken_by made.0 ≡ []) }
+    ensures based { IfOk result (λ made. IfSome (base_of made.0) (λ base. base ≡ city.now)) }
+{
+    if viewers == 0 {
+        return Ok((CrewShelf::Listed(ListShelf::new(alloc)), Vec::new(alloc)));
+    }
     let copy = city.copy(alloc)?;
     let (poster, places) = board(rt, alloc, copy, viewers)?;
-    let desk = Desk::open(alloc, city, list, poster)?;
-    let state = State::new(alloc, document, scripts, desk, workers, viewers)?;
-    Ok((state, places))
+    Ok((CrewShelf::Posted(poster), places))
 }
 
 /// Runs the workers and the viewers to their ends, and gathers what they leave.
@@ -123,9 +144,7 @@ fn run<R: Threads + Wait + Sync, G: Gate + Sync>(
         ends,
         mut shelf,
     } = finished;
-    if viewers > 0 {
-        shelf.show(rt)?;
-    }
+    shelf.show(rt)?;
     let commits = count_commits(ends.as_slice());
     let seen = last_looks(alloc, watchers, viewers, commits)?;
     let bytes = output_bytes(alloc, &city, ends.as_slice())?;

@@ -4,8 +4,8 @@ ghost use Rattle.city_crew.specs.CrewRuns.{IsReadFrom, IsResult};
 
 use crate::ages::Ages;
 use crate::commits::is_commit;
+use crate::crew_shelf::CrewShelf;
 use crate::fault::CrewFault;
-use crate::poster::Poster;
 use crate::work::Turns;
 use city_desk::desk::{Desk, Finished};
 use city_desk::turn::Turn;
@@ -22,12 +22,10 @@ use std::sync::Wait;
 pub struct State<R: Wait + Drop> {
     document: Vec<u8>,
     scripts: Vec<u8>,
-    desk: Desk<Poster<R>>,
+    desk: Desk<CrewShelf<R>>,
     /// How many turns ended a script or killed it.
     moves: u64,
     ages: Ages,
-    /// Whether there are viewers to show commits to.
-    watched: bool,
 }
 
 impl<R: Wait + Drop> Model for State<R> {
@@ -41,15 +39,13 @@ impl<R: Wait + Drop> Model for State<R> {
 }
 
 impl<R: Wait + Drop> State<R> {
-    /// A desk that was opened over what the texts stand for, for so many workers. Each commit is
-    /// shown as it comes where there are viewers.
+    /// A desk that was opened over what the texts stand for, for so many workers.
     pub fn new(
         alloc: Global,
         document: Vec<u8>,
         scripts: Vec<u8>,
-        desk: Desk<Poster<R>>,
+        desk: Desk<CrewShelf<R>>,
         workers: usize,
-        viewers: usize,
     ) -> Result<State<R>, OutOfMemory>
         requires { IsReadFrom document.items scripts.items desk.0.start desk.0.scripts }
     {
@@ -60,13 +56,12 @@ impl<R: Wait + Drop> State<R> {
             desk,
             moves: 0,
             ages,
-            watched: viewers > 0,
         })
     }
 
     /// What the run came to. It is mixed up where its texts aren't these, and unfinished where a
     /// script hasn't ended.
-    pub fn end(self, document: &[u8], scripts: &[u8]) -> Result<Finished<Poster<R>>, CrewFault>
+    pub fn end(self, document: &[u8], scripts: &[u8]) -> Result<Finished<CrewShelf<R>>, CrewFault>
         ensures { IfOk result (λ f. IsResult document.now scripts.now f.city f.ends) }
     {
         if self.document.as_slice() != document || self.scripts.as_slice() != scripts {
@@ -78,7 +73,6 @@ impl<R: Wait + Drop> State<R> {
             desk,
             moves: _,
             ages: _ages,
-            watched: _,
         } = self;
         match desk.finish() {
             Ok(finished) => Ok(finished),
@@ -118,7 +112,7 @@ impl<R: Wait + Drop> Turns for State<R> {
     }
 
     fn show_commit<Q: Wait>(&mut self, rt: &Q) {
-        if self.watched && was_committed(self.desk.ends().last()) {
+        if was_committed(self.desk.ends().last()) {
             drop(self.desk.show(rt));
         }
     }

@@ -21,7 +21,7 @@ use Rattle.city_desk.specs.Room.{is_not_begun, HasRoom}
 use Rattle.city_desk.specs.Serial.{IsAttempt, StandsAs, AreStanding, IsSerial}
 use Rattle.city_desk.specs.Turning.{stamp_for, begun_after, IsDue, end_of}
 use Rattle.city_desk.proofs.AttemptsKept.{IsTurnOf}
-use Rattle.city_desk.proofs.OpenTurns.{LeavesDesk, counted, some_there}
+use Rattle.city_desk.proofs.OpenTurns.{LeavesDesk, counted, some_there, left_of}
 use Rattle.city_desk.proofs.ScriptReads.{once_of, progress_at, name_there, end_as}
 use Rattle.city_desk.proofs.RoomKept.{one_if, place_left, room_now, room_ended}
 use Rattle.city_desk.proofs.SerialKept.{now_at, ended_at, kept_serial, ended_serial}
@@ -114,7 +114,7 @@ module _ (d : DeskState) (changes : List Change) (base : Option CityValue) (n st
   once = once_of d.scripts n s.scripted there
 
   -- there is a place for its end
-  pub place_unbegun : (names : List (List ℕ)) (capacity : ℕ) → HasRoom d names capacity → length d.ends < capacity
+  place_unbegun : (names : List (List ℕ)) (capacity : ℕ) → HasRoom d names capacity → length d.ends < capacity
   place_unbegun names capacity r =
       let few = place_left d names capacity n r s.of_each within is_fresh.unended in
       let places = r.places in
@@ -123,10 +123,10 @@ module _ (d : DeskState) (changes : List Change) (base : Option CityValue) (n st
   reads : (p : Progress) → p ≡ slice_index_or d.progress n p → p.replies ≡ []
   reads p read = sym (ap (λ (q : Progress). q.replies) (progress_at d.progress n p within read)) ∙ is_fresh.unheard
 
-  pub turn_begins : (p : Progress) (since begun : ℕ) (core : CoreState) (names : List (List ℕ)) (capacity : ℕ) → p ≡ slice_index_or d.progress n p → since ≡ length d.ends → begun ≡ begun_after d.begun (phase_of d n)
+  begins : (p : Progress) (since begun : ℕ) (core : CoreState) (names : List (List ℕ)) (capacity : ℕ) → p ≡ slice_index_or d.progress n p → since ≡ length d.ends → begun ≡ begun_after d.begun (phase_of d n)
       → KeepsOthers stamp d.core core → core.city ≡ d.core.city → is_open core stamp ≡ true → Stands core stamp [] → HasRoom d names capacity
       → LeavesDesk n turns.Began d (now_at d (slice_set d.progress n (record { phase = Open stamp since; replies = p.replies })) begun core) names capacity changes changes base
-  turn_begins p since begun core names capacity read now more keeps objects opened stands r =
+  begins p since begun core names capacity read now more keeps objects opened stands r =
       let progress : List Progress = slice_set d.progress n (record { phase = Open stamp since; replies = p.replies }) in
       let e : DeskState = now_at d progress begun core in
       let moves : progress ≡ slice_set d.progress n (record { phase = Open stamp (length d.ends); replies = [] }) =
@@ -219,10 +219,10 @@ module _ (d : DeskState) (changes : List Change) (base : Option CityValue) (n st
         changes = counted d e changes changes [] base s serial (sym (append-nil changes));
       }
 
-  pub turn_unbegun : (p w : Progress) (since : ℕ) (core : CoreState) (ends : List End) (names : List (List ℕ)) (name taken : List ℕ) (capacity room : ℕ) → p ≡ slice_index_or d.progress n p → since ≡ length d.ends → core ≡ d.core
+  ends_unbegun : (p w : Progress) (since : ℕ) (core : CoreState) (ends : List End) (names : List (List ℕ)) (name taken : List ℕ) (capacity room : ℕ) → p ≡ slice_index_or d.progress n p → since ≡ length d.ends → core ≡ d.core
       → w ≡ record { phase = Ended; replies = [] } → ends ≡ d.ends ++ (record { script = n; name = name; since = since; replies = p.replies; outcome = Outcome.NoMemory 0 }) ∷ [] → name ≡ slice_index_or names n name
       → HasRoom d names capacity → room ≡ capacity → LeavesDesk n turns.Ended d (ended_at d ends (slice_set d.progress n w) core) (slice_set names n taken) room changes changes base
-  turn_unbegun p w since core ends names name taken capacity room read now same over more named r long =
+  ends_unbegun p w since core ends names name taken capacity room read now same over more named r long =
       let called : name ≡ name_at d.scripts n = sym (name_there names n name (subst (λ k. n < k) (sym r.names_long) there) named) ∙ r.named n there is_fresh.unended in
       let replies : p.replies ≡ replies_of d n = reads p read ∙ sym is_fresh.unheard in
       let at_now : ends ≡ d.ends ++ (record { script = n; name = name; since = length d.ends; replies = p.replies; outcome = Outcome.NoMemory 0 }) ∷ [] =
@@ -230,3 +230,29 @@ module _ (d : DeskState) (changes : List Change) (base : Option CityValue) (n st
       subst (λ (k : CoreState). LeavesDesk n turns.Ended d (ended_at d ends (slice_set d.progress n w) k) (slice_set names n taken) room changes changes base) (sym same)
       (ended_unbegun ends (slice_set d.progress n w) names (slice_set names n taken) taken capacity room
       (end_as d.ends ends n (length d.ends) (Outcome.NoMemory 0) name (name_at d.scripts n) p.replies (replies_of d n) at_now called replies) (ap (slice_set d.progress n) over) r refl long)
+
+-- ---- the same of the desk that contracts see
+
+module _ {d seen : DeskState} {changes shown : List Change} {base : Option CityValue} {n stamp : ℕ} (run : d ≡ seen) (listed : changes ≡ shown) (s : IsSerial d changes base)
+    (its : stamp_for seen (phase_of seen n) ≡ Some stamp) (there : n < length seen.scripts) {names : List (List ℕ)} {capacity : ℕ} (r : HasRoom d names capacity) where
+  its_here : stamp_for d (phase_of d n) ≡ Some stamp
+  its_here = subst (λ (x : DeskState). stamp_for x (phase_of x n) ≡ Some stamp) (sym run) its
+
+  there_here : n < length d.scripts
+  there_here = subst (λ (x : DeskState). n < length x.scripts) (sym run) there
+
+  pub place_for_end : length d.ends < capacity
+  place_for_end = place_unbegun d changes base n stamp s its_here there_here names capacity r
+
+  module _ {p : Progress} {since : ℕ} {core : CoreState} (read : p ≡ slice_index_or d.progress n p) (now : since ≡ length d.ends) where
+    pub turn_begins : {begun : ℕ} → begun ≡ begun_after seen.begun (phase_of seen n) → KeepsOthers stamp d.core core → core.city ≡ d.core.city → is_open core stamp ≡ true → Stands core stamp []
+        → LeavesDesk n turns.Began seen (now_at d (slice_set d.progress n (record { phase = Open stamp since; replies = p.replies })) begun core) names capacity shown changes base
+    turn_begins {begun} more keeps objects opened stands = left_of run listed
+        (begins d changes base n stamp s its_here there_here p since begun core names capacity read now
+        (subst (λ (x : DeskState). begun ≡ begun_after x.begun (phase_of x n)) (sym run) more) keeps objects opened stands r)
+
+    pub turn_unbegun : {w : Progress} {ends : List End} {name : List ℕ} (taken : List ℕ) {room : ℕ} → core ≡ d.core → w ≡ record { phase = Ended; replies = [] }
+        → ends ≡ d.ends ++ (record { script = n; name = name; since = since; replies = p.replies; outcome = Outcome.NoMemory 0 }) ∷ [] → name ≡ slice_index_or names n name
+        → room ≡ capacity → LeavesDesk n turns.Ended seen (ended_at d ends (slice_set d.progress n w) core) (slice_set names n taken) room shown changes base
+    turn_unbegun {w} {ends} {name} taken {room} same over more named long = left_of run listed
+        (ends_unbegun d changes base n stamp s its_here there_here p w since core ends names name taken capacity room read now same over more named r long)

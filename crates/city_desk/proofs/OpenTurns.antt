@@ -121,7 +121,7 @@ module _ (d : DeskState) (changes : List Change) (base : Option CityValue) (n st
   going = ap is_ended is
 
   -- while it is open there is a place for its end
-  pub place_open : (names : List (List ℕ)) (capacity : ℕ) → HasRoom d names capacity → length d.ends < capacity
+  place_open : (names : List (List ℕ)) (capacity : ℕ) → HasRoom d names capacity → length d.ends < capacity
   place_open names capacity r =
       let few = place_left d names capacity n r s.of_each within going in
       let places = r.places in
@@ -351,16 +351,49 @@ module _ (d : DeskState) (changes : List Change) (base : Option CityValue) (n st
         let less = unfinished_at x cs p script list read in
         next_at d.scripts n x cs (length (replies_of d n)) command there script list (omega arith) here
 
-    pub turn_goes_on : (turn : Turn) (q : Progress) (core : CoreState) (after : List Change) (names : List (List ℕ)) (capacity : ℕ) → HasStepped stamp command (Ok turn) p q d.core core changes after
+    goes_on_from : (turn : Turn) (q : Progress) (core : CoreState) (after : List Change) (names : List (List ℕ)) (capacity : ℕ) → HasStepped stamp command (Ok turn) p q d.core core changes after
         → HasRoom d names capacity → LeavesDesk n turn d (now_at d (slice_set d.progress n q) d.begun core) names capacity changes after base
-    turn_goes_on turn q core after names capacity h r = went_on command next_read core after turn p q names capacity reads h r
+    goes_on_from turn q core after names capacity h r = went_on command next_read core after turn p q names capacity reads h r
 
-    pub turn_ends : (outcome : Outcome) (q w : Progress) (core : CoreState) (after : List Change) (ends : List End) (names : List (List ℕ)) (name taken : List ℕ) (capacity room : ℕ) → HasStepped stamp command (Err outcome) p q d.core core changes after
+    ends_from : (outcome : Outcome) (q w : Progress) (core : CoreState) (after : List Change) (ends : List End) (names : List (List ℕ)) (name taken : List ℕ) (capacity room : ℕ) → HasStepped stamp command (Err outcome) p q d.core core changes after
         → w ≡ record { phase = Ended; replies = [] } → ends ≡ d.ends ++ (record { script = n; name = name; since = since; replies = q.replies; outcome = outcome }) ∷ [] → name ≡ slice_index_or names n name
         → HasRoom d names capacity → room ≡ capacity → LeavesDesk n turns.Ended d (ended_at d ends (slice_set d.progress n w) core) (slice_set names n taken) room changes after base
-    turn_ends outcome q w core after ends names name taken capacity room h over more named r same =
+    ends_from outcome q w core after ends names name taken capacity room h over more named r same =
         let called : name ≡ name_at d.scripts n = sym (name_there names n name (subst (λ k. n < k) (sym r.names_long) there) named) ∙ r.named n there going in
         let replies : q.replies ≡ replies_of d n = ap (λ (y : Progress). y.replies) h.0 ∙ sym heard_so_far in
         let step : AttemptEnded stamp command (length (replies_of d n)) outcome d.core core changes after = subst (λ (rs : List Reply). AttemptEnded stamp command (length rs) outcome d.core core changes after) (sym heard_so_far) h.1 in
         ended command next_read core after outcome ends (slice_set d.progress n w) names (slice_set names n taken) taken capacity room step
         (end_as d.ends ends n since outcome name (name_at d.scripts n) q.replies (replies_of d n) more called replies) (ap (slice_set d.progress n) over) r refl same
+
+-- ---- the same of the desk that contracts see
+
+-- what is left of a desk is left of its equal
+pub left_of : {n : ℕ} {turn : Turn} {d seen e : DeskState} {names : List (List ℕ)} {room : ℕ} {before shown after : List Change} {base : Option CityValue} → d ≡ seen → before ≡ shown
+    → LeavesDesk n turn d e names room before after base → LeavesDesk n turn seen e names room shown after base
+left_of {n} {turn} {d} {seen} {e} {names} {room} {before} {shown} {after} {base} run listed h =
+    subst (λ (x : DeskState). LeavesDesk n turn x e names room shown after base) run
+    (subst (λ (l : List Change). LeavesDesk n turn d e names room l after base) listed h)
+
+module _ {d seen : DeskState} {changes shown : List Change} {base : Option CityValue} {n stamp since : ℕ} (run : d ≡ seen) (listed : changes ≡ shown) (s : IsSerial d changes base)
+    (opened : phase_of seen n ≡ Open stamp since) (there : n < length seen.scripts) {names : List (List ℕ)} {capacity : ℕ} (r : HasRoom d names capacity) where
+  is_here : phase_of d n ≡ Open stamp since
+  is_here = subst (λ (x : DeskState). phase_of x n ≡ Open stamp since) (sym run) opened
+
+  there_here : n < length d.scripts
+  there_here = subst (λ (x : DeskState). n < length x.scripts) (sym run) there
+
+  pub place_for_end : length d.ends < capacity
+  place_for_end = place_open d changes base n stamp since s is_here there_here names capacity r
+
+  module _ {p : Progress} {x : Scripted} {cs : List Command} {number : ℕ} {command : Command} (read : p ≡ slice_index_or d.progress n p) (script : x ≡ slice_index_or d.scripts n x) (list : cs ≡ x.1)
+      (count : number ≡ length p.replies) (at_number : command ≡ slice_index_or cs number command) {q : Progress} {core : CoreState} {after : List Change} where
+    pub turn_goes_on : {turn : Turn} → HasStepped stamp command (Ok turn) p q d.core core changes after
+        → LeavesDesk n turn seen (now_at d (slice_set d.progress n q) d.begun core) names capacity shown after base
+    turn_goes_on {turn} h = left_of run listed
+        (goes_on_from d changes base n stamp since s is_here there_here p x cs number command read script list count at_number turn q core after names capacity h r)
+
+    pub turn_ends : {outcome : Outcome} {w : Progress} {ends : List End} {name : List ℕ} (taken : List ℕ) {room : ℕ} → HasStepped stamp command (Err outcome) p q d.core core changes after
+        → w ≡ record { phase = Ended; replies = [] } → ends ≡ d.ends ++ (record { script = n; name = name; since = since; replies = q.replies; outcome = outcome }) ∷ [] → name ≡ slice_index_or names n name
+        → room ≡ capacity → LeavesDesk n turns.Ended seen (ended_at d ends (slice_set d.progress n w) core) (slice_set names n taken) room shown after base
+    turn_ends {outcome} {w} {ends} {name} taken {room} h over more named same = left_of run listed
+        (ends_from d changes base n stamp since s is_here there_here p x cs number command read script list count at_number outcome q w core after ends names name taken capacity room h over more named r same)

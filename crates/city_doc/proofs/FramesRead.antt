@@ -20,15 +20,24 @@ use Rattle.city_doc.proofs.TriplesRead.{triple_read}
 
 -- ---- the transform
 
+pub record LacksTransformMembers (ms : Members) : Type 0 where
+  pub no_scale : get_member (codes "scale") ms ≡ None
+  pub no_translate : get_member (codes "translate") ms ≡ None
+
+pub transform_members_lacking : (ms : Members) → kept_at_transform ms ≡ true → LacksTransformMembers ms
+transform_members_lacking ms h =
+    let both = and_parts (lacks (codes "scale") ms) (lacks (codes "translate") ms) (and_parts (members_integral ms) (lacks_both (codes "scale") (codes "translate") ms) h).1 in
+    record { no_scale = none_of _ both.0; no_translate = none_of _ both.1 }
+
 transform_left : (more : Members) (scale translate : Data) → kept_at_transform more ≡ true
     → without_transform_members (put (codes "translate") translate (put (codes "scale") scale more)) ≡ more
 transform_left more scale translate h =
-    let lacking = and_parts (lacks (codes "scale") more) (lacks (codes "translate") more) (and_parts (members_integral more) (lacks_both (codes "scale") (codes "translate") more) h).1 in
+    let lacking = transform_members_lacking more h in
     let scaled = put (codes "scale") scale more in
-    let no_translate = get_member-put_apart (codes "translate") (codes "scale") scale more refl ∙ none_of _ lacking.1 in
+    let no_translate = get_member-put_apart (codes "translate") (codes "scale") scale more refl ∙ lacking.no_translate in
     without-swap (codes "translate") (codes "scale") (put (codes "translate") translate scaled)
     ∙ ap (without (codes "scale")) (without-put (codes "translate") translate scaled no_translate)
-    ∙ without-put (codes "scale") scale more (none_of _ lacking.0)
+    ∙ without-put (codes "scale") scale more lacking.no_scale
 
 transform_read : (f : Frame) → is_i64_triple f.scale ≡ true → is_i64_triple f.translate ≡ true → kept_at_transform f.more ≡ true → frame_with f.extra (transform_data f) ≡ Some f
 transform_read f in_scale in_translate keeps =

@@ -1,4 +1,5 @@
 pub mod AllRead
+mod Among
 pub mod ArrangedCities
 pub mod BuiltObjects
 pub mod BuiltScripts
@@ -9,10 +10,10 @@ pub mod CommandMeanings
 mod EntriesRead
 pub mod FaultlessBodies
 pub mod FirstAt
-mod Floatless
-mod FloatlessEnds
 mod FramesRead
+mod Integers
 pub mod KeptMembers
+mod KeptNumbers
 pub mod LawfulCities
 pub mod LawfulTrees
 pub mod Least
@@ -28,9 +29,12 @@ mod ObjectsRead
 pub mod OneValue
 pub mod Options
 pub mod Order
+mod OwnMembers
 mod Points
 pub mod PutBodies
 pub mod PutMembers
+mod Puts
+mod ReadBack
 pub mod ReadBodies
 pub mod ReadForms
 pub mod ReadLists
@@ -49,3 +53,5 @@ mod Walks
 pub mod IntegralParts
 mod IntegralTrees
 pub mod WithoutMembers
+mod WrittenItems
+mod WrittenObjects

@@ -35,7 +35,7 @@ pub record LacksGeometryMembers (ms : Members) : Type 0 where
   pub no_lod : get_member (codes "lod") ms ≡ None
   pub no_boundaries : get_member (codes "boundaries") ms ≡ None
 
-geometry_members_lacking : (ms : Members) → kept_at_geometry ms ≡ true → LacksGeometryMembers ms
+pub geometry_members_lacking : (ms : Members) → kept_at_geometry ms ≡ true → LacksGeometryMembers ms
 geometry_members_lacking ms h =
     let all = and_parts (members_integral ms && lacks_both (codes "type") (codes "lod") ms) (lacks (codes "boundaries") ms) h in
     let two = and_parts (members_integral ms) (lacks_both (codes "type") (codes "lod") ms) all.0 in
@@ -81,7 +81,7 @@ pub record LacksObjectMembers (ms : Members) : Type 0 where
   pub no_parents : get_member (codes "parents") ms ≡ None
   pub no_children : get_member (codes "children") ms ≡ None
 
-object_members_lacking : (ms : Members) → kept_at_object ms ≡ true → LacksObjectMembers ms
+pub object_members_lacking : (ms : Members) → kept_at_object ms ≡ true → LacksObjectMembers ms
 object_members_lacking ms h =
     let all = and_parts (members_integral ms && lacks_both (codes "type") (codes "geometry") ms && lacks_both (codes "parents") (codes "children") ms) (not (has_location (get_member (codes "address") ms))) h in
     let two = and_parts (members_integral ms && lacks_both (codes "type") (codes "geometry") ms) (lacks_both (codes "parents") (codes "children") ms) all.0 in

@@ -1,5 +1,5 @@
--- The test of two points by their coordinates is an equivalence, and that of the derived `==`.
-use Rattle.std.proofs.Common.{◌≡◌, Bool, true, false, refl, ap, ◌∙◌}
+-- The test of two points by their coordinates is an equivalence.
+use Rattle.std.proofs.Common.{◌≡◌, true, ap, ◌∙◌}
 use Rattle.std.specs.Prelude.{◌&&◌}
 use mathlib.Core.Path.{fun_ext}
 use Rattle.std.specs.Ordering.{int_eq}
@@ -29,11 +29,3 @@ same_point-congr p q r h =
 
 pub same_point-alike : (p q : Point) → same_point p q ≡ true → same_point p ≡ same_point q
 same_point-alike p q h = fun_ext (λ r. same_point-congr p q r h)
-
-and_grouped : (a b c : Bool) → (a && (b && c)) ≡ (a && b && c)
-and_grouped true b c = refl
-and_grouped false b c = refl
-
--- what the derived `==` computes
-pub grouped_point : (p : Point) → (λ (q : Point). int_eq p.x q.x && (int_eq p.y q.y && int_eq p.z q.z)) ≡ same_point p
-grouped_point p = fun_ext (λ q. and_grouped (int_eq p.x q.x) (int_eq p.y q.y) (int_eq p.z q.z))

@@ -10,7 +10,7 @@ use Rattle.city_doc.specs.Pool.{without_repeats}
 use Rattle.city_doc.specs.Walk.{with_points}
 use Rattle.city_doc.proofs.Points.{same_point-symm, same_point-alike}
 
-abbrev is_new : List Point → Point → Bool
+abbrev pub is_new : List Point → Point → Bool
 is_new pool q = not (list_any (same_point q) pool)
 
 abbrev differs : Point → Point → Bool

@@ -36,3 +36,9 @@ surfaces_alone ss = ap (λ (f : Ring → List Point). flat_map (λ (s : Surface)
 
 pub shells_alone : (ss : List Shell) → flat_map (λ sh. flat_map (λ s. flat_map points_one_by_one s) sh) ss ≡ flat_map shell_points ss
 shells_alone ss = ap (λ (f : Ring → List Point). flat_map (λ (sh : Shell). flat_map (λ (s : Surface). flat_map f s) sh) ss) rings_alone
+
+-- ---- what has no points
+
+pub no_points : {X : Type 0} (xs : List X) (pool : List Point) → with_points pool (flat_map (λ x. []) xs) ≡ pool
+no_points [] pool = refl
+no_points (x ∷ xs) pool = no_points xs pool

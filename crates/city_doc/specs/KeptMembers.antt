@@ -1,12 +1,10 @@
--- Cities and replies whose kept members are all such as their places keep. A value of the program is
+-- Cities and objects whose kept members are all such as their places keep. A value of the program is
 -- always so; a value that a clause makes up may not be.
-use Rattle.std.specs.Prelude.{◌≡◌, ◌&&◌, List, Bool, true}
+use Rattle.std.specs.Prelude.{◌≡◌, ◌&&◌, Bool, true}
 use Rattle.std.specs.List.{list_all}
 use Rattle.std.specs.FinMap.{entries}
 use Rattle.city_model.specs.declared.object.Geometry.{Geometry}
 use Rattle.city_model.specs.declared.object.Object.{Object}
-use Rattle.city_model.specs.declared.command.Reply.{Reply}
-use Rattle.city_model.specs.declared.command.Reply.TheVariants.{Found}
 use Rattle.city_model.specs.CityMap.{Entries, CityValue}
 use Rattle.city_model.specs.Kept.{kept_at_top, kept_at_transform, kept_at_object, kept_at_geometry}
 
@@ -18,13 +16,6 @@ is_kept_object o = kept_at_object o.body.extra && list_all is_kept_geometry o.bo
 
 abbrev pub are_kept_objects : Entries → Bool
 are_kept_objects es = list_all (λ e. is_kept_object e.1) es
-
-abbrev pub is_kept_reply : Reply → Bool
-is_kept_reply (Found o) = is_kept_object o
-is_kept_reply _ = true
-
-abbrev pub are_kept_replies : List Reply → Bool
-are_kept_replies replies = list_all is_kept_reply replies
 
 -- the kept members of the frame, of each object and of each geometry are kept at their places
 pub record IsKeptCity (c : CityValue) : Type 0 where

@@ -1,6 +1,7 @@
 pub mod Accepted
 pub mod Arranged
 pub mod BadCommands
+pub mod Between
 pub mod Bodies
 pub mod Canonical
 pub mod CityFaults
@@ -22,5 +23,6 @@ pub mod ScriptTrees
 pub mod Searches
 pub mod TextFaults
 pub mod Texts
+pub mod Tokens
 pub mod Triples
 pub mod Walk

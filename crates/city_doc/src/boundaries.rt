@@ -1,75 +1,95 @@
 //! Writes what names points, each point as its number.
-ghost use Rattle.std.specs.Prelude.{◌≡◌, List, IfOk, true, Bool};
+ghost use Rattle.std.specs.Prelude.{◌≡◌, ◌++◌, ◌∷◌, [], List, OnOk, true, Bool, flat_map};
 ghost use Rattle.std.specs.List.{list_all};
 ghost use Rattle.serde_json.specs.Data.{Data, string};
-ghost use Rattle.serde_json.specs.View.{view};
 ghost use Rattle.city_model.specs.declared.object.Point as p;
 ghost use Rattle.city_doc.specs.Canonical.{list_data, point_data, boundaries_data, shape_name, geometry_data};
 ghost use Rattle.city_doc.specs.KeptMembers.{is_kept_geometry};
+ghost use Rattle.city_doc.specs.Pool.{shape_points, geometry_points};
+ghost use Rattle.city_doc.specs.Tokens.{tokens_of, ReadsBackNumbered};
+ghost use Rattle.city_doc.specs.Walk.{with_points};
 
+use crate::kept_members::{write_last, write_name};
 use crate::pool::VertexPool;
 use city_model::object::{Geometry, Point, Shape};
 use city_model::sequence::Sequence;
 use city_model::text::Text;
-use serde_json::{Value, put};
-use std::alloc::{AllocError, Global};
+use json::Writer;
+use std::alloc::AllocError;
 
 /// What is written as JSON, each point as its number in a pool.
 pub trait Written {
+    ghost points: { Self → List p.Point };
+
     ghost written: { List p.Point → Self → Data };
 
     ghost is_kept: { Self → Bool };
 
-    /// The tree.
-    fn tree(&self, alloc: Global, pool: &VertexPool) -> Result<Value, AllocError>
-        ensures tree { IfOk result (λ v. view v ≡ written pool.now self.now) }
-        ensures kept { IfOk result (λ _. is_kept self.now ≡ true) };
+    /// Writes the value. Points that the pool doesn't have go into it as they are met.
+    fn write(&self, pool: &mut VertexPool, out: &mut Writer) -> Result<(), AllocError>
+        ensures pool { OnOk result (pool.new ≡ with_points pool.old (points self.now)) }
+        ensures before { OnOk result (out.new.before ≡ out.old.before) }
+        ensures tokens { OnOk result ((later : List p.Point) → out.new.tokens
+            ≡ out.old.tokens ++ tokens_of (written (with_points pool.new later) self.now)) }
+        ensures reads { OnOk result (ReadsBackNumbered (λ ps. written ps self.now)) }
+        ensures kept { OnOk result (is_kept self.now ≡ true) };
 }
 
 impl Written for Point {
+    ghost points = { λ q. q ∷ [] };
+
     ghost written = { point_data };
 
     ghost is_kept = { λ _. true };
 
-    fn tree(&self, _alloc: Global, pool: &VertexPool) -> Result<Value, AllocError> {
-        Ok(Value::from(pool.number(*self)))
+    fn write(&self, pool: &mut VertexPool, out: &mut Writer) -> Result<(), AllocError> {
+        let number = pool.add(*self)?;
+        out.u64(number as u64)
     }
 }
 
 impl Written for Text {
+    ghost points = { λ _. [] };
+
     ghost written = { λ _ s. string s };
 
     ghost is_kept = { λ _. true };
 
-    fn tree(&self, alloc: Global, _pool: &VertexPool) -> Result<Value, AllocError> {
-        Value::try_from_str(alloc, self.as_str())
+    fn write(&self, _pool: &mut VertexPool, out: &mut Writer) -> Result<(), AllocError> {
+        out.string(self.as_str())
     }
 }
 
 impl<T: Written> Written for Sequence<T> {
+    ghost points = { λ xs. flat_map T.points xs };
+
     ghost written = { λ ps xs. list_data (T.written ps) xs };
 
     ghost is_kept = { λ xs. list_all T.is_kept xs };
 
-    fn tree(&self, alloc: Global, pool: &VertexPool) -> Result<Value, AllocError> {
+    fn write(&self, pool: &mut VertexPool, out: &mut Writer) -> Result<(), AllocError> {
+        out.begin_array()?;
         let items = self.as_slice();
-        let mut trees = Vec::with_capacity(alloc, items.len())?;
         for item in items {
-            let tree = item.tree(alloc, pool)?;
-            trees.push(tree)?;
+            item.write(pool, out)?;
         }
-        Ok(Value::Array(trees))
+        out.end_array()
     }
 }
 
-/// The boundaries of a shape.
-pub fn boundaries_tree(alloc: Global, shape: &Shape, pool: &VertexPool) -> Result<Value, AllocError>
-    ensures { IfOk result (λ v. view v ≡ boundaries_data pool.now shape.now) }
-{
-    match shape {
-        Shape::MultiSurface(surfaces) => surfaces.tree(alloc, pool),
-        Shape::CompositeSurface(surfaces) => surfaces.tree(alloc, pool),
-        Shape::Solid(shells) => shells.tree(alloc, pool),
+impl Written for Shape {
+    ghost points = { shape_points };
+
+    ghost written = { boundaries_data };
+
+    ghost is_kept = { λ _. true };
+
+    fn write(&self, pool: &mut VertexPool, out: &mut Writer) -> Result<(), AllocError> {
+        match self {
+            Shape::MultiSurface(surfaces) => surfaces.write(pool, out),
+            Shape::CompositeSurface(surfaces) => surfaces.write(pool, out),
+            Shape::Solid(shells) => shells.write(pool, out),
+        }
     }
 }
 
@@ -85,18 +105,22 @@ pub fn shape_name(shape: &Shape) -> &'static str
 }
 
 impl Written for Geometry {
+    ghost points = { geometry_points };
+
     ghost written = { geometry_data };
 
     ghost is_kept = { is_kept_geometry };
 
     #[tactic(auto, unfolding(crate::specs::KeptMembers::is_kept_geometry))]
-    fn tree(&self, alloc: Global, pool: &VertexPool) -> Result<Value, AllocError> {
-        let kind = Value::try_from_str(alloc, shape_name(&self.shape))?;
-        let boundaries = boundaries_tree(alloc, &self.shape, pool)?;
-        let mut members = self.extra.to_map()?;
-        put(&mut members, alloc, "type", kind)?;
-        put(&mut members, alloc, "lod", self.lod.tree(alloc, pool)?)?;
-        put(&mut members, alloc, "boundaries", boundaries)?;
-        Ok(Value::Object(members))
+    fn write(&self, pool: &mut VertexPool, out: &mut Writer) -> Result<(), AllocError> {
+        let kept = self.extra.map();
+        out.begin_object()?;
+        write_name(kept, None, "boundaries", out)?;
+        self.shape.write(pool, out)?;
+        write_name(kept, Some("boundaries"), "lod", out)?;
+        out.string(self.lod.as_str())?;
+        write_name(kept, Some("lod"), "type", out)?;
+        out.string(shape_name(&self.shape))?;
+        write_last(kept, "type", out)
     }
 }

@@ -45,15 +45,6 @@ impl VertexPool {
         Ok(number)
     }
 
-    /// The number of a point, or how many points there are where it isn't there. Takes no memory.
-    pub(crate) fn number(&self, point: Point) -> usize
-        ensures { result ≡ number_of self.now point }
-    {
-        self.points
-            .get_index_of(&point)
-            .unwrap_or(self.points.len())
-    }
-
     /// The points by their numbers. Takes no memory.
     pub fn points(&self) -> &IndexSet<Point>
         ensures { result.now.keys ≡ self.now }

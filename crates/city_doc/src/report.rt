@@ -1,20 +1,22 @@
 //! Writes the report of a run.
-ghost use Rattle.std.specs.Prelude.{◌≡◌, IfOk};
+ghost use Rattle.std.specs.Prelude.{◌≡◌, ◌++◌, IfOk};
 ghost use Rattle.city_doc.specs.Reports.{end_line, report_text};
 
-use crate::end_tree::end_tree;
+use crate::end_text::write_end;
 use city_model::OutOfMemory;
 use city_model::end::End;
+use json::Writer;
 use std::alloc::{AllocError, Global};
 
-/// The line of an end, with its newline.
-fn end_line(alloc: Global, end: &End) -> Result<Vec<u8>, AllocError>
-    ensures { IfOk result (λ b. b.items ≡ end_line end.now) }
+/// The report with the line of one more end, with its newline.
+fn with_line(alloc: Global, report: Vec<u8>, end: &End) -> Result<Vec<u8>, AllocError>
+    ensures { IfOk result (λ b. b.items ≡ report.items ++ end_line end.now) }
 {
-    let tree = end_tree(alloc, end)?;
-    let mut line = tree.to_vec(alloc)?;
-    line.push(b'\n')?;
-    Ok(line)
+    let mut out = Writer::new(report);
+    write_end(alloc, end, &mut out)?;
+    let mut report = out.into_inner();
+    report.push(b'\n')?;
+    Ok(report)
 }
 
 /// The report: a line for each end, each with a newline.
@@ -24,8 +26,7 @@ pub fn write_report(alloc: Global, ends: &[End]) -> Result<Vec<u8>, OutOfMemory>
 {
     let mut report = Vec::new(alloc);
     for end in ends {
-        let line = end_line(alloc, end)?;
-        report.extend_from_slice(line.as_slice())?;
+        report = with_line(alloc, report, end)?;
     }
     Ok(report)
 }

@@ -9,10 +9,10 @@ ghost use Rattle.city_doc.specs.Canonical.{tree_of, city_text};
 ghost use Rattle.city_doc.specs.Documents.{StandsForCity};
 ghost use Rattle.city_doc.specs.Texts.{IsReadable};
 
-use crate::tree::city_tree;
-use crate::walk::city_pool;
+use crate::city_text::write_members;
 use city_model::OutOfMemory;
 use city_model::city::City;
+use json::Writer;
 use std::alloc::Global;
 
 /// The canonical text of a city, without a newline.
@@ -32,8 +32,8 @@ pub fn write_city(alloc: Global, city: &City) -> Result<Vec<u8>, OutOfMemory>
     ensures rewritten { IfOk result (λ b. (text : List ℕ) → StandsForCity text city.now
         → StandsForCity b.items city.now) }
 {
-    let pool = city_pool(alloc, city)?;
-    let tree = city_tree(alloc, city, &pool)?;
-    let text = tree.to_vec(alloc)?;
+    let mut out = Writer::new(Vec::new(alloc));
+    write_members(alloc, city, &mut out)?;
+    let text = out.into_inner();
     Ok(text)
 }

@@ -1,11 +1,13 @@
 -- A shell is closed where no edge is repeated and each is found the other way round, by an order that ties equal edges alone.
-use Rattle.std.proofs.Common.{◌≡◌, List, [], ◌∷◌, Bool, true, false, Ordering, is_eq, refl, sym, ap, ◌∙◌}
-use Rattle.std.specs.Prelude.{◌&&◌}
+use Rattle.std.proofs.Common.{◌≡◌, List, [], ◌∷◌, Bool, true, false, true≢false, not, Ordering, is_eq, refl, sym, ap, ◌∙◌}
+use Rattle.std.specs.Prelude.{◌&&◌, ◌==◌}
 use Rattle.std.specs.Cmp.{tied_then}
 use Rattle.std.specs.List.{list_all}
+use Rattle.std.specs.List.Sorted.{IsPermutation}
 use Rattle.std.specs.Ordering.{eq_by_cmp, int_cmp, ordering_then}
 use Rattle.city_model.specs.declared.object.Point.{Point}
 use Rattle.city_model.specs.Shells.{Edge, Shell, same_point, same_edge, flipped, occurs_once, runs_both_ways, edges_of, is_closed}
+use Rattle.city_model.proofs.SortedEdges.{times_permutation, list_all_permutation}
 
 -- by x, then y, then z
 abbrev point_order : Point → Point → Ordering
@@ -43,24 +45,34 @@ split es [] = refl
 split es (x ∷ xs) =
     ap (λ b. runs_both_ways es x && b) (split es xs) ∙ both (occurs_once same_edge es x) (occurs_once same_edge es (flipped x)) _ _
 
+-- the order of the edges doesn't matter
+closed_permutation : (es fs : List Edge) → IsPermutation es fs → list_all (runs_both_ways fs) fs ≡ list_all (runs_both_ways es) es
+closed_permutation es fs moved =
+    let once : (e : Edge) → occurs_once same_edge fs e ≡ occurs_once same_edge es e = λ e. ap (λ n. n == 1) (times_permutation moved same_edge e) in
+    ap (λ (test : Edge → Bool). list_all test fs) (λ i e. once e i && once (flipped e) i) ∙ list_all_permutation moved (runs_both_ways es)
+
+by_not_false : (a b : Bool) → false ≡ not a → b ≡ (a && b)
+by_not_false true b h = refl
+by_not_false false b h = absurd (true≢false (sym h))
+
+by_not_true : (a b : Bool) → true ≡ not a → false ≡ (a && b)
+by_not_true true b h = absurd (true≢false h)
+by_not_true false b h = refl
+
 module _ (R : Edge → Edge → Ordering) (tied : (e f : Edge) → eq_by_cmp R e f ≡ same_edge e f) where
   once_by : (es : List Edge) (e : Edge) → occurs_once (eq_by_cmp R) es e ≡ occurs_once same_edge es e
   once_by es e = ap (λ (same : Edge → Edge → Bool). occurs_once same es e) (λ i e f. tied e f i)
 
-  all_by : (es : List Edge) (b : Bool) → b ≡ list_all (occurs_once (eq_by_cmp R) es) es → list_all (occurs_once same_edge es) es ≡ b
-  all_by es b h = sym (h ∙ ap (λ (test : Edge → Bool). list_all test es) (λ i e. once_by es e i))
+  -- in whatever order its edges are, the shell is closed where none is repeated and each is found the other way round
+  closed_by : (shell : Shell) (es : List Edge) → IsPermutation (edges_of shell) es
+      → (list_all (occurs_once (eq_by_cmp R) es) es && list_all (λ e. occurs_once (eq_by_cmp R) es (flipped e)) es) ≡ is_closed shell
+  closed_by shell es moved =
+      (λ i. list_all (λ e. once_by es e i) es && list_all (λ e. once_by es (flipped e) i) es) ∙ sym (split es es) ∙ closed_permutation (edges_of shell) es moved
 
-  -- a shell that repeats an edge isn't closed
-  pub repeated_is_open : (shell : Shell) (es : List Edge) → es ≡ edges_of shell → false ≡ list_all (occurs_once (eq_by_cmp R) es) es → false ≡ is_closed shell
-  repeated_is_open shell es is h =
-      let not_closed : list_all (runs_both_ways es) es ≡ false = split es es ∙ rw (all_by es false h) refl in
-      sym not_closed ∙ ap (λ fs. list_all (runs_both_ways fs) fs) is
+  -- as the code finds it
+  pub closed_unrepeated : (shell : Shell) (es : List Edge) (b : Bool) → IsPermutation (edges_of shell) es → false ≡ not (list_all (occurs_once (eq_by_cmp R) es) es)
+      → b ≡ list_all (λ e. occurs_once (eq_by_cmp R) es (flipped e)) es → b ≡ is_closed shell
+  closed_unrepeated shell es b moved none back = back ∙ by_not_false _ _ none ∙ closed_by shell es moved
 
-  -- without repeats, it is closed where each edge is found the other way round
-  pub closed_by : (shell : Shell) (es fs : List Edge) (has : Edge → Bool) (b : Bool) → es ≡ edges_of shell → fs ≡ es → true ≡ list_all (occurs_once (eq_by_cmp R) es) es → ((e : Edge) → has e ≡ occurs_once (eq_by_cmp R) es e)
-      → b ≡ list_all (λ e. has (flipped e)) fs → b ≡ is_closed shell
-  closed_by shell es fs has b is also h found e =
-      let turned : list_all (λ e. has (flipped e)) fs ≡ list_all (λ e. occurs_once same_edge es (flipped e)) es =
-      ap (λ (test : Edge → Bool). list_all test fs) (λ i e. (found (flipped e) ∙ once_by es (flipped e)) i) ∙ ap (list_all (λ e. occurs_once same_edge es (flipped e))) also in
-      let closed : list_all (runs_both_ways es) es ≡ list_all (λ e. occurs_once same_edge es (flipped e)) es = split es es ∙ rw (all_by es true h) refl in
-      e ∙ turned ∙ sym closed ∙ ap (λ fs. list_all (runs_both_ways fs) fs) is
+  pub open_repeated : (shell : Shell) (es : List Edge) → IsPermutation (edges_of shell) es → true ≡ not (list_all (occurs_once (eq_by_cmp R) es) es) → false ≡ is_closed shell
+  open_repeated shell es moved some = by_not_true _ _ some ∙ closed_by shell es moved

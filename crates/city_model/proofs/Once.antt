@@ -1,15 +1,13 @@
 -- Items without repeats, and how often each stands in a list.
-use Rattle.std.proofs.Common.{◌≡◌, ℕ, suc, ◌+◌, ◌<◌, ◌≤◌, List, [], ◌∷◌, ◌++◌, Bool, true, false, cond, true≢false, length, get_or, take, drop, refl, sym, ap, ◌∙◌, subst, arith, append_assoc, drop-cons}
+use Rattle.std.proofs.Common.{◌≡◌, ℕ, suc, ◌+◌, ◌<◌, ◌≤◌, List, [], ◌∷◌, ◌++◌, Bool, true, false, true≢false, length, get_or, take, drop, refl, sym, ap, ◌∙◌, subst, arith, append_assoc, drop-cons}
 use Rattle.std.specs.Prelude.{◌==◌, ◌||◌, ◌&&◌, if◌then◌else◌}
 use Rattle.std.specs.Cmp.{IsEquivalence}
 use Rattle.std.specs.List.{AllByRecursion, IsDistinct, list_any, list_all}
 use Rattle.std.proofs.lemmas.Bool.Decides.{nat_tests}
-use Rattle.std.proofs.lemmas.List.{take-append-drop, take_more, take_all}
-use Rattle.std.proofs.lemmas.List.Folds.{list_any_more}
-use Rattle.std.proofs.lemmas.Map.Keys.{IsDistinct-push}
+use Rattle.std.proofs.lemmas.List.{take-append-drop}
 use Rattle.city_model.specs.Shells.{times, occurs_once}
 
-or_true : (b : Bool) {c : Bool} → c ≡ true → (b || c) ≡ true
+pub or_true : (b : Bool) {c : Bool} → c ≡ true → (b || c) ≡ true
 or_true true h = refl
 or_true false h = h
 
@@ -19,12 +17,6 @@ and_false false h = refl
 
 not_one : (n : ℕ) → 2 ≤ n → (n == 1) ≡ false
 not_one n h = grind (arith, nat_tests, h)
-
-either_way : (b a : Bool) → cond b true a ≡ (a || b)
-either_way true true = refl
-either_way true false = refl
-either_way false true = refl
-either_way false false = refl
 
 module _ {T : Type 0} (E : T → T → Bool) (q : T) where
   any_at : (b : Bool) (xs : List T) → (list_any (E q) xs ≡ true → 1 ≤ times E q xs) → (b || list_any (E q) xs) ≡ true → 1 ≤ (if b then 1 + times E q xs else times E q xs)
@@ -103,26 +95,8 @@ module _ {T : Type 0} {E : T → T → Bool} (laws : IsEquivalence E) where
       let sum = times-append E x before (x ∷ after) in
       not_all (occurs_once E (before ++ x ∷ after)) before x after (not_one _ (omega (arith, many, here, sum)))
 
-  -- ---- the steps of a loop that puts the items into a set
-
   -- an item that stands before is repeated
   pub repeated_at : (es : List T) (i : ℕ) (x : T) → i < length es → x ≡ get_or es i x → list_any (E x) (take i es) ≡ true → list_all (occurs_once E es) es ≡ false
   repeated_at es i x lt is h =
       let split : take i es ++ get_or es i x ∷ drop (suc i) es ≡ es = ap (λ r. take i es ++ r) (sym (drop-cons es i x lt)) ∙ take-append-drop i es in
       subst (λ ys. list_all (occurs_once E ys) ys ≡ false) split (repeated (take i es) (get_or es i x) (drop (suc i) es) (subst (λ y. list_any (E y) (take i es) ≡ true) is h))
-
-  -- one item more in the set
-  pub add_any : (es : List T) (i : ℕ) (x q : T) (had has : Bool) → i < length es → x ≡ get_or es i x → had ≡ list_any (E q) (take i es) → has ≡ cond (E x q) true had → has ≡ list_any (E q) (take (i + 1) es)
-  add_any es i x q had has lt is before now =
-      let more : list_any (E q) (take (i + 1) es) ≡ (list_any (E q) (take i es) || E q x) = list_any_more (E q) es i x lt ∙ ap (λ y. list_any (E q) (take i es) || E q y) (sym is) in
-      now ∙ ap (λ b. cond b true had) (laws.symm x q) ∙ either_way (E q x) had ∙ ap (λ b. b || E q x) before ∙ sym more
-
-  pub add_distinct : (es : List T) (i : ℕ) (x : T) → i < length es → x ≡ get_or es i x → IsDistinct E (take i es) → list_any (E x) (take i es) ≡ false → IsDistinct E (take (i + 1) es)
-  add_distinct es i x lt is d h = subst (IsDistinct E) (ap (λ y. take i es ++ y ∷ []) is ∙ sym (take_more es i x lt)) (IsDistinct-push laws (take i es) x d h)
-
-  pub all_distinct : (es : List T) (i : ℕ) → length es ≤ i → IsDistinct E (take i es) → IsDistinct E es
-  all_distinct es i past d = subst (IsDistinct E) (take_all i es past) d
-
-  -- what the set has at the end
-  pub all_any : (es : List T) (i : ℕ) (q : T) (b : Bool) → length es ≤ i → IsDistinct E (take i es) → b ≡ list_any (E q) (take i es) → b ≡ occurs_once E es q
-  all_any es i q b past d h = h ∙ ap (list_any (E q)) (take_all i es past) ∙ sym (once_is_any q es (all_distinct es i past d))

@@ -1,34 +1,49 @@
 //! Whether shells are closed (CityJSON 2.0, section 3.2).
-ghost use Rattle.std.specs.Prelude.{◌≡◌, IfOk, IfSome, is_some};
-ghost use Rattle.std.specs.BTreeSet.{contains};
-ghost use Rattle.std.specs.List.{list_all, list_any};
+ghost use Rattle.std.specs.Prelude.{◌≡◌, false, not, IfOk};
+ghost use Rattle.std.specs.List.{list_all, list_any, IsDistinct};
+ghost use Rattle.std.specs.List.Sorted.{IsSorted};
 ghost use Rattle.std.specs.Ordering.{eq_by_cmp};
 ghost use Rattle.city_model.specs.Shells.{occurs_once, flipped, is_closed, is_open, has_open_shell};
 
 use crate::edges::{Edge, edges_of};
 use crate::object::{Shape, Shell};
 use std::alloc::{AllocError, Global};
-use std::collections::BTreeSet;
 
-/// The items as a set, or None where one of them is repeated.
-fn set_of<T: Ord + Copy>(alloc: Global, items: &[T]) -> Result<Option<BTreeSet<T>>, AllocError>
-    ensures distinct { IfOk result (λ set. is_some set ≡ list_all (occurs_once (eq_by_cmp T.cmp) items.now) items.now) }
-    ensures same { IfOk result (λ set. IfSome set (λ s. (x : T) → contains T.cmp s x ≡ occurs_once (eq_by_cmp T.cmp) items.now x)) }
+/// Whether an item is repeated, where the items are in order.
+fn has_repeats<T: Ord>(items: &[T]) -> bool
+    requires { IsSorted T.cmp items.now }
+    ensures repeats { result ≡ not (list_all (occurs_once (eq_by_cmp T.cmp) items.now) items.now) }
+    ensures distinct { result ≡ false → IsDistinct (eq_by_cmp T.cmp) items.now }
 {
-    let mut seen = BTreeSet::new(alloc);
-    for item in items {
-        if !seen.insert(*item)? {
-            return Ok(None);
+    for i in 1..items.len() {
+        if items[i - 1].cmp(&items[i]).is_eq() {
+            return true;
         }
     }
-    Ok(Some(seen))
+    false
 }
 
-/// Whether each edge is run the other way too.
-fn all_run_back(seen: &BTreeSet<Edge>, edges: &[Edge]) -> bool
-    ensures { result ≡ list_all (λ e. contains ⟦<Edge as Ord>⟧.cmp seen.now (flipped e)) edges.now }
+/// Whether an item is among others, which are in order and not repeated.
+fn is_among<T: Ord>(item: &T, items: &[T]) -> bool
+    requires sorted { IsSorted T.cmp items.now }
+    requires distinct { IsDistinct (eq_by_cmp T.cmp) items.now }
+    ensures { result ≡ occurs_once (eq_by_cmp T.cmp) items.now item.now }
 {
-    edges.iter().all(|edge| seen.contains(&(edge.1, edge.0)))
+    items.binary_search(item).is_ok()
+}
+
+/// Whether each edge is run the other way too, where the edges are in order and not repeated.
+fn are_run_back(edges: &[Edge]) -> bool
+    requires sorted { IsSorted ⟦<Edge as Ord>⟧.cmp edges.now }
+    requires distinct { IsDistinct (eq_by_cmp ⟦<Edge as Ord>⟧.cmp) edges.now }
+    ensures { result ≡ list_all (λ e. occurs_once (eq_by_cmp ⟦<Edge as Ord>⟧.cmp) edges.now (flipped e)) edges.now }
+{
+    for edge in edges {
+        if !is_among(&(edge.1, edge.0), edges) {
+            return false;
+        }
+    }
+    true
 }
 
 /// Whether each edge of the shell is run once each way, which takes time in proportion to the
@@ -36,11 +51,10 @@ fn all_run_back(seen: &BTreeSet<Edge>, edges: &[Edge]) -> bool
 pub fn shell_closed(alloc: Global, shell: &Shell) -> Result<bool, AllocError>
     ensures { IfOk result (λ b. b ≡ is_closed shell.now) }
 {
-    let edges = edges_of(alloc, shell)?;
-    match set_of(alloc, edges.as_slice())? {
-        None => Ok(false),
-        Some(seen) => Ok(all_run_back(&seen, edges.as_slice())),
-    }
+    let mut edges = edges_of(alloc, shell)?;
+    edges.sort_unstable();
+    let edges = edges.as_slice();
+    Ok(!has_repeats(edges) && are_run_back(edges))
 }
 
 /// Whether a shell of a solid isn't closed. The only refusal is want of memory.

@@ -32,7 +32,7 @@ fn empty(alloc: Global) -> Option<City>
 }
 
 /// Three scripts that put a Road each.
-const PUTS: &str = concat!(
+pub const PUTS: &str = concat!(
     r#"[{"name":"a","commands":[{"put":"g","object":{"type":"Road"}},"commit"]},"#,
     r#"{"name":"b","commands":[{"put":"h","object":{"type":"Road"}},"commit"]},"#,
     r#"{"name":"c","commands":[{"put":"i","object":{"type":"Road"}},"commit"]}]"#
@@ -45,7 +45,7 @@ const PUTS_AND_A_DELETE: &str = concat!(
     r#"{"name":"c","commands":[{"delete":"g"},"commit"]}]"#
 );
 
-fn scripts_of(alloc: Global, text: &str) -> Option<Sequence<Script>> {
+pub fn scripts_of(alloc: Global, text: &str) -> Option<Sequence<Script>> {
     match read_scripts(alloc, text.as_bytes()) {
         Ok(scripts) => Some(scripts),
         Err(_) => None,
@@ -53,7 +53,7 @@ fn scripts_of(alloc: Global, text: &str) -> Option<Sequence<Script>> {
 }
 
 /// A desk over a city without objects, whose shelf is a board's poster, and the board's viewers.
-fn opened<'r, R: Wait>(
+pub fn opened<'r, R: Wait>(
     rt: &'r R,
     alloc: Global,
     scripts: Sequence<Script>,
@@ -72,18 +72,51 @@ fn opened<'r, R: Wait>(
     Some((desk, viewers))
 }
 
-/// One of the viewers that are left of a desk's board.
-fn one_of<R: Wait + Drop>(desk: &Desk<Poster<R>>, viewers: &mut Vec<Viewer>) -> Option<Viewer>
-    requires { All (λ v. v.name ≡ desk.now.1.name) viewers.old.items }
-    ensures one { IfSome result (λ v. v.name ≡ desk.now.1.name) }
-    ensures rest { All (λ v. v.name ≡ desk.now.1.name) viewers.new.items }
+/// A desk over a city without objects, with the scripts of a text and so many viewers.
+fn opened_empty<'r, R: Wait>(
+    rt: &'r R,
+    alloc: Global,
+    scripts: &str,
+    places: usize,
+) -> Option<(Desk<Poster<&'r R>>, Vec<Viewer>)>
+    requires { places ≤ 4 }
+    ensures { IfSome result (λ r. All (λ v. v.name ≡ r.0.1.name) r.1.items) }
 {
-    let _ = desk;
-    viewers.pop()
+    let scripts = scripts_of(alloc, scripts)?;
+    let city = empty(alloc)?;
+    opened(rt, alloc, scripts, city, places)
+}
+
+/// Such a desk with one viewer.
+pub fn opened_to_one<'r, R: Wait>(
+    rt: &'r R,
+    alloc: Global,
+    scripts: &str,
+) -> Option<(Desk<Poster<&'r R>>, Viewer)>
+    ensures { IfSome result (λ r. r.1.name ≡ r.0.1.name) }
+{
+    let (desk, mut viewers) = opened_empty(rt, alloc, scripts, 1)?;
+    let viewer = viewers.pop()?;
+    Some((desk, viewer))
+}
+
+/// Such a desk with two viewers.
+fn opened_to_two<'r, R: Wait>(
+    rt: &'r R,
+    alloc: Global,
+    scripts: &str,
+) -> Option<(Desk<Poster<&'r R>>, Viewer, Viewer)>
+    ensures first { IfSome result (λ r. r.1.name ≡ r.0.1.name) }
+    ensures second { IfSome result (λ r. r.2.name ≡ r.0.1.name) }
+{
+    let (desk, mut viewers) = opened_empty(rt, alloc, scripts, 2)?;
+    let first = viewers.pop()?;
+    let second = viewers.pop()?;
+    Some((desk, first, second))
 }
 
 /// The next turn of a script, if there is one.
-fn turn<S: Shelf>(desk: &mut Desk<S>, script: usize) -> Option<Turn>
+pub fn turn<S: Shelf>(desk: &mut Desk<S>, script: usize) -> Option<Turn>
     ensures { S.name desk.new.1 ≡ S.name desk.old.1 }
 {
     if script < desk.scripts() {
@@ -106,14 +139,14 @@ fn end_next<S: Shelf>(desk: &mut Desk<S>) -> bool
 }
 
 /// The same at a desk whose shelf is a poster.
-fn commit_next<R: Wait + Drop>(desk: &mut Desk<Poster<R>>) -> bool
+pub fn commit_next<R: Wait + Drop>(desk: &mut Desk<Poster<R>>) -> bool
     ensures { desk.new.1.name ≡ desk.old.1.name }
 {
     end_next(desk)
 }
 
 /// Shows all commits so far, and gives a note of them.
-fn shown<R: Wait + Drop, Q: Wait>(rt: &Q, desk: &mut Desk<Poster<R>>) -> Option<Note>
+pub fn shown<R: Wait + Drop, Q: Wait>(rt: &Q, desk: &mut Desk<Poster<R>>) -> Option<Note>
     ensures desk { desk.new.1.name ≡ desk.old.1.name }
     ensures note { IfSome result (λ note. note.name ≡ desk.old.1.name) }
 {
@@ -122,7 +155,7 @@ fn shown<R: Wait + Drop, Q: Wait>(rt: &Q, desk: &mut Desk<Poster<R>>) -> Option<
 
 /// How many changes a viewer sees; none where its look is refused, where it sees fewer than before, or
 /// where there isn't an object for each.
-fn counted(viewer: Viewer, before: u64) -> Option<(Viewer, u64)>
+pub fn counted(viewer: Viewer, before: u64) -> Option<(Viewer, u64)>
     ensures { IfSome result (λ r. r.0.name ≡ viewer.name) }
 {
     let Ok(look) = viewer.look() else {
@@ -221,10 +254,7 @@ fn ended<S: Shelf>(alloc: Global, desk: Desk<S>, seen: &str) -> Option<String> {
 
 /// What the viewer of a board sees where these words are followed, and the objects at the end.
 fn seen_by_one<R: Wait>(rt: &R, alloc: Global, words: &str) -> Option<String> {
-    let scripts = scripts_of(alloc, PUTS)?;
-    let city = empty(alloc)?;
-    let (mut desk, mut viewers) = opened(rt, alloc, scripts, city, 1)?;
-    let viewer = one_of(&desk, &mut viewers)?;
+    let (mut desk, viewer) = opened_to_one(rt, alloc, PUTS)?;
     let mut seen = String::new(alloc);
     let _viewer = follow_all(rt, alloc, &mut desk, viewer, words, &mut seen)?;
     ended(alloc, desk, &seen)
@@ -248,11 +278,7 @@ fn a_show_of_nothing_changes_nothing(rt: HostRuntime) -> Result<(), Fail> {
 
 /// What two viewers of a board see, of whom each is told of other shows, and the objects at the end.
 fn seen_by_two<R: Wait>(rt: &R, alloc: Global) -> Option<String> {
-    let scripts = scripts_of(alloc, PUTS_AND_A_DELETE)?;
-    let city = empty(alloc)?;
-    let (mut desk, mut viewers) = opened(rt, alloc, scripts, city, 2)?;
-    let first = one_of(&desk, &mut viewers)?;
-    let second = one_of(&desk, &mut viewers)?;
+    let (mut desk, first, second) = opened_to_two(rt, alloc, PUTS_AND_A_DELETE)?;
     let mut seen = String::new(alloc);
     see_by_turns(rt, alloc, &mut desk, first, second, &mut seen)?;
     ended(alloc, desk, &seen)
@@ -287,9 +313,7 @@ fn each_viewer_sees_all_that_it_was_told_of(rt: HostRuntime) -> Result<(), Fail>
 
 /// Whether a board may have no viewer.
 fn is_shown_to_nobody<R: Wait>(rt: &R, alloc: Global) -> Option<bool> {
-    let scripts = scripts_of(alloc, PUTS)?;
-    let city = empty(alloc)?;
-    let (mut desk, viewers) = opened(rt, alloc, scripts, city, 0)?;
+    let (mut desk, viewers) = opened_empty(rt, alloc, PUTS, 0)?;
     let committed = commit_next(&mut desk);
     Some(committed && shown(rt, &mut desk).is_some() && viewers.is_empty())
 }
@@ -342,10 +366,7 @@ fn commit_and_show<R: Wait + Drop, Q: Wait>(rt: &Q, desk: &mut Desk<Poster<R>>) 
 
 /// How many changes a viewer sees at last that has looked on from a thread of its own.
 fn seen_beside<R: Threads + Wait + Sync>(rt: &R, alloc: Global) -> Option<u64> {
-    let scripts = scripts_of(alloc, PUTS)?;
-    let city = empty(alloc)?;
-    let (desk, mut viewers) = opened(rt, alloc, scripts, city, 1)?;
-    let viewer = one_of(&desk, &mut viewers)?;
+    let (desk, viewer) = opened_to_one(rt, alloc, PUTS)?;
     let (looked, driven) = join(
         rt,
         move || -> Option<(Viewer, u64)>

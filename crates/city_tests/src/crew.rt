@@ -1,26 +1,13 @@
 //! Runs of several workers, each compared with the same scripts played one at a time.
 ghost use Rattle.std.specs.Prelude.{◌≤◌};
 
-use crate::replay::replay;
 use crate::runs::{CHILD_OF_TWO, READ_TWICE, Run, TWO_READERS, TWO_WRITERS};
+use crate::serial::written;
 use city_crew::gate::{Gate, OpenGate};
 use city_crew::run::run_crew;
-use city_desk::output::Output;
 use std::alloc::Global;
 use std::sync::Wait;
 use std::thread::Threads;
-
-/// What a run wrote, where its scripts give the same when they are played one at a time in the order
-/// of its ends.
-fn written(alloc: Global, run: &Run, output: &Output) -> Option<String> {
-    let text = str::from_utf8(output.bytes.as_slice()).ok()?;
-    let again = replay(alloc, run, output.ends.as_slice())?;
-    if again.as_str() == text {
-        Some(again)
-    } else {
-        None
-    }
-}
 
 /// What so many workers write of a run, under a gate and before so many viewers.
 pub fn written_by<R: Threads + Wait + Sync, G: Gate + Sync>(

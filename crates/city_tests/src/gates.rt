@@ -6,7 +6,7 @@ use std::sync::atomic::{AtomicU64, Ordering};
 use std::test::Fail;
 
 /// How often a thread looks for the others before it goes on without them.
-const LOOKS: u64 = 500_000_000;
+const LOOKS: u64 = 200_000_000;
 
 /// Where threads wait for one another, each with a bit of its own.
 #[derive(Drop)]

@@ -33,6 +33,10 @@ mod model;
 #[cfg(test)]
 mod reading;
 #[cfg(test)]
+mod refused;
+#[cfg(test)]
+mod refusing;
+#[cfg(test)]
 mod relations;
 #[cfg(test)]
 mod replay;

@@ -115,35 +115,3 @@ const READERS: &[Step] = &[
 fn a_release_gives_back_all_ids_of_its_stamp_alone(rt: HostRuntime) {
     assert_eq!(rt; misanswered(rt.alloc(), READERS), None);
 }
-
-/// Whether the mode is held once it was asked for: a refused ask left nothing behind then, and
-/// the same ask succeeded when it was asked again.
-fn is_held_at_last(table: &mut LockTable, stamp: u64, id: &Text, mode: Mode) -> bool {
-    let before = table.mode(stamp, id);
-    if table.ask(stamp, id, mode).is_err() {
-        let unchanged = before.is_none() && table.mode(stamp, id).is_none();
-        if !unchanged || table.ask(stamp, id, mode).is_err() {
-            return false;
-        }
-    }
-    table.mode(stamp, id) == Some(mode)
-}
-
-/// Whether two stamps hold what they ask for at last, and what one releases is the other's still.
-fn are_held_at_last(table: &mut LockTable, x: &Text, y: &Text) -> bool {
-    let held = is_held_at_last(table, 1, x, Mode::Shared)
-        && is_held_at_last(table, 1, y, Mode::Exclusive)
-        && is_held_at_last(table, 2, x, Mode::Shared)
-        && is_held_at_last(table, 2, x, Mode::Shared);
-    table.release_all(1);
-    let released = table.mode(1, x).is_none() && table.mode(1, y).is_none();
-    held && released && table.mode(2, x) == Some(Mode::Shared)
-}
-
-/// With one allocation refused, wherever it is.
-#[test]
-fn a_refused_growth_leaves_the_table_as_it_was(rt: HostRuntime) -> Result<(), Fail> {
-    let (x, y) = (text(rt.alloc(), "x")?, text(rt.alloc(), "y")?);
-    assert!(rt; are_held_at_last(&mut LockTable::new(rt.alloc()), &x, &y));
-    Ok(())
-}

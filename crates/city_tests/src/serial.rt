@@ -11,11 +11,12 @@ use city_desk::serial_run::run_serial;
 use std::alloc::Global;
 use std::test::Fail;
 
-/// What a run wrote, where its scripts give the same when they are played again.
-fn written(alloc: Global, run: &Run, output: &Output) -> Option<String> {
+/// What a run wrote, where its scripts give the same when they are played one at a time in the order
+/// of its ends.
+pub fn written(alloc: Global, run: &Run, output: &Output) -> Option<String> {
     let text = str::from_utf8(output.bytes.as_slice()).ok()?;
     let again = replay(alloc, run, output.ends.as_slice())?;
-    if again.as_str() == text && output.seen.is_empty() {
+    if again.as_str() == text {
         Some(again)
     } else {
         None
@@ -25,7 +26,8 @@ fn written(alloc: Global, run: &Run, output: &Output) -> Option<String> {
 /// What a serial run writes, or why it is refused.
 fn answer(alloc: Global, run: &Run) -> Option<String> {
     match run_serial(alloc, run.document.as_bytes(), run.scripts.as_bytes()) {
-        Ok(output) => written(alloc, run, &output),
+        Ok(output) if output.seen.is_empty() => written(alloc, run, &output),
+        Ok(_) => None,
         Err(fault) => format!(in alloc; "{fault}").ok(),
     }
 }
@@ -97,23 +99,4 @@ fn the_document_is_judged_before_the_scripts(rt: HostRuntime) -> Result<(), Fail
         assert_eq!(rt; refusal.as_str(), *wanted);
     }
     Ok(())
-}
-
-/// Whether a run is refused for want of memory alone, or its scripts give the same when they are
-/// played again; the first time there may be no memory for that.
-fn is_short_of_memory_alone(alloc: Global, run: &Run) -> bool {
-    match run_serial(alloc, run.document.as_bytes(), run.scripts.as_bytes()) {
-        Ok(output) => {
-            written(alloc, run, &output).is_some() || written(alloc, run, &output).is_some()
-        }
-        Err(fault) => matches!(fault, RunFault::OutOfMemory),
-    }
-}
-
-/// For runs with an allocation that fails, whichever it is: a script that finds no memory ends so,
-/// with the replies before, and leaves nothing.
-#[test]
-fn want_of_memory_leaves_a_serial_history(rt: HostRuntime) {
-    assert!(rt; is_short_of_memory_alone(rt.alloc(), &ORPHAN));
-    assert!(rt; is_short_of_memory_alone(rt.alloc(), &TWO_READERS));
 }

@@ -108,7 +108,7 @@ fn reply_text(alloc: Global, reply: &Reply) -> Result<String, Fail> {
 /// What a step answers; `would_wait` must have foretold it.
 fn step_text(alloc: Global, foretold: bool, step: &Step) -> Result<String, Fail> {
     if foretold != matches!(step, Step::Wait) {
-        return Err(Fail::new("would_wait didn't foretell the answer"));
+        return Ok("would_wait foretold something else".to_string(alloc)?);
     }
     match step {
         Step::Done(reply) => reply_text(alloc, reply),
@@ -195,10 +195,20 @@ fn outline(alloc: Global, city: &City) -> Result<String, Fail> {
     Ok(all)
 }
 
+/// The answer of a turn, which is taken again where memory was refused: a refused call changes nothing
+/// that is seen later.
+fn answer_at_last(core: &mut Core, alloc: Global, turn: &Turn) -> Result<String, Fail> {
+    let said = answer(core, alloc, turn)?;
+    if said.as_str() == "OutOfMemory" {
+        return answer(core, alloc, turn);
+    }
+    Ok(said)
+}
+
 /// The first turn that isn't answered as wanted, and its answer.
 fn misplayed(core: &mut Core, alloc: Global, turns: &[Turn]) -> Result<Option<String>, Fail> {
     for turn in turns {
-        let said = answer(core, alloc, turn)?;
+        let said = answer_at_last(core, alloc, turn)?;
         let (stamp, verb, id, other, want) = *turn;
         if said.as_str() != want {
             let wrong = format!(in alloc; "{stamp} {verb} {id} {other}: {said}")?;
@@ -228,4 +238,22 @@ pub fn played(alloc: Global, rows: &[Row], turns: &[Turn]) -> Result<String, Fai
         Ok(Some(wrong)) => Ok(wrong),
         Err(fail) => Err(fail),
     }
+}
+
+/// Whether a put that found no memory left no part of itself: the id is absent, and a commit changes
+/// nothing. True where the put was done; refused where another call found no memory.
+pub fn is_put_whole_or_not_at_all(alloc: Global) -> Result<bool, Fail> {
+    let mut core = core_over(alloc, &[("f", ObjectType::LandUse, "", "")])?;
+    let put = command(alloc, "put", "g", "Road")?;
+    core.begin(5)?;
+    if core.act(5, &put).is_ok() {
+        return Ok(true);
+    }
+    let turns = [
+        (5, "read", "g", "", "absent"),
+        (5, "commit", "", "", "committed"),
+    ];
+    let wrong = misplayed(&mut core, alloc, &turns)?;
+    let left = left(core, alloc)?;
+    Ok(wrong.is_none() && left.as_str() == "f LandUse; ")
 }

@@ -4,7 +4,7 @@ use crate::turns::{Turn, played};
 use city_model::object_type::ObjectType::{Building, BuildingPart, LandUse};
 use std::test::Fail;
 
-const CORE_MODEL: &[Row] = &[("f", LandUse, "", "")];
+pub const CORE_MODEL: &[Row] = &[("f", LandUse, "", "")];
 
 const OPEN: &[Turn] = &[
     (5, "begin", "", "", "done"),
@@ -42,9 +42,9 @@ fn a_core_is_opened_and_handed_back(rt: HostRuntime) -> Result<(), Fail> {
     Ok(())
 }
 
-const READER_MODEL: &[Row] = &[("b", Building, "", "p"), ("p", BuildingPart, "b", "")];
+pub const READER_MODEL: &[Row] = &[("b", Building, "", "p"), ("p", BuildingPart, "b", "")];
 
-const READER_TURNS: &[Turn] = &[
+pub const READER_TURNS: &[Turn] = &[
     (1, "begin", "", "", "done"),
     (2, "begin", "", "", "done"),
     (2, "read", "b", "", "Building"),
@@ -64,13 +64,13 @@ fn a_delete_waits_for_a_reader_of_the_parent(rt: HostRuntime) -> Result<(), Fail
     Ok(())
 }
 
-const SIBLING_MODEL: &[Row] = &[
+pub const SIBLING_MODEL: &[Row] = &[
     ("b1", Building, "", "p"),
     ("b2", Building, "", "p"),
     ("p", BuildingPart, "b1 b2", ""),
 ];
 
-const SIBLING_TURNS: &[Turn] = &[
+pub const SIBLING_TURNS: &[Turn] = &[
     (0, "begin", "", "", "done"),
     (1, "begin", "", "", "done"),
     (1, "put", "q", "BuildingPart", "added"),
@@ -90,9 +90,9 @@ fn a_delete_waits_for_an_attached_sibling(rt: HostRuntime) -> Result<(), Fail> {
     Ok(())
 }
 
-const IMAGE_MODEL: &[Row] = &[("x", LandUse, "", "")];
+pub const IMAGE_MODEL: &[Row] = &[("x", LandUse, "", "")];
 
-const IMAGE_TURNS: &[Turn] = &[
+pub const IMAGE_TURNS: &[Turn] = &[
     (1, "begin", "", "", "done"),
     (2, "begin", "", "", "done"),
     (1, "number", "x", "1", "replaced"),
@@ -178,13 +178,13 @@ fn readers_and_writers_meet(rt: HostRuntime) -> Result<(), Fail> {
     Ok(())
 }
 
-const REFUSAL_MODEL: &[Row] = &[
+pub const REFUSAL_MODEL: &[Row] = &[
     ("b", Building, "", "p"),
     ("p", BuildingPart, "b", ""),
     ("r", Building, "", ""),
 ];
 
-const REFUSAL_TURNS: &[Turn] = &[
+pub const REFUSAL_TURNS: &[Turn] = &[
     (1, "begin", "", "", "done"),
     (1, "put", "b", "Bridge", "TypeFixed b"),
     (1, "delete", "b", "", "HasChildren b"),

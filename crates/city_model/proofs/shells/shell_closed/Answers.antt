@@ -1,12 +1,16 @@
-use Rattle.std.proofs.Common.{is_some, sym, ap, ◌∙◌}
-use Rattle.city_model.proofs.Closed.{repeated_is_open, closed_by, tied_edges}
+use Rattle.std.proofs.Common.{List, not, sym, ap, subst, ◌∙◌}
+use Rattle.std.specs.List.Sorted.{IsPermutation}
+use Rattle.city_model.specs.Shells.{Edge, edges_of}
+use Rattle.city_model.proofs.Closed.{closed_unrepeated, open_repeated, tied_edges}
 use Rattle.city_model.proofs.shells.shell_closed.Goals as goal
-
-pub returns-in-None : goal.returns-in-None
-returns-in-None c =
-    repeated_is_open _ tied_edges c.args.shell.now c.as_slice.result.now (c.as_slice.ensures.value ∙ c.in_ok-edges.ensures) (sym (ap is_some c.in-None.is) ∙ c.in_ok-set_of.ensures.distinct)
+use Rattle.city_model.proofs.shells.shell_closed.Goals.{then-not-has_repeats, else-not-has_repeats}
 
 pub returns : goal.returns
 returns c =
-    closed_by _ tied_edges c.args.shell.now c.as_slice.result.now c.as_slice-in-Some.result.now _ c.all_run_back.result (c.as_slice.ensures.value ∙ c.in_ok-edges.ensures) (c.as_slice-in-Some.ensures.value ∙ sym c.as_slice.ensures.value)
-    (sym (ap is_some c.in-Some.is) ∙ c.in_ok-set_of.ensures.distinct) (rw c.in-Some.is at c.in_ok-set_of.ensures.same) c.all_run_back.ensures
+    let es = c.as_slice-edges.result.now in
+    let moved : IsPermutation (edges_of c.args.shell.now) es =
+    subst (λ (xs : List Edge). IsPermutation xs es) c.in_ok-edges.ensures (subst (IsPermutation _) (sym c.as_slice-edges.ensures.value) c.sort_unstable.ensures.permutation) in
+    elim c.if-not-has_repeats.branch [
+      | then-not-has_repeats w ↦ w.result-is ∙ closed_unrepeated _ tied_edges c.args.shell.now es w.are_run_back.result moved w.if-not-has_repeats.ensures.repeats w.are_run_back.ensures
+      | else-not-has_repeats w ↦ w.result-is ∙ ap not w.if-not-has_repeats.false ∙ open_repeated _ tied_edges c.args.shell.now es moved w.if-not-has_repeats.ensures.repeats
+    ]

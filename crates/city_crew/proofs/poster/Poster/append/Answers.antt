@@ -3,12 +3,12 @@ use Rattle.left_right.specs.Sides.{view}
 use Rattle.city_model.specs.CityMap.{at}
 use Rattle.city_model.specs.Relations.{IsLawful}
 use Rattle.city_model.specs.Runs.{shown}
+use Rattle.city_desk.proofs.Shelved.{if_some_to}
 use Rattle.city_crew.specs.BoardValues.{PosterValue}
 use Rattle.city_crew.specs.HistoryValue.{HistoryValue, history_of}
 use Rattle.city_crew.specs.declared.version.Edit.{Edit}
 use Rattle.city_crew.proofs.HeldEdits.{holds_waiting}
 use Rattle.city_crew.proofs.Prefixes.{prefix_trans}
-use Rattle.city_crew.proofs.Results.{some_to}
 use Rattle.city_crew.proofs.poster.Poster.append.Goals as goal
 
 pub invariant_of-self-2 : goal.invariant_of-self-2
@@ -24,7 +24,7 @@ invariant_of-self-2 g c =
       c.self.invariant.0,
       ap (λ (q : HistoryValue). q.name) history ∙ c.self.invariant.1,
       prefix_trans p.published.changes p.taken.changes c.in-Some.history.changes c.self.invariant.2 (c.args.change ∷ [], sym (ap (λ (q : HistoryValue). q.changes) history)),
-      some_to p.writer _ _
+      if_some_to p.writer _ _
           (λ w. holds_waiting w.writer.desk.shown.value (view w.writer.desk.place) (drop w.writer.behind w.writer.log.items) p.waiting.items p.opening p.published p.taken e c.args.change history c.in_ok-writes.ensures lawful)
           c.self.invariant.3,
     )

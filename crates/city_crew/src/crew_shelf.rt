@@ -1,0 +1,46 @@
+//! The shelf of a run.
+use crate::poster::Poster;
+use city_desk::shelf::{ListShelf, Shelf};
+use city_model::OutOfMemory;
+use city_model::change::Change;
+use std::sync::Wait;
+
+/// Where the desk of a run puts the changes of its commits: into a plain list where nobody looks, and
+/// on a board where there are viewers.
+#[derive(Drop)]
+pub enum CrewShelf<R: Wait + Drop> {
+    Listed(ListShelf),
+    Posted(Poster<R>),
+}
+
+impl<R: Wait + Drop> Shelf for CrewShelf<R> {
+    type Note = ();
+
+    ghost use Rattle.std.specs.Prelude.{[]};
+    ghost use Rattle.city_crew.specs.CrewShelves.{taken_by, base_of};
+
+    ghost list = { taken_by };
+
+    ghost base = { base_of };
+
+    ghost name = { λ shelf. [] };
+
+    ghost tells = { λ shelf note. Unit {0} };
+
+    fn take(&mut self, change: Change) -> Result<(), OutOfMemory> {
+        match self {
+            CrewShelf::Listed(list) => list.take(change),
+            CrewShelf::Posted(poster) => poster.take(change),
+        }
+    }
+
+    fn show<Q: Wait>(&mut self, rt: &Q) -> Result<(), OutOfMemory> {
+        match self {
+            CrewShelf::Listed(list) => list.show(rt),
+            CrewShelf::Posted(poster) => {
+                drop(poster.show(rt)?);
+                Ok(())
+            }
+        }
+    }
+}

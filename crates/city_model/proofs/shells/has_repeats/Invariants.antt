@@ -1,0 +1,7 @@
+use Rattle.std.proofs.Common.{◌≡◌, false}
+use Rattle.std.specs.List.{AllAdjacentBelow}
+use Rattle.std.specs.Ordering.{eq_by_cmp}
+use Rattle.city_model.proofs.shells.has_repeats.Given as goal
+
+abbrev pub invariant-loop-i : goal.invariant-loop-i
+invariant-loop-i g l = AllAdjacentBelow (λ x y. eq_by_cmp g.T.Ord.cmp x y ≡ false) l.items l.i
