@@ -4,7 +4,7 @@ ghost use Rattle.city_doc.specs.Canonical.{city_text};
 ghost use Rattle.city_doc.specs.Reports.{report_text};
 
 use city_doc::report::write_report;
-use city_doc::write::write_city;
+use city_doc::write::append_city;
 use city_model::OutOfMemory;
 use city_model::city::City;
 use city_model::end::End;
@@ -26,9 +26,8 @@ pub struct Output {
 pub fn output_bytes(alloc: Global, city: &City, ends: &[End]) -> Result<Vec<u8>, OutOfMemory>
     ensures { IfOk result (λ b. b.items ≡ report_text ends.now ++ city_text city.now ++ 10 ∷ []) }
 {
-    let mut bytes = write_report(alloc, ends)?;
-    let model = write_city(alloc, city)?;
-    bytes.extend_from_slice(model.as_slice())?;
+    let report = write_report(alloc, ends)?;
+    let mut bytes = append_city(alloc, report, city)?;
     bytes.push(b'\n')?;
     Ok(bytes)
 }

@@ -4,6 +4,7 @@ pub mod BadCommands
 pub mod Between
 pub mod Bodies
 pub mod Canonical
+pub mod CanonicalTexts
 pub mod CityFaults
 pub mod CommandForms
 pub mod Documents

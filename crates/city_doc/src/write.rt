@@ -1,11 +1,12 @@
 //! Writes a city.
-ghost use Rattle.std.specs.Prelude.{◌≡◌, ◌≤◌, ℕ, List, IfOk};
+ghost use Rattle.std.specs.Prelude.{◌≡◌, ◌≤◌, ◌++◌, ℕ, List, IfOk};
 ghost use Rattle.serde_json.specs.Data.{depth};
 ghost use Rattle.serde_json.specs.Read.{max_depth};
 ghost use Rattle.city_model.specs.CityMap.{at, CityValue};
 ghost use Rattle.city_model.specs.Relations.{IsLawful};
 ghost use Rattle.city_doc.specs.Accepted.{IsAccepted};
 ghost use Rattle.city_doc.specs.Canonical.{tree_of, city_text};
+ghost use Rattle.city_doc.specs.CanonicalTexts.{IsCanonicalText};
 ghost use Rattle.city_doc.specs.Documents.{StandsForCity};
 ghost use Rattle.city_doc.specs.Texts.{IsReadable};
 
@@ -32,8 +33,19 @@ pub fn write_city(alloc: Global, city: &City) -> Result<Vec<u8>, OutOfMemory>
     ensures rewritten { IfOk result (λ b. (text : List ℕ) → StandsForCity text city.now
         → StandsForCity b.items city.now) }
 {
-    let mut out = Writer::new(Vec::new(alloc));
-    write_members(alloc, city, &mut out)?;
-    let text = out.into_inner();
+    let text = append_city(alloc, Vec::new(alloc), city)?;
     Ok(text)
+}
+
+/// The bytes, and after them the canonical text of a city, without a newline.
+///
+/// The text is the one of `write_city`, and what is said of it there holds of it here.
+pub fn append_city(alloc: Global, bytes: Vec<u8>, city: &City) -> Result<Vec<u8>, OutOfMemory>
+    ensures text { IfOk result (λ b. b.items ≡ bytes.items ++ city_text city.now) }
+    ensures canonical { IfOk result (λ _. IsCanonicalText (city_text city.now) city.now) }
+{
+    let mut out = Writer::new(bytes);
+    write_members(alloc, city, &mut out)?;
+    let bytes = out.into_inner();
+    Ok(bytes)
 }
