@@ -10,6 +10,7 @@ use json::Writer;
 use serde_json::{Map, Number, Value};
 use std::alloc::AllocError;
 
+/// Writes a number that is an `i64`.
 fn write_number(n: &Number, out: &mut Writer) -> Result<(), AllocError>
     requires integral { is_integral (number (number_view n.now)) ≡ true }
     ensures before { OnOk result (out.new.before ≡ out.old.before) }
@@ -19,6 +20,7 @@ fn write_number(n: &Number, out: &mut Writer) -> Result<(), AllocError>
 {
     match n.as_i64() {
         Some(z) => out.i64(z),
+        // (no number that is kept)
         None => out.null(),
     }
 }
