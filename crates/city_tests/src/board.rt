@@ -22,7 +22,7 @@ use std::test::Fail;
 use std::thread::{Threads, join};
 
 /// A lawful city without objects.
-fn empty(alloc: Global) -> Option<City>
+pub fn empty(alloc: Global) -> Option<City>
     ensures { IfSome result (λ city. IsLawful (at city.1)) }
 {
     match read_city(alloc, model!("{}", "[]").as_bytes()) {
@@ -181,7 +181,7 @@ fn ids(alloc: Global, city: &City) -> Option<String> {
 }
 
 /// Writes down how many changes a viewer sees, and which objects.
-fn noted(alloc: Global, viewer: Viewer, seen: &mut String) -> Option<Viewer>
+pub fn noted(alloc: Global, viewer: Viewer, seen: &mut String) -> Option<Viewer>
     ensures { IfSome result (λ v. v.name ≡ viewer.name) }
 {
     let Ok(look) = viewer.look() else {

@@ -31,6 +31,8 @@ mod long_lists;
 #[cfg(test)]
 mod model;
 #[cfg(test)]
+mod posting;
+#[cfg(test)]
 mod reading;
 #[cfg(test)]
 mod refused;
