@@ -10,7 +10,8 @@ use Rattle.city_desk.specs.DeskState.{DeskState}
 use Rattle.city_desk.specs.Serial.{IsSerial}
 use Rattle.city_desk.specs.TextRuns.{IsRun}
 use Rattle.city_desk.proofs.Throughout.{lawful_throughout}
-use Rattle.city_crew.specs.CrewRuns.{IsReadFrom, IsResult}
+use Rattle.city_desk.specs.TextRuns.{IsReadFrom}
+use Rattle.city_crew.specs.CrewRuns.{IsResult}
 
 pub is_result : (document scripts : List ℕ) (d : DeskState) (changes : List Change) (base : Option CityValue) (left : CityValue) (ends : List End)
     → IsReadFrom document scripts d.start d.scripts → IsSerial d changes base → length ends ≡ length d.scripts

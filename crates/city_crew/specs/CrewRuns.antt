@@ -4,15 +4,7 @@ use Rattle.city_model.specs.declared.end.End.{End}
 use Rattle.city_model.specs.CityMap.{CityValue, at}
 use Rattle.city_model.specs.Relations.{IsLawful}
 use Rattle.city_model.specs.Runs.{Scripted, Fits, model_after}
-use Rattle.city_doc.specs.Documents.{StandsForCity, IsAdmitted}
-use Rattle.city_doc.specs.ScriptTexts.{StandsForScripts, IsReadAs}
-
--- the city and the scripts that two texts stand for
-pub record IsReadFrom (document scripts : List ℕ) (city : CityValue) (list : List Scripted) : Type 0 where
-  pub stands_for_city : StandsForCity document city
-  pub stands_for_scripts : StandsForScripts scripts list
-  pub admitted : IsAdmitted document city
-  pub read_as : IsReadAs scripts list
+use Rattle.city_desk.specs.TextRuns.{IsReadFrom}
 
 -- the scripts of a text, run on the city of a document, have ended so, and left this city
 pub record IsResult (document scripts : List ℕ) (left : CityValue) (ends : List End) : Type 0 where

@@ -7,6 +7,12 @@ pub trait Gate {
 
     /// A viewer has looked at a version of so many changes.
     fn saw(&self, viewer: usize, edits: u64);
+
+    /// Whether its calls return at once, whatever they are given, so that a worker may leave
+    /// `pass` out between two turns.
+    fn is_open(&self) -> bool {
+        false
+    }
 }
 
 /// A gate that holds nobody.
@@ -18,4 +24,9 @@ impl Gate for OpenGate {
 
     /// Returns at once.
     fn saw(&self, _viewer: usize, _edits: u64) {}
+
+    /// It is.
+    fn is_open(&self) -> bool {
+        true
+    }
 }

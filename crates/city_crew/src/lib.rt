@@ -14,7 +14,6 @@ mod last_looks;
 pub mod look;
 pub mod note;
 mod opening;
-mod placeholder;
 mod places;
 pub mod poster;
 mod publish;

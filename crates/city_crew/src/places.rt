@@ -3,12 +3,12 @@ ghost use Rattle.std.specs.Prelude.{◌≡◌, ◌&&◌, ℕ, List, None, true, 
 ghost use Rattle.std.specs.Map.{keys_of};
 ghost use Rattle.city_model.specs.CityMap.{at, has_id};
 
-use crate::placeholder::placeholder;
 use crate::writes::Writes;
 use city_model::OutOfMemory;
 use city_model::city::City;
 use city_model::copied::Copied;
 use city_model::text::Id;
+use city_txn::placeholder::placeholder;
 use std::alloc::Global;
 
 /// Gives each id of the writes a place in the city: a placeholder where no object is there. Where

@@ -5,7 +5,7 @@ ghost use Rattle.city_model.specs.Relations.{IsLawful};
 ghost use Rattle.city_model.specs.SerialEnds.{commits_in};
 ghost use Rattle.city_desk.specs.RunFaults.{IsRunFault};
 ghost use Rattle.city_desk.specs.TextRuns.{IsRun};
-ghost use Rattle.city_crew.specs.CrewRuns.{IsReadFrom};
+ghost use Rattle.city_desk.specs.TextRuns.{IsReadFrom};
 ghost use Rattle.city_crew.specs.CrewShelves.{taken_by, base_of};
 ghost use Rattle.city_crew.specs.Seen.{AreSeen};
 
@@ -24,8 +24,7 @@ use city_desk::desk::{Desk, Finished};
 use city_desk::fault::RunFault;
 use city_desk::output::{Output, output_bytes};
 use city_desk::shelf::{ListShelf, Shelf};
-use city_doc::read::read_city;
-use city_doc::scripts::read_scripts;
+use city_desk::texts::read_texts;
 use city_model::city::City;
 use city_model::copied::Copied;
 use city_model::script::Script;
@@ -61,8 +60,7 @@ pub fn run_crew<R: Threads + Wait + Sync, G: Gate + Sync>(
     ensures seen { IfOk result (λ o. AreSeen viewers (commits_in o.ends) o.seen.items) }
     ensures fault { IfErr result (λ f. IsRunFault document.now scripts.now f) }
 {
-    let city = read_city(alloc, document)?;
-    let list = read_scripts(alloc, scripts)?;
+    let (city, list) = read_texts(alloc, document, scripts)?;
     let (state, places) = open(rt, alloc, document, scripts, city, list, workers, viewers)?;
     let output = run(
         rt, alloc, document, scripts, state, places, workers, viewers, gate,

@@ -1,6 +1,7 @@
 //! What lies under the lock of a run.
 ghost use Rattle.std.specs.Prelude.{◌≡◌, IfOk};
-ghost use Rattle.city_crew.specs.CrewRuns.{IsReadFrom, IsResult};
+ghost use Rattle.city_desk.specs.TextRuns.{IsReadFrom};
+ghost use Rattle.city_crew.specs.CrewRuns.{IsResult};
 
 use crate::ages::Ages;
 use crate::commits::is_commit;
@@ -29,7 +30,7 @@ pub struct State<R: Wait + Drop> {
 }
 
 impl<R: Wait + Drop> Model for State<R> {
-    ghost use Rattle.city_crew.specs.CrewRuns.{IsReadFrom};
+    ghost use Rattle.city_desk.specs.TextRuns.{IsReadFrom};
 
     ghost Value = { Unit {0} };
 

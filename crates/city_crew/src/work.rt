@@ -3,6 +3,11 @@ use crate::gate::Gate;
 use city_desk::turn::Turn;
 use std::sync::{Condvar, Mutex, MutexGuard, Wait};
 
+/// How many turns a worker makes under one lock where no gate may hold it between them: some ten
+/// milliseconds of short commands. So the lock seldom changes hands, a script of few commands meets
+/// no other, and nobody waits long for a turn.
+const TURNS_AT_ONCE: usize = 1024;
+
 /// Scripts that take turns, of which workers hand out the next one to themselves.
 pub trait Turns: Drop {
     /// The next script to be worked on.
@@ -43,23 +48,31 @@ pub fn work<R: Wait, T: Turns, G: Gate>(rt: &R, shared: &Shared<T>, gate: &G) {
 
 /// Turns a script to its end.
 fn turn_to_end<R: Wait, T: Turns, G: Gate>(rt: &R, shared: &Shared<T>, gate: &G, script: usize) {
+    let most = if gate.is_open() { TURNS_AT_ONCE } else { 1 };
     let mut replies = 0usize;
     for _ in rt.forever() {
         gate.pass(script, replies);
-        match turn_once(rt, shared, script) {
-            Turn::Began | Turn::Died => replies = 0,
-            Turn::Replied => replies = replies.wrapping_add(1),
-            Turn::Waits => {}
+        match turns_at_once(rt, shared, script, most, &mut replies) {
             Turn::Ended | Turn::AlreadyEnded => return,
+            _ => {}
         }
     }
 }
 
-/// One turn of a script. One that waits returns after another turn has ended a script or killed it.
-/// One that died returns when it is the oldest under way, which no turn kills: so it dies once.
-fn turn_once<R: Wait, T: Turns>(rt: &R, shared: &Shared<T>, script: usize) -> Turn {
+/// Turns of a script under one lock: so many, or fewer where one neither begins it nor replies.
+/// Gives the last one, and counts the replies of the attempt.
+///
+/// A turn that waits returns after another turn has ended a script or killed it. One that died
+/// returns when it is the oldest under way, which no turn kills: so it dies once.
+fn turns_at_once<R: Wait, T: Turns>(
+    rt: &R,
+    shared: &Shared<T>,
+    script: usize,
+    most: usize,
+    replies: &mut usize,
+) -> Turn {
     let mut turns = shared.turns.lock(rt);
-    let turn = turns.turn(script);
+    let turn = go_on(&mut *turns, script, most, replies);
     match turn {
         Turn::Waits => wait_for_a_move(rt, shared, turns),
         Turn::Died => {
@@ -70,6 +83,29 @@ fn turn_once<R: Wait, T: Turns>(rt: &R, shared: &Shared<T>, script: usize) -> Tu
             turns.show_commit(rt);
             shared.moved.notify_all();
         }
+        _ => {}
+    }
+    turn
+}
+
+/// Turns of a script: so many, or fewer where one neither begins it nor replies. Gives the last
+/// one, and counts the replies of the attempt.
+fn go_on<T: Turns>(turns: &mut T, script: usize, most: usize, replies: &mut usize) -> Turn {
+    for _ in 1..most {
+        let turn = turn_once(turns, script, replies);
+        if !matches!(turn, Turn::Began | Turn::Replied) {
+            return turn;
+        }
+    }
+    turn_once(turns, script, replies)
+}
+
+/// One turn of a script, which counts the replies of the attempt.
+fn turn_once<T: Turns>(turns: &mut T, script: usize, replies: &mut usize) -> Turn {
+    let turn = turns.turn(script);
+    match turn {
+        Turn::Began | Turn::Died => *replies = 0,
+        Turn::Replied => *replies = replies.wrapping_add(1),
         _ => {}
     }
     turn

@@ -8,6 +8,13 @@ use Rattle.city_doc.specs.Documents.{StandsForCity, IsAdmitted}
 use Rattle.city_doc.specs.ScriptTexts.{StandsForScripts, IsReadAs}
 use Rattle.city_doc.specs.Outputs.{IsOutput}
 
+-- the city and the scripts that two texts stand for
+pub record IsReadFrom (document scripts : List ℕ) (city : CityValue) (list : List Scripted) : Type 0 where
+  pub stands_for_city : StandsForCity document city
+  pub stands_for_scripts : StandsForScripts scripts list
+  pub admitted : IsAdmitted document city
+  pub read_as : IsReadAs scripts list
+
 -- The document stands for a city and the text for scripts. The ends are those of the scripts run one at a
 -- time on that city, each once, in the order of the ends; after each of them the model is lawful; and the
 -- bytes are the report of the ends and the model that they leave

@@ -12,4 +12,5 @@ pub mod progress;
 mod ready;
 pub mod serial_run;
 pub mod shelf;
+pub mod texts;
 pub mod turn;

@@ -6,8 +6,7 @@ ghost use Rattle.city_desk.specs.SerialRuns.{IsSerialRun, IsDecided};
 use crate::fault::RunFault;
 use crate::in_turn::run_each;
 use crate::output::{Output, output_bytes};
-use city_doc::read::read_city;
-use city_doc::scripts::read_scripts;
+use crate::texts::read_texts;
 use std::alloc::Global;
 
 /// Runs the scripts on the document's city, one after the other in their order.
@@ -21,8 +20,7 @@ pub fn run_serial(alloc: Global, document: &[u8], scripts: &[u8]) -> Result<Outp
     ensures seen { IfOk result (λ o. o.seen.items ≡ []) }
     ensures fault { IfErr result (λ f. IsSerialFault document.now scripts.now f) }
 {
-    let city = read_city(alloc, document)?;
-    let scripts = read_scripts(alloc, scripts)?;
+    let (city, scripts) = read_texts(alloc, document, scripts)?;
     let finished = run_each(alloc, city, scripts)?;
     let bytes = output_bytes(alloc, &finished.city, finished.ends.as_slice())?;
     Ok(Output {

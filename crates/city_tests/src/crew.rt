@@ -28,6 +28,15 @@ pub fn written_by<R: Threads + Wait + Sync, G: Gate + Sync>(
     }
 }
 
+/// Holds nobody, but is passed before each turn, so that scripts take turns one by one.
+struct TurnByTurn;
+
+impl Gate for TurnByTurn {
+    fn pass(&self, _script: usize, _replies: usize) {}
+
+    fn saw(&self, _viewer: usize, _edits: u64) {}
+}
+
 /// Runs that leave one model in whichever order their scripts end.
 const RUNS: [Run; 3] = [CHILD_OF_TWO, TWO_READERS, READ_TWICE];
 
@@ -40,7 +49,7 @@ fn leave_the_model<R: Threads + Wait + Sync>(
 ) -> bool
     requires { (1 ≤ workers) × (workers ≤ 16) }
 {
-    match written_by(rt, alloc, run, workers, 0, &OpenGate) {
+    match written_by(rt, alloc, run, workers, 0, &TurnByTurn) {
         Some(text) => text.as_str().trim_end().ends_with(run.model),
         None => false,
     }
@@ -58,7 +67,7 @@ fn workers_leave_what_some_order_leaves(rt: HostRuntime) {
 #[test]
 fn workers_that_write_one_object_end_one_after_the_other(rt: HostRuntime) {
     let run = &TWO_WRITERS;
-    assert!(&rt; written_by(&rt, rt.alloc(), run, 2, 0, &OpenGate).is_some());
-    assert!(&rt; written_by(&rt, rt.alloc(), run, 4, 1, &OpenGate).is_some());
+    assert!(&rt; written_by(&rt, rt.alloc(), run, 2, 0, &TurnByTurn).is_some());
+    assert!(&rt; written_by(&rt, rt.alloc(), run, 4, 1, &TurnByTurn).is_some());
     assert!(&rt; written_by(&rt, rt.alloc(), run, 16, 4, &OpenGate).is_some());
 }

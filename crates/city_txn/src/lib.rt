@@ -7,7 +7,7 @@ mod ending;
 mod image;
 mod lock;
 mod perform;
-mod placeholder;
+pub mod placeholder;
 mod seen;
 mod slot;
 pub mod step;

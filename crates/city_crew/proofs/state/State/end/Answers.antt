@@ -1,5 +1,5 @@
 use Rattle.std.proofs.Common.{rules, ◌≡◌, ℕ, List, subst}
-use Rattle.city_crew.specs.CrewRuns.{IsReadFrom}
+use Rattle.city_desk.specs.TextRuns.{IsReadFrom}
 use Rattle.city_crew.proofs.CrewResults.{is_result}
 use Rattle.city_crew.proofs.state.State.end.Goals as goal
 

@@ -1,0 +1,30 @@
+//! The two texts of a run.
+ghost use Rattle.std.specs.Prelude.{IfOk, IfErr};
+ghost use Rattle.city_model.specs.CityMap.{at};
+ghost use Rattle.city_model.specs.Relations.{IsLawful};
+ghost use Rattle.city_desk.specs.RunFaults.{IsSerialFault};
+ghost use Rattle.city_desk.specs.TextRuns.{IsReadFrom};
+
+use crate::fault::RunFault;
+use city_doc::read::read_city;
+use city_doc::scripts::read_scripts;
+use city_model::city::City;
+use city_model::script::Script;
+use city_model::sequence::Sequence;
+use std::alloc::Global;
+
+/// The city and the scripts that two texts stand for. The document is judged before the scripts;
+/// want of memory for a text is `OutOfMemory`.
+pub fn read_texts(
+    alloc: Global,
+    document: &[u8],
+    scripts: &[u8],
+) -> Result<(City, Sequence<Script>), RunFault>
+    ensures read { IfOk result (λ r. IsReadFrom document.now scripts.now r.0 r.1) }
+    ensures lawful { IfOk result (λ r. IsLawful (at r.0.1)) }
+    ensures fault { IfErr result (λ f. IsSerialFault document.now scripts.now f) }
+{
+    let city = read_city(alloc, document)?;
+    let scripts = read_scripts(alloc, scripts)?;
+    Ok((city, scripts))
+}
