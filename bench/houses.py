@@ -21,6 +21,11 @@ def solid(lod, vertices, corners, faces):
     return {"type": "Solid", "lod": lod, "boundaries": [shell]}
 
 
+def several(*solids, lod="1"):
+    """Solids as one geometry."""
+    return {"type": "MultiSolid", "lod": lod, "boundaries": [item["boundaries"] for item in solids]}
+
+
 def ground(x, y, width, depth, height):
     return [(x, y, height), (x + width, y, height), (x + width, y + depth, height), (x, y + depth, height)]
 

@@ -6,7 +6,7 @@ usage: make_street.py > examples/street.txt
 import json
 import sys
 
-from houses import Vertices, box, gabled
+from houses import Vertices, box, gabled, several
 
 vertices = Vertices()
 objects = {
@@ -35,6 +35,9 @@ def house(x, eaves, ridge):
 building(2, 2, {"house": house(0, 5600, 9100), "shed": [box(vertices, 1500, 14000, 2500, 2000, 2300)]})
 building(4, 2, {"house": house(6000, 5600, 9100)})
 building(6, 3, {"house": house(12000, 8400, 11900), "annexe": [box(vertices, 12000, 9000, 6000, 3000, 3000)]})
+
+garages = [box(vertices, x, 14000, 3000, 6000, 2500) for x in (9000, 12000, 15000)]
+objects["lime-street-garages"] = {"type": "Building", "geometry": [several(*garages)]}
 
 city = {
     "type": "CityJSON",

@@ -13,8 +13,9 @@ FIRST_LEVEL = (
 ).split()
 FAMILY_OF = {name: name for name in FIRST_LEVEL}
 FAMILY_OF |= {family + part: family for family, parts in FAMILIES.items() for part in parts.split()}
-UNSUPPORTED = ("MultiPoint", "MultiLineString", "GeometryInstance", "MultiSolid", "CompositeSolid")
-NESTING = {"MultiSurface": 3, "CompositeSurface": 3, "Solid": 4}
+UNSUPPORTED = ("MultiPoint", "MultiLineString", "GeometryInstance")
+NESTING = {"MultiSurface": 3, "CompositeSurface": 3, "Solid": 4, "MultiSolid": 5, "CompositeSolid": 5}
+SURFACE, SHELL = 2, 3
 
 
 def read_city(text):
@@ -125,10 +126,14 @@ def replaced(value, new):
     return [replaced(item, new) for item in value] if isinstance(value, list) else new(value)
 
 
-def surfaces_of(obj):
+def parts_of(obj, nesting):
+    """The parts of this nesting in the boundaries of an object; surfaces alone are in no shell."""
     for item in obj["geometry"]:
-        for part in item["boundaries"]:
-            yield from part if item["type"] == "Solid" else [part]
+        if nesting < NESTING[item["type"]]:
+            parts = item["boundaries"]
+            for _ in range(NESTING[item["type"]] - nesting - 1):
+                parts = [inner for part in parts for inner in part]
+            yield from parts
 
 
 def neighbours(ring):
@@ -136,11 +141,11 @@ def neighbours(ring):
 
 
 def has_short_ring(obj):
-    return any(not surface or any(len(ring) < 3 for ring in surface) for surface in surfaces_of(obj))
+    return any(not surface or any(len(ring) < 3 for ring in surface) for surface in parts_of(obj, SURFACE))
 
 
 def has_same_twice(obj):
-    return any(a == b for surface in surfaces_of(obj) for ring in surface for a, b in neighbours(ring))
+    return any(a == b for surface in parts_of(obj, SURFACE) for ring in surface for a, b in neighbours(ring))
 
 
 def ring_fault(obj):
@@ -152,7 +157,7 @@ def shell_fault(obj):
 
 
 def has_open_shell(obj):
-    return any(is_open(shell) for item in obj["geometry"] if item["type"] == "Solid" for shell in item["boundaries"])
+    return any(is_open(shell) for shell in parts_of(obj, SHELL))
 
 
 def is_open(shell):

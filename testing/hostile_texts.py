@@ -188,6 +188,7 @@ def several_faults():
         b'{"type":"Road","parents":["a"]}',
         b'{"type":"Building","children":1}',
         b'{"type":"Road","geometry":[{"type":"Solid","lod":"1","boundaries":[[[[0,1,2]]]]}]}',
+        b'{"type":"Road","geometry":[{"type":"CompositeSolid","lod":"1","boundaries":[[],[[[[0,1,2]]]]]}]}',
         b'{"type":"Road"}',
         b"1",
     ]

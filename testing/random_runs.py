@@ -11,20 +11,24 @@ FAMILY = {"Bridge": "Bridge", "BridgePart": "Bridge"}
 FAMILY |= {"Building": "Building", "BuildingPart": "Building", "BuildingRoom": "Building"}
 
 
-WHOLE = ["cube", "surface", "empty"]
-REFUSED = ["open", "flipped", "short", "twice"]
+WHOLE = ["cube", "cubes", "surface", "empty"]
+REFUSED = ["open", "second", "flipped", "short", "twice"]
 
 
 def shape(choose, kinds):
     kind = choose.choice(kinds)
     if kind == "cube":
         return "Solid", [CUBE]
+    if kind == "cubes":
+        return choose.choice(["MultiSolid", "CompositeSolid"]), [[CUBE]] * choose.randint(1, 3)
     if kind == "surface":
         return choose.choice(["MultiSurface", "CompositeSurface"]), [[choose.sample(range(8), choose.randint(3, 6))]]
     if kind == "empty":
-        return choose.choice(["Solid", "MultiSurface"]), []
+        return choose.choice(["Solid", "MultiSurface", "MultiSolid", "CompositeSolid"]), []
     if kind == "open":
         return "Solid", [CUBE[:5]]
+    if kind == "second":
+        return "MultiSolid", [[CUBE], [CUBE, CUBE[1:]]]
     if kind == "flipped":
         return "Solid", [CUBE[:5] + [[CUBE[5][0][::-1]]]]
     if kind == "short":

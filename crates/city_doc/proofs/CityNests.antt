@@ -74,7 +74,7 @@ module _ (k : ℕ) (deep : 1 ≤ k) where
 
 -- ---- the whole
 
-module _ (m : ℕ) (deep : 4 ≤ m) (pool : List Point) where
+module _ (m : ℕ) (deep : 5 ≤ m) (pool : List Point) where
   abbrev IsObjectWithin : Object → Type 0
   IsObjectWithin o = depth (object_data pool o) ≤ suc (suc (suc m))
 

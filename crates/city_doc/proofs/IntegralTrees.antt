@@ -1,5 +1,5 @@
 -- Every number of a city's canonical tree is a 64-bit signed integer.
-use Rattle.std.proofs.Common.{◌≡◌, ℕ, ℤ, ◌<◌, ◌≤◌, Bool, true, not, List, [], ◌∷◌, map, length, codes, Less, Equal, Greater, nat_cmp, refl, ap, arith}
+use Rattle.std.proofs.Common.{◌≡◌, ℕ, zero, suc, ℤ, ◌<◌, ◌≤◌, Bool, true, not, List, [], ◌∷◌, map, length, codes, Less, Equal, Greater, nat_cmp, refl, ap, arith}
 use Rattle.std.specs.Prelude.{◌&&◌, ◌^◌, nat_lt, is_some}
 use Rattle.std.specs.Cmp.Lexicographic.{slice_cmp}
 use Rattle.std.specs.List.{list_all}
@@ -16,13 +16,13 @@ use Rattle.city_model.specs.declared.object.Geometry.{Geometry}
 use Rattle.city_model.specs.declared.object.Object.{Object}
 use Rattle.city_model.specs.declared.object.Point.{Point}
 use Rattle.city_model.specs.declared.object.Shape.{Shape}
-use Rattle.city_model.specs.declared.object.Shape.TheVariants.{MultiSurface, CompositeSurface, Solid}
 use Rattle.city_model.specs.Kept.{lacks, lacks_both, has_location, is_empty_object_or_absent, kept_at_top, kept_at_transform, kept_at_object, kept_at_geometry}
-use Rattle.city_model.specs.Shells.{Ring, Surface, Shell, same_point}
+use Rattle.city_model.specs.Shells.{boundaries_of, same_point}
 use Rattle.city_model.specs.Types.{name_of}
 use Rattle.city_model.specs.Integral.{is_integral, items_integral, members_integral}
-use Rattle.city_doc.specs.Canonical.{list_data, integer_data, triple_data, point_data, ring_data, surface_data, shell_data, boundaries_data, shape_name, geometry_data, put_list, object_data, with_objects, objects_data, transform_data, vertex_data, vertices_data, frame_members, numbered_tree}
+use Rattle.city_doc.specs.Canonical.{list_data, integer_data, triple_data, point_data, nested_data, boundaries_data, geometry_data, put_list, object_data, with_objects, objects_data, transform_data, vertex_data, vertices_data, frame_members, numbered_tree}
 use Rattle.city_doc.specs.KeptMembers.{is_kept_geometry, is_kept_object, are_kept_objects, IsKeptCity}
+use Rattle.city_doc.specs.Nesting.{Nested, nested, shape_name}
 use Rattle.city_doc.specs.Pool.{number_of}
 use Rattle.city_doc.specs.Ranges.{is_i64, is_i64_triple, is_i64_point, IsInRange}
 use Rattle.city_doc.proofs.TriplesRead.{integer_read}
@@ -86,19 +86,12 @@ module _ (pool : List Point) (fewer : length pool < 2 ^ 63) where
       let small : number_of pool p < 2 ^ 63 = omega arith in
       let fits : nat_lt (number_of pool p) (2 ^ 63) ≡ true = lt-ltb _ _ small in rw fits refl
 
-  ring_integral : (r : Ring) → is_integral (ring_data pool r) ≡ true
-  ring_integral r = every_integral (point_data pool) point_integral r
-
-  surface_integral : (s : Surface) → is_integral (surface_data pool s) ≡ true
-  surface_integral s = every_integral (ring_data pool) ring_integral s
-
-  shell_integral : (s : Shell) → is_integral (shell_data pool s) ≡ true
-  shell_integral s = every_integral (surface_data pool) surface_integral s
+  nested_integral : (n : ℕ) (x : Nested n) → is_integral (nested_data pool n x) ≡ true
+  nested_integral zero p = point_integral p
+  nested_integral (suc n) xs = every_integral (nested_data pool n) (nested_integral n) xs
 
   boundaries_integral : (s : Shape) → is_integral (boundaries_data pool s) ≡ true
-  boundaries_integral (MultiSurface surfaces) = shell_integral surfaces
-  boundaries_integral (CompositeSurface surfaces) = shell_integral surfaces
-  boundaries_integral (Solid shells) = every_integral (shell_data pool) shell_integral shells
+  boundaries_integral s = let b = nested (boundaries_of s) in nested_integral b.0 b.1
 
   geometry_integral : (g : Geometry) → is_kept_geometry g ≡ true → is_integral (geometry_data pool g) ≡ true
   unfolding is_kept_geometry

@@ -1,5 +1,5 @@
 -- The canonical tree of the city that a tree stands for nests no deeper than that tree, or than the deepest boundaries.
-use Rattle.std.proofs.Common.{ℕ, suc, ◌≤◌, List, [], ◌∷◌, map, Bool, true, false, Option, Some, None, Ordering, Less, Equal, Greater, nat_cmp, codes, arith}
+use Rattle.std.proofs.Common.{ℕ, zero, suc, ◌≤◌, List, [], ◌∷◌, map, Bool, true, false, Option, Some, None, Ordering, Less, Equal, Greater, nat_cmp, codes, arith}
 use Rattle.std.specs.Prelude.{⊤, option_map, option_and_then, if◌then◌else◌}
 use Rattle.std.specs.Cmp.Lexicographic.{slice_cmp}
 use Rattle.std.specs.Ordering.{match_ordering}
@@ -12,14 +12,14 @@ use Rattle.city_model.specs.declared.object.Geometry.{Geometry}
 use Rattle.city_model.specs.declared.object.Object.{Object}
 use Rattle.city_model.specs.declared.object.Point.{Point}
 use Rattle.city_model.specs.declared.object.Shape.{Shape}
-use Rattle.city_model.specs.declared.object.Shape.TheVariants.{MultiSurface, CompositeSurface, Solid}
 use Rattle.city_model.specs.Kept.{kept_at_object, kept_at_geometry}
 use Rattle.city_model.specs.declared.object_type.ObjectType.{ObjectType}
 use Rattle.city_model.specs.Members.{without}
-use Rattle.city_model.specs.Shells.{Ring, Surface, Shell}
+use Rattle.city_model.specs.Shells.{Boundaries, Surfaces, Shells, Solids, boundaries_of}
 use Rattle.city_model.specs.Types.{name_of}
 use Rattle.city_doc.specs.Bodies.{read_items, list_of, list_or_absent, kept_if, without_geometry_members, geometry_of, geometry_with, shape_in, without_object_members, type_of, ids_at, body_of, object_of}
-use Rattle.city_doc.specs.Canonical.{list_data, point_data, ring_data, surface_data, shell_data, boundaries_data, shape_name, geometry_data, put_list, object_data}
+use Rattle.city_doc.specs.Canonical.{list_data, nested_data, boundaries_data, geometry_data, put_list, object_data}
+use Rattle.city_doc.specs.Nesting.{Nested, nested, shape_name}
 use Rattle.city_doc.specs.Documents.{entries_of, entries_in}
 use Rattle.city_doc.proofs.Listings.{OfEach}
 
@@ -130,21 +130,19 @@ module _ {A : Type 0} (read : Data → Option A) (f : A → Data) (n : ℕ) (eac
 -- ---- geometries
 
 module _ (pool : List Point) where
-  ring_depth : (r : Ring) → depth (ring_data pool r) ≤ 1
-  ring_depth r = omega (arith, list_depth (point_data pool) 0 (λ p. omega arith) r)
+  nested_depth : (n : ℕ) (x : Nested n) → depth (nested_data pool n x) ≤ n
+  nested_depth zero p = omega arith
+  nested_depth (suc n) xs = omega (arith, list_depth (nested_data pool n) n (nested_depth n) xs)
 
-  surface_depth : (s : Surface) → depth (surface_data pool s) ≤ 2
-  surface_depth s = omega (arith, list_depth (ring_data pool) 1 ring_depth s)
+  nested_within : (b : Boundaries) → (nested b).0 ≤ 5
+  nested_within (Surfaces surfaces) = omega arith
+  nested_within (Shells shells) = omega arith
+  nested_within (Solids solids) = omega arith
 
-  shell_depth : (s : Shell) → depth (shell_data pool s) ≤ 3
-  shell_depth s = omega (arith, list_depth (surface_data pool) 2 surface_depth s)
+  boundaries_depth : (s : Shape) → depth (boundaries_data pool s) ≤ 5
+  boundaries_depth s = let b = nested (boundaries_of s) in omega (arith, nested_depth b.0 b.1, nested_within (boundaries_of s))
 
-  boundaries_depth : (s : Shape) → depth (boundaries_data pool s) ≤ 4
-  boundaries_depth (MultiSurface surfaces) = omega (arith, shell_depth surfaces)
-  boundaries_depth (CompositeSurface surfaces) = omega (arith, shell_depth surfaces)
-  boundaries_depth (Solid shells) = omega (arith, list_depth (shell_data pool) 3 shell_depth shells)
-
-  geometry_data_depth : (g : Geometry) (n : ℕ) → 4 ≤ n → members_depth g.extra ≤ n → depth (geometry_data pool g) ≤ suc n
+  geometry_data_depth : (g : Geometry) (n : ℕ) → 5 ≤ n → members_depth g.extra ≤ n → depth (geometry_data pool g) ≤ suc n
   geometry_data_depth g n deep h =
       let typed = put (codes "type") (string (shape_name g.shape)) g.extra in
       let a = put_depth (codes "type") (string (shape_name g.shape)) g.extra n (omega arith) h in
@@ -159,7 +157,7 @@ rest_within test rest n each None h = tt
 rest_within test rest n each (Some ms) h = kept_depth test (rest ms) n (each ms h)
 
 -- a geometry of these members
-geometry_with_within : (pool : List Point) (n : ℕ) → 4 ≤ n → (shape : Shape) (ms : Members) → members_depth ms ≤ n → Holds (λ g. depth (geometry_data pool g) ≤ suc n) (geometry_with shape ms)
+geometry_with_within : (pool : List Point) (n : ℕ) → 5 ≤ n → (shape : Shape) (ms : Members) → members_depth ms ≤ n → Holds (λ g. depth (geometry_data pool g) ≤ suc n) (geometry_with shape ms)
 geometry_with_within pool n deep shape ms h =
     let kept = kept_depth kept_at_geometry (without_geometry_members ms) n (without_depth (codes "boundaries") _ n (without_depth (codes "lod") _ n (without_depth (codes "type") ms n h))) in
     holds_then (λ lod. ⊤) (λ g. depth (geometry_data pool g) ≤ suc n) (λ lod. option_map (λ rest. record { lod = lod; shape = shape; extra = rest }) (kept_if kept_at_geometry (without_geometry_members ms)))
@@ -168,7 +166,7 @@ geometry_with_within pool n deep shape ms h =
     (option_and_then as_str (get_member (codes "lod") ms)) (always (option_and_then as_str (get_member (codes "lod") ms)))
 
 module _ (pool points : List Point) where
-  geometry_within : (n : ℕ) → 4 ≤ n → (d : Data) → depth d ≤ suc n → Holds (λ g. depth (geometry_data pool g) ≤ suc n) (geometry_of points d)
+  geometry_within : (n : ℕ) → 5 ≤ n → (d : Data) → depth d ≤ suc n → Holds (λ g. depth (geometry_data pool g) ≤ suc n) (geometry_of points d)
   geometry_within n deep d h =
       let Q : Geometry → Type 0 = λ g. depth (geometry_data pool g) ≤ suc n in
       holds_then (λ shape. ⊤) Q (λ shape. option_and_then (geometry_with shape) (as_object d))
@@ -195,7 +193,7 @@ object_parts P Q (Some b) None children each h = tt
 object_parts P Q (Some b) (Some p) None each h = tt
 object_parts P Q (Some b) (Some p) (Some c) each h = each b p c h
 
-module _ (pool points : List Point) (m : ℕ) (deep : 4 ≤ m) where
+module _ (pool points : List Point) (m : ℕ) (deep : 5 ≤ m) where
   abbrev IsBodyWithin : Body → Type 0
   IsBodyWithin b = (members_depth b.extra ≤ suc (suc m)) × (items_depth (items_of (map (geometry_data pool) b.geometry)) ≤ suc m)
 

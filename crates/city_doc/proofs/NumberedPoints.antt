@@ -1,5 +1,5 @@
 -- The number of a point in a pool leads back to the point.
-use Rattle.std.proofs.Common.{◌≡◌, suc, ◌+◌, ◌<◌, ◌≤◌, Bool, true, false, true≢false, cond, not, List, [], ◌∷◌, length, Some, refl, sym, ap, ◌∙◌, arith}
+use Rattle.std.proofs.Common.{◌≡◌, ℕ, zero, suc, ◌+◌, ◌<◌, ◌≤◌, Bool, true, false, true≢false, cond, not, List, [], ◌∷◌, length, Some, refl, sym, ap, ◌∙◌, arith}
 use Rattle.std.specs.Prelude.{◌&&◌, ◌||◌, ◌^◌, nat_lt, filter, flat_map, slice_get, option_map}
 use Rattle.std.specs.List.{list_any, list_all}
 use Rattle.std.specs.Ordering.{int_eq}
@@ -9,11 +9,12 @@ use Rattle.std.proofs.lemmas.List.Folds.{list_all-append}
 use Rattle.std.proofs.lemmas.List.Sums.{prefix_len-le-length}
 use Rattle.city_model.specs.declared.object.Point.{Point}
 use Rattle.city_model.specs.declared.object.Shape.{Shape}
-use Rattle.city_model.specs.declared.object.Shape.TheVariants.{MultiSurface, CompositeSurface, Solid}
-use Rattle.city_model.specs.Shells.{Ring, Surface, Shell, same_point}
-use Rattle.city_doc.specs.Bodies.{point_at, list_of, surface_of, surfaces_of, shells_of, shape_of}
-use Rattle.city_doc.specs.Pool.{surface_points, shell_points, shape_points, without_repeats, number_of}
-use Rattle.city_doc.specs.Canonical.{point_data, ring_data, surface_data, shell_data, boundaries_data, shape_name}
+use Rattle.city_model.specs.declared.object.Shape.TheVariants.{MultiSurface, CompositeSurface, Solid, MultiSolid, CompositeSolid}
+use Rattle.city_model.specs.Shells.{same_point}
+use Rattle.city_doc.specs.Bodies.{point_at, nested_of, shape_of}
+use Rattle.city_doc.specs.Pool.{nested_points, shape_points, without_repeats, number_of}
+use Rattle.city_doc.specs.Canonical.{point_data, nested_data, boundaries_data}
+use Rattle.city_doc.specs.Nesting.{Nested, shape_name}
 use Rattle.city_doc.proofs.ListsRead.{list_read}
 use Rattle.city_doc.proofs.Points.{same_point-symm, same_point-congr}
 
@@ -116,20 +117,14 @@ module _ (pool : List Point) (small : length pool < 2 ^ 63) where
   point_read : (p : Point) → is_in pool p ≡ true → point_at pool (point_data pool p) ≡ Some p
   point_read p h = let fits : nat_lt (number_of pool p) (2 ^ 63) ≡ true = lt-ltb _ _ (small_number pool p small h) in rw fits (found pool p h)
 
-  ring_read : (r : Ring) → are_in pool r ≡ true → list_of (point_at pool) (ring_data pool r) ≡ Some r
-  ring_read r h = list_read (point_at pool) (point_data pool) (is_in pool) point_read r h
-
-  surface_read : (s : Surface) → are_in pool (surface_points s) ≡ true → surface_of pool (surface_data pool s) ≡ Some s
-  surface_read s h = list_read (list_of (point_at pool)) (ring_data pool) (λ r. are_in pool r) ring_read s (parts_in pool (λ r. r) s h)
-
-  surfaces_read : (ss : List Surface) → are_in pool (flat_map surface_points ss) ≡ true → surfaces_of pool (shell_data pool ss) ≡ Some ss
-  surfaces_read ss h = list_read (surface_of pool) (surface_data pool) (λ s. are_in pool (surface_points s)) surface_read ss (parts_in pool surface_points ss h)
-
-  shells_read : (ss : List Shell) → are_in pool (flat_map shell_points ss) ≡ true → shells_of pool (boundaries_data pool (Solid ss)) ≡ Some ss
-  shells_read ss h = list_read (surfaces_of pool) (shell_data pool) (λ s. are_in pool (shell_points s)) surfaces_read ss (parts_in pool shell_points ss h)
+  nested_read : (n : ℕ) (x : Nested n) → are_in pool (nested_points n x) ≡ true → nested_of pool n (nested_data pool n x) ≡ Some x
+  nested_read zero p h = point_read p (and_parts (is_in pool p) true h).0
+  nested_read (suc n) xs h = list_read (nested_of pool n) (nested_data pool n) (λ x. are_in pool (nested_points n x)) (nested_read n) xs (parts_in pool (nested_points n) xs h)
 
   -- the shape that was written
   pub shape_read : (shape : Shape) → are_in pool (shape_points shape) ≡ true → shape_of pool (shape_name shape) (boundaries_data pool shape) ≡ Some shape
-  shape_read (MultiSurface surfaces) h = ap (option_map MultiSurface) (surfaces_read surfaces h)
-  shape_read (CompositeSurface surfaces) h = ap (option_map CompositeSurface) (surfaces_read surfaces h)
-  shape_read (Solid shells) h = ap (option_map Solid) (shells_read shells h)
+  shape_read (MultiSurface surfaces) h = ap (option_map MultiSurface) (nested_read 3 surfaces h)
+  shape_read (CompositeSurface surfaces) h = ap (option_map CompositeSurface) (nested_read 3 surfaces h)
+  shape_read (Solid shells) h = ap (option_map Solid) (nested_read 4 shells h)
+  shape_read (MultiSolid solids) h = ap (option_map MultiSolid) (nested_read 5 solids h)
+  shape_read (CompositeSolid solids) h = ap (option_map CompositeSolid) (nested_read 5 solids h)

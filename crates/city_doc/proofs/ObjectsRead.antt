@@ -17,7 +17,8 @@ use Rattle.city_model.specs.Integral.{members_integral}
 use Rattle.city_model.proofs.TypeNames.{named}
 use Rattle.city_doc.specs.Bodies.{without_geometry_members, geometry_of, type_of, without_object_members, list_or_absent, ids_at, object_of}
 use Rattle.city_doc.specs.Pool.{geometry_points, object_points}
-use Rattle.city_doc.specs.Canonical.{boundaries_data, shape_name, geometry_data, put_list, object_data}
+use Rattle.city_doc.specs.Canonical.{boundaries_data, geometry_data, put_list, object_data}
+use Rattle.city_doc.specs.Nesting.{shape_name}
 use Rattle.city_doc.specs.KeptMembers.{is_kept_geometry, is_kept_object}
 use Rattle.city_doc.proofs.KeptMembers.{kept_all}
 use Rattle.city_doc.proofs.ListsRead.{put_list_read, all_pass}

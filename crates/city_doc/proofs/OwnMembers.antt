@@ -9,7 +9,8 @@ use Rattle.city_model.specs.declared.frame.Frame.{Frame}
 use Rattle.city_model.specs.declared.object.Point.{Point}
 use Rattle.city_model.specs.declared.object.Object.{Object}
 use Rattle.city_model.specs.declared.object.Geometry.{Geometry}
-use Rattle.city_doc.specs.Canonical.{triple_data, transform_data, boundaries_data, shape_name, geometry_data, put_list, object_data, objects_data, vertices_data, numbered_tree}
+use Rattle.city_doc.specs.Nesting.{shape_name}
+use Rattle.city_doc.specs.Canonical.{triple_data, transform_data, boundaries_data, geometry_data, put_list, object_data, objects_data, vertices_data, numbered_tree}
 use Rattle.city_doc.specs.Tokens.{listed}
 use Rattle.city_doc.proofs.Among.{puts, put_if}
 use Rattle.city_doc.proofs.Puts.{put-swap}

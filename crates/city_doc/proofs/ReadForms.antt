@@ -1,9 +1,9 @@
 -- What is read of a tree has the form that is judged.
-use Rattle.std.proofs.Common.{◌≡◌, ℕ, ℤ, pos, negsuc, List, ◌∷◌, Bool, true, false, Option, Some, None, refl, ap, ◌∙◌}
-use Rattle.std.specs.Prelude.{length, option_and_then, option_map, codes, is_some, if◌then◌else◌}
-use Rattle.std.specs.List.{list_any}
+use Rattle.std.proofs.Common.{◌≡◌, ℕ, zero, suc, ℤ, pos, negsuc, List, [], ◌∷◌, Bool, true, false, Option, Some, None, refl, ap, ◌∙◌}
+use Rattle.std.specs.Prelude.{length, option_and_then, option_map, codes, is_some, not, find, cond}
+use Rattle.std.specs.List.{list_any, list_all}
 use Rattle.std.specs.Str.{bytes_eq}
-use Rattle.std.proofs.lemmas.Bool.{lt-ltb, and_from}
+use Rattle.std.proofs.lemmas.Bool.{lt-ltb, and_from, and_parts, not-true}
 use Rattle.std.proofs.lemmas.Option.{slice_get_within}
 use Rattle.std.proofs.lemmas.Slice.Eq.{bytes_eq-Decides}
 use Rattle.serde_json.specs.Data.{Data, Num, Items, no_items, item}
@@ -11,10 +11,9 @@ use Rattle.serde_json.specs.Find.{get, get_member, as_str, as_array, as_object, 
 use Rattle.city_model.specs.declared.object.Geometry.{Geometry}
 use Rattle.city_model.specs.declared.object.Point.{Point}
 use Rattle.city_model.specs.declared.object.Shape.{Shape}
-use Rattle.city_model.specs.declared.object.Shape.TheVariants.{MultiSurface, CompositeSurface, Solid}
-use Rattle.city_model.specs.Shells.{Ring, Surface, Shell}
-use Rattle.city_doc.specs.Bodies.{read_items, list_of, list_or_absent, point_at_position, point_at, surface_of, surfaces_of, shells_of, shape_of, shape_in, text_at, geometry_with, geometry_of}
-use Rattle.city_doc.specs.Geometries.{natural, is_below, is_number, is_position, all_items, are_items, is_list_of, are_surfaces, is_boundaries, are_boundaries_of, is_geometry, are_geometries}
+use Rattle.city_doc.specs.Bodies.{read_items, list_of, list_or_absent, point_at_position, point_at, nested_of, shape_of, shape_in, text_at, geometry_with, geometry_of}
+use Rattle.city_doc.specs.Geometries.{natural, is_below, is_number, is_position, all_items, are_items, is_list_of, is_nested, are_nested_for, is_boundaries, are_boundaries_of, is_geometry, are_geometries}
+use Rattle.city_doc.specs.Nesting.{Nested, GeometryType, geometry_types, geometry_type}
 use Rattle.city_doc.specs.ObjectFaults.{unsupported_types, only_if, unsupported_type, first_unsupported}
 use Rattle.city_doc.proofs.Cities.{get-object}
 use Rattle.city_doc.proofs.Options.{and_then_some, map_some}
@@ -53,28 +52,15 @@ number_fits points d p h = a_number points (as_number d) p h
 
 -- of positions that a test admits
 module _ (points : List Point) (leaf : Data → Bool) (fits : (d : Data) (p : Point) → point_at points d ≡ Some p → leaf d ≡ true) where
-  ring_fits : (d : Data) (r : Ring) → list_of (point_at points) d ≡ Some r → is_list_of leaf d ≡ true
-  ring_fits = list_fits leaf (point_at points) fits
-
-  surface_fits : (d : Data) (s : Surface) → surface_of points d ≡ Some s → is_list_of (is_list_of leaf) d ≡ true
-  surface_fits = list_fits (is_list_of leaf) (list_of (point_at points)) ring_fits
-
-  surfaces_fit : (d : Data) (ss : List Surface) → surfaces_of points d ≡ Some ss → are_surfaces leaf d ≡ true
-  surfaces_fit = list_fits (is_list_of (is_list_of leaf)) (surface_of points) surface_fits
-
-  shells_fit : (d : Data) (ss : List Shell) → shells_of points d ≡ Some ss → is_list_of (are_surfaces leaf) d ≡ true
-  shells_fit = list_fits (are_surfaces leaf) (surfaces_of points) surfaces_fit
-
-  shape_cases : (multi composite solid : Bool) (d : Data) (s : Shape)
-      → (if multi then option_map MultiSurface (surfaces_of points d) else (if composite then option_map CompositeSurface (surfaces_of points d) else (if solid then option_map Solid (shells_of points d) else None))) ≡ Some s
-      → (if multi then are_surfaces leaf d else (if composite then are_surfaces leaf d else (if solid then is_list_of (are_surfaces leaf) d else false))) ≡ true
-  shape_cases true composite solid d s h = let x = map_some MultiSurface (surfaces_of points d) s h in surfaces_fit d x.0 x.1
-  shape_cases false true solid d s h = let x = map_some CompositeSurface (surfaces_of points d) s h in surfaces_fit d x.0 x.1
-  shape_cases false false true d s h = let x = map_some Solid (shells_of points d) s h in shells_fit d x.0 x.1
-  shape_cases false false false d s h = absurd (let is : None ≡ Some s = h in let no : ⊥ = cc in no)
+  nested_fits : (n : ℕ) (d : Data) (x : Nested n) → nested_of points n d ≡ Some x → is_nested leaf n d ≡ true
+  nested_fits zero = fits
+  nested_fits (suc n) = list_fits (is_nested leaf n) (nested_of points n) (nested_fits n)
 
   shape_fits : (kind : List ℕ) (d : Data) (s : Shape) → shape_of points kind d ≡ Some s → is_boundaries leaf kind d ≡ true
-  shape_fits kind d s h = shape_cases (bytes_eq kind (codes "MultiSurface")) (bytes_eq kind (codes "CompositeSurface")) (bytes_eq kind (codes "Solid")) d s h
+  shape_fits kind d s h =
+      let t = and_then_some (λ t. option_map t.shape (nested_of points t.depth d)) (geometry_type kind) s h in
+      let x = map_some t.0.shape (nested_of points t.0.depth d) s t.2 in
+      ap (λ o. are_nested_for leaf o d) t.1 ∙ nested_fits t.0.depth d x.0 x.1
 
   bounded : (kind : Option (List ℕ)) (o : Option Data) (s : Shape) → option_and_then (λ k. option_and_then (shape_of points k) o) kind ≡ Some s → are_boundaries_of leaf kind o ≡ true
   bounded None o s h = absurd (let no : ⊥ = cc in no)
@@ -99,20 +85,23 @@ module _ (points : List Point) (leaf : Data → Bool) (fits : (d : Data) (p : Po
 named : (kind name : List ℕ) → bytes_eq kind name ≡ true → list_any (bytes_eq name) unsupported_types ≡ false → list_any (bytes_eq kind) unsupported_types ≡ false
 named kind name is h = ap (λ k. list_any (bytes_eq k) unsupported_types) ((bytes_eq-Decides kind name).0 is) ∙ h
 
-kind_cases : (points : List Point) (kind : List ℕ) (d : Data) (s : Shape) (multi composite solid : Bool) → bytes_eq kind (codes "MultiSurface") ≡ multi → bytes_eq kind (codes "CompositeSurface") ≡ composite → bytes_eq kind (codes "Solid") ≡ solid
-    → (if multi then option_map MultiSurface (surfaces_of points d) else (if composite then option_map CompositeSurface (surfaces_of points d) else (if solid then option_map Solid (shells_of points d) else None))) ≡ Some s
+among_supported : (kind : List ℕ) (ts : List GeometryType) (t : GeometryType) → list_all (λ t. not (list_any (bytes_eq t.name) unsupported_types)) ts ≡ true → find (λ t. bytes_eq kind t.name) ts ≡ Some t
     → list_any (bytes_eq kind) unsupported_types ≡ false
-kind_cases points kind d s true composite solid a b c h = named kind (codes "MultiSurface") a refl
-kind_cases points kind d s false true solid a b c h = named kind (codes "CompositeSurface") b refl
-kind_cases points kind d s false false true a b c h = named kind (codes "Solid") c refl
-kind_cases points kind d s false false false a b c h = absurd (let is : None ≡ Some s = h in let no : ⊥ = cc in no)
+among_supported kind [] t all h = absurd (let is : None ≡ Some t = h in let no : ⊥ = cc in no)
+among_supported kind (u ∷ ts) t all h =
+    let hs = and_parts (not (list_any (bytes_eq u.name) unsupported_types)) (list_all (λ t. not (list_any (bytes_eq t.name) unsupported_types)) ts) all in
+    elim (bytes_eq kind u.name) as (λ b. bytes_eq kind u.name ≡ b → cond b (Some u) (find (λ t. bytes_eq kind t.name) ts) ≡ Some t → list_any (bytes_eq kind) unsupported_types ≡ false) [
+      | true ↦ λ is found. named kind u.name is (not-true (list_any (bytes_eq u.name) unsupported_types) hs.0)
+      | false ↦ λ is found. among_supported kind ts t hs.1 found
+    ] refl h
 
 typed : (points : List Point) (kind : Option (List ℕ)) (o : Option Data) (s : Shape) → option_and_then (λ k. option_and_then (shape_of points k) o) kind ≡ Some s
     → option_and_then (only_if (λ k. list_any (bytes_eq k) unsupported_types)) kind ≡ None
 typed points None o s h = refl
 typed points (Some kind) o s h =
     let d = and_then_some (shape_of points kind) o s h in
-    let supported = kind_cases points kind d.0 s (bytes_eq kind (codes "MultiSurface")) (bytes_eq kind (codes "CompositeSurface")) (bytes_eq kind (codes "Solid")) refl refl refl d.2 in
+    let t = and_then_some (λ t. option_map t.shape (nested_of points t.depth d.0)) (geometry_type kind) s d.2 in
+    let supported = among_supported kind geometry_types t.0 refl t.1 in
     rw supported refl
 
 geometry_supported : (points : List Point) (d : Data) (g : Geometry) → geometry_of points d ≡ Some g → unsupported_type d ≡ None

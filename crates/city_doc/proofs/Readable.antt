@@ -1,19 +1,17 @@
 -- Geometries that have their form, and whose positions name points, are read.
-use Rattle.std.proofs.Common.{◌≡◌, ℕ, zero, suc, ℤ, pos, negsuc, ◌<◌, List, [], ◌∷◌, Bool, true, false, true≢false, Option, Some, None, refl, sym, ap, ◌∙◌, arith}
-use Rattle.std.specs.Prelude.{length, option_and_then, option_map, slice_get, codes, is_some, if◌then◌else◌}
-use Rattle.std.specs.Str.{bytes_eq}
+use Rattle.std.proofs.Common.{◌≡◌, ℕ, zero, suc, ℤ, pos, negsuc, ◌<◌, List, [], ◌∷◌, Bool, true, true≢false, Option, Some, None, refl, sym, ap, ◌∙◌, arith}
+use Rattle.std.specs.Prelude.{length, option_and_then, option_map, slice_get, codes, is_some}
 use Rattle.std.proofs.lemmas.Bool.{ltb-true, and_parts}
 use Rattle.serde_json.specs.Data.{Data, null, boolean, number, string, array, object, Items, no_items, item, Members}
 use Rattle.serde_json.specs.Find.{get, get_member, as_str, as_object, as_number, as_i64}
 use Rattle.city_model.specs.declared.object.Geometry.{Geometry}
 use Rattle.city_model.specs.declared.object.Point.{Point}
 use Rattle.city_model.specs.declared.object.Shape.{Shape}
-use Rattle.city_model.specs.declared.object.Shape.TheVariants.{MultiSurface, CompositeSurface, Solid}
 use Rattle.city_model.specs.Kept.{kept_at_geometry}
-use Rattle.city_model.specs.Shells.{Ring, Surface, Shell}
 use Rattle.city_model.specs.Integral.{is_integral, items_integral}
-use Rattle.city_doc.specs.Bodies.{read_items, list_of, list_or_absent, point_at_position, point_at, surface_of, surfaces_of, shells_of, shape_of, shape_in, text_at, kept_if, without_geometry_members, geometry_with, geometry_of}
-use Rattle.city_doc.specs.Geometries.{natural, is_below, is_position, all_items, is_list_of, are_surfaces, is_boundaries, are_boundaries_of, is_geometry, are_geometries}
+use Rattle.city_doc.specs.Bodies.{read_items, list_of, list_or_absent, point_at_position, point_at, nested_of, shape_of, shape_in, text_at, kept_if, without_geometry_members, geometry_with, geometry_of}
+use Rattle.city_doc.specs.Geometries.{natural, is_below, is_position, all_items, is_list_of, is_nested, are_nested_for, is_boundaries, are_boundaries_of, is_geometry, are_geometries}
+use Rattle.city_doc.specs.Nesting.{Nested, GeometryType, geometry_type}
 use Rattle.city_doc.proofs.Cities.{get-object}
 use Rattle.city_doc.proofs.KeptMembers.{kept_all, integral_member, geometry_admitted}
 use Rattle.city_doc.proofs.Right.{some_of, item_read}
@@ -60,34 +58,21 @@ module _ (points : List Point) where
   point_some : (d : Data) → is_integral d ≡ true → fits d ≡ true → (p : Point) × (point_at points d ≡ Some p)
   point_some d integral h = position_some points (option_and_then as_i64 (as_number d)) h
 
-  ring_some : (d : Data) → is_integral d ≡ true → is_list_of fits d ≡ true → (r : Ring) × (list_of (point_at points) d ≡ Some r)
-  ring_some = list_some fits (point_at points) point_some
-
-  surface_some : (d : Data) → is_integral d ≡ true → is_list_of (is_list_of fits) d ≡ true → (s : Surface) × (surface_of points d ≡ Some s)
-  surface_some = list_some (is_list_of fits) (list_of (point_at points)) ring_some
-
-  surfaces_some : (d : Data) → is_integral d ≡ true → are_surfaces fits d ≡ true → (ss : List Surface) × (surfaces_of points d ≡ Some ss)
-  surfaces_some = list_some (is_list_of (is_list_of fits)) (surface_of points) surface_some
-
-  shells_some : (d : Data) → is_integral d ≡ true → is_list_of (are_surfaces fits) d ≡ true → (ss : List Shell) × (shells_of points d ≡ Some ss)
-  shells_some = list_some (are_surfaces fits) (surfaces_of points) surfaces_some
+  nested_some : (n : ℕ) (d : Data) → is_integral d ≡ true → is_nested fits n d ≡ true → (x : Nested n) × (nested_of points n d ≡ Some x)
+  nested_some zero = point_some
+  nested_some (suc n) = list_some (is_nested fits n) (nested_of points n) (nested_some n)
 
   -- ---- geometries
 
   made : {A B : Type 0} (f : A → B) (o : Option A) → (x : A) × (o ≡ Some x) → (y : B) × (option_map f o ≡ Some y)
   made f o x = (f x.0, ap (option_map f) x.1)
 
-  shape_cases : (multi composite solid : Bool) (d : Data) → is_integral d ≡ true
-      → (if multi then are_surfaces fits d else (if composite then are_surfaces fits d else (if solid then is_list_of (are_surfaces fits) d else false))) ≡ true
-      → (s : Shape) × ((if multi then option_map MultiSurface (surfaces_of points d) else (if composite then option_map CompositeSurface (surfaces_of points d) else (if solid then option_map Solid (shells_of points d) else None)))
-      ≡ Some s)
-  shape_cases true composite solid d integral h = made MultiSurface (surfaces_of points d) (surfaces_some d integral h)
-  shape_cases false true solid d integral h = made CompositeSurface (surfaces_of points d) (surfaces_some d integral h)
-  shape_cases false false true d integral h = made Solid (shells_of points d) (shells_some d integral h)
-  shape_cases false false false d integral h = absurd (true≢false (sym h))
+  typed_some : (t : Option GeometryType) (d : Data) → is_integral d ≡ true → are_nested_for fits t d ≡ true → (s : Shape) × (option_and_then (λ t. option_map t.shape (nested_of points t.depth d)) t ≡ Some s)
+  typed_some None d integral h = absurd (true≢false (sym h))
+  typed_some (Some t) d integral h = made t.shape (nested_of points t.depth d) (nested_some t.depth d integral h)
 
   shape_some : (kind : List ℕ) (d : Data) → is_integral d ≡ true → is_boundaries fits kind d ≡ true → (s : Shape) × (shape_of points kind d ≡ Some s)
-  shape_some kind d integral h = shape_cases (bytes_eq kind (codes "MultiSurface")) (bytes_eq kind (codes "CompositeSurface")) (bytes_eq kind (codes "Solid")) d integral h
+  shape_some kind d integral h = typed_some (geometry_type kind) d integral h
 
   bounded : (kind : Option (List ℕ)) (o : Option Data) → ((d : Data) → o ≡ Some d → is_integral d ≡ true) → are_boundaries_of fits kind o ≡ true
       → (s : Shape) × (option_and_then (λ k. option_and_then (shape_of points k) o) kind ≡ Some s)

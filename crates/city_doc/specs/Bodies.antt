@@ -1,12 +1,10 @@
 -- The object that a tree stands for, its positions replaced by points (CityJSON 2.0, sections 2 and 3).
-use Rattle.std.specs.Prelude.{ℕ, ℤ, pos, negsuc, List, [], ◌∷◌, Bool, Option, Some, None, option_map}
+use Rattle.std.specs.Prelude.{ℕ, zero, suc, ℤ, pos, negsuc, List, [], ◌∷◌, Bool, Option, Some, None, option_map}
 use Rattle.std.specs.Prelude.{option_and_then, slice_get, codes, if◌then◌else◌}
-use Rattle.std.specs.Str.{bytes_eq}
 use Rattle.serde_json.specs.Data.{Data, Items, no_items, item, Members}
 use Rattle.serde_json.specs.Find.{get, get_member, as_str, as_array, as_object, as_number, as_i64}
 use Rattle.city_model.specs.declared.object.Point.{Point}
 use Rattle.city_model.specs.declared.object.Shape.{Shape}
-use Rattle.city_model.specs.declared.object.Shape.TheVariants.{MultiSurface, CompositeSurface, Solid}
 use Rattle.city_model.specs.declared.object.Geometry.{Geometry}
 use Rattle.city_model.specs.declared.object.Body.{Body}
 use Rattle.city_model.specs.declared.object.Object.{Object}
@@ -14,7 +12,7 @@ use Rattle.city_model.specs.declared.object_type.ObjectType.{ObjectType}
 use Rattle.city_model.specs.Types.{type_named}
 use Rattle.city_model.specs.Kept.{kept_at_object, kept_at_geometry}
 use Rattle.city_model.specs.Members.{without}
-use Rattle.city_model.specs.Shells.{Surface, Shell}
+use Rattle.city_doc.specs.Nesting.{Nested, geometry_type}
 
 -- ---- lists
 
@@ -40,20 +38,13 @@ point_at_position points (negsuc n) = None
 abbrev pub point_at : List Point → Data → Option Point
 point_at points d = option_and_then (point_at_position points) (option_and_then as_i64 (as_number d))
 
-abbrev pub surface_of : List Point → Data → Option Surface
-surface_of points = list_of (list_of (point_at points))
-
-abbrev pub surfaces_of : List Point → Data → Option (List Surface)
-surfaces_of points = list_of (surface_of points)
-
-abbrev pub shells_of : List Point → Data → Option (List Shell)
-shells_of points = list_of (surfaces_of points)
+abbrev pub nested_of : List Point → (n : ℕ) → Data → Option (Nested n)
+nested_of points zero = point_at points
+nested_of points (suc n) = list_of (nested_of points n)
 
 abbrev pub shape_of : List Point → List ℕ → Data → Option Shape
 shape_of points kind d =
-    if bytes_eq kind (codes "MultiSurface") then option_map MultiSurface (surfaces_of points d)
-    else (if bytes_eq kind (codes "CompositeSurface") then option_map CompositeSurface (surfaces_of points d)
-    else (if bytes_eq kind (codes "Solid") then option_map Solid (shells_of points d) else None))
+    option_and_then (λ t. option_map t.shape (nested_of points t.depth d)) (geometry_type kind)
 
 -- ---- geometries, bodies and objects
 

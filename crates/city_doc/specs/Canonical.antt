@@ -1,6 +1,6 @@
 -- The canonical text of a city: compact JSON, keys in byte order, each point a number
 -- (CityJSON 2.0, sections 2 and 3).
-use Rattle.std.specs.Prelude.{ℕ, ℤ, List, [], ◌∷◌, map, codes}
+use Rattle.std.specs.Prelude.{ℕ, zero, suc, ℤ, List, [], ◌∷◌, map, codes}
 use Rattle.std.specs.FinMap.{entries}
 use Rattle.serde_json.specs.Data.{Data, number, unsigned, string, array, object, Members, no_members, put}
 use Rattle.serde_json.specs.Find.{of_integer}
@@ -9,12 +9,12 @@ use Rattle.serde_json.specs.Written.{compact_text}
 use Rattle.city_model.specs.declared.frame.Frame.{Frame}
 use Rattle.city_model.specs.declared.object.Point.{Point}
 use Rattle.city_model.specs.declared.object.Shape.{Shape}
-use Rattle.city_model.specs.declared.object.Shape.TheVariants.{MultiSurface, CompositeSurface, Solid}
 use Rattle.city_model.specs.declared.object.Geometry.{Geometry}
 use Rattle.city_model.specs.declared.object.Object.{Object}
 use Rattle.city_model.specs.CityMap.{Entries, CityValue}
-use Rattle.city_model.specs.Shells.{Ring, Surface, Shell}
+use Rattle.city_model.specs.Shells.{boundaries_of}
 use Rattle.city_model.specs.Types.{name_of}
+use Rattle.city_doc.specs.Nesting.{Nested, nested, shape_name}
 use Rattle.city_doc.specs.Pool.{number_of, pool_of}
 
 -- an array of what is written for each
@@ -32,24 +32,13 @@ triple_data xs = list_data integer_data xs
 abbrev pub point_data : List Point → Point → Data
 point_data pool p = number (unsigned (number_of pool p))
 
-abbrev pub ring_data : List Point → Ring → Data
-ring_data pool points = list_data (point_data pool) points
-
-abbrev pub surface_data : List Point → Surface → Data
-surface_data pool rings = list_data (ring_data pool) rings
-
-abbrev pub shell_data : List Point → Shell → Data
-shell_data pool surfaces = list_data (surface_data pool) surfaces
+-- arrays of arrays, down to points
+abbrev pub nested_data : List Point → (n : ℕ) → Nested n → Data
+nested_data pool zero = point_data pool
+nested_data pool (suc n) = list_data (nested_data pool n)
 
 abbrev pub boundaries_data : List Point → Shape → Data
-boundaries_data pool (MultiSurface surfaces) = list_data (surface_data pool) surfaces
-boundaries_data pool (CompositeSurface surfaces) = list_data (surface_data pool) surfaces
-boundaries_data pool (Solid shells) = list_data (shell_data pool) shells
-
-abbrev pub shape_name : Shape → List ℕ
-shape_name (MultiSurface surfaces) = codes "MultiSurface"
-shape_name (CompositeSurface surfaces) = codes "CompositeSurface"
-shape_name (Solid shells) = codes "Solid"
+boundaries_data pool shape = let b = nested (boundaries_of shape) in nested_data pool b.0 b.1
 
 abbrev pub geometry_data : List Point → Geometry → Data
 geometry_data pool g =

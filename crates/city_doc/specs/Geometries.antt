@@ -1,10 +1,10 @@
 -- The form of the geometries of an object, whatever its positions name (CityJSON 2.0, section 3).
-use Rattle.std.specs.Prelude.{◌&&◌, nat_lt, ℕ, ℤ, pos, negsuc, List, Bool, true, false, Option, Some, None}
-use Rattle.std.specs.Prelude.{option_and_then, codes, is_some, if◌then◌else◌}
-use Rattle.std.specs.Str.{bytes_eq}
+use Rattle.std.specs.Prelude.{◌&&◌, nat_lt, ℕ, zero, suc, ℤ, pos, negsuc, List, Bool, true, false, Option, Some, None}
+use Rattle.std.specs.Prelude.{option_and_then, codes, is_some}
 use Rattle.serde_json.specs.Data.{Data, Items, no_items, item}
 use Rattle.serde_json.specs.Find.{get, as_array, as_number, as_i64}
 use Rattle.city_doc.specs.Bodies.{text_at}
+use Rattle.city_doc.specs.Nesting.{GeometryType, geometry_type}
 
 -- ---- what stands in a ring
 
@@ -41,16 +41,18 @@ are_items test (Some ds) = all_items test ds
 abbrev pub is_list_of : (Data → Bool) → Data → Bool
 is_list_of test d = are_items test (as_array d)
 
--- each surface a list of rings, and each ring a list
-abbrev pub are_surfaces : (Data → Bool) → Data → Bool
-are_surfaces leaf = is_list_of (is_list_of (is_list_of leaf))
+-- arrays of arrays, down to what stands in rings
+abbrev pub is_nested : (Data → Bool) → ℕ → Data → Bool
+is_nested leaf zero = leaf
+is_nested leaf (suc n) = is_list_of (is_nested leaf n)
+
+abbrev pub are_nested_for : (Data → Bool) → Option GeometryType → Data → Bool
+are_nested_for leaf None d = false
+are_nested_for leaf (Some t) d = is_nested leaf t.depth d
 
 -- the boundaries of a geometry of this type
 abbrev pub is_boundaries : (Data → Bool) → List ℕ → Data → Bool
-is_boundaries leaf kind d =
-    if bytes_eq kind (codes "MultiSurface") then are_surfaces leaf d
-    else (if bytes_eq kind (codes "CompositeSurface") then are_surfaces leaf d
-    else (if bytes_eq kind (codes "Solid") then is_list_of (are_surfaces leaf) d else false))
+is_boundaries leaf kind d = are_nested_for leaf (geometry_type kind) d
 
 -- ---- geometries
 

@@ -13,6 +13,7 @@ pub mod Geometries
 pub mod KeptMembers
 pub mod LenientCities
 pub mod ObjectFaults
+pub mod Nesting
 pub mod Outputs
 pub mod Pool
 pub mod Ranges

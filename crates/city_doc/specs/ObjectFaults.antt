@@ -19,8 +19,7 @@ is_unknown_type d = is_none (type_of d)
 -- types of geometry that aren't read
 abbrev pub unsupported_types : List (List ℕ)
 unsupported_types =
-    codes "MultiPoint" ∷ codes "MultiLineString" ∷ codes "GeometryInstance"
-    ∷ codes "MultiSolid" ∷ codes "CompositeSolid" ∷ []
+    codes "MultiPoint" ∷ codes "MultiLineString" ∷ codes "GeometryInstance" ∷ []
 
 abbrev pub only_if : {A : Type 0} → (A → Bool) → A → Option A
 only_if test x = if test x then Some x else None

@@ -1,28 +1,24 @@
 -- The points of a city in walking order, and its vertices, each of which is there once
 -- (CityJSON 2.0, section 2, `vertices`).
-use Rattle.std.specs.Prelude.{ℕ, not, List, [], ◌∷◌, ◌++◌, filter, flat_map, if◌then◌else◌}
+use Rattle.std.specs.Prelude.{ℕ, zero, suc, not, List, [], ◌∷◌, ◌++◌, filter, flat_map, if◌then◌else◌}
 use Rattle.std.specs.List.{list_any, position_or_len}
 use Rattle.std.specs.FinMap.{entries}
 use Rattle.city_model.specs.declared.object.Point.{Point}
 use Rattle.city_model.specs.declared.object.Shape.{Shape}
-use Rattle.city_model.specs.declared.object.Shape.TheVariants.{MultiSurface, CompositeSurface, Solid}
 use Rattle.city_model.specs.declared.object.Geometry.{Geometry}
 use Rattle.city_model.specs.declared.object.Object.{Object}
-use Rattle.city_model.specs.Shells.{Surface, Shell, same_point}
+use Rattle.city_model.specs.Shells.{boundaries_of, same_point}
 use Rattle.city_model.specs.CityMap.{CityValue}
+use Rattle.city_doc.specs.Nesting.{Nested, nested}
 
--- ---- the walk: ids in byte order, then geometries, shells, surfaces, rings and points, each in order
+-- ---- the walk: ids in byte order, then geometries, solids, shells, surfaces, rings and points, each in order
 
-abbrev pub surface_points : Surface → List Point
-surface_points rings = flat_map (λ ring. ring) rings
-
-abbrev pub shell_points : Shell → List Point
-shell_points surfaces = flat_map surface_points surfaces
+abbrev pub nested_points : (n : ℕ) → Nested n → List Point
+nested_points zero = λ p. p ∷ []
+nested_points (suc n) = flat_map (nested_points n)
 
 abbrev pub shape_points : Shape → List Point
-shape_points (MultiSurface surfaces) = flat_map surface_points surfaces
-shape_points (CompositeSurface surfaces) = flat_map surface_points surfaces
-shape_points (Solid shells) = flat_map shell_points shells
+shape_points shape = let b = nested (boundaries_of shape) in nested_points b.0 b.1
 
 abbrev pub geometry_points : Geometry → List Point
 geometry_points g = shape_points g.shape

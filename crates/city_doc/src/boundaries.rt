@@ -3,8 +3,9 @@ ghost use Rattle.std.specs.Prelude.{◌≡◌, ◌++◌, ◌∷◌, [], List, On
 ghost use Rattle.std.specs.List.{list_all};
 ghost use Rattle.serde_json.specs.Data.{Data, string};
 ghost use Rattle.city_model.specs.declared.object.Point as p;
-ghost use Rattle.city_doc.specs.Canonical.{list_data, point_data, boundaries_data, shape_name, geometry_data};
+ghost use Rattle.city_doc.specs.Canonical.{list_data, point_data, boundaries_data, geometry_data};
 ghost use Rattle.city_doc.specs.KeptMembers.{is_kept_geometry};
+ghost use Rattle.city_doc.specs.Nesting.{shape_name};
 ghost use Rattle.city_doc.specs.Pool.{shape_points, geometry_points};
 ghost use Rattle.city_doc.specs.Tokens.{tokens_of, ReadsBackNumbered};
 ghost use Rattle.city_doc.specs.Walk.{with_points};
@@ -13,6 +14,7 @@ use crate::kept_members::{write_last, write_name};
 use crate::pool::VertexPool;
 use city_model::object::{Geometry, Point, Shape};
 use city_model::sequence::Sequence;
+use city_model::shape::Bounds;
 use city_model::text::Text;
 use json::Writer;
 use std::alloc::AllocError;
@@ -85,10 +87,10 @@ impl Written for Shape {
     ghost is_kept = { λ _. true };
 
     fn write(&self, pool: &mut VertexPool, out: &mut Writer) -> Result<(), AllocError> {
-        match self {
-            Shape::MultiSurface(surfaces) => surfaces.write(pool, out),
-            Shape::CompositeSurface(surfaces) => surfaces.write(pool, out),
-            Shape::Solid(shells) => shells.write(pool, out),
+        match self.bounds() {
+            Bounds::Surfaces(surfaces) => surfaces.write(pool, out),
+            Bounds::Shells(shells) => shells.write(pool, out),
+            Bounds::Solids(solids) => solids.write(pool, out),
         }
     }
 }
@@ -101,6 +103,8 @@ pub fn shape_name(shape: &Shape) -> &'static str
         Shape::MultiSurface(_) => "MultiSurface",
         Shape::CompositeSurface(_) => "CompositeSurface",
         Shape::Solid(_) => "Solid",
+        Shape::MultiSolid(_) => "MultiSolid",
+        Shape::CompositeSolid(_) => "CompositeSolid",
     }
 }
 

@@ -33,6 +33,10 @@ fn shape_of(
             Ok(Nested::read(alloc, points, boundaries)?.map(Shape::CompositeSurface))
         },
         "Solid" => Ok(Nested::read(alloc, points, boundaries)?.map(Shape::Solid)),
+        "MultiSolid" => Ok(Nested::read(alloc, points, boundaries)?.map(Shape::MultiSolid)),
+        "CompositeSolid" => {
+            Ok(Nested::read(alloc, points, boundaries)?.map(Shape::CompositeSolid))
+        },
         _ => Ok(None),
     }
 }

@@ -5,7 +5,7 @@ ghost use Rattle.city_doc.specs.Geometries.{all_items, are_items, is_boundaries,
 
 use crate::nested::{Leaf, Nested};
 use crate::object_faults::text_at;
-use city_model::object::{Shell, Surface};
+use city_model::object::{Shell, Solid, Surface};
 use city_model::sequence::Sequence;
 use serde_json::Value;
 
@@ -16,6 +16,7 @@ fn is_boundaries<L: Leaf>(leaf: &L, kind: &str, value: &Value) -> bool
     match kind {
         "MultiSurface" | "CompositeSurface" => Sequence::<Surface>::has_form(leaf, value),
         "Solid" => Sequence::<Shell>::has_form(leaf, value),
+        "MultiSolid" | "CompositeSolid" => Sequence::<Solid>::has_form(leaf, value),
         _ => false,
     }
 }

@@ -30,10 +30,7 @@ pub fn type_of(object: &Value) -> Option<ObjectType>
 fn is_unsupported(kind: &str) -> bool
     ensures { result ≡ list_any (bytes_eq kind.now) unsupported_types }
 {
-    matches!(
-        kind,
-        "MultiPoint" | "MultiLineString" | "GeometryInstance" | "MultiSolid" | "CompositeSolid"
-    )
+    matches!(kind, "MultiPoint" | "MultiLineString" | "GeometryInstance")
 }
 
 fn unsupported_type(geometry: &Value) -> Option<&str>

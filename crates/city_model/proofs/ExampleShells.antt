@@ -6,7 +6,7 @@ use Rattle.city_model.specs.declared.object.Point.{Point}
 use Rattle.city_model.specs.declared.object.Geometry.{Geometry}
 use Rattle.city_model.specs.declared.object.Body.{Body}
 use Rattle.city_model.specs.declared.object.Shape.{Shape}
-use Rattle.city_model.specs.declared.object.Shape.TheVariants.{MultiSurface, Solid}
+use Rattle.city_model.specs.declared.object.Shape.TheVariants.{MultiSurface, Solid, MultiSolid, CompositeSolid}
 use Rattle.city_model.specs.declared.object_type.ObjectType.TheVariants.{Building}
 use Rattle.city_model.specs.declared.command.Cause.TheVariants.{ShortRing, SameTwice, OpenShell}
 use Rattle.city_model.specs.Shells.{Ring, Surface, Shell, is_closed, body_fault}
@@ -69,6 +69,13 @@ cube_has_no_fault = refl
 
 pub turned_face_is_a_fault : body_fault (body_of (solid cube_with_turned_face ∷ [])) ≡ Some OpenShell
 turned_face_is_a_fault = refl
+
+pub second_solid_may_be_open : body_fault (body_of (of_shape (MultiSolid ((cube ∷ []) ∷ (cube_with_turned_face ∷ []) ∷ [])) ∷ [])) ≡ Some OpenShell
+second_solid_may_be_open = refl
+
+-- each shell is closed by itself, so no edge of one counts for another
+pub equal_solids_have_no_fault : body_fault (body_of (of_shape (CompositeSolid ((cube ∷ []) ∷ (cube ∷ []) ∷ [])) ∷ [])) ≡ None
+equal_solids_have_no_fault = refl
 
 pub two_points_are_a_short_ring : body_fault (body_of (flat two_points ∷ [])) ≡ Some ShortRing
 two_points_are_a_short_ring = refl

@@ -5,7 +5,7 @@ use Rattle.std.specs.Ordering.{int_eq}
 use Rattle.std.specs.List.{list_any, list_all, zip}
 use Rattle.city_model.specs.declared.object.Point.{Point}
 use Rattle.city_model.specs.declared.object.Shape.{Shape}
-use Rattle.city_model.specs.declared.object.Shape.TheVariants.{MultiSurface, CompositeSurface, Solid}
+use Rattle.city_model.specs.declared.shape.Bounds.{Bounds}
 use Rattle.city_model.specs.declared.object.Body.{Body}
 use Rattle.city_model.specs.declared.command.Cause.{Cause}
 use Rattle.city_model.specs.declared.command.Cause.TheVariants.{ShortRing, SameTwice, OpenShell}
@@ -18,6 +18,10 @@ Surface = List Ring
 
 abbrev pub Shell : Type 0
 Shell = List Surface
+
+-- an exterior shell, then interior ones
+abbrev pub Solid : Type 0
+Solid = List Shell
 
 abbrev pub Edge : Type 0
 Edge = Point × Point
@@ -59,22 +63,50 @@ runs_both_ways es e = occurs_once same_edge es e && occurs_once same_edge es (fl
 abbrev pub is_closed : Shell → Bool
 is_closed shell = list_all (runs_both_ways (edges_of shell)) (edges_of shell)
 
+-- ---- what bounds a geometry
+
+-- surfaces that needn't close, the shells of one solid, or solids
+pub data Boundaries : Type 0 where
+  Surfaces : List Surface → Boundaries
+  Shells : List Shell → Boundaries
+  Solids : List Solid → Boundaries
+
+abbrev pub boundaries_of : Shape → Boundaries
+boundaries_of (Shape.MultiSurface surfaces) = Surfaces surfaces
+boundaries_of (Shape.CompositeSurface surfaces) = Surfaces surfaces
+boundaries_of (Shape.Solid shells) = Shells shells
+boundaries_of (Shape.MultiSolid solids) = Solids solids
+boundaries_of (Shape.CompositeSolid solids) = Solids solids
+
+-- boundaries as the code lends them
+abbrev pub bounds_view : Bounds → Boundaries
+bounds_view (Bounds.Surfaces surfaces) = Surfaces surfaces.now
+bounds_view (Bounds.Shells shells) = Shells shells.now
+bounds_view (Bounds.Solids solids) = Solids solids.now
+
+-- the lists one after another
+abbrev pub joined : {T : Type 0} → List (List T) → List T
+joined [] = []
+joined (xs ∷ xss) = xs ++ joined xss
+
+abbrev pub surfaces_in : Boundaries → List Surface
+surfaces_in (Surfaces surfaces) = surfaces
+surfaces_in (Shells shells) = joined shells
+surfaces_in (Solids solids) = joined (joined solids)
+
+abbrev pub shells_in : Boundaries → List Shell
+shells_in (Surfaces surfaces) = []
+shells_in (Shells shells) = shells
+shells_in (Solids solids) = joined solids
+
 -- ---- the rules of one geometry
 
-abbrev pub surfaces_of_shells : List Shell → List Surface
-surfaces_of_shells [] = []
-surfaces_of_shells (s ∷ ss) = s ++ surfaces_of_shells ss
-
 abbrev pub surfaces_of : Shape → List Surface
-surfaces_of (MultiSurface surfaces) = surfaces
-surfaces_of (CompositeSurface surfaces) = surfaces
-surfaces_of (Solid shells) = surfaces_of_shells shells
+surfaces_of shape = surfaces_in (boundaries_of shape)
 
--- the shells that have to be closed
+-- the shells that have to be closed, each by itself
 abbrev pub shells_of : Shape → List Shell
-shells_of (MultiSurface surfaces) = []
-shells_of (CompositeSurface surfaces) = []
-shells_of (Solid shells) = shells
+shells_of shape = shells_in (boundaries_of shape)
 
 abbrev pub is_short_ring : Ring → Bool
 is_short_ring r = nat_lt (length r) 3

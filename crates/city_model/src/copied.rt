@@ -53,6 +53,8 @@ impl Copied for Shape {
                 Ok(Shape::CompositeSurface(surfaces.copy(alloc)?))
             }
             Shape::Solid(shells) => Ok(Shape::Solid(shells.copy(alloc)?)),
+            Shape::MultiSolid(solids) => Ok(Shape::MultiSolid(solids.copy(alloc)?)),
+            Shape::CompositeSolid(solids) => Ok(Shape::CompositeSolid(solids.copy(alloc)?)),
         }
     }
 }

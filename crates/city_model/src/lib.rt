@@ -22,6 +22,7 @@ pub mod relations;
 pub mod rings;
 pub mod script;
 pub mod sequence;
+pub mod shape;
 pub mod shells;
 pub mod text;
 

@@ -24,13 +24,17 @@ pub type Surface = Sequence<Ring>;
 /// The surfaces round a body.
 pub type Shell = Sequence<Surface>;
 
-/// What bounds a geometry (CityJSON 2.0, section 3.2).
+/// An exterior shell, then interior ones.
+pub type Solid = Sequence<Shell>;
+
+/// The type of a geometry, with what bounds it (CityJSON 2.0, section 3.2).
 #[derive(Drop)]
 pub enum Shape {
     MultiSurface(Sequence<Surface>),
     CompositeSurface(Sequence<Surface>),
-    /// An exterior shell, then interior ones.
-    Solid(Sequence<Shell>),
+    Solid(Solid),
+    MultiSolid(Sequence<Solid>),
+    CompositeSolid(Sequence<Solid>),
 }
 
 /// A geometry of a city object.

@@ -3,19 +3,25 @@ ghost use Rattle.std.specs.Prelude.{◌≡◌};
 ghost use Rattle.std.specs.List.{list_any};
 ghost use Rattle.city_model.specs.Shells.{is_short_ring, is_short_surface, has_same_neighbours, has_short_ring, has_same_twice};
 
-use crate::object::{Ring, Shape, Shell, Surface};
+use crate::object::{Ring, Shape, Shell, Solid, Surface};
+use crate::shape::Bounds;
 
 /// Whether a surface of the shape has no ring, or has a ring of fewer than three points. Takes no
 /// memory.
 pub fn has_short_ring(shape: &Shape) -> bool
     ensures { result ≡ has_short_ring shape.now }
 {
-    match shape {
-        Shape::MultiSurface(surfaces) | Shape::CompositeSurface(surfaces) => {
-            any_short(surfaces.as_slice())
-        },
-        Shape::Solid(shells) => any_short_in(shells.as_slice()),
+    match shape.bounds() {
+        Bounds::Surfaces(surfaces) => any_short(surfaces.as_slice()),
+        Bounds::Shells(shells) => any_short_in(shells.as_slice()),
+        Bounds::Solids(solids) => any_short_in_some(solids.as_slice()),
     }
+}
+
+fn any_short_in_some(solids: &[Solid]) -> bool
+    ensures { result ≡ list_any (list_any (list_any is_short_surface)) solids.now }
+{
+    solids.iter().any(|solid| any_short_in(solid.as_slice()))
 }
 
 fn any_short_in(shells: &[Shell]) -> bool
@@ -47,12 +53,17 @@ fn any_short_ring(rings: &[Ring]) -> bool
 pub fn has_same_twice(shape: &Shape) -> bool
     ensures { result ≡ has_same_twice shape.now }
 {
-    match shape {
-        Shape::MultiSurface(surfaces) | Shape::CompositeSurface(surfaces) => {
-            any_same(surfaces.as_slice())
-        },
-        Shape::Solid(shells) => any_same_in(shells.as_slice()),
+    match shape.bounds() {
+        Bounds::Surfaces(surfaces) => any_same(surfaces.as_slice()),
+        Bounds::Shells(shells) => any_same_in(shells.as_slice()),
+        Bounds::Solids(solids) => any_same_in_some(solids.as_slice()),
     }
+}
+
+fn any_same_in_some(solids: &[Solid]) -> bool
+    ensures { result ≡ list_any (list_any (list_any (list_any has_same_neighbours))) solids.now }
+{
+    solids.iter().any(|solid| any_same_in(solid.as_slice()))
 }
 
 fn any_same_in(shells: &[Shell]) -> bool

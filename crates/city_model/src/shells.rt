@@ -6,7 +6,8 @@ ghost use Rattle.std.specs.Ordering.{eq_by_cmp};
 ghost use Rattle.city_model.specs.Shells.{occurs_once, flipped, is_closed, is_open, has_open_shell};
 
 use crate::edges::{Edge, edges_of};
-use crate::object::{Shape, Shell};
+use crate::object::{Shape, Shell, Solid};
+use crate::shape::Bounds;
 use std::alloc::{AllocError, Global};
 
 /// Whether an item is repeated, where the items are in order.
@@ -57,14 +58,26 @@ pub fn shell_closed(alloc: Global, shell: &Shell) -> Result<bool, AllocError>
     Ok(!has_repeats(edges) && are_run_back(edges))
 }
 
-/// Whether a shell of a solid isn't closed. The only refusal is want of memory.
+/// Whether a shell of one of the shape's solids isn't closed. The only refusal is want of memory.
 pub fn has_open_shell(alloc: Global, shape: &Shape) -> Result<bool, AllocError>
     ensures { IfOk result (λ b. b ≡ has_open_shell shape.now) }
 {
-    match shape {
-        Shape::MultiSurface(_) | Shape::CompositeSurface(_) => Ok(false),
-        Shape::Solid(shells) => any_open(alloc, shells.as_slice()),
+    match shape.bounds() {
+        Bounds::Surfaces(_) => Ok(false),
+        Bounds::Shells(shells) => any_open(alloc, shells.as_slice()),
+        Bounds::Solids(solids) => any_open_in(alloc, solids.as_slice()),
     }
+}
+
+fn any_open_in(alloc: Global, solids: &[Solid]) -> Result<bool, AllocError>
+    ensures { IfOk result (λ b. b ≡ list_any (list_any is_open) solids.now) }
+{
+    for solid in solids {
+        if any_open(alloc, solid.as_slice())? {
+            return Ok(true);
+        }
+    }
+    Ok(false)
 }
 
 fn any_open(alloc: Global, shells: &[Shell]) -> Result<bool, AllocError>

@@ -77,8 +77,8 @@ const OBJECTS: [(&str, &str); 15] = [
         "the object a has no type, or an unknown one",
     ),
     (
-        "{\"a\":{\"type\":\"Road\",\"geometry\":1},\"b\":{\"type\":\"Road\",\"geometry\":[{\"type\":\"MultiSolid\"}]}}",
-        "the object b has a MultiSolid, which isn't supported",
+        "{\"a\":{\"type\":\"Road\",\"geometry\":1},\"b\":{\"type\":\"Road\",\"geometry\":[{\"type\":\"MultiLineString\"}]}}",
+        "the object b has a MultiLineString, which isn't supported",
     ),
     (
         "{\"a\":{\"type\":\"Road\",\"parents\":1},\"b\":{\"type\":\"Road\",\"geometry\":1},\"c\":{\"type\":\"Road\",\"geometry\":{}}}",
@@ -96,7 +96,17 @@ fn objects_are_judged_in_order(rt: HostRuntime) -> Result<(), Fail> {
 }
 
 /// Objects and vertices, and what a document of them answers.
-const FAULTY: [(&str, &str, &str); 19] = [
+const FAULTY: [(&str, &str, &str); 21] = [
+    (
+        "{\"c\":{\"type\":\"Building\",\"geometry\":[{\"type\":\"MultiSolid\",\"lod\":\"1\",\"boundaries\":[[[[[0,3,2,1]],[[4,5,6,7]],[[0,1,5,4]],[[1,2,6,5]],[[2,3,7,6]],[[3,0,4,7]]]],[[[[0,3,2,1]],[[7,6,5,4]],[[0,1,5,4]],[[1,2,6,5]],[[2,3,7,6]],[[3,0,4,7]]]]]}]}}",
+        "[[0,0,0],[1,0,0],[1,1,0],[0,1,0],[0,0,1],[1,0,1],[1,1,1],[0,1,1]]",
+        "the object c has a solid with an open shell",
+    ),
+    (
+        "{\"c\":{\"type\":\"Building\",\"geometry\":[{\"type\":\"MultiSolid\",\"lod\":\"1\",\"boundaries\":[[[[0,3,2,1]],[[4,5,6,7]],[[0,1,5,4]],[[1,2,6,5]],[[2,3,7,6]],[[3,0,4,7]]]]}]}}",
+        "[[0,0,0],[1,0,0],[1,1,0],[0,1,0],[0,0,1],[1,0,1],[1,1,1],[0,1,1]]",
+        "the object c has a malformed geometry",
+    ),
     (
         "{\"c\":{\"type\":\"Building\",\"geometry\":[{\"type\":\"Solid\",\"lod\":\"1\",\"boundaries\":[[[[0,3,2,1]],[[7,6,5,4]],[[0,1,5,4]],[[1,2,6,5]],[[2,3,7,6]],[[3,0,4,7]]]]}]}}",
         "[[0,0,0],[1,0,0],[1,1,0],[0,1,0],[0,0,1],[1,0,1],[1,1,1],[0,1,1]]",

@@ -240,7 +240,8 @@ pub const FAULTY_BODIES: Run = Run {
         r#"[{"name":"a","vertices":[[0,0,0],[1,0,0],[0,1,0]],"commands":[{"put":"s","object":{"type":"Building","geometry":[{"type":"MultiSurface","lod":"1","boundaries":[[[0,1]]]}]}},"commit"]},"#,
         r#"{"name":"b","vertices":[[0,0,0],[1,0,0],[0,1,0]],"commands":[{"put":"s","object":{"type":"Building","geometry":[{"type":"MultiSurface","lod":"1","boundaries":[[[0,1,1]]]}]}},"commit"]},"#,
         r#"{"name":"c","vertices":[[0,0,0],[1,0,0],[0,1,0]],"commands":[{"put":"s","object":{"type":"Building","geometry":[{"type":"Solid","lod":"1","boundaries":[[[[0,1,2]]]]}]}},"commit"]},"#,
-        r#"{"name":"d","vertices":[[0,0,0],[1,0,0],[0,1,0]],"commands":[{"put":"s","object":{"type":"Building","geometry":[{"type":"Solid","lod":"1","boundaries":[[[[0,1,2]]]]},{"type":"MultiSurface","lod":"2","boundaries":[[[0,1]]]}]}},"commit"]}]"#
+        r#"{"name":"d","vertices":[[0,0,0],[1,0,0],[0,1,0]],"commands":[{"put":"s","object":{"type":"Building","geometry":[{"type":"Solid","lod":"1","boundaries":[[[[0,1,2]]]]},{"type":"MultiSurface","lod":"2","boundaries":[[[0,1]]]}]}},"commit"]},"#,
+        r#"{"name":"e","vertices":[[0,0,0],[1,0,0],[0,1,0]],"commands":[{"put":"s","object":{"type":"Building","geometry":[{"type":"MultiSolid","lod":"1","boundaries":[[[[[0,1,2]]]]]}]}},"commit"]}]"#
     ),
     report: concat!(
         r#"{"at":0,"cause":"ShortRing","name":"a","outcome":"refused","replies":[],"script":0,"since":0}"#,
@@ -250,6 +251,8 @@ pub const FAULTY_BODIES: Run = Run {
         r#"{"at":0,"cause":"OpenShell","name":"c","outcome":"refused","replies":[],"script":2,"since":2}"#,
         "\n",
         r#"{"at":0,"cause":"ShortRing","name":"d","outcome":"refused","replies":[],"script":3,"since":3}"#,
+        "\n",
+        r#"{"at":0,"cause":"OpenShell","name":"e","outcome":"refused","replies":[],"script":4,"since":4}"#,
         "\n"
     ),
     model: model!("{}", "[]"),

@@ -1,8 +1,9 @@
 //! Texts of scripts, and what each is read as or refused with.
 use city_doc::scripts::read_scripts;
 use city_model::command::Command;
-use city_model::object::{Geometry, Shape, Surface};
+use city_model::object::{Geometry, Shape, Solid, Surface};
 use city_model::object_type;
+use city_model::shape::Bounds;
 use std::alloc::{AllocError, Global};
 use std::fmt::Write;
 use std::test::Fail;
@@ -28,18 +29,26 @@ fn shape_name(shape: &Shape) -> &'static str {
         Shape::MultiSurface(_) => "MultiSurface",
         Shape::CompositeSurface(_) => "CompositeSurface",
         Shape::Solid(_) => "Solid",
+        Shape::MultiSolid(_) => "MultiSolid",
+        Shape::CompositeSolid(_) => "CompositeSolid",
     }
+}
+
+fn solid_shown(text: &mut String, solid: &Solid) -> Result<(), Fail> {
+    for shell in solid.as_slice() {
+        points_shown(text, shell.as_slice())?;
+    }
+    Ok(())
 }
 
 fn geometry_shown(text: &mut String, geometry: &Geometry) -> Result<(), Fail> {
     write!(text, " {} {}", geometry.lod, shape_name(&geometry.shape))?;
-    match &geometry.shape {
-        Shape::MultiSurface(surfaces) | Shape::CompositeSurface(surfaces) => {
-            points_shown(text, surfaces.as_slice())?;
-        }
-        Shape::Solid(shells) => {
-            for shell in shells.as_slice() {
-                points_shown(text, shell.as_slice())?;
+    match geometry.shape.bounds() {
+        Bounds::Surfaces(surfaces) => points_shown(text, surfaces.as_slice())?,
+        Bounds::Shells(shells) => solid_shown(text, shells)?,
+        Bounds::Solids(solids) => {
+            for solid in solids.as_slice() {
+                solid_shown(text, solid)?;
             }
         }
     }

@@ -3,7 +3,7 @@ use Rattle.std.proofs.lemmas.Result.{on_ok_weaker}
 use Rattle.serde_json.specs.Data.{object}
 use Rattle.serde_json.specs.View.{members_view}
 use Rattle.city_model.specs.Members.{AreOrdered}
-use Rattle.city_doc.specs.Canonical.{shape_name}
+use Rattle.city_doc.specs.Nesting.{shape_name}
 use Rattle.city_doc.specs.Tokens.{tokens_of, ReadsBack}
 use Rattle.city_doc.specs.Walk.{with_points}
 use Rattle.city_doc.proofs.Among.{puts, begun, value_written, end_written, reads_parts, reads_all, own_read, string_reads, text_written}

@@ -1,0 +1,31 @@
+//! What bounds a shape, whatever its type.
+ghost use Rattle.std.specs.Prelude.{◌≡◌};
+ghost use Rattle.city_model.specs.Shells.{boundaries_of, bounds_view};
+
+use crate::object::{Shape, Shell, Solid, Surface};
+use crate::sequence::Sequence;
+
+/// What bounds a shape, lent from it.
+#[derive(Clone, Copy)]
+pub enum Bounds<'a> {
+    /// Surfaces that needn't close.
+    Surfaces(&'a Sequence<Surface>),
+    /// The shells of one solid.
+    Shells(&'a Sequence<Shell>),
+    Solids(&'a Sequence<Solid>),
+}
+
+impl Shape {
+    /// What bounds the shape. Takes no memory.
+    pub fn bounds(&self) -> Bounds<'_>
+        ensures { bounds_view result ≡ boundaries_of self.now }
+    {
+        match self {
+            Shape::MultiSurface(surfaces) | Shape::CompositeSurface(surfaces) => {
+                Bounds::Surfaces(surfaces)
+            },
+            Shape::Solid(shells) => Bounds::Shells(shells),
+            Shape::MultiSolid(solids) | Shape::CompositeSolid(solids) => Bounds::Solids(solids),
+        }
+    }
+}
