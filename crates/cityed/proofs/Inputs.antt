@@ -1,9 +1,11 @@
 -- The parts of an input round its first newline.
-use Rattle.std.proofs.Common.{◌≡◌, ℕ, ◌+◌, ◌-◌, ◌≤◌, Bool, true, false, cond, List, [], length, take, drop, Some, None, nat_lt, refl, ap, sym, ◌∙◌, arith, length-drop}
+use Rattle.std.proofs.Common.{◌≡◌, ℕ, ◌+◌, ◌-◌, ◌≤◌, ◌<◌, Bool, true, false, cond, List, [], length, take, drop, Option, Some, None, nat_lt, refl, ap, sym, ◌∙◌, arith, length-drop}
 use Rattle.std.specs.Prelude.{position}
 use Rattle.std.specs.List.{position_or_len, before_first, after_first}
 use Rattle.std.proofs.lemmas.Bool.Decides.{nat_tests}
 use Rattle.std.proofs.lemmas.List.{take_all, drop_all}
+use Rattle.std.proofs.lemmas.List.Sums.{position_or_len_is}
+use Rattle.memchr.specs.Find.{IsFirstByte}
 
 found_at : (b : Bool) (k n : ℕ) → cond b (Some k) None ≡ Some n → k ≡ n
 found_at true k n e = cc
@@ -30,3 +32,25 @@ module _ (p : ℕ → Bool) (xs : List ℕ) where
 
   pub after_none : position p xs ≡ None → [] ≡ after_first p xs
   after_none none = let h : length xs ≤ position_or_len p xs = past none in sym (drop_all (position_or_len p xs + 1) xs (omega arith))
+
+not_true : (b : Bool) → ¬ (b ≡ true) → b ≡ false
+not_true true never = absurd (never refl)
+not_true false never = refl
+
+module _ (p : ℕ → Bool) (xs : List ℕ) where
+  found_first : (b : Bool) (n : ℕ) → nat_lt n (length xs) ≡ b → n < length xs → cond b (Some n) None ≡ Some n
+  found_first true n is lt = refl
+  found_first false n is lt = absurd (grind (arith, nat_tests, is))
+
+  found_none : (b : Bool) (n : ℕ) → nat_lt (length xs) (length xs) ≡ b → cond b (Some n) None ≡ None
+  found_none true n is = absurd (grind (arith, nat_tests, is))
+  found_none false n is = refl
+
+  -- where the first byte stands that passes
+  pub first_position : (r : Option ℕ) → IsFirstByte p xs r → r ≡ position p xs
+  first_position None nowhere =
+      let all : position_or_len p xs ≡ length xs = position_or_len_is p xs (length xs) 0 (omega arith) (λ k within. not_true _ (nowhere k (omega arith) within)) (λ past. absurd (omega (arith, past))) in
+      sym (ap (λ n. cond (nat_lt n (length xs)) (Some n) None) all ∙ found_none (nat_lt (length xs) (length xs)) (length xs) refl)
+  first_position (Some n) found =
+      let at : position_or_len p xs ≡ n = position_or_len_is p xs n 0 (omega (arith, found.0.high)) (λ k before. not_true _ (found.0.before k (omega arith) before)) (λ _. found.1) in
+      sym (ap (λ n. cond (nat_lt n (length xs)) (Some n) None) at ∙ found_first (nat_lt n (length xs)) n refl found.0.high)

@@ -8,6 +8,7 @@ use crate::device::Device;
 use crate::fault::ServeFault;
 use crate::serve_texts::serve_texts;
 use city_doc::parse::MAX_TEXT;
+use memchr::memchr;
 use std::alloc::Global;
 use std::io::{Read, Write};
 use std::sync::Wait;
@@ -15,6 +16,9 @@ use std::thread::Threads;
 
 /// The most bytes that are read: two texts of the greatest length, the newline, and one more.
 const MOST: usize = 2 * MAX_TEXT + 2;
+
+/// How many bytes are asked for at a time.
+const PIECE: usize = 64 * 1024;
 
 /// Reads a document and, after the first newline, scripts; runs the scripts on the document; writes
 /// the output.
@@ -59,7 +63,7 @@ pub(crate) fn read_at_most<R: Read>(
     ensures fault { IfErr result (IsReadFault reader.new.1) }
 {
     let mut input = Vec::new(alloc);
-    let mut chunk = [0; 8192];
+    let mut chunk = [0; PIECE];
     while input.len() < most {
         let room = chunk.len().min(most - input.len());
         let count = reader.read_some(&mut chunk[..room])?;
@@ -86,7 +90,7 @@ fn cut(input: &[u8]) -> (&[u8], &[u8])
 fn first_newline(bytes: &[u8]) -> Option<usize>
     ensures { result ≡ position is_newline bytes.now }
 {
-    bytes.iter().position(|byte| *byte == b'\n')
+    memchr(b'\n', bytes)
 }
 
 /// Writes the bytes, and lets the writer pass them on: whether it did.
