@@ -5,7 +5,7 @@ ghost use Rattle.cityed.specs.FaultTexts.{quoted, model_text, scripts_text, run_
 
 use crate::fault::ServeFault;
 use city_desk::fault::RunFault;
-use city_doc::fault::{ReadFault, ScriptFault};
+use city_doc::{ReadFault, ScriptFault};
 use city_model::OutOfMemory;
 use city_model::text::Text;
 use serde_json::Value;
