@@ -7,7 +7,7 @@ ghost use Rattle.cityed.specs.ServedTexts.{IsEnoughOf};
 use crate::device::Device;
 use crate::fault::ServeFault;
 use crate::serve::read_at_most;
-use city_desk::fault::RunFault;
+use city_desk::RunFault;
 use city_doc::MAX_TEXT;
 use std::alloc::Global;
 use std::fs;
