@@ -4,8 +4,8 @@ use Rattle.city_model.specs.declared.end.End.{End}
 use Rattle.city_model.specs.declared.frame.Frame.{Frame}
 use Rattle.city_model.specs.CityMap.{CityValue, at}
 use Rattle.city_model.specs.Runs.{Change, model_after}
-use Rattle.city_doc.specs.Canonical.{city_text}
-use Rattle.city_doc.specs.Reports.{report_text}
+use Rattle.city_doc.specs.document.Canonical.{city_text}
+use Rattle.city_doc.specs.report.Reports.{report_text}
 use Rattle.city_desk.specs.DeskState.{DeskState}
 use Rattle.city_desk.specs.Serial.{IsSerial}
 use Rattle.city_desk.specs.TextRuns.{IsRun}

@@ -1,6 +1,6 @@
 //! The shelf of a run.
 use crate::poster::Poster;
-use city_desk::shelf::{ListShelf, Shelf};
+use city_desk::{ListShelf, Shelf};
 use city_model::OutOfMemory;
 use city_model::change::Change;
 use std::sync::Wait;

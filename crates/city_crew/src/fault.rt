@@ -1,6 +1,6 @@
 //! Why a crew of workers and viewers has no output.
 use crate::board::BoardFault;
-use city_desk::fault::RunFault;
+use city_desk::RunFault;
 use city_model::OutOfMemory;
 
 /// Why a run over texts that were read has no output.

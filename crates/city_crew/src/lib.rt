@@ -1,4 +1,13 @@
 //! Workers and viewers: scripts of one city run side by side, while viewers look at whole versions.
+//!
+//! - `run`: the run; `fault`: why it may have no output; `gate`: where a caller may hold its workers and viewers
+//! - `state`, `work`, `ages`, `threads`: what lies under the lock, what a worker does, who is oldest, the threads
+//! - `watcher`, `last_looks`, `counts`, `commits`: viewers in a run, and what they saw
+//! - `board`, `rule`, `history`, `opening`: a new board, and what holds of every board
+//! - `poster`, `writer`, `note`, `publish`: what writes versions and tells of them
+//! - `viewer`, `look`, `version`: what looks at them
+//! - `writes`, `places`, `apply`: a change written into a version
+//! - `shelf`, `crew_shelf`: the poster as the shelf of a desk
 #![tactic(auto)]
 
 mod ages;
@@ -8,23 +17,30 @@ mod commits;
 mod counts;
 mod crew_shelf;
 mod fault;
-pub mod gate;
+mod gate;
 mod history;
 mod last_looks;
-pub mod look;
-pub mod note;
+mod look;
+mod note;
 mod opening;
 mod places;
-pub mod poster;
+mod poster;
 mod publish;
 mod rule;
-pub mod run;
+mod run;
 mod shelf;
 mod state;
 mod threads;
 mod version;
-pub mod viewer;
+mod viewer;
 mod watcher;
 mod work;
 mod writer;
 mod writes;
+
+pub use gate::{Gate, OpenGate};
+pub use look::Look;
+pub use note::Note;
+pub use poster::Poster;
+pub use run::run_crew;
+pub use viewer::Viewer;

@@ -1,7 +1,7 @@
 //! A poster as the shelf of a desk.
 use crate::note::Note;
 use crate::poster::Poster;
-use city_desk::shelf::Shelf;
+use city_desk::Shelf;
 use city_model::OutOfMemory;
 use city_model::change::Change;
 use std::sync::Wait;

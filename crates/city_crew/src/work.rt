@@ -1,6 +1,6 @@
 //! The workers of a run.
 use crate::gate::Gate;
-use city_desk::turn::Turn;
+use city_desk::Turn;
 use std::sync::{Condvar, Mutex, MutexGuard, Wait};
 
 /// How many turns a worker makes under one lock where no gate may hold it between them: some ten

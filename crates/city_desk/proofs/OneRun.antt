@@ -8,9 +8,9 @@ use Rattle.city_model.specs.Runs.{Scripted, Fits}
 use Rattle.city_model.specs.SerialEnds.{is_no_memory, IsSerialFrom}
 use Rattle.city_model.proofs.Results.{serial_ends_are_unique}
 use Rattle.city_model.proofs.Objects.{same_objects}
-use Rattle.city_doc.specs.Canonical.{city_text}
+use Rattle.city_doc.specs.document.Canonical.{city_text}
 use Rattle.city_doc.specs.Outputs.{IsOutput}
-use Rattle.city_doc.specs.Reports.{report_text}
+use Rattle.city_doc.specs.report.Reports.{report_text}
 use Rattle.city_doc.proofs.OneValue.{one_city, one_list}
 use Rattle.city_desk.specs.InTurn.{AreInTurn}
 use Rattle.city_desk.specs.SerialRuns.{IsSerialRun, had_memory, IsDecided}

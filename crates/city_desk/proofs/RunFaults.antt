@@ -4,8 +4,9 @@ use Rattle.std.specs.Result.{IfErr, IsErrAnd}
 use Rattle.city_doc.specs.declared.fault.ReadFault.{ReadFault}
 use Rattle.city_doc.specs.declared.fault.ScriptFault.{ScriptFault}
 use Rattle.city_model.specs.CityMap.{CityValue}
-use Rattle.city_doc.specs.Documents.{IsAdmitted, DocumentFault}
-use Rattle.city_doc.specs.ScriptTexts.{ScriptTextFault}
+use Rattle.city_doc.specs.document.Cities.{IsAdmitted}
+use Rattle.city_doc.specs.document.Faults.{DocumentFault}
+use Rattle.city_doc.specs.script.Faults.{ScriptTextFault}
 use Rattle.city_desk.specs.declared.fault.RunFault.{RunFault}
 use Rattle.city_desk.specs.RunFaults.{IsSerialFault, fault_of_document, fault_of_scripts}
 

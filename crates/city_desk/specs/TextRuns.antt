@@ -4,8 +4,8 @@ use Rattle.city_model.specs.declared.end.End.{End}
 use Rattle.city_model.specs.CityMap.{CityValue, at}
 use Rattle.city_model.specs.Relations.{IsLawful}
 use Rattle.city_model.specs.Runs.{Scripted, Fits, model_after}
-use Rattle.city_doc.specs.Documents.{StandsForCity, IsAdmitted}
-use Rattle.city_doc.specs.ScriptTexts.{StandsForScripts, IsReadAs}
+use Rattle.city_doc.specs.document.Cities.{StandsForCity, IsAdmitted}
+use Rattle.city_doc.specs.script.Scripts.{StandsForScripts, IsReadAs}
 use Rattle.city_doc.specs.Outputs.{IsOutput}
 
 -- the city and the scripts that two texts stand for

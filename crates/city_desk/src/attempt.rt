@@ -14,8 +14,7 @@ use crate::shelf::Shelf;
 use crate::turn::Turn;
 use city_model::command::{Cause, Command, Reply};
 use city_model::end::Outcome;
-use city_txn::step::{Prepared, Step};
-use city_txn::txn_core::Core;
+use city_txn::{Core, Prepared, Step};
 use std::alloc::Global;
 
 /// The reply, or the cause where it is a refusal.

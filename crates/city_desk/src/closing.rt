@@ -4,7 +4,7 @@ ghost use Rattle.city_txn.specs.CoreState.{is_open};
 ghost use Rattle.city_desk.specs.Closing.{KeepsCity, AreOpenFrom};
 
 use crate::progress::{Phase, Progress};
-use city_txn::txn_core::Core;
+use city_txn::Core;
 
 /// Rolls back the transaction of the stamp, if it is open.
 fn roll_back_if_open(core: &mut Core, stamp: u64)

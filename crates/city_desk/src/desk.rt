@@ -23,7 +23,7 @@ use city_model::end::{End, Outcome};
 use city_model::script::Script;
 use city_model::sequence::Sequence;
 use city_model::text::Text;
-use city_txn::txn_core::Core;
+use city_txn::Core;
 use std::alloc::Global;
 use std::marker::Model;
 use std::sync::Wait;

@@ -1,5 +1,5 @@
 //! Why a run ends without an answer.
-use city_doc::fault::{ReadFault, ScriptFault};
+use city_doc::{ReadFault, ScriptFault};
 use std::alloc::AllocError;
 use thiserror::Error;
 

@@ -1,16 +1,32 @@
 //! The desk: scripts that take turns on one transaction core, and their ends.
+//!
+//! - `desk`, `turn`: the desk, and what a turn answers
+//! - `opening`, `attempt`, `ready`, `closing`: what it makes at its opening, the next command of a script, whose turn
+//!   doesn't wait, what is rolled back at the close
+//! - `progress`: how far a script is
+//! - `shelf`: where the changes of commits go
+//! - `texts`, `in_turn`, `serial_run`: the two texts of a run read, and the run of one worker
+//! - `output`, `fault`: what a run answers, and why it may have no answer
 #![tactic(auto)]
 
 mod attempt;
 mod closing;
-pub mod desk;
-pub mod fault;
+mod desk;
+mod fault;
 mod in_turn;
 mod opening;
-pub mod output;
-pub mod progress;
+mod output;
+mod progress;
 mod ready;
-pub mod serial_run;
-pub mod shelf;
-pub mod texts;
-pub mod turn;
+mod serial_run;
+mod shelf;
+mod texts;
+mod turn;
+
+pub use desk::{Desk, Finished};
+pub use fault::RunFault;
+pub use output::{Output, output_bytes};
+pub use serial_run::run_serial;
+pub use shelf::{ListShelf, Shelf};
+pub use texts::read_texts;
+pub use turn::Turn;

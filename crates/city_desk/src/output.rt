@@ -1,10 +1,9 @@
 //! What a run answers.
 ghost use Rattle.std.specs.Prelude.{◌≡◌, ◌++◌, ◌∷◌, [], IfOk};
-ghost use Rattle.city_doc.specs.Canonical.{city_text};
-ghost use Rattle.city_doc.specs.Reports.{report_text};
+ghost use Rattle.city_doc.specs.document.Canonical.{city_text};
+ghost use Rattle.city_doc.specs.report.Reports.{report_text};
 
-use city_doc::report::write_report;
-use city_doc::write::append_city;
+use city_doc::{append_city, write_report};
 use city_model::OutOfMemory;
 use city_model::city::City;
 use city_model::end::End;

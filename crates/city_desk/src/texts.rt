@@ -6,8 +6,7 @@ ghost use Rattle.city_desk.specs.RunFaults.{IsSerialFault};
 ghost use Rattle.city_desk.specs.TextRuns.{IsReadFrom};
 
 use crate::fault::RunFault;
-use city_doc::read::read_city;
-use city_doc::scripts::read_scripts;
+use city_doc::{read_city, read_scripts};
 use city_model::city::City;
 use city_model::script::Script;
 use city_model::sequence::Sequence;

@@ -3,10 +3,9 @@ use Rattle.std.proofs.Common.{◌≡◌, ℕ, List, Some, sym, ap, ◌∙◌}
 use Rattle.serde_json.specs.Data.{Data}
 use Rattle.city_model.specs.Runs.{Scripted}
 use Rattle.city_model.specs.CityMap.{CityValue}
-use Rattle.city_doc.specs.Documents.{city_of, StandsForCity}
-use Rattle.city_doc.specs.ScriptTexts.{StandsForScripts}
-use Rattle.city_doc.specs.ScriptTrees.{scripts_of}
-use Rattle.city_doc.specs.Texts.{IsText}
+use Rattle.city_doc.specs.document.Cities.{city_of, StandsForCity}
+use Rattle.city_doc.specs.script.Scripts.{StandsForScripts, scripts_of}
+use Rattle.city_doc.specs.tree.Texts.{IsText}
 
 pub one_tree : (text : List ℕ) (d e : Data) → IsText text d → IsText text e → d ≡ e
 one_tree text d e h k = let both : Some d ≡ Some e = sym h.1 ∙ k.1 in cc

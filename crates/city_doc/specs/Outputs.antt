@@ -3,8 +3,8 @@ use Rattle.std.specs.Prelude.{◌≡◌, ◌++◌, ◌∷◌, [], ℕ, List}
 use Rattle.city_model.specs.declared.end.End.{End}
 use Rattle.city_model.specs.CityMap.{Objects, CityValue, at}
 use Rattle.city_model.specs.Runs.{Scripted, model_after}
-use Rattle.city_doc.specs.Canonical.{city_text}
-use Rattle.city_doc.specs.Reports.{report_text}
+use Rattle.city_doc.specs.document.Canonical.{city_text}
+use Rattle.city_doc.specs.report.Reports.{report_text}
 
 -- the report of the ends, the text of the model after them, a newline
 pub record IsOutput (city : CityValue) (scripts : List Scripted) (ends : List End)

@@ -9,7 +9,7 @@ use Rattle.city_model.specs.declared.object.Geometry.{Geometry}
 use Rattle.city_model.specs.declared.object.Object.{Object}
 use Rattle.city_model.specs.Shells.{boundaries_of, same_point}
 use Rattle.city_model.specs.CityMap.{CityValue}
-use Rattle.city_doc.specs.Nesting.{Nested, nested}
+use Rattle.city_doc.specs.shape.Nesting.{Nested, nested}
 
 -- ---- the walk: ids in byte order, then geometries, solids, shells, surfaces, rings and points, each in order
 
@@ -47,3 +47,8 @@ number_of pool p = position_or_len (same_point p) pool
 -- the pool with a point, which goes last where no equal one is there
 abbrev pub with_point : List Point → Point → List Point
 with_point pool p = if list_any (same_point p) pool then pool else pool ++ p ∷ []
+
+-- the pool after more points are met
+abbrev pub with_points : List Point → List Point → List Point
+with_points pool [] = pool
+with_points pool (p ∷ ps) = with_points (with_point pool p) ps

@@ -1,37 +1,31 @@
 //! Reads and writes the texts of city models: documents, scripts and reports.
+//!
+//! Each thing has a folder, in which what reads it, what judges it and what writes it stand side by side.
+//! `specs/` and `proofs/` have the same folders.
+//!
+//! - `tree`: JSON trees: a text parsed, members and items taken out, kept members written
+//! - `shape`: geometries: the form of boundaries, their points, vertices
+//! - `object`: city objects: their bodies, their lists of ids
+//! - `document`: whole documents: their tops, their cities, their faults, the canonical text
+//! - `script`: texts of scripts: the forms of commands, commands, faults
+//! - `report`: the report of a run: ends and replies
+//! - `pool`: points, each with a number
+//! - `fault`: why a text is refused
 #![tactic(auto)]
 
-mod arranged;
-mod bad_command;
-pub mod body;
-mod boundaries;
-mod build;
-mod city_judge;
-mod city_text;
-mod command_form;
-mod command_of;
-mod end_text;
-pub mod fault;
-mod geometry;
-mod geometry_form;
-mod ids;
-mod json_value;
-mod judge;
-mod kept_members;
-mod nested;
-mod object_faults;
-mod object_text;
-pub mod parse;
-pub mod pool;
-pub mod read;
-mod reply_text;
-pub mod report;
-mod script_faults;
-mod script_form;
-mod script_forms;
-pub mod scripts;
-mod top;
-pub mod triples;
-mod values;
-mod vertices;
-pub mod write;
+mod document;
+mod fault;
+mod object;
+mod pool;
+mod report;
+mod script;
+mod shape;
+mod tree;
+
+pub use document::read::read_city;
+pub use document::write::{append_city, write_city};
+pub use fault::{ReadFault, ScriptFault};
+pub use pool::VertexPool;
+pub use report::write::write_report;
+pub use script::read::read_scripts;
+pub use tree::parse::MAX_TEXT;

@@ -1,10 +1,19 @@
 //! The lock table: who holds which id, in which mode, and the wait-die answer to each asker.
+//!
+//! - `table`: the lock table
+//! - `mode`, `answer`: what is asked for, and what is answered
+//! - `holder`, `holders`, `held`: one holder of an id, those of one id, those of every id
+//! - `listing`: the ids that each stamp has locked
 #![tactic(auto)]
 
-pub mod answer;
+mod answer;
 mod held;
-pub mod holder;
+mod holder;
 mod holders;
 mod listing;
-pub mod mode;
-pub mod table;
+mod mode;
+mod table;
+
+pub use answer::Answer;
+pub use mode::Mode;
+pub use table::LockTable;

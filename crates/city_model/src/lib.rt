@@ -1,4 +1,13 @@
 //! The city model: its types, its rules and the meaning of each command.
+//!
+//! - `object`, `object_type`, `frame`, `city`: what a city is made of
+//! - `shape`: what bounds a shape of any type
+//! - `text`, `sequence`, `copied`: texts that contracts see as bytes, lists that they see as items, copies
+//! - `kept`, `members`, `integral`: members that are kept as they stand, and the trees that they are
+//! - `rings`, `edges`, `shells`, `body_fault`: what is wrong with a body
+//! - `id_list`, `relations`, `orphans`, `is_lawful`: what is wrong with a city
+//! - `command`, `script`: what is asked of a city
+//! - `plan`, `change`, `end`: what is to come of a command, what a commit writes, how a script ended
 #![tactic(auto)]
 
 pub mod body_fault;
@@ -6,7 +15,7 @@ pub mod change;
 pub mod city;
 pub mod command;
 pub mod copied;
-pub mod edges;
+mod edges;
 pub mod end;
 pub mod frame;
 pub mod id_list;

@@ -4,14 +4,9 @@ ghost use Rattle.city_model.specs.CityMap.{at};
 ghost use Rattle.city_model.specs.Relations.{IsLawful};
 
 use city_crew::board::board;
-use city_crew::note::Note;
-use city_crew::poster::Poster;
-use city_crew::viewer::Viewer;
-use city_desk::desk::Desk;
-use city_desk::shelf::Shelf;
-use city_desk::turn::Turn;
-use city_doc::read::read_city;
-use city_doc::scripts::read_scripts;
+use city_crew::{Note, Poster, Viewer};
+use city_desk::{Desk, Shelf, Turn};
+use city_doc::{read_city, read_scripts};
 use city_model::city::City;
 use city_model::copied::Copied;
 use city_model::script::Script;

@@ -3,8 +3,7 @@ ghost use Rattle.std.specs.Prelude.{◌≤◌};
 
 use crate::runs::{CHILD_OF_TWO, READ_TWICE, Run, TWO_READERS, TWO_WRITERS};
 use crate::serial::written;
-use city_crew::gate::{Gate, OpenGate};
-use city_crew::run::run_crew;
+use city_crew::{Gate, OpenGate, run_crew};
 use std::alloc::Global;
 use std::sync::Wait;
 use std::thread::Threads;

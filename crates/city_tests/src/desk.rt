@@ -6,11 +6,8 @@ use crate::runs::{
     TWO_READERS, TWO_WRITERS, UNLIKE_ENDS,
 };
 use crate::turns::change_text;
-use city_desk::desk::Desk;
-use city_desk::shelf::ListShelf;
-use city_desk::turn::Turn;
-use city_doc::read::read_city;
-use city_doc::scripts::read_scripts;
+use city_desk::{Desk, ListShelf, Turn};
+use city_doc::{read_city, read_scripts};
 use city_model::city::City;
 use city_model::end::End;
 use std::alloc::{AllocError, Global};

@@ -1,7 +1,7 @@
 //! Runs whose threads meet at a gate: that they do shows that they run at once.
 use crate::crew::written_by;
 use crate::runs::Run;
-use city_crew::gate::Gate;
+use city_crew::Gate;
 use std::sync::atomic::{AtomicU64, Ordering};
 use std::test::Fail;
 

@@ -1,7 +1,6 @@
 //! What askers for locks are answered, and what is held then.
 use crate::samples::text;
-use city_locks::mode::Mode;
-use city_locks::table::LockTable;
+use city_locks::{LockTable, Mode};
 use city_model::text::Text;
 use std::alloc::Global;
 use std::test::Fail;

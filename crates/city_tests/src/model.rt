@@ -1,7 +1,6 @@
 //! Cities, objects, kept members, scripts and types, where there is memory.
 use crate::samples::{bare, empty_city, members, text};
-use city_doc::read::read_city;
-use city_doc::write::write_city;
+use city_doc::{read_city, write_city};
 use city_model::city::City;
 use city_model::command::Command;
 use city_model::copied::Copied;

@@ -1,7 +1,6 @@
 //! Documents that are read, and documents that are refused.
 use crate::samples::document;
-use city_doc::fault::ReadFault;
-use city_doc::read::read_city;
+use city_doc::{ReadFault, read_city};
 use city_model::city::City;
 use std::alloc::{AllocError, Global};
 use std::test::Fail;

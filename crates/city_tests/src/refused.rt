@@ -15,18 +15,10 @@ use crate::txn::{
     IMAGE_MODEL, IMAGE_TURNS, READER_MODEL, READER_TURNS, REFUSAL_MODEL, REFUSAL_TURNS,
     SIBLING_MODEL, SIBLING_TURNS,
 };
-use city_crew::gate::OpenGate;
-use city_crew::run::run_crew;
-use city_desk::desk::Desk;
-use city_desk::fault::RunFault;
-use city_desk::output::Output;
-use city_desk::serial_run::run_serial;
-use city_desk::shelf::Shelf;
-use city_doc::fault::ReadFault;
-use city_doc::read::read_city;
-use city_doc::write::write_city;
-use city_locks::mode::Mode;
-use city_locks::table::LockTable;
+use city_crew::{OpenGate, run_crew};
+use city_desk::{Desk, Output, RunFault, Shelf, run_serial};
+use city_doc::{ReadFault, read_city, write_city};
+use city_locks::{LockTable, Mode};
 use city_model::city::City;
 use city_model::end::Outcome;
 use city_model::text::Text;

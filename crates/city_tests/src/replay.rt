@@ -9,10 +9,7 @@ ghost use Rattle.city_model.specs.Runs.{with_change};
 ghost use Rattle.city_model.specs.Scripts.{is_end};
 
 use crate::runs::{Run, text_of};
-use city_doc::read::read_city;
-use city_doc::report::write_report;
-use city_doc::scripts::read_scripts;
-use city_doc::write::write_city;
+use city_doc::{read_city, read_scripts, write_city, write_report};
 use city_model::OutOfMemory;
 use city_model::change::Change;
 use city_model::city::City;

@@ -1,6 +1,6 @@
 //! Reports of one script's end.
 use crate::samples::{bare, body_of, geometry, kept, one, point, text, triangle, unrelated};
-use city_doc::report::write_report;
+use city_doc::write_report;
 use city_model::command::{Cause, Reply};
 use city_model::end::{End, Outcome};
 use city_model::object::{Object, Shape};

@@ -3,8 +3,7 @@ use crate::desk::{left_finished, opened, turn};
 use crate::runs::{
     OPPOSITE_ORDERS, PARENT_AND_CHILD, Run, TWO_READERS, TWO_WRITERS, UNDONE_WRITES,
 };
-use city_desk::desk::Desk;
-use city_desk::shelf::ListShelf;
+use city_desk::{Desk, ListShelf};
 use std::alloc::Global;
 
 /// Runs of two scripts, each of three commands.

@@ -1,5 +1,5 @@
 //! Texts of scripts, and what each is read as or refused with.
-use city_doc::scripts::read_scripts;
+use city_doc::read_scripts;
 use city_model::command::Command;
 use city_model::object::{Geometry, Shape, Solid, Surface};
 use city_model::object_type;

@@ -5,9 +5,7 @@ use crate::runs::{
     ORPHAN, PARENT_AND_CHILD, READ_TWICE, REFUSED, Run, TWO_PARENTS, TWO_READERS, TWO_WRITERS,
     TYPE_IS_FIXED, UNDONE_WRITES, UNLIKE_ENDS, text_of,
 };
-use city_desk::fault::RunFault;
-use city_desk::output::Output;
-use city_desk::serial_run::run_serial;
+use city_desk::{Output, RunFault, run_serial};
 use std::alloc::Global;
 use std::test::Fail;
 

@@ -3,9 +3,7 @@ use crate::samples::{
     body_of, document, empty_city, geometry, kept, one, point, related, triangle, unrelated,
     with_object,
 };
-use city_doc::pool::VertexPool;
-use city_doc::read::read_city;
-use city_doc::write::write_city;
+use city_doc::{VertexPool, read_city, write_city};
 use city_model::object::{Object, Point, Shape};
 use city_model::object_type::ObjectType;
 use std::alloc::{AllocError, Global};

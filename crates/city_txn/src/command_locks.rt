@@ -7,7 +7,7 @@ ghost use Rattle.city_locks.specs.Mode.{is_exclusive};
 ghost use Rattle.city_txn.specs.State.{view};
 
 use crate::store::Store;
-use city_locks::mode::Mode;
+use city_locks::Mode;
 use city_model::command::Command;
 use city_model::text::Id;
 use std::slice;

@@ -1,4 +1,11 @@
 //! The transaction core: one city as its open transactions have written it, with undo images.
+//!
+//! - `txn_core`, `step`: the core, and what it answers
+//! - `command_locks`, `lock`, `would_lock`: which locks a command has, how it asks for them, what that would come to
+//! - `seen`, `perform`, `writing`: a command planned on what its transaction sees, and written
+//! - `store`, `slot`, `placeholder`: the one city, in place
+//! - `undo`, `image`: what stood there before, and who has written
+//! - `changing`, `ending`: what a transaction wrote, and how it ends
 #![tactic(auto)]
 
 mod changing;
@@ -10,9 +17,12 @@ mod perform;
 pub mod placeholder;
 mod seen;
 mod slot;
-pub mod step;
+mod step;
 mod store;
-pub mod txn_core;
+mod txn_core;
 mod undo;
 mod would_lock;
 mod writing;
+
+pub use step::{Prepared, Step, TxnFault};
+pub use txn_core::Core;

@@ -7,9 +7,7 @@ ghost use Rattle.city_txn.specs.Locking.{Asked};
 
 use crate::command_locks::{first_lock, further_locks};
 use crate::store::Store;
-use city_locks::answer::Answer;
-use city_locks::mode::Mode;
-use city_locks::table::LockTable;
+use city_locks::{Answer, LockTable, Mode};
 use city_model::OutOfMemory;
 use city_model::command::Command;
 use city_model::text::Id;

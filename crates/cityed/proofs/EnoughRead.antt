@@ -2,7 +2,7 @@
 use Rattle.std.proofs.Common.{◌≡◌, ℕ, ◌+◌, ◌<◌, ◌≤◌, Bool, true, false, List, length, take, Option, Some, None, IfSome, nat_lt, inl, inr, refl, ap, ◌∙◌, arith}
 use Rattle.std.proofs.lemmas.Bool.Decides.{nat_tests}
 use Rattle.std.proofs.lemmas.List.{take_all, length-take-le}
-use Rattle.city_doc.specs.Texts.{max_text}
+use Rattle.city_doc.specs.tree.Texts.{max_text}
 use Rattle.cityed.specs.ServedTexts.{IsEnoughOf}
 
 module _ (all read : List ℕ) (is : read ≡ take (max_text + 1) all) where

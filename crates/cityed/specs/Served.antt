@@ -3,7 +3,7 @@ use Rattle.std.specs.Prelude.{◌==◌, ◌≡◌, ◌⊎◌, ◌+◌, ◌*◌, 
 use Rattle.std.specs.Global.{Vec}
 use Rattle.std.specs.List.{before_first, after_first}
 use Rattle.std.specs.Io.KnownBytes.{Keeps}
-use Rattle.city_doc.specs.Texts.{max_text}
+use Rattle.city_doc.specs.tree.Texts.{max_text}
 use Rattle.cityed.specs.ServedTexts.{AreServed, AreCutShort, IsFaultOfRun}
 use Rattle.city_desk.specs.declared.fault.RunFault.{RunFault}
 use Rattle.cityed.specs.declared.fault.ServeFault.{ServeFault}

@@ -4,7 +4,7 @@ ghost use Rattle.std.specs.Io.KnownBytes.{Appends, Consumes, IsAtEnd, Keeps};
 ghost use Rattle.cityed.specs.Served.{IsReadFault};
 
 use crate::fault::ServeFault;
-use city_desk::fault::RunFault;
+use city_desk::RunFault;
 use std::io::{ErrorKind, Read, Write};
 use std::marker::Model;
 

@@ -1,5 +1,5 @@
 //! Why bytes were not served.
-use city_desk::fault::RunFault;
+use city_desk::RunFault;
 use std::alloc::AllocError;
 use thiserror::Error;
 

@@ -4,8 +4,8 @@ ghost use Rattle.std.specs.Fmt.{decimal};
 ghost use Rattle.cityed.specs.FaultTexts.{quoted, model_text, scripts_text, run_text, fault_text};
 
 use crate::fault::ServeFault;
-use city_desk::fault::RunFault;
-use city_doc::fault::{ReadFault, ScriptFault};
+use city_desk::RunFault;
+use city_doc::{ReadFault, ScriptFault};
 use city_model::OutOfMemory;
 use city_model::text::Text;
 use serde_json::Value;

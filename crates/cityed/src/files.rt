@@ -1,14 +1,14 @@
 //! Reads a text from a file.
 ghost use Rattle.std.specs.Prelude.{◌≡◌, ◌+◌, true, take, IfOk, IfErr, IfSome, OnOk};
-ghost use Rattle.city_doc.specs.Texts.{max_text};
+ghost use Rattle.city_doc.specs.tree.Texts.{max_text};
 ghost use Rattle.cityed.specs.Served.{IsReadFault};
 ghost use Rattle.cityed.specs.ServedTexts.{IsEnoughOf};
 
 use crate::device::Device;
 use crate::fault::ServeFault;
 use crate::serve::read_at_most;
-use city_desk::fault::RunFault;
-use city_doc::parse::MAX_TEXT;
+use city_desk::RunFault;
+use city_doc::MAX_TEXT;
 use std::alloc::Global;
 use std::fs;
 use std::fs::Files;

@@ -25,7 +25,7 @@ mod serve_texts;
 #[cfg(test)]
 mod tests;
 
-use city_desk::fault::RunFault;
+use city_desk::RunFault;
 use command_line::{Asked, LineFault, asked_by};
 use device::Device;
 use fault::ServeFault;

@@ -6,11 +6,8 @@ ghost use Rattle.city_desk.specs.InTurn.{AreInTurn};
 ghost use Rattle.city_desk.specs.TextRuns.{IsRun};
 ghost use Rattle.cityed.specs.ServedTexts.{IsFaultOfRun, WhereAlone};
 
-use city_crew::gate::OpenGate;
-use city_crew::run::run_crew;
-use city_desk::fault::RunFault;
-use city_desk::output::Output;
-use city_desk::serial_run::run_serial;
+use city_crew::{OpenGate, run_crew};
+use city_desk::{Output, RunFault, run_serial};
 use std::alloc::Global;
 use std::sync::Wait;
 use std::thread::Threads;

@@ -7,7 +7,7 @@ ghost use Rattle.cityed.specs.ServedTexts.{LosesAtMost, AppendsSome};
 use crate::device::Device;
 use crate::fault::ServeFault;
 use crate::serve_texts::serve_texts;
-use city_doc::parse::MAX_TEXT;
+use city_doc::MAX_TEXT;
 use memchr::memchr;
 use std::alloc::Global;
 use std::io::{Read, Write};

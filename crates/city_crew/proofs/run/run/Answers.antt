@@ -1,8 +1,8 @@
 use denote.Param.Send.{sendable}
 use Rattle.std.proofs.Common.{List, [], ◌∷◌, ◌++◌, ap, ◌∙◌}
 use Rattle.city_model.specs.declared.end.End.{End}
-use Rattle.city_doc.specs.Canonical.{city_text}
-use Rattle.city_doc.specs.Reports.{report_text}
+use Rattle.city_doc.specs.document.Canonical.{city_text}
+use Rattle.city_doc.specs.report.Reports.{report_text}
 use Rattle.city_crew.proofs.CrewResults.{is_run}
 use Rattle.city_crew.proofs.Crossing.{watcher_sends}
 use Rattle.city_crew.proofs.StateCrossing.{state_sends}

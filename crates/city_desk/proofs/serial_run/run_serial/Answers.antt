@@ -1,6 +1,6 @@
 use Rattle.std.proofs.Common.{List, [], ◌∷◌, ◌++◌, ap, ◌∙◌}
-use Rattle.city_doc.specs.Canonical.{city_text}
-use Rattle.city_doc.specs.Reports.{report_text}
+use Rattle.city_doc.specs.document.Canonical.{city_text}
+use Rattle.city_doc.specs.report.Reports.{report_text}
 use Rattle.city_model.specs.declared.end.End.{End}
 use Rattle.city_model.specs.declared.frame.Frame.{Frame}
 use Rattle.city_desk.proofs.OneRun.{decided}

@@ -1,6 +1,0 @@
-use Rattle.std.specs.FinMap.{entries}
-use Rattle.city_doc.proofs.ArrangedCities.{IsArranging}
-use Rattle.city_doc.proofs.arranged.arranged_city.Given as goal
-
-abbrev pub invariant-loop-id : goal.invariant-loop-id
-invariant-loop-id l = IsArranging (entries l.city.1) l.objects.entries l.id-iterator

@@ -1,6 +1,0 @@
-use Rattle.serde_json.specs.View.{members_view}
-use Rattle.city_doc.proofs.Objects.{IsReading}
-use Rattle.city_doc.proofs.build.lenient_objects_of.Given as goal
-
-abbrev pub invariant-loop-name : goal.invariant-loop-name
-invariant-loop-name l = IsReading l.points (members_view l.fn.members.entries) l.objects.entries l.name-iterator

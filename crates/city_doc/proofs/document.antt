@@ -1,0 +1,23 @@
+-- What the proofs of several functions of src/document/ use.
+mod ArrangedCities
+mod BuiltObjects
+pub mod Cities
+mod CityNests
+pub mod EntriesRead
+mod FramesRead
+mod IntegralTrees
+pub mod KeptMembers
+mod LawfulCities
+mod LawfulTrees
+mod Least
+mod LenientEntries
+mod Listings
+mod NestsNoDeeper
+mod NoFault
+mod Objects
+mod Order
+pub mod OwnMembers
+pub mod Right
+mod RoundTrip
+mod Searches
+mod Totals

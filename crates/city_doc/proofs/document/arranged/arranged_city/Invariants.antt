@@ -1,0 +1,6 @@
+use Rattle.std.specs.FinMap.{entries}
+use Rattle.city_doc.proofs.document.ArrangedCities.{IsArranging}
+use Rattle.city_doc.proofs.document.arranged.arranged_city.Given as goal
+
+abbrev pub invariant-loop-id : goal.invariant-loop-id
+invariant-loop-id l = IsArranging (entries l.city.1) l.objects.entries l.id-iterator

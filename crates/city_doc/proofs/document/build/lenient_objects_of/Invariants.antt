@@ -1,0 +1,6 @@
+use Rattle.serde_json.specs.View.{members_view}
+use Rattle.city_doc.proofs.document.Objects.{IsReading}
+use Rattle.city_doc.proofs.document.build.lenient_objects_of.Given as goal
+
+abbrev pub invariant-loop-name : goal.invariant-loop-name
+invariant-loop-name l = IsReading l.points (members_view l.fn.members.entries) l.objects.entries l.name-iterator

@@ -1,0 +1,13 @@
+use Rattle.std.proofs.Common.{◌≡◌, ◌++◌, drop}
+use Rattle.std.specs.List.{list_all}
+use Rattle.city_doc.specs.document.Canonical.{vertex_data}
+use Rattle.city_doc.specs.document.Ranges.{is_i64_point}
+use Rattle.city_doc.proofs.tree.WrittenItems.{closing, ReadBack}
+use Rattle.city_doc.proofs.document.text.write_vertices.Given as goal
+
+-- what is left ends the array
+abbrev pub invariant-loop-point : goal.invariant-loop-point
+invariant-loop-point l =
+    let left = drop l.point-index l.points in
+    (l.out.before ≡ l.initial.out.before) × (l.initial.out.tokens ++ closing vertex_data l.points ≡ l.out.tokens ++ closing vertex_data left)
+    × (ReadBack vertex_data left → ReadBack vertex_data l.points) × (list_all is_i64_point l.points ≡ list_all is_i64_point left)

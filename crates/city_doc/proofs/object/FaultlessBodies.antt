@@ -1,0 +1,75 @@
+-- The tree that a body was read from has no fault.
+use Rattle.std.proofs.Common.{◌≡◌, List, true, false, Some, refl, sym, ap, ◌∙◌}
+use Rattle.std.specs.Prelude.{not, length, codes, is_some, is_none}
+use Rattle.std.proofs.lemmas.Bool.{and_parts, not-true}
+use Rattle.serde_json.specs.Data.{Data, Members}
+use Rattle.serde_json.specs.Find.{get, get_member, as_object}
+use Rattle.city_model.specs.declared.object.Body.{Body}
+use Rattle.city_model.specs.declared.object.Point.{Point}
+use Rattle.city_model.specs.Kept.{kept_at_object, has_location}
+use Rattle.city_model.specs.Members.{without}
+use Rattle.city_model.proofs.MemberLaws.{get_member-without}
+use Rattle.city_doc.specs.object.Bodies.{type_of, without_object_members, body_of}
+use Rattle.city_doc.specs.tree.Members.{kept_if}
+use Rattle.city_doc.specs.tree.Lists.{list_or_absent}
+use Rattle.city_doc.specs.shape.Geometries.{geometry_of}
+use Rattle.city_doc.specs.document.Faults.{is_unsupported}
+use Rattle.city_doc.specs.object.Faults.{is_unknown_type, is_bad_geometry, has_bad_vertex}
+use Rattle.city_doc.proofs.document.Cities.{get-object}
+use Rattle.city_doc.proofs.Options.{and_then_some, map_some, if_some}
+use Rattle.city_doc.proofs.shape.ReadForms.{geometries_fit, position_fits, number_fits, geometries_supported}
+
+-- the parts of a body's tree
+record HasBodyParts (points : List Point) (d : Data) (b : Body) : Type 0 where
+  known : is_none (type_of d) ≡ false
+  members : Members
+  is_object : as_object d ≡ Some members
+  kept : kept_at_object (without_object_members members) ≡ true
+  geometry : list_or_absent (geometry_of points) (get (codes "geometry") d) ≡ Some b.geometry
+
+body_parts : (points : List Point) (d : Data) (b : Body) → body_of points d ≡ Some b → HasBodyParts points d b
+body_parts points d b h =
+    let kind = and_then_some _ (type_of d) b h in
+    let ms = and_then_some _ (as_object d) b kind.2 in
+    let kept = and_then_some _ (kept_if kept_at_object (without_object_members ms.0)) b ms.2 in
+    let gs = map_some _ (list_or_absent (geometry_of points) (get (codes "geometry") d)) b kept.2 in
+    record {
+      known = ap is_none kind.1;
+      members = ms.0;
+      is_object = ms.1;
+      kept = (if_some (kept_at_object (without_object_members ms.0)) (Some (without_object_members ms.0)) kept.0 kept.1).0;
+      geometry = gs.1 ∙ ap (λ x. Some x.geometry) (sym gs.2);
+    }
+
+address_stays : (ms : Members) → get_member (codes "address") (without_object_members ms) ≡ get_member (codes "address") ms
+address_stays ms =
+    let a = without (codes "type") ms in
+    let b = without (codes "geometry") a in
+    let c = without (codes "parents") b in
+    get_member-without (codes "address") (codes "children") c refl ∙ get_member-without (codes "address") (codes "parents") b refl
+    ∙ get_member-without (codes "address") (codes "geometry") a refl ∙ get_member-without (codes "address") (codes "type") ms refl
+
+-- a kept address has no location
+no_location : (d : Data) (ms : Members) → as_object d ≡ Some ms → kept_at_object (without_object_members ms) ≡ true → has_location (get (codes "address") d) ≡ false
+no_location d ms is_object kept =
+    let name = codes "address" in
+    let stays : get_member name (without_object_members ms) ≡ get_member name ms = address_stays ms in
+    ap has_location (get-object name d ms is_object ∙ sym stays) ∙ not-true (has_location (get_member name (without_object_members ms))) (and_parts _ _ kept).1
+
+-- no body that is read has a fault that its tree shows
+pub supported : (points : List Point) (d : Data) (b : Body) → body_of points d ≡ Some b → is_unsupported d ≡ false
+supported points d b h =
+    let p = body_parts points d b h in
+    rw (no_location d p.members p.is_object p.kept, geometries_supported points (get (codes "geometry") d) b.geometry p.geometry) refl
+
+pub known : (points : List Point) (d : Data) (b : Body) → body_of points d ≡ Some b → is_unknown_type d ≡ false
+known points d b h = (body_parts points d b h).known
+
+pub formed : (points : List Point) (d : Data) (b : Body) → body_of points d ≡ Some b → is_bad_geometry d ≡ false
+formed points d b h = ap not (geometries_fit points _ (number_fits points) (get (codes "geometry") d) b.geometry (body_parts points d b h).geometry)
+
+pub placed : (points : List Point) (d : Data) (b : Body) → body_of points d ≡ Some b → has_bad_vertex (length points) d ≡ false
+placed points d b h = ap not (geometries_fit points _ (position_fits points) (get (codes "geometry") d) b.geometry (body_parts points d b h).geometry)
+
+pub is_object : (points : List Point) (d : Data) (b : Body) → body_of points d ≡ Some b → is_some (as_object d) ≡ true
+is_object points d b h = ap is_some (body_parts points d b h).is_object

@@ -1,0 +1,7 @@
+use Rattle.std.proofs.Common.{◌≡◌, drop}
+use Rattle.serde_json.specs.View.{items_view}
+use Rattle.city_doc.specs.object.Faults.{first_unsupported}
+use Rattle.city_doc.proofs.object.faults.first_unsupported.Given as goal
+
+abbrev pub invariant-loop-geometry : goal.invariant-loop-geometry
+invariant-loop-geometry l = first_unsupported (items_view l.geometries.items) ≡ first_unsupported (items_view (drop l.geometry-index l.geometries.items))

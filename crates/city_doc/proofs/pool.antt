@@ -1,0 +1,5 @@
+-- What the proofs of several functions of src/pool.rt use.
+pub mod KeptNumbers
+pub mod NumberedPoints
+pub mod Repeats
+pub mod Walks

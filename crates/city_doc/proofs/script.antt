@@ -1,0 +1,9 @@
+-- What the proofs of several functions of src/script/ use.
+mod BuiltScripts
+mod CommandLaws
+mod CommandLists
+mod CommandMeanings
+mod FirstAt
+mod FirstFaults
+mod Meanings
+mod PutBodies

@@ -1,0 +1,8 @@
+use Rattle.std.proofs.Common.{◌≡◌, drop}
+use Rattle.city_doc.specs.script.Forms.{parts_views}
+use Rattle.city_doc.specs.script.Searches.{first_at, index_in, first_command}
+use Rattle.city_doc.proofs.script.faults.first_command.Given as goal
+
+abbrev pub invariant-loop-n : goal.invariant-loop-n
+invariant-loop-n g l =
+    first_command (g.J.CommandTest.test) (parts_views l.forms) ≡ first_at (index_in (g.J.CommandTest.test)) l.n (parts_views (drop l.n l.forms))

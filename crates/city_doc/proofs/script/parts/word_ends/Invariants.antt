@@ -1,0 +1,7 @@
+use Rattle.std.proofs.Common.{◌≡◌, drop, map}
+use Rattle.serde_json.specs.View.{view}
+use Rattle.city_doc.specs.script.Scripts.{word_ends}
+use Rattle.city_doc.proofs.script.parts.word_ends.Given as goal
+
+abbrev pub invariant-loop-i : goal.invariant-loop-i
+invariant-loop-i l = word_ends (map view l.trees) ≡ word_ends (map view (drop l.i l.trees))

@@ -1,7 +1,0 @@
-use Rattle.std.proofs.Common.{◌≡◌, drop, map}
-use Rattle.serde_json.specs.View.{view}
-use Rattle.city_doc.specs.ScriptTrees.{word_ends}
-use Rattle.city_doc.proofs.script_forms.word_ends.Given as goal
-
-abbrev pub invariant-loop-i : goal.invariant-loop-i
-invariant-loop-i l = word_ends (map view l.trees) ≡ word_ends (map view (drop l.i l.trees))

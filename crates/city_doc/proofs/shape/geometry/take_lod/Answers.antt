@@ -1,0 +1,12 @@
+use Rattle.std.proofs.Common.{rules, ◌≡◌, refl, ap, ◌∙◌}
+use Rattle.std.specs.Prelude.{option_and_then, codes}
+use Rattle.serde_json.specs.Find.{as_str, get_member}
+use Rattle.serde_json.specs.View.{members_view}
+use Rattle.city_model.proofs.MemberLaws.{get_member-without}
+use Rattle.city_doc.proofs.shape.geometry.take_lod.Goals as goal
+
+pub returns-clause-found : goal.returns-clause-found
+returns-clause-found c =
+    let stays : get_member (codes "lod") (members_view c.take.new.members.entries) ≡ get_member (codes "lod") (members_view c.args.members.now.entries) =
+    ap (get_member (codes "lod")) c.take.ensures.left ∙ get_member-without (codes "lod") (codes "type") (members_view c.args.members.now.entries) refl in
+    let found = ap (option_and_then as_str) (c.take-2.ensures.found ∙ stays) in search rules

@@ -1,0 +1,8 @@
+use Rattle.std.proofs.Common.{◌≡◌, drop}
+use Rattle.serde_json.specs.View.{items_view}
+use Rattle.city_doc.specs.shape.Forms.{all_items}
+use Rattle.city_doc.proofs.shape.nested.all_have_form.Given as goal
+
+abbrev pub invariant-loop-item : goal.invariant-loop-item
+invariant-loop-item g l =
+    all_items (g.T.Nested.has_form (g.L.Leaf.test l.leaf)) (items_view l.items.items) ≡ all_items (g.T.Nested.has_form (g.L.Leaf.test l.leaf)) (items_view (drop l.item-index l.items.items))

@@ -1,0 +1,9 @@
+use Rattle.std.proofs.Common.{◌≡◌, ◌++◌, option_map, drop}
+use Rattle.serde_json.specs.View.{items_view}
+use Rattle.city_doc.specs.tree.Lists.{read_items}
+use Rattle.city_doc.specs.tree.Triples.{point_of}
+use Rattle.city_doc.proofs.shape.vertices.read_points.Given as goal
+
+-- what is found, and then what is left
+abbrev pub invariant-loop-item : goal.invariant-loop-item
+invariant-loop-item l = read_items point_of (items_view l.items.items) ≡ option_map (λ ps. l.points ++ ps) (read_items point_of (items_view (drop l.item-index l.items.items)))

@@ -1,7 +1,0 @@
-use Rattle.std.proofs.Common.{◌≡◌}
-use Rattle.serde_json.specs.View.{members_view}
-use Rattle.city_doc.specs.Frames.{all_objects}
-use Rattle.city_doc.proofs.top.all_objects.Given as goal
-
-abbrev pub invariant-loop-member : goal.invariant-loop-member
-invariant-loop-member l = all_objects (members_view l.members.entries) ≡ all_objects (members_view l.member-iterator)

@@ -1,0 +1,16 @@
+use Rattle.std.proofs.Common.{◌≡◌, ◌++◌}
+use Rattle.std.specs.Prelude.{option_copied}
+use Rattle.serde_json.specs.View.{members_view}
+use Rattle.city_model.specs.Integral.{members_integral}
+use Rattle.city_doc.specs.tree.Between.{members_between}
+use Rattle.city_doc.specs.tree.Tokens.{tokens_of_members, MembersReadBack}
+use Rattle.city_doc.proofs.tree.kept_members.write_between.Given as goal
+
+abbrev pub invariant-loop-name : goal.invariant-loop-name
+invariant-loop-name l =
+    let low = option_copied l.low in
+    let high = option_copied l.high in
+    let all = members_view l.members.entries in
+    let left = members_view l.name-iterator in
+    (l.out.before ≡ l.initial.out.before) × (l.out.tokens ++ tokens_of_members (members_between low high left) ≡ l.initial.out.tokens ++ tokens_of_members (members_between low high all))
+    × (members_integral all ≡ members_integral left) × (MembersReadBack (members_between low high left) → MembersReadBack (members_between low high all))

@@ -1,0 +1,4 @@
+-- Definitions of city objects and their trees.
+pub mod Bodies
+pub mod Canonical
+pub mod Faults

@@ -1,0 +1,4 @@
+-- Definitions of reports.
+pub mod Ends
+pub mod Replies
+pub mod Reports

@@ -1,0 +1,8 @@
+-- Definitions of texts of scripts.
+pub mod CommandFaults
+pub mod CommandForms
+pub mod Commands
+pub mod Faults
+pub mod Forms
+pub mod Scripts
+pub mod Searches

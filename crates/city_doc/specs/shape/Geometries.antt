@@ -1,0 +1,52 @@
+-- The geometry that a tree stands for, its positions replaced by points (CityJSON 2.0, section 3).
+use Rattle.std.specs.Prelude.{ℕ, zero, suc, ℤ, pos, negsuc, List, Option, None, option_map, option_and_then}
+use Rattle.std.specs.Prelude.{slice_get, codes}
+use Rattle.serde_json.specs.Data.{Data, Members}
+use Rattle.serde_json.specs.Find.{get, get_member, as_str, as_object, as_number, as_i64}
+use Rattle.city_model.specs.declared.object.Point.{Point}
+use Rattle.city_model.specs.declared.object.Shape.{Shape}
+use Rattle.city_model.specs.declared.object.Geometry.{Geometry}
+use Rattle.city_model.specs.Kept.{kept_at_geometry}
+use Rattle.city_model.specs.Members.{without}
+use Rattle.city_doc.specs.shape.Nesting.{Nested, geometry_type}
+use Rattle.city_doc.specs.tree.Lists.{list_of}
+use Rattle.city_doc.specs.tree.Members.{kept_if, text_at}
+
+-- ---- boundaries
+
+abbrev pub point_at_position : List Point → ℤ → Option Point
+point_at_position points (pos n) = slice_get points n
+point_at_position points (negsuc n) = None
+
+abbrev pub point_at : List Point → Data → Option Point
+point_at points d = option_and_then (point_at_position points) (option_and_then as_i64 (as_number d))
+
+abbrev pub nested_of : List Point → (n : ℕ) → Data → Option (Nested n)
+nested_of points zero = point_at points
+nested_of points (suc n) = list_of (nested_of points n)
+
+abbrev pub shape_of : List Point → List ℕ → Data → Option Shape
+shape_of points kind d =
+    option_and_then (λ t. option_map t.shape (nested_of points t.depth d)) (geometry_type kind)
+
+-- ---- geometries, bodies and objects
+
+abbrev pub without_geometry_members : Members → Members
+without_geometry_members ms = without (codes "boundaries") (without (codes "lod") (without (codes "type") ms))
+
+-- the geometry of this shape, of the members of its tree
+abbrev pub geometry_with : Shape → Members → Option Geometry
+geometry_with shape ms =
+    option_and_then (λ lod. option_map (λ kept. record { lod = lod; shape = shape; extra = kept })
+    (kept_if kept_at_geometry (without_geometry_members ms)))
+    (option_and_then as_str (get_member (codes "lod") ms))
+
+-- the shape of the type and the boundaries of a tree
+abbrev pub shape_in : List Point → Data → Option Shape
+shape_in points d =
+    option_and_then (λ kind. option_and_then (shape_of points kind) (get (codes "boundaries") d))
+    (text_at (codes "type") d)
+
+abbrev pub geometry_of : List Point → Data → Option Geometry
+geometry_of points d =
+    option_and_then (λ shape. option_and_then (geometry_with shape) (as_object d)) (shape_in points d)

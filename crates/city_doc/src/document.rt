@@ -1,0 +1,10 @@
+//! Documents: the city that one stands for, which of its faults is the first, and its canonical text.
+
+pub mod arranged;
+pub mod build;
+pub mod city_faults;
+pub mod faults;
+pub mod read;
+pub mod text;
+pub mod top;
+pub mod write;

@@ -1,0 +1,134 @@
+//! Judges the relations of a city that was read, in whatever order its objects list their relatives.
+ghost use Rattle.std.specs.Prelude.{◌≡◌, ◌<◌, length, IfOk, IfSome, IfNone};
+ghost use Rattle.std.specs.FinMap.{entries};
+ghost use Rattle.std.specs.List.Sorted.{IsPermutation};
+ghost use Rattle.city_model.specs.CityMap.{at};
+ghost use Rattle.city_model.specs.Misrelated.{IsMisrelatedAt};
+ghost use Rattle.city_model.specs.Relations.{IsRelated};
+ghost use Rattle.city_doc.specs.document.Arranged.{IsArranged, AreArranged};
+ghost use Rattle.city_doc.specs.document.Searches.{IsLeastId};
+
+use city_model::city::City;
+use city_model::copied::Copied;
+use city_model::id_list::is_same_id;
+use city_model::kept::extra::Extra;
+use city_model::object::{Body, Object};
+use city_model::object_type::ObjectType;
+use city_model::relations::relations_fault;
+use city_model::sequence::Sequence;
+use city_model::text::Id;
+use serde_json::Map;
+use std::alloc::{AllocError, Global};
+use std::collections::BTreeMap;
+
+/// Of how many ids a list may be searched in any order.
+const FEW: usize = 64;
+
+/// Whether the ids are searched quickly: they are few, or each is above the one before it. Nothing but
+/// time rests on it.
+fn is_quick(ids: &Sequence<Id>) -> bool {
+    ids.len() <= FEW || ids.as_slice().is_sorted() && repeated_at(ids.as_slice()).is_none()
+}
+
+/// Whether all lists of ids are searched quickly. Nothing but time rests on it.
+fn are_quick(city: &City) -> bool {
+    for (_, object) in city.iter() {
+        if !is_quick(&object.parents) || !is_quick(&object.children) {
+            return false;
+        }
+    }
+    true
+}
+
+/// Where an id is that equals the one before it.
+fn repeated_at(ids: &[Id]) -> Option<usize>
+    ensures { IfSome result (λ i. i < length ids.now) }
+{
+    for i in 1..ids.len() {
+        if is_same_id(&ids[i - 1], &ids[i]) {
+            return Some(i);
+        }
+    }
+    None
+}
+
+/// A copy of the ids in byte order, but one that recurs stands first, where it is soon found again.
+fn arranged_ids(alloc: Global, ids: &Sequence<Id>) -> Result<Sequence<Id>, AllocError>
+    ensures { IfOk result (λ s. IsPermutation ids.now s) }
+{
+    let mut copies = ids.copy(alloc)?.into_vec();
+    copies.sort_unstable();
+    if let Some(i) = repeated_at(copies.as_slice()) {
+        let recurring = copies.remove(i);
+        copies.insert(0, recurring)?;
+    }
+    Ok(Sequence::from_vec(copies))
+}
+
+/// A body of this type, without geometries and kept members. Takes no memory.
+fn bare_body(alloc: Global, kind: ObjectType) -> Body
+    ensures { result.kind ≡ kind }
+{
+    let Ok(extra) = Extra::new(Map::new(alloc)) else {
+        unreachable!()
+    };
+    Body {
+        kind,
+        geometry: Sequence::new(alloc),
+        extra,
+    }
+}
+
+/// An object of the same type, with its lists arranged; its body is bare.
+fn arranged_object(alloc: Global, object: &Object) -> Result<Object, AllocError>
+    ensures { IfOk result (λ o. IsArranged object.now o) }
+{
+    let parents = arranged_ids(alloc, &object.parents)?;
+    let children = arranged_ids(alloc, &object.children)?;
+    Ok(Object {
+        body: bare_body(alloc, object.body.kind),
+        parents,
+        children,
+    })
+}
+
+/// A city of the same relations, each list arranged; the bodies are bare.
+fn arranged_city(alloc: Global, city: &City) -> Result<City, AllocError>
+    ensures { IfOk result (λ c. AreArranged (entries city.now.1) (entries c.1)) }
+{
+    let mut objects = BTreeMap::new(alloc);
+    for (id, object) in city.iter() {
+        let arranged = arranged_object(alloc, object)?;
+        let copy = id.copy(alloc)?;
+        drop(objects.insert(copy, arranged)?);
+    }
+    let frame = city.frame().copy(alloc)?;
+    Ok(City::from_parts(frame, objects))
+}
+
+/// The least id of an object that isn't in order or is an orphan.
+fn searched(alloc: Global, city: &City) -> Result<Option<Id>, AllocError>
+    ensures least { IfOk result (λ o. IfSome o (λ id. IsLeastId (IsMisrelatedAt (at city.now.1)) id)) }
+    ensures none { IfOk result (λ o. IfNone o (IsRelated (at city.now.1))) }
+{
+    match relations_fault(city) {
+        None => Ok(None),
+        Some(id) => Ok(Some(id.copy(alloc)?)),
+    }
+}
+
+/// The least id of an object that isn't in order or is an orphan; none where all relations agree.
+///
+/// Where a long list isn't in byte order, a copy of the relations is searched in which each list is
+/// arranged for it: else a list of n ids would take n² / 2 comparisons.
+pub fn least_misrelated(alloc: Global, city: &City) -> Result<Option<Id>, AllocError>
+    ensures least { IfOk result (λ o. IfSome o (λ id. IsLeastId (IsMisrelatedAt (at city.now.1)) id)) }
+    ensures none { IfOk result (λ o. IfNone o (IsRelated (at city.now.1))) }
+{
+    if are_quick(city) {
+        return searched(alloc, city);
+    }
+    let arranged = arranged_city(alloc, city)?;
+    let least = searched(alloc, &arranged)?;
+    Ok(least)
+}

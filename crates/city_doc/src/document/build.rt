@@ -1,0 +1,93 @@
+//! Builds the city that the tree of a document stands for.
+ghost use Rattle.std.specs.Prelude.{◌≡◌, IfOk, option_map, option_and_then};
+ghost use Rattle.serde_json.specs.Find.{get_member, as_object};
+ghost use Rattle.serde_json.specs.View.{view, members_view};
+ghost use Rattle.city_model.specs.Members.{without};
+ghost use Rattle.city_doc.specs.document.CityFaults.{lenient_object_of};
+ghost use Rattle.city_doc.specs.document.LenientCities.{listed, lenient_entries_of, lenient_city_of};
+
+use crate::document::top::frame_of_rest;
+use crate::object::body::body_of;
+use crate::object::ids::ids_or_none;
+use city_model::city::City;
+use city_model::members::{into_object, take};
+use city_model::object::{Object, Point};
+use city_model::text::Id;
+use serde_json::{Map, Value};
+use std::alloc::{AllocError, Global};
+use std::collections::BTreeMap;
+
+/// The object of a tree, which it gives up; a list that isn't an array of texts counts as empty.
+fn lenient_object_of(
+    alloc: Global,
+    points: &[Point],
+    object: Value,
+) -> Result<Option<Object>, AllocError>
+    ensures { IfOk result (λ o. o ≡ lenient_object_of points.now (view object)) }
+{
+    let Some(mut members) = into_object(object) else {
+        return Ok(None);
+    };
+    let parents = ids_or_none(alloc, take(&mut members, "parents"))?;
+    let children = ids_or_none(alloc, take(&mut members, "children"))?;
+    let Some(body) = body_of(alloc, points, Value::Object(members))? else {
+        return Ok(None);
+    };
+    Ok(Some(Object {
+        body,
+        parents,
+        children,
+    }))
+}
+
+/// The objects by their ids.
+fn lenient_objects_of(
+    alloc: Global,
+    points: &[Point],
+    members: Map<String, Value>,
+) -> Result<Option<BTreeMap<Id, Object>>, AllocError>
+    ensures { IfOk result (λ o. option_map (λ m. m.entries) o
+        ≡ lenient_entries_of points.now (members_view members.entries)) }
+{
+    let mut objects = BTreeMap::new(alloc);
+    for (name, value) in members {
+        let Some(object) = lenient_object_of(alloc, points, value)? else {
+            return Ok(None);
+        };
+        drop(objects.insert(Id::new(name), object)?);
+    }
+    Ok(Some(objects))
+}
+
+/// Takes the object of a name out, and gives its members.
+fn take_object(members: &mut Map<String, Value>, name: &str) -> Option<Map<String, Value>>
+    ensures found { option_map (λ m. members_view m.entries) result
+        ≡ option_and_then as_object (get_member name.now (members_view members.old.entries)) }
+    ensures left { members_view members.new.entries
+        ≡ without name.now (members_view members.old.entries) }
+{
+    into_object(take(members, name)?)
+}
+
+/// The city of a tree, which it gives up; a list of ids that isn't an array of texts counts as empty.
+pub fn lenient_city_of(
+    alloc: Global,
+    points: &[Point],
+    tree: Value,
+) -> Result<Option<City>, AllocError>
+    ensures { IfOk result (λ o. option_map listed o ≡ lenient_city_of points.now (view tree)) }
+{
+    let Some(mut top) = into_object(tree) else {
+        return Ok(None);
+    };
+    let Some(members) = take_object(&mut top, "CityObjects") else {
+        return Ok(None);
+    };
+    let Some(objects) = lenient_objects_of(alloc, points, members)? else {
+        return Ok(None);
+    };
+    let Some(frame) = frame_of_rest(top) else {
+        return Ok(None);
+    };
+    Ok(Some(City::from_parts(frame, objects)))
+}

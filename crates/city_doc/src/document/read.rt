@@ -1,0 +1,74 @@
+//! Reads a document: its tree is taken apart, and the city is built at once.
+ghost use Rattle.std.specs.Prelude.{◌≡◌, ◌⊎◌, true, Some, None, IfOk, IfErr, IfSome, IfNone, OnOk};
+ghost use Rattle.serde_json.specs.View.{view};
+ghost use Rattle.city_model.specs.CityMap.{at, CityValue};
+ghost use Rattle.city_model.specs.Relations.{IsLawful};
+ghost use Rattle.city_model.specs.Integral.{is_integral};
+ghost use Rattle.city_doc.specs.document.Cities.{city_of, StandsForCity, IsAdmitted};
+ghost use Rattle.city_doc.specs.document.Faults.{vertices_in, StandsIn, IsFirst, DocumentFault};
+ghost use Rattle.city_doc.specs.document.Top.{wrong_member};
+ghost use Rattle.city_doc.specs.document.LenientCities.{lenient_city_of};
+ghost use Rattle.city_doc.specs.tree.Texts.{IsReadable};
+
+use crate::document::build::lenient_city_of;
+use crate::document::city_faults::city_fault;
+use crate::document::faults::{first_bad_list, objects_fault};
+use crate::document::top::wrong_member;
+use crate::fault::ReadFault;
+use crate::shape::vertices::vertices_in;
+use crate::tree::parse::parse;
+use crate::tree::values::named;
+use city_model::city::City;
+use serde_json::Value;
+use std::alloc::Global;
+
+/// Reads a document: the city that its text stands for, which is lawful.
+///
+/// Want of memory aside, it is Ok exactly on texts that are admitted: not too long, of whole
+/// numbers, and standing for a lawful city. It refuses a text with the first fault of `ReadFault`'s
+/// list that stands in it, which names the least id in byte order where several objects have it.
+/// `OutOfMemory` has no place in that order: it is answered where there was no memory for the tree,
+/// for an object or for a fault's name. The text is only lent, so a refusal leaves nothing behind.
+pub fn read_city(alloc: Global, bytes: &[u8]) -> Result<City, ReadFault>
+    ensures stands { IfOk result (λ c. StandsForCity bytes.now c) }
+    ensures lawful { IfOk result (λ c. IsLawful (at c.1)) }
+    ensures readable { OnOk result (IsReadable bytes.now) }
+    ensures admitted { IfOk result (λ c. IsAdmitted bytes.now c) }
+    ensures fault { IfErr result (λ f. DocumentFault bytes.now f) }
+    ensures refused { IfErr result (λ f. (f ≡ ReadFault.OutOfMemory)
+        ⊎ ((c : CityValue) → IsAdmitted bytes.now c → ⊥)) }
+{
+    let tree = parse(alloc, bytes)?;
+    match city_of_tree(alloc, tree)? {
+        Some(city) => Ok(city),
+        None => Err(objects_fault(alloc, bytes)),
+    }
+}
+
+/// The city that a tree of whole numbers stands for, which is lawful; None where an object can't be
+/// built.
+fn city_of_tree(alloc: Global, tree: Value) -> Result<Option<City>, ReadFault>
+    requires { is_integral (view tree) ≡ true }
+    ensures stands { IfOk result (λ o. IfSome o (λ c. city_of (view tree) ≡ Some c)) }
+    ensures lawful { IfOk result (λ o. IfSome o (λ c. IsLawful (at c.1))) }
+    ensures right { IfOk result (λ _. wrong_member (view tree) ≡ None) }
+    ensures unbuilt { IfOk result (λ o. IfNone o
+        (lenient_city_of (vertices_in (view tree)) (view tree) ≡ None)) }
+    ensures fault { IfErr result (λ f. (f ≡ ReadFault.OutOfMemory)
+        ⊎ IsFirst (StandsIn (view tree)) f) }
+{
+    if let Some(name) = wrong_member(&tree) {
+        let name = named(alloc, name)?;
+        return Err(ReadFault::NotCityJson(name));
+    }
+    let points = vertices_in(alloc, &tree)?;
+    let bad_list = first_bad_list(alloc, &tree)?;
+    let Some(city) = lenient_city_of(alloc, points.as_slice(), tree)? else {
+        return Ok(None);
+    };
+    let fault = city_fault(alloc, bad_list.as_ref(), &city)?;
+    match fault {
+        Some(fault) => Err(fault),
+        None => Ok(Some(city)),
+    }
+}

@@ -1,0 +1,51 @@
+//! Writes a city.
+ghost use Rattle.std.specs.Prelude.{◌≡◌, ◌≤◌, ◌++◌, ℕ, List, IfOk};
+ghost use Rattle.serde_json.specs.Data.{depth};
+ghost use Rattle.serde_json.specs.Read.{max_depth};
+ghost use Rattle.city_model.specs.CityMap.{at, CityValue};
+ghost use Rattle.city_model.specs.Relations.{IsLawful};
+ghost use Rattle.city_doc.specs.document.Accepted.{IsAccepted};
+ghost use Rattle.city_doc.specs.document.Canonical.{tree_of, city_text};
+ghost use Rattle.city_doc.specs.document.CanonicalTexts.{IsCanonicalText};
+ghost use Rattle.city_doc.specs.document.Cities.{StandsForCity};
+ghost use Rattle.city_doc.specs.tree.Texts.{IsReadable};
+
+use crate::document::text::write_members;
+use city_model::OutOfMemory;
+use city_model::city::City;
+use json::Writer;
+use std::alloc::Global;
+
+/// The canonical text of a city, without a newline.
+///
+/// The text is JSON that stands for the same city, unless the city's kept members nest so deep that
+/// the text has more than the 127 levels that are read. Those of a city that was read don't. Whatever
+/// city is read of the text is written as the same bytes. The text of a lawful city, where it isn't too
+/// long, has no fault.
+pub fn write_city(alloc: Global, city: &City) -> Result<Vec<u8>, OutOfMemory>
+    ensures text { IfOk result (λ b. b.items ≡ city_text city.now) }
+    ensures read_again { IfOk result (λ b. depth (tree_of city.now) ≤ max_depth
+        → StandsForCity b.items city.now) }
+    ensures canonical { IfOk result (λ b. depth (tree_of city.now) ≤ max_depth
+        → (other : CityValue) → StandsForCity b.items other → city_text other ≡ b.items) }
+    ensures accepted { IfOk result (λ b. depth (tree_of city.now) ≤ max_depth
+        → IsReadable b.items → IsLawful (at city.now.1) → IsAccepted b.items) }
+    ensures rewritten { IfOk result (λ b. (text : List ℕ) → StandsForCity text city.now
+        → StandsForCity b.items city.now) }
+{
+    let text = append_city(alloc, Vec::new(alloc), city)?;
+    Ok(text)
+}
+
+/// The bytes, and after them the canonical text of a city, without a newline.
+///
+/// The text is the one of `write_city`, and what is said of it there holds of it here.
+pub fn append_city(alloc: Global, bytes: Vec<u8>, city: &City) -> Result<Vec<u8>, OutOfMemory>
+    ensures text { IfOk result (λ b. b.items ≡ bytes.items ++ city_text city.now) }
+    ensures canonical { IfOk result (λ _. IsCanonicalText (city_text city.now) city.now) }
+{
+    let mut out = Writer::new(bytes);
+    write_members(alloc, city, &mut out)?;
+    let bytes = out.into_inner();
+    Ok(bytes)
+}

@@ -1,0 +1,54 @@
+//! Builds the body that the tree of an object stands for.
+ghost use Rattle.std.specs.Prelude.{◌≡◌, IfOk, codes};
+ghost use Rattle.serde_json.specs.View.{view, members_view};
+ghost use Rattle.city_model.specs.Kept.{kept_at_object};
+ghost use Rattle.city_model.specs.Members.{without};
+ghost use Rattle.city_doc.specs.object.Bodies.{body_of};
+ghost use Rattle.city_doc.specs.tree.Members.{kept_if};
+
+use crate::object::faults::type_of;
+use crate::shape::geometry::geometries_of;
+use city_model::kept::extra::Extra;
+use city_model::kept::place::AtObject;
+use city_model::members::{into_object, take};
+use city_model::object::{Body, Point};
+use serde_json::{Map, Value};
+use std::alloc::{AllocError, Global};
+
+/// The members that are kept at an object, of those but `type` and `geometry`.
+fn kept(mut members: Map<String, Value>) -> Option<Extra<AtObject>>
+    ensures { result ≡ kept_if kept_at_object
+        (without (codes "children") (without (codes "parents") (members_view members.entries))) }
+{
+    drop(take(&mut members, "parents"));
+    drop(take(&mut members, "children"));
+    match Extra::new(members) {
+        Ok(extra) => Some(extra),
+        Err(_) => None,
+    }
+}
+
+/// The body that the tree of an object stands for where its positions name these points; None where
+/// it stands for none. It gives the tree up. The only refusal is want of memory.
+pub fn body_of(alloc: Global, points: &[Point], object: Value) -> Result<Option<Body>, AllocError>
+    ensures { IfOk result (λ o. o ≡ body_of points.now (view object)) }
+{
+    let Some(kind) = type_of(&object) else {
+        return Ok(None);
+    };
+    let Some(mut members) = into_object(object) else {
+        return Ok(None);
+    };
+    drop(take(&mut members, "type"));
+    let Some(geometry) = geometries_of(alloc, points, take(&mut members, "geometry"))? else {
+        return Ok(None);
+    };
+    let Some(extra) = kept(members) else {
+        return Ok(None);
+    };
+    Ok(Some(Body {
+        kind,
+        geometry,
+        extra,
+    }))
+}

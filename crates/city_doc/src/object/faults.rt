@@ -1,0 +1,84 @@
+//! What is wrong with the tree of one object.
+ghost use Rattle.std.specs.Prelude.{◌≡◌, option_map};
+ghost use Rattle.std.specs.List.{list_any};
+ghost use Rattle.std.specs.Str.{bytes_eq};
+ghost use Rattle.serde_json.specs.View.{view, items_view};
+ghost use Rattle.city_doc.specs.tree.Members.{text_at};
+ghost use Rattle.city_doc.specs.object.Bodies.{type_of};
+ghost use Rattle.city_doc.specs.object.Faults.{unsupported_types, unsupported_type, first_unsupported};
+ghost use Rattle.city_doc.specs.object.Faults.{unsupported_name, is_bad_geometry, has_bad_vertex};
+
+use crate::shape::form::are_geometries;
+use crate::shape::nested::{AnyNumber, PositionBelow};
+use city_model::kept::place::has_location;
+use city_model::object_type::{self, ObjectType};
+use serde_json::Value;
+
+/// The text of a member, where it is one.
+pub fn text_at<'v>(object: &'v Value, name: &str) -> Option<&'v str>
+    ensures { option_map (λ s. s.now) result ≡ text_at name.now (view object.now) }
+{
+    object.get(name).and_then(Value::as_str)
+}
+
+/// The type of an object, where it is a known one.
+pub fn type_of(object: &Value) -> Option<ObjectType>
+    ensures { result ≡ type_of (view object.now) }
+{
+    text_at(object, "type").and_then(object_type::type_named)
+}
+
+/// Whether a geometry of this type isn't supported.
+fn is_unsupported(kind: &str) -> bool
+    ensures { result ≡ list_any (bytes_eq kind.now) unsupported_types }
+{
+    matches!(kind, "MultiPoint" | "MultiLineString" | "GeometryInstance")
+}
+
+fn unsupported_type(geometry: &Value) -> Option<&str>
+    ensures { option_map (λ s. s.now) result ≡ unsupported_type (view geometry.now) }
+{
+    let kind = text_at(geometry, "type")?;
+    if is_unsupported(kind) {
+        Some(kind)
+    } else {
+        None
+    }
+}
+
+fn first_unsupported(geometries: &Vec<Value>) -> Option<&str>
+    ensures { option_map (λ s. s.now) result ≡ first_unsupported (items_view geometries.now.items) }
+{
+    for geometry in geometries {
+        if let Some(kind) = unsupported_type(geometry) {
+            return Some(kind);
+        }
+    }
+    None
+}
+
+/// The first thing in an object that isn't supported: a `location` in its address, or the type of
+/// a geometry.
+pub fn unsupported_name(object: &Value) -> Option<&str>
+    ensures { option_map (λ s. s.now) result ≡ unsupported_name (view object.now) }
+{
+    if has_location(object.get("address")) {
+        return Some("location");
+    }
+    first_unsupported(object.get("geometry").and_then(Value::as_array)?)
+}
+
+/// Whether an object has a geometry that can't be read, whatever its positions name.
+pub fn is_bad_geometry(object: &Value) -> bool
+    ensures { result ≡ is_bad_geometry (view object.now) }
+{
+    !are_geometries(&AnyNumber, object.get("geometry"))
+}
+
+/// Whether a position in an object's geometry is negative or isn't less than the count; of an object
+/// with a bad geometry it is true too.
+pub fn has_bad_vertex(count: usize, object: &Value) -> bool
+    ensures { result ≡ has_bad_vertex count (view object.now) }
+{
+    !are_geometries(&PositionBelow(count), object.get("geometry"))
+}

@@ -1,0 +1,88 @@
+//! Reads the lists of ids of an object.
+ghost use Rattle.std.specs.Prelude.{◌≡◌, IfOk, option_map, option_and_then, is_none};
+ghost use Rattle.serde_json.specs.Find.{as_str};
+ghost use Rattle.serde_json.specs.View.{view, items_view};
+ghost use Rattle.city_doc.specs.tree.Lists.{read_items, list_or_absent};
+ghost use Rattle.city_doc.specs.document.CityFaults.{or_empty};
+ghost use Rattle.city_doc.specs.object.Faults.{has_bad_list};
+
+use crate::tree::values::{into_array, into_text};
+use city_model::sequence::Sequence;
+use city_model::text::Id;
+use serde_json::Value;
+use std::alloc::{AllocError, Global};
+
+/// Whether an item isn't a text.
+fn has_other_item(items: &Vec<Value>) -> bool
+    ensures { result ≡ is_none (read_items as_str (items_view items.now.items)) }
+{
+    for item in items {
+        if item.as_str().is_none() {
+            return true;
+        }
+    }
+    false
+}
+
+fn is_other_list(items: Option<&Vec<Value>>) -> bool
+    ensures { result ≡ is_none (option_and_then (read_items as_str)
+        (option_map (λ v. items_view v.now.items) items.entry)) }
+{
+    match items {
+        None => true,
+        Some(items) => has_other_item(items),
+    }
+}
+
+/// Whether a member is there and isn't an array of texts.
+fn is_bad_list(member: Option<&Value>) -> bool
+    ensures { result ≡ is_none (list_or_absent as_str (option_map (λ v. view v.now) member.entry)) }
+{
+    match member {
+        None => false,
+        Some(value) => is_other_list(value.as_array()),
+    }
+}
+
+/// Whether the parents or the children of an object are there and aren't an array of texts.
+pub fn has_bad_list(object: &Value) -> bool
+    ensures { result ≡ has_bad_list (view object.now) }
+{
+    is_bad_list(object.get("parents")) || is_bad_list(object.get("children"))
+}
+
+fn read_ids(alloc: Global, items: Vec<Value>) -> Result<Option<Sequence<Id>>, AllocError>
+    ensures { IfOk result (λ o. o ≡ read_items as_str (items_view items.items)) }
+{
+    let mut ids = Sequence::from_vec(Vec::with_capacity(alloc, items.len())?);
+    for item in items {
+        match into_text(item) {
+            Some(id) => ids.push(id)?,
+            None => return Ok(None),
+        }
+    }
+    Ok(Some(ids))
+}
+
+/// The ids of a member, which it gives up.
+fn ids_of(alloc: Global, member: Option<Value>) -> Result<Option<Sequence<Id>>, AllocError>
+    ensures { IfOk result (λ o. o ≡ list_or_absent as_str (option_map view member)) }
+{
+    let Some(value) = member else {
+        return Ok(Some(Sequence::new(alloc)));
+    };
+    let Some(items) = into_array(value) else {
+        return Ok(None);
+    };
+    read_ids(alloc, items)
+}
+
+/// The ids of a member, which it gives up; none where it is absent or isn't an array of texts.
+pub fn ids_or_none(alloc: Global, member: Option<Value>) -> Result<Sequence<Id>, AllocError>
+    ensures { IfOk result (λ ids. ids ≡ or_empty (list_or_absent as_str (option_map view member))) }
+{
+    match ids_of(alloc, member)? {
+        Some(ids) => Ok(ids),
+        None => Ok(Sequence::new(alloc)),
+    }
+}

@@ -1,0 +1,111 @@
+//! Writes city objects.
+ghost use Rattle.std.specs.Prelude.{◌≡◌, ◌<◌, ◌^◌, ◌++◌, List, OnOk, length, Some, true, flat_map, option_copied};
+ghost use Rattle.std.specs.List.{list_all};
+ghost use Rattle.std.specs.FinMap.{entries};
+ghost use Rattle.serde_json.specs.View.{members_view};
+ghost use Rattle.city_model.specs.Integral.{members_integral};
+ghost use Rattle.city_model.specs.declared.object.Point as p;
+ghost use Rattle.city_doc.specs.tree.Between.{members_between};
+ghost use Rattle.city_doc.specs.object.Canonical.{object_data, objects_data};
+ghost use Rattle.city_doc.specs.document.KeptMembers.{is_kept_object, are_kept_objects};
+ghost use Rattle.city_doc.specs.Pool.{object_points, city_points, with_points};
+ghost use Rattle.city_doc.specs.tree.Tokens.{tokens_of, tokens_of_members, tokens_of_own, listed, OwnReadsBack};
+ghost use Rattle.city_doc.specs.tree.Tokens.{ReadsBackNumbered, MembersReadBack};
+
+use crate::pool::VertexPool;
+use crate::shape::text::Written;
+use crate::tree::kept_members::{write_between, write_last, write_name};
+use city_model::city::City;
+use city_model::object::Object;
+use city_model::object_type::name;
+use city_model::sequence::Sequence;
+use json::Writer;
+use serde_json::{Map, Value};
+use std::alloc::AllocError;
+
+/// Writes the kept members between two names, and a list under the second one unless it is empty.
+fn write_list<T: Written>(
+    kept: &Map<String, Value>,
+    low: Option<&str>,
+    name: &str,
+    list: &Sequence<T>,
+    pool: &mut VertexPool,
+    out: &mut Writer,
+) -> Result<(), AllocError>
+    requires integral { members_integral (members_view kept.now.entries) ≡ true }
+    ensures pool { OnOk result (pool.new ≡ with_points pool.old (flat_map T.points list.now)) }
+    ensures before { OnOk result (out.new.before ≡ out.old.before) }
+    ensures tokens { OnOk result ((later : List p.Point) → out.new.tokens ≡ out.old.tokens
+        ++ (tokens_of_members (members_between (option_copied low.entry) (Some name.now)
+        (members_view kept.now.entries))
+        ++ tokens_of_own name.now (listed (T.written (with_points pool.new later)) list.now))) }
+    ensures passed { OnOk result (MembersReadBack
+        (members_between (option_copied low.entry) (Some name.now)
+        (members_view kept.now.entries))) }
+    ensures reads { OnOk result ((ps : List p.Point) → length ps < 2 ^ 63
+        → OwnReadsBack (listed (T.written ps) list.now)) }
+    ensures kept { OnOk result (list_all T.is_kept list.now ≡ true) }
+{
+    write_between(kept, low, Some(name), out)?;
+    if list.len() == 0 {
+        return Ok(());
+    }
+    out.key(name)?;
+    list.write(pool, out)
+}
+
+/// Writes an object, each point as its number. Points that the pool doesn't have go into it as they
+/// are met.
+#[tactic(auto, unfolding(crate::specs::document::KeptMembers::is_kept_object))]
+pub fn write_object(
+    object: &Object,
+    pool: &mut VertexPool,
+    out: &mut Writer,
+) -> Result<(), AllocError>
+    ensures pool { OnOk result (pool.new ≡ with_points pool.old (object_points object.now)) }
+    ensures before { OnOk result (out.new.before ≡ out.old.before) }
+    ensures tokens { OnOk result ((later : List p.Point) → out.new.tokens
+        ≡ out.old.tokens ++ tokens_of (object_data (with_points pool.new later) object.now)) }
+    ensures reads { OnOk result (ReadsBackNumbered (λ ps. object_data ps object.now)) }
+    ensures kept { OnOk result (is_kept_object object.now ≡ true) }
+{
+    let kept = object.body.extra.map();
+    out.begin_object()?;
+    write_list(kept, None, "children", &object.children, pool, out)?;
+    write_list(
+        kept,
+        Some("children"),
+        "geometry",
+        &object.body.geometry,
+        pool,
+        out,
+    )?;
+    write_list(
+        kept,
+        Some("geometry"),
+        "parents",
+        &object.parents,
+        pool,
+        out,
+    )?;
+    write_name(kept, Some("parents"), "type", out)?;
+    out.string(name(object.body.kind))?;
+    write_last(kept, "type", out)
+}
+
+/// Writes the objects of a city by their ids.
+pub fn write_objects(city: &City, pool: &mut VertexPool, out: &mut Writer) -> Result<(), AllocError>
+    ensures pool { OnOk result (pool.new ≡ with_points pool.old (city_points city.now)) }
+    ensures before { OnOk result (out.new.before ≡ out.old.before) }
+    ensures tokens { OnOk result ((later : List p.Point) → out.new.tokens ≡ out.old.tokens
+        ++ tokens_of (objects_data (with_points pool.new later) (entries city.now.1))) }
+    ensures reads { OnOk result (ReadsBackNumbered (λ ps. objects_data ps (entries city.now.1))) }
+    ensures kept { OnOk result (are_kept_objects (entries city.now.1) ≡ true) }
+{
+    out.begin_object()?;
+    for (id, object) in city.iter() {
+        out.key(id.as_str())?;
+        write_object(object, pool, out)?;
+    }
+    out.end_object()
+}

@@ -1,0 +1,126 @@
+//! Writes the end of a script.
+ghost use Rattle.std.specs.Prelude.{◌≡◌, ◌++◌, OnOk, option_copied};
+ghost use Rattle.serde_json.specs.Data.{no_members};
+ghost use Rattle.city_doc.specs.report.Ends.{cause_name, cause_id, put_id, outcome_name, put_refusal, put_ending};
+ghost use Rattle.city_doc.specs.report.Ends.{end_data};
+ghost use Rattle.city_doc.specs.tree.Tokens.{tokens_of, tokens_of_members};
+
+use crate::report::reply::write_replies;
+use city_model::command::Cause;
+use city_model::end::{End, Outcome};
+use city_model::text::Id;
+use json::Writer;
+use std::alloc::{AllocError, Global};
+
+/// The name of a cause.
+fn cause_name(cause: &Cause) -> &'static str
+    ensures { result.now ≡ cause_name cause.now }
+{
+    match cause {
+        Cause::NoObject(_) => "NoObject",
+        Cause::TypeFixed(_) => "TypeFixed",
+        Cause::HasChildren(_) => "HasChildren",
+        Cause::WrongFamily => "WrongFamily",
+        Cause::AlreadyAttached => "AlreadyAttached",
+        Cause::NotAttached => "NotAttached",
+        Cause::ShortRing => "ShortRing",
+        Cause::SameTwice => "SameTwice",
+        Cause::OpenShell => "OpenShell",
+        Cause::Orphan(_) => "Orphan",
+    }
+}
+
+/// The object that a cause names.
+fn cause_id(cause: &Cause) -> Option<&Id>
+    ensures { option_copied result ≡ cause_id cause.now }
+{
+    match cause {
+        Cause::NoObject(id) => Some(id),
+        Cause::TypeFixed(id) => Some(id),
+        Cause::HasChildren(id) => Some(id),
+        Cause::Orphan(id) => Some(id),
+        Cause::WrongFamily => None,
+        Cause::AlreadyAttached => None,
+        Cause::NotAttached => None,
+        Cause::ShortRing => None,
+        Cause::SameTwice => None,
+        Cause::OpenShell => None,
+    }
+}
+
+/// Writes the object that a cause names, where it names one.
+fn write_id(cause: &Cause, out: &mut Writer) -> Result<(), AllocError>
+    ensures before { OnOk result (out.new.before ≡ out.old.before) }
+    ensures tokens { OnOk result (out.new.tokens
+        ≡ out.old.tokens ++ tokens_of_members (put_id (cause_id cause.now) no_members)) }
+{
+    match cause_id(cause) {
+        None => Ok(()),
+        Some(id) => {
+            out.key("id")?;
+            out.string(id.as_str())
+        }
+    }
+}
+
+/// Writes the number of the command that was refused, and the cause.
+fn write_refusal(at: usize, cause: &Cause, out: &mut Writer) -> Result<(), AllocError>
+    ensures before { OnOk result (out.new.before ≡ out.old.before) }
+    ensures tokens { OnOk result (out.new.tokens
+        ≡ out.old.tokens ++ tokens_of_members (put_refusal at cause.now no_members)) }
+{
+    out.key("at")?;
+    out.u64(at as u64)?;
+    out.key("cause")?;
+    out.string(cause_name(cause))?;
+    write_id(cause, out)
+}
+
+/// The name of an outcome.
+fn outcome_name(outcome: &Outcome) -> &'static str
+    ensures { result.now ≡ outcome_name outcome.now }
+{
+    match outcome {
+        Outcome::Committed => "committed",
+        Outcome::Aborted => "aborted",
+        Outcome::Refused(_, _) => "refused",
+        Outcome::NoMemory(_) => "nomemory",
+    }
+}
+
+/// Writes what an outcome names of the command that ended the script.
+fn write_ending(outcome: &Outcome, out: &mut Writer) -> Result<(), AllocError>
+    ensures before { OnOk result (out.new.before ≡ out.old.before) }
+    ensures tokens { OnOk result (out.new.tokens
+        ≡ out.old.tokens ++ tokens_of_members (put_ending outcome.now no_members)) }
+{
+    match outcome {
+        Outcome::Committed => Ok(()),
+        Outcome::Aborted => Ok(()),
+        Outcome::Refused(at, cause) => write_refusal(*at, cause, out),
+        Outcome::NoMemory(at) => {
+            out.key("at")?;
+            out.u64(*at as u64)
+        }
+    }
+}
+
+/// Writes an end.
+pub fn write_end(alloc: Global, end: &End, out: &mut Writer) -> Result<(), AllocError>
+    ensures before { OnOk result (out.new.before ≡ out.old.before) }
+    ensures tokens { OnOk result (out.new.tokens ≡ out.old.tokens ++ tokens_of (end_data end.now)) }
+{
+    out.begin_object()?;
+    write_ending(&end.outcome, out)?;
+    out.key("name")?;
+    out.string(end.name.as_str())?;
+    out.key("outcome")?;
+    out.string(outcome_name(&end.outcome))?;
+    out.key("replies")?;
+    write_replies(alloc, end.replies.as_slice(), out)?;
+    out.key("script")?;
+    out.u64(end.script as u64)?;
+    out.key("since")?;
+    out.u64(end.since as u64)?;
+    out.end_object()
+}

@@ -1,0 +1,72 @@
+//! Writes replies.
+ghost use Rattle.std.specs.Prelude.{◌≡◌, ◌++◌, OnOk};
+ghost use Rattle.city_doc.specs.tree.Lists.{list_data};
+ghost use Rattle.city_doc.specs.report.Replies.{found_data, found_reply, reply_data};
+ghost use Rattle.city_doc.specs.tree.Tokens.{tokens_of};
+
+use crate::document::text::write_vertices;
+use crate::object::text::write_object;
+use crate::pool::VertexPool;
+use city_model::command::Reply;
+use city_model::object::Object;
+use json::Writer;
+use std::alloc::{AllocError, Global};
+
+/// Writes an object with its own vertices.
+fn write_found(alloc: Global, object: &Object, out: &mut Writer) -> Result<(), AllocError>
+    ensures before { OnOk result (out.new.before ≡ out.old.before) }
+    ensures tokens { OnOk result (out.new.tokens
+        ≡ out.old.tokens ++ tokens_of (found_data object.now)) }
+{
+    let mut pool = VertexPool::new(alloc);
+    out.begin_object()?;
+    out.key("object")?;
+    write_object(object, &mut pool, out)?;
+    out.key("vertices")?;
+    write_vertices(&pool, out)?;
+    out.end_object()
+}
+
+/// Writes the reply to a read that found an object.
+fn write_found_reply(alloc: Global, object: &Object, out: &mut Writer) -> Result<(), AllocError>
+    ensures before { OnOk result (out.new.before ≡ out.old.before) }
+    ensures tokens { OnOk result (out.new.tokens
+        ≡ out.old.tokens ++ tokens_of (found_reply object.now)) }
+{
+    out.begin_object()?;
+    out.key("found")?;
+    write_found(alloc, object, out)?;
+    out.end_object()
+}
+
+fn write_reply(alloc: Global, reply: &Reply, out: &mut Writer) -> Result<(), AllocError>
+    ensures before { OnOk result (out.new.before ≡ out.old.before) }
+    ensures tokens { OnOk result (out.new.tokens
+        ≡ out.old.tokens ++ tokens_of (reply_data reply.now)) }
+{
+    match reply {
+        Reply::Found(object) => write_found_reply(alloc, object, out),
+        Reply::Absent => out.string("absent"),
+        Reply::Added => out.string("added"),
+        Reply::Replaced => out.string("replaced"),
+        Reply::Deleted => out.string("deleted"),
+        Reply::Attached => out.string("attached"),
+        Reply::Detached => out.string("detached"),
+        Reply::Committed => out.string("committed"),
+        Reply::Aborted => out.string("aborted"),
+        Reply::Refused(_) => out.string("refused"),
+    }
+}
+
+/// Writes replies, in order.
+pub fn write_replies(alloc: Global, replies: &[Reply], out: &mut Writer) -> Result<(), AllocError>
+    ensures before { OnOk result (out.new.before ≡ out.old.before) }
+    ensures tokens { OnOk result (out.new.tokens
+        ≡ out.old.tokens ++ tokens_of (list_data reply_data replies.now)) }
+{
+    out.begin_array()?;
+    for reply in replies {
+        write_reply(alloc, reply, out)?;
+    }
+    out.end_array()
+}

@@ -1,0 +1,19 @@
+//! The form of a script, whose commands aren't read yet.
+ghost use Rattle.std.specs.Prelude.{◌≡◌, true, map};
+ghost use Rattle.serde_json.specs.View.{view};
+ghost use Rattle.city_doc.specs.script.Scripts.{word_ends};
+
+use city_model::text::Text;
+use serde_json::Value;
+
+/// The parts of a script's tree.
+#[derive(Drop)]
+pub struct ScriptForm {
+    pub name: Text,
+    /// The trees of the commands.
+    pub commands: Vec<Value>,
+    /// The tree of the script's own vertices, where it has any.
+    pub vertices: Option<Value>,
+    /// Exactly the last command is a word that ends the script.
+    ghost ended: { word_ends (map view commands.items) ≡ true },
+}

@@ -1,0 +1,142 @@
+//! Reads a text of scripts: its tree is taken apart, and each command is built at once.
+ghost use Rattle.std.specs.Prelude.{◌≡◌, ◌⊎◌, List, map, IfOk, IfErr, OnOk, option_map};
+ghost use Rattle.serde_json.specs.View.{view};
+ghost use Rattle.city_model.specs.Runs.{Scripted};
+ghost use Rattle.city_doc.specs.tree.Texts.{IsReadable};
+ghost use Rattle.city_doc.specs.script.Scripts.{StandsForScripts, IsReadAs, vertex_points, script_of, scripts_of};
+ghost use Rattle.city_doc.specs.script.Faults.{ScriptTextFault};
+ghost use Rattle.city_doc.specs.script.Commands.{command_of};
+ghost use Rattle.city_doc.specs.tree.Lists.{all_read};
+ghost use Rattle.city_doc.specs.script.Forms.{parts_view, script_of_item};
+
+use crate::fault::ScriptFault;
+use crate::script::command::command_of;
+use crate::script::faults::first_fault;
+use crate::script::form::ScriptForm;
+use crate::script::parts::{MAX_SCRIPTS, has_too_many_commands, parts_of};
+use crate::shape::vertices::points_of;
+use crate::tree::parse::parse;
+use crate::tree::values::into_array;
+use city_model::command::Command;
+use city_model::object::Point;
+use city_model::script::Script;
+use city_model::sequence::Sequence;
+use serde_json::Value;
+use std::alloc::{AllocError, Global};
+
+/// Reads a text of scripts.
+///
+/// The fault is the first of `ScriptFault`'s list that stands in the text, at the least script and
+/// then the least command; `OutOfMemory` may be answered at any text. Want of memory aside, the
+/// answer is `Ok` exactly where the text isn't too long, its numbers are whole, and it stands for
+/// scripts.
+pub fn read_scripts(alloc: Global, bytes: &[u8]) -> Result<Sequence<Script>, ScriptFault>
+    ensures stands { IfOk result (λ ss. StandsForScripts bytes.now ss) }
+    ensures readable { OnOk result (IsReadable bytes.now) }
+    ensures fault { IfErr result (λ f. ScriptTextFault bytes.now f) }
+    ensures read { IfOk result (λ ss. IsReadAs bytes.now ss) }
+    ensures refused { IfErr result (λ f. (f ≡ ScriptFault.OutOfMemory)
+        ⊎ ((ss : List Scripted) → IsReadAs bytes.now ss → ⊥)) }
+{
+    let tree = parse(alloc, bytes)?;
+    match scripts_of(alloc, tree)? {
+        Some(scripts) => Ok(scripts),
+        None => Err(first_fault(alloc, bytes)),
+    }
+}
+
+/// The scripts that a tree stands for, where it stands for any.
+fn scripts_of(alloc: Global, tree: Value) -> Result<Option<Sequence<Script>>, AllocError>
+    ensures { IfOk result (λ o. o ≡ scripts_of (view tree)) }
+{
+    let Some(items) = into_array(tree) else {
+        return Ok(None);
+    };
+    if items.len() > MAX_SCRIPTS {
+        return Ok(None);
+    }
+    scripts_of_items(alloc, items)
+}
+
+/// The scripts that an array's items stand for, where each stands for one.
+fn scripts_of_items(
+    alloc: Global,
+    items: Vec<Value>,
+) -> Result<Option<Sequence<Script>>, AllocError>
+    ensures { IfOk result (λ o. o ≡ all_read script_of_item (map view items.items)) }
+{
+    let mut scripts = Sequence::from_vec(Vec::with_capacity(alloc, items.len())?);
+    for item in items {
+        let Some(script) = script_of_item(alloc, item)? else {
+            return Ok(None);
+        };
+        scripts.push(script)?;
+    }
+    Ok(Some(scripts))
+}
+
+/// The script that an item stands for, where it has not too many commands.
+fn script_of_item(alloc: Global, item: Value) -> Result<Option<Script>, AllocError>
+    ensures { IfOk result (λ o. o ≡ script_of_item (view item)) }
+{
+    let Some(form) = parts_of(item) else {
+        return Ok(None);
+    };
+    if has_too_many_commands(&form) {
+        return Ok(None);
+    }
+    script_of(alloc, form)
+}
+
+/// The script of a form, where it stands for any.
+fn script_of(alloc: Global, form: ScriptForm) -> Result<Option<Script>, AllocError>
+    ensures { IfOk result (λ o. o ≡ script_of (parts_view form)) }
+{
+    let ScriptForm {
+        name,
+        commands,
+        vertices,
+        ..
+    } = form;
+    let Some(points) = vertex_points(alloc, vertices.as_ref())? else {
+        return Ok(None);
+    };
+    let Some(commands) = commands_of(alloc, points.as_slice(), commands)? else {
+        return Ok(None);
+    };
+    match Script::new(name, commands) {
+        Ok(script) => Ok(Some(script)),
+        Err(_) => unreachable!(),
+    }
+}
+
+/// The points of a script's vertices.
+fn vertex_points(
+    alloc: Global,
+    vertices: Option<&Value>,
+) -> Result<Option<Sequence<Point>>, AllocError>
+    ensures { IfOk result (λ o. o ≡ vertex_points (option_map (λ v. view v.now) vertices.entry)) }
+{
+    match vertices {
+        Some(vertices) => points_of(alloc, vertices),
+        None => Ok(Some(Sequence::new(alloc))),
+    }
+}
+
+/// The commands of these trees, where they stand for any; positions count in these points.
+fn commands_of(
+    alloc: Global,
+    points: &[Point],
+    items: Vec<Value>,
+) -> Result<Option<Sequence<Command>>, AllocError>
+    ensures { IfOk result (λ o. o ≡ all_read (command_of points.now) (map view items.items)) }
+{
+    let mut commands = Sequence::from_vec(Vec::with_capacity(alloc, items.len())?);
+    for item in items {
+        let Some(command) = command_of(alloc, points, item)? else {
+            return Ok(None);
+        };
+        commands.push(command)?;
+    }
+    Ok(Some(commands))
+}

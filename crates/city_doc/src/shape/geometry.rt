@@ -1,0 +1,141 @@
+//! Builds the geometries that trees stand for, each position replaced by its point.
+ghost use Rattle.std.specs.Prelude.{◌≡◌, IfOk, option_map, option_and_then, codes};
+ghost use Rattle.serde_json.specs.Find.{as_str, get_member};
+ghost use Rattle.serde_json.specs.View.{view, items_view, members_view};
+ghost use Rattle.city_model.specs.Kept.{kept_at_geometry};
+ghost use Rattle.city_model.specs.Members.{without};
+ghost use Rattle.city_doc.specs.tree.Lists.{read_items, list_or_absent};
+ghost use Rattle.city_doc.specs.shape.Geometries.{shape_of, shape_in, geometry_with, geometry_of};
+ghost use Rattle.city_doc.specs.tree.Members.{kept_if};
+
+use crate::object::faults::text_at;
+use crate::shape::nested::Nested;
+use crate::tree::values::{into_array, into_text};
+use city_model::kept::extra::Extra;
+use city_model::kept::place::AtGeometry;
+use city_model::members::{into_object, take};
+use city_model::object::{Geometry, Point, Shape};
+use city_model::sequence::Sequence;
+use city_model::text::Text;
+use serde_json::{Map, Value};
+use std::alloc::{AllocError, Global};
+
+/// The shape of boundaries, where they have the form of the type's.
+fn shape_of(
+    alloc: Global,
+    points: &[Point],
+    kind: &str,
+    boundaries: &Value,
+) -> Result<Option<Shape>, AllocError>
+    ensures { IfOk result (λ o. o ≡ shape_of points.now kind.now (view boundaries.now)) }
+{
+    match kind {
+        "MultiSurface" => Ok(Nested::read(alloc, points, boundaries)?.map(Shape::MultiSurface)),
+        "CompositeSurface" => {
+            Ok(Nested::read(alloc, points, boundaries)?.map(Shape::CompositeSurface))
+        },
+        "Solid" => Ok(Nested::read(alloc, points, boundaries)?.map(Shape::Solid)),
+        "MultiSolid" => Ok(Nested::read(alloc, points, boundaries)?.map(Shape::MultiSolid)),
+        "CompositeSolid" => {
+            Ok(Nested::read(alloc, points, boundaries)?.map(Shape::CompositeSolid))
+        },
+        _ => Ok(None),
+    }
+}
+
+/// The shape of a geometry.
+fn shape_in(alloc: Global, points: &[Point], geometry: &Value) -> Result<Option<Shape>, AllocError>
+    ensures { IfOk result (λ o. o ≡ shape_in points.now (view geometry.now)) }
+{
+    let Some(kind) = text_at(geometry, "type") else {
+        return Ok(None);
+    };
+    let Some(boundaries) = geometry.get("boundaries") else {
+        return Ok(None);
+    };
+    shape_of(alloc, points, kind, boundaries)
+}
+
+/// The members that are kept at a geometry, of those but `type` and `lod`.
+fn kept(mut members: Map<String, Value>) -> Option<Extra<AtGeometry>>
+    ensures { result ≡ kept_if kept_at_geometry
+        (without (codes "boundaries") (members_view members.entries)) }
+{
+    drop(take(&mut members, "boundaries"));
+    match Extra::new(members) {
+        Ok(extra) => Some(extra),
+        Err(_) => None,
+    }
+}
+
+/// Takes the type and the level of detail out, and gives the latter where it is a text.
+fn take_lod(members: &mut Map<String, Value>) -> Option<Text>
+    ensures found { result
+        ≡ option_and_then as_str (get_member (codes "lod") (members_view members.old.entries)) }
+    ensures left { members_view members.new.entries
+        ≡ without (codes "lod") (without (codes "type") (members_view members.old.entries)) }
+{
+    drop(take(members, "type"));
+    take(members, "lod").and_then(into_text)
+}
+
+/// The geometry of this shape, of the members of its tree, which they give up.
+fn geometry_with(shape: Shape, mut members: Map<String, Value>) -> Option<Geometry>
+    ensures { result ≡ geometry_with shape (members_view members.entries) }
+{
+    let lod = take_lod(&mut members)?;
+    let extra = kept(members)?;
+    Some(Geometry { lod, shape, extra })
+}
+
+/// The geometry of a tree, which it gives up.
+fn geometry_of(
+    alloc: Global,
+    points: &[Point],
+    geometry: Value,
+) -> Result<Option<Geometry>, AllocError>
+    ensures { IfOk result (λ o. o ≡ geometry_of points.now (view geometry)) }
+{
+    let Some(shape) = shape_in(alloc, points, &geometry)? else {
+        return Ok(None);
+    };
+    let Some(members) = into_object(geometry) else {
+        return Ok(None);
+    };
+    Ok(geometry_with(shape, members))
+}
+
+/// The geometries of an array's items, which they give up.
+fn read_geometries(
+    alloc: Global,
+    points: &[Point],
+    items: Vec<Value>,
+) -> Result<Option<Sequence<Geometry>>, AllocError>
+    ensures { IfOk result (λ o. o ≡ read_items (geometry_of points.now) (items_view items.items)) }
+{
+    let mut found = Sequence::from_vec(Vec::with_capacity(alloc, items.len())?);
+    for item in items {
+        match geometry_of(alloc, points, item)? {
+            Some(geometry) => found.push(geometry)?,
+            None => return Ok(None),
+        }
+    }
+    Ok(Some(found))
+}
+
+/// The geometries of a member, which it gives up; none where it is absent.
+pub fn geometries_of(
+    alloc: Global,
+    points: &[Point],
+    member: Option<Value>,
+) -> Result<Option<Sequence<Geometry>>, AllocError>
+    ensures { IfOk result (λ o. o ≡ list_or_absent (geometry_of points.now) (option_map view member)) }
+{
+    let Some(value) = member else {
+        return Ok(Some(Sequence::new(alloc)));
+    };
+    let Some(items) = into_array(value) else {
+        return Ok(None);
+    };
+    read_geometries(alloc, points, items)
+}

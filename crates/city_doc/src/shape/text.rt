@@ -1,0 +1,130 @@
+//! Writes what names points, each point as its number.
+ghost use Rattle.std.specs.Prelude.{◌≡◌, ◌++◌, ◌∷◌, [], List, OnOk, true, Bool, flat_map};
+ghost use Rattle.std.specs.List.{list_all};
+ghost use Rattle.serde_json.specs.Data.{Data, string};
+ghost use Rattle.city_model.specs.declared.object.Point as p;
+ghost use Rattle.city_doc.specs.tree.Lists.{list_data};
+ghost use Rattle.city_doc.specs.shape.Canonical.{point_data, boundaries_data, geometry_data};
+ghost use Rattle.city_doc.specs.document.KeptMembers.{is_kept_geometry};
+ghost use Rattle.city_doc.specs.shape.Nesting.{shape_name};
+ghost use Rattle.city_doc.specs.Pool.{shape_points, geometry_points, with_points};
+ghost use Rattle.city_doc.specs.tree.Tokens.{tokens_of, ReadsBackNumbered};
+
+use crate::pool::VertexPool;
+use crate::tree::kept_members::{write_last, write_name};
+use city_model::object::{Geometry, Point, Shape};
+use city_model::sequence::Sequence;
+use city_model::shape::Bounds;
+use city_model::text::Text;
+use json::Writer;
+use std::alloc::AllocError;
+
+/// What is written as JSON, each point as its number in a pool.
+pub trait Written {
+    ghost points: { Self → List p.Point };
+
+    ghost written: { List p.Point → Self → Data };
+
+    ghost is_kept: { Self → Bool };
+
+    /// Writes the value. Points that the pool doesn't have go into it as they are met.
+    fn write(&self, pool: &mut VertexPool, out: &mut Writer) -> Result<(), AllocError>
+        ensures pool { OnOk result (pool.new ≡ with_points pool.old (points self.now)) }
+        ensures before { OnOk result (out.new.before ≡ out.old.before) }
+        ensures tokens { OnOk result ((later : List p.Point) → out.new.tokens
+            ≡ out.old.tokens ++ tokens_of (written (with_points pool.new later) self.now)) }
+        ensures reads { OnOk result (ReadsBackNumbered (λ ps. written ps self.now)) }
+        ensures kept { OnOk result (is_kept self.now ≡ true) };
+}
+
+impl Written for Point {
+    ghost points = { λ q. q ∷ [] };
+
+    ghost written = { point_data };
+
+    ghost is_kept = { λ _. true };
+
+    fn write(&self, pool: &mut VertexPool, out: &mut Writer) -> Result<(), AllocError> {
+        let number = pool.add(*self)?;
+        out.u64(number as u64)
+    }
+}
+
+impl Written for Text {
+    ghost points = { λ _. [] };
+
+    ghost written = { λ _ s. string s };
+
+    ghost is_kept = { λ _. true };
+
+    fn write(&self, _pool: &mut VertexPool, out: &mut Writer) -> Result<(), AllocError> {
+        out.string(self.as_str())
+    }
+}
+
+impl<T: Written> Written for Sequence<T> {
+    ghost points = { λ xs. flat_map T.points xs };
+
+    ghost written = { λ ps xs. list_data (T.written ps) xs };
+
+    ghost is_kept = { λ xs. list_all T.is_kept xs };
+
+    fn write(&self, pool: &mut VertexPool, out: &mut Writer) -> Result<(), AllocError> {
+        out.begin_array()?;
+        let items = self.as_slice();
+        for item in items {
+            item.write(pool, out)?;
+        }
+        out.end_array()
+    }
+}
+
+impl Written for Shape {
+    ghost points = { shape_points };
+
+    ghost written = { boundaries_data };
+
+    ghost is_kept = { λ _. true };
+
+    fn write(&self, pool: &mut VertexPool, out: &mut Writer) -> Result<(), AllocError> {
+        match self.bounds() {
+            Bounds::Surfaces(surfaces) => surfaces.write(pool, out),
+            Bounds::Shells(shells) => shells.write(pool, out),
+            Bounds::Solids(solids) => solids.write(pool, out),
+        }
+    }
+}
+
+/// The name of a shape's type.
+pub fn shape_name(shape: &Shape) -> &'static str
+    ensures { result.now ≡ shape_name shape.now }
+{
+    match shape {
+        Shape::MultiSurface(_) => "MultiSurface",
+        Shape::CompositeSurface(_) => "CompositeSurface",
+        Shape::Solid(_) => "Solid",
+        Shape::MultiSolid(_) => "MultiSolid",
+        Shape::CompositeSolid(_) => "CompositeSolid",
+    }
+}
+
+impl Written for Geometry {
+    ghost points = { geometry_points };
+
+    ghost written = { geometry_data };
+
+    ghost is_kept = { is_kept_geometry };
+
+    #[tactic(auto, unfolding(crate::specs::document::KeptMembers::is_kept_geometry))]
+    fn write(&self, pool: &mut VertexPool, out: &mut Writer) -> Result<(), AllocError> {
+        let kept = self.extra.map();
+        out.begin_object()?;
+        write_name(kept, None, "boundaries", out)?;
+        self.shape.write(pool, out)?;
+        write_name(kept, Some("boundaries"), "lod", out)?;
+        out.string(self.lod.as_str())?;
+        write_name(kept, Some("lod"), "type", out)?;
+        out.string(shape_name(&self.shape))?;
+        write_last(kept, "type", out)
+    }
+}

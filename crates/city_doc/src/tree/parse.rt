@@ -1,0 +1,85 @@
+//! Parses a text as a JSON tree of whole numbers.
+ghost use Rattle.std.specs.Prelude.{◌≡◌, true, IfOk, IfErr};
+ghost use Rattle.serde_json.specs.View.{view};
+ghost use Rattle.city_model.specs.Integral.{is_integral};
+ghost use Rattle.city_doc.specs.tree.Texts.{HasTree, IsRefused};
+
+use crate::fault::{ReadFault, ScriptFault};
+use city_model::integral::is_integral;
+use serde_json::Value;
+use std::alloc::Global;
+
+/// How many bytes a text may have.
+pub const MAX_TEXT: usize = 67_108_864;
+
+/// Why a text has no tree of whole numbers: the first of this list that stands in it.
+#[derive(Drop)]
+pub enum TextFault {
+    /// There was no memory; this has no place in the order.
+    OutOfMemory,
+    /// The text has more than `MAX_TEXT` bytes.
+    TooLong,
+    /// The text isn't JSON.
+    NotJson,
+    /// A number isn't an `i64`.
+    NotWhole,
+}
+
+/// The tree of a text, whose numbers are all whole.
+///
+/// `TooLong`, `NotJson` and `NotWhole` are judged in this order; `OutOfMemory` where there was no
+/// memory for the tree.
+pub fn parse(alloc: Global, bytes: &[u8]) -> Result<Value, TextFault>
+    ensures tree { IfOk result (λ v. HasTree bytes.now (view v)) }
+    ensures integral { IfOk result (λ v. is_integral (view v) ≡ true) }
+    ensures fault { IfErr result (λ f. IsRefused bytes.now f) }
+{
+    if bytes.len() > MAX_TEXT {
+        return Err(TextFault::TooLong);
+    }
+    let tree = match Value::from_slice(alloc, bytes) {
+        Ok(tree) => tree,
+        Err(e) => {
+            if e.is_memory() {
+                return Err(TextFault::OutOfMemory);
+            }
+            return Err(TextFault::NotJson);
+        }
+    };
+    if !is_integral(&tree) {
+        return Err(TextFault::NotWhole);
+    }
+    Ok(tree)
+}
+
+impl From<TextFault> for ReadFault {
+    ghost use Rattle.std.specs.Prelude.{◌≡◌};
+    ghost use Rattle.city_doc.specs.tree.TextFaults.{read_fault};
+
+    ghost from_gives = { λ t f. f ≡ read_fault t };
+
+    fn from(fault: TextFault) -> ReadFault {
+        match fault {
+            TextFault::OutOfMemory => ReadFault::OutOfMemory,
+            TextFault::TooLong => ReadFault::TooLong,
+            TextFault::NotJson => ReadFault::NotJson,
+            TextFault::NotWhole => ReadFault::NotWhole,
+        }
+    }
+}
+
+impl From<TextFault> for ScriptFault {
+    ghost use Rattle.std.specs.Prelude.{◌≡◌};
+    ghost use Rattle.city_doc.specs.tree.TextFaults.{script_fault};
+
+    ghost from_gives = { λ t f. f ≡ script_fault t };
+
+    fn from(fault: TextFault) -> ScriptFault {
+        match fault {
+            TextFault::OutOfMemory => ScriptFault::OutOfMemory,
+            TextFault::TooLong => ScriptFault::TooLong,
+            TextFault::NotJson => ScriptFault::NotJson,
+            TextFault::NotWhole => ScriptFault::NotWhole,
+        }
+    }
+}

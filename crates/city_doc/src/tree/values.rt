@@ -1,0 +1,37 @@
+//! Takes out of values the texts and the items that they are, and copies names.
+ghost use Rattle.std.specs.Prelude.{◌≡◌, IfOk, map, option_map};
+ghost use Rattle.serde_json.specs.Find.{as_str, as_array};
+ghost use Rattle.serde_json.specs.View.{view, items_view};
+ghost use Rattle.city_doc.specs.tree.Lists.{array_of};
+
+use city_model::text::Text;
+use serde_json::Value;
+use std::alloc::{AllocError, Global};
+
+/// The text that a value is, which it gives up.
+pub fn into_text(value: Value) -> Option<Text>
+    ensures { result ≡ as_str (view value) }
+{
+    match value {
+        Value::String(text) => Some(Text::new(text)),
+        _ => None,
+    }
+}
+
+/// The items of an array, which it gives up.
+pub fn into_array(value: Value) -> Option<Vec<Value>>
+    ensures items { option_map (λ v. items_view v.items) result ≡ as_array (view value) }
+    ensures list { option_map (λ v. map view v.items) result ≡ array_of (view value) }
+{
+    match value {
+        Value::Array(items) => Some(items),
+        _ => None,
+    }
+}
+
+/// A copy of a name.
+pub fn named(alloc: Global, name: &str) -> Result<Text, AllocError>
+    ensures { IfOk result (λ text. text ≡ name.now) }
+{
+    Ok(Text::new(name.to_string(alloc)?))
+}
