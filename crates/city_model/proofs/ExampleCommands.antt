@@ -1,9 +1,6 @@
 -- What single commands are refused by, and what scripts leave of a small city.
 use Rattle.std.proofs.Common.{◌≡◌, Less, refl}
 use Rattle.std.specs.Prelude.{ℕ, List, [], ◌∷◌, false, Some, codes}
-use Rattle.serde_json.specs.Data as Data
-use Rattle.serde_json.specs.Data.{number, unsigned, no_members, member}
-use Rattle.city_model.specs.declared.object.Body.{Body}
 use Rattle.city_model.specs.declared.object_type.ObjectType.TheVariants.{Building, BuildingPart, Bridge, LandUse}
 use Rattle.city_model.specs.declared.command.Command.{Command}
 use Rattle.city_model.specs.declared.command.Command.TheVariants.{Put, Delete, Attach, Detach, Commit, Abort}
@@ -16,7 +13,7 @@ use Rattle.std.specs.Cmp.Lexicographic.{slice_cmp}
 use Rattle.city_model.specs.CityMap.{Entries, found_in, changed}
 use Rattle.city_model.specs.Meaning.{attached, detached}
 use Rattle.city_model.specs.Runs.{HasResult, map_left}
-use Rattle.city_model.proofs.ExampleCities.{one_id, bare, object, alone}
+use Rattle.city_model.proofs.ExampleCities.{one_id, bare, object, alone, numbered}
 use Rattle.city_model.specs.Relations.{is_orphan_there}
 use Rattle.city_model.proofs.NoOrphan.{no_orphan, least_orphan, orphan_below, no_orphan_at, no_orphan_attached, orphan_apart, no_orphan_detached_below}
 
@@ -110,9 +107,6 @@ attached_part_is_committed =
     )
 
 -- ---- a script that gives up
-
-abbrev numbered : ℕ → Body
-numbered n = record { kind = LandUse; geometry = []; extra = member (codes "attributes") (Data.object (member (codes "n") (number (unsigned n)) no_members)) no_members }
 
 abbrev meadow : Entries
 meadow = (codes "x", alone LandUse) ∷ []

@@ -7,7 +7,7 @@ use Rattle.city_model.specs.declared.object.Object.{Object}
 use Rattle.city_model.specs.declared.command.Cause.{Cause}
 use Rattle.city_model.specs.declared.command.Cause.TheVariants.{HasChildren}
 use Rattle.city_model.specs.declared.command.Command.{Command}
-use Rattle.city_model.specs.declared.command.Command.TheVariants.{Read, Put, Delete, Attach, Detach, Commit, Abort}
+use Rattle.city_model.specs.declared.command.Command.TheVariants.{Read, Put, Delete, Attach, Detach, Mark, Back, Commit, Abort}
 use Rattle.city_model.specs.CityMap.{CityMap, same_id, has_id, changed, parents_of, children_of}
 use Rattle.city_model.specs.Meaning.{read_reply, with_body, put_cause, put_done, delete_cause, attach_cause, detach_cause, without_child, without_parent, with_child, with_parent, deleted, cause_of, effect_of, done_reply, map_unless, refused_or, after, reply_to, exclusively, delete_locks, locks_of}
 use Rattle.city_model.specs.Shells.{body_fault}
@@ -80,6 +80,8 @@ frame m (Attach child parent) q s h =
 frame m (Detach child parent) q s h =
     let apart = two_apart child parent q h in
     unless_same (cause_of m (Detach child parent)) m (effect_of m (Detach child parent)) q (λ e. detached_apart m child parent q apart.0 apart.1)
+frame m (Mark name) q s h = refl
+frame m (Back name) q s h = refl
 frame m Commit q s h = refl
 frame m Abort q s h = refl
 
@@ -104,15 +106,19 @@ same_cause m n (Attach child parent) a =
 same_cause m n (Detach child parent) a =
     let both = both_agree m n child parent a in
     ap (λ x. detach_cause child x parent (m parent)) both.0 ∙ ap (detach_cause child (n child) parent) both.1
+same_cause m n (Mark name) a = refl
+same_cause m n (Back name) a = refl
 same_cause m n Commit a = refl
 same_cause m n Abort a = refl
 
-same_done : (m n : CityMap) (c : Command) → AgreeOn (locks_of m c) m n → done_reply m c ≡ done_reply n c
+pub same_done : (m n : CityMap) (c : Command) → AgreeOn (locks_of m c) m n → done_reply m c ≡ done_reply n c
 same_done m n (Read id) a = ap read_reply (a id (first_is_named id false []))
 same_done m n (Put id body) a = ap put_done (a id (first_is_named id true []))
 same_done m n (Delete id) a = refl
 same_done m n (Attach child parent) a = refl
 same_done m n (Detach child parent) a = refl
+same_done m n (Mark name) a = refl
+same_done m n (Back name) a = refl
 same_done m n Commit a = refl
 same_done m n Abort a = refl
 
@@ -125,6 +131,8 @@ same_locks m n (Put id body) a = refl
 same_locks m n (Delete id) a = ap (λ x. (id, true) ∷ delete_locks x) (a id (first_is_named id true (delete_locks (m id))))
 same_locks m n (Attach child parent) a = refl
 same_locks m n (Detach child parent) a = refl
+same_locks m n (Mark name) a = refl
+same_locks m n (Back name) a = refl
 same_locks m n Commit a = refl
 same_locks m n Abort a = refl
 
@@ -145,6 +153,8 @@ same_effect m n (Attach child parent) q a e =
     let both = both_agree m n child parent a in same_at_two m n child parent q (with_parent parent) (with_child child) both.0 both.1 e
 same_effect m n (Detach child parent) q a e =
     let both = both_agree m n child parent a in same_at_two m n child parent q (without_parent parent) (without_child child) both.0 both.1 e
+same_effect m n (Mark name) q a e = e
+same_effect m n (Back name) q a e = e
 same_effect m n Commit q a e = e
 same_effect m n Abort q a e = e
 

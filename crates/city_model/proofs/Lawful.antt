@@ -9,14 +9,14 @@ use Rattle.city_model.specs.declared.end.End.{End}
 use Rattle.city_model.specs.declared.end.Outcome.{Outcome}
 use Rattle.city_model.specs.CityMap.{CityMap}
 use Rattle.city_model.specs.Relations.{HasNoOrphan, IsSound, IsLawful}
-use Rattle.city_model.specs.Meaning.{after}
-use Rattle.city_model.specs.Runs.{Scripted, EndsFrom, HasResult, map_after, map_left, left_by, commands_of, model_after, FitsFrom, Fits}
+use Rattle.city_model.specs.Marks.{View, unmarked, step, IsSoundView}
+use Rattle.city_model.specs.Runs.{Scripted, EndsFrom, HasResult, view_after, map_left, left_by, commands_of, model_after, FitsFrom, Fits}
 use Rattle.city_model.specs.Scripts.{is_end, is_empty_list, ends_once, AreScripts}
-use Rattle.city_model.proofs.SoundAfter.{sound_after}
+use Rattle.city_model.proofs.MarksKept.{sound_step}
 
-pub sound_after_all : (m : CityMap) (cs : List Command) → IsSound m → IsSound (map_after m cs)
-sound_after_all m [] s = s
-sound_after_all m (c ∷ cs) s = sound_after_all (after m c) cs (sound_after m c s)
+pub sound_after_all : (v : View) (cs : List Command) → IsSoundView v → IsSoundView (view_after v cs)
+sound_after_all v [] s = s
+sound_after_all v (c ∷ cs) s = sound_after_all (step v c) cs (sound_step v c s)
 
 pub nothing_more : (cs : List Command) → is_empty_list cs ≡ true → cs ≡ []
 nothing_more [] h = refl
@@ -25,17 +25,17 @@ nothing_more (c ∷ cs) h = absurd (false≢true h)
 last_commit : (c : Command) (cs : List Command) → c ≡ Commit → ends_once (c ∷ cs) ≡ true → cs ≡ []
 last_commit c cs is h = nothing_more cs (sym (ap (λ k. if is_end k then is_empty_list cs else ends_once cs) is) ∙ h)
 
-no_orphan_from : (m : CityMap) (i : ℕ) (cs : List Command) (rs : List Reply) → ends_once cs ≡ true → EndsFrom m i cs rs Outcome.Committed → HasNoOrphan (map_after m cs)
-no_orphan_from m i [] rs e h = absurd h
-no_orphan_from m i (c ∷ cs) [] e h =
+no_orphan_from : (v : View) (i : ℕ) (cs : List Command) (rs : List Reply) → ends_once cs ≡ true → EndsFrom v i cs rs Outcome.Committed → HasNoOrphan (view_after v cs).map
+no_orphan_from v i [] rs e h = absurd h
+no_orphan_from v i (c ∷ cs) [] e h =
     let only : c ∷ cs ≡ Commit ∷ [] = ap (λ k. k ∷ cs) h.0 ∙ ap (λ ks. Commit ∷ ks) (last_commit c cs h.0 e) in
-    subst (λ (ks : List Command). HasNoOrphan (map_after m ks)) (sym only) h.1
-no_orphan_from m i (c ∷ cs) (r ∷ rs) e h =
-    no_orphan_from (after m c) (i + 1) cs rs (sym (ap (λ b. if b then is_empty_list cs else ends_once cs) h.0.0) ∙ e) h.1
+    subst (λ (ks : List Command). HasNoOrphan (view_after v ks).map) (sym only) h.1
+no_orphan_from v i (c ∷ cs) (r ∷ rs) e h =
+    no_orphan_from (step v c) (i + 1) cs rs (sym (ap (λ b. if b then is_empty_list cs else ends_once cs) h.0.0) ∙ e) h.1
 
 -- a script that commits leaves a lawful map of a sound one
 pub lawful_when_committed : (m : CityMap) (cs : List Command) (rs : List Reply) → ends_once cs ≡ true → IsSound m → HasResult m cs rs Outcome.Committed → IsLawful (map_left m cs Outcome.Committed)
-lawful_when_committed m cs rs e s h = (sound_after_all m cs s, no_orphan_from m 0 cs rs e h)
+lawful_when_committed m cs rs e s h = ((sound_after_all (unmarked m) cs (s, tt)).0, no_orphan_from (unmarked m) 0 cs rs e h)
 
 -- whatever a script's outcome, it leaves a lawful map of a lawful one
 pub lawful_left : (m : CityMap) (cs : List Command) (rs : List Reply) (o : Outcome) → ends_once cs ≡ true → IsLawful m → HasResult m cs rs o → IsLawful (map_left m cs o)

@@ -8,9 +8,9 @@ use Rattle.city_model.specs.declared.command.Command.TheVariants.{Commit}
 use Rattle.city_model.specs.declared.command.Cause.{Cause}
 use Rattle.city_model.specs.declared.command.Reply.{Reply}
 use Rattle.city_model.specs.declared.end.Outcome.{Outcome}
-use Rattle.city_model.specs.CityMap.{CityMap}
-use Rattle.city_model.specs.Meaning.{cause_of, after, refused_or, done_reply, is_refusal}
-use Rattle.city_model.specs.Runs.{EndsAt, EndsFrom, map_after}
+use Rattle.city_model.specs.Marks.{View, refusal, step}
+use Rattle.city_model.specs.Meaning.{refused_or, done_reply, is_refusal}
+use Rattle.city_model.specs.Runs.{EndsAt, EndsFrom, view_after}
 use Rattle.city_model.specs.Scripts.{is_end, is_empty_list, ends_once}
 use Rattle.city_model.specs.Standing.{Held, answered, Follows}
 use Rattle.city_model.proofs.IdLists.{bool_cases}
@@ -43,29 +43,29 @@ answered_more (d ∷ cs) [] c r h = let same : d ≡ c = cc in ap (λ k. (k, r) 
 answered_more (d ∷ cs) (s ∷ rs) c r h = ap (λ l. (d, s) ∷ l) (answered_more cs rs c r h)
 
 -- the result of a script whose first commands stand so, and whose next command ends it so
-pub result_from : (held : Held) (m n : CityMap) (i : ℕ) (cs : List Command) (rs : List Reply) (c : Command) (o : Outcome)
-    → Follows held m (answered cs rs) n → list_any is_refusal rs ≡ false → ends_once cs ≡ true → slice_get cs (length rs) ≡ Some c
-    → EndsAt n c (i + length rs) o → EndsFrom m i cs rs o
-result_from held m n i [] rs c o f u e h k = absurd (cc)
-result_from held m n i (d ∷ cs) [] c o f u e h k =
+pub result_from : (held : Held) (v w : View) (i : ℕ) (cs : List Command) (rs : List Reply) (c : Command) (o : Outcome)
+    → Follows held v (answered cs rs) w → list_any is_refusal rs ≡ false → ends_once cs ≡ true → slice_get cs (length rs) ≡ Some c
+    → EndsAt w c (i + length rs) o → EndsFrom v i cs rs o
+result_from held v w i [] rs c o f u e h k = absurd (cc)
+result_from held v w i (d ∷ cs) [] c o f u e h k =
     let same : c ≡ d = cc in
     let number : i + 0 ≡ i = omega arith in
-    subst (λ (x : CityMap). EndsAt x d i o) f (subst (λ (x : Command). EndsAt n x i o) same (subst (λ (j : ℕ). EndsAt n c j o) number k))
-result_from held m n i (d ∷ cs) (r ∷ rs) c o f u e h k =
+    subst (λ (x : View). EndsAt x d i o) f (subst (λ (x : Command). EndsAt w x i o) same (subst (λ (j : ℕ). EndsAt w c j o) number k))
+result_from held v w i (d ∷ cs) (r ∷ rs) c o f u e h k =
     let parts = or_parts (is_refusal r) (list_any is_refusal rs) u in
     let on : is_end d ≡ false = goes_on d cs (length rs) c e h in
     let number : i + length (r ∷ rs) ≡ i + 1 + length rs = omega arith in (
-      (on, unrefused (cause_of m d) (done_reply m d) r f.1 parts.0, f.1),
-      result_from held (after m d) n (i + 1) cs rs c o f.2 parts.1 (ends_later d cs e on) h (subst (λ (j : ℕ). EndsAt n c j o) number k),
+      (on, unrefused (refusal v d) (done_reply v.map d) r f.1 parts.0, f.1),
+      result_from held (step v d) w (i + 1) cs rs c o f.2 parts.1 (ends_later d cs e on) h (subst (λ (j : ℕ). EndsAt w c j o) number k),
     )
 
 -- a script whose next command is Commit leaves what its first commands lead to
-pub committed_from : (held : Held) (m n : CityMap) (cs : List Command) (rs : List Reply)
-    → Follows held m (answered cs rs) n → ends_once cs ≡ true → slice_get cs (length rs) ≡ Some Commit → map_after m cs ≡ n
-committed_from held m n [] rs f e h = absurd (cc)
-committed_from held m n (d ∷ cs) [] f e h =
+pub committed_from : (held : Held) (v w : View) (cs : List Command) (rs : List Reply)
+    → Follows held v (answered cs rs) w → ends_once cs ≡ true → slice_get cs (length rs) ≡ Some Commit → view_after v cs ≡ w
+committed_from held v w [] rs f e h = absurd (cc)
+committed_from held v w (d ∷ cs) [] f e h =
     let same : d ≡ Commit = cc in
     let last : ends_once (Commit ∷ cs) ≡ true = subst (λ (x : Command). ends_once (x ∷ cs) ≡ true) same e in
     let none : cs ≡ [] = nothing_more cs last in
-    ap (λ (x : Command). map_after m (x ∷ cs)) same ∙ ap (λ (xs : List Command). map_after m (Commit ∷ xs)) none ∙ sym f
-committed_from held m n (d ∷ cs) (r ∷ rs) f e h = committed_from held (after m d) n cs rs f.2 (ends_later d cs e (goes_on d cs (length rs) Commit e h)) h
+    ap (λ (x : Command). view_after v (x ∷ cs)) same ∙ ap (λ (xs : List Command). view_after v (Commit ∷ xs)) none ∙ sym f
+committed_from held v w (d ∷ cs) (r ∷ rs) f e h = committed_from held (step v d) w cs rs f.2 (ends_later d cs e (goes_on d cs (length rs) Commit e h)) h

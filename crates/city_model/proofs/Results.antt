@@ -7,7 +7,7 @@ use Rattle.std.proofs.lemmas.Bool.{false≢true}
 use Rattle.std.proofs.lemmas.Cmp.{nat_list_cmp_total}
 use Rattle.std.proofs.lemmas.Map.Lookups.{exact_bytes}
 use Rattle.city_model.specs.declared.command.Command.{Command}
-use Rattle.city_model.specs.declared.command.Command.TheVariants.{Read, Put, Delete, Attach, Detach, Commit, Abort}
+use Rattle.city_model.specs.declared.command.Command.TheVariants.{Read, Put, Delete, Attach, Detach, Mark, Back, Commit, Abort}
 use Rattle.city_model.specs.declared.command.Cause.{Cause}
 use Rattle.city_model.specs.declared.command.Cause.TheVariants.{Orphan}
 use Rattle.city_model.specs.declared.command.Reply.{Reply}
@@ -15,7 +15,7 @@ use Rattle.city_model.specs.declared.end.End.{End}
 use Rattle.city_model.specs.declared.end.Outcome.{Outcome}
 use Rattle.city_model.specs.CityMap.{CityMap}
 use Rattle.city_model.specs.Relations.{IsLeastOrphan, HasNoOrphan}
-use Rattle.city_model.specs.Meaning.{after}
+use Rattle.city_model.specs.Marks.{View, unmarked, step}
 use Rattle.city_model.specs.Runs.{Scripted, Refuses, EndsAt, Continues, EndsFrom, HasResult, left_by, IsEndOf, FitsFrom, Fits}
 use Rattle.city_model.specs.Scripts.{is_end}
 use Rattle.city_model.specs.SerialEnds.{is_no_memory, IsSerialFrom}
@@ -35,79 +35,87 @@ least_orphan_is_unique m a b h k = by_order m a b (slice_cmp nat_cmp a b) refl h
 
 -- ---- one command
 
-refusal_is_unique : (m : CityMap) (c : Command) (x y : Cause) → Refuses m c x → Refuses m c y → x ≡ y
-refusal_is_unique m (Read id) x y h k = cc
-refusal_is_unique m (Put id body) x y h k = cc
-refusal_is_unique m (Delete id) x y h k = cc
-refusal_is_unique m (Attach child parent) x y h k = cc
-refusal_is_unique m (Detach child parent) x y h k = cc
-refusal_is_unique m Commit x y h k = h.1 ∙ ap Orphan (least_orphan_is_unique m h.0 k.0 h.2 k.2) ∙ sym k.1
-refusal_is_unique m Abort x y h k = cc
+refusal_is_unique : (v : View) (c : Command) (x y : Cause) → Refuses v c x → Refuses v c y → x ≡ y
+refusal_is_unique v (Mark name) x y h k = cc
+refusal_is_unique v (Back name) x y h k = cc
+refusal_is_unique v (Read id) x y h k = cc
+refusal_is_unique v (Put id body) x y h k = cc
+refusal_is_unique v (Delete id) x y h k = cc
+refusal_is_unique v (Attach child parent) x y h k = cc
+refusal_is_unique v (Detach child parent) x y h k = cc
+refusal_is_unique v Commit x y h k = h.1 ∙ ap Orphan (least_orphan_is_unique v.map h.0 k.0 h.2 k.2) ∙ sym k.1
+refusal_is_unique v Abort x y h k = cc
 
-orphan_is_found : (m : CityMap) (c : Command) (cause : Cause) → c ≡ Commit → HasNoOrphan m → Refuses m c cause → ⊥
-orphan_is_found m Commit cause e none h = false≢true (sym (none h.0 h.2.0.0 h.2.0.1) ∙ h.2.0.2)
-orphan_is_found m (Read id) cause e none h = cc
-orphan_is_found m (Put id body) cause e none h = cc
-orphan_is_found m (Delete id) cause e none h = cc
-orphan_is_found m (Attach child parent) cause e none h = cc
-orphan_is_found m (Detach child parent) cause e none h = cc
-orphan_is_found m Abort cause e none h = cc
+orphan_is_found : (v : View) (c : Command) (cause : Cause) → c ≡ Commit → HasNoOrphan v.map → Refuses v c cause → ⊥
+orphan_is_found v Commit cause e none h = false≢true (sym (none h.0 h.2.0.0 h.2.0.1) ∙ h.2.0.2)
+orphan_is_found v (Mark name) cause e none h = cc
+orphan_is_found v (Back name) cause e none h = cc
+orphan_is_found v (Read id) cause e none h = cc
+orphan_is_found v (Put id body) cause e none h = cc
+orphan_is_found v (Delete id) cause e none h = cc
+orphan_is_found v (Attach child parent) cause e none h = cc
+orphan_is_found v (Detach child parent) cause e none h = cc
+orphan_is_found v Abort cause e none h = cc
 
-abort_is_not_refused : (m : CityMap) (c : Command) (cause : Cause) → c ≡ Abort → Refuses m c cause → ⊥
-abort_is_not_refused m Commit cause e h = cc
-abort_is_not_refused m (Read id) cause e h = cc
-abort_is_not_refused m (Put id body) cause e h = cc
-abort_is_not_refused m (Delete id) cause e h = cc
-abort_is_not_refused m (Attach child parent) cause e h = cc
-abort_is_not_refused m (Detach child parent) cause e h = cc
-abort_is_not_refused m Abort cause e h = cc
+abort_is_not_refused : (v : View) (c : Command) (cause : Cause) → c ≡ Abort → Refuses v c cause → ⊥
+abort_is_not_refused v Commit cause e h = cc
+abort_is_not_refused v (Mark name) cause e h = cc
+abort_is_not_refused v (Back name) cause e h = cc
+abort_is_not_refused v (Read id) cause e h = cc
+abort_is_not_refused v (Put id body) cause e h = cc
+abort_is_not_refused v (Delete id) cause e h = cc
+abort_is_not_refused v (Attach child parent) cause e h = cc
+abort_is_not_refused v (Detach child parent) cause e h = cc
+abort_is_not_refused v Abort cause e h = cc
 
-end_is_unique : (m : CityMap) (c : Command) (i : ℕ) (o p : Outcome) → is_no_memory o ≡ false → is_no_memory p ≡ false → EndsAt m c i o → EndsAt m c i p → o ≡ p
-end_is_unique m c i Outcome.Committed Outcome.Committed n l h k = refl
-end_is_unique m c i Outcome.Committed Outcome.Aborted n l h k = cc
-end_is_unique m c i Outcome.Committed (Outcome.Refused j x) n l h k = absurd (orphan_is_found m c x h.0 h.1 k.1)
-end_is_unique m c i Outcome.Aborted Outcome.Committed n l h k = cc
-end_is_unique m c i Outcome.Aborted Outcome.Aborted n l h k = refl
-end_is_unique m c i Outcome.Aborted (Outcome.Refused j x) n l h k = absurd (abort_is_not_refused m c x h k.1)
-end_is_unique m c i (Outcome.Refused j x) Outcome.Committed n l h k = absurd (orphan_is_found m c x k.0 k.1 h.1)
-end_is_unique m c i (Outcome.Refused j x) Outcome.Aborted n l h k = absurd (abort_is_not_refused m c x k h.1)
-end_is_unique m c i (Outcome.Refused j x) (Outcome.Refused t y) n l h k = let same = refusal_is_unique m c x y h.1 k.1 in cc
-end_is_unique m c i (Outcome.NoMemory j) p n l h k = absurd (false≢true (sym n))
-end_is_unique m c i o (Outcome.NoMemory j) n l h k = absurd (false≢true (sym l))
+end_is_unique : (v : View) (c : Command) (i : ℕ) (o p : Outcome) → is_no_memory o ≡ false → is_no_memory p ≡ false → EndsAt v c i o → EndsAt v c i p → o ≡ p
+end_is_unique v c i Outcome.Committed Outcome.Committed n l h k = refl
+end_is_unique v c i Outcome.Committed Outcome.Aborted n l h k = cc
+end_is_unique v c i Outcome.Committed (Outcome.Refused j x) n l h k = absurd (orphan_is_found v c x h.0 h.1 k.1)
+end_is_unique v c i Outcome.Aborted Outcome.Committed n l h k = cc
+end_is_unique v c i Outcome.Aborted Outcome.Aborted n l h k = refl
+end_is_unique v c i Outcome.Aborted (Outcome.Refused j x) n l h k = absurd (abort_is_not_refused v c x h k.1)
+end_is_unique v c i (Outcome.Refused j x) Outcome.Committed n l h k = absurd (orphan_is_found v c x k.0 k.1 h.1)
+end_is_unique v c i (Outcome.Refused j x) Outcome.Aborted n l h k = absurd (abort_is_not_refused v c x k h.1)
+end_is_unique v c i (Outcome.Refused j x) (Outcome.Refused t y) n l h k = let same = refusal_is_unique v c x y h.1 k.1 in cc
+end_is_unique v c i (Outcome.NoMemory j) p n l h k = absurd (false≢true (sym n))
+end_is_unique v c i o (Outcome.NoMemory j) n l h k = absurd (false≢true (sym l))
 
-refused_does_not_go_on : (m : CityMap) (c : Command) (r : Reply) (x : Cause) → Continues m c r → Refuses m c x → ⊥
-refused_does_not_go_on m (Read id) r x g h = cc
-refused_does_not_go_on m (Put id body) r x g h = cc
-refused_does_not_go_on m (Delete id) r x g h = cc
-refused_does_not_go_on m (Attach child parent) r x g h = cc
-refused_does_not_go_on m (Detach child parent) r x g h = cc
-refused_does_not_go_on m Commit r x g h = absurd (false≢true (sym g.0))
-refused_does_not_go_on m Abort r x g h = absurd (false≢true (sym g.0))
+refused_does_not_go_on : (v : View) (c : Command) (r : Reply) (x : Cause) → Continues v c r → Refuses v c x → ⊥
+refused_does_not_go_on v (Mark name) r x g h = cc
+refused_does_not_go_on v (Back name) r x g h = cc
+refused_does_not_go_on v (Read id) r x g h = cc
+refused_does_not_go_on v (Put id body) r x g h = cc
+refused_does_not_go_on v (Delete id) r x g h = cc
+refused_does_not_go_on v (Attach child parent) r x g h = cc
+refused_does_not_go_on v (Detach child parent) r x g h = cc
+refused_does_not_go_on v Commit r x g h = absurd (false≢true (sym g.0))
+refused_does_not_go_on v Abort r x g h = absurd (false≢true (sym g.0))
 
 -- a command doesn't end its script and go on
-ends_or_goes_on : (m : CityMap) (c : Command) (i : ℕ) (o : Outcome) (r : Reply) → is_no_memory o ≡ false → EndsAt m c i o → Continues m c r → ⊥
-ends_or_goes_on m c i Outcome.Committed r n h g = false≢true (sym g.0 ∙ ap is_end h.0)
-ends_or_goes_on m c i Outcome.Aborted r n h g = false≢true (sym g.0 ∙ ap is_end h)
-ends_or_goes_on m c i (Outcome.Refused j x) r n h g = refused_does_not_go_on m c r x g h.1
-ends_or_goes_on m c i (Outcome.NoMemory j) r n h g = false≢true (sym n)
+ends_or_goes_on : (v : View) (c : Command) (i : ℕ) (o : Outcome) (r : Reply) → is_no_memory o ≡ false → EndsAt v c i o → Continues v c r → ⊥
+ends_or_goes_on v c i Outcome.Committed r n h g = false≢true (sym g.0 ∙ ap is_end h.0)
+ends_or_goes_on v c i Outcome.Aborted r n h g = false≢true (sym g.0 ∙ ap is_end h)
+ends_or_goes_on v c i (Outcome.Refused j x) r n h g = refused_does_not_go_on v c r x g h.1
+ends_or_goes_on v c i (Outcome.NoMemory j) r n h g = false≢true (sym n)
 
 -- ---- one script
 
-result_from : (m : CityMap) (i : ℕ) (cs : List Command) (rs ss : List Reply) (o p : Outcome) → is_no_memory o ≡ false → is_no_memory p ≡ false
-    → EndsFrom m i cs rs o → EndsFrom m i cs ss p → (rs ≡ ss) × (o ≡ p)
-result_from m i [] rs ss o p n l h k = absurd h
-result_from m i (c ∷ cs) [] [] o p n l h k = (refl, end_is_unique m c i o p n l h k)
-result_from m i (c ∷ cs) [] (s ∷ ss) o p n l h k = absurd (ends_or_goes_on m c i o s n h k.0)
-result_from m i (c ∷ cs) (r ∷ rs) [] o p n l h k = absurd (ends_or_goes_on m c i p r l k h.0)
-result_from m i (c ∷ cs) (r ∷ rs) (s ∷ ss) o p n l h k =
-    let rest = result_from (after m c) (i + 1) cs rs ss o p n l h.1 k.1 in
+result_from : (v : View) (i : ℕ) (cs : List Command) (rs ss : List Reply) (o p : Outcome) → is_no_memory o ≡ false → is_no_memory p ≡ false
+    → EndsFrom v i cs rs o → EndsFrom v i cs ss p → (rs ≡ ss) × (o ≡ p)
+result_from v i [] rs ss o p n l h k = absurd h
+result_from v i (c ∷ cs) [] [] o p n l h k = (refl, end_is_unique v c i o p n l h k)
+result_from v i (c ∷ cs) [] (s ∷ ss) o p n l h k = absurd (ends_or_goes_on v c i o s n h k.0)
+result_from v i (c ∷ cs) (r ∷ rs) [] o p n l h k = absurd (ends_or_goes_on v c i p r l k h.0)
+result_from v i (c ∷ cs) (r ∷ rs) (s ∷ ss) o p n l h k =
+    let rest = result_from (step v c) (i + 1) cs rs ss o p n l h.1 k.1 in
     let first : r ≡ s = sym h.0.2 ∙ k.0.2 in
     (ap (λ t. t ∷ rs) first ∙ ap (λ ts. s ∷ ts) rest.0, rest.1)
 
 -- two results of a list of commands at one map are the same, unless there was no memory
 pub result_is_unique : (m : CityMap) (cs : List Command) (rs ss : List Reply) (o p : Outcome) → is_no_memory o ≡ false → is_no_memory p ≡ false
     → HasResult m cs rs o → HasResult m cs ss p → (rs ≡ ss) × (o ≡ p)
-result_is_unique m cs rs ss o p n l h k = result_from m 0 cs rs ss o p n l h k
+result_is_unique m cs rs ss o p n l h k = result_from (unmarked m) 0 cs rs ss o p n l h k
 
 -- ---- scripts run in their order
 

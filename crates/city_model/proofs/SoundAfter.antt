@@ -7,7 +7,7 @@ use Rattle.city_model.specs.declared.object.Body.{Body}
 use Rattle.city_model.specs.declared.command.Cause.{Cause}
 use Rattle.city_model.specs.declared.command.Cause.TheVariants.{TypeFixed, HasChildren, WrongFamily, AlreadyAttached, NotAttached}
 use Rattle.city_model.specs.declared.command.Command.{Command}
-use Rattle.city_model.specs.declared.command.Command.TheVariants.{Read, Put, Delete, Attach, Detach, Commit, Abort}
+use Rattle.city_model.specs.declared.command.Command.TheVariants.{Read, Put, Delete, Attach, Detach, Mark, Back, Commit, Abort}
 use Rattle.city_model.specs.CityMap.{CityMap, same_id, has_id, changed, parents_of, children_of}
 use Rattle.city_model.specs.Meaning.{with_body, put_cause, delete_cause, attach_cause, detach_cause, is_wrong_family, without_id, without_child, without_parent, with_child, with_parent, deleted, attached, detached, cause_of, effect_of, map_unless, after}
 use Rattle.city_model.specs.Shells.{body_fault}
@@ -259,5 +259,7 @@ sound_after m (Attach child parent) s = unless_sound (cause_of m (Attach child p
     (λ e. let allowed = attach_allowed m child parent (m child) (m parent) refl refl e in sound_attached m s child parent allowed.0 allowed.1 allowed.2)
 sound_after m (Detach child parent) s = unless_sound (cause_of m (Detach child parent)) m (effect_of m (Detach child parent)) s
     (λ e. sound_detached m s child parent (detach_allowed m child parent (m child) (m parent) refl s e))
+sound_after m (Mark name) s = s
+sound_after m (Back name) s = s
 sound_after m Commit s = s
 sound_after m Abort s = s

@@ -4,6 +4,7 @@ pub mod Faultless
 pub mod FrameLaw
 pub mod Integral
 pub mod Kept
+pub mod Marks
 pub mod Meaning
 pub mod Members
 pub mod Misrelated
@@ -15,5 +16,6 @@ pub mod Scripts
 pub mod SerialEnds
 pub mod Shells
 pub mod Standing
+pub mod TraceLaw
 pub mod Types
 pub mod Writing

@@ -4,15 +4,15 @@ use Rattle.std.specs.Prelude.{Option, Some, None, option_map, if◌then◌else�
 use Rattle.city_model.specs.declared.object.Object.{Object}
 use Rattle.city_model.specs.declared.object.Body.{Body}
 use Rattle.city_model.specs.declared.command.Command.{Command}
-use Rattle.city_model.specs.declared.command.Command.TheVariants.{Read, Put, Delete, Attach, Detach, Commit}
-use Rattle.city_model.specs.declared.command.Command.TheVariants.{Abort}
+use Rattle.city_model.specs.declared.command.Command.TheVariants.{Read, Put, Delete, Attach, Detach}
+use Rattle.city_model.specs.declared.command.Command.TheVariants.{Mark, Back, Commit, Abort}
 use Rattle.city_model.specs.declared.command.Cause.{Cause}
 use Rattle.city_model.specs.declared.command.Cause.TheVariants.{NoObject, TypeFixed, HasChildren, WrongFamily}
 use Rattle.city_model.specs.declared.command.Cause.TheVariants.{AlreadyAttached, NotAttached}
 use Rattle.city_model.specs.declared.command.Reply.{Reply}
 use Rattle.city_model.specs.declared.command.Reply.TheVariants.{Found, Absent, Added, Replaced, Deleted}
-use Rattle.city_model.specs.declared.command.Reply.TheVariants.{Attached, Detached, Committed, Aborted}
-use Rattle.city_model.specs.declared.command.Reply.TheVariants.{Refused}
+use Rattle.city_model.specs.declared.command.Reply.TheVariants.{Attached, Detached, Marked, WentBack}
+use Rattle.city_model.specs.declared.command.Reply.TheVariants.{Committed, Aborted, Refused}
 use Rattle.city_model.specs.CityMap.{CityMap, same_id, has_id, changed}
 use Rattle.city_model.specs.Relations.{is_second_level, same_type, same_family}
 use Rattle.city_model.specs.Shells.{body_fault}
@@ -98,13 +98,16 @@ detached m child parent =
 
 -- ---- every command
 
--- why the command is refused, judged from left to right; what Commit is refused by is `Answers`
+-- why the command is refused, judged from left to right; what Commit is refused by is `Refuses`, and a Back
+-- is refused by the marks (`refusal`)
 abbrev pub cause_of : CityMap → Command → Option Cause
 cause_of m (Read id) = None
 cause_of m (Put id body) = put_cause id body (m id) (body_fault body)
 cause_of m (Delete id) = delete_cause id (m id)
 cause_of m (Attach child parent) = attach_cause child (m child) parent (m parent)
 cause_of m (Detach child parent) = detach_cause child (m child) parent (m parent)
+cause_of m (Mark name) = None
+cause_of m (Back name) = None
 cause_of m Commit = None
 cause_of m Abort = None
 
@@ -115,6 +118,8 @@ effect_of m (Put id body) = changed m id (Some (with_body body (m id)))
 effect_of m (Delete id) = deleted m id
 effect_of m (Attach child parent) = attached m child parent
 effect_of m (Detach child parent) = detached m child parent
+effect_of m (Mark name) = m
+effect_of m (Back name) = m
 effect_of m Commit = m
 effect_of m Abort = m
 
@@ -125,6 +130,8 @@ done_reply m (Put id body) = put_done (m id)
 done_reply m (Delete id) = Deleted
 done_reply m (Attach child parent) = Attached
 done_reply m (Detach child parent) = Detached
+done_reply m (Mark name) = Marked
+done_reply m (Back name) = WentBack
 done_reply m Commit = Committed
 done_reply m Abort = Aborted
 
@@ -145,6 +152,8 @@ is_refusal Replaced = false
 is_refusal Deleted = false
 is_refusal Attached = false
 is_refusal Detached = false
+is_refusal Marked = false
+is_refusal WentBack = false
 is_refusal Committed = false
 is_refusal Aborted = false
 
@@ -171,5 +180,7 @@ locks_of m (Put id body) = (id, true) ∷ []
 locks_of m (Delete id) = (id, true) ∷ delete_locks (m id)
 locks_of m (Attach child parent) = (child, true) ∷ (parent, true) ∷ []
 locks_of m (Detach child parent) = (child, true) ∷ (parent, true) ∷ []
+locks_of m (Mark name) = []
+locks_of m (Back name) = []
 locks_of m Commit = []
 locks_of m Abort = []

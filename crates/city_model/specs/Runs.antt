@@ -12,44 +12,48 @@ use Rattle.city_model.specs.declared.end.End.{End}
 use Rattle.city_model.specs.declared.end.Outcome.{Outcome}
 use Rattle.city_model.specs.CityMap.{CityMap, changed}
 use Rattle.city_model.specs.Relations.{HasNoOrphan, IsLeastOrphan}
-use Rattle.city_model.specs.Meaning.{cause_of, after, reply_to}
+use Rattle.city_model.specs.Marks.{View, unmarked, refusal, step, answer}
 use Rattle.city_model.specs.Scripts.{is_end}
 
 -- a script: its name and its commands
 abbrev pub Scripted : Type 0
 Scripted = List ℕ × List Command
 
--- the map after commands, each at what the one before left
+-- what is seen after commands, each at what the one before left
+abbrev pub view_after : View → List Command → View
+view_after v [] = v
+view_after v (c ∷ cs) = view_after (step v c) cs
+
+-- the map after commands that begin without marks
 abbrev pub map_after : CityMap → List Command → CityMap
-map_after m [] = m
-map_after m (c ∷ cs) = map_after (after m c) cs
+map_after m cs = (view_after (unmarked m) cs).map
 
 -- the command is refused by this cause
-abbrev pub Refuses : CityMap → Command → Cause → Type 0
-Refuses m Commit cause = (id : List ℕ) × (cause ≡ Orphan id) × IsLeastOrphan m id
-Refuses m c cause = cause_of m c ≡ Some cause
+abbrev pub Refuses : View → Command → Cause → Type 0
+Refuses v Commit cause = (id : List ℕ) × (cause ≡ Orphan id) × IsLeastOrphan v.map id
+Refuses v c cause = refusal v c ≡ Some cause
 
--- the command, which is number i, ends its script so at the map m
-abbrev pub EndsAt : CityMap → Command → ℕ → Outcome → Type 0
-EndsAt m c i Outcome.Committed = (c ≡ Commit) × HasNoOrphan m
-EndsAt m c i Outcome.Aborted = c ≡ Abort
-EndsAt m c i (Outcome.Refused j cause) = (j ≡ i) × Refuses m c cause
-EndsAt m c i (Outcome.NoMemory j) = j ≡ i
+-- the command, which is number i, ends its script so at the view v
+abbrev pub EndsAt : View → Command → ℕ → Outcome → Type 0
+EndsAt v c i Outcome.Committed = (c ≡ Commit) × HasNoOrphan v.map
+EndsAt v c i Outcome.Aborted = c ≡ Abort
+EndsAt v c i (Outcome.Refused j cause) = (j ≡ i) × Refuses v c cause
+EndsAt v c i (Outcome.NoMemory j) = j ≡ i
 
 -- the command, which doesn't end its script, is answered so
-abbrev pub Continues : CityMap → Command → Reply → Type 0
-Continues m c reply = (is_end c ≡ false) × (cause_of m c ≡ None) × (reply_to m c ≡ reply)
+abbrev pub Continues : View → Command → Reply → Type 0
+Continues v c reply = (is_end c ≡ false) × (refusal v c ≡ None) × (answer v c ≡ reply)
 
 -- the commands from number i on, run at m: these replies, none of them a refusal, and then this outcome
-abbrev pub EndsFrom : CityMap → ℕ → List Command → List Reply → Outcome → Type 0
-EndsFrom m i [] replies outcome = ⊥
-EndsFrom m i (c ∷ cs) [] outcome = EndsAt m c i outcome
-EndsFrom m i (c ∷ cs) (r ∷ rs) outcome = Continues m c r × EndsFrom (after m c) (i + 1) cs rs outcome
+abbrev pub EndsFrom : View → ℕ → List Command → List Reply → Outcome → Type 0
+EndsFrom v i [] replies outcome = ⊥
+EndsFrom v i (c ∷ cs) [] outcome = EndsAt v c i outcome
+EndsFrom v i (c ∷ cs) (r ∷ rs) outcome = Continues v c r × EndsFrom (step v c) (i + 1) cs rs outcome
 
 -- what a script gives at the map m: the replies before its ending command, and how it ends;
 -- want of memory may end it at any command
 abbrev pub HasResult : CityMap → List Command → List Reply → Outcome → Type 0
-HasResult m commands replies outcome = EndsFrom m 0 commands replies outcome
+HasResult m commands replies outcome = EndsFrom (unmarked m) 0 commands replies outcome
 
 -- the map that a script leaves: what its commands made, where it commits, and else what was there
 abbrev pub map_left : CityMap → List Command → Outcome → CityMap

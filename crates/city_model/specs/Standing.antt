@@ -4,8 +4,9 @@ use Rattle.std.specs.Prelude.{◌≡◌, ℕ, List, [], ◌∷◌, Bool, true, f
 use Rattle.std.specs.Prelude.{if◌then◌else◌}
 use Rattle.city_model.specs.declared.command.Command.{Command}
 use Rattle.city_model.specs.declared.command.Reply.{Reply}
-use Rattle.city_model.specs.CityMap.{CityMap, has_id}
-use Rattle.city_model.specs.Meaning.{reply_to, after, locks_of}
+use Rattle.city_model.specs.CityMap.{has_id}
+use Rattle.city_model.specs.Meaning.{locks_of}
+use Rattle.city_model.specs.Marks.{View, step, answer}
 
 -- how a transaction holds each id: not, shared (false) or exclusively (true)
 abbrev pub Held : Type 0
@@ -35,11 +36,11 @@ answered cs [] = []
 answered [] (r ∷ rs) = []
 answered (c ∷ cs) (r ∷ rs) = (c, r) ∷ answered cs rs
 
--- from the first map the commands get these replies, each with its locks held, and lead to the second
-abbrev pub Follows : Held → CityMap → List Answered → CityMap → Type 0
-Follows held m [] n = n ≡ m
-Follows held m (d ∷ ds) n =
-    AllHeld held (locks_of m d.0) × (reply_to m d.0 ≡ d.1) × Follows held (after m d.0) ds n
+-- from the first view the commands get these replies, each with its locks held, and lead to the second
+abbrev pub Follows : Held → View → List Answered → View → Type 0
+Follows held v [] w = w ≡ v
+Follows held v (d ∷ ds) w =
+    AllHeld held (locks_of v.map d.0) × (answer v d.0 ≡ d.1) × Follows held (step v d.0) ds w
 
 -- ---- what locks name
 

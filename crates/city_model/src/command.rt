@@ -1,6 +1,6 @@
 //! The commands of a script, and what they are answered.
 use crate::object::{Body, Object};
-use crate::text::Id;
+use crate::text::{Id, Text};
 
 /// A command of a script.
 #[derive(Drop)]
@@ -15,6 +15,10 @@ pub enum Command {
     Attach(Id, Id),
     /// Makes the first object no longer a child of the second.
     Detach(Id, Id),
+    /// Marks what the script sees by a name. A name may be used again.
+    Mark(Text),
+    /// Makes what the script sees that of the newest mark of the name, which stays; newer marks go.
+    Back(Text),
     /// Ends the script; what it wrote stays.
     Commit,
     /// Ends the script; what it wrote is undone.
@@ -44,6 +48,8 @@ pub enum Cause {
     OpenShell,
     /// The object of this id is second-level and has no parent.
     Orphan(Id),
+    /// The script has no mark of this name.
+    NoMark(Text),
 }
 
 /// What a command is answered.
@@ -56,6 +62,8 @@ pub enum Reply {
     Deleted,
     Attached,
     Detached,
+    Marked,
+    WentBack,
     Committed,
     Aborted,
     Refused(Cause),

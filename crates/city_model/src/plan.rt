@@ -3,7 +3,7 @@ ghost use Rattle.std.specs.Prelude.{◌≡◌, false, IfOk};
 ghost use Rattle.city_model.specs.FrameLaw.{FrameLaw};
 ghost use Rattle.city_model.specs.Plans.{IsPlan};
 ghost use Rattle.city_model.specs.Relations.{IsSound};
-ghost use Rattle.city_model.specs.Scripts.{is_end};
+ghost use Rattle.city_model.specs.Scripts.{is_end, is_mark};
 
 use crate::OutOfMemory;
 use crate::change::Change;
@@ -30,13 +30,15 @@ pub enum Plan {
     Writes(Reply, Change),
 }
 
-/// What is to come of a command that doesn't end its script, at a sound city; nothing is written.
+/// What is to come of a command that neither ends its script nor is about marks, at a sound city;
+/// nothing is written.
 ///
 /// It copies the objects that the command gives or changes; the one refusal is want of memory.
 /// The plan is as good at each other sound city that agrees with this one on the ids that the
 /// command locks.
 pub fn plan_of<V: View>(alloc: Global, view: &V, command: &Command) -> Result<Plan, OutOfMemory>
     requires no_end { is_end command.now ≡ false }
+    requires no_mark { is_mark command.now ≡ false }
     requires sound { IsSound (V.map view.now) }
     ensures plan { IfOk result (IsPlan (V.map view.now) command.now) }
     ensures frame { FrameLaw (V.map view.now) command.now }
@@ -47,6 +49,6 @@ pub fn plan_of<V: View>(alloc: Global, view: &V, command: &Command) -> Result<Pl
         Command::Delete(id) => plan_delete(alloc, view, id),
         Command::Attach(child, parent) => plan_attach(alloc, view, child, parent),
         Command::Detach(child, parent) => plan_detach(alloc, view, child, parent),
-        Command::Commit | Command::Abort => unreachable!(),
+        Command::Mark(_) | Command::Back(_) | Command::Commit | Command::Abort => unreachable!(),
     }
 }

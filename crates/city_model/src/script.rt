@@ -1,6 +1,11 @@
 //! A script: a list of commands that is run as one transaction.
-ghost use Rattle.std.specs.Prelude.{◌≡◌, true, IfOk, IfErr, is_ok};
+ghost use Rattle.std.specs.Prelude.{◌≡◌, true, IfOk, IfErr, is_ok, take, ℕ};
+ghost use Rattle.city_model.specs.CityMap.{CityMap};
+ghost use Rattle.city_model.specs.Marks.{unmarked, IsSoundView};
+ghost use Rattle.city_model.specs.Relations.{IsSound};
+ghost use Rattle.city_model.specs.Runs.{view_after};
 ghost use Rattle.city_model.specs.Scripts.{is_end, ends_once};
+ghost use Rattle.city_model.specs.TraceLaw.{TraceLaw};
 
 use crate::command::Command;
 use crate::sequence::Sequence;
@@ -55,9 +60,14 @@ impl Script {
     }
 
     /// The script's commands, the last of which ends it. Takes no memory.
+    ///
+    /// Of a sound city the first so many of them leave a sound one, and so is that of each mark; and
+    /// they see and write only what they lock.
     pub fn commands(&self) -> &[Command]
         ensures commands { result.now ≡ self.now.1 }
         ensures ends { ends_once self.now.1 ≡ true }
+        ensures sound { (m : CityMap) (k : ℕ) → IsSound m → IsSoundView (view_after (unmarked m) (take k self.now.1)) }
+        ensures frame { (m : CityMap) (k : ℕ) → IsSound m → TraceLaw m (take k self.now.1) }
     {
         self.commands.as_slice()
     }

@@ -1,0 +1,58 @@
+-- Commands that run one after another see and write only what they lock: from another map that agrees there
+-- they do the same.
+use Rattle.std.specs.Prelude.{◌≡◌, ℕ, List, [], ◌∷◌, Bool, true, false, Option, None, Some, is_some, map, if◌then◌else◌}
+use Rattle.city_model.specs.declared.command.Command.{Command}
+use Rattle.city_model.specs.declared.command.Reply.{Reply}
+use Rattle.city_model.specs.CityMap.{CityMap}
+use Rattle.city_model.specs.Marks.{Marked, View, unmarked, step, answer}
+use Rattle.city_model.specs.Meaning.{locks_of}
+use Rattle.city_model.specs.Relations.{IsSound}
+use Rattle.city_model.specs.Runs.{view_after}
+use Rattle.city_model.specs.Standing.{Held, covers, names, names_exclusively}
+
+-- how locks name an id: not, shared (false) or exclusively (true)
+abbrev pub as_named : Bool → Bool → Option Bool
+as_named true named = Some true
+as_named false true = Some false
+as_named false false = None
+
+abbrev pub stronger_of : Option Bool → Option Bool → Option Bool
+stronger_of None y = y
+stronger_of (Some true) y = Some true
+stronger_of (Some false) None = Some false
+stronger_of (Some false) (Some b) = Some b
+
+-- how the locks of the commands name each id, the locks of each at the map that it meets
+abbrev pub named_by : View → List Command → Held
+named_by v [] q = None
+named_by v (c ∷ cs) q =
+    stronger_of (as_named (names_exclusively (locks_of v.map c) q) (names (locks_of v.map c) q)) (named_by (step v c) cs q)
+
+-- what the commands are answered
+abbrev pub replies_to : View → List Command → List Reply
+replies_to v [] = []
+replies_to v (c ∷ cs) = answer v c ∷ replies_to (step v c) cs
+
+-- the map where it is held exclusively, and the other one elsewhere
+abbrev pub carried_map : Held → CityMap → CityMap → CityMap
+carried_map held other m = λ q. if covers (held q) true then m q else other q
+
+abbrev pub carried_marks : Held → CityMap → List Marked → List Marked
+carried_marks held other ks = map (λ k. (k.0, carried_map held other k.1)) ks
+
+-- the same of a map and of each of its marks
+abbrev pub carried : Held → CityMap → View → View
+carried held other v =
+    record { map = carried_map held other v.map; marks = carried_marks held other v.marks }
+
+-- of the same commands at two maps: the same replies; and where the locks name an id exclusively, the map and
+-- each mark of the one are those of the other, and elsewhere as at its start
+pub record IsTraceFramed (m n : CityMap) (cs : List Command) : Type 0 where
+  pub replies : replies_to (unmarked n) cs ≡ replies_to (unmarked m) cs
+  pub view : view_after (unmarked n) cs
+      ≡ carried (named_by (unmarked m) cs) n (view_after (unmarked m) cs)
+
+-- the commands do the same at each other sound map that agrees with this one on the ids that their locks name
+abbrev pub TraceLaw : CityMap → List Command → Type 0
+TraceLaw m cs = (n : CityMap) → IsSound n
+    → ((id : List ℕ) → is_some (named_by (unmarked m) cs id) ≡ true → m id ≡ n id) → IsTraceFramed m n cs
