@@ -2,6 +2,7 @@
 ghost use Rattle.std.specs.Prelude.{◌≤◌};
 
 use crate::runs::{CHILD_OF_TWO, READ_TWICE, Run, TWO_READERS, TWO_WRITERS};
+use crate::savepoints::MET;
 use crate::serial::written;
 use city_crew::{Gate, OpenGate, run_crew};
 use std::alloc::Global;
@@ -37,7 +38,7 @@ impl Gate for TurnByTurn {
 }
 
 /// Runs that leave one model in whichever order their scripts end.
-const RUNS: [Run; 3] = [CHILD_OF_TWO, TWO_READERS, READ_TWICE];
+const RUNS: [Run; 4] = [CHILD_OF_TWO, TWO_READERS, READ_TWICE, MET];
 
 /// Whether so many workers leave a run's model, at the end of what they write.
 fn leave_the_model<R: Threads + Wait + Sync>(

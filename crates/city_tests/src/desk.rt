@@ -203,7 +203,7 @@ fn wanted(alloc: Global, report: &str, model: &str, changes: &str) -> Result<Str
 }
 
 /// Whether a run's turns are answered so, and leave this report, the run's model and these changes.
-fn leave(alloc: Global, run: &Run, turns: &str, report: &str, changes: &str) -> bool {
+pub fn leave(alloc: Global, run: &Run, turns: &str, report: &str, changes: &str) -> bool {
     let Ok(wanted) = wanted(alloc, report, run.model, changes) else {
         return false;
     };
@@ -246,7 +246,7 @@ fn scripts_in_their_order_leave_what_a_serial_run_does(rt: HostRuntime) {
 }
 
 /// Whether what a stop leaves is a serial history, after none of the turns, after one of them, ..
-fn are_stopped(alloc: Global, run: &Run, turns: &str) -> bool {
+pub fn are_stopped(alloc: Global, run: &Run, turns: &str) -> bool {
     (0..=turns.split(", ").count()).all(|count| stopped(alloc, run, turns, count).is_some())
 }
 

@@ -49,6 +49,8 @@ mod runs;
 #[cfg(test)]
 mod samples;
 #[cfg(test)]
+mod savepoints;
+#[cfg(test)]
 mod schedules;
 #[cfg(test)]
 mod scripts;

@@ -9,6 +9,7 @@ use crate::board::{PUTS, commit_next, counted, opened, opened_to_one, scripts_of
 use crate::replay::replayed;
 use crate::runs::{ABORTED, CHILD_OF_TWO, CUBE, ORPHAN, Run, TWO_READERS};
 use crate::samples::{Row, text};
+use crate::savepoints::{MARKED_MODEL, NESTED_TURNS, UNDELETED};
 use crate::serial::written;
 use crate::turns::{Turn, is_put_whole_or_not_at_all, played};
 use crate::txn::{
@@ -59,7 +60,7 @@ fn an_ask_leaves_the_table(rt: HostRuntime) -> Result<(), Fail> {
 }
 
 /// Runs of transactions, each with the city that is left.
-const PLAYED: [(&[Row], &[Turn], &str); 4] = [
+const PLAYED: [(&[Row], &[Turn], &str); 5] = [
     (READER_MODEL, READER_TURNS, "b Building; "),
     (
         SIBLING_MODEL,
@@ -72,6 +73,7 @@ const PLAYED: [(&[Row], &[Turn], &str); 4] = [
         REFUSAL_TURNS,
         "b Building; p BuildingPart <r; q BuildingPart <r; r Building >q >p; ",
     ),
+    (MARKED_MODEL, NESTED_TURNS, "x LandUse 4; "),
 ];
 
 #[test]
@@ -134,8 +136,8 @@ fn board_leaves_a_history<R: Wait>(rt: &R, alloc: Global, run: &Run) -> Option<b
     Some(leaves_a_history(desk, alloc, run))
 }
 
-/// Runs that put, delete, attach and abort, and that wait and die.
-const RUNS: [Run; 4] = [ABORTED, CHILD_OF_TWO, ORPHAN, TWO_READERS];
+/// Runs that put, delete, attach, abort and go back, and that wait and die.
+const RUNS: [Run; 5] = [ABORTED, CHILD_OF_TWO, ORPHAN, TWO_READERS, UNDELETED];
 
 /// Why a test isn't taken.
 const SHORT: &str = "no memory to begin with";
@@ -155,6 +157,24 @@ fn turns_before_a_board_leave_a_serial_history(rt: HostRuntime) -> Result<(), Fa
         let left = board_leaves_a_history(&rt, rt.alloc(), run).ok_or(SHORT)?;
         assert!(&rt; left, "{}", run.shows);
     }
+    Ok(())
+}
+
+/// Whether no script of a desk ends for want of memory at its command 3.
+fn never_ends_at_three(alloc: Global, run: &Run) -> Option<bool> {
+    let mut desk = crate::desk::opened(alloc, run)?;
+    end_all(&mut desk);
+    Some(
+        desk.ends()
+            .iter()
+            .all(|end| !matches!(end.outcome, Outcome::NoMemory(3))),
+    )
+}
+
+#[test]
+fn going_back_takes_no_memory(rt: HostRuntime) -> Result<(), Fail> {
+    let went = never_ends_at_three(rt.alloc(), &UNDELETED).ok_or(SHORT)?;
+    assert!(rt; went);
     Ok(())
 }
 

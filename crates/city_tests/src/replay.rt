@@ -1,12 +1,13 @@
 //! The scripts of a list of ends, played one at a time in the order of their ends.
 //!
 //! A script is played by the plans of its commands, on a copy of the city that is kept where the
-//! script commits: no lock, no transaction and no desk has a part in it.
-ghost use Rattle.std.specs.Prelude.{◌≡◌, false, OnOk};
+//! script commits. A script that goes back is one that never had the commands since the mark: the others
+//! are done anew. No lock, no transaction and no desk has a part in it.
+ghost use Rattle.std.specs.Prelude.{◌≡◌, false, IfOk, OnOk};
 ghost use Rattle.city_model.specs.CityMap.{at};
 ghost use Rattle.city_model.specs.Relations.{IsSound};
 ghost use Rattle.city_model.specs.Runs.{with_change};
-ghost use Rattle.city_model.specs.Scripts.{is_end};
+ghost use Rattle.city_model.specs.Scripts.{is_end, is_mark};
 
 use crate::runs::{Run, text_of};
 use city_doc::{read_city, read_scripts, write_city, write_report};
@@ -20,6 +21,7 @@ use city_model::orphans::least_orphan;
 use city_model::plan::{Plan, plan_of};
 use city_model::script::{Script, is_end};
 use city_model::sequence::Sequence;
+use city_model::text::Text;
 use std::alloc::Global;
 
 /// Writes a change into the city.
@@ -35,9 +37,11 @@ pub fn write(city: &mut City, change: Change) -> Result<(), OutOfMemory>
     Ok(())
 }
 
-/// The reply to a command that doesn't end its script, which is written into the city.
+/// The reply to a command that neither ends its script nor is about marks, which is written into the
+/// city.
 fn perform(alloc: Global, city: &mut City, command: &Command) -> Result<Reply, OutOfMemory>
     requires no_end { is_end command.now ≡ false }
+    requires no_mark { is_mark command.now ≡ false }
     requires sound { IsSound (at city.old.1) }
     ensures { OnOk result (IsSound (at city.new.1)) }
 {
@@ -47,6 +51,89 @@ fn perform(alloc: Global, city: &mut City, command: &Command) -> Result<Reply, O
             write(city, change)?;
             Ok(reply)
         }
+    }
+}
+
+/// Does a command anew that was done before; marks and ways back do nothing to the city.
+fn redo(alloc: Global, city: &mut City, command: &Command) -> Result<(), OutOfMemory>
+    requires { IsSound (at city.old.1) }
+    ensures { OnOk result (IsSound (at city.new.1)) }
+{
+    match command {
+        Command::Mark(_) | Command::Back(_) | Command::Commit | Command::Abort => {}
+        _ => drop(perform(alloc, city, command)?),
+    }
+    Ok(())
+}
+
+/// The city after these commands.
+fn redone(alloc: Global, opening: &City, commands: &[&Command]) -> Result<City, OutOfMemory>
+    requires { IsSound (at opening.now.1) }
+    ensures { IfOk result (λ city. IsSound (at city.1)) }
+{
+    let mut city = opening.copy(alloc)?;
+    for command in commands {
+        redo(alloc, &mut city, command)?;
+    }
+    Ok(city)
+}
+
+fn is_mark_of(command: &Command, name: &Text) -> bool {
+    match command {
+        Command::Mark(other) => *other == *name,
+        _ => false,
+    }
+}
+
+/// The place of the newest mark of the name.
+fn newest_mark(commands: &[&Command], name: &Text) -> Option<usize> {
+    let mut newest = None;
+    for (place, command) in commands.iter().enumerate() {
+        if is_mark_of(command, name) {
+            newest = Some(place);
+        }
+    }
+    newest
+}
+
+/// Goes back: the commands since the newest mark of the name no longer count, and the others are done
+/// anew.
+fn go_back(
+    alloc: Global,
+    opening: &City,
+    city: &mut City,
+    counted: &mut Vec<&Command>,
+    name: &Text,
+) -> Result<Reply, OutOfMemory>
+    requires opening { IsSound (at opening.now.1) }
+    requires sound { IsSound (at city.old.1) }
+    ensures { OnOk result (IsSound (at city.new.1)) }
+{
+    let Some(place) = newest_mark(counted.as_slice(), name) else {
+        return Ok(Reply::Refused(Cause::NoMark(name.copy(alloc)?)));
+    };
+    counted.truncate(place.saturating_add(1));
+    *city = redone(alloc, opening, counted.as_slice())?;
+    Ok(Reply::WentBack)
+}
+
+/// The reply to a command that doesn't end its script, after those that count of it.
+fn reply_to(
+    alloc: Global,
+    opening: &City,
+    city: &mut City,
+    counted: &mut Vec<&Command>,
+    command: &Command,
+) -> Result<Reply, OutOfMemory>
+    requires no_end { is_end command.now ≡ false }
+    requires opening { IsSound (at opening.now.1) }
+    requires sound { IsSound (at city.old.1) }
+    ensures { OnOk result (IsSound (at city.new.1)) }
+{
+    match command {
+        Command::Mark(_) => Ok(Reply::Marked),
+        Command::Back(name) => go_back(alloc, opening, city, counted, name),
+        _ => perform(alloc, city, command),
     }
 }
 
@@ -66,25 +153,29 @@ fn ended(
     }
 }
 
-/// Plays the commands, and gives how they end: where none of them ends the script, for want of
+/// Plays the commands on a copy of the opening city, and gives how they end: where none of them ends the script, for want of
 /// memory at the next one.
 fn play(
     alloc: Global,
+    opening: &City,
     city: &mut City,
     commands: &[Command],
     replies: &mut Sequence<Reply>,
 ) -> Result<Outcome, OutOfMemory>
-    requires { IsSound (at city.old.1) }
+    requires opening { IsSound (at opening.now.1) }
+    requires sound { IsSound (at city.old.1) }
     ensures { OnOk result (IsSound (at city.new.1)) }
 {
+    let mut counted = Vec::new(alloc);
     for (number, command) in commands.iter().enumerate() {
         if is_end(command) {
             return ended(alloc, city, command, number);
         }
-        match perform(alloc, city, command)? {
+        match reply_to(alloc, opening, city, &mut counted, command)? {
             Reply::Refused(cause) => return Ok(Outcome::Refused(number, cause)),
             reply => replies.push(reply)?,
         }
+        counted.push(command)?;
     }
     Ok(Outcome::NoMemory(commands.len()))
 }
@@ -109,7 +200,7 @@ fn play_on_copy(
     ensures { IsSound (at city.new.1) }
 {
     let mut copy = city.copy(alloc)?;
-    match play(alloc, &mut copy, commands, replies) {
+    match play(alloc, city, &mut copy, commands, replies) {
         Ok(Outcome::Committed) => {
             *city = copy;
             Ok(Outcome::Committed)

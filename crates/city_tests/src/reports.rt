@@ -67,6 +67,19 @@ fn refused_end_names_its_cause_and_object(rt: HostRuntime) -> Result<(), Fail> {
 }
 
 #[test]
+fn refused_way_back_names_its_mark(rt: HostRuntime) -> Result<(), Fail> {
+    let alloc = rt.alloc();
+    let replies = vec![in alloc; Reply::Marked, Reply::Added, Reply::Marked, Reply::WentBack]?;
+    let no_mark = Cause::NoMark(text(alloc, "b")?);
+    let report = report_of(alloc, 0, replies, Outcome::Refused(4, no_mark))?;
+    assert_eq!(rt;
+        report.as_slice(),
+        "{\"at\":4,\"cause\":\"NoMark\",\"mark\":\"b\",\"name\":\"a\",\"outcome\":\"refused\",\"replies\":[\"marked\",\"added\",\"marked\",\"back\"],\"script\":0,\"since\":0}\n".as_bytes()
+    );
+    Ok(())
+}
+
+#[test]
 fn end_without_memory_names_the_command(rt: HostRuntime) -> Result<(), Fail> {
     let alloc = rt.alloc();
     let report = report_of(alloc, 0, Vec::new(alloc), Outcome::NoMemory(2))?;

@@ -1,18 +1,20 @@
-//! Two scripts of three commands on two objects, in each order in which their commands can be tried.
+//! Two scripts of about three commands on two objects, in each order in which their commands can be tried.
 use crate::desk::{left_finished, opened, turn};
 use crate::runs::{
     OPPOSITE_ORDERS, PARENT_AND_CHILD, Run, TWO_READERS, TWO_WRITERS, UNDONE_WRITES,
 };
+use crate::savepoints::MET;
 use city_desk::{Desk, ListShelf};
 use std::alloc::Global;
 
-/// Runs of two scripts, each of three commands.
-const RUNS: [Run; 5] = [
+/// Runs of two scripts, each of three commands or of about so many.
+const RUNS: [Run; 6] = [
     TWO_READERS,
     TWO_WRITERS,
     OPPOSITE_ORDERS,
     UNDONE_WRITES,
     PARENT_AND_CHILD,
+    MET,
 ];
 
 /// Whose turn it is, once both scripts have begun: all interleavings of three turns of each.

@@ -70,6 +70,8 @@ fn shown(text: &mut String, command: &Command) -> Result<(), Fail> {
         Command::Delete(id) => write!(text, " delete {id};")?,
         Command::Attach(child, parent) => write!(text, " attach {child} to {parent};")?,
         Command::Detach(child, parent) => write!(text, " detach {child} from {parent};")?,
+        Command::Mark(name) => write!(text, " mark {name};")?,
+        Command::Back(name) => write!(text, " back to {name};")?,
         Command::Commit => text.push_str(" commit;")?,
         Command::Abort => text.push_str(" abort;")?,
     }
@@ -127,7 +129,7 @@ fn misread(rt: &HostRuntime, rows: &[(&str, &str)]) -> Result<String, Fail> {
     Ok(String::new(rt.alloc()))
 }
 
-const READ_AS: [(&str, &str); 6] = [
+const READ_AS: [(&str, &str); 7] = [
     ("[]", ""),
     ("[{\"name\":\"\",\"commands\":[\"abort\"]}]", ": abort;"),
     (
@@ -145,6 +147,10 @@ const READ_AS: [(&str, &str); 6] = [
     (
         "[{\"name\":\"a\",\"commands\":[{\"delete\":\"p\"},\"commit\"]},{\"name\":\"b\",\"commands\":[{\"put\":\"q\",\"object\":{\"type\":\"BuildingPart\"}},{\"attach\":\"q\",\"parent\":\"b2\"},{\"parent\":\"b\",\"detach\":\"p\"},\"abort\"]}]",
         "a: delete p; commit;b: put q BuildingPart 0; attach q to b2; detach p from b; abort;",
+    ),
+    (
+        "[{\"name\":\"a\",\"commands\":[{\"mark\":\"m\"},{\"mark\":\"\"},{\"back\":\"\\u006d\"},{\"back\":\"m\"},\"commit\"]}]",
+        "a: mark m; mark ; back to m; back to m; commit;",
     ),
 ];
 
@@ -277,7 +283,7 @@ fn positions_without_a_vertex_are_refused(rt: HostRuntime) -> Result<(), Fail> {
     Ok(())
 }
 
-const BAD_COMMANDS: [&str; 33] = [
+const BAD_COMMANDS: [&str; 43] = [
     "{\"read\":1}",
     "1",
     "null",
@@ -311,6 +317,16 @@ const BAD_COMMANDS: [&str; 33] = [
     "{\"detach\":\"x\",\"parent\":\"y\",\"more\":1}",
     "{\"detach\":\"x\",\"object\":{}}",
     "{\"parent\":\"y\",\"more\":\"x\"}",
+    "\"mark\"",
+    "\"back\"",
+    "{\"mark\":1}",
+    "{\"back\":null}",
+    "{\"back\":{\"mark\":\"m\"}}",
+    "{\"mark\":\"m\",\"back\":\"m\"}",
+    "{\"mark\":\"m\",\"more\":1}",
+    "{\"mark\":\"m\",\"object\":{\"type\":\"Road\"}}",
+    "{\"back\":\"m\",\"parent\":\"y\"}",
+    "{\"back\":\"m\",\"read\":\"x\"}",
 ];
 
 /// A text of two scripts, where this command of the second is the first fault.

@@ -22,7 +22,7 @@ pub fn written(alloc: Global, run: &Run, output: &Output) -> Option<String> {
 }
 
 /// What a serial run writes, or why it is refused.
-fn answer(alloc: Global, run: &Run) -> Option<String> {
+pub fn answer(alloc: Global, run: &Run) -> Option<String> {
     match run_serial(alloc, run.document.as_bytes(), run.scripts.as_bytes()) {
         Ok(output) if output.seen.is_empty() => written(alloc, run, &output),
         Ok(_) => None,

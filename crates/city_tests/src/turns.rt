@@ -40,6 +40,12 @@ fn command(alloc: Global, verb: &str, id: &str, other: &str) -> Result<Command, 
     if verb == "detach" {
         return Ok(Command::Detach(at, text(alloc, other)?));
     }
+    if verb == "mark" {
+        return Ok(Command::Mark(at));
+    }
+    if verb == "back" {
+        return Ok(Command::Back(at));
+    }
     if verb == "put" {
         let kind = type_named(other).ok_or("no such type")?;
         return Ok(Command::Put(at, body(alloc, kind, "{}")?));
@@ -48,13 +54,14 @@ fn command(alloc: Global, verb: &str, id: &str, other: &str) -> Result<Command, 
     Ok(Command::Put(at, body(alloc, ObjectType::LandUse, &json)?))
 }
 
-/// The name of a cause, and the id that it names.
+/// The name of a cause, and the id or the mark that it names.
 fn cause_words(cause: &Cause) -> (&'static str, &str) {
     match cause {
         Cause::NoObject(id) => ("NoObject ", id.as_str()),
         Cause::TypeFixed(id) => ("TypeFixed ", id.as_str()),
         Cause::HasChildren(id) => ("HasChildren ", id.as_str()),
         Cause::Orphan(id) => ("Orphan ", id.as_str()),
+        Cause::NoMark(name) => ("NoMark ", name.as_str()),
         Cause::WrongFamily => ("WrongFamily", ""),
         Cause::AlreadyAttached => ("AlreadyAttached", ""),
         Cause::NotAttached => ("NotAttached", ""),
@@ -99,6 +106,8 @@ fn reply_text(alloc: Global, reply: &Reply) -> Result<String, Fail> {
         Reply::Deleted => "deleted",
         Reply::Attached => "attached",
         Reply::Detached => "detached",
+        Reply::Marked => "marked",
+        Reply::WentBack => "back",
         Reply::Committed | Reply::Aborted => return Err(Fail::new("no reply of a command")),
     };
     Ok(word.to_string(alloc)?)
@@ -151,7 +160,7 @@ fn commit(core: &mut Core, alloc: Global, stamp: u64) -> Result<String, Fail> {
     }
 }
 
-/// A stamp, what it does, at which id, with which other id, type or number, and the answer.
+/// A stamp, what it does, at which id or mark, with which other id, type or number, and the answer.
 pub type Turn<'a> = (u64, &'a str, &'a str, &'a str, &'a str);
 
 fn answer(core: &mut Core, alloc: Global, turn: &Turn) -> Result<String, Fail> {

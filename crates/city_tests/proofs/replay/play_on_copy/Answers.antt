@@ -4,4 +4,4 @@ use Rattle.city_model.specs.Relations.{IsSound}
 use Rattle.city_tests.proofs.replay.play_on_copy.Goals as goal
 
 pub play-requires : goal.play-requires
-play-requires c = subst (λ (city : CityValue). IsSound (at city.1)) (sym c.in_ok-copy.ensures) c.requires
+play-requires c = record { opening = c.requires; sound = subst (λ (city : CityValue). IsSound (at city.1)) (sym c.in_ok-copy.ensures) c.requires }
