@@ -4,6 +4,7 @@
 mod changing;
 mod command_locks;
 mod ending;
+mod going_back;
 mod image;
 mod lock;
 mod perform;
@@ -14,5 +15,6 @@ pub mod step;
 mod store;
 pub mod txn_core;
 mod undo;
+mod undo_log;
 mod would_lock;
 mod writing;
