@@ -7,7 +7,7 @@ use Rattle.city_model.specs.declared.command.Reply.{Reply}
 use Rattle.city_model.specs.CityMap.{CityMap}
 use Rattle.city_model.specs.Runs.{EndsAt}
 use Rattle.city_model.specs.declared.end.Outcome.{Outcome}
-use Rattle.city_model.specs.Marks.{marking, step, answer}
+use Rattle.city_model.specs.Marks.{View, marking, step, answer}
 use Rattle.city_model.specs.Meaning.{cause_of, after, is_refusal, locks_of}
 use Rattle.city_locks.specs.declared.answer.Answer.{Answer}
 use Rattle.city_locks.specs.declared.answer.Answer.TheVariants.{Granted, Wait, Die}
@@ -33,6 +33,10 @@ own_after m f command id = if writes_id m command id then Some (after m command 
 -- what the transaction would be replied to the command
 abbrev pub reply_in : CoreState → ℕ → Command → Reply
 reply_in v stamp command = answer (seen v stamp) command
+
+-- what it would see after the command
+abbrev pub seen_after : CoreState → ℕ → Command → View
+seen_after v stamp command = step (seen v stamp) command
 
 -- what its locks would be answered: the first that isn't granted, or Granted
 abbrev pub answer_in : CoreState → ℕ → Command → Answer
@@ -78,7 +82,7 @@ pub record Acted (stamp : ℕ) (command : Command) (result : Result Step TxnFaul
   -- told to wait, it is older than another open one; told to die, it is younger than one
   pub blocked : OnOk result (IsBlocked (λ t. is_open old t ≡ true) stamp (answer_in old stamp command))
   -- it sees what is seen after the command, where that is done; all else that is seen stays
-  pub seen : seen new stamp ≡ (if is_done result then step (seen old stamp) command else seen old stamp)
+  pub sees : seen new stamp ≡ (if is_done result then seen_after old stamp command else seen old stamp)
   pub city : committed new ≡ committed old
   pub views : (t : ℕ) → (stamp == t) ≡ false → seen new t ≡ seen old t
   pub opened : is_open new stamp ≡ is_open old stamp
@@ -88,7 +92,7 @@ pub record Acted (stamp : ℕ) (command : Command) (result : Result Step TxnFaul
   pub granted : OnOk result (AllHeld (held new stamp) (granted_in old stamp command))
   -- its writes gain just the ids that the command writes, a mark has the writes of now, and going back makes
   -- them those of the mark; the others' writes and marks stay
-  pub written : written new stamp ≡ (if is_done result
+  pub writes : written new stamp ≡ (if is_done result
       then written_as (marking command) (own_after (view old stamp) (own old stamp) command) (written old stamp)
       else written old stamp)
   pub unwritten : (id : List ℕ) → unless_by stamp (write_of new.writes id) ≡ unless_by stamp (write_of old.writes id)

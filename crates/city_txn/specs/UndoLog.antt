@@ -30,10 +30,12 @@ marked (Mark name ∷ es) f = (name, f) ∷ marked es f
 marked (Before id own ∷ es) f = marked es (update same_id f id own)
 
 -- whether an entry says what was written at the id
+abbrev pub is_before : List ℕ → Entry → Bool
+is_before id (Mark name) = false
+is_before id (Before q own) = same_id q id
+
 abbrev pub has_before : List Entry → List ℕ → Bool
-has_before [] id = false
-has_before (Mark name ∷ es) id = has_before es id
-has_before (Before q own ∷ es) id = same_id q id || has_before es id
+has_before es id = list_any (is_before id) es
 
 -- whether one that is newer than each mark does, so that a write of the id changes no mark
 abbrev pub is_noted : List Entry → List ℕ → Bool
@@ -54,11 +56,15 @@ abbrev pub is_at_mark : List Entry → List ℕ → Bool
 is_at_mark [] name = false
 is_at_mark (e ∷ es) name = is_mark name e
 
--- what was written before the newest entry
-abbrev pub one_undone : List Entry → OwnWrites → OwnWrites
-one_undone [] f = f
-one_undone (Mark name ∷ es) f = f
-one_undone (Before id own ∷ es) f = update same_id f id own
+-- what was written before an entry
+abbrev pub undone : Entry → OwnWrites → OwnWrites
+undone (Mark name) f = f
+undone (Before id own) f = update same_id f id own
+
+-- and before the newest one
+abbrev pub newest_undone : List Entry → OwnWrites → OwnWrites
+newest_undone [] f = f
+newest_undone (e ∷ es) f = undone e f
 
 -- ---- what a transaction wrote, with its marks
 

@@ -20,10 +20,10 @@ pub fn lock(
 ) -> Result<Answer, OutOfMemory>
     ensures { Asked stamp (locks_of (view store.now stamp) command.now) result locks.old locks.new }
 {
-    let Some((id, mode)) = first_lock(command) else {
+    let Some(first) = first_lock(command) else {
         return Ok(Answer::Granted);
     };
-    let answer = locks.ask(stamp, id, mode)?;
+    let answer = locks.ask(stamp, first.0, first.1)?;
     match answer {
         Answer::Granted => lock_each(locks, stamp, further_locks(store, stamp, command)),
         Answer::Wait | Answer::Die => Ok(answer),

@@ -7,7 +7,7 @@ ghost use Rattle.std.specs.List.Sorted.{IsStrictlySortedBy};
 ghost use Rattle.std.specs.BTreeMap.{is_at};
 ghost use Rattle.city_model.specs.CityMap.{same_id};
 ghost use Rattle.city_txn.specs.Ending.{city_after};
-ghost use Rattle.city_txn.specs.State.{State, write_of, is_reserved, is_open, committed, view, own, own_write, SeesSame, Begins, Forgets};
+ghost use Rattle.city_txn.specs.State.{State, write_of, is_reserved, is_open, committed, view, own, own_write, unless_by, SeesSame, Begins, Forgets};
 
 use crate::changing::{change_of, written_copy};
 use crate::ending::{End, end_each};
@@ -117,6 +117,7 @@ impl Store {
         ensures frame { self.new.frame ≡ self.old.frame }
         ensures city { committed self.new ≡ committed self.old }
         ensures writes { (q : List ℕ) → write_of self.new.writes q ≡ (if same_id id q then Some (stamp, object) else write_of self.old.writes q) }
+        ensures others { (q : List ℕ) → unless_by stamp (write_of self.new.writes q) ≡ unless_by stamp (write_of self.old.writes q) }
         ensures opened { self.new.opened ≡ self.old.opened }
     {
         let deleted = object.is_none();
@@ -129,7 +130,8 @@ impl Store {
         requires { is_reserved self.now stamp id.now ≡ true }
         ensures { IfOk result (λ write. write ≡ own self.now stamp id.now) }
     {
-        written_copy(&self.city, &self.undo, alloc, id)
+        let write = written_copy(&self.city, &self.undo, alloc, id)?;
+        Ok(write)
     }
 
     /// Makes what the stamp wrote at an id that it has reserved this: an object, or that none is
@@ -139,6 +141,7 @@ impl Store {
         ensures frame { self.new.frame ≡ self.old.frame }
         ensures city { committed self.new ≡ committed self.old }
         ensures writes { (q : List ℕ) → write_of self.new.writes q ≡ (if same_id id q then option_map (λ o. (stamp, o)) write else write_of self.old.writes q) }
+        ensures others { (q : List ℕ) → unless_by stamp (write_of self.new.writes q) ≡ unless_by stamp (write_of self.old.writes q) }
         ensures opened { self.new.opened ≡ self.old.opened }
     {
         match write {
@@ -153,6 +156,7 @@ impl Store {
         ensures frame { self.new.frame ≡ self.old.frame }
         ensures city { committed self.new ≡ committed self.old }
         ensures writes { (q : List ℕ) → write_of self.new.writes q ≡ (if same_id id q then None else write_of self.old.writes q) }
+        ensures others { (q : List ℕ) → unless_by stamp (write_of self.new.writes q) ≡ unless_by stamp (write_of self.old.writes q) }
         ensures opened { self.new.opened ≡ self.old.opened }
     {
         self.undo.unwrite(&mut self.city, id);

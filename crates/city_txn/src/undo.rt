@@ -169,9 +169,8 @@ impl Undo {
     {
         match self.images.get_mut(&id) {
             Some(image) => {
-                if let Some(before) = image.unwrite() {
-                    let _ = slot::swap(city, id, before);
-                }
+                let before = image.unwrite();
+                slot::refill(city, id, before);
             }
             None => unreachable!(),
         }

@@ -1,5 +1,5 @@
 //! Undo logs: what takes an open transaction back to its marks.
-ghost use Rattle.std.specs.Prelude.{◌≡◌, ◌==◌, ℕ, [], ◌∷◌, ◌++◌, length, reverse, true, Some, is_some, unwrap_or, OnOk, OnErr, option_to_list, if◌then◌else◌};
+ghost use Rattle.std.specs.Prelude.{◌≡◌, ◌==◌, ℕ, [], ◌∷◌, ◌++◌, length, reverse, true, Some, is_some, unwrap_or, OnOk, OnErr, option_to_list, IfNone, if◌then◌else◌};
 ghost use Rattle.std.specs.Ordering.{nat_cmp};
 ghost use Rattle.std.specs.BTreeMap.{get, is_at};
 ghost use Rattle.std.specs.List.{list_any};
@@ -96,7 +96,8 @@ impl UndoLogs {
 
     /// Takes the newest entry out of the transaction's log, if there is one. Takes no memory.
     pub fn pop(&mut self, stamp: u64) -> Option<Entry>
-        ensures { (t : ℕ) → log_of self.old t ≡ (if stamp == t then option_to_list result ++ log_of self.new t else log_of self.new t) }
+        ensures entries { (t : ℕ) → log_of self.old t ≡ (if stamp == t then option_to_list result ++ log_of self.new t else log_of self.new t) }
+        ensures none { IfNone result (log_of self.old stamp ≡ []) }
     {
         match self.by_stamp.get_mut(&stamp) {
             Some(entries) => entries.pop(),

@@ -1,7 +1,7 @@
 //! Writes of a command: all of them reserved and noted first, then all of them.
 ghost use Rattle.std.specs.Prelude.{◌≡◌, ◌==◌, ◌&&◌, ◌||◌, ℕ, List, Some, true, false, OnOk, OnErr, if◌then◌else◌};
 ghost use Rattle.city_model.specs.CityMap.{CityMap};
-ghost use Rattle.city_txn.specs.State.{write_of, own, is_reserved, is_open, committed, SeesSame};
+ghost use Rattle.city_txn.specs.State.{write_of, unless_by, own, is_reserved, is_open, committed, SeesSame};
 ghost use Rattle.city_txn.specs.UndoLog.{log_of, marked, is_noted};
 ghost use Rattle.city_model.specs.Plans.{AreOf};
 ghost use Rattle.city_txn.specs.Performing.{plans, AreNoted};
@@ -31,6 +31,7 @@ pub fn write_all(
     ensures opened { (t : ℕ) → is_open store.new t ≡ is_open store.old t }
     ensures ok { OnOk result ((f : CityMap) → AreOf f change → (id : List ℕ) →
         write_of store.new.writes id ≡ (if plans change id then Some (stamp, f id) else write_of store.old.writes id)) }
+    ensures others { (id : List ℕ) → unless_by stamp (write_of store.new.writes id) ≡ unless_by stamp (write_of store.old.writes id) }
     ensures err { OnErr result ((id : List ℕ) → write_of store.new.writes id ≡ write_of store.old.writes id) }
     ensures reserved { (t : ℕ) (id : List ℕ) → is_reserved store.new t id ≡ true → (is_reserved store.old t id || ((stamp == t) && plans change id)) ≡ true }
     ensures kept { (t : ℕ) (id : List ℕ) → is_reserved store.old t id ≡ true → is_reserved store.new t id ≡ true }
@@ -107,7 +108,8 @@ fn note(
     }
     let write = store.written(alloc, stamp, id)?;
     let entry = Entry::Before(id.copy(alloc)?, write);
-    logs.push(stamp, entry)
+    logs.push(stamp, entry)?;
+    Ok(())
 }
 
 /// Writes all that is planned, which is reserved. Takes no memory.
@@ -118,6 +120,8 @@ fn set_all(store: &mut Store, alloc: Global, stamp: u64, mut writes: Vec<(Id, Op
     ensures opened { store.new.opened ≡ store.old.opened }
     ensures writes { (f : CityMap) → AreOf f writes.items → (id : List ℕ) →
         write_of store.new.writes id ≡ (if plans writes.items id then Some (stamp, f id) else write_of store.old.writes id) }
+    ensures apart { (id : List ℕ) → plans writes.items id ≡ false → write_of store.new.writes id ≡ write_of store.old.writes id }
+    ensures others { (id : List ℕ) → unless_by stamp (write_of store.new.writes id) ≡ unless_by stamp (write_of store.old.writes id) }
 {
     while let Some(write) = writes.pop() {
         let (id, object) = write;
