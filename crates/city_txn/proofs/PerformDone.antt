@@ -1,7 +1,6 @@
 -- A command done on the store and on the undo log of its transaction, by its kind.
-use Rattle.std.proofs.Common.{◌≡◌, ◌==◌, ◌&&◌, ◌||◌, ℕ, List, [], ◌∷◌, map, Bool, true, false, Option, None, Some, Result, Ok, Err, refl, ap, sym, ◌∙◌, subst}
+use Rattle.std.proofs.Common.{◌≡◌, ◌==◌, ◌&&◌, ◌||◌, ℕ, List, [], ◌∷◌, Bool, true, false, Option, None, Some, Result, Ok, Err, refl, ap, sym, ◌∙◌, subst}
 use Rattle.std.specs.Prelude.{if◌then◌else◌, is_none, IsErr}
-use Rattle.std.specs.Map.{keys_of}
 use Rattle.std.proofs.lemmas.Bool.{false≢true, eq-eqb, or_left}
 use Rattle.city_model.specs.declared.object.Object.{Object}
 use Rattle.city_model.specs.declared.command.Command.{Command}
@@ -10,8 +9,8 @@ use Rattle.city_model.specs.declared.command.Cause.{Cause}
 use Rattle.city_model.specs.declared.command.Cause.TheVariants.{NoMark}
 use Rattle.city_model.specs.declared.command.Reply.{Reply}
 use Rattle.city_model.specs.declared.command.Reply.TheVariants.{Marked, WentBack, Refused}
-use Rattle.city_model.specs.CityMap.{CityMap, has_id}
-use Rattle.city_model.specs.Marks.{Marking, Leaves, marking, marks_from, back_cause, answer}
+use Rattle.city_model.specs.CityMap.{CityMap}
+use Rattle.city_model.specs.Marks.{Marking, Leaves, marking, marks_from, back_cause}
 use Rattle.city_model.specs.Meaning.{cause_of, effect_of, done_reply, map_unless, refused_or, after, locks_of}
 use Rattle.city_model.specs.Plans.{AreOf, AreWritesOf}
 use Rattle.city_model.specs.Runs.{Change}
@@ -159,7 +158,7 @@ module _ (s : ℕ) (c : Command) (r : Reply) (change : Change) (v w : State) (ls
   }
 
   pub unwritten_performed : {E : Type 0} (result : Result Reply E) → IsErr result → ((q : List ℕ) → write_of w.writes q ≡ write_of v.writes q) → Performed s c result v ls w ks
-  unwritten_performed (Ok x) failed same = absurd failed
+  unwritten_performed (Ok x) failed same = absurd (false≢true failed)
   unwritten_performed (Err e) failed same = not_written e same
 
   pub written_performed : {E : Type 0} → ((f : CityMap) → AreOf f change → (q : List ℕ) → write_of w.writes q ≡ (if plans change q then Some (s, f q) else write_of v.writes q))

@@ -1,9 +1,9 @@
 -- What a transaction sees, from what it wrote by now and at each of its marks.
-use Rattle.std.proofs.Common.{◌≡◌, ◌==◌, ◌&&◌, ◌||◌, ℕ, List, [], ◌∷◌, map, Bool, true, false, Option, None, Some, is_some, refl, ap, sym, ◌∙◌, subst}
+use Rattle.std.proofs.Common.{◌≡◌, ◌==◌, ◌&&◌, ℕ, List, [], ◌∷◌, Bool, true, false, Option, None, Some, is_some, refl, ap, sym, ◌∙◌, subst}
 use Rattle.std.specs.Prelude.{if◌then◌else◌, option_map, unwrap_or, is_none}
 use Rattle.std.specs.Map.{update}
 use Rattle.std.proofs.lemmas.Bool.{false≢true, eqb-true, or_left, or_right, false_from_ne_true}
-use Rattle.std.proofs.lemmas.Map.{update_same, update_other}
+use Rattle.std.proofs.lemmas.Map.{update_other}
 use Rattle.city_model.specs.declared.object.Object.{Object}
 use Rattle.city_model.specs.declared.command.Cause.{Cause}
 use Rattle.city_model.specs.declared.command.Command.{Command}
@@ -23,7 +23,7 @@ use Rattle.city_locks.specs.Locks.{mode_of}
 use Rattle.city_txn.specs.declared.undo_log.Entry.{Entry}
 use Rattle.city_txn.specs.declared.undo_log.Entry.TheVariants.{Mark, Before}
 use Rattle.city_txn.specs.State.{Write, write_of, own_or, own_write, unless_by}
-use Rattle.city_txn.specs.UndoLog.{OwnWrites, Written, log_of, marked, is_before, has_before, written_back, written_as, map_with, marks_with, view_with}
+use Rattle.city_txn.specs.UndoLog.{OwnWrites, Written, log_of, marked, has_before, written_back, written_as, map_with, marks_with, view_with}
 use Rattle.city_txn.specs.CoreState.{CoreState, committed, view, own, written, seen, held, IsConsistent}
 use Rattle.city_txn.specs.Acting.{writes_id, own_after}
 use Rattle.city_txn.proofs.OneIdChanged.{at_each}

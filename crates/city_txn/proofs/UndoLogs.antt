@@ -1,20 +1,18 @@
 -- Undo logs: what an entry changes, and what is seen of marks.
-use Rattle.std.proofs.Common.{◌≡◌, ◌==◌, ◌||◌, ℕ, ◌<◌, List, [], ◌∷◌, ◌++◌, length, drop, map, Bool, true, false, Option, None, Some, is_some, refl, ap, sym, ◌∙◌, arith}
-use Rattle.std.specs.Prelude.{if◌then◌else◌, unwrap_or}
+use Rattle.std.proofs.Common.{◌≡◌, ◌==◌, ◌||◌, ℕ, ◌<◌, List, [], ◌∷◌, length, drop, Bool, true, false, Option, refl, ap, sym, ◌∙◌, arith}
+use Rattle.std.specs.Prelude.{if◌then◌else◌}
 use Rattle.std.specs.Map.{update}
-use Rattle.std.specs.List.{list_any}
 use Rattle.std.proofs.lemmas.Bool.{false≢true, eqb-true, or_left, or_right, or_parts}
 use Rattle.std.proofs.lemmas.Map.{update_same, update_other}
 use Rattle.city_model.specs.declared.object.Object.{Object}
-use Rattle.city_model.specs.CityMap.{CityMap, same_id}
-use Rattle.city_model.specs.Marks.{View, marks_from}
-use Rattle.city_model.proofs.Ids.{same_id_itself, same_id_back}
+use Rattle.city_model.specs.CityMap.{same_id}
+use Rattle.city_model.specs.Marks.{marks_from}
+use Rattle.city_model.proofs.Ids.{same_id_itself}
 use Rattle.city_model.proofs.IdLists.{bool_cases}
 use Rattle.city_txn.specs.declared.undo_log.Entry.{Entry}
 use Rattle.city_txn.specs.declared.undo_log.Entry.TheVariants.{Mark, Before}
-use Rattle.city_txn.specs.UndoLog.{OwnWrites, Written, marked, is_before, has_before, is_noted, is_mark, has_mark, is_at_mark, undone, newest_undone, written_back}
+use Rattle.city_txn.specs.UndoLog.{OwnWrites, Written, marked, is_before, has_before, is_noted, has_mark, is_at_mark, newest_undone, written_back}
 use Rattle.city_txn.proofs.OneIdChanged.{at_each}
-use Rattle.city_txn.proofs.PlanWritten.{or_cases}
 
 -- ---- marks over other writes
 

@@ -1,8 +1,8 @@
 -- A command done on the store and the undo logs, for a transaction that holds its locks.
-use Rattle.std.specs.Prelude.{◌≡◌, ◌==◌, ◌&&◌, ◌||◌, ℕ, Bool, true, false, List, Some, Result, is_ok, IfOk}
+use Rattle.std.specs.Prelude.{◌≡◌, ◌==◌, ◌&&◌, ◌||◌, ℕ, Bool, true, false, List, Result, is_ok, IfOk}
 use Rattle.std.specs.Prelude.{if◌then◌else◌}
 use Rattle.std.specs.Map.{keys_of}
-use Rattle.city_model.specs.CityMap.{CityMap, has_id}
+use Rattle.city_model.specs.CityMap.{has_id}
 use Rattle.city_model.specs.Runs.{Change}
 use Rattle.city_model.specs.declared.command.Command.{Command}
 use Rattle.city_model.specs.declared.command.Reply.{Reply}

@@ -58,12 +58,12 @@ impl Image {
         ensures image { self.new ≡ written_back self.old }
         ensures object { result ≡ put_back self.old }
     {
-        if self.unwritten {
-            return None;
+        if !self.unwritten {
+            let before = self.before.take();
+            self.unwritten = true;
+            self.deleted = before.is_none();
+            return before;
         }
-        let before = self.before.take();
-        self.unwritten = true;
-        self.deleted = before.is_none();
-        before
+        None
     }
 }

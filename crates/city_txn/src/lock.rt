@@ -23,7 +23,8 @@ pub fn lock(
     let Some(first) = first_lock(command) else {
         return Ok(Answer::Granted);
     };
-    let answer = locks.ask(stamp, first.0, first.1)?;
+    let (id, mode) = first;
+    let answer = locks.ask(stamp, id, mode)?;
     match answer {
         Answer::Granted => lock_each(locks, stamp, further_locks(store, stamp, command)),
         Answer::Wait | Answer::Die => Ok(answer),

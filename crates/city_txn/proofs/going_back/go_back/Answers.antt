@@ -3,7 +3,7 @@ use Rattle.city_model.specs.Marks.{marks_from}
 use Rattle.city_txn.specs.State.{own}
 use Rattle.city_txn.specs.UndoLog.{log_of, marked, has_before, has_mark, is_at_mark}
 use Rattle.city_txn.proofs.PlanWritten.{reserved_by}
-use Rattle.city_txn.proofs.UndoLogs.{undone_marks, undone_has, undone_noted, undone_shorter}
+use Rattle.city_txn.proofs.UndoLogs.{undone_marks, undone_has, undone_noted}
 use Rattle.city_txn.proofs.going_back.go_back.Goals as goal
 
 pub loop-alloc-preserved : goal.loop-alloc-preserved

@@ -1,4 +1,4 @@
-use Rattle.std.proofs.Common.{◌≡◌, ◌==◌, ◌∙◌, ◌∷◌, ap, sym, refl}
+use Rattle.std.proofs.Common.{◌≡◌, ◌∙◌, ◌∷◌, ap, sym, refl}
 use Rattle.std.specs.Prelude.{if◌then◌else◌}
 use Rattle.std.proofs.lemmas.Bool.{eq-eqb}
 use Rattle.city_model.specs.CityMap.{same_id}
@@ -7,7 +7,7 @@ use Rattle.city_txn.specs.declared.undo_log.Entry.TheVariants.{Before}
 use Rattle.city_txn.specs.State.{own, is_reserved}
 use Rattle.city_txn.specs.UndoLog.{log_of, marked, has_before, is_noted}
 use Rattle.city_txn.proofs.PlanWritten.{or_cases}
-use Rattle.city_txn.proofs.UndoLogs.{noted_marked, noted_there, noted_if_empty}
+use Rattle.city_txn.proofs.UndoLogs.{noted_marked, noted_there}
 use Rattle.city_txn.proofs.writing.note.Goals as goal
 
 pub returns-clause-marked : goal.returns-clause-marked

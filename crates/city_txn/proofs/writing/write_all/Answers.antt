@@ -1,9 +1,9 @@
-use Rattle.std.proofs.Common.{◌≡◌, ◌∙◌, ap, sym, rules, ℕ, List, true, false}
+use Rattle.std.proofs.Common.{◌≡◌, ◌∙◌, ap, rules, ℕ, List, false}
 use Rattle.std.proofs.lemmas.Bool.{false_from_ne_true}
 use Rattle.city_model.proofs.IdLists.{not_both}
 use Rattle.city_model.specs.Runs.{Change}
 use Rattle.city_txn.specs.State.{State, own, own_write}
-use Rattle.city_txn.specs.UndoLog.{OwnWrites, log_of, marked, is_noted}
+use Rattle.city_txn.specs.UndoLog.{log_of, marked, is_noted}
 use Rattle.city_txn.specs.Performing.{plans}
 use Rattle.city_txn.proofs.PlanWritten.{own_reserved}
 use Rattle.city_txn.proofs.UndoLogs.{marked_same}
