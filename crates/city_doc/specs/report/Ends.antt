@@ -4,7 +4,7 @@ use Rattle.serde_json.specs.Data.{Data, number, unsigned, string, object, Member
 use Rattle.city_model.specs.declared.command.Cause.{Cause}
 use Rattle.city_model.specs.declared.command.Cause.TheVariants.{NoObject, TypeFixed, HasChildren, WrongFamily}
 use Rattle.city_model.specs.declared.command.Cause.TheVariants.{AlreadyAttached, NotAttached, ShortRing}
-use Rattle.city_model.specs.declared.command.Cause.TheVariants.{SameTwice, OpenShell, Orphan}
+use Rattle.city_model.specs.declared.command.Cause.TheVariants.{SameTwice, OpenShell, Orphan, NoMark}
 use Rattle.city_model.specs.declared.end.End.{End}
 use Rattle.city_model.specs.declared.end.Outcome.{Outcome}
 use Rattle.city_doc.specs.tree.Lists.{list_data}
@@ -26,23 +26,25 @@ cause_name ShortRing = codes "ShortRing"
 cause_name SameTwice = codes "SameTwice"
 cause_name OpenShell = codes "OpenShell"
 cause_name (Orphan id) = codes "Orphan"
+cause_name (NoMark name) = codes "NoMark"
 
--- the object that a cause names
-abbrev pub cause_id : Cause → Option (List ℕ)
-cause_id (NoObject id) = Some id
-cause_id (TypeFixed id) = Some id
-cause_id (HasChildren id) = Some id
-cause_id WrongFamily = None
-cause_id AlreadyAttached = None
-cause_id NotAttached = None
-cause_id ShortRing = None
-cause_id SameTwice = None
-cause_id OpenShell = None
-cause_id (Orphan id) = Some id
+-- what a cause names, and the name of its member: an object by its id, a mark by its name
+abbrev pub cause_member : Cause → Option (List ℕ × List ℕ)
+cause_member (NoObject id) = Some (codes "id", id)
+cause_member (TypeFixed id) = Some (codes "id", id)
+cause_member (HasChildren id) = Some (codes "id", id)
+cause_member WrongFamily = None
+cause_member AlreadyAttached = None
+cause_member NotAttached = None
+cause_member ShortRing = None
+cause_member SameTwice = None
+cause_member OpenShell = None
+cause_member (Orphan id) = Some (codes "id", id)
+cause_member (NoMark name) = Some (codes "mark", name)
 
-abbrev pub put_id : Option (List ℕ) → Members → Members
-put_id None ms = ms
-put_id (Some id) ms = put (codes "id") (string id) ms
+abbrev pub put_text : Option (List ℕ × List ℕ) → Members → Members
+put_text None ms = ms
+put_text (Some m) ms = put m.0 (string m.1) ms
 
 -- ---- outcomes
 
@@ -52,10 +54,10 @@ outcome_name Outcome.Aborted = codes "aborted"
 outcome_name (Outcome.Refused i cause) = codes "refused"
 outcome_name (Outcome.NoMemory i) = codes "nomemory"
 
--- the members with the number of a refused command, the cause, and the object that it names
+-- the members with the number of a refused command, the cause, and what it names
 abbrev pub put_refusal : ℕ → Cause → Members → Members
 put_refusal i cause ms =
-    put_id (cause_id cause)
+    put_text (cause_member cause)
     (put (codes "cause") (string (cause_name cause)) (put (codes "at") (count_data i) ms))
 
 -- the members with the command that ended the script and the cause, where the outcome names them

@@ -5,7 +5,8 @@ use Rattle.city_model.specs.declared.object.Object.{Object}
 use Rattle.city_model.specs.declared.object.Point.{Point}
 use Rattle.city_model.specs.declared.command.Reply.{Reply}
 use Rattle.city_model.specs.declared.command.Reply.TheVariants.{Found, Absent, Added, Replaced, Deleted}
-use Rattle.city_model.specs.declared.command.Reply.TheVariants.{Attached, Detached, Committed, Aborted, Refused}
+use Rattle.city_model.specs.declared.command.Reply.TheVariants.{Attached, Detached, Marked, WentBack, Committed}
+use Rattle.city_model.specs.declared.command.Reply.TheVariants.{Aborted, Refused}
 use Rattle.city_doc.specs.Pool.{object_points, without_repeats}
 use Rattle.city_doc.specs.object.Canonical.{object_data}
 use Rattle.city_doc.specs.document.Canonical.{vertices_data}
@@ -32,6 +33,8 @@ reply_data Replaced = string (codes "replaced")
 reply_data Deleted = string (codes "deleted")
 reply_data Attached = string (codes "attached")
 reply_data Detached = string (codes "detached")
+reply_data Marked = string (codes "marked")
+reply_data WentBack = string (codes "back")
 reply_data Committed = string (codes "committed")
 reply_data Aborted = string (codes "aborted")
 reply_data (Refused cause) = string (codes "refused")

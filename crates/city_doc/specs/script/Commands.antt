@@ -5,11 +5,11 @@ use Rattle.serde_json.specs.Data.{Data}
 use Rattle.serde_json.specs.Find.{get}
 use Rattle.city_model.specs.declared.object.Point.{Point}
 use Rattle.city_model.specs.declared.command.Command.{Command}
-use Rattle.city_model.specs.declared.command.Command.TheVariants.{Read, Put, Delete, Attach, Detach, Commit}
-use Rattle.city_model.specs.declared.command.Command.TheVariants.{Abort}
+use Rattle.city_model.specs.declared.command.Command.TheVariants.{Read, Put, Delete, Attach, Detach, Mark, Back}
+use Rattle.city_model.specs.declared.command.Command.TheVariants.{Commit, Abort}
 use Rattle.city_doc.specs.object.Bodies.{body_of}
 use Rattle.city_doc.specs.script.CommandForms.{CommandForm, ReadForm, PutForm, DeleteForm, AttachForm}
-use Rattle.city_doc.specs.script.CommandForms.{DetachForm, CommitForm, AbortForm, form_of}
+use Rattle.city_doc.specs.script.CommandForms.{DetachForm, MarkForm, BackForm, CommitForm, AbortForm, form_of}
 
 -- the object names parents or children
 abbrev pub names_relations : Data → Bool
@@ -25,6 +25,8 @@ command_of_form points (PutForm id tree) = put_of points id tree
 command_of_form points (DeleteForm id) = Some (Delete id)
 command_of_form points (AttachForm child parent) = Some (Attach child parent)
 command_of_form points (DetachForm child parent) = Some (Detach child parent)
+command_of_form points (MarkForm name) = Some (Mark name)
+command_of_form points (BackForm name) = Some (Back name)
 command_of_form points CommitForm = Some Commit
 command_of_form points AbortForm = Some Abort
 

@@ -1,15 +1,13 @@
 -- The forms of scripts and of commands that the reader holds.
-use Rattle.std.specs.Prelude.{List, map, length, nat_lt, Bool, Option, None, option_map, option_and_then, codes, if◌then◌else◌}
-use Rattle.std.specs.Option.{option_or}
-use Rattle.serde_json.specs.Data.{Data, Members}
-use Rattle.serde_json.specs.Find.{get_member}
+use Rattle.std.specs.Prelude.{List, map, length, nat_lt, Bool, Option, None, option_map, option_and_then, if◌then◌else◌}
+use Rattle.serde_json.specs.Data.{Data}
 use Rattle.serde_json.specs.View.{view}
 use Rattle.city_doc.specs.declared.script.command_form.Form.{Form}
-use Rattle.city_doc.specs.declared.script.command_form.Form.TheVariants.{Read, Put, Delete, Attach, Detach, Commit}
-use Rattle.city_doc.specs.declared.script.command_form.Form.TheVariants.{Abort}
+use Rattle.city_doc.specs.declared.script.command_form.Form.TheVariants.{Read, Put, Delete, Attach, Detach, Mark}
+use Rattle.city_doc.specs.declared.script.command_form.Form.TheVariants.{Back, Commit, Abort}
 use Rattle.city_doc.specs.declared.script.form.ScriptForm.{ScriptForm}
 use Rattle.city_doc.specs.script.CommandForms.{CommandForm, ReadForm, PutForm, DeleteForm, AttachForm}
-use Rattle.city_doc.specs.script.CommandForms.{DetachForm, CommitForm, AbortForm, text_in}
+use Rattle.city_doc.specs.script.CommandForms.{DetachForm, MarkForm, BackForm, CommitForm, AbortForm}
 use Rattle.city_doc.specs.script.Scripts.{ScriptParts, parts_of, script_of, max_commands}
 use Rattle.city_model.specs.Runs.{Scripted}
 
@@ -39,30 +37,7 @@ form_view (Put id tree) = PutForm id.now (view tree.now)
 form_view (Delete id) = DeleteForm id.now
 form_view (Attach child parent) = AttachForm child.now parent.now
 form_view (Detach child parent) = DetachForm child.now parent.now
+form_view (Mark name) = MarkForm name.now
+form_view (Back name) = BackForm name.now
 form_view Commit = CommitForm
 form_view Abort = AbortForm
-
--- ---- forms by the number of members
-
--- of one member
-abbrev pub single_form : Members → Option CommandForm
-single_form ms =
-    option_or (option_map ReadForm (text_in (codes "read") ms))
-    (option_map DeleteForm (text_in (codes "delete") ms))
-
-abbrev pub put_pair : Members → Option CommandForm
-put_pair ms =
-    option_and_then (λ id. option_map (PutForm id) (get_member (codes "object") ms))
-    (text_in (codes "put") ms)
-
--- of a child and its parent
-abbrev pub relation_pair : Members → Option CommandForm
-relation_pair ms =
-    option_and_then (λ parent. option_or
-    (option_map (λ child. AttachForm child parent) (text_in (codes "attach") ms))
-    (option_map (λ child. DetachForm child parent) (text_in (codes "detach") ms)))
-    (text_in (codes "parent") ms)
-
--- of two members
-abbrev pub pair_form : Members → Option CommandForm
-pair_form ms = option_or (put_pair ms) (relation_pair ms)

@@ -1,14 +1,13 @@
 //! Writes the end of a script.
-ghost use Rattle.std.specs.Prelude.{◌≡◌, ◌++◌, OnOk, option_copied};
+ghost use Rattle.std.specs.Prelude.{◌≡◌, ◌++◌, OnOk, option_map};
 ghost use Rattle.serde_json.specs.Data.{no_members};
-ghost use Rattle.city_doc.specs.report.Ends.{cause_name, cause_id, put_id, outcome_name, put_refusal, put_ending};
+ghost use Rattle.city_doc.specs.report.Ends.{cause_name, cause_member, put_text, outcome_name, put_refusal, put_ending};
 ghost use Rattle.city_doc.specs.report.Ends.{end_data};
 ghost use Rattle.city_doc.specs.tree.Tokens.{tokens_of, tokens_of_members};
 
 use crate::report::reply::write_replies;
 use city_model::command::Cause;
 use city_model::end::{End, Outcome};
-use city_model::text::Id;
 use json::Writer;
 use std::alloc::{AllocError, Global};
 
@@ -27,18 +26,20 @@ fn cause_name(cause: &Cause) -> &'static str
         Cause::SameTwice => "SameTwice",
         Cause::OpenShell => "OpenShell",
         Cause::Orphan(_) => "Orphan",
+        Cause::NoMark(_) => "NoMark",
     }
 }
 
-/// The object that a cause names.
-fn cause_id(cause: &Cause) -> Option<&Id>
-    ensures { option_copied result ≡ cause_id cause.now }
+/// What a cause names, and the name of its member: an object by its id, a mark by its name.
+fn cause_member(cause: &Cause) -> Option<(&'static str, &str)>
+    ensures { option_map (λ m. (m.0.now, m.1.now)) result ≡ cause_member cause.now }
 {
     match cause {
-        Cause::NoObject(id) => Some(id),
-        Cause::TypeFixed(id) => Some(id),
-        Cause::HasChildren(id) => Some(id),
-        Cause::Orphan(id) => Some(id),
+        Cause::NoObject(id) => Some(("id", id.as_str())),
+        Cause::TypeFixed(id) => Some(("id", id.as_str())),
+        Cause::HasChildren(id) => Some(("id", id.as_str())),
+        Cause::Orphan(id) => Some(("id", id.as_str())),
+        Cause::NoMark(name) => Some(("mark", name.as_str())),
         Cause::WrongFamily => None,
         Cause::AlreadyAttached => None,
         Cause::NotAttached => None,
@@ -48,22 +49,22 @@ fn cause_id(cause: &Cause) -> Option<&Id>
     }
 }
 
-/// Writes the object that a cause names, where it names one.
-fn write_id(cause: &Cause, out: &mut Writer) -> Result<(), AllocError>
+/// Writes what a cause names, where it names anything.
+fn write_named(cause: &Cause, out: &mut Writer) -> Result<(), AllocError>
     ensures before { OnOk result (out.new.before ≡ out.old.before) }
     ensures tokens { OnOk result (out.new.tokens
-        ≡ out.old.tokens ++ tokens_of_members (put_id (cause_id cause.now) no_members)) }
+        ≡ out.old.tokens ++ tokens_of_members (put_text (cause_member cause.now) no_members)) }
 {
-    match cause_id(cause) {
+    match cause_member(cause) {
         None => Ok(()),
-        Some(id) => {
-            out.key("id")?;
-            out.string(id.as_str())
+        Some((member, text)) => {
+            out.key(member)?;
+            out.string(text)
         }
     }
 }
 
-/// Writes the number of the command that was refused, and the cause.
+/// Writes the number of the command that was refused, the cause, and what it names.
 fn write_refusal(at: usize, cause: &Cause, out: &mut Writer) -> Result<(), AllocError>
     ensures before { OnOk result (out.new.before ≡ out.old.before) }
     ensures tokens { OnOk result (out.new.tokens
@@ -73,7 +74,7 @@ fn write_refusal(at: usize, cause: &Cause, out: &mut Writer) -> Result<(), Alloc
     out.u64(at as u64)?;
     out.key("cause")?;
     out.string(cause_name(cause))?;
-    write_id(cause, out)
+    write_named(cause, out)
 }
 
 /// The name of an outcome.

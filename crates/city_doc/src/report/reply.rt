@@ -52,6 +52,8 @@ fn write_reply(alloc: Global, reply: &Reply, out: &mut Writer) -> Result<(), All
         Reply::Deleted => out.string("deleted"),
         Reply::Attached => out.string("attached"),
         Reply::Detached => out.string("detached"),
+        Reply::Marked => out.string("marked"),
+        Reply::WentBack => out.string("back"),
         Reply::Committed => out.string("committed"),
         Reply::Aborted => out.string("aborted"),
         Reply::Refused(_) => out.string("refused"),

@@ -54,7 +54,7 @@ fn put_command(
 
 /// The command that a tree stands for, where it stands for any; positions count in these points.
 ///
-/// What is put is moved out of the tree; ids are copied.
+/// What is put is moved out of the tree; ids and names are copied.
 pub fn command_of(
     alloc: Global,
     points: &[Point],
@@ -74,6 +74,8 @@ pub fn command_of(
         Form::Delete(id) => Command::Delete(named(alloc, id)?),
         Form::Attach(child, parent) => Command::Attach(named(alloc, child)?, named(alloc, parent)?),
         Form::Detach(child, parent) => Command::Detach(named(alloc, child)?, named(alloc, parent)?),
+        Form::Mark(name) => Command::Mark(named(alloc, name)?),
+        Form::Back(name) => Command::Back(named(alloc, name)?),
         Form::Commit => Command::Commit,
         Form::Abort => Command::Abort,
     };

@@ -1,8 +1,10 @@
 //! Tells the forms of commands.
 ghost use Rattle.std.specs.Prelude.{◌≡◌, option_map};
+ghost use Rattle.std.specs.Option.{option_or};
 ghost use Rattle.serde_json.specs.View.{view, members_view};
-ghost use Rattle.city_doc.specs.script.CommandForms.{text_in, word_form, members_form, form_of};
-ghost use Rattle.city_doc.specs.script.Forms.{form_view, single_form, put_pair, relation_pair, pair_form};
+ghost use Rattle.city_doc.specs.script.CommandForms.{text_in, word_form, first_named, of_one_text};
+ghost use Rattle.city_doc.specs.script.CommandForms.{put_form, relation_form, members_form, form_of};
+ghost use Rattle.city_doc.specs.script.Forms.{form_view};
 
 use city_model::members::{member, members_count};
 use serde_json::{Map, Value};
@@ -18,6 +20,10 @@ pub enum Form<'v> {
     Attach(&'v str, &'v str),
     /// A child and a parent.
     Detach(&'v str, &'v str),
+    /// The name of a mark.
+    Mark(&'v str),
+    /// The name of a mark.
+    Back(&'v str),
     Commit,
     Abort,
 }
@@ -41,19 +47,26 @@ fn word_form(word: &str) -> Option<Form<'_>>
     }
 }
 
-/// The form of one member.
+/// The form of one member, which is a text.
 fn single_form(members: &Map<String, Value>) -> Option<Form<'_>>
-    ensures { option_map form_view result ≡ single_form (members_view members.now.entries) }
+    ensures { option_map form_view result
+        ≡ first_named of_one_text (members_view members.now.entries) }
 {
     if let Some(id) = text_in(members, "read") {
         return Some(Form::Read(id));
     }
-    Some(Form::Delete(text_in(members, "delete")?))
+    if let Some(id) = text_in(members, "delete") {
+        return Some(Form::Delete(id));
+    }
+    if let Some(name) = text_in(members, "mark") {
+        return Some(Form::Mark(name));
+    }
+    Some(Form::Back(text_in(members, "back")?))
 }
 
 /// The form of a put's two members.
-fn put_pair(members: &Map<String, Value>) -> Option<Form<'_>>
-    ensures { option_map form_view result ≡ put_pair (members_view members.now.entries) }
+fn put_form(members: &Map<String, Value>) -> Option<Form<'_>>
+    ensures { option_map form_view result ≡ put_form (members_view members.now.entries) }
 {
     let id = text_in(members, "put")?;
     let object = member(members, "object")?;
@@ -61,8 +74,8 @@ fn put_pair(members: &Map<String, Value>) -> Option<Form<'_>>
 }
 
 /// The form of two members, one of which names a parent.
-fn relation_pair(members: &Map<String, Value>) -> Option<Form<'_>>
-    ensures { option_map form_view result ≡ relation_pair (members_view members.now.entries) }
+fn relation_form(members: &Map<String, Value>) -> Option<Form<'_>>
+    ensures { option_map form_view result ≡ relation_form (members_view members.now.entries) }
 {
     let parent = text_in(members, "parent")?;
     if let Some(child) = text_in(members, "attach") {
@@ -73,9 +86,11 @@ fn relation_pair(members: &Map<String, Value>) -> Option<Form<'_>>
 
 /// The form of two members.
 fn pair_form(members: &Map<String, Value>) -> Option<Form<'_>>
-    ensures { option_map form_view result ≡ pair_form (members_view members.now.entries) }
+    ensures { option_map form_view result
+        ≡ option_or (put_form (members_view members.now.entries))
+        (relation_form (members_view members.now.entries)) }
 {
-    put_pair(members).or(relation_pair(members))
+    put_form(members).or(relation_form(members))
 }
 
 /// The form of an object's members, which are just those of its command.

@@ -1,10 +1,12 @@
-use Rattle.std.proofs.Common.{◌≡◌, ℕ, List, [], ◌∷◌, ◌++◌, Option, Some, None, codes, refl, sym, ap, ◌∙◌, append_assoc}
+use Rattle.std.proofs.Common.{◌≡◌, ℕ, [], ◌∷◌, ◌++◌, Some, None, codes, refl, sym, ap, ◌∙◌, append_assoc}
 use Rattle.std.proofs.lemmas.Result.{on_ok_weaker}
 use Rattle.json.specs.Token.{begin_object}
-use Rattle.serde_json.specs.Data.{Data, string, no_members, put}
+use Rattle.serde_json.specs.Data.{Data, string, no_members}
+use Rattle.city_model.specs.declared.command.Cause.{Cause}
+use Rattle.city_model.specs.declared.command.Cause.TheVariants.{NoObject, TypeFixed, HasChildren, WrongFamily, AlreadyAttached, NotAttached, ShortRing, SameTwice, OpenShell, Orphan, NoMark}
 use Rattle.city_model.specs.declared.end.Outcome.{Outcome}
 use Rattle.city_doc.specs.tree.Lists.{list_data}
-use Rattle.city_doc.specs.report.Ends.{count_data, cause_name, cause_id, put_id, outcome_name, put_ending}
+use Rattle.city_doc.specs.report.Ends.{count_data, outcome_name, put_refusal, put_ending}
 use Rattle.city_doc.specs.report.Replies.{reply_data}
 use Rattle.city_doc.specs.tree.Tokens.{tokens_of, tokens_of_members, closing_members}
 use Rattle.city_doc.proofs.tree.Among.{IsLeft, puts, value_written, end_written, text_written}
@@ -15,17 +17,24 @@ module _ (name outcome replies script since : Data) where
   abbrev own : Own
   own = (codes "name", Some name) ∷ (codes "outcome", Some outcome) ∷ (codes "replies", Some replies) ∷ (codes "script", Some script) ∷ (codes "since", Some since) ∷ []
 
-  refused_first : (i : ℕ) (kind : List ℕ) (id : Option (List ℕ))
-      → closing_members (put_id id (put (codes "cause") (string kind) (put (codes "at") (count_data i) (puts own no_members))))
-      ≡ tokens_of_members (put_id id (put (codes "cause") (string kind) (put (codes "at") (count_data i) no_members))) ++ closing_members (puts own no_members)
-  refused_first i kind None = refl
-  refused_first i kind (Some id) = refl
+  refused_first : (i : ℕ) (cause : Cause) → closing_members (put_refusal i cause (puts own no_members)) ≡ tokens_of_members (put_refusal i cause no_members) ++ closing_members (puts own no_members)
+  refused_first i (NoObject id) = refl
+  refused_first i (TypeFixed id) = refl
+  refused_first i (HasChildren id) = refl
+  refused_first i WrongFamily = refl
+  refused_first i AlreadyAttached = refl
+  refused_first i NotAttached = refl
+  refused_first i ShortRing = refl
+  refused_first i SameTwice = refl
+  refused_first i OpenShell = refl
+  refused_first i (Orphan id) = refl
+  refused_first i (NoMark name) = refl
 
   -- what an outcome names comes before all others
   ending_first : (o : Outcome) → closing_members (put_ending o (puts own no_members)) ≡ tokens_of_members (put_ending o no_members) ++ closing_members (puts own no_members)
   ending_first Outcome.Committed = refl
   ending_first Outcome.Aborted = refl
-  ending_first (Outcome.Refused i cause) = refused_first i (cause_name cause) (cause_id cause)
+  ending_first (Outcome.Refused i cause) = refused_first i cause
   ending_first (Outcome.NoMemory i) = refl
 
 pub returns-clause-tokens : goal.returns-clause-tokens
