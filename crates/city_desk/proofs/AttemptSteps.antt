@@ -63,7 +63,6 @@ why : (cause : Option Cause) (done : Reply) (x : Cause) → refused_or cause don
 why None done x e h = absurd (false≢true (sym h ∙ ap is_refusal e))
 why (Some cause) done x e h = cc
 
--- a command that doesn't end its script is refused by the cause that it is answered
 refused_by : (v : View) (c : Command) (x : Cause) → is_end c ≡ false → answer v c ≡ replies.Refused x → Refuses v c x
 refused_by v (Read id) x g e = why (refusal v (Read id)) (done_reply v.map (Read id)) x e (done_unrefused v.map (Read id))
 refused_by v (Put id body) x g e = why (refusal v (Put id body)) (done_reply v.map (Put id body)) x e (done_unrefused v.map (Put id body))
@@ -168,6 +167,8 @@ goes_on_else (Put id body) f g = refl
 goes_on_else (Delete id) f g = refl
 goes_on_else (Attach child parent) f g = refl
 goes_on_else (Detach child parent) f g = refl
+goes_on_else (Mark name) f g = refl
+goes_on_else (Back name) f g = refl
 goes_on_else Commit f g = absurd (f refl)
 goes_on_else Abort f g = absurd (g refl)
 
