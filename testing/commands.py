@@ -9,7 +9,11 @@ MOST_COMMANDS = 1024
 
 
 class Refusal(Exception):
-    """A command is refused: the cause, and the id that it names."""
+    """A command is refused: the cause, and what it names, as members of the report."""
+
+    def __init__(self, cause, **named):
+        super().__init__(cause, named)
+        self.cause, self.named = cause, named
 
 
 def read_scripts(text):
@@ -52,7 +56,7 @@ def is_command(command):
         return command in ("commit", "abort")
     if not isinstance(command, dict):
         return False
-    for members in (["read"], ["delete"], ["attach", "parent"], ["detach", "parent"]):
+    for members in (["read"], ["delete"], ["mark"], ["back"], ["attach", "parent"], ["detach", "parent"]):
         if set(command) == set(members):
             return all(isinstance(command[name], str) for name in members)
     if set(command) != {"put", "object"} or not isinstance(command["put"], str):
@@ -64,7 +68,7 @@ def is_command(command):
 def command_of(command, vertices):
     if isinstance(command, str):
         return (command,)
-    verb = next(name for name in ("read", "put", "delete", "attach", "detach") if name in command)
+    verb = next(name for name in ("read", "put", "delete", "mark", "back", "attach", "detach") if name in command)
     if verb == "put":
         return verb, command["put"], with_points(command["object"], vertices)
     if verb in ("attach", "detach"):
@@ -77,15 +81,14 @@ def play(city, commands, memory_until=None):
 
     Want of memory ends it at the command of that place, if one is named.
     """
-    view, replies = dict(city), []
+    view, marks, replies = dict(city), [], []
     for place, command in enumerate(commands):
         if place == memory_until:
             return city, {"outcome": "nomemory", "at": place}, replies
         try:
-            reply = done(view, command)
+            view, marks, reply = seen_after(view, marks, command)
         except Refusal as refusal:
-            cause, *named = refusal.args
-            return city, {"outcome": "refused", "at": place, "cause": cause, **({"id": named[0]} if named else {})}, replies
+            return city, {"outcome": "refused", "at": place, "cause": refusal.cause, **refusal.named}, replies
         if reply == "committed":
             return view, {"outcome": reply}, replies
         if reply == "aborted":
@@ -94,8 +97,21 @@ def play(city, commands, memory_until=None):
     raise AssertionError("a script ends by commit or abort")
 
 
-def done(view, command):
-    return globals()["do_" + command[0]](view, *command[1:])
+def seen_after(view, marks, command):
+    """Returns the objects and the marks after a command, and the reply. A mark is a name and all objects."""
+    verb = command[0]
+    if verb == "mark":
+        return view, marks + [(command[1], dict(view))], "marked"
+    if verb == "back":
+        return gone_back(marks, command[1])
+    return view, marks, globals()["do_" + verb](view, *command[1:])
+
+
+def gone_back(marks, name):
+    places = [place for place, (other, _) in enumerate(marks) if other == name]
+    if not places:
+        raise Refusal("NoMark", mark=name)
+    return dict(marks[places[-1]][1]), marks[: places[-1] + 1], "back"
 
 
 def do_read(view, name):
@@ -111,7 +127,7 @@ def do_put(view, name, body):
             raise Refusal(cause)
     there = view.get(name)
     if there and there["type"] != body["type"]:
-        raise Refusal("TypeFixed", name)
+        raise Refusal("TypeFixed", id=name)
     relations = {kind: there[kind] if there else [] for kind in ("parents", "children")}
     view[name] = {**body, **relations}
     return "replaced" if there else "added"
@@ -123,9 +139,9 @@ def changed(view, name, kind, items):
 
 def do_delete(view, name):
     if name not in view:
-        raise Refusal("NoObject", name)
+        raise Refusal("NoObject", id=name)
     if view[name]["children"]:
-        raise Refusal("HasChildren", name)
+        raise Refusal("HasChildren", id=name)
     del view[name]
     for other in list(view):
         if name in view[other]["children"]:
@@ -136,7 +152,7 @@ def do_delete(view, name):
 def both(view, child, parent):
     for name in (child, parent):
         if name not in view:
-            raise Refusal("NoObject", name)
+            raise Refusal("NoObject", id=name)
 
 
 def do_attach(view, child, parent):
@@ -163,7 +179,7 @@ def do_detach(view, child, parent):
 def do_commit(view):
     orphans = [name for name, obj in view.items() if obj["type"] != FAMILY_OF[obj["type"]] and not obj["parents"]]
     if orphans:
-        raise Refusal("Orphan", min(orphans))
+        raise Refusal("Orphan", id=min(orphans))
     return "committed"
 
 

@@ -204,6 +204,17 @@ def several_faults():
         yield EMPTY, b"[" + script_text(1) + b"," + script + b"]"
 
 
+def forms():
+    """Commands of one and of two members that some command has, with a text, a number or an object each."""
+    names = ["read", "put", "object", "delete", "attach", "detach", "parent", "mark", "back", "more"]
+    values = ["a", 1, {"type": "Road"}]
+    singles = [{name: value} for name, value in itertools.product(names, values)]
+    pairs = [{**one, **other} for one, other in itertools.combinations(singles, 2) if one.keys() != other.keys()]
+    for command in singles + pairs:
+        commands = [{"mark": "a"}, {"put": "a", "object": {"type": "Road"}}, command, {"read": "a"}, "commit"]
+        yield EMPTY, json.dumps([{"name": "s", "commands": commands}]).encode("utf-8")
+
+
 def json_table():
     for _, text in json_texts.texts():
         yield text, b"[]"
@@ -212,7 +223,7 @@ def json_table():
         yield EMPTY, PUT_AND_READ % text
 
 
-KINDS = [prefixes, removed_bytes, replaced_bytes, changed_values, nested, limits, several_faults, json_table]
+KINDS = [prefixes, removed_bytes, replaced_bytes, changed_values, nested, limits, several_faults, forms, json_table]
 
 
 def try_kind(program, kind):
@@ -247,6 +258,7 @@ NAMED = [
     ),
     (EMPTY, b'[{"name":"s","commands":["commit","commit"]}]', "scripts: 5 BadScript 0"),
     (EMPTY, b'[{"name":"s","commands":[{"read":1},"commit"]}]', "scripts: 7 BadCommand 0 0"),
+    (EMPTY, b'[{"name":"s","commands":[{"mark":"m"},{"back":"m","mark":"m"},"commit"]}]', "scripts: 7 BadCommand 0 1"),
 ]
 
 

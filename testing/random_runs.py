@@ -6,6 +6,7 @@ HEAD = {"type": "CityJSON", "version": "2.0", "transform": {"scale": [1, 1, 1], 
 POINTS = [[x, y, z] for x in (0, 1) for y in (0, 1) for z in (0, 1)]
 CUBE = [[[0, 1, 3, 2]], [[4, 6, 7, 5]], [[0, 4, 5, 1]], [[2, 3, 7, 6]], [[0, 2, 6, 4]], [[1, 5, 7, 3]]]
 NAMES = ["a", "b", "c", "d", "e", "f", "g", "h\u00e9", "z\"", ""]
+MARKS = ["m", "n", ""]
 TYPES = ["Building", "BuildingPart", "BuildingRoom", "Bridge", "BridgePart", "Road", "LandUse"]
 FAMILY = {"Bridge": "Bridge", "BridgePart": "Bridge"}
 FAMILY |= {"Building": "Building", "BuildingPart": "Building", "BuildingRoom": "Building"}
@@ -95,6 +96,22 @@ def command(choose, types, broken):
     return {verb: name}
 
 
+def with_marks(choose, commands, often, astray):
+    """The commands with marks and ways back among them. Names are used again; some ways back lead to no mark."""
+    made, marked = [], []
+    for each in commands:
+        marked.append(each)
+        if choose.random() < often:
+            made.append(choose.choice(MARKS))
+            marked.append({"mark": made[-1]})
+        if choose.random() < often and (made or choose.random() < astray):
+            name = choose.choice(MARKS) if not made or choose.random() < astray else choose.choice(made)
+            while made and made[-1] != name:
+                made.pop()
+            marked.append({"back": name})
+    return marked
+
+
 def new_part(choose, types):
     """A new part and its parent, as a planner would write it."""
     part, parent = choose.choice(NAMES), choose.choice(list(types))
@@ -104,6 +121,8 @@ def new_part(choose, types):
 def script(choose, number, types, broken):
     commands = new_part(choose, types) if choose.random() < 0.3 else []
     commands += [command(choose, types, broken) for _ in range(choose.randint(0, 4))]
+    if choose.random() < 0.5:
+        commands = with_marks(choose, commands, often=0.5, astray=0.1)
     return {
         "name": choose.choice(["s", ""]) + str(number),
         "vertices": POINTS + ([[9, 9, 9]] if not broken else []),
@@ -155,6 +174,8 @@ def contended_texts(choose):
     for number in range(count):
         verbs = choose.choices(list(weights), list(weights.values()), k=choose.randint(1, longest))
         commands = [contended_command(choose, verb) for verb in verbs]
+        if choose.random() < 0.3:
+            commands = with_marks(choose, commands, often=0.2, astray=0.001)
         scripts.append({"name": f"s{number}", "commands": commands + [choose.choice(["commit"] * 9 + ["abort"])]})
     document = {**HEAD, "CityObjects": objects, "vertices": []}
     return json.dumps(document).encode("utf-8"), json.dumps(scripts).encode("utf-8")

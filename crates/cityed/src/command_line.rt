@@ -33,6 +33,8 @@ Its last command is \"commit\" or \"abort\"; the ones before it are of these for
   {\"delete\": ID}                        take out an object without children
   {\"attach\": CHILD, \"parent\": PARENT}   make them child and parent
   {\"detach\": CHILD, \"parent\": PARENT}   part them
+  {\"mark\": NAME}                        give what is seen here a name
+  {\"back\": NAME}                        undo what was written since the newest mark of the name
 Positions in an OBJECT count in the script's own \"vertices\": [[x, y, z], ..].
 Numbers are whole everywhere; docs/FORMAT.md shows how to convert a model that has others.
 
