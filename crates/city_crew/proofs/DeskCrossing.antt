@@ -14,6 +14,8 @@ use Rattle.city_model.specs.contracts.script.Script as Script
 use Rattle.city_locks.specs.contracts.table.LockTable as LockTable
 use Rattle.city_txn.specs.contracts.store.Store as Store
 use Rattle.city_txn.specs.contracts.txn_core.Core as Core
+use Rattle.city_txn.specs.contracts.undo_log.Entry as Entry
+use Rattle.city_txn.specs.contracts.undo_log.UndoLogs as UndoLogs
 use Rattle.city_desk.specs.contracts.desk.Desk as Desk
 use Rattle.city_desk.specs.contracts.desk.Desk.TheInside as DeskInside
 use Rattle.city_desk.specs.declared.shelf.Shelf.{Ghosts}
@@ -46,8 +48,14 @@ store_sends = search (text_sends, object_sends, city_field_sends, maps.crosses, 
 locks_send : IsSend LockTable.the_field.row
 locks_send = search (text_sends, maps.crosses, values.crosses, sendable) depth 60 fits 20000
 
+entry_sends : IsSend Entry.the_field.row
+entry_sends = search (text_sends, object_sends, values.crosses, sendable) depth 60 fits 20000
+
+logs_send : IsSend UndoLogs.the_field.row
+logs_send = search (entry_sends, maps.crosses, values.crosses, sendable) depth 60 fits 20000
+
 core_sends : IsSend Core.the_field.row
-core_sends = search (store_sends, locks_send, values.crosses, sendable) depth 60 fits 20000
+core_sends = search (store_sends, logs_send, locks_send, values.crosses, sendable) depth 60 fits 20000
 
 desk_inside_sends : (S N : RattleType) (G : Ghosts S.Denot N.Denot) → IsSend S → IsSend (DeskInside.the_field S N G).row
 desk_inside_sends S N G s =

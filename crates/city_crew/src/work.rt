@@ -3,10 +3,13 @@ use crate::gate::Gate;
 use city_desk::Turn;
 use std::sync::{Condvar, Mutex, MutexGuard, Wait};
 
-/// How many turns a worker makes under one lock where no gate may hold it between them: some ten
-/// milliseconds of short commands. So the lock seldom changes hands, a script of few commands meets
-/// no other, and nobody waits long for a turn.
-const TURNS_AT_ONCE: usize = 1024;
+/// How many turns of the oldest script under way a worker makes under one lock, where no gate may
+/// hold it between them: no turn kills that script, so none of its work is lost.
+const TURNS_OF_THE_OLDEST: usize = 256;
+
+/// How many turns of a younger one: enough that the lock seldom changes hands and a short script runs
+/// whole, and few enough that little is lost where it dies.
+const TURNS_OF_A_YOUNGER: usize = 16;
 
 /// Scripts that take turns, of which workers hand out the next one to themselves.
 pub trait Turns: Drop {
@@ -48,19 +51,18 @@ pub fn work<R: Wait, T: Turns, G: Gate>(rt: &R, shared: &Shared<T>, gate: &G) {
 
 /// Turns a script to its end.
 fn turn_to_end<R: Wait, T: Turns, G: Gate>(rt: &R, shared: &Shared<T>, gate: &G, script: usize) {
-    let most = if gate.is_open() { TURNS_AT_ONCE } else { 1 };
     let mut replies = 0usize;
     for _ in rt.forever() {
         gate.pass(script, replies);
-        match turns_at_once(rt, shared, script, most, &mut replies) {
+        match turns_at_once(rt, shared, script, gate.is_open(), &mut replies) {
             Turn::Ended | Turn::AlreadyEnded => return,
             _ => {}
         }
     }
 }
 
-/// Turns of a script under one lock: so many, or fewer where one neither begins it nor replies.
-/// Gives the last one, and counts the replies of the attempt.
+/// Turns of a script under one lock: one, or many where no gate may hold it between them, up to one
+/// that neither begins it nor replies. Gives the last one, and counts the replies of the attempt.
 ///
 /// A turn that waits returns after another turn has ended a script or killed it. One that died
 /// returns when it is the oldest under way, which no turn kills: so it dies once.
@@ -68,10 +70,15 @@ fn turns_at_once<R: Wait, T: Turns>(
     rt: &R,
     shared: &Shared<T>,
     script: usize,
-    most: usize,
+    many: bool,
     replies: &mut usize,
 ) -> Turn {
     let mut turns = shared.turns.lock(rt);
+    let most = match (many, turns.is_oldest(script)) {
+        (false, _) => 1,
+        (true, true) => TURNS_OF_THE_OLDEST,
+        (true, false) => TURNS_OF_A_YOUNGER,
+    };
     let turn = go_on(&mut *turns, script, most, replies);
     match turn {
         Turn::Waits => wait_for_a_move(rt, shared, turns),

@@ -3,14 +3,15 @@ use Rattle.std.proofs.Common.{◌≡◌, ℕ, true, false, List, [], ◌∷◌, 
 use Rattle.std.specs.Prelude.{IfSome}
 use Rattle.std.proofs.lemmas.Bool.{false≢true}
 use Rattle.city_model.specs.declared.command.Command.{Command}
-use Rattle.city_model.specs.declared.command.Command.TheVariants.{Read, Put, Delete, Attach, Detach, Commit, Abort}
+use Rattle.city_model.specs.declared.command.Command.TheVariants.{Read, Put, Delete, Attach, Detach, Mark, Back, Commit, Abort}
 use Rattle.city_model.specs.declared.command.Cause.{Cause}
 use Rattle.city_model.specs.declared.command.Reply.{Reply}
 use Rattle.city_model.specs.declared.command.Reply.TheVariants as replies
 use Rattle.city_model.specs.declared.end.Outcome.{Outcome}
 use Rattle.city_model.specs.CityMap.{CityMap, at, CityValue}
 use Rattle.city_model.specs.Relations.{IsLawful}
-use Rattle.city_model.specs.Meaning.{cause_of, reply_to, refused_or, done_reply, is_refusal}
+use Rattle.city_model.specs.Marks.{View, refusal, answer}
+use Rattle.city_model.specs.Meaning.{refused_or, done_reply, is_refusal}
 use Rattle.city_model.proofs.Refused.{done_unrefused}
 use Rattle.city_model.specs.Runs.{Refuses, Change, with_change, shown}
 use Rattle.city_model.specs.Scripts.{is_end}
@@ -19,7 +20,7 @@ use Rattle.city_locks.specs.declared.answer.Answer.TheVariants.{Granted, Wait, D
 use Rattle.city_txn.specs.declared.step.Step.{Step}
 use Rattle.city_txn.specs.declared.step.Step.TheVariants as steps
 use Rattle.city_txn.specs.declared.step.TxnFault.{TxnFault}
-use Rattle.city_txn.specs.CoreState.{CoreState, committed, view, is_open, Stands, KeepsOthers, IsUndone}
+use Rattle.city_txn.specs.CoreState.{CoreState, committed, view, seen, is_open, Stands, KeepsOthers, IsUndone}
 use Rattle.city_txn.specs.Acting.{Acted, reply_in, answer_in, step_of, EndsIn}
 use Rattle.city_txn.specs.Changing.{IsChangeOf}
 use Rattle.city_txn.specs.Locking.{IsBlocked}
@@ -62,14 +63,16 @@ why : (cause : Option Cause) (done : Reply) (x : Cause) → refused_or cause don
 why None done x e h = absurd (false≢true (sym h ∙ ap is_refusal e))
 why (Some cause) done x e h = cc
 
-refused_by : (m : CityMap) (c : Command) (x : Cause) → is_end c ≡ false → reply_to m c ≡ replies.Refused x → Refuses m c x
-refused_by m (Read id) x g e = why (cause_of m (Read id)) (done_reply m (Read id)) x e (done_unrefused m (Read id))
-refused_by m (Put id body) x g e = why (cause_of m (Put id body)) (done_reply m (Put id body)) x e (done_unrefused m (Put id body))
-refused_by m (Delete id) x g e = why (cause_of m (Delete id)) (done_reply m (Delete id)) x e (done_unrefused m (Delete id))
-refused_by m (Attach child parent) x g e = why (cause_of m (Attach child parent)) (done_reply m (Attach child parent)) x e (done_unrefused m (Attach child parent))
-refused_by m (Detach child parent) x g e = why (cause_of m (Detach child parent)) (done_reply m (Detach child parent)) x e (done_unrefused m (Detach child parent))
-refused_by m Commit x g e = absurd (false≢true (sym g))
-refused_by m Abort x g e = absurd (false≢true (sym g))
+refused_by : (v : View) (c : Command) (x : Cause) → is_end c ≡ false → answer v c ≡ replies.Refused x → Refuses v c x
+refused_by v (Read id) x g e = why (refusal v (Read id)) (done_reply v.map (Read id)) x e (done_unrefused v.map (Read id))
+refused_by v (Put id body) x g e = why (refusal v (Put id body)) (done_reply v.map (Put id body)) x e (done_unrefused v.map (Put id body))
+refused_by v (Delete id) x g e = why (refusal v (Delete id)) (done_reply v.map (Delete id)) x e (done_unrefused v.map (Delete id))
+refused_by v (Attach child parent) x g e = why (refusal v (Attach child parent)) (done_reply v.map (Attach child parent)) x e (done_unrefused v.map (Attach child parent))
+refused_by v (Detach child parent) x g e = why (refusal v (Detach child parent)) (done_reply v.map (Detach child parent)) x e (done_unrefused v.map (Detach child parent))
+refused_by v (Mark name) x g e = why (refusal v (Mark name)) (done_reply v.map (Mark name)) x e (done_unrefused v.map (Mark name))
+refused_by v (Back name) x g e = why (refusal v (Back name)) (done_reply v.map (Back name)) x e (done_unrefused v.map (Back name))
+refused_by v Commit x g e = absurd (false≢true (sym g))
+refused_by v Abort x g e = absurd (false≢true (sym g))
 
 -- ---- a command that doesn't end its script
 
@@ -134,7 +137,7 @@ module _ (stamp : ℕ) (command : Command) (p q : Progress) (v w : CoreState) (g
         let by = by_done (answer_in v stamp command) (reply_in v stamp command) reply k.step in (
           same,
           record {
-            ends = (count, refused_by (view v stamp) command cause goes_on (sym by.1 ∙ is));
+            ends = (count, refused_by (seen v stamp) command cause goes_on (sym by.1 ∙ is));
             granted = λ _ _. by.0;
             closed = undone.over.closed;
             keeps = keeps_both stamp v w x k.keeps undone.over.keeps;
@@ -164,6 +167,8 @@ goes_on_else (Put id body) f g = refl
 goes_on_else (Delete id) f g = refl
 goes_on_else (Attach child parent) f g = refl
 goes_on_else (Detach child parent) f g = refl
+goes_on_else (Mark name) f g = refl
+goes_on_else (Back name) f g = refl
 goes_on_else Commit f g = absurd (f refl)
 goes_on_else Abort f g = absurd (g refl)
 

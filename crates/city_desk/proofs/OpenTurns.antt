@@ -11,6 +11,7 @@ use Rattle.city_model.specs.declared.command.Reply.{Reply}
 use Rattle.city_model.specs.declared.end.End.{End}
 use Rattle.city_model.specs.declared.end.Outcome.{Outcome}
 use Rattle.city_model.specs.CityMap.{CityMap, at, CityValue}
+use Rattle.city_model.specs.Marks.{View, unmarked}
 use Rattle.city_model.specs.Meaning.{is_refusal}
 use Rattle.city_model.specs.Runs.{Scripted, EndsAt, HasResult, IsEndOf, map_left, commands_of, model_after, Change, with_change, shown}
 use Rattle.city_model.specs.Scripts.{is_end, ends_once}
@@ -18,6 +19,7 @@ use Rattle.city_model.specs.SerialEnds.{is_commit}
 use Rattle.city_model.specs.Standing.{Answered, answered, Follows}
 use Rattle.city_model.proofs.Fitting.{model_more}
 use Rattle.city_model.proofs.Replied.{goes_on, ends_later, answered_more, result_from, committed_from}
+use Rattle.city_txn.specs.CoreState as txn
 use Rattle.city_txn.specs.CoreState.{CoreState, committed, view, is_open, held, Stands, KeepsOthers}
 use Rattle.city_txn.specs.Acting.{reply_in}
 use Rattle.city_desk.specs.declared.progress.Progress.{Progress}
@@ -85,11 +87,11 @@ left_same m cs Outcome.Aborted h = refl
 left_same m cs (Outcome.Refused i cause) h = refl
 left_same m cs (Outcome.NoMemory i) h = refl
 
-commits : (m : CityMap) (c : Command) (i : ℕ) (o : Outcome) → is_commit o ≡ true → EndsAt m c i o → (o ≡ Outcome.Committed) × (c ≡ Commit)
-commits m c i Outcome.Committed h e = (refl, e.0)
-commits m c i Outcome.Aborted h e = absurd (false≢true h)
-commits m c i (Outcome.Refused j cause) h e = absurd (false≢true h)
-commits m c i (Outcome.NoMemory j) h e = absurd (false≢true h)
+commits : (v : View) (c : Command) (i : ℕ) (o : Outcome) → is_commit o ≡ true → EndsAt v c i o → (o ≡ Outcome.Committed) × (c ≡ Commit)
+commits v c i Outcome.Committed h e = (refl, e.0)
+commits v c i Outcome.Aborted h e = absurd (false≢true h)
+commits v c i (Outcome.Refused j cause) h e = absurd (false≢true h)
+commits v c i (Outcome.NoMemory j) h e = absurd (false≢true h)
 
 gained_by : (b : Bool) (stamp : ℕ) (v w : CoreState) (before after : List Change) → Publishes b stamp v w before after → (gained : List Change) × (after ≡ before ++ gained)
 gained_by true stamp v w before after p = (p.1.0 ∷ [], p.1.1)
@@ -268,16 +270,16 @@ module _ (d : DeskState) (changes : List Change) (base : Option CityValue) (n st
     abbrev model : CityMap
     model = model_after d.scripts (at d.start.1) d.ends
 
-    stands_on_model : Follows (held d.core stamp) model (answered (commands_at d.scripts n) (replies_of d n)) (view d.core stamp)
-    stands_on_model = subst (λ (m : CityMap). Follows (held d.core stamp) m (answered (commands_at d.scripts n) (replies_of d n)) (view d.core stamp)) s.city attempt.stands
+    stands_on_model : Follows (held d.core stamp) (unmarked model) (answered (commands_at d.scripts n) (replies_of d n)) (txn.seen d.core stamp)
+    stands_on_model = subst (λ (m : CityMap). Follows (held d.core stamp) (unmarked m) (answered (commands_at d.scripts n) (replies_of d n)) (txn.seen d.core stamp)) s.city attempt.stands
 
-    result : (outcome : Outcome) → EndsAt (view d.core stamp) command (length (replies_of d n)) outcome → HasResult model (commands_at d.scripts n) (replies_of d n) outcome
+    result : (outcome : Outcome) → EndsAt (txn.seen d.core stamp) command (length (replies_of d n)) outcome → HasResult model (commands_at d.scripts n) (replies_of d n) outcome
     result outcome e =
         let number : length (replies_of d n) ≡ 0 + length (replies_of d n) = omega arith in
-        result_from (held d.core stamp) model (view d.core stamp) 0 (commands_at d.scripts n) (replies_of d n) command outcome
-        stands_on_model attempt.unrefused once next (subst (λ i. EndsAt (view d.core stamp) command i outcome) number e)
+        result_from (held d.core stamp) (unmarked model) (txn.seen d.core stamp) 0 (commands_at d.scripts n) (replies_of d n) command outcome
+        stands_on_model attempt.unrefused once next (subst (λ i. EndsAt (txn.seen d.core stamp) command i outcome) number e)
 
-    fits_here : (outcome : Outcome) → EndsAt (view d.core stamp) command (length (replies_of d n)) outcome → IsEndOf d.scripts model (length d.ends) (end_of d n since outcome)
+    fits_here : (outcome : Outcome) → EndsAt (txn.seen d.core stamp) command (length (replies_of d n)) outcome → IsEndOf d.scripts model (length d.ends) (end_of d n since outcome)
     fits_here outcome e = record {
       script = slice_index_or d.scripts n ([], []);
       is_there = script_there;
@@ -286,14 +288,14 @@ module _ (d : DeskState) (changes : List Change) (base : Option CityValue) (n st
       result = subst (λ (cs : List Command). HasResult model cs (replies_of d n) outcome) (ap commands_of script_there) (result outcome e);
     }
 
-    published : (outcome : Outcome) (b : Bool) → is_commit outcome ≡ b → EndsAt (view d.core stamp) command (length (replies_of d n)) outcome → Publishes b stamp d.core core changes after
+    published : (outcome : Outcome) (b : Bool) → is_commit outcome ≡ b → EndsAt (txn.seen d.core stamp) command (length (replies_of d n)) outcome → Publishes b stamp d.core core changes after
         → (committed core ≡ map_left model (commands_at d.scripts n) outcome) × AreChangesOf d.scripts (at d.start.1) (d.ends ++ end_of d n since outcome ∷ []) after
     published outcome true one e p =
-        let by = commits (view d.core stamp) command (length (replies_of d n)) outcome one e in
+        let by = commits (txn.seen d.core stamp) command (length (replies_of d n)) outcome one e in
         let last : slice_get (commands_at d.scripts n) (length (replies_of d n)) ≡ Some Commit = next ∙ ap Some by.1 in
         let left : map_left model (commands_at d.scripts n) outcome ≡ view d.core stamp =
         ap (map_left model (commands_at d.scripts n)) by.0
-        ∙ committed_from (held d.core stamp) model (view d.core stamp) (commands_at d.scripts n) (replies_of d n) stands_on_model once last in
+        ∙ ap (λ (x : View). x.map) (committed_from (held d.core stamp) (unmarked model) (txn.seen d.core stamp) (commands_at d.scripts n) (replies_of d n) stands_on_model once last) in
         let made : model_after d.scripts (at d.start.1) (d.ends ++ end_of d n since outcome ∷ []) ≡ with_change model p.1.0 =
         model_more d.scripts d.ends (end_of d n since outcome) (at d.start.1) ∙ (left ∙ (sym p.1.2 ∙ ap (λ m. with_change m p.1.0) s.city)) in (
           p.0 ∙ sym left,

@@ -76,7 +76,7 @@ opened_serial city scripts list base lawful scripted empty based = record {
 
 -- the desk of these fields is the one that is opened
 pub opened_as : (start city : CityValue) (scripts : List Scripted) (ends : List End) (progress : List Progress) (core : CoreState) → start ≡ city → ends ≡ [] → progress ≡ unbegun_each scripts
-    → core ≡ record { frame = city.0; city = city.1; writes = []; opened = []; locks = [] }
+    → core ≡ record { frame = city.0; city = city.1; writes = []; opened = []; logs = []; locks = [] }
     → opened city scripts ≡ record { start = start; scripts = scripts; ends = ends; taken = 0; begun = 0; progress = progress; core = core }
 opened_as start city scripts ends progress core a b p k = λ i. record { start = sym a i; scripts = scripts; ends = sym b i; taken = 0; begun = 0; progress = sym p i; core = sym k i }
 

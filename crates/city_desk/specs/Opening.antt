@@ -24,5 +24,5 @@ opened city scripts = record {
   taken = 0;
   begun = 0;
   progress = unbegun_each scripts;
-  core = record { frame = city.0; city = city.1; writes = []; opened = []; locks = [] };
+  core = record { frame = city.0; city = city.1; writes = []; opened = []; logs = []; locks = [] };
 }

@@ -1,40 +1,39 @@
 -- A call of the core: its locks gained, and its command done on the store.
-use Rattle.std.proofs.Common.{◌≡◌, ◌≢◌, ◌==◌, ◌&&◌, ◌||◌, ℕ, List, [], Bool, true, false, Option, None, Some, is_some, Result, Ok, Err, refl, ap, sym, ◌∙◌, subst, inl, inr}
+use Rattle.std.proofs.Common.{◌≡◌, ◌≢◌, ◌==◌, ◌&&◌, ℕ, List, [], Bool, true, false, Option, None, Some, is_some, Result, Ok, Err, refl, ap, sym, ◌∙◌, subst, inl, inr}
 use Rattle.std.specs.Prelude.{if◌then◌else◌, option_map, is_none, IfOk, IfErr, OnOk, IsOk, IsErr}
 use Rattle.std.proofs.lemmas.Result.{on_ok_weaker}
-use Rattle.std.proofs.lemmas.Option.{none-some}
-use Rattle.std.proofs.lemmas.Bool.{false≢true, eqb-true, eqb-false, eq-eqb, cases_eq, and_parts}
-use Rattle.city_model.specs.declared.object.Object.{Object}
+use Rattle.std.proofs.lemmas.Bool.{false≢true, eqb-true, ne_eqb, cases_eq, and_parts}
 use Rattle.city_model.specs.declared.command.Cause.{Cause}
 use Rattle.city_model.specs.declared.command.Command.{Command}
 use Rattle.city_model.specs.declared.command.Reply.{Reply}
-use Rattle.city_model.specs.CityMap.{CityMap, at}
-use Rattle.city_model.specs.Meaning.{cause_of, effect_of, map_unless, after, reply_to, is_refusal, locks_of}
-use Rattle.city_model.specs.Relations.{IsSound}
+use Rattle.city_model.specs.CityMap.{CityMap}
+use Rattle.city_model.specs.Marks.{marking, step, answer}
+use Rattle.city_model.specs.Meaning.{cause_of, after, is_refusal, locks_of}
 use Rattle.city_model.proofs.IdLists.{bool_cases}
-use Rattle.city_model.proofs.FrameLaw.{frame}
 use Rattle.city_model.proofs.History as history
 use Rattle.city_locks.specs.declared.answer.Answer.{Answer}
 use Rattle.city_locks.specs.declared.answer.Answer.TheVariants.{Granted}
 use Rattle.city_locks.specs.declared.mode.Mode.{Mode}
 use Rattle.city_locks.specs.declared.mode.Mode.TheVariants.{Exclusive}
 use Rattle.city_locks.specs.Mode.{is_exclusive}
-use Rattle.city_locks.specs.Locks.{Locks, mode_of, Lawful}
+use Rattle.city_locks.specs.Locks.{Locks, mode_of}
 use Rattle.city_txn.specs.declared.step.Step.{Step}
 use Rattle.city_txn.specs.declared.step.Step.TheVariants as steps
 use Rattle.city_txn.specs.declared.step.TxnFault.{TxnFault}
 use Rattle.city_txn.specs.declared.step.TxnFault.TheVariants.{NotOpen, OutOfMemory}
-use Rattle.city_txn.specs.State.{State, Write, write_of, own_or, is_by, is_reserved}
-use Rattle.city_model.specs.Standing.{Lock, Answered, AllHeld, names, names_exclusively}
-use Rattle.city_txn.specs.CoreState.{CoreState, view, is_open, held, held_in, Stands, IsConsistent}
+use Rattle.city_txn.specs.State.{State, Write, write_of, own_write, unless_by, is_reserved}
+use Rattle.city_txn.specs.UndoLog.{Logs, Written, log_of, has_before, written_as}
+use Rattle.city_model.specs.Standing.{Lock, Answered, AllHeld, covers, names, names_exclusively}
+use Rattle.city_txn.specs.CoreState.{CoreState, view, own, written, seen, is_open, held, held_in, Stands, IsConsistent}
 use Rattle.city_txn.specs.Core.{core_state, IsCore}
 use Rattle.city_txn.specs.Locking.{GainsFirst, HoldsLock, IsBlocked, Asked}
-use Rattle.city_txn.specs.Acting.{writes_id, reply_in, answer_in, granted_in, step_of, is_done, with_step, Acted}
-use Rattle.city_txn.specs.Performing.{Performed}
+use Rattle.city_txn.specs.Acting.{writes_id, own_after, seen_after, reply_in, answer_in, granted_in, step_of, is_done, with_step, Acted}
+use Rattle.city_txn.specs.Performing.{AreNoted, Performed}
 use Rattle.city_txn.specs.declared.txn_core.Core.TheInside.{Inside}
-use Rattle.city_txn.proofs.Ended.{held_exclusively, own_not, some_same, sound_view}
+use Rattle.city_txn.proofs.Ended.{held_exclusively, sound_view}
+use Rattle.city_txn.proofs.SeenWrites.{seen_same, written_same, step_seen, IsCovered, covered_as, own_covered, marks_covered, own_same, write_same, others_write}
 use Rattle.city_txn.proofs.CoreFields.{open_is}
-use Rattle.city_txn.proofs.LocksGained.{LocksGained, view_gained, stands_gained, keeps_gained, exclusive_gained, gained_consistent, all_granted, no_more_locks}
+use Rattle.city_txn.proofs.LocksGained.{LocksGained, seen_gained, view_gained, stands_gained, keeps_gained, exclusive_kept, gained_consistent, all_granted, no_more_locks}
 use Rattle.city_txn.proofs.LocksAsked.{gains_nothing, blocked_weaker}
 use Rattle.city_txn.proofs.CommandDone.{CommandDone, stands_done, stands_refused, keeps_done, done_consistent}
 use Rattle.city_txn.proofs.PlanWritten.{or_cases}
@@ -63,30 +62,42 @@ not_done s c result v w ls k idle step fault shut answered blocked gains granted
   not_open = shut;
   answered = answered;
   blocked = blocked;
-  seen = view_gained s ls v w k s ∙ sym (ap (λ b. if b then after (view v s) c else view v s) idle);
+  sees = seen_gained s ls v w k s ∙ sym (ap (λ b. if b then seen_after v s c else seen v s) idle);
   city = k.city;
-  views = λ t ne. view_gained s ls v w k t;
+  views = λ t ne. seen_gained s ls v w k t;
   opened = k.opened s;
   locks = gains;
   granted = granted;
-  written = λ q. ap (is_by s) (k.writes q) ∙ sym (ap (λ b. (b && writes_id (view v s) c q) || is_by s (write_of v.writes q)) idle);
-  unwritten = λ q h. k.writes q;
+  writes = k.written s ∙ sym (ap (λ b. if b then written_as (marking c) (own_after (view v s) (own v s) c) (written v s) else written v s) idle);
+  unwritten = λ q. ap (unless_by s) (k.writes q);
+  others = λ t ne. k.written t;
   own = λ done f. subst (λ ds. Stands w s ds) (sym (no_step result c done idle)) (stands_gained s ls v w k s done f);
   refused = λ h done f. stands_gained s ls v w k s done f;
   keeps = keeps_gained s ls v w k;
 }
 
 -- nothing gained
-pub nothing_gained : (s : ℕ) (ls : List Lock) (v : CoreState) → Lawful v.locks → LocksGained s ls v v
-nothing_gained s ls v l = record { frame = refl; city = refl; writes = λ q. refl; opened = λ t. refl; locks = no_more_locks s ls v.locks; lawful = l }
+pub nothing_gained : (s : ℕ) (ls : List Lock) (v : CoreState) → IsConsistent v → LocksGained s ls v v
+nothing_gained s ls v c = record {
+  frame = refl;
+  city = refl;
+  writes = λ q. refl;
+  written = λ t. refl;
+  marks_locked = c.marks_locked;
+  opened = λ t. refl;
+  marks_open = c.marks_open;
+  locks = no_more_locks s ls v.locks;
+  lawful = c.lawful;
+}
 
 -- ---- a command done
 
 acted_done : (s : ℕ) (c : Command) (r : Reply) (v u w : CoreState) (ls : List Lock) → is_open v s ≡ true → LocksGained s ls v u → CommandDone s c r u w →
     GainsFirst s (granted_in v s c) v.locks u.locks → answer_in v s c ≡ Granted → Acted s c (Ok (steps.Done r)) v w
 acted_done s c r v u w ls o k d gains granted =
-    let same : view u s ≡ view v s = view_gained s ls v u k s in
-    let reply : r ≡ reply_in v s c = sym d.reply ∙ ap (λ m. reply_to m c) same in
+    let same : seen u s ≡ seen v s = seen_gained s ls v u k s in
+    let map_same : view u s ≡ view v s = view_gained s ls v u k s in
+    let reply : r ≡ reply_in v s c = sym d.reply ∙ ap (λ x. answer x c) same in
     let kept = keeps_gained s ls v u k in
     let done = keeps_done s c r u w d in
     record {
@@ -95,14 +106,16 @@ acted_done s c r v u w ls o k d gains granted =
       not_open = λ e. absurd (false≢true (sym e ∙ o));
       answered = λ e n h. refl;
       blocked = subst (IsBlocked (λ t. is_open v t ≡ true) s) (sym granted) tt;
-      seen = d.own ∙ ap (λ m. after m c) same;
+      sees = d.sees ∙ ap (λ x. step x c) same;
       city = d.city ∙ k.city;
-      views = λ t ne. d.others t ne ∙ view_gained s ls v u k t;
+      views = λ t ne. seen_same u w t d.city (d.others t ne) ∙ seen_gained s ls v u k t;
       opened = d.opened s ∙ k.opened s;
       locks = subst (GainsFirst s (granted_in v s c) v.locks) (sym d.locks) gains;
-      granted = subst (AllHeld (held w s)) (sym (all_granted v.locks s (locks_of (view v s) c) granted)) (subst (λ m. AllHeld (held w s) (locks_of m c)) same d.all_held);
-      written = λ q. d.written q ∙ ap (λ m. writes_id m c q || is_by s (write_of u.writes q)) same ∙ ap (λ x. writes_id (view v s) c q || is_by s x) (k.writes q);
-      unwritten = λ q h. d.unwritten q (ap (λ m. writes_id m c q) same ∙ h) ∙ k.writes q;
+      granted = subst (AllHeld (held w s)) (sym (all_granted v.locks s (locks_of (view v s) c) granted)) (subst (λ m. AllHeld (held w s) (locks_of m c)) map_same d.all_held);
+      writes = d.writes ∙ ap (λ m. written_as (marking c) (own_after m (own u s) c) (written u s)) map_same
+          ∙ ap (λ (x : Written). written_as (marking c) (own_after (view v s) x.0 c) x) (k.written s);
+      unwritten = λ q. d.unwritten q ∙ ap (unless_by s) (k.writes q);
+      others = λ t ne. d.others t ne ∙ k.written t;
       own = λ ds f. stands_done s c r u w d ds (stands_gained s ls v u k s ds f);
       refused = λ h ds f. stands_refused s c r u w d (ap is_refusal reply ∙ h) ds (stands_gained s ls v u k s ds f);
       keeps = record {
@@ -114,25 +127,9 @@ acted_done s c r v u w ls o k d gains granted =
 
 -- ---- done on the store
 
-not_named : (x : Option Cause) (b : Bool) → (is_none x && b) ≡ false → x ≡ None → b ≡ false
-not_named None b h e = h
-not_named (Some cause) b h e = cc
-
-by_cause : (m : CityMap) (c : Command) (q : List ℕ) → IsSound m → writes_id m c q ≡ false → (x : Option Cause) → x ≡ cause_of m c → after m c q ≡ m q
-by_cause m c q s h None e = frame m c q s (not_named (cause_of m c) (names_exclusively (locks_of m c) q) h (sym e))
-by_cause m c q s h (Some cause) e = ap (λ x. map_unless x m (effect_of m c) q) (sym e)
-
--- what the command doesn't write stays
-pub after_unwritten : (m : CityMap) (c : Command) (q : List ℕ) → IsSound m → writes_id m c q ≡ false → after m c q ≡ m q
-after_unwritten m c q s h = by_cause m c q s h (cause_of m c) refl
-
 writes_is_named : (x : Option Cause) (b : Bool) → (is_none x && b) ≡ true → b ≡ true
 writes_is_named None b h = h
 writes_is_named (Some cause) b h = absurd (false≢true h)
-
-written_or : (s : ℕ) (b : Bool) (o : Option Object) (x : Option Write) → is_by s (if b then Some (s, o) else x) ≡ (b || is_by s x)
-written_or s true o x = eq-eqb s s refl
-written_or s false o x = refl
 
 some_mode : (o : Option Mode) → is_some (option_map is_exclusive o) ≡ true → is_some o ≡ true
 some_mode None h = h
@@ -140,7 +137,7 @@ some_mode (Some m) h = refl
 
 -- ---- a call, of a core that is seen as v: its locks are asked for, and ks are the locks then
 
-module _ (a : Inside) (k : IsCore a) {v : CoreState} (seen : core_state a ≡ v) (s : ℕ) (c : Command) (here : is_open v s ≡ true) (ks : Locks) where
+module _ (a : Inside) (k : IsCore a) {v : CoreState} (known : core_state a ≡ v) (s : ℕ) (c : Command) (here : is_open v s ≡ true) (ks : Locks) where
   abbrev m : CityMap
   m = view (core_state a) s
 
@@ -148,20 +145,30 @@ module _ (a : Inside) (k : IsCore a) {v : CoreState} (seen : core_state a ≡ v)
   locked = record a { locks = ks }
 
   o : is_open (core_state a) s ≡ true
-  o = ap (λ u. is_open u s) seen ∙ here
+  o = ap (λ u. is_open u s) known ∙ here
 
   module _ {E : Type 0} {r : Result Answer E} (ask : Asked s (locks_of m c) r a.locks ks) where
+    kept_mode : (t : ℕ) (q : List ℕ) → mode_of a.locks t q ≡ Some Exclusive → mode_of ks t q ≡ Some Exclusive
+    kept_mode = exclusive_kept s ask.gains.gained a.locks ks ask.gains.locks
+
     gained : LocksGained s ask.gains.gained (core_state a) (core_state locked)
-    gained = record { frame = refl; city = refl; writes = λ q. refl; opened = λ t. refl; locks = ask.gains.locks; lawful = ask.gains.locks.lawful k.state.lawful }
+    gained = record {
+      frame = refl;
+      city = refl;
+      writes = λ q. refl;
+      written = λ t. refl;
+      marks_locked = λ t q h. kept_mode t q (k.state.marks_locked t q h);
+      opened = λ t. refl;
+      marks_open = k.state.marks_open;
+      locks = ask.gains.locks;
+      lawful = ask.gains.locks.lawful k.state.lawful;
+    }
 
     consistent : IsConsistent (core_state locked)
     consistent = gained_consistent s ask.gains.gained (core_state a) (core_state locked) k.state o gained
 
-    kept_mode : (t : ℕ) (q : List ℕ) → mode_of a.locks t q ≡ Some Exclusive → mode_of ks t q ≡ Some Exclusive
-    kept_mode = exclusive_gained s ask.gains.gained (core_state a) (core_state locked) gained
-
     pub asked_core : IsCore locked
-    asked_core = record { state = consistent; reserved = λ t q h. kept_mode t q (k.reserved t q h) }
+    asked_core = record { state = consistent; reserved = λ t q h. kept_mode t q (k.reserved t q h); noted = k.noted }
 
     -- no command is done: it failed or isn't granted, and w is the core then
     stopped : (result : Result Step TxnFault) (w : CoreState) → LocksGained s ask.gains.gained (core_state a) w → is_done result ≡ false →
@@ -171,7 +178,7 @@ module _ (a : Inside) (k : IsCore a) {v : CoreState} (seen : core_state a ≡ v)
         OnOk result (IsBlocked (HoldsLock a.locks) s (answer_in (core_state a) s c)) →
         GainsFirst s (granted_in (core_state a) s c) a.locks w.locks →
         OnOk result (AllHeld (held w s) (granted_in (core_state a) s c)) → Acted s c result v w
-    stopped result w g idle step fault answered blocked gains held = subst (λ u. Acted s c result u w) seen (not_done s c result (core_state a) w ask.gains.gained g idle step
+    stopped result w g idle step fault answered blocked gains held = subst (λ u. Acted s c result u w) known (not_done s c result (core_state a) w ask.gains.gained g idle step
         (subst (λ f. IfErr result (λ e. e ≡ f)) (sym (ap (λ b. if b then OutOfMemory else NotOpen s) o)) fault) (λ f. absurd (false≢true (sym f ∙ o))) (λ e. answered)
         (on_ok_weaker result (blocked_weaker (HoldsLock a.locks) (λ t. is_open (core_state a) t ≡ true) s (λ t ne h. k.state.open_only t h.0 h.1) (answer_in (core_state a) s c)) blocked)
         gains held)
@@ -204,92 +211,116 @@ module _ (a : Inside) (k : IsCore a) {v : CoreState} (seen : core_state a ≡ v)
             ∙ some_mode (mode_of ks s q) (history.held_named (held_in ks s) (locks_of m c) q all h)))
       ]
 
-      -- the store afterwards is st, with the reservations as they were or by s of ids that it holds exclusively
-      module _ (st : State)
-          (reserved : (t : ℕ) (q : List ℕ) → is_reserved st t q ≡ true → (is_reserved a.store t q || ((s == t) && names_exclusively (locks_of m c) q)) ≡ true) where
+      -- the store and the logs afterwards are st and ls
+      module _ {F : Type 0} {r : Result Reply F} (st : State) (ls : Logs) (p : Performed s c r a.store a.logs st ls) where
+        abbrev after_it : Inside
+        after_it = record a { store = st; logs = ls; locks = ks }
+
         reserved_held : (t : ℕ) (q : List ℕ) → is_reserved st t q ≡ true → mode_of ks t q ≡ Some Exclusive
-        reserved_held t q h = or_cases (is_reserved a.store t q) ((s == t) && names_exclusively (locks_of m c) q) (reserved t q h)
+        reserved_held t q h = or_cases (is_reserved a.store t q) ((s == t) && names_exclusively (locks_of m c) q) (p.reserved t q h)
             (λ e. kept_mode ask t q (k.reserved t q e))
             (λ e. let both = and_parts (s == t) (names_exclusively (locks_of m c) q) e in
             ap (λ u. mode_of ks u q) (sym (eqb-true s t both.0)) ∙ mine q both.1)
 
-      module _ {F : Type 0} (e : F) (st : State) (p : Performed s c (Err e) a.store st) where
-        failed : LocksGained s ask.gains.gained (core_state a) (core_state (record a { store = st; locks = ks }))
+        opened_still : (t : ℕ) → is_open (core_state after_it) t ≡ is_open (core_state a) t
+        opened_still t = open_is after_it t ∙ p.opened t ∙ sym (open_is a t)
+
+        noted_still : (t : ℕ) (q : List ℕ) → has_before (log_of ls t) q ≡ true → is_reserved st t q ≡ true
+        noted_still t q h = elim (cases_eq s t) [
+          | inl e ↦ ap (λ u. is_reserved st u q) (sym e) ∙ p.noted q (ap (λ u. has_before (log_of ls u) q) e ∙ h)
+          | inr e ↦ p.kept t q (k.noted t q (ap (λ es. has_before es q) (sym (p.logs t (ne_eqb s t e))) ∙ h))
+        ]
+
+        marks_locked_still : (t : ℕ) (q : List ℕ) → has_before (log_of ls t) q ≡ true → mode_of ks t q ≡ Some Exclusive
+        marks_locked_still t q h = reserved_held t q (noted_still t q h)
+
+        marks_open_still : (t : ℕ) → is_open (core_state after_it) t ≡ false → log_of ls t ≡ []
+        marks_open_still t h = elim (cases_eq s t) [
+          | inl e ↦ absurd (false≢true (sym (sym (opened_still t) ∙ h) ∙ ap (is_open (core_state a)) (sym e) ∙ o))
+          | inr e ↦ p.logs t (ne_eqb s t e) ∙ k.state.marks_open t (sym (opened_still t) ∙ h)
+        ]
+
+        others_still : (t : ℕ) → (s == t) ≡ false → written (core_state after_it) t ≡ written (core_state a) t
+        others_still t ne = written_same (core_state a) (core_state after_it) t
+            (λ q. own_same s t (write_of st.writes q) (write_of a.store.writes q) ne (p.unwritten q)) (p.logs t ne)
+
+        core_still : IsConsistent (core_state after_it) → IsCore after_it
+        core_still state = record { state = state; reserved = reserved_held; noted = noted_still }
+
+      module _ {F : Type 0} (e : F) (st : State) (ls : Logs) (p : Performed s c (Err e) a.store a.logs st ls) where
+        written_still : (t : ℕ) → written (core_state (after_it st ls p)) t ≡ written (core_state a) t
+        written_still t = elim (cases_eq s t) [
+          | inl e ↦ subst (λ u. written (core_state (after_it st ls p)) u ≡ written (core_state a) u) e p.written
+          | inr e ↦ others_still st ls p t (ne_eqb s t e)
+        ]
+
+        failed : LocksGained s ask.gains.gained (core_state a) (core_state (after_it st ls p))
         failed = record {
           frame = p.frame;
           city = p.city;
-          writes = p.writes;
-          opened = λ t. open_is (record a { store = st; locks = ks }) t ∙ p.opened t ∙ sym (open_is a t);
+          writes = λ q. write_same s (write_of st.writes q) (write_of a.store.writes q) (ap (λ (x : Written). x.0 q) p.written) (p.unwritten q);
+          written = written_still;
+          marks_locked = marks_locked_still st ls p;
+          opened = opened_still st ls p;
+          marks_open = marks_open_still st ls p;
           locks = ask.gains.locks;
           lawful = ask.gains.locks.lawful k.state.lawful;
         }
 
-        pub failed_core : IsCore (record a { store = st; locks = ks })
-        failed_core = record {
-          state = gained_consistent s ask.gains.gained (core_state a) (core_state (record a { store = st; locks = ks })) k.state o failed;
-          reserved = reserved_held st p.reserved;
-        }
+        pub failed_core : IsCore (record a { store = st; logs = ls; locks = ks })
+        failed_core = core_still st ls p (gained_consistent s ask.gains.gained (core_state a) (core_state (after_it st ls p)) k.state o failed)
 
-        pub failed_acted : Acted s c (Err OutOfMemory) v (core_state (record a { store = st; locks = ks }))
-        failed_acted = stopped ask (Err OutOfMemory) (core_state (record a { store = st; locks = ks })) failed refl tt refl (λ n h. absurd (n granted)) tt ask.gains tt
+        pub failed_acted : Acted s c (Err OutOfMemory) v (core_state (record a { store = st; logs = ls; locks = ks }))
+        failed_acted = stopped ask (Err OutOfMemory) (core_state (after_it st ls p)) failed refl tt refl (λ n h. absurd (n granted)) tt ask.gains tt
 
-      module _ {F : Type 0} (r : Reply) (st : State) (p : Performed {E = F} s c (Ok r) a.store st) where
-        write_there : (q : List ℕ) → writes_id m c q ≡ true → write_of st.writes q ≡ Some (s, after m c q)
-        write_there q e = p.writes q ∙ ap (λ b. if b then Some (s, after m c q) else write_of a.store.writes q) e
+      module _ {F : Type 0} (r : Reply) (st : State) (ls : Logs) (p : Performed {E = F} s c (Ok r) a.store a.logs st ls) where
+        written_mine : IsCovered (held_in ks s) (own_after m (own (core_state a) s) c)
+        written_mine q h = bool_cases (writes_id m c q)
+            (λ e. ap (λ o. covers (option_map is_exclusive o) true) (mine q (writes_is_named (cause_of m c) (names_exclusively (locks_of m c) q) e)))
+            (λ e. own_covered (core_state locked) s (consistent ask) q (sym (ap (λ b. is_some (if b then Some (after m c q) else own (core_state a) s q)) e) ∙ h))
 
-        write_apart : (q : List ℕ) → writes_id m c q ≡ false → write_of st.writes q ≡ write_of a.store.writes q
-        write_apart q e = p.writes q ∙ ap (λ b. if b then Some (s, after m c q) else write_of a.store.writes q) e
+        -- what s wrote by now it holds exclusively
+        covered_now : IsCovered (held_in ks s) (own (core_state (after_it st ls p)) s)
+        covered_now = subst (λ (x : Written). IsCovered (held_in ks s) x.0) (sym p.written)
+            (covered_as (held_in ks s) (marking c) (own_after m (own (core_state a) s) c) (written (core_state a) s)
+            written_mine (own_covered (core_state locked) s (consistent ask)) (marks_covered (core_state locked) s (consistent ask)))
 
-        written_mine : (q : List ℕ) → writes_id m c q ≡ true → mode_of ks s q ≡ Some Exclusive
-        written_mine q e = mine q (writes_is_named (cause_of m c) (names_exclusively (locks_of m c) q) e)
+        locked_still : (q : List ℕ) (y : Write) → write_of st.writes q ≡ Some y → mode_of ks y.0 q ≡ Some Exclusive
+        locked_still q y f = bool_cases (y.0 == s)
+            (λ e. ap (λ u. mode_of ks u q) (eqb-true y.0 s e)
+            ∙ held_exclusively (mode_of ks s q) (covered_now q (ap (λ x. is_some (own_write s x)) f ∙ ap (λ b. is_some (if b then Some y.1 else None)) e)))
+            (λ e. kept_mode ask y.0 q (k.state.locked q y (others_write s (write_of st.writes q) (write_of a.store.writes q) y (p.unwritten q) f e)))
 
-        no_other : (t : ℕ) (q : List ℕ) → (s == t) ≡ false → writes_id m c q ≡ true → (y : Write) → write_of a.store.writes q ≡ Some y → (y.0 == t) ≡ false
-        no_other t q ne e y f = bool_cases (y.0 == t)
-            (λ g. absurd (none-some Exclusive (sym (ask.gains.locks.lawful k.state.lawful s t q (eqb-false s t ne) (written_mine q e)) ∙ ap (λ u. mode_of ks u q) (sym (eqb-true y.0 t g)) ∙ kept_mode ask y.0 q (k.state.locked q y f))))
-            (λ g. g)
-
-        own_at : (q : List ℕ) → own_or s (write_of st.writes q) (at st.city q) ≡ after m c q
-        own_at q = bool_cases (writes_id m c q)
-            (λ e. ap (λ w. own_or s w (at st.city q)) (write_there q e) ∙ ap (λ b. if b then after m c q else at st.city q) (eq-eqb s s refl))
-            (λ e. ap (λ w. own_or s w (at st.city q)) (write_apart q e) ∙ ap (λ (n : CityMap). own_or s (write_of a.store.writes q) (n q)) p.city
-            ∙ sym (after_unwritten m c q (sound_view (core_state a) s k.state) e))
-
-        others_at : (t : ℕ) → (s == t) ≡ false → (q : List ℕ) → own_or t (write_of st.writes q) (at st.city q) ≡ view (core_state a) t q
-        others_at t ne q = bool_cases (writes_id m c q)
-            (λ e. ap (λ w. own_or t w (at st.city q)) (write_there q e) ∙ ap (λ b. if b then after m c q else at st.city q) ne ∙ ap (λ (n : CityMap). n q) p.city
-            ∙ sym (own_not t (write_of a.store.writes q) (at a.store.city q) (no_other t q ne e)))
-            (λ e. ap (λ w. own_or t w (at st.city q)) (write_apart q e) ∙ ap (λ (n : CityMap). own_or t (write_of a.store.writes q) (n q)) p.city)
-
-        performed : CommandDone s c r (core_state locked) (core_state (record a { store = st; locks = ks }))
+        performed : CommandDone s c r (core_state locked) (core_state (after_it st ls p))
         performed = record {
           frame = p.frame;
           city = p.city;
-          own = λ i q. own_at q i;
-          others = λ t ne i q. others_at t ne q i;
+          sees = step_seen (core_state locked) (core_state (after_it st ls p)) s c (sound_view (core_state a) s k.state) p.city p.written;
+          writes = p.written;
+          others = others_still st ls p;
+          unwritten = p.unwritten;
           locks = λ i. ks;
-          opened = λ t. open_is (record a { store = st; locks = ks }) t ∙ p.opened t ∙ sym (open_is locked t);
-          locked = λ q y f. bool_cases (writes_id m c q)
-              (λ e. let g : (s, after m c q) ≡ y = some_same (s, after m c q) y (sym (write_there q e) ∙ f) in
-              ap (λ u. mode_of ks u q) (sym (ap (λ z. z.0) g)) ∙ written_mine q e)
-              (λ e. kept_mode ask y.0 q (k.state.locked q y (sym (write_apart q e) ∙ f)));
+          opened = opened_still st ls p;
+          locked = locked_still;
+          marks_locked = marks_locked_still st ls p;
+          marks_open = marks_open_still st ls p;
           all_held = all;
           reply = sym p.reply;
-          written = λ q. ap (is_by s) (p.writes q) ∙ written_or s (writes_id m c q) (after m c q) (write_of a.store.writes q);
-          unwritten = write_apart;
         }
 
-        pub performed_core : IsCore (record a { store = st; locks = ks })
-        performed_core = record {
-          state = done_consistent s c r (core_state locked) (core_state (record a { store = st; locks = ks })) performed (consistent ask);
-          reserved = reserved_held st p.reserved;
-        }
+        pub performed_core : IsCore (record a { store = st; logs = ls; locks = ks })
+        performed_core = core_still st ls p (done_consistent s c r (core_state locked) (core_state (after_it st ls p)) performed (consistent ask))
 
-        pub performed_acted : Acted s c (Ok (steps.Done r)) v (core_state (record a { store = st; locks = ks }))
-        performed_acted = subst (λ u. Acted s c (Ok (steps.Done r)) u (core_state (record a { store = st; locks = ks }))) seen
-            (acted_done s c r (core_state a) (core_state locked) (core_state (record a { store = st; locks = ks })) ask.gains.gained o (gained ask) performed ask.gains granted)
+        pub performed_acted : Acted s c (Ok (steps.Done r)) v (core_state (record a { store = st; logs = ls; locks = ks }))
+        performed_acted = subst (λ u. Acted s c (Ok (steps.Done r)) u (core_state (after_it st ls p))) known
+            (acted_done s c r (core_state a) (core_state locked) (core_state (after_it st ls p)) ask.gains.gained o (gained ask) performed ask.gains granted)
+
+-- what perform asks of the logs
+pub noted_for : (a : Inside) → IsCore a → (s : ℕ) → AreNoted a.store a.logs s
+noted_for a k s = k.noted s
 
 -- a stamp that isn't open
-pub not_open_acted : (a : Inside) (k : IsCore a) {v : CoreState} (seen : core_state a ≡ v) (s : ℕ) (c : Command) → is_open v s ≡ false → Acted s c (Err (NotOpen s)) v v
-not_open_acted a k {v} seen s c shut =
-    not_done s c (Err (NotOpen s)) v v [] (nothing_gained s [] v (subst (λ (u : CoreState). Lawful u.locks) seen k.state.lawful)) refl tt
+pub not_open_acted : (a : Inside) (k : IsCore a) {v : CoreState} (known : core_state a ≡ v) (s : ℕ) (c : Command) → is_open v s ≡ false → Acted s c (Err (NotOpen s)) v v
+not_open_acted a k {v} known s c shut =
+    not_done s c (Err (NotOpen s)) v v [] (nothing_gained s [] v (subst IsConsistent known k.state)) refl tt
     (sym (ap (λ b. if b then OutOfMemory else NotOpen s) shut)) (λ f. refl) (λ f. absurd (false≢true (sym shut ∙ f))) tt (gains_nothing s (granted_in v s c) v.locks) tt

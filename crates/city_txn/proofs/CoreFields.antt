@@ -6,7 +6,7 @@ use Rattle.std.specs.Map.{keys_of, lookup}
 use Rattle.std.specs.Ordering.{nat_cmp}
 use Rattle.std.specs.BTreeMap.{is_at}
 use Rattle.std.proofs.lemmas.Option.{none-some}
-use Rattle.std.proofs.lemmas.Bool.{false≢true, eqb-true, eq-eqb, or_right}
+use Rattle.std.proofs.lemmas.Bool.{false≢true, eqb-true, eq-eqb, or_parts, or_right}
 use Rattle.city_model.specs.declared.frame.Frame.{Frame}
 use Rattle.city_model.specs.CityMap.{Objects, at}
 use Rattle.city_model.specs.Relations.{IsLawful, HasNoOrphan}
@@ -16,13 +16,16 @@ use Rattle.city_locks.proofs.Among.{none_from}
 use Rattle.city_locks.specs.declared.mode.Mode.TheVariants.{Exclusive}
 use Rattle.city_locks.specs.Locks.{Locks, mode_of, Lawful}
 use Rattle.city_txn.specs.State as store
-use Rattle.city_txn.specs.State.{State, Write, write_of, own_or, is_reserved, is_by, Begins, Forgets}
+use Rattle.city_txn.specs.State.{State, Write, write_of, own_or, own_write, is_reserved, is_by, Begins, Forgets}
+use Rattle.city_txn.specs.UndoLog.{Logs, log_of, marked, has_before, marks_with}
+use Rattle.city_model.specs.Marks.{unmarked}
 use Rattle.city_model.specs.Standing.{Answered, covers}
-use Rattle.city_txn.specs.CoreState.{CoreState, committed, view, is_open, held, held_in, Stands, IsConsistent, KeepsOthers, IsOver, IsUndone}
+use Rattle.city_txn.specs.CoreState.{CoreState, committed, view, own, written, seen, is_open, held, held_in, Stands, IsConsistent, KeepsOthers, IsOver, IsUndone}
 use Rattle.city_txn.specs.Core.{core_state, IsCore}
 use Rattle.city_txn.specs.declared.txn_core.Core.TheInside.{Inside}
 use Rattle.city_txn.proofs.AtOneId.{tied}
-use Rattle.city_txn.proofs.Ended.{Ended, own_not, is_over, stands_committed, committed_consistent, view_undone, stands_aborted, aborted_consistent}
+use Rattle.city_txn.proofs.Ended.{Ended, own_not, is_over, stands_committed, committed_consistent, seen_undone, stands_aborted, aborted_consistent}
+use Rattle.city_txn.proofs.SeenWrites.{written_same, seen_same}
 
 -- ---- which stamps are open
 
@@ -47,22 +50,26 @@ open_stored a seen s = sym (open_is a s) ∙ ap (λ u. is_open u s) seen
 none_some_write : {A : Type 0} {w : Write} → None ≡ Some w → A
 none_some_write e = absurd (cc)
 
-fresh_core : (a : Inside) (frame : Frame) (city : Objects) → IsLawful (at city) → IsCore (record a { store = record { frame = frame; city = city; writes = []; opened = [] }; locks = [] })
+fresh_core : (a : Inside) (frame : Frame) (city : Objects) → IsLawful (at city) → IsCore (record a { store = record { frame = frame; city = city; writes = []; opened = [] }; logs = []; locks = [] })
 fresh_core a frame city l = record {
   state = record {
     lawful = λ s t id ne e. refl;
     locked = λ q w e. none_some_write e;
+    marks_locked = λ s q h. absurd (false≢true h);
     open_only = λ s q h. absurd (false≢true h);
+    marks_open = λ s h. refl;
     city = l;
     history = λ s. ([], refl);
   };
   reserved = λ t q h. absurd (false≢true h);
+  noted = λ t q h. absurd (false≢true h);
 }
 
-pub opened_core : (a : Inside) (frame : Frame) (city : Objects) → a.store ≡ record { frame = frame; city = city; writes = []; opened = [] } → a.locks ≡ [] → IsLawful (at city) → IsCore a
-opened_core a frame city e f l =
+pub opened_core : (a : Inside) (frame : Frame) (city : Objects) → a.store ≡ record { frame = frame; city = city; writes = []; opened = [] } → a.logs ≡ [] → a.locks ≡ [] → IsLawful (at city) → IsCore a
+opened_core a frame city e d f l =
     subst (λ (x : State). IsCore (record a { store = x })) (sym e)
-    (subst (λ (x : Locks). IsCore (record a { store = record { frame = frame; city = city; writes = []; opened = [] }; locks = x })) (sym f) (fresh_core a frame city l))
+    (subst (λ (x : Logs). IsCore (record a { store = record { frame = frame; city = city; writes = []; opened = [] }; logs = x })) (sym d)
+    (subst (λ (x : Locks). IsCore (record a { store = record { frame = frame; city = city; writes = []; opened = [] }; logs = []; locks = x })) (sym f) (fresh_core a frame city l)))
 
 -- ---- begun
 
@@ -82,25 +89,40 @@ shut_writer v s q c h w e = bool_cases (w.0 == s)
 pub shut_unwritten : (v : CoreState) (s : ℕ) (q : List ℕ) → IsConsistent v → is_open v s ≡ false → is_by s (write_of v.writes q) ≡ false
 shut_unwritten v s q c h = not_by s (write_of v.writes q) (shut_writer v s q c h)
 
-module _ (a b : Inside) (k : IsCore a) {v : CoreState} (seen : core_state a ≡ v) (s : ℕ) (shut : is_open v s ≡ false) (begins : Begins s a.store b.store) (locks : b.locks ≡ a.locks) where
+module _ (a b : Inside) (k : IsCore a) {v : CoreState} (known : core_state a ≡ v) (s : ℕ) (shut : is_open v s ≡ false) (begins : Begins s a.store b.store) (logs : b.logs ≡ a.logs) (locks : b.locks ≡ a.locks) where
   begun_open : (t : ℕ) → is_open (core_state b) t ≡ ((s == t) || is_open (core_state a) t)
   begun_open t = open_is b t ∙ begins.opened t ∙ ap (λ c. (s == t) || c) (sym (open_is a t))
 
   pub begun_opened : is_open (core_state b) s ≡ true
   begun_opened = begun_open s ∙ rw (eq-eqb s s refl) refl
 
-  -- the new one did nothing, so its view is the committed map
+  was_shut : is_open (core_state a) s ≡ false
+  was_shut = ap (λ u. is_open u s) known ∙ shut
+
+  -- it has no marks
+  pub begun_unmarked : log_of b.logs s ≡ []
+  begun_unmarked = ap (λ ls. log_of ls s) logs ∙ k.state.marks_open s was_shut
+
+  -- the new one did nothing, so it sees the committed map
   pub begun_own : Stands (core_state b) s []
-  begun_own = λ i q. own_not s (write_of b.store.writes q) (at b.store.city q)
-      (λ w e. shut_writer (core_state a) s q k.state (ap (λ u. is_open u s) seen ∙ shut) w (ap (λ ws. write_of ws q) (sym begins.writes) ∙ e)) i
+  begun_own =
+      let none : (q : List ℕ) → own_or s (write_of b.store.writes q) (at b.store.city q) ≡ at b.store.city q =
+      λ q. own_not s (write_of b.store.writes q) (at b.store.city q)
+      (λ w e. shut_writer (core_state a) s q k.state was_shut w (ap (λ ws. write_of ws q) (sym begins.writes) ∙ e)) in
+      λ i. record { map = λ q. none q i; marks = marks_with (at b.store.city) (marked (begun_unmarked i) (own (core_state b) s)) }
+
+  begun_written : (t : ℕ) → written (core_state b) t ≡ written (core_state a) t
+  begun_written t = written_same (core_state a) (core_state b) t
+      (λ q. ap (λ ws. own_write t (write_of ws q)) begins.writes) (ap (λ ls. log_of ls t) logs)
 
   begun_stands : (t : ℕ) (done : List Answered) → Stands (core_state a) t done → Stands (core_state b) t done
-  begun_stands t done f = follows_same (held (core_state a) t) (held (core_state b) t) (committed (core_state a)) (committed (core_state b)) done (view (core_state a) t) (view (core_state b) t)
+  begun_stands t done f = follows_same (held (core_state a) t) (held (core_state b) t) (unmarked (committed (core_state a))) (unmarked (committed (core_state b))) done
+      (seen (core_state a) t) (seen (core_state b) t)
       (λ q c h. ap (λ hs. covers (held_in hs t q) c) locks ∙ h)
-      (λ i. at (sym begins.city i)) (λ i q. own_or t (write_of (sym begins.writes i) q) (at (sym begins.city i) q)) f
+      (λ i. unmarked (at (sym begins.city i))) (sym (seen_same (core_state a) (core_state b) t (ap at begins.city) (begun_written t))) f
 
   pub begun_keeps : KeepsOthers s v (core_state b)
-  begun_keeps = subst (λ u. KeepsOthers s u (core_state b)) seen (record {
+  begun_keeps = subst (λ u. KeepsOthers s u (core_state b)) known (record {
     frame = begins.frame;
     opened = λ t ne. begun_open t ∙ ap (λ c. c || is_open (core_state a) t) ne;
     others = λ t done ne f. begun_stands t done f;
@@ -111,11 +133,14 @@ module _ (a b : Inside) (k : IsCore a) {v : CoreState} (seen : core_state a ≡ 
     state = record {
       lawful = subst Lawful (sym locks) k.state.lawful;
       locked = λ q w e. ap (λ hs. mode_of hs w.0 q) locks ∙ k.state.locked q w (ap (λ ws. write_of ws q) (sym begins.writes) ∙ e);
+      marks_locked = λ t q h. ap (λ hs. mode_of hs t q) locks ∙ k.state.marks_locked t q (ap (λ ls. has_before (log_of ls t) q) (sym logs) ∙ h);
       open_only = λ t q h. begun_open t ∙ or_right (s == t) (is_open (core_state a) t) (k.state.open_only t q (ap (λ hs. is_some (mode_of hs t q)) (sym locks) ∙ h));
+      marks_open = λ t h. ap (λ ls. log_of ls t) logs ∙ k.state.marks_open t (or_parts (s == t) (is_open (core_state a) t) (sym (begun_open t) ∙ h)).1;
       city = subst (λ es. IsLawful (at es)) (sym begins.city) k.state.city;
       history = λ t. ((k.state.history t).0, begun_stands t (k.state.history t).0 (k.state.history t).1);
     };
     reserved = λ t q h. ap (λ hs. mode_of hs t q) locks ∙ k.reserved t q (sym (begins.reserved t q) ∙ h);
+    noted = λ t q h. begins.reserved t q ∙ k.noted t q (ap (λ ls. has_before (log_of ls t) q) (sym logs) ∙ h);
   }
 
 -- ---- over
@@ -125,10 +150,12 @@ none_left true c h = absurd (false≢true h)
 none_left false c h = (refl, h)
 
 module _ (a b : Inside) (k : IsCore a) (s : ℕ) (f : Forgets s a.store b.store)
+    (logs : (t : ℕ) → log_of b.logs t ≡ (if s == t then [] else log_of a.logs t))
     (modes : (t : ℕ) (q : List ℕ) → mode_of b.locks t q ≡ cond (s == t) None (mode_of a.locks t q)) (lawful : Lawful b.locks) where
   ended : Ended s (core_state a) (core_state b)
   ended = record {
     writes = f.writes;
+    marks = logs;
     locks = modes;
     opened = λ t. open_is b t ∙ f.opened t ∙ ap (λ c. if s == t then false else c) (sym (open_is a t));
     lawful = lawful;
@@ -139,20 +166,26 @@ module _ (a b : Inside) (k : IsCore a) (s : ℕ) (f : Forgets s a.store b.store)
       let left = none_left (s == t) (is_reserved a.store t q) (sym (f.reserved t q) ∙ h) in
       modes t q ∙ ap (λ c. cond c None (mode_of a.locks t q)) left.0 ∙ k.reserved t q left.1
 
+  noted_left : (t : ℕ) (q : List ℕ) → has_before (log_of b.logs t) q ≡ true → is_reserved b.store t q ≡ true
+  noted_left t q h = bool_cases (s == t)
+      (λ e. absurd (false≢true (sym (ap (λ es. has_before es q) (logs t ∙ ap (λ c. if c then [] else log_of a.logs t) e)) ∙ h)))
+      (λ e. f.reserved t q ∙ ap (λ c. if c then false else is_reserved a.store t q) e
+      ∙ k.noted t q (sym (ap (λ es. has_before es q) (logs t ∙ ap (λ c. if c then [] else log_of a.logs t) e)) ∙ h))
+
   module _ (city : store.committed b.store ≡ store.view a.store s) where
     pub committed_over : IsOver s (core_state a) (core_state b)
     committed_over = is_over s (core_state a) (core_state b) ended f.frame (λ t done ne g. stands_committed s t (core_state a) (core_state b) done k.state ended city ne g)
 
     pub committed_core : HasNoOrphan (view (core_state a) s) → IsCore b
-    committed_core orphans = record { state = committed_consistent s (core_state a) (core_state b) k.state ended city orphans; reserved = reserved_left }
+    committed_core orphans = record { state = committed_consistent s (core_state a) (core_state b) k.state ended city orphans; reserved = reserved_left; noted = noted_left }
 
   module _ (city : store.committed b.store ≡ store.committed a.store) where
     pub undone : IsUndone s (core_state a) (core_state b)
     undone = record {
       city = city;
-      views = λ t ne. view_undone s t (core_state a) (core_state b) ended city ne;
+      views = λ t ne. seen_undone s t (core_state a) (core_state b) ended city ne;
       over = is_over s (core_state a) (core_state b) ended f.frame (λ t done ne g. stands_aborted s t (core_state a) (core_state b) done ended city ne g);
     }
 
     pub undone_core : IsCore b
-    undone_core = record { state = aborted_consistent s (core_state a) (core_state b) k.state ended city; reserved = reserved_left }
+    undone_core = record { state = aborted_consistent s (core_state a) (core_state b) k.state ended city; reserved = reserved_left; noted = noted_left }

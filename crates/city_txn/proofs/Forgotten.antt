@@ -43,8 +43,8 @@ city_after_is : (end : End) (a : Inside) → IsInPlace a → (s : ℕ) (q : List
 city_after_is Commit a k s q = view_is a k q s
 city_after_is RollBack a k s q = city_is a k q
 
-own_write : (s : ℕ) (x : Option Object) (i : Image) → (i.by == s) ≡ true → unless_by s (write_at x (Some i)) ≡ None
-own_write s x i e = bool_cases i.unwritten (λ f. rw f refl) (λ f. rw (f, e) refl)
+pub own_write_gone : (s : ℕ) (x : Option Object) (i : Image) → (i.by == s) ≡ true → unless_by s (write_at x (Some i)) ≡ None
+own_write_gone s x i e = bool_cases i.unwritten (λ f. rw f refl) (λ f. rw (f, e) refl)
 
 others_write : (s : ℕ) (x : Option Object) (i : Image) → (i.by == s) ≡ false → unless_by s (write_at x (Some i)) ≡ write_at x (Some i)
 others_write s x i e = bool_cases i.unwritten (λ f. rw f refl) (λ f. rw (f, e) refl)
@@ -52,7 +52,7 @@ others_write s x i e = bool_cases i.unwritten (λ f. rw f refl) (λ f. rw (f, e)
 dropped_point : (s : ℕ) (x y : Option Object) (i : Option Image) →
     write_at (if is_writer s (writer_of i) then y else x) (if is_writer s (writer_of i) then None else i) ≡ unless_by s (write_at x i)
 dropped_point s x y None = refl
-dropped_point s x y (Some i) = bool_cases (i.by == s) (λ e. rw e (sym (own_write s x i e))) (λ e. rw e (sym (others_write s x i e)))
+dropped_point s x y (Some i) = bool_cases (i.by == s) (λ e. rw e (sym (own_write_gone s x i e))) (λ e. rw e (sym (others_write s x i e)))
 
 no_writer : (b : Bool) → (if b then false else false) ≡ false
 no_writer true = refl

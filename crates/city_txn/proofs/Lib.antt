@@ -11,7 +11,11 @@ pub mod ImagesHeld
 pub mod LocksAsked
 pub mod LocksGained
 pub mod OneIdChanged
+pub mod PerformDone
 pub mod PlanWritten
 pub mod ReservationMade
+pub mod SeenWrites
 pub mod Slots
+pub mod UndoLogs
+pub mod Unwritten
 pub mod Written

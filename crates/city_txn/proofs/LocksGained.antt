@@ -13,48 +13,60 @@ use Rattle.city_locks.specs.declared.answer.Answer.{Answer}
 use Rattle.city_locks.specs.declared.answer.Answer.TheVariants.{Granted, Wait, Die}
 use Rattle.city_locks.specs.Mode.{is_exclusive, stronger}
 use Rattle.city_locks.specs.Locks.{Locks, mode_of, answer_of, Lawful}
-use Rattle.city_txn.specs.State.{write_of, own_or}
+use Rattle.city_model.specs.CityMap.{CityMap}
+use Rattle.city_model.specs.Marks.{View, unmarked}
+use Rattle.city_txn.specs.State.{write_of}
+use Rattle.city_txn.specs.UndoLog.{log_of, has_before}
 use Rattle.city_model.specs.Standing.{Lock, Answered, covers, names, names_exclusively}
-use Rattle.city_txn.specs.CoreState.{CoreState, committed, view, is_open, held, held_in, Stands, IsConsistent, KeepsOthers}
+use Rattle.city_txn.specs.CoreState.{CoreState, committed, view, written, seen, is_open, held, held_in, Stands, IsConsistent, KeepsOthers}
 use Rattle.city_txn.specs.Locking.{go_on, first_answer, first_if, granted_before, mode_for, MoreLocks}
 use Rattle.city_txn.proofs.Ended.{held_exclusively}
+use Rattle.city_txn.proofs.SeenWrites.{seen_same}
 
--- s gained locks that ls names; else nothing changed
+-- s gained locks that ls names; else nobody sees a difference
 pub record LocksGained (s : ℕ) (ls : List Lock) (v w : CoreState) : Type 0 where
   pub frame : w.frame ≡ v.frame
   pub city : committed w ≡ committed v
   pub writes : (q : List ℕ) → write_of w.writes q ≡ write_of v.writes q
+  pub written : (t : ℕ) → written w t ≡ written v t
+  pub marks_locked : (t : ℕ) (q : List ℕ) → has_before (log_of w.logs t) q ≡ true → mode_of w.locks t q ≡ Some Exclusive
   pub opened : (t : ℕ) → is_open w t ≡ is_open v t
+  pub marks_open : (t : ℕ) → is_open w t ≡ false → log_of w.logs t ≡ []
   pub locks : MoreLocks s ls v.locks w.locks
   pub lawful : Lawful w.locks
 
+more_for : (s : ℕ) (ls : List Lock) (hs ks : Locks) → MoreLocks s ls hs ks → (t : ℕ) (q : List ℕ) (b : Bool) → covers (held_in hs t q) b ≡ true → covers (held_in ks t q) b ≡ true
+more_for s ls hs ks k t q b h = bool_cases (s == t)
+    (λ e. let p : s ≡ t = eqb-true s t e in ap (λ r. covers (held_in ks r q) b) (sym p) ∙ k.more q b (ap (λ r. covers (held_in hs r q) b) p ∙ h))
+    (λ e. ap (λ o. covers (option_map is_exclusive o) b) (k.others t q e) ∙ h)
+
+-- what was held exclusively still is
+pub exclusive_kept : (s : ℕ) (ls : List Lock) (hs ks : Locks) → MoreLocks s ls hs ks → (t : ℕ) (q : List ℕ) → mode_of hs t q ≡ Some Exclusive → mode_of ks t q ≡ Some Exclusive
+exclusive_kept s ls hs ks k t q x = held_exclusively (mode_of ks t q) (more_for s ls hs ks k t q true (ap (λ m. covers (option_map is_exclusive m) true) x))
+
 module _ (s : ℕ) (ls : List Lock) (v w : CoreState) (k : LocksGained s ls v w) where
-  pub gained_for : (t : ℕ) (q : List ℕ) (b : Bool) → covers (held v t q) b ≡ true → covers (held w t q) b ≡ true
-  gained_for t q b h = bool_cases (s == t)
-      (λ e. let p : s ≡ t = eqb-true s t e in ap (λ r. covers (held w r q) b) (sym p) ∙ k.locks.more q b (ap (λ r. covers (held v r q) b) p ∙ h))
-      (λ e. ap (λ o. covers (option_map is_exclusive o) b) (k.locks.others t q e) ∙ h)
+  pub seen_gained : (t : ℕ) → seen w t ≡ seen v t
+  seen_gained t = seen_same v w t k.city (k.written t)
 
   pub view_gained : (t : ℕ) → view w t ≡ view v t
-  view_gained t = λ i q. own_or t (k.writes q i) (k.city i q)
+  view_gained t = ap (λ (x : View). x.map) (seen_gained t)
 
   pub stands_gained : (t : ℕ) (done : List Answered) → Stands v t done → Stands w t done
-  stands_gained t done f = follows_same (held v t) (held w t) (committed v) (committed w) done (view v t) (view w t)
-      (gained_for t) (sym k.city) (sym (view_gained t)) f
+  stands_gained t done f = follows_same (held v t) (held w t) (unmarked (committed v)) (unmarked (committed w)) done (seen v t) (seen w t)
+      (more_for s ls v.locks w.locks k.locks t) (ap (λ (m : CityMap). unmarked m) (sym k.city)) (sym (seen_gained t)) f
 
   pub keeps_gained : KeepsOthers s v w
   keeps_gained = record { frame = k.frame; opened = λ t ne. k.opened t; others = λ t done ne f. stands_gained t done f }
 
--- what was held exclusively still is
-pub exclusive_gained : (s : ℕ) (ls : List Lock) (v w : CoreState) → LocksGained s ls v w → (t : ℕ) (q : List ℕ) → mode_of v.locks t q ≡ Some Exclusive → mode_of w.locks t q ≡ Some Exclusive
-exclusive_gained s ls v w k t q x = held_exclusively (mode_of w.locks t q) (gained_for s ls v w k t q true (ap (λ m. covers (option_map is_exclusive m) true) x))
-
 pub gained_consistent : (s : ℕ) (ls : List Lock) (v w : CoreState) → IsConsistent v → is_open v s ≡ true → LocksGained s ls v w → IsConsistent w
 gained_consistent s ls v w c o k = record {
   lawful = k.lawful;
-  locked = λ q x e. exclusive_gained s ls v w k x.0 q (c.locked q x (sym (k.writes q) ∙ e));
+  locked = λ q x e. exclusive_kept s ls v.locks w.locks k.locks x.0 q (c.locked q x (sym (k.writes q) ∙ e));
+  marks_locked = k.marks_locked;
   open_only = λ t q h. bool_cases (s == t)
       (λ e. k.opened t ∙ ap (is_open v) (sym (eqb-true s t e)) ∙ o)
       (λ e. k.opened t ∙ c.open_only t q (ap is_some (sym (k.locks.others t q e)) ∙ h));
+  marks_open = k.marks_open;
   city = subst IsLawful (sym k.city) c.city;
   history = λ t. ((c.history t).0, stands_gained s ls v w k t (c.history t).0 (c.history t).1);
 }

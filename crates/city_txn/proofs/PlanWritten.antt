@@ -3,13 +3,14 @@ use Rattle.std.proofs.Common.{◌≡◌, ◌==◌, ◌&&◌, ◌||◌, ℕ, ◌+
 use Rattle.std.specs.Prelude.{if◌then◌else◌}
 use Rattle.std.specs.List.{list_any}
 use Rattle.city_model.specs.declared.object.Object.{Object}
-use Rattle.std.proofs.lemmas.Bool.{eqb-true, eq-eqb, or_left, and_parts, and_from, or_right}
+use Rattle.std.proofs.lemmas.Bool.{eqb-true, eq-eqb, or_left, and_parts, and_from, or_right, false_from_ne_true}
 use Rattle.std.proofs.lemmas.List.Folds.{list_any_more, list_any_at, list_any-append}
 use Rattle.std.proofs.Math.Bool.{or-false}
 use Rattle.city_model.specs.CityMap.{CityMap, same_id, has_id}
 use Rattle.city_model.proofs.Ids.{same_id_true, same_id_itself, same_id_back}
+use Rattle.city_model.proofs.IdLists.{not_both}
 use Rattle.city_txn.specs.UndoState.{reservations_of}
-use Rattle.city_txn.specs.State.{State, Write, is_reserved, SeesSame}
+use Rattle.city_txn.specs.State.{State, Write, own, own_write, is_reserved, SeesSame}
 use Rattle.city_txn.specs.Performing.{plans}
 use Rattle.city_model.specs.Plans.{AreOf}
 use Rattle.city_model.specs.Runs.{Change}
@@ -28,7 +29,7 @@ pub plans_more : (ws : Change) (n : ℕ) (w : List ℕ × Option Object) (q : Li
 plans_more ws n w q lt is = listed (take (n + 1) ws) q ∙ list_any_more (λ x. same_id q x.0) ws n w lt
     ∙ ap (λ b. b || same_id q (get_or ws n w).0) (sym (listed (take n ws) q)) ∙ ap (λ x. plans (take n ws) q || same_id q x.0) (sym is)
 
-plans_got : (ws : Change) (n : ℕ) (w : List ℕ × Option Object) → n < length ws → w ≡ get_or ws n w → plans ws w.0 ≡ true
+pub plans_got : (ws : Change) (n : ℕ) (w : List ℕ × Option Object) → n < length ws → w ≡ get_or ws n w → plans ws w.0 ≡ true
 plans_got ws n w lt is = listed ws w.0 ∙ list_any_at (λ x. same_id w.0 x.0) ws n w lt (ap (λ x. same_id w.0 x.0) (sym is) ∙ same_id_itself w.0)
 
 -- v is the store at the start, u where the first n were reserved, and w with one more reserved
@@ -65,6 +66,10 @@ sees_on v u w a b = record {
   opened = λ t. b.opened t ∙ a.opened t;
 }
 
+-- and what it wrote stays
+pub own_reserved : (v w : State) (s : ℕ) → SeesSame v w → own w s ≡ own v s
+own_reserved v w s a = λ i q. own_write s (a.writes q i)
+
 -- ---- writes, from the last to the first
 
 plans_last : (ws : Change) (p : List ℕ × Option Object) (q : List ℕ) → plans (ws ++ p ∷ []) q ≡ (plans ws q || same_id q p.0)
@@ -76,6 +81,10 @@ plans_before all ws p q e h = ap (λ xs. plans xs q) e ∙ plans_last ws p q ∙
 
 pub plans_this : (all ws : Change) (p : List ℕ × Option Object) → all ≡ ws ++ p ∷ [] → plans all p.0 ≡ true
 plans_this all ws p e = ap (λ xs. plans xs p.0) e ∙ plans_last ws p p.0 ∙ or_right (plans ws p.0) (same_id p.0 p.0) (same_id_itself p.0)
+
+-- what isn't written is apart from this
+pub plans_apart : (all ws : Change) (p : List ℕ × Option Object) (q : List ℕ) → all ≡ ws ++ p ∷ [] → plans all q ≡ false → same_id p.0 q ≡ false
+plans_apart all ws p q e h = false_from_ne_true (same_id p.0 q) (λ k. not_both (plans all q) (ap (plans all) (sym (same_id_true p.0 q k)) ∙ plans_this all ws p e) h)
 
 of_parts : (f : CityMap) (ws : Change) (p : List ℕ × Option Object) → AreOf f (ws ++ p ∷ []) → AreOf f ws × (p.1 ≡ f p.0)
 of_parts f [] p h = (tt, h.0)

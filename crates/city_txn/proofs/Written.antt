@@ -16,7 +16,7 @@ use Rattle.city_txn.proofs.OneIdChanged.{at_each, image_there, image_beside, slo
 
 -- ---- at one id, where x stood in the city and y stands now
 
-some_writer : (s : ℕ) (i : Option Image) → is_writer s (writer_of i) ≡ true → is_some i ≡ true
+pub some_writer : (s : ℕ) (i : Option Image) → is_writer s (writer_of i) ≡ true → is_some i ≡ true
 some_writer s None h = absurd (false≢true h)
 some_writer s (Some i) h = refl
 

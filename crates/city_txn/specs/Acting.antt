@@ -1,5 +1,5 @@
 -- What a command does to a core.
-use Rattle.std.specs.Prelude.{◌≡◌, ◌≢◌, ◌==◌, ◌&&◌, ◌||◌, ℕ, Bool, true, false, List, [], ◌∷◌, ◌++◌, is_none}
+use Rattle.std.specs.Prelude.{◌≡◌, ◌≢◌, ◌==◌, ◌&&◌, ℕ, Bool, true, false, List, [], ◌∷◌, ◌++◌, Some, is_none}
 use Rattle.std.specs.Prelude.{if◌then◌else◌}
 use Rattle.std.specs.Prelude.{Result, Ok, Err, IfOk, IfErr, OnOk, IsOk, IsErr}
 use Rattle.city_model.specs.declared.command.Command.{Command}
@@ -7,16 +7,18 @@ use Rattle.city_model.specs.declared.command.Reply.{Reply}
 use Rattle.city_model.specs.CityMap.{CityMap}
 use Rattle.city_model.specs.Runs.{EndsAt}
 use Rattle.city_model.specs.declared.end.Outcome.{Outcome}
-use Rattle.city_model.specs.Meaning.{cause_of, after, reply_to, is_refusal, locks_of}
+use Rattle.city_model.specs.Marks.{View, marking, step, answer}
+use Rattle.city_model.specs.Meaning.{cause_of, after, is_refusal, locks_of}
 use Rattle.city_locks.specs.declared.answer.Answer.{Answer}
 use Rattle.city_locks.specs.declared.answer.Answer.TheVariants.{Granted, Wait, Die}
 use Rattle.city_txn.specs.declared.step.Step.{Step}
 use Rattle.city_txn.specs.declared.step.Step.TheVariants as steps
 use Rattle.city_txn.specs.declared.step.TxnFault.{TxnFault}
 use Rattle.city_txn.specs.declared.step.TxnFault.TheVariants.{NotOpen, OutOfMemory}
-use Rattle.city_txn.specs.State.{write_of, is_by}
+use Rattle.city_txn.specs.State.{write_of, unless_by}
+use Rattle.city_txn.specs.UndoLog.{OwnWrites, written_as}
 use Rattle.city_model.specs.Standing.{Lock, Answered, AllHeld, names_exclusively}
-use Rattle.city_txn.specs.CoreState.{CoreState, committed, view, is_open, held, Stands, KeepsOthers}
+use Rattle.city_txn.specs.CoreState.{CoreState, committed, view, own, written, seen, is_open, held, Stands, KeepsOthers}
 use Rattle.city_txn.specs.Locking.{first_answer, granted_before, GainsFirst, IsBlocked}
 
 -- whether the command, done at this map, writes the id: not where it is refused, and else each id that it
@@ -24,9 +26,17 @@ use Rattle.city_txn.specs.Locking.{first_answer, granted_before, GainsFirst, IsB
 abbrev pub writes_id : CityMap → Command → List ℕ → Bool
 writes_id m command id = is_none (cause_of m command) && names_exclusively (locks_of m command) id
 
+-- what the transaction with these writes at this map has written after the command, marks aside
+abbrev pub own_after : CityMap → OwnWrites → Command → OwnWrites
+own_after m f command id = if writes_id m command id then Some (after m command id) else f id
+
 -- what the transaction would be replied to the command
 abbrev pub reply_in : CoreState → ℕ → Command → Reply
-reply_in v stamp command = reply_to (view v stamp) command
+reply_in v stamp command = answer (seen v stamp) command
+
+-- what it would see after the command
+abbrev pub seen_after : CoreState → ℕ → Command → View
+seen_after v stamp command = step (seen v stamp) command
 
 -- what its locks would be answered: the first that isn't granted, or Granted
 abbrev pub answer_in : CoreState → ℕ → Command → Answer
@@ -38,7 +48,7 @@ granted_in v stamp command = granted_before v.locks stamp (locks_of (view v stam
 
 -- so the transaction ends at the command, which is number `number` of its script
 abbrev pub EndsIn : CoreState → ℕ → Command → ℕ → Outcome → Type 0
-EndsIn v stamp command number outcome = EndsAt (view v stamp) command number outcome
+EndsIn v stamp command number outcome = EndsAt (seen v stamp) command number outcome
 
 -- the step that an answer of the locks and a reply give
 abbrev pub step_of : Answer → Reply → Step
@@ -71,20 +81,22 @@ pub record Acted (stamp : ℕ) (command : Command) (result : Result Step TxnFaul
       → AllHeld (held old stamp) (granted_in old stamp command) → IsOk result
   -- told to wait, it is older than another open one; told to die, it is younger than one
   pub blocked : OnOk result (IsBlocked (λ t. is_open old t ≡ true) stamp (answer_in old stamp command))
-  -- its view is that after the command, where that is done; all else that is seen stays
-  pub seen : view new stamp ≡ (if is_done result then after (view old stamp) command else view old stamp)
+  -- it sees what is seen after the command, where that is done; all else that is seen stays
+  pub sees : seen new stamp ≡ (if is_done result then seen_after old stamp command else seen old stamp)
   pub city : committed new ≡ committed old
-  pub views : (t : ℕ) → (stamp == t) ≡ false → view new t ≡ view old t
+  pub views : (t : ℕ) → (stamp == t) ≡ false → seen new t ≡ seen old t
   pub opened : is_open new stamp ≡ is_open old stamp
   -- of the locks before the first that isn't granted it gains the first so many, in their order, and no
   -- others; where there is memory, all of them. It loses none; the others keep theirs
   pub locks : GainsFirst stamp (granted_in old stamp command) old.locks new.locks
   pub granted : OnOk result (AllHeld (held new stamp) (granted_in old stamp command))
-  -- its writes gain just the ids that the command writes; the other writes stay
-  pub written : (id : List ℕ) → is_by stamp (write_of new.writes id)
-      ≡ ((is_done result && writes_id (view old stamp) command id) || is_by stamp (write_of old.writes id))
-  pub unwritten : (id : List ℕ) → (is_done result && writes_id (view old stamp) command id) ≡ false
-      → write_of new.writes id ≡ write_of old.writes id
+  -- its writes gain just the ids that the command writes, a mark has the writes of now, and going back makes
+  -- them those of the mark; the others' writes and marks stay
+  pub writes : written new stamp ≡ (if is_done result
+      then written_as (marking command) (own_after (view old stamp) (own old stamp) command) (written old stamp)
+      else written old stamp)
+  pub unwritten : (id : List ℕ) → unless_by stamp (write_of new.writes id) ≡ unless_by stamp (write_of old.writes id)
+  pub others : (t : ℕ) → (stamp == t) ≡ false → written new t ≡ written old t
   -- all commands that stood stand, and this one with them; without it too, where it is refused
   pub own : (done : List Answered) → Stands old stamp done → Stands new stamp (with_step result command done)
   pub refused : is_refusal (reply_in old stamp command) ≡ true

@@ -1,5 +1,6 @@
 -- What an undo image says of its id, where x is what the city has there.
-use Rattle.std.specs.Prelude.{◌==◌, ◌&&◌, not, ℕ, Bool, true, false, Option, None, Some, if◌then◌else◌}
+use Rattle.std.specs.Prelude.{◌==◌, ◌&&◌, not, ℕ, Bool, true, false, Option, None, Some, is_none}
+use Rattle.std.specs.Prelude.{if◌then◌else◌}
 use Rattle.city_model.specs.declared.object.Object.{Object}
 use Rattle.city_txn.specs.declared.image.Image.{Image}
 
@@ -45,3 +46,16 @@ written_over x deleted i =
 
 abbrev pub unwritten_image : ℕ → Bool → Image
 unwritten_image stamp deleted = record { by = stamp; unwritten = true; deleted = deleted; before = None }
+
+-- the object that goes back into the city where the write is taken back
+abbrev pub put_back : Image → Option Object
+put_back i = if i.unwritten then None else i.before
+
+-- the image then: nothing is written, and a placeholder holds the slot where no object stood there
+abbrev pub written_back : Image → Image
+written_back i = if i.unwritten then i
+    else record { by = i.by; unwritten = true; deleted = is_none i.before; before = None }
+
+abbrev pub put_back_at : Option Image → Option Object
+put_back_at None = None
+put_back_at (Some i) = put_back i

@@ -10,4 +10,5 @@ pub mod Locking
 pub mod Performing
 pub mod Slots
 pub mod State
+pub mod UndoLog
 pub mod UndoState

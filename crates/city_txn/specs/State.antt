@@ -9,6 +9,7 @@ use Rattle.city_model.specs.declared.frame.Frame.{Frame}
 use Rattle.city_model.specs.declared.object.Object.{Object}
 use Rattle.city_model.specs.CityMap.{Objects, CityMap, at, has_id}
 use Rattle.city_txn.specs.UndoState.{Reservations, listed_by, reservations_of}
+use Rattle.city_txn.specs.UndoLog.{OwnWrites}
 
 -- a written id: who wrote it, and what stands there for the writer
 abbrev pub Write : Type 0
@@ -46,6 +47,10 @@ own_or stamp (Some w) o = if w.0 == stamp then w.1 else o
 abbrev pub own_write : ℕ → Option Write → Option (Option Object)
 own_write stamp None = None
 own_write stamp (Some w) = if w.0 == stamp then Some w.1 else None
+
+-- what the transaction wrote at each id
+abbrev pub own : State → ℕ → OwnWrites
+own v stamp id = own_write stamp (write_of v.writes id)
 
 abbrev pub committed : State → CityMap
 committed v id = at v.city id

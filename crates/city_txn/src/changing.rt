@@ -12,6 +12,7 @@ ghost use Rattle.city_txn.specs.Changing.{or_else, objects_in};
 ghost use Rattle.city_txn.specs.UndoState.{image_at};
 
 use crate::undo::Undo;
+use crate::undo_log::OwnWrite;
 use city_model::OutOfMemory;
 use city_model::change::Change;
 use city_model::city::City;
@@ -61,19 +62,31 @@ fn note(
         ≡ (if same_id id.now q then or_else (written_at (at city.now.1 id.now) (image_at undo.now id.now)) (get (slice_cmp nat_cmp) writes.old q) else get (slice_cmp nat_cmp) writes.old q)) }
     ensures ordered { IsOrdered (slice_cmp nat_cmp) writes.old → IsOrdered (slice_cmp nat_cmp) writes.new }
 {
+    if let Some(object) = written_copy(city, undo, alloc, id)? {
+        writes.insert(id.copy(alloc)?, object)?;
+    }
+    Ok(())
+}
+
+/// A copy of what was written at the id: an object, or that none is there, or nothing.
+pub fn written_copy(
+    city: &City,
+    undo: &Undo,
+    alloc: Global,
+    id: &Id,
+) -> Result<OwnWrite, OutOfMemory>
+    ensures { IfOk result (λ write. write ≡ written_at (at city.now.1 id.now) (image_at undo.now id.now)) }
+{
     let Some(image) = undo.image(id) else {
-        return Ok(());
+        return Ok(None);
     };
     if image.unwritten {
-        return Ok(());
+        return Ok(None);
     }
-    let object = if image.deleted {
-        None
-    } else {
-        copy_at(city, alloc, id)?
-    };
-    writes.insert(id.copy(alloc)?, object)?;
-    Ok(())
+    if image.deleted {
+        return Ok(Some(None));
+    }
+    Ok(Some(copy_at(city, alloc, id)?))
 }
 
 /// A copy of the object at the id, if there is one.

@@ -1,8 +1,7 @@
 //! The locks of a command, in the order in which they are asked for.
-ghost use Rattle.std.specs.Prelude.{◌≡◌, ◌∷◌, false, drop};
+ghost use Rattle.std.specs.Prelude.{◌≡◌, [], ◌∷◌, IfSome, IfNone, drop};
 ghost use Rattle.city_model.specs.CityMap.{CityMap};
 ghost use Rattle.city_model.specs.Meaning.{delete_locks, exclusively, locks_of};
-ghost use Rattle.city_model.specs.Scripts.{is_end};
 ghost use Rattle.city_locks.specs.Mode.{is_exclusive};
 ghost use Rattle.city_txn.specs.State.{view};
 
@@ -12,16 +11,16 @@ use city_model::command::Command;
 use city_model::text::Id;
 use std::slice;
 
-/// The id that a command locks first, and the mode.
-pub fn first_lock(command: &Command) -> (&Id, Mode)
-    requires { is_end command.now ≡ false }
-    ensures { (m : CityMap) → locks_of m command.now ≡ (result.0.now, is_exclusive result.1) ∷ drop 1 (locks_of m command.now) }
+/// The id that a command locks first, and the mode; none where it locks nothing.
+pub fn first_lock(command: &Command) -> Option<(&Id, Mode)>
+    ensures first { IfSome result (λ lock. (m : CityMap) → locks_of m command.now ≡ (lock.0.now, is_exclusive lock.1) ∷ drop 1 (locks_of m command.now)) }
+    ensures none { IfNone result ((m : CityMap) → locks_of m command.now ≡ []) }
 {
     match command {
-        Command::Read(id) => (id, Mode::Shared),
-        Command::Put(id, _) | Command::Delete(id) => (id, Mode::Exclusive),
-        Command::Attach(child, _) | Command::Detach(child, _) => (child, Mode::Exclusive),
-        Command::Commit | Command::Abort => unreachable!(),
+        Command::Read(id) => Some((id, Mode::Shared)),
+        Command::Put(id, _) | Command::Delete(id) => Some((id, Mode::Exclusive)),
+        Command::Attach(child, _) | Command::Detach(child, _) => Some((child, Mode::Exclusive)),
+        Command::Mark(_) | Command::Back(_) | Command::Commit | Command::Abort => None,
     }
 }
 
@@ -33,7 +32,8 @@ pub fn further_locks<'a>(store: &'a Store, stamp: u64, command: &'a Command) -> 
     match command {
         Command::Delete(id) => parents_to_lock(store, stamp, id),
         Command::Attach(_, parent) | Command::Detach(_, parent) => slice::from_ref(parent),
-        Command::Read(_) | Command::Put(_, _) | Command::Commit | Command::Abort => &[],
+        Command::Read(_) | Command::Put(_, _) => &[],
+        Command::Mark(_) | Command::Back(_) | Command::Commit | Command::Abort => &[],
     }
 }
 

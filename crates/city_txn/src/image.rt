@@ -1,6 +1,6 @@
 //! Undo images: what stood at an id before a transaction wrote it.
 ghost use Rattle.std.specs.Prelude.{◌≡◌, Some, option_copied};
-ghost use Rattle.city_txn.specs.Images.{seen_by, written_over, unwritten_image};
+ghost use Rattle.city_txn.specs.Images.{seen_by, written_over, unwritten_image, written_back, put_back};
 
 use city_model::object::Object;
 
@@ -50,5 +50,20 @@ impl Image {
         }
         self.unwritten = false;
         self.deleted = deleted;
+    }
+
+    /// Takes what was written back, and gives the object to be put back into the city, if there is
+    /// one: none where nothing was written, or where no object stood there.
+    pub fn unwrite(&mut self) -> Option<Object>
+        ensures image { self.new ≡ written_back self.old }
+        ensures object { result ≡ put_back self.old }
+    {
+        if !self.unwritten {
+            let before = self.before.take();
+            self.unwritten = true;
+            self.deleted = before.is_none();
+            return before;
+        }
+        None
     }
 }

@@ -11,6 +11,7 @@
 mod changing;
 mod command_locks;
 mod ending;
+mod going_back;
 mod image;
 mod lock;
 mod perform;
@@ -21,6 +22,7 @@ mod step;
 mod store;
 mod txn_core;
 mod undo;
+mod undo_log;
 mod would_lock;
 mod writing;
 

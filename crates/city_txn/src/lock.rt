@@ -1,7 +1,5 @@
 //! The locks of a command, asked for.
-ghost use Rattle.std.specs.Prelude.{◌≡◌, false};
 ghost use Rattle.city_model.specs.Meaning.{exclusively, locks_of};
-ghost use Rattle.city_model.specs.Scripts.{is_end};
 ghost use Rattle.city_txn.specs.State.{view};
 ghost use Rattle.city_txn.specs.Locking.{Asked};
 
@@ -20,10 +18,12 @@ pub fn lock(
     stamp: u64,
     command: &Command,
 ) -> Result<Answer, OutOfMemory>
-    requires no_end { is_end command.now ≡ false }
     ensures { Asked stamp (locks_of (view store.now stamp) command.now) result locks.old locks.new }
 {
-    let (id, mode) = first_lock(command);
+    let Some(first) = first_lock(command) else {
+        return Ok(Answer::Granted);
+    };
+    let (id, mode) = first;
     let answer = locks.ask(stamp, id, mode)?;
     match answer {
         Answer::Granted => lock_each(locks, stamp, further_locks(store, stamp, command)),

@@ -1,23 +1,29 @@
-//! A command done on the store.
+//! A command done on the store, and on the undo log of its transaction.
 ghost use Rattle.std.specs.Prelude.{◌≡◌, ℕ, List, true, false};
 ghost use Rattle.city_model.specs.Meaning.{locks_of};
 ghost use Rattle.city_model.specs.Relations.{IsSound};
-ghost use Rattle.city_model.specs.Scripts.{is_end};
-ghost use Rattle.city_txn.specs.State.{is_reserved, is_open, view};
+ghost use Rattle.city_model.specs.Scripts.{is_end, is_mark};
 ghost use Rattle.city_model.specs.Standing.{names};
-ghost use Rattle.city_txn.specs.Performing.{Performed};
+ghost use Rattle.city_model.specs.declared.command.Command.{Command};
+ghost use Rattle.city_txn.specs.State.{is_reserved, is_open, view};
+ghost use Rattle.city_txn.specs.Performing.{AreNoted, Performed};
 
+use crate::going_back::go_back;
 use crate::seen::plan_in;
 use crate::store::Store;
+use crate::undo_log::{Entry, UndoLogs};
 use crate::writing::write_all;
 use city_model::OutOfMemory;
-use city_model::command::{Command, Reply};
+use city_model::command::{Cause, Command, Reply};
+use city_model::copied::Copied;
 use city_model::plan::Plan;
+use city_model::text::Text;
 use std::alloc::Global;
 
 /// Does a command, whose locks the stamp holds. Want of memory writes nothing.
 pub fn perform(
     store: &mut Store,
+    logs: &mut UndoLogs,
     alloc: Global,
     stamp: u64,
     command: &Command,
@@ -26,12 +32,71 @@ pub fn perform(
     requires sound { IsSound (view store.old stamp) }
     requires opened { is_open store.old stamp ≡ true }
     requires alone { (id : List ℕ) → names (locks_of (view store.old stamp) command.now) id ≡ true → (t : ℕ) → is_reserved store.old t id ≡ true → t ≡ stamp }
-    ensures { Performed stamp command.now result store.old store.new }
+    requires noted { AreNoted store.old logs.old stamp }
+    ensures { Performed stamp command.now result store.old logs.old store.new logs.new }
+{
+    match command {
+        Command::Mark(name) => mark(store, logs, alloc, stamp, name),
+        Command::Back(name) => back(store, logs, alloc, stamp, name),
+        _ => carry_out(store, logs, alloc, stamp, command),
+    }
+}
+
+/// Makes a mark.
+fn mark(
+    store: &Store,
+    logs: &mut UndoLogs,
+    alloc: Global,
+    stamp: u64,
+    name: &Text,
+) -> Result<Reply, OutOfMemory>
+    requires { AreNoted store.now logs.old stamp }
+    ensures { Performed stamp (Command.Mark name.now) result store.now logs.old store.now logs.new }
+{
+    let _ = store;
+    let entry = Entry::Mark(name.copy(alloc)?);
+    logs.push(stamp, entry)?;
+    Ok(Reply::Marked)
+}
+
+/// Goes back to a mark. Takes no memory where it is there.
+fn back(
+    store: &mut Store,
+    logs: &mut UndoLogs,
+    alloc: Global,
+    stamp: u64,
+    name: &Text,
+) -> Result<Reply, OutOfMemory>
+    requires { AreNoted store.old logs.old stamp }
+    ensures { Performed stamp (Command.Back name.now) result store.old logs.old store.new logs.new }
+{
+    if !logs.has_mark(stamp, name) {
+        return Ok(Reply::Refused(Cause::NoMark(name.copy(alloc)?)));
+    }
+    go_back(store, logs, alloc, stamp, name);
+    Ok(Reply::WentBack)
+}
+
+/// Does a command that leaves marks.
+fn carry_out(
+    store: &mut Store,
+    logs: &mut UndoLogs,
+    alloc: Global,
+    stamp: u64,
+    command: &Command,
+) -> Result<Reply, OutOfMemory>
+    requires no_end { is_end command.now ≡ false }
+    requires no_mark { is_mark command.now ≡ false }
+    requires sound { IsSound (view store.old stamp) }
+    requires opened { is_open store.old stamp ≡ true }
+    requires alone { (id : List ℕ) → names (locks_of (view store.old stamp) command.now) id ≡ true → (t : ℕ) → is_reserved store.old t id ≡ true → t ≡ stamp }
+    requires noted { AreNoted store.old logs.old stamp }
+    ensures { Performed stamp command.now result store.old logs.old store.new logs.new }
 {
     match plan_in(store, alloc, stamp, command)? {
         Plan::Refused(cause) => Ok(Reply::Refused(cause)),
         Plan::Writes(reply, change) => {
-            write_all(store, alloc, stamp, change)?;
+            write_all(store, logs, alloc, stamp, change)?;
             Ok(reply)
         }
     }

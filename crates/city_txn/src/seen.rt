@@ -2,7 +2,7 @@
 ghost use Rattle.std.specs.Prelude.{◌≡◌, false, IfOk};
 ghost use Rattle.city_model.specs.Plans.{IsPlan};
 ghost use Rattle.city_model.specs.Relations.{IsSound};
-ghost use Rattle.city_model.specs.Scripts.{is_end};
+ghost use Rattle.city_model.specs.Scripts.{is_end, is_mark};
 ghost use Rattle.city_txn.specs.State.{view};
 
 use crate::store::Store;
@@ -37,6 +37,7 @@ pub fn plan_in(
     command: &Command,
 ) -> Result<Plan, OutOfMemory>
     requires no_end { is_end command.now ≡ false }
+    requires no_mark { is_mark command.now ≡ false }
     requires sound { IsSound (view store.now stamp) }
     ensures { IfOk result (IsPlan (view store.now stamp) command.now) }
 {

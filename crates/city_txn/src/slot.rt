@@ -1,6 +1,7 @@
 //! Slots of the city: placeholders, and objects put back.
 ghost use Rattle.std.specs.Prelude.{◌≡◌, None, Some, unwrap_or, IfOk, OnOk, OnErr, is_some, not, true, if◌then◌else◌};
 ghost use Rattle.city_model.specs.CityMap.{at, changed};
+ghost use Rattle.city_txn.specs.Changing.{or_else};
 ghost use Rattle.city_txn.specs.Images.{before_image};
 ghost use Rattle.city_txn.specs.Slots.{placeholder, with_slot};
 
@@ -60,6 +61,20 @@ pub fn standing(alloc: Global, object: Option<Object>) -> Object
     match object {
         Some(o) => o,
         None => placeholder(alloc),
+    }
+}
+
+/// Sets the object, if there is one, at an id that has a slot.
+pub fn refill(city: &mut City, id: Id, object: Option<Object>)
+    requires { is_some (at city.old.1 id) ≡ true }
+    ensures after { at city.new.1 ≡ changed (at city.old.1) id (or_else object (at city.old.1 id)) }
+    ensures frame { city.new.0 ≡ city.old.0 }
+{
+    match object {
+        Some(o) => {
+            let _ = swap(city, id, o);
+        }
+        None => {}
     }
 }
 

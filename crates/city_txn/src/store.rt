@@ -1,5 +1,5 @@
 //! The city as the open transactions have written it, and how it is put back.
-ghost use Rattle.std.specs.Prelude.{◌≡◌, ◌↔◌, IsTrue, ℕ, List, [], None, Some, OnOk, OnErr, IfOk, true, false, ◌==◌, ◌&&◌, ◌||◌, option_copied, if◌then◌else◌};
+ghost use Rattle.std.specs.Prelude.{◌≡◌, ◌↔◌, IsTrue, ℕ, List, [], None, Some, OnOk, OnErr, IfOk, true, false, ◌==◌, ◌&&◌, ◌||◌, option_copied, option_map, if◌then◌else◌};
 ghost use Rattle.std.specs.Ordering.{nat_cmp};
 ghost use Rattle.std.specs.Cmp.Lexicographic.{slice_cmp};
 ghost use Rattle.std.specs.Map.{keys_of, lookup};
@@ -7,12 +7,13 @@ ghost use Rattle.std.specs.List.Sorted.{IsStrictlySortedBy};
 ghost use Rattle.std.specs.BTreeMap.{is_at};
 ghost use Rattle.city_model.specs.CityMap.{same_id};
 ghost use Rattle.city_txn.specs.Ending.{city_after};
-ghost use Rattle.city_txn.specs.State.{State, write_of, is_reserved, is_open, committed, view, own_write, SeesSame, Begins, Forgets};
+ghost use Rattle.city_txn.specs.State.{State, write_of, is_reserved, is_open, committed, view, own, own_write, unless_by, SeesSame, Begins, Forgets};
 
-use crate::changing::change_of;
+use crate::changing::{change_of, written_copy};
 use crate::ending::{End, end_each};
 use crate::slot;
 use crate::undo::Undo;
+use crate::undo_log::OwnWrite;
 use city_model::OutOfMemory;
 use city_model::change::Change;
 use city_model::city::City;
@@ -116,11 +117,49 @@ impl Store {
         ensures frame { self.new.frame ≡ self.old.frame }
         ensures city { committed self.new ≡ committed self.old }
         ensures writes { (q : List ℕ) → write_of self.new.writes q ≡ (if same_id id q then Some (stamp, object) else write_of self.old.writes q) }
+        ensures others { (q : List ℕ) → unless_by stamp (write_of self.new.writes q) ≡ unless_by stamp (write_of self.old.writes q) }
         ensures opened { self.new.opened ≡ self.old.opened }
     {
         let deleted = object.is_none();
         let standing = slot::standing(alloc, object);
         self.undo.write(&mut self.city, id, standing, deleted);
+    }
+
+    /// What the stamp wrote at an id that it has reserved. It copies the object.
+    pub fn written(&self, alloc: Global, stamp: u64, id: &Id) -> Result<OwnWrite, OutOfMemory>
+        requires { is_reserved self.now stamp id.now ≡ true }
+        ensures { IfOk result (λ write. write ≡ own self.now stamp id.now) }
+    {
+        let write = written_copy(&self.city, &self.undo, alloc, id)?;
+        Ok(write)
+    }
+
+    /// Makes what the stamp wrote at an id that it has reserved this: an object, or that none is
+    /// there, or nothing. Takes no memory.
+    pub fn restore(&mut self, alloc: Global, stamp: u64, id: Id, write: OwnWrite)
+        requires { is_reserved self.old stamp id ≡ true }
+        ensures frame { self.new.frame ≡ self.old.frame }
+        ensures city { committed self.new ≡ committed self.old }
+        ensures writes { (q : List ℕ) → write_of self.new.writes q ≡ (if same_id id q then option_map (λ o. (stamp, o)) write else write_of self.old.writes q) }
+        ensures others { (q : List ℕ) → unless_by stamp (write_of self.new.writes q) ≡ unless_by stamp (write_of self.old.writes q) }
+        ensures opened { self.new.opened ≡ self.old.opened }
+    {
+        match write {
+            Some(object) => self.set(alloc, stamp, id, object),
+            None => self.unset(stamp, id),
+        }
+    }
+
+    /// Takes the stamp's write of an id that it has reserved back, if it wrote it. Takes no memory.
+    fn unset(&mut self, stamp: u64, id: Id)
+        requires { is_reserved self.old stamp id ≡ true }
+        ensures frame { self.new.frame ≡ self.old.frame }
+        ensures city { committed self.new ≡ committed self.old }
+        ensures writes { (q : List ℕ) → write_of self.new.writes q ≡ (if same_id id q then None else write_of self.old.writes q) }
+        ensures others { (q : List ℕ) → unless_by stamp (write_of self.new.writes q) ≡ unless_by stamp (write_of self.old.writes q) }
+        ensures opened { self.new.opened ≡ self.old.opened }
+    {
+        self.undo.unwrite(&mut self.city, id);
     }
 
     /// What the stamp wrote, ids in byte order. It copies the objects.

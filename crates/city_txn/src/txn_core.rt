@@ -2,11 +2,13 @@
 ghost use Rattle.std.specs.Prelude.{◌≡◌, ◌&&◌, ℕ, List, [], None, true, false, Some, is_some, OnOk, OnErr, IfOk, IfErr, IsErr, IsOk, ◌↔◌, if◌then◌else◌};
 ghost use Rattle.city_model.specs.CityMap.{at};
 ghost use Rattle.city_model.specs.Scripts.{is_end};
+ghost use Rattle.city_model.specs.Marks.{AreSound};
 ghost use Rattle.city_model.specs.Relations.{IsLawful, HasNoOrphan, IsSound};
 ghost use Rattle.city_locks.specs.declared.mode.Mode.{Mode};
 ghost use Rattle.city_locks.specs.Locks.{mode_of};
 ghost use Rattle.city_txn.specs.State.{write_of, is_by};
-ghost use Rattle.city_txn.specs.CoreState.{committed, view, is_open, Stands, KeepsOthers, IsOver, IsUndone};
+ghost use Rattle.city_txn.specs.CoreState.{committed, view, seen, is_open, Stands, KeepsOthers, IsOver, IsUndone};
+ghost use Rattle.city_txn.specs.UndoLog.{log_of, has_before};
 ghost use Rattle.city_txn.specs.Acting.{answer_in, Acted};
 ghost use Rattle.city_txn.specs.Changing.{IsPrepared};
 ghost use Rattle.city_txn.specs.Locking.{is_wait};
@@ -16,6 +18,7 @@ use crate::lock::lock;
 use crate::perform::perform;
 use crate::step::{Prepared, Step, TxnFault};
 use crate::store::Store;
+use crate::undo_log::UndoLogs;
 use crate::would_lock::would_lock;
 use city_locks::{Answer, LockTable};
 use city_model::city::City;
@@ -26,12 +29,14 @@ use std::marker::Model;
 
 /// A committed city and the open transactions on it.
 ///
-/// Contracts see the committed city, and of each open transaction its writes and its locks. What a
-/// transaction sees is the committed city with its own writes.
+/// Contracts see the committed city, and of each open transaction its writes, its marks and its locks.
+/// What a transaction sees is the committed city with its own writes; what it saw at a mark is that city
+/// with its writes of then.
 #[derive(Drop)]
 pub struct Core {
     alloc: Global,
     store: Store,
+    logs: UndoLogs,
     locks: LockTable,
 }
 
@@ -57,28 +62,31 @@ impl Core {
     /// A core over this city, with no transaction open. Takes no memory.
     pub fn open(alloc: Global, city: City) -> Self
         requires { IsLawful (at city.1) }
-        ensures { result ≡ record { frame = city.0; city = city.1; writes = []; opened = []; locks = [] } }
+        ensures { result ≡ record { frame = city.0; city = city.1; writes = []; opened = []; logs = []; locks = [] } }
     {
         Core {
             alloc,
             store: Store::new(alloc, city),
+            logs: UndoLogs::new(alloc),
             locks: LockTable::new(alloc),
         }
     }
 
-    /// Opens a transaction, with no writes and no locks, and changes nothing else.
+    /// Opens a transaction, with no writes, no marks and no locks, and changes nothing else.
     ///
     /// `StampOpen` comes exactly where the stamp is open; then, and for want of memory, nothing
     /// changes.
     pub fn begin(&mut self, stamp: u64) -> Result<(), TxnFault>
         ensures city { self.new.city ≡ self.old.city }
         ensures writes { self.new.writes ≡ self.old.writes }
+        ensures logs { self.new.logs ≡ self.old.logs }
         ensures locks { self.new.locks ≡ self.old.locks }
         ensures opened { OnOk result (is_open self.new stamp ≡ true) }
         ensures own { OnOk result (Stands self.new stamp []) }
         ensures keeps { OnOk result (KeepsOthers stamp self.old self.new) }
         ensures unlocked { OnOk result ((id : List ℕ) → mode_of self.new.locks stamp id ≡ None) }
         ensures unwritten { OnOk result ((id : List ℕ) → is_by stamp (write_of self.new.writes id) ≡ false) }
+        ensures unmarked { OnOk result (log_of self.new.logs stamp ≡ []) }
         ensures err { OnErr result (self.new ≡ self.old) }
         ensures fault { IfErr result (λ fault. fault ≡ (if is_open self.old stamp then TxnFault.StampOpen stamp else TxnFault.OutOfMemory)) }
         ensures stamp_open { is_open self.old stamp ≡ true → IsErr result }
@@ -98,7 +106,8 @@ impl Core {
     /// locks before it are held, and the transaction stays open. A refused command is done: its
     /// reply is `Refused`, and it changes nothing. `NotOpen` comes exactly where the stamp isn't
     /// open, and changes nothing. After `OutOfMemory` the transaction is open as before, and may
-    /// have gained locks of the command.
+    /// have gained locks of the command. Marks ask for no locks, and going back gives none back; it takes
+    /// no memory where the mark is there.
     pub fn act(&mut self, stamp: u64, command: &Command) -> Result<Step, TxnFault>
         requires { is_end command.now ≡ false }
         ensures { Acted stamp command.now result self.old self.new }
@@ -114,7 +123,7 @@ impl Core {
             Answer::Die => return Ok(Step::Die),
             Answer::Granted => {}
         }
-        let Ok(reply) = perform(&mut self.store, self.alloc, stamp, command) else {
+        let Ok(reply) = perform(&mut self.store, &mut self.logs, self.alloc, stamp, command) else {
             return Err(TxnFault::OutOfMemory);
         };
         Ok(Step::Done(reply))
@@ -169,6 +178,7 @@ impl Core {
         ensures lawful { IsLawful (committed self.new) }
     {
         self.store.commit(stamp);
+        self.logs.close(stamp);
         self.locks.release_all(stamp);
     }
 
@@ -178,6 +188,7 @@ impl Core {
         ensures { IsUndone stamp self.old self.new }
     {
         self.store.roll_back(stamp);
+        self.logs.close(stamp);
         self.locks.release_all(stamp);
     }
 
@@ -216,7 +227,9 @@ impl Core {
         ensures opened { result ≡ is_open self.now stamp }
         ensures committed { IsLawful (committed self.now) }
         ensures views { (t : ℕ) → IsSound (view self.now t) }
+        ensures marks { (t : ℕ) → AreSound (seen self.now t).marks }
         ensures locked { (t : ℕ) (id : List ℕ) → is_by t (write_of self.now.writes id) ≡ true → mode_of self.now.locks t id ≡ Some Mode.Exclusive }
+        ensures marks_locked { (t : ℕ) (id : List ℕ) → has_before (log_of self.now.logs t) id ≡ true → mode_of self.now.locks t id ≡ Some Mode.Exclusive }
         ensures open_only { (t : ℕ) (id : List ℕ) → is_some (mode_of self.now.locks t id) ≡ true → is_open self.now t ≡ true }
     {
         self.store.is_open(stamp)

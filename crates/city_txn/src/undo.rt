@@ -5,7 +5,8 @@ ghost use Rattle.std.specs.Cmp.Lexicographic.{slice_cmp};
 ghost use Rattle.std.specs.BTreeMap.{get, is_at, IsOrdered};
 ghost use Rattle.std.specs.FinMap.{entries};
 ghost use Rattle.city_model.specs.CityMap.{at, changed, same_id};
-ghost use Rattle.city_txn.specs.Images.{unwritten_image, written_over};
+ghost use Rattle.city_txn.specs.Images.{unwritten_image, written_over, written_back, put_back_at};
+ghost use Rattle.city_txn.specs.Changing.{or_else};
 ghost use Rattle.city_txn.specs.UndoState.{image_at, listed_by, reservations_of};
 
 use crate::image::Image;
@@ -150,6 +151,26 @@ impl Undo {
             Some(image) => {
                 let old = slot::swap(city, id, object);
                 image.write_over(old, deleted);
+            }
+            None => unreachable!(),
+        }
+    }
+
+    /// Takes the write of a reserved id back, if it was written: what stood there goes back into the
+    /// city. Takes no memory.
+    pub fn unwrite(&mut self, city: &mut City, id: Id)
+        requires has_slot { is_some (at city.old.1 id) ≡ true }
+        requires there { is_some (image_at self.old id) ≡ true }
+        ensures frame { city.new.0 ≡ city.old.0 }
+        ensures city { at city.new.1 ≡ changed (at city.old.1) id (or_else (put_back_at (image_at self.old id)) (at city.old.1 id)) }
+        ensures images { (q : List ℕ) → image_at self.new q
+            ≡ (if same_id id q then option_map written_back (image_at self.old id) else image_at self.old q) }
+        ensures reservations { self.new.reservations ≡ self.old.reservations }
+    {
+        match self.images.get_mut(&id) {
+            Some(image) => {
+                let before = image.unwrite();
+                slot::refill(city, id, before);
             }
             None => unreachable!(),
         }

@@ -1,7 +1,6 @@
 //! What asking for the locks of a command would come to.
-ghost use Rattle.std.specs.Prelude.{◌≡◌, false};
+ghost use Rattle.std.specs.Prelude.{◌≡◌};
 ghost use Rattle.city_model.specs.Meaning.{exclusively, locks_of};
-ghost use Rattle.city_model.specs.Scripts.{is_end};
 ghost use Rattle.city_txn.specs.State.{view};
 ghost use Rattle.city_txn.specs.Locking.{first_answer};
 
@@ -13,10 +12,11 @@ use city_model::text::Id;
 
 /// What `lock` would answer, want of memory aside. Takes no memory.
 pub fn would_lock(locks: &LockTable, store: &Store, stamp: u64, command: &Command) -> Answer
-    requires no_end { is_end command.now ≡ false }
     ensures { result ≡ first_answer locks.now stamp (locks_of (view store.now stamp) command.now) }
 {
-    let (id, mode) = first_lock(command);
+    let Some((id, mode)) = first_lock(command) else {
+        return Answer::Granted;
+    };
     match locks.would_answer(stamp, id, mode) {
         Answer::Granted => would_lock_each(locks, stamp, further_locks(store, stamp, command)),
         Answer::Wait => Answer::Wait,

@@ -1,4 +1,7 @@
-use Rattle.std.proofs.Common.{◌∙◌, length, ◌<◌, arith}
+use Rattle.std.proofs.Common.{◌==◌, ◌&&◌, ◌∙◌, length, ◌<◌, arith}
+use Rattle.std.proofs.lemmas.Bool.{or_right}
+use Rattle.city_model.specs.CityMap.{same_id}
+use Rattle.city_txn.specs.State.{is_reserved}
 use Rattle.city_txn.proofs.PlanWritten.{still_alone, reserved_more, done_more, sees_on, sees_unchanged}
 use Rattle.city_txn.proofs.writing.reserve_all.Goals as goal
 
@@ -19,6 +22,7 @@ loop-write-preserved c =
       same = sees_on c.args.store.now c.loop-write.store c.reserve.new.self i.same c.in_ok-reserve.ensures.same;
       done = done_more c.args.store.now c.loop-write.store c.reserve.new.self c.args.stamp c.args.writes.now c.loop-write.write-index c.write-item.result lt c.write-item.is
           c.requires.alone i.reserved c.in_ok-reserve.ensures.ok i.done;
+      kept = λ t q h. c.in_ok-reserve.ensures.ok t q ∙ or_right ((c.args.stamp == t) && same_id c.write-item.result.0 q) (is_reserved c.loop-write.store t q) (i.kept t q h);
       reserved = reserved_more c.args.store.now c.loop-write.store c.reserve.new.self c.args.stamp c.args.writes.now c.loop-write.write-index c.write-item.result lt c.write-item.is
           c.requires.alone i.reserved c.in_ok-reserve.ensures.ok;
     }

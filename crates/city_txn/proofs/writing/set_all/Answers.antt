@@ -1,6 +1,10 @@
-use Rattle.std.proofs.Common.{◌≡◌, ◌∙◌, ◌∷◌, ◌++◌, []}
+use Rattle.std.proofs.Common.{◌≡◌, ◌∙◌, ◌∷◌, ◌++◌, [], Some, ap}
+use Rattle.std.specs.Prelude.{if◌then◌else◌}
+use Rattle.std.proofs.lemmas.Bool.{false_from_ne_true}
+use Rattle.city_model.proofs.IdLists.{not_both}
+use Rattle.city_txn.specs.Performing.{plans}
 use Rattle.city_txn.specs.State.{write_of}
-use Rattle.city_txn.proofs.PlanWritten.{plans_this, plans_before, of_before, written_last, reserved_by}
+use Rattle.city_txn.proofs.PlanWritten.{plans_this, plans_before, plans_apart, of_before, written_last, reserved_by}
 use Rattle.city_txn.proofs.writing.set_all.Goals as goal
 
 pub set-requires : goal.set-requires
@@ -18,7 +22,14 @@ loop-write-preserved c =
       frame = c.set.ensures.frame ∙ i.frame;
       city = c.set.ensures.city ∙ i.city;
       opened = c.set.ensures.opened ∙ i.opened;
+      others = λ q. c.set.ensures.others q ∙ i.others q;
       reserved = λ q h. reserved_by c.loop-write.store c.set.new.self c.args.stamp q c.set.ensures.opened ∙ i.reserved q (plans_before all left w q e h);
+      among = λ q h. i.among q (plans_before all left w q e h);
+      apart = λ q h.
+          c.set.ensures.writes q
+          ∙ ap (λ b. if b then Some (c.args.stamp, w.1) else write_of c.loop-write.store.writes q)
+          (plans_apart all left w q e (false_from_ne_true (plans all q) (λ k. not_both (plans c.args.writes.items q) (i.among q k) h)))
+          ∙ i.apart q h;
       of = λ f h. of_before f all left w e (i.of f h);
       writes = λ f h q. written_last f all left w c.args.stamp (write_of c.loop-write.store.writes q) (write_of c.set.new.self.writes q) q e (i.of f h) (c.set.ensures.writes q) ∙ i.writes f h q;
     }

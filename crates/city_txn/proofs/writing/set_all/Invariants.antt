@@ -1,7 +1,7 @@
-use Rattle.std.proofs.Common.{◌≡◌, ℕ, List, Some, true, vec_len}
+use Rattle.std.proofs.Common.{◌≡◌, ℕ, List, Some, true, false, vec_len}
 use Rattle.std.specs.Prelude.{if◌then◌else◌}
 use Rattle.city_model.specs.CityMap.{CityMap}
-use Rattle.city_txn.specs.State.{write_of, is_reserved, committed}
+use Rattle.city_txn.specs.State.{write_of, unless_by, is_reserved, committed}
 use Rattle.city_model.specs.Plans.{AreOf}
 use Rattle.city_txn.specs.Performing.{plans}
 use Rattle.city_txn.proofs.writing.set_all.Given as goal
@@ -11,7 +11,10 @@ invariant-loop-write l = record {
   frame : l.store.frame ≡ l.initial.store.frame;
   city : committed l.store ≡ committed l.initial.store;
   opened : l.store.opened ≡ l.initial.store.opened;
+  others : (q : List ℕ) → unless_by l.stamp (write_of l.store.writes q) ≡ unless_by l.stamp (write_of l.initial.store.writes q);
   reserved : (q : List ℕ) → plans l.writes.items q ≡ true → is_reserved l.store l.stamp q ≡ true;
+  among : (q : List ℕ) → plans l.writes.items q ≡ true → plans l.initial.writes.items q ≡ true;
+  apart : (q : List ℕ) → plans l.initial.writes.items q ≡ false → write_of l.store.writes q ≡ write_of l.initial.store.writes q;
   of : (f : CityMap) → AreOf f l.initial.writes.items → AreOf f l.writes.items;
   writes : (f : CityMap) → AreOf f l.initial.writes.items → (q : List ℕ) →
       (if plans l.writes.items q then Some (l.stamp, f q) else write_of l.store.writes q) ≡ (if plans l.initial.writes.items q then Some (l.stamp, f q) else write_of l.initial.store.writes q);

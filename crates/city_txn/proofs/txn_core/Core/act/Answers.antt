@@ -4,7 +4,7 @@ use Rattle.city_txn.specs.Acting.{reply_in, step_of}
 use Rattle.city_txn.specs.Core.{core_state}
 use Rattle.city_txn.proofs.Ended.{sound_view}
 use Rattle.city_txn.proofs.CoreFields.{open_stored}
-use Rattle.city_txn.proofs.ActDone.{asked_core, asked_failed, asked_refused, not_open_acted, alone_named, failed_core, failed_acted, performed_core, performed_acted}
+use Rattle.city_txn.proofs.ActDone.{noted_for, asked_core, asked_failed, asked_refused, not_open_acted, alone_named, failed_core, failed_acted, performed_core, performed_acted}
 use Rattle.city_txn.proofs.txn_core.Core.act.Goals as goal
 
 pub returns-then-not-is_open : goal.returns-then-not-is_open
@@ -52,19 +52,22 @@ perform-requires-clause-alone c =
 pub invariant_of-self-in_default-perform : goal.invariant_of-self-in_default-perform
 invariant_of-self-in_default-perform c =
     failed_core c.self.inside c.self.invariant c.self.view_is c.args.stamp c.args.command.now (sym c.is_open.ensures.opened ∙ c.if-not-is_open.false) c.lock.new.locks
-    c.in-Ok.ensures c.in-Granted.is c.in_default-perform.field-0 c.perform.new.store c.in_default-perform.ensures
+    c.in-Ok.ensures c.in-Granted.is c.in_default-perform.field-0 c.perform.new.store c.perform.new.logs c.in_default-perform.ensures
 
 pub returns-in_default-perform : goal.returns-in_default-perform
 returns-in_default-perform c =
     failed_acted c.self.inside c.self.invariant c.self.view_is c.args.stamp c.args.command.now (sym c.is_open.ensures.opened ∙ c.if-not-is_open.false) c.lock.new.locks
-    c.in-Ok.ensures c.in-Granted.is c.in_default-perform.field-0 c.perform.new.store c.in_default-perform.ensures
+    c.in-Ok.ensures c.in-Granted.is c.in_default-perform.field-0 c.perform.new.store c.perform.new.logs c.in_default-perform.ensures
 
 pub invariant_of-self-2 : goal.invariant_of-self-2
 invariant_of-self-2 c =
     performed_core c.self.inside c.self.invariant c.self.view_is c.args.stamp c.args.command.now (sym c.is_open.ensures.opened ∙ c.if-not-is_open.false) c.lock.new.locks
-    c.in-Ok.ensures c.in-Granted.is c.in-Ok-perform.reply c.perform.new.store c.in-Ok-perform.ensures
+    c.in-Ok.ensures c.in-Granted.is c.in-Ok-perform.reply c.perform.new.store c.perform.new.logs c.in-Ok-perform.ensures
 
 pub returns : goal.returns
 returns c =
     performed_acted c.self.inside c.self.invariant c.self.view_is c.args.stamp c.args.command.now (sym c.is_open.ensures.opened ∙ c.if-not-is_open.false) c.lock.new.locks
-    c.in-Ok.ensures c.in-Granted.is c.in-Ok-perform.reply c.perform.new.store c.in-Ok-perform.ensures
+    c.in-Ok.ensures c.in-Granted.is c.in-Ok-perform.reply c.perform.new.store c.perform.new.logs c.in-Ok-perform.ensures
+
+pub perform-requires-clause-noted : goal.perform-requires-clause-noted
+perform-requires-clause-noted c = noted_for c.self.inside c.self.invariant c.args.stamp

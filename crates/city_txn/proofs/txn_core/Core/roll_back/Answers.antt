@@ -8,12 +8,12 @@ use Rattle.city_txn.proofs.txn_core.Core.roll_back.Goals as goal
 pub invariant_of-self : goal.invariant_of-self
 invariant_of-self c =
     let a = c.self.inside in
-    let b : Inside = record { alloc = a.alloc; store = c.roll_back.new.self; locks = c.release_all.new.self } in
-    undone_core a b c.self.invariant c.args.stamp c.roll_back.ensures.forgets c.release_all.ensures.modes c.release_all.ensures.lawful c.roll_back.ensures.city
+    let b : Inside = record { alloc = a.alloc; store = c.roll_back.new.self; logs = c.close.new.self; locks = c.release_all.new.self } in
+    undone_core a b c.self.invariant c.args.stamp c.roll_back.ensures.forgets c.close.ensures c.release_all.ensures.modes c.release_all.ensures.lawful c.roll_back.ensures.city
 
 pub returns : goal.returns
 returns c =
     let a = c.self.inside in
-    let b : Inside = record { alloc = a.alloc; store = c.roll_back.new.self; locks = c.release_all.new.self } in
+    let b : Inside = record { alloc = a.alloc; store = c.roll_back.new.self; logs = c.close.new.self; locks = c.release_all.new.self } in
     subst (λ (v : CoreState). IsUndone c.args.stamp v (core_state b)) c.self.view_is
-    (undone a b c.self.invariant c.args.stamp c.roll_back.ensures.forgets c.release_all.ensures.modes c.release_all.ensures.lawful c.roll_back.ensures.city)
+    (undone a b c.self.invariant c.args.stamp c.roll_back.ensures.forgets c.close.ensures c.release_all.ensures.modes c.release_all.ensures.lawful c.roll_back.ensures.city)

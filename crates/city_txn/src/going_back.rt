@@ -1,0 +1,62 @@
+//! Going back to a mark.
+ghost use Rattle.std.specs.Prelude.{◌≡◌, ◌==◌, ℕ, List, [], true, false, drop};
+ghost use Rattle.city_model.specs.Marks.{marks_from};
+ghost use Rattle.city_txn.specs.State.{write_of, unless_by, own, is_reserved, is_open, committed};
+ghost use Rattle.city_txn.specs.UndoLog.{log_of, has_mark, is_before, undone, newest_undone, written_back};
+ghost use Rattle.city_txn.specs.Performing.{AreNoted, written_in};
+
+use crate::store::Store;
+use crate::undo_log::{Entry, UndoLogs};
+use city_model::text::Text;
+use std::alloc::Global;
+
+/// Goes back to the newest mark of the name, which the transaction has: what it wrote is what it had
+/// written then, newer marks are gone, and the mark stays. Takes no memory.
+pub fn go_back(store: &mut Store, logs: &mut UndoLogs, alloc: Global, stamp: u64, name: &Text)
+    requires marked { has_mark (log_of logs.old stamp) name.now ≡ true }
+    requires noted { AreNoted store.old logs.old stamp }
+    ensures written { written_in store.new logs.new stamp
+        ≡ written_back (written_in store.old logs.old stamp) (marks_from name.now (written_in store.old logs.old stamp).1) }
+    ensures noted { AreNoted store.new logs.new stamp }
+    ensures frame { store.new.frame ≡ store.old.frame }
+    ensures city { committed store.new ≡ committed store.old }
+    ensures opened { store.new.opened ≡ store.old.opened }
+    ensures unwritten { (id : List ℕ) → unless_by stamp (write_of store.new.writes id) ≡ unless_by stamp (write_of store.old.writes id) }
+    ensures logs { (t : ℕ) → (stamp == t) ≡ false → log_of logs.new t ≡ log_of logs.old t }
+{
+    while !logs.is_at_mark(stamp, name) {
+        undo_newest(store, logs, alloc, stamp);
+    }
+}
+
+/// Takes the newest entry of the transaction's log back. Takes no memory.
+fn undo_newest(store: &mut Store, logs: &mut UndoLogs, alloc: Global, stamp: u64)
+    requires { AreNoted store.old logs.old stamp }
+    ensures own { own store.new stamp ≡ newest_undone (log_of logs.old stamp) (own store.old stamp) }
+    ensures log { log_of logs.new stamp ≡ drop 1 (log_of logs.old stamp) }
+    ensures frame { store.new.frame ≡ store.old.frame }
+    ensures city { committed store.new ≡ committed store.old }
+    ensures opened { store.new.opened ≡ store.old.opened }
+    ensures unwritten { (id : List ℕ) → unless_by stamp (write_of store.new.writes id) ≡ unless_by stamp (write_of store.old.writes id) }
+    ensures logs { (t : ℕ) → (stamp == t) ≡ false → log_of logs.new t ≡ log_of logs.old t }
+{
+    match logs.pop(stamp) {
+        Some(entry) => undo_entry(store, alloc, stamp, entry),
+        None => {}
+    }
+}
+
+/// Takes an entry of the transaction's log back. Takes no memory.
+fn undo_entry(store: &mut Store, alloc: Global, stamp: u64, entry: Entry)
+    requires { (id : List ℕ) → is_before id entry ≡ true → is_reserved store.old stamp id ≡ true }
+    ensures own { own store.new stamp ≡ undone entry (own store.old stamp) }
+    ensures frame { store.new.frame ≡ store.old.frame }
+    ensures city { committed store.new ≡ committed store.old }
+    ensures opened { store.new.opened ≡ store.old.opened }
+    ensures unwritten { (id : List ℕ) → unless_by stamp (write_of store.new.writes id) ≡ unless_by stamp (write_of store.old.writes id) }
+{
+    match entry {
+        Entry::Before(id, write) => store.restore(alloc, stamp, id, write),
+        Entry::Mark(_) => {}
+    }
+}
