@@ -194,6 +194,32 @@ const LOCKED: &[Turn] = &[
     (2, "commit", "", "", "committed"),
 ];
 
+/// What was put before a mark and deleted since it is there again.
+const REMADE: &[Turn] = &[
+    (0, "begin", "", "", "done"),
+    (1, "begin", "", "", "done"),
+    (0, "mark", "m", "", "marked"),
+    (0, "number", "x", "1", "replaced"),
+    (0, "back", "m", "", "back"),
+    (1, "number", "x", "9", "die"),
+    (1, "abort", "", "", "done"),
+    (0, "read", "x", "", "LandUse"),
+    (0, "put", "h", "Road", "added"),
+    (0, "mark", "m", "", "marked"),
+    (0, "number", "x", "2", "replaced"),
+    (0, "number", "x", "3", "replaced"),
+    (0, "delete", "h", "", "deleted"),
+    (0, "back", "m", "", "back"),
+    (0, "read", "h", "", "Road"),
+    (0, "read", "x", "", "LandUse"),
+    (0, "back", "n", "", "NoMark n"),
+    (0, "commit", "", "", "committed +h"),
+    (1, "begin", "", "", "done"),
+    (1, "back", "m", "", "NoMark m"),
+    (1, "number", "x", "9", "replaced"),
+    (1, "commit", "", "", "committed +x"),
+];
+
 #[test]
 fn marks_nest_and_names_are_used_again(rt: HostRuntime) -> Result<(), Fail> {
     let rows = [
@@ -201,6 +227,7 @@ fn marks_nest_and_names_are_used_again(rt: HostRuntime) -> Result<(), Fail> {
         (REPEATED, "x LandUse 1; "),
         (OWN, "x LandUse; "),
         (LOCKED, "x LandUse; "),
+        (REMADE, "h Road; x LandUse 9; "),
     ];
     for (turns, left) in &rows {
         assert_eq!(rt; played(rt.alloc(), MARKED_MODEL, turns)?.as_str(), *left);
