@@ -5,9 +5,10 @@ use Rattle.std.proofs.lemmas.Result.{on_ok_weaker}
 use Rattle.std.proofs.lemmas.Bool.{false≢true, eqb-true, ne_eqb, cases_eq, and_parts}
 use Rattle.city_model.specs.declared.command.Cause.{Cause}
 use Rattle.city_model.specs.declared.command.Command.{Command}
+use Rattle.city_model.specs.declared.command.Command.TheVariants.{Read, Put, Delete, Attach, Detach, Mark, Back, Commit, Abort}
 use Rattle.city_model.specs.declared.command.Reply.{Reply}
 use Rattle.city_model.specs.CityMap.{CityMap}
-use Rattle.city_model.specs.Marks.{marking, step, answer}
+use Rattle.city_model.specs.Marks.{Marked, marking, step, answer}
 use Rattle.city_model.specs.Meaning.{cause_of, after, is_refusal, locks_of}
 use Rattle.city_model.proofs.IdLists.{bool_cases}
 use Rattle.city_model.proofs.History as history
@@ -26,8 +27,8 @@ use Rattle.city_txn.specs.UndoLog.{Logs, Written, log_of, has_before, written_as
 use Rattle.city_model.specs.Standing.{Lock, Answered, AllHeld, covers, names, names_exclusively}
 use Rattle.city_txn.specs.CoreState.{CoreState, view, own, written, seen, is_open, held, held_in, Stands, IsConsistent}
 use Rattle.city_txn.specs.Core.{core_state, IsCore}
-use Rattle.city_txn.specs.Locking.{GainsFirst, HoldsLock, IsBlocked, Asked}
-use Rattle.city_txn.specs.Acting.{writes_id, own_after, seen_after, reply_in, answer_in, granted_in, step_of, is_done, with_step, Acted}
+use Rattle.city_txn.specs.Locking.{granted_before, GainsFirst, HoldsLock, IsBlocked, Asked}
+use Rattle.city_txn.specs.Acting.{writes_id, own_after, seen_after, reply_in, answer_in, granted_in, step_of, finds_as, finds_mark, is_done, with_step, Acted}
 use Rattle.city_txn.specs.Performing.{AreNoted, Performed}
 use Rattle.city_txn.specs.declared.txn_core.Core.TheInside.{Inside}
 use Rattle.city_txn.proofs.Ended.{held_exclusively, sound_view}
@@ -52,15 +53,17 @@ not_done : (s : ℕ) (c : Command) (result : Result Step TxnFault) (v w : CoreSt
     IfErr result (λ e. e ≡ (if is_open v s then OutOfMemory else NotOpen s)) →
     (is_open v s ≡ false → IsErr result) →
     (is_open v s ≡ true → answer_in v s c ≢ Granted → AllHeld (held v s) (granted_in v s c) → IsOk result) →
+    (is_open v s ≡ true → finds_mark (seen v s) c ≡ true → IsOk result) →
     OnOk result (IsBlocked (λ t. is_open v t ≡ true) s (answer_in v s c)) →
     GainsFirst s (granted_in v s c) v.locks w.locks →
     OnOk result (AllHeld (held w s) (granted_in v s c)) →
     Acted s c result v w
-not_done s c result v w ls k idle step fault shut answered blocked gains granted = record {
+not_done s c result v w ls k idle step fault shut answered found blocked gains granted = record {
   step = step;
   fault = fault;
   not_open = shut;
   answered = answered;
+  found = found;
   blocked = blocked;
   sees = seen_gained s ls v w k s ∙ sym (ap (λ b. if b then seen_after v s c else seen v s) idle);
   city = k.city;
@@ -75,6 +78,18 @@ not_done s c result v w ls k idle step fault shut answered blocked gains granted
   refused = λ h done f. stands_gained s ls v w k s done f;
   keeps = keeps_gained s ls v w k;
 }
+
+-- a command that goes back to a mark locks nothing
+unlocked : (m : CityMap) (c : Command) (ks : List Marked) → finds_as (marking c) ks ≡ true → locks_of m c ≡ []
+unlocked m (Read id) ks h = absurd (false≢true h)
+unlocked m (Put id body) ks h = absurd (false≢true h)
+unlocked m (Delete id) ks h = absurd (false≢true h)
+unlocked m (Attach child parent) ks h = absurd (false≢true h)
+unlocked m (Detach child parent) ks h = absurd (false≢true h)
+unlocked m (Mark name) ks h = absurd (false≢true h)
+unlocked m (Back name) ks h = refl
+unlocked m Commit ks h = absurd (false≢true h)
+unlocked m Abort ks h = absurd (false≢true h)
 
 -- nothing gained
 pub nothing_gained : (s : ℕ) (ls : List Lock) (v : CoreState) → IsConsistent v → LocksGained s ls v v
@@ -105,6 +120,7 @@ acted_done s c r v u w ls o k d gains granted =
       fault = tt;
       not_open = λ e. absurd (false≢true (sym e ∙ o));
       answered = λ e n h. refl;
+      found = λ e h. refl;
       blocked = subst (IsBlocked (λ t. is_open v t ≡ true) s) (sym granted) tt;
       sees = d.sees ∙ ap (λ x. step x c) same;
       city = d.city ∙ k.city;
@@ -175,22 +191,24 @@ module _ (a : Inside) (k : IsCore a) {v : CoreState} (known : core_state a ≡ v
         IfOk result (λ step. step ≡ step_of (answer_in (core_state a) s c) (reply_in (core_state a) s c)) →
         IfErr result (λ e. e ≡ OutOfMemory) →
         (answer_in (core_state a) s c ≢ Granted → AllHeld (held (core_state a) s) (granted_in (core_state a) s c) → IsOk result) →
+        (finds_mark (seen (core_state a) s) c ≡ true → IsOk result) →
         OnOk result (IsBlocked (HoldsLock a.locks) s (answer_in (core_state a) s c)) →
         GainsFirst s (granted_in (core_state a) s c) a.locks w.locks →
         OnOk result (AllHeld (held w s) (granted_in (core_state a) s c)) → Acted s c result v w
-    stopped result w g idle step fault answered blocked gains held = subst (λ u. Acted s c result u w) known (not_done s c result (core_state a) w ask.gains.gained g idle step
-        (subst (λ f. IfErr result (λ e. e ≡ f)) (sym (ap (λ b. if b then OutOfMemory else NotOpen s) o)) fault) (λ f. absurd (false≢true (sym f ∙ o))) (λ e. answered)
+    stopped result w g idle step fault answered found blocked gains held = subst (λ u. Acted s c result u w) known (not_done s c result (core_state a) w ask.gains.gained g idle step
+        (subst (λ f. IfErr result (λ e. e ≡ f)) (sym (ap (λ b. if b then OutOfMemory else NotOpen s) o)) fault) (λ f. absurd (false≢true (sym f ∙ o))) (λ e. answered) (λ e. found)
         (on_ok_weaker result (blocked_weaker (HoldsLock a.locks) (λ t. is_open (core_state a) t ≡ true) s (λ t ne h. k.state.open_only t h.0 h.1) (answer_in (core_state a) s c)) blocked)
         gains held)
 
   pub asked_failed : {E : Type 0} (e : E) → Asked s (locks_of m c) (Err e) a.locks ks → Acted s c (Err OutOfMemory) v (core_state locked)
-  asked_failed {E} e ask = stopped ask (Err OutOfMemory) (core_state locked) (gained ask) refl tt refl (λ n. ask.answered) tt ask.gains tt
+  asked_failed {E} e ask = stopped ask (Err OutOfMemory) (core_state locked) (gained ask) refl tt refl (λ n. ask.answered)
+      (λ h. ask.answered (subst (λ ls. AllHeld (held_in a.locks s) (granted_before a.locks s ls)) (sym (unlocked m c (seen (core_state a) s).marks h)) tt)) tt ask.gains tt
 
   module _ {E : Type 0} {x : Answer} (ask : Asked {E = E} s (locks_of m c) (Ok x) a.locks ks) where
     -- a lock isn't granted
     pub asked_refused : (step : Step) → is_done (Ok step) ≡ false → step ≡ step_of x (reply_in (core_state a) s c) → Acted s c (Ok step) v (core_state locked)
     asked_refused step idle is = stopped ask (Ok step) (core_state locked) (gained ask) idle (is ∙ ap (λ b. step_of b (reply_in (core_state a) s c)) ask.answer) tt
-        (λ n h. refl) (subst (IsBlocked (HoldsLock a.locks) s) ask.answer ask.blocked) ask.gains ask.held
+        (λ n h. refl) (λ h. refl) (subst (IsBlocked (HoldsLock a.locks) s) ask.answer ask.blocked) ask.gains ask.held
 
     -- ---- all locks are granted, and the command is done on the store
     module _ (grants : x ≡ Granted) where
@@ -271,7 +289,7 @@ module _ (a : Inside) (k : IsCore a) {v : CoreState} (known : core_state a ≡ v
         failed_core = core_still st ls p (gained_consistent s ask.gains.gained (core_state a) (core_state (after_it st ls p)) k.state o failed)
 
         pub failed_acted : Acted s c (Err OutOfMemory) v (core_state (record a { store = st; logs = ls; locks = ks }))
-        failed_acted = stopped ask (Err OutOfMemory) (core_state (after_it st ls p)) failed refl tt refl (λ n h. absurd (n granted)) tt ask.gains tt
+        failed_acted = stopped ask (Err OutOfMemory) (core_state (after_it st ls p)) failed refl tt refl (λ n h. absurd (n granted)) (λ h. p.found h) tt ask.gains tt
 
       module _ {F : Type 0} (r : Reply) (st : State) (ls : Logs) (p : Performed {E = F} s c (Ok r) a.store a.logs st ls) where
         written_mine : IsCovered (held_in ks s) (own_after m (own (core_state a) s) c)
@@ -323,4 +341,4 @@ noted_for a k s = k.noted s
 pub not_open_acted : (a : Inside) (k : IsCore a) {v : CoreState} (known : core_state a ≡ v) (s : ℕ) (c : Command) → is_open v s ≡ false → Acted s c (Err (NotOpen s)) v v
 not_open_acted a k {v} known s c shut =
     not_done s c (Err (NotOpen s)) v v [] (nothing_gained s [] v (subst IsConsistent known k.state)) refl tt
-    (sym (ap (λ b. if b then OutOfMemory else NotOpen s) shut)) (λ f. refl) (λ f. absurd (false≢true (sym shut ∙ f))) tt (gains_nothing s (granted_in v s c) v.locks) tt
+    (sym (ap (λ b. if b then OutOfMemory else NotOpen s) shut)) (λ f. refl) (λ f. absurd (false≢true (sym shut ∙ f))) (λ f. absurd (false≢true (sym shut ∙ f))) tt (gains_nothing s (granted_in v s c) v.locks) tt

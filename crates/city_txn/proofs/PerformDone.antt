@@ -20,15 +20,16 @@ use Rattle.city_model.proofs.MarksKept.{from_mapped, plain, plain_answer}
 use Rattle.city_txn.specs.declared.undo_log.Entry.TheVariants as entries
 use Rattle.city_txn.specs.State.{State, Write, write_of, own_write, unless_by, own, is_reserved, is_open, committed, view}
 use Rattle.city_txn.specs.UndoLog.{Logs, OwnWrites, Written, log_of, marked, has_before, has_mark, written_back, written_as, map_with, marks_with}
-use Rattle.city_txn.specs.Acting.{writes_id, own_after}
+use Rattle.city_txn.specs.Acting.{writes_id, own_after, finds_as, finds_mark}
 use Rattle.city_txn.specs.Performing.{plans, written_in, seen_in, AreNoted, Performed}
 use Rattle.city_txn.proofs.UndoLogs.{no_mark_from, mark_is_there}
 
 -- ---- nothing done, for want of memory
 
-pub not_performed : {E : Type 0} (s : ℕ) (c : Command) (e : E) (v : State) (ls ks : Logs) → AreNoted v ls s → ((t : ℕ) → log_of ks t ≡ log_of ls t) → Performed s c (Err e) v ls v ks
-not_performed s c e v ls ks noted same = record {
+pub not_performed : {E : Type 0} (s : ℕ) (c : Command) (e : E) (v : State) (ls ks : Logs) → finds_mark (seen_in v ls s) c ≡ false → AreNoted v ls s → ((t : ℕ) → log_of ks t ≡ log_of ls t) → Performed s c (Err e) v ls v ks
+not_performed s c e v ls ks lost noted same = record {
   reply = tt;
+  found = λ h. absurd (false≢true (sym lost ∙ h));
   frame = refl;
   city = refl;
   opened = λ t. refl;
@@ -50,6 +51,7 @@ mark_performed s name v ls ks noted step =
     step s ∙ ap (λ b. if b then entries.Mark name ∷ log_of ls s else log_of ls s) (eq-eqb s s refl) in
     record {
       reply = refl;
+      found = λ h. refl;
       frame = refl;
       city = refl;
       opened = λ t. refl;
@@ -65,6 +67,15 @@ mark_performed s name v ls ks noted step =
 seen_from : (m : CityMap) (name : List ℕ) (ks : List (List ℕ × OwnWrites)) → marks_from name (marks_with m ks) ≡ marks_with m (marks_from name ks)
 seen_from m name ks = from_mapped (map_with m) name ks
 
+lost_back : (s : ℕ) (name : List ℕ) (v : State) (ls : Logs) → has_mark (log_of ls s) name ≡ false → finds_mark (seen_in v ls s) (commands.Back name) ≡ false
+lost_back s name v ls missing = ap (λ ks. is_none (back_cause name ks))
+    (seen_from (committed v) name (marked (log_of ls s) (own v s)) ∙ ap (marks_with (committed v)) (no_mark_from (log_of ls s) (own v s) name missing))
+
+pub back_failed : {E : Type 0} (s : ℕ) (name : List ℕ) (v : State) (ls : Logs) → AreNoted v ls s → has_mark (log_of ls s) name ≡ false
+    → (result : Result Reply E) → IsErr result → Performed s (commands.Back name) result v ls v ls
+back_failed s name v ls noted missing (Ok r) failed = absurd (false≢true failed)
+back_failed s name v ls noted missing (Err e) failed = not_performed s (commands.Back name) e v ls ls (lost_back s name v ls missing) noted (λ t. refl)
+
 pub back_refused : {E : Type 0} (s : ℕ) (name copy : List ℕ) (v : State) (ls : Logs) → AreNoted v ls s → has_mark (log_of ls s) name ≡ false → copy ≡ name
     → Performed {E = E} s (commands.Back name) (Ok (Refused (NoMark copy))) v ls v ls
 back_refused s name copy v ls noted missing is =
@@ -72,6 +83,7 @@ back_refused s name copy v ls noted missing is =
     record {
       reply = ap (λ n. Refused (NoMark n)) is
           ∙ sym (ap (λ ks. refused_or (back_cause name ks) WentBack) (seen_from (committed v) name (marked (log_of ls s) (own v s)) ∙ ap (marks_with (committed v)) none));
+      found = λ h. refl;
       frame = refl;
       city = refl;
       opened = λ t. refl;
@@ -93,6 +105,7 @@ back_performed s name v w ls ks there written noted frame city opened unwritten 
     let found = mark_is_there (log_of ls s) (own v s) name there in
     record {
       reply = sym (ap (λ xs. refused_or (back_cause name xs) WentBack) (seen_from (committed v) name (marked (log_of ls s) (own v s)) ∙ ap (marks_with (committed v)) found.2));
+      found = λ h. refl;
       frame = frame;
       city = city;
       opened = λ t. ap (λ o. is_open (record v { opened = o }) t) opened;
@@ -117,6 +130,7 @@ refused_performed s c cause v ls plain_one why noted =
     let kept : own_after (view v s) (own v s) c ≡ own v s = λ i q. same q i in
     record {
       reply = sym (plain_answer (seen_in v ls s) c plain_one ∙ ap (λ x. refused_or x (done_reply (view v s) c)) why);
+      found = λ h. refl;
       frame = refl;
       city = refl;
       opened = λ t. refl;
@@ -127,6 +141,10 @@ refused_performed s c cause v ls plain_one why noted =
       kept = λ t q h. h;
       noted = noted;
     }
+
+-- which goes back to none
+pub lost_plain : (s : ℕ) (c : Command) (v : State) (ls : Logs) → is_mark c ≡ false → finds_mark (seen_in v ls s) c ≡ false
+lost_plain s c v ls plain_one = ap (λ k. finds_as k (seen_in v ls s).marks) (plain c plain_one)
 
 own_written : (s : ℕ) (b : Bool) (x : Option Object) (y : Option Write) → own_write s (if b then Some (s, x) else y) ≡ (if b then Some x else own_write s y)
 own_written s true x y = ap (λ b. if b then Some x else None) (eq-eqb s s refl)
@@ -146,6 +164,7 @@ module _ (s : ℕ) (c : Command) (r : Reply) (change : Change) (v w : State) (ls
   not_written : {E : Type 0} (e : E) → ((q : List ℕ) → write_of w.writes q ≡ write_of v.writes q) → Performed s c (Err e) v ls w ks
   not_written e same = record {
     reply = tt;
+    found = λ h. absurd (false≢true (sym (lost_plain s c v ls plain_one) ∙ h));
     frame = frame;
     city = city;
     opened = opened;
@@ -174,6 +193,7 @@ module _ (s : ℕ) (c : Command) (r : Reply) (change : Change) (v w : State) (ls
       let now : own w s ≡ own_after m (own v s) c = λ i q. at_one q i in
       record {
         reply = sym is.reply ∙ sym (plain_answer (seen_in v ls s) c plain_one ∙ ap (λ x. refused_or x (done_reply m c)) is.allowed);
+        found = λ h. refl;
         frame = frame;
         city = city;
         opened = opened;

@@ -7,7 +7,7 @@ use Rattle.city_model.specs.declared.command.Reply.{Reply}
 use Rattle.city_model.specs.CityMap.{CityMap}
 use Rattle.city_model.specs.Runs.{EndsAt}
 use Rattle.city_model.specs.declared.end.Outcome.{Outcome}
-use Rattle.city_model.specs.Marks.{View, marking, step, answer}
+use Rattle.city_model.specs.Marks.{View, Marked, Marking, Leaves, Marks, GoesBack, marking, marks_from, back_cause, step, answer}
 use Rattle.city_model.specs.Meaning.{cause_of, after, is_refusal, locks_of}
 use Rattle.city_locks.specs.declared.answer.Answer.{Answer}
 use Rattle.city_locks.specs.declared.answer.Answer.TheVariants.{Granted, Wait, Die}
@@ -56,6 +56,15 @@ step_of Granted reply = steps.Done reply
 step_of Wait reply = steps.Wait
 step_of Die reply = steps.Die
 
+abbrev pub finds_as : Marking → List Marked → Bool
+finds_as Leaves ks = false
+finds_as (Marks name) ks = false
+finds_as (GoesBack name) ks = is_none (back_cause name (marks_from name ks))
+
+-- whether the command goes back to a mark that is there
+abbrev pub finds_mark : View → Command → Bool
+finds_mark v command = finds_as (marking command) v.marks
+
 abbrev pub is_done : Result Step TxnFault → Bool
 is_done (Ok (steps.Done reply)) = true
 is_done (Ok steps.Wait) = false
@@ -79,6 +88,8 @@ pub record Acted (stamp : ℕ) (command : Command) (result : Result Step TxnFaul
   -- want of memory hides no Wait and no Die, where it holds the locks before
   pub answered : is_open old stamp ≡ true → answer_in old stamp command ≢ Granted
       → AllHeld (held old stamp) (granted_in old stamp command) → IsOk result
+  -- nor keeps it from going back to a mark that is there
+  pub found : is_open old stamp ≡ true → finds_mark (seen old stamp) command ≡ true → IsOk result
   -- told to wait, it is older than another open one; told to die, it is younger than one
   pub blocked : OnOk result (IsBlocked (λ t. is_open old t ≡ true) stamp (answer_in old stamp command))
   -- it sees what is seen after the command, where that is done; all else that is seen stays

@@ -1,5 +1,5 @@
 -- A command done on the store and the undo logs, for a transaction that holds its locks.
-use Rattle.std.specs.Prelude.{◌≡◌, ◌==◌, ◌&&◌, ◌||◌, ℕ, Bool, true, false, List, Result, is_ok, IfOk}
+use Rattle.std.specs.Prelude.{◌≡◌, ◌==◌, ◌&&◌, ◌||◌, ℕ, Bool, true, false, List, Result, is_ok, IfOk, IsOk}
 use Rattle.std.specs.Prelude.{if◌then◌else◌}
 use Rattle.std.specs.Map.{keys_of}
 use Rattle.city_model.specs.CityMap.{has_id}
@@ -11,7 +11,7 @@ use Rattle.city_model.specs.Meaning.{locks_of}
 use Rattle.city_txn.specs.State.{State, write_of, unless_by, own, is_reserved, is_open, committed, view}
 use Rattle.city_txn.specs.UndoLog.{Logs, Written, log_of, marked, has_before, written_as, marks_with}
 use Rattle.city_model.specs.Standing.{names_exclusively}
-use Rattle.city_txn.specs.Acting.{own_after}
+use Rattle.city_txn.specs.Acting.{own_after, finds_mark}
 
 -- whether the change writes the id
 abbrev pub plans : Change → List ℕ → Bool
@@ -33,6 +33,8 @@ AreNoted v logs stamp = (id : List ℕ) → has_before (log_of logs stamp) id �
 pub record Performed {E : Type 0} (stamp : ℕ) (command : Command) (result : Result Reply E)
     (old : State) (before : Logs) (new : State) (after : Logs) : Type 0 where
   pub reply : IfOk result (λ reply. reply ≡ answer (seen_in old before stamp) command)
+  -- going back to a mark that is there wants no memory
+  pub found : finds_mark (seen_in old before stamp) command ≡ true → IsOk result
   pub frame : new.frame ≡ old.frame
   pub city : committed new ≡ committed old
   pub opened : (t : ℕ) → is_open new t ≡ is_open old t

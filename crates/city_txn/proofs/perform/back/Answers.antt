@@ -1,6 +1,11 @@
 use Rattle.std.proofs.Common.{◌∙◌, sym}
-use Rattle.city_txn.proofs.PerformDone.{back_refused, back_performed}
+use Rattle.city_txn.proofs.PerformDone.{back_failed, back_refused, back_performed}
 use Rattle.city_txn.proofs.perform.back.Goals as goal
+
+pub returns-in_err-copy : goal.returns-in_err-copy
+returns-in_err-copy c =
+    back_failed c.args.stamp c.args.name.now c.args.store.now c.args.logs.now c.requires
+    (sym c.has_mark.ensures ∙ c.if-not-has_mark.true) c.from_residual.result c.from_residual.ensures.0
 
 pub returns-then-not-has_mark : goal.returns-then-not-has_mark
 returns-then-not-has_mark c =
