@@ -70,41 +70,41 @@ changed_first m first second x y apart =
 changed_second : (m : CityMap) (first second : List ℕ) (x y : Option Object) → changed (changed m first x) second y second ≡ y
 changed_second m first second x y = ap (λ b. if b then y else changed m first x second) (same_id_itself second)
 
--- the two objects that are planned
-abbrev pub pair_of : List ℕ → Object → List ℕ → Object → Change
-pair_of first o second p = (first, Some o) ∷ (second, Some p) ∷ []
+-- what an attach and a detach write: the child, and f of the parent
+abbrev pub related : CityMap → List ℕ → Object → List ℕ → (Object → Object) → Change
+related m child below parent f = (child, Some below) ∷ (parent, option_map f (m parent)) ∷ []
 
-module _ (m : CityMap) (child parent : List ℕ) (c p below above : Object) (is_child : m child ≡ Some c) (is_parent : m parent ≡ Some p) where
-  pub attach_writes : (ws : Change) → is_wrong_family child c parent p ≡ false → has_id c.parents parent ≡ false → below ≡ with_parent parent c → above ≡ with_child child p →
-      ws ≡ pair_of child below parent above → AreWritesOf m (Attach child parent) Attached ws
-  attach_writes ws family new lower upper items =
+module _ (m : CityMap) (child parent : List ℕ) (c p below : Object) (is_child : m child ≡ Some c) (is_parent : m parent ≡ Some p) where
+  pub attach_writes : is_wrong_family child c parent p ≡ false → has_id c.parents parent ≡ false → below ≡ with_parent parent c →
+      AreWritesOf m (Attach child parent) Attached (related m child below parent (with_child child))
+  attach_writes family new lower =
       let apart : same_id child parent ≡ false = (or_parts (same_id child parent) (not (is_second_level c.body.kind)) (or_parts (same_id child parent || not (is_second_level c.body.kind)) (not (same_family c.body.kind p.body.kind)) family).0).0 in
-      subst (AreWritesOf m (Attach child parent) Attached) (sym items) (record {
+      record {
         allowed = ap (λ x. attach_cause child x parent (m parent)) is_child ∙ ap (attach_cause child (Some c) parent) is_parent
             ∙ ap (λ b. if b then Some WrongFamily else (if has_id c.parents parent then Some AlreadyAttached else None)) family
             ∙ ap (λ b. if b then Some AlreadyAttached else None) new;
         reply = refl;
         objects = (
           ap Some lower ∙ ap (option_map (with_parent parent)) (sym is_child) ∙ sym (changed_first m child parent (option_map (with_parent parent) (m child)) (option_map (with_child child) (m parent)) apart),
-          (ap Some upper ∙ ap (option_map (with_child child)) (sym is_parent) ∙ sym (changed_second m child parent (option_map (with_parent parent) (m child)) (option_map (with_child child) (m parent))), tt),
+          (sym (changed_second m child parent (option_map (with_parent parent) (m child)) (option_map (with_child child) (m parent))), tt),
         );
         ids = λ q. refl;
-      })
+      }
 
-  pub detach_writes : (ws : Change) → IsSound m → has_id c.parents parent ≡ true → below ≡ without_parent parent c → above ≡ without_child child p →
-      ws ≡ pair_of child below parent above → AreWritesOf m (Detach child parent) Detached ws
-  detach_writes ws s there lower upper items =
+  pub detach_writes : IsSound m → has_id c.parents parent ≡ true → below ≡ without_parent parent c →
+      AreWritesOf m (Detach child parent) Detached (related m child below parent (without_child child))
+  detach_writes s there lower =
       let apart : same_id child parent ≡ false = same_id_back child parent ∙ ((s child c is_child).0.parents_know_it parent there).0 in
-      subst (AreWritesOf m (Detach child parent) Detached) (sym items) (record {
+      record {
         allowed = ap (λ x. detach_cause child x parent (m parent)) is_child ∙ ap (detach_cause child (Some c) parent) is_parent
             ∙ ap (λ b. if b then None else Some NotAttached) there;
         reply = refl;
         objects = (
           ap Some lower ∙ ap (option_map (without_parent parent)) (sym is_child) ∙ sym (changed_first m child parent (option_map (without_parent parent) (m child)) (option_map (without_child child) (m parent)) apart),
-          (ap Some upper ∙ ap (option_map (without_child child)) (sym is_parent) ∙ sym (changed_second m child parent (option_map (without_parent parent) (m child)) (option_map (without_child child) (m parent))), tt),
+          (sym (changed_second m child parent (option_map (without_parent parent) (m child)) (option_map (without_child child) (m parent))), tt),
         );
         ids = λ q. refl;
-      })
+      }
 
 -- ---- the map with the change
 

@@ -17,7 +17,7 @@ use std::alloc::Global;
 mod deleting;
 mod objects;
 mod putting;
-mod relating;
+pub mod relating;
 pub mod view;
 mod writes;
 

@@ -1,5 +1,7 @@
 //! A list that contracts see as its items.
 ghost use Rattle.std.specs.Prelude.{◌≡◌, [], ◌∷◌, ◌++◌, length, option_to_list, IfNone, OnOk, OnErr};
+ghost use Rattle.std.specs.Fn.{CalledAt};
+ghost use Rattle.std.specs.List.Retain.{IsFiltered};
 
 use std::alloc::{AllocError, Global};
 use std::marker::Model;
@@ -73,5 +75,15 @@ impl<T> Sequence<T> {
         ensures none { IfNone result (self.old ≡ []) }
     {
         self.items.pop()
+    }
+
+    /// Keeps the items at which the test gives true, in their order. Takes no memory.
+    pub fn retain<F: FnMut(&T) -> bool>(&mut self, keep: F)
+    where
+        T: Drop,
+        requires { F.IsAlwaysCallable keep }
+        ensures { IsFiltered (CalledAt F.FnMut) keep self.old self.new }
+    {
+        self.items.retain(keep);
     }
 }
