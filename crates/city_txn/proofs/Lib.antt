@@ -4,6 +4,7 @@ pub mod ChangeMade
 pub mod CommandDone
 pub mod CoreFields
 pub mod EachId
+pub mod Edited
 pub mod Ended
 pub mod Forgotten
 pub mod Idle
@@ -13,6 +14,7 @@ pub mod LocksGained
 pub mod OneIdChanged
 pub mod PerformDone
 pub mod PlanWritten
+pub mod RelatedInPlace
 pub mod ReservationMade
 pub mod SeenWrites
 pub mod Slots

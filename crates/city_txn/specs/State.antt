@@ -1,5 +1,5 @@
 -- What contracts see of the store: the committed city, and for each open transaction what it wrote.
-use Rattle.std.specs.Prelude.{◌≡◌, ◌==◌, ◌||◌, ℕ, Bool, false, List, Option, None, Some, is_some}
+use Rattle.std.specs.Prelude.{◌≡◌, ◌==◌, ◌||◌, ℕ, Bool, false, List, Option, None, Some, is_some, option_map}
 use Rattle.std.specs.Prelude.{if◌then◌else◌}
 use Rattle.std.specs.Map.{lookup}
 use Rattle.std.specs.Ordering.{nat_cmp}
@@ -37,6 +37,10 @@ is_reserved v stamp id = has_id (reservations_of v.opened stamp) id
 abbrev pub is_by : ℕ → Option Write → Bool
 is_by stamp None = false
 is_by stamp (Some w) = w.0 == stamp
+
+-- the write with another object in place of one that it leaves
+abbrev pub rewritten : (Object → Object) → Write → Write
+rewritten f w = (w.0, option_map f w.1)
 
 -- what the transaction wrote, over what is committed
 abbrev pub own_or : ℕ → Option Write → Option Object → Option Object

@@ -9,6 +9,7 @@ ghost use Rattle.city_txn.specs.State.{is_reserved, is_open, view};
 ghost use Rattle.city_txn.specs.Performing.{AreNoted, Performed};
 
 use crate::going_back::go_back;
+use crate::relating::{attach, detach, is_in_place};
 use crate::seen::plan_in;
 use crate::store::Store;
 use crate::undo_log::{Entry, UndoLogs};
@@ -38,6 +39,12 @@ pub fn perform(
     match command {
         Command::Mark(name) => mark(store, logs, alloc, stamp, name),
         Command::Back(name) => back(store, logs, alloc, stamp, name),
+        Command::Attach(child, parent) if is_in_place(store, logs, stamp, parent) => {
+            attach(store, logs, alloc, stamp, child, parent)
+        }
+        Command::Detach(child, parent) if is_in_place(store, logs, stamp, parent) => {
+            detach(store, logs, alloc, stamp, child, parent)
+        }
         _ => carry_out(store, logs, alloc, stamp, command),
     }
 }

@@ -16,9 +16,9 @@ use std::alloc::Global;
 
 /// What the transaction of the stamp sees of the store.
 #[derive(Drop)]
-struct Seen<'a> {
-    store: &'a Store,
-    stamp: u64,
+pub struct Seen<'a> {
+    pub store: &'a Store,
+    pub stamp: u64,
 }
 
 impl View for Seen<'_> {

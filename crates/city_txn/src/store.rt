@@ -1,13 +1,14 @@
 //! The city as the open transactions have written it, and how it is put back.
-ghost use Rattle.std.specs.Prelude.{◌≡◌, ◌↔◌, IsTrue, ℕ, List, [], None, Some, OnOk, OnErr, IfOk, true, false, ◌==◌, ◌&&◌, ◌||◌, option_copied, option_map, if◌then◌else◌};
+ghost use Rattle.std.specs.Prelude.{◌≡◌, ◌↔◌, IsTrue, ℕ, List, [], None, Some, OnOk, OnErr, IfOk, true, false, ◌==◌, ◌&&◌, ◌||◌, is_some, option_copied, option_map, if◌then◌else◌};
 ghost use Rattle.std.specs.Ordering.{nat_cmp};
 ghost use Rattle.std.specs.Cmp.Lexicographic.{slice_cmp};
 ghost use Rattle.std.specs.Map.{keys_of, lookup};
 ghost use Rattle.std.specs.List.Sorted.{IsStrictlySortedBy};
 ghost use Rattle.std.specs.BTreeMap.{is_at};
 ghost use Rattle.city_model.specs.CityMap.{same_id};
+ghost use Rattle.city_model.specs.Meaning.{with_child, without_child};
 ghost use Rattle.city_txn.specs.Ending.{city_after};
-ghost use Rattle.city_txn.specs.State.{State, write_of, is_reserved, is_open, committed, view, own, own_write, unless_by, SeesSame, Begins, Forgets};
+ghost use Rattle.city_txn.specs.State.{State, write_of, rewritten, is_by, is_reserved, is_open, committed, view, own, own_write, unless_by, SeesSame, Begins, Forgets};
 
 use crate::changing::{change_of, written_copy};
 use crate::ending::{End, end_each};
@@ -90,6 +91,16 @@ impl Store {
         }
     }
 
+    /// Whether the stamp wrote the id. Takes no memory.
+    pub fn has_written(&self, stamp: u64, id: &Id) -> bool
+        ensures { result ≡ is_by stamp (write_of self.now.writes id.now) }
+    {
+        match self.undo.image(id) {
+            Some(image) => !image.unwritten && image.by == stamp,
+            None => false,
+        }
+    }
+
     /// Reserves for the stamp, which is open, an id that no other has reserved.
     /// Nobody sees a difference; want of memory leaves the store.
     pub fn reserve(&mut self, alloc: Global, stamp: u64, id: &Id) -> Result<(), OutOfMemory>
@@ -123,6 +134,30 @@ impl Store {
         let deleted = object.is_none();
         let standing = slot::standing(alloc, object);
         self.undo.write(&mut self.city, id, standing, deleted);
+    }
+
+    /// Adds a child to what was written at an id. Want of memory leaves the store.
+    pub fn push_child(&mut self, id: &Id, child: Id) -> Result<(), OutOfMemory>
+        requires { is_some (write_of self.old.writes id.now) ≡ true }
+        ensures frame { self.new.frame ≡ self.old.frame }
+        ensures city { committed self.new ≡ committed self.old }
+        ensures writes { OnOk result ((q : List ℕ) → write_of self.new.writes q ≡ (if same_id id.now q then option_map (rewritten (with_child child)) (write_of self.old.writes id.now) else write_of self.old.writes q)) }
+        ensures opened { self.new.opened ≡ self.old.opened }
+        ensures err { OnErr result (self.new ≡ self.old) }
+    {
+        self.city.push_child(id, child)?;
+        Ok(())
+    }
+
+    /// Takes a child from what was written at an id. Takes no memory.
+    pub fn remove_child(&mut self, id: &Id, child: &Id)
+        requires { is_some (write_of self.old.writes id.now) ≡ true }
+        ensures frame { self.new.frame ≡ self.old.frame }
+        ensures city { committed self.new ≡ committed self.old }
+        ensures writes { (q : List ℕ) → write_of self.new.writes q ≡ (if same_id id.now q then option_map (rewritten (without_child child.now)) (write_of self.old.writes id.now) else write_of self.old.writes q) }
+        ensures opened { self.new.opened ≡ self.old.opened }
+    {
+        self.city.remove_child(id, child);
     }
 
     /// What the stamp wrote at an id that it has reserved. It copies the object.
