@@ -71,7 +71,7 @@ const PLAYED: [(&[Row], &[Turn], &str); 5] = [
     (
         REFUSAL_MODEL,
         REFUSAL_TURNS,
-        "b Building; p BuildingPart <r; q BuildingPart <r; r Building >q >p; ",
+        "b Building; p BuildingPart <r; q BuildingPart <r; r Building >p >q; ",
     ),
     (MARKED_MODEL, NESTED_TURNS, "x LandUse 4; "),
 ];

@@ -207,6 +207,8 @@ pub const REFUSAL_TURNS: &[Turn] = &[
     (3, "attach", "q", "r", "attached"),
     (3, "detach", "p", "b", "detached"),
     (3, "attach", "p", "r", "attached"),
+    (3, "detach", "q", "r", "detached"),
+    (3, "attach", "q", "r", "attached"),
     (3, "commit", "", "", "committed +b +p +q +r"),
 ];
 
@@ -214,7 +216,7 @@ pub const REFUSAL_TURNS: &[Turn] = &[
 fn refusals_leave_the_view(rt: HostRuntime) -> Result<(), Fail> {
     assert_eq!(rt;
         played(rt.alloc(), REFUSAL_MODEL, REFUSAL_TURNS)?.as_str(),
-        "b Building; p BuildingPart <r; q BuildingPart <r; r Building >q >p; "
+        "b Building; p BuildingPart <r; q BuildingPart <r; r Building >p >q; "
     );
     Ok(())
 }
