@@ -17,9 +17,11 @@ use std::alloc::Global;
 mod deleting;
 mod objects;
 mod putting;
-pub mod relating;
+mod relating;
 pub mod view;
 mod writes;
+
+pub use crate::plan::relating::{attached_child, detached_child};
 
 /// What is to come of a command.
 #[derive(Drop)]

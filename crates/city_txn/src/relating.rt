@@ -14,7 +14,7 @@ use crate::undo_log::UndoLogs;
 use city_model::OutOfMemory;
 use city_model::command::Reply;
 use city_model::copied::Copied;
-use city_model::plan::relating::{attached_child, detached_child};
+use city_model::plan::{attached_child, detached_child};
 use city_model::text::Id;
 use std::alloc::Global;
 
