@@ -15,7 +15,7 @@ use Rattle.left_right.proofs.writer.Writer.TheSendSync as writer
 use Rattle.left_right.proofs.reader.Reader.TheSendSync as reader
 use Rattle.city_crew.proofs.history.History.TheSendSync as history
 use Rattle.city_crew.proofs.history.Head.TheSendSync as head
-use Rattle.city_crew.proofs.opening.OpeningCity.TheSendSync as opening
+use Rattle.city_desk.proofs.opening_city.OpeningCity.TheSendSync as opening
 use Rattle.city_crew.specs.contracts.poster.Poster as Poster
 use Rattle.city_crew.specs.contracts.poster.Poster.TheInside as PosterInside
 use Rattle.city_crew.specs.contracts.rule.BoardRule as BoardRule

@@ -19,6 +19,7 @@ use Rattle.city_txn.specs.contracts.undo_log.UndoLogs as UndoLogs
 use Rattle.city_desk.specs.contracts.desk.Desk as Desk
 use Rattle.city_desk.specs.contracts.desk.Desk.TheInside as DeskInside
 use Rattle.city_desk.specs.declared.shelf.Shelf.{Ghosts}
+use Rattle.city_desk.proofs.opening_city.OpeningCity.TheSendSync as opening
 use Rattle.city_desk.specs.contracts.progress.Progress as Progress
 
 cause_sends : IsSend Cause.the_field.row
@@ -62,7 +63,7 @@ desk_inside_sends S N G s =
     struct_send (shape (DeskInside.the_type S N G)) (
       search sendable depth 20,
       (
-        city_field_sends,
+        opening.the_field_send,
         (
           search (script_sends, values.crosses, sendable) depth 60 fits 20000,
           (

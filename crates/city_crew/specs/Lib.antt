@@ -5,7 +5,6 @@ pub mod CrewRuns
 pub mod CrewShelves
 pub mod HistoryRule
 pub mod HistoryValue
-pub mod NoCity
 pub mod Rising
 pub mod Seen
 pub mod Versions

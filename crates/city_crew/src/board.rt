@@ -7,13 +7,13 @@ ghost use Rattle.city_crew.specs.BoardRule.{known_from};
 ghost use Rattle.city_crew.specs.BoardValues.{new_poster, viewer_of};
 
 use crate::history::History;
-use crate::opening::OpeningCity;
 use crate::poster::Poster;
 use crate::publish::{BoardWriter, publish};
 use crate::rule::{BelievesAll, TellsAll};
 use crate::version::Version;
 use crate::viewer::Viewer;
 use crate::writer::OwnWriter;
+use city_desk::OpeningCity;
 use city_model::OutOfMemory;
 use city_model::city::City;
 use city_model::copied::Copied;

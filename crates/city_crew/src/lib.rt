@@ -3,7 +3,7 @@
 //! - `run`: the run; `fault`: why it may have no output; `gate`: where a caller may hold its workers and viewers
 //! - `state`, `work`, `ages`, `threads`: what lies under the lock, what a worker does, who is oldest, the threads
 //! - `watcher`, `last_looks`, `counts`, `commits`: viewers in a run, and what they saw
-//! - `board`, `rule`, `history`, `opening`: a new board, and what holds of every board
+//! - `board`, `rule`, `history`: a new board, and what holds of every board
 //! - `poster`, `writer`, `note`, `publish`: what writes versions and tells of them
 //! - `viewer`, `look`, `version`: what looks at them
 //! - `writes`, `places`, `apply`: a change written into a version
@@ -22,7 +22,6 @@ mod history;
 mod last_looks;
 mod look;
 mod note;
-mod opening;
 mod places;
 mod poster;
 mod publish;

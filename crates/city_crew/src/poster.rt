@@ -9,11 +9,11 @@ ghost use Rattle.city_crew.specs.HistoryValue.{history_of};
 
 use crate::history::{Head, History};
 use crate::note::Note;
-use crate::opening::OpeningCity;
 use crate::publish::publish;
 use crate::version::Edit;
 use crate::writer::{OwnWriter, append_all};
 use crate::writes::writes_of;
+use city_desk::OpeningCity;
 use city_model::OutOfMemory;
 use city_model::change::Change;
 use std::alloc::Global;

@@ -1,8 +1,8 @@
 //! A version of the city, as viewers look at it, and what the poster does to it.
 use crate::apply::apply;
 use crate::history::History;
-use crate::opening::OpeningCity;
 use crate::writes::Writes;
+use city_desk::OpeningCity;
 use city_model::city::City;
 use city_model::copied::copy_map;
 use left_right::Absorb;

@@ -2,6 +2,7 @@ pub mod Attempt
 pub mod Closing
 pub mod DeskState
 pub mod InTurn
+pub mod NoCity
 pub mod Opening
 pub mod Ready
 pub mod Room

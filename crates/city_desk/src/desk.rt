@@ -12,13 +12,13 @@ ghost use Rattle.city_desk.specs.Turning.{Turned, GainsCommits, IsWaiting, stamp
 use crate::attempt::step;
 use crate::closing::roll_back_all;
 use crate::opening::{names_of, unbegun_each};
+use crate::opening_city::OpeningCity;
 use crate::progress::{Phase, Progress, record_end};
 use crate::ready::{unopened, youngest};
 use crate::shelf::Shelf;
 use crate::turn::Turn;
 use city_model::OutOfMemory;
 use city_model::city::City;
-use city_model::copied::Copied;
 use city_model::end::{End, Outcome};
 use city_model::script::Script;
 use city_model::sequence::Sequence;
@@ -36,7 +36,7 @@ use std::sync::Wait;
 pub struct Desk<S: Shelf> {
     alloc: Global,
     /// The city that the desk was opened over.
-    start: City,
+    start: OpeningCity,
     scripts: Vec<Script>,
     /// A copy of each script's name, until its end takes it.
     names: Vec<Text>,
@@ -82,8 +82,7 @@ impl<S: Shelf> Model for Desk<S> {
 }
 
 impl<S: Shelf> Desk<S> {
-    /// A desk over a lawful city, with no script begun. It keeps a copy of the city, and makes room
-    /// for all ends.
+    /// A desk over a lawful city, with no script begun. It makes room for all ends.
     pub fn open(
         alloc: Global,
         city: City,
@@ -97,13 +96,12 @@ impl<S: Shelf> Desk<S> {
         ensures shelf { IfOk result (λ desk. desk.1 ≡ shelf) }
     {
         let scripts = scripts.into_vec();
-        let start = city.copy(alloc)?;
         let names = names_of(alloc, scripts.as_slice())?;
         let progress = unbegun_each(alloc, scripts.as_slice())?;
         let ends = Vec::with_capacity(alloc, scripts.len())?;
         Ok(Desk {
             alloc,
-            start,
+            start: OpeningCity::of(&city),
             scripts,
             names,
             ends,

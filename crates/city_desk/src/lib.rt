@@ -3,6 +3,7 @@
 //! - `desk`, `turn`: the desk, and what a turn answers
 //! - `opening`, `attempt`, `ready`, `closing`: what it makes at its opening, the next command of a script, whose turn
 //!   doesn't wait, what is rolled back at the close
+//! - `opening_city`: the city that it was opened over, for contracts alone
 //! - `progress`: how far a script is
 //! - `shelf`: where the changes of commits go
 //! - `texts`, `in_turn`, `serial_run`: the two texts of a run read, and the run of one worker
@@ -15,6 +16,7 @@ mod desk;
 mod fault;
 mod in_turn;
 mod opening;
+mod opening_city;
 mod output;
 mod progress;
 mod ready;
@@ -25,6 +27,7 @@ mod turn;
 
 pub use desk::{Desk, Finished};
 pub use fault::RunFault;
+pub use opening_city::OpeningCity;
 pub use output::{Output, output_bytes};
 pub use serial_run::run_serial;
 pub use shelf::{ListShelf, Shelf};

@@ -1,4 +1,4 @@
-//! The city that a board was made over, for the proofs alone.
+//! The city that a desk or a board was opened over, for the proofs alone.
 ghost use Rattle.std.specs.Prelude.{◌≡◌};
 
 use city_model::city::City;
@@ -34,7 +34,7 @@ impl FirstEntry<City, City> for OneCity {
     ghost log = { λ count city. city ∷ [] };
 }
 
-/// The city that a board was made over. It has no bytes; contracts see the city.
+/// The city that a desk or a board was opened over. It has no bytes; contracts see the city.
 #[derive(Drop)]
 pub struct OpeningCity {
     seen: Seen<City, u64, NoRule>,
@@ -46,7 +46,7 @@ impl Model for OpeningCity {
     ghost use Rattle.city_model.specs.DataCode.{coded_members};
     ghost use Rattle.city_txn.specs.Codes.{coded_objects};
     ghost use Rattle.city_model.specs.CityMap.{CityValue};
-    ghost use Rattle.city_crew.specs.NoCity.{no_city};
+    ghost use Rattle.city_desk.specs.NoCity.{no_city};
 
     ghost Value = { CityValue };
 
