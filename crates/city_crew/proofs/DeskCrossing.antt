@@ -63,7 +63,7 @@ desk_inside_sends S N G s =
     struct_send (shape (DeskInside.the_type S N G)) (
       search sendable depth 20,
       (
-        opening.the_field_send,
+        opening.the_send,
         (
           search (script_sends, values.crosses, sendable) depth 60 fits 20000,
           (
