@@ -1,4 +1,5 @@
 """Closed solids of houses, in millimetres, as CityJSON geometries."""
+from math import cos, pi, sin
 
 
 class Vertices:
@@ -50,4 +51,14 @@ def gabled(vertices, x, y, width, depth, eaves, ridge, lod="2"):
         [4, 5, 9, 8],
         [6, 7, 8, 9],
     ]
+    return solid(lod, vertices, corners, faces)
+
+
+def prism(vertices, x, y, radius, height, sides, lod="1"):
+    """A tower over a regular polygon."""
+    angles = [2 * pi * side / sides for side in range(sides)]
+    around = [(x + int(radius * cos(angle)), y + int(radius * sin(angle))) for angle in angles]
+    corners = [(*point, 0) for point in around] + [(*point, height) for point in around]
+    walls = [[side, (side + 1) % sides, (side + 1) % sides + sides, side + sides] for side in range(sides)]
+    faces = [list(range(sides))[::-1], list(range(sides, 2 * sides))] + walls
     return solid(lod, vertices, corners, faces)

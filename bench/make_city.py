@@ -3,16 +3,18 @@
 
 usage: make_city.py plain [OBJECTS] [BYTES_EACH] [SCRIPTS] > input
        make_city.py solids [BUILDINGS] [SCRIPTS] > input
+       make_city.py prisms [BUILDINGS] [SCRIPTS] > input
        make_city.py parts [PARTS] [SCRIPTS] > input
 
 `plain` has objects of attributes alone; `solids` has buildings, each with a part that has a block
-and a gabled house as its geometries; `parts` has one building that lists its parts in no order.
+and a gabled house as its geometries; `prisms` has buildings of 24 sides with semantics and many
+attributes; `parts` has one building that lists its parts in no order.
 """
 import json
 import random
 import sys
 
-from houses import Vertices, box, gabled
+from houses import Vertices, box, gabled, prism
 
 TYPES = ["LandUse", "Road", "Building", "WaterBody", "PlantCover", "CityFurniture"]
 
@@ -44,6 +46,23 @@ def solid_city(count):
     return objects, vertices
 
 
+def prism_city(count):
+    """Buildings in rows of 200: two fifths of the text are attributes and semantics, the rest solids."""
+    vertices = Vertices()
+    objects = {}
+    for n in range(count):
+        geometry = prism(vertices, n % 200 * 30000, n // 200 * 30000, 10000, 9000 + n % 7, 24)
+        surfaces = [{"type": "GroundSurface"}, {"type": "RoofSurface"}, {"type": "WallSurface"}]
+        geometry["semantics"] = {"surfaces": surfaces, "values": [[0, 1] + [2] * 24]}
+        storeys = [
+            {"level": level, "use": "dwelling", "area": 100 + level, "tenants": [f"t{n * 7 + level}", f"u{n + level}"]}
+            for level in range(14)
+        ]
+        attributes = {"number": n, "owner": "municipality", "storeys": storeys, "remark": "x" * 250}
+        objects[f"object-{n:08}"] = {"type": "Building", "attributes": attributes, "geometry": [geometry]}
+    return objects, vertices
+
+
 def parts_city(count):
     parts = [f"object-{n:08}" for n in range(count)]
     objects = {part: {"type": "BuildingPart", "parents": ["tower"]} for part in parts}
@@ -62,6 +81,9 @@ if kind == "plain":
     scripts = number_at(4, 1)
 elif kind == "solids":
     objects, vertices = solid_city(number_at(2, 70_000))
+    scripts = number_at(3, 1)
+elif kind == "prisms":
+    objects, vertices = prism_city(number_at(2, 16_000))
     scripts = number_at(3, 1)
 elif kind == "parts":
     objects, vertices = parts_city(number_at(2, 64_000))
