@@ -62,14 +62,36 @@ fn push_surface(edges: &mut Edges, surface: &Surface) -> Result<(), AllocError>
     Ok(())
 }
 
+/// How many points the rings have, or the greatest number where there are more.
+fn points_of(surface: &Surface) -> usize {
+    let mut count: usize = 0;
+    let rings = surface.as_slice();
+    for ring in rings {
+        count = count.saturating_add(ring.len());
+    }
+    count
+}
+
+/// How many points the rings of all surfaces have, or the greatest number where there are more.
+fn points_in(shell: &Shell) -> usize {
+    let mut count: usize = 0;
+    let surfaces = shell.as_slice();
+    for surface in surfaces {
+        count = count.saturating_add(points_of(surface));
+    }
+    count
+}
+
 /// Notes the edges of all rings of the shell, one after another.
 pub fn edges_of(alloc: Global, shell: &Shell) -> Result<Edges, AllocError>
     ensures up { IfOk result (λ es. es.up.items ≡ rising (edges_of shell.now)) }
     ensures down { IfOk result (λ es. es.down.items ≡ rising (map flipped (edges_of shell.now))) }
 {
+    // a closed shell has as many edges of either kind
+    let room = points_in(shell) / 2;
     let mut edges = Edges {
-        up: Vec::new(alloc),
-        down: Vec::new(alloc),
+        up: Vec::with_capacity(alloc, room)?,
+        down: Vec::with_capacity(alloc, room)?,
     };
     let surfaces = shell.as_slice();
     for surface in surfaces {
