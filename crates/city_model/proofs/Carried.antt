@@ -1,12 +1,12 @@
 -- A history under locks holds from each other map that agrees where anything is held, marks too.
-use Rattle.std.proofs.Common.{◌≡◌, ℕ, List, [], ◌∷◌, ◌++◌, Bool, true, false, Option, Some, None, map, refl, ap, sym, subst, ◌∙◌}
+use Rattle.std.proofs.Common.{◌≡◌, ℕ, List, [], ◌∷◌, true, false, refl, ap, sym, subst, ◌∙◌}
 use Rattle.std.specs.Prelude.{is_some, if◌then◌else◌}
 use Rattle.city_model.specs.declared.command.Command.{Command}
 use Rattle.city_model.specs.CityMap.{CityMap, same_id}
 use Rattle.city_model.specs.Meaning.{after, done_reply, refused_or, locks_of}
-use Rattle.city_model.specs.Marks.{Marked, View, unmarked, Marking, Leaves, Marks, GoesBack, marking, marks_from, back_to, back_cause, refusal_as, step_as, refusal, step, answer, AreSound, IsSoundView}
+use Rattle.city_model.specs.Marks.{Marked, View, unmarked, Marking, Leaves, Marks, GoesBack, marking, marks_from, back_to, back_cause, refusal_as, step_as, refusal, step, answer, IsSoundView}
 use Rattle.city_model.specs.Relations.{IsSound}
-use Rattle.city_model.specs.Standing.{Held, Lock, covers, AllHeld, Answered, Follows, names_exclusively}
+use Rattle.city_model.specs.Standing.{Held, covers, AllHeld, Answered, Follows, names_exclusively}
 use Rattle.city_model.specs.FrameLaw.{AgreeOn}
 use Rattle.city_model.specs.TraceLaw.{carried_map, carried_marks, carried}
 use Rattle.city_model.proofs.IdLists.{bool_cases}

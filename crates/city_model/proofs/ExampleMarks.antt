@@ -11,7 +11,7 @@ use Rattle.city_model.specs.declared.end.End.{End}
 use Rattle.city_model.specs.declared.end.Outcome.{Outcome}
 use Rattle.city_model.specs.CityMap.{Entries, CityMap, found_in, changed}
 use Rattle.city_model.specs.Marks.{unmarked, refusal, step}
-use Rattle.city_model.specs.Runs.{Scripted, HasResult, view_after, map_left, model_after, Fits}
+use Rattle.city_model.specs.Runs.{Scripted, HasResult, view_after, map_left, Fits}
 use Rattle.city_model.proofs.ExampleCities.{bare, alone, numbered}
 use Rattle.city_model.proofs.NoOrphan.{no_orphan, no_orphan_at, no_orphan_put}
 

@@ -1,5 +1,5 @@
 -- What marks keep: each map sound, and what was seen when they were made.
-use Rattle.std.proofs.Common.{◌≡◌, ℕ, List, [], ◌∷◌, ◌++◌, Bool, true, false, map, refl, ap, sym, subst, ◌∙◌}
+use Rattle.std.proofs.Common.{◌≡◌, ℕ, List, [], ◌∷◌, ◌++◌, false, map, refl, ap, sym, subst, ◌∙◌}
 use Rattle.std.specs.Prelude.{if◌then◌else◌}
 use Rattle.std.proofs.lemmas.Bool.{false≢true}
 use Rattle.city_model.specs.declared.command.Command.{Command}
@@ -7,7 +7,6 @@ use Rattle.city_model.specs.declared.command.Command.TheVariants.{Read, Put, Del
 use Rattle.city_model.specs.CityMap.{CityMap, same_id}
 use Rattle.city_model.specs.Meaning.{after, done_reply, refused_or, reply_to}
 use Rattle.city_model.specs.Marks.{Marked, View, Marking, Leaves, Marks, GoesBack, marking, marks_from, back_to, refusal_as, step_as, step, answer, AreSound, IsSoundView}
-use Rattle.city_model.specs.Relations.{IsSound}
 use Rattle.city_model.specs.Scripts.{is_mark}
 use Rattle.city_model.proofs.Ids.{same_id_itself}
 use Rattle.city_model.proofs.IdLists.{bool_cases}

@@ -69,7 +69,7 @@ module _ {T : Type 0} {E : T → T → Bool} (laws : IsEquivalence E) where
   once_at false q es d h = rw (count_none E q es h)
 
   -- where no item is repeated, a search counts
-  pub once_is_any : (q : T) (es : List T) → IsDistinct E es → occurs_once E es q ≡ list_any (E q) es
+  once_is_any : (q : T) (es : List T) → IsDistinct E es → occurs_once E es q ≡ list_any (E q) es
   once_is_any q es d = once_at _ q es d refl
 
   all_found : (before xs : List T) → IsDistinct E (before ++ xs) → list_all (occurs_once E (before ++ xs)) xs ≡ true

@@ -1,35 +1,27 @@
--- Items in order: equal ones are neighbours, and a search finds what is there. Order doesn't change how often each stands there.
-use Rattle.std.proofs.Common.{◌≡◌, ℕ, ◌+◌, ◌-◌, ◌<◌, ◌≤◌, List, Bool, true, false, true≢false, cond, length, get_or, take, Result, Ok, Err, is_ok, Ordering, Less, Equal, Greater, is_eq, ◌⊎◌, inl, inr, refl, sym, ap, ◌∙◌, subst, arith}
-use Rattle.std.specs.Prelude.{◌==◌, ◌||◌}
+-- Items in order: equal ones are neighbours, and how often each stands there tells the list. Order doesn't change how often each stands there.
+use Rattle.std.proofs.Common.{◌≡◌, ℕ, suc, ◌+◌, ◌-◌, ◌<◌, ◌≤◌, List, [], ◌∷◌, Bool, true, false, true≢false, cond, length, get_or, take, Ordering, Less, Equal, Greater, is_eq, refl, sym, ap, ◌∙◌, subst, arith}
+use Rattle.std.specs.Prelude.{◌||◌, if◌then◌else◌}
+use Rattle.std.specs.Bool.{Decides}
 use Rattle.std.specs.Cmp.{IsTotalOrder, eq_by_cmp_equiv}
 use Rattle.std.specs.List.{AllAdjacentBelow, IsDistinct, list_any, list_all, count_by}
-use Rattle.std.specs.List.Sorted.{IsSorted, IsPermutation, IsBinarySearchResult, IsSearchInRange, IsPartitionPoint}
+use Rattle.std.specs.List.Sorted.{IsSorted, IsPermutation}
 use Rattle.std.specs.Ordering.{eq_by_cmp, is_lt, ordering_reverse}
-use Rattle.std.proofs.lemmas.Bool.{cases_lt}
-use Rattle.std.proofs.lemmas.List.Folds.{list_any_at, list_any_more, list_any_none, sum_by-zero}
+use Rattle.std.proofs.lemmas.List.Folds.{list_any_more}
 use Rattle.std.proofs.lemmas.List.Recursion.{is_count_by}
-use Rattle.std.proofs.lemmas.List.Sorted.{ranks_by, sorted_far, searchable_from_sorted, sum_by-IsPermutation}
+use Rattle.std.proofs.lemmas.List.Sorted.{ranks_by, sorted_far, sum_by-IsPermutation}
 use Rattle.std.proofs.lemmas.Map.Keys.{IsDistinct-from_apart}
 use Rattle.city_model.specs.Shells.{times, occurs_once}
-use Rattle.city_model.proofs.Once.{or_true, once_is_any, repeated_at}
+use Rattle.city_model.proofs.Counts.{counted_first}
+use Rattle.city_model.proofs.IdLists.{bool_cases}
+use Rattle.city_model.proofs.Once.{or_true, repeated_at}
 
 -- ---- in any order
-
-none_or_one : (b : Bool) → (cond b 0 1 == 0) ≡ b
-none_or_one true = refl
-none_or_one false = refl
 
 module _ {T : Type 0} {xs ys : List T} (moved : IsPermutation xs ys) where
   pub times_permutation : (E : T → T → Bool) (q : T) → times E q ys ≡ times E q xs
   times_permutation E q =
       let counts : (zs : List T) → times E q zs ≡ count_by (E q) zs = is_count_by (times E q) (E q) refl (λ x zs. refl) in
       counts ys ∙ sum_by-IsPermutation (λ x. cond (E q x) 1 0) xs ys moved ∙ sym (counts xs)
-
-  pub list_all_permutation : (f : T → Bool) → list_all f ys ≡ list_all f xs
-  list_all_permutation f =
-      let all : (zs : List T) → list_all (λ x. cond (f x) 0 1 == 0) zs ≡ list_all f zs = λ zs. ap (λ (g : T → Bool). list_all g zs) (λ i x. none_or_one (f x) i) in
-      let zero = sum_by-zero (λ (x : T). cond (f x) 0 1) in
-      sym (all ys) ∙ sym (zero ys) ∙ ap (λ n. n == 0) (sum_by-IsPermutation (λ x. cond (f x) 0 1) xs ys moved) ∙ zero xs ∙ all xs
 
 -- ---- in order
 
@@ -61,16 +53,46 @@ module _ {T : Type 0} {R : T → T → Ordering} (o : IsTotalOrder R) (xs : List
       let back : i - 1 + 1 ≡ i = omega arith in
       repeated_at laws xs i y there second (subst (λ k. list_any (eq_by_cmp R y) (take k xs) ≡ true) back (more ∙ or_true (list_any (eq_by_cmp R y) (take (i - 1) xs)) here))
 
-  missed : (q : T) (i : ℕ) → IsPartitionPoint (λ y. R y q ≡ Less) (λ y. R y q ≡ Greater) xs i → (k : ℕ) (d : T) → k < length xs → (k < i) ⊎ (i ≤ k) → eq_by_cmp R (get_or xs k d) q ≡ false
-  missed q i point k d there (inl before) = ap is_eq (point.0 k d (omega arith) before)
-  missed q i point k d there (inr after) = ap is_eq (point.1 k d after there)
+-- ---- in order, by an order that ties equal items alone
 
-  search_finds : (q : T) (r : Result ℕ ℕ) → IsSearchInRange r (length xs) → IsBinarySearchResult (λ y. R y q) xs r → is_ok r ≡ list_any (eq_by_cmp R q) xs
-  search_finds q (Ok i) within at = sym (list_any_at (eq_by_cmp R q) xs i q within ((eq_by_cmp_equiv o).symm q (get_or xs i q) ∙ ap is_eq (at q)))
-  search_finds q (Err i) within at =
-      let point = at (searchable_from_sorted o (λ y. y) xs q up) in
-      sym (list_any_none (eq_by_cmp R q) xs (λ k d there. (eq_by_cmp_equiv o).symm q (get_or xs k d) ∙ missed q i point k d there (cases_lt k i)))
+neither : (a b : Ordering) → a ≡ ordering_reverse b → is_lt a ≡ false → is_lt b ≡ false → is_eq a ≡ true
+neither Equal b turned up down = refl
+neither Less b turned up down = absurd (true≢false up)
+neither Greater Less turned up down = absurd (true≢false down)
+neither Greater Equal turned up down = absurd (cc)
+neither Greater Greater turned up down = absurd (cc)
 
-  -- a search among items that aren't repeated
-  pub search_counts : IsDistinct (eq_by_cmp R) xs → (q : T) (r : Result ℕ ℕ) → IsSearchInRange r (length xs) → IsBinarySearchResult (λ y. R y q) xs r → is_ok r ≡ occurs_once (eq_by_cmp R) xs q
-  search_counts apart q r within at = search_finds q r within at ∙ sym (once_is_any (eq_by_cmp_equiv o) q xs apart)
+one_less : (b : Bool) (m n : ℕ) → (if b then 1 + m else m) ≡ (if b then 1 + n else n) → m ≡ n
+one_less true m n h = omega arith
+one_less false m n h = h
+
+module _ {T : Type 0} {R : T → T → Ordering} (o : IsTotalOrder R) (decides : (x y : T) → Decides (eq_by_cmp R x y) (x ≡ y)) where
+  not_below : (x : T) (xs : List T) → ((j : ℕ) (d : T) → j < length xs → is_lt (R (get_or xs j d) x) ≡ false) → (q : T) → 1 ≤ times (eq_by_cmp R) q xs → is_lt (R q x) ≡ false
+  not_below x [] far q many = absurd (omega (arith, many))
+  not_below x (y ∷ ys) far q many =
+      bool_cases (eq_by_cmp R q y)
+      (λ same. subst (λ z. is_lt (R z x) ≡ false) (sym ((decides q y).0 same)) (far 0 y (omega arith)))
+      (λ other. not_below x ys (λ j d less. far (suc j) d (omega (arith, less))) q (subst (λ b. 1 ≤ (if b then 1 + times (eq_by_cmp R) q ys else times (eq_by_cmp R) q ys)) other many))
+
+  -- none of the items is below the first one
+  first_least : (x : T) (xs : List T) → IsSorted R (x ∷ xs) → (q : T) → 1 ≤ times (eq_by_cmp R) q (x ∷ xs) → is_lt (R q x) ≡ false
+  first_least x xs up = not_below x (x ∷ xs) (λ j d less. sorted_far (λ y z. is_lt (R y z)) (ranks_by o (λ y. y)) (x ∷ xs) up 0 j d (omega arith) less)
+
+  sorted_rest : (x : T) (xs : List T) → IsSorted R (x ∷ xs) → IsSorted R xs
+  sorted_rest x xs up k d low less =
+      let at : suc k + 1 ≡ suc (k + 1) = omega arith in
+      subst (λ m. is_lt (R (get_or (x ∷ xs) m d) (get_or xs k d)) ≡ false) at (up (suc k) d (omega arith) (omega (arith, less)))
+
+  -- what is in order is told by how often each item stands there
+  pub sorted_same : (xs ys : List T) → IsSorted R xs → IsSorted R ys → ((q : T) → times (eq_by_cmp R) q xs ≡ times (eq_by_cmp R) q ys) → xs ≡ ys
+  sorted_same [] [] up vp counts = refl
+  sorted_same [] (y ∷ ys) up vp counts = absurd (omega (arith, counts y, counted_first decides y ys))
+  sorted_same (x ∷ xs) [] up vp counts = absurd (omega (arith, counts x, counted_first decides x xs))
+  sorted_same (x ∷ xs) (y ∷ ys) up vp counts =
+      let E = eq_by_cmp R in
+      let above = first_least y ys vp x (subst (λ n. 1 ≤ n) (counts x) (counted_first decides x xs)) in
+      let below = first_least x xs up y (subst (λ n. 1 ≤ n) (sym (counts y)) (counted_first decides y ys)) in
+      let same : x ≡ y = (decides x y).0 (neither (R x y) (R y x) (o.antisymm x y) above below) in
+      let rest : xs ≡ ys = sorted_same xs ys (sorted_rest x xs up) (sorted_rest y ys vp)
+      (λ q. one_less (E q y) (times E q xs) (times E q ys) (subst (λ z. (if E q z then 1 + times E q xs else times E q xs) ≡ times E q (y ∷ ys)) same (counts q))) in
+      (λ i. same i ∷ rest i)

@@ -1,12 +1,11 @@
 -- What a script sees as it runs: a map with its marks, and what each command makes of them.
-use Rattle.std.specs.Prelude.{◌≡◌, ℕ, List, [], ◌∷◌, Bool, true, false, Option, Some, None, if◌then◌else◌}
+use Rattle.std.specs.Prelude.{ℕ, List, [], ◌∷◌, Option, Some, None, if◌then◌else◌}
 use Rattle.city_model.specs.declared.command.Command.{Command}
 use Rattle.city_model.specs.declared.command.Command.TheVariants.{Read, Put, Delete, Attach, Detach}
 use Rattle.city_model.specs.declared.command.Command.TheVariants.{Mark, Back, Commit, Abort}
 use Rattle.city_model.specs.declared.command.Cause.{Cause}
 use Rattle.city_model.specs.declared.command.Cause.TheVariants.{NoMark}
 use Rattle.city_model.specs.declared.command.Reply.{Reply}
-use Rattle.city_model.specs.declared.command.Reply.TheVariants.{Refused}
 use Rattle.city_model.specs.CityMap.{CityMap, same_id}
 use Rattle.city_model.specs.Relations.{IsSound}
 use Rattle.city_model.specs.Meaning.{cause_of, after, done_reply, refused_or}

@@ -1,8 +1,8 @@
 -- Rings, surfaces and closed shells, over points (CityJSON 2.0, section 3.2).
 use Rattle.std.specs.Prelude.{ℕ, ◌+◌, ◌==◌, ◌&&◌, ◌||◌, not, nat_lt, List, [], ◌∷◌, ◌++◌, Bool, length, take}
 use Rattle.std.specs.Prelude.{drop, Option, Some, None, if◌then◌else◌}
-use Rattle.std.specs.Ordering.{int_eq}
-use Rattle.std.specs.List.{list_any, list_all, zip}
+use Rattle.std.specs.Ordering.{int_eq, int_cmp, ordering_then, is_le}
+use Rattle.std.specs.List.{list_any, list_all, zip, filter}
 use Rattle.city_model.specs.declared.object.Point.{Point}
 use Rattle.city_model.specs.declared.object.Shape.{Shape}
 use Rattle.city_model.specs.declared.shape.Bounds.{Bounds}
@@ -58,6 +58,13 @@ occurs_once same xs x = times same x xs == 1
 -- the edge occurs once, and so does the reversed edge
 abbrev pub runs_both_ways : List Edge → Edge → Bool
 runs_both_ways es e = occurs_once same_edge es e && occurs_once same_edge es (flipped e)
+
+-- its first point isn't above its second one: by x, then y, then z
+abbrev pub rises : Edge → Bool
+rises e = is_le (ordering_then (int_cmp e.0.x e.1.x) (ordering_then (int_cmp e.0.y e.1.y) (int_cmp e.0.z e.1.z)))
+
+abbrev pub rising : List Edge → List Edge
+rising es = filter rises es
 
 -- each edge is run once each way
 abbrev pub is_closed : Shell → Bool

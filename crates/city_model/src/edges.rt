@@ -1,30 +1,59 @@
 //! The directed edges of a shell (CityJSON 2.0, section 3.2).
-ghost use Rattle.std.specs.Prelude.{◌≡◌, ◌++◌, IfOk, OnOk};
-ghost use Rattle.city_model.specs.Shells.{ring_edges, surface_edges, edges_of};
+ghost use Rattle.std.specs.Prelude.{◌≡◌, [], ◌∷◌, ◌++◌, map, IfOk, OnOk};
+ghost use Rattle.city_model.specs.Shells.{ring_edges, surface_edges, edges_of, rising, flipped};
 
 use crate::object::{Point, Ring, Shell, Surface};
 use std::alloc::{AllocError, Global};
+use std::cmp::Ordering;
 
 /// A point of a ring and the next one.
 pub type Edge = (Point, Point);
 
-fn push_ring(edges: &mut Vec<Edge>, ring: &Ring) -> Result<(), AllocError>
-    ensures { OnOk result (edges.new.items ≡ edges.old.items ++ ring_edges ring.now) }
+/// Edges, each noted from its lower point to its higher one.
+#[derive(Drop)]
+pub struct Edges {
+    /// Those that are run so.
+    pub up: Vec<Edge>,
+    /// Those that are run the other way.
+    pub down: Vec<Edge>,
+}
+
+impl Edges {
+    /// Notes an edge, in both lists if its points are the same.
+    fn push(&mut self, from: Point, to: Point) -> Result<(), AllocError>
+        ensures up { OnOk result (self.new.up.items ≡ self.old.up.items ++ rising ((from, to) ∷ [])) }
+        ensures down { OnOk result (self.new.down.items ≡ self.old.down.items ++ rising ((to, from) ∷ [])) }
+    {
+        match from.cmp(&to) {
+            Ordering::Less => self.up.push((from, to))?,
+            Ordering::Greater => self.down.push((to, from))?,
+            Ordering::Equal => {
+                self.up.push((from, to))?;
+                self.down.push((to, from))?;
+            }
+        }
+        Ok(())
+    }
+}
+
+fn push_ring(edges: &mut Edges, ring: &Ring) -> Result<(), AllocError>
+    ensures up { OnOk result (edges.new.up.items ≡ edges.old.up.items ++ rising (ring_edges ring.now)) }
+    ensures down { OnOk result (edges.new.down.items ≡ edges.old.down.items ++ rising (map flipped (ring_edges ring.now))) }
 {
     let [first, rest @ ..] = ring.as_slice() else {
         return Ok(());
     };
     let mut last = *first;
     for point in rest {
-        edges.push((last, *point))?;
+        edges.push(last, *point)?;
         last = *point;
     }
-    edges.push((last, *first))?;
-    Ok(())
+    edges.push(last, *first)
 }
 
-fn push_surface(edges: &mut Vec<Edge>, surface: &Surface) -> Result<(), AllocError>
-    ensures { OnOk result (edges.new.items ≡ edges.old.items ++ surface_edges surface.now) }
+fn push_surface(edges: &mut Edges, surface: &Surface) -> Result<(), AllocError>
+    ensures up { OnOk result (edges.new.up.items ≡ edges.old.up.items ++ rising (surface_edges surface.now)) }
+    ensures down { OnOk result (edges.new.down.items ≡ edges.old.down.items ++ rising (map flipped (surface_edges surface.now))) }
 {
     let rings = surface.as_slice();
     for ring in rings {
@@ -33,11 +62,37 @@ fn push_surface(edges: &mut Vec<Edge>, surface: &Surface) -> Result<(), AllocErr
     Ok(())
 }
 
-/// The edges of all rings of the shell, one after another.
-pub fn edges_of(alloc: Global, shell: &Shell) -> Result<Vec<Edge>, AllocError>
-    ensures { IfOk result (λ es. es.items ≡ edges_of shell.now) }
+/// How many points the rings have, or the greatest number where there are more.
+fn points_of(surface: &Surface) -> usize {
+    let mut count: usize = 0;
+    let rings = surface.as_slice();
+    for ring in rings {
+        count = count.saturating_add(ring.len());
+    }
+    count
+}
+
+/// How many points the rings of all surfaces have, or the greatest number where there are more.
+fn points_in(shell: &Shell) -> usize {
+    let mut count: usize = 0;
+    let surfaces = shell.as_slice();
+    for surface in surfaces {
+        count = count.saturating_add(points_of(surface));
+    }
+    count
+}
+
+/// Notes the edges of all rings of the shell, one after another.
+pub fn edges_of(alloc: Global, shell: &Shell) -> Result<Edges, AllocError>
+    ensures up { IfOk result (λ es. es.up.items ≡ rising (edges_of shell.now)) }
+    ensures down { IfOk result (λ es. es.down.items ≡ rising (map flipped (edges_of shell.now))) }
 {
-    let mut edges = Vec::new(alloc);
+    // a closed shell has as many edges of either kind
+    let room = points_in(shell) / 2;
+    let mut edges = Edges {
+        up: Vec::with_capacity(alloc, room)?,
+        down: Vec::with_capacity(alloc, room)?,
+    };
     let surfaces = shell.as_slice();
     for surface in surfaces {
         push_surface(&mut edges, surface)?;

@@ -1,11 +1,11 @@
 //! Whether shells are closed (CityJSON 2.0, section 3.2).
-ghost use Rattle.std.specs.Prelude.{◌≡◌, false, not, IfOk};
-ghost use Rattle.std.specs.List.{list_all, list_any, IsDistinct};
+ghost use Rattle.std.specs.Prelude.{◌≡◌, not, IfOk};
+ghost use Rattle.std.specs.List.{list_all, list_any};
 ghost use Rattle.std.specs.List.Sorted.{IsSorted};
 ghost use Rattle.std.specs.Ordering.{eq_by_cmp};
-ghost use Rattle.city_model.specs.Shells.{occurs_once, flipped, is_closed, is_open, has_open_shell};
+ghost use Rattle.city_model.specs.Shells.{occurs_once, is_closed, is_open, has_open_shell};
 
-use crate::edges::{Edge, edges_of};
+use crate::edges::edges_of;
 use crate::object::{Shape, Shell, Solid};
 use crate::shape::Bounds;
 use std::alloc::{AllocError, Global};
@@ -13,8 +13,7 @@ use std::alloc::{AllocError, Global};
 /// Whether an item is repeated, where the items are in order.
 fn has_repeats<T: Ord>(items: &[T]) -> bool
     requires { IsSorted T.cmp items.now }
-    ensures repeats { result ≡ not (list_all (occurs_once (eq_by_cmp T.cmp) items.now) items.now) }
-    ensures distinct { result ≡ false → IsDistinct (eq_by_cmp T.cmp) items.now }
+    ensures { result ≡ not (list_all (occurs_once (eq_by_cmp T.cmp) items.now) items.now) }
 {
     for i in 1..items.len() {
         if items[i - 1].cmp(&items[i]).is_eq() {
@@ -24,38 +23,16 @@ fn has_repeats<T: Ord>(items: &[T]) -> bool
     false
 }
 
-/// Whether an item is among others, which are in order and not repeated.
-fn is_among<T: Ord>(item: &T, items: &[T]) -> bool
-    requires sorted { IsSorted T.cmp items.now }
-    requires distinct { IsDistinct (eq_by_cmp T.cmp) items.now }
-    ensures { result ≡ occurs_once (eq_by_cmp T.cmp) items.now item.now }
-{
-    items.binary_search(item).is_ok()
-}
-
-/// Whether each edge is run the other way too, where the edges are in order and not repeated.
-fn are_run_back(edges: &[Edge]) -> bool
-    requires sorted { IsSorted ⟦<Edge as Ord>⟧.cmp edges.now }
-    requires distinct { IsDistinct (eq_by_cmp ⟦<Edge as Ord>⟧.cmp) edges.now }
-    ensures { result ≡ list_all (λ e. occurs_once (eq_by_cmp ⟦<Edge as Ord>⟧.cmp) edges.now (flipped e)) edges.now }
-{
-    for edge in edges {
-        if !is_among(&(edge.1, edge.0), edges) {
-            return false;
-        }
-    }
-    true
-}
-
 /// Whether each edge of the shell is run once each way, which takes time in proportion to the
 /// edges and their logarithm. The only refusal is want of memory.
 pub fn shell_closed(alloc: Global, shell: &Shell) -> Result<bool, AllocError>
     ensures { IfOk result (λ b. b ≡ is_closed shell.now) }
 {
     let mut edges = edges_of(alloc, shell)?;
-    edges.sort_unstable();
-    let edges = edges.as_slice();
-    Ok(!has_repeats(edges) && are_run_back(edges))
+    edges.up.sort_unstable();
+    edges.down.sort_unstable();
+    let up = edges.up.as_slice();
+    Ok(!has_repeats(up) && up == edges.down.as_slice())
 }
 
 /// Whether a shell of one of the shape's solids isn't closed. The only refusal is want of memory.

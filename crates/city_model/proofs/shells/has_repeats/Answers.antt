@@ -5,16 +5,12 @@ use Rattle.city_model.proofs.Once.{all_self}
 use Rattle.city_model.proofs.SortedEdges.{distinct_from_neighbours, repeated_neighbour}
 use Rattle.city_model.proofs.shells.has_repeats.Goals as goal
 
-pub returns-then-is_eq-clause-repeats : goal.returns-then-is_eq-clause-repeats
-returns-then-is_eq-clause-repeats g c =
+pub returns-then-is_eq : goal.returns-then-is_eq
+returns-then-is_eq g c =
     sym (ap not (repeated_neighbour g.met.T.Ord.total c.args.items.now c.requires c.loop-i.i c.index-items-i.result c.index-items-i-in-loop-i.result c.loop-i.auto.i c.loop-i-test.true
     c.index-items-i.is c.index-items-i-in-loop-i.is (sym (ap is_eq c.cmp.ensures) ∙ (sym c.is_eq.ensures ∙ c.if-is_eq.true))))
 
-pub returns-clause-repeats : goal.returns-clause-repeats
-returns-clause-repeats g c =
+pub returns : goal.returns
+returns g c =
     sym (ap not (all_self (eq_by_cmp_equiv g.met.T.Ord.total) c.args.items.now
     (distinct_from_neighbours g.met.T.Ord.total c.args.items.now c.requires (λ k d less. c.loop-i.invariant k d (omega arith)))))
-
-pub returns-clause-distinct : goal.returns-clause-distinct
-returns-clause-distinct g c =
-    λ e. distinct_from_neighbours g.met.T.Ord.total c.args.items.now c.requires (λ k d less. c.loop-i.invariant k d (omega arith))
