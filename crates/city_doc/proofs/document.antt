@@ -21,3 +21,4 @@ pub mod Right
 mod RoundTrip
 mod Searches
 mod Totals
+pub mod WholeTrees

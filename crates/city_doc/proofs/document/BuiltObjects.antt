@@ -1,5 +1,5 @@
 -- Objects that are built have no fault that their trees show.
-use Rattle.std.proofs.Common.{◌≡◌, List, length, Bool, false, None, Some, refl, ap, ◌∙◌}
+use Rattle.std.proofs.Common.{◌≡◌, List, length, Bool, false, None, Some, refl, sym, ap, ◌∙◌}
 use Rattle.std.specs.Prelude.{option_and_then, option_map, codes}
 use Rattle.serde_json.specs.Data.{Data, Members, no_members, member}
 use Rattle.serde_json.specs.Find.{get_member, as_object}
@@ -17,7 +17,7 @@ use Rattle.city_doc.specs.document.Searches.{first_with}
 use Rattle.city_doc.proofs.document.Cities.{objects_at}
 use Rattle.city_doc.proofs.object.FaultlessBodies.{known, supported, formed, placed}
 use Rattle.city_doc.proofs.document.LenientEntries.{starts_read, lenient_body}
-use Rattle.city_doc.proofs.Options.{and_then_some}
+use Rattle.city_doc.proofs.Options.{and_then_some, map_some}
 
 -- a test that no tree of a body passes finds nothing
 none_with : (test : Data → Bool) (points : List Point) → ((d : Data) (b : Body) → body_of points d ≡ Some b → test d ≡ false)
@@ -36,12 +36,32 @@ are_readable points ms es h =
       placed = none_with _ points (placed points) ms es h;
     }
 
--- a tree of which a city is built has the form of a document
-pub has_form : (d : Data) (c : Frame × Entries) → wrong_member d ≡ None → lenient_city_of (vertices_in d) d ≡ Some c → HasForm d
-has_form d c right h =
-    let top = and_then_some (lenient_city_at (vertices_in d)) (as_object d) c h in
+-- what the frame and the listed objects of a tree were read of
+pub record IsBuilt (points : List Point) (d : Data) (c : Frame × Entries) : Type 0 where
+  pub top : Members
+  pub is_top : as_object d ≡ Some top
+  pub objects : Members
+  pub are_objects : option_and_then as_object (get_member (codes "CityObjects") top) ≡ Some objects
+  pub entries : lenient_entries_of points objects ≡ Some c.1
+  pub frame : frame_of_rest (without (codes "CityObjects") top) ≡ Some c.0
+
+pub is_built : (points : List Point) (d : Data) (c : Frame × Entries) → lenient_city_of points d ≡ Some c → IsBuilt points d c
+is_built points d c h =
+    let top = and_then_some (lenient_city_at points) (as_object d) c h in
     let es = and_then_some (λ entries. option_map (λ frame. (frame, entries)) (frame_of_rest (without (codes "CityObjects") top.0)))
-    (option_and_then (lenient_entries_of (vertices_in d)) (option_and_then as_object (get_member (codes "CityObjects") top.0))) c top.2 in
-    let ms = and_then_some (lenient_entries_of (vertices_in d)) (option_and_then as_object (get_member (codes "CityObjects") top.0)) es.0 es.1 in
-    let among = objects_at d top.0 top.1 ms.0 ms.1 in
-    record { right = right; objects = are_readable (vertices_in d) (objects_in d) es.0 (ap (lenient_entries_of (vertices_in d)) among ∙ ms.2) }
+    (option_and_then (lenient_entries_of points) (option_and_then as_object (get_member (codes "CityObjects") top.0))) c top.2 in
+    let ms = and_then_some (lenient_entries_of points) (option_and_then as_object (get_member (codes "CityObjects") top.0)) es.0 es.1 in
+    let frame = map_some (λ frame. (frame, es.0)) (frame_of_rest (without (codes "CityObjects") top.0)) c es.2 in
+    record {
+      top = top.0;
+      is_top = top.1;
+      objects = ms.0;
+      are_objects = ms.1;
+      entries = ms.2 ∙ ap (λ x. Some x.1) (sym frame.2);
+      frame = frame.1 ∙ ap (λ x. Some x.0) (sym frame.2);
+    }
+
+-- a tree of which a city is built has the form of a document
+pub has_form : (d : Data) (c : Frame × Entries) → wrong_member d ≡ None → IsBuilt (vertices_in d) d c → HasForm d
+has_form d c right b =
+    record { right = right; objects = are_readable (vertices_in d) (objects_in d) c.1 (ap (lenient_entries_of (vertices_in d)) (objects_at d b.top b.is_top b.objects b.are_objects) ∙ b.entries) }

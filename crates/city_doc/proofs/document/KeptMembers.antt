@@ -1,34 +1,19 @@
 -- The members that are left of a tree of whole numbers may be kept at their place.
-use Rattle.std.proofs.Common.{◌≡◌, ℕ, List, Bool, true, false, Option, Some, None, Ordering, Less, Equal, Greater, nat_cmp, refl, sym, ap, ◌∙◌}
+use Rattle.std.proofs.Common.{◌≡◌, ℕ, List, Bool, true, false, Some, None, refl, ap, ◌∙◌}
 use Rattle.std.specs.Prelude.{◌&&◌, not, codes, is_none}
-use Rattle.std.specs.Ordering.{match_ordering}
-use Rattle.std.specs.Cmp.Lexicographic.{slice_cmp}
-use Rattle.std.proofs.lemmas.Bool.{and_from, and_parts}
-use Rattle.serde_json.specs.Data.{Data, Members, no_members, member}
+use Rattle.std.proofs.lemmas.Bool.{and_from}
+use Rattle.serde_json.specs.Data.{Members}
 use Rattle.serde_json.specs.Find.{get_member}
 use Rattle.city_model.specs.CityMap.{same_id}
 use Rattle.city_model.specs.Members.{without}
-use Rattle.city_model.specs.Integral.{is_integral, members_integral}
+use Rattle.city_model.specs.Integral.{members_integral}
 use Rattle.city_model.specs.Kept.{lacks, lacks_both, kept_at_top, kept_at_transform, kept_at_object, kept_at_geometry, has_location, is_empty_object_or_absent}
 use Rattle.city_model.proofs.MemberLaws.{get_member-without, get_member-without_same, members_integral-without}
 use Rattle.city_doc.specs.tree.Members.{kept_if}
 use Rattle.city_doc.specs.shape.Geometries.{without_geometry_members}
 use Rattle.city_doc.specs.object.Bodies.{without_object_members}
 use Rattle.city_doc.specs.document.Top.{without_transform_members, without_top_members}
-
--- ---- whole numbers
-
-integral_at : (o : Ordering) (d e : Data) (rest : Option Data) → is_integral d ≡ true → (rest ≡ Some e → is_integral e ≡ true) → match_ordering o rest (Some d) rest ≡ Some e → is_integral e ≡ true
-integral_at Less d e rest one more is = more is
-integral_at Equal d e rest one more is = let same : d ≡ e = cc in ap is_integral (sym same) ∙ one
-integral_at Greater d e rest one more is = more is
-
--- a member of a tree of whole numbers has whole numbers alone
-pub integral_member : (name : List ℕ) (ms : Members) (e : Data) → members_integral ms ≡ true → get_member name ms ≡ Some e → is_integral e ≡ true
-integral_member name no_members e h is = cc
-integral_member name (member k d ms) e h is =
-    let hs = and_parts (is_integral d) (members_integral ms) h in
-    integral_at (slice_cmp nat_cmp name k) d e (get_member name ms) hs.0 (integral_member name ms e hs.1) is
+use Rattle.city_doc.proofs.Options.{if_some}
 
 -- ---- members that are gone
 
@@ -55,6 +40,9 @@ all_five a b c d e h k l m n = rw (h, k, l, m, n) refl
 
 pub kept_all : (test : Members → Bool) (ms : Members) → test ms ≡ true → kept_if test ms ≡ Some ms
 kept_all test ms h = rw h refl
+
+pub kept_passes : (test : Members → Bool) (ms kept : Members) → kept_if test ms ≡ Some kept → test ms ≡ true
+kept_passes test ms kept h = (if_some (test ms) (Some ms) kept h).0
 
 pub transform_admitted : (ms : Members) → members_integral ms ≡ true → kept_at_transform (without_transform_members ms) ≡ true
 transform_admitted ms h =

@@ -24,6 +24,7 @@ use Rattle.city_doc.specs.document.Top.{is_text, has_triple, triple_at, is_trans
 use Rattle.city_doc.specs.object.Faults.{is_unknown_type, is_bad_geometry, has_bad_vertex}
 use Rattle.city_doc.specs.tree.Triples.{integral_at, triple_of, point_of, points_of, all_triples, are_all_triples}
 use Rattle.city_doc.proofs.document.Cities.{get-object}
+use Rattle.city_doc.proofs.document.KeptMembers.{kept_passes}
 use Rattle.city_doc.proofs.document.Listings.{at_listed}
 use Rattle.city_doc.proofs.object.FaultlessBodies.{known, supported, formed, placed, is_object}
 use Rattle.city_doc.proofs.document.NoFault.{read_as, no_object, no_bad_ring, no_open_shell, no_badly_related}
@@ -33,16 +34,16 @@ use Rattle.city_doc.proofs.document.Right.{three_some}
 
 -- ---- the parts of a city's tree
 
-record StandsFor (d : Data) (c : CityValue) : Type 0 where
-  json : is_city_json d ≡ true
-  points : points_in d ≡ Some (vertices_in d)
-  objects : option_and_then as_object (get (codes "CityObjects") d) ≡ Some (objects_in d)
-  list : city.Entries
-  entries : entries_of (vertices_in d) (objects_in d) ≡ Some list
-  made : c.1 ≡ objects_of list
-  frame : frame_of d ≡ Some c.0
+pub record StandsFor (d : Data) (c : CityValue) : Type 0 where
+  pub json : is_city_json d ≡ true
+  pub points : points_in d ≡ Some (vertices_in d)
+  pub objects : option_and_then as_object (get (codes "CityObjects") d) ≡ Some (objects_in d)
+  pub list : city.Entries
+  pub entries : entries_of (vertices_in d) (objects_in d) ≡ Some list
+  pub made : c.1 ≡ objects_of list
+  pub frame : frame_of d ≡ Some c.0
 
-stands_for : (d : Data) (c : CityValue) → city_of d ≡ Some c → StandsFor d c
+pub stands_for : (d : Data) (c : CityValue) → city_of d ≡ Some c → StandsFor d c
 stands_for d c h =
     let json = if_some (is_city_json d) _ c h in
     let ps = and_then_some _ (points_in d) c json.1 in
@@ -110,7 +111,7 @@ frame_parts top f h =
     let scale = and_then_some _ (triple_at (codes "scale") t.0) f t.2 in
     let translate = and_then_some _ (triple_at (codes "translate") t.0) f scale.2 in
     let there : get_member (codes "transform") top ≡ Some t.0 = sym (get_member-without (codes "transform") (codes "CityObjects") top refl) ∙ t.1 in
-    let keeps = (if_some (kept_at_top (without_top_members rest)) (Some (without_top_members rest)) kept.0 kept.1).0 in
+    let keeps = kept_passes kept_at_top (without_top_members rest) kept.0 kept.1 in
     record {
       transform = ap is_transform there ∙ and_from (has_triple (codes "scale") t.0) (has_triple (codes "translate") t.0) (ap is_some scale.1) (ap is_some translate.1);
       extensions = ap is_empty_object_or_absent (sym (extensions_stay top)) ∙ last_of_five (members_integral (without_top_members rest)) (lacks_both (codes "type") (codes "version") (without_top_members rest))

@@ -27,7 +27,7 @@ not_there j k no_members lt h = refl
 not_there j k (member l d ms) lt h =
     below (slice_cmp nat_cmp j l) (get_member j ms) (Some d) (nat_list_cmp_total.trans j k l lt h.0) ∙ not_there j k ms lt h.1
 
-here : (k : List ℕ) (d : Data) (ms : Members) → get_member k (member k d ms) ≡ Some d
+pub here : (k : List ℕ) (d : Data) (ms : Members) → get_member k (member k d ms) ≡ Some d
 here k d ms = rw (tied_itself nat_list_cmp_total k)
 
 same_key : (j k : List ℕ) → slice_cmp nat_cmp j k ≡ Equal → j ≡ k
@@ -43,7 +43,7 @@ found_above : (k j : List ℕ) (ms : Members) (e : Data) → AllAbove k ms → g
 found_above k j no_members e h is = cc
 found_above k j (member l d ms) e h is = found_at _ k j l d ms e refl h.0 (found_above k j ms e h.1) is
 
-there : (k j : List ℕ) (d e : Data) (ms : Members) → AllAbove k ms → get_member j ms ≡ Some e → get_member j (member k d ms) ≡ Some e
+pub there : (k j : List ℕ) (d e : Data) (ms : Members) → AllAbove k ms → get_member j ms ≡ Some e → get_member j (member k d ms) ≡ Some e
 there k j d e ms h is = above _ _ _ (nat_list_cmp_total.antisymm j k ∙ ap ordering_reverse (found_above k j ms e h is)) ∙ is
 
 -- nothing below the first id

@@ -26,14 +26,14 @@ use Rattle.city_doc.specs.document.Top.{triple_at, has_triple, wrong_member, mor
 use Rattle.city_doc.specs.document.LenientCities.{listed, lenient_entries_of, lenient_city_of, IsReadOf}
 use Rattle.city_doc.specs.object.Faults.{is_unknown_type, is_bad_geometry, has_bad_vertex, has_bad_list}
 use Rattle.city_doc.specs.document.Searches.{first_with}
-use Rattle.city_doc.proofs.document.BuiltObjects.{has_form}
+use Rattle.city_doc.proofs.document.BuiltObjects.{IsBuilt, is_built, has_form}
 use Rattle.city_doc.proofs.document.Cities.{get-object, objects_at, city_joined}
-use Rattle.city_doc.proofs.document.KeptMembers.{kept_all, integral_member, transform_admitted, top_admitted}
+use Rattle.city_doc.proofs.document.KeptMembers.{kept_all, transform_admitted, top_admitted}
 use Rattle.city_doc.proofs.document.LenientEntries.{none_first, entries_of-lenient}
 use Rattle.city_doc.proofs.document.Order.{first_in}
 use Rattle.city_doc.proofs.object.ReadBodies.{IsReadable, body_of-some}
 use Rattle.city_doc.proofs.document.Right.{IsRight, is_right, some_of, has_points}
-use Rattle.city_doc.proofs.tree.IntegralParts.{as_object-integral}
+use Rattle.city_doc.proofs.tree.IntegralParts.{as_object-integral, get_member-integral}
 use Rattle.city_doc.proofs.document.Listings.{listed_again}
 use Rattle.city_doc.proofs.tree.Trees.{object_with}
 use Rattle.city_doc.specs.tree.Triples.{triple_of}
@@ -72,7 +72,7 @@ frame_read top integral extensions transform =
     let extra = kept_all kept_at_top (without_top_members rest) (top_admitted top integral extensions) in
     let t = there (get_member (codes "transform") top) transform in
     let stays = get_member-without (codes "transform") (codes "CityObjects") top refl ∙ t.1 in
-    let f = transform_read (without_top_members rest) t.0 (integral_member (codes "transform") top t.0 integral t.1) (ap is_transform (sym t.1) ∙ transform) in
+    let f = transform_read (without_top_members rest) t.0 (get_member-integral (codes "transform") top t.0 integral t.1) (ap is_transform (sym t.1) ∙ transform) in
     (f.0, rest_read rest (without_top_members rest) t.0 f.0 extra stays f.1)
 
 -- ---- the objects
@@ -121,7 +121,7 @@ has_parts d integral right =
       objects = objects.0;
       are_objects = objects.1;
       all = objects.2;
-      integral = as_object-integral member.0 objects.0 (integral_member (codes "CityObjects") top.0 member.0 integral_top member.1) is_object;
+      integral = as_object-integral member.0 objects.0 (get_member-integral (codes "CityObjects") top.0 member.0 integral_top member.1) is_object;
       frame = frame.0;
       is_frame = frame.1;
     }
@@ -158,62 +158,48 @@ entries_read points (member id d ms) integral are h =
     let es = entries_read points ms start.integral start.are_objects start.rest in
     entry_read points id d ms body.0 es.0 body.1 es.1
 
--- what the frame and the listed objects of a tree were read of
-record IsListOf (d : Data) (c : Frame × Entries) : Type 0 where
-  entries : lenient_entries_of (vertices_in d) (objects_in d) ≡ Some c.1
-  city : first_with has_bad_list (objects_in d) ≡ None → city_of d ≡ Some (c.0, objects_of c.1)
-
 lenient_joined : (points : List Point) (d : Data) (top ms : Members) (es : Entries) (frame : Frame) → as_object d ≡ Some top → option_and_then as_object (get_member (codes "CityObjects") top) ≡ Some ms
     → lenient_entries_of points ms ≡ Some es → frame_of_rest (without (codes "CityObjects") top) ≡ Some frame → lenient_city_of points d ≡ Some (frame, es)
 lenient_joined points d top ms es frame is_top are read is_frame = rw (is_top, are, read, is_frame) refl
 
-city_with : (d : Data) → IsRight d → AreReadable (length (vertices_in d)) (objects_in d) → HasParts d → (c : Frame × Entries) × (lenient_city_of (vertices_in d) d ≡ Some c) × IsListOf d c
-city_with d right readable parts =
+has_city : (d : Data) → is_integral d ≡ true → HasForm d → (c : Frame × Entries) × (lenient_city_of (vertices_in d) d ≡ Some c)
+has_city d integral h =
+    let parts = has_parts d integral (is_right d h.right) in
     let among = objects_at d parts.top parts.is_top parts.objects parts.are_objects in
-    let es = entries_read (vertices_in d) parts.objects parts.integral parts.all (subst (AreReadable (length (vertices_in d))) among readable) in
-    let points = has_points d right in
-    let are : points_in d ≡ Some (vertices_in d) = points.1 ∙ ap Some (sym (ap or_empty points.1)) in (
-      (parts.frame, es.0),
-      lenient_joined (vertices_in d) d parts.top parts.objects es.0 parts.frame parts.is_top parts.are_objects es.1 parts.is_frame,
-      record {
-        entries = ap (lenient_entries_of (vertices_in d)) among ∙ es.1;
-        city = λ none.
-            city_joined d parts.top parts.is_top parts.objects parts.are_objects (vertices_in d) es.0 parts.frame right are
-            (entries_of-lenient (vertices_in d) parts.objects es.0 (ap (first_with has_bad_list) (sym among) ∙ none) es.1) parts.is_frame;
-      },
-    )
-
-has_city : (d : Data) → is_integral d ≡ true → HasForm d → (c : Frame × Entries) × (lenient_city_of (vertices_in d) d ≡ Some c) × IsListOf d c
-has_city d integral h = let right = is_right d h.right in city_with d right h.objects (has_parts d integral right)
+    let es = entries_read (vertices_in d) parts.objects parts.integral parts.all (subst (AreReadable (length (vertices_in d))) among h.objects) in
+    ((parts.frame, es.0), lenient_joined (vertices_in d) d parts.top parts.objects es.0 parts.frame parts.is_top parts.are_objects es.1 parts.is_frame)
 
 -- a tree that has the form of a document has a city
 pub no_city : (d : Data) → is_integral d ≡ true → HasForm d → lenient_city_of (vertices_in d) d ≡ None → ⊥
 no_city d integral h missing = let c = has_city d integral h in let there_is = c.1 in cc
 
-is_list_of : (d : Data) (c : Frame × Entries) → is_integral d ≡ true → HasForm d → lenient_city_of (vertices_in d) d ≡ Some c → IsListOf d c
-is_list_of d c integral h is =
-    let k = has_city d integral h in
-    let is_there = k.1 in
-    let same : k.0 ≡ c = cc in
-    subst (IsListOf d) same k.2
-
 -- ---- the city is judged
 
-is_read_of : (d : Data) (c : CityValue) (bad : Option (List ℕ)) → HasForm d → AreOrdered (objects_in d) → bad ≡ first_with has_bad_list (objects_in d) → IsListOf d (listed c) → IsReadOf (vertices_in d) (objects_in d) (entries c.1) bad
-is_read_of d c bad form ordered lists is = record { ordered = ordered; readable = form.objects; read = is.entries; lists = lists }
+-- a city that is built is the tree's, where no list is bad
+built_city : (d : Data) (c : Frame × Entries) → wrong_member d ≡ None → IsBuilt (vertices_in d) d c → first_with has_bad_list (objects_in d) ≡ None → city_of d ≡ Some (c.0, objects_of c.1)
+built_city d c right b none =
+    let points = has_points d (is_right d right) in
+    let are : points_in d ≡ Some (vertices_in d) = points.1 ∙ ap Some (sym (ap or_empty points.1)) in
+    let among = objects_at d b.top b.is_top b.objects b.are_objects in
+    let read = entries_of-lenient (vertices_in d) b.objects c.1 (ap (first_with has_bad_list) (sym among) ∙ none) b.entries in
+    city_joined d b.top b.is_top b.objects b.are_objects (vertices_in d) c.1 c.0 (is_right d right) are read b.frame
 
-judged_as : (d : Data) (c : CityValue) (bad : Option (List ℕ)) (fault : Option ReadFault) → is_integral d ≡ true → HasForm d → bad ≡ first_with has_bad_list (objects_in d) → IsListOf d (listed c)
-    → MatchOption fault (IsLawful (at c.1) × (bad ≡ None)) (λ f. IsFirst (StandsAmong (vertices_in d) (objects_in d)) f) → MatchOption fault ((city_of d ≡ Some c) × IsLawful (at c.1)) (λ f. IsFirst (StandsIn d) f)
-judged_as d c bad None integral form lists is h = (is.city (sym lists ∙ h.1) ∙ ap (λ objects. Some (c.0, objects)) (listed_again c.1), h.0)
-judged_as d c bad (Some f) integral form lists is h = first_in d f integral form.right h
+is_read_of : (d : Data) (c : CityValue) (bad : Option (List ℕ)) → wrong_member d ≡ None → AreOrdered (objects_in d) → bad ≡ first_with has_bad_list (objects_in d) → IsBuilt (vertices_in d) d (listed c)
+    → IsReadOf (vertices_in d) (objects_in d) (entries c.1) bad
+is_read_of d c bad right ordered lists b =
+    record { ordered = ordered; readable = (has_form d (listed c) right b).objects; read = ap (lenient_entries_of (vertices_in d)) (objects_at d b.top b.is_top b.objects b.are_objects) ∙ b.entries; lists = lists }
+
+judged_as : (d : Data) (c : CityValue) (bad : Option (List ℕ)) (fault : Option ReadFault) → wrong_member d ≡ None → bad ≡ first_with has_bad_list (objects_in d) → IsBuilt (vertices_in d) d (listed c)
+    → MatchOption fault (IsLawful (at c.1) × (bad ≡ None)) (λ f. IsFirst (StandsAmong (vertices_in d) (objects_in d)) f)
+    → MatchOption fault ((city_of d ≡ Some c) × IsLawful (at c.1)) (λ f. is_integral d ≡ true → IsFirst (StandsIn d) f)
+judged_as d c bad None right lists b h = (built_city d (listed c) right b (sym lists ∙ h.1) ∙ ap (λ objects. Some (c.0, objects)) (listed_again c.1), h.0)
+judged_as d c bad (Some f) right lists b h = λ integral. first_in d f integral right h
 
 -- what is found of a city that was read of a tree is what stands in the tree
-pub judged : (d : Data) (points : List Point) (c : CityValue) (bad : Option (List ℕ)) (fault : Option ReadFault) → is_integral d ≡ true → wrong_member d ≡ None → points ≡ vertices_in d
+pub judged : (d : Data) (points : List Point) (c : CityValue) (bad : Option (List ℕ)) (fault : Option ReadFault) → wrong_member d ≡ None → points ≡ vertices_in d
     → lenient_city_of points d ≡ Some (listed c) → AreOrdered (objects_in d) → bad ≡ first_with has_bad_list (objects_in d)
     → ((ps : List Point) (ms : Members) → IsReadOf ps ms (entries c.1) bad → MatchOption fault (IsLawful (at c.1) × (bad ≡ None)) (λ f. IsFirst (StandsAmong ps ms) f))
-    → MatchOption fault ((city_of d ≡ Some c) × IsLawful (at c.1)) (λ f. IsFirst (StandsIn d) f)
-judged d points c bad fault integral right same built ordered lists found =
-    let here = ap (λ ps. lenient_city_of ps d) (sym same) ∙ built in
-    let form = has_form d (listed c) right here in
-    let is = is_list_of d (listed c) integral form here in
-    judged_as d c bad fault integral form lists is (found (vertices_in d) (objects_in d) (is_read_of d c bad form ordered lists is))
+    → MatchOption fault ((city_of d ≡ Some c) × IsLawful (at c.1)) (λ f. is_integral d ≡ true → IsFirst (StandsIn d) f)
+judged d points c bad fault right same built ordered lists found =
+    let b = is_built (vertices_in d) d (listed c) (ap (λ ps. lenient_city_of ps d) (sym same) ∙ built) in
+    judged_as d c bad fault right lists b (found (vertices_in d) (objects_in d) (is_read_of d c bad right ordered lists b))

@@ -16,28 +16,29 @@ use Rattle.city_doc.specs.shape.Geometries.{geometry_of}
 use Rattle.city_doc.specs.document.Faults.{is_unsupported}
 use Rattle.city_doc.specs.object.Faults.{is_unknown_type, is_bad_geometry, has_bad_vertex}
 use Rattle.city_doc.proofs.document.Cities.{get-object}
-use Rattle.city_doc.proofs.Options.{and_then_some, map_some, if_some}
+use Rattle.city_doc.proofs.document.KeptMembers.{kept_passes}
+use Rattle.city_doc.proofs.Options.{and_then_some, map_some}
 use Rattle.city_doc.proofs.shape.ReadForms.{geometries_fit, position_fits, number_fits, geometries_supported}
 
 -- the parts of a body's tree
-record HasBodyParts (points : List Point) (d : Data) (b : Body) : Type 0 where
-  known : is_none (type_of d) ≡ false
-  members : Members
-  is_object : as_object d ≡ Some members
-  kept : kept_at_object (without_object_members members) ≡ true
-  geometry : list_or_absent (geometry_of points) (get (codes "geometry") d) ≡ Some b.geometry
+pub record HasBodyParts (points : List Point) (d : Data) (b : Body) : Type 0 where
+  pub kind : type_of d ≡ Some b.kind
+  pub members : Members
+  pub is_object : as_object d ≡ Some members
+  pub kept : kept_at_object (without_object_members members) ≡ true
+  pub geometry : list_or_absent (geometry_of points) (get (codes "geometry") d) ≡ Some b.geometry
 
-body_parts : (points : List Point) (d : Data) (b : Body) → body_of points d ≡ Some b → HasBodyParts points d b
+pub body_parts : (points : List Point) (d : Data) (b : Body) → body_of points d ≡ Some b → HasBodyParts points d b
 body_parts points d b h =
     let kind = and_then_some _ (type_of d) b h in
     let ms = and_then_some _ (as_object d) b kind.2 in
     let kept = and_then_some _ (kept_if kept_at_object (without_object_members ms.0)) b ms.2 in
     let gs = map_some _ (list_or_absent (geometry_of points) (get (codes "geometry") d)) b kept.2 in
     record {
-      known = ap is_none kind.1;
+      kind = kind.1 ∙ ap (λ x. Some x.kind) (sym gs.2);
       members = ms.0;
       is_object = ms.1;
-      kept = (if_some (kept_at_object (without_object_members ms.0)) (Some (without_object_members ms.0)) kept.0 kept.1).0;
+      kept = kept_passes kept_at_object (without_object_members ms.0) kept.0 kept.1;
       geometry = gs.1 ∙ ap (λ x. Some x.geometry) (sym gs.2);
     }
 
@@ -63,7 +64,7 @@ supported points d b h =
     rw (no_location d p.members p.is_object p.kept, geometries_supported points (get (codes "geometry") d) b.geometry p.geometry) refl
 
 pub known : (points : List Point) (d : Data) (b : Body) → body_of points d ≡ Some b → is_unknown_type d ≡ false
-known points d b h = (body_parts points d b h).known
+known points d b h = ap is_none (body_parts points d b h).kind
 
 pub formed : (points : List Point) (d : Data) (b : Body) → body_of points d ≡ Some b → is_bad_geometry d ≡ false
 formed points d b h = ap not (geometries_fit points _ (number_fits points) (get (codes "geometry") d) b.geometry (body_parts points d b h).geometry)

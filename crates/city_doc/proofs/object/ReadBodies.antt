@@ -19,10 +19,10 @@ use Rattle.city_doc.specs.shape.Geometries.{geometry_of}
 use Rattle.city_doc.specs.document.Faults.{is_unsupported}
 use Rattle.city_doc.specs.object.Faults.{is_unknown_type, has_bad_vertex}
 use Rattle.city_doc.proofs.document.Cities.{get-object}
-use Rattle.city_doc.proofs.document.KeptMembers.{kept_all, integral_member, object_admitted}
+use Rattle.city_doc.proofs.document.KeptMembers.{kept_all, object_admitted}
 use Rattle.city_doc.proofs.shape.Readable.{geometries_some}
 use Rattle.city_doc.proofs.document.Right.{some_of}
-use Rattle.city_doc.proofs.tree.IntegralParts.{as_object-integral}
+use Rattle.city_doc.proofs.tree.IntegralParts.{as_object-integral, get_member-integral}
 
 -- the member `geometry`, after `type` was taken out
 pub geometry_stays : (d : Data) (ms left : Members) (found : Option Data) → as_object d ≡ Some ms → left ≡ without (codes "type") ms → found ≡ get_member (codes "geometry") left → get (codes "geometry") d ≡ found
@@ -68,5 +68,5 @@ body_of-some points d h =
     let elsewhere = ap has_location (sym (get-object (codes "address") d ms.0 ms.1)) ∙ located in
     let kept = kept_all kept_at_object (without_object_members ms.0) (object_admitted ms.0 integral elsewhere) in
     let geometry = get-object (codes "geometry") d ms.0 ms.1 in
-    let gs = geometries_some points (get (codes "geometry") d) (λ g is. integral_member (codes "geometry") ms.0 g integral (sym geometry ∙ is)) (not-false _ h.placed) in
+    let gs = geometries_some points (get (codes "geometry") d) (λ g is. get_member-integral (codes "geometry") ms.0 g integral (sym geometry ∙ is)) (not-false _ h.placed) in
     (_, body_read points d kind.0 ms.0 kind.1 ms.1 gs.0 (without_object_members ms.0) gs.1 kept)

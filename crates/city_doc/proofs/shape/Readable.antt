@@ -15,9 +15,9 @@ use Rattle.city_doc.specs.tree.Members.{text_at, kept_if}
 use Rattle.city_doc.specs.shape.Forms.{natural, is_below, is_position, all_items, is_list_of, is_nested, are_nested_for, is_boundaries, are_boundaries_of, is_geometry, are_geometries}
 use Rattle.city_doc.specs.shape.Nesting.{Nested, GeometryType, geometry_type}
 use Rattle.city_doc.proofs.document.Cities.{get-object}
-use Rattle.city_doc.proofs.document.KeptMembers.{kept_all, integral_member, geometry_admitted}
+use Rattle.city_doc.proofs.document.KeptMembers.{kept_all, geometry_admitted}
 use Rattle.city_doc.proofs.document.Right.{some_of, item_read}
-use Rattle.city_doc.proofs.tree.IntegralParts.{as_object-integral}
+use Rattle.city_doc.proofs.tree.IntegralParts.{as_object-integral, get_member-integral}
 use Rattle.city_doc.proofs.tree.Trees.{object_with}
 
 -- ---- lists
@@ -97,7 +97,7 @@ module _ (points : List Point) where
       let ms = object_with (λ o. is_some (option_and_then as_str o)) refl (codes "lod") d hs.0 in
       let integral_members = as_object-integral d ms.0 integral ms.1 in
       let boundaries = get-object (codes "boundaries") d ms.0 ms.1 in
-      let shape = bounded (text_at (codes "type") d) (get (codes "boundaries") d) (λ b is. integral_member (codes "boundaries") ms.0 b integral_members (sym boundaries ∙ is)) hs.1 in
+      let shape = bounded (text_at (codes "type") d) (get (codes "boundaries") d) (λ b is. get_member-integral (codes "boundaries") ms.0 b integral_members (sym boundaries ∙ is)) hs.1 in
       let lod = some_of (text_at (codes "lod") d) hs.0 in
       let is_lod = ap (option_and_then as_str) (sym (get-object (codes "lod") d ms.0 ms.1)) ∙ lod.1 in
       let kept = kept_all kept_at_geometry (without_geometry_members ms.0) (geometry_admitted ms.0 integral_members) in

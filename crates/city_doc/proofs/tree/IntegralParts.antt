@@ -1,17 +1,16 @@
--- The parts of a tree of whole numbers are such trees.
-use Rattle.std.proofs.Common.{◌≡◌, ℕ, List, [], ◌∷◌, true, Ordering, Less, Equal, Greater, Option, Some, None, option_map, refl, sym, ap, ◌∙◌, nat_cmp, length, map}
+-- The parts of a tree of whole numbers are such trees, also after such a part is put in.
+use Rattle.std.proofs.Common.{◌≡◌, ℕ, List, [], ◌∷◌, true, Option, Some, None, option_map, refl, sym, ap, ◌∙◌, length, map}
 use Rattle.std.proofs.lemmas.List.{length-map}
-use Rattle.std.specs.Ordering.{match_ordering}
-use Rattle.std.specs.Cmp.Lexicographic.{slice_cmp}
 use Rattle.std.specs.List.{list_all}
-use Rattle.std.proofs.lemmas.Bool.{and_parts}
-use Rattle.serde_json.specs.Data.{Data, null, boolean, number, string, array, object, Items, no_items, item, Members, no_members, member}
+use Rattle.std.proofs.lemmas.Bool.{and_from, and_parts}
+use Rattle.serde_json.specs.Data.{Data, null, boolean, number, string, array, object, Items, no_items, item, Members, put}
 use Rattle.serde_json.specs.Find.{get, get_member, as_object, as_array}
 use Rattle.serde_json.specs.View.{view, items_of, items_view}
 use Rattle.serde_json.specs.declared.value.Value.{Value}
 use Rattle.city_model.specs.Integral.{is_integral, items_integral, members_integral}
 use Rattle.city_doc.specs.tree.Lists.{items_list, array_of}
 use Rattle.city_doc.specs.script.Scripts.{count_of}
+use Rattle.city_doc.proofs.tree.AllMembers.{all_put, all_found}
 use Rattle.city_doc.proofs.tree.Trees.{array_is, object_is}
 
 pub items_list-of : (ds : List Data) → items_list (items_of ds) ≡ ds
@@ -41,20 +40,11 @@ array_of-integral d ds h e = array_integral (as_array d) ds (as_array-integral d
 pub as_object-integral : (d : Data) (ms : Members) → is_integral d ≡ true → as_object d ≡ Some ms → members_integral ms ≡ true
 as_object-integral d ms h e = ap is_integral (sym (object_is d ms e)) ∙ h
 
-some_data : (a b : Data) → Some a ≡ Some b → is_integral a ≡ true → is_integral b ≡ true
-some_data a b e h = let is : b ≡ a = cc in ap is_integral is ∙ h
-
--- what a look-up passes or finds
-found_integral : (o : Ordering) (r : Option Data) (e d : Data) → match_ordering o r (Some e) r ≡ Some d → is_integral e ≡ true → (r ≡ Some d → is_integral d ≡ true) → is_integral d ≡ true
-found_integral Less r e d h one rest = rest h
-found_integral Equal r e d h one rest = some_data e d h one
-found_integral Greater r e d h one rest = rest h
-
 pub get_member-integral : (k : List ℕ) (ms : Members) (d : Data) → members_integral ms ≡ true → get_member k ms ≡ Some d → is_integral d ≡ true
-get_member-integral k no_members d h e = absurd (let no : ⊥ = cc in no)
-get_member-integral k (member l x ms) d h e =
-    let hs = and_parts (is_integral x) (members_integral ms) h in
-    found_integral (slice_cmp nat_cmp k l) (get_member k ms) x d e hs.0 (get_member-integral k ms d hs.1)
+get_member-integral = all_found (λ d. is_integral d ≡ true) (λ ms. members_integral ms ≡ true) refl (λ k d ms. and_from (is_integral d) (members_integral ms)) (λ k d ms. and_parts (is_integral d) (members_integral ms))
+
+pub put-integral : (k : List ℕ) (d : Data) (ms : Members) → is_integral d ≡ true → members_integral ms ≡ true → members_integral (put k d ms) ≡ true
+put-integral = all_put (λ d. is_integral d ≡ true) (λ ms. members_integral ms ≡ true) refl (λ k d ms. and_from (is_integral d) (members_integral ms)) (λ k d ms. and_parts (is_integral d) (members_integral ms))
 
 pub get-integral : (k : List ℕ) (d e : Data) → is_integral d ≡ true → get k d ≡ Some e → is_integral e ≡ true
 get-integral k null e h at = absurd (let no : ⊥ = cc in no)

@@ -6,6 +6,7 @@ use Rattle.std.proofs.lemmas.Cmp.{nat_list_cmp_total}
 use Rattle.serde_json.specs.Data.{Data, Members, no_members, member, put}
 use Rattle.city_model.specs.Members.{AllAbove, AreOrdered}
 use Rattle.city_doc.specs.tree.Tokens.{ReadsBack, MembersReadBack}
+use Rattle.city_doc.proofs.tree.AllMembers.{all_put}
 
 abbrev cmp : List ℕ → List ℕ → Ordering
 cmp = slice_cmp nat_cmp
@@ -45,15 +46,8 @@ pub ordered_put : (k : List ℕ) (d : Data) (ms : Members) → AreOrdered ms →
 ordered_put k d no_members h = (tt, tt)
 ordered_put k d (member l e ms) h = ordered_step (cmp k l) k l d e ms refl h.0 h.1 (ordered_put k d ms h.1)
 
-reads_step : (o : Ordering) (k l : List ℕ) (d e : Data) (ms : Members) → ReadsBack d → ReadsBack e → MembersReadBack ms → MembersReadBack (put k d ms)
-    → MembersReadBack (match_ordering o (member k d (member l e ms)) (member l d ms) (member l e (put k d ms)))
-reads_step Less k l d e ms one first h rest = (one, (first, h))
-reads_step Equal k l d e ms one first h rest = (one, h)
-reads_step Greater k l d e ms one first h rest = (first, rest)
-
 pub reads_put : (k : List ℕ) (d : Data) (ms : Members) → ReadsBack d → MembersReadBack ms → MembersReadBack (put k d ms)
-reads_put k d no_members one h = (one, tt)
-reads_put k d (member l e ms) one h = reads_step (cmp k l) k l d e ms one h.0 h.1 (reads_put k d ms one h.1)
+reads_put = all_put ReadsBack MembersReadBack tt (λ k d ms one rest. (one, rest)) (λ k d ms h. h)
 
 -- a name below all others goes first
 pub put_first : (k : List ℕ) (d : Data) (ms : Members) → AllAbove k ms → put k d ms ≡ member k d ms

@@ -1,5 +1,6 @@
 //! Reads a document: its tree is taken apart, and the city is built at once.
 ghost use Rattle.std.specs.Prelude.{◌≡◌, ◌⊎◌, true, Some, None, IfOk, IfErr, IfSome, IfNone, OnOk};
+ghost use Rattle.serde_json.specs.Data.{Data};
 ghost use Rattle.serde_json.specs.View.{view};
 ghost use Rattle.city_model.specs.CityMap.{at, CityValue};
 ghost use Rattle.city_model.specs.Relations.{IsLawful};
@@ -8,7 +9,7 @@ ghost use Rattle.city_doc.specs.document.Cities.{city_of, StandsForCity, IsAdmit
 ghost use Rattle.city_doc.specs.document.Faults.{vertices_in, StandsIn, IsFirst, DocumentFault};
 ghost use Rattle.city_doc.specs.document.Top.{wrong_member};
 ghost use Rattle.city_doc.specs.document.LenientCities.{lenient_city_of};
-ghost use Rattle.city_doc.specs.tree.Texts.{IsReadable};
+ghost use Rattle.city_doc.specs.tree.Texts.{IsReadable, HasTree};
 
 use crate::document::build::lenient_city_of;
 use crate::document::city_faults::city_fault;
@@ -16,7 +17,7 @@ use crate::document::faults::{first_bad_list, objects_fault};
 use crate::document::top::wrong_member;
 use crate::fault::ReadFault;
 use crate::shape::vertices::vertices_in;
-use crate::tree::parse::parse;
+use crate::tree::parse::{parse, tree_of};
 use crate::tree::values::named;
 use city_model::city::City;
 use serde_json::Value;
@@ -38,23 +39,36 @@ pub fn read_city(alloc: Global, bytes: &[u8]) -> Result<City, ReadFault>
     ensures refused { IfErr result (λ f. (f ≡ ReadFault.OutOfMemory)
         ⊎ ((c : CityValue) → IsAdmitted bytes.now c → ⊥)) }
 {
-    let tree = parse(alloc, bytes)?;
-    match city_of_tree(alloc, tree)? {
-        Some(city) => Ok(city),
-        None => Err(objects_fault(alloc, bytes)),
+    let tree = tree_of(alloc, bytes)?;
+    match city_of_tree(alloc, tree) {
+        Ok(Some(city)) => Ok(city),
+        Ok(None) => Err(objects_fault(alloc, bytes)),
+        Err(fault) => Err(fault_of(alloc, bytes, fault)),
     }
 }
 
-/// The city that a tree of whole numbers stands for, which is lawful; None where an object can't be
-/// built.
+/// The first fault of a text: this one of its tree, unless a number isn't whole.
+fn fault_of(alloc: Global, bytes: &[u8], fault: ReadFault) -> ReadFault
+    requires { (d : Data) → HasTree bytes.now d → is_integral d ≡ true
+        → (fault ≡ ReadFault.OutOfMemory) ⊎ IsFirst (StandsIn d) fault }
+    ensures { DocumentFault bytes.now result }
+{
+    match parse(alloc, bytes) {
+        Ok(_) => fault,
+        Err(earlier) => earlier.into(),
+    }
+}
+
+/// The city that a tree stands for, which is lawful; None where an object can't be built. A fault is
+/// the first of a tree of whole numbers: whether they are whole isn't judged here, since a city is
+/// built of nothing else.
 fn city_of_tree(alloc: Global, tree: Value) -> Result<Option<City>, ReadFault>
-    requires { is_integral (view tree) ≡ true }
     ensures stands { IfOk result (λ o. IfSome o (λ c. city_of (view tree) ≡ Some c)) }
     ensures lawful { IfOk result (λ o. IfSome o (λ c. IsLawful (at c.1))) }
     ensures right { IfOk result (λ _. wrong_member (view tree) ≡ None) }
     ensures unbuilt { IfOk result (λ o. IfNone o
         (lenient_city_of (vertices_in (view tree)) (view tree) ≡ None)) }
-    ensures fault { IfErr result (λ f. (f ≡ ReadFault.OutOfMemory)
+    ensures fault { is_integral (view tree) ≡ true → IfErr result (λ f. (f ≡ ReadFault.OutOfMemory)
         ⊎ IsFirst (StandsIn (view tree)) f) }
 {
     if let Some(name) = wrong_member(&tree) {

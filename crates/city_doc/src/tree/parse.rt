@@ -25,27 +25,36 @@ pub enum TextFault {
     NotWhole,
 }
 
-/// The tree of a text, whose numbers are all whole.
+/// The tree of a text, whatever its numbers are.
 ///
-/// `TooLong`, `NotJson` and `NotWhole` are judged in this order; `OutOfMemory` where there was no
-/// memory for the tree.
-pub fn parse(alloc: Global, bytes: &[u8]) -> Result<Value, TextFault>
+/// `TooLong` is judged before `NotJson`; `OutOfMemory` where there was no memory for the tree.
+pub fn tree_of(alloc: Global, bytes: &[u8]) -> Result<Value, TextFault>
     ensures tree { IfOk result (λ v. HasTree bytes.now (view v)) }
-    ensures integral { IfOk result (λ v. is_integral (view v) ≡ true) }
     ensures fault { IfErr result (λ f. IsRefused bytes.now f) }
 {
     if bytes.len() > MAX_TEXT {
         return Err(TextFault::TooLong);
     }
-    let tree = match Value::from_slice(alloc, bytes) {
-        Ok(tree) => tree,
+    match Value::from_slice(alloc, bytes) {
+        Ok(tree) => Ok(tree),
         Err(e) => {
             if e.is_memory() {
                 return Err(TextFault::OutOfMemory);
             }
-            return Err(TextFault::NotJson);
+            Err(TextFault::NotJson)
         }
-    };
+    }
+}
+
+/// The tree of a text, whose numbers are all whole.
+///
+/// `NotWhole` is judged after the faults of `tree_of`.
+pub fn parse(alloc: Global, bytes: &[u8]) -> Result<Value, TextFault>
+    ensures tree { IfOk result (λ v. HasTree bytes.now (view v)) }
+    ensures integral { IfOk result (λ v. is_integral (view v) ≡ true) }
+    ensures fault { IfErr result (λ f. IsRefused bytes.now f) }
+{
+    let tree = tree_of(alloc, bytes)?;
     if !is_integral(&tree) {
         return Err(TextFault::NotWhole);
     }

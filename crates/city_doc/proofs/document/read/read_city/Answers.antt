@@ -1,14 +1,22 @@
 use Rattle.std.proofs.Common.{rules, IfErr}
+use Rattle.serde_json.specs.View.{view}
 use Rattle.city_doc.specs.document.Faults.{DocumentFault}
 use Rattle.city_doc.proofs.document.LawfulTrees.{refused, refused_result}
+use Rattle.city_doc.proofs.document.WholeTrees.{text_is_whole}
 use Rattle.city_doc.proofs.document.read.read_city.Goals as goal
 
 pub returns-in_err-tree-clause-refused : goal.returns-in_err-tree-clause-refused
 returns-in_err-tree-clause-refused c = let fault : IfErr c.from_residual.result (λ f. DocumentFault c.args.bytes.now f) = search rules in refused_result c.args.bytes.now c.from_residual.result fault
 
-pub returns-in_err-city-clause-refused : goal.returns-in_err-city-clause-refused
-returns-in_err-city-clause-refused c =
-    let fault : IfErr c.from_residual-in_err-city.result (λ f. DocumentFault c.args.bytes.now f) = search rules in refused_result c.args.bytes.now c.from_residual-in_err-city.result fault
+pub returns-in-Ok-Some-clause-admitted : goal.returns-in-Ok-Some-clause-admitted
+returns-in-Ok-Some-clause-admitted c =
+    let d = view c.in_ok-tree.tree in
+    let stands = rw c.in-Ok-Some.field-0-is at c.in-Ok-Some.ensures.stands in
+    let lawful = rw c.in-Ok-Some.field-0-is at c.in-Ok-Some.ensures.lawful in
+    (d, c.in_ok-tree.ensures.tree, text_is_whole c.args.bytes.now d c.in-Ok-Some.city c.in_ok-tree.ensures.tree.1 stands, stands, lawful)
 
-pub returns-in-None-clause-refused : goal.returns-in-None-clause-refused
-returns-in-None-clause-refused c = refused c.args.bytes.now c.objects_fault.result c.objects_fault.ensures
+pub returns-in-Ok-None-clause-refused : goal.returns-in-Ok-None-clause-refused
+returns-in-Ok-None-clause-refused c = refused c.args.bytes.now c.objects_fault.result c.objects_fault.ensures
+
+pub returns-in-Err-clause-refused : goal.returns-in-Err-clause-refused
+returns-in-Err-clause-refused c = refused c.args.bytes.now c.fault_of.result c.fault_of.ensures
