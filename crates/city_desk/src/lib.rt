@@ -29,7 +29,7 @@ pub use desk::{Desk, Finished};
 pub use fault::RunFault;
 pub use opening_city::OpeningCity;
 pub use output::{Output, output_bytes};
-pub use serial_run::run_serial;
+pub use serial_run::{run_serial, run_serial_to_city};
 pub use shelf::{ListShelf, Shelf};
 pub use texts::read_texts;
 pub use turn::Turn;

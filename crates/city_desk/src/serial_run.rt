@@ -1,5 +1,7 @@
 //! Runs the scripts of a text on the city of a document, one after the other.
-ghost use Rattle.std.specs.Prelude.{◌≡◌, [], IfOk, IfErr};
+ghost use Rattle.std.specs.Prelude.{◌≡◌, ◌++◌, ◌∷◌, [], IfOk, IfErr};
+ghost use Rattle.city_doc.specs.document.Canonical.{city_text};
+ghost use Rattle.city_doc.specs.report.Reports.{report_text};
 ghost use Rattle.city_desk.specs.RunFaults.{IsSerialFault};
 ghost use Rattle.city_desk.specs.SerialRuns.{IsSerialRun, IsDecided};
 
@@ -7,6 +9,7 @@ use crate::fault::RunFault;
 use crate::in_turn::run_each;
 use crate::output::{Output, output_bytes};
 use crate::texts::read_texts;
+use city_model::city::City;
 use std::alloc::Global;
 
 /// Runs the scripts on the document's city, one after the other in their order.
@@ -20,12 +23,29 @@ pub fn run_serial(alloc: Global, document: &[u8], scripts: &[u8]) -> Result<Outp
     ensures seen { IfOk result (λ o. o.seen.items ≡ []) }
     ensures fault { IfErr result (λ f. IsSerialFault document.now scripts.now f) }
 {
+    let (output, _) = run_serial_to_city(alloc, document, scripts)?;
+    Ok(output)
+}
+
+/// Runs the scripts as `run_serial` does, and gives the city that they leave beside the output.
+pub fn run_serial_to_city(
+    alloc: Global,
+    document: &[u8],
+    scripts: &[u8],
+) -> Result<(Output, City), RunFault>
+    ensures ran { IfOk result (λ r. IsSerialRun document.now scripts.now r.0.ends r.0.bytes.items) }
+    ensures decided { IfOk result (λ r. IsDecided document.now scripts.now r.0.ends r.0.bytes.items) }
+    ensures seen { IfOk result (λ r. r.0.seen.items ≡ []) }
+    ensures city { IfOk result (λ r. r.0.bytes.items ≡ report_text r.0.ends ++ city_text r.1 ++ 10 ∷ []) }
+    ensures fault { IfErr result (λ f. IsSerialFault document.now scripts.now f) }
+{
     let (city, scripts) = read_texts(alloc, document, scripts)?;
     let finished = run_each(alloc, city, scripts)?;
     let bytes = output_bytes(alloc, &finished.city, finished.ends.as_slice())?;
-    Ok(Output {
+    let output = Output {
         ends: finished.ends,
         bytes,
         seen: Vec::new(alloc),
-    })
+    };
+    Ok((output, finished.city))
 }

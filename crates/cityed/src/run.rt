@@ -7,8 +7,9 @@ ghost use Rattle.city_desk.specs.TextRuns.{IsRun};
 ghost use Rattle.cityed.specs.ServedTexts.{IsFaultOfRun, WhereAlone};
 
 use city_crew::{OpenGate, run_crew};
-use city_desk::{Output, RunFault, run_serial};
+use city_desk::{Output, RunFault, run_serial_to_city};
 use std::alloc::Global;
+use std::mem::forget;
 use std::sync::Wait;
 use std::thread::Threads;
 
@@ -29,7 +30,11 @@ pub fn run<R: Threads + Wait + Sync>(
     ensures fault { IfErr result (IsFaultOfRun document.now scripts.now workers viewers) }
 {
     if workers == 1 && viewers == 0 {
-        run_serial(alloc, document, scripts)
+        let (output, city) = run_serial_to_city(alloc, document, scripts)?;
+        // The process ends after its output, and takes the city with it at once: to let a city go object by object
+        // is a twentieth of a run.
+        forget(city);
+        Ok(output)
     } else {
         run_crew(rt, alloc, document, scripts, workers, viewers, &OpenGate)
     }

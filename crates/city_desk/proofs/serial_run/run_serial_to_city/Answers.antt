@@ -4,7 +4,7 @@ use Rattle.city_doc.specs.report.Reports.{report_text}
 use Rattle.city_model.specs.declared.end.End.{End}
 use Rattle.city_model.specs.declared.frame.Frame.{Frame}
 use Rattle.city_desk.proofs.OneRun.{decided}
-use Rattle.city_desk.proofs.serial_run.run_serial.Goals as goal
+use Rattle.city_desk.proofs.serial_run.run_serial_to_city.Goals as goal
 
 pub returns-clause-ran : goal.returns-clause-ran
 returns-clause-ran c =
