@@ -97,6 +97,31 @@ fn write_transform(frame: &Frame, out: &mut Writer) -> Result<(), AllocError>
     write_last(kept, "translate", out)
 }
 
+/// Writes a city, whose points it adds to a pool without points.
+fn write_numbered(city: &City, pool: &mut VertexPool, out: &mut Writer) -> Result<(), AllocError>
+    requires { pool.old ≡ [] }
+    ensures before { OnOk result (out.new.before ≡ out.old.before) }
+    ensures tokens { OnOk result (out.new.tokens ≡ out.old.tokens ++ tokens_of (tree_of city.now)) }
+    ensures reads { OnOk result (ReadsBack (tree_of city.now)) }
+    ensures kept { OnOk result (IsKeptCity city.now) }
+    ensures in_range { OnOk result (IsInRange (pool_of city.now) city.now.0) }
+{
+    let frame = city.frame();
+    let kept = frame.extra.map();
+    out.begin_object()?;
+    write_name(kept, None, "CityObjects", out)?;
+    write_objects(city, pool, out)?;
+    write_name(kept, Some("CityObjects"), "transform", out)?;
+    write_transform(frame, out)?;
+    write_name(kept, Some("transform"), "type", out)?;
+    out.string("CityJSON")?;
+    write_name(kept, Some("type"), "version", out)?;
+    out.string("2.0")?;
+    write_name(kept, Some("version"), "vertices", out)?;
+    write_vertices(pool, out)?;
+    write_last(kept, "vertices", out)
+}
+
 /// Writes a city.
 pub fn write_members(alloc: Global, city: &City, out: &mut Writer) -> Result<(), AllocError>
     ensures before { OnOk result (out.new.before ≡ out.old.before) }
@@ -106,18 +131,5 @@ pub fn write_members(alloc: Global, city: &City, out: &mut Writer) -> Result<(),
     ensures in_range { OnOk result (IsInRange (pool_of city.now) city.now.0) }
 {
     let mut pool = VertexPool::new(alloc);
-    let frame = city.frame();
-    let kept = frame.extra.map();
-    out.begin_object()?;
-    write_name(kept, None, "CityObjects", out)?;
-    write_objects(city, &mut pool, out)?;
-    write_name(kept, Some("CityObjects"), "transform", out)?;
-    write_transform(frame, out)?;
-    write_name(kept, Some("transform"), "type", out)?;
-    out.string("CityJSON")?;
-    write_name(kept, Some("type"), "version", out)?;
-    out.string("2.0")?;
-    write_name(kept, Some("version"), "vertices", out)?;
-    write_vertices(&pool, out)?;
-    write_last(kept, "vertices", out)
+    write_numbered(city, &mut pool, out)
 }

@@ -1,5 +1,5 @@
 //! Writes replies.
-ghost use Rattle.std.specs.Prelude.{◌≡◌, ◌++◌, OnOk};
+ghost use Rattle.std.specs.Prelude.{◌≡◌, ◌++◌, [], OnOk};
 ghost use Rattle.city_doc.specs.tree.Lists.{list_data};
 ghost use Rattle.city_doc.specs.report.Replies.{found_data, found_reply, reply_data};
 ghost use Rattle.city_doc.specs.tree.Tokens.{tokens_of};
@@ -12,6 +12,25 @@ use city_model::object::Object;
 use json::Writer;
 use std::alloc::{AllocError, Global};
 
+/// Writes an object with its own vertices, which it adds to a pool without points.
+fn write_numbered(
+    object: &Object,
+    pool: &mut VertexPool,
+    out: &mut Writer,
+) -> Result<(), AllocError>
+    requires { pool.old ≡ [] }
+    ensures before { OnOk result (out.new.before ≡ out.old.before) }
+    ensures tokens { OnOk result (out.new.tokens
+        ≡ out.old.tokens ++ tokens_of (found_data object.now)) }
+{
+    out.begin_object()?;
+    out.key("object")?;
+    write_object(object, pool, out)?;
+    out.key("vertices")?;
+    write_vertices(pool, out)?;
+    out.end_object()
+}
+
 /// Writes an object with its own vertices.
 fn write_found(alloc: Global, object: &Object, out: &mut Writer) -> Result<(), AllocError>
     ensures before { OnOk result (out.new.before ≡ out.old.before) }
@@ -19,12 +38,7 @@ fn write_found(alloc: Global, object: &Object, out: &mut Writer) -> Result<(), A
         ≡ out.old.tokens ++ tokens_of (found_data object.now)) }
 {
     let mut pool = VertexPool::new(alloc);
-    out.begin_object()?;
-    out.key("object")?;
-    write_object(object, &mut pool, out)?;
-    out.key("vertices")?;
-    write_vertices(&pool, out)?;
-    out.end_object()
+    write_numbered(object, &mut pool, out)
 }
 
 /// Writes the reply to a read that found an object.

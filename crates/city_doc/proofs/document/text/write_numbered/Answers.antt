@@ -13,7 +13,7 @@ use Rattle.city_doc.proofs.tree.Among.{puts, begun, value_written, end_written, 
 use Rattle.city_doc.proofs.document.FramesRead.{LacksTopMembers, top_members_lacking}
 use Rattle.city_doc.proofs.pool.Repeats.{pool_is_without_repeats}
 use Rattle.city_doc.proofs.document.OwnMembers.{city_own, city_puts}
-use Rattle.city_doc.proofs.document.text.write_members.Goals as goal
+use Rattle.city_doc.proofs.document.text.write_numbered.Goals as goal
 
 -- the points of all objects, which were added to none
 all_in_pool : (first pool : List Point) (city : CityValue) → first ≡ [] → pool ≡ with_points first (city_points city) → pool ≡ pool_of city
@@ -28,7 +28,7 @@ returns-clause-tokens c =
     let ordered = subst AreOrdered (sym same) c.map-kept.ensures.ordered in
     let lacks = subst LacksTopMembers (sym same) (top_members_lacking c.frame-frame.result.now.extra c.map-kept.ensures.kept) in
     let pool = c.write_objects.new.pool in
-    let pooled = all_in_pool c.new-pool.result pool city c.new-pool.ensures c.in_ok-write_objects.ensures.pool in
+    let pooled = all_in_pool c.args.pool.now pool city c.requires c.in_ok-write_objects.ensures.pool in
     let old = c.args.out.now.tokens in
     let transformed = c.in_ok-write_transform.ensures.tokens ∙ ap (λ f. c.write_name-2.new.out.tokens ++ tokens_of (transform_data f)) frame in
     on_ok_weaker c.write_last.result (λ e.
@@ -51,7 +51,7 @@ returns-clause-reads c =
     let ordered = subst AreOrdered (sym same) c.map-kept.ensures.ordered in
     let lacks = subst LacksTopMembers (sym same) (top_members_lacking c.frame-frame.result.now.extra c.map-kept.ensures.kept) in
     let pool = c.write_objects.new.pool in
-    let pooled = all_in_pool c.new-pool.result pool city c.new-pool.ensures c.in_ok-write_objects.ensures.pool in
+    let pooled = all_in_pool c.args.pool.now pool city c.requires c.in_ok-write_objects.ensures.pool in
     let own = city_own pool city in
     let transform = subst (λ f. ReadsBack (transform_data f)) frame c.in_ok-write_transform.ensures.reads in
     on_ok_weaker c.write_last.result (λ vertices.
@@ -68,7 +68,7 @@ pub returns-clause-in_range : goal.returns-clause-in_range
 returns-clause-in_range c =
     let city = c.args.city.now in
     let pool = c.write_objects.new.pool in
-    let pooled = all_in_pool c.new-pool.result pool city c.new-pool.ensures c.in_ok-write_objects.ensures.pool in
+    let pooled = all_in_pool c.args.pool.now pool city c.requires c.in_ok-write_objects.ensures.pool in
     let framed = c.in_ok-write_transform.ensures.in_range in
     let vertices = c.in_ok-write_vertices.ensures in
     on_ok_weaker c.write_last.result (λ e.

@@ -8,14 +8,14 @@ use Rattle.city_doc.specs.report.Replies.{numbered_object}
 use Rattle.city_doc.specs.tree.Tokens.{tokens_of}
 use Rattle.city_doc.proofs.tree.Among.{begun, value_written, end_written}
 use Rattle.city_doc.proofs.pool.Repeats.{pool_is_without_repeats}
-use Rattle.city_doc.proofs.report.reply.write_found.Goals as goal
+use Rattle.city_doc.proofs.report.reply.write_numbered.Goals as goal
 
 pub returns-clause-tokens : goal.returns-clause-tokens
 returns-clause-tokens c =
     let o = c.args.object.now in
     let old = c.args.out.now.tokens in
     let pool = c.write_object.new.pool in
-    let pooled : pool ≡ without_repeats (object_points o) = c.in_ok-write_object.ensures.pool ∙ ap (λ ps. with_points ps (object_points o)) c.new-pool.ensures ∙ pool_is_without_repeats (object_points o) in
+    let pooled : pool ≡ without_repeats (object_points o) = c.in_ok-write_object.ensures.pool ∙ ap (λ ps. with_points ps (object_points o)) c.requires ∙ pool_is_without_repeats (object_points o) in
     on_ok_weaker c.end_object.result (λ e.
     let own = (codes "object", Some (object_data pool o)) ∷ (codes "vertices", Some (vertices_data pool)) ∷ [] in
     let start = begun no_members own old c.begin_object.new.self.tokens c.in_ok-begin_object.ensures.ok in
