@@ -1,11 +1,12 @@
 //! Runs the scripts of a text on the city of a document, with workers and viewers.
-ghost use Rattle.std.specs.Prelude.{◌≡◌, ◌≤◌, [], IfOk, IfErr, IfSome};
+ghost use Rattle.std.specs.Prelude.{◌≡◌, ◌≤◌, ℕ, List, [], IfOk, IfErr, IfSome};
 ghost use Rattle.city_model.specs.CityMap.{at};
 ghost use Rattle.city_model.specs.Relations.{IsLawful};
 ghost use Rattle.city_model.specs.SerialEnds.{commits_in};
 ghost use Rattle.city_desk.specs.RunFaults.{IsRunFault};
 ghost use Rattle.city_desk.specs.TextRuns.{IsRun};
 ghost use Rattle.city_desk.specs.TextRuns.{IsReadFrom};
+ghost use Rattle.city_crew.specs.CrewRuns.{IsResult};
 ghost use Rattle.city_crew.specs.CrewShelves.{taken_by, base_of};
 ghost use Rattle.city_crew.specs.Seen.{AreSeen};
 
@@ -18,7 +19,7 @@ use crate::last_looks::last_looks;
 use crate::state::State;
 use crate::threads::run_threads;
 use crate::viewer::Viewer;
-use crate::watcher::watchers_of;
+use crate::watcher::{Watcher, watchers_of};
 use crate::work::Shared;
 use city_desk::{Desk, Finished, ListShelf, Output, RunFault, Shelf, output_bytes, read_texts};
 use city_model::city::City;
@@ -133,6 +134,21 @@ fn run<R: Threads + Wait + Sync, G: Gate + Sync>(
         moved: _moved,
     } = shared;
     let finished = turns.into_inner().end(document, scripts)?;
+    gather(rt, alloc, finished, watchers, viewers)
+}
+
+/// Shows what isn't shown yet, has each viewer look once more, and writes the report and the model.
+fn gather<S: Shelf, Q: Wait>(
+    rt: &Q,
+    alloc: Global,
+    finished: Finished<S>,
+    watchers: Vec<Watcher>,
+    viewers: usize,
+) -> Result<Output, CrewFault>
+    ensures ran { (document scripts : List ℕ) → IsResult document scripts finished.city finished.ends
+        → IfOk result (λ o. IsRun document scripts o.ends o.bytes.items) }
+    ensures seen { IfOk result (λ o. AreSeen viewers (commits_in o.ends) o.seen.items) }
+{
     let Finished {
         city,
         ends,
