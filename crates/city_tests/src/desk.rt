@@ -247,7 +247,12 @@ fn scripts_in_their_order_leave_what_a_serial_run_does(rt: HostRuntime) {
 
 /// Whether what a stop leaves is a serial history, after none of the turns, after one of them, ..
 pub fn are_stopped(alloc: Global, run: &Run, turns: &str) -> bool {
-    (0..=turns.split(", ").count()).all(|count| stopped(alloc, run, turns, count).is_some())
+    for count in 0..=turns.split(", ").count() {
+        if stopped(alloc, run, turns, count).is_none() {
+            return false;
+        }
+    }
+    true
 }
 
 /// What the first of the schedules shows of which a stop leaves anything else; none where none does.
@@ -289,13 +294,22 @@ const SKEW_STOPPED: [(usize, usize, &str, &str, &str); 2] = [
     ),
 ];
 
+/// Whether a stop after so many turns leaves this.
+fn stop_leaves(alloc: Global, schedule: &Schedule, count: usize, wanted: &str) -> bool {
+    match stopped(alloc, &schedule.run, schedule.turns, count) {
+        Some(left) => left.as_str() == wanted,
+        None => false,
+    }
+}
+
 /// Whether a stop after each of these numbers of turns leaves this.
 fn stops_leave(alloc: Global, schedule: &Schedule, counts: (usize, usize), wanted: &str) -> bool {
-    let (first, last) = counts;
-    (first..=last).all(|count| {
-        stopped(alloc, &schedule.run, schedule.turns, count).is_some_and(|left| left.as_str()
-            == wanted)
-    })
+    for count in counts.0..=counts.1 {
+        if !stop_leaves(alloc, schedule, count, wanted) {
+            return false;
+        }
+    }
+    true
 }
 
 #[test]
@@ -319,12 +333,16 @@ fn handed_back(desk: Desk<ListShelf>) -> Option<Desk<ListShelf>> {
     }
 }
 
+fn is_ready(desk: &Desk<ListShelf>, n: usize) -> bool {
+    desk.ready() == Some(n)
+}
+
 /// Whether these are the first eleven answers of the skewed run, and script 1 is ready after five,
 /// where script 0 waits for it.
 fn are_eleven_taken(desk: &mut Desk<ListShelf>, alloc: Global) -> bool {
     let five = "0 Began, 1 Began, 0 Replied, 1 Replied, 0 Waits";
     let six = "1 Died, 0 Replied, 1 Began, 0 Ended, 1 Replied, 1 Replied";
-    are_taken(desk, alloc, five, 5) && desk.ready() == Some(1) && are_taken(desk, alloc, six, 6)
+    are_taken(desk, alloc, five, 5) && is_ready(desk, 1) && are_taken(desk, alloc, six, 6)
 }
 
 /// Whether script 1 ends by its next turn, as the last of the desk's.

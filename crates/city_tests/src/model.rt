@@ -195,10 +195,15 @@ fn a_script_ends_with_its_last_command(rt: HostRuntime) -> Result<(), Fail> {
     Ok(())
 }
 
+/// Whether a type is found by its name.
+fn is_named(kind: ObjectType) -> bool {
+    object_type::type_named(object_type::name(kind)) == Some(kind)
+}
+
 #[test]
 fn types_have_names_families_and_levels(rt: HostRuntime) {
     for kind in object_type::ALL {
-        assert!(rt; object_type::type_named(object_type::name(kind)) == Some(kind));
+        assert!(rt; is_named(kind));
     }
     assert!(rt; object_type::family(ObjectType::TunnelHollowSpace) == ObjectType::Tunnel);
     assert_eq!(rt; object_type::level(ObjectType::TunnelHollowSpace), 2);

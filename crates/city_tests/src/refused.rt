@@ -21,7 +21,7 @@ use city_desk::{Desk, Output, RunFault, Shelf, run_serial};
 use city_doc::{ReadFault, read_city, write_city};
 use city_locks::{LockTable, Mode};
 use city_model::city::City;
-use city_model::end::Outcome;
+use city_model::end::{End, Outcome};
 use city_model::text::Text;
 use std::alloc::Global;
 use std::sync::Wait;
@@ -99,17 +99,20 @@ pub fn end_all<S: Shelf>(desk: &mut Desk<S>) {
     }
 }
 
-/// Whether the scripts of a desk, which take turns, leave what they leave one at a time. The first
-/// time there may be no memory to tell.
-fn leaves_a_history<S: Shelf>(desk: Desk<S>, alloc: Global, run: &Run) -> bool {
-    let mut desk = desk;
+/// Whether ends and the city that they leave are those of scripts played one at a time. The first time
+/// there may be no memory to tell.
+fn are_replayed(alloc: Global, run: &Run, city: &City, ends: &[End]) -> bool {
+    let first = replayed(alloc, run, city, ends);
+    first.or(replayed(alloc, run, city, ends)).is_some()
+}
+
+/// Whether the scripts of a desk, which take turns, leave what they leave one at a time.
+fn leaves_a_history<S: Shelf>(mut desk: Desk<S>, alloc: Global, run: &Run) -> bool {
     end_all(&mut desk);
-    let Ok(left) = desk.finish() else {
-        return false;
-    };
-    let ends = left.ends.as_slice();
-    let first = replayed(alloc, run, &left.city, ends);
-    first.or(replayed(alloc, run, &left.city, ends)).is_some()
+    match desk.finish() {
+        Ok(left) => are_replayed(alloc, run, &left.city, left.ends.as_slice()),
+        Err(_) => false,
+    }
 }
 
 /// The same where the shelf is a list; none where there was no memory for the desk.

@@ -248,13 +248,18 @@ pub fn played(alloc: Global, rows: &[Row], turns: &[Turn]) -> Result<String, Fai
     }
 }
 
+/// Whether a transaction's put of a road at an id is done.
+fn is_put(core: &mut Core, alloc: Global, stamp: u64, id: &str) -> Result<bool, Fail> {
+    let put = command(alloc, "put", id, "Road")?;
+    Ok(core.act(stamp, &put).is_ok())
+}
+
 /// Whether a put that found no memory left no part of itself: the id is absent, and a commit changes
 /// nothing. True where the put was done; refused where another call found no memory.
 pub fn is_put_whole_or_not_at_all(alloc: Global) -> Result<bool, Fail> {
     let mut core = core_over(alloc, &[("f", ObjectType::LandUse, "", "")])?;
-    let put = command(alloc, "put", "g", "Road")?;
     core.begin(5)?;
-    if core.act(5, &put).is_ok() {
+    if is_put(&mut core, alloc, 5, "g")? {
         return Ok(true);
     }
     let turns = [
