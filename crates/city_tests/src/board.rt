@@ -1,5 +1,5 @@
 //! Viewers of a board whose poster is a desk's shelf: what each sees between commits, shows and notes.
-ghost use Rattle.std.specs.Prelude.{◌≡◌, ◌≤◌, All, IfSome};
+ghost use Rattle.std.specs.Prelude.{◌≡◌, ◌≤◌, [], All, IfSome};
 ghost use Rattle.city_model.specs.CityMap.{at};
 ghost use Rattle.city_model.specs.Relations.{IsLawful};
 
@@ -47,7 +47,7 @@ pub fn scripts_of(alloc: Global, text: &str) -> Option<Sequence<Script>> {
     }
 }
 
-/// A desk over a city without objects, whose shelf is a board's poster, and the board's viewers.
+/// A desk over a city, whose shelf is the poster of a board over it, and the board's viewers.
 pub fn opened<'r, R: Wait>(
     rt: &'r R,
     alloc: Global,
@@ -67,22 +67,76 @@ pub fn opened<'r, R: Wait>(
     Some((desk, viewers))
 }
 
-/// A desk over a city without objects, with the scripts of a text and so many viewers.
-fn opened_empty<'r, R: Wait>(
+/// A board over a city, and its viewers.
+fn board_over<'r, R: Wait>(
     rt: &'r R,
     alloc: Global,
-    scripts: &str,
+    city: &City,
     places: usize,
-) -> Option<(Desk<Poster<&'r R>>, Vec<Viewer>)>
-    requires { places ≤ 4 }
-    ensures { IfSome result (λ r. All (λ v. v.name ≡ r.0.1.name) r.1.items) }
+) -> Option<(Poster<&'r R>, Vec<Viewer>)>
+    requires lawful { IsLawful (at city.now.1) }
+    requires places { places ≤ 4 }
+    ensures names { IfSome result (λ r. All (λ v. v.name ≡ r.0.name) r.1.items) }
+    ensures opening { IfSome result (λ r. r.0.opening ≡ city.now) }
+    ensures taken { IfSome result (λ r. r.0.taken ≡ []) }
 {
-    let scripts = scripts_of(alloc, scripts)?;
-    let city = empty(alloc)?;
-    opened(rt, alloc, scripts, city, places)
+    let Ok(copy) = city.copy(alloc) else {
+        return None;
+    };
+    board(rt, alloc, copy, places).ok()
 }
 
-/// Such a desk with one viewer.
+/// A board over a city, for one viewer.
+pub fn board_for_one<'r, R: Wait>(
+    rt: &'r R,
+    alloc: Global,
+    city: &City,
+) -> Option<(Poster<&'r R>, Viewer)>
+    requires { IsLawful (at city.now.1) }
+    ensures name { IfSome result (λ r. r.1.name ≡ r.0.name) }
+    ensures opening { IfSome result (λ r. r.0.opening ≡ city.now) }
+    ensures taken { IfSome result (λ r. r.0.taken ≡ []) }
+{
+    let (poster, mut viewers) = board_over(rt, alloc, city, 1)?;
+    let viewer = viewers.pop()?;
+    Some((poster, viewer))
+}
+
+/// A board over a city, for two viewers.
+fn board_for_two<'r, R: Wait>(
+    rt: &'r R,
+    alloc: Global,
+    city: &City,
+) -> Option<(Poster<&'r R>, Viewer, Viewer)>
+    requires { IsLawful (at city.now.1) }
+    ensures first { IfSome result (λ r. r.1.name ≡ r.0.name) }
+    ensures second { IfSome result (λ r. r.2.name ≡ r.0.name) }
+    ensures opening { IfSome result (λ r. r.0.opening ≡ city.now) }
+    ensures taken { IfSome result (λ r. r.0.taken ≡ []) }
+{
+    let (poster, mut viewers) = board_over(rt, alloc, city, 2)?;
+    let first = viewers.pop()?;
+    let second = viewers.pop()?;
+    Some((poster, first, second))
+}
+
+/// A desk over the city of a board, whose shelf is the board's poster.
+fn desk_over<'r, R: Wait>(
+    alloc: Global,
+    scripts: Sequence<Script>,
+    city: City,
+    poster: Poster<&'r R>,
+) -> Option<Desk<Poster<&'r R>>>
+    requires lawful { IsLawful (at city.1) }
+    requires opening { poster.opening ≡ city }
+    requires taken { poster.taken ≡ [] }
+    ensures { IfSome result (λ desk. desk.1.name ≡ poster.entry.name) }
+{
+    let desk = Desk::open(alloc, city, scripts, poster).ok()?;
+    Some(desk)
+}
+
+/// A desk over a city without objects, with the scripts of a text, and its board's one viewer.
 pub fn opened_to_one<'r, R: Wait>(
     rt: &'r R,
     alloc: Global,
@@ -90,8 +144,10 @@ pub fn opened_to_one<'r, R: Wait>(
 ) -> Option<(Desk<Poster<&'r R>>, Viewer)>
     ensures { IfSome result (λ r. r.1.name ≡ r.0.1.name) }
 {
-    let (desk, mut viewers) = opened_empty(rt, alloc, scripts, 1)?;
-    let viewer = viewers.pop()?;
+    let scripts = scripts_of(alloc, scripts)?;
+    let city = empty(alloc)?;
+    let (poster, viewer) = board_for_one(rt, alloc, &city)?;
+    let desk = desk_over(alloc, scripts, city, poster)?;
     Some((desk, viewer))
 }
 
@@ -104,9 +160,10 @@ fn opened_to_two<'r, R: Wait>(
     ensures first { IfSome result (λ r. r.1.name ≡ r.0.1.name) }
     ensures second { IfSome result (λ r. r.2.name ≡ r.0.1.name) }
 {
-    let (desk, mut viewers) = opened_empty(rt, alloc, scripts, 2)?;
-    let first = viewers.pop()?;
-    let second = viewers.pop()?;
+    let scripts = scripts_of(alloc, scripts)?;
+    let city = empty(alloc)?;
+    let (poster, first, second) = board_for_two(rt, alloc, &city)?;
+    let desk = desk_over(alloc, scripts, city, poster)?;
     Some((desk, first, second))
 }
 
@@ -238,21 +295,41 @@ fn follow_all<R: Wait + Drop, Q: Wait>(
     Some(viewer)
 }
 
-/// The lines that are written down, and then the objects of the desk's city at the end.
-fn ended<S: Shelf>(alloc: Global, desk: Desk<S>, seen: &str) -> Option<String> {
-    let Ok(finished) = desk.finish() else {
-        return None;
-    };
-    let objects = ids(alloc, &finished.city)?;
-    format!(in alloc; "{seen}{objects}").ok()
+/// Lines, and then the objects of a city.
+fn with_ids(alloc: Global, lines: &str, city: &City) -> Option<String> {
+    let objects = ids(alloc, city)?;
+    format!(in alloc; "{lines}{objects}").ok()
 }
 
-/// What the viewer of a board sees where these words are followed, and the objects at the end.
+/// The lines that are written down, and then the objects of the desk's city at the end.
+fn ended<S: Shelf>(alloc: Global, desk: Desk<S>, seen: &str) -> Option<String> {
+    match desk.finish() {
+        Ok(finished) => with_ids(alloc, seen, &finished.city),
+        Err(_) => None,
+    }
+}
+
+/// What a viewer sees where these words are followed.
+fn followed<R: Wait + Drop, Q: Wait>(
+    rt: &Q,
+    alloc: Global,
+    desk: &mut Desk<Poster<R>>,
+    viewer: Viewer,
+    words: &str,
+) -> Option<String>
+    requires { viewer.name ≡ desk.old.1.name }
+{
+    let mut seen = String::new(alloc);
+    let _viewer = follow_all(rt, alloc, desk, viewer, words, &mut seen)?;
+    Some(seen)
+}
+
+/// What the viewer of a board sees where these words are followed, and the objects at the end. What a
+/// function owns it lets go on each way out, so the desk's owner has one way out.
 fn seen_by_one<R: Wait>(rt: &R, alloc: Global, words: &str) -> Option<String> {
     let (mut desk, viewer) = opened_to_one(rt, alloc, PUTS)?;
-    let mut seen = String::new(alloc);
-    let _viewer = follow_all(rt, alloc, &mut desk, viewer, words, &mut seen)?;
-    ended(alloc, desk, &seen)
+    let seen = followed(rt, alloc, &mut desk, viewer, words);
+    ended(alloc, desk, seen.as_deref().unwrap_or("none"))
 }
 
 #[test]
@@ -271,32 +348,30 @@ fn a_show_of_nothing_changes_nothing(rt: HostRuntime) -> Result<(), Fail> {
     Ok(())
 }
 
-/// What two viewers of a board see, of whom each is told of other shows, and the objects at the end.
-fn seen_by_two<R: Wait>(rt: &R, alloc: Global) -> Option<String> {
-    let (mut desk, first, second) = opened_to_two(rt, alloc, PUTS_AND_A_DELETE)?;
-    let mut seen = String::new(alloc);
-    see_by_turns(rt, alloc, &mut desk, first, second, &mut seen)?;
-    ended(alloc, desk, &seen)
-}
-
-/// Writes down what the viewers see when they follow words of their own, the first again after the
-/// second.
-fn see_by_turns<R: Wait + Drop, Q: Wait>(
+/// What two viewers see when they follow words of their own, the first again after the second.
+fn seen_by_turns<R: Wait + Drop, Q: Wait>(
     rt: &Q,
     alloc: Global,
     desk: &mut Desk<Poster<R>>,
     first: Viewer,
     second: Viewer,
-    seen: &mut String,
-) -> Option<()>
+) -> Option<String>
     requires first { first.name ≡ desk.old.1.name }
     requires second { second.name ≡ desk.old.1.name }
 {
-    let first = follow_all(rt, alloc, desk, first, "commit commit look", seen)?;
+    let mut seen = String::new(alloc);
+    let first = follow_all(rt, alloc, desk, first, "commit commit look", &mut seen)?;
     let words = "look show look commit look show look";
-    let _second = follow_all(rt, alloc, desk, second, words, seen)?;
-    let _first = follow_all(rt, alloc, desk, first, "show look", seen)?;
-    Some(())
+    let _second = follow_all(rt, alloc, desk, second, words, &mut seen)?;
+    let _first = follow_all(rt, alloc, desk, first, "show look", &mut seen)?;
+    Some(seen)
+}
+
+/// What two viewers of a board see, of whom each is told of other shows, and the objects at the end.
+fn seen_by_two<R: Wait>(rt: &R, alloc: Global) -> Option<String> {
+    let (mut desk, first, second) = opened_to_two(rt, alloc, PUTS_AND_A_DELETE)?;
+    let seen = seen_by_turns(rt, alloc, &mut desk, first, second);
+    ended(alloc, desk, seen.as_deref().unwrap_or("none"))
 }
 
 #[test]
@@ -306,11 +381,18 @@ fn each_viewer_sees_all_that_it_was_told_of(rt: HostRuntime) -> Result<(), Fail>
     Ok(())
 }
 
-/// Whether a board may have no viewer.
+/// Whether a script is ended and its commit shown.
+fn is_shown<R: Wait + Drop, Q: Wait>(rt: &Q, desk: &mut Desk<Poster<R>>) -> bool {
+    commit_and_show(rt, desk).is_some()
+}
+
+/// Whether a board without viewers shows a commit.
 fn is_shown_to_nobody<R: Wait>(rt: &R, alloc: Global) -> Option<bool> {
-    let (mut desk, viewers) = opened_empty(rt, alloc, PUTS, 0)?;
-    let committed = commit_next(&mut desk);
-    Some(committed && shown(rt, &mut desk).is_some() && viewers.is_empty())
+    let scripts = scripts_of(alloc, PUTS)?;
+    let city = empty(alloc)?;
+    let (mut desk, viewers) = opened(rt, alloc, scripts, city, 0)?;
+    let shown = is_shown(rt, &mut desk);
+    Some(shown && viewers.is_empty())
 }
 
 #[test]
@@ -337,14 +419,21 @@ fn look_on(viewer: Viewer, enough: u64) -> Option<(Viewer, u64)>
 }
 
 /// Ends the three scripts of a desk, shows each commit, and gives a note of the last.
-fn drive<R: Wait + Drop, Q: Wait>(rt: &Q, desk: Desk<Poster<R>>) -> Option<(Desk<Poster<R>>, Note)>
-    ensures { IfSome result (λ r. r.1.name ≡ desk.1.name) }
+fn drive_all<R: Wait + Drop, Q: Wait>(rt: &Q, desk: &mut Desk<Poster<R>>) -> Option<Note>
+    ensures { IfSome result (λ note. note.name ≡ desk.old.1.name) }
+{
+    let _first = commit_and_show(rt, desk)?;
+    let _second = commit_and_show(rt, desk)?;
+    commit_and_show(rt, desk)
+}
+
+/// The same of a desk that it is given and gives back.
+fn drive<R: Wait + Drop, Q: Wait>(rt: &Q, desk: Desk<Poster<R>>) -> (Desk<Poster<R>>, Option<Note>)
+    ensures { IfSome result.1 (λ note. note.name ≡ desk.1.name) }
 {
     let mut desk = desk;
-    let _first = commit_and_show(rt, &mut desk)?;
-    let _second = commit_and_show(rt, &mut desk)?;
-    let third = commit_and_show(rt, &mut desk)?;
-    Some((desk, third))
+    let note = drive_all(rt, &mut desk);
+    (desk, note)
 }
 
 /// Ends the next script, and gives a note of all that is shown then.
@@ -359,6 +448,16 @@ fn commit_and_show<R: Wait + Drop, Q: Wait>(rt: &Q, desk: &mut Desk<Poster<R>>) 
     }
 }
 
+/// How many changes a viewer sees at last, which saw so many and is told of all.
+fn seen_at_last(looked: Option<(Viewer, u64)>, note: Option<Note>) -> Option<u64>
+    requires { IfSome looked (λ r. IfSome note (λ n. n.name ≡ r.0.name)) }
+{
+    let (viewer, last) = looked?;
+    let note = note?;
+    let (_viewer, edits) = counted(viewer.learn(&note), last)?;
+    Some(edits)
+}
+
 /// How many changes a viewer sees at last that has looked on from a thread of its own.
 fn seen_beside<R: Threads + Wait + Sync>(rt: &R, alloc: Global) -> Option<u64> {
     let (desk, viewer) = opened_to_one(rt, alloc, PUTS)?;
@@ -367,14 +466,12 @@ fn seen_beside<R: Threads + Wait + Sync>(rt: &R, alloc: Global) -> Option<u64> {
         move || -> Option<(Viewer, u64)>
             ensures { IfSome result (λ r. r.0.name ≡ viewer.name) }
         { look_on(viewer, 3) },
-        move || -> Option<(Desk<Poster<&R>>, Note)>
-            ensures { IfSome result (λ r. r.1.name ≡ desk.entry.1.name) }
+        move || -> (Desk<Poster<&R>>, Option<Note>)
+            ensures { IfSome result.1 (λ note. note.name ≡ desk.entry.1.name) }
         { drive(rt, desk) },
     );
-    let (viewer, last) = looked?;
-    let (_desk, note) = driven?;
-    let (_viewer, edits) = counted(viewer.learn(&note), last)?;
-    Some(edits)
+    let (_desk, note) = driven;
+    seen_at_last(looked, note)
 }
 
 #[test]

@@ -4,10 +4,9 @@ ghost use Rattle.city_model.specs.CityMap.{at};
 ghost use Rattle.city_model.specs.Relations.{IsLawful};
 ghost use Rattle.city_model.specs.Runs.{shown};
 
-use crate::board::{empty, noted};
+use crate::board::{board_for_one, empty, noted};
 use crate::replay::write;
 use crate::samples::{bare, text};
-use city_crew::board::board;
 use city_crew::{Poster, Viewer};
 use city_desk::Shelf;
 use city_model::change::Change;
@@ -81,26 +80,25 @@ fn show_two<R: Wait + Drop, Q: Wait>(
     Ok(viewer)
 }
 
-/// A board over a city, for one viewer.
-fn board_for_one<'r, R: Wait>(
-    rt: &'r R,
+/// What the viewer of a board sees before and after two shows of two changes each.
+fn seen_of_four<R: Wait + Drop, Q: Wait>(
+    rt: &Q,
     alloc: Global,
-    city: &City,
-) -> Option<(Poster<&'r R>, Viewer)>
-    requires { IsLawful (at city.now.1) }
-    ensures name { IfSome result (λ r. r.1.name ≡ r.0.name) }
-    ensures opening { IfSome result (λ r. r.0.opening ≡ city.now) }
-    ensures taken { IfSome result (λ r. r.0.taken ≡ []) }
+    poster: &mut Poster<R>,
+    city: &mut City,
+    viewer: Viewer,
+) -> Result<String, Fail>
+    requires taken { poster.old.taken ≡ [] }
+    requires city { at city.old.1 ≡ shown (at poster.old.opening.1) poster.old.taken }
+    requires viewer { viewer.name ≡ poster.old.name }
 {
-    let Ok(copy) = city.copy(alloc) else {
-        return None;
-    };
-    let (poster, mut viewers) = board(rt, alloc, copy, 1).ok()?;
-    let viewer = viewers.pop()?;
-    Some((poster, viewer))
+    let mut seen = String::new(alloc);
+    let viewer = show_two(rt, alloc, poster, city, viewer, ("+g", "+h"), &mut seen)?;
+    let _viewer = show_two(rt, alloc, poster, city, viewer, ("g +i", "+j"), &mut seen)?;
+    Ok(seen)
 }
 
-/// What the viewer of a board sees before and after two shows of two changes each.
+/// The same of a new board over a city without objects.
 fn seen_by_hand<R: Wait>(rt: &R, alloc: Global) -> Result<String, Fail> {
     let Some(mut city) = empty(alloc) else {
         return Err(Fail::new("no city"));
@@ -108,26 +106,7 @@ fn seen_by_hand<R: Wait>(rt: &R, alloc: Global) -> Result<String, Fail> {
     let Some((mut poster, viewer)) = board_for_one(rt, alloc, &city) else {
         return Err(Fail::new("no board"));
     };
-    let mut seen = String::new(alloc);
-    let viewer = show_two(
-        rt,
-        alloc,
-        &mut poster,
-        &mut city,
-        viewer,
-        ("+g", "+h"),
-        &mut seen,
-    )?;
-    let _viewer = show_two(
-        rt,
-        alloc,
-        &mut poster,
-        &mut city,
-        viewer,
-        ("g +i", "+j"),
-        &mut seen,
-    )?;
-    Ok(seen)
+    seen_of_four(rt, alloc, &mut poster, &mut city, viewer)
 }
 
 #[test]

@@ -163,15 +163,18 @@ fn turns_before_a_board_leave_a_serial_history(rt: HostRuntime) -> Result<(), Fa
     Ok(())
 }
 
-/// Whether no script of a desk ends for want of memory at its command 3.
+/// Whether a script ended for want of memory at its command 3.
+fn has_end_at_three<S: Shelf>(desk: &Desk<S>) -> bool {
+    desk.ends()
+        .iter()
+        .any(|end| matches!(end.outcome, Outcome::NoMemory(3)))
+}
+
+/// Whether no script of a run ends for want of memory at its command 3.
 fn never_ends_at_three(alloc: Global, run: &Run) -> Option<bool> {
     let mut desk = crate::desk::opened(alloc, run)?;
     end_all(&mut desk);
-    Some(
-        desk.ends()
-            .iter()
-            .all(|end| !matches!(end.outcome, Outcome::NoMemory(3))),
-    )
+    Some(!has_end_at_three(&desk))
 }
 
 #[test]

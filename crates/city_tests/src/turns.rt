@@ -254,19 +254,25 @@ fn is_put(core: &mut Core, alloc: Global, stamp: u64, id: &str) -> Result<bool, 
     Ok(core.act(stamp, &put).is_ok())
 }
 
-/// Whether a put that found no memory left no part of itself: the id is absent, and a commit changes
-/// nothing. True where the put was done; refused where another call found no memory.
-pub fn is_put_whole_or_not_at_all(alloc: Global) -> Result<bool, Fail> {
-    let mut core = core_over(alloc, &[("f", ObjectType::LandUse, "", "")])?;
+/// Whether a transaction puts an object, or is told that there is none and changes nothing: so a put
+/// that found no memory left no part of itself. Refused where another call found no memory.
+fn is_put_or_absent(core: &mut Core, alloc: Global) -> Result<bool, Fail> {
     core.begin(5)?;
-    if is_put(&mut core, alloc, 5, "g")? {
+    if is_put(core, alloc, 5, "g")? {
+        core.abort(5)?;
         return Ok(true);
     }
     let turns = [
         (5, "read", "g", "", "absent"),
         (5, "commit", "", "", "committed"),
     ];
-    let wrong = misplayed(&mut core, alloc, &turns)?;
+    Ok(misplayed(core, alloc, &turns)?.is_none())
+}
+
+/// The same, and whether the city is as it was then.
+pub fn is_put_whole_or_not_at_all(alloc: Global) -> Result<bool, Fail> {
+    let mut core = core_over(alloc, &[("f", ObjectType::LandUse, "", "")])?;
+    let whole = is_put_or_absent(&mut core, alloc)?;
     let left = left(core, alloc)?;
-    Ok(wrong.is_none() && left.as_str() == "f LandUse; ")
+    Ok(whole && left.as_str() == "f LandUse; ")
 }
