@@ -47,26 +47,6 @@ pub fn scripts_of(alloc: Global, text: &str) -> Option<Sequence<Script>> {
     }
 }
 
-/// A desk over a city, whose shelf is the poster of a board over it, and the board's viewers.
-pub fn opened<'r, R: Wait>(
-    rt: &'r R,
-    alloc: Global,
-    scripts: Sequence<Script>,
-    city: City,
-    places: usize,
-) -> Option<(Desk<Poster<&'r R>>, Vec<Viewer>)>
-    requires lawful { IsLawful (at city.1) }
-    requires places { places ≤ 4 }
-    ensures { IfSome result (λ r. All (λ v. v.name ≡ r.0.1.name) r.1.items) }
-{
-    let Ok(copy) = city.copy(alloc) else {
-        return None;
-    };
-    let (poster, viewers) = board(rt, alloc, copy, places).ok()?;
-    let desk = Desk::open(alloc, city, scripts, poster).ok()?;
-    Some((desk, viewers))
-}
-
 /// A board over a city, and its viewers.
 fn board_over<'r, R: Wait>(
     rt: &'r R,
@@ -132,8 +112,25 @@ fn desk_over<'r, R: Wait>(
     requires taken { poster.taken ≡ [] }
     ensures { IfSome result (λ desk. desk.1.name ≡ poster.entry.name) }
 {
+    // taken out and put back, since the prover goes by what a `?` takes out
     let desk = Desk::open(alloc, city, scripts, poster).ok()?;
     Some(desk)
+}
+
+/// A desk over a city, whose shelf is the poster of a board over it, and the board's viewers.
+pub fn opened<'r, R: Wait>(
+    rt: &'r R,
+    alloc: Global,
+    scripts: Sequence<Script>,
+    city: City,
+    places: usize,
+) -> Option<(Desk<Poster<&'r R>>, Vec<Viewer>)>
+    requires lawful { IsLawful (at city.1) }
+    requires places { places ≤ 4 }
+{
+    let (poster, viewers) = board_over(rt, alloc, &city, places)?;
+    let desk = desk_over(alloc, scripts, city, poster)?;
+    Some((desk, viewers))
 }
 
 /// A desk over a city without objects, with the scripts of a text, and its board's one viewer.

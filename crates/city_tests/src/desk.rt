@@ -333,6 +333,7 @@ fn handed_back(desk: Desk<ListShelf>) -> Option<Desk<ListShelf>> {
     }
 }
 
+/// Whether this is the script that the desk says is ready.
 fn is_ready(desk: &Desk<ListShelf>, n: usize) -> bool {
     desk.ready() == Some(n)
 }
