@@ -17,7 +17,7 @@ use std::test::Fail;
 use std::thread::{Threads, join};
 
 /// A lawful city without objects.
-pub fn empty(alloc: Global) -> Option<City>
+fn empty(alloc: Global) -> Option<City>
     ensures { IfSome result (λ city. IsLawful (at city.1)) }
 {
     match read_city(alloc, model!("{}", "[]").as_bytes()) {
@@ -67,7 +67,7 @@ fn board_over<'r, R: Wait>(
 }
 
 /// A board over a city, for one viewer.
-pub fn board_for_one<'r, R: Wait>(
+fn board_for_one<'r, R: Wait>(
     rt: &'r R,
     alloc: Global,
     city: &City,
@@ -230,7 +230,7 @@ fn ids(alloc: Global, city: &City) -> Option<String> {
 }
 
 /// Writes down how many changes a viewer sees, and which objects.
-pub fn noted(alloc: Global, viewer: Viewer, seen: &mut String) -> Option<Viewer>
+fn noted(alloc: Global, viewer: Viewer, seen: &mut String) -> Option<Viewer>
     ensures { IfSome result (λ v. v.name ≡ viewer.name) }
 {
     let Ok(look) = viewer.look() else {
@@ -337,14 +337,6 @@ fn a_viewer_sees_what_was_shown(rt: HostRuntime) -> Result<(), Fail> {
     Ok(())
 }
 
-#[test]
-fn a_show_of_nothing_changes_nothing(rt: HostRuntime) -> Result<(), Fail> {
-    let words = "show look commit show show look show commit commit look";
-    let seen = seen_by_one(&rt, rt.alloc(), words).ok_or("not looked at")?;
-    assert_eq!(rt; seen.as_str(), "0\n1 g\n1 g\n g h i");
-    Ok(())
-}
-
 /// What two viewers see when they follow words of their own, the first again after the second.
 fn seen_by_turns<R: Wait + Drop, Q: Wait>(
     rt: &Q,
@@ -376,25 +368,6 @@ fn each_viewer_sees_all_that_it_was_told_of(rt: HostRuntime) -> Result<(), Fail>
     let seen = seen_by_two(&rt, rt.alloc()).ok_or("not looked at")?;
     assert_eq!(rt; seen.as_str(), "0\n0\n2 g h\n2 g h\n3 h\n3 h\n h");
     Ok(())
-}
-
-/// Whether a script is ended and its commit shown.
-fn is_shown<R: Wait + Drop, Q: Wait>(rt: &Q, desk: &mut Desk<Poster<R>>) -> bool {
-    commit_and_show(rt, desk).is_some()
-}
-
-/// Whether a board without viewers shows a commit.
-fn is_shown_to_nobody<R: Wait>(rt: &R, alloc: Global) -> Option<bool> {
-    let scripts = scripts_of(alloc, PUTS)?;
-    let city = empty(alloc)?;
-    let (mut desk, viewers) = opened(rt, alloc, scripts, city, 0)?;
-    let shown = is_shown(rt, &mut desk);
-    Some(shown && viewers.is_empty())
-}
-
-#[test]
-fn a_board_may_have_no_viewer(rt: HostRuntime) {
-    assert_eq!(rt; is_shown_to_nobody(&rt, rt.alloc()), Some(true));
 }
 
 /// How often a viewer looks at most.

@@ -27,11 +27,7 @@ mod gates;
 #[cfg(test)]
 mod locks;
 #[cfg(test)]
-mod long_lists;
-#[cfg(test)]
 mod model;
-#[cfg(test)]
-mod posting;
 #[cfg(test)]
 mod reading;
 #[cfg(test)]
@@ -42,8 +38,6 @@ mod refusing;
 mod relations;
 #[cfg(test)]
 mod replay;
-#[cfg(test)]
-mod reports;
 #[cfg(test)]
 mod runs;
 #[cfg(test)]

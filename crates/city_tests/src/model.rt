@@ -1,24 +1,13 @@
 //! Cities, objects, kept members, scripts and types, where there is memory.
-use crate::samples::{bare, empty_city, members, text};
-use city_doc::{read_city, write_city};
+use crate::samples::{bare, empty_city, text};
+use city_doc::read_city;
 use city_model::city::City;
-use city_model::command::Command;
 use city_model::copied::Copied;
-use city_model::kept::extra::Extra;
-use city_model::kept::place::{AtObject, AtTop, Place};
 use city_model::object::{Body, Object};
 use city_model::object_type::{self, ObjectType};
-use city_model::script::Script;
-use city_model::sequence::Sequence;
-use serde_json::{Map, Value};
+use serde_json::Value;
 use std::alloc::Global;
 use std::test::Fail;
-
-/// Whether the members may be kept at a place.
-fn is_kept<P: Place>(alloc: Global, json: &str) -> Result<bool, Fail> {
-    let extra: Result<Extra<P>, Map<String, Value>> = Extra::new(members(alloc, json)?);
-    Ok(extra.is_ok())
-}
 
 fn number(object: &Object) -> Option<i64> {
     object.body.extra.map().get("n").and_then(Value::as_i64)
@@ -65,37 +54,6 @@ fn set_gives_the_object_that_stood_there(rt: HostRuntime) -> Result<(), Fail> {
 const COPIED: &str =
     "{\"CityObjects\":{\"b\":{\"children\":[\"p\"],\"type\":\"Building\"},\"p\":{\"attributes\":{\"n\":7},\"geometry\":[{\"boundaries\":[[[0,1,2]]],\"lod\":\"1.2\",\"semantics\":null,\"type\":\"MultiSurface\"}],\"parents\":[\"b\"],\"type\":\"BuildingPart\"}},\"metadata\":{},\"transform\":{\"note\":\"n\",\"scale\":[1,1,1],\"translate\":[0,0,-5]},\"type\":\"CityJSON\",\"version\":\"2.0\",\"vertices\":[[0,0,-9223372036854775808],[1,0,0],[0,9223372036854775807,0]]}";
 
-/// The text of a copy of the city, after `p` was taken out of the city itself.
-fn copied_city(alloc: Global, city: &mut City) -> Option<Vec<u8>> {
-    let copy = city.copy(alloc);
-    drop(take_out_part(alloc, city));
-    match copy {
-        Ok(copy) => write_city(alloc, &copy).ok(),
-        Err(_) => None,
-    }
-}
-
-/// Takes `p` out: whether it was there.
-fn take_out_part(alloc: Global, city: &mut City) -> Option<bool> {
-    let p = text(alloc, "p").ok()?;
-    Some(city.remove(&p).is_some())
-}
-
-/// The text of a copy of the document's city.
-fn copied(alloc: Global, document: &str) -> Option<Vec<u8>> {
-    match read_city(alloc, document.as_bytes()) {
-        Ok(mut city) => copied_city(alloc, &mut city),
-        Err(_) => None,
-    }
-}
-
-#[test]
-fn a_copy_of_a_city_stands_by_itself(rt: HostRuntime) -> Result<(), Fail> {
-    let copy = copied(rt.alloc(), COPIED).ok_or("not copied")?;
-    assert_eq!(rt; copy.as_slice(), COPIED.as_bytes());
-    Ok(())
-}
-
 /// How many kept members, geometries, parents and children an object has.
 fn counts(object: &Object) -> (usize, usize, usize, usize) {
     let body = &object.body;
@@ -139,60 +97,6 @@ fn are_copied(alloc: Global, document: &str) -> bool {
 #[test]
 fn objects_and_bodies_are_copied(rt: HostRuntime) {
     assert!(rt; are_copied(rt.alloc(), COPIED));
-}
-
-/// Members of an object, and whether they are kept.
-const OF_OBJECT: [(&str, bool); 10] = [
-    ("{\"attributes\":{\"h\":-3}}", true),
-    ("{\"address\":[{}]}", true),
-    ("{\"type\":0}", false),
-    ("{\"geometry\":[]}", false),
-    ("{\"parents\":[]}", false),
-    ("{\"children\":[]}", false),
-    ("{\"attributes\":{\"h\":[1.0]}}", false),
-    ("{\"attributes\":9223372036854775808}", false),
-    ("{\"address\":{\"location\":{}}}", false),
-    ("{\"address\":[{},{\"location\":{}}]}", false),
-];
-
-#[test]
-fn members_are_kept_where_nothing_reads_them(rt: HostRuntime) -> Result<(), Fail> {
-    for (json, expected) in &OF_OBJECT {
-        assert_eq!(rt; is_kept::<AtObject>(rt.alloc(), json)?, *expected, "{json}");
-    }
-    Ok(())
-}
-
-/// Members of a document, and whether they are kept.
-const AT_TOP: [(&str, bool); 4] = [
-    ("{\"extensions\":{}}", true),
-    ("{\"extensions\":{\"a\":1}}", false),
-    ("{\"extensions\":[]}", false),
-    ("{\"vertices\":[]}", false),
-];
-
-#[test]
-fn extensions_are_kept_where_they_are_empty(rt: HostRuntime) -> Result<(), Fail> {
-    for (json, expected) in &AT_TOP {
-        assert_eq!(rt; is_kept::<AtTop>(rt.alloc(), json)?, *expected, "{json}");
-    }
-    Ok(())
-}
-
-/// Whether a command before a commit makes a script.
-fn is_script(alloc: Global, first: Command) -> Result<bool, Fail> {
-    let mut commands = Sequence::new(alloc);
-    commands.push(first)?;
-    commands.push(Command::Commit)?;
-    Ok(Script::new(text(alloc, "s")?, commands).is_ok())
-}
-
-#[test]
-fn a_script_ends_with_its_last_command(rt: HostRuntime) -> Result<(), Fail> {
-    let alloc = rt.alloc();
-    assert!(rt; is_script(alloc, Command::Read(text(alloc, "f")?))?);
-    assert!(rt; !is_script(alloc, Command::Abort)?);
-    Ok(())
 }
 
 /// Whether a type is found by its name.

@@ -25,7 +25,7 @@ use city_model::text::Text;
 use std::alloc::Global;
 
 /// Writes a change into the city.
-pub fn write(city: &mut City, change: Change) -> Result<(), OutOfMemory>
+fn write(city: &mut City, change: Change) -> Result<(), OutOfMemory>
     ensures { OnOk result (at city.new.1 ≡ with_change (at city.old.1) change) }
 {
     for (id, object) in change.into_vec() {

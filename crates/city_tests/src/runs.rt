@@ -75,6 +75,47 @@ pub const CUBE: Run = Run {
     ),
 };
 
+pub const KEPT_MEMBERS: Run = Run {
+    shows: "kept members are written as they are",
+    document: ROOFED,
+    scripts: "[]",
+    report: "",
+    model: ROOFED,
+};
+
+const ROOFED: &str = concat!(
+    r#"{"CityObjects":{"s":{"geometry":[{"boundaries":[[[0,1,2]]],"lod":"2.2","#,
+    r#""semantics":{"surfaces":[{"type":"RoofSurface"}],"values":[0]},"type":"MultiSurface"}],"#,
+    r#""type":"Building"}},"metadata":{"title":"t"},"#,
+    r#""transform":{"scale":[1,1,1],"translate":[0,0,0]},"type":"CityJSON","version":"2.0","#,
+    r#""vertices":[[0,0,0],[1,0,0],[0,1,0]]}"#
+);
+
+pub const PUT_SHAPES: Run = Run {
+    shows: "positions count in the vertices of their own script, and of what is found",
+    document: model!("{}", "[]"),
+    scripts: concat!(
+        r#"[{"name":"a","vertices":[[4,5,6],[1,2,3],[7,8,9]],"commands":["#,
+        r#"{"put":"s","object":{"type":"Building","geometry":[{"type":"MultiSurface","lod":"1","#,
+        r#""boundaries":[[[0,1,2]],[[2,0,1]]]}]}},{"read":"s"},"commit"]},"#,
+        r#"{"name":"b","vertices":[[0,0,0],[4,5,6],[1,2,3]],"commands":["#,
+        r#"{"put":"t","object":{"type":"Road","geometry":[{"type":"CompositeSurface","#,
+        r#""lod":"2.2","boundaries":[[[2,0,1]]]}]}},"commit"]}]"#
+    ),
+    report: concat!(
+        r#"{"name":"a","outcome":"committed","replies":["added",{"found":{"object":{"geometry":["#,
+        r#"{"boundaries":[[[0,1,2]],[[2,0,1]]],"lod":"1","type":"MultiSurface"}],"type":"Building"},"#,
+        r#""vertices":[[4,5,6],[1,2,3],[7,8,9]]}}],"script":0,"since":0}"#,
+        "\n",
+        r#"{"name":"b","outcome":"committed","replies":["added"],"script":1,"since":1}"#,
+        "\n"
+    ),
+    model: model!(
+        r#"{"s":{"geometry":[{"boundaries":[[[0,1,2]],[[2,0,1]]],"lod":"1","type":"MultiSurface"}],"type":"Building"},"t":{"geometry":[{"boundaries":[[[1,3,0]]],"lod":"2.2","type":"CompositeSurface"}],"type":"Road"}}"#,
+        "[[4,5,6],[1,2,3],[7,8,9],[0,0,0]]"
+    ),
+};
+
 pub const CHILD_OF_TWO: Run = Run {
     shows: "a deleted child leaves both its parents, and another is attached",
     document: model!(

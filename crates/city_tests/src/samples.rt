@@ -3,7 +3,7 @@ use city_model::city::City;
 use city_model::frame::Frame;
 use city_model::kept::extra::Extra;
 use city_model::kept::place::{AtObject, AtTop, AtTransform, Place};
-use city_model::object::{Body, Geometry, Object, Point, Shape, Surface};
+use city_model::object::{Body, Object, Point};
 use city_model::object_type::ObjectType;
 use city_model::sequence::Sequence;
 use city_model::text::Text;
@@ -16,7 +16,7 @@ pub fn text(alloc: Global, bytes: &str) -> Result<Text, AllocError> {
 }
 
 /// The texts that stand in one text, a space between two.
-pub fn texts(alloc: Global, words: &str) -> Result<Sequence<Text>, AllocError> {
+fn texts(alloc: Global, words: &str) -> Result<Sequence<Text>, AllocError> {
     let mut texts = Sequence::new(alloc);
     for word in words.split_whitespace() {
         texts.push(text(alloc, word)?)?;
@@ -33,7 +33,7 @@ pub fn document(alloc: Global, objects: &str, vertices: &str) -> Result<String, 
 }
 
 /// The members of a text of JSON, where it is an object.
-pub fn members(alloc: Global, json: &str) -> Result<Map<String, Value>, Fail> {
+fn members(alloc: Global, json: &str) -> Result<Map<String, Value>, Fail> {
     match Value::from_str(alloc, json)? {
         Value::Object(members) => Ok(members),
         _ => Err(Fail::new("the text isn't an object")),
@@ -41,7 +41,7 @@ pub fn members(alloc: Global, json: &str) -> Result<Map<String, Value>, Fail> {
 }
 
 /// The members of a text of JSON, as those that a place keeps.
-pub fn kept<P: Place>(alloc: Global, json: &str) -> Result<Extra<P>, Fail> {
+fn kept<P: Place>(alloc: Global, json: &str) -> Result<Extra<P>, Fail> {
     match Extra::new(members(alloc, json)?) {
         Ok(extra) => Ok(extra),
         Err(_) => Err(Fail::new("the members can't be kept there")),
@@ -71,22 +71,18 @@ pub fn one<T: Drop>(alloc: Global, item: T) -> Result<Sequence<T>, AllocError> {
     Ok(list)
 }
 
-pub fn body_of(kind: ObjectType, geometry: Sequence<Geometry>, extra: Extra<AtObject>) -> Body {
-    Body {
-        kind,
-        geometry,
-        extra,
-    }
-}
-
 /// A body without geometry, with these kept members.
 pub fn body(alloc: Global, kind: ObjectType, json: &str) -> Result<Body, Fail> {
     let extra = kept(alloc, json)?;
-    Ok(body_of(kind, Sequence::new(alloc), extra))
+    Ok(Body {
+        kind,
+        geometry: Sequence::new(alloc),
+        extra,
+    })
 }
 
 /// An object of this body, without relations.
-pub fn unrelated(alloc: Global, body: Body) -> Object {
+fn unrelated(alloc: Global, body: Body) -> Object {
     Object {
         body,
         parents: Sequence::new(alloc),
@@ -101,7 +97,7 @@ pub fn bare(alloc: Global, kind: ObjectType, json: &str) -> Result<Object, Fail>
 }
 
 /// An object without geometry, with the ids of parents and of children, a space between two.
-pub fn related(
+fn related(
     alloc: Global,
     kind: ObjectType,
     parents: &str,
@@ -118,7 +114,7 @@ pub fn related(
 }
 
 /// The city with an object more.
-pub fn with_object(alloc: Global, mut city: City, id: &str, object: Object) -> Result<City, Fail> {
+fn with_object(alloc: Global, mut city: City, id: &str, object: Object) -> Result<City, Fail> {
     drop(city.set(text(alloc, id)?, object)?);
     Ok(city)
 }
@@ -137,17 +133,4 @@ pub fn city(alloc: Global, rows: &[Row]) -> Result<City, Fail> {
 
 pub fn point(x: i64, y: i64, z: i64) -> Point {
     Point { x, y, z }
-}
-
-/// A surface of one ring of three points.
-pub fn triangle(alloc: Global, a: Point, b: Point, c: Point) -> Result<Surface, AllocError> {
-    let ring = Sequence::from_vec(vec![in alloc; a, b, c]?);
-    one(alloc, ring)
-}
-
-/// A geometry with these kept members.
-pub fn geometry(alloc: Global, lod: &str, shape: Shape, json: &str) -> Result<Geometry, Fail> {
-    let lod = text(alloc, lod)?;
-    let extra = kept(alloc, json)?;
-    Ok(Geometry { lod, shape, extra })
 }

@@ -1,9 +1,9 @@
 //! Serial runs, from the texts to the bytes that are written.
 use crate::replay::replay;
 use crate::runs::{
-    ABORTED, CHILD_OF_TWO, COMMIT_AND_ABORT, CUBE, FAULTY_BODIES, NOTHING_TO_DO, OPPOSITE_ORDERS,
-    ORPHAN, PARENT_AND_CHILD, READ_TWICE, REFUSED, Run, TWO_PARENTS, TWO_READERS, TWO_WRITERS,
-    TYPE_IS_FIXED, UNDONE_WRITES, UNLIKE_ENDS, text_of,
+    ABORTED, CHILD_OF_TWO, COMMIT_AND_ABORT, CUBE, FAULTY_BODIES, KEPT_MEMBERS, NOTHING_TO_DO,
+    OPPOSITE_ORDERS, ORPHAN, PARENT_AND_CHILD, PUT_SHAPES, READ_TWICE, REFUSED, Run, TWO_PARENTS,
+    TWO_READERS, TWO_WRITERS, TYPE_IS_FIXED, UNDONE_WRITES, UNLIKE_ENDS, text_of,
 };
 use city_desk::{Output, RunFault, run_serial};
 use std::alloc::Global;
@@ -30,11 +30,13 @@ pub fn answer(alloc: Global, run: &Run) -> Option<String> {
     }
 }
 
-const RUNS: [Run; 17] = [
+const RUNS: [Run; 19] = [
     NOTHING_TO_DO,
     COMMIT_AND_ABORT,
     TYPE_IS_FIXED,
     CUBE,
+    KEPT_MEMBERS,
+    PUT_SHAPES,
     CHILD_OF_TWO,
     TWO_READERS,
     READ_TWICE,

@@ -1,68 +1,9 @@
 //! Documents that are written, and the numbers of their points.
-use crate::samples::{
-    body_of, document, empty_city, geometry, kept, one, point, related, triangle, unrelated,
-    with_object,
-};
+use crate::samples::{document, point};
 use city_doc::{VertexPool, read_city, write_city};
-use city_model::object::{Object, Point, Shape};
-use city_model::object_type::ObjectType;
+use city_model::object::Point;
 use std::alloc::{AllocError, Global};
 use std::test::Fail;
-
-/// The text of a city of one object, with these kept members at the top.
-fn text_of(alloc: Global, top: &str, id: &str, object: Object) -> Result<Vec<u8>, Fail> {
-    let city = empty_city(alloc, [0, 0, 0], top)?;
-    let city = with_object(alloc, city, id, object)?;
-    Ok(write_city(alloc, &city)?)
-}
-
-#[test]
-fn empty_model_is_written_in_byte_order(rt: HostRuntime) -> Result<(), Fail> {
-    let city = empty_city(rt.alloc(), [0, 0, 0], "{}")?;
-    let written = write_city(rt.alloc(), &city)?;
-    assert_eq!(rt;
-        written.as_slice(),
-        "{\"CityObjects\":{},\"transform\":{\"scale\":[1,1,1],\"translate\":[0,0,0]},\"type\":\"CityJSON\",\"version\":\"2.0\",\"vertices\":[]}".as_bytes()
-    );
-    Ok(())
-}
-
-fn roofed(alloc: Global) -> Result<Object, Fail> {
-    let surface = triangle(alloc, point(0, 0, 0), point(1, 0, 0), point(0, 1, 0))?;
-    let shape = Shape::MultiSurface(one(alloc, surface)?);
-    let semantics = "{\"semantics\":{\"values\":[0],\"surfaces\":[{\"type\":\"RoofSurface\"}]}}";
-    let roof = one(alloc, geometry(alloc, "2.2", shape, semantics)?)?;
-    let body = body_of(ObjectType::Building, roof, kept(alloc, "{}")?);
-    Ok(unrelated(alloc, body))
-}
-
-#[test]
-fn kept_members_are_written_in_byte_order(rt: HostRuntime) -> Result<(), Fail> {
-    let alloc = rt.alloc();
-    let written = text_of(
-        alloc,
-        "{\"metadata\":{\"title\":\"t\"}}",
-        "s",
-        roofed(alloc)?,
-    )?;
-    assert_eq!(rt;
-        written.as_slice(),
-        "{\"CityObjects\":{\"s\":{\"geometry\":[{\"boundaries\":[[[0,1,2]]],\"lod\":\"2.2\",\"semantics\":{\"surfaces\":[{\"type\":\"RoofSurface\"}],\"values\":[0]},\"type\":\"MultiSurface\"}],\"type\":\"Building\"}},\"metadata\":{\"title\":\"t\"},\"transform\":{\"scale\":[1,1,1],\"translate\":[0,0,0]},\"type\":\"CityJSON\",\"version\":\"2.0\",\"vertices\":[[0,0,0],[1,0,0],[0,1,0]]}".as_bytes()
-    );
-    Ok(())
-}
-
-#[test]
-fn relations_are_written_where_there_are_some(rt: HostRuntime) -> Result<(), Fail> {
-    let alloc = rt.alloc();
-    let part = related(alloc, ObjectType::BuildingPart, "b", "q")?;
-    let written = text_of(alloc, "{}", "p", part)?;
-    assert_eq!(rt;
-        written.as_slice(),
-        "{\"CityObjects\":{\"p\":{\"children\":[\"q\"],\"parents\":[\"b\"],\"type\":\"BuildingPart\"}},\"transform\":{\"scale\":[1,1,1],\"translate\":[0,0,0]},\"type\":\"CityJSON\",\"version\":\"2.0\",\"vertices\":[]}".as_bytes()
-    );
-    Ok(())
-}
 
 /// A document's text written again.
 fn written(alloc: Global, text: &[u8]) -> Result<Vec<u8>, Fail> {

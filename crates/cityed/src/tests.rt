@@ -78,52 +78,6 @@ const TYPE_IS_FIXED: Run = Run {
     model: model!(r#"{"x":{"type":"LandUse"}}"#, "[]"),
 };
 
-/// The document in a first line, and then the scripts.
-fn input(alloc: Global, document: &str, scripts: &str) -> Result<String, AllocError> {
-    let mut text = document.to_string(alloc)?;
-    text.push_str("\n")?;
-    text.push_str(scripts)?;
-    Ok(text)
-}
-
-#[test]
-fn runs_write_the_report_and_the_model(rt: HostRuntime) -> Result<(), Fail> {
-    for run in [NOTHING_TO_DO, COMMIT_AND_ABORT, TYPE_IS_FIXED] {
-        let text = input(rt.alloc(), run.document, run.scripts)?;
-        let mut reader = Device::new(text.as_bytes());
-        let mut written = Vec::new(rt.alloc());
-        let mut writer = Device::new(&mut written);
-        let seen = serve(&rt, rt.alloc(), &mut reader, &mut writer, 1, 0)?;
-        let mut wanted = run.report.to_string(rt.alloc())?;
-        wanted.push_str(run.model)?;
-        wanted.push_str("\n")?;
-        assert!(rt; seen.is_empty(), "{}", run.shows);
-        assert_eq!(rt; written.as_slice(), wanted.as_bytes(), "{}", run.shows);
-    }
-    Ok(())
-}
-
-#[test]
-fn two_workers_and_a_viewer_leave_the_same_model(rt: HostRuntime) -> Result<(), Fail> {
-    let text = input(
-        rt.alloc(),
-        COMMIT_AND_ABORT.document,
-        COMMIT_AND_ABORT.scripts,
-    )?;
-    let mut reader = Device::new(text.as_bytes());
-    let mut written = Vec::new(rt.alloc());
-    let mut writer = Device::new(&mut written);
-    let seen = serve(&rt, rt.alloc(), &mut reader, &mut writer, 2, 1)?;
-    let mut model = COMMIT_AND_ABORT.model.to_string(rt.alloc())?;
-    model.push_str("\n")?;
-    assert!(rt; written.as_slice().ends_with(model.as_bytes()));
-    assert_eq!(rt; seen.len(), 1);
-    for numbers in seen.as_slice() {
-        assert_eq!(rt; numbers.last(), Some(&1));
-    }
-    Ok(())
-}
-
 /// What so many workers write of a run before so many viewers, and the changes that each viewer saw.
 fn served<R: Threads + Wait + Sync>(
     rt: &R,
