@@ -10,70 +10,72 @@ use crate::sequence::Sequence;
 use crate::text::Id;
 use std::alloc::Global;
 
+/// An object of this body and these relations.
+fn object_of(
+    alloc: Global,
+    body: &Body,
+    parents: Sequence<Id>,
+    children: Sequence<Id>,
+) -> Result<Object, OutOfMemory>
+    ensures { IfOk result (λ o. o ≡ record { body = body.now; parents = parents; children = children }) }
+{
+    Ok(Object {
+        body: body.copy(alloc)?,
+        parents,
+        children,
+    })
+}
+
 /// An object of this body, without relations.
 pub fn new_object(alloc: Global, body: &Body) -> Result<Object, OutOfMemory>
     ensures { IfOk result (λ o. o ≡ with_body body.now None) }
 {
-    Ok(Object {
-        body: body.copy(alloc)?,
-        parents: Sequence::new(alloc),
-        children: Sequence::new(alloc),
-    })
+    object_of(alloc, body, Sequence::new(alloc), Sequence::new(alloc))
 }
 
 /// An object of this body, with the relations of another.
 pub fn with_body(alloc: Global, object: &Object, body: &Body) -> Result<Object, OutOfMemory>
     ensures { IfOk result (λ o. o ≡ with_body body.now (Some object.now)) }
 {
-    Ok(Object {
-        body: body.copy(alloc)?,
-        parents: object.parents.copy(alloc)?,
-        children: object.children.copy(alloc)?,
-    })
+    let parents = object.parents.copy(alloc)?;
+    let children = object.children.copy(alloc)?;
+    object_of(alloc, body, parents, children)
 }
 
 /// The object with one parent more.
 pub fn with_parent(alloc: Global, parent: &Id, object: &Object) -> Result<Object, OutOfMemory>
     ensures { IfOk result (λ o. o ≡ with_parent parent.now object.now) }
 {
-    Ok(Object {
-        body: object.body.copy(alloc)?,
-        parents: with_id(alloc, &object.parents, parent)?,
-        children: object.children.copy(alloc)?,
-    })
+    let parents = with_id(alloc, &object.parents, parent)?;
+    let children = object.children.copy(alloc)?;
+    object_of(alloc, &object.body, parents, children)
 }
 
 /// The object with one child more.
 pub fn with_child(alloc: Global, child: &Id, object: &Object) -> Result<Object, OutOfMemory>
     ensures { IfOk result (λ o. o ≡ with_child child.now object.now) }
 {
-    Ok(Object {
-        body: object.body.copy(alloc)?,
-        parents: object.parents.copy(alloc)?,
-        children: with_id(alloc, &object.children, child)?,
-    })
+    let parents = object.parents.copy(alloc)?;
+    let children = with_id(alloc, &object.children, child)?;
+    object_of(alloc, &object.body, parents, children)
 }
 
 /// The object without the parent.
 pub fn without_parent(alloc: Global, parent: &Id, object: &Object) -> Result<Object, OutOfMemory>
     ensures { IfOk result (λ o. o ≡ without_parent parent.now object.now) }
 {
-    Ok(Object {
-        body: object.body.copy(alloc)?,
-        parents: without_id(alloc, parent, object.parents.as_slice())?,
-        children: object.children.copy(alloc)?,
-    })
+    let parents = without_id(alloc, parent, object.parents.as_slice())?;
+    let children = object.children.copy(alloc)?;
+    object_of(alloc, &object.body, parents, children)
 }
 
 /// The object without the child.
 pub fn without_child(alloc: Global, child: &Id, object: &Object) -> Result<Object, OutOfMemory>
     ensures { IfOk result (λ o. o ≡ without_child child.now object.now) }
 {
-    Ok(Object {
-        body: object.body.copy(alloc)?,
-        parents: object.parents.copy(alloc)?,
-        children: without_id(alloc, child, object.children.as_slice())?,
-    })
+    let parents = object.parents.copy(alloc)?;
+    let children = without_id(alloc, child, object.children.as_slice())?;
+    object_of(alloc, &object.body, parents, children)
 }
 
 /// The ids, and one more at their end.
