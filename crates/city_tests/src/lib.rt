@@ -19,9 +19,13 @@ macro_rules! model {
 #[cfg(test)]
 mod board;
 #[cfg(test)]
+mod command_lines;
+#[cfg(test)]
 mod crew;
 #[cfg(test)]
 mod desk;
+#[cfg(test)]
+mod devices;
 #[cfg(test)]
 mod gates;
 #[cfg(test)]
@@ -50,6 +54,8 @@ mod schedules;
 mod scripts;
 #[cfg(test)]
 mod serial;
+#[cfg(test)]
+mod serving;
 #[cfg(test)]
 mod shells;
 #[cfg(test)]

@@ -7,32 +7,13 @@
 //! refused.
 #![tactic(auto)]
 
-ghost use Rattle.cityed.specs.CommandLines.{HasCrew};
-
-mod command_line;
-#[cfg(test)]
-mod command_line_tests;
-mod device;
-#[cfg(test)]
-mod device_tests;
-mod fault;
-mod fault_line;
-mod files;
-mod run;
-mod seen_line;
-mod serve;
-mod serve_texts;
-#[cfg(test)]
-mod tests;
+ghost use Rattle.city_serve.specs.CommandLines.{HasCrew};
 
 use city_desk::RunFault;
-use command_line::{Asked, LineFault, asked_by};
-use device::Device;
-use fault::ServeFault;
-use files::read_file;
-use seen_line::seen_line;
-use serve::{serve, write_output};
-use serve_texts::serve_texts;
+use city_serve::command_line::{Asked, LineFault, asked_by};
+use city_serve::{
+    Device, ServeFault, fault_line, read_file, seen_line, serve, serve_texts, write_output,
+};
 use std::io::ErrorKind;
 use std::process::ExitCode;
 use std::sync::Wait;
@@ -130,7 +111,7 @@ fn refuse_line(rt: &HostRuntime, fault: &LineFault) -> ExitCode {
 
 /// Tells the fault on standard error.
 fn refuse(rt: &HostRuntime, fault: &ServeFault) -> ExitCode {
-    let told = match fault_line::fault_line(rt.alloc(), fault) {
+    let told = match fault_line(rt.alloc(), fault) {
         Ok(line) => rt.eprintln(line.as_str()),
         Err(_) => rt.eprintln("cityed: out of memory"),
     };

@@ -1,0 +1,51 @@
+-- What is written for an input: a document in its first line, and scripts in the rest.
+use Rattle.std.specs.Prelude.{◌==◌, ◌≡◌, ◌⊎◌, ◌+◌, ◌*◌, ℕ, List, Bool, true, Option, IfSome, take}
+use Rattle.std.specs.Global.{Vec}
+use Rattle.std.specs.List.{before_first, after_first}
+use Rattle.std.specs.Io.KnownBytes.{Keeps}
+use Rattle.city_doc.specs.tree.Texts.{max_text}
+use Rattle.city_serve.specs.ServedTexts.{AreServed, AreCutShort, IsFaultOfRun}
+use Rattle.city_desk.specs.declared.fault.RunFault.{RunFault}
+use Rattle.city_serve.specs.declared.fault.ServeFault.{ServeFault}
+
+-- how many bytes are read: enough for two texts of the greatest length, the newline, and one more
+abbrev pub max_input : ℕ
+max_input = 2 * max_text + 2
+
+abbrev pub read_of : List ℕ → List ℕ
+read_of input = take max_input input
+
+abbrev pub is_newline : ℕ → Bool
+is_newline byte = byte == 10
+
+abbrev pub document_of : List ℕ → List ℕ
+document_of bytes = before_first is_newline bytes
+
+abbrev pub scripts_of : List ℕ → List ℕ
+scripts_of bytes = after_first is_newline bytes
+
+-- the writer has got the bytes of a run on the two texts of the input, and no others
+abbrev pub IsServed : List ℕ → ℕ → ℕ → List (Vec ℕ) → Option (List ℕ) → Option (List ℕ) → Type 0
+IsServed input workers viewers seen old new =
+    AreServed (document_of (read_of input)) (scripts_of (read_of input)) workers viewers seen old new
+
+-- the writer has got the first of the bytes of a run on the two texts of the input, and no others
+abbrev pub IsCutShort : List ℕ → ℕ → ℕ → Option (List ℕ) → Option (List ℕ) → Type 0
+IsCutShort input workers viewers old new =
+    AreCutShort (document_of (read_of input)) (scripts_of (read_of input)) workers viewers old new
+
+-- the reader has failed, or there was want of memory for what it gave
+abbrev pub IsReadFault : Bool → ServeFault → Type 0
+IsReadFault failed f = ((f ≡ ServeFault.Read) × (failed ≡ true)) ⊎ (f ≡ ServeFault.Run RunFault.OutOfMemory)
+
+-- Read comes only where the reader has failed, and Write only where the writer has. Where the reader or
+-- the run is at fault, the writer has got nothing
+abbrev pub IsServeFault : Option (List ℕ) → ℕ → ℕ → Bool → Option (List ℕ) → Option (List ℕ) → Bool
+    → ServeFault → Type 0
+IsServeFault input workers viewers reader_failed old new writer_failed ServeFault.Read =
+    Keeps old new × (reader_failed ≡ true)
+IsServeFault input workers viewers reader_failed old new writer_failed (ServeFault.Run f) =
+    Keeps old new × IfSome input (λ all.
+    IsFaultOfRun (document_of (read_of all)) (scripts_of (read_of all)) workers viewers f)
+IsServeFault input workers viewers reader_failed old new writer_failed ServeFault.Write =
+    IfSome input (λ all. IsCutShort all workers viewers old new) × (writer_failed ≡ true)

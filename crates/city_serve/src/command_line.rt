@@ -1,0 +1,243 @@
+//! What a command line asks for.
+ghost use Rattle.std.specs.Prelude.{◌≡◌, ◌≢◌, ◌⊎◌, ◌≤◌, ◌∷◌, ℕ, false, List, Option, Some, None, Ok, Err, All};
+ghost use Rattle.std.specs.Prelude.{drop, map, option_map, string_bytes, IfOk, IsErr, MatchOption, MatchResult};
+ghost use Rattle.clap.specs.Words.{app_of, kind_of, rule_of};
+ghost use Rattle.city_serve.specs.CommandLines.{cityed_command, files_command, option_rule, one_worker};
+ghost use Rattle.city_serve.specs.CommandLines.{IsName, IsLineOf, AnswersNames, AnswersOptions, AnswersPlaces};
+ghost use Rattle.city_serve.specs.CommandLines.{AsksForText, IsShown, MeetsUnknownOption, HasCrew, IsCount, IsCrewOf};
+
+use clap::error::ErrorKind;
+use clap::{Arg, Command, Error};
+use std::alloc::{AllocError, Global};
+
+const MODEL: &str = "MODEL";
+
+const SCRIPTS: &str = "SCRIPTS";
+
+const WORKERS: &str = "workers";
+
+const WATCH: &str = "watch";
+
+const ABOUT: &str = "Edits a CityJSON 2.0 city model by scripts. Each script is done whole or not \
+                     at all.";
+
+const DETAILS: &str = "\
+Without files, standard input is read: the document in its first line, the scripts after it.
+Standard output gets a line of JSON for each script, then the edited model in one line.
+
+The scripts are a JSON array. Each is run as one transaction:
+  [{\"name\": NAME, \"commands\": [COMMAND, .., \"commit\"]}, ..]
+Its last command is \"commit\" or \"abort\"; the ones before it are of these forms:
+  {\"read\": ID}                          what is there?
+  {\"put\": ID, \"object\": OBJECT}         add an object, or replace what it is
+  {\"delete\": ID}                        take out an object without children
+  {\"attach\": CHILD, \"parent\": PARENT}   make them child and parent
+  {\"detach\": CHILD, \"parent\": PARENT}   part them
+  {\"mark\": NAME}                        give what is seen here a name
+  {\"back\": NAME}                        undo what was written since the newest mark of the name
+Positions in an OBJECT count in the script's own \"vertices\": [[x, y, z], ..].
+Numbers are whole everywhere; docs/FORMAT.md shows how to convert a model that has others.
+
+With one worker the scripts run one after the other. With several the scripts take turns and
+end in any order. With --watch, after success, standard error gets a line for each viewer,
+\"viewer k: ..\", with the numbers of the changes that it saw. An example:
+  cityed --workers 4 --watch 1 MODEL SCRIPTS
+
+Status:
+  0  done, or help was asked for
+  1  the input was refused, there was no memory, or a device failed: standard error says which
+  2  the command line isn't understood: standard error says what is wrong
+A script that is refused ends as \"refused\" in its line, and the status is 0.";
+
+/// How many workers run the scripts, and how many viewers watch the model.
+#[derive(Clone, Copy)]
+pub struct Crew {
+    /// From 1 to 16.
+    pub workers: usize,
+    /// From 0 to 4.
+    pub viewers: usize,
+}
+
+/// What a command line asks for.
+#[derive(Drop)]
+pub enum Asked<'a> {
+    /// To serve standard input.
+    Input(Crew),
+    /// To serve two files, by their paths: the model's and the scripts'.
+    Files(Crew, &'a str, &'a str),
+    /// To show a text on standard output: help, or the version.
+    Text(String),
+}
+
+/// Why a command line asks for nothing.
+#[derive(Drop)]
+pub enum LineFault {
+    /// It isn't understood. The text says what is wrong.
+    Refused(String),
+    OutOfMemory,
+}
+
+impl From<AllocError> for LineFault {
+    ghost use Rattle.std.specs.Prelude.{◌≡◌};
+    ghost use Rattle.city_serve.specs.declared.command_line.LineFault.{LineFault};
+
+    ghost from_gives = { λ _ f. f ≡ LineFault.OutOfMemory };
+
+    fn from(_: AllocError) -> LineFault {
+        LineFault::OutOfMemory
+    }
+}
+
+/// What a command line asks for. Its first word is the program's name.
+///
+/// An answer other than a text has 1 to 16 workers, 1 where `--workers` isn't given, and 0 to 4
+/// viewers, 0 where `--watch` isn't given. Refused: a number outside these ranges, a MODEL without
+/// SCRIPTS, a third name, and an option that is unknown, comes twice or has no number.
+pub fn asked_by<'a>(alloc: Global, words: &'a [String]) -> Result<Asked<'a>, LineFault>
+    ensures names { All IsName (drop 1 (map string_bytes words.now))
+        → AnswersNames one_worker (drop 1 (map string_bytes words.now)) result }
+    ensures shown { (word : List ℕ) (rest : List (List ℕ)) → AsksForText word
+        → drop 1 (map string_bytes words.now) ≡ word ∷ rest → IsShown result }
+    ensures unknown { MeetsUnknownOption (drop 1 (map string_bytes words.now)) → IsErr result }
+    ensures options { (workers watch : Option (List ℕ)) (names : List (List ℕ))
+        → IsLineOf workers watch names (drop 1 (map string_bytes words.now))
+        → AnswersOptions workers watch names result }
+    ensures within { IfOk result HasCrew }
+{
+    let mut command = command(alloc)?;
+    match command.try_get_matches_from_mut(words) {
+        Ok(matches) => {
+            let (workers, watch) = (matches.get_str(WORKERS), matches.get_str(WATCH));
+            let crew = crew_by(alloc, &mut command, workers, watch)?;
+            let (model, scripts) = (matches.get_str(MODEL), matches.get_str(SCRIPTS));
+            by_names(alloc, &mut command, crew, model, scripts)
+        }
+        Err(error) => without_names(alloc, &error),
+    }
+}
+
+/// The program's command line.
+fn command<'a>(alloc: Global) -> Result<Command<'a>, AllocError>
+    ensures { IfOk result (λ c. app_of c ≡ cityed_command) }
+{
+    let workers = "How many workers run the scripts, 1 to 16 [default: 1]";
+    let watch = "How many viewers watch the model change, 0 to 4 [default: 0]";
+    files_command(alloc)?
+        .arg(number_option(alloc, WORKERS, "N", workers))?
+        .arg(number_option(alloc, WATCH, "K", watch))
+}
+
+/// The command line without its options.
+fn files_command<'a>(alloc: Global) -> Result<Command<'a>, AllocError>
+    ensures { IfOk result (λ c. app_of c ≡ files_command) }
+{
+    let model = Arg::new(alloc, MODEL).help("A file with a CityJSON 2.0 document");
+    let scripts = Arg::new(alloc, SCRIPTS).help("A file with the scripts");
+    Command::new(alloc, "cityed")
+        .version("0.1.0")
+        .about(ABOUT)
+        .override_usage("cityed [--workers N] [--watch K] [MODEL SCRIPTS]")
+        .after_help(DETAILS)
+        .arg(model)?
+        .arg(scripts)
+}
+
+/// An option with a value, which help shows by a name.
+fn number_option<'a>(alloc: Global, name: &'a str, value: &'a str, help: &'a str) -> Arg<'a>
+    ensures rule { rule_of result ≡ option_rule name.entry.now }
+    ensures local { result.global ≡ false }
+{
+    Arg::new(alloc, name)
+        .long(name)
+        .value_name(value)
+        .help(help)
+}
+
+/// How many workers and viewers the texts of the two options ask for. A text that is no number, or
+/// one outside the option's range, is refused.
+fn crew_by<'a>(
+    alloc: Global,
+    command: &mut Command<'a>,
+    workers: Option<&str>,
+    watch: Option<&str>,
+) -> Result<Crew, LineFault>
+    ensures { MatchResult result (IsCrewOf (option_map (λ s. s.now) workers.entry)
+        (option_map (λ s. s.now) watch.entry))
+        (λ _. (crew : _) → ¬ IsCrewOf (option_map (λ s. s.now) workers.entry)
+        (option_map (λ s. s.now) watch.entry) crew) }
+{
+    let Some(workers) = count_by(workers, 1, 16) else {
+        return Err(mistake(alloc, command, "--workers takes a number from 1 to 16")?);
+    };
+    let Some(viewers) = count_by(watch, 0, 4) else {
+        return Err(mistake(alloc, command, "--watch takes a number from 0 to 4")?);
+    };
+    Ok(Crew { workers, viewers })
+}
+
+/// The number that an option's text writes, from `least` to `most`, and `least` without a text.
+/// `None` where the text writes no such number.
+fn count_by(given: Option<&str>, least: usize, most: usize) -> Option<usize>
+    requires { least ≤ most }
+    ensures { MatchOption result
+        ((n : ℕ) → ¬ IsCount least most (option_map (λ s. s.now) given.entry) n)
+        (IsCount least most (option_map (λ s. s.now) given.entry)) }
+{
+    let Some(text) = given else {
+        return Some(least);
+    };
+    match text.parse::<usize>() {
+        Ok(count) if least <= count && count <= most => Some(count),
+        _ => None,
+    }
+}
+
+/// The refusal of an option's value.
+fn mistake<'a>(
+    alloc: Global,
+    command: &mut Command<'a>,
+    message: &str,
+) -> Result<LineFault, AllocError> {
+    let error = command.error(ErrorKind::ValueValidation, message)?;
+    Ok(LineFault::Refused(error.to_string(alloc)?))
+}
+
+/// What the names of files ask for. A model's without the scripts' is refused.
+fn by_names<'a>(
+    alloc: Global,
+    command: &mut Command<'a>,
+    crew: Crew,
+    model: Option<&'a str>,
+    scripts: Option<&'a str>,
+) -> Result<Asked<'a>, LineFault>
+    ensures { AnswersPlaces crew (option_map (λ s. s.now) model.entry)
+        (option_map (λ s. s.now) scripts.entry) result }
+{
+    match (model, scripts) {
+        (Some(model), Some(scripts)) => Ok(Asked::Files(crew, model, scripts)),
+        (None, _) => Ok(Asked::Input(crew)),
+        (Some(_), None) => {
+            let kind = ErrorKind::MissingRequiredArgument;
+            let error = command.error(kind, "a MODEL was given without SCRIPTS")?;
+            Err(LineFault::Refused(error.to_string(alloc)?))
+        }
+    }
+}
+
+/// What a command line asks for that gives no names: help or the version, or it is refused.
+fn without_names<'a>(alloc: Global, error: &Error) -> Result<Asked<'a>, LineFault>
+    ensures memory { kind_of error.now ≡ ErrorKind.OutOfMemory → result ≡ Err LineFault.OutOfMemory }
+    ensures shown { (kind_of error.now ≡ ErrorKind.DisplayHelp)
+        ⊎ (kind_of error.now ≡ ErrorKind.DisplayVersion) → IsShown result }
+    ensures mistake { kind_of error.now ≢ ErrorKind.DisplayHelp
+        → kind_of error.now ≢ ErrorKind.DisplayVersion → IsErr result }
+    ensures within { IfOk result HasCrew }
+{
+    match error.kind() {
+        ErrorKind::OutOfMemory => Err(LineFault::OutOfMemory),
+        ErrorKind::DisplayHelp | ErrorKind::DisplayVersion => {
+            Ok(Asked::Text(error.to_string(alloc)?))
+        }
+        _ => Err(LineFault::Refused(error.to_string(alloc)?)),
+    }
+}

@@ -1,0 +1,112 @@
+//! A reader or a writer that keeps whether it has failed.
+ghost use Rattle.std.specs.Prelude.{◌≡◌, ◌<◌, ◌≤◌, true, false, length, take, IfOk, IfErr, IfSome, IsSome, IsNone, OnOk, OnErr};
+ghost use Rattle.std.specs.Io.KnownBytes.{Appends, Consumes, IsAtEnd, Keeps};
+ghost use Rattle.city_serve.specs.Served.{IsReadFault};
+
+use crate::fault::ServeFault;
+use city_desk::RunFault;
+use std::io::{ErrorKind, Read, Write};
+use std::marker::Model;
+
+/// A reader or a writer, and whether it has failed since it was wrapped.
+///
+/// A reader fails where it answers an error that isn't want of memory. A writer fails where it
+/// answers an error, or takes no byte of some. Being interrupted is no failure: the call is made
+/// again.
+#[derive(Drop)]
+pub struct Device<D> {
+    inner: D,
+    failed: bool,
+}
+
+impl<D> Model for Device<D> {
+    ghost use Rattle.std.specs.Prelude.{Bool};
+
+    ghost Value = { D × Bool };
+
+    ghost view = { λ d. (d.inner, d.failed) };
+}
+
+impl<D> Device<D> {
+    /// A device that hasn't failed. Takes no memory.
+    pub fn new(inner: D) -> Self
+        ensures { result ≡ (inner, false) }
+    {
+        Device {
+            inner,
+            failed: false,
+        }
+    }
+}
+
+impl<R: Read> Device<R> {
+    /// Reads some bytes into the chunk: how many, and none only at the end.
+    ///
+    /// Refused with `Read` where the reader fails, and else for want of memory; either way the reader
+    /// has given nothing.
+    pub fn read_some(&mut self, chunk: &mut [u8]) -> Result<usize, ServeFault>
+        requires { 0 < length chunk.old }
+        ensures within { IfOk result (λ n. n ≤ length chunk.new) }
+        ensures bytes { IfOk result (λ n. Consumes (R.remaining self.old.0) (R.remaining self.new.0) (take n chunk.new)) }
+        ensures end { IfOk result (λ n. n ≡ 0 → IsAtEnd (R.remaining self.new.0)) }
+        ensures unfailed { OnOk result (self.new.1 ≡ self.old.1) }
+        ensures kept { OnErr result (Keeps (R.remaining self.old.0) (R.remaining self.new.0)) }
+        ensures fault { IfErr result (IsReadFault self.new.1) }
+    {
+        for _ in 0..u64::MAX {
+            match self.inner.read(chunk) {
+                Ok(count) => return Ok(count),
+                Err(error) => match error.kind() {
+                    ErrorKind::Interrupted => {}
+                    ErrorKind::OutOfMemory => return Err(ServeFault::Run(RunFault::OutOfMemory)),
+                    _ => break,
+                },
+            }
+        }
+        self.failed = true;
+        Err(ServeFault::Read)
+    }
+}
+
+impl<W: Write> Device<W> {
+    /// Gives the writer some bytes: how many it took, which is at least one.
+    ///
+    /// None where it fails, and then it took nothing.
+    pub fn write_some(&mut self, bytes: &[u8]) -> Option<usize>
+        requires { 0 < length bytes.now }
+        ensures taken { IfSome result (λ n. (0 < n) × (n ≤ length bytes.now)) }
+        ensures written { IfSome result (λ n. Appends (W.contents self.old.0) (W.contents self.new.0) (take n bytes.now)) }
+        ensures unfailed { IsSome result → self.new.1 ≡ self.old.1 }
+        ensures kept { IsNone result → Keeps (W.contents self.old.0) (W.contents self.new.0) }
+        ensures failed { IsNone result → self.new.1 ≡ true }
+    {
+        for _ in 0..u64::MAX {
+            match self.inner.write(bytes) {
+                Ok(0) => break,
+                Ok(count) => return Some(count),
+                Err(error) => {
+                    if error.kind() != ErrorKind::Interrupted {
+                        break;
+                    }
+                }
+            }
+        }
+        self.failed = true;
+        None
+    }
+
+    /// Lets the writer pass on what it holds: whether it did.
+    pub fn flush(&mut self) -> bool
+        ensures kept { Keeps (W.contents self.old.0) (W.contents self.new.0) }
+        ensures unfailed { result ≡ true → self.new.1 ≡ self.old.1 }
+        ensures failed { result ≡ false → self.new.1 ≡ true }
+    {
+        match self.inner.flush() {
+            Ok(()) => true,
+            Err(_) => {
+                self.failed = true;
+                false
+            }
+        }
+    }
+}

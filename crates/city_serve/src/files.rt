@@ -1,0 +1,53 @@
+//! Reads a text from a file.
+ghost use Rattle.std.specs.Prelude.{◌≡◌, ◌+◌, true, take, IfOk, IfErr, IfSome, OnOk};
+ghost use Rattle.city_doc.specs.tree.Texts.{max_text};
+ghost use Rattle.city_serve.specs.Served.{IsReadFault};
+ghost use Rattle.city_serve.specs.ServedTexts.{IsEnoughOf};
+
+use crate::device::Device;
+use crate::fault::ServeFault;
+use crate::serve::read_at_most;
+use city_desk::RunFault;
+use city_doc::MAX_TEXT;
+use std::alloc::Global;
+use std::fs;
+use std::fs::Files;
+use std::io::{ErrorKind, Read};
+
+/// The most bytes that are read of a text: by one more than it may have, a text that is too long is
+/// told from one that isn't.
+const MOST: usize = MAX_TEXT + 1;
+
+/// The text that a file has, or where it is too long its first `MAX_TEXT` + 1 bytes.
+///
+/// A file that can't be opened or read is the fault Read.
+pub fn read_file<R: Files + AllocGlobal>(rt: &R, path: &str) -> Result<Vec<u8>, ServeFault>
+    ensures { IfErr result (IsReadFault true) }
+{
+    match fs::open(rt, path) {
+        Ok(file) => read_text(rt.alloc(), &mut Device::new(file)),
+        Err(error) => Err(open_fault(error.kind())),
+    }
+}
+
+/// What the kind of an error in opening a file says.
+fn open_fault(kind: ErrorKind) -> ServeFault
+    ensures { IsReadFault true result }
+{
+    match kind {
+        ErrorKind::OutOfMemory => ServeFault::Run(RunFault::OutOfMemory),
+        _ => ServeFault::Read,
+    }
+}
+
+/// The text that a reader gives, or where it is too long its first `MAX_TEXT` + 1 bytes.
+pub fn read_text<R: Read>(alloc: Global, reader: &mut Device<R>) -> Result<Vec<u8>, ServeFault>
+    ensures read { IfOk result (λ v. IfSome (R.remaining reader.old.0)
+        (λ all. v.items ≡ take (max_text + 1) all)) }
+    ensures enough { IfOk result (λ v. IfSome (R.remaining reader.old.0)
+        (λ all. IsEnoughOf all v.items)) }
+    ensures unfailed { OnOk result (reader.new.1 ≡ reader.old.1) }
+    ensures fault { IfErr result (IsReadFault reader.new.1) }
+{
+    read_at_most(alloc, reader, MOST)
+}

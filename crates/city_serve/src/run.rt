@@ -1,0 +1,41 @@
+//! Runs a text of scripts by as many workers as are asked for.
+ghost use Rattle.std.specs.Prelude.{◌≡◌, ◌≤◌, IfOk, IfErr};
+ghost use Rattle.city_model.specs.SerialEnds.{commits_in};
+ghost use Rattle.city_crew.specs.Seen.{AreSeen};
+ghost use Rattle.city_desk.specs.InTurn.{AreInTurn};
+ghost use Rattle.city_desk.specs.TextRuns.{IsRun};
+ghost use Rattle.city_serve.specs.ServedTexts.{IsFaultOfRun, WhereAlone};
+
+use city_crew::{OpenGate, run_crew};
+use city_desk::{Output, RunFault, run_serial_to_city};
+use std::alloc::Global;
+use std::mem::forget;
+use std::sync::Wait;
+use std::thread::Threads;
+
+/// Runs the scripts on the document's city: one worker without viewers needs no thread beside its own.
+pub fn run<R: Threads + Wait + Sync>(
+    rt: &R,
+    alloc: Global,
+    document: &[u8],
+    scripts: &[u8],
+    workers: usize,
+    viewers: usize,
+) -> Result<Output, RunFault>
+    requires workers { (1 ≤ workers) × (workers ≤ 16) }
+    requires viewers { viewers ≤ 4 }
+    ensures ran { IfOk result (λ o. IsRun document.now scripts.now o.ends o.bytes.items) }
+    ensures in_turn { IfOk result (λ o. WhereAlone workers viewers (AreInTurn 0 o.ends)) }
+    ensures seen { IfOk result (λ o. AreSeen viewers (commits_in o.ends) o.seen.items) }
+    ensures fault { IfErr result (IsFaultOfRun document.now scripts.now workers viewers) }
+{
+    if workers == 1 && viewers == 0 {
+        let (output, city) = run_serial_to_city(alloc, document, scripts)?;
+        // The process ends after its output, and takes the city with it at once: to let a city go object by object
+        // is a twentieth of a run.
+        forget(city);
+        Ok(output)
+    } else {
+        run_crew(rt, alloc, document, scripts, workers, viewers, &OpenGate)
+    }
+}

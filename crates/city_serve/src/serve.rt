@@ -1,0 +1,111 @@
+//! Serves a document and its scripts from a reader to a writer.
+ghost use Rattle.std.specs.Prelude.{◌≡◌, ◌≤◌, true, false, IfOk, IfErr, IfSome, OnOk, position, take};
+ghost use Rattle.std.specs.Io.KnownBytes.{Appends};
+ghost use Rattle.city_serve.specs.Served.{is_newline, max_input, document_of, scripts_of, IsServed, IsReadFault, IsServeFault};
+ghost use Rattle.city_serve.specs.ServedTexts.{LosesAtMost, AppendsSome};
+
+use crate::device::Device;
+use crate::fault::ServeFault;
+use crate::serve_texts::serve_texts;
+use city_doc::MAX_TEXT;
+use memchr::memchr;
+use std::alloc::Global;
+use std::io::{Read, Write};
+use std::sync::Wait;
+use std::thread::Threads;
+
+/// The most bytes that are read: two texts of the greatest length, the newline, and one more.
+const MOST: usize = 2 * MAX_TEXT + 2;
+
+/// How many bytes are asked for at a time.
+const PIECE: usize = 64 * 1024;
+
+/// Reads a document and, after the first newline, scripts; runs the scripts on the document; writes
+/// the output.
+///
+/// Workers are 1 to 16, viewers 0 to 4. No more bytes are taken from the reader than 2 * `MAX_TEXT` + 2.
+/// Without a newline there are no scripts. Where the reader fails, or the run has no output, nothing is
+/// written; where the writer fails, it has got the first bytes of the output. `Read` and `Write` come only
+/// where the reader or the writer has failed, and where either fails in this call there is no `Ok`. The
+/// answer has, for each viewer, the numbers of changes that it saw.
+pub fn serve<T: Threads + Wait + Sync, R: Read, W: Write>(
+    rt: &T,
+    alloc: Global,
+    reader: &mut Device<R>,
+    writer: &mut Device<W>,
+    workers: usize,
+    viewers: usize,
+) -> Result<Vec<Vec<u64>>, ServeFault>
+    requires workers { (1 ≤ workers) × (workers ≤ 16) }
+    requires viewers { viewers ≤ 4 }
+    ensures served { IfOk result (λ seen. IfSome (R.remaining reader.old.0) (λ input.
+        IsServed input workers viewers seen.items (W.contents writer.old.0) (W.contents writer.new.0))) }
+    ensures taken { LosesAtMost max_input (R.remaining reader.old.0) (R.remaining reader.new.0) }
+    ensures unfailed { OnOk result ((reader.new.1 ≡ reader.old.1) × (writer.new.1 ≡ writer.old.1)) }
+    ensures fault { IfErr result (IsServeFault (R.remaining reader.old.0) workers viewers reader.new.1
+        (W.contents writer.old.0) (W.contents writer.new.0) writer.new.1) }
+{
+    let input = read_at_most(alloc, reader, MOST)?;
+    let (document, scripts) = cut(input.as_slice());
+    serve_texts(rt, alloc, document, scripts, writer, workers, viewers)
+}
+
+/// What a reader gives, but no more than so many bytes; nor are more taken from it.
+pub(crate) fn read_at_most<R: Read>(
+    alloc: Global,
+    reader: &mut Device<R>,
+    most: usize,
+) -> Result<Vec<u8>, ServeFault>
+    ensures input { IfOk result (λ v. IfSome (R.remaining reader.old.0)
+        (λ all. v.items ≡ take most all)) }
+    ensures taken { LosesAtMost most (R.remaining reader.old.0) (R.remaining reader.new.0) }
+    ensures unfailed { OnOk result (reader.new.1 ≡ reader.old.1) }
+    ensures fault { IfErr result (IsReadFault reader.new.1) }
+{
+    let mut input = Vec::new(alloc);
+    let mut chunk = [0; PIECE];
+    while input.len() < most {
+        let room = chunk.len().min(most - input.len());
+        let count = reader.read_some(&mut chunk[..room])?;
+        if count == 0 {
+            return Ok(input);
+        }
+        input.extend_from_slice(&chunk[..count])?;
+    }
+    Ok(input)
+}
+
+/// The document and the scripts of an input.
+fn cut(input: &[u8]) -> (&[u8], &[u8])
+    ensures document { result.0.now ≡ document_of input.now }
+    ensures scripts { result.1.now ≡ scripts_of input.now }
+{
+    match first_newline(input) {
+        Some(at) => (&input[..at], &input[at + 1..]),
+        None => (input, &[]),
+    }
+}
+
+/// Where the first newline stands.
+fn first_newline(bytes: &[u8]) -> Option<usize>
+    ensures { result ≡ position is_newline bytes.now }
+{
+    memchr(b'\n', bytes)
+}
+
+/// Writes the bytes, and lets the writer pass them on: whether it did.
+pub fn write_output<W: Write>(writer: &mut Device<W>, bytes: &[u8]) -> bool
+    ensures written { result ≡ true → Appends (W.contents writer.old.0) (W.contents writer.new.0) bytes.now }
+    ensures cut_short { result ≡ false → AppendsSome (W.contents writer.old.0) (W.contents writer.new.0) bytes.now }
+    ensures unfailed { result ≡ true → writer.new.1 ≡ writer.old.1 }
+    ensures failed { result ≡ false → writer.new.1 ≡ true }
+{
+    let mut rest = bytes;
+    while !rest.is_empty() {
+        let Some(count) = writer.write_some(rest) else {
+            return false;
+        };
+        rest = &rest[count..];
+    }
+    writer.flush()
+}

@@ -1,0 +1,45 @@
+//! Serves a document and its scripts from two texts to a writer.
+ghost use Rattle.std.specs.Prelude.{◌≡◌, ◌≤◌, IfOk, IfErr, OnOk};
+ghost use Rattle.city_serve.specs.ServedTexts.{AreServed, IsTextsFault};
+
+use crate::device::Device;
+use crate::fault::ServeFault;
+use crate::run::run;
+use crate::serve::write_output;
+use std::alloc::Global;
+use std::io::Write;
+use std::sync::Wait;
+use std::thread::Threads;
+
+/// Runs the scripts of a text on a document, and writes the output.
+///
+/// Workers are 1 to 16, viewers 0 to 4. One worker without viewers runs the scripts in their order. The
+/// document is judged before the scripts. Where the run has no output, nothing is written; where the
+/// writer fails, it has got the first bytes of the output. The answer has, for each viewer, the numbers of
+/// changes that it saw.
+pub fn serve_texts<R: Threads + Wait + Sync, W: Write>(
+    rt: &R,
+    alloc: Global,
+    document: &[u8],
+    scripts: &[u8],
+    writer: &mut Device<W>,
+    workers: usize,
+    viewers: usize,
+) -> Result<Vec<Vec<u64>>, ServeFault>
+    requires workers { (1 ≤ workers) × (workers ≤ 16) }
+    requires viewers { viewers ≤ 4 }
+    ensures served { IfOk result (λ seen. AreServed document.now scripts.now workers viewers seen.items
+        (W.contents writer.old.0) (W.contents writer.new.0)) }
+    ensures unfailed { OnOk result (writer.new.1 ≡ writer.old.1) }
+    ensures fault { IfErr result (IsTextsFault document.now scripts.now workers viewers
+        (W.contents writer.old.0) (W.contents writer.new.0) writer.new.1) }
+{
+    let output = match run(rt, alloc, document, scripts, workers, viewers) {
+        Ok(output) => output,
+        Err(fault) => return Err(ServeFault::Run(fault)),
+    };
+    if !write_output(writer, output.bytes.as_slice()) {
+        return Err(ServeFault::Write);
+    }
+    Ok(output.seen)
+}

@@ -1,0 +1,117 @@
+//! What command lines ask for, and what files give.
+use city_serve::command_line::{Asked, LineFault, asked_by};
+use city_serve::{ServeFault, read_file};
+use std::alloc::{AllocError, Global};
+use std::fs;
+use std::test::Fail;
+
+/// What a command line asks for: a word and the names, or the first line of the text that is told.
+fn told(alloc: Global, line: &str) -> Result<String, AllocError> {
+    let mut words = Vec::new(alloc);
+    for word in line.split_whitespace() {
+        words.push(word.to_string(alloc)?)?;
+    }
+    match asked_by(alloc, words.as_slice()) {
+        Ok(Asked::Input(crew)) => format!(in alloc; "input {} {}", crew.workers, crew.viewers),
+        Ok(Asked::Files(crew, model, scripts)) => {
+            format!(in alloc; "files {model} {scripts} {} {}", crew.workers, crew.viewers)
+        }
+        Ok(Asked::Text(text)) => format!(in alloc; "text {}", first_line(text.as_str())),
+        Err(LineFault::Refused(text)) => format!(in alloc; "2 {}", first_line(text.as_str())),
+        Err(LineFault::OutOfMemory) => "out of memory".to_string(alloc),
+    }
+}
+
+fn first_line(text: &str) -> &str {
+    text.lines().next().unwrap_or("")
+}
+
+#[test]
+fn command_lines_ask_for_input_files_or_texts(rt: HostRuntime) -> Result<(), Fail> {
+    let cases = [
+        ("cityed", "input 1 0"),
+        ("cityed --", "input 1 0"),
+        ("cityed m.json s.json", "files m.json s.json 1 0"),
+        ("cityed -- -m -s", "files -m -s 1 0"),
+        ("cityed -V", "text cityed 0.1.0"),
+        ("cityed m.json --version", "text cityed 0.1.0"),
+        (
+            "cityed --help",
+            "text Edits a CityJSON 2.0 city model by scripts. Each script is done whole or not at all.",
+        ),
+        (
+            "cityed m.json",
+            "2 error: a MODEL was given without SCRIPTS",
+        ),
+        (
+            "cityed m.json s.json x",
+            "2 error: unexpected argument 'x' found",
+        ),
+        ("cityed -w", "2 error: unexpected argument '-w' found"),
+    ];
+    for (line, wanted) in cases {
+        assert_eq!(rt; told(rt.alloc(), line)?.as_str(), wanted);
+    }
+    Ok(())
+}
+
+/// Command lines with options, and what each asks for.
+const OPTIONS: [(&str, &str); 16] = [
+    ("cityed --workers 16", "input 16 0"),
+    ("cityed --watch 4", "input 1 4"),
+    ("cityed --workers 4 --watch 1 m s", "files m s 4 1"),
+    ("cityed m --watch=0 s --workers=1", "files m s 1 0"),
+    ("cityed --workers 0", NO_CREW),
+    ("cityed --workers 17", NO_CREW),
+    ("cityed --workers 18446744073709551617", NO_CREW),
+    ("cityed --workers x m s", NO_CREW),
+    ("cityed --workers=", NO_CREW),
+    (
+        "cityed --watch 5 m s",
+        "2 error: --watch takes a number from 0 to 4",
+    ),
+    (
+        "cityed --watch 5 m",
+        "2 error: --watch takes a number from 0 to 4",
+    ),
+    (
+        "cityed --workers 2 m",
+        "2 error: a MODEL was given without SCRIPTS",
+    ),
+    (
+        "cityed --workers",
+        "2 error: a value is required for '--workers <N>' but none was supplied",
+    ),
+    (
+        "cityed --watch 1 --watch 1",
+        "2 error: the argument '--watch <K>' cannot be used multiple times",
+    ),
+    (
+        "cityed --worker 2",
+        "2 error: unexpected argument '--worker' found",
+    ),
+    (
+        "cityed --workers -1",
+        "2 error: unexpected argument '-1' found",
+    ),
+];
+
+const NO_CREW: &str = "2 error: --workers takes a number from 1 to 16";
+
+#[test]
+fn options_tell_the_workers_and_the_viewers(rt: HostRuntime) -> Result<(), Fail> {
+    for (line, wanted) in OPTIONS {
+        assert_eq!(rt; told(rt.alloc(), line)?.as_str(), wanted);
+    }
+    Ok(())
+}
+
+#[test]
+fn a_file_gives_its_text_and_a_missing_one_cannot_be_read(rt: HostRuntime) -> Result<(), Fail> {
+    fs::write(&rt, "a_text", "[1, 2]")?;
+    let text = read_file(&rt, "a_text");
+    fs::remove_file(&rt, "a_text")?;
+    assert!(rt; matches!(&text, Ok(text) if text.as_slice() == "[1, 2]".as_bytes()));
+    assert!(rt; matches!(&read_file(&rt, "a_text"), Err(ServeFault::Read)));
+    Ok(())
+}

@@ -1,7 +1,0 @@
-use Rattle.std.proofs.Common.{◌≡◌, ◌++◌, drop}
-use Rattle.std.specs.Prelude.{string_bytes}
-use Rattle.cityed.specs.SeenTexts.{numbers_text, seen_text}
-use Rattle.cityed.proofs.seen_line.seen_line.Given as goal
-
-abbrev pub invariant-loop-number : goal.invariant-loop-number
-invariant-loop-number l = seen_text l.fn.viewer l.seen ≡ string_bytes l.line ++ numbers_text (drop l.number-index l.seen)
