@@ -2,14 +2,14 @@
 use crate::history::History;
 use crate::version::Version;
 use atomic_table::{Join, Split};
-use city_model::city::City;
+use city_desk::OpeningCity;
 use crossbeam_utils::rule::{Outcome, Protocol};
 
 /// What a viewer or the poster knows of its board. It stands in the proofs alone.
 pub struct Known {
     /// Whether a version was seen yet.
     pub met: bool,
-    pub opening: City,
+    pub opening: OpeningCity,
     pub history: History,
 }
 

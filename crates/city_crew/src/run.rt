@@ -10,6 +10,7 @@ ghost use Rattle.city_crew.specs.CrewRuns.{IsResult};
 ghost use Rattle.city_crew.specs.CrewShelves.{taken_by, base_of};
 ghost use Rattle.city_crew.specs.Seen.{AreSeen};
 
+use crate::ages::Ages;
 use crate::board::board;
 use crate::commits::count_commits;
 use crate::crew_shelf::CrewShelf;
@@ -80,12 +81,12 @@ fn open<'r, R: Wait>(
     requires read { IsReadFrom document.now scripts.now city list }
     requires viewers { viewers ≤ 4 }
 {
+    let ages = Ages::new(alloc, workers)?;
     let document = Vec::from_slice(alloc, document)?;
     let scripts = Vec::from_slice(alloc, scripts)?;
     let (shelf, places) = new_shelf(rt, alloc, &city, viewers)?;
     let desk = Desk::open(alloc, city, list, shelf)?;
-    let state = State::new(alloc, document, scripts, desk, workers)?;
-    Ok((state, places))
+    Ok((State::new(document, scripts, desk, ages), places))
 }
 
 /// A shelf for changes of the city, and the viewers of its board: without viewers it has none.

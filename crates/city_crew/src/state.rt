@@ -1,5 +1,5 @@
 //! What lies under the lock of a run.
-ghost use Rattle.std.specs.Prelude.{◌≡◌, IfOk};
+ghost use Rattle.std.specs.Prelude.{◌≡◌, ℕ, List, IfOk};
 ghost use Rattle.city_desk.specs.TextRuns.{IsReadFrom};
 ghost use Rattle.city_crew.specs.CrewRuns.{IsResult};
 
@@ -9,9 +9,7 @@ use crate::crew_shelf::CrewShelf;
 use crate::fault::CrewFault;
 use crate::work::Turns;
 use city_desk::{Desk, Finished, Turn};
-use city_model::OutOfMemory;
 use city_model::end::End;
-use std::alloc::Global;
 use std::marker::Model;
 use std::sync::Wait;
 
@@ -39,24 +37,22 @@ impl<R: Wait + Drop> Model for State<R> {
 }
 
 impl<R: Wait + Drop> State<R> {
-    /// A desk that was opened over what the texts stand for, for so many workers.
+    /// A desk that was opened over what the texts stand for, before any of its scripts has begun.
     pub fn new(
-        alloc: Global,
         document: Vec<u8>,
         scripts: Vec<u8>,
         desk: Desk<CrewShelf<R>>,
-        workers: usize,
-    ) -> Result<State<R>, OutOfMemory>
+        ages: Ages,
+    ) -> State<R>
         requires { IsReadFrom document.items scripts.items desk.0.start desk.0.scripts }
     {
-        let ages = Ages::new(alloc, workers)?;
-        Ok(State {
+        State {
             document,
             scripts,
             desk,
             moves: 0,
             ages,
-        })
+        }
     }
 
     /// What the run came to. It is mixed up where its texts aren't these, and unfinished where a
@@ -74,10 +70,18 @@ impl<R: Wait + Drop> State<R> {
             moves: _,
             ages: _ages,
         } = self;
-        match desk.finish() {
-            Ok(finished) => Ok(finished),
-            Err(_) => Err(CrewFault::Unfinished),
-        }
+        finished(desk)
+    }
+}
+
+/// What a desk leaves when all its scripts have ended.
+fn finished<R: Wait + Drop>(desk: Desk<CrewShelf<R>>) -> Result<Finished<CrewShelf<R>>, CrewFault>
+    ensures { (document scripts : List ℕ) → IsReadFrom document scripts desk.0.start desk.0.scripts
+        → IfOk result (λ f. IsResult document scripts f.city f.ends) }
+{
+    match desk.finish() {
+        Ok(finished) => Ok(finished),
+        Err(_) => Err(CrewFault::Unfinished),
     }
 }
 

@@ -12,17 +12,13 @@
 pub mod command_line;
 mod device;
 mod fault;
-mod fault_line;
+pub mod fault_line;
 mod files;
 mod run;
-mod seen_line;
-mod serve;
-mod serve_texts;
+pub mod seen_line;
+pub mod serve;
+pub mod serve_texts;
 
 pub use device::Device;
 pub use fault::ServeFault;
-pub use fault_line::fault_line;
 pub use files::read_file;
-pub use seen_line::seen_line;
-pub use serve::{serve, write_output};
-pub use serve_texts::serve_texts;

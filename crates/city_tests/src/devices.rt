@@ -1,5 +1,6 @@
 //! How a reader and a writer are met that fail.
-use city_serve::{Device, ServeFault, serve};
+use city_serve::serve::serve;
+use city_serve::{Device, ServeFault};
 use std::io::{self, Read, Write};
 use std::test::Fail;
 

@@ -97,12 +97,7 @@ pub fn bare(alloc: Global, kind: ObjectType, json: &str) -> Result<Object, Fail>
 }
 
 /// An object without geometry, with the ids of parents and of children, a space between two.
-fn related(
-    alloc: Global,
-    kind: ObjectType,
-    parents: &str,
-    children: &str,
-) -> Result<Object, Fail> {
+fn related(alloc: Global, kind: ObjectType, parents: &str, children: &str) -> Result<Object, Fail> {
     let parents = texts(alloc, parents)?;
     let children = texts(alloc, children)?;
     let body = body(alloc, kind, "{}")?;

@@ -2,7 +2,10 @@
 ghost use Rattle.std.specs.Prelude.{◌≤◌, ◌<◌};
 
 use crate::runs::{COMMIT_AND_ABORT, NOTHING_TO_DO, Run, TYPE_IS_FIXED, text_of};
-use city_serve::{Device, ServeFault, fault_line, serve, serve_texts};
+use city_serve::fault_line::fault_line;
+use city_serve::serve::serve;
+use city_serve::serve_texts::serve_texts;
+use city_serve::{Device, ServeFault};
 use std::alloc::{AllocError, Global};
 use std::sync::Wait;
 use std::test::Fail;

@@ -11,9 +11,11 @@ ghost use Rattle.city_serve.specs.CommandLines.{HasCrew};
 
 use city_desk::RunFault;
 use city_serve::command_line::{Asked, LineFault, asked_by};
-use city_serve::{
-    Device, ServeFault, fault_line, read_file, seen_line, serve, serve_texts, write_output,
-};
+use city_serve::fault_line::fault_line;
+use city_serve::seen_line::seen_line;
+use city_serve::serve::{serve, write_output};
+use city_serve::serve_texts::serve_texts;
+use city_serve::{Device, ServeFault, read_file};
 use std::io::ErrorKind;
 use std::process::ExitCode;
 use std::sync::Wait;

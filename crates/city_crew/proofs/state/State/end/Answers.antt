@@ -1,10 +1,9 @@
 use Rattle.std.proofs.Common.{rules, ◌≡◌, ℕ, List, subst}
 use Rattle.city_desk.specs.TextRuns.{IsReadFrom}
-use Rattle.city_crew.proofs.CrewResults.{is_result}
 use Rattle.city_crew.proofs.state.State.end.Goals as goal
 
-pub returns-in-Ok : goal.returns-in-Ok
-returns-in-Ok g c =
+pub returns : goal.returns
+returns g c =
     let s = c.self.inside in
     let d = s.desk.0 in
     let document : s.document.items ≡ c.args.document.now = search rules in
@@ -12,5 +11,4 @@ returns-in-Ok g c =
     let read : IsReadFrom c.args.document.now c.args.scripts.now d.start d.scripts =
     subst (λ (t : List ℕ). IsReadFrom c.args.document.now t d.start d.scripts) scripts
     (subst (λ (t : List ℕ). IsReadFrom t s.scripts.items d.start d.scripts) document c.self.invariant) in
-    is_result c.args.document.now c.args.scripts.now d _ _ c.in-Ok.finished.city c.in-Ok.finished.ends
-    read c.in-Ok.ensures.serial c.in-Ok.ensures.each_once c.in-Ok.ensures.frame c.in-Ok.ensures.city c.in-Ok.ensures.ends
+    c.finished.ensures c.args.document.now c.args.scripts.now read
