@@ -38,7 +38,7 @@ impl Gate for TurnByTurn {
 }
 
 /// Runs that leave one model in whichever order their scripts end.
-const RUNS: [Run; 4] = [CHILD_OF_TWO, TWO_READERS, READ_TWICE, MET];
+const RUNS: &[Run] = &[CHILD_OF_TWO, TWO_READERS, READ_TWICE, MET];
 
 /// Whether so many workers leave a run's model, at the end of what they write.
 fn leave_the_model<R: Threads + Wait + Sync>(
@@ -57,7 +57,7 @@ fn leave_the_model<R: Threads + Wait + Sync>(
 
 #[test]
 fn workers_leave_what_some_order_leaves(rt: HostRuntime) {
-    for run in &RUNS {
+    for run in RUNS {
         assert!(&rt; leave_the_model(&rt, rt.alloc(), run, 2), "{}", run.shows);
         assert!(&rt; leave_the_model(&rt, rt.alloc(), run, 4), "{}", run.shows);
         assert!(&rt; leave_the_model(&rt, rt.alloc(), run, 16), "{}", run.shows);

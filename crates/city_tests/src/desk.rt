@@ -156,10 +156,10 @@ const UNLIKE: Schedule = Schedule {
     changes: "",
 };
 
-const SCHEDULES: [Schedule; 5] = [SIBLING, SKEW, UNBORN, UPDATES, UNLIKE];
+const SCHEDULES: &[Schedule] = &[SIBLING, SKEW, UNBORN, UPDATES, UNLIKE];
 
 /// Runs whose scripts take their turns one after the other, and the changes that they leave.
-const IN_ORDER: [(Run, &str, &str); 3] = [
+const IN_ORDER: &[(Run, &str, &str)] = &[
     (
         ABORTED,
         "0 Began, 0 Replied, 0 Replied, 0 Replied, 0 Replied, 0 Ended",
@@ -227,7 +227,7 @@ fn misplayed(alloc: Global, schedules: &[Schedule]) -> Option<&'static str> {
 
 #[test]
 fn turns_are_answered_and_leave_a_serial_history(rt: HostRuntime) {
-    assert_eq!(rt; misplayed(rt.alloc(), &SCHEDULES), None);
+    assert_eq!(rt; misplayed(rt.alloc(), SCHEDULES), None);
 }
 
 /// What the first of the runs shows that goes otherwise in its order; none where all go so.
@@ -242,7 +242,7 @@ fn misordered(alloc: Global, runs: &[(Run, &str, &str)]) -> Option<&'static str>
 
 #[test]
 fn scripts_in_their_order_leave_what_a_serial_run_does(rt: HostRuntime) {
-    assert_eq!(rt; misordered(rt.alloc(), &IN_ORDER), None);
+    assert_eq!(rt; misordered(rt.alloc(), IN_ORDER), None);
 }
 
 /// Whether what a stop leaves is a serial history, after none of the turns, after one of them, ..
@@ -267,11 +267,11 @@ fn misstopped(alloc: Global, schedules: &[Schedule]) -> Option<&'static str> {
 
 #[test]
 fn a_stop_after_any_turn_leaves_a_serial_history(rt: HostRuntime) {
-    assert_eq!(rt; misstopped(rt.alloc(), &SCHEDULES), None);
+    assert_eq!(rt; misstopped(rt.alloc(), SCHEDULES), None);
 }
 
 /// Numbers of turns, and the report, the model and the changes that a stop leaves after so many.
-const SKEW_STOPPED: [(usize, usize, &str, &str, &str); 2] = [
+const SKEW_STOPPED: &[(usize, usize, &str, &str, &str)] = &[
     (
         0,
         8,
@@ -314,7 +314,7 @@ fn stops_leave(alloc: Global, schedule: &Schedule, counts: (usize, usize), wante
 
 #[test]
 fn a_stop_leaves_nothing_of_open_transactions(rt: HostRuntime) -> Result<(), Fail> {
-    for (first, last, report, model, changes) in &SKEW_STOPPED {
+    for (first, last, report, model, changes) in SKEW_STOPPED {
         let wanted = wanted(rt.alloc(), report, model, changes)?;
         let counts = (*first, *last);
         assert!(rt;

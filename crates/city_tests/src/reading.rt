@@ -25,7 +25,7 @@ pub fn answer_of(alloc: Global, objects: &str, vertices: &str) -> Result<String,
 }
 
 /// Objects, and what a document of them without vertices answers.
-const OBJECTS: [(&str, &str); 15] = [
+const OBJECTS: &[(&str, &str)] = &[
     ("{}", "0 objects"),
     (
         "{\"f\":{\"type\":\"LandUse\"},\"g\":{\"type\":\"Road\",\"geometry\":[],\"parents\":[],\"children\":[]}}",
@@ -87,7 +87,7 @@ const OBJECTS: [(&str, &str); 15] = [
 
 #[test]
 fn objects_are_judged_in_order(rt: HostRuntime) -> Result<(), Fail> {
-    for (objects, want) in &OBJECTS {
+    for (objects, want) in OBJECTS {
         let found = answer_of(rt.alloc(), objects, "[]")?;
         assert_eq!(rt; found.as_str(), *want, "at {objects}");
     }
@@ -95,7 +95,7 @@ fn objects_are_judged_in_order(rt: HostRuntime) -> Result<(), Fail> {
 }
 
 /// Objects and vertices, and what a document of them answers.
-const FAULTY: [(&str, &str, &str); 21] = [
+const FAULTY: &[(&str, &str, &str)] = &[
     (
         "{\"c\":{\"type\":\"Building\",\"geometry\":[{\"type\":\"MultiSolid\",\"lod\":\"1\",\"boundaries\":[[[[[0,3,2,1]],[[4,5,6,7]],[[0,1,5,4]],[[1,2,6,5]],[[2,3,7,6]],[[3,0,4,7]]]],[[[[0,3,2,1]],[[7,6,5,4]],[[0,1,5,4]],[[1,2,6,5]],[[2,3,7,6]],[[3,0,4,7]]]]]}]}}",
         "[[0,0,0],[1,0,0],[1,1,0],[0,1,0],[0,0,1],[1,0,1],[1,1,1],[0,1,1]]",
@@ -205,7 +205,7 @@ const FAULTY: [(&str, &str, &str); 21] = [
 
 #[test]
 fn faulty_documents_are_refused(rt: HostRuntime) -> Result<(), Fail> {
-    for (objects, vertices, want) in &FAULTY {
+    for (objects, vertices, want) in FAULTY {
         let found = answer_of(rt.alloc(), objects, vertices)?;
         assert_eq!(rt; found.as_str(), *want, "at {objects}");
     }
@@ -213,7 +213,7 @@ fn faulty_documents_are_refused(rt: HostRuntime) -> Result<(), Fail> {
 }
 
 /// Texts, and what each answers.
-const TOPS: [(&str, &str); 17] = [
+const TOPS: &[(&str, &str)] = &[
     ("", "the text isn't JSON"),
     ("{\"type\":\"CityJSON\"", "the text isn't JSON"),
     ("[]", "`type` isn't that of a CityJSON 2.0 document"),
@@ -274,7 +274,7 @@ const TOPS: [(&str, &str); 17] = [
 
 #[test]
 fn the_top_is_judged_in_order(rt: HostRuntime) -> Result<(), Fail> {
-    for (text, want) in &TOPS {
+    for (text, want) in TOPS {
         let found = answer(rt.alloc(), text)?;
         assert_eq!(rt; found.as_str(), *want, "at {text}");
     }

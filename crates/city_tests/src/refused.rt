@@ -1,7 +1,7 @@
 //! What a refused growth leaves. `testing/refused_growths.py` takes each of these tests once for each
 //! growth that it makes, and refuses that one: a call that was refused can be made again, and what a
 //! run leaves is a serial history. A test that finds no memory to begin with says so and no more.
-ghost use Rattle.std.specs.Prelude.{IfSome};
+ghost use Rattle.std.specs.Prelude.{◌≡◌, IfSome};
 ghost use Rattle.city_model.specs.CityMap.{at};
 ghost use Rattle.city_model.specs.Relations.{IsLawful};
 
@@ -16,7 +16,7 @@ use crate::txn::{
     IMAGE_MODEL, IMAGE_TURNS, READER_MODEL, READER_TURNS, REFUSAL_MODEL, REFUSAL_TURNS,
     SIBLING_MODEL, SIBLING_TURNS,
 };
-use city_crew::{OpenGate, run_crew};
+use city_crew::{Note, OpenGate, Poster, Viewer, run_crew};
 use city_desk::{Desk, Output, RunFault, Shelf, run_serial};
 use city_doc::{ReadFault, read_city, write_city};
 use city_locks::{LockTable, Mode};
@@ -60,7 +60,7 @@ fn an_ask_leaves_the_table(rt: HostRuntime) -> Result<(), Fail> {
 }
 
 /// Runs of transactions, each with the city that is left.
-const PLAYED: [(&[Row], &[Turn], &str); 5] = [
+const PLAYED: &[(&[Row], &[Turn], &str)] = &[
     (READER_MODEL, READER_TURNS, "b Building; "),
     (
         SIBLING_MODEL,
@@ -78,7 +78,7 @@ const PLAYED: [(&[Row], &[Turn], &str); 5] = [
 
 #[test]
 fn calls_of_a_core_can_be_made_again(rt: HostRuntime) -> Result<(), Fail> {
-    for (rows, turns, city) in &PLAYED {
+    for (rows, turns, city) in PLAYED {
         assert_eq!(rt; played(rt.alloc(), rows, turns)?.as_str(), *city);
     }
     Ok(())
@@ -140,14 +140,14 @@ fn board_leaves_a_history<R: Wait>(rt: &R, alloc: Global, run: &Run) -> Option<b
 }
 
 /// Runs that put, delete, attach, abort and go back, and that wait and die.
-const RUNS: [Run; 5] = [ABORTED, CHILD_OF_TWO, ORPHAN, TWO_READERS, UNDELETED];
+const RUNS: &[Run] = &[ABORTED, CHILD_OF_TWO, ORPHAN, TWO_READERS, UNDELETED];
 
 /// Why a test isn't taken.
 const SHORT: &str = "no memory to begin with";
 
 #[test]
 fn turns_leave_a_serial_history(rt: HostRuntime) -> Result<(), Fail> {
-    for run in &RUNS {
+    for run in RUNS {
         let left = list_leaves_a_history(rt.alloc(), run).ok_or(SHORT)?;
         assert!(rt; left, "{}", run.shows);
     }
@@ -156,7 +156,7 @@ fn turns_leave_a_serial_history(rt: HostRuntime) -> Result<(), Fail> {
 
 #[test]
 fn turns_before_a_board_leave_a_serial_history(rt: HostRuntime) -> Result<(), Fail> {
-    for run in &RUNS {
+    for run in RUNS {
         let left = board_leaves_a_history(&rt, rt.alloc(), run).ok_or(SHORT)?;
         assert!(&rt; left, "{}", run.shows);
     }
@@ -195,21 +195,48 @@ fn commits<S: Shelf>(desk: &Desk<S>) -> u64 {
     commits
 }
 
+/// The viewer, where it sees no change.
+fn unseeing(viewer: Viewer) -> Option<Viewer>
+    ensures { IfSome result (λ v. v.name ≡ viewer.name) }
+{
+    match counted(viewer, 0) {
+        Some((viewer, 0)) => Some(viewer),
+        _ => None,
+    }
+}
+
+/// How many changes a viewer sees once it has learnt of a show.
+fn seen_once_told(viewer: Viewer, note: &Note) -> Option<u64>
+    requires { note.now.name ≡ viewer.name }
+{
+    let (_viewer, seen) = counted(viewer.learn(note), 0)?;
+    Some(seen)
+}
+
+/// How many changes a viewer sees after a show, or, where that was refused and the viewer saw nothing,
+/// after the next.
+fn seen_at_last<R: Wait + Drop, Q: Wait>(
+    rt: &Q,
+    desk: &mut Desk<Poster<R>>,
+    viewer: Viewer,
+) -> Option<u64>
+    requires { viewer.name ≡ desk.old.1.name }
+{
+    if let Some(note) = shown(rt, desk) {
+        return seen_once_told(viewer, &note);
+    }
+    let viewer = unseeing(viewer)?;
+    let note = shown(rt, desk)?;
+    seen_once_told(viewer, &note)
+}
+
 /// Whether a viewer sees nothing after a first show that is refused, and then what was committed,
 /// which is nothing where the script found no memory.
 fn is_shown_at_last<R: Wait>(rt: &R, alloc: Global) -> Option<bool> {
     let (mut desk, viewer) = opened_to_one(rt, alloc, PUTS)?;
     let _ended = commit_next(&mut desk);
-    let wanted = commits(&desk);
-    let first = shown(rt, &mut desk);
-    let (viewer, unseen) = if first.is_none() {
-        counted(viewer, 0)?
-    } else {
-        (viewer, 0)
-    };
-    let note = first.or(shown(rt, &mut desk))?;
-    let (_viewer, seen) = counted(viewer.learn(&note), 0)?;
-    Some(unseen == 0 && seen == wanted)
+    let seen = seen_at_last(rt, &mut desk, viewer);
+    Some(seen == Some(commits(&desk)))
 }
 
 #[test]
@@ -251,7 +278,7 @@ fn is_serial_or_short(alloc: Global, run: &Run, ran: Result<Output, RunFault>) -
 
 #[test]
 fn a_serial_run_is_refused_or_leaves_a_serial_history(rt: HostRuntime) {
-    for run in &RUNS {
+    for run in RUNS {
         let ran = run_serial(rt.alloc(), run.document.as_bytes(), run.scripts.as_bytes());
         assert!(rt; is_serial_or_short(rt.alloc(), run, ran), "{}", run.shows);
     }

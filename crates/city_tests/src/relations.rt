@@ -22,7 +22,7 @@ fn told(alloc: Global, objects: &[Row]) -> Result<String, Fail> {
     told_of(alloc, &city(alloc, objects)?)
 }
 
-const AGREEING: [&[Row]; 3] = [
+const AGREEING: &[&[Row]] = &[
     &[],
     &[("b", Building, "", "p"), ("p", BuildingPart, "b", "")],
     &[
@@ -35,14 +35,14 @@ const AGREEING: [&[Row]; 3] = [
 
 #[test]
 fn relations_that_agree_have_no_fault(rt: HostRuntime) -> Result<(), Fail> {
-    for objects in &AGREEING {
+    for objects in AGREEING {
         assert_eq!(rt; told(rt.alloc(), objects)?.as_str(), "- true");
     }
     Ok(())
 }
 
 /// Objects, and what is told of a city of them: the least id with a fault.
-const DISAGREEING: [(&[Row], &str); 12] = [
+const DISAGREEING: &[(&[Row], &str)] = &[
     // a parent that doesn't know its child
     (
         &[("b", Building, "", ""), ("p", BuildingPart, "b", "")],
@@ -91,7 +91,7 @@ const DISAGREEING: [(&[Row], &str); 12] = [
 
 #[test]
 fn least_id_with_a_fault_is_named(rt: HostRuntime) -> Result<(), Fail> {
-    for (objects, expected) in &DISAGREEING {
+    for (objects, expected) in DISAGREEING {
         assert_eq!(rt; told(rt.alloc(), objects)?.as_str(), *expected);
     }
     Ok(())

@@ -87,11 +87,11 @@ pub const MET: Run = Run {
     model: model!(r#"{"x":{"attributes":{"n":9},"type":"LandUse"}}"#, "[]"),
 };
 
-const RUNS: [Run; 5] = [TRIED, NAME_USED_AGAIN, OLDER_MARK, UNDELETED, MET];
+const RUNS: &[Run] = &[TRIED, NAME_USED_AGAIN, OLDER_MARK, UNDELETED, MET];
 
 #[test]
 fn ways_back_undo_what_was_written_since(rt: HostRuntime) -> Result<(), Fail> {
-    for run in &RUNS {
+    for run in RUNS {
         let written = answer(rt.alloc(), run).ok_or(run.shows)?;
         let wanted = text_of(rt.alloc(), run.report, run.model)?;
         assert_eq!(rt; written.as_str(), wanted.as_str(), "{}", run.shows);

@@ -8,7 +8,7 @@ use city_desk::{Desk, ListShelf};
 use std::alloc::Global;
 
 /// Runs of two scripts, each of three commands or of about so many.
-const RUNS: [Run; 6] = [
+const RUNS: &[Run] = &[
     TWO_READERS,
     TWO_WRITERS,
     OPPOSITE_ORDERS,
@@ -18,7 +18,7 @@ const RUNS: [Run; 6] = [
 ];
 
 /// Whose turn it is, once both scripts have begun: all interleavings of three turns of each.
-const INTERLEAVINGS: [&str; 20] = [
+const INTERLEAVINGS: &[&str] = &[
     "000111", "001011", "001101", "001110", "010011", "010101", "010110", "011001", "011010",
     "011100", "100011", "100101", "100110", "101001", "101010", "101100", "110001", "110010",
     "110100", "111000",
@@ -57,8 +57,8 @@ fn left_after(alloc: Global, run: &Run, scripts: &str) -> Option<String> {
 
 #[test]
 fn each_interleaving_leaves_a_serial_history(rt: HostRuntime) {
-    for run in &RUNS {
-        for scripts in &INTERLEAVINGS {
+    for run in RUNS {
+        for scripts in INTERLEAVINGS {
             let left = left_after(rt.alloc(), run, scripts);
             assert!(rt; left.is_some(), "{}: {scripts}", run.shows);
         }

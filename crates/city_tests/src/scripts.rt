@@ -69,7 +69,7 @@ fn misread(rt: &HostRuntime, rows: &[(&str, &str)]) -> Result<String, Fail> {
     Ok(String::new(rt.alloc()))
 }
 
-const READ_AS: [(&str, &str); 7] = [
+const READ_AS: &[(&str, &str)] = &[
     ("[]", ""),
     ("[{\"name\":\"\",\"commands\":[\"abort\"]}]", ": abort;"),
     (
@@ -96,11 +96,11 @@ const READ_AS: [(&str, &str); 7] = [
 
 #[test]
 fn scripts_are_read(rt: HostRuntime) -> Result<(), Fail> {
-    assert_eq!(rt; misread(&rt, &READ_AS)?.as_str(), "");
+    assert_eq!(rt; misread(&rt, READ_AS)?.as_str(), "");
     Ok(())
 }
 
-const BAD_SCRIPTS: [(&str, &str); 24] = [
+const BAD_SCRIPTS: &[(&str, &str)] = &[
     ("", "NotJson"),
     ("[{\"name\":\"s\"", "NotJson"),
     ("[1.5,", "NotJson"),
@@ -159,7 +159,7 @@ const BAD_SCRIPTS: [(&str, &str); 24] = [
 
 #[test]
 fn bad_forms_of_scripts_are_refused(rt: HostRuntime) -> Result<(), Fail> {
-    assert_eq!(rt; misread(&rt, &BAD_SCRIPTS)?.as_str(), "");
+    assert_eq!(rt; misread(&rt, BAD_SCRIPTS)?.as_str(), "");
     Ok(())
 }
 
@@ -177,7 +177,7 @@ const BAD: &str = "{\"read\":1},";
 const READ: &str = "{\"read\":\"x\"},";
 
 /// Commands of a first script, of a second, and the fault.
-const UNPLACED: [(&str, &str, &str); 7] = [
+const UNPLACED: &[(&str, &str, &str)] = &[
     (PAST, READ, "BadVertex(0, 0)"),
     (BELOW, "", "BadVertex(0, 0)"),
     (LAST, LAST, "BadVertex(1, 0)"),
@@ -197,7 +197,7 @@ fn two_scripts(alloc: Global, first: &str, second: &str) -> Result<String, Alloc
 
 #[test]
 fn positions_without_a_vertex_are_refused(rt: HostRuntime) -> Result<(), Fail> {
-    for (first, second, want) in &UNPLACED {
+    for (first, second, want) in UNPLACED {
         let text = two_scripts(rt.alloc(), first, second)?;
         let got = answer(&rt, text.as_str())?;
         assert_eq!(rt; got.as_str(), *want, "at {first} {second}");
@@ -205,7 +205,7 @@ fn positions_without_a_vertex_are_refused(rt: HostRuntime) -> Result<(), Fail> {
     Ok(())
 }
 
-const BAD_COMMANDS: [&str; 43] = [
+const BAD_COMMANDS: &[&str] = &[
     "{\"read\":1}",
     "1",
     "null",
@@ -260,7 +260,7 @@ fn second_script_with(alloc: Global, command: &str) -> Result<String, AllocError
 
 #[test]
 fn bad_forms_of_commands_are_refused(rt: HostRuntime) -> Result<(), Fail> {
-    for command in &BAD_COMMANDS {
+    for command in BAD_COMMANDS {
         let text = second_script_with(rt.alloc(), command)?;
         let got = answer(&rt, text.as_str())?;
         assert_eq!(rt; got.as_str(), "BadCommand(1, 1)", "at {command}");

@@ -30,7 +30,7 @@ pub fn answer(alloc: Global, run: &Run) -> Option<String> {
     }
 }
 
-const RUNS: [Run; 19] = [
+const RUNS: &[Run] = &[
     NOTHING_TO_DO,
     COMMIT_AND_ABORT,
     TYPE_IS_FIXED,
@@ -52,18 +52,31 @@ const RUNS: [Run; 19] = [
     PARENT_AND_CHILD,
 ];
 
-#[test]
-fn scripts_run_in_their_order(rt: HostRuntime) -> Result<(), Fail> {
-    for run in &RUNS {
-        let written = answer(rt.alloc(), run).ok_or(run.shows)?;
-        let wanted = text_of(rt.alloc(), run.report, run.model)?;
-        assert_eq!(rt; written.as_str(), wanted.as_str(), "{}", run.shows);
+/// Whether a serial run writes its report and its model.
+fn is_written(alloc: Global, run: &Run) -> bool {
+    let Ok(wanted) = text_of(alloc, run.report, run.model) else {
+        return false;
+    };
+    answer(alloc, run).is_some_and(|written| written.as_str() == wanted.as_str())
+}
+
+/// What the first of the runs shows that writes something else; none where none does.
+fn miswritten(alloc: Global, runs: &[Run]) -> Option<&'static str> {
+    for run in runs {
+        if !is_written(alloc, run) {
+            return Some(run.shows);
+        }
     }
-    Ok(())
+    None
+}
+
+#[test]
+fn scripts_run_in_their_order(rt: HostRuntime) {
+    assert_eq!(rt; miswritten(rt.alloc(), RUNS), None);
 }
 
 /// A document and scripts, and why their run is refused.
-const REFUSALS: [(&str, &str, &str); 4] = [
+const REFUSALS: &[(&str, &str, &str)] = &[
     (
         "{\"type\":\"CityJSON\"",
         "[]",
@@ -94,7 +107,7 @@ fn refusal(alloc: Global, document: &str, scripts: &str) -> Option<String> {
 
 #[test]
 fn the_document_is_judged_before_the_scripts(rt: HostRuntime) -> Result<(), Fail> {
-    for (document, scripts, wanted) in &REFUSALS {
+    for (document, scripts, wanted) in REFUSALS {
         let refusal = refusal(rt.alloc(), document, scripts).ok_or("not refused")?;
         assert_eq!(rt; refusal.as_str(), *wanted);
     }

@@ -31,11 +31,11 @@ fn served<R: Threads + Wait + Sync>(
 }
 
 /// Runs that several workers can end in one order alone.
-const OF_ONE_ORDER: [Run; 2] = [NOTHING_TO_DO, TYPE_IS_FIXED];
+const OF_ONE_ORDER: &[Run] = &[NOTHING_TO_DO, TYPE_IS_FIXED];
 
 #[test]
 fn workers_write_what_one_does_where_there_is_one_order(rt: HostRuntime) -> Result<(), Fail> {
-    for run in &OF_ONE_ORDER {
+    for run in OF_ONE_ORDER {
         let wanted = format!(in rt.alloc(); "{}{}\n", run.report, run.model)?;
         let (written, seen) = served(&rt, rt.alloc(), run, 4, 2)?;
         assert_eq!(rt; written.as_slice(), wanted.as_bytes(), "{}", run.shows);
@@ -103,7 +103,7 @@ fn told_of_texts<R: Threads + Wait + Sync>(
 }
 
 /// A document and scripts, and the line that tells why they aren't served.
-const REFUSED_TEXTS: [(&str, &str, &str); 3] = [
+const REFUSED_TEXTS: &[(&str, &str, &str)] = &[
     // the document is judged first
     ("{", "[", "cityed: model: 2 NotJson"),
     (model!("{}", "[]"), "[", "cityed: scripts: 2 NotJson"),
@@ -112,7 +112,7 @@ const REFUSED_TEXTS: [(&str, &str, &str); 3] = [
 
 #[test]
 fn refused_texts_are_told_and_nothing_is_written(rt: HostRuntime) -> Result<(), Fail> {
-    for (document, scripts, wanted) in &REFUSED_TEXTS {
+    for (document, scripts, wanted) in REFUSED_TEXTS {
         let line = told_of_texts(&rt, rt.alloc(), document, scripts).ok_or("served")?;
         assert_eq!(rt; line.as_str(), *wanted);
     }
@@ -133,7 +133,7 @@ fn told_of_input<R: Threads + Wait + Sync>(rt: &R, alloc: Global, input: &str) -
 }
 
 /// An input, and the line that tells why it isn't served.
-const REFUSED_INPUTS: [(&str, &str); 7] = [
+const REFUSED_INPUTS: &[(&str, &str)] = &[
     ("{\"type\":\"CityJSON\"\n[]", "cityed: model: 2 NotJson"),
     (model!("{}", "[]"), "cityed: scripts: 2 NotJson"),
     (
@@ -171,7 +171,7 @@ const REFUSED_INPUTS: [(&str, &str); 7] = [
 
 #[test]
 fn refused_inputs_are_told_and_nothing_is_written(rt: HostRuntime) -> Result<(), Fail> {
-    for (input, wanted) in &REFUSED_INPUTS {
+    for (input, wanted) in REFUSED_INPUTS {
         let line = told_of_input(&rt, rt.alloc(), input).ok_or("served")?;
         assert_eq!(rt; line.as_str(), *wanted);
     }

@@ -17,7 +17,7 @@ fn written(alloc: Global, text: &[u8]) -> Result<Vec<u8>, Fail> {
 }
 
 /// Objects and vertices, and those of the document that is written.
-const CANONICAL: [(&str, &str, &str, &str); 8] = [
+const CANONICAL: &[(&str, &str, &str, &str)] = &[
     (
         "{\"c\":{\"type\":\"Building\",\"geometry\":[{\"type\":\"MultiSolid\",\"lod\":\"1\",\"boundaries\":[[[[[0,3,2,1]],[[4,5,6,7]],[[0,1,5,4]],[[1,2,6,5]],[[2,3,7,6]],[[3,0,4,7]]]],[[[[0,3,2,1]],[[4,5,6,7]],[[0,1,5,4]],[[1,2,6,5]],[[2,3,7,6]],[[3,0,4,7]]]]]}]}}",
         "[[0,0,0],[1,0,0],[1,1,0],[0,1,0],[0,0,1],[1,0,1],[1,1,1],[0,1,1]]",
@@ -71,7 +71,7 @@ const CANONICAL: [(&str, &str, &str, &str); 8] = [
 #[test]
 fn documents_are_written_canonically(rt: HostRuntime) -> Result<(), Fail> {
     let alloc = rt.alloc();
-    for (objects, vertices, want, want_vertices) in &CANONICAL {
+    for (objects, vertices, want, want_vertices) in CANONICAL {
         let text = document(alloc, objects, vertices)?;
         let want = document(alloc, want, want_vertices)?;
         let once = written(alloc, text.as_bytes())?;
