@@ -6,7 +6,7 @@ use denote.Param.Send.{IsSend, enum_send, recorded_send, struct_send, view_send,
 use Rattle.std.proofs.Crossing as values
 use Rattle.std.specs.declared.sync.Wait.{Ghosts}
 use Rattle.city_model.proofs.Crossing.{text_sends, object_sends}
-use Rattle.city_desk.specs.contracts.shelf.ListShelf as ListShelf
+use Rattle.city_desk.proofs.null_shelf.NullShelf.TheSendSync as null_shelf
 use Rattle.city_crew.specs.contracts.ages.Ages as Ages
 use Rattle.city_crew.specs.contracts.crew_shelf.CrewShelf as CrewShelf
 use Rattle.city_crew.specs.contracts.state.State as State
@@ -17,13 +17,10 @@ use Rattle.city_crew.proofs.DeskCrossing.{declared_sends, desk_field_sends}
 ages_send : IsSend Ages.the_field.row
 ages_send = search (values.crosses, sendable) depth 60 fits 20000
 
-list_sends : IsSend ListShelf.the_row
-list_sends = search (text_sends, object_sends, values.crosses, sendable) depth 60 fits 20000
-
 shelf_sends : (R : RattleType) → IsSend R → IsSend (CrewShelf.the_row R)
 shelf_sends R s =
     let T = CrewShelf.the_type R in
-    recorded_send _ T.D T.to T.to_one (enum_send (enums.shape T) ((list_sends, tt), ((poster_sends R s, tt), tt)))
+    recorded_send _ T.D T.to T.to_one (enum_send (enums.shape T) ((null_shelf.the_send, tt), ((poster_sends R s, tt), tt)))
 
 state_inside_sends : (R : RattleType) (W : Ghosts R.Denot) → IsSend (CrewShelf.the_row R) → IsSend (StateInside.the_field R W).row
 state_inside_sends R W shelf =

@@ -1,15 +1,15 @@
 //! The shelf of a run.
 use crate::poster::Poster;
-use city_desk::{ListShelf, Shelf};
+use city_desk::{NullShelf, Shelf};
 use city_model::OutOfMemory;
 use city_model::change::Change;
 use std::sync::Wait;
 
-/// Where the desk of a run puts the changes of its commits: into a plain list where nobody looks, and
-/// on a board where there are viewers.
+/// Where the desk of a run puts the changes of its commits: on a board where there are viewers, and nowhere
+/// where nobody looks.
 #[derive(Drop)]
 pub enum CrewShelf<R: Wait + Drop> {
-    Listed(ListShelf),
+    Unseen(NullShelf),
     Posted(Poster<R>),
 }
 
@@ -29,14 +29,14 @@ impl<R: Wait + Drop> Shelf for CrewShelf<R> {
 
     fn take(&mut self, change: Change) -> Result<(), OutOfMemory> {
         match self {
-            CrewShelf::Listed(list) => list.take(change),
+            CrewShelf::Unseen(shelf) => shelf.take(change),
             CrewShelf::Posted(poster) => poster.take(change),
         }
     }
 
     fn show<Q: Wait>(&mut self, rt: &Q) -> Result<(), OutOfMemory> {
         match self {
-            CrewShelf::Listed(list) => list.show(rt),
+            CrewShelf::Unseen(shelf) => shelf.show(rt),
             CrewShelf::Posted(poster) => {
                 drop(poster.show(rt)?);
                 Ok(())

@@ -22,7 +22,7 @@ use crate::threads::run_threads;
 use crate::viewer::Viewer;
 use crate::watcher::{Watcher, watchers_of};
 use crate::work::Shared;
-use city_desk::{Desk, Finished, ListShelf, Output, RunFault, Shelf, output_bytes, read_texts};
+use city_desk::{Desk, Finished, NullShelf, Output, RunFault, Shelf, output_bytes, read_texts};
 use city_model::city::City;
 use city_model::copied::Copied;
 use city_model::script::Script;
@@ -102,7 +102,7 @@ fn new_shelf<'r, R: Wait>(
     ensures based { IfOk result (λ made. IfSome (base_of made.0) (λ base. base ≡ city.now)) }
 {
     if viewers == 0 {
-        return Ok((CrewShelf::Listed(ListShelf::new(alloc)), Vec::new(alloc)));
+        return Ok((CrewShelf::Unseen(NullShelf::new()), Vec::new(alloc)));
     }
     let copy = city.copy(alloc)?;
     let (poster, places) = board(rt, alloc, copy, viewers)?;

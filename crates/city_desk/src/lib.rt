@@ -15,6 +15,8 @@ mod closing;
 mod desk;
 mod fault;
 mod in_turn;
+mod no_rule;
+mod null_shelf;
 mod opening;
 mod opening_city;
 mod output;
@@ -27,6 +29,7 @@ mod turn;
 
 pub use desk::{Desk, Finished};
 pub use fault::RunFault;
+pub use null_shelf::NullShelf;
 pub use opening_city::OpeningCity;
 pub use output::{Output, output_bytes};
 pub use serial_run::{run_serial, run_serial_to_city};

@@ -1,29 +1,10 @@
 //! The city that a desk or a board was opened over, for the proofs alone.
 ghost use Rattle.std.specs.Prelude.{◌≡◌};
 
+use crate::no_rule::NoRule;
 use city_model::city::City;
-use logbook::{Opening as FirstEntry, Rule, Seen, Start};
+use logbook::{Opening as FirstEntry, Seen, Start};
 use std::marker::Model;
-
-/// A record that is never added to.
-pub struct NoRule;
-
-impl Rule<City, u64> for NoRule {
-    ghost use Rattle.std.specs.Prelude.{[]};
-    ghost use base.Fml.{ftrue};
-
-    ghost holds = { λ cells log. Unit {0} };
-
-    ghost first = { [] };
-
-    ghost hinted = { λ n log. Unit {0} };
-
-    ghost shows = { λ log. [] };
-
-    ghost keeps = { λ names log. ftrue };
-
-    ghost moves = { λ ask before after answer. Unit {0} };
-}
 
 /// The record's one entry is the city.
 pub struct OneCity;
