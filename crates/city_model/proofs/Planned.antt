@@ -33,6 +33,10 @@ put_writes m id body x o r ws is faultless allowed reply object items = subst (A
   ids = λ q. refl;
 })
 
+-- what an attach, a detach and a delete of an object with one parent write: what is left of the child, and f of the parent
+abbrev pub related : CityMap → List ℕ → Option Object → List ℕ → (Object → Object) → Change
+related m child below parent f = (child, below) ∷ (parent, option_map f (m parent)) ∷ []
+
 -- ---- a delete
 
 parents_locked : (m : CityMap) (id : List ℕ) (o : Object) → m id ≡ Some o → (length o.children == 0) ≡ true → delete_locks (m id) ≡ exclusively o.parents
@@ -70,13 +74,9 @@ changed_first m first second x y apart =
 changed_second : (m : CityMap) (first second : List ℕ) (x y : Option Object) → changed (changed m first x) second y second ≡ y
 changed_second m first second x y = ap (λ b. if b then y else changed m first x second) (same_id_itself second)
 
--- what an attach and a detach write: the child, and f of the parent
-abbrev pub related : CityMap → List ℕ → Object → List ℕ → (Object → Object) → Change
-related m child below parent f = (child, Some below) ∷ (parent, option_map f (m parent)) ∷ []
-
 module _ (m : CityMap) (child parent : List ℕ) (c p below : Object) (is_child : m child ≡ Some c) (is_parent : m parent ≡ Some p) where
   pub attach_writes : is_wrong_family child c parent p ≡ false → has_id c.parents parent ≡ false → below ≡ with_parent parent c →
-      AreWritesOf m (Attach child parent) Attached (related m child below parent (with_child child))
+      AreWritesOf m (Attach child parent) Attached (related m child (Some below) parent (with_child child))
   attach_writes family new lower =
       let apart : same_id child parent ≡ false = (or_parts (same_id child parent) (not (is_second_level c.body.kind)) (or_parts (same_id child parent || not (is_second_level c.body.kind)) (not (same_family c.body.kind p.body.kind)) family).0).0 in
       record {
@@ -92,7 +92,7 @@ module _ (m : CityMap) (child parent : List ℕ) (c p below : Object) (is_child 
       }
 
   pub detach_writes : IsSound m → has_id c.parents parent ≡ true → below ≡ without_parent parent c →
-      AreWritesOf m (Detach child parent) Detached (related m child below parent (without_child child))
+      AreWritesOf m (Detach child parent) Detached (related m child (Some below) parent (without_child child))
   detach_writes s there lower =
       let apart : same_id child parent ≡ false = same_id_back child parent ∙ ((s child c is_child).0.parents_know_it parent there).0 in
       record {
