@@ -19,7 +19,7 @@ use Rattle.city_model.proofs.Ids.{same_id_itself, same_id_back, same_id_true}
 use Rattle.city_model.proofs.IdLists.{bool_cases, or_first}
 use Rattle.city_model.specs.Standing.{names_exclusively}
 use Rattle.city_model.specs.Runs.{Change, with_change}
-use Rattle.city_model.specs.Plans.{AreOf, AreWritesOf, unlinked}
+use Rattle.city_model.specs.Plans.{AreOf, AreWritesOf, only, only_parent, unlinked}
 use Rattle.city_model.proofs.FrameLaw.{frame}
 
 -- ---- a put, where x stands at the id
@@ -32,6 +32,10 @@ put_writes m id body x o r ws is faultless allowed reply object items = subst (A
   objects = (ap Some (object ∙ ap (with_body body) (sym is)) ∙ sym (update_same same_id m id (Some (with_body body (m id))) id (same_id_itself id)), tt);
   ids = λ q. refl;
 })
+
+-- what an attach, a detach and a delete of an object with one parent write: what is left of the child, and f of the parent
+abbrev pub related : CityMap → List ℕ → Option Object → List ℕ → (Object → Object) → Change
+related m child below parent f = (child, below) ∷ (parent, option_map f (m parent)) ∷ []
 
 -- ---- a delete
 
@@ -61,6 +65,24 @@ delete_writes m id o ws s is childless items = subst (AreWritesOf m (Delete id) 
   ids = λ q. ap (λ b. same_id q id || b) (unlinked_ids m id o.parents q ∙ ap (λ ls. names_exclusively ls q) (sym (parents_locked m id o is childless)));
 })
 
+only_is : (ps : List (List ℕ)) (p : List ℕ) → only ps ≡ Some p → p ∷ [] ≡ ps
+only_is [] p h = absurd (cc)
+only_is (q ∷ []) p h = ap (λ r. r ∷ []) (cc)
+only_is (q ∷ r ∷ ps) p h = absurd (cc)
+
+only_parent_at : (m : CityMap) (id p : List ℕ) (x : Option Object) → IsSound m → m id ≡ x → only_parent x ≡ Some p → AreWritesOf m (Delete id) Deleted (related m id None p (without_child id))
+only_parent_at m id p None s is h = absurd (cc)
+only_parent_at m id p (Some o) s is h = bool_cases (length o.children == 0)
+    (λ e.
+    let one : only o.parents ≡ Some p = sym (ap (λ b. if b then only o.parents else None) e) ∙ h in
+    delete_writes m id o (related m id None p (without_child id)) s is e (ap (λ ps. (id, None) ∷ map (unlinked m id) ps) (only_is o.parents p one)))
+    (λ e.
+    let none : None ≡ Some p = sym (ap (λ b. if b then only o.parents else None) e) ∙ h in
+    absurd (cc))
+
+pub only_parent_writes : (m : CityMap) (id p : List ℕ) → IsSound m → only_parent (m id) ≡ Some p → AreWritesOf m (Delete id) Deleted (related m id None p (without_child id))
+only_parent_writes m id p s h = only_parent_at m id p (m id) s refl h
+
 -- ---- an attach and a detach
 
 changed_first : (m : CityMap) (first second : List ℕ) (x y : Option Object) → same_id first second ≡ false → changed (changed m first x) second y first ≡ x
@@ -70,13 +92,9 @@ changed_first m first second x y apart =
 changed_second : (m : CityMap) (first second : List ℕ) (x y : Option Object) → changed (changed m first x) second y second ≡ y
 changed_second m first second x y = ap (λ b. if b then y else changed m first x second) (same_id_itself second)
 
--- what an attach and a detach write: the child, and f of the parent
-abbrev pub related : CityMap → List ℕ → Object → List ℕ → (Object → Object) → Change
-related m child below parent f = (child, Some below) ∷ (parent, option_map f (m parent)) ∷ []
-
 module _ (m : CityMap) (child parent : List ℕ) (c p below : Object) (is_child : m child ≡ Some c) (is_parent : m parent ≡ Some p) where
   pub attach_writes : is_wrong_family child c parent p ≡ false → has_id c.parents parent ≡ false → below ≡ with_parent parent c →
-      AreWritesOf m (Attach child parent) Attached (related m child below parent (with_child child))
+      AreWritesOf m (Attach child parent) Attached (related m child (Some below) parent (with_child child))
   attach_writes family new lower =
       let apart : same_id child parent ≡ false = (or_parts (same_id child parent) (not (is_second_level c.body.kind)) (or_parts (same_id child parent || not (is_second_level c.body.kind)) (not (same_family c.body.kind p.body.kind)) family).0).0 in
       record {
@@ -92,7 +110,7 @@ module _ (m : CityMap) (child parent : List ℕ) (c p below : Object) (is_child 
       }
 
   pub detach_writes : IsSound m → has_id c.parents parent ≡ true → below ≡ without_parent parent c →
-      AreWritesOf m (Detach child parent) Detached (related m child below parent (without_child child))
+      AreWritesOf m (Detach child parent) Detached (related m child (Some below) parent (without_child child))
   detach_writes s there lower =
       let apart : same_id child parent ≡ false = same_id_back child parent ∙ ((s child c is_child).0.parents_know_it parent there).0 in
       record {

@@ -21,6 +21,7 @@ mod relating;
 pub mod view;
 mod writes;
 
+pub use crate::plan::deleting::only_parent;
 pub use crate::plan::relating::{attached_child, detached_child};
 
 /// What is to come of a command.

@@ -139,6 +139,28 @@ pub const CHILD_OF_TWO: Run = Run {
     ),
 };
 
+pub const PARTS: Run = Run {
+    shows: "parts of one building go one after the other, and an abort puts them back",
+    document: model!(
+        r#"{"b":{"children":["p","q","r"],"type":"Building"},"p":{"parents":["b"],"type":"BuildingPart"},"q":{"parents":["b"],"type":"BuildingPart"},"r":{"parents":["b"],"type":"BuildingPart"}}"#,
+        "[]"
+    ),
+    scripts: concat!(
+        r#"[{"name":"a","commands":[{"delete":"p"},{"delete":"q"},{"read":"b"},"abort"]},"#,
+        r#"{"name":"b","commands":[{"delete":"r"},{"delete":"p"},"commit"]}]"#
+    ),
+    report: concat!(
+        r#"{"name":"a","outcome":"aborted","replies":["deleted","deleted",{"found":{"object":{"children":["r"],"type":"Building"},"vertices":[]}}],"script":0,"since":0}"#,
+        "\n",
+        r#"{"name":"b","outcome":"committed","replies":["deleted","deleted"],"script":1,"since":1}"#,
+        "\n"
+    ),
+    model: model!(
+        r#"{"b":{"children":["q"],"type":"Building"},"q":{"parents":["b"],"type":"BuildingPart"}}"#,
+        "[]"
+    ),
+};
+
 pub const TWO_READERS: Run = Run {
     shows: "a script reads what the one before it wrote",
     document: model!(r#"{"x":{"type":"LandUse"},"y":{"type":"LandUse"}}"#, "[]"),

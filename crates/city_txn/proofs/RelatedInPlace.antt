@@ -1,4 +1,4 @@
--- An attach and a detach in place: what was written at the parent is edited, and the child is written.
+-- An attach, a detach and a delete in place: what was written at the parent is edited, and the child is written.
 use Rattle.std.proofs.Common.{◌≡◌, ◌==◌, ◌&&◌, ◌||◌, ℕ, List, length, true, false, Option, None, Some, Result, Ok, refl, ap, sym, ◌∙◌}
 use Rattle.std.specs.Prelude.{if◌then◌else◌, option_map, is_some, IsErr}
 use Rattle.std.proofs.lemmas.Bool.{false≢true, eqb-true, eq-eqb, or_left, or_right, and_parts, and_from}
@@ -36,7 +36,7 @@ child_reserved s child v u made = made s child ∙ or_left ((s == s) && same_id 
 
 -- ---- the whole: v is the store, and u has the child reserved
 
-module _ (s : ℕ) (c : Command) (r : Reply) (child parent : List ℕ) (below : Object) (f : Object → Object) (v u : State) (ls : Logs) (plain_one : is_mark c ≡ false)
+module _ (s : ℕ) (c : Command) (r : Reply) (child parent : List ℕ) (below : Option Object) (f : Object → Object) (v u : State) (ls : Logs) (plain_one : is_mark c ≡ false)
     (is : AreWritesOf (view v s) c r (related (view v s) child below parent f)) (none : (length (log_of ls s) == 0) ≡ true) (noted : AreNoted v ls s)
     (same : SeesSame v u) (made : (t : ℕ) (q : List ℕ) → is_reserved u t q ≡ (((s == t) && same_id child q) || is_reserved v t q)) where
   abbrev change : Change
@@ -65,7 +65,7 @@ module _ (s : ℕ) (c : Command) (r : Reply) (child parent : List ℕ) (below : 
       (frame_x : x.frame ≡ u.frame) (city_x : committed x ≡ committed u) (opened_x : x.opened ≡ u.opened)
       (writes_x : (q : List ℕ) → write_of x.writes q ≡ (if same_id parent q then option_map (rewritten f) (write_of u.writes parent) else write_of u.writes q))
       (frame_w : w.frame ≡ x.frame) (city_w : committed w ≡ committed x) (opened_w : w.opened ≡ x.opened)
-      (writes_w : (q : List ℕ) → write_of w.writes q ≡ (if same_id child q then Some (s, Some below) else write_of x.writes q))
+      (writes_w : (q : List ℕ) → write_of w.writes q ≡ (if same_id child q then Some (s, below) else write_of x.writes q))
       (others_w : (q : List ℕ) → unless_by s (write_of w.writes q) ≡ unless_by s (write_of x.writes q)) where
     by_now : is_by s (write_of u.writes parent) ≡ true
     by_now = ap (is_by s) (same.writes parent) ∙ by

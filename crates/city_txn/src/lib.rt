@@ -3,7 +3,7 @@
 //! - `txn_core`, `step`: the core, and what it answers
 //! - `command_locks`, `lock`, `would_lock`: which locks a command has, how it asks for them, what that would come to
 //! - `seen`, `perform`, `writing`: a command planned on what its transaction sees, and written
-//! - `relating`: an attach and a detach in place
+//! - `relating`: an attach, a detach and a delete in place
 //! - `store`, `slot`, `placeholder`: the one city, in place
 //! - `undo`, `image`: what stood there before, and who has written
 //! - `changing`, `ending`: what a transaction wrote, and how it ends

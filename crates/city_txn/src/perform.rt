@@ -9,16 +9,16 @@ ghost use Rattle.city_txn.specs.State.{is_reserved, is_open, view};
 ghost use Rattle.city_txn.specs.Performing.{AreNoted, Performed};
 
 use crate::going_back::go_back;
-use crate::relating::{attach, detach, is_in_place};
-use crate::seen::plan_in;
+use crate::relating::{self, attach, detach, is_in_place};
+use crate::seen::{Seen, plan_in};
 use crate::store::Store;
 use crate::undo_log::{Entry, UndoLogs};
 use crate::writing::write_all;
 use city_model::OutOfMemory;
 use city_model::command::{Cause, Command, Reply};
 use city_model::copied::Copied;
-use city_model::plan::Plan;
-use city_model::text::Text;
+use city_model::plan::{Plan, only_parent};
+use city_model::text::{Id, Text};
 use std::alloc::Global;
 
 /// Does a command, whose locks the stamp holds. Want of memory writes nothing.
@@ -45,6 +45,7 @@ pub fn perform(
         Command::Detach(child, parent) if is_in_place(store, logs, stamp, parent) => {
             detach(store, logs, alloc, stamp, child, parent)
         }
+        Command::Delete(id) => delete(store, logs, alloc, stamp, command, id),
         _ => carry_out(store, logs, alloc, stamp, command),
     }
 }
@@ -82,6 +83,31 @@ fn back(
     }
     go_back(store, logs, alloc, stamp, name);
     Ok(Reply::WentBack)
+}
+
+/// Deletes an object, in place where that can be.
+fn delete(
+    store: &mut Store,
+    logs: &mut UndoLogs,
+    alloc: Global,
+    stamp: u64,
+    command: &Command,
+    id: &Id,
+) -> Result<Reply, OutOfMemory>
+    requires is_delete { command.now ≡ Command.Delete id.now }
+    requires sound { IsSound (view store.old stamp) }
+    requires opened { is_open store.old stamp ≡ true }
+    requires alone { (q : List ℕ) → names (locks_of (view store.old stamp) command.now) q ≡ true → (t : ℕ) → is_reserved store.old t q ≡ true → t ≡ stamp }
+    requires noted { AreNoted store.old logs.old stamp }
+    ensures { Performed stamp command.now result store.old logs.old store.new logs.new }
+{
+    match only_parent(&Seen { store, stamp }, id) {
+        Some(parent) if is_in_place(store, logs, stamp, parent) => {
+            let parent = parent.copy(alloc)?;
+            relating::delete(store, logs, alloc, stamp, id, &parent)
+        }
+        _ => carry_out(store, logs, alloc, stamp, command),
+    }
 }
 
 /// Does a command that leaves marks.

@@ -1,6 +1,7 @@
-//! An attach and a detach in place: no copy of the parent, which may have many children.
-ghost use Rattle.std.specs.Prelude.{◌≡◌, ◌==◌, ◌&&◌, ℕ, List, length, true};
+//! An attach, a detach and a delete in place: no copy of the parent, which may have many children.
+ghost use Rattle.std.specs.Prelude.{◌≡◌, ◌==◌, ◌&&◌, ℕ, List, length, Some, true};
 ghost use Rattle.city_model.specs.Meaning.{locks_of};
+ghost use Rattle.city_model.specs.Plans.{only_parent};
 ghost use Rattle.city_model.specs.Relations.{IsSound};
 ghost use Rattle.city_model.specs.Standing.{names};
 ghost use Rattle.city_model.specs.declared.command.Command.{Command};
@@ -80,4 +81,30 @@ pub fn detach(
     store.remove_child(parent, child);
     store.set(alloc, stamp, key, Some(below));
     Ok(Reply::Detached)
+}
+
+/// Deletes an object without children, which has this parent only, in place. Want of memory writes
+/// nothing.
+pub fn delete(
+    store: &mut Store,
+    logs: &UndoLogs,
+    alloc: Global,
+    stamp: u64,
+    id: &Id,
+    parent: &Id,
+) -> Result<Reply, OutOfMemory>
+    requires only { only_parent (view store.old stamp id.now) ≡ Some parent.now }
+    requires in_place { (is_by stamp (write_of store.old.writes parent.now) && (length (log_of logs.now stamp) == 0)) ≡ true }
+    requires sound { IsSound (view store.old stamp) }
+    requires opened { is_open store.old stamp ≡ true }
+    requires alone { (q : List ℕ) → names (locks_of (view store.old stamp) (Command.Delete id.now)) q ≡ true → (t : ℕ) → is_reserved store.old t q ≡ true → t ≡ stamp }
+    requires noted { AreNoted store.old logs.now stamp }
+    ensures { Performed stamp (Command.Delete id.now) result store.old logs.now store.new logs.now }
+{
+    let _ = logs;
+    let key = id.copy(alloc)?;
+    store.reserve(alloc, stamp, id)?;
+    store.remove_child(parent, id);
+    store.set(alloc, stamp, key, None);
+    Ok(Reply::Deleted)
 }

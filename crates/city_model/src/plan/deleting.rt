@@ -1,6 +1,6 @@
 //! What is to come of a delete.
-ghost use Rattle.std.specs.Prelude.{◌≡◌, ◌++◌, map, IfOk, OnOk};
-ghost use Rattle.city_model.specs.Plans.{IsPlan, unlinked};
+ghost use Rattle.std.specs.Prelude.{◌≡◌, ◌++◌, map, option_copied, IfOk, OnOk};
+ghost use Rattle.city_model.specs.Plans.{IsPlan, only_parent, unlinked};
 ghost use Rattle.city_model.specs.Relations.{IsSound};
 ghost use Rattle.city_model.specs.declared.command.Command.{Command};
 
@@ -31,6 +31,22 @@ pub fn plan_delete<V: View>(alloc: Global, view: &V, id: &Id) -> Result<Plan, Ou
     change.push((id.copy(alloc)?, None))?;
     unlink_each(alloc, view, id, object.parents.as_slice(), &mut change)?;
     Ok(Plan::Writes(Reply::Deleted, change))
+}
+
+/// The parent of an object without children that has one parent only. Takes no memory.
+///
+/// What a delete of the object writes is that none is there, and the parent without the child.
+pub fn only_parent<'v, V: View>(view: &'v V, id: &Id) -> Option<&'v Id>
+    ensures { option_copied result ≡ only_parent (V.map view.now id.now) }
+{
+    let object = view.look(id)?;
+    if object.children.len() != 0 {
+        return None;
+    }
+    match object.parents.as_slice() {
+        [parent] => Some(parent),
+        _ => None,
+    }
 }
 
 /// Adds to the change that none of the parents has the child.

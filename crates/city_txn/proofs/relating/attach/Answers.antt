@@ -31,12 +31,12 @@ pub returns-in_err-push_child : goal.returns-in_err-push_child
 returns-in_err-push_child c =
     let m = view c.args.store.now c.args.stamp in
     let command : Command = Attach c.args.child.now c.args.parent.now in
-    let is : AreWritesOf m command Attached (related m c.args.child.now c.in-Ok.below c.args.parent.now (with_child c.args.child.now)) =
-    subst (λ (x : Result Object Cause). IfOk x (λ o. AreWritesOf m command Attached (related m c.args.child.now o c.args.parent.now (with_child c.args.child.now)))) c.in-Ok.is c.in_ok-below.ensures.writes in
+    let is : AreWritesOf m command Attached (related m c.args.child.now (Some c.in-Ok.below) c.args.parent.now (with_child c.args.child.now)) =
+    subst (λ (x : Result Object Cause). IfOk x (λ o. AreWritesOf m command Attached (related m c.args.child.now (Some o) c.args.parent.now (with_child c.args.child.now)))) c.in-Ok.is c.in_ok-below.ensures.writes in
     let in_place = and_parts (is_by c.args.stamp (write_of c.args.store.now.writes c.args.parent.now)) (length (log_of c.args.logs.now c.args.stamp) == 0) c.requires.in_place in
     let e = c.in_err-push_child.ensures in
     subst (λ (w : State). Performed c.args.stamp command c.from_residual-in_err-push_child.result c.args.store.now c.args.logs.now w c.args.logs.now) (sym e.err)
-    (related_unwritten c.args.stamp command Attached c.args.child.now c.args.parent.now c.in-Ok.below (with_child c.args.child.now) c.args.store.now c.reserve.new.self c.args.logs.now
+    (related_unwritten c.args.stamp command Attached c.args.child.now c.args.parent.now (Some c.in-Ok.below) (with_child c.args.child.now) c.args.store.now c.reserve.new.self c.args.logs.now
     refl is in_place.1 c.requires.noted c.in_ok-reserve.ensures.same c.in_ok-reserve.ensures.ok
     c.from_residual-in_err-push_child.result c.from_residual-in_err-push_child.ensures.0)
 
@@ -44,12 +44,12 @@ pub returns : goal.returns
 returns c =
     let m = view c.args.store.now c.args.stamp in
     let command : Command = Attach c.args.child.now c.args.parent.now in
-    let is : AreWritesOf m command Attached (related m c.args.child.now c.in-Ok.below c.args.parent.now (with_child c.args.child.now)) =
-    subst (λ (x : Result Object Cause). IfOk x (λ o. AreWritesOf m command Attached (related m c.args.child.now o c.args.parent.now (with_child c.args.child.now)))) c.in-Ok.is c.in_ok-below.ensures.writes in
+    let is : AreWritesOf m command Attached (related m c.args.child.now (Some c.in-Ok.below) c.args.parent.now (with_child c.args.child.now)) =
+    subst (λ (x : Result Object Cause). IfOk x (λ o. AreWritesOf m command Attached (related m c.args.child.now (Some o) c.args.parent.now (with_child c.args.child.now)))) c.in-Ok.is c.in_ok-below.ensures.writes in
     let in_place = and_parts (is_by c.args.stamp (write_of c.args.store.now.writes c.args.parent.now)) (length (log_of c.args.logs.now c.args.stamp) == 0) c.requires.in_place in
     let e = c.in_ok-push_child.ensures in
     let w = c.set.ensures in
-    related_performed c.args.stamp command Attached c.args.child.now c.args.parent.now c.in-Ok.below (with_child c.args.child.now) c.args.store.now c.reserve.new.self c.args.logs.now
+    related_performed c.args.stamp command Attached c.args.child.now c.args.parent.now (Some c.in-Ok.below) (with_child c.args.child.now) c.args.store.now c.reserve.new.self c.args.logs.now
     refl is in_place.1 c.requires.noted c.in_ok-reserve.ensures.same c.in_ok-reserve.ensures.ok
     c.push_child.new.self c.set.new.self in_place.0 e.frame e.city e.opened
     (λ q. e.writes q ∙ ap (λ k. if same_id c.args.parent.now q then option_map (rewritten (with_child k)) (write_of c.reserve.new.self.writes c.args.parent.now) else write_of c.reserve.new.self.writes q) c.in_ok-listed.ensures)

@@ -30,12 +30,12 @@ pub returns : goal.returns
 returns c =
     let m = view c.args.store.now c.args.stamp in
     let command : Command = Detach c.args.child.now c.args.parent.now in
-    let is : AreWritesOf m command Detached (related m c.args.child.now c.in-Ok.below c.args.parent.now (without_child c.args.child.now)) =
-    subst (λ (x : Result Object Cause). IfOk x (λ o. AreWritesOf m command Detached (related m c.args.child.now o c.args.parent.now (without_child c.args.child.now)))) c.in-Ok.is c.in_ok-below.ensures.writes in
+    let is : AreWritesOf m command Detached (related m c.args.child.now (Some c.in-Ok.below) c.args.parent.now (without_child c.args.child.now)) =
+    subst (λ (x : Result Object Cause). IfOk x (λ o. AreWritesOf m command Detached (related m c.args.child.now (Some o) c.args.parent.now (without_child c.args.child.now)))) c.in-Ok.is c.in_ok-below.ensures.writes in
     let in_place = and_parts (is_by c.args.stamp (write_of c.args.store.now.writes c.args.parent.now)) (length (log_of c.args.logs.now c.args.stamp) == 0) c.requires.in_place in
     let e = c.remove_child.ensures in
     let w = c.set.ensures in
-    related_performed c.args.stamp command Detached c.args.child.now c.args.parent.now c.in-Ok.below (without_child c.args.child.now) c.args.store.now c.reserve.new.self c.args.logs.now
+    related_performed c.args.stamp command Detached c.args.child.now c.args.parent.now (Some c.in-Ok.below) (without_child c.args.child.now) c.args.store.now c.reserve.new.self c.args.logs.now
     refl is in_place.1 c.requires.noted c.in_ok-reserve.ensures.same c.in_ok-reserve.ensures.ok
     c.remove_child.new.self c.set.new.self in_place.0 e.frame e.city e.opened
     e.writes

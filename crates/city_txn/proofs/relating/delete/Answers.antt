@@ -1,0 +1,35 @@
+use Rattle.std.proofs.Common.{◌==◌, ◌∙◌, length, None, Some, ap, refl}
+use Rattle.std.specs.Prelude.{if◌then◌else◌}
+use Rattle.std.proofs.lemmas.Bool.{and_parts, or_left}
+use Rattle.city_model.specs.CityMap.{same_id}
+use Rattle.city_model.specs.Meaning.{without_child}
+use Rattle.city_model.specs.declared.command.Command.TheVariants.{Delete}
+use Rattle.city_model.specs.declared.command.Reply.TheVariants.{Deleted}
+use Rattle.city_model.proofs.Ids.{same_id_itself}
+use Rattle.city_model.proofs.Planned.{only_parent_writes}
+use Rattle.city_txn.specs.State.{write_of, is_by, is_reserved, view}
+use Rattle.city_txn.specs.UndoLog.{log_of}
+use Rattle.city_txn.proofs.PlanWritten.{reserved_by}
+use Rattle.city_txn.proofs.RelatedInPlace.{child_reserved, related_performed}
+use Rattle.city_txn.proofs.relating.delete.Goals as goal
+
+pub reserve-requires-clause-alone : goal.reserve-requires-clause-alone
+reserve-requires-clause-alone c = c.requires.alone c.args.id.now (or_left (same_id c.args.id.now c.args.id.now) _ (same_id_itself c.args.id.now))
+
+pub set-requires : goal.set-requires
+set-requires c =
+    ap (is_reserved c.remove_child.new.self c.args.stamp) c.in_ok-key.ensures
+    ∙ reserved_by c.reserve.new.self c.remove_child.new.self c.args.stamp c.args.id.now c.remove_child.ensures.opened
+    ∙ child_reserved c.args.stamp c.args.id.now c.args.store.now c.reserve.new.self c.in_ok-reserve.ensures.ok
+
+pub returns : goal.returns
+returns c =
+    let m = view c.args.store.now c.args.stamp in
+    let in_place = and_parts (is_by c.args.stamp (write_of c.args.store.now.writes c.args.parent.now)) (length (log_of c.args.logs.now c.args.stamp) == 0) c.requires.in_place in
+    let e = c.remove_child.ensures in
+    let w = c.set.ensures in
+    related_performed c.args.stamp (Delete c.args.id.now) Deleted c.args.id.now c.args.parent.now None (without_child c.args.id.now) c.args.store.now c.reserve.new.self c.args.logs.now
+    refl (only_parent_writes m c.args.id.now c.args.parent.now c.requires.sound c.requires.only) in_place.1 c.requires.noted c.in_ok-reserve.ensures.same c.in_ok-reserve.ensures.ok
+    c.remove_child.new.self c.set.new.self in_place.0 e.frame e.city e.opened
+    e.writes
+    w.frame w.city w.opened (λ q. w.writes q ∙ ap (λ k. if same_id k q then Some (c.args.stamp, None) else write_of c.remove_child.new.self.writes q) c.in_ok-key.ensures) w.others
