@@ -6,7 +6,9 @@ use Rattle.std.specs.Cmp.{eq_by_cmp_equiv}
 use Rattle.std.specs.Ordering.{nat_cmp, eq_by_cmp}
 use Rattle.std.specs.Cmp.Lexicographic.{slice_cmp}
 use Rattle.std.specs.BTreeMap.{is_at}
-use Rattle.std.specs.FinMap.{from_sorted}
+use Rattle.std.specs.FinMap.{entries, from_sorted}
+use Rattle.std.specs.List.{list_any}
+use Rattle.std.proofs.lemmas.Bool.{false≢true, or_parts}
 use Rattle.std.specs.List.Sorted.{IsStrictlySortedBy}
 use Rattle.std.proofs.lemmas.List.Folds.{list_any_more}
 use Rattle.std.proofs.lemmas.Cmp.{nat_list_cmp_total}
@@ -15,7 +17,7 @@ use Rattle.std.proofs.lemmas.Map.Keys.{IsDistinct-from_sorted, sorted_tail}
 use Rattle.std.proofs.lemmas.Map.Entries.{none_past_head}
 use Rattle.city_model.specs.declared.object.Object.{Object}
 use Rattle.city_model.specs.CityMap.{CityMap, found_in, same_id, has_id, changed}
-use Rattle.city_model.specs.Relations.{is_orphan, is_orphan_there, HasNoOrphan, IsLeastOrphan, IsSound}
+use Rattle.city_model.specs.Relations.{is_orphan, is_orphan_there, HasNoOrphan, IsLeastOrphan, IsSound, IsLawful}
 use Rattle.city_model.specs.Runs.{Change, with_change}
 use Rattle.city_model.proofs.Ids.{same_id_true, same_id_back}
 use Rattle.city_model.proofs.IdLists.{bool_cases}
@@ -28,8 +30,8 @@ use Rattle.city_txn.specs.State.{Write, write_of, own_or, own_write, is_by}
 use Rattle.city_txn.specs.CoreState.{CoreState, committed, view}
 use Rattle.city_txn.specs.InPlace.{with_some, state_of, is_writer, IsInPlace}
 use Rattle.city_txn.specs.UndoState.{image_at, reservations_of}
-use Rattle.city_txn.specs.Changing.{or_else, objects_in, IsChangeOf}
-use Rattle.city_txn.proofs.AtOneId.{through, at_made, sorted_made, here, writes_is}
+use Rattle.city_txn.specs.Changing.{or_else, objects_in, change_in, is_orphan_written, IsChangeOf}
+use Rattle.city_txn.proofs.AtOneId.{through, at_made, sorted_made, images_ascend, here, writes_is}
 
 -- ---- writes noted
 
@@ -71,6 +73,35 @@ own_written a k s q = ap (λ b. if b then written_at (here a q) (image_at a.undo
 pub if_ok : {A E : Type 0} {P Q : A → Type 0} (r : Result A E) → ((x : A) → P x → Q x) → IfOk r P → IfOk r Q
 if_ok (Ok x) f p = f x p
 if_ok (Err e) f p = tt
+
+-- ---- the writes of a transaction among all of them
+
+pub writes_ascend : (a : Inside) → IsStrictlySortedBy (slice_cmp nat_cmp) (keys_of (state_of a).writes)
+writes_ascend a = sorted_made (λ id i. write_at (here a id) (Some i)) (entries a.undo.images) (images_ascend a.undo.images)
+
+own_through : (s : ℕ) (x : Option Write) → through (λ w. own_write s (Some w)) x ≡ own_write s x
+own_through s None = refl
+own_through s (Some w) = refl
+
+pub own_listed : (s : ℕ) (ws : List (List ℕ × Write)) (q : List ℕ) → IsStrictlySortedBy (slice_cmp nat_cmp) (keys_of ws) →
+    lookup (is_at (slice_cmp nat_cmp q)) (change_in ws s) ≡ own_write s (write_of ws q)
+own_listed s ws q sorted = at_made (λ id w. own_write s (Some w)) ws q sorted ∙ own_through s (write_of ws q)
+
+pub own_ascend : (s : ℕ) (ws : List (List ℕ × Write)) → IsStrictlySortedBy (slice_cmp nat_cmp) (keys_of ws) → IsStrictlySortedBy (slice_cmp nat_cmp) (keys_of (change_in ws s))
+own_ascend s ws sorted = sorted_made (λ id w. own_write s (Some w)) ws sorted
+
+-- what holds of none holds of no one of them
+none_at : (p : List ℕ → Bool) (ids : List (List ℕ)) (q : List ℕ) → list_any p ids ≡ false → has_id ids q ≡ true → p q ≡ false
+none_at p [] q h k = absurd (false≢true k)
+none_at p (x ∷ xs) q h k =
+    let parts = or_parts (p x) (list_any p xs) h in
+    bool_cases (same_id q x) (λ e. ap p (same_id_true q x e) ∙ parts.0) (λ e. none_at p xs q parts.1 (sym (ap (λ b. b || has_id xs q) e) ∙ k))
+
+pub no_orphan_at : (ids : List (List ℕ)) (f : List ℕ → Option (Option Object)) (q : List ℕ) → list_any (λ id. is_orphan_written (f id)) ids ≡ false →
+    is_orphan_written (if has_id ids q then f q else None) ≡ false
+no_orphan_at ids f q h = bool_cases (has_id ids q)
+    (λ e. ap (λ b. is_orphan_written (if b then f q else None)) e ∙ none_at (λ id. is_orphan_written (f id)) ids q h e)
+    (λ e. ap (λ b. is_orphan_written (if b then f q else None)) e)
 
 -- ---- its objects
 
@@ -137,6 +168,10 @@ over_written : (x : Option (Option Object)) (y : Option Object) (o : Object) →
 over_written None y o h = absurd (cc)
 over_written (Some w) y o h = h
 
+orphan_through : (x : Option (Option Object)) (o : Object) → through (λ z. z) x ≡ Some o → is_orphan_written x ≡ false → is_orphan o ≡ false
+orphan_through None o is h = absurd (cc)
+orphan_through (Some y) o is h = sym (ap is_orphan_there is) ∙ h
+
 -- the change has what the transaction wrote, in byte order; no object of the committed map is an orphan
 module _ (v : CoreState) (s : ℕ) (c : Change) (lists : (q : List ℕ) → lookup (is_at (slice_cmp nat_cmp q)) c ≡ own_write s (write_of v.writes q))
     (sorted : IsStrictlySortedBy (slice_cmp nat_cmp) (keys_of c)) (none : HasNoOrphan (committed v)) where
@@ -155,10 +190,16 @@ module _ (v : CoreState) (s : ℕ) (c : Change) (lists : (q : List ℕ) → look
     λ q o less is. not_orphan q o is (l.1 q o less),
   )
 
-  pub is_change_of : IsSound (view v s) → HasNoOrphan (found_in (objects_in c)) → IsChangeOf v s c
-  is_change_of sound h = record {
+  pub no_orphan_listed : ((q : List ℕ) → is_orphan_written (own_write s (write_of v.writes q)) ≡ false) → HasNoOrphan (found_in (objects_in c))
+  no_orphan_listed h q o is = orphan_through (lookup (is_at (slice_cmp nat_cmp q)) c) o (sym (objects_at q) ∙ is) (ap is_orphan_written (lists q) ∙ h q)
+
+  pub is_change_to : IsLawful (view v s) → IsChangeOf v s c
+  is_change_to lawful = record {
     makes_view = λ i q. (changed_by c (committed v) q sorted ∙ sym (view_over q)) i;
     ids = λ q. key_listed c q ∙ ap is_some (lists q) ∙ own_by s (write_of v.writes q);
     in_byte_order = sorted;
-    lawful = (sound, λ q o is. not_orphan q o is (h q o));
+    lawful = lawful;
   }
+
+  pub is_change_of : IsSound (view v s) → HasNoOrphan (found_in (objects_in c)) → IsChangeOf v s c
+  is_change_of sound h = is_change_to (sound, λ q o is. not_orphan q o is (h q o))

@@ -4,11 +4,12 @@ ghost use Rattle.std.specs.Map.{keys_of, lookup};
 ghost use Rattle.std.specs.Ordering.{nat_cmp};
 ghost use Rattle.std.specs.Cmp.Lexicographic.{slice_cmp};
 ghost use Rattle.std.specs.BTreeMap.{get, is_at, IsOrdered};
+ghost use Rattle.std.specs.List.{list_any};
 ghost use Rattle.std.specs.List.Sorted.{IsStrictlySortedBy};
 ghost use Rattle.city_model.specs.CityMap.{at, found_in, has_id, same_id};
 ghost use Rattle.city_model.specs.Relations.{is_orphan_there, HasNoOrphan, IsLeastOrphan};
 ghost use Rattle.city_txn.specs.Images.{written_at};
-ghost use Rattle.city_txn.specs.Changing.{or_else, objects_in};
+ghost use Rattle.city_txn.specs.Changing.{or_else, objects_in, is_orphan_written};
 ghost use Rattle.city_txn.specs.UndoState.{image_at};
 
 use crate::undo::Undo;
@@ -124,6 +125,34 @@ pub fn orphan_in(change: &[(Id, Option<Object>)]) -> Option<&Id>
         left = rest;
     }
     None
+}
+
+/// Whether an object that was written at one of the ids is an orphan. Takes no memory.
+pub fn has_orphan(city: &City, undo: &Undo, ids: &[Id]) -> bool
+    ensures { result ≡ list_any (λ id. is_orphan_written (written_at (at city.now.1 id) (image_at undo.now id))) ids.now }
+{
+    for id in ids {
+        if is_orphan_written(city, undo, id) {
+            return true;
+        }
+    }
+    false
+}
+
+/// Whether what was written at the id, if anything was, is an orphan.
+fn is_orphan_written(city: &City, undo: &Undo, id: &Id) -> bool
+    ensures { result ≡ is_orphan_written (written_at (at city.now.1 id.now) (image_at undo.now id.now)) }
+{
+    let Some(image) = undo.image(id) else {
+        return false;
+    };
+    if image.unwritten || image.deleted {
+        return false;
+    }
+    match city.get(id) {
+        Some(object) => is_orphan(object),
+        None => false,
+    }
 }
 
 /// Whether an orphan stands there.

@@ -7,10 +7,11 @@ ghost use Rattle.std.specs.List.Sorted.{IsStrictlySortedBy};
 ghost use Rattle.std.specs.BTreeMap.{is_at};
 ghost use Rattle.city_model.specs.CityMap.{same_id};
 ghost use Rattle.city_model.specs.Meaning.{with_child, without_child};
+ghost use Rattle.city_txn.specs.Changing.{change_in, is_orphan_written};
 ghost use Rattle.city_txn.specs.Ending.{city_after};
 ghost use Rattle.city_txn.specs.State.{State, write_of, rewritten, is_by, is_reserved, is_open, committed, view, own, own_write, unless_by, SeesSame, Begins, Forgets};
 
-use crate::changing::{change_of, written_copy};
+use crate::changing::{change_of, has_orphan, written_copy};
 use crate::ending::{End, end_each};
 use crate::slot;
 use crate::undo::Undo;
@@ -203,6 +204,15 @@ impl Store {
         ensures ordered { IfOk result (λ change. IsStrictlySortedBy (slice_cmp nat_cmp) (keys_of change)) }
     {
         change_of(&self.city, &self.undo, alloc, self.undo.reserved(stamp))
+    }
+
+    /// Whether an object that the stamp wrote is an orphan. Takes no memory.
+    pub fn has_orphan(&self, stamp: u64) -> bool
+        ensures none { result ≡ false → (q : List ℕ) → is_orphan_written (own_write stamp (write_of self.now.writes q)) ≡ false }
+        ensures lists { (q : List ℕ) → lookup (is_at (slice_cmp nat_cmp q)) (change_in self.now.writes stamp) ≡ own_write stamp (write_of self.now.writes q) }
+        ensures ordered { IsStrictlySortedBy (slice_cmp nat_cmp) (keys_of (change_in self.now.writes stamp)) }
+    {
+        has_orphan(&self.city, &self.undo, self.undo.reserved(stamp))
     }
 
     /// The city, where no stamp is open. Takes no memory.

@@ -1,5 +1,5 @@
 //! The transaction core: strict two-phase locking over one city.
-ghost use Rattle.std.specs.Prelude.{◌≡◌, ◌&&◌, ℕ, List, [], None, true, false, Some, is_some, OnOk, OnErr, IfOk, IfErr, IsErr, IsOk, ◌↔◌, if◌then◌else◌};
+ghost use Rattle.std.specs.Prelude.{◌≡◌, ◌&&◌, ℕ, List, [], None, true, false, Some, is_some, OnOk, OnErr, IfOk, IfErr, IfSome, IfNone, IsErr, IsOk, ◌↔◌, if◌then◌else◌};
 ghost use Rattle.city_model.specs.CityMap.{at};
 ghost use Rattle.city_model.specs.Scripts.{is_end};
 ghost use Rattle.city_model.specs.Marks.{AreSound};
@@ -9,8 +9,10 @@ ghost use Rattle.city_locks.specs.Locks.{mode_of};
 ghost use Rattle.city_txn.specs.State.{write_of, is_by};
 ghost use Rattle.city_txn.specs.CoreState.{committed, view, seen, is_open, Stands, KeepsOthers, IsOver, IsUndone};
 ghost use Rattle.city_txn.specs.UndoLog.{log_of, has_before};
-ghost use Rattle.city_txn.specs.Acting.{answer_in, Acted};
-ghost use Rattle.city_txn.specs.Changing.{IsPrepared};
+ghost use Rattle.city_model.specs.declared.command.Command.{Command};
+ghost use Rattle.city_model.specs.declared.end.Outcome.{Outcome};
+ghost use Rattle.city_txn.specs.Acting.{answer_in, Acted, EndsIn};
+ghost use Rattle.city_txn.specs.Changing.{IsPrepared, IsChangeOf, change_in};
 ghost use Rattle.city_txn.specs.Locking.{is_wait};
 
 use crate::changing::orphan_in;
@@ -167,6 +169,29 @@ impl Core {
             return Ok(Prepared::Refused(Cause::Orphan(id)));
         }
         Ok(Prepared::Ready(change))
+    }
+
+    /// Why a commit of the transaction would be refused; none where it may commit. Changes nothing.
+    ///
+    /// It finds what `prepare` finds, and copies no object where the transaction may commit. `NotOpen` comes
+    /// exactly where the stamp isn't open.
+    pub fn refusal(&self, stamp: u64) -> Result<Option<Cause>, TxnFault>
+        ensures allowed { IfOk result (λ cause. IfNone cause (IsChangeOf self.now stamp (change_in self.now.writes stamp))) }
+        ensures refused { IfOk result (λ cause. IfSome cause (λ cause. (number : ℕ) → EndsIn self.now stamp Command.Commit number (Outcome.Refused number cause))) }
+        ensures fault { IfErr result (λ fault. fault ≡ (if is_open self.now stamp then TxnFault.OutOfMemory else TxnFault.NotOpen stamp)) }
+        ensures not_open { is_open self.now stamp ≡ false → IsErr result }
+    {
+        if !self.is_open(stamp) {
+            return Err(TxnFault::NotOpen(stamp));
+        }
+        if !self.store.has_orphan(stamp) {
+            return Ok(None);
+        }
+        match self.prepare(stamp) {
+            Ok(Prepared::Refused(cause)) => Ok(Some(cause)),
+            Ok(Prepared::Ready(_)) => Ok(None),
+            Err(fault) => Err(fault),
+        }
     }
 
     /// Makes the transaction's view the committed city, and gives its locks back. Takes no memory.
