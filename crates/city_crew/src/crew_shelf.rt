@@ -3,6 +3,7 @@ use crate::poster::Poster;
 use city_desk::{NullShelf, Shelf};
 use city_model::OutOfMemory;
 use city_model::change::Change;
+use city_txn::Core;
 use std::sync::Wait;
 
 /// Where the desk of a run puts the changes of its commits: on a board where there are viewers, and nowhere
@@ -31,6 +32,13 @@ impl<R: Wait + Drop> Shelf for CrewShelf<R> {
         match self {
             CrewShelf::Unseen(shelf) => shelf.take(change),
             CrewShelf::Posted(poster) => poster.take(change),
+        }
+    }
+
+    fn take_from(&mut self, core: &Core, stamp: u64) -> Result<(), OutOfMemory> {
+        match self {
+            CrewShelf::Unseen(shelf) => shelf.take_from(core, stamp),
+            CrewShelf::Posted(poster) => poster.take_from(core, stamp),
         }
     }
 

@@ -14,7 +14,7 @@ use crate::shelf::Shelf;
 use crate::turn::Turn;
 use city_model::command::{Cause, Command, Reply};
 use city_model::end::Outcome;
-use city_txn::{Core, Prepared, Step};
+use city_txn::{Core, Step};
 use std::alloc::Global;
 
 /// The reply, or the cause where it is a refusal.
@@ -78,16 +78,16 @@ fn commit<S: Shelf>(core: &mut Core, shelf: &mut S, stamp: u64, number: usize) -
     ensures base { S.base shelf.new ≡ S.base shelf.old }
     ensures name { S.name shelf.new ≡ S.name shelf.old }
 {
-    match core.prepare(stamp) {
-        Ok(Prepared::Ready(change)) => {
-            let Ok(()) = shelf.take(change) else {
+    match core.refusal(stamp) {
+        Ok(None) => {
+            let Ok(()) = shelf.take_from(core, stamp) else {
                 core.roll_back(stamp);
                 return Outcome::NoMemory(number);
             };
             core.commit(stamp);
             Outcome::Committed
         }
-        Ok(Prepared::Refused(cause)) => {
+        Ok(Some(cause)) => {
             core.roll_back(stamp);
             Outcome::Refused(number, cause)
         }

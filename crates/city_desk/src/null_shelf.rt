@@ -1,10 +1,12 @@
 //! A shelf for a run that nobody looks at.
 ghost use Rattle.std.specs.Prelude.{◌≡◌, ◌++◌, ◌∷◌, [], None};
+ghost use Rattle.city_txn.specs.Changing.{change_in};
 
 use crate::no_rule::NoRule;
 use crate::shelf::Shelf;
 use city_model::OutOfMemory;
 use city_model::change::Change;
+use city_txn::Core;
 use logbook::{Opening as FirstEntries, Seen, Start};
 use std::marker::Model;
 use std::sync::Wait;
@@ -18,20 +20,38 @@ impl FirstEntries<(), Change> for NoChange {
     ghost log = { λ count about. [] };
 }
 
-/// The changes of a record, and one more.
+/// A record, and a change.
 #[derive(Clone, Copy)]
-pub struct Longer<'a> {
+pub struct WithChange<'a> {
     record: &'a Record,
     change: &'a Change,
 }
 
-/// The record has the changes of another, and one more.
+/// The record has the changes of another, and that one.
 pub struct OneMore;
 
-impl<'a> FirstEntries<Longer<'a>, Change> for OneMore {
+impl<'a> FirstEntries<WithChange<'a>, Change> for OneMore {
     ghost use Rattle.std.specs.Prelude.{◌++◌, ◌∷◌, []};
 
-    ghost log = { λ count longer. longer.record.now ++ longer.change.now ∷ [] };
+    ghost log = { λ count with. with.record.now ++ with.change.now ∷ [] };
+}
+
+/// A record, and what an open transaction of a core wrote.
+#[derive(Clone, Copy)]
+pub struct WithWrites<'a> {
+    record: &'a Record,
+    core: &'a Core,
+    stamp: u64,
+}
+
+/// The record has the changes of another, and that of the transaction.
+pub struct OneWritten;
+
+impl<'a> FirstEntries<WithWrites<'a>, Change> for OneWritten {
+    ghost use Rattle.std.specs.Prelude.{◌++◌, ◌∷◌, []};
+    ghost use Rattle.city_txn.specs.Changing.{change_in};
+
+    ghost log = { λ count with. with.record.now ++ change_in with.core.now.writes with.stamp ∷ [] };
 }
 
 /// The changes that were taken. It has no bytes; contracts see the changes.
@@ -64,11 +84,23 @@ impl Record {
     fn with(&self, change: &Change) -> Record
         ensures { result ≡ self.now ++ change.now ∷ [] }
     {
-        let longer = Longer {
+        let with = WithChange {
             record: self,
             change,
         };
-        let (seen, _pens) = Seen::open_row::<Longer<'_>, OneMore>(&longer, Start::alone(), 0);
+        let (seen, _pens) = Seen::open_row::<WithChange<'_>, OneMore>(&with, Start::alone(), 0);
+        Record { seen }
+    }
+
+    fn with_writes(&self, core: &Core, stamp: u64) -> Record
+        ensures { result ≡ self.now ++ change_in core.now.writes stamp ∷ [] }
+    {
+        let with = WithWrites {
+            record: self,
+            core,
+            stamp,
+        };
+        let (seen, _pens) = Seen::open_row::<WithWrites<'_>, OneWritten>(&with, Start::alone(), 0);
         Record { seen }
     }
 }
@@ -117,6 +149,12 @@ impl Shelf for NullShelf {
     /// Takes no memory, and answers Ok.
     fn take(&mut self, change: Change) -> Result<(), OutOfMemory> {
         self.taken = self.taken.with(&change);
+        Ok(())
+    }
+
+    /// Takes no memory, and answers Ok. No change is made.
+    fn take_from(&mut self, core: &Core, stamp: u64) -> Result<(), OutOfMemory> {
+        self.taken = self.taken.with_writes(core, stamp);
         Ok(())
     }
 

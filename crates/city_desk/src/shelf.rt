@@ -3,10 +3,13 @@ ghost use Rattle.std.specs.Prelude.{◌≡◌, ◌+◌, ◌<◌, ◌^◌, ℕ, L
 ghost use Rattle.city_model.specs.CityMap.{at, CityValue};
 ghost use Rattle.city_model.specs.Relations.{IsLawful};
 ghost use Rattle.city_model.specs.Runs.{Change, shown};
+ghost use Rattle.city_txn.specs.Changing.{IsChangeOf, change_in};
+ghost use Rattle.city_txn.specs.CoreState.{committed};
 
 use city_model::OutOfMemory;
 use city_model::change::Change;
 use city_model::sequence::Sequence;
+use city_txn::{Core, Prepared};
 use std::alloc::Global;
 use std::marker::Model;
 use std::sync::Wait;
@@ -36,6 +39,24 @@ pub trait Shelf: Drop {
         ensures err { OnErr result (list self.new ≡ list self.old) }
         ensures base { base self.new ≡ base self.old }
         ensures name { name self.new ≡ name self.old };
+
+    /// Takes the change of an open transaction that may commit; where there is no memory the list stays.
+    ///
+    /// A shelf that keeps its changes has the core make it. One that doesn't needs none.
+    fn take_from(&mut self, core: &Core, stamp: u64) -> Result<(), OutOfMemory>
+        requires room { length (list self.old) + 1 < 2 ^ 64 }
+        requires allowed { IsChangeOf core.now stamp (change_in core.now.writes stamp) }
+        requires shows { IfSome (base self.old) (λ city. shown (at city.1) (list self.old) ≡ committed core.now) }
+        ensures ok { OnOk result ((change : Change) × IsChangeOf core.now stamp change × (list self.new ≡ list self.old ++ change ∷ [])) }
+        ensures err { OnErr result (list self.new ≡ list self.old) }
+        ensures base { base self.new ≡ base self.old }
+        ensures name { name self.new ≡ name self.old }
+    {
+        match core.prepare(stamp) {
+            Ok(Prepared::Ready(change)) => self.take(change),
+            _ => Err(OutOfMemory),
+        }
+    }
 
     /// Shows the list as it is; the list stays.
     fn show<R: Wait>(&mut self, rt: &R) -> Result<Self::Note, OutOfMemory>

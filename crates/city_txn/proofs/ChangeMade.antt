@@ -31,7 +31,8 @@ use Rattle.city_txn.specs.CoreState.{CoreState, committed, view}
 use Rattle.city_txn.specs.InPlace.{with_some, state_of, is_writer, IsInPlace}
 use Rattle.city_txn.specs.UndoState.{image_at, reservations_of}
 use Rattle.city_txn.specs.Changing.{or_else, objects_in, change_in, is_orphan_written, IsChangeOf}
-use Rattle.city_txn.proofs.AtOneId.{through, at_made, sorted_made, images_ascend, here, writes_is}
+use Rattle.city_txn.proofs.AtOneId.{through, at_made, sorted_made, here, writes_is}
+use Rattle.city_txn.proofs.ImagesHeld.{images_ascend}
 
 -- ---- writes noted
 

@@ -1,10 +1,11 @@
-use Rattle.std.proofs.Common.{◌∙◌, None, ap, sym, subst}
+use Rattle.std.proofs.Common.{◌∙◌, ℕ, List, Option, None, ap, sym, subst}
 use Rattle.std.specs.Prelude.{if◌then◌else◌}
 use Rattle.std.specs.Ordering.{nat_cmp}
 use Rattle.std.specs.Cmp.Lexicographic.{slice_cmp}
 use Rattle.std.specs.Map.{keys_of}
 use Rattle.std.specs.List.{list_any}
 use Rattle.std.specs.List.Sorted.{IsStrictlySortedBy}
+use Rattle.city_model.specs.declared.object.Object.{Object}
 use Rattle.city_model.specs.CityMap.{has_id}
 use Rattle.city_txn.specs.Changing.{change_in, is_orphan_written}
 use Rattle.city_txn.specs.Images.{written_at}
@@ -17,7 +18,7 @@ use Rattle.city_txn.proofs.store.Store.has_orphan.Goals as goal
 pub returns-clause-none : goal.returns-clause-none
 returns-clause-none c =
     let a = c.self.inside in
-    let wrote = λ id. written_at (here a id) (image_at a.undo id) in
+    let wrote : List ℕ → Option (Option Object) = λ id. written_at (here a id) (image_at a.undo id) in
     λ none q.
     sym (ap is_orphan_written
     (ap (λ ids. if has_id ids q then wrote q else None) c.reserved.ensures ∙ own_written a c.self.invariant c.args.stamp q
