@@ -8,7 +8,7 @@ use Rattle.city_model.specs.declared.command.Cause.{Cause}
 use Rattle.city_model.specs.declared.command.Reply.{Reply}
 use Rattle.city_model.specs.declared.command.Reply.TheVariants as replies
 use Rattle.city_model.specs.declared.end.Outcome.{Outcome}
-use Rattle.city_model.specs.CityMap.{CityMap, at, CityValue}
+use Rattle.city_model.specs.CityMap.{at, CityValue}
 use Rattle.city_model.specs.Relations.{IsLawful}
 use Rattle.city_model.specs.Marks.{View, refusal, answer}
 use Rattle.city_model.specs.Meaning.{refused_or, done_reply, is_refusal}
@@ -20,7 +20,7 @@ use Rattle.city_locks.specs.declared.answer.Answer.TheVariants.{Granted, Wait, D
 use Rattle.city_txn.specs.declared.step.Step.{Step}
 use Rattle.city_txn.specs.declared.step.Step.TheVariants as steps
 use Rattle.city_txn.specs.declared.step.TxnFault.{TxnFault}
-use Rattle.city_txn.specs.CoreState.{CoreState, committed, view, seen, is_open, Stands, KeepsOthers, IsUndone}
+use Rattle.city_txn.specs.CoreState.{CoreState, committed, seen, is_open, Stands, KeepsOthers, IsUndone}
 use Rattle.city_txn.specs.Acting.{Acted, reply_in, answer_in, step_of, EndsIn}
 use Rattle.city_txn.specs.Changing.{IsChangeOf}
 use Rattle.city_txn.specs.Locking.{IsBlocked}

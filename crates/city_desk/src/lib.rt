@@ -5,7 +5,8 @@
 //!   doesn't wait, what is rolled back at the close
 //! - `opening_city`: the city that it was opened over, for contracts alone
 //! - `progress`: how far a script is
-//! - `shelf`: where the changes of commits go
+//! - `shelf`, `null_shelf`: where the changes of commits go, and a shelf that keeps none
+//! - `taken_changes`, `no_rule`: the changes that a shelf has taken, and records of what was, for contracts alone
 //! - `texts`, `in_turn`, `serial_run`: the two texts of a run read, and the run of one worker
 //! - `output`, `fault`: what a run answers, and why it may have no answer
 #![tactic(auto)]
@@ -24,6 +25,7 @@ mod progress;
 mod ready;
 mod serial_run;
 mod shelf;
+mod taken_changes;
 mod texts;
 mod turn;
 

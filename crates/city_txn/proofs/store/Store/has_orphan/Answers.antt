@@ -3,11 +3,10 @@ use Rattle.std.specs.Prelude.{if◌then◌else◌}
 use Rattle.std.specs.Ordering.{nat_cmp}
 use Rattle.std.specs.Cmp.Lexicographic.{slice_cmp}
 use Rattle.std.specs.Map.{keys_of}
-use Rattle.std.specs.List.{list_any}
 use Rattle.std.specs.List.Sorted.{IsStrictlySortedBy}
 use Rattle.city_model.specs.declared.object.Object.{Object}
 use Rattle.city_model.specs.CityMap.{has_id}
-use Rattle.city_txn.specs.Changing.{change_in, is_orphan_written}
+use Rattle.city_txn.specs.Changing.{is_orphan_written}
 use Rattle.city_txn.specs.Images.{written_at}
 use Rattle.city_txn.specs.State.{State, write_of, own_write}
 use Rattle.city_txn.specs.UndoState.{image_at}
