@@ -17,6 +17,8 @@ class Refused:
     def answer(self, arguments, text, **refusals):
         """Returns whether a call was refused, status, output and error text."""
         told, tells = os.pipe()
+        # A viewer that finds no memory looks on, and is refused again: what the pipe can't take needn't be told.
+        os.set_blocking(tells, False)
         variables = {**os.environ, "LD_PRELOAD": self.library, "REFUSED_FD": str(tells), **refusals}
         ran = subprocess.run(
             [self.path, *arguments], input=text, capture_output=True, env=variables, pass_fds=[tells], timeout=60
