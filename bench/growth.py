@@ -99,6 +99,13 @@ def attached_children(count):
     return model({"building": {"type": "Building"}}), [script(commands)]
 
 
+def deleted_children(count):
+    """One script that deletes so many parts of one building, one after the other."""
+    document, _ = unordered_children(count)
+    parts = document["CityObjects"]["building"]["children"]
+    return document, [script([{"delete": part} for part in parts])]
+
+
 def deep_edits(count):
     """Scripts that detach and attach parts of one building which has many."""
     document, _ = unordered_children(16 * count)
@@ -121,6 +128,7 @@ KINDS = {
     many_members: 50_000,
     many_scripts: 1_000,
     attached_children: 127,
+    deleted_children: 255,
     deep_edits: 200,
 }
 
