@@ -1,4 +1,5 @@
 pub mod CommandLines
+pub mod Decimals
 pub mod FaultTexts
 pub mod SeenTexts
 pub mod Served

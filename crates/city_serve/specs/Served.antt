@@ -4,7 +4,8 @@ use Rattle.std.specs.Global.{Vec}
 use Rattle.std.specs.List.{before_first, after_first}
 use Rattle.std.specs.Io.KnownBytes.{Keeps}
 use Rattle.city_doc.specs.tree.Texts.{max_text}
-use Rattle.city_serve.specs.ServedTexts.{AreServed, AreCutShort, IsFaultOfRun}
+use Rattle.city_desk.specs.TextRuns.{IsRun}
+use Rattle.city_serve.specs.ServedTexts.{Written, Faults, AreServedBy, AreCutShortBy, IsFaultOfRun}
 use Rattle.city_desk.specs.declared.fault.RunFault.{RunFault}
 use Rattle.city_serve.specs.declared.fault.ServeFault.{ServeFault}
 
@@ -24,15 +25,19 @@ document_of bytes = before_first is_newline bytes
 abbrev pub scripts_of : List ℕ → List ℕ
 scripts_of bytes = after_first is_newline bytes
 
--- the writer has got the bytes of a run on the two texts of the input, and no others
-abbrev pub IsServed : List ℕ → ℕ → ℕ → List (Vec ℕ) → Option (List ℕ) → Option (List ℕ) → Type 0
-IsServed input workers viewers seen old new =
-    AreServed (document_of (read_of input)) (scripts_of (read_of input)) workers viewers seen old new
+-- the writer has got the bytes that are written of the two texts of the input, and no others
+abbrev pub IsServedBy : Written → List ℕ → ℕ → ℕ → List (Vec ℕ) → Option (List ℕ) → Option (List ℕ) → Type 0
+IsServedBy ran input workers viewers seen old new =
+    AreServedBy ran (document_of (read_of input)) (scripts_of (read_of input)) workers viewers seen old new
 
--- the writer has got the first of the bytes of a run on the two texts of the input, and no others
-abbrev pub IsCutShort : List ℕ → ℕ → ℕ → Option (List ℕ) → Option (List ℕ) → Type 0
-IsCutShort input workers viewers old new =
-    AreCutShort (document_of (read_of input)) (scripts_of (read_of input)) workers viewers old new
+-- the writer has got the first of the bytes that are written of the two texts of the input, and no others
+abbrev pub IsCutShortBy : Written → List ℕ → ℕ → ℕ → Option (List ℕ) → Option (List ℕ) → Type 0
+IsCutShortBy ran input workers viewers old new =
+    AreCutShortBy ran (document_of (read_of input)) (scripts_of (read_of input)) workers viewers old new
+
+-- the same of a run on the two texts
+abbrev pub IsServed : List ℕ → ℕ → ℕ → List (Vec ℕ) → Option (List ℕ) → Option (List ℕ) → Type 0
+IsServed = IsServedBy IsRun
 
 -- the reader has failed, or there was want of memory for what it gave
 abbrev pub IsReadFault : Bool → ServeFault → Type 0
@@ -40,12 +45,16 @@ IsReadFault failed f = ((f ≡ ServeFault.Read) × (failed ≡ true)) ⊎ (f ≡
 
 -- Read comes only where the reader has failed, and Write only where the writer has. Where the reader or
 -- the run is at fault, the writer has got nothing
-abbrev pub IsServeFault : Option (List ℕ) → ℕ → ℕ → Bool → Option (List ℕ) → Option (List ℕ) → Bool
-    → ServeFault → Type 0
-IsServeFault input workers viewers reader_failed old new writer_failed ServeFault.Read =
+abbrev pub IsServeFaultBy : Written → Faults → Option (List ℕ) → ℕ → ℕ → Bool → Option (List ℕ) → Option (List ℕ)
+    → Bool → ServeFault → Type 0
+IsServeFaultBy ran faults input workers viewers reader_failed old new writer_failed ServeFault.Read =
     Keeps old new × (reader_failed ≡ true)
-IsServeFault input workers viewers reader_failed old new writer_failed (ServeFault.Run f) =
+IsServeFaultBy ran faults input workers viewers reader_failed old new writer_failed (ServeFault.Run f) =
     Keeps old new × IfSome input (λ all.
-    IsFaultOfRun (document_of (read_of all)) (scripts_of (read_of all)) workers viewers f)
-IsServeFault input workers viewers reader_failed old new writer_failed ServeFault.Write =
-    IfSome input (λ all. IsCutShort all workers viewers old new) × (writer_failed ≡ true)
+    faults (document_of (read_of all)) (scripts_of (read_of all)) workers viewers f)
+IsServeFaultBy ran faults input workers viewers reader_failed old new writer_failed ServeFault.Write =
+    IfSome input (λ all. IsCutShortBy ran all workers viewers old new) × (writer_failed ≡ true)
+
+abbrev pub IsServeFault : Option (List ℕ) → ℕ → ℕ → Bool → Option (List ℕ) → Option (List ℕ) → Bool → ServeFault
+    → Type 0
+IsServeFault = IsServeFaultBy IsRun IsFaultOfRun

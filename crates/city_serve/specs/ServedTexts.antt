@@ -24,40 +24,58 @@ AppendsSome old new bytes = (n : ℕ) × Appends old new (take n bytes)
 abbrev pub WhereAlone : ℕ → ℕ → Type 0 → Type 0
 WhereAlone workers viewers A = workers ≡ 1 → viewers ≡ 0 → A
 
--- the writer has got the bytes of a run on the two texts, and no others; one worker without viewers runs
--- the scripts in their order
-pub record AreServed (document scripts : List ℕ) (workers viewers : ℕ) (seen : List (Vec ℕ))
+-- what is written of two texts: the ends and the bytes of a run
+abbrev pub Written : Type 1
+Written = List ℕ → List ℕ → List End → List ℕ → Type 0
+
+-- the writer has got the bytes that are written of the two texts, and no others; one worker without viewers
+-- runs the scripts in their order
+pub record AreServedBy (ran : Written) (document scripts : List ℕ) (workers viewers : ℕ) (seen : List (Vec ℕ))
     (old new : Option (List ℕ)) : Type 0 where
   pub ends : List End
   pub bytes : List ℕ
-  pub ran : IsRun document scripts ends bytes
+  pub ran : ran document scripts ends bytes
   pub in_turn : WhereAlone workers viewers (AreInTurn 0 ends)
   pub looked : AreSeen viewers (commits_in ends) seen
   pub written : Appends old new bytes
 
--- the writer has got the first of the bytes of a run on the two texts, and no others
-pub record AreCutShort (document scripts : List ℕ) (workers viewers : ℕ) (old new : Option (List ℕ))
+-- the writer has got the first of the bytes that are written of the two texts, and no others
+pub record AreCutShortBy (ran : Written) (document scripts : List ℕ) (workers viewers : ℕ) (old new : Option (List ℕ))
     : Type 0 where
   pub ends : List End
   pub bytes : List ℕ
-  pub ran : IsRun document scripts ends bytes
+  pub ran : ran document scripts ends bytes
   pub in_turn : WhereAlone workers viewers (AreInTurn 0 ends)
   pub written : AppendsSome old new bytes
+
+-- the same of a run on the two texts
+abbrev pub AreServed : List ℕ → List ℕ → ℕ → ℕ → List (Vec ℕ) → Option (List ℕ) → Option (List ℕ) → Type 0
+AreServed = AreServedBy IsRun
+
+abbrev pub AreCutShort : List ℕ → List ℕ → ℕ → ℕ → Option (List ℕ) → Option (List ℕ) → Type 0
+AreCutShort = AreCutShortBy IsRun
 
 -- a fault of a run; one worker without viewers doesn't meet those of a crew
 abbrev pub IsFaultOfRun : List ℕ → List ℕ → ℕ → ℕ → RunFault → Type 0
 IsFaultOfRun document scripts workers viewers f =
     IsRunFault document scripts f × WhereAlone workers viewers (is_of_crew f ≡ false)
 
+-- the faults of a run on two texts
+abbrev pub Faults : Type 1
+Faults = List ℕ → List ℕ → ℕ → ℕ → RunFault → Type 0
+
 -- Write comes only where the writer has failed. Where the run is at fault, the writer has got nothing.
 -- Nothing is read, so a reader is never at fault
-abbrev pub IsTextsFault : List ℕ → List ℕ → ℕ → ℕ → Option (List ℕ) → Option (List ℕ) → Bool → ServeFault
-    → Type 0
-IsTextsFault document scripts workers viewers old new failed ServeFault.Read = ⊥
-IsTextsFault document scripts workers viewers old new failed (ServeFault.Run f) =
-    Keeps old new × IsFaultOfRun document scripts workers viewers f
-IsTextsFault document scripts workers viewers old new failed ServeFault.Write =
-    AreCutShort document scripts workers viewers old new × (failed ≡ true)
+abbrev pub IsTextsFaultBy : Written → Faults → List ℕ → List ℕ → ℕ → ℕ → Option (List ℕ) → Option (List ℕ) → Bool
+    → ServeFault → Type 0
+IsTextsFaultBy ran faults document scripts workers viewers old new failed ServeFault.Read = ⊥
+IsTextsFaultBy ran faults document scripts workers viewers old new failed (ServeFault.Run f) =
+    Keeps old new × faults document scripts workers viewers f
+IsTextsFaultBy ran faults document scripts workers viewers old new failed ServeFault.Write =
+    AreCutShortBy ran document scripts workers viewers old new × (failed ≡ true)
+
+abbrev pub IsTextsFault : List ℕ → List ℕ → ℕ → ℕ → Option (List ℕ) → Option (List ℕ) → Bool → ServeFault → Type 0
+IsTextsFault = IsTextsFaultBy IsRun IsFaultOfRun
 
 -- the bytes that were read of a text are the whole of it, or it is too long, and so are they
 abbrev pub IsEnoughOf : List ℕ → List ℕ → Type 0

@@ -6,17 +6,19 @@ ghost use Rattle.city_desk.specs.InTurn.{AreInTurn};
 ghost use Rattle.city_desk.specs.TextRuns.{IsRun};
 ghost use Rattle.city_serve.specs.ServedTexts.{IsFaultOfRun, WhereAlone};
 
-use city_crew::{OpenGate, run_crew};
+use city_crew::{Gate, run_crew};
 use city_desk::{Output, RunFault, run_serial_to_city};
 use std::alloc::Global;
 use std::mem::forget;
 use std::sync::Wait;
 use std::thread::Threads;
 
-/// Runs the scripts on the document's city: one worker without viewers needs no thread beside its own.
-pub fn run<R: Threads + Wait + Sync>(
+/// Runs the scripts on the document's city: one worker without viewers needs no thread beside its own, and passes no
+/// gate.
+pub(crate) fn run<R: Threads + Wait + Sync, G: Gate + Sync>(
     rt: &R,
     alloc: Global,
+    gate: &G,
     document: &[u8],
     scripts: &[u8],
     workers: usize,
@@ -36,6 +38,6 @@ pub fn run<R: Threads + Wait + Sync>(
         forget(city);
         Ok(output)
     } else {
-        run_crew(rt, alloc, document, scripts, workers, viewers, &OpenGate)
+        run_crew(rt, alloc, document, scripts, workers, viewers, gate)
     }
 }

@@ -6,6 +6,7 @@ use crate::device::Device;
 use crate::fault::ServeFault;
 use crate::run::run;
 use crate::serve::write_output;
+use city_crew::{Gate, OpenGate};
 use std::alloc::Global;
 use std::io::Write;
 use std::sync::Wait;
@@ -34,7 +35,29 @@ pub fn serve_texts<R: Threads + Wait + Sync, W: Write>(
     ensures fault { IfErr result (IsTextsFault document.now scripts.now workers viewers
         (W.contents writer.old.0) (W.contents writer.new.0) writer.new.1) }
 {
-    let output = match run(rt, alloc, document, scripts, workers, viewers) {
+    serve_texts_through(rt, alloc, &OpenGate, document, scripts, writer, workers, viewers)
+}
+
+/// As `serve_texts`, through a gate: each worker passes it before each turn, and each viewer tells it what it saw.
+pub fn serve_texts_through<R: Threads + Wait + Sync, G: Gate + Sync, W: Write>(
+    rt: &R,
+    alloc: Global,
+    gate: &G,
+    document: &[u8],
+    scripts: &[u8],
+    writer: &mut Device<W>,
+    workers: usize,
+    viewers: usize,
+) -> Result<Vec<Vec<u64>>, ServeFault>
+    requires workers { (1 ≤ workers) × (workers ≤ 16) }
+    requires viewers { viewers ≤ 4 }
+    ensures served { IfOk result (λ seen. AreServed document.now scripts.now workers viewers seen.items
+        (W.contents writer.old.0) (W.contents writer.new.0)) }
+    ensures unfailed { OnOk result (writer.new.1 ≡ writer.old.1) }
+    ensures fault { IfErr result (IsTextsFault document.now scripts.now workers viewers
+        (W.contents writer.old.0) (W.contents writer.new.0) writer.new.1) }
+{
+    let output = match run(rt, alloc, gate, document, scripts, workers, viewers) {
         Ok(output) => output,
         Err(fault) => return Err(ServeFault::Run(fault)),
     };

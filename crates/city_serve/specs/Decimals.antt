@@ -1,0 +1,81 @@
+-- What is written for two texts whose numbers are of any form: they are encoded, and the output of a run is decoded.
+use Rattle.std.specs.Prelude.{◌≡◌, ◌≢◌, ◌⊎◌, ℕ, Bool, List, Option, Some, None}
+use Rattle.std.specs.Global.{Vec}
+use Rattle.std.specs.Str.{IsUtf8}
+use Rattle.json.specs.Json.{document}
+use Rattle.city_model.specs.declared.end.End.{End}
+use Rattle.city_doc.specs.declared.fault.ReadFault.{ReadFault}
+use Rattle.city_doc.specs.declared.fault.ScriptFault.{ScriptFault}
+use Rattle.city_doc.specs.tree.Texts.{IsTooLong, IsReadable}
+use Rattle.city_decimals.specs.Texts.{IsEncoded}
+use Rattle.city_decimals.specs.Lines.{AreDecodedLines}
+use Rattle.city_desk.specs.declared.fault.RunFault.{RunFault}
+use Rattle.city_desk.specs.TextRuns.{IsRun}
+use Rattle.city_serve.specs.declared.fault.ServeFault.{ServeFault}
+use Rattle.city_serve.specs.ServedTexts.{AreServedBy, IsFaultOfRun, IsTextsFaultBy}
+use Rattle.city_serve.specs.Served.{IsServedBy, IsServeFaultBy}
+
+-- ---- what the run is given
+
+-- the text is refused as it stands: it is too long, or it is no JSON
+abbrev pub IsRefusedText : List ℕ → Type 0
+IsRefusedText text = IsTooLong text ⊎ (IsUtf8 text → document text ≡ None)
+
+-- the run is given the encoded text, and a text that is refused as it stands
+abbrev pub IsGiven : List ℕ → List ℕ → Type 0
+IsGiven text given = (IsReadable text × IsEncoded text given) ⊎ (IsRefusedText text × (given ≡ text))
+
+abbrev pub given_text : Option (Vec ℕ) → List ℕ → List ℕ
+given_text None text = text
+given_text (Some encoded) text = encoded.items
+
+-- ---- what it answers
+
+-- the text isn't too long, and this is its encoded text
+abbrev pub IsReadEncoded : List ℕ → List ℕ → Type 0
+IsReadEncoded text encoded = IsReadable text × IsEncoded text encoded
+
+-- the bytes are those of a run on the encoded texts, decoded line by line
+pub record IsDecimalsRun (document scripts : List ℕ) (ends : List End) (bytes : List ℕ) : Type 0 where
+  pub encoded_document : List ℕ
+  pub encoded_scripts : List ℕ
+  pub output : List ℕ
+  pub document_is : IsReadEncoded document encoded_document
+  pub scripts_are : IsReadEncoded scripts encoded_scripts
+  pub ran : IsRun encoded_document encoded_scripts ends output
+  pub decoded : AreDecodedLines output bytes
+
+-- no number is refused for its form
+abbrev pub IsOfWholeNumbers : RunFault → Type 0
+IsOfWholeNumbers f = (f ≢ RunFault.Read ReadFault.NotWhole) × (f ≢ RunFault.Script ScriptFault.NotWhole)
+
+-- a fault of a run on what is given of the two texts, and never that a number isn't whole
+pub record IsFaultOnGiven (document scripts : List ℕ) (workers viewers : ℕ) (f : RunFault) : Type 0 where
+  pub given_document : List ℕ
+  pub given_scripts : List ℕ
+  pub document_is : IsGiven document given_document
+  pub scripts_are : IsGiven scripts given_scripts
+  pub fault : IsFaultOfRun given_document given_scripts workers viewers f
+  pub whole : IsOfWholeNumbers f
+
+-- want of memory may be answered at any texts
+abbrev pub IsFaultOfDecimalsRun : List ℕ → List ℕ → ℕ → ℕ → RunFault → Type 0
+IsFaultOfDecimalsRun document scripts workers viewers f =
+    (f ≡ RunFault.OutOfMemory) ⊎ IsFaultOnGiven document scripts workers viewers f
+
+-- ---- what is served
+
+abbrev pub AreServedDecimals
+    : List ℕ → List ℕ → ℕ → ℕ → List (Vec ℕ) → Option (List ℕ) → Option (List ℕ) → Type 0
+AreServedDecimals = AreServedBy IsDecimalsRun
+
+abbrev pub IsDecimalsTextsFault
+    : List ℕ → List ℕ → ℕ → ℕ → Option (List ℕ) → Option (List ℕ) → Bool → ServeFault → Type 0
+IsDecimalsTextsFault = IsTextsFaultBy IsDecimalsRun IsFaultOfDecimalsRun
+
+abbrev pub IsServedDecimals : List ℕ → ℕ → ℕ → List (Vec ℕ) → Option (List ℕ) → Option (List ℕ) → Type 0
+IsServedDecimals = IsServedBy IsDecimalsRun
+
+abbrev pub IsServeDecimalsFault
+    : Option (List ℕ) → ℕ → ℕ → Bool → Option (List ℕ) → Option (List ℕ) → Bool → ServeFault → Type 0
+IsServeDecimalsFault = IsServeFaultBy IsDecimalsRun IsFaultOfDecimalsRun

@@ -1,0 +1,130 @@
+//! Serves a document and its scripts whose numbers are of any form.
+ghost use Rattle.std.specs.Prelude.{◌≡◌, ◌≤◌, IfOk, IfErr, IfSome, OnOk};
+ghost use Rattle.city_model.specs.SerialEnds.{commits_in};
+ghost use Rattle.city_crew.specs.Seen.{AreSeen};
+ghost use Rattle.city_desk.specs.InTurn.{AreInTurn};
+ghost use Rattle.city_serve.specs.Served.{max_input};
+ghost use Rattle.city_serve.specs.ServedTexts.{LosesAtMost, WhereAlone};
+ghost use Rattle.city_serve.specs.Decimals.{IsGiven, given_text, IsDecimalsRun, IsFaultOfDecimalsRun};
+ghost use Rattle.city_serve.specs.Decimals.{AreServedDecimals, IsDecimalsTextsFault, IsServedDecimals, IsServeDecimalsFault};
+
+use crate::device::Device;
+use crate::fault::ServeFault;
+use crate::run::run;
+use crate::serve::{MOST, cut, read_at_most, write_output};
+use city_crew::OpenGate;
+use city_decimals::{DecimalsFault, decode_lines, encode};
+use city_desk::{Output, RunFault};
+use city_doc::MAX_TEXT;
+use std::alloc::{AllocError, Global};
+use std::io::{Read, Write};
+use std::sync::Wait;
+use std::thread::Threads;
+
+/// As `serve`, with numbers of any form, which are given back as they were written.
+///
+/// The two texts are encoded, the scripts are run on the document, and what is written is the decoded output. A
+/// fault is that of the run on the encoded texts; a text that is too long or no JSON is refused for that. No number
+/// is refused for its form.
+pub fn serve_decimals<T: Threads + Wait + Sync, R: Read, W: Write>(
+    rt: &T,
+    alloc: Global,
+    reader: &mut Device<R>,
+    writer: &mut Device<W>,
+    workers: usize,
+    viewers: usize,
+) -> Result<Vec<Vec<u64>>, ServeFault>
+    requires workers { (1 ≤ workers) × (workers ≤ 16) }
+    requires viewers { viewers ≤ 4 }
+    ensures served { IfOk result (λ seen. IfSome (R.remaining reader.old.0) (λ input.
+        IsServedDecimals input workers viewers seen.items (W.contents writer.old.0) (W.contents writer.new.0))) }
+    ensures taken { LosesAtMost max_input (R.remaining reader.old.0) (R.remaining reader.new.0) }
+    ensures unfailed { OnOk result ((reader.new.1 ≡ reader.old.1) × (writer.new.1 ≡ writer.old.1)) }
+    ensures fault { IfErr result (IsServeDecimalsFault (R.remaining reader.old.0) workers viewers reader.new.1
+        (W.contents writer.old.0) (W.contents writer.new.0) writer.new.1) }
+{
+    let input = read_at_most(alloc, reader, MOST)?;
+    let (document, scripts) = cut(input.as_slice());
+    serve_decimals_texts(rt, alloc, document, scripts, writer, workers, viewers)
+}
+
+/// As `serve_texts`, with numbers of any form, which are given back as they were written.
+///
+/// The texts and the faults are as for `serve_decimals`.
+pub fn serve_decimals_texts<R: Threads + Wait + Sync, W: Write>(
+    rt: &R,
+    alloc: Global,
+    document: &[u8],
+    scripts: &[u8],
+    writer: &mut Device<W>,
+    workers: usize,
+    viewers: usize,
+) -> Result<Vec<Vec<u64>>, ServeFault>
+    requires workers { (1 ≤ workers) × (workers ≤ 16) }
+    requires viewers { viewers ≤ 4 }
+    ensures served { IfOk result (λ seen. AreServedDecimals document.now scripts.now workers viewers seen.items
+        (W.contents writer.old.0) (W.contents writer.new.0)) }
+    ensures unfailed { OnOk result (writer.new.1 ≡ writer.old.1) }
+    ensures fault { IfErr result (IsDecimalsTextsFault document.now scripts.now workers viewers
+        (W.contents writer.old.0) (W.contents writer.new.0) writer.new.1) }
+{
+    let output = match run_decimals(rt, alloc, document, scripts, workers, viewers) {
+        Ok(output) => output,
+        Err(fault) => return Err(ServeFault::Run(fault)),
+    };
+    if !write_output(writer, output.bytes.as_slice()) {
+        return Err(ServeFault::Write);
+    }
+    Ok(output.seen)
+}
+
+/// Runs the scripts on the document's city, both encoded, and decodes the output.
+fn run_decimals<R: Threads + Wait + Sync>(
+    rt: &R,
+    alloc: Global,
+    document: &[u8],
+    scripts: &[u8],
+    workers: usize,
+    viewers: usize,
+) -> Result<Output, RunFault>
+    requires workers { (1 ≤ workers) × (workers ≤ 16) }
+    requires viewers { viewers ≤ 4 }
+    ensures ran { IfOk result (λ o. IsDecimalsRun document.now scripts.now o.ends o.bytes.items) }
+    ensures in_turn { IfOk result (λ o. WhereAlone workers viewers (AreInTurn 0 o.ends)) }
+    ensures seen { IfOk result (λ o. AreSeen viewers (commits_in o.ends) o.seen.items) }
+    ensures fault { IfErr result (IsFaultOfDecimalsRun document.now scripts.now workers viewers) }
+{
+    let model = encoded(alloc, document)?;
+    let commands = encoded(alloc, scripts)?;
+    let (model, commands) = (given(&model, document), given(&commands, scripts));
+    let output = run(rt, alloc, &OpenGate, model, commands, workers, viewers)?;
+    match decode_lines(alloc, output.bytes.as_slice()) {
+        Ok(bytes) => Ok(Output { bytes, ..output }),
+        // Each line of an output is JSON, so that memory alone is short here.
+        Err(_) => Err(RunFault::OutOfMemory),
+    }
+}
+
+/// The encoded text, and none where the text is too long or no JSON: the run refuses it as it stands.
+fn encoded(alloc: Global, text: &[u8]) -> Result<Option<Vec<u8>>, AllocError>
+    ensures { IfOk result (λ o. IsGiven text.now (given_text o text.now)) }
+{
+    if text.len() > MAX_TEXT {
+        return Ok(None);
+    }
+    match encode(alloc, text) {
+        Ok(encoded) => Ok(Some(encoded)),
+        Err(DecimalsFault::NotJson) => Ok(None),
+        Err(DecimalsFault::OutOfMemory) => Err(AllocError),
+    }
+}
+
+/// What the run is given of a text.
+fn given<'a>(encoded: &'a Option<Vec<u8>>, text: &'a [u8]) -> &'a [u8]
+    ensures { result.now ≡ given_text encoded.now text.now }
+{
+    match encoded {
+        Some(encoded) => encoded.as_slice(),
+        None => text,
+    }
+}
