@@ -1,4 +1,5 @@
 pub mod EnoughRead
+pub mod Given
 pub mod GivenOptions
 pub mod Inputs
 pub mod KnownBytes

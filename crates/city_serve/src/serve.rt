@@ -15,7 +15,7 @@ use std::sync::Wait;
 use std::thread::Threads;
 
 /// The most bytes that are read: two texts of the greatest length, the newline, and one more.
-const MOST: usize = 2 * MAX_TEXT + 2;
+pub(crate) const MOST: usize = 2 * MAX_TEXT + 2;
 
 /// How many bytes are asked for at a time.
 const PIECE: usize = 64 * 1024;
@@ -76,7 +76,7 @@ pub(crate) fn read_at_most<R: Read>(
 }
 
 /// The document and the scripts of an input.
-fn cut(input: &[u8]) -> (&[u8], &[u8])
+pub(crate) fn cut(input: &[u8]) -> (&[u8], &[u8])
     ensures document { result.0.now ≡ document_of input.now }
     ensures scripts { result.1.now ≡ scripts_of input.now }
 {

@@ -5,7 +5,7 @@ ghost use Rattle.city_crew.specs.Seen.{AreSeen};
 ghost use Rattle.city_desk.specs.InTurn.{AreInTurn};
 ghost use Rattle.city_serve.specs.Served.{max_input};
 ghost use Rattle.city_serve.specs.ServedTexts.{LosesAtMost, WhereAlone};
-ghost use Rattle.city_serve.specs.Decimals.{IsGiven, given_text, IsDecimalsRun, IsFaultOfDecimalsRun};
+ghost use Rattle.city_serve.specs.Decimals.{IsGiven, HasWholeNumbers, given_text, IsDecimalsRun, IsFaultOfDecimalsRun};
 ghost use Rattle.city_serve.specs.Decimals.{AreServedDecimals, IsDecimalsTextsFault, IsServedDecimals, IsServeDecimalsFault};
 
 use crate::device::Device;
@@ -107,7 +107,8 @@ fn run_decimals<R: Threads + Wait + Sync>(
 
 /// The encoded text, and none where the text is too long or no JSON: the run refuses it as it stands.
 fn encoded(alloc: Global, text: &[u8]) -> Result<Option<Vec<u8>>, AllocError>
-    ensures { IfOk result (λ o. IsGiven text.now (given_text o text.now)) }
+    ensures given { IfOk result (λ o. IsGiven text.now (given_text o text.now)) }
+    ensures whole { IfOk result (λ o. HasWholeNumbers (given_text o text.now)) }
 {
     if text.len() > MAX_TEXT {
         return Ok(None);

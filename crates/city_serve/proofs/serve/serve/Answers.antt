@@ -1,7 +1,8 @@
 use Rattle.std.proofs.Common.{ap, ◌∙◌}
 use Rattle.std.proofs.lemmas.Result.{IfOk-weaker, IfErr-weaker}
 use Rattle.city_serve.specs.Served.{document_of, scripts_of}
-use Rattle.city_serve.specs.ServedTexts.{AreServed}
+use Rattle.city_desk.specs.TextRuns.{IsRun}
+use Rattle.city_serve.specs.ServedTexts.{AreServed, IsFaultOfRun}
 use Rattle.city_serve.proofs.Serving.{of_input, fault_of_input}
 use Rattle.city_serve.proofs.serve.serve.Goals as goal
 
@@ -19,5 +20,5 @@ returns-clause-fault g c =
     IfErr-weaker c.serve_texts.result _ _
     (fault_of_input (g.R.Read.remaining c.args.reader.now.0) c.in_ok-input.input.items c.cut.result.0.now c.cut.result.1.now c.in_ok-input.ensures.input
     (c.cut.ensures.document ∙ ap document_of c.as_slice.ensures.value) (c.cut.ensures.scripts ∙ ap scripts_of c.as_slice.ensures.value)
-    c.args.workers c.args.viewers (g.W.Write.contents c.args.writer.now.0) (g.W.Write.contents c.serve_texts.new.writer.0) c.read_at_most.new.reader.1 c.serve_texts.new.writer.1)
+    IsRun IsFaultOfRun c.args.workers c.args.viewers (g.W.Write.contents c.args.writer.now.0) (g.W.Write.contents c.serve_texts.new.writer.0) c.read_at_most.new.reader.1 c.serve_texts.new.writer.1)
     c.serve_texts.ensures.fault
