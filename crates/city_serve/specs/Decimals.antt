@@ -23,9 +23,13 @@ use Rattle.city_serve.specs.Served.{IsServedBy, IsServeFaultBy}
 abbrev pub IsRefusedText : List ℕ → Type 0
 IsRefusedText text = IsTooLong text ⊎ (IsUtf8 text → document text ≡ None)
 
+-- the text isn't too long, and this is its encoded text
+abbrev pub IsReadEncoded : List ℕ → List ℕ → Type 0
+IsReadEncoded text encoded = IsReadable text × IsEncoded text encoded
+
 -- the run is given the encoded text, and a text that is refused as it stands
 abbrev pub IsGiven : List ℕ → List ℕ → Type 0
-IsGiven text given = (IsReadable text × IsEncoded text given) ⊎ (IsRefusedText text × (given ≡ text))
+IsGiven text given = IsReadEncoded text given ⊎ (IsRefusedText text × (given ≡ text))
 
 -- each tree that the editor may read of the text has whole numbers alone
 abbrev pub HasWholeNumbers : List ℕ → Type 0
@@ -36,10 +40,6 @@ given_text None text = text
 given_text (Some encoded) text = encoded.items
 
 -- ---- what it answers
-
--- the text isn't too long, and this is its encoded text
-abbrev pub IsReadEncoded : List ℕ → List ℕ → Type 0
-IsReadEncoded text encoded = IsReadable text × IsEncoded text encoded
 
 -- the bytes are those of a run on the encoded texts, decoded line by line
 pub record IsDecimalsRun (document scripts : List ℕ) (ends : List End) (bytes : List ℕ) : Type 0 where
