@@ -23,7 +23,11 @@ use Rattle.city_doc.specs.script.Faults.{ScriptTextFault, TreeFault, ItemsFault,
 use Rattle.city_desk.specs.declared.fault.RunFault.{RunFault}
 use Rattle.city_desk.specs.RunFaults.{IsRunFault}
 use Rattle.city_serve.specs.ServedTexts.{IsFaultOfRun}
+use Rattle.city_desk.specs.TextRuns.{IsRun}
+use Rattle.city_decimals.specs.Lines.{AreDecodedLines}
+use Rattle.city_model.specs.declared.end.End.{End}
 use Rattle.city_serve.specs.Decimals.{IsGiven, IsReadEncoded, IsRefusedText, HasWholeNumbers, IsOfWholeNumbers}
+use Rattle.city_serve.specs.Decimals.{IsDecimalsRun, IsFaultOfDecimalsRun}
 
 -- a text that is read has a value
 abbrev last : Option (Json × List Token) → Option Json
@@ -38,7 +42,7 @@ of_reading ts (Some (j, [])) d is e =
     (j, ap last (ap (value json.max_depth) spelt ∙ value-json_tokens j json.max_depth [] (omega (arith, shallow))))
 of_reading ts (Some (j, t ∷ r)) d is e = absurd (cc)
 
-pub has_value : (text : List ℕ) (d : Data) → read text ≡ Some d → (j : Json) × (document text ≡ Some j)
+has_value : (text : List ℕ) (d : Data) → read text ≡ Some d → (j : Json) × (document text ≡ Some j)
 has_value text d e = of_reading (tokens text) (value serde.max_depth (tokens text)) d refl e
 
 -- what is refused as it stands isn't read
@@ -49,7 +53,7 @@ refused_unread text d (inr none) tree =
     let bad : None ≡ Some found.0 = sym (none tree.1.0) ∙ found.1 in
     absurd (cc)
 
-pub given_is_encoded : (text given : List ℕ) (d : Data) → IsGiven text given → HasTree given d → IsReadEncoded text given
+given_is_encoded : (text given : List ℕ) (d : Data) → IsGiven text given → HasTree given d → IsReadEncoded text given
 given_is_encoded text given d (inl encoded) tree = encoded
 given_is_encoded text given d (inr (refused, same)) tree =
     absurd (refused_unread text d refused (subst (λ t. HasTree t d) same tree))
@@ -91,8 +95,8 @@ document_whole text whole (inr (inr (inr (d, tree, first)))) = not_false (model.
 
 no_parts_fault : (ps : List ScriptParts) → PartsFault ps ScriptFault.NotWhole → ⊥
 no_parts_fault ps (inl (e, _)) = absurd (cc)
-no_parts_fault ps (inr (inl (n, i, e, _))) = absurd (cc)
-no_parts_fault ps (inr (inr (n, i, e, _))) = absurd (cc)
+no_parts_fault ps (inr (inl (n, i, e, _, _))) = absurd (cc)
+no_parts_fault ps (inr (inr (n, i, e, _, _, _))) = absurd (cc)
 
 no_items_fault : (ds : List Data) → ItemsFault ds ScriptFault.NotWhole → ⊥
 no_items_fault ds (inl (n, e, _)) = absurd (cc)
@@ -109,9 +113,35 @@ scripts_whole text whole (inr (inr (inl (e, _)))) = absurd (cc)
 scripts_whole text whole (inr (inr (inr (inl (e, (d, tree, other)))))) = not_false (model.is_integral d) (whole d tree) other
 scripts_whole text whole (inr (inr (inr (inr (d, tree, integral, fault))))) = no_tree_fault d fault
 
-pub whole_fault : (document scripts : List ℕ) (workers viewers : ℕ) (f : RunFault) → HasWholeNumbers document → HasWholeNumbers scripts
-    → IsFaultOfRun document scripts workers viewers f → IsOfWholeNumbers f
-whole_fault document scripts workers viewers f first second fault = (
-  λ is. document_whole document first (subst (IsRunFault document scripts) is fault.0).1,
-  λ is. scripts_whole scripts second (subst (IsRunFault document scripts) is fault.0).1.1,
+whole_fault : (model commands : List ℕ) (workers viewers : ℕ) (f : RunFault) → HasWholeNumbers model → HasWholeNumbers commands
+    → IsFaultOfRun model commands workers viewers f → IsOfWholeNumbers f
+whole_fault model commands workers viewers f first second fault = (
+  λ is. document_whole model first (subst (IsRunFault model commands) is fault.0).1,
+  λ is. scripts_whole commands second (subst (IsRunFault model commands) is fault.0).2,
 )
+
+-- ---- a run on what is given of two texts
+
+module _ (model commands given_model given_commands : List ℕ) (first : IsGiven model given_model) (second : IsGiven commands given_commands) where
+  pub decimals_run : (ends : List End) (output bytes : List ℕ) → IsRun given_model given_commands ends output → AreDecodedLines output bytes
+      → IsDecimalsRun model commands ends bytes
+  decimals_run ends output bytes ran decoded = record {
+    encoded_document = given_model;
+    encoded_scripts = given_commands;
+    output = output;
+    document_is = given_is_encoded model given_model ran.admitted.0 first ran.admitted.1;
+    scripts_are = given_is_encoded commands given_commands ran.read_as.0 second ran.read_as.1;
+    ran = ran;
+    decoded = decoded;
+  }
+
+  pub decimals_fault : (workers viewers : ℕ) (f : RunFault) → HasWholeNumbers given_model → HasWholeNumbers given_commands
+      → IsFaultOfRun given_model given_commands workers viewers f → IsFaultOfDecimalsRun model commands workers viewers f
+  decimals_fault workers viewers f model_whole commands_whole fault = inr (record {
+    given_document = given_model;
+    given_scripts = given_commands;
+    document_is = first;
+    scripts_are = second;
+    fault = fault;
+    whole = whole_fault given_model given_commands workers viewers f model_whole commands_whole fault;
+  })

@@ -30,21 +30,21 @@ Written = List ℕ → List ℕ → List End → List ℕ → Type 0
 
 -- the writer has got the bytes that are written of the two texts, and no others; one worker without viewers
 -- runs the scripts in their order
-pub record AreServedBy (ran : Written) (document scripts : List ℕ) (workers viewers : ℕ) (seen : List (Vec ℕ))
+pub record AreServedBy (run : Written) (document scripts : List ℕ) (workers viewers : ℕ) (seen : List (Vec ℕ))
     (old new : Option (List ℕ)) : Type 0 where
   pub ends : List End
   pub bytes : List ℕ
-  pub ran : ran document scripts ends bytes
+  pub ran : run document scripts ends bytes
   pub in_turn : WhereAlone workers viewers (AreInTurn 0 ends)
   pub looked : AreSeen viewers (commits_in ends) seen
   pub written : Appends old new bytes
 
 -- the writer has got the first of the bytes that are written of the two texts, and no others
-pub record AreCutShortBy (ran : Written) (document scripts : List ℕ) (workers viewers : ℕ) (old new : Option (List ℕ))
+pub record AreCutShortBy (run : Written) (document scripts : List ℕ) (workers viewers : ℕ) (old new : Option (List ℕ))
     : Type 0 where
   pub ends : List End
   pub bytes : List ℕ
-  pub ran : ran document scripts ends bytes
+  pub ran : run document scripts ends bytes
   pub in_turn : WhereAlone workers viewers (AreInTurn 0 ends)
   pub written : AppendsSome old new bytes
 
