@@ -1,8 +1,9 @@
 pub mod EnoughRead
+pub mod FoundOptions
 pub mod GivenOptions
 pub mod Inputs
 pub mod KnownBytes
 pub mod LineAnswers
-pub mod NamedFiles
 pub mod Options
+pub mod Rows
 mod Serving

@@ -7,7 +7,7 @@
 //! refused.
 #![tactic(auto)]
 
-ghost use Rattle.city_serve.specs.CommandLines.{HasCrew};
+ghost use Rattle.city_serve.specs.CommandLines.{HasOptions};
 
 use city_desk::RunFault;
 use city_serve::command_line::{Asked, LineFault, asked_by};
@@ -53,7 +53,7 @@ fn answer<T: Threads + Wait + Sync>(
     threads: &T,
     asked: &Asked<'_>,
 ) -> Result<(), ServeFault>
-    requires { HasCrew asked.now }
+    requires { HasOptions asked.now }
 {
     let alloc = rt.alloc();
     let mut output = Device::new(io::writer(rt));
@@ -64,17 +64,17 @@ fn answer<T: Threads + Wait + Sync>(
             }
             Ok(())
         }
-        Asked::Input(crew) => {
+        Asked::Input(options) => {
             let mut input = Device::new(rt.reader());
-            let (workers, viewers) = (crew.workers, crew.viewers);
+            let (workers, viewers) = (options.workers, options.viewers);
             let seen = serve(threads, alloc, &mut input, &mut output, workers, viewers)?;
             tell_seen(rt, seen.as_slice())
         }
-        Asked::Files(crew, model, scripts) => {
+        Asked::Files(options, model, scripts) => {
             let document = read_file(rt, *model)?;
             let scripts = read_file(rt, *scripts)?;
             let (document, scripts) = (document.as_slice(), scripts.as_slice());
-            let (workers, viewers) = (crew.workers, crew.viewers);
+            let (workers, viewers) = (options.workers, options.viewers);
             let seen = serve_texts(
                 threads,
                 alloc,
