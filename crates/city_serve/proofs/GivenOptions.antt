@@ -1,16 +1,20 @@
--- What clap holds after the words of the two options, each followed by its value.
-use Rattle.std.proofs.Common.{◌≡◌, ℕ, Bool, true, false, ◌&&◌, List, [], ◌∷◌, ◌++◌, Option, Some, None, nat_eq, refl, ap, ap₂, ◌∙◌, codes, arith}
-use Rattle.std.specs.Prelude.{◌==◌, ◌≢◌, if◌then◌else◌, IfSome, fold, option_and_then}
+-- What clap holds as it goes over a line of options and names.
+use Rattle.std.proofs.Common.{◌≡◌, ℕ, Bool, true, false, ◌&&◌, cond, List, [], ◌∷◌, ◌++◌, Option, Some, None, is_some, nat_eq, refl, sym, subst, ap, ap₂, ◌∙◌, codes, arith}
+use Rattle.std.specs.Prelude.{◌==◌, ◌≢◌, if◌then◌else◌, find, fold, option_and_then, option_map, slice_get}
 use Rattle.std.specs.Option.{option_map_or}
 use Rattle.std.specs.Str.{bytes_eq}
 use Rattle.clap.specs.Lexer.{long_of, long_of_rest, short_of, short_of_rest, strip_byte}
 use Rattle.std.proofs.lemmas.Bool.Decides.{nat_tests}
 use Rattle.clap.proofs.OnLiterals.{clap_on_literals}
-use Rattle.clap.specs.Walk.{Held, Rule, Step, Text, Walk, after_step, idle, long_or_other, nothing_held, option, plain_word, settled, short_or_plain, trailing, walk_from, walked, word_met}
+use Rattle.clap.specs.Walk.{Held, Row, Rule, Step, Text, Waiting, Walk, after_step, arg_by_id, arg_by_index, has_row, idle, is_pending, long_or_other, option, option_word, plain_word, pushed, settled, short_or_plain, to_positional, trailing, value, walk_from, walked, with_values, without, word_met}
 use Rattle.clap.specs.Simple.{Shape, built}
 use Rattle.clap.specs.Kinds.{Kinds, or_else}
-use Rattle.clap.specs.Faults.{bundle_fault, flag_word_fault, step_fault, turn_fault, walk_fault, word_fault}
-use Rattle.city_serve.specs.CommandLines.{IsName, cityed_command, words_of}
+use Rattle.clap.specs.Faults.{bundle_fault, flag_word_fault, settle_fault, step_fault, turn_fault, walk_fault, word_fault}
+use Rattle.clap.specs.declared.builder.value_parser.Reading.TheVariants.{AsWritten}
+use Rattle.clap.specs.declared.error.kind.ErrorKind.TheVariants.{ArgumentConflict, UnknownArgument}
+use Rattle.clap.specs.declared.parser.matches.ValueSource.TheVariants.{CommandLine}
+use Rattle.city_serve.specs.CommandLines.{IsLineOf, IsName, cityed_command, ends, gives_decimals, gives_name, gives_watch, gives_workers}
+use Rattle.city_serve.proofs.Rows.{AreDistinct, AreFresh, behind, has_found, not_both, row_by, used_fresh}
 
 abbrev pub top : Shape
 top = (built cityed_command).top
@@ -42,12 +46,13 @@ no_dashes (b ∷ bs) name =
 
 module _ (word : Text) (name : IsName word) (h : Held) where
   no_long : long_of word ≡ None
-  no_long = ap (λ rest. option_and_then long_of_rest (option_and_then (strip_byte 45) rest)) (no_hyphen word name)
+  no_long =
+      ap (λ rest. option_and_then long_of_rest (option_and_then (strip_byte 45) rest)) (no_hyphen word name)
 
   no_short : short_of word ≡ None
   no_short = ap (option_and_then short_of_rest) (no_hyphen word name)
 
-  pub name_met : (p : ℕ) → word_met rules [] false idle p word h ≡ plain_word rules idle word h
+  name_met : (p : ℕ) → word_met rules [] false idle p word h ≡ plain_word rules idle word h
   name_met p =
       ap (λ t. if t then (h, trailing p) else long_or_other rules idle word (long_of word) h) (no_dashes word name)
       ∙ ap (λ o. long_or_other rules idle word o h) no_long
@@ -66,108 +71,176 @@ module _ (word : Text) (name : IsName word) (h : Held) where
       ∙ ap (λ o. flag_word_fault rules false o word h) no_long
       ∙ ap (λ o. option_map_or (λ flags. bundle_fault rules false flags h) o []) no_short
 
-  pub name_passes : word_fault top [] false idle word h ≡ []
-  name_passes = no_flag
+-- ---- one word after the other
 
-  value_passes : (id : Text) → word_fault top [] false (option id) word h ≡ []
-  value_passes id = no_flag
+-- the walk stands between two arguments: h is held, and the next name goes to the place p
+abbrev pub stands : Held → ℕ → Walk
+stands h p = record (walk_from h) { position = p }
 
--- ---- words that clap passes over without a fault
+-- the words are passed without a fault, and then the rows are these
+pub record Goes (w : Walk) (words : List Text) (found : List Row) : Type 0 where
+  pub held : Held
+  pub place : ℕ
+  pub faults : (rest : List Text) → walk_fault top [] w (words ++ rest) ≡ walk_fault top [] (stands held place) rest
+  pub walks : (rest : List Text) → fold (walked rules []) w (words ++ rest) ≡ fold (walked rules []) (stands held place) rest
+  pub settles : settle_fault rules false held ≡ []
+  pub rows : (settled rules held).rows ≡ found
 
-pub record Passes (before : Walk) (words : List Text) (after : Walk) : Type 0 where
-  pub faults : (rest : List Text) → walk_fault top [] before (words ++ rest) ≡ walk_fault top [] after rest
-  pub walks : (rest : List Text) → fold (walked rules []) before (words ++ rest) ≡ fold (walked rules []) after rest
+-- so it goes, or a word among them is one too many
+abbrev pub Ends : Bool → Walk → List Text → List Row → Type 0
+Ends false w words found = Goes w words found
+Ends true w words found = (rest : List Text) → walk_fault top [] w (words ++ rest) ≡ UnknownArgument ∷ []
 
-pub nothing_passes : (w : Walk) → Passes w [] w
-nothing_passes w = record { faults = λ rest. refl; walks = λ rest. refl }
-
--- a word, and then more of them
-pub word_then : (before between after : Walk) (word : Text) (words : List Text) → turn_fault top [] before word ≡ [] → walked rules [] before word ≡ between
-    → Passes between words after → Passes before (word ∷ words) after
+word_then : (over : Bool) (w next : Walk) (word : Text) (words : List Text) (found : List Row) → turn_fault top [] w word ≡ []
+    → walked rules [] w word ≡ next → Ends over next words found → Ends over w (word ∷ words) found
 unfolding walk_fault
-word_then before between after word words free is more = record {
-  faults = λ rest. ap₂ (λ (f : Kinds) (w : Walk). or_else f (walk_fault top [] w (words ++ rest))) free is ∙ more.faults rest;
-  walks = λ rest. ap (λ (w : Walk). fold (walked rules []) w (words ++ rest)) is ∙ more.walks rest;
+word_then false w next word words found free is goes = record {
+  held = goes.held;
+  place = goes.place;
+  faults = λ rest. ap₂ (λ (f : Kinds) (v : Walk). or_else f (walk_fault top [] v (words ++ rest))) free is ∙ goes.faults rest;
+  walks = λ rest. ap (λ (v : Walk). fold (walked rules []) v (words ++ rest)) is ∙ goes.walks rest;
+  settles = goes.settles;
+  rows = goes.rows;
+}
+word_then true w next word words found free is fault =
+    λ rest. ap₂ (λ (f : Kinds) (v : Walk). or_else f (walk_fault top [] v (words ++ rest))) free is ∙ fault rest
+
+-- ---- what a use of an argument makes of what is held
+
+-- the argument has its value, and it is used with the next one
+abbrev put : Text → Text → Held → Held
+put id v h = record (settled rules h) { pending = Some (id, v ∷ []) }
+
+abbrev pub text_row : Text → Text → Row
+text_row id v = row_by id AsWritten CommandLine (v ∷ [])
+
+abbrev pub flag_row : Row
+flag_row = row_by (codes "decimals") AsWritten CommandLine (codes "true" ∷ [])
+
+-- an option waits for its value
+abbrev waits_for : Text → Held → ℕ → Walk
+waits_for id h p =
+    record (stands (record (settled rules h) { pending = Some (id, []) }) p) { waiting = option id }
+
+module _ (id : Text) (h : Held) (p : ℕ) (v : Text) (name : IsName v) where
+  value_turn : turn_fault top [] (waits_for id h p) v ≡ []
+  value_turn =
+      let w = waits_for id h p in
+      ap₂ (λ (f : Kinds) (met : Held × Step). or_else f (step_fault top p met.0 met.1)) (no_flag v name w.held) (value_met v name w.held id p)
+
+  value_walked : walked rules [] (waits_for id h p) v
+      ≡ after_step rules v (waits_for id h p) (plain_word rules (option id) v (waits_for id h p).held).0 (plain_word rules (option id) v (waits_for id h p).held).1
+  unfolding walked
+  value_walked =
+      let w = waits_for id h p in
+      ap (λ (met : Held × Step). after_step rules v w met.0 met.1) (value_met v name w.held id p)
+
+-- a name where nothing waits
+module _ (h : Held) (p : ℕ) (n : Text) (name : IsName n) where
+  pub name_turn : turn_fault top [] (stands h p) n ≡ step_fault top p h value
+  name_turn =
+      ap₂ (λ (f : Kinds) (met : Held × Step). or_else f (step_fault top p met.0 met.1)) (no_flag n name h) (name_met n name h p)
+
+  name_walked : walked rules [] (stands h p) n ≡ to_positional rules (arg_by_index rules p) n (stands h p) h
+  unfolding walked
+  name_walked = ap (λ (met : Held × Step). after_step rules n (stands h p) met.0 met.1) (name_met n name h p)
+
+-- ---- the walk over a line
+
+-- which name is next
+pub data Place : Type 0 where
+  model_next : Place
+  scripts_next : Place
+  none_next : Place
+
+abbrev pub position_of : Place → ℕ
+position_of model_next = 1
+position_of scripts_next = 2
+position_of none_next = 3
+
+-- there are more names than places
+abbrev pub is_over : Place → List Text → Bool
+is_over place [] = false
+is_over model_next (n ∷ names) = is_over scripts_next names
+is_over scripts_next (n ∷ names) = is_over none_next names
+is_over none_next (n ∷ names) = true
+
+-- the rows of the line's arguments, in their order
+abbrev pub rows_in : {workers watch : Option Text} {decimals : Bool} {names args : List Text} → Place → IsLineOf workers watch decimals names args → List Row
+rows_in place ends = []
+rows_in place (gives_workers v watch decimals names rest plain more) = text_row (codes "workers") v ∷ rows_in place more
+rows_in place (gives_watch workers v decimals names rest plain more) = text_row (codes "watch") v ∷ rows_in place more
+rows_in place (gives_decimals workers watch names rest more) = flag_row ∷ rows_in place more
+rows_in model_next (gives_name workers watch decimals n names rest plain more) = text_row (codes "MODEL") n ∷ rows_in scripts_next more
+rows_in scripts_next (gives_name workers watch decimals n names rest plain more) = text_row (codes "SCRIPTS") n ∷ rows_in none_next more
+rows_in none_next (gives_name workers watch decimals n names rest plain more) = rows_in none_next more
+
+-- what is held where a new argument is put
+module _ (h : Held) (rows : List Row) (are : (settled rules h).rows ≡ rows) where
+  lacks : (id : Text) → has_row id rows ≡ false → has_row id (settled rules h).rows ≡ false
+  lacks id fresh = ap (has_row id) are ∙ fresh
+
+  one_more : (id v : Text) → has_row id rows ≡ false → with_values id AsWritten CommandLine (v ∷ []) (without id (settled rules h).rows) ≡ rows ++ row_by id AsWritten CommandLine (v ∷ []) ∷ []
+  one_more id v fresh = used_fresh id AsWritten CommandLine (v ∷ []) (settled rules h).rows (lacks id fresh) ∙ ap (λ rs. rs ++ row_by id AsWritten CommandLine (v ∷ []) ∷ []) are
+
+-- no fault where no row is repeated
+no_repeat : (b : Bool) → b ≡ false → or_else (if b && true then ArgumentConflict ∷ [] else []) [] ≡ []
+no_repeat b fresh = ap (λ t. or_else (if t && true then ArgumentConflict ∷ [] else []) []) fresh
+
+no_other : (f : Kinds) → f ≡ [] → or_else f [] ≡ []
+no_other f none = ap (λ k. or_else k []) none
+
+abbrev put_flag : Held → Held
+put_flag h = record h {
+  rows = with_values (codes "decimals") AsWritten CommandLine (codes "true" ∷ []) (without (codes "decimals") (settled rules h).rows);
+  pending = None;
 }
 
--- ---- the options
+-- an option with its value
+option_then : (over : Bool) (h : Held) (p : ℕ) (id name v : Text) (words : List Text) (found : List Row) → IsName v
+    → turn_fault top [] (stands h p) name ≡ [] → walked rules [] (stands h p) name ≡ waits_for id h p
+    → option_word (arg_by_id rules id) id v (waits_for id h p).held ≡ (put id v h, idle)
+    → Ends over (stands (put id v h) p) words found → Ends over (stands h p) (name ∷ v ∷ words) found
+option_then over h p id name v words found plain free is takes more =
+    word_then over (stands h p) (waits_for id h p) name (v ∷ words) found free is
+    (word_then over (waits_for id h p) (stands (put id v h) p) v words found (value_turn id h p v plain)
+    (value_walked id h p v plain ∙ ap (λ (to : Held × Waiting). record (stands to.0 p) { waiting = to.1 }) takes) more)
 
--- an option waits for its value, where clap holds h before it
-abbrev waits_for : Text → Held → Walk
-waits_for id h = record {
-  held = record (settled rules h) { pending = Some (id, []) };
-  waiting = option id;
-  position = 1;
-  is_trailing = false;
-  stopped = None;
+pub line_goes : {workers watch : Option Text} {decimals : Bool} {names args : List Text} (place : Place) (h : Held) (rows : List Row)
+    (line : IsLineOf workers watch decimals names args) → settle_fault rules false h ≡ [] → (settled rules h).rows ≡ rows → AreFresh rows (rows_in place line)
+    → Ends (is_over place names) (stands h (position_of place)) args (behind rows (rows_in place line))
+unfolding clap_on_literals
+line_goes place h rows ends settles are fresh = record {
+  held = h;
+  place = position_of place;
+  faults = λ rest. refl;
+  walks = λ rest. refl;
+  settles = settles;
+  rows = are;
 }
-
-abbrev with_value : Text → Text → Held → Held
-with_value id v h = record (settled rules h) { pending = Some (id, v ∷ []) }
-
-abbrev held_with : Text → Option Text → Held → Held
-held_with id None h = h
-held_with id (Some v) h = with_value id v h
-
-abbrev pub held_after : Option Text → Option Text → Held
-held_after workers watch = held_with (codes "watch") watch (held_with (codes "workers") workers nothing_held)
-
-abbrev pub start : Option Text → Option Text → Walk
-start workers watch = walk_from (held_after workers watch)
-
-abbrev workers_held : Option Text → Held
-workers_held workers = held_with (codes "workers") workers nothing_held
-
-workers_turn : (v : Text) (name : IsName v) → turn_fault top [] (waits_for (codes "workers") nothing_held) v ≡ []
-workers_turn v name =
-    let w = waits_for (codes "workers") nothing_held in
-    ap₂ (λ (f : Kinds) (met : Held × Step). or_else f (step_fault top 1 met.0 met.1)) (value_passes v name w.held (codes "workers")) (value_met v name w.held (codes "workers") 1)
-
-workers_walked : (v : Text) (name : IsName v) → walked rules [] (waits_for (codes "workers") nothing_held) v ≡ walk_from (with_value (codes "workers") v nothing_held)
-unfolding walked
-workers_walked v name =
-    let w = waits_for (codes "workers") nothing_held in
-    ap (λ (met : Held × Step). after_step rules v w met.0 met.1) (value_met v name w.held (codes "workers") 1)
-
-workers_pass : (workers : Option Text) → IfSome workers IsName → Passes (walk_from nothing_held) (words_of (codes "--workers") workers) (walk_from (workers_held workers))
-unfolding clap_on_literals
-workers_pass None name = nothing_passes (walk_from nothing_held)
-workers_pass (Some v) name =
-    word_then _ (waits_for (codes "workers") nothing_held) _ (codes "--workers") (v ∷ []) refl refl
-    (word_then _ _ _ v [] (workers_turn v name) (workers_walked v name) (nothing_passes _))
-
-watch_turn : (workers : Option Text) (v : Text) (name : IsName v) → turn_fault top [] (waits_for (codes "watch") (workers_held workers)) v ≡ []
-watch_turn workers v name =
-    let w = waits_for (codes "watch") (workers_held workers) in
-    ap₂ (λ (f : Kinds) (met : Held × Step). or_else f (step_fault top 1 met.0 met.1)) (value_passes v name w.held (codes "watch")) (value_met v name w.held (codes "watch") 1)
-
-watch_walked : (workers : Option Text) (v : Text) (name : IsName v) → walked rules [] (waits_for (codes "watch") (workers_held workers)) v ≡ walk_from (with_value (codes "watch") v (workers_held workers))
-unfolding walked
-watch_walked workers v name =
-    let w = waits_for (codes "watch") (workers_held workers) in
-    ap (λ (met : Held × Step). after_step rules v w met.0 met.1) (value_met v name w.held (codes "watch") 1)
-
--- --watch itself, after --workers or without it
-watch_name_turn : (workers : Option Text) → turn_fault top [] (walk_from (workers_held workers)) (codes "--watch") ≡ []
-unfolding clap_on_literals
-watch_name_turn None = refl
-watch_name_turn (Some n) = refl
-
-watch_name_walked : (workers : Option Text) → walked rules [] (walk_from (workers_held workers)) (codes "--watch") ≡ waits_for (codes "watch") (workers_held workers)
-unfolding clap_on_literals
-watch_name_walked None = refl
-watch_name_walked (Some n) = refl
-
-watch_pass : (workers watch : Option Text) → IfSome watch IsName → Passes (walk_from (workers_held workers)) (words_of (codes "--watch") watch) (start workers watch)
-watch_pass workers None name = nothing_passes (walk_from (workers_held workers))
-watch_pass workers (Some v) name =
-    word_then _ (waits_for (codes "watch") (workers_held workers)) _ (codes "--watch") (v ∷ []) (watch_name_turn workers) (watch_name_walked workers)
-    (word_then _ _ _ v [] (watch_turn workers v name) (watch_walked workers v name) (nothing_passes _))
-
--- both options, and after them any words
-module _ (workers watch : Option Text) (first : IfSome workers IsName) (second : IfSome watch IsName) (rest : List Text) where
-  pub options_faults : walk_fault top [] (walk_from nothing_held) (words_of (codes "--workers") workers ++ (words_of (codes "--watch") watch ++ rest)) ≡ walk_fault top [] (start workers watch) rest
-  options_faults = (workers_pass workers first).faults (words_of (codes "--watch") watch ++ rest) ∙ (watch_pass workers watch second).faults rest
-
-  pub options_walks : fold (walked rules []) (walk_from nothing_held) (words_of (codes "--workers") workers ++ (words_of (codes "--watch") watch ++ rest)) ≡ fold (walked rules []) (start workers watch) rest
-  options_walks = (workers_pass workers first).walks (words_of (codes "--watch") watch ++ rest) ∙ (watch_pass workers watch second).walks rest
+line_goes place h rows (gives_workers v watch decimals names rest plain more) settles are fresh =
+    option_then (is_over place names) h (position_of place) (codes "workers") (codes "--workers") v rest _ plain (no_other _ settles) refl refl
+    (line_goes place (put (codes "workers") v h) (rows ++ text_row (codes "workers") v ∷ []) more
+    (no_repeat _ (lacks h rows are (codes "workers") fresh.0)) (one_more h rows are (codes "workers") v fresh.0) fresh.1)
+line_goes place h rows (gives_watch workers v decimals names rest plain more) settles are fresh =
+    option_then (is_over place names) h (position_of place) (codes "watch") (codes "--watch") v rest _ plain (no_other _ settles) refl refl
+    (line_goes place (put (codes "watch") v h) (rows ++ text_row (codes "watch") v ∷ []) more
+    (no_repeat _ (lacks h rows are (codes "watch") fresh.0)) (one_more h rows are (codes "watch") v fresh.0) fresh.1)
+line_goes place h rows (gives_decimals workers watch names rest more) settles are fresh =
+    word_then (is_over place names) (stands h (position_of place)) (stands (put_flag h) (position_of place)) (codes "--decimals") rest _
+    (ap₂ (λ (f g : Kinds). or_else (or_else f g) []) settles (no_repeat _ (lacks h rows are (codes "decimals") fresh.0))) refl
+    (line_goes place (put_flag h) (rows ++ flag_row ∷ []) more refl (one_more h rows are (codes "decimals") (codes "true") fresh.0) fresh.1)
+line_goes model_next h rows (gives_name workers watch decimals n names rest plain more) settles are fresh =
+    word_then (is_over scripts_next names) (stands h 1) (stands (put (codes "MODEL") n h) 2) n rest _
+    (name_turn h 1 n plain ∙ not_both _ [] (settle_fault rules false h) ∙ settles)
+    (name_walked h 1 n plain ∙ ap (λ (k : Held). stands (pushed (codes "MODEL") n k) 2) (not_both _ h (settled rules h)))
+    (line_goes scripts_next (put (codes "MODEL") n h) (rows ++ text_row (codes "MODEL") n ∷ []) more
+    (no_repeat _ (lacks h rows are (codes "MODEL") fresh.0)) (one_more h rows are (codes "MODEL") n fresh.0) fresh.1)
+line_goes scripts_next h rows (gives_name workers watch decimals n names rest plain more) settles are fresh =
+    word_then (is_over none_next names) (stands h 2) (stands (put (codes "SCRIPTS") n h) 3) n rest _
+    (name_turn h 2 n plain ∙ not_both _ [] (settle_fault rules false h) ∙ settles)
+    (name_walked h 2 n plain ∙ ap (λ (k : Held). stands (pushed (codes "SCRIPTS") n k) 3) (not_both _ h (settled rules h)))
+    (line_goes none_next (put (codes "SCRIPTS") n h) (rows ++ text_row (codes "SCRIPTS") n ∷ []) more
+    (no_repeat _ (lacks h rows are (codes "SCRIPTS") fresh.0)) (one_more h rows are (codes "SCRIPTS") n fresh.0) fresh.1)
+line_goes none_next h rows (gives_name workers watch decimals n names rest plain more) settles are fresh =
+    λ others. ap (λ (f : Kinds). or_else f (walk_fault top [] (walked rules [] (stands h 3) n) (rest ++ others))) (name_turn h 3 n plain)

@@ -1,9 +1,10 @@
 pub mod EnoughRead
+pub mod FoundOptions
 pub mod Given
 pub mod GivenOptions
 pub mod Inputs
 pub mod KnownBytes
 pub mod LineAnswers
-pub mod NamedFiles
 pub mod Options
+pub mod Rows
 mod Serving

@@ -1,39 +1,37 @@
--- What the program answers to the two options and names, by what clap made of them.
-use Rattle.std.proofs.Common.{◌≡◌, ◌⊎◌, ℕ, true, false, List, [], ◌∷◌, Option, Some, None, Result, Ok, Err, inl, inr, refl, sym, subst, ap, ◌∙◌, arith}
-use Rattle.std.specs.Prelude.{◌≤◌, IfOk, IsErr}
+-- What the program answers to options and names, by what clap made of them.
+use Rattle.std.proofs.Common.{◌≡◌, ◌⊎◌, ℕ, Bool, suc, true, false, true≢false, List, [], ◌∷◌, Option, Some, None, Result, Ok, Err, inl, inr, refl, sym, subst, ap, ◌∙◌, arith, codes}
+use Rattle.std.specs.Prelude.{◌≤◌, IfOk, IsErr, slice_get}
 use Rattle.std.specs.List.{All}
 use Rattle.std.specs.Option.{option_map_or}
 use Rattle.std.specs.Result.{IsErrAnd}
-use Rattle.clap.specs.Walk.{Text}
+use Rattle.clap.specs.Walk.{Text, first_of, one_of}
 use Rattle.clap.specs.Kinds.{IsAmong, Kinds}
 use Rattle.clap.specs.declared.error.kind.ErrorKind.TheVariants.{OutOfMemory, UnknownArgument}
 use Rattle.clap.specs.declared.error.kind.ErrorKind.{ErrorKind}
-use Rattle.city_serve.specs.CommandLines.{AnswersNames, AnswersOptions, AnswersPlaces, HasCrew, IsCount, IsCrew, IsCrewOf, IsLineOf, IsName, IsWantOfMemory, one_worker}
+use Rattle.city_serve.specs.CommandLines.{AnswersNames, AnswersOptions, AnswersPlaces, AreOptionsOf, AreWithin, HasOptions, IsCount, IsLineOf, IsName, IsWantOfMemory, ends, gives_name, plain_options}
 use Rattle.city_serve.specs.declared.command_line.Asked.{Asked}
-use Rattle.city_serve.specs.declared.command_line.Crew.{Crew}
 use Rattle.city_serve.specs.declared.command_line.LineFault.{LineFault}
-use Rattle.city_serve.proofs.NamedFiles.{Finds, Parses, fault, line_parses, rows}
+use Rattle.city_serve.specs.declared.command_line.Options.{Options}
+use Rattle.city_serve.proofs.FoundOptions.{Finds, Parses, fault, flag_text, line_parses, rows}
+use Rattle.city_serve.proofs.GivenOptions.{is_over, model_next}
 
 abbrev pub Answer : Type 0
 Answer = Result Asked LineFault
 
--- ---- the options ask for one crew
+-- ---- the options are the only ones that are asked for
 
 count_unique : (least most : ℕ) (text : Option Text) (n k : ℕ) → IsCount least most text n → IsCount least most text k → n ≡ k
 count_unique least most None n k is other = is ∙ sym other
 count_unique least most (Some text) n k is other = is.1 ∙ sym other.1
 
-crew_unique : (workers watch : Option Text) (a b : Crew) → IsCrewOf workers watch a → IsCrewOf workers watch b → a ≡ b
-crew_unique workers watch a b is other =
-    rw (count_unique 1 16 workers a.workers b.workers is.0 other.0, count_unique 0 4 watch a.viewers b.viewers is.1 other.1) refl
+options_unique : (workers watch : Option Text) (decimals : Bool) (a b : Options) → AreOptionsOf workers watch decimals a
+    → AreOptionsOf workers watch decimals b → a ≡ b
+options_unique workers watch decimals a b is other =
+    rw (count_unique 1 16 workers a.workers b.workers is.0 other.0, count_unique 0 4 watch a.viewers b.viewers is.1 other.1, is.2 ∙ sym other.2) refl
 
-count_within_least : (least most : ℕ) (text : Option Text) (n : ℕ) → least ≤ most → IsCount least most text n → least ≤ n
-count_within_least least most None n below is = rw is (omega arith)
-count_within_least least most (Some text) n below is = rw is.1 is.0.2
-
-count_within_most : (least most : ℕ) (text : Option Text) (n : ℕ) → least ≤ most → IsCount least most text n → n ≤ most
-count_within_most least most None n below is = rw is below
-count_within_most least most (Some text) n below is = rw is.1 is.0.3
+count_within : (least most : ℕ) (text : Option Text) (n : ℕ) → least ≤ most → IsCount least most text n → (least ≤ n) × (n ≤ most)
+count_within least most None n below is = (rw is (omega arith), rw is below)
+count_within least most (Some text) n below is = (rw is.1 is.0.2, rw is.1 is.0.3)
 
 -- ---- the kinds of faults
 
@@ -57,112 +55,122 @@ wanting (Err f) h = ap (λ (e : LineFault). Err e) h
 pub want_is_err : (r : Answer) → IsWantOfMemory r → IsErr r
 want_is_err r short = rw short refl
 
-memory_answered : (crew : Crew) (names : List Text) (r : Answer) → IsWantOfMemory r → AnswersNames crew names r
-memory_answered crew [] r short = inr short
-memory_answered crew (m ∷ []) r short = rw short refl
-memory_answered crew (m ∷ s ∷ []) r short = inr short
-memory_answered crew (m ∷ s ∷ x ∷ rest) r short = rw short refl
+memory_answered : (options : Options) (names : List Text) (r : Answer) → IsWantOfMemory r → AnswersNames options names r
+memory_answered options [] r short = inr short
+memory_answered options (m ∷ []) r short = rw short refl
+memory_answered options (m ∷ s ∷ []) r short = inr short
+memory_answered options (m ∷ s ∷ x ∷ rest) r short = rw short refl
 
-module _ (workers watch : Option Text) (names : List Text) (r : Answer) where
-  pub short_answered : IsWantOfMemory r → AnswersOptions workers watch names r
-  short_answered short = (λ crew is. memory_answered crew names r short, λ none. want_is_err r short)
+-- the names in their two places are answered, where there are no more
+by_places : (options : Options) (names : List Text) (r : Answer) → is_over model_next names ≡ false
+    → AnswersPlaces options (slice_get names 0) (slice_get names 1) r → AnswersNames options names r
+by_places options [] r fits answers = inl answers
+by_places options (m ∷ []) r fits answers = answers
+by_places options (m ∷ s ∷ []) r fits answers = inl answers
+by_places options (m ∷ s ∷ x ∷ rest) r over answers = absurd (true≢false over)
 
-  crew_answered : (crew : Crew) → IsCrewOf workers watch crew → AnswersNames crew names r → AnswersOptions workers watch names r
-  crew_answered crew is answers =
-      (λ other same. subst (λ c. AnswersNames c names r) (crew_unique workers watch crew other is same) answers, λ none. absurd (none crew is))
+-- more names are refused
+over_answered : (options : Options) (names : List Text) (r : Answer) → is_over model_next names ≡ true → IsErr r → AnswersNames options names r
+over_answered options [] r bad wrong = absurd (true≢false (sym bad))
+over_answered options (m ∷ []) r bad wrong = wrong
+over_answered options (m ∷ s ∷ []) r bad wrong = absurd (true≢false (sym bad))
+over_answered options (m ∷ s ∷ x ∷ rest) r over wrong = wrong
 
-  no_crew_answered : ((crew : Crew) → ¬ IsCrewOf workers watch crew) → IsErr r → AnswersOptions workers watch names r
-  no_crew_answered none wrong = (λ crew is. absurd (none crew is), λ _. wrong)
+-- what the code read of what clap found
+pub record Reads (workers watch : Option Text) (decimals : Bool) (model scripts : Option Text) (args : List Text) : Type 0 where
+  pub free : fault args ≡ []
+  pub workers_read : first_of (codes "workers") (rows args) ≡ workers
+  pub watch_read : first_of (codes "watch") (rows args) ≡ watch
+  pub decimals_read : (given : Bool) → one_of (codes "decimals") (rows args) ≡ Some (flag_text given) → decimals ≡ given
+  pub model_read : first_of (codes "MODEL") (rows args) ≡ model
+  pub scripts_read : first_of (codes "SCRIPTS") (rows args) ≡ scripts
 
--- ---- where clap found no fault
+module _ {workers watch : Option Text} {decimals : Bool} {names args : List Text} (line : IsLineOf workers watch decimals names args) (r : Answer) where
+  pub short_answered : IsWantOfMemory r → AnswersOptions workers watch decimals names r
+  short_answered short = (λ options is. memory_answered options names r short, λ none. want_is_err r short)
 
-module _ (workers watch : Option Text) (names args : List Text) (is : IsLineOf workers watch names args) where
-  -- the texts that clap found
-  module _ (found_workers found_watch found_model found_scripts : Option Text) (r : Answer)
-      (finds : Finds found_workers found_watch found_model found_scripts (rows args)) (right : fault args ≡ []) where
-    places_answered : (crew : Crew) → AnswersPlaces crew found_model found_scripts r → AnswersNames crew names r
-    places_answered crew answers = by_names names (line_parses workers watch names args is)
-      where
-        moved : (model scripts : Option Text) → Finds workers watch model scripts (rows args) → AnswersPlaces crew model scripts r
-        moved model scripts same =
-            subst (λ o. AnswersPlaces crew model o r) (sym finds.3 ∙ same.3) (subst (λ o. AnswersPlaces crew o found_scripts r) (sym finds.2 ∙ same.2) answers)
+  -- ---- where clap found no fault
 
-        by_names : (ns : List Text) → Parses workers watch ns args → AnswersNames crew ns r
-        by_names [] parsed = inl (moved None None parsed.1)
-        by_names (m ∷ []) parsed = moved (Some m) None parsed.1
-        by_names (m ∷ s ∷ []) parsed = inl (moved (Some m) (Some s) parsed.1)
-        by_names (m ∷ s ∷ x ∷ rest) parsed = absurd (not_free UnknownArgument (fault args) parsed right)
+  module _ {found_workers found_watch : Option Text} {found_decimals : Bool} {found_model found_scripts : Option Text}
+      (reads : Reads found_workers found_watch found_decimals found_model found_scripts args) where
+    fits : (over : Bool) → Parses over workers watch decimals names args → over ≡ false
+    fits true refused = absurd (not_free UnknownArgument (fault args) refused reads.free)
+    fits false parsed = refl
 
-    workers_is : found_workers ≡ workers
-    workers_is = by_names names (line_parses workers watch names args is)
-      where
-        by_names : (ns : List Text) → Parses workers watch ns args → found_workers ≡ workers
-        by_names [] parsed = sym finds.0 ∙ parsed.1.0
-        by_names (m ∷ []) parsed = sym finds.0 ∙ parsed.1.0
-        by_names (m ∷ s ∷ []) parsed = sym finds.0 ∙ parsed.1.0
-        by_names (m ∷ s ∷ x ∷ rest) parsed = absurd (not_free UnknownArgument (fault args) parsed right)
+    found : (over : Bool) → Parses over workers watch decimals names args → Finds workers watch decimals names (rows args)
+    found true refused = absurd (not_free UnknownArgument (fault args) refused reads.free)
+    found false parsed = parsed.1
 
-    watch_is : found_watch ≡ watch
-    watch_is = by_names names (line_parses workers watch names args is)
-      where
-        by_names : (ns : List Text) → Parses workers watch ns args → found_watch ≡ watch
-        by_names [] parsed = sym finds.1 ∙ parsed.1.1
-        by_names (m ∷ []) parsed = sym finds.1 ∙ parsed.1.1
-        by_names (m ∷ s ∷ []) parsed = sym finds.1 ∙ parsed.1.1
-        by_names (m ∷ s ∷ x ∷ rest) parsed = absurd (not_free UnknownArgument (fault args) parsed right)
+    finds : Finds workers watch decimals names (rows args)
+    finds = found (is_over model_next names) (line_parses line)
 
-    same_crew : (crew : Crew) → IsCrewOf found_workers found_watch crew → IsCrewOf workers watch crew
-    same_crew crew of = subst (λ o. IsCrewOf workers o crew) watch_is (subst (λ o. IsCrewOf o found_watch crew) workers_is of)
+    -- what was read was given
+    given : (options : Options) → AreOptionsOf found_workers found_watch found_decimals options ≡ AreOptionsOf workers watch decimals options
+    given options =
+        ap (λ o. AreOptionsOf o found_watch found_decimals options) (sym reads.workers_read ∙ finds.workers_found)
+        ∙ ap (λ o. AreOptionsOf workers o found_decimals options) (sym reads.watch_read ∙ finds.watch_found)
+        ∙ ap (λ b. AreOptionsOf workers watch b options) (reads.decimals_read decimals finds.decimals_found)
 
-    found_crew : (crew : Crew) → IsCrewOf workers watch crew → IsCrewOf found_workers found_watch crew
-    found_crew crew of = subst (λ o. IsCrewOf found_workers o crew) (sym watch_is) (subst (λ o. IsCrewOf o watch crew) (sym workers_is) of)
+    places_answered : (options : Options) → AnswersPlaces options found_model found_scripts r → AnswersNames options names r
+    places_answered options answers = by_places options names r (fits (is_over model_next names) (line_parses line))
+        (subst (λ o. AnswersPlaces options (slice_get names 0) o r) (sym reads.scripts_read ∙ finds.scripts_found)
+        (subst (λ o. AnswersPlaces options o found_scripts r) (sym reads.model_read ∙ finds.model_found) answers))
 
-    pub crew_found : (crew : Crew) → IsCrewOf found_workers found_watch crew → AnswersPlaces crew found_model found_scripts r → AnswersOptions workers watch names r
-    crew_found crew of answers = crew_answered workers watch names r crew (same_crew crew of) (places_answered crew answers)
+    pub options_found : (options : Options) → AreOptionsOf found_workers found_watch found_decimals options
+        → AnswersPlaces options found_model found_scripts r → AnswersOptions workers watch decimals names r
+    options_found options of answers =
+        let is : AreOptionsOf workers watch decimals options = subst (λ (P : Type 0). P) (given options) of in (
+          λ other same. subst (λ o. AnswersNames o names r) (options_unique workers watch decimals options other is same) (places_answered options answers),
+          λ none. absurd (none options is),
+        )
 
-    pub no_crew_found : ((crew : Crew) → ¬ IsCrewOf found_workers found_watch crew) → IsErr r → AnswersOptions workers watch names r
-    no_crew_found none wrong = no_crew_answered workers watch names r (λ crew of. none crew (found_crew crew of)) wrong
+    pub no_options_found : ((options : Options) → ¬ AreOptionsOf found_workers found_watch found_decimals options) → IsErr r
+        → AnswersOptions workers watch decimals names r
+    no_options_found none wrong = (λ options is. absurd (none options (subst (λ (P : Type 0). P) (sym (given options)) is)), λ _. wrong)
 
   -- ---- where it found one
 
-  pub fault_answered : (kind : ErrorKind) (r : Answer) → (kind ≡ OutOfMemory → IsWantOfMemory r) → (kind ≡ UnknownArgument → IsErr r)
-      → (kind ≡ OutOfMemory) ⊎ IsAmong kind (fault args) → AnswersOptions workers watch names r
-  fault_answered kind r memory refused (inl short) = short_answered workers watch names r (memory short)
-  fault_answered kind r memory refused (inr among) = by_names names (line_parses workers watch names args is)
+  pub fault_answered : (kind : ErrorKind) → (kind ≡ OutOfMemory → IsWantOfMemory r) → (kind ≡ UnknownArgument → IsErr r)
+      → (kind ≡ OutOfMemory) ⊎ IsAmong kind (fault args) → AnswersOptions workers watch decimals names r
+  fault_answered kind memory refused (inl short) = short_answered (memory short)
+  fault_answered kind memory refused (inr among) = by_over (is_over model_next names) refl (line_parses line)
     where
-      by_names : (ns : List Text) → Parses workers watch ns args → AnswersOptions workers watch ns r
-      by_names [] parsed = absurd (among_none kind (fault args) parsed.0 among)
-      by_names (m ∷ []) parsed = absurd (among_none kind (fault args) parsed.0 among)
-      by_names (m ∷ s ∷ []) parsed = absurd (among_none kind (fault args) parsed.0 among)
-      by_names (m ∷ s ∷ x ∷ rest) parsed =
+      by_over : (over : Bool) → is_over model_next names ≡ over → Parses over workers watch decimals names args → AnswersOptions workers watch decimals names r
+      by_over false fit parsed = absurd (among_none kind (fault args) parsed.0 among)
+      by_over true over parsed =
           let wrong = refused (only kind UnknownArgument (fault args) parsed among) in
-          (λ crew of. wrong, λ none. wrong)
+          (λ options of. over_answered options names r over wrong, λ none. wrong)
 
 -- names alone are a line without options
-pub names_answered : (names : List Text) (r : Answer) → AnswersOptions None None names r → AnswersNames one_worker names r
-names_answered names r answers = answers.0 one_worker (refl, refl)
+pub names_answered : (names : List Text) (r : Answer) → AnswersOptions None None false names r → AnswersNames plain_options names r
+names_answered names r answers = answers.0 plain_options (refl, refl, refl)
 
-pub names_line : (names : List Text) → All IsName names → IsLineOf None None names names
-names_line names named = record { are = refl; workers_value = tt; watch_value = tt; named = named }
+pub names_line : (names : List Text) → All IsName names → IsLineOf None None false names names
+names_line [] named = ends
+names_line (n ∷ names) named =
+    gives_name None None false n names names (named 0 n (omega arith)) (names_line names (λ k d before. named (suc k) d (omega (arith, before))))
 
--- ---- the crew of an answer
+-- ---- the options of an answer
 
-pub short_within : (r : Answer) → IsWantOfMemory r → IfOk r HasCrew
+pub short_within : (r : Answer) → IsWantOfMemory r → IfOk r HasOptions
 short_within r short = rw short tt
 
-crew_within : (workers watch : Option Text) (crew : Crew) → IsCrewOf workers watch crew → IsCrew crew
-crew_within workers watch crew of = (count_within_least 1 16 workers crew.workers (omega arith) of.0, count_within_most 1 16 workers crew.workers (omega arith) of.0, count_within_most 0 4 watch crew.viewers (omega arith) of.1)
+options_within : (workers watch : Option Text) (decimals : Bool) (options : Options) → AreOptionsOf workers watch decimals options → AreWithin options
+options_within workers watch decimals options of =
+    let by_workers = count_within 1 16 workers options.workers (omega arith) of.0 in
+    (by_workers.0, by_workers.1, (count_within 0 4 watch options.viewers (omega arith) of.1).1)
 
-files_crew : (other crew : Crew) (a b m s : Text) → ◌≡◌ {A = Option (Crew × Text × Text)} (Some (other, a, b)) (Some (crew, m, s)) → other ≡ crew
-files_crew other crew a b m s same = ap (λ (o : Option (Crew × Text × Text)). option_map_or (λ f. f.0) o crew) same
+files_options : (other options : Options) (a b m s : Text) → ◌≡◌ {A = Option (Options × Text × Text)} (Some (other, a, b)) (Some (options, m, s)) → other ≡ options
+files_options other options a b m s same = ap (λ (o : Option (Options × Text × Text)). option_map_or (λ f. f.0) o options) same
 
-pub answer_within : (workers watch model scripts : Option Text) (crew : Crew) (r : Answer) → IsCrewOf workers watch crew → AnswersPlaces crew model scripts r → IfOk r HasCrew
-answer_within workers watch (Some m) (Some s) crew (Ok (Asked.Files other a b)) of answers =
-    subst IsCrew (sym (files_crew other crew a.now b.now m s answers)) (crew_within workers watch crew of)
-answer_within workers watch (Some m) (Some s) crew (Ok (Asked.Input other)) of answers = absurd (cc)
-answer_within workers watch (Some m) (Some s) crew (Ok (Asked.Text text)) of answers = tt
-answer_within workers watch (Some m) None crew (Ok a) of answers =
+pub answer_within : (workers watch : Option Text) (decimals : Bool) (model scripts : Option Text) (options : Options) (r : Answer)
+    → AreOptionsOf workers watch decimals options → AnswersPlaces options model scripts r → IfOk r HasOptions
+answer_within workers watch decimals (Some m) (Some s) options (Ok (Asked.Files other a b)) of answers =
+    subst AreWithin (sym (files_options other options a.now b.now m s answers)) (options_within workers watch decimals options of)
+answer_within workers watch decimals (Some m) (Some s) options (Ok (Asked.Input other)) of answers = absurd (cc)
+answer_within workers watch decimals (Some m) (Some s) options (Ok (Asked.Text text)) of answers = tt
+answer_within workers watch decimals (Some m) None options (Ok a) of answers =
     let bad : false ≡ true = answers in
     absurd (cc)
-answer_within workers watch None scripts crew r of answers = rw answers (crew_within workers watch crew of)
-answer_within workers watch (Some m) scripts crew (Err f) of answers = tt
+answer_within workers watch decimals None scripts options r of answers = rw answers (options_within workers watch decimals options of)
+answer_within workers watch decimals (Some m) scripts options (Err f) of answers = tt

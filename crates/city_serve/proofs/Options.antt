@@ -6,15 +6,15 @@ use Rattle.std.specs.Str.{bytes_eq}
 use Rattle.clap.specs.Lexer.{long_of}
 use Rattle.std.proofs.lemmas.Slice.Eq.{bytes_eq-Decides}
 use Rattle.clap.proofs.OnLiterals.{clap_on_literals}
-use Rattle.clap.specs.Walk.{Held, Text, Walk, arg_by_long, idle, nothing_held, walk, walk_from, walked, word_met}
+use Rattle.clap.specs.Walk.{Held, Row, Text, Walk, arg_by_long, idle, nothing_held, walk, walk_from, walked, word_met}
 use Rattle.clap.specs.Kinds.{IsAmong, Kinds, or_else}
 use Rattle.clap.specs.Faults.{flag_word_fault, long_fault, step_fault, turn_fault, walk_fault, word_fault}
 use Rattle.clap.specs.declared.error.kind.ErrorKind.TheVariants.{DisplayHelp, DisplayVersion, OutOfMemory, UnknownArgument}
 use Rattle.clap.specs.declared.error.kind.ErrorKind.{ErrorKind}
 use Rattle.city_serve.specs.CommandLines.{AsksForText, IsName, IsShown, IsUnknownOption, IsWantOfMemory, MeetsUnknownOption}
-use Rattle.city_serve.proofs.GivenOptions.{Passes, nothing_passes, rules, start, top}
-use Rattle.city_serve.proofs.LineAnswers.{Answer, not_free, only, want_is_err}
-use Rattle.city_serve.proofs.NamedFiles.{after_one, after_two, ending, fault, fault_of_more, first_named, one_passes, others_named, two_pass}
+use Rattle.city_serve.proofs.FoundOptions.{ending, fault, line_ends, refused_all}
+use Rattle.city_serve.proofs.GivenOptions.{Ends, is_over, model_next, rules, stands, top}
+use Rattle.city_serve.proofs.LineAnswers.{Answer, names_line, not_free, only, want_is_err}
 
 module _ (option : Text) (unknown : IsUnknownOption option) where
   no_dashes_alone : bytes_eq option (45 ∷ 45 ∷ []) ≡ false
@@ -39,6 +39,7 @@ module _ (option : Text) (unknown : IsUnknownOption option) where
       rw (
         named_other (codes "help") unknown.no_help,
         named_other (codes "version") unknown.no_version,
+        named_other (codes "decimals") unknown.no_decimals,
         named_other (codes "workers") unknown.no_workers,
         named_other (codes "watch") unknown.no_watch,
       ) refl
@@ -49,31 +50,18 @@ module _ (option : Text) (unknown : IsUnknownOption option) where
       ∙ ap (λ o. flag_word_fault rules false o option h) unknown.long
       ∙ ap (λ a. long_fault rules false a unknown.given h) no_rule
 
-  turn_refused : (w : Walk) (h : Held) (p : ℕ) → w ≡ record { held = h; waiting = idle; position = p; is_trailing = false; stopped = None } → turn_fault top [] w option ≡ UnknownArgument ∷ []
-  turn_refused w h p is = ap (λ (v : Walk). turn_fault top [] v option) is
-      ∙ ap (λ (f : Kinds). or_else f (step_fault top p (word_met rules [] false idle p option h).0 (word_met rules [] false idle p option h).1)) (option_refused h)
-
-  walk_refused : (w : Walk) (h : Held) (p : ℕ) (rest : List Text) → w ≡ record { held = h; waiting = idle; position = p; is_trailing = false; stopped = None } → walk_fault top [] w (option ∷ rest) ≡ UnknownArgument ∷ []
+  walk_refused : (h : Held) (p : ℕ) (rest : List Text) → walk_fault top [] (stands h p) (option ∷ rest) ≡ UnknownArgument ∷ []
   unfolding walk_fault
-  walk_refused w h p rest is = ap (λ (f : Kinds). or_else f (walk_fault top [] (walked rules [] w option) rest)) (turn_refused w h p is)
+  walk_refused h p rest =
+      ap (λ (f : Kinds). or_else (or_else f (step_fault top p (word_met rules [] false idle p option h).0 (word_met rules [] false idle p option h).1)) (walk_fault top [] (walked rules [] (stands h p) option) rest)) (option_refused h)
 
-  -- after words that clap passes over
-  refused_then : (words rest : List Text) (h : Held) (p : ℕ) → Passes (start None None) words (record (walk_from h) { position = p })
-      → fault (words ++ option ∷ rest) ≡ UnknownArgument ∷ []
-  refused_then words rest h p passes =
-      ap (λ (f : Kinds). ending (walk rules [] nothing_held (words ++ option ∷ rest)) f)
-      (passes.faults (option ∷ rest) ∙ walk_refused (record (walk_from h) { position = p }) h p rest refl)
-
+  -- after names, of which the third is refused before it
   refused_after : (names rest : List Text) → All IsName names → fault (names ++ option ∷ rest) ≡ UnknownArgument ∷ []
-  refused_after [] rest named = refused_then [] rest nothing_held 1 (nothing_passes (start None None))
-  refused_after (m ∷ []) rest named =
-      refused_then (m ∷ []) rest (after_one None None m).held 2 (one_passes None None m (first_named m [] named))
-  refused_after (m ∷ s ∷ []) rest named =
-      refused_then (m ∷ s ∷ []) rest (after_two None None m s).held 3
-      (two_pass None None m (first_named m (s ∷ []) named) s (first_named s [] (others_named m (s ∷ []) named)))
-  refused_after (m ∷ s ∷ x ∷ names) rest named =
-      let after = others_named m (s ∷ x ∷ names) named in
-      fault_of_more None None tt tt m s x (names ++ option ∷ rest) (first_named m (s ∷ x ∷ names) named) (first_named s (x ∷ names) after) (first_named x names (others_named s (x ∷ names) after))
+  refused_after names rest named = refused_all names (option ∷ rest) (by_over _ (is_over model_next names) (line_ends (names_line names named)))
+    where
+      by_over : (found : List Row) (over : Bool) → Ends over (walk_from nothing_held) names found → walk_fault top [] (walk_from nothing_held) (names ++ option ∷ rest) ≡ UnknownArgument ∷ []
+      by_over found true refused = refused (option ∷ rest)
+      by_over found false goes = goes.faults (option ∷ rest) ∙ walk_refused goes.held goes.place rest
 
 help_fault : (rest : List Text) → fault (codes "--help" ∷ rest) ≡ DisplayHelp ∷ []
 unfolding clap_on_literals

@@ -1,14 +1,15 @@
 -- What the words of a command line ask for.
-use Rattle.std.specs.Prelude.{◌≡◌, ◌≢◌, ◌⊎◌, ◌≤◌, ⊤, ℕ, true, List, [], ◌∷◌, ◌++◌, codes, slice_get, All}
-use Rattle.std.specs.Prelude.{Option, Some, None, Result, Ok, Err, IfSome, IsErr}
+use Rattle.std.specs.Prelude.{◌≡◌, ◌≢◌, ◌⊎◌, ◌≤◌, ⊤, ℕ, Bool, true, false, List, [], ◌∷◌, ◌++◌, codes, slice_get, All}
+use Rattle.std.specs.Prelude.{Option, Some, None, Result, Ok, Err, IsErr}
 use Rattle.std.specs.Result.{IsOkAnd}
 use Rattle.std.specs.Str.Parse.{digits_value, without_leading_plus}
 use Rattle.clap.specs.Words.{App, IsUnsignedIn, Rule, new_rule, with_rule}
 use Rattle.clap.specs.Lexer.{long_of}
 use Rattle.clap.specs.Simple.{new_shape}
+use Rattle.clap.specs.declared.builder.action.ArgAction.TheVariants.{SetTrue}
 use Rattle.city_serve.specs.declared.command_line.Asked.{Asked}
-use Rattle.city_serve.specs.declared.command_line.Crew.{Crew}
 use Rattle.city_serve.specs.declared.command_line.LineFault.{LineFault}
+use Rattle.city_serve.specs.declared.command_line.Options.{Options}
 
 -- the command as clap is told of it, without its options: two names of files, and beside help a version
 abbrev pub files_command : App
@@ -20,10 +21,15 @@ files_command = with_rule (with_rule
 abbrev pub option_rule : List ℕ → Rule
 option_rule name = record (new_rule name) { long = Some name; value_names = 1 }
 
+-- an option without a value
+abbrev pub flag_rule : List ℕ → Rule
+flag_rule name = record (new_rule name) { long = Some name; action = Some SetTrue }
+
 -- the same with its options
 abbrev pub cityed_command : App
 cityed_command =
-    with_rule (with_rule files_command (option_rule (codes "workers"))) (option_rule (codes "watch"))
+    with_rule (with_rule (with_rule files_command (flag_rule (codes "decimals"))) (option_rule (codes "workers")))
+    (option_rule (codes "watch"))
 
 -- the word is no option: it doesn't begin with a hyphen
 abbrev pub IsName : List ℕ → Type 0
@@ -35,38 +41,39 @@ IsCount least most None n = n ≡ least
 IsCount least most (Some text) n =
     IsUnsignedIn least most text × (n ≡ digits_value 10 (without_leading_plus text))
 
--- the workers and the viewers that the texts of --workers and --watch ask for
-abbrev pub IsCrewOf : Option (List ℕ) → Option (List ℕ) → Crew → Type 0
-IsCrewOf workers watch crew = IsCount 1 16 workers crew.workers × IsCount 0 4 watch crew.viewers
+-- the options that the texts of --workers and --watch ask for, and whether --decimals is given
+abbrev pub AreOptionsOf : Option (List ℕ) → Option (List ℕ) → Bool → Options → Type 0
+AreOptionsOf workers watch decimals options =
+    IsCount 1 16 workers options.workers × IsCount 0 4 watch options.viewers × (options.decimals ≡ decimals)
 
--- the crew of a command line without options
-abbrev pub one_worker : Crew
-one_worker = record { workers = 1; viewers = 0 }
+-- those of a command line without options
+abbrev pub plain_options : Options
+plain_options = record { workers = 1; viewers = 0; decimals = false }
 
--- a run may have such a crew
-abbrev pub IsCrew : Crew → Type 0
-IsCrew crew = (1 ≤ crew.workers) × (crew.workers ≤ 16) × (crew.viewers ≤ 4)
+-- a run may have such options
+abbrev pub AreWithin : Options → Type 0
+AreWithin options = (1 ≤ options.workers) × (options.workers ≤ 16) × (options.viewers ≤ 4)
 
--- what is asked for is a text, or a run with such a crew
-abbrev pub HasCrew : Asked → Type 0
-HasCrew (Asked.Input crew) = IsCrew crew
-HasCrew (Asked.Files crew model scripts) = IsCrew crew
-HasCrew (Asked.Text text) = ⊤
+-- what is asked for is a text, or a run with such options
+abbrev pub HasOptions : Asked → Type 0
+HasOptions (Asked.Input options) = AreWithin options
+HasOptions (Asked.Files options model scripts) = AreWithin options
+HasOptions (Asked.Text text) = ⊤
 
--- the files that are asked for, and the crew
-abbrev pub files_of : Asked → Option (Crew × List ℕ × List ℕ)
-files_of (Asked.Files crew model scripts) = Some (crew, model.now, scripts.now)
+-- the files that are asked for, and the options
+abbrev pub files_of : Asked → Option (Options × List ℕ × List ℕ)
+files_of (Asked.Files options model scripts) = Some (options, model.now, scripts.now)
 files_of _ = None
 
 abbrev pub IsWantOfMemory : Result Asked LineFault → Type 0
 IsWantOfMemory r = r ≡ Err LineFault.OutOfMemory
 
 -- names alone: no name asks for standard input, two ask for these files, and any other number is refused
-abbrev pub AnswersNames : Crew → List (List ℕ) → Result Asked LineFault → Type 0
-AnswersNames crew [] r = (r ≡ Ok (Asked.Input crew)) ⊎ IsWantOfMemory r
-AnswersNames crew (model ∷ scripts ∷ []) r =
-    IsOkAnd r (λ a. files_of a ≡ Some (crew, model, scripts)) ⊎ IsWantOfMemory r
-AnswersNames crew _ r = IsErr r
+abbrev pub AnswersNames : Options → List (List ℕ) → Result Asked LineFault → Type 0
+AnswersNames options [] r = (r ≡ Ok (Asked.Input options)) ⊎ IsWantOfMemory r
+AnswersNames options (model ∷ scripts ∷ []) r =
+    IsOkAnd r (λ a. files_of a ≡ Some (options, model, scripts)) ⊎ IsWantOfMemory r
+AnswersNames options _ r = IsErr r
 
 -- a text is to be shown, as help is
 abbrev pub IsText : Asked → Type 0
@@ -88,6 +95,7 @@ pub record IsUnknownOption (word : List ℕ) : Type 0 where
   pub long : long_of word ≡ Some (name, given)
   pub no_help : name ≢ codes "help"
   pub no_version : name ≢ codes "version"
+  pub no_decimals : name ≢ codes "decimals"
   pub no_workers : name ≢ codes "workers"
   pub no_watch : name ≢ codes "watch"
 
@@ -101,27 +109,31 @@ pub record MeetsUnknownOption (arguments : List (List ℕ)) : Type 0 where
   pub unknown : IsUnknownOption word
 
 -- the same of the names in their two places
-abbrev pub AnswersPlaces : Crew → Option (List ℕ) → Option (List ℕ) → Result Asked LineFault → Type 0
-AnswersPlaces crew (Some model) (Some scripts) r = IsOkAnd r (λ a. files_of a ≡ Some (crew, model, scripts))
-AnswersPlaces crew (Some model) None r = IsErr r
-AnswersPlaces crew None scripts r = r ≡ Ok (Asked.Input crew)
+abbrev pub AnswersPlaces : Options → Option (List ℕ) → Option (List ℕ) → Result Asked LineFault → Type 0
+AnswersPlaces options (Some model) (Some scripts) r = IsOkAnd r (λ a. files_of a ≡ Some (options, model, scripts))
+AnswersPlaces options (Some model) None r = IsErr r
+AnswersPlaces options None scripts r = r ≡ Ok (Asked.Input options)
 
--- an option's words, where it is given: its name and its value
-abbrev pub words_of : List ℕ → Option (List ℕ) → List (List ℕ)
-words_of name None = []
-words_of name (Some value) = name ∷ value ∷ []
+-- the words are options in any order, each at most once, with names before, between and after them: the values
+-- of --workers and --watch where they are given, whether --decimals is, and the names. No value begins with a
+-- hyphen
+pub data IsLineOf : Option (List ℕ) → Option (List ℕ) → Bool → List (List ℕ) → List (List ℕ) → Type 0 where
+  ends : IsLineOf None None false [] []
+  gives_workers : (value : List ℕ) (watch : Option (List ℕ)) (decimals : Bool) (names rest : List (List ℕ))
+      → IsName value → IsLineOf None watch decimals names rest
+      → IsLineOf (Some value) watch decimals names (codes "--workers" ∷ value ∷ rest)
+  gives_watch : (workers : Option (List ℕ)) (value : List ℕ) (decimals : Bool) (names rest : List (List ℕ))
+      → IsName value → IsLineOf workers None decimals names rest
+      → IsLineOf workers (Some value) decimals names (codes "--watch" ∷ value ∷ rest)
+  gives_decimals : (workers watch : Option (List ℕ)) (names rest : List (List ℕ))
+      → IsLineOf workers watch false names rest → IsLineOf workers watch true names (codes "--decimals" ∷ rest)
+  gives_name : (workers watch : Option (List ℕ)) (decimals : Bool) (name : List ℕ) (names rest : List (List ℕ))
+      → IsName name → IsLineOf workers watch decimals names rest
+      → IsLineOf workers watch decimals (name ∷ names) (name ∷ rest)
 
--- the words begin with --workers and its value, with --watch and its value, with both in this order or with
--- none; the rest are names, and no value begins with a hyphen
-pub record IsLineOf (workers watch : Option (List ℕ)) (names arguments : List (List ℕ)) : Type 0 where
-  pub are : arguments ≡ words_of (codes "--workers") workers ++ (words_of (codes "--watch") watch ++ names)
-  pub workers_value : IfSome workers IsName
-  pub watch_value : IfSome watch IsName
-  pub named : All IsName names
-
--- the names are answered with the crew that the options ask for, and options that ask for none are refused
+-- the names are answered with the options that are asked for, and texts that ask for none are refused
 abbrev pub AnswersOptions
-    : Option (List ℕ) → Option (List ℕ) → List (List ℕ) → Result Asked LineFault → Type 0
-AnswersOptions workers watch names r =
-    ((crew : Crew) → IsCrewOf workers watch crew → AnswersNames crew names r)
-    × (((crew : Crew) → ¬ IsCrewOf workers watch crew) → IsErr r)
+    : Option (List ℕ) → Option (List ℕ) → Bool → List (List ℕ) → Result Asked LineFault → Type 0
+AnswersOptions workers watch decimals names r =
+    ((options : Options) → AreOptionsOf workers watch decimals options → AnswersNames options names r)
+    × (((options : Options) → ¬ AreOptionsOf workers watch decimals options) → IsErr r)

@@ -1,18 +1,21 @@
 //! What a command line asks for.
-ghost use Rattle.std.specs.Prelude.{◌≡◌, ◌≢◌, ◌⊎◌, ◌≤◌, ◌∷◌, ℕ, false, List, Option, Some, None, Ok, Err, All};
-ghost use Rattle.std.specs.Prelude.{drop, map, option_map, string_bytes, IfOk, IsErr, MatchOption, MatchResult};
+ghost use Rattle.std.specs.Prelude.{◌≡◌, ◌≢◌, ◌⊎◌, ◌≤◌, ◌∷◌, ℕ, Bool, false, List, Option, Some, None, Ok, Err};
+ghost use Rattle.std.specs.Prelude.{All, drop, map, option_map, string_bytes, IfOk, IsErr, MatchOption, MatchResult};
 ghost use Rattle.clap.specs.Words.{app_of, kind_of, rule_of};
-ghost use Rattle.city_serve.specs.CommandLines.{cityed_command, files_command, option_rule, one_worker};
+ghost use Rattle.city_serve.specs.CommandLines.{cityed_command, files_command, flag_rule, option_rule, plain_options};
 ghost use Rattle.city_serve.specs.CommandLines.{IsName, IsLineOf, AnswersNames, AnswersOptions, AnswersPlaces};
-ghost use Rattle.city_serve.specs.CommandLines.{AsksForText, IsShown, MeetsUnknownOption, HasCrew, IsCount, IsCrewOf};
+ghost use Rattle.city_serve.specs.CommandLines.{AreOptionsOf, AsksForText, HasOptions, IsCount, IsShown};
+ghost use Rattle.city_serve.specs.CommandLines.{MeetsUnknownOption};
 
 use clap::error::ErrorKind;
-use clap::{Arg, Command, Error};
+use clap::{Arg, ArgAction, Command, Error};
 use std::alloc::{AllocError, Global};
 
 const MODEL: &str = "MODEL";
 
 const SCRIPTS: &str = "SCRIPTS";
+
+const DECIMALS: &str = "decimals";
 
 const WORKERS: &str = "workers";
 
@@ -36,7 +39,8 @@ Its last command is \"commit\" or \"abort\"; the ones before it are of these for
   {\"mark\": NAME}                        give what is seen here a name
   {\"back\": NAME}                        undo what was written since the newest mark of the name
 Positions in an OBJECT count in the script's own \"vertices\": [[x, y, z], ..].
-Numbers are whole everywhere; docs/FORMAT.md shows how to convert a model that has others.
+Numbers are whole. With --decimals others are taken, and given back as they were written.
+Vertices are whole in every CityJSON file, and stay in the model's own grid.
 
 With one worker the scripts run one after the other. With several the scripts take turns and
 end in any order. With --watch, after success, standard error gets a line for each viewer,
@@ -49,22 +53,24 @@ Status:
   2  the command line isn't understood: standard error says what is wrong
 A script that is refused ends as \"refused\" in its line, and the status is 0.";
 
-/// How many workers run the scripts, and how many viewers watch the model.
+/// How a run is done: by how many workers, before how many viewers, and with which numbers.
 #[derive(Clone, Copy)]
-pub struct Crew {
+pub struct Options {
     /// From 1 to 16.
     pub workers: usize,
     /// From 0 to 4.
     pub viewers: usize,
+    /// Whether numbers of any form are taken, and given back as they were written.
+    pub decimals: bool,
 }
 
 /// What a command line asks for.
 #[derive(Drop)]
 pub enum Asked<'a> {
     /// To serve standard input.
-    Input(Crew),
+    Input(Options),
     /// To serve two files, by their paths: the model's and the scripts'.
-    Files(Crew, &'a str, &'a str),
+    Files(Options, &'a str, &'a str),
     /// To show a text on standard output: help, or the version.
     Text(String),
 }
@@ -90,27 +96,30 @@ impl From<AllocError> for LineFault {
 
 /// What a command line asks for. Its first word is the program's name.
 ///
-/// An answer other than a text has 1 to 16 workers, 1 where `--workers` isn't given, and 0 to 4
-/// viewers, 0 where `--watch` isn't given. Refused: a number outside these ranges, a MODEL without
-/// SCRIPTS, a third name, and an option that is unknown, comes twice or has no number.
+/// An answer other than a text has 1 to 16 workers, 1 where `--workers` isn't given, 0 to 4 viewers,
+/// 0 where `--watch` isn't given, and takes numbers of any form where `--decimals` is given. The
+/// options stand in any order, and names before, between and after them. Refused: a number outside
+/// these ranges, a MODEL without SCRIPTS, a third name, and an option that is unknown, comes twice
+/// or has no number.
 pub fn asked_by<'a>(alloc: Global, words: &'a [String]) -> Result<Asked<'a>, LineFault>
     ensures names { All IsName (drop 1 (map string_bytes words.now))
-        → AnswersNames one_worker (drop 1 (map string_bytes words.now)) result }
+        → AnswersNames plain_options (drop 1 (map string_bytes words.now)) result }
     ensures shown { (word : List ℕ) (rest : List (List ℕ)) → AsksForText word
         → drop 1 (map string_bytes words.now) ≡ word ∷ rest → IsShown result }
     ensures unknown { MeetsUnknownOption (drop 1 (map string_bytes words.now)) → IsErr result }
-    ensures options { (workers watch : Option (List ℕ)) (names : List (List ℕ))
-        → IsLineOf workers watch names (drop 1 (map string_bytes words.now))
-        → AnswersOptions workers watch names result }
-    ensures within { IfOk result HasCrew }
+    ensures options { (workers watch : Option (List ℕ)) (decimals : Bool) (names : List (List ℕ))
+        → IsLineOf workers watch decimals names (drop 1 (map string_bytes words.now))
+        → AnswersOptions workers watch decimals names result }
+    ensures within { IfOk result HasOptions }
 {
     let mut command = command(alloc)?;
     match command.try_get_matches_from_mut(words) {
         Ok(matches) => {
             let (workers, watch) = (matches.get_str(WORKERS), matches.get_str(WATCH));
-            let crew = crew_by(alloc, &mut command, workers, watch)?;
+            let decimals = matches.get_flag(DECIMALS);
+            let options = options_by(alloc, &mut command, workers, watch, decimals)?;
             let (model, scripts) = (matches.get_str(MODEL), matches.get_str(SCRIPTS));
-            by_names(alloc, &mut command, crew, model, scripts)
+            by_names(alloc, &mut command, options, model, scripts)
         }
         Err(error) => without_names(alloc, &error),
     }
@@ -120,9 +129,11 @@ pub fn asked_by<'a>(alloc: Global, words: &'a [String]) -> Result<Asked<'a>, Lin
 fn command<'a>(alloc: Global) -> Result<Command<'a>, AllocError>
     ensures { IfOk result (λ c. app_of c ≡ cityed_command) }
 {
+    let decimals = "Take numbers of any form, and give them back as they were written";
     let workers = "How many workers run the scripts, 1 to 16 [default: 1]";
     let watch = "How many viewers watch the model change, 0 to 4 [default: 0]";
     files_command(alloc)?
+        .arg(flag(alloc, DECIMALS, decimals))?
         .arg(number_option(alloc, WORKERS, "N", workers))?
         .arg(number_option(alloc, WATCH, "K", watch))
 }
@@ -136,10 +147,21 @@ fn files_command<'a>(alloc: Global) -> Result<Command<'a>, AllocError>
     Command::new(alloc, "cityed")
         .version("0.1.0")
         .about(ABOUT)
-        .override_usage("cityed [--workers N] [--watch K] [MODEL SCRIPTS]")
+        .override_usage("cityed [--decimals] [--workers N] [--watch K] [MODEL SCRIPTS]")
         .after_help(DETAILS)
         .arg(model)?
         .arg(scripts)
+}
+
+/// An option without a value.
+fn flag<'a>(alloc: Global, name: &'a str, help: &'a str) -> Arg<'a>
+    ensures rule { rule_of result ≡ flag_rule name.entry.now }
+    ensures local { result.global ≡ false }
+{
+    Arg::new(alloc, name)
+        .long(name)
+        .action(ArgAction::SetTrue)
+        .help(help)
 }
 
 /// An option with a value, which help shows by a name.
@@ -153,18 +175,19 @@ fn number_option<'a>(alloc: Global, name: &'a str, value: &'a str, help: &'a str
         .help(help)
 }
 
-/// How many workers and viewers the texts of the two options ask for. A text that is no number, or
-/// one outside the option's range, is refused.
-fn crew_by<'a>(
+/// The options, by the texts of `--workers` and `--watch` and whether `--decimals` is given. A text
+/// that is no number, or one outside the option's range, is refused.
+fn options_by<'a>(
     alloc: Global,
     command: &mut Command<'a>,
     workers: Option<&str>,
     watch: Option<&str>,
-) -> Result<Crew, LineFault>
-    ensures { MatchResult result (IsCrewOf (option_map (λ s. s.now) workers.entry)
-        (option_map (λ s. s.now) watch.entry))
-        (λ _. (crew : _) → ¬ IsCrewOf (option_map (λ s. s.now) workers.entry)
-        (option_map (λ s. s.now) watch.entry) crew) }
+    decimals: bool,
+) -> Result<Options, LineFault>
+    ensures { MatchResult result (AreOptionsOf (option_map (λ s. s.now) workers.entry)
+        (option_map (λ s. s.now) watch.entry) decimals)
+        (λ _. (options : _) → ¬ AreOptionsOf (option_map (λ s. s.now) workers.entry)
+        (option_map (λ s. s.now) watch.entry) decimals options) }
 {
     let Some(workers) = count_by(workers, 1, 16) else {
         return Err(mistake(alloc, command, "--workers takes a number from 1 to 16")?);
@@ -172,7 +195,11 @@ fn crew_by<'a>(
     let Some(viewers) = count_by(watch, 0, 4) else {
         return Err(mistake(alloc, command, "--watch takes a number from 0 to 4")?);
     };
-    Ok(Crew { workers, viewers })
+    Ok(Options {
+        workers,
+        viewers,
+        decimals,
+    })
 }
 
 /// The number that an option's text writes, from `least` to `most`, and `least` without a text.
@@ -206,16 +233,16 @@ fn mistake<'a>(
 fn by_names<'a>(
     alloc: Global,
     command: &mut Command<'a>,
-    crew: Crew,
+    options: Options,
     model: Option<&'a str>,
     scripts: Option<&'a str>,
 ) -> Result<Asked<'a>, LineFault>
-    ensures { AnswersPlaces crew (option_map (λ s. s.now) model.entry)
+    ensures { AnswersPlaces options (option_map (λ s. s.now) model.entry)
         (option_map (λ s. s.now) scripts.entry) result }
 {
     match (model, scripts) {
-        (Some(model), Some(scripts)) => Ok(Asked::Files(crew, model, scripts)),
-        (None, _) => Ok(Asked::Input(crew)),
+        (Some(model), Some(scripts)) => Ok(Asked::Files(options, model, scripts)),
+        (None, _) => Ok(Asked::Input(options)),
         (Some(_), None) => {
             let kind = ErrorKind::MissingRequiredArgument;
             let error = command.error(kind, "a MODEL was given without SCRIPTS")?;
@@ -231,7 +258,7 @@ fn without_names<'a>(alloc: Global, error: &Error) -> Result<Asked<'a>, LineFaul
         ⊎ (kind_of error.now ≡ ErrorKind.DisplayVersion) → IsShown result }
     ensures mistake { kind_of error.now ≢ ErrorKind.DisplayHelp
         → kind_of error.now ≢ ErrorKind.DisplayVersion → IsErr result }
-    ensures within { IfOk result HasCrew }
+    ensures within { IfOk result HasOptions }
 {
     match error.kind() {
         ErrorKind::OutOfMemory => Err(LineFault::OutOfMemory),

@@ -35,7 +35,9 @@ pub fn serve_texts<R: Threads + Wait + Sync, W: Write>(
     ensures fault { IfErr result (IsTextsFault document.now scripts.now workers viewers
         (W.contents writer.old.0) (W.contents writer.new.0) writer.new.1) }
 {
-    serve_texts_through(rt, alloc, &OpenGate, document, scripts, writer, workers, viewers)
+    serve_texts_through(
+        rt, alloc, &OpenGate, document, scripts, writer, workers, viewers,
+    )
 }
 
 /// As `serve_texts`, through a gate: each worker passes it before each turn, and each viewer tells it what it saw.

@@ -1,5 +1,5 @@
 //! What command lines ask for, and what files give.
-use city_serve::command_line::{Asked, LineFault, asked_by};
+use city_serve::command_line::{Asked, LineFault, Options, asked_by};
 use city_serve::{ServeFault, read_file};
 use std::alloc::{AllocError, Global};
 use std::fs;
@@ -12,14 +12,20 @@ fn told(alloc: Global, line: &str) -> Result<String, AllocError> {
         words.push(word.to_string(alloc)?)?;
     }
     match asked_by(alloc, words.as_slice()) {
-        Ok(Asked::Input(crew)) => format!(in alloc; "input {} {}", crew.workers, crew.viewers),
-        Ok(Asked::Files(crew, model, scripts)) => {
-            format!(in alloc; "files {model} {scripts} {} {}", crew.workers, crew.viewers)
+        Ok(Asked::Input(options)) => format!(in alloc; "input {}", with_options(alloc, options)?),
+        Ok(Asked::Files(options, model, scripts)) => {
+            format!(in alloc; "files {model} {scripts} {}", with_options(alloc, options)?)
         }
         Ok(Asked::Text(text)) => format!(in alloc; "text {}", first_line(text.as_str())),
         Err(LineFault::Refused(text)) => format!(in alloc; "2 {}", first_line(text.as_str())),
         Err(LineFault::OutOfMemory) => "out of memory".to_string(alloc),
     }
+}
+
+/// How many workers and viewers there are, and a word where numbers of any form are taken.
+fn with_options(alloc: Global, options: Options) -> Result<String, AllocError> {
+    let decimals = if options.decimals { " decimals" } else { "" };
+    format!(in alloc; "{} {}{decimals}", options.workers, options.viewers)
 }
 
 fn first_line(text: &str) -> &str {
@@ -71,11 +77,42 @@ const OPTIONS: &[(&str, &str)] = &[
     ("cityed --watch 4", "input 1 4"),
     ("cityed --workers 4 --watch 1 m s", "files m s 4 1"),
     ("cityed m --watch=0 s --workers=1", "files m s 1 0"),
-    ("cityed --workers 0", NO_CREW),
-    ("cityed --workers 17", NO_CREW),
-    ("cityed --workers 18446744073709551617", NO_CREW),
-    ("cityed --workers x m s", NO_CREW),
-    ("cityed --workers=", NO_CREW),
+    ("cityed --decimals", "input 1 0 decimals"),
+    (
+        "cityed --decimals --workers 4 --watch 1 m s",
+        "files m s 4 1 decimals",
+    ),
+    (
+        "cityed --workers 4 --decimals --watch 1 m s",
+        "files m s 4 1 decimals",
+    ),
+    (
+        "cityed --watch 1 --workers 4 --decimals m s",
+        "files m s 4 1 decimals",
+    ),
+    ("cityed m --decimals s", "files m s 1 0 decimals"),
+    ("cityed m s --decimals", "files m s 1 0 decimals"),
+    (
+        "cityed --decimals -- m --decimals",
+        "files m --decimals 1 0 decimals",
+    ),
+    (
+        "cityed --decimals --decimals",
+        "2 error: the argument '--decimals' cannot be used multiple times",
+    ),
+    (
+        "cityed --decimals=true",
+        "2 error: unexpected value 'true' for '--decimals' found; no more were expected",
+    ),
+    (
+        "cityed --decimal",
+        "2 error: unexpected argument '--decimal' found",
+    ),
+    ("cityed --workers 0", NO_COUNT),
+    ("cityed --workers 17", NO_COUNT),
+    ("cityed --workers 18446744073709551617", NO_COUNT),
+    ("cityed --workers x m s", NO_COUNT),
+    ("cityed --workers=", NO_COUNT),
     (
         "cityed --watch 5 m s",
         "2 error: --watch takes a number from 0 to 4",
@@ -106,10 +143,10 @@ const OPTIONS: &[(&str, &str)] = &[
     ),
 ];
 
-const NO_CREW: &str = "2 error: --workers takes a number from 1 to 16";
+const NO_COUNT: &str = "2 error: --workers takes a number from 1 to 16";
 
 #[test]
-fn options_tell_the_workers_and_the_viewers(rt: HostRuntime) -> Result<(), Fail> {
+fn options_tell_the_workers_the_viewers_and_the_numbers(rt: HostRuntime) -> Result<(), Fail> {
     assert_eq!(rt; mistold(rt.alloc(), OPTIONS)?, None);
     Ok(())
 }

@@ -1,19 +1,21 @@
 //! Edits a CityJSON 2.0 document by scripts.
 //!
 //! Two names are files, the model's and the scripts'. Without names standard input has the document in
-//! its first line and the scripts after it. `--workers` and `--watch` say how many workers run the
-//! scripts and how many viewers look on. Standard output gets a line for each script and the model,
+//! its first line and the scripts after it. `--decimals` has numbers of any form taken, and given back as they were
+//! written; `--workers` and `--watch` say how many workers run the scripts and how many viewers look on. Standard
+//! output gets a line for each script and the model,
 //! standard error one for each viewer. Status 1: a fault, told on standard error; 2: a command line that is
 //! refused.
 #![tactic(auto)]
 
-ghost use Rattle.city_serve.specs.CommandLines.{HasCrew};
+ghost use Rattle.city_serve.specs.CommandLines.{HasOptions};
 
 use city_desk::RunFault;
 use city_serve::command_line::{Asked, LineFault, asked_by};
 use city_serve::fault_line::fault_line;
 use city_serve::seen_line::seen_line;
 use city_serve::serve::{serve, write_output};
+use city_serve::serve_decimals::{serve_decimals, serve_decimals_texts};
 use city_serve::serve_texts::serve_texts;
 use city_serve::{Device, ServeFault, read_file};
 use std::io::ErrorKind;
@@ -53,40 +55,55 @@ fn answer<T: Threads + Wait + Sync>(
     threads: &T,
     asked: &Asked<'_>,
 ) -> Result<(), ServeFault>
-    requires { HasCrew asked.now }
+    requires { HasOptions asked.now }
 {
     let alloc = rt.alloc();
     let mut output = Device::new(io::writer(rt));
-    match asked {
+    let seen = match asked {
         Asked::Text(text) => {
             if !write_output(&mut output, text.as_bytes()) {
                 return Err(ServeFault::Write);
             }
-            Ok(())
+            return Ok(());
         }
-        Asked::Input(crew) => {
+        Asked::Input(options) => {
             let mut input = Device::new(rt.reader());
-            let (workers, viewers) = (crew.workers, crew.viewers);
-            let seen = serve(threads, alloc, &mut input, &mut output, workers, viewers)?;
-            tell_seen(rt, seen.as_slice())
+            let (workers, viewers) = (options.workers, options.viewers);
+            if options.decimals {
+                serve_decimals(threads, alloc, &mut input, &mut output, workers, viewers)?
+            } else {
+                serve(threads, alloc, &mut input, &mut output, workers, viewers)?
+            }
         }
-        Asked::Files(crew, model, scripts) => {
+        Asked::Files(options, model, scripts) => {
             let document = read_file(rt, *model)?;
             let scripts = read_file(rt, *scripts)?;
             let (document, scripts) = (document.as_slice(), scripts.as_slice());
-            let (workers, viewers) = (crew.workers, crew.viewers);
-            let seen = serve_texts(
-                threads,
-                alloc,
-                document,
-                scripts,
-                &mut output,
-                workers,
-                viewers,
-            )?;
-            tell_seen(rt, seen.as_slice())
+            let (workers, viewers) = (options.workers, options.viewers);
+            if options.decimals {
+                serve_decimals_texts(
+                    threads,
+                    alloc,
+                    document,
+                    scripts,
+                    &mut output,
+                    workers,
+                    viewers,
+                )?
+            } else {
+                serve_texts(
+                    threads,
+                    alloc,
+                    document,
+                    scripts,
+                    &mut output,
+                    workers,
+                    viewers,
+                )?
+            }
         }
-    }
+    };
+    tell_seen(rt, seen.as_slice())
 }
 
 /// Tells on standard error what each viewer saw.
