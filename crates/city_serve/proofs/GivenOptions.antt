@@ -1,20 +1,25 @@
 -- What clap holds as it goes over a line of options and names.
-use Rattle.std.proofs.Common.{◌≡◌, ℕ, Bool, true, false, ◌&&◌, cond, List, [], ◌∷◌, ◌++◌, Option, Some, None, is_some, nat_eq, refl, sym, subst, ap, ap₂, ◌∙◌, codes, arith}
-use Rattle.std.specs.Prelude.{◌==◌, ◌≢◌, if◌then◌else◌, find, fold, option_and_then, option_map, slice_get}
+use Rattle.std.proofs.Common.{◌≡◌, ℕ, Bool, true, false, ◌&&◌, List, [], ◌∷◌, ◌++◌, Option, Some, None, refl}
+use Rattle.std.proofs.Common.{ap, ap₂, ◌∙◌, codes, arith}
+use Rattle.std.specs.Prelude.{◌==◌, ◌≢◌, if◌then◌else◌, fold, option_and_then}
 use Rattle.std.specs.Option.{option_map_or}
 use Rattle.std.specs.Str.{bytes_eq}
 use Rattle.clap.specs.Lexer.{long_of, long_of_rest, short_of, short_of_rest, strip_byte}
 use Rattle.std.proofs.lemmas.Bool.Decides.{nat_tests}
 use Rattle.clap.proofs.OnLiterals.{clap_on_literals}
-use Rattle.clap.specs.Walk.{Held, Row, Rule, Step, Text, Waiting, Walk, after_step, arg_by_id, arg_by_index, has_row, idle, is_pending, long_or_other, option, option_word, plain_word, pushed, settled, short_or_plain, to_positional, trailing, value, walk_from, walked, with_values, without, word_met}
+use Rattle.clap.specs.Walk.{Held, Row, Rule, Step, Text, Waiting, Walk, after_step, arg_by_id, arg_by_index, has_row}
+use Rattle.clap.specs.Walk.{idle, long_or_other, option, option_word, plain_word, pushed, settled, short_or_plain}
+use Rattle.clap.specs.Walk.{subcommand_or_other, to_positional, trailing, value, walk_from, walked, with_values}
+use Rattle.clap.specs.Walk.{without}
 use Rattle.clap.specs.Simple.{Shape, built}
 use Rattle.clap.specs.Kinds.{Kinds, or_else}
-use Rattle.clap.specs.Faults.{bundle_fault, flag_word_fault, settle_fault, step_fault, turn_fault, walk_fault, word_fault}
+use Rattle.clap.specs.Faults.{bundle_fault, flag_word_fault, settle_fault, step_fault, turn_fault, walk_fault}
 use Rattle.clap.specs.declared.builder.value_parser.Reading.TheVariants.{AsWritten}
 use Rattle.clap.specs.declared.error.kind.ErrorKind.TheVariants.{ArgumentConflict, UnknownArgument}
 use Rattle.clap.specs.declared.parser.matches.ValueSource.TheVariants.{CommandLine}
-use Rattle.city_serve.specs.CommandLines.{IsLineOf, IsName, cityed_command, ends, gives_decimals, gives_name, gives_watch, gives_workers}
-use Rattle.city_serve.proofs.Rows.{AreDistinct, AreFresh, behind, has_found, not_both, row_by, used_fresh}
+use Rattle.city_serve.specs.CommandLines.{IsLineOf, IsName, cityed_command, ends, gives_decimals, gives_name}
+use Rattle.city_serve.specs.CommandLines.{gives_watch, gives_workers}
+use Rattle.city_serve.proofs.Rows.{AreFresh, behind, not_both, row_by, untrue, used_fresh}
 
 abbrev pub top : Shape
 top = (built cityed_command).top
@@ -24,25 +29,16 @@ rules = top.rules
 
 -- ---- a word that doesn't begin with a hyphen is a value
 
-not_hyphen : (b : ℕ) (t : Bool) → (b == 45) ≡ t → b ≢ 45 → t ≡ false
-not_hyphen b true same name = absurd (name (grind (arith, nat_tests, same)))
-not_hyphen b false other name = refl
-
-not_hyphen_byte : (b : ℕ) (t : Bool) → nat_eq b 45 ≡ t → b ≢ 45 → t ≡ false
-not_hyphen_byte b true same name = absurd (name (grind (arith, nat_tests, same)))
-not_hyphen_byte b false other name = refl
+no_hyphen_byte : (b : ℕ) → Some b ≢ Some 45 → (b == 45) ≡ false
+no_hyphen_byte b other = untrue (b == 45) (λ same. other (ap (λ k. Some k) (grind (arith, nat_tests, same))))
 
 no_hyphen : (word : Text) → IsName word → strip_byte 45 word ≡ None
 no_hyphen [] name = refl
-no_hyphen (b ∷ bs) name =
-    let other : (b == 45) ≡ false = not_hyphen b (b == 45) refl (λ e. name (ap (λ k. Some k) e)) in
-    ap (λ t. if t then Some bs else None) other
+no_hyphen (b ∷ bs) name = ap (λ t. if t then Some bs else None) (no_hyphen_byte b name)
 
 no_dashes : (word : Text) → IsName word → bytes_eq word (45 ∷ 45 ∷ []) ≡ false
 no_dashes [] name = refl
-no_dashes (b ∷ bs) name =
-    let other : nat_eq b 45 ≡ false = not_hyphen_byte b (nat_eq b 45) refl (λ e. name (ap (λ k. Some k) e)) in
-    ap (λ t. t && bytes_eq bs (45 ∷ [])) other
+no_dashes (b ∷ bs) name = ap (λ t. t && bytes_eq bs (45 ∷ [])) (no_hyphen_byte b name)
 
 module _ (word : Text) (name : IsName word) (h : Held) where
   no_long : long_of word ≡ None
@@ -52,18 +48,12 @@ module _ (word : Text) (name : IsName word) (h : Held) where
   no_short : short_of word ≡ None
   no_short = ap (option_and_then short_of_rest) (no_hyphen word name)
 
-  name_met : (p : ℕ) → word_met rules [] false idle p word h ≡ plain_word rules idle word h
-  name_met p =
-      ap (λ t. if t then (h, trailing p) else long_or_other rules idle word (long_of word) h) (no_dashes word name)
-      ∙ ap (λ o. long_or_other rules idle word o h) no_long
-      ∙ ap (λ o. short_or_plain rules idle word o h) no_short
-
-  -- the same where an option waits for its value
-  value_met : (id : Text) (p : ℕ) → word_met rules [] false (option id) p word h ≡ plain_word rules (option id) word h
-  value_met id p =
-      ap (λ t. if t then (h, trailing p) else long_or_other rules (option id) word (long_of word) h) (no_dashes word name)
-      ∙ ap (λ o. long_or_other rules (option id) word o h) no_long
-      ∙ ap (λ o. short_or_plain rules (option id) word o h) no_short
+  plain_met : (waiting : Waiting) (p : ℕ)
+      → subcommand_or_other rules None waiting p word h ≡ plain_word rules waiting word h
+  plain_met waiting p =
+      ap (λ t. if t then (h, trailing p) else long_or_other rules waiting word (long_of word) h) (no_dashes word name)
+      ∙ ap (λ o. long_or_other rules waiting word o h) no_long
+      ∙ ap (λ o. short_or_plain rules waiting word o h) no_short
 
   no_flag : (if bytes_eq word (45 ∷ 45 ∷ []) then [] else flag_word_fault rules false (long_of word) word h) ≡ []
   no_flag =
@@ -82,7 +72,8 @@ pub record Goes (w : Walk) (words : List Text) (found : List Row) : Type 0 where
   pub held : Held
   pub place : ℕ
   pub faults : (rest : List Text) → walk_fault top [] w (words ++ rest) ≡ walk_fault top [] (stands held place) rest
-  pub walks : (rest : List Text) → fold (walked rules []) w (words ++ rest) ≡ fold (walked rules []) (stands held place) rest
+  pub walks : (rest : List Text)
+      → fold (walked rules []) w (words ++ rest) ≡ fold (walked rules []) (stands held place) rest
   pub settles : settle_fault rules false held ≡ []
   pub rows : (settled rules held).rows ≡ found
 
@@ -91,13 +82,15 @@ abbrev pub Ends : Bool → Walk → List Text → List Row → Type 0
 Ends false w words found = Goes w words found
 Ends true w words found = (rest : List Text) → walk_fault top [] w (words ++ rest) ≡ UnknownArgument ∷ []
 
-word_then : (over : Bool) (w next : Walk) (word : Text) (words : List Text) (found : List Row) → turn_fault top [] w word ≡ []
-    → walked rules [] w word ≡ next → Ends over next words found → Ends over w (word ∷ words) found
+word_then : (over : Bool) (w next : Walk) (word : Text) (words : List Text) (found : List Row)
+    → turn_fault top [] w word ≡ [] → walked rules [] w word ≡ next → Ends over next words found
+    → Ends over w (word ∷ words) found
 unfolding walk_fault
 word_then false w next word words found free is goes = record {
   held = goes.held;
   place = goes.place;
-  faults = λ rest. ap₂ (λ (f : Kinds) (v : Walk). or_else f (walk_fault top [] v (words ++ rest))) free is ∙ goes.faults rest;
+  faults = λ rest.
+      ap₂ (λ (f : Kinds) (v : Walk). or_else f (walk_fault top [] v (words ++ rest))) free is ∙ goes.faults rest;
   walks = λ rest. ap (λ (v : Walk). fold (walked rules []) v (words ++ rest)) is ∙ goes.walks rest;
   settles = goes.settles;
   rows = goes.rows;
@@ -122,28 +115,35 @@ abbrev waits_for : Text → Held → ℕ → Walk
 waits_for id h p =
     record (stands (record (settled rules h) { pending = Some (id, []) }) p) { waiting = option id }
 
-module _ (id : Text) (h : Held) (p : ℕ) (v : Text) (name : IsName v) where
-  value_turn : turn_fault top [] (waits_for id h p) v ≡ []
-  value_turn =
-      let w = waits_for id h p in
-      ap₂ (λ (f : Kinds) (met : Held × Step). or_else f (step_fault top p met.0 met.1)) (no_flag v name w.held) (value_met v name w.held id p)
-
-  value_walked : walked rules [] (waits_for id h p) v
-      ≡ after_step rules v (waits_for id h p) (plain_word rules (option id) v (waits_for id h p).held).0 (plain_word rules (option id) v (waits_for id h p).held).1
-  unfolding walked
-  value_walked =
-      let w = waits_for id h p in
-      ap (λ (met : Held × Step). after_step rules v w met.0 met.1) (value_met v name w.held id p)
-
 -- a name where nothing waits
 module _ (h : Held) (p : ℕ) (n : Text) (name : IsName n) where
   pub name_turn : turn_fault top [] (stands h p) n ≡ step_fault top p h value
-  name_turn =
-      ap₂ (λ (f : Kinds) (met : Held × Step). or_else f (step_fault top p met.0 met.1)) (no_flag n name h) (name_met n name h p)
+  name_turn = ap₂ (λ (f : Kinds) (met : Held × Step). or_else f (step_fault top p met.0 met.1)) (no_flag n name h)
+      (plain_met n name h idle p)
 
-  name_walked : walked rules [] (stands h p) n ≡ to_positional rules (arg_by_index rules p) n (stands h p) h
+  name_then : (over : Bool) (next : Walk) (words : List Text) (found : List Row) → step_fault top p h value ≡ []
+      → to_positional rules (arg_by_index rules p) n (stands h p) h ≡ next → Ends over next words found
+      → Ends over (stands h p) (n ∷ words) found
   unfolding walked
-  name_walked = ap (λ (met : Held × Step). after_step rules n (stands h p) met.0 met.1) (name_met n name h p)
+  name_then over next words found free is =
+      word_then over (stands h p) next n words found (name_turn ∙ free)
+      (ap (λ (met : Held × Step). after_step rules n (stands h p) met.0 met.1) (plain_met n name h idle p) ∙ is)
+
+-- an option and its value
+module _ (over : Bool) (h : Held) (p : ℕ) (id flag v : Text) (words : List Text) (found : List Row)
+    (name : IsName v) where
+  option_then : turn_fault top [] (stands h p) flag ≡ [] → walked rules [] (stands h p) flag ≡ waits_for id h p
+      → option_word (arg_by_id rules id) id v (waits_for id h p).held ≡ (put id v h, idle)
+      → Ends over (stands (put id v h) p) words found → Ends over (stands h p) (flag ∷ v ∷ words) found
+  unfolding walked
+  option_then free is takes more =
+      let w = waits_for id h p in
+      let met = plain_met v name w.held (option id) p in
+      word_then over (stands h p) w flag (v ∷ words) found free is
+      (word_then over w (stands (put id v h) p) v words found
+      (ap₂ (λ (f : Kinds) (m : Held × Step). or_else f (step_fault top p m.0 m.1)) (no_flag v name w.held) met)
+      (ap (λ (m : Held × Step). after_step rules v w m.0 m.1) met
+      ∙ ap (λ (to : Held × Waiting). record (stands to.0 p) { waiting = to.1 }) takes) more)
 
 -- ---- the walk over a line
 
@@ -166,48 +166,44 @@ is_over scripts_next (n ∷ names) = is_over none_next names
 is_over none_next (n ∷ names) = true
 
 -- the rows of the line's arguments, in their order
-abbrev pub rows_in : {workers watch : Option Text} {decimals : Bool} {names args : List Text} → Place → IsLineOf workers watch decimals names args → List Row
+abbrev pub rows_in : {workers watch : Option Text} {decimals : Bool} {names args : List Text} → Place
+    → IsLineOf workers watch decimals names args → List Row
 rows_in place ends = []
-rows_in place (gives_workers v watch decimals names rest plain more) = text_row (codes "workers") v ∷ rows_in place more
+rows_in place (gives_workers v watch decimals names rest plain more) =
+    text_row (codes "workers") v ∷ rows_in place more
 rows_in place (gives_watch workers v decimals names rest plain more) = text_row (codes "watch") v ∷ rows_in place more
 rows_in place (gives_decimals workers watch names rest more) = flag_row ∷ rows_in place more
-rows_in model_next (gives_name workers watch decimals n names rest plain more) = text_row (codes "MODEL") n ∷ rows_in scripts_next more
-rows_in scripts_next (gives_name workers watch decimals n names rest plain more) = text_row (codes "SCRIPTS") n ∷ rows_in none_next more
+rows_in model_next (gives_name workers watch decimals n names rest plain more) =
+    text_row (codes "MODEL") n ∷ rows_in scripts_next more
+rows_in scripts_next (gives_name workers watch decimals n names rest plain more) =
+    text_row (codes "SCRIPTS") n ∷ rows_in none_next more
 rows_in none_next (gives_name workers watch decimals n names rest plain more) = rows_in none_next more
-
--- what is held where a new argument is put
-module _ (h : Held) (rows : List Row) (are : (settled rules h).rows ≡ rows) where
-  lacks : (id : Text) → has_row id rows ≡ false → has_row id (settled rules h).rows ≡ false
-  lacks id fresh = ap (has_row id) are ∙ fresh
-
-  one_more : (id v : Text) → has_row id rows ≡ false → with_values id AsWritten CommandLine (v ∷ []) (without id (settled rules h).rows) ≡ rows ++ row_by id AsWritten CommandLine (v ∷ []) ∷ []
-  one_more id v fresh = used_fresh id AsWritten CommandLine (v ∷ []) (settled rules h).rows (lacks id fresh) ∙ ap (λ rs. rs ++ row_by id AsWritten CommandLine (v ∷ []) ∷ []) are
 
 -- no fault where no row is repeated
 no_repeat : (b : Bool) → b ≡ false → or_else (if b && true then ArgumentConflict ∷ [] else []) [] ≡ []
 no_repeat b fresh = ap (λ t. or_else (if t && true then ArgumentConflict ∷ [] else []) []) fresh
 
-no_other : (f : Kinds) → f ≡ [] → or_else f [] ≡ []
-no_other f none = ap (λ k. or_else k []) none
+-- where the rows so far lack an id, it is no fault to use its argument, and its row comes behind them
+module _ (h : Held) (rows : List Row) (are : (settled rules h).rows ≡ rows) (id : Text)
+    (fresh : has_row id rows ≡ false) where
+  use_free : or_else (if has_row id (settled rules h).rows && true then ArgumentConflict ∷ [] else []) [] ≡ []
+  use_free = no_repeat (has_row id (settled rules h).rows) (ap (has_row id) are ∙ fresh)
+
+  one_more : (v : Text) → with_values id AsWritten CommandLine (v ∷ []) (without id (settled rules h).rows)
+      ≡ rows ++ text_row id v ∷ []
+  one_more v = ap (λ held. with_values id AsWritten CommandLine (v ∷ []) (without id held)) are
+      ∙ used_fresh id AsWritten CommandLine (v ∷ []) rows fresh
 
 abbrev put_flag : Held → Held
 put_flag h = record h {
-  rows = with_values (codes "decimals") AsWritten CommandLine (codes "true" ∷ []) (without (codes "decimals") (settled rules h).rows);
+  rows = with_values (codes "decimals") AsWritten CommandLine (codes "true" ∷ [])
+      (without (codes "decimals") (settled rules h).rows);
   pending = None;
 }
 
--- an option with its value
-option_then : (over : Bool) (h : Held) (p : ℕ) (id name v : Text) (words : List Text) (found : List Row) → IsName v
-    → turn_fault top [] (stands h p) name ≡ [] → walked rules [] (stands h p) name ≡ waits_for id h p
-    → option_word (arg_by_id rules id) id v (waits_for id h p).held ≡ (put id v h, idle)
-    → Ends over (stands (put id v h) p) words found → Ends over (stands h p) (name ∷ v ∷ words) found
-option_then over h p id name v words found plain free is takes more =
-    word_then over (stands h p) (waits_for id h p) name (v ∷ words) found free is
-    (word_then over (waits_for id h p) (stands (put id v h) p) v words found (value_turn id h p v plain)
-    (value_walked id h p v plain ∙ ap (λ (to : Held × Waiting). record (stands to.0 p) { waiting = to.1 }) takes) more)
-
-pub line_goes : {workers watch : Option Text} {decimals : Bool} {names args : List Text} (place : Place) (h : Held) (rows : List Row)
-    (line : IsLineOf workers watch decimals names args) → settle_fault rules false h ≡ [] → (settled rules h).rows ≡ rows → AreFresh rows (rows_in place line)
+pub line_goes : {workers watch : Option Text} {decimals : Bool} {names args : List Text} (place : Place) (h : Held)
+    (rows : List Row) (line : IsLineOf workers watch decimals names args) → settle_fault rules false h ≡ []
+    → (settled rules h).rows ≡ rows → AreFresh rows (rows_in place line)
     → Ends (is_over place names) (stands h (position_of place)) args (behind rows (rows_in place line))
 unfolding clap_on_literals
 line_goes place h rows ends settles are fresh = record {
@@ -219,28 +215,36 @@ line_goes place h rows ends settles are fresh = record {
   rows = are;
 }
 line_goes place h rows (gives_workers v watch decimals names rest plain more) settles are fresh =
-    option_then (is_over place names) h (position_of place) (codes "workers") (codes "--workers") v rest _ plain (no_other _ settles) refl refl
-    (line_goes place (put (codes "workers") v h) (rows ++ text_row (codes "workers") v ∷ []) more
-    (no_repeat _ (lacks h rows are (codes "workers") fresh.0)) (one_more h rows are (codes "workers") v fresh.0) fresh.1)
+    let id = codes "workers" in
+    option_then (is_over place names) h (position_of place) id (codes "--workers") v rest _ plain
+    (ap (λ k. or_else k []) settles) refl refl
+    (line_goes place (put id v h) (rows ++ text_row id v ∷ []) more (use_free h rows are id fresh.0)
+    (one_more h rows are id fresh.0 v) fresh.1)
 line_goes place h rows (gives_watch workers v decimals names rest plain more) settles are fresh =
-    option_then (is_over place names) h (position_of place) (codes "watch") (codes "--watch") v rest _ plain (no_other _ settles) refl refl
-    (line_goes place (put (codes "watch") v h) (rows ++ text_row (codes "watch") v ∷ []) more
-    (no_repeat _ (lacks h rows are (codes "watch") fresh.0)) (one_more h rows are (codes "watch") v fresh.0) fresh.1)
+    let id = codes "watch" in
+    option_then (is_over place names) h (position_of place) id (codes "--watch") v rest _ plain
+    (ap (λ k. or_else k []) settles) refl refl
+    (line_goes place (put id v h) (rows ++ text_row id v ∷ []) more (use_free h rows are id fresh.0)
+    (one_more h rows are id fresh.0 v) fresh.1)
 line_goes place h rows (gives_decimals workers watch names rest more) settles are fresh =
-    word_then (is_over place names) (stands h (position_of place)) (stands (put_flag h) (position_of place)) (codes "--decimals") rest _
-    (ap₂ (λ (f g : Kinds). or_else (or_else f g) []) settles (no_repeat _ (lacks h rows are (codes "decimals") fresh.0))) refl
-    (line_goes place (put_flag h) (rows ++ flag_row ∷ []) more refl (one_more h rows are (codes "decimals") (codes "true") fresh.0) fresh.1)
+    let id = codes "decimals" in
+    let p = position_of place in
+    word_then (is_over place names) (stands h p) (stands (put_flag h) p) (codes "--decimals") rest _
+    (ap₂ (λ (f g : Kinds). or_else (or_else f g) []) settles (use_free h rows are id fresh.0)) refl
+    (line_goes place (put_flag h) (rows ++ flag_row ∷ []) more refl
+    (one_more h rows are id fresh.0 (codes "true")) fresh.1)
 line_goes model_next h rows (gives_name workers watch decimals n names rest plain more) settles are fresh =
-    word_then (is_over scripts_next names) (stands h 1) (stands (put (codes "MODEL") n h) 2) n rest _
-    (name_turn h 1 n plain ∙ not_both _ [] (settle_fault rules false h) ∙ settles)
-    (name_walked h 1 n plain ∙ ap (λ (k : Held). stands (pushed (codes "MODEL") n k) 2) (not_both _ h (settled rules h)))
-    (line_goes scripts_next (put (codes "MODEL") n h) (rows ++ text_row (codes "MODEL") n ∷ []) more
-    (no_repeat _ (lacks h rows are (codes "MODEL") fresh.0)) (one_more h rows are (codes "MODEL") n fresh.0) fresh.1)
+    let id = codes "MODEL" in
+    name_then h 1 n plain (is_over scripts_next names) (stands (put id n h) 2) rest _ (not_both _ [] _ ∙ settles)
+    (ap (λ (k : Held). stands (pushed id n k) 2) (not_both _ h (settled rules h)))
+    (line_goes scripts_next (put id n h) (rows ++ text_row id n ∷ []) more (use_free h rows are id fresh.0)
+    (one_more h rows are id fresh.0 n) fresh.1)
 line_goes scripts_next h rows (gives_name workers watch decimals n names rest plain more) settles are fresh =
-    word_then (is_over none_next names) (stands h 2) (stands (put (codes "SCRIPTS") n h) 3) n rest _
-    (name_turn h 2 n plain ∙ not_both _ [] (settle_fault rules false h) ∙ settles)
-    (name_walked h 2 n plain ∙ ap (λ (k : Held). stands (pushed (codes "SCRIPTS") n k) 3) (not_both _ h (settled rules h)))
-    (line_goes none_next (put (codes "SCRIPTS") n h) (rows ++ text_row (codes "SCRIPTS") n ∷ []) more
-    (no_repeat _ (lacks h rows are (codes "SCRIPTS") fresh.0)) (one_more h rows are (codes "SCRIPTS") n fresh.0) fresh.1)
-line_goes none_next h rows (gives_name workers watch decimals n names rest plain more) settles are fresh =
-    λ others. ap (λ (f : Kinds). or_else f (walk_fault top [] (walked rules [] (stands h 3) n) (rest ++ others))) (name_turn h 3 n plain)
+    let id = codes "SCRIPTS" in
+    name_then h 2 n plain (is_over none_next names) (stands (put id n h) 3) rest _ (not_both _ [] _ ∙ settles)
+    (ap (λ (k : Held). stands (pushed id n k) 3) (not_both _ h (settled rules h)))
+    (line_goes none_next (put id n h) (rows ++ text_row id n ∷ []) more (use_free h rows are id fresh.0)
+    (one_more h rows are id fresh.0 n) fresh.1)
+line_goes none_next h rows (gives_name workers watch decimals n names rest plain more) settles are fresh = λ others.
+    ap (λ (f : Kinds). or_else f (walk_fault top [] (walked rules [] (stands h 3) n) (rest ++ others)))
+    (name_turn h 3 n plain)
