@@ -6,3 +6,5 @@ pub mod Wholes
 pub mod Kept
 pub mod Texts
 pub mod OneLine
+pub mod Streams
+pub mod Starts

@@ -10,3 +10,4 @@ pub mod Inner
 pub mod Arranged
 pub mod Kept
 pub mod Lines
+pub mod Streams

@@ -36,3 +36,14 @@ impl From<json::Error> for DecimalsFault {
         }
     }
 }
+
+impl From<json::Invalid> for DecimalsFault {
+    ghost use Rattle.city_decimals.specs.declared.fault.DecimalsFault.TheVariants.{NotJson};
+    ghost use Rattle.std.specs.Prelude.{◌≡◌};
+
+    ghost from_gives = { λ _ e. e ≡ NotJson };
+
+    fn from(_invalid: json::Invalid) -> DecimalsFault {
+        DecimalsFault::NotJson
+    }
+}

@@ -14,6 +14,7 @@ mod laws;
 mod lines;
 mod numbers;
 mod shapes;
+mod text;
 
 pub use decoding::decode;
 pub use encoding::encode;

@@ -6,7 +6,7 @@ use Rattle.json.specs.Token.{Token, end_object, key}
 use Rattle.json.specs.Tree.{json_tokens}
 use Rattle.city_decimals.specs.Shapes.{three}
 use Rattle.city_decimals.specs.Forms.{tokens_after}
-use Rattle.city_decimals.proofs.encoding.end_form.Goals as goal
+use Rattle.city_decimals.proofs.encoding.form.end_form.Goals as goal
 
 flat : (a t u : List Token) (k l e : Token)
     → ((((a ++ k ∷ []) ++ t) ++ l ∷ []) ++ u) ++ e ∷ [] ≡ a ++ k ∷ (t ++ l ∷ (u ++ e ∷ []))
