@@ -36,6 +36,11 @@ VALUES = [None, True, 0, -1, 3, 10**19, 1.5, "", "b", "Road", "MultiPoint", [], 
 VALUES.append({"location": 0})
 
 
+LIMIT = 120
+# how many runs of several workers there have to be, so that one at least ends in another order than the text's
+MANY = 50
+
+
 class Different(Exception):
     """The program and the second reading disagree."""
 
@@ -55,10 +60,17 @@ class Program:
             with open(name, "wb") as file:
                 file.write(text)
             names.append(name)
-        ran = subprocess.run([self.path, *options, *names], stdout=subprocess.PIPE, stderr=subprocess.PIPE)
+        ran = self.run(document, scripts, *options, *names)
         for name in names:
             os.remove(name)
         return ran.returncode, ran.stdout, ran.stderr
+
+    def run(self, document, scripts, *arguments, **pipes):
+        """A call with these arguments, which has to end within a limit of time."""
+        try:
+            return subprocess.run([self.path, *arguments], capture_output=True, timeout=LIMIT, check=False, **pipes)
+        except subprocess.TimeoutExpired:
+            raise Different(document, scripts, arguments, f"an end within {LIMIT} seconds") from None
 
     def compare(self, document, scripts):
         self.agree(document, scripts, self.answer(document, scripts), second.run(document, scripts))
@@ -268,7 +280,7 @@ def named_faults(program):
         program.agree(document, scripts, program.answer(document, scripts), (None, "cityed: " + line))
     endless = "import sys\nwhile True: sys.stdout.buffer.write(b' ' * 65536)"
     with subprocess.Popen([sys.executable, "-c", endless], stdout=subprocess.PIPE, stderr=subprocess.DEVNULL) as writer:
-        ran = subprocess.run([program.path], stdin=writer.stdout, stdout=subprocess.PIPE, stderr=subprocess.PIPE)
+        ran = program.run(b"", b"", stdin=writer.stdout)
         writer.stdout.close()
         writer.kill()
     program.agree(b"", b"", (ran.returncode, ran.stdout, ran.stderr), (None, "cityed: model: 1 TooLong"))
@@ -297,7 +309,7 @@ def contended_workers(program, seed, count):
 
 def by_workers(program, choose, pairs):
     """What is written has to be what the scripts give one at a time in the order of the report."""
-    counts = {"agree": 0, "in another order": 0}
+    counts = {"agree": 0, "by several": 0, "in another order": 0}
     for document, scripts in pairs:
         workers, viewers = choose.choice([1, 2, 4, 16]), choose.choice([0, 1, 4])
         status, output, error = program.answer(document, scripts, "--workers", str(workers), "--watch", str(viewers))
@@ -307,13 +319,18 @@ def by_workers(program, choose, pairs):
         if (status, output) != (0, wanted) or not are_seen(error, viewers, commits):
             raise Different(document, scripts, (status, output, error), wanted)
         counts["agree"] += 1
+        counts["by several"] += workers > 1
         counts["in another order"] += [end["script"] for end in report] != sorted(end["script"] for end in report)
+    if counts["by several"] >= MANY and counts["in another order"] == 0:
+        raise Different(document, scripts, counts, "some runs that end in another order than the text's")
     return f"{counts['agree']}, of which {counts['in another order']} ended in another order than the text's,"
 
 
 def ends_in(output, scripts):
-    """The report's ends: each script once, begun before it ended."""
+    """The report's ends: each script once, begun before it ended, and none for want of memory: there is enough."""
     ends = [json.loads(line) for line in output.splitlines()[:-1]]
+    if any(end["outcome"] == "nomemory" for end in ends):
+        raise Different(b"", scripts, output, "no end for want of memory")
     each_once = sorted(end["script"] for end in ends) == list(range(len(json.loads(scripts))))
     if not each_once or any(not 0 <= end["since"] <= place for place, end in enumerate(ends)):
         raise Different(b"", scripts, output, "each script once, begun before it ended")

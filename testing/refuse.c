@@ -2,6 +2,7 @@
  *
  *   REFUSE_GROWTH=N     the Nth call of malloc, realloc or pthread_create is refused
  *   REFUSE_GROWTH=N-    and each later one too
+ *   REFUSE_THREAD=N     the Nth call of pthread_create is refused
  *   REFUSE_READ=N       the Nth read fails
  *   REFUSE_WRITE=N      the Nth write to standard output fails
  *   SHORT=1             a read or a write moves one byte at most
@@ -24,7 +25,8 @@ struct plan {
     atomic_long calls;
 };
 
-static struct plan growth = {.name = "REFUSE_GROWTH"}, reading = {.name = "REFUSE_READ"}, writing = {.name = "REFUSE_WRITE"};
+static struct plan growth = {.name = "REFUSE_GROWTH"}, threading = {.name = "REFUSE_THREAD"};
+static struct plan reading = {.name = "REFUSE_READ"}, writing = {.name = "REFUSE_WRITE"};
 static int moves_one_byte, interrupts, told;
 static atomic_int turns;
 static void *(*real_malloc)(size_t);
@@ -43,7 +45,7 @@ static void read_plan(struct plan *plan) {
 
 __attribute__((constructor)) static void begin(void) {
     const char *fd = getenv("REFUSED_FD");
-    read_plan(&growth), read_plan(&reading), read_plan(&writing);
+    read_plan(&growth), read_plan(&threading), read_plan(&reading), read_plan(&writing);
     moves_one_byte = getenv("SHORT") != NULL;
     interrupts = getenv("INTERRUPT") != NULL;
     told = fd ? atoi(fd) : -1;
@@ -70,7 +72,7 @@ void *realloc(void *old, size_t size) {
 }
 
 int pthread_create(pthread_t *thread, const pthread_attr_t *attributes, void *(*start)(void *), void *argument) {
-    if (refuses(&growth)) return EAGAIN;
+    if (refuses(&growth) || refuses(&threading)) return EAGAIN;
     return REAL(real_create, "pthread_create")(thread, attributes, start, argument);
 }
 

@@ -43,6 +43,20 @@ def refuse_growths(program, document, scripts, arguments, later):
             return f"{number - 1} growths: {counts['refused']} out of memory, {counts['answered'] - 1} went on"
 
 
+def refuse_threads(program, document, scripts, arguments):
+    """Refuses the Nth thread, for each N until a run meets none: there is one for each worker and each viewer."""
+    text = document.replace(b"\n", b" ") + b"\n" + scripts
+    for number in itertools.count(1):
+        refused, status, output, error = program.answer(arguments, text, REFUSE_THREAD=str(number))
+        if not refused:
+            break
+        if (status, output, error) != (1, b"", SHORT_ANSWERS[0]):
+            raise Wrong(arguments, f"thread {number}", status, output, error)
+    if number - 1 != sum(map(int, arguments[1::2])):
+        raise Wrong(arguments, f"{number - 1} threads")
+    return number - 1
+
+
 def is_run(output, document, scripts):
     """Whether this is the output of a run. What viewers saw is told after it, and may find no memory by itself."""
     report = [json.loads(line) for line in output.splitlines()[:-1]]
@@ -100,6 +114,9 @@ def main():
             for arguments, later in itertools.product(CREWS, ("", "-")):
                 told = refuse_growths(program, document, scripts, arguments, later)
                 print(f"{' '.join(arguments) or 'one worker'}{', and each later one' if later else ''}: {told}", flush=True)
+            for arguments in CREWS:
+                told = refuse_threads(program, document, scripts, arguments)
+                print(f"{' '.join(arguments) or 'one worker'}: {told} threads refused", flush=True)
             print(f"reads: {refuse_reads(program, folder, document, scripts)} refused", flush=True)
             print(f"writes: {refuse_writes(program, document, scripts)} refused", flush=True)
             print(f"short and interrupted: {go_on(program, document, scripts)} ways agree", flush=True)

@@ -5,7 +5,7 @@ use std::sync::{Condvar, Mutex, MutexGuard, Wait};
 
 /// How many turns of the oldest script under way a worker makes under one lock, where no gate may
 /// hold it between them: no turn kills that script, so none of its work is lost.
-const TURNS_OF_THE_OLDEST: usize = 1024;
+const TURNS_OF_THE_OLDEST: usize = 64;
 
 /// How many turns of a younger one: enough that the lock seldom changes hands and a short script runs
 /// whole, and few enough that little is lost where it dies.

@@ -1,4 +1,5 @@
-//! Tests of the libraries, a file for each subject: they call what is public, and nothing else.
+//! Tests of the libraries that want threads, devices of the system or refused growths, a file for each subject: they
+//! call what is public, and nothing else. All other cases are data, which the program city_scenarios plays.
 #![tactic(auto)]
 
 /// The text of a document of whole units, of these objects and vertices.
@@ -19,48 +20,24 @@ macro_rules! model {
 #[cfg(test)]
 mod board;
 #[cfg(test)]
-mod command_lines;
+mod core_calls;
 #[cfg(test)]
-mod crew;
+mod files;
 #[cfg(test)]
-mod desk;
-#[cfg(test)]
-mod devices;
-#[cfg(test)]
-mod gates;
-#[cfg(test)]
-mod locks;
-#[cfg(test)]
-mod model;
-#[cfg(test)]
-mod reading;
+mod meeting;
 #[cfg(test)]
 mod refused;
 #[cfg(test)]
 mod refusing;
 #[cfg(test)]
-mod relations;
-#[cfg(test)]
 mod replay;
 #[cfg(test)]
 mod runs;
 #[cfg(test)]
-mod samples;
+mod served;
 #[cfg(test)]
-mod savepoints;
+mod sleepers;
 #[cfg(test)]
-mod schedules;
+mod viewers;
 #[cfg(test)]
-mod scripts;
-#[cfg(test)]
-mod serial;
-#[cfg(test)]
-mod serving;
-#[cfg(test)]
-mod shells;
-#[cfg(test)]
-mod turns;
-#[cfg(test)]
-mod txn;
-#[cfg(test)]
-mod writing;
+mod workers;

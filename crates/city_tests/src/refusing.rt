@@ -1,11 +1,9 @@
 //! A shelf that refuses a change.
 ghost use Rattle.std.specs.Prelude.{◌≡◌, []};
 
-use crate::board::scripts_of;
-use crate::refused::{city_of, end_all};
-use crate::replay::replayed;
-use crate::runs::{ORPHAN, Run, text_of};
-use city_desk::{Desk, ListShelf, Shelf};
+use crate::refused::end_all;
+use crate::runs::{ORPHAN, Run, city_of, scripts_of};
+use city_desk::{Desk, ListShelf, Shelf, output_bytes};
 use city_model::OutOfMemory;
 use city_model::change::Change;
 use std::alloc::Global;
@@ -56,28 +54,27 @@ impl Shelf for Refusing {
     }
 }
 
-/// What a run leaves whose shelf refuses a change: none where that isn't a serial history.
-fn left_by_refusing(alloc: Global, run: &Run) -> Option<String> {
+/// What is written of a run whose shelf refuses a change.
+fn written(alloc: Global, run: &Run) -> Option<Vec<u8>> {
     let scripts = scripts_of(alloc, run.scripts)?;
-    let city = city_of(alloc, run)?;
+    let city = city_of(alloc, run.document)?;
     let mut desk = Desk::open(alloc, city, scripts, Refusing::new(alloc)).ok()?;
     end_all(&mut desk);
-    let Ok(left) = desk.finish() else {
-        return None;
-    };
-    replayed(alloc, run, &left.city, left.ends.as_slice())
+    let (city, ends, _shelf) = desk.close();
+    output_bytes(alloc, &city, ends.as_slice()).ok()
 }
+
+const REPORT: &str = concat!(
+    r#"{"at":1,"cause":"Orphan","id":"p","name":"a","outcome":"refused","replies":["added"],"script":0,"since":0}"#,
+    "\n",
+    r#"{"at":2,"name":"b","outcome":"nomemory","replies":["added","attached"],"script":1,"since":1}"#,
+    "\n"
+);
 
 #[test]
 fn a_change_that_its_shelf_refuses_is_undone(rt: HostRuntime) -> Result<(), Fail> {
-    let report = concat!(
-        r#"{"at":1,"cause":"Orphan","id":"p","name":"a","outcome":"refused","replies":["added"],"script":0,"since":0}"#,
-        "\n",
-        r#"{"at":2,"name":"b","outcome":"nomemory","replies":["added","attached"],"script":1,"since":1}"#,
-        "\n"
-    );
-    let left = left_by_refusing(rt.alloc(), &ORPHAN).ok_or("not run")?;
-    let wanted = text_of(rt.alloc(), report, ORPHAN.document)?;
-    assert_eq!(rt; left.as_str(), wanted.as_str());
+    let written = written(rt.alloc(), &ORPHAN).ok_or("not run")?;
+    let wanted = format!(in rt.alloc(); "{REPORT}{}\n", ORPHAN.document)?;
+    assert_eq!(rt; written.as_slice(), wanted.as_bytes());
     Ok(())
 }

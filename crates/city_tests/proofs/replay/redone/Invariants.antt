@@ -1,6 +1,0 @@
-use Rattle.city_model.specs.CityMap.{at}
-use Rattle.city_model.specs.Relations.{IsSound}
-use Rattle.city_tests.proofs.replay.redone.Given as goal
-
-abbrev pub invariant-loop-command : goal.invariant-loop-command
-invariant-loop-command l = IsSound (at l.city.1)

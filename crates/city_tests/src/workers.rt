@@ -1,0 +1,138 @@
+//! As many workers as are asked for run scripts at once: they meet at a gate, and one more doesn't come.
+use crate::meeting::{Meeting, PATIENT, SHORT};
+use crate::served::{EMPTY, TWO, commits, scripts_of_roads, served};
+use city_crew::{Gate, run_crew};
+use std::alloc::Global;
+use std::sync::Wait;
+use std::sync::atomic::{AtomicU64, Ordering};
+use std::test::Fail;
+use std::thread::Threads;
+
+/// The first scripts meet: before they begin, or after their first replies. The gate may say that it holds nobody:
+/// then a worker passes it before many turns, as it does where the program runs.
+#[derive(Drop)]
+struct ScriptsMeet {
+    meeting: Meeting,
+    replies: usize,
+    open: bool,
+    inside: AtomicU64,
+    most: AtomicU64,
+}
+
+impl ScriptsMeet {
+    /// So many scripts meet.
+    fn of(scripts: u32, looks: u64, open: bool) -> ScriptsMeet {
+        ScriptsMeet {
+            meeting: Meeting::of((1u64 << scripts.min(63)).wrapping_sub(1), looks),
+            replies: if open { 0 } else { 1 },
+            open,
+            inside: AtomicU64::new(0),
+            most: AtomicU64::new(0),
+        }
+    }
+
+    /// How many were at the gate at once.
+    fn most(&self) -> u64 {
+        self.most.load(Ordering::SeqCst)
+    }
+}
+
+impl Gate for ScriptsMeet {
+    fn pass(&self, script: usize, replies: usize) {
+        if replies == self.replies && script < 63 && self.meeting.awaits(1 << script) {
+            let inside = self.inside.fetch_add(1, Ordering::SeqCst).wrapping_add(1);
+            self.most.fetch_max(inside, Ordering::SeqCst);
+            self.meeting.meet(1 << script);
+            self.inside.fetch_sub(1, Ordering::SeqCst);
+        }
+    }
+
+    fn saw(&self, _viewer: usize, _edits: u64) {}
+
+    fn is_open(&self) -> bool {
+        self.open
+    }
+}
+
+/// How many scripts have committed of so many that meet, by so many workers; none where the run wasn't served.
+fn met<R: Threads + Wait + Sync>(
+    rt: &R,
+    alloc: Global,
+    gate: &ScriptsMeet,
+    scripts: usize,
+    workers: usize,
+) -> Option<usize> {
+    if workers == 0 || workers > 16 {
+        return None;
+    }
+    let texts = scripts_of_roads(alloc, scripts).ok()?;
+    let (text, _) = served(rt, alloc, gate, (EMPTY, texts.as_str()), workers, 0)?;
+    Some(commits(text.as_str()))
+}
+
+#[test]
+fn as_many_workers_as_are_asked_for_meet(rt: HostRuntime) -> Result<(), Fail> {
+    for (workers, scripts) in [(2, 2), (3, 3), (3, 40), (16, 16), (16, 100)] {
+        for open in [false, true] {
+            let gate = ScriptsMeet::of(workers, PATIENT, open);
+            let committed = met(&rt, rt.alloc(), &gate, scripts, workers as usize);
+            assert_eq!(&rt; committed, Some(scripts), "{workers} {open}");
+            assert_eq!(&rt; gate.meeting.missed(), 0, "{workers} {open}");
+        }
+    }
+    Ok(())
+}
+
+#[test]
+fn no_more_workers_come_than_are_asked_for(rt: HostRuntime) -> Result<(), Fail> {
+    for (workers, scripts) in [(2, 3), (5, 6), (15, 16)] {
+        for open in [false, true] {
+            let gate = ScriptsMeet::of(scripts, SHORT, open);
+            let committed = met(&rt, rt.alloc(), &gate, scripts as usize, workers);
+            assert_eq!(&rt; committed, Some(scripts as usize), "{workers} {open}");
+            assert_eq!(&rt; gate.most(), workers as u64, "{workers} {open}");
+        }
+    }
+    Ok(())
+}
+
+const TWO_LEFT: &str = model!(
+    r#"{"w":{"type":"Road"},"x":{"type":"Road"},"y":{"type":"Road"}}"#,
+    "[]"
+);
+
+#[test]
+fn two_workers_run_two_scripts_at_once(rt: HostRuntime) -> Result<(), Fail> {
+    let gate = ScriptsMeet::of(2, PATIENT, false);
+    let (text, _) = served(&rt, rt.alloc(), &gate, (EMPTY, TWO), 2, 0).ok_or("not served")?;
+    assert!(rt; text.as_str().trim_end().ends_with(TWO_LEFT));
+    assert_eq!(rt; commits(text.as_str()), 2);
+    assert_eq!(rt; gate.meeting.missed(), 0);
+    Ok(())
+}
+
+/// The report of one worker of the crew.
+const IN_TURN: &str = concat!(
+    r#"{"name":"a","outcome":"committed","replies":["added","added"],"script":0,"since":0}"#,
+    "\n",
+    r#"{"name":"b","outcome":"committed","replies":["added"],"script":1,"since":1}"#,
+    "\n"
+);
+
+#[test]
+fn one_worker_runs_one_script_after_the_other(rt: HostRuntime) -> Result<(), Fail> {
+    let gate = ScriptsMeet::of(2, SHORT, false);
+    let output = run_crew(
+        &rt,
+        rt.alloc(),
+        EMPTY.as_bytes(),
+        TWO.as_bytes(),
+        1,
+        0,
+        &gate,
+    );
+    let wanted = format!(in rt.alloc(); "{IN_TURN}{TWO_LEFT}\n")?;
+    assert!(&rt; output.is_ok_and(|output| output.bytes.as_slice() == wanted.as_bytes()));
+    assert_eq!(&rt; gate.meeting.missed(), 1);
+    Ok(())
+}

@@ -1,0 +1,170 @@
+#!/usr/bin/env python3
+"""Runs cityed as a user does, and compares its status, its output and its standard error, byte by byte.
+
+    python3 testing/statuses.py PROGRAM
+
+PROGRAM is a built cityed. Prints how many calls were made, and ends at the first other answer with status 1.
+"""
+
+import itertools
+import os
+import subprocess
+import sys
+import tempfile
+
+from samples import sample
+
+LIMIT = 60
+
+
+class Wrong(Exception):
+    """The program answered something else than it should."""
+
+
+def model(objects, vertices="[]"):
+    return (
+        f'{{"CityObjects":{objects},"transform":{{"scale":[1,1,1],"translate":[0,0,0]}},'
+        f'"type":"CityJSON","version":"2.0","vertices":{vertices}}}'
+    )
+
+
+DOCUMENT = model('{"f":{"type":"LandUse"}}')
+SCRIPTS = (
+    '[{"name":"a","commands":[{"read":"f"},{"put":"g","object":{"type":"Road","attributes":{"lanes":2}}},'
+    '{"read":"h"},"commit"]},'
+    '{"name":"b","commands":[{"put":"f","object":{"type":"LandUse","attributes":{"use":"park"}}},"abort"]}]'
+)
+LINES = [
+    '{"name":"a","outcome":"committed","replies":[{"found":{"object":{"type":"LandUse"},"vertices":[]}},'
+    '"added","absent"],"script":0,"since":',
+    '{"name":"b","outcome":"aborted","replies":["replaced"],"script":1,"since":',
+]
+LEFT = model('{"f":{"type":"LandUse"},"g":{"attributes":{"lanes":2},"type":"Road"}}') + "\n"
+OUTPUT = LINES[0] + "0}\n" + LINES[1] + "1}\n" + LEFT
+EMPTY = model("{}")
+REFUSED = '[{"name":"s","commands":[{"delete":"z"},"commit"]}]'
+REFUSED_LINE = (
+    '{"at":0,"cause":"NoObject","id":"z","name":"s","outcome":"refused","replies":[],"script":0,"since":0}\n'
+)
+VERSION = "cityed 0.1.0\n"
+USAGE = "\n\nUsage: cityed [--workers N] [--watch K] [MODEL SCRIPTS]\n\nFor more information, try '--help'.\n"
+NO_WORKERS = "error: --workers takes a number from 1 to 16" + USAGE
+NO_VIEWERS = "error: --watch takes a number from 0 to 4" + USAGE
+NO_SCRIPTS = "error: a MODEL was given without SCRIPTS" + USAGE
+TIP = "\n\n  tip: to pass '-w' as a value, use '-- -w'"
+LIKE = "\n\n  tip: a similar argument exists: '--workers'"
+
+# arguments (of which MODEL and SCRIPTS are files), standard input, and the status, the output and standard error
+CALLS = [
+    ([], DOCUMENT + "\n" + SCRIPTS, 0, OUTPUT, ""),
+    (["MODEL", "SCRIPTS"], "", 0, OUTPUT, ""),
+    (["--", "MODEL", "SCRIPTS"], "", 0, OUTPUT, ""),
+    (["--workers", "1", "--watch", "0", "MODEL", "SCRIPTS"], "", 0, OUTPUT, ""),
+    ([], EMPTY + "\n[]", 0, EMPTY + "\n", ""),
+    ([], EMPTY + "\n" + REFUSED, 0, REFUSED_LINE + EMPTY + "\n", ""),
+    (["--workers", "2", "--watch", "2"], EMPTY + "\n[]", 0, EMPTY + "\n", "viewer 0: 0\nviewer 1: 0\n"),
+    ([], '{"type":"CityJSON"\n[]', 1, "", "cityed: model: 2 NotJson\n"),
+    ([], EMPTY, 1, "", "cityed: scripts: 2 NotJson\n"),
+    ([], EMPTY + "\n{}", 1, "", "cityed: scripts: 4 NotScripts\n"),
+    (["--workers", "3"], model('{"p":{"type":"BuildingPart"}}') + "\n[]", 1, "", 'cityed: model: 10 Relations "p"\n'),
+    ([], "", 1, "", "cityed: model: 2 NotJson\n"),
+    (["MISSING", "SCRIPTS"], "", 1, "", "cityed: cannot read\n"),
+    (["MODEL", "MISSING"], "", 1, "", "cityed: cannot read\n"),
+    (["FOLDER", "SCRIPTS"], "", 1, "", "cityed: cannot read\n"),
+    (["--version"], "", 0, VERSION, ""),
+    (["-V"], "", 0, VERSION, ""),
+    (["--help"], "", 0, sample("help.txt").decode("utf-8"), ""),
+    (["-h"], "", 0, sample("help.txt").decode("utf-8"), ""),
+    (["MODEL"], "", 2, "", NO_SCRIPTS),
+    (["--workers", "2", "MODEL"], "", 2, "", NO_SCRIPTS),
+    (["--workers", "0"], "", 2, "", NO_WORKERS),
+    (["--workers", "17"], "", 2, "", NO_WORKERS),
+    (["--workers", "18446744073709551617"], "", 2, "", NO_WORKERS),
+    (["--workers", "x", "MODEL", "SCRIPTS"], "", 2, "", NO_WORKERS),
+    (["--workers="], "", 2, "", NO_WORKERS),
+    (["--watch", "5", "MODEL", "SCRIPTS"], "", 2, "", NO_VIEWERS),
+    (["--watch", "5", "MODEL"], "", 2, "", NO_VIEWERS),
+    (["MODEL", "SCRIPTS", "x"], "", 2, "", "error: unexpected argument 'x' found" + USAGE),
+    (["-w"], "", 2, "", "error: unexpected argument '-w' found" + TIP + USAGE),
+    (["--worker", "2"], "", 2, "", "error: unexpected argument '--worker' found" + LIKE + USAGE),
+]
+
+
+def answer(program, folder, arguments, text):
+    """Status, output and standard error of a call in a folder that has the files."""
+    ran = subprocess.run(
+        [program, *arguments], input=text.encode("utf-8"), capture_output=True, cwd=folder, timeout=LIMIT, check=False
+    )
+    return ran.returncode, ran.stdout, ran.stderr
+
+
+def each_call(program, folder):
+    """Each of the calls answers what stands in its row."""
+    for arguments, text, *wanted in CALLS:
+        status, output, error = answer(program, folder, arguments, text)
+        found = [status, output.decode("utf-8"), error.decode("utf-8")]
+        if found != wanted:
+            raise Wrong(arguments, found, wanted)
+    return len(CALLS)
+
+
+def two_orders(program, folder):
+    """Two workers before a viewer write the two lines in either order, and the viewer has seen one change at last."""
+    outputs = [
+        first + "0}\n" + second + since + "}\n" + LEFT
+        for first, second in itertools.permutations(LINES)
+        for since in "01"
+    ]
+    errors = ["viewer 0: 1\n", "viewer 0: 0 1\n"]
+    count = 0
+    for arguments in (["--workers", "2", "--watch", "1"], ["--workers", "2", "--watch", "1", "MODEL", "SCRIPTS"]):
+        for _ in range(20):
+            status, output, error = answer(program, folder, arguments, DOCUMENT + "\n" + SCRIPTS)
+            if status != 0 or output.decode("utf-8") not in outputs or error.decode("utf-8") not in errors:
+                raise Wrong(arguments, [status, output, error], outputs)
+            count += 1
+    return count
+
+
+def no_text(program, folder):
+    """An argument that isn't text in UTF-8."""
+    ran = subprocess.run([program, b"\xff"], capture_output=True, cwd=folder, timeout=LIMIT, check=False)
+    found = (ran.returncode, ran.stdout, ran.stderr)
+    if found != (2, b"", b"error: an argument isn't text in UTF-8\n"):
+        raise Wrong(["\\xff"], found)
+    return 1
+
+
+def full_device(program, folder):
+    """A standard output that takes nothing."""
+    with open("/dev/full", "wb") as full:
+        text = (DOCUMENT + "\n" + SCRIPTS).encode("utf-8")
+        ran = subprocess.run(
+            [program], input=text, stdout=full, stderr=subprocess.PIPE, cwd=folder, timeout=LIMIT, check=False
+        )
+    if (ran.returncode, ran.stderr) != (1, b"cityed: cannot write\n"):
+        raise Wrong(["> /dev/full"], (ran.returncode, ran.stderr))
+    return 1
+
+
+def main():
+    if len(sys.argv) != 2:
+        print(__doc__)
+        return 2
+    program = os.path.abspath(sys.argv[1])
+    with tempfile.TemporaryDirectory() as folder:
+        for name, text in (("MODEL", DOCUMENT), ("SCRIPTS", SCRIPTS)):
+            with open(os.path.join(folder, name), "w", encoding="utf-8") as file:
+                file.write(text)
+        os.mkdir(os.path.join(folder, "FOLDER"))
+        try:
+            for kind in (each_call, two_orders, no_text, full_device):
+                print(f"{kind.__name__}: {kind(program, folder)} as they should be", flush=True)
+        except (Wrong, subprocess.TimeoutExpired) as wrong:
+            print("WRONG:", *(str(part)[:800] for part in wrong.args))
+            return 1
+    return 0
+
+
+if __name__ == "__main__":
+    sys.exit(main())
