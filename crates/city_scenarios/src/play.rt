@@ -1,4 +1,5 @@
 //! Which verb plays what.
+use crate::board::play_board;
 use crate::body::play_body;
 use crate::command_line::play_words;
 use crate::core_steps::play_core;
@@ -86,6 +87,7 @@ fn play_run_verb<T: Threads + Wait + Sync>(
 ) -> Result<(), AllocError> {
     let told = match verb {
         "run" => return play_run(alloc, document, scripts, answer),
+        "board" => return play_board(rt, alloc, rest, document, scripts, lines, answer),
         "turns" => return play_turns(alloc, document, scripts, lines, answer),
         "crew" => Told::Bytes,
         "replay" => Told::History,

@@ -62,14 +62,6 @@ impl<'a> Giving<'a> {
             interrupts: habits.interrupted,
         }
     }
-
-    /// Gives no more bytes: whether it ends so, or fails.
-    fn end(&self) -> io::Result<usize> {
-        match self.habits.breaks {
-            Some(_) => Err(io::Error::other("broken")),
-            None => Ok(0),
-        }
-    }
 }
 
 impl Read for Giving<'_> {
@@ -84,7 +76,10 @@ impl Read for Giving<'_> {
             return Ok(buf.len());
         }
         if self.left.is_empty() {
-            return self.end();
+            return match self.habits.breaks {
+                Some(_) => Err(io::Error::other("broken")),
+                None => Ok(0),
+            };
         }
         let count = buf.len().min(self.habits.at_a_time).min(self.left.len());
         let (now, later) = self.left.split_at(count);

@@ -57,7 +57,7 @@ fn texts_of<'t>(
 fn wanted_of(alloc: Global, names: &[Named], lines: &str) -> Result<Vec<u8>, AllocError> {
     let mut wanted = Vec::new(alloc);
     for line in lines.lines() {
-        wanted.extend_from_slice(meant(names, line))?;
+        wanted.extend_from_slice(meant(&*names, line))?;
         wanted.push(b'\n')?;
     }
     Ok(wanted)

@@ -84,15 +84,6 @@ impl Taking {
     pub fn into_written(self) -> Vec<u8> {
         self.written
     }
-
-    /// Takes no more bytes: none of some, or it fails once, and would take all that comes after.
-    fn end(&mut self) -> io::Result<usize> {
-        if self.habits.stuck {
-            return Ok(0);
-        }
-        self.habits.room = usize::MAX;
-        Err(io::Error::other("full"))
-    }
 }
 
 impl Write for Taking {
@@ -103,7 +94,12 @@ impl Write for Taking {
         }
         self.interrupts = self.habits.busy;
         if self.habits.room == 0 {
-            return self.end();
+            if self.habits.stuck {
+                return Ok(0);
+            }
+            // it fails once, and would take all that comes after
+            self.habits.room = usize::MAX;
+            return Err(io::Error::other("full"));
         }
         let count = buf.len().min(self.habits.at_a_time).min(self.habits.room);
         self.habits.room = self.habits.room.saturating_sub(count);
