@@ -1,0 +1,230 @@
+//! The verb `board`: viewers of a board whose poster is a desk's shelf.
+ghost use Rattle.std.specs.Prelude.{◌≡◌, ◌≤◌, [], All, IfOk, IfSome};
+ghost use Rattle.city_model.specs.CityMap.{at};
+ghost use Rattle.city_model.specs.Relations.{IsLawful};
+
+use crate::document::add_city;
+use crate::line::{add_line, add_run_fault};
+use crate::steps::{add_step, step_of};
+use city_crew::board::board;
+use city_crew::{Note, Poster, Viewer};
+use city_desk::{Desk, Shelf, Turn, read_texts};
+use city_model::city::City;
+use city_model::copied::Copied;
+use city_model::script::Script;
+use city_model::sequence::Sequence;
+use std::alloc::{AllocError, Global};
+use std::sync::Wait;
+
+/// Takes the steps at a board of so many places, and answers each, and then the model that is left.
+pub fn play_board<R: Wait>(
+    rt: &R,
+    alloc: Global,
+    places: &str,
+    document: &[u8],
+    scripts: &[u8],
+    lines: &str,
+    answer: &mut Vec<u8>,
+) -> Result<(), AllocError> {
+    let places = places.parse::<usize>().unwrap_or(0).min(4);
+    match read_texts(alloc, document, scripts) {
+        Ok((city, scripts)) => play_over(rt, alloc, city, scripts, places, lines, answer),
+        Err(fault) => add_run_fault(alloc, answer, fault),
+    }
+}
+
+fn play_over<R: Wait>(
+    rt: &R,
+    alloc: Global,
+    city: City,
+    scripts: Sequence<Script>,
+    places: usize,
+    lines: &str,
+    answer: &mut Vec<u8>,
+) -> Result<(), AllocError>
+    requires lawful { IsLawful (at city.1) }
+    requires places { places ≤ 4 }
+{
+    match opened(rt, alloc, scripts, city, places) {
+        Some((desk, viewers)) => play_at(rt, alloc, desk, viewers, lines, answer),
+        None => add_line(answer, "no board"),
+    }
+}
+
+/// A board over a city, and its viewers.
+fn board_over<'r, R: Wait>(
+    rt: &'r R,
+    alloc: Global,
+    city: &City,
+    places: usize,
+) -> Option<(Poster<&'r R>, Vec<Viewer>)>
+    requires lawful { IsLawful (at city.now.1) }
+    requires places { places ≤ 4 }
+    ensures opening { IfSome result (λ r. r.0.opening ≡ city.now) }
+    ensures taken { IfSome result (λ r. r.0.taken ≡ []) }
+{
+    let Ok(copy) = city.copy(alloc) else {
+        return None;
+    };
+    board(rt, alloc, copy, places).ok()
+}
+
+/// A desk over the city of a board, whose shelf is the board's poster.
+fn desk_over<'r, R: Wait>(
+    alloc: Global,
+    scripts: Sequence<Script>,
+    city: City,
+    poster: Poster<&'r R>,
+) -> Option<Desk<Poster<&'r R>>>
+    requires lawful { IsLawful (at city.1) }
+    requires opening { poster.opening ≡ city }
+    requires taken { poster.taken ≡ [] }
+{
+    let desk = Desk::open(alloc, city, scripts, poster).ok()?;
+    Some(desk)
+}
+
+/// A desk over a city, whose shelf is the poster of a board over it, and the board's viewers.
+fn opened<'r, R: Wait>(
+    rt: &'r R,
+    alloc: Global,
+    scripts: Sequence<Script>,
+    city: City,
+    places: usize,
+) -> Option<(Desk<Poster<&'r R>>, Vec<Viewer>)>
+    requires lawful { IsLawful (at city.1) }
+    requires places { places ≤ 4 }
+{
+    let (poster, viewers) = board_over(rt, alloc, &city, places)?;
+    let desk = desk_over(alloc, scripts, city, poster)?;
+    Some((desk, viewers))
+}
+
+/// Takes the steps at a desk, which it lets go of at one place alone.
+fn play_at<R: Wait + Drop, Q: Wait>(
+    rt: &Q,
+    alloc: Global,
+    desk: Desk<Poster<R>>,
+    viewers: Vec<Viewer>,
+    lines: &str,
+    answer: &mut Vec<u8>,
+) -> Result<(), AllocError> {
+    let mut desk = desk;
+    let taken = take_steps(rt, alloc, &mut desk, viewers, lines, answer);
+    let left = add_left(desk, alloc, answer);
+    taken?;
+    left
+}
+
+/// Adds the model that a desk leaves.
+fn add_left<S: Shelf>(
+    desk: Desk<S>,
+    alloc: Global,
+    answer: &mut Vec<u8>,
+) -> Result<(), AllocError> {
+    let (city, _ends, _shelf) = desk.close();
+    add_city(alloc, &city, answer)
+}
+
+fn take_steps<R: Wait + Drop, Q: Wait>(
+    rt: &Q,
+    alloc: Global,
+    desk: &mut Desk<Poster<R>>,
+    viewers: Vec<Viewer>,
+    lines: &str,
+    answer: &mut Vec<u8>,
+) -> Result<(), AllocError> {
+    let mut viewers = viewers;
+    for line in lines.lines() {
+        if let Some(step) = step_of(line) {
+            let mut said = String::new(alloc);
+            viewers = take_step(rt, alloc, desk, viewers, step, &mut said)?;
+            add_step(answer, step, said.as_str())?;
+        }
+    }
+    Ok(())
+}
+
+/// Takes a step, and writes down what it is answered.
+fn take_step<R: Wait + Drop, Q: Wait>(
+    rt: &Q,
+    alloc: Global,
+    desk: &mut Desk<Poster<R>>,
+    viewers: Vec<Viewer>,
+    step: &str,
+    said: &mut String,
+) -> Result<Vec<Viewer>, AllocError> {
+    if let Some(place) = step.strip_prefix("look ") {
+        return look_at(alloc, viewers, place.parse::<usize>().unwrap_or(9), said);
+    }
+    match step {
+        "commit" => said.push_str(end_next(desk))?,
+        "show" => {
+            let _note = desk.show(rt)?;
+            said.push_str("done")?;
+        }
+        _ => said.push_str("no such step")?,
+    }
+    Ok(viewers)
+}
+
+/// How often a script is turned at most.
+const TURNS: usize = 2000;
+
+/// Turns the next script to its end.
+fn end_next<S: Shelf>(desk: &mut Desk<S>) -> &'static str {
+    let Some(script) = desk.take() else {
+        return "no script";
+    };
+    for _ in 0..TURNS {
+        if script < desk.scripts() && desk.turn(script) == Turn::Ended {
+            return "Ended";
+        }
+    }
+    "no end"
+}
+
+/// Has the viewer of a place look, and writes down what it sees.
+fn look_at(
+    alloc: Global,
+    viewers: Vec<Viewer>,
+    place: usize,
+    said: &mut String,
+) -> Result<Vec<Viewer>, AllocError> {
+    let mut again = Vec::new(alloc);
+    for (number, viewer) in viewers.into_iter().enumerate() {
+        let viewer = if number == place {
+            looked(alloc, viewer, said)?
+        } else {
+            viewer
+        };
+        again.push(viewer)?;
+    }
+    Ok(again)
+}
+
+/// Writes down how many edits a viewer sees, and which objects.
+fn looked(alloc: Global, viewer: Viewer, said: &mut String) -> Result<Viewer, AllocError> {
+    match viewer.look() {
+        Ok(look) => {
+            let told = add_seen(alloc, look.edits(), look.city(), said);
+            let viewer = look.leave();
+            told?;
+            Ok(viewer)
+        }
+        Err(viewer) => {
+            said.push_str("no look")?;
+            Ok(viewer)
+        }
+    }
+}
+
+/// Adds how many edits there are, and the ids of a city's objects, a space before each.
+fn add_seen(alloc: Global, edits: u64, city: &City, said: &mut String) -> Result<(), AllocError> {
+    said.push_str(edits.to_string(alloc)?.as_str())?;
+    for (id, _) in city.iter() {
+        said.push_str(" ")?;
+        said.push_str(id.as_str())?;
+    }
+    Ok(())
+}

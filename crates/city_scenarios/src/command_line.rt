@@ -1,0 +1,36 @@
+//! The verb `words`: what the words of a command line ask for.
+use crate::steps::{add_step, step_of};
+use city_serve::command_line::{Asked, LineFault, asked_by};
+use std::alloc::{AllocError, Global};
+
+/// Answers what each command line asks for.
+pub fn play_words(alloc: Global, lines: &str, answer: &mut Vec<u8>) -> Result<(), AllocError> {
+    for line in lines.lines() {
+        if let Some(step) = step_of(line) {
+            let said = told(alloc, step)?;
+            add_step(answer, step, said.as_str())?;
+        }
+    }
+    Ok(())
+}
+
+/// What a command line asks for: a word and the names, or the first line of the text that is told.
+fn told(alloc: Global, line: &str) -> Result<String, AllocError> {
+    let mut words = Vec::new(alloc);
+    for word in line.split_whitespace() {
+        words.push(word.to_string(alloc)?)?;
+    }
+    match asked_by(alloc, words.as_slice()) {
+        Ok(Asked::Input(crew)) => format!(in alloc; "input {} {}", crew.workers, crew.viewers),
+        Ok(Asked::Files(crew, model, scripts)) => {
+            format!(in alloc; "files {model} {scripts} {} {}", crew.workers, crew.viewers)
+        }
+        Ok(Asked::Text(text)) => format!(in alloc; "text {}", first_line(text.as_str())),
+        Err(LineFault::Refused(text)) => format!(in alloc; "2 {}", first_line(text.as_str())),
+        Err(LineFault::OutOfMemory) => Err(AllocError),
+    }
+}
+
+fn first_line(text: &str) -> &str {
+    text.lines().next().unwrap_or("")
+}

@@ -1,0 +1,174 @@
+//! The verb `core`: transactions driven by hand.
+ghost use Rattle.std.specs.Prelude.{◌≡◌, false};
+ghost use Rattle.city_model.specs.CityMap.{at};
+ghost use Rattle.city_model.specs.Relations.{IsLawful};
+ghost use Rattle.city_model.specs.Scripts.{is_end};
+
+use crate::change::change_text;
+use crate::document::add_city;
+use crate::line::{add_line, add_run_fault};
+use crate::reply::{cause_text, reply_text};
+use crate::steps::{add_step, step_of};
+use city_desk::RunFault;
+use city_doc::{read_city, read_scripts};
+use city_model::city::City;
+use city_model::command::Command;
+use city_model::script::{Script, is_end};
+use city_txn::{Core, Prepared, Step, TxnFault};
+use std::alloc::{AllocError, Global};
+
+/// Takes the steps with a core over a document, and answers each, and then the model that is left.
+pub fn play_core(
+    alloc: Global,
+    document: &[u8],
+    lines: &str,
+    answer: &mut Vec<u8>,
+) -> Result<(), AllocError> {
+    match read_city(alloc, document) {
+        Ok(city) => play_over(alloc, city, lines, answer),
+        Err(fault) => add_run_fault(alloc, answer, RunFault::from(fault)),
+    }
+}
+
+fn play_over(alloc: Global, city: City, lines: &str, answer: &mut Vec<u8>) -> Result<(), AllocError>
+    requires { IsLawful (at city.1) }
+{
+    let mut core = Core::open(alloc, city);
+    let taken = take_steps(&mut core, alloc, lines, answer);
+    let left = add_left(core, alloc, answer);
+    taken?;
+    left
+}
+
+/// Adds the model that a core leaves.
+fn add_left(core: Core, alloc: Global, answer: &mut Vec<u8>) -> Result<(), AllocError> {
+    match core.into_city() {
+        Ok(city) => add_city(alloc, &city, answer),
+        Err(_) => add_line(answer, "a transaction is open"),
+    }
+}
+
+fn take_steps(
+    core: &mut Core,
+    alloc: Global,
+    lines: &str,
+    answer: &mut Vec<u8>,
+) -> Result<(), AllocError> {
+    for line in lines.lines() {
+        if let Some(step) = step_of(line) {
+            let said = said(core, alloc, step)?;
+            add_step(answer, step, said.as_str())?;
+        }
+    }
+    Ok(())
+}
+
+/// What a step is answered: a stamp, and a word or a command.
+fn said(core: &mut Core, alloc: Global, step: &str) -> Result<String, AllocError> {
+    let (stamp, does) = step.split_once(" ").unwrap_or((step, ""));
+    let Ok(stamp) = stamp.parse::<u64>() else {
+        return "no stamp".to_string(alloc);
+    };
+    match does {
+        "begin" => done_text(alloc, core.begin(stamp)),
+        "abort" => done_text(alloc, core.abort(stamp)),
+        "open" => core.is_open(stamp).to_string(alloc),
+        "prepare" => prepare(core, alloc, stamp),
+        "refusal" => refusal(core, alloc, stamp),
+        "commit" => commit(core, alloc, stamp),
+        _ => act_by(core, alloc, stamp, does),
+    }
+}
+
+fn fault_text(alloc: Global, fault: TxnFault) -> Result<String, AllocError> {
+    match fault {
+        TxnFault::NotOpen(stamp) => format!(in alloc; "NotOpen {stamp}"),
+        TxnFault::StampOpen(stamp) => format!(in alloc; "StampOpen {stamp}"),
+        TxnFault::OutOfMemory => Err(AllocError),
+    }
+}
+
+fn done_text(alloc: Global, done: Result<(), TxnFault>) -> Result<String, AllocError> {
+    match done {
+        Ok(()) => "done".to_string(alloc),
+        Err(fault) => fault_text(alloc, fault),
+    }
+}
+
+/// Whether a transaction may commit: what it would change, or why not.
+fn prepare(core: &Core, alloc: Global, stamp: u64) -> Result<String, AllocError> {
+    match core.prepare(stamp) {
+        Ok(Prepared::Ready(change)) => change_text(alloc, "ready", change.as_slice()),
+        Ok(Prepared::Refused(cause)) => cause_text(alloc, cause),
+        Err(fault) => fault_text(alloc, fault),
+    }
+}
+
+fn refusal(core: &Core, alloc: Global, stamp: u64) -> Result<String, AllocError> {
+    match core.refusal(stamp) {
+        Ok(None) => "none".to_string(alloc),
+        Ok(Some(cause)) => cause_text(alloc, cause),
+        Err(fault) => fault_text(alloc, fault),
+    }
+}
+
+/// What a commit changes, or why it is refused.
+fn commit(core: &mut Core, alloc: Global, stamp: u64) -> Result<String, AllocError> {
+    if !core.is_open(stamp) {
+        return fault_text(alloc, TxnFault::NotOpen(stamp));
+    }
+    match core.prepare(stamp) {
+        Err(fault) => fault_text(alloc, fault),
+        Ok(Prepared::Refused(cause)) => cause_text(alloc, cause),
+        Ok(Prepared::Ready(change)) => {
+            core.commit(stamp);
+            change_text(alloc, "committed", change.as_slice())
+        }
+    }
+}
+
+/// A script of the command of this text and a commit.
+fn script_of(alloc: Global, command: &str) -> Result<Option<Script>, AllocError> {
+    let text = format!(in alloc; "[{{\"name\":\"s\",\"commands\":[{command},\"commit\"]}}]")?;
+    match read_scripts(alloc, text.as_bytes()) {
+        Ok(mut scripts) => Ok(scripts.pop()),
+        Err(_) => Ok(None),
+    }
+}
+
+/// What the command of a text is answered.
+fn act_by(core: &mut Core, alloc: Global, stamp: u64, command: &str) -> Result<String, AllocError> {
+    match script_of(alloc, command)? {
+        Some(script) => act_first(core, alloc, stamp, script.commands()),
+        None => "no command".to_string(alloc),
+    }
+}
+
+/// What the first of these commands is answered.
+fn act_first(
+    core: &mut Core,
+    alloc: Global,
+    stamp: u64,
+    commands: &[Command],
+) -> Result<String, AllocError> {
+    match commands.first() {
+        Some(command) if !is_end(command) => act(core, alloc, stamp, command),
+        _ => "no command".to_string(alloc),
+    }
+}
+
+/// What a command is answered, as `would_wait` foretold it.
+fn act(core: &mut Core, alloc: Global, stamp: u64, command: &Command) -> Result<String, AllocError>
+    requires { is_end command.now ≡ false }
+{
+    let foretold = core.would_wait(stamp, command);
+    match core.act(stamp, command) {
+        Err(fault) => fault_text(alloc, fault),
+        Ok(step) if foretold != matches!(step, Step::Wait) => {
+            "foretold otherwise".to_string(alloc)
+        }
+        Ok(Step::Done(reply)) => reply_text(alloc, reply),
+        Ok(Step::Wait) => "wait".to_string(alloc),
+        Ok(Step::Die) => "die".to_string(alloc),
+    }
+}

@@ -1,0 +1,64 @@
+//! The verbs `document` and `prefixes`: a document read.
+use crate::line::{add_line, add_run_fault};
+use city_desk::RunFault;
+use city_doc::{ReadFault, read_city, write_city};
+use city_model::city::City;
+use city_model::copied::Copied;
+use city_model::is_lawful::is_lawful;
+use std::alloc::{AllocError, Global};
+
+/// Answers the canonical text of a document, or why it is refused.
+pub fn play_document(
+    alloc: Global,
+    document: &[u8],
+    answer: &mut Vec<u8>,
+) -> Result<(), AllocError> {
+    match read_city(alloc, document) {
+        Ok(city) => add_city(alloc, &city, answer),
+        Err(fault) => add_read_fault(alloc, fault, answer),
+    }
+}
+
+/// Adds the line that tells why a document is refused.
+fn add_read_fault(alloc: Global, fault: ReadFault, answer: &mut Vec<u8>) -> Result<(), AllocError> {
+    add_run_fault(alloc, answer, RunFault::from(fault))
+}
+
+/// Adds the canonical text of a city; that it isn't lawful, or its copy another city, where it is so.
+pub fn add_city(alloc: Global, city: &City, answer: &mut Vec<u8>) -> Result<(), AllocError> {
+    if !is_lawful(alloc, city)? {
+        return add_line(answer, "not lawful");
+    }
+    let text = write_city(alloc, city)?;
+    if !is_copied(alloc, city, text.as_slice())? {
+        return add_line(answer, "another copy");
+    }
+    answer.extend_from_slice(text.as_slice())?;
+    answer.push(b'\n')?;
+    Ok(())
+}
+
+/// Whether a copy of the city has its text.
+fn is_copied(alloc: Global, city: &City, text: &[u8]) -> Result<bool, AllocError> {
+    let copy = city.copy(alloc)?;
+    Ok(write_city(alloc, &copy)?.as_slice() == text)
+}
+
+/// Answers what each proper prefix of a document is answered, the empty one first: a line where it isn't what the
+/// prefix before it was.
+pub fn play_prefixes(
+    alloc: Global,
+    document: &[u8],
+    answer: &mut Vec<u8>,
+) -> Result<(), AllocError> {
+    let mut last = Vec::new(alloc);
+    for length in 0..document.len() {
+        let mut line = Vec::new(alloc);
+        play_document(alloc, &document[..length], &mut line)?;
+        if line.as_slice() != last.as_slice() {
+            answer.extend_from_slice(line.as_slice())?;
+        }
+        last = line;
+    }
+    Ok(())
+}

@@ -1,0 +1,58 @@
+//! Plays scenarios: data files that say what the libraries' public calls answer.
+//!
+//! Each argument names a file; a line is printed for each, with how many scenarios of it were played, or the first
+//! that went otherwise, with the line that was wanted and the one that came. docs/TESTING.md has the format.
+//!
+//! - `file`, `scenario`, `named`: a file of scenarios, one of them, and texts that they name
+//! - `play`: which verb plays what; `line`, `wanted`: what verbs write, and how it is compared
+//! - `document`, `scripts`: texts read; `body`: bodies judged; `members`: members kept
+//! - `run`, `crew`, `replay`: whole runs, by one worker, by several, and their scripts one at a time
+//! - `serve`, `reader`, `writer`: from a device to a device
+//! - `steps`, `turns`: what is taken step by step, a desk; `core_steps`, `reply`, `change`: transactions; `locks`: a lock table; `board`: viewers
+//! - `command_line`, `pool`: what a command line asks for, and points numbered
+#![tactic(auto)]
+
+mod board;
+mod body;
+mod change;
+mod command_line;
+mod core_steps;
+mod crew;
+mod document;
+mod file;
+mod line;
+mod locks;
+mod members;
+mod named;
+mod play;
+mod pool;
+mod reader;
+mod replay;
+mod reply;
+mod run;
+mod scenario;
+mod scripts;
+mod serve;
+mod steps;
+mod turns;
+mod wanted;
+mod writer;
+
+use crate::file::play_file;
+use std::env;
+use std::process::ExitCode;
+
+fn main(rt: HostRuntime) -> ExitCode {
+    let Ok(words) = env::args(&rt) else {
+        return ExitCode::FAILURE;
+    };
+    let Ok(words) = words.collect::<Vec<String>>(rt.alloc()) else {
+        return ExitCode::FAILURE;
+    };
+    for name in words.iter().skip(1) {
+        if !play_file(&rt, &rt, name.as_str()) {
+            return ExitCode::FAILURE;
+        }
+    }
+    ExitCode::SUCCESS
+}

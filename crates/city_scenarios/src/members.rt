@@ -1,0 +1,36 @@
+//! The verb `members`: members kept at a place.
+use crate::line::add_line;
+use city_model::kept::extra::Extra;
+use city_model::kept::place::{AtGeometry, AtObject, AtTop, AtTransform, Place};
+use serde_json::{Map, Value};
+use std::alloc::{AllocError, Global};
+
+/// Answers whether the members of a text are kept at a place.
+pub fn play_members(
+    alloc: Global,
+    place: &str,
+    text: &[u8],
+    answer: &mut Vec<u8>,
+) -> Result<(), AllocError> {
+    match Value::from_slice(alloc, text) {
+        Ok(Value::Object(members)) => add_line(answer, kept_at(place, members)),
+        _ => add_line(answer, "no members"),
+    }
+}
+
+fn kept_at(place: &str, members: Map<String, Value>) -> &'static str {
+    match place {
+        "top" => kept::<AtTop>(members),
+        "transform" => kept::<AtTransform>(members),
+        "object" => kept::<AtObject>(members),
+        "geometry" => kept::<AtGeometry>(members),
+        _ => "no such place",
+    }
+}
+
+fn kept<P: Place>(members: Map<String, Value>) -> &'static str {
+    match Extra::<P>::new(members) {
+        Ok(_) => "kept",
+        Err(_) => "refused",
+    }
+}

@@ -1,0 +1,277 @@
+//! The scripts of a list of ends, played one at a time in the order of their ends.
+//!
+//! A script is played by the plans of its commands, on a copy of the city that is kept where the
+//! script commits. A script that goes back is one that never had the commands since the mark: the others
+//! are done anew. No lock, no transaction and no desk has a part in it.
+ghost use Rattle.std.specs.Prelude.{◌≡◌, false, IfOk, OnOk};
+ghost use Rattle.city_model.specs.CityMap.{at};
+ghost use Rattle.city_model.specs.Relations.{IsSound};
+ghost use Rattle.city_model.specs.Runs.{with_change};
+ghost use Rattle.city_model.specs.Scripts.{is_end, is_mark};
+
+use city_desk::{output_bytes, read_texts};
+use city_model::OutOfMemory;
+use city_model::change::Change;
+use city_model::city::City;
+use city_model::command::{Cause, Command, Reply};
+use city_model::copied::Copied;
+use city_model::end::{End, Outcome};
+use city_model::orphans::least_orphan;
+use city_model::plan::{Plan, plan_of};
+use city_model::script::{Script, is_end};
+use city_model::sequence::Sequence;
+use city_model::text::Text;
+use std::alloc::Global;
+
+/// Writes a change into the city.
+fn write(city: &mut City, change: Change) -> Result<(), OutOfMemory>
+    ensures { OnOk result (at city.new.1 ≡ with_change (at city.old.1) change) }
+{
+    for (id, object) in change.into_vec() {
+        match object {
+            Some(object) => drop(city.set(id, object)?),
+            None => drop(city.remove(&id)),
+        }
+    }
+    Ok(())
+}
+
+/// The reply to a command that neither ends its script nor is about marks, which is written into the
+/// city.
+fn perform(alloc: Global, city: &mut City, command: &Command) -> Result<Reply, OutOfMemory>
+    requires no_end { is_end command.now ≡ false }
+    requires no_mark { is_mark command.now ≡ false }
+    requires sound { IsSound (at city.old.1) }
+    ensures { OnOk result (IsSound (at city.new.1)) }
+{
+    match plan_of(alloc, city, command)? {
+        Plan::Refused(cause) => Ok(Reply::Refused(cause)),
+        Plan::Writes(reply, change) => {
+            write(city, change)?;
+            Ok(reply)
+        }
+    }
+}
+
+/// Does a command anew that was done before; marks and ways back do nothing to the city.
+fn redo(alloc: Global, city: &mut City, command: &Command) -> Result<(), OutOfMemory>
+    requires { IsSound (at city.old.1) }
+    ensures { OnOk result (IsSound (at city.new.1)) }
+{
+    match command {
+        Command::Mark(_) | Command::Back(_) | Command::Commit | Command::Abort => {}
+        _ => drop(perform(alloc, city, command)?),
+    }
+    Ok(())
+}
+
+/// The city after these commands.
+fn redone(alloc: Global, opening: &City, commands: &[&Command]) -> Result<City, OutOfMemory>
+    requires { IsSound (at opening.now.1) }
+    ensures { IfOk result (λ city. IsSound (at city.1)) }
+{
+    let mut city = opening.copy(alloc)?;
+    for command in commands {
+        redo(alloc, &mut city, command)?;
+    }
+    Ok(city)
+}
+
+fn is_mark_of(command: &Command, name: &Text) -> bool {
+    match command {
+        Command::Mark(other) => *other == *name,
+        _ => false,
+    }
+}
+
+/// The place of the newest mark of the name.
+fn newest_mark(commands: &[&Command], name: &Text) -> Option<usize> {
+    let mut newest = None;
+    for (place, command) in commands.iter().enumerate() {
+        if is_mark_of(command, name) {
+            newest = Some(place);
+        }
+    }
+    newest
+}
+
+/// Goes back: the commands since the newest mark of the name no longer count, and the others are done
+/// anew.
+fn go_back(
+    alloc: Global,
+    opening: &City,
+    city: &mut City,
+    counted: &mut Vec<&Command>,
+    name: &Text,
+) -> Result<Reply, OutOfMemory>
+    requires opening { IsSound (at opening.now.1) }
+    requires sound { IsSound (at city.old.1) }
+    ensures { OnOk result (IsSound (at city.new.1)) }
+{
+    let Some(place) = newest_mark(counted.as_slice(), name) else {
+        return Ok(Reply::Refused(Cause::NoMark(name.copy(alloc)?)));
+    };
+    counted.truncate(place.saturating_add(1));
+    *city = redone(alloc, opening, counted.as_slice())?;
+    Ok(Reply::WentBack)
+}
+
+/// The reply to a command that doesn't end its script, after those that count of it.
+fn reply_to(
+    alloc: Global,
+    opening: &City,
+    city: &mut City,
+    counted: &mut Vec<&Command>,
+    command: &Command,
+) -> Result<Reply, OutOfMemory>
+    requires no_end { is_end command.now ≡ false }
+    requires opening { IsSound (at opening.now.1) }
+    requires sound { IsSound (at city.old.1) }
+    ensures { OnOk result (IsSound (at city.new.1)) }
+{
+    match command {
+        Command::Mark(_) => Ok(Reply::Marked),
+        Command::Back(name) => go_back(alloc, opening, city, counted, name),
+        _ => perform(alloc, city, command),
+    }
+}
+
+/// How the command, which is number `number` and ends its script, ends it.
+fn ended(
+    alloc: Global,
+    city: &City,
+    command: &Command,
+    number: usize,
+) -> Result<Outcome, OutOfMemory> {
+    if matches!(command, Command::Abort) {
+        return Ok(Outcome::Aborted);
+    }
+    match least_orphan(city) {
+        None => Ok(Outcome::Committed),
+        Some(id) => Ok(Outcome::Refused(number, Cause::Orphan(id.copy(alloc)?))),
+    }
+}
+
+/// Plays the commands on a copy of the opening city, and gives how they end: where none of them ends the script, for want of
+/// memory at the next one.
+fn play(
+    alloc: Global,
+    opening: &City,
+    city: &mut City,
+    commands: &[Command],
+    replies: &mut Sequence<Reply>,
+) -> Result<Outcome, OutOfMemory>
+    requires opening { IsSound (at opening.now.1) }
+    requires sound { IsSound (at city.old.1) }
+    ensures { OnOk result (IsSound (at city.new.1)) }
+{
+    let mut counted = Vec::new(alloc);
+    for (number, command) in commands.iter().enumerate() {
+        if is_end(command) {
+            return ended(alloc, city, command, number);
+        }
+        match reply_to(alloc, opening, city, &mut counted, command)? {
+            Reply::Refused(cause) => return Ok(Outcome::Refused(number, cause)),
+            reply => replies.push(reply)?,
+        }
+        counted.push(command)?;
+    }
+    Ok(Outcome::NoMemory(commands.len()))
+}
+
+/// The commands of the script that were tried before it ended: all, but for want of memory.
+fn tried<'a>(script: &'a Script, outcome: &Outcome) -> &'a [Command] {
+    let commands = script.commands();
+    match outcome {
+        Outcome::NoMemory(number) if *number <= commands.len() => &commands[..*number],
+        _ => commands,
+    }
+}
+
+/// Plays the commands on a copy of the city, which is kept where they commit.
+fn play_on_copy(
+    alloc: Global,
+    city: &mut City,
+    commands: &[Command],
+    replies: &mut Sequence<Reply>,
+) -> Result<Outcome, OutOfMemory>
+    requires { IsSound (at city.old.1) }
+    ensures { IsSound (at city.new.1) }
+{
+    let mut copy = city.copy(alloc)?;
+    match play(alloc, city, &mut copy, commands, replies) {
+        Ok(Outcome::Committed) => {
+            *city = copy;
+            Ok(Outcome::Committed)
+        }
+        other => other,
+    }
+}
+
+/// The end of the script of this end when it is played on the city, which changes where the script
+/// commits; none where there is no such script, or no memory.
+fn end_again(alloc: Global, city: &mut City, scripts: &[Script], end: &End) -> Option<End>
+    requires { IsSound (at city.old.1) }
+    ensures { IsSound (at city.new.1) }
+{
+    let script = scripts.get(end.script)?;
+    let name = script.name().copy(alloc).ok()?;
+    let commands = tried(script, &end.outcome);
+    let mut replies = Sequence::new(alloc);
+    let outcome = play_on_copy(alloc, city, commands, &mut replies).ok()?;
+    Some(End {
+        script: end.script,
+        name,
+        since: end.since,
+        replies,
+        outcome,
+    })
+}
+
+/// The ends of the scripts of these ends, when they are played one after the other on the city.
+fn ends_again(alloc: Global, city: &mut City, scripts: &[Script], ends: &[End]) -> Option<Vec<End>>
+    requires { IsSound (at city.old.1) }
+{
+    let mut again = Vec::new(alloc);
+    for end in ends {
+        again.push(end_again(alloc, city, scripts, end)?).ok()?;
+    }
+    Some(again)
+}
+
+/// What the scripts of these ends give on the city, played one at a time in this order.
+fn replay_scripts(
+    alloc: Global,
+    city: &mut City,
+    scripts: &[Script],
+    ends: &[End],
+) -> Option<Vec<u8>>
+    requires { IsSound (at city.old.1) }
+{
+    let again = ends_again(alloc, city, scripts, ends)?;
+    output_bytes(alloc, city, again.as_slice()).ok()
+}
+
+/// Whether each script ends once, and none since more ends than there were before it.
+fn are_placed(ends: &[End]) -> bool {
+    ends.iter().enumerate().all(|(place, end)| {
+        let once = ends
+            .iter()
+            .filter(|other| other.script == end.script)
+            .count()
+            == 1;
+        once && end.since <= place
+    })
+}
+
+/// What the scripts of these ends give, played one at a time in this order: the report, then the model's text and a
+/// newline. None where a script ends twice, or since an end that comes later.
+pub fn replay(alloc: Global, document: &[u8], scripts: &[u8], ends: &[End]) -> Option<Vec<u8>> {
+    if !are_placed(ends) {
+        return None;
+    }
+    let Ok((mut city, scripts)) = read_texts(alloc, document, scripts) else {
+        return None;
+    };
+    replay_scripts(alloc, &mut city, scripts.as_slice(), ends)
+}

@@ -1,0 +1,90 @@
+//! The verb `serve`: from a reader to a writer.
+use crate::line::{add_bytes, add_line};
+use crate::reader::{Giving, Reads};
+use crate::writer::{Taking, Writes};
+use city_serve::Device;
+use city_serve::fault_line::fault_line;
+use city_serve::serve::serve;
+use std::alloc::{AllocError, Global};
+use std::sync::Wait;
+use std::thread::Threads;
+
+/// Serves the input by the habits that the words tell of its reader and its writer, and answers what the writer has, and
+/// then why the rest wasn't served.
+pub fn play_serve<T: Threads + Wait + Sync>(
+    rt: &T,
+    alloc: Global,
+    words: &str,
+    texts: &[&[u8]],
+    answer: &mut Vec<u8>,
+) -> Result<(), AllocError> {
+    let input = joined(alloc, texts)?;
+    let reads = Reads::told(words);
+    let writes = Writes::told(words);
+    if words.contains(" each") || words.ends_with(" each") {
+        return serve_each(rt, alloc, reads, writes, input.as_slice(), answer);
+    }
+    let (written, line) = served(rt, alloc, reads, writes, input.as_slice())?;
+    if !written.is_empty() {
+        add_bytes(answer, written.as_slice())?;
+    }
+    answer.extend_from_slice(line.as_bytes())
+}
+
+/// The texts with a newline between two.
+fn joined(alloc: Global, texts: &[&[u8]]) -> Result<Vec<u8>, AllocError> {
+    let mut all = Vec::new(alloc);
+    for (number, text) in texts.iter().enumerate() {
+        if number > 0 {
+            all.push(b'\n')?;
+        }
+        all.extend_from_slice(text)?;
+    }
+    Ok(all)
+}
+
+/// What the writer has, and the line that tells why the rest wasn't served, if it wasn't.
+fn served<T: Threads + Wait + Sync>(
+    rt: &T,
+    alloc: Global,
+    reads: Reads,
+    writes: Writes,
+    input: &[u8],
+) -> Result<(Vec<u8>, String), AllocError> {
+    let mut taking = Taking::new(alloc, writes);
+    let mut reader = Device::new(Giving::new(reads, input));
+    let mut writer = Device::new(&mut taking);
+    let served = serve(rt, alloc, &mut reader, &mut writer, 1, 0);
+    drop(writer);
+    let mut line = String::new(alloc);
+    if let Err(fault) = served {
+        line.push_str(fault_line(alloc, &fault)?.as_str())?;
+        line.push_str("\n")?;
+    }
+    Ok((taking.into_written(), line))
+}
+
+/// Serves to a writer that has room for each number of bytes below those of the output, and answers why the rest wasn't
+/// served: once, where it is the same each time and the writer has the first bytes.
+fn serve_each<T: Threads + Wait + Sync>(
+    rt: &T,
+    alloc: Global,
+    reads: Reads,
+    writes: Writes,
+    input: &[u8],
+    answer: &mut Vec<u8>,
+) -> Result<(), AllocError> {
+    let (whole, _) = served(rt, alloc, reads, writes.with_room(usize::MAX), input)?;
+    let mut last = String::new(alloc);
+    for room in 0..whole.len() {
+        let (written, line) = served(rt, alloc, reads, writes.with_room(room), input)?;
+        if written.as_slice() != &whole.as_slice()[..room] {
+            return add_line(answer, format!(in alloc; "other bytes at {room}")?.as_str());
+        }
+        if line.as_str() != last.as_str() {
+            answer.extend_from_slice(line.as_bytes())?;
+            last = line;
+        }
+    }
+    Ok(())
+}

@@ -1,0 +1,122 @@
+//! Writers with habits.
+use std::alloc::Global;
+use std::io::{self, ErrorKind, Write};
+
+/// How a writer takes bytes.
+#[derive(Clone, Copy, Drop)]
+pub struct Writes {
+    /// How many at a time, at most.
+    at_a_time: usize,
+    /// Whether every other call is interrupted.
+    busy: bool,
+    /// How many bytes it takes in all.
+    room: usize,
+    /// Whether it takes none then, and doesn't say why.
+    stuck: bool,
+    /// Whether it holds what it takes until it is flushed.
+    holds: bool,
+    /// Whether its flush fails.
+    unflushed: bool,
+}
+
+impl Writes {
+    /// The habits that these words tell.
+    pub fn told(words: &str) -> Writes {
+        let mut writes = Writes {
+            at_a_time: usize::MAX,
+            busy: false,
+            room: usize::MAX,
+            stuck: false,
+            holds: false,
+            unflushed: false,
+        };
+        let mut last = "";
+        for word in words.split_whitespace() {
+            writes.learn(last, word);
+            last = word;
+        }
+        writes
+    }
+
+    /// Takes up what a word tells, which stands after another.
+    fn learn(&mut self, last: &str, word: &str) {
+        match word {
+            "piecewise" => self.at_a_time = 1,
+            "busy" => self.busy = true,
+            "stuck" => self.stuck = true,
+            "holds" => self.holds = true,
+            "unflushed" => self.unflushed = true,
+            _ if last == "full" || last == "stuck" => {
+                self.room = word.parse::<usize>().unwrap_or(usize::MAX);
+            }
+            _ => {}
+        }
+    }
+
+    /// The same with room for so many bytes.
+    pub fn with_room(self, room: usize) -> Writes {
+        Writes { room, ..self }
+    }
+}
+
+/// A writer with habits.
+#[derive(Drop)]
+pub struct Taking {
+    habits: Writes,
+    held: Vec<u8>,
+    written: Vec<u8>,
+    /// Whether the next call is interrupted.
+    interrupts: bool,
+}
+
+impl Taking {
+    /// A writer that has nothing yet.
+    pub fn new(alloc: Global, habits: Writes) -> Taking {
+        Taking {
+            habits,
+            held: Vec::new(alloc),
+            written: Vec::new(alloc),
+            interrupts: habits.busy,
+        }
+    }
+
+    /// What it has.
+    pub fn into_written(self) -> Vec<u8> {
+        self.written
+    }
+}
+
+impl Write for Taking {
+    fn write(&mut self, buf: &[u8]) -> io::Result<usize> {
+        if self.interrupts {
+            self.interrupts = false;
+            return Err(io::Error::from(ErrorKind::Interrupted));
+        }
+        self.interrupts = self.habits.busy;
+        if self.habits.room == 0 {
+            if self.habits.stuck {
+                return Ok(0);
+            }
+            // it fails once, and would take all that comes after
+            self.habits.room = usize::MAX;
+            return Err(io::Error::other("full"));
+        }
+        let count = buf.len().min(self.habits.at_a_time).min(self.habits.room);
+        self.habits.room = self.habits.room.saturating_sub(count);
+        if self.habits.holds {
+            self.held.extend_from_slice(&buf[..count])?;
+        } else {
+            self.written.extend_from_slice(&buf[..count])?;
+        }
+        Ok(count)
+    }
+
+    fn flush(&mut self) -> io::Result<()> {
+        if self.habits.unflushed {
+            return Err(io::Error::other("full"));
+        }
+        self.written.extend_from_slice(self.held.as_slice())?;
+        self.held.clear();
+        Ok(())
+    }
+}
