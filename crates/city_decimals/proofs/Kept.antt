@@ -1,0 +1,220 @@
+-- What the editor keeps is decoded to what was there.
+use Rattle.std.proofs.Common.{◌≡◌, ℕ, List, Bool, true, false, cond, Option, Some, None, Ordering, Less, Equal}
+use Rattle.std.proofs.Common.{Greater, nat_cmp, refl, sym, ap, ap₂, ◌∙◌, subst}
+use Rattle.std.specs.Prelude.{◌&&◌, codes, is_some, option_map, option_and_then}
+use Rattle.std.specs.Ordering.{match_ordering}
+use Rattle.std.specs.Cmp.Lexicographic.{slice_cmp}
+use Rattle.std.proofs.lemmas.Bool.{and_parts}
+use Rattle.std.proofs.lemmas.Slice.Eq.{bytes_eq-Decides}
+use Rattle.std.proofs.lemmas.Map.Lookups.{exact_bytes}
+use Rattle.json.specs.Json as json
+use Rattle.json.specs.Tree.{HasNumbers, ItemsHaveNumbers, MembersHaveNumbers}
+use Rattle.json.proofs.Found.{Some_inj}
+use Rattle.serde_json.specs.Data.{Num, Data, null, boolean, number, string, array, object, Items, no_items, item}
+use Rattle.serde_json.specs.Data.{Members, no_members, member, put}
+use Rattle.serde_json.specs.Find.{as_i64}
+use Rattle.serde_json.specs.Read.{number_of, of_json, of_items, of_members}
+use Rattle.serde_json.specs.Written.{outline, items_outline, members_outline, number_text}
+use Rattle.city_decimals.specs.Numbers.{is_written_so, is_whole, is_number, is_end}
+use Rattle.city_decimals.specs.Shapes.{tag, is_tag, is_text_or_array, is_frame, in_form, framed, only}
+use Rattle.city_decimals.specs.Encoded.{tagged, encoded, encoded_items, encoded_members}
+use Rattle.city_decimals.specs.Decoded.{number_under, number_in, number_or, out_of_form, decoded, decoded_items}
+use Rattle.city_decimals.specs.Decoded.{decoded_members}
+use Rattle.city_decimals.specs.Arranged as spec
+use Rattle.city_decimals.specs.Arranged.{arranged, arranged_items, arranged_members}
+use Rattle.city_decimals.specs.Kept.{IsKept}
+use Rattle.city_decimals.specs.declared.shapes.Form.TheVariants.{Plain, Shielded}
+use Rattle.city_decimals.proofs.Bools.{and_left, contradiction}
+use Rattle.city_decimals.proofs.RoundTrip.{number_back, no_number_bare, only_other}
+use Rattle.city_decimals.proofs.Wholes.{mapped}
+
+-- ---- members, one after another
+
+-- no member is a text under the tag
+abbrev ArePlain : Members → Type 0
+ArePlain no_members = Unit {0}
+ArePlain (member k d ms) = (number_under k (outline d) ≡ None) × ArePlain ms
+
+plain_encodes_none : (ms : Members) → ArePlain ms → number_in (members_outline ms) ≡ None
+plain_encodes_none no_members h = refl
+plain_encodes_none (member k d no_members) h = h.0
+plain_encodes_none (member k d (member l e ms)) h = refl
+
+plain_at : (o : Ordering) (k l : List ℕ) (d e : Data) (ms : Members) → slice_cmp nat_cmp k l ≡ o
+    → number_under k (outline d) ≡ None → ArePlain (member l e ms) → ArePlain (put k d ms)
+    → ArePlain (match_ordering o (member k d (member l e ms)) (member l d ms) (member l e (put k d ms)))
+plain_at Less k l d e ms at h hs rest = (h, hs)
+plain_at Equal k l d e ms at h hs rest = (subst (λ n. number_under n (outline d) ≡ None) (exact_bytes k l at) h, hs.1)
+plain_at Greater k l d e ms at h hs rest = (hs.0, rest)
+
+plain_put : (k : List ℕ) (d : Data) (ms : Members) → number_under k (outline d) ≡ None → ArePlain ms
+    → ArePlain (put k d ms)
+plain_put k d no_members h hs = (h, tt)
+plain_put k d (member l e ms) h hs =
+    plain_at (slice_cmp nat_cmp k l) k l d e ms refl h hs (plain_put k d ms h hs.1)
+
+-- what stands at the name k, once decoded
+abbrev value_at : List ℕ → Data → json.Json
+value_at k d = out_of_form false k (outline d) (decoded (outline d))
+
+decoded_at : (o : Ordering) (k l : List ℕ) (d e : Data) (ms : Members) → slice_cmp nat_cmp k l ≡ o
+    → decoded_members false (members_outline (put k d ms))
+    ≡ spec.put k (value_at k d) (decoded_members false (members_outline ms))
+    → decoded_members false (members_outline (match_ordering o (member k d (member l e ms)) (member l d ms)
+    (member l e (put k d ms))))
+    ≡ match_ordering o (json.member k (value_at k d) (json.member l (value_at l e) (decoded_members false
+    (members_outline ms)))) (json.member l (value_at k d) (decoded_members false (members_outline ms)))
+    (json.member l (value_at l e) (spec.put k (value_at k d) (decoded_members false (members_outline ms))))
+decoded_at Less k l d e ms at rest = refl
+decoded_at Equal k l d e ms at rest = ap (λ n. json.member l (value_at n d) (decoded_members false
+    (members_outline ms))) (sym (exact_bytes k l at))
+decoded_at Greater k l d e ms at rest = ap (json.member l (value_at l e)) rest
+
+decoded_put : (k : List ℕ) (d : Data) (ms : Members)
+    → decoded_members false (members_outline (put k d ms))
+    ≡ spec.put k (value_at k d) (decoded_members false (members_outline ms))
+decoded_put k d no_members = refl
+decoded_put k d (member l e ms) = decoded_at (slice_cmp nat_cmp k l) k l d e ms refl (decoded_put k d ms)
+
+-- ---- one member
+
+same_kind : (j : json.Json) → is_text_or_array (arranged j) ≡ is_text_or_array j
+same_kind json.null = refl
+same_kind (json.boolean b) = refl
+same_kind (json.number s) = refl
+same_kind (json.string s) = refl
+same_kind (json.array js) = refl
+same_kind (json.object ms) = refl
+
+number_no_text : (k : List ℕ) (b : Bool) (s : List ℕ) (d : Data)
+    → of_json (cond b (json.number s) (tagged s)) ≡ Some d → number_under k (outline d) ≡ None
+number_no_text k true s d e = ap (λ d. number_under k (outline d)) (sym (mapped number (number_of s) d e).2)
+number_no_text k false s d e = ap (λ d. number_under k (outline d)) (sym (Some_inj _ _ e))
+
+no_text : (k : List ℕ) (j : json.Json) → (is_tag k && is_text_or_array j) ≡ false → (d : Data)
+    → of_json (encoded j) ≡ Some d → number_under k (outline d) ≡ None
+no_text k json.null h d e = ap (λ d. number_under k (outline d)) (sym (Some_inj _ _ e))
+no_text k (json.boolean b) h d e = ap (λ d. number_under k (outline d)) (sym (Some_inj _ _ e))
+no_text k (json.number s) h d e = number_no_text k (is_whole s) s d e
+no_text k (json.string s) h d e = ap (λ d. number_under k (outline d)) (sym (Some_inj _ _ e))
+    ∙ no_number_bare k (json.string s) h
+no_text k (json.array js) h d e = ap (λ d. number_under k (outline d)) (sym (mapped array (of_items
+    (encoded_items js)) d e).2)
+no_text k (json.object ms) h d e = ap (λ d. number_under k (outline d)) (sym (mapped object (of_members
+    (encoded_members false ms) no_members) d e).2)
+
+-- a value that was read, for a member of the name k
+record IsKeptAt (k : List ℕ) (c j : json.Json) : Type 0 where
+  d : Data
+  read : of_json c ≡ Some d
+  back : value_at k d ≡ arranged j
+  plain : number_under k (outline d) ≡ None
+
+kept_at : (k : List ℕ) (j : json.Json) (b : Bool) → (is_tag k && is_text_or_array j) ≡ b → IsKept j
+    → IsKeptAt k (in_form (cond b Shielded Plain) (encoded j)) j
+kept_at k j true e i =
+    let r = json.array (json.item (decoded (outline i.d)) json.no_items) in
+    record {
+      d = array (item i.d no_items);
+      read = ap (λ o. option_map array (option_and_then (λ d. option_map (item d) (Some no_items)) o)) i.read;
+      back = ap (λ b. cond b (only r) r) (and_left (is_tag k) (is_text_or_array j) e) ∙ i.back;
+      plain = refl;
+    }
+kept_at k j false e i =
+    record {
+      d = i.d;
+      read = i.read;
+      back = ap (λ r. cond (is_tag k) (only r) r) i.back
+          ∙ only_other (is_tag k) (arranged j) (ap (λ b. is_tag k && b) (same_kind j) ∙ e);
+      plain = no_text k j e i.d i.read;
+    }
+
+-- ---- values
+
+record AreKept (js : json.Items) : Type 0 where
+  ds : Items
+  read : of_items (encoded_items js) ≡ Some ds
+  back : decoded_items (items_outline ds) ≡ arranged_items js
+
+record AreKeptAfter (found : Members) (ready : json.Members) (ms : json.Members) : Type 0 where
+  ds : Members
+  read : of_members (encoded_members false ms) found ≡ Some ds
+  back : decoded_members false (members_outline ds) ≡ arranged_members ms ready
+  plain : ArePlain ds
+
+number_found : (s : List ℕ) (o : Option Num) → number_of s ≡ o → is_written_so s o ≡ true
+    → (d : Data) × (option_map number (number_of s) ≡ Some d) × (decoded (outline d) ≡ json.number s)
+number_found s None is h = contradiction h
+number_found s (Some n) is h = (
+  number n,
+  ap (option_map number) is,
+  ap json.number ((bytes_eq-Decides
+      (number_text n) s).0 (and_parts (is_some (as_i64 n)) _ h).1),
+)
+
+number_kept : (s : List ℕ) (b : Bool) → is_whole s ≡ b → is_number s ≡ true
+    → (d : Data) × (of_json (cond b (json.number s) (tagged s)) ≡ Some d) × (decoded (outline d) ≡ json.number s)
+number_kept s true e h = number_found s (number_of s) refl e
+number_kept s false e h = (object (member tag (string s) no_members), refl, number_back false s h)
+
+mutual
+  pub kept : (j : json.Json) → HasNumbers j → IsKept j
+  kept json.null h = record { d = null; read = refl; back = refl }
+  kept (json.boolean b) h = record { d = boolean b; read = refl; back = refl }
+  kept (json.number s) h = let k = number_kept s (is_whole s) refl (ap is_end h) in
+      record { d = k.0; read = k.1; back = k.2 }
+  kept (json.string s) h = record { d = string s; read = refl; back = refl }
+  kept (json.array js) h = let k = items_kept js h in
+      record { d = array k.ds; read = ap (option_map array) k.read; back = ap json.array k.back }
+  kept (json.object ms) h =
+      let k = members_kept ms h no_members json.no_members refl tt in
+      record {
+        d = object k.ds;
+        read = ap (option_map object) k.read;
+        back = ap (λ o. number_or o (decoded_members false (members_outline k.ds)))
+            (plain_encodes_none k.ds k.plain) ∙ ap json.object k.back;
+      }
+
+  items_kept : (js : json.Items) → ItemsHaveNumbers js → AreKept js
+  items_kept json.no_items h = record { ds = no_items; read = refl; back = refl }
+  items_kept (json.item j js) h =
+      let i = kept j h.0 in
+      let k = items_kept js h.1 in
+      record {
+        ds = item i.d k.ds;
+        read = ap (option_and_then (λ d. option_map (item d) (of_items (encoded_items js)))) i.read
+            ∙ ap (option_map (item i.d)) k.read;
+        back = ap₂ json.item i.back k.back;
+      }
+
+  members_kept : (ms : json.Members) → MembersHaveNumbers ms → (found : Members) (ready : json.Members)
+      → decoded_members false (members_outline found) ≡ ready → ArePlain found → AreKeptAfter found ready ms
+  members_kept json.no_members h found ready same plain = record { ds = found; read = refl; back = same; plain = plain }
+  members_kept (json.member k j ms) h found ready same plain =
+      let m = kept_at k j (is_tag k && is_text_or_array j) refl (kept j h.0) in
+      let rest = members_kept ms h.1 (put k m.d found) (spec.put k (arranged j) ready) (decoded_put k m.d found
+      ∙ ap₂ (spec.put k) m.back same) (plain_put k m.d found m.plain plain) in
+      record {
+        ds = rest.ds;
+        read = ap (option_and_then (λ d. of_members (encoded_members false ms) (put k d found))) m.read ∙ rest.read;
+        back = rest.back;
+        plain = rest.plain;
+      }
+
+-- ---- a transform
+
+only_arranged : (j : json.Json) → is_frame j ≡ true → only (arranged j) ≡ arranged j
+only_arranged json.null h = refl
+only_arranged (json.boolean b) h = refl
+only_arranged (json.number s) h = refl
+only_arranged (json.string s) h = refl
+only_arranged (json.array js) h = contradiction h
+only_arranged (json.object ms) h = refl
+
+pub transform_kept : (j : json.Json) → HasNumbers j → is_frame j ≡ true → (d : Data)
+    → of_json (encoded j) ≡ Some d
+    → out_of_form true (codes "transform") (framed (outline d)) (decoded (framed (outline d))) ≡ arranged j
+transform_kept j h frame d e =
+    let i = kept j h in
+    let same : i.d ≡ d = Some_inj _ _ (sym i.read ∙ e) in
+    ap only (ap (λ d. decoded (outline d)) (sym same) ∙ i.back) ∙ only_arranged j frame

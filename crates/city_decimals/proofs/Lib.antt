@@ -1,0 +1,10 @@
+pub mod Bools
+pub mod Insides
+pub mod Forms
+pub mod RoundTrip
+pub mod Wholes
+pub mod Kept
+pub mod Texts
+pub mod OneLine
+pub mod Streams
+pub mod Starts

@@ -1,0 +1,22 @@
+use Rattle.std.proofs.Common.{false, ◌≡◌, ◌++◌, drop}
+use Rattle.json.specs.Tree.{items_tokens, members_tokens, ItemsHaveNumbers, MembersHaveNumbers}
+use Rattle.json.specs.Value.{items_view, members_view}
+use Rattle.city_decimals.specs.Encoded.{encoded_items, encoded_members}
+use Rattle.city_decimals.proofs.encoding.tree.+encode.Given as goal
+
+-- what is left ends the array
+abbrev pub invariant-encode_tree_items-loop-item : goal.invariant-encode_tree_items-loop-item
+invariant-encode_tree_items-loop-item l =
+    let all = items_view l.item-items in
+    let left = items_view (drop l.item-index l.item-items) in
+    (l.out.before ≡ l.initial.out.before)
+    × (l.out.tokens ++ items_tokens (encoded_items left)
+    ≡ l.initial.out.tokens ++ items_tokens (encoded_items all)) × ItemsHaveNumbers left
+
+abbrev pub invariant-encode_tree_members-loop-member : goal.invariant-encode_tree_members-loop-member
+invariant-encode_tree_members-loop-member l =
+    let all = members_view l.member-items in
+    let left = members_view (drop l.member-index l.member-items) in
+    (l.out.before ≡ l.initial.out.before)
+    × (l.out.tokens ++ members_tokens (encoded_members false left)
+    ≡ l.initial.out.tokens ++ members_tokens (encoded_members false all)) × MembersHaveNumbers left

@@ -1,0 +1,13 @@
+pub mod Numbers
+pub mod Shapes
+pub mod Encoded
+pub mod Decoded
+pub mod Faults
+pub mod Texts
+pub mod Whole
+pub mod Forms
+pub mod Inner
+pub mod Arranged
+pub mod Kept
+pub mod Lines
+pub mod Streams

@@ -1,0 +1,51 @@
+//! A text of whole numbers.
+ghost use Rattle.std.specs.Prelude.{◌≡◌, ◌≤◌, true, IfOk, IfErr, ℕ, List, Some};
+ghost use Rattle.std.specs.Str.{IsUtf8};
+ghost use Rattle.json.specs.Json.{Json, document};
+ghost use Rattle.json.specs.Tree.{depth};
+ghost use Rattle.serde_json.specs.Data.{Data};
+ghost use Rattle.serde_json.specs.Read.{read, max_depth};
+ghost use Rattle.city_decimals.specs.Texts.{IsEncoded, IsDecoded, IsDecimalsFault};
+ghost use Rattle.city_decimals.specs.Whole.{is_integral};
+
+mod form;
+mod number;
+mod transform;
+mod tree;
+mod value;
+
+use crate::fault::DecimalsFault;
+use crate::text::text_of;
+use json::{Reader, Scratch, Writer};
+use std::alloc::Global;
+use value::encode_top;
+
+/// The text with each number that is no `i64` as a text under `#`, in one line. A text or an array under `#` is
+/// shielded, a `transform` at the top framed.
+pub fn encode(alloc: Global, bytes: &[u8]) -> Result<Vec<u8>, DecimalsFault>
+    ensures encoded { IfOk result (λ out. IsEncoded bytes.now out.items) }
+
+    // What is decoded of it is read as the text itself: not a digit is lost.
+    ensures lossless { IfOk result (λ out. (back : List ℕ)
+        → IsDecoded out.items back → document back ≡ document bytes.now) }
+
+    // The editor never finds a number in it that isn't whole.
+    ensures whole { IfOk result (λ out. (d : Data)
+        → read out.items ≡ Some d → is_integral d ≡ true) }
+
+    // Where it nests no deeper than the editor reads, it is read.
+    ensures read { IfOk result (λ out. (c : Json) → document out.items ≡ Some c
+        → depth c ≤ max_depth → (d : Data) × (read out.items ≡ Some d)) }
+    ensures utf8 { IfOk result (λ out. IsUtf8 out.items) }
+    ensures fault { IfErr result (λ f. IsDecimalsFault bytes.now f) }
+{
+    let text = text_of(bytes)?;
+    let mut scratch = Scratch::new(alloc);
+    let mut reader = Reader::new(text, &mut scratch)?;
+    let mut out = Writer::new(Vec::with_capacity(alloc, bytes.len())?);
+    encode_top(alloc, &mut reader, &mut out)?;
+    if reader.next().is_some() {
+        return Err(DecimalsFault::NotJson);
+    }
+    Ok(out.into_inner())
+}

@@ -1,0 +1,23 @@
+//! Encodes a JSON text for an editor that takes whole numbers alone, and decodes what the editor writes.
+//!
+//! `encode` gives a text of whole numbers, `decode` the numbers as they were written; not a digit is lost.
+//!
+//! - a number that isn't written as an `i64` is an object with its text: `{"#":"0.25"}`
+//! - a text or an array under `#` is shielded: it stands in an array, so no object is mistaken for a number
+//! - a `transform` at the top is framed: the identity stands there, with the transform under `#`
+#![tactic(auto)]
+
+mod decoding;
+mod encoding;
+mod fault;
+mod laws;
+mod lines;
+mod numbers;
+mod shapes;
+mod text;
+
+pub use decoding::decode;
+pub use encoding::encode;
+pub use fault::DecimalsFault;
+pub use laws::what_is_kept;
+pub use lines::decode_lines;

@@ -1,0 +1,32 @@
+//! Decodes a text line by line, as a report and a model stand in it.
+ghost use Rattle.std.specs.Prelude.{◌≡◌, IfOk, IfErr};
+ghost use Rattle.city_decimals.specs.Lines.{IsFirstNewline, AreDecodedLines, IsLinesFault};
+
+use crate::decoding::decode;
+use crate::fault::DecimalsFault;
+use memchr::memchr;
+use std::alloc::Global;
+
+/// The text with each line decoded. What stands after the last newline stays as it is.
+pub fn decode_lines(alloc: Global, bytes: &[u8]) -> Result<Vec<u8>, DecimalsFault>
+    ensures decoded { IfOk result (λ out. AreDecodedLines bytes.now out.items) }
+    ensures fault { IfErr result (λ f. IsLinesFault bytes.now f) }
+{
+    let mut out = Vec::with_capacity(alloc, bytes.len())?;
+    let mut rest = bytes;
+    while let Some(at) = first_newline(rest) {
+        let line = decode(alloc, &rest[..at])?;
+        out.extend_from_slice(line.as_slice())?;
+        out.extend_from_slice(b"\n")?;
+        rest = &rest[at + 1..];
+    }
+    out.extend_from_slice(rest)?;
+    Ok(out)
+}
+
+/// Where the first newline stands.
+fn first_newline(bytes: &[u8]) -> Option<usize>
+    ensures { IsFirstNewline bytes.now result }
+{
+    memchr(b'\n', bytes)
+}

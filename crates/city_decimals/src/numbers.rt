@@ -1,0 +1,74 @@
+//! Whether a number is whole.
+ghost use Rattle.std.specs.Prelude.{◌≡◌, ◌==◌, ◌<◌, true, false, IsTrue, length, slice_index, decimal};
+ghost use Rattle.std.specs.Fmt.{signed_decimal};
+ghost use Rattle.std.specs.Str.{bytes_eq};
+ghost use Rattle.json.specs.Print.{IsNumber};
+ghost use Rattle.serde_json.specs.Read.{number_from};
+ghost use Rattle.city_decimals.specs.Numbers.{is_written_so, is_whole, is_number};
+
+use fast_float::Numeral;
+
+/// Whether a number's text is that of an `i64`, written as an `i64` is. A point, an exponent or `-0` aren't.
+#[inline(always)]
+pub(crate) fn is_whole(text: &str) -> bool
+    ensures { result ≡ is_whole text.now }
+{
+    let bytes = text.as_bytes();
+    if has_minus(bytes) {
+        is_negative_i64(&Numeral::scan(&bytes[1..]), text)
+    } else {
+        is_positive_i64(&Numeral::scan(bytes), text)
+    }
+}
+
+#[inline(always)]
+fn has_minus(bytes: &[u8]) -> bool
+    ensures value { result ≡ (slice_index bytes.now 0 == 45) }
+    ensures len { IsTrue result → 0 < length bytes.now }
+{
+    !bytes.is_empty() && bytes[0] == b'-'
+}
+
+#[inline(always)]
+fn is_positive_i64(numeral: &Numeral<'_>, text: &str) -> bool
+    ensures { result ≡ is_written_so text.now (number_from false numeral.now) }
+{
+    match numeral.to_u64() {
+        Some(n) => n <= i64::MAX as u64 && is_decimal(n, text),
+        None => false,
+    }
+}
+
+#[inline(always)]
+fn is_negative_i64(numeral: &Numeral<'_>, text: &str) -> bool
+    ensures { result ≡ is_written_so text.now (number_from true numeral.now) }
+{
+    match numeral.to_i64(true) {
+        Some(n) => n < 0 && is_signed_decimal(n, text),
+        None => false,
+    }
+}
+
+#[inline(always)]
+fn is_decimal(n: u64, text: &str) -> bool
+    ensures { result ≡ bytes_eq (decimal n) text.now }
+{
+    let mut buffer = itoa::Buffer::new();
+    buffer.format(n) == text
+}
+
+#[inline(always)]
+fn is_signed_decimal(n: i64, text: &str) -> bool
+    ensures { result ≡ bytes_eq (signed_decimal n) text.now }
+{
+    let mut buffer = itoa::Buffer::new();
+    buffer.format(n) == text
+}
+
+/// Whether a text is a number of JSON.
+pub(crate) fn is_number(text: &str) -> bool
+    ensures value { result ≡ is_number text.now }
+    ensures number { result ≡ true → IsNumber text.now }
+{
+    json::is_number(text)
+}

@@ -1,0 +1,89 @@
+//! The shapes of values that are encoded otherwise than by their parts.
+ghost use Rattle.std.specs.Prelude.{◌≡◌, Some};
+ghost use Rattle.json.specs.Find.{get};
+ghost use Rattle.json.specs.Value.{value_view};
+ghost use Rattle.city_decimals.specs.Shapes.{is_tag, is_triple, is_number_at, is_frame, is_transform};
+ghost use Rattle.city_decimals.specs.Shapes.{is_text_or_array, form_of};
+
+use json::Value;
+
+/// The name under which a number's text stands.
+pub(crate) const TAG: &str = "#";
+
+/// In which form a member stands.
+#[derive(Clone, Copy, Drop)]
+pub(crate) enum Form {
+    /// As it is.
+    Plain,
+    /// In an array.
+    Shielded,
+    /// In a frame: the identity, with it under the tag.
+    Framed,
+}
+
+/// In which form the member of this name stands.
+pub(crate) fn form_of(top: bool, key: &str, value: &Value<'_>) -> Form
+    ensures { result ≡ form_of top key.now (value_view value.now) }
+{
+    if top && is_transform(key, value) {
+        Form::Framed
+    } else if is_tag(key) && is_text_or_array(value) {
+        Form::Shielded
+    } else {
+        Form::Plain
+    }
+}
+
+pub(crate) fn is_tag(key: &str) -> bool
+    ensures { result ≡ is_tag key.now }
+{
+    key == "#"
+}
+
+fn is_text_or_array(value: &Value<'_>) -> bool
+    ensures { result ≡ is_text_or_array (value_view value.now) }
+{
+    matches!(value, Value::String(_) | Value::Array(_))
+}
+
+/// Whether this is a transform that is framed.
+pub(crate) fn is_transform(key: &str, value: &Value<'_>) -> bool
+    ensures { result ≡ is_transform key.now (value_view value.now) }
+{
+    key == "transform" && is_frame(value)
+}
+
+fn is_frame(value: &Value<'_>) -> bool
+    ensures { result ≡ is_frame (value_view value.now) }
+{
+    has_triple(value, "scale") && has_triple(value, "translate")
+}
+
+/// Whether the member of this name is an array of three numbers.
+fn has_triple(value: &Value<'_>, name: &str) -> bool
+    ensures { result ≡ is_triple (get name.now (value_view value.now)) }
+{
+    match value.get(name) {
+        Some(found) => is_triple(found),
+        None => false,
+    }
+}
+
+/// Whether this is an array of three numbers.
+fn is_triple(value: &Value<'_>) -> bool
+    ensures { result ≡ is_triple (Some (value_view value.now)) }
+{
+    is_number_at(value, 0)
+        && is_number_at(value, 1)
+        && is_number_at(value, 2)
+        && value.at(3).is_none()
+}
+
+fn is_number_at(value: &Value<'_>, index: usize) -> bool
+    ensures { result ≡ is_number_at index (value_view value.now) }
+{
+    match value.at(index) {
+        Some(item) => item.as_number().is_some(),
+        None => false,
+    }
+}

@@ -1,0 +1,18 @@
+//! Bytes as text.
+ghost use Rattle.std.specs.Prelude.{◌≡◌, IfOk, IfErr};
+ghost use Rattle.std.specs.Str.{IsUtf8};
+ghost use Rattle.city_decimals.specs.declared.fault.DecimalsFault.TheVariants.{NotJson};
+
+use crate::fault::DecimalsFault;
+use simdutf8::compat::from_utf8;
+
+/// The text that the bytes are.
+pub(crate) fn text_of(bytes: &[u8]) -> Result<&str, DecimalsFault>
+    ensures ok { IfOk result (λ text. (text.now ≡ bytes.now) × IsUtf8 bytes.now) }
+    ensures err { IfErr result (λ f. (f ≡ NotJson) × ¬ IsUtf8 bytes.now) }
+{
+    match from_utf8(bytes) {
+        Ok(text) => Ok(text),
+        Err(_) => Err(DecimalsFault::NotJson),
+    }
+}
