@@ -29,10 +29,10 @@ use Rattle.city_doc.specs.object.Bodies.{object_of}
 use Rattle.city_doc.specs.object.Canonical.{object_data, objects_data}
 use Rattle.city_doc.proofs.Options.{and_then_some, map_some}
 use Rattle.city_doc.proofs.Laws.{is_in, are_in, points_in_pool, in_turn, written_in_turn, ordered_in_turn, at_listed, found}
-use Rattle.city_canonical.specs.Same.{IsSameObject, IsSameObjectOrNone}
+use Rattle.city_canonical.specs.Same.{Ascend, IsSameObject, IsSameObjectOrNone}
 use Rattle.city_canonical.proofs.CityObjects.{object_same, object_decoded}
 use Rattle.city_canonical.proofs.Members.{IsRead, member_read, in_shield, in_plain, value_at, read_members, decoded_members_at, Numbers, numbers_at}
-use Rattle.city_canonical.proofs.Objects.{IsObject, object_inj, decoded_object}
+use Rattle.city_canonical.proofs.Objects.{ascend_decoded, IsObject, object_inj, decoded_object}
 use Rattle.city_canonical.proofs.Places.{Show}
 
 -- ---- objects by their ids
@@ -116,6 +116,10 @@ module _ (vs ws : json.Items) (ps : List Point) (c : CityValue) (small : length 
   -- the objects, decoded
   pub objects_decoded : decoded (outline (objects_data pool (entries c.1))) ≡ json.object (decoded_members false (members_outline turn))
   objects_decoded = ap (λ ms. decoded (outline (object ms))) (written_in_turn pool (entries c.1) (entries_ascend c.1)) ∙ decoded_object turn (turn_number pool (entries c.1))
+
+  -- its ids in order
+  pub ids_ascend : Ascend (decoded_members false (members_outline turn))
+  ids_ascend = ascend_decoded false turn (ordered_in_turn pool (entries c.1) (entries_ascend c.1))
 
   turn_found : (id : List ℕ) (r : Option Object) → found_in (entries c.1) id ≡ r → look.get_member id (decoded_members false (members_outline turn)) ≡ option_map (value_at false id) (option_map (object_data pool) r)
   turn_found id r is =

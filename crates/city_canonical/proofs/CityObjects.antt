@@ -43,7 +43,7 @@ use Rattle.city_canonical.specs.Placed.{or_empty, list_at}
 use Rattle.city_canonical.specs.Same.{unless_empty, IsSameList, IsSameObject, AreSameGeometries}
 use Rattle.city_canonical.proofs.Geometries.{geometries_same}
 use Rattle.city_canonical.proofs.Members.{value_at, decoded_members_at, no_number, Numbers, numbers_at, member_same}
-use Rattle.city_canonical.proofs.Objects.{ordered_read, ordered_without, object_is, array_is, string_is, kept_is, decoded_object, IsObject, object_read, found_read, none_read}
+use Rattle.city_canonical.proofs.Objects.{ascend_decoded, ordered_read, ordered_without, object_is, array_is, string_is, kept_is, decoded_object, IsObject, object_read, found_read, none_read}
 use Rattle.city_canonical.proofs.Places.{Show}
 use Rattle.city_canonical.proofs.Plain.{IsPlain, ReadsPlain, list_plain, text_plain, itself, plain_decoded}
 
@@ -263,6 +263,7 @@ module _ (vs ws : json.Items) (ps pool : List Point) (small : length pool < 2 ^ 
 
     members_same : IsSameObject vs ws (json.object js) (json.object (decoded_members false (members_outline all)))
     members_same = record {
+      names = ascend_decoded false all all_ordered;
       members = λ name apart.
           let first = or_parts (same_id name (codes "geometry")) (has_id (codes "parents" ∷ codes "children" ∷ []) name) apart in
           let second = or_parts (same_id name (codes "parents")) (has_id (codes "children" ∷ []) name) first.1 in

@@ -36,7 +36,7 @@ use Rattle.city_doc.proofs.Laws.{is_in, are_in, get_member-put_apart, ordered_pu
 use Rattle.city_canonical.specs.Placed.{placed}
 use Rattle.city_canonical.specs.Same.{IsSameGeometry, AreSameGeometries}
 use Rattle.city_canonical.proofs.Members.{value_at, decoded_members_at, no_number, member_same}
-use Rattle.city_canonical.proofs.Objects.{ordered_read, ordered_without, object_is, string_is, kept_is, decoded_object, IsObject, object_read, found_read}
+use Rattle.city_canonical.proofs.Objects.{ascend_decoded, ordered_read, ordered_without, object_is, string_is, kept_is, decoded_object, IsObject, object_read, found_read}
 use Rattle.city_canonical.proofs.Places.{Show, shown_shape, nested_placed, type_is, shape_written, boundaries_plain}
 use Rattle.city_canonical.proofs.Plain.{IsPlain, nested_plain, itself, plain_decoded}
 
@@ -148,6 +148,7 @@ module _ (vs ws : json.Items) (ps pool : List Point) (small : length pool < 2 ^ 
 
     members_same : IsSameGeometry vs ws (json.object js) (json.object (decoded_members false (members_outline all)))
     members_same = record {
+      names = ascend_decoded false all all_ordered;
       members = λ name apart. member_same false name js o.ms all refl numbers read all_ordered (same_at name (or_parts (same_id name (codes "boundaries")) false apart).0);
       boundaries = placed_written ∙ sym placed_read;
     }

@@ -34,12 +34,12 @@ use Rattle.city_doc.specs.object.Canonical.{objects_data}
 use Rattle.city_doc.specs.tree.Lists.{read_items}
 use Rattle.city_doc.specs.tree.Triples.{point_of, points_of}
 use Rattle.city_doc.proofs.Options.{and_then_some}
-use Rattle.city_doc.proofs.Laws.{get_member-put_apart, ordered_put, stands_for}
+use Rattle.city_doc.proofs.Laws.{in_turn, get_member-put_apart, ordered_put, stands_for}
 use Rattle.city_canonical.specs.Placed.{or_empty, list_at}
-use Rattle.city_canonical.specs.Same.{IsSameAt, IsSameObjectOrNone, object_at, IsSameModel}
-use Rattle.city_canonical.proofs.Cities.{objects_read, objects_decoded, objects_same}
+use Rattle.city_canonical.specs.Same.{IsInOrder, IsSameAt, IsSameObjectOrNone, object_at, IsSameModel}
+use Rattle.city_canonical.proofs.Cities.{ids_ascend, objects_read, objects_decoded, objects_same}
 use Rattle.city_canonical.proofs.Members.{IsRead, value_at, read_members, decoded_members_at, no_number, Numbers, numbers_at, member_same}
-use Rattle.city_canonical.proofs.Objects.{ordered_read, ordered_without, object_is, array_is, object_inj, number_object, found_read}
+use Rattle.city_canonical.proofs.Objects.{ascend_decoded, ordered_read, ordered_without, object_is, array_is, object_inj, number_object, found_read}
 use Rattle.city_canonical.proofs.Places.{Show, shows_read, shows_written}
 use Rattle.city_canonical.proofs.Plain.{IsPlain, ArePlain, vertices_plain, itself, plain_decoded}
 use Rattle.city_canonical.proofs.Transforms.{IsFrameOf, frame_parts, transform_same}
@@ -255,20 +255,26 @@ module _ (js : json.Members) (ms : Members) (c : CityValue) (numbers : HasNumber
 
   -- objects
 
+  objects_there : look.get (codes "CityObjects") back ≡ Some (json.object (decoded_members false (members_outline (in_turn (pool_of c) (entries c.1)))))
+  objects_there =
+      found_at (codes "CityObjects") objects (get_member-put (codes "CityObjects") objects (pointed objects vertices transform version type c.0.extra)) ∙ ap Some (objects_decoded vs ws p.ps c small show show_written)
+
+  ids_in_order : (o : json.Json) → look.get (codes "CityObjects") back ≡ Some o → IsInOrder o
+  ids_in_order o is = subst IsInOrder (Some_inj _ _ (sym objects_there ∙ is)) (ids_ascend vs ws p.ps c small show show_written)
+
   object_is_same : (id : List ℕ) → IsSameObjectOrNone vs ws (object_at id (json.object js)) (object_at id back)
   object_is_same id =
       let found = found_read true (codes "CityObjects") refl refl js ms read (object p.objs) p.objects in
       let o = objects_read p.ps found.0 p.objs p.list found.2 p.entries_are in
       let there = found.1 ∙ ap Some o.is in
-      let written_there = found_at (codes "CityObjects") objects (get_member-put (codes "CityObjects") objects (pointed objects vertices transform version type c.0.extra)) ∙ ap Some (objects_decoded vs ws p.ps c small show show_written) in
       let same = objects_same vs ws p.ps c small show show_written p.objs p.list p.entries_are p.made o.ms (subst Numbers there (numbers_at (codes "CityObjects") js numbers)) o.read id in
       subst (λ o. IsSameObjectOrNone vs ws o (object_at id back)) (sym (ap (option_and_then (look.get id)) there))
-      (subst (IsSameObjectOrNone vs ws (look.get_member id o.ms)) (sym (ap (option_and_then (look.get id)) written_there)) same)
+      (subst (IsSameObjectOrNone vs ws (look.get_member id o.ms)) (sym (ap (option_and_then (look.get id)) objects_there)) same)
 
   top_same : IsSameModel (json.object js) (decoded_top (outline (tree_of c)))
   top_same =
       subst (IsSameModel (json.object js)) (sym (top_decoded all type (written_type objects vertices transform version type c.0.extra)))
-      (record { members = member_is; objects = object_is_same })
+      (record { names = ascend_decoded true all all_ordered; ids = ids_in_order; members = member_is; objects = object_is_same })
 
 -- a model that is read and written is the same
 pub model_same : (j : json.Json) (d : Data) (c : CityValue) → HasNumbers j → of_json (encoded_top j) ≡ Some d → city_of d ≡ Some c → length (pool_of c) < 2 ^ 63 → IsSameModel j (decoded_top (outline (tree_of c)))

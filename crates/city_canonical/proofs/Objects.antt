@@ -19,6 +19,7 @@ use Rattle.city_decimals.specs.Decoded.{number_in, decoded, decoded_members}
 use Rattle.city_decimals.proofs.Wholes.{mapped}
 use Rattle.city_doc.proofs.Options.{and_then_some, if_some}
 use Rattle.city_doc.proofs.Laws.{ordered_put}
+use Rattle.city_canonical.specs.Same.{IsBelow, Ascend}
 use Rattle.city_canonical.proofs.Members.{member_read, IsRead, in_plain, no_frame, read_members}
 
 -- ---- the names ascend
@@ -41,6 +42,15 @@ pub ordered_without : (name : List ℕ) (ms : Members) → AreOrdered ms → Are
 ordered_without name no_members h = tt
 ordered_without name (member l d ms) h =
     elim (same_id name l) as (λ b. AreOrdered (if b then without name ms else member l d (without name ms))) [ true ↦ ordered_without name ms h.1 | false ↦ (above_without l name ms h.0, ordered_without name ms h.1) ]
+
+below_decoded : (top : Bool) (k : List ℕ) (ms : Members) → AllAbove k ms → IsBelow k (decoded_members top (members_outline ms))
+below_decoded top k no_members h = tt
+below_decoded top k (member l d ms) h = (h.0, below_decoded top k ms h.1)
+
+-- so do those that are decoded
+pub ascend_decoded : (top : Bool) (ms : Members) → AreOrdered ms → Ascend (decoded_members top (members_outline ms))
+ascend_decoded top no_members h = tt
+ascend_decoded top (member k d ms) h = (below_decoded top k ms h.0, ascend_decoded top ms h.1)
 
 -- ---- parts of data
 

@@ -2,7 +2,10 @@
 -- repeated one the last value stays, empty lists are left out, and vertices have other positions.
 use Rattle.std.specs.Prelude.{◌≡◌, ℕ, List, [], ◌∷◌, Bool, true, false, Option, Some, None, option_map, option_and_then}
 use Rattle.std.specs.Prelude.{codes, if◌then◌else◌}
-use Rattle.json.specs.Json.{Json, null, boolean, number, string, array, object, Items, no_items, item, Members}
+use Rattle.std.specs.declared.cmp.Ordering.TheVariants.{Less}
+use Rattle.std.specs.Ordering.{nat_cmp}
+use Rattle.std.specs.Cmp.Lexicographic.{slice_cmp}
+use Rattle.json.specs.Json.{Json, null, boolean, number, string, array, object, Items, no_items, item, Members, no_members, member}
 use Rattle.json.specs.Find.{get}
 use Rattle.city_model.specs.CityMap.{has_id}
 use Rattle.city_decimals.specs.Arranged.{arranged}
@@ -33,11 +36,31 @@ unless_empty (Some j) = if is_empty_list j then None else Some j
 abbrev pub IsSameList : Json → Json → List ℕ → Type 0
 IsSameList j k name = get name k ≡ unless_empty (get name j)
 
+-- ---- names in order
+
+abbrev pub IsBelow : List ℕ → Members → Type 0
+IsBelow k no_members = Unit {0}
+IsBelow k (member l j ms) = (slice_cmp nat_cmp k l ≡ Less) × IsBelow k ms
+
+abbrev pub Ascend : Members → Type 0
+Ascend no_members = Unit {0}
+Ascend (member k j ms) = IsBelow k ms × Ascend ms
+
+-- an object whose names ascend, so that none is there twice
+abbrev pub IsInOrder : Json → Type 0
+IsInOrder null = ⊥
+IsInOrder (boolean b) = ⊥
+IsInOrder (number s) = ⊥
+IsInOrder (string s) = ⊥
+IsInOrder (array js) = ⊥
+IsInOrder (object ms) = Ascend ms
+
 -- ---- of the vertices vs and ws
 
 module _ (vs ws : Items) where
   -- the boundaries have the same vertices in the same places
   pub record IsSameGeometry (g h : Json) : Type 0 where
+    pub names : IsInOrder h
     pub members : IsSameBeside (codes "boundaries" ∷ []) g h
     pub boundaries : option_map (placed ws) (get (codes "boundaries") h) ≡ option_map (placed vs) (get (codes "boundaries") g)
 
@@ -47,6 +70,7 @@ module _ (vs ws : Items) where
   AreSameGeometries _ _ = ⊥
 
   pub record IsSameObject (o p : Json) : Type 0 where
+    pub names : IsInOrder p
     pub members : IsSameBeside (codes "geometry" ∷ codes "parents" ∷ codes "children" ∷ []) o p
     pub parents : IsSameList o p (codes "parents")
     pub children : IsSameList o p (codes "children")
@@ -67,5 +91,7 @@ object_at id j = option_and_then (get id) (get (codes "CityObjects") j)
 
 -- k is the same model as j, in canonical form
 pub record IsSameModel (j k : Json) : Type 0 where
+  pub names : IsInOrder k
+  pub ids : (o : Json) → get (codes "CityObjects") k ≡ Some o → IsInOrder o
   pub members : IsSameBeside (codes "CityObjects" ∷ codes "vertices" ∷ []) j k
   pub objects : (id : List ℕ) → IsSameObjectOrNone (list_at (codes "vertices") j) (list_at (codes "vertices") k) (object_at id j) (object_at id k)
