@@ -77,7 +77,7 @@ mutual
     members_numbers top ms h.1,
   )
 
-top_numbers : (j : Json) → HasNumbers j → HasNumbers (encoded_top j)
+pub top_numbers : (j : Json) → HasNumbers j → HasNumbers (encoded_top j)
 top_numbers null h = tt
 top_numbers (boolean b) h = tt
 top_numbers (number s) h = number_numbers (is_whole s) s h
@@ -94,7 +94,7 @@ last (Some (i, [])) j e = ([], ap (λ k. Some (k, [])) (Some_inj _ _ e))
 last (Some (i, t ∷ ts)) j e = not_found j e
 
 -- however deep one reads, the tokens of a value are read as the value
-one_value : (j : Json) → HasNumbers j → (d : ℕ) (i : Json)
+pub one_value : (j : Json) → HasNumbers j → (d : ℕ) (i : Json)
     → option_and_then (λ p. if_last p.0 p.1) (value d (tokens (print (json_tokens j)))) ≡ Some i → i ≡ j
 one_value j h d i e =
     let same = tokens-print (json_tokens j) (ArePrintable-json_tokens j h) in

@@ -8,12 +8,12 @@ mod FramesRead
 mod IntegralTrees
 pub mod KeptMembers
 mod LawfulCities
-mod LawfulTrees
+pub mod LawfulTrees
 mod Least
 mod LenientEntries
-mod Listings
+pub mod Listings
 mod NestsNoDeeper
-mod NoFault
+pub mod NoFault
 mod Objects
 mod Order
 pub mod OwnMembers

@@ -3,4 +3,4 @@ pub mod FaultlessBodies
 pub mod LenientObjects
 pub mod ObjectsRead
 pub mod ReadBodies
-mod WrittenObjects
+pub mod WrittenObjects

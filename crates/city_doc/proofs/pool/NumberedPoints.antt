@@ -117,7 +117,7 @@ module _ (pool : List Point) (small : length pool < 2 ^ 63) where
   point_read : (p : Point) → is_in pool p ≡ true → point_at pool (point_data pool p) ≡ Some p
   point_read p h = let fits : nat_lt (number_of pool p) (2 ^ 63) ≡ true = lt-ltb _ _ (small_number pool p small h) in rw fits (found pool p h)
 
-  nested_read : (n : ℕ) (x : Nested n) → are_in pool (nested_points n x) ≡ true → nested_of pool n (nested_data pool n x) ≡ Some x
+  pub nested_read : (n : ℕ) (x : Nested n) → are_in pool (nested_points n x) ≡ true → nested_of pool n (nested_data pool n x) ≡ Some x
   nested_read zero p h = point_read p (and_parts (is_in pool p) true h).0
   nested_read (suc n) xs h = list_read (nested_of pool n) (nested_data pool n) (λ x. are_in pool (nested_points n x)) (nested_read n) xs (parts_in pool (nested_points n) xs h)
 

@@ -1,5 +1,6 @@
 //! Writes a city.
-ghost use Rattle.std.specs.Prelude.{◌≡◌, ◌≤◌, ◌++◌, ℕ, List, IfOk};
+ghost use Rattle.std.specs.Prelude.{◌≡◌, ◌≤◌, ◌<◌, ◌^◌, ◌++◌, ℕ, List, length, IfOk};
+ghost use Rattle.json.specs.Lex.{tokens};
 ghost use Rattle.serde_json.specs.Data.{depth};
 ghost use Rattle.serde_json.specs.Read.{max_depth};
 ghost use Rattle.city_model.specs.CityMap.{at, CityValue};
@@ -9,6 +10,8 @@ ghost use Rattle.city_doc.specs.document.Canonical.{tree_of, city_text};
 ghost use Rattle.city_doc.specs.document.CanonicalTexts.{IsCanonicalText};
 ghost use Rattle.city_doc.specs.document.Cities.{StandsForCity};
 ghost use Rattle.city_doc.specs.tree.Texts.{IsReadable};
+ghost use Rattle.city_doc.specs.tree.Tokens.{tokens_of};
+ghost use Rattle.city_doc.specs.Pool.{pool_of};
 
 use crate::document::text::write_members;
 use city_model::OutOfMemory;
@@ -32,6 +35,8 @@ pub fn write_city(alloc: Global, city: &City) -> Result<Vec<u8>, OutOfMemory>
         → IsReadable b.items → IsLawful (at city.now.1) → IsAccepted b.items) }
     ensures rewritten { IfOk result (λ b. (text : List ℕ) → StandsForCity text city.now
         → StandsForCity b.items city.now) }
+    ensures tokens { IfOk result (λ b. tokens b.items ≡ tokens_of (tree_of city.now)) }
+    ensures numbered { IfOk result (λ _. length (pool_of city.now) < 2 ^ 63) }
 {
     let text = append_city(alloc, Vec::new(alloc), city)?;
     Ok(text)

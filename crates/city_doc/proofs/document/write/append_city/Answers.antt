@@ -35,6 +35,10 @@ whole : (text bytes : List ℕ) (city : CityValue) → text ≡ bytes ++ compact
 unfolding city_text
 whole text bytes city e = e
 
+tokens_whole : (city : CityValue) → tokens (compact_text (tree_of city)) ≡ tokens_of (tree_of city) → tokens (city_text city) ≡ tokens_of (tree_of city)
+unfolding city_text
+tokens_whole city e = e
+
 read_whole : (city : CityValue) → (depth (tree_of city) ≤ max_depth → IsText (compact_text (tree_of city)) (tree_of city)) → depth (tree_of city) ≤ max_depth → IsText (city_text city) (tree_of city)
 unfolding city_text
 read_whole city read = read
@@ -54,5 +58,7 @@ returns c =
       canonical = λ shallow other other_stands. ap city_text (one_city _ other city other_stands (again shallow));
       accepted = λ shallow readable lawful fault. not_refused _ city (tree_of city, (readable, read shallow), city_integral (pool_of city) city done.kept done.in_range, standing, lawful) fault;
       rewritten = λ document stands_before. again (written_within document city stands_before);
+      tokens_are = tokens_whole city (ap tokens (sym (ap print same ∙ print-outline (tree_of city))) ∙ items.reads_back ∙ same);
+      numbered = done.in_range.fewer;
     } in
     record { text = whole _ bytes city (text_after _ _ bytes _ (tree_of city) items.items (done.before ∙ c.new-out.ensures.before) same); canonical = canonical }

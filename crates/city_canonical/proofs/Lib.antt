@@ -1,0 +1,10 @@
+pub mod Members
+pub mod Plain
+pub mod Places
+pub mod Objects
+pub mod Geometries
+pub mod CityObjects
+pub mod Cities
+pub mod Transforms
+pub mod Models
+pub mod Texts

@@ -1,0 +1,4 @@
+pub mod Placed
+pub mod Same
+pub mod Texts
+pub mod Faults

@@ -1,0 +1,13 @@
+//! The canonical form of a city model whose numbers have any form.
+//!
+//! `canonical` writes a model as the editor writes it, and keeps each number as it was written.
+//!
+//! - `canonical_form`: the canonical form
+//! - `fault`: why a text has none
+#![tactic(auto)]
+
+mod canonical_form;
+mod fault;
+
+pub use canonical_form::canonical;
+pub use fault::CanonicalFault;
