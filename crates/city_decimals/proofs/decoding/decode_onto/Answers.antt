@@ -1,4 +1,4 @@
-use Rattle.std.proofs.Common.{◌≡◌, ℕ, List, [], ◌++◌, Some, refl, sym, ap, ◌∙◌, subst, arith, rules}
+use Rattle.std.proofs.Common.{◌≡◌, List, [], ◌++◌, Some, refl, subst, arith, rules}
 use Rattle.std.specs.Str.{IsUtf8}
 use Rattle.json.specs.Token.{Token}
 use Rattle.json.specs.Json.{Json, value, max_depth}

@@ -1,27 +1,27 @@
-use Rattle.std.proofs.Common.{◌≡◌, ℕ, ◌+◌, ◌-◌, ◌<◌, ◌≤◌, List, [], ◌∷◌, ◌++◌, length, Bool, true, false, cond}
+use Rattle.std.proofs.Common.{◌≡◌, ℕ, ◌-◌, ◌<◌, List, [], ◌∷◌, ◌++◌, length, true, false}
 use Rattle.std.proofs.Common.{Some, None, refl, sym, ap, ap₂, ◌∙◌, arith, rules, append_assoc}
 use Rattle.std.proofs.lemmas.Result.{on_ok_weaker}
 use Rattle.json.specs.Token.{Token}
-use Rattle.json.specs.Json.{Json, string, array, object, Items, no_items, item, Members, no_members, member}
+use Rattle.json.specs.Json.{Json, string, array, object, Items, item, Members, no_members, member}
 use Rattle.json.specs.Json.{parse_map, after_end_array, read_key}
 use Rattle.json.specs.Json.{items, members, value}
 use Rattle.json.specs.Reads.{token_of}
 use Rattle.json.specs.Tree.{json_tokens, items_tokens, members_tokens}
 use Rattle.json.specs.Value.{value_view}
-use Rattle.json.proofs.Grammar.{value_is, value-begin_array, value-begin_object, after_end_array-shorter}
+use Rattle.json.proofs.Grammar.{value_is, value-begin_array, value-begin_object}
 use Rattle.json.proofs.Grammar.{read_key-shorter, read_key_is}
 use Rattle.json.proofs.Grammar.{items_end, items_more, items_fail, members_end, members_more, members_fail}
 use Rattle.json.proofs.Grammar.{members_no_key}
 use Rattle.city_decimals.specs.Numbers.{is_number}
 use Rattle.city_decimals.specs.Shapes.{is_tag, only}
-use Rattle.city_decimals.specs.Decoded.{number_under, number_or, decoded, decoded_items, decoded_members}
+use Rattle.city_decimals.specs.Decoded.{number_or, decoded, decoded_items, decoded_members}
 use Rattle.city_decimals.specs.Decoded.{decoded_object, out_of_form}
 use Rattle.city_decimals.specs.Streams.{written}
 use Rattle.city_decimals.proofs.Objects.{object_written, first_is_no_number, two_are_no_number, other_name}
 use Rattle.city_decimals.proofs.Objects.{text_number, tag_form}
 use Rattle.city_decimals.proofs.Objects.{has_item, several_written}
 use Rattle.city_decimals.proofs.Starts.{no_bracket, no_quote, no_text, only_other_value}
-use Rattle.city_decimals.proofs.Streams.{was_read, none_written, written_as, written_under, token_first, value_shorter}
+use Rattle.city_decimals.proofs.Streams.{none_written, written_as, written_under, token_first, value_shorter}
 use Rattle.city_decimals.proofs.Streams.{item_written, items_over, member_written, members_over}
 use Rattle.city_decimals.proofs.decoding.value.+decode.Goals as goal
 

@@ -1,9 +1,9 @@
-use Rattle.std.proofs.Common.{◌≡◌, ℕ, List, [], ◌∷◌, ◌++◌, length, true, Some, None, refl, sym, ap, ◌∙◌, arith, rules}
+use Rattle.std.proofs.Common.{◌≡◌, List, [], ◌∷◌, length, ap, ◌∙◌, arith}
 use Rattle.std.proofs.lemmas.Result.{on_ok_weaker}
 use Rattle.json.specs.Token.{Token}
-use Rattle.json.specs.Json.{Json, object, Members, parse_map, members, value}
+use Rattle.json.specs.Json.{Json, object, parse_map, members, value}
 use Rattle.json.specs.Reads.{token_of}
-use Rattle.json.specs.Tree.{json_tokens, members_tokens}
+use Rattle.json.specs.Tree.{json_tokens}
 use Rattle.json.proofs.Grammar.{value_is, value-begin_object}
 use Rattle.city_decimals.specs.Decoded.{decoded, decoded_top}
 use Rattle.city_decimals.specs.Streams.{written}
