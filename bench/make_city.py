@@ -4,11 +4,13 @@
 usage: make_city.py plain [OBJECTS] [BYTES_EACH] [SCRIPTS] > input
        make_city.py solids [BUILDINGS] [SCRIPTS] > input
        make_city.py prisms [BUILDINGS] [SCRIPTS] > input
+       make_city.py metres [BUILDINGS] [SCRIPTS] > input
        make_city.py parts [PARTS] [SCRIPTS] > input
 
 `plain` has objects of attributes alone; `solids` has buildings, each with a part that has a block
 and a gabled house as its geometries; `prisms` has buildings of 24 sides with semantics and many
-attributes; `parts` has one building that lists its parts in no order.
+attributes, `metres` the same with areas, heights and a transform in metres (for `--decimals`);
+`parts` has one building that lists its parts in no order.
 """
 import json
 import random
@@ -16,6 +18,8 @@ import sys
 
 from houses import Vertices, box, gabled, prism
 
+WHOLE = {"scale": [1, 1, 1], "translate": [0, 0, 0]}
+METRES = {"scale": [0.001, 0.001, 0.001], "translate": [85000.123, 447000.5, -1.25]}
 TYPES = ["LandUse", "Road", "Building", "WaterBody", "PlantCover", "CityFurniture"]
 
 
@@ -63,6 +67,13 @@ def prism_city(count):
     return objects, vertices
 
 
+def in_metres(objects):
+    for n, building in enumerate(objects.values()):
+        for storey in building["attributes"]["storeys"]:
+            storey["area"] += 0.25
+        building["attributes"]["height"] = (32 + n % 10 * 10) / 10
+
+
 def parts_city(count):
     parts = [f"object-{n:08}" for n in range(count)]
     objects = {part: {"type": "BuildingPart", "parents": ["tower"]} for part in parts}
@@ -82,9 +93,11 @@ if kind == "plain":
 elif kind == "solids":
     objects, vertices = solid_city(number_at(2, 70_000))
     scripts = number_at(3, 1)
-elif kind == "prisms":
+elif kind in ("prisms", "metres"):
     objects, vertices = prism_city(number_at(2, 16_000))
     scripts = number_at(3, 1)
+    if kind == "metres":
+        in_metres(objects)
 elif kind == "parts":
     objects, vertices = parts_city(number_at(2, 64_000))
     scripts = number_at(3, 1)
@@ -94,7 +107,7 @@ else:
 city = {
     "type": "CityJSON",
     "version": "2.0",
-    "transform": {"scale": [1, 1, 1], "translate": [0, 0, 0]},
+    "transform": METRES if kind == "metres" else WHOLE,
     "CityObjects": objects,
     "vertices": vertices.points(),
 }

@@ -5,7 +5,8 @@
 
 Each run of the first program is followed by one of each other, so that a busy machine disturbs all alike. Prints
 for each input and program the least processor time of user and system, the middle one, the peak memory of the
-quickest run, and both times as parts of the first program's.
+quickest run, and both times as parts of the first program's. A program may have options, in one word with it:
+"cityed --decimals".
 """
 
 import argparse
@@ -19,7 +20,8 @@ def run(program, path):
     if child == 0:
         os.dup2(os.open(path, os.O_RDONLY), 0)
         os.dup2(os.open(os.devnull, os.O_WRONLY), 1)
-        os.execv(program, [program])
+        words = program.split()
+        os.execv(words[0], words)
     _, status, used = os.wait4(child, 0)
     if status != 0:
         raise SystemExit(f"side_by_side: {program} ended with {os.waitstatus_to_exitcode(status)} on {path}")

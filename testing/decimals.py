@@ -48,7 +48,10 @@ class Program:
                 with open(name, "wb") as file:
                     file.write(text)
             words = [self.path, *options, *names]
-            ran = subprocess.run(words, stdout=subprocess.PIPE, stderr=subprocess.PIPE, timeout=SECONDS)
+            try:
+                ran = subprocess.run(words, stdout=subprocess.PIPE, stderr=subprocess.PIPE, timeout=SECONDS)
+            except subprocess.TimeoutExpired:
+                raise Different(document, scripts, "nothing", f"an answer within {SECONDS} s") from None
         return ran.returncode, ran.stdout, ran.stderr
 
     def refused(self, document, scripts, fault, *options):
@@ -69,17 +72,20 @@ class Program:
         status, output, error = self.answer(document, scripts, "--decimals", *options)
         if status != 0:
             raise Different(document, scripts, error, "status 0")
-        lines = output.splitlines()
-        got = [value_of(line) for line in lines]
-        order = [(int(line.get("script").text), int(line.get("since").text)) for line in got[:-1]]
-        listed = value_of(scripts)
+        lines, listed = output.split(b"\n"), value_of(scripts)
+        try:
+            got = [value_of(line) for line in lines[:-1]]
+            order = [(int(line.get("script").text), int(line.get("since").text)) for line in got[:-1]]
+        except (AttributeError, ValueError):
+            raise Different(document, scripts, output, "a report and a model") from None
+        if sorted(number for number, _ in order) != list(range(len(listed))):
+            raise Different(document, scripts, output, "each script once")
         wanted = answer_of(value_of(document), listed, order)
-        if sorted(number for number, _ in order) != list(range(len(listed))) or got != wanted:
+        if got != wanted:
             raise Different(document, scripts, output, "\n".join(map(text_of, wanted)))
-        for line, each in zip(lines, got):
-            if line.decode("utf-8") != text_of(each):
-                raise Different(document, scripts, line, "a compact text")
-        return lines
+        if output.decode("utf-8") != "".join(text_of(each) + "\n" for each in got):
+            raise Different(document, scripts, output, "compact lines")
+        return lines[:-1]
 
 
 def with_more(inner):
