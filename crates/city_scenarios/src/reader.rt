@@ -17,30 +17,23 @@ pub struct Reads {
 impl Reads {
     /// The habits that these words tell.
     pub fn told(words: &str) -> Reads {
-        let mut reads = Reads {
-            at_a_time: usize::MAX,
-            interrupted: false,
-            breaks: None,
-            endless: false,
-        };
-        let mut last = "";
-        for word in words.split_whitespace() {
-            reads.learn(last, word);
-            last = word;
+        Reads {
+            at_a_time: if words.contains("bytewise") {
+                1
+            } else {
+                usize::MAX
+            },
+            interrupted: words.contains("interrupted"),
+            breaks: number_after(words, "breaks "),
+            endless: words.contains("endless"),
         }
-        reads
     }
+}
 
-    /// Takes up what a word tells, which stands after another.
-    fn learn(&mut self, last: &str, word: &str) {
-        match word {
-            "bytewise" => self.at_a_time = 1,
-            "interrupted" => self.interrupted = true,
-            "endless" => self.endless = true,
-            _ if last == "breaks" => self.breaks = word.parse::<usize>().ok(),
-            _ => {}
-        }
-    }
+/// The number that stands behind a word.
+pub fn number_after(words: &str, word: &str) -> Option<usize> {
+    let (_, rest) = words.split_once(word)?;
+    rest.split_whitespace().next()?.parse::<usize>().ok()
 }
 
 /// A reader with habits.

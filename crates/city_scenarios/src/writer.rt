@@ -1,4 +1,5 @@
 //! Writers with habits.
+use crate::reader::number_after;
 use std::alloc::Global;
 use std::io::{self, ErrorKind, Write};
 
@@ -22,34 +23,19 @@ pub struct Writes {
 impl Writes {
     /// The habits that these words tell.
     pub fn told(words: &str) -> Writes {
-        let mut writes = Writes {
-            at_a_time: usize::MAX,
-            busy: false,
-            room: usize::MAX,
-            stuck: false,
-            holds: false,
-            unflushed: false,
-        };
-        let mut last = "";
-        for word in words.split_whitespace() {
-            writes.learn(last, word);
-            last = word;
-        }
-        writes
-    }
-
-    /// Takes up what a word tells, which stands after another.
-    fn learn(&mut self, last: &str, word: &str) {
-        match word {
-            "piecewise" => self.at_a_time = 1,
-            "busy" => self.busy = true,
-            "stuck" => self.stuck = true,
-            "holds" => self.holds = true,
-            "unflushed" => self.unflushed = true,
-            _ if last == "full" || last == "stuck" => {
-                self.room = word.parse::<usize>().unwrap_or(usize::MAX);
-            }
-            _ => {}
+        let full = number_after(words, "full ");
+        let stuck = number_after(words, "stuck ");
+        Writes {
+            at_a_time: if words.contains("piecewise") {
+                1
+            } else {
+                usize::MAX
+            },
+            busy: words.contains("busy"),
+            room: full.or(stuck).unwrap_or(usize::MAX),
+            stuck: words.contains("stuck"),
+            holds: words.contains("holds"),
+            unflushed: words.contains("unflushed"),
         }
     }
 
