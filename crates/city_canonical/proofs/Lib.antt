@@ -7,4 +7,5 @@ pub mod CityObjects
 pub mod Cities
 pub mod Transforms
 pub mod Models
+pub mod Decoded
 pub mod Texts
