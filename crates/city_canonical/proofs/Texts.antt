@@ -27,6 +27,7 @@ use Rattle.std.specs.Str.{IsUtf8}
 use Rattle.city_decimals.proofs.Texts.{top_numbers, one_value}
 use Rattle.city_doc.specs.Pool.{pool_of}
 use Rattle.city_doc.specs.document.Canonical.{tree_of}
+use Rattle.city_doc.specs.document.Ranges.{IsInRange}
 use Rattle.city_doc.specs.document.Cities.{StandsForCity}
 use Rattle.city_doc.specs.tree.Tokens.{tokens_of}
 use Rattle.city_doc.proofs.Options.{and_then_some}
@@ -59,8 +60,8 @@ value_nests text j e =
     let found = and_then_some (λ p. if_last p.0 p.1) (value max_depth (tokens text)) j e in
     subst (λ i. depth i ≤ max_depth) (last_is (found.0).0 (found.0).1 j found.2) (value-depth max_depth (tokens text) (found.0).1 (found.0).0 found.1)
 
-pub same_text : (text encoded written out : List ℕ) (c : CityValue) → IsEncoded text encoded → StandsForCity encoded c → tokens written ≡ tokens_of (tree_of c) → length (pool_of c) < 2 ^ 63 → IsDecoded written out → IsUtf8 out → IsSameText text out
-same_text text encoded written out c e stands same small d utf8 =
+pub same_text : (text encoded written out : List ℕ) (c : CityValue) → IsEncoded text encoded → StandsForCity encoded c → tokens written ≡ tokens_of (tree_of c) → IsInRange (pool_of c) c.0 → IsDecoded written out → IsUtf8 out → IsSameText text out
+same_text text encoded written out c e stands same range d utf8 =
     let j = e.0 in
     let k = decoded_top (outline (tree_of c)) in
     let numbers = document-HasNumbers text j e.1.1 in
@@ -70,7 +71,7 @@ same_text text encoded written out c e stands same small d utf8 =
     let numbered : HasNumbers k = top_numbered (outline (tree_of c)) (subst HasNumbers value (document-HasNumbers written d.0 d.1.1)) in
     let nests : depth (outline (tree_of c)) ≤ max_depth = subst (λ i. depth i ≤ max_depth) value (value_nests written d.0 d.1.1) in
     let shallow : depth k ≤ max_depth = omega (arith, top_nests (outline (tree_of c)), nests) in
-    (j, k, e.1, (utf8, ap document printed ∙ document-print k numbered shallow), printed, model_same j stands.0 c numbers read stands.2 small)
+    (j, k, e.1, (utf8, ap document printed ∙ document-print k numbered shallow), printed, model_same j stands.0 c numbers read stands.2 range)
 
 -- ---- faults
 

@@ -11,7 +11,7 @@ returns-clause-same c =
     let city = c.in_ok-city.city in
     let read = subst (λ t. StandsForCity t city) c.as_slice.ensures.value c.in_ok-city.ensures.stands in
     let decoded = subst (λ t. IsDecoded t c.in_ok-out.out.items) c.as_slice-2.ensures.value c.in_ok-out.ensures.decoded in
-    same_text c.args.bytes.now c.in_ok-encoded.encoded.items c.in_ok-written.written.items c.in_ok-out.out.items city c.in_ok-encoded.ensures.encoded read c.in_ok-written.ensures.tokens c.in_ok-written.ensures.numbered decoded
+    same_text c.args.bytes.now c.in_ok-encoded.encoded.items c.in_ok-written.written.items c.in_ok-out.out.items city c.in_ok-encoded.ensures.encoded read c.in_ok-written.ensures.tokens c.in_ok-written.ensures.in_range decoded
     c.in_ok-out.ensures.utf8
 
 pub returns-clause-canonical : goal.returns-clause-canonical
