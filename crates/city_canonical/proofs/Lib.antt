@@ -6,5 +6,7 @@ pub mod Geometries
 pub mod CityObjects
 pub mod Cities
 pub mod Transforms
+pub mod Vertices
 pub mod Models
+pub mod Decoded
 pub mod Texts

@@ -26,7 +26,8 @@ use Rattle.city_decimals.specs.Encoded.{encoded, encoded_items, encoded_members,
 use Rattle.city_decimals.specs.Decoded.{decoded, decoded_members, decoded_top}
 use Rattle.city_decimals.specs.Arranged.{arranged}
 use Rattle.city_decimals.proofs.Wholes.{mapped}
-use Rattle.city_doc.specs.Pool.{pool_of}
+use Rattle.city_doc.specs.Pool.{city_points, pool_of}
+use Rattle.city_doc.specs.document.Ranges.{IsInRange}
 use Rattle.city_doc.specs.document.Canonical.{transform_data, vertex_data, vertices_data, tree_of}
 use Rattle.city_doc.specs.document.Cities.{entries_of, objects_of, city_of}
 use Rattle.city_doc.specs.document.Top.{same_text, is_text, frame_of_rest, without_top_members}
@@ -36,12 +37,13 @@ use Rattle.city_doc.specs.tree.Triples.{point_of, points_of}
 use Rattle.city_doc.proofs.Options.{and_then_some}
 use Rattle.city_doc.proofs.Laws.{in_turn, get_member-put_apart, ordered_put, stands_for}
 use Rattle.city_canonical.specs.Placed.{or_empty, list_at}
-use Rattle.city_canonical.specs.Same.{IsInOrder, IsSameAt, IsSameObjectOrNone, object_at, IsSameModel}
+use Rattle.city_canonical.specs.Same.{IsInOrder, IsEachOnce, IsSameAt, IsSameObjectOrNone, object_at, IsSameModel}
 use Rattle.city_canonical.proofs.Cities.{ids_ascend, objects_read, objects_decoded, objects_same}
 use Rattle.city_canonical.proofs.Members.{IsRead, value_at, read_members, decoded_members_at, no_number, Numbers, numbers_at, member_same}
 use Rattle.city_canonical.proofs.Objects.{ascend_decoded, ordered_read, ordered_without, object_is, array_is, object_inj, number_object, found_read}
 use Rattle.city_canonical.proofs.Places.{Show, shows_read, shows_written}
 use Rattle.city_canonical.proofs.Plain.{IsPlain, ArePlain, vertices_plain, itself, plain_decoded}
+use Rattle.city_canonical.proofs.Vertices.{vertices_once}
 use Rattle.city_canonical.proofs.Transforms.{IsFrameOf, frame_parts, transform_same}
 
 -- ---- what a city was read of
@@ -176,7 +178,7 @@ top_decoded ms d h = let none = no_number (codes "type") refl ms d h in rw none 
 
 -- ---- the model
 
-module _ (js : json.Members) (ms : Members) (c : CityValue) (numbers : HasNumbers (json.object js)) (read : of_members (encoded_members true js) no_members ≡ Some ms) (p : IsCityOf ms c) (small : length (pool_of c) < 2 ^ 63) where
+module _ (js : json.Members) (ms : Members) (c : CityValue) (numbers : HasNumbers (json.object js)) (read : of_members (encoded_members true js) no_members ≡ Some ms) (p : IsCityOf ms c) (range : IsInRange (pool_of c) c.0) where
   abbrev objects : Data
   objects = objects_data (pool_of c) (entries c.1)
 
@@ -257,28 +259,28 @@ module _ (js : json.Members) (ms : Members) (c : CityValue) (numbers : HasNumber
 
   objects_there : look.get (codes "CityObjects") back ≡ Some (json.object (decoded_members false (members_outline (in_turn (pool_of c) (entries c.1)))))
   objects_there =
-      found_at (codes "CityObjects") objects (get_member-put (codes "CityObjects") objects (pointed objects vertices transform version type c.0.extra)) ∙ ap Some (objects_decoded vs ws p.ps c small show show_written)
+      found_at (codes "CityObjects") objects (get_member-put (codes "CityObjects") objects (pointed objects vertices transform version type c.0.extra)) ∙ ap Some (objects_decoded vs ws p.ps c range.fewer show show_written)
 
   ids_in_order : (o : json.Json) → look.get (codes "CityObjects") back ≡ Some o → IsInOrder o
-  ids_in_order o is = subst IsInOrder (Some_inj _ _ (sym objects_there ∙ is)) (ids_ascend vs ws p.ps c small show show_written)
+  ids_in_order o is = subst IsInOrder (Some_inj _ _ (sym objects_there ∙ is)) (ids_ascend vs ws p.ps c range.fewer show show_written)
 
   object_is_same : (id : List ℕ) → IsSameObjectOrNone vs ws (object_at id (json.object js)) (object_at id back)
   object_is_same id =
       let found = found_read true (codes "CityObjects") refl refl js ms read (object p.objs) p.objects in
       let o = objects_read p.ps found.0 p.objs p.list found.2 p.entries_are in
       let there = found.1 ∙ ap Some o.is in
-      let same = objects_same vs ws p.ps c small show show_written p.objs p.list p.entries_are p.made o.ms (subst Numbers there (numbers_at (codes "CityObjects") js numbers)) o.read id in
+      let same = objects_same vs ws p.ps c range.fewer show show_written p.objs p.list p.entries_are p.made o.ms (subst Numbers there (numbers_at (codes "CityObjects") js numbers)) o.read id in
       subst (λ o. IsSameObjectOrNone vs ws o (object_at id back)) (sym (ap (option_and_then (look.get id)) there))
       (subst (IsSameObjectOrNone vs ws (look.get_member id o.ms)) (sym (ap (option_and_then (look.get id)) objects_there)) same)
 
   top_same : IsSameModel (json.object js) (decoded_top (outline (tree_of c)))
   top_same =
       subst (IsSameModel (json.object js)) (sym (top_decoded all type (written_type objects vertices transform version type c.0.extra)))
-      (record { names = ascend_decoded true all all_ordered; ids = ids_in_order; members = member_is; objects = object_is_same })
+      (record { names = ascend_decoded true all all_ordered; ids = ids_in_order; members = member_is; objects = object_is_same; vertices = subst IsEachOnce (sym vertices_back) (vertices_once (city_points c) range.points) })
 
 -- a model that is read and written is the same
-pub model_same : (j : json.Json) (d : Data) (c : CityValue) → HasNumbers j → of_json (encoded_top j) ≡ Some d → city_of d ≡ Some c → length (pool_of c) < 2 ^ 63 → IsSameModel j (decoded_top (outline (tree_of c)))
-model_same j d c numbers is stands small =
+pub model_same : (j : json.Json) (d : Data) (c : CityValue) → HasNumbers j → of_json (encoded_top j) ≡ Some d → city_of d ≡ Some c → IsInRange (pool_of c) c.0 → IsSameModel j (decoded_top (outline (tree_of c)))
+model_same j d c numbers is stands range =
     let p = city_parts d c stands in
     let top = top_read j p.0 (string (codes "CityJSON")) (is ∙ ap Some p.1) p.2.type in
-    subst (λ j. IsSameModel j (decoded_top (outline (tree_of c)))) (sym top.1) (top_same top.0 p.0 c (subst HasNumbers top.1 numbers) top.2 p.2 small)
+    subst (λ j. IsSameModel j (decoded_top (outline (tree_of c)))) (sym top.1) (top_same top.0 p.0 c (subst HasNumbers top.1 numbers) top.2 p.2 range)

@@ -6,7 +6,7 @@ use Rattle.std.specs.declared.cmp.Ordering.TheVariants.{Less}
 use Rattle.std.specs.Ordering.{nat_cmp}
 use Rattle.std.specs.Cmp.Lexicographic.{slice_cmp}
 use Rattle.json.specs.Json.{Json, null, boolean, number, string, array, object, Items, no_items, item, Members, no_members, member}
-use Rattle.json.specs.Find.{get}
+use Rattle.json.specs.Find.{get, get_item}
 use Rattle.city_model.specs.CityMap.{has_id}
 use Rattle.city_decimals.specs.Arranged.{arranged}
 use Rattle.city_canonical.specs.Placed.{list_at, placed}
@@ -55,6 +55,12 @@ IsInOrder (string s) = ⊥
 IsInOrder (array js) = ⊥
 IsInOrder (object ms) = Ascend ms
 
+-- ---- vertices
+
+-- none stands at two positions
+abbrev pub IsEachOnce : Items → Type 0
+IsEachOnce vertices = (m n : ℕ) (v : Json) → get_item m vertices ≡ Some v → get_item n vertices ≡ Some v → m ≡ n
+
 -- ---- of the vertices vs and ws
 
 module _ (vs ws : Items) where
@@ -95,3 +101,4 @@ pub record IsSameModel (j k : Json) : Type 0 where
   pub ids : (o : Json) → get (codes "CityObjects") k ≡ Some o → IsInOrder o
   pub members : IsSameBeside (codes "CityObjects" ∷ codes "vertices" ∷ []) j k
   pub objects : (id : List ℕ) → IsSameObjectOrNone (list_at (codes "vertices") j) (list_at (codes "vertices") k) (object_at id j) (object_at id k)
+  pub vertices : IsEachOnce (list_at (codes "vertices") k)

@@ -1,17 +1,18 @@
 //! The canonical form of a model.
-ghost use Rattle.std.specs.Prelude.{◌≡◌, IfOk};
-ghost use Rattle.std.specs.Str.{IsUtf8};
-ghost use Rattle.city_canonical.specs.Texts.{IsCanonicalOf};
+ghost use Rattle.std.specs.Prelude.{◌≡◌, IfOk, IfErr};
+ghost use Rattle.city_canonical.specs.Texts.{IsSameText, IsCanonicalOf, IsCanonicalFault};
 
 use crate::fault::CanonicalFault;
 use city_decimals::{decode, encode};
 use city_doc::{read_city, write_city};
 use std::alloc::Global;
 
-/// The canonical form of a model, in one line: names in order, each vertex once, and the numbers as they were written.
+/// The canonical form of a model, in one line: the same model, its names in order, and each number as it was written.
 pub fn canonical(alloc: Global, bytes: &[u8]) -> Result<Vec<u8>, CanonicalFault>
-    ensures same { IfOk result (λ out. IsCanonicalOf bytes.now out.items) }
-    ensures utf8 { IfOk result (λ out. IsUtf8 out.items) }
+    // Its value is that of the text, but for what the canonical form changes.
+    ensures same { IfOk result (λ out. IsSameText bytes.now out.items) }
+    ensures canonical { IfOk result (λ out. IsCanonicalOf bytes.now out.items) }
+    ensures fault { IfErr result (λ f. IsCanonicalFault bytes.now f) }
 {
     let encoded = encode(alloc, bytes)?;
     let city = read_city(alloc, encoded.as_slice())?;

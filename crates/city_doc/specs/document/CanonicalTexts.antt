@@ -1,5 +1,5 @@
 -- What holds of the canonical text of a city, unless the text nests so deep that it isn't read.
-use Rattle.std.specs.Prelude.{◌≡◌, ◌≤◌, ◌<◌, ◌^◌, ℕ, List, length}
+use Rattle.std.specs.Prelude.{◌≡◌, ◌≤◌, ℕ, List}
 use Rattle.json.specs.Lex.{tokens}
 use Rattle.serde_json.specs.Data.{depth}
 use Rattle.serde_json.specs.Read.{max_depth}
@@ -7,6 +7,7 @@ use Rattle.city_model.specs.CityMap.{at, CityValue}
 use Rattle.city_model.specs.Relations.{IsLawful}
 use Rattle.city_doc.specs.document.Accepted.{IsAccepted}
 use Rattle.city_doc.specs.document.Canonical.{tree_of, city_text}
+use Rattle.city_doc.specs.document.Ranges.{IsInRange}
 use Rattle.city_doc.specs.document.Cities.{StandsForCity}
 use Rattle.city_doc.specs.tree.Texts.{IsReadable}
 use Rattle.city_doc.specs.tree.Tokens.{tokens_of}
@@ -14,11 +15,11 @@ use Rattle.city_doc.specs.Pool.{pool_of}
 
 -- it stands for the city, whatever city is read of it is written as it, where the city is lawful and
 -- the text isn't too long it has no fault, it stands for the city where some text does, and its tokens
--- are those of the city's tree, whose points can be numbered
+-- are those of the city's tree, whose numbers are in range
 pub record IsCanonicalText (text : List ℕ) (city : CityValue) : Type 0 where
   pub read_again : depth (tree_of city) ≤ max_depth → StandsForCity text city
   pub canonical : depth (tree_of city) ≤ max_depth → (other : CityValue) → StandsForCity text other → city_text other ≡ text
   pub accepted : depth (tree_of city) ≤ max_depth → IsReadable text → IsLawful (at city.1) → IsAccepted text
   pub rewritten : (document : List ℕ) → StandsForCity document city → StandsForCity text city
   pub tokens_are : tokens text ≡ tokens_of (tree_of city)
-  pub numbered : length (pool_of city) < 2 ^ 63
+  pub in_range : IsInRange (pool_of city) city.0

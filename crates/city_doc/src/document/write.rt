@@ -1,5 +1,5 @@
 //! Writes a city.
-ghost use Rattle.std.specs.Prelude.{◌≡◌, ◌≤◌, ◌<◌, ◌^◌, ◌++◌, ℕ, List, length, IfOk};
+ghost use Rattle.std.specs.Prelude.{◌≡◌, ◌≤◌, ◌++◌, ℕ, List, IfOk};
 ghost use Rattle.json.specs.Lex.{tokens};
 ghost use Rattle.serde_json.specs.Data.{depth};
 ghost use Rattle.serde_json.specs.Read.{max_depth};
@@ -9,6 +9,7 @@ ghost use Rattle.city_doc.specs.document.Accepted.{IsAccepted};
 ghost use Rattle.city_doc.specs.document.Canonical.{tree_of, city_text};
 ghost use Rattle.city_doc.specs.document.CanonicalTexts.{IsCanonicalText};
 ghost use Rattle.city_doc.specs.document.Cities.{StandsForCity};
+ghost use Rattle.city_doc.specs.document.Ranges.{IsInRange};
 ghost use Rattle.city_doc.specs.tree.Texts.{IsReadable};
 ghost use Rattle.city_doc.specs.tree.Tokens.{tokens_of};
 ghost use Rattle.city_doc.specs.Pool.{pool_of};
@@ -36,7 +37,7 @@ pub fn write_city(alloc: Global, city: &City) -> Result<Vec<u8>, OutOfMemory>
     ensures rewritten { IfOk result (λ b. (text : List ℕ) → StandsForCity text city.now
         → StandsForCity b.items city.now) }
     ensures tokens { IfOk result (λ b. tokens b.items ≡ tokens_of (tree_of city.now)) }
-    ensures numbered { IfOk result (λ _. length (pool_of city.now) < 2 ^ 63) }
+    ensures in_range { IfOk result (λ _. IsInRange (pool_of city.now) city.now.0) }
 {
     let text = append_city(alloc, Vec::new(alloc), city)?;
     Ok(text)

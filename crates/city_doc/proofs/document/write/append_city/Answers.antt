@@ -59,6 +59,6 @@ returns c =
       accepted = λ shallow readable lawful fault. not_refused _ city (tree_of city, (readable, read shallow), city_integral (pool_of city) city done.kept done.in_range, standing, lawful) fault;
       rewritten = λ document stands_before. again (written_within document city stands_before);
       tokens_are = tokens_whole city (ap tokens (sym (ap print same ∙ print-outline (tree_of city))) ∙ items.reads_back ∙ same);
-      numbered = done.in_range.fewer;
+      in_range = done.in_range;
     } in
     record { text = whole _ bytes city (text_after _ _ bytes _ (tree_of city) items.items (done.before ∙ c.new-out.ensures.before) same); canonical = canonical }
