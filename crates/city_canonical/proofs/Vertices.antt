@@ -111,7 +111,7 @@ in_range_at [] h n p e = not_found p e
 in_range_at (q ∷ ps) h zero p e = ap is_i64_point (sym (Some_inj _ _ e)) ∙ (and_parts (is_i64_point q) (list_all is_i64_point ps) h).0
 in_range_at (q ∷ ps) h (suc n) p e = in_range_at ps (and_parts (is_i64_point q) (list_all is_i64_point ps) h).1 n p e
 
-vertex_at : (ps : List Point) (n : ℕ) (v : json.Json) → look.get_item n (items_outline (items_of (map vertex_data ps))) ≡ Some v → (p : Point) × (slice_get ps n ≡ Some p) × (shown_point p ≡ v)
+pub vertex_at : (ps : List Point) (n : ℕ) (v : json.Json) → look.get_item n (items_outline (items_of (map vertex_data ps))) ≡ Some v → (p : Point) × (slice_get ps n ≡ Some p) × (shown_point p ≡ v)
 vertex_at [] n v h = not_found v h
 vertex_at (p ∷ ps) zero v h = (p, refl, Some_inj _ _ h)
 vertex_at (p ∷ ps) (suc n) v h = vertex_at ps n v h

@@ -1,6 +1,6 @@
 -- Models that are the same but for what the canonical form changes: the names of each object are in order, of a
 -- repeated one the last value stays, empty lists are left out, and vertices have other positions.
-use Rattle.std.specs.Prelude.{◌≡◌, ℕ, List, [], ◌∷◌, Bool, true, false, Option, Some, None, option_map, option_and_then}
+use Rattle.std.specs.Prelude.{◌≡◌, ◌⊎◌, ℕ, List, [], ◌∷◌, Bool, true, false, Option, Some, None, option_map, option_and_then}
 use Rattle.std.specs.Prelude.{codes, if◌then◌else◌}
 use Rattle.std.specs.declared.cmp.Ordering.TheVariants.{Less}
 use Rattle.std.specs.Ordering.{nat_cmp}
@@ -95,6 +95,32 @@ module _ (vs ws : Items) where
 abbrev pub object_at : List ℕ → Json → Option Json
 object_at id j = option_and_then (get id) (get (codes "CityObjects") j)
 
+-- the value is a part of lists within lists
+abbrev mutual
+  pub IsPart : Json → Json → Type 0
+  IsPart v null = ⊥
+  IsPart v (boolean b) = ⊥
+  IsPart v (number s) = ⊥
+  IsPart v (string s) = ⊥
+  IsPart v (array js) = (array js ≡ v) ⊎ IsPartOfOne v js
+  IsPart v (object ms) = ⊥
+
+  pub IsPartOfOne : Json → Items → Type 0
+  IsPartOfOne v no_items = ⊥
+  IsPartOfOne v (item j js) = IsPart v j ⊎ IsPartOfOne v js
+
+-- a geometry of some object of k has the vertex v in its boundaries
+pub record IsUsed (vertices : Items) (k v : Json) : Type 0 where
+  pub id : List ℕ
+  pub owner : Json
+  pub there : object_at id k ≡ Some owner
+  pub index : ℕ
+  pub geometry : Json
+  pub has : get_item index (list_at (codes "geometry") owner) ≡ Some geometry
+  pub boundaries : Json
+  pub bounds : option_map (placed vertices) (get (codes "boundaries") geometry) ≡ Some boundaries
+  pub part : IsPart v boundaries
+
 -- k is the same model as j, in canonical form
 pub record IsSameModel (j k : Json) : Type 0 where
   pub names : IsInOrder k
@@ -102,3 +128,4 @@ pub record IsSameModel (j k : Json) : Type 0 where
   pub members : IsSameBeside (codes "CityObjects" ∷ codes "vertices" ∷ []) j k
   pub objects : (id : List ℕ) → IsSameObjectOrNone (list_at (codes "vertices") j) (list_at (codes "vertices") k) (object_at id j) (object_at id k)
   pub vertices : IsEachOnce (list_at (codes "vertices") k)
+  pub used : (n : ℕ) (v : Json) → get_item n (list_at (codes "vertices") k) ≡ Some v → IsUsed (list_at (codes "vertices") k) k v
