@@ -29,7 +29,8 @@ use Rattle.city_doc.specs.object.Bodies.{object_of}
 use Rattle.city_doc.specs.object.Canonical.{object_data, objects_data}
 use Rattle.city_doc.proofs.Options.{and_then_some, map_some}
 use Rattle.city_doc.proofs.Laws.{is_in, are_in, points_in_pool, in_turn, written_in_turn, ordered_in_turn, at_listed, found}
-use Rattle.city_canonical.specs.Same.{Ascend, IsSameObject, IsSameObjectOrNone}
+use Rattle.city_canonical.specs.Members.{Ascend}
+use Rattle.city_canonical.specs.Same.{IsSameObject, IsSameObjectOrNone}
 use Rattle.city_canonical.specs.Placed.{list_at}
 use Rattle.city_canonical.proofs.Geometries.{AreShown}
 use Rattle.city_canonical.proofs.CityObjects.{object_same, object_decoded}

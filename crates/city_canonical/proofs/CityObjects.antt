@@ -40,7 +40,8 @@ use Rattle.city_doc.specs.tree.Tokens.{listed}
 use Rattle.city_doc.proofs.Options.{and_then_some, map_some}
 use Rattle.city_doc.proofs.Laws.{are_in, get_member-put_apart, get_member-put_list_apart, ordered_put, read_as}
 use Rattle.city_canonical.specs.Placed.{or_empty, list_at}
-use Rattle.city_canonical.specs.Same.{unless_empty, IsSameList, IsSameObject, AreSameGeometries}
+use Rattle.city_canonical.specs.Members.{unless_empty, IsSameList}
+use Rattle.city_canonical.specs.Same.{IsSameObject, AreSameGeometries}
 use Rattle.city_canonical.proofs.Geometries.{AreShown, AreWritten, geometries_same}
 use Rattle.city_canonical.proofs.Members.{value_at, decoded_members_at, no_number, Numbers, numbers_at, member_same}
 use Rattle.city_canonical.proofs.Objects.{ascend_decoded, ordered_read, ordered_without, object_is, array_is, string_is, kept_is, decoded_object, IsObject, object_read, found_read, none_read}

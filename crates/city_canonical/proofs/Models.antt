@@ -38,7 +38,8 @@ use Rattle.city_doc.specs.tree.Triples.{point_of, points_of}
 use Rattle.city_doc.proofs.Options.{and_then_some}
 use Rattle.city_doc.proofs.Laws.{in_turn, get_member-put_apart, ordered_put, stands_for}
 use Rattle.city_canonical.specs.Placed.{or_empty, list_at}
-use Rattle.city_canonical.specs.Same.{IsInOrder, IsEachOnce, IsPart, IsUsed, IsSameAt, IsSameObjectOrNone, object_at, IsSameModel}
+use Rattle.city_canonical.specs.Members.{IsInOrder, IsSameAt}
+use Rattle.city_canonical.specs.Same.{IsEachOnce, IsPart, IsUsed, IsSameObjectOrNone, object_at, IsSameModel}
 use Rattle.city_canonical.proofs.Cities.{ids_ascend, object_shown, objects_read, objects_decoded, objects_same}
 use Rattle.city_canonical.proofs.Members.{IsRead, value_at, read_members, decoded_members_at, no_number, Numbers, numbers_at, member_same}
 use Rattle.city_canonical.proofs.Objects.{ascend_decoded, ordered_read, ordered_without, object_is, array_is, object_inj, number_object, found_read}
@@ -277,7 +278,7 @@ module _ (js : json.Members) (ms : Members) (c : CityValue) (numbers : HasNumber
 
   -- vertices are used
 
-  vertex_used : (n : ℕ) (v : json.Json) → look.get_item n ws ≡ Some v → IsUsed ws back v
+  vertex_used : (n : ℕ) (v : json.Json) → look.get_item n ws ≡ Some v → IsUsed back v
   vertex_used n v is =
       let q = vertex_at (pool_of c) n v (ap (look.get_item n) (sym vertices_back) ∙ is) in
       let walked = has_repeats (city_points c) n q.0 q.1 in
@@ -304,7 +305,7 @@ module _ (js : json.Members) (ms : Members) (c : CityValue) (numbers : HasNumber
   top_same : IsSameModel (json.object js) (decoded_top (outline (tree_of c)))
   top_same =
       subst (IsSameModel (json.object js)) (sym (top_decoded all type (written_type objects vertices transform version type c.0.extra)))
-      (record { names = ascend_decoded true all all_ordered; ids = ids_in_order; members = member_is; objects = object_is_same; vertices = subst IsEachOnce (sym vertices_back) (vertices_once (city_points c) range.points); used = vertex_used })
+      (record { names = ascend_decoded true all all_ordered; ids = ids_in_order; members = member_is; objects = object_is_same; once = subst IsEachOnce (sym vertices_back) (vertices_once (city_points c) range.points); used = vertex_used })
 
 -- a model that is read and written is the same
 pub model_same : (j : json.Json) (d : Data) (c : CityValue) → HasNumbers j → of_json (encoded_top j) ≡ Some d → city_of d ≡ Some c → IsInRange (pool_of c) c.0 → IsSameModel j (decoded_top (outline (tree_of c)))

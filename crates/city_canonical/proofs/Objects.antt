@@ -19,7 +19,7 @@ use Rattle.city_decimals.specs.Decoded.{number_in, decoded, decoded_members}
 use Rattle.city_decimals.proofs.Wholes.{mapped}
 use Rattle.city_doc.proofs.Options.{and_then_some, if_some}
 use Rattle.city_doc.proofs.Laws.{ordered_put}
-use Rattle.city_canonical.specs.Same.{IsBelow, Ascend}
+use Rattle.city_canonical.specs.Members.{IsBelow, Ascend}
 use Rattle.city_canonical.proofs.Members.{member_read, IsRead, in_plain, no_frame, read_members}
 
 -- ---- the names ascend
