@@ -1,6 +1,6 @@
 -- The city objects that were read of encoded ones are written, each under its id.
 use Rattle.std.proofs.Common.{◌≡◌, ℕ, ◌<◌, List, [], ◌∷◌, length, Bool, true, false, cond, Option, Some, None, Ordering, Less, Equal, Greater, nat_cmp, is_eq, codes, refl, sym, ap, subst, ◌∙◌}
-use Rattle.std.specs.Prelude.{◌^◌, ◌&&◌, flat_map, option_map, option_and_then}
+use Rattle.std.specs.Prelude.{◌^◌, ◌&&◌, flat_map, option_map}
 use Rattle.std.specs.Ordering.{match_ordering}
 use Rattle.std.specs.Cmp.Lexicographic.{slice_cmp}
 use Rattle.std.specs.FinMap.{entries}
@@ -10,7 +10,7 @@ use Rattle.json.specs.Json as json
 use Rattle.json.specs.Find as look
 use Rattle.json.specs.Tree.{HasNumbers}
 use Rattle.json.proofs.Found.{Some_inj, not_found}
-use Rattle.serde_json.specs.Data.{Data, null, boolean, number, string, array, object, Items, no_items, item, Members, no_members, member}
+use Rattle.serde_json.specs.Data.{Data, null, boolean, number, string, array, object, Members, no_members, member}
 use Rattle.serde_json.specs.Find.{get_member}
 use Rattle.serde_json.specs.Read.{number_of, of_json, of_items, of_members}
 use Rattle.serde_json.specs.Written.{outline, members_outline}
@@ -30,7 +30,7 @@ use Rattle.city_doc.specs.object.Canonical.{object_data, objects_data}
 use Rattle.city_doc.proofs.Options.{and_then_some, map_some}
 use Rattle.city_doc.proofs.Laws.{is_in, are_in, points_in_pool, in_turn, written_in_turn, ordered_in_turn, at_listed, found}
 use Rattle.city_canonical.specs.Members.{Ascend}
-use Rattle.city_canonical.specs.Same.{IsSameObject, IsSameObjectOrNone}
+use Rattle.city_canonical.specs.Same.{IsSameObjectOrNone}
 use Rattle.city_canonical.specs.Placed.{list_at}
 use Rattle.city_canonical.proofs.Geometries.{AreShown}
 use Rattle.city_canonical.proofs.CityObjects.{object_same, object_decoded}

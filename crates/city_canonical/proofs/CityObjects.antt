@@ -6,7 +6,7 @@ use Rattle.std.proofs.lemmas.Bool.{or_parts}
 use Rattle.std.proofs.lemmas.Slice.Eq.{bytes_eq-Decides}
 use Rattle.json.specs.Json as json
 use Rattle.json.specs.Find as look
-use Rattle.json.specs.Tree.{HasNumbers, ItemsHaveNumbers}
+use Rattle.json.specs.Tree.{HasNumbers}
 use Rattle.json.proofs.Found.{Some_inj, not_found}
 use Rattle.serde_json.specs.Data.{Data, null, boolean, number, string, array, object, Items, no_items, item, Members, no_members, member, put}
 use Rattle.serde_json.specs.Find.{get, get_member, as_str, as_array, as_object}
@@ -30,7 +30,7 @@ use Rattle.city_decimals.specs.Encoded.{tagged, encoded, encoded_items, encoded_
 use Rattle.city_decimals.specs.Decoded.{decoded, decoded_items, decoded_members}
 use Rattle.city_decimals.proofs.Wholes.{mapped}
 use Rattle.city_doc.specs.Pool.{geometry_points, object_points}
-use Rattle.city_doc.specs.object.Bodies.{type_of, without_object_members, body_of, ids_at, object_of}
+use Rattle.city_doc.specs.object.Bodies.{type_of, without_object_members, object_of}
 use Rattle.city_doc.specs.object.Canonical.{object_data}
 use Rattle.city_doc.specs.shape.Canonical.{geometry_data}
 use Rattle.city_doc.specs.shape.Geometries.{geometry_of}
@@ -40,13 +40,13 @@ use Rattle.city_doc.specs.tree.Tokens.{listed}
 use Rattle.city_doc.proofs.Options.{and_then_some, map_some}
 use Rattle.city_doc.proofs.Laws.{are_in, get_member-put_apart, get_member-put_list_apart, ordered_put, read_as}
 use Rattle.city_canonical.specs.Placed.{or_empty, list_at}
-use Rattle.city_canonical.specs.Members.{unless_empty, IsSameList}
+use Rattle.city_canonical.specs.Members.{unless_empty}
 use Rattle.city_canonical.specs.Same.{IsSameObject, AreSameGeometries}
 use Rattle.city_canonical.proofs.Geometries.{AreShown, AreWritten, geometries_same}
 use Rattle.city_canonical.proofs.Members.{value_at, decoded_members_at, no_number, Numbers, numbers_at, member_same}
-use Rattle.city_canonical.proofs.Objects.{ascend_decoded, ordered_read, ordered_without, object_is, array_is, string_is, kept_is, decoded_object, IsObject, object_read, found_read, none_read}
+use Rattle.city_canonical.proofs.Objects.{ascend_decoded, ordered_read, ordered_without, object_is, array_is, string_is, kept_is, decoded_object, object_read, found_read, none_read}
 use Rattle.city_canonical.proofs.Places.{Show}
-use Rattle.city_canonical.proofs.Plain.{IsPlain, ReadsPlain, list_plain, text_plain, itself, plain_decoded}
+use Rattle.city_canonical.proofs.Plain.{IsPlain, list_plain, text_plain, itself, plain_decoded}
 
 -- ---- what an object was read of
 

@@ -1,15 +1,14 @@
 -- A geometry that was read of an encoded one, and is written, is the same.
-use Rattle.std.proofs.Common.{◌≡◌, ℕ, ◌<◌, List, [], ◌∷◌, length, Bool, true, false, Option, Some, None, codes, refl, sym, ap, subst, ◌∙◌}
+use Rattle.std.proofs.Common.{◌≡◌, ℕ, ◌<◌, List, [], ◌∷◌, length, true, false, Some, codes, refl, sym, ap, subst, ◌∙◌}
 use Rattle.std.specs.Prelude.{◌^◌, map, flat_map, option_map, option_and_then}
-use Rattle.std.specs.Str.{bytes_eq}
 use Rattle.std.proofs.lemmas.Bool.{or_parts, and_parts}
 use Rattle.std.proofs.lemmas.List.Folds.{list_all-append}
 use Rattle.std.proofs.lemmas.Slice.Eq.{bytes_eq-Decides}
 use Rattle.json.specs.Json as json
 use Rattle.json.specs.Find as look
 use Rattle.json.specs.Tree.{HasNumbers, ItemsHaveNumbers}
-use Rattle.json.proofs.Found.{Some_inj, not_found}
-use Rattle.serde_json.specs.Data.{Data, null, boolean, number, string, array, object, Items, no_items, item, Members, no_members, member, put}
+use Rattle.json.proofs.Found.{Some_inj}
+use Rattle.serde_json.specs.Data.{Data, string, object, Items, item, Members, no_members, put}
 use Rattle.serde_json.specs.Find.{get, get_member, as_str, as_object}
 use Rattle.serde_json.specs.Read.{of_json, of_items, of_members}
 use Rattle.serde_json.specs.View.{items_of}
@@ -17,13 +16,13 @@ use Rattle.serde_json.specs.Written.{outline, items_outline, members_outline}
 use Rattle.serde_json.proofs.Views.{get_member-put}
 use Rattle.city_model.specs.declared.object.Geometry.{Geometry}
 use Rattle.city_model.specs.declared.object.Point.{Point}
-use Rattle.city_model.specs.CityMap.{same_id, has_id}
+use Rattle.city_model.specs.CityMap.{same_id}
 use Rattle.city_model.specs.Kept.{kept_at_geometry}
 use Rattle.city_model.specs.Members.{without, AreOrdered}
 use Rattle.city_model.proofs.Ids.{by_id}
 use Rattle.city_model.proofs.MemberLaws.{get_member-without}
 use Rattle.city_decimals.specs.Encoded.{encoded, encoded_items, encoded_members}
-use Rattle.city_decimals.specs.Decoded.{number_in, number_or, decoded, decoded_items, decoded_members}
+use Rattle.city_decimals.specs.Decoded.{decoded, decoded_items, decoded_members}
 use Rattle.city_decimals.proofs.Wholes.{mapped, bound}
 use Rattle.city_doc.specs.Pool.{geometry_points}
 use Rattle.city_doc.specs.shape.Canonical.{boundaries_data, geometry_data}
@@ -36,7 +35,7 @@ use Rattle.city_doc.proofs.Laws.{is_in, are_in, get_member-put_apart, ordered_pu
 use Rattle.city_canonical.specs.Placed.{placed}
 use Rattle.city_canonical.specs.Same.{IsSameGeometry, AreSameGeometries}
 use Rattle.city_canonical.proofs.Members.{value_at, decoded_members_at, no_number, member_same}
-use Rattle.city_canonical.proofs.Objects.{ascend_decoded, ordered_read, ordered_without, object_is, string_is, kept_is, decoded_object, IsObject, object_read, found_read}
+use Rattle.city_canonical.proofs.Objects.{ascend_decoded, ordered_read, ordered_without, object_is, string_is, kept_is, decoded_object, object_read, found_read}
 use Rattle.city_canonical.proofs.Places.{Show, shown_shape, nested_placed, type_is, shape_written, boundaries_plain}
 use Rattle.city_canonical.proofs.Plain.{IsPlain, nested_plain, itself, plain_decoded}
 

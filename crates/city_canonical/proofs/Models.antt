@@ -1,8 +1,7 @@
 -- A model that was read of an encoded one, is written and decoded, is the same model.
-use Rattle.std.proofs.Common.{◌≡◌, ℕ, ◌<◌, List, [], ◌∷◌, length, Bool, true, false, true≢false, cond, Option, Some, None, nat_cmp, codes, refl, sym, ap, subst, ◌∙◌}
-use Rattle.std.specs.Prelude.{◌^◌, ◌&&◌, map, option_map, option_and_then}
+use Rattle.std.proofs.Common.{◌≡◌, ℕ, List, [], ◌∷◌, true, false, true≢false, Option, Some, None, codes, refl, sym, ap, subst, ◌∙◌}
+use Rattle.std.specs.Prelude.{map, option_map, option_and_then}
 use Rattle.std.specs.FinMap.{entries}
-use Rattle.std.specs.Str.{bytes_eq}
 use Rattle.std.proofs.lemmas.Bool.{and_parts, or_parts}
 use Rattle.std.proofs.lemmas.Map.Text.{is_eq-slice_cmp}
 use Rattle.std.proofs.lemmas.Slice.Eq.{bytes_eq-Decides}
@@ -10,7 +9,7 @@ use Rattle.json.specs.Json as json
 use Rattle.json.specs.Find as look
 use Rattle.json.specs.Tree.{HasNumbers}
 use Rattle.json.proofs.Found.{Some_inj, not_found}
-use Rattle.serde_json.specs.Data.{Data, null, boolean, number, string, array, object, Items, no_items, item, Members, no_members, member, put}
+use Rattle.serde_json.specs.Data.{Data, null, boolean, number, string, array, object, Items, Members, no_members, put}
 use Rattle.serde_json.specs.Find.{get, get_member, as_str, as_array, as_object}
 use Rattle.serde_json.specs.Read.{of_json, of_items, of_members}
 use Rattle.serde_json.specs.View.{items_of}
@@ -23,8 +22,8 @@ use Rattle.city_model.proofs.Ids.{by_id}
 use Rattle.city_model.proofs.Objects.{entries_ascend}
 use Rattle.city_model.proofs.MemberLaws.{get_member-without}
 use Rattle.city_decimals.specs.Numbers.{is_whole}
-use Rattle.city_decimals.specs.Encoded.{encoded, encoded_items, encoded_members, encoded_top}
-use Rattle.city_decimals.specs.Decoded.{decoded, decoded_members, decoded_top}
+use Rattle.city_decimals.specs.Encoded.{encoded_items, encoded_members, encoded_top}
+use Rattle.city_decimals.specs.Decoded.{decoded_members, decoded_top}
 use Rattle.city_decimals.specs.Arranged.{arranged}
 use Rattle.city_decimals.proofs.Wholes.{mapped}
 use Rattle.city_doc.specs.Pool.{geometry_points, object_points, city_points, pool_of}
@@ -44,7 +43,7 @@ use Rattle.city_canonical.proofs.Cities.{ids_ascend, object_shown, objects_read,
 use Rattle.city_canonical.proofs.Members.{IsRead, value_at, read_members, decoded_members_at, no_number, Numbers, numbers_at, member_same}
 use Rattle.city_canonical.proofs.Objects.{ascend_decoded, ordered_read, ordered_without, object_is, array_is, object_inj, number_object, found_read}
 use Rattle.city_canonical.proofs.Places.{Show, shown_shape, shows_read, shows_written}
-use Rattle.city_canonical.proofs.Plain.{IsPlain, ArePlain, vertices_plain, itself, plain_decoded}
+use Rattle.city_canonical.proofs.Plain.{ArePlain, vertices_plain, itself, plain_decoded}
 use Rattle.city_canonical.proofs.Vertices.{vertex_at, vertices_once}
 use Rattle.city_canonical.proofs.Used.{has_repeats, has_flat, shape_part, shown_at, entry_found}
 use Rattle.city_canonical.proofs.Transforms.{IsFrameOf, frame_parts, transform_same}
@@ -85,21 +84,24 @@ city_parts d c h =
     let texts = and_parts (is_text (codes "CityJSON") (get (codes "type") d)) (is_text (codes "2.0") (get (codes "version") d)) s.json in
     let objects = and_then_some as_object (get (codes "CityObjects") d) _ s.objects in
     let vertices = and_then_some points_of (get (codes "vertices") d) _ s.points in
-    let items = and_then_some (read_items point_of) (as_array vertices.0) _ vertices.2 in
-    (top.0, is, record {
-      type = ap (get (codes "type")) (sym is) ∙ text_is (codes "CityJSON") (get (codes "type") d) texts.0;
-      version = ap (get (codes "version")) (sym is) ∙ text_is (codes "2.0") (get (codes "version") d) texts.1;
-      frame = frame_parts top.0 c.0 top.2;
-      objs = _;
-      objects = ap (get (codes "CityObjects")) (sym is) ∙ objects.1 ∙ ap Some (object_is objects.0 _ objects.2);
-      dvs = items.0;
-      vertices = ap (get (codes "vertices")) (sym is) ∙ vertices.1 ∙ ap Some (array_is vertices.0 items.0 items.1);
-      ps = _;
-      points = items.2;
-      list = s.list;
-      entries_are = s.entries;
-      made = s.made;
-    })
+    let items = and_then_some (read_items point_of) (as_array vertices.0) _ vertices.2 in (
+      top.0,
+      is,
+      record {
+        type = ap (get (codes "type")) (sym is) ∙ text_is (codes "CityJSON") (get (codes "type") d) texts.0;
+        version = ap (get (codes "version")) (sym is) ∙ text_is (codes "2.0") (get (codes "version") d) texts.1;
+        frame = frame_parts top.0 c.0 top.2;
+        objs = _;
+        objects = ap (get (codes "CityObjects")) (sym is) ∙ objects.1 ∙ ap Some (object_is objects.0 _ objects.2);
+        dvs = items.0;
+        vertices = ap (get (codes "vertices")) (sym is) ∙ vertices.1 ∙ ap Some (array_is vertices.0 items.0 items.1);
+        ps = _;
+        points = items.2;
+        list = s.list;
+        entries_are = s.entries;
+        made = s.made;
+      },
+    )
 
 -- ---- the top was read of an object
 

@@ -3,7 +3,7 @@ use Rattle.std.specs.Prelude.{◌≡◌, ℕ, List, Bool, true, false, Option, S
 use Rattle.std.specs.declared.cmp.Ordering.TheVariants.{Less}
 use Rattle.std.specs.Ordering.{nat_cmp}
 use Rattle.std.specs.Cmp.Lexicographic.{slice_cmp}
-use Rattle.json.specs.Json.{Json, null, boolean, number, string, array, object, Items, no_items, item}
+use Rattle.json.specs.Json.{Json, null, boolean, number, string, array, object, no_items, item}
 use Rattle.json.specs.Json.{Members, no_members, member}
 use Rattle.json.specs.Find.{get}
 use Rattle.city_model.specs.CityMap.{has_id}

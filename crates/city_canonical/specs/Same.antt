@@ -2,7 +2,7 @@
 -- repeated one the last value stays, empty lists are left out, vertices have other positions, each vertex is there
 -- once, and those that no geometry has are dropped (CityJSON 2.0, sections 2 and 3).
 use Rattle.std.specs.Prelude.{◌≡◌, ◌⊎◌, ℕ, List, [], ◌∷◌, Option, Some, None, option_map, option_and_then, codes}
-use Rattle.json.specs.Json.{Json, null, boolean, number, string, array, object, Items, no_items, item, Members}
+use Rattle.json.specs.Json.{Json, null, boolean, number, string, array, object, Items, no_items, item}
 use Rattle.json.specs.Find.{get, get_item}
 use Rattle.city_canonical.specs.Members.{IsSameBeside, unless_empty, IsSameList, IsInOrder}
 use Rattle.city_canonical.specs.Placed.{list_at, placed}
