@@ -8,3 +8,4 @@ pub mod Texts
 pub mod OneLine
 pub mod Streams
 pub mod Starts
+pub mod Objects

@@ -1,5 +1,6 @@
 -- What is written, a turn of the grammar's loops at a time.
-use Rattle.std.proofs.Common.{◌≡◌, ℕ, ◌-◌, ◌<◌, ◌≤◌, List, [], ◌∷◌, ◌++◌, length, Option, Some, None, option_and_then, refl, sym, ap, ◌∙◌}
+use Rattle.std.proofs.Common.{◌≡◌, ℕ, ◌-◌, ◌<◌, ◌≤◌, List, [], ◌∷◌, ◌++◌, length, Option, Some, None}
+use Rattle.std.proofs.Common.{option_and_then, refl, sym, ap, ◌∙◌}
 use Rattle.std.proofs.Common.{append_assoc}
 use Rattle.json.specs.Token.{Token}
 use Rattle.json.specs.Json.{Json, Items, no_items, item, Members, no_members, member, Parse, parse_map}
@@ -22,63 +23,89 @@ module _ {A : Type 0} (f : A → List Token) where
       let same = Some_inj (out ++ f p.0, p.1) (now, r) e in
       (p.0, ap (λ q. Some (p.0, q.1)) same, ap (λ q. q.0) (sym same))
 
-  pub none_written : (out now : List Token) (o : Option (A × List Token)) (s : Option (A × List Token)) → written f out o ≡ written f now s → s ≡ None → o ≡ None
+  pub none_written : (out now : List Token) (o : Option (A × List Token)) (s : Option (A × List Token))
+      → written f out o ≡ written f now s → s ≡ None → o ≡ None
   none_written out now None s e h = refl
   none_written out now (Some p) s e h = not_found (out ++ f p.0, p.1) (sym (e ∙ ap (written f now) h))
 
   -- another way to say the same of what was read
-  pub written_as : (g : A → List Token) (out now : List Token) (o : Option (A × List Token)) (r : List Token) → written f out o ≡ Some (now, r)
+  pub written_as : (g : A → List Token) (out now : List Token) (o : Option (A × List Token)) (r : List Token)
+      → written f out o ≡ Some (now, r)
       → ((a : A) → o ≡ Some (a, r) → g a ≡ f a) → written g out o ≡ Some (now, r)
   written_as g out now o r e same =
       let a = was_read out now o r e in
       ap (written g out) a.1 ∙ ap (λ ts. Some (ts, r)) (ap (λ ts. out ++ ts) (same a.0 a.1) ∙ sym a.2)
 
   -- a token before it and one after it
-  pub written_between : (g : A → List Token) (s t : Token) (out now : List Token) (o : Option (A × List Token)) (r : List Token) → written f (out ++ s ∷ []) o ≡ Some (now, r)
+  pub written_between : (g : A → List Token) (s t : Token) (out now : List Token) (o : Option (A
+      × List Token)) (r : List Token) → written f (out ++ s ∷ []) o ≡ Some (now, r)
       → ((a : A) → o ≡ Some (a, r) → g a ≡ s ∷ (f a ++ t ∷ [])) → written g out o ≡ Some (now ++ t ∷ [], r)
   written_between g s t out now o r e same =
       let a = was_read (out ++ s ∷ []) now o r e in
       ap (written g out) a.1 ∙ ap (λ ts. Some (ts, r)) (ap (λ ts. out ++ ts) (same a.0 a.1)
-      ∙ sym (append_assoc out (s ∷ []) (f a.0 ++ t ∷ [])) ∙ sym (append_assoc (out ++ s ∷ []) (f a.0) (t ∷ [])) ∙ ap (λ ts. ts ++ t ∷ []) (sym a.2))
+      ∙ sym (append_assoc out (s ∷ []) (f a.0 ++ t ∷ [])) ∙ sym (append_assoc (out ++ s ∷ []) (f a.0) (t ∷ []))
+      ∙ ap (λ ts. ts ++ t ∷ []) (sym a.2))
 
   -- a token before all else
-  pub token_first : {B : Type 0} (h : A → B) (g : B → List Token) (t : Token) → ((a : A) → g (h a) ≡ t ∷ f a) → (out : List Token) (o : Option (A × List Token))
+  pub token_first : {B : Type 0} (h : A → B) (g : B → List Token) (t : Token) → ((a : A) → g (h a) ≡ t ∷ f a)
+      → (out : List Token) (o : Option (A × List Token))
       → written g out (parse_map h o) ≡ written f (out ++ t ∷ []) o
   token_first h g t is out None = refl
-  token_first h g t is out (Some p) = ap (λ ts. Some (ts, p.1)) (ap (λ ts. out ++ ts) (is p.0) ∙ sym (append_assoc out (t ∷ []) (f p.0)))
+  token_first h g t is out (Some p) = ap (λ ts. Some (ts, p.1)) (ap (λ ts. out ++ ts) (is p.0)
+      ∙ sym (append_assoc out (t ∷ []) (f p.0)))
+
+-- what is written of a value is what is written of what it was made of
+pub written_under : {A B : Type 0} (h : A → B) (g : B
+    → List Token) (out : List Token) (o : Option (A × List Token))
+    → written g out (parse_map h o) ≡ written (λ a. g (h a)) out o
+written_under h g out None = refl
+written_under h g out (Some p) = refl
 
 -- a value takes at least one token
-pub value_shorter : (f : Json → List Token) (d : ℕ) (out now ts r : List Token) → written f out (value d ts) ≡ Some (now, r) → length r < length ts
-value_shorter f d out now ts r e = skip_value-shorter d ts r (sym (left-parse_map (λ j. out ++ f j) (value d ts)) ∙ ap left e)
+pub value_shorter : (f : Json → List Token) (d : ℕ) (out now ts r : List Token)
+    → written f out (value d ts) ≡ Some (now, r) → length r < length ts
+value_shorter f d out now ts r e = skip_value-shorter d ts r (sym (left-parse_map (λ j. out ++ f j) (value d ts))
+    ∙ ap left e)
 
-module _ (p : Parse Json) (f : Json → List Token) (g : Items → List Token) (is : (j : Json) (js : Items) → g (item j js) ≡ f j ++ g js) where
-  after_item : (j : Json) (out now : List Token) → now ≡ out ++ f j → (o : Option (Items × List Token)) → written g out (parse_map (item j) o) ≡ written g now o
+module _ (p : Parse Json) (f : Json → List Token) (g : Items → List Token) (is : (j : Json) (js : Items)
+    → g (item j js) ≡ f j ++ g js) where
+  after_item : (j : Json) (out now : List Token) → now ≡ out ++ f j → (o : Option (Items × List Token))
+      → written g out (parse_map (item j) o) ≡ written g now o
   after_item j out now e None = refl
-  after_item j out now e (Some q) = ap (λ ts. Some (ts, q.1)) (ap (λ ts. out ++ ts) (is j q.0) ∙ sym (append_assoc out (f j) (g q.0)) ∙ ap (λ ts. ts ++ g q.0) (sym e))
+  after_item j out now e (Some q) = ap (λ ts. Some (ts, q.1)) (ap (λ ts. out ++ ts) (is j q.0)
+      ∙ sym (append_assoc out (f j) (g q.0)) ∙ ap (λ ts. ts ++ g q.0) (sym e))
 
-  pub item_written : (n : ℕ) (out now ts r : List Token) → 0 < n → after_end_array ts ≡ None → written f out (p ts) ≡ Some (now, r)
+  pub item_written : (n : ℕ) (out now ts r : List Token) → 0 < n → after_end_array ts ≡ None
+      → written f out (p ts) ≡ Some (now, r)
       → written g out (items p n ts) ≡ written g now (items p (n - 1) r)
   item_written n out now ts r some going e =
       let j = was_read f out now (p ts) r e in
       ap (written g out) (items_more p n ts r j.0 some going j.1) ∙ after_item j.0 out now j.2 _
 
-  pub items_over : (n : ℕ) (out ts r : List Token) → length ts ≤ n → after_end_array ts ≡ Some r → written g out (items p n ts) ≡ Some (out ++ g no_items, r)
+  pub items_over : (n : ℕ) (out ts r : List Token) → length ts ≤ n → after_end_array ts ≡ Some r
+      → written g out (items p n ts) ≡ Some (out ++ g no_items, r)
   items_over n out ts r enough e = ap (written g out) (items_end p n ts r enough e)
 
-module _ (p : Parse Json) (f : List ℕ → Json → List Token) (g : Members → List Token) (is : (k : List ℕ) (j : Json) (ms : Members) → g (member k j ms) ≡ Token.key k ∷ (f k j ++ g ms)) where
-  after_member : (k : List ℕ) (j : Json) (out now : List Token) → now ≡ (out ++ Token.key k ∷ []) ++ f k j → (o : Option (Members × List Token)) → written g out (parse_map (member k j) o) ≡ written g now o
+module _ (p : Parse Json) (f : List ℕ → Json → List Token) (g : Members
+    → List Token) (is : (k : List ℕ) (j : Json) (ms : Members)
+    → g (member k j ms) ≡ Token.key k ∷ (f k j ++ g ms)) where
+  after_member : (k : List ℕ) (j : Json) (out now : List Token) → now ≡ (out ++ Token.key k ∷ []) ++ f k j
+      → (o : Option (Members × List Token)) → written g out (parse_map (member k j) o) ≡ written g now o
   after_member k j out now e None = refl
   after_member k j out now e (Some q) =
-      ap (λ ts. Some (ts, q.1)) (ap (λ ts. out ++ ts) (is k j q.0) ∙ sym (append_assoc out (Token.key k ∷ []) (f k j ++ g q.0))
+      ap (λ ts. Some (ts, q.1)) (ap (λ ts. out ++ ts) (is k j q.0)
+      ∙ sym (append_assoc out (Token.key k ∷ []) (f k j ++ g q.0))
       ∙ sym (append_assoc (out ++ Token.key k ∷ []) (f k j) (g q.0)) ∙ ap (λ ts. ts ++ g q.0) (sym e))
 
-  pub member_written : (n : ℕ) (k : List ℕ) (out now ts s r : List Token) → 0 < n → read_key ts ≡ Some (Some k, s) → written (f k) (out ++ Token.key k ∷ []) (p s) ≡ Some (now, r)
+  pub member_written : (n : ℕ) (k : List ℕ) (out now ts s r : List Token) → 0 < n
+      → read_key ts ≡ Some (Some k, s) → written (f k) (out ++ Token.key k ∷ []) (p s) ≡ Some (now, r)
       → written g out (members p n ts) ≡ written g now (members p (n - 1) r)
   member_written n k out now ts s r some key e =
       let j = was_read (f k) (out ++ Token.key k ∷ []) now (p s) r e in
       ap (written g out) (members_more p n k ts s r j.0 some key j.1) ∙ after_member k j.0 out now j.2 _
 
-  pub members_over : (n : ℕ) (out ts r : List Token) → length ts ≤ n → read_key ts ≡ Some (None, r) → written g out (members p n ts) ≡ Some (out ++ g no_members, r)
+  pub members_over : (n : ℕ) (out ts r : List Token) → length ts ≤ n → read_key ts ≡ Some (None, r)
+      → written g out (members p n ts) ≡ Some (out ++ g no_members, r)
   members_over n out ts r enough e = ap (written g out) (members_end p n ts r enough e)
 
 -- a whole text that was read
@@ -89,8 +116,17 @@ pub record IsWhole (f : Json → List Token) (text : List ℕ) (now : List Token
   pub shallow : depth j ≤ max_depth
   pub now_is : now ≡ f j
 
-pub whole_read : (f : Json → List Token) (text : List ℕ) (now r : List Token) → r ≡ [] → written f [] (value max_depth (tokens text)) ≡ Some (now, r) → IsWhole f text now
+pub whole_read : (f : Json → List Token) (text : List ℕ) (now r : List Token) → r ≡ []
+    → written f [] (value max_depth (tokens text)) ≡ Some (now, r) → IsWhole f text now
 whole_read f text now r end e =
     let a = was_read f [] now (value max_depth (tokens text)) r e in
-    let is : document text ≡ Some a.0 = ap (option_and_then (λ p. if_last p.0 p.1)) (a.1 ∙ ap (λ s. Some (a.0, s)) end) in
-    record { j = a.0; is = is; numbers = document-HasNumbers text a.0 is; shallow = value-depth max_depth (tokens text) r a.0 a.1; now_is = a.2 }
+    let is : document text ≡ Some a.0 = ap (option_and_then (λ p. if_last p.0 p.1)) (a.1
+    ∙ ap (λ s. Some (a.0, s)) end) in
+    record {
+      j = a.0;
+      is = is;
+      numbers = document-HasNumbers text a.0 is;
+      shallow = value-depth max_depth
+          (tokens text) r a.0 a.1;
+      now_is = a.2;
+    }

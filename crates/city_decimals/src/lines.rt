@@ -2,8 +2,9 @@
 ghost use Rattle.std.specs.Prelude.{◌≡◌, IfOk, IfErr};
 ghost use Rattle.city_decimals.specs.Lines.{IsFirstNewline, AreDecodedLines, IsLinesFault};
 
-use crate::decoding::decode;
+use crate::decoding::decode_onto;
 use crate::fault::DecimalsFault;
+use json::Scratch;
 use memchr::memchr;
 use std::alloc::Global;
 
@@ -12,11 +13,11 @@ pub fn decode_lines(alloc: Global, bytes: &[u8]) -> Result<Vec<u8>, DecimalsFaul
     ensures decoded { IfOk result (λ out. AreDecodedLines bytes.now out.items) }
     ensures fault { IfErr result (λ f. IsLinesFault bytes.now f) }
 {
+    let mut scratch = Scratch::new(alloc);
     let mut out = Vec::with_capacity(alloc, bytes.len())?;
     let mut rest = bytes;
     while let Some(at) = first_newline(rest) {
-        let line = decode(alloc, &rest[..at])?;
-        out.extend_from_slice(line.as_slice())?;
+        out = decode_onto(alloc, &rest[..at], &mut scratch, out)?;
         out.extend_from_slice(b"\n")?;
         rest = &rest[at + 1..];
     }

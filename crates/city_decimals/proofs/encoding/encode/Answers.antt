@@ -14,7 +14,8 @@ pub returns-clause-lossless : goal.returns-clause-lossless
 returns-clause-lossless c =
     let f : Json → List Token = λ j. json_tokens (encoded_top j) in
     let over : c.encode_top.new.reader ≡ [] = grind arith in
-    let read : written f [] (value max_depth (tokens c.args.bytes.now)) ≡ Some (c.encode_top.new.out.tokens, c.encode_top.new.reader) = search rules in
+    let read : written f [] (value max_depth (tokens c.args.bytes.now))
+    ≡ Some (c.encode_top.new.out.tokens, c.encode_top.new.reader) = search rules in
     let w = whole_read f c.args.bytes.now _ _ over read in
     let text : c.into_inner.result.items ≡ print (json_tokens (encoded_top w.j)) = search (rules, w.now_is) in
     lossless c.args.bytes.now w.j w.is w.numbers w.shallow c.into_inner.result.items text
@@ -23,7 +24,8 @@ pub returns-clause-whole : goal.returns-clause-whole
 returns-clause-whole c =
     let f : Json → List Token = λ j. json_tokens (encoded_top j) in
     let over : c.encode_top.new.reader ≡ [] = grind arith in
-    let read : written f [] (value max_depth (tokens c.args.bytes.now)) ≡ Some (c.encode_top.new.out.tokens, c.encode_top.new.reader) = search rules in
+    let read : written f [] (value max_depth (tokens c.args.bytes.now))
+    ≡ Some (c.encode_top.new.out.tokens, c.encode_top.new.reader) = search rules in
     let w = whole_read f c.args.bytes.now _ _ over read in
     let text : c.into_inner.result.items ≡ print (json_tokens (encoded_top w.j)) = search (rules, w.now_is) in
     whole_text w.j w.numbers c.into_inner.result.items text
@@ -32,7 +34,8 @@ pub returns-clause-read : goal.returns-clause-read
 returns-clause-read c =
     let f : Json → List Token = λ j. json_tokens (encoded_top j) in
     let over : c.encode_top.new.reader ≡ [] = grind arith in
-    let read : written f [] (value max_depth (tokens c.args.bytes.now)) ≡ Some (c.encode_top.new.out.tokens, c.encode_top.new.reader) = search rules in
+    let read : written f [] (value max_depth (tokens c.args.bytes.now))
+    ≡ Some (c.encode_top.new.out.tokens, c.encode_top.new.reader) = search rules in
     let w = whole_read f c.args.bytes.now _ _ over read in
     let text : c.into_inner.result.items ≡ print (json_tokens (encoded_top w.j)) = search (rules, w.now_is) in
     text_read w.j w.numbers c.into_inner.result.items text

@@ -14,16 +14,15 @@ loop-at-preserved c =
     let all = l.rest.now in
     let n = c.in-Some.at in
     let line = take n all in
-    let made = c.in_ok-line.line.items in
+    let d = c.in_ok-out-2.ensures.decoded in
+    let made = d.0 in
     let after = take (length all - (n + 1)) (drop (n + 1) all) in
     let found = c.in-Some.ensures in
     let same : after ≡ drop (n + 1) all = take_all (length all - (n + 1)) (drop (n + 1) all) (omega
     (arith, length-drop (n + 1) all)) in
     let all_is : all ≡ line ++ 10 ∷ after = rest_of all n found.0 found.1 ∙ ap (λ t. line ++ 10 ∷ t) (sym same) in
-    let written : c.extend_from_slice-in-Some.new.self.items
-    ≡ l.out.items ++ (made ++ 10 ∷ []) = c.in_ok-extend_from_slice-2.ensures.items
-    ∙ ap (λ t. t ++ 10 ∷ []) (c.in_ok-extend_from_slice.ensures.items
-    ∙ ap (λ t. l.out.items ++ t) c.as_slice.ensures.value) ∙ append_assoc l.out.items made (10 ∷ []) in
+    let written : c.extend_from_slice.new.self.items ≡ l.out.items ++ (made ++ 10 ∷ [])
+    = c.in_ok-extend_from_slice.ensures.items ∙ ap (λ t. t ++ 10 ∷ []) d.3 ∙ append_assoc l.out.items made (10 ∷ []) in
     record {
       done = (
         l.invariant.done.0 ++ (line ++ 10 ∷ []),
@@ -32,7 +31,7 @@ loop-at-preserved c =
       );
       ready = λ more h.
           let one = subst (λ r. AreDecodedLines r (made
-          ++ 10 ∷ more)) (sym all_is) (one_line line made after more found.2 c.in_ok-line.ensures.decoded h) in
+          ++ 10 ∷ more)) (sym all_is) (one_line line made after more found.2 d.1 h) in
           subst (AreDecodedLines c.args.bytes.now) (done_with l.out.items made more
           ∙ ap (λ t. t ++ more) (sym written)) (l.invariant.ready (made ++ 10 ∷ more) one);
     }
@@ -42,8 +41,8 @@ fault_kept : {T : Type 0} (r : Result T DecimalsFault) (x : DecimalsFault) (P : 
 fault_kept (Ok t) x P h p = absurd h
 fault_kept (Err e) x P h p = subst P (sym h) p
 
-pub returns-in_err-line-clause-fault : goal.returns-in_err-line-clause-fault
-returns-in_err-line-clause-fault c =
+pub returns-in_err-out-2-clause-fault : goal.returns-in_err-out-2-clause-fault
+returns-in_err-out-2-clause-fault c =
     let l = c.loop-at in
     let all = l.rest.now in
     let n = c.in-Some.at in
@@ -52,6 +51,6 @@ returns-in_err-line-clause-fault c =
     let fault : (f : DecimalsFault) → IsDecimalsFault (take n all) f
     → IsLinesFault c.args.bytes.now f = λ f. line_fault c.args.bytes.now l.invariant.done.0 (take n all) (drop
     (n + 1) all) f text in
-    fault_kept c.from_residual-in_err-line.result c.in_err-line.field-0.0
-    (IsLinesFault c.args.bytes.now) c.from_residual-in_err-line.ensures.1
-    (fault c.in_err-line.field-0.0 c.in_err-line.ensures.fault)
+    fault_kept c.from_residual-in_err-out-2.result c.in_err-out-2.field-0.0
+    (IsLinesFault c.args.bytes.now) c.from_residual-in_err-out-2.ensures.1
+    (fault c.in_err-out-2.field-0.0 c.in_err-out-2.ensures.fault)

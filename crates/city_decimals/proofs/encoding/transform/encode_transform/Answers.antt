@@ -17,7 +17,11 @@ returns-clause-ok c =
     let j = value_view c.in_ok-value.value in
     let v = json_tokens (encoded j) in
     let w = c.form_of-form.result in
-    let tokens = c.in_ok-end_form.ensures.tokens ∙ ap (λ ts. ts ++ tokens_after w) (c.in_ok-encode_tree.ensures.tokens ∙ ap (λ ts. ts ++ v) c.in_ok-begin_form.ensures.tokens)
-    ∙ append_assoc (out ++ tokens_before w) v (tokens_after w) ∙ append_assoc out (tokens_before w) (v ++ tokens_after w)
-    ∙ ap (λ ts. out ++ ts) (around w (encoded j) ∙ ap (λ u. json_tokens (in_form u (encoded j))) c.form_of-form.ensures) in
+    let tokens = c.in_ok-end_form.ensures.tokens
+    ∙ ap (λ ts. ts ++ tokens_after w) (c.in_ok-encode_tree.ensures.tokens
+    ∙ ap (λ ts. ts ++ v) c.in_ok-begin_form.ensures.tokens)
+    ∙ append_assoc (out ++ tokens_before w) v (tokens_after w)
+    ∙ append_assoc out (tokens_before w) (v ++ tokens_after w)
+    ∙ ap (λ ts. out ++ ts) (around w (encoded j)
+    ∙ ap (λ u. json_tokens (in_form u (encoded j))) c.form_of-form.ensures) in
     ap (written f out) c.in_ok-value.ensures.ok ∙ ap (λ us. Some (us, c.read.new.reader)) (sym tokens)

@@ -24,15 +24,18 @@ returns-in_ok-begin_object-in-BeginObject-clause-ok c =
     let ts = c.next.new.self in
     let read = members (value 127) (length ts) ts in
     let first : c.args.reader.now ≡ token_of c.in_ok-token.token ∷ ts = grind arith in
-    let opened = ap (value 128) (first ∙ ap (λ k. token_of k ∷ ts) c.in-BeginObject.is) ∙ value-begin_object 128 ts (omega arith) in
-    on_ok_weaker c.encode_members.result (λ e. ap (written f out) opened ∙ token_first g object f Token.begin_object (λ ms. refl) out read
+    let opened = ap (value 128) (first ∙ ap (λ k. token_of k ∷ ts) c.in-BeginObject.is)
+    ∙ value-begin_object 128 ts (omega arith) in
+    on_ok_weaker c.encode_members.result (λ e. ap (written f out) opened
+    ∙ token_first g object f Token.begin_object (λ ms. refl) out read
     ∙ ap (λ us. written g us read) (sym c.in_ok-begin_object-in-BeginObject.ensures.ok) ∙ e) c.encode_members.ensures.ok
 
 pub returns-in_ok-begin_object-in-BeginObject-clause-err : goal.returns-in_ok-begin_object-in-BeginObject-clause-err
 returns-in_ok-begin_object-in-BeginObject-clause-err c refused =
     let ts = c.next.new.self in
     let first : c.args.reader.now ≡ token_of c.in_ok-token.token ∷ ts = grind arith in
-    ap (value 128) (first ∙ ap (λ k. token_of k ∷ ts) c.in-BeginObject.is) ∙ value-begin_object 128 ts (omega arith) ∙ ap (parse_map object) (c.encode_members.ensures.err (grind arith))
+    ap (value 128) (first ∙ ap (λ k. token_of k ∷ ts) c.in-BeginObject.is)
+    ∙ value-begin_object 128 ts (omega arith) ∙ ap (parse_map object) (c.encode_members.ensures.err (grind arith))
 
 pub returns-in_default : goal.returns-in_default
 returns-in_default c =

@@ -3,7 +3,7 @@ use Rattle.std.specs.Borrow.{Bor}
 use Rattle.json.specs.Value.{value_view, members_view}
 use Rattle.json.specs.declared.value.Value.{Value}
 use Rattle.city_decimals.specs.Decoded.{number_in, number_under}
-use Rattle.city_decimals.proofs.decoding.number_in.Goals as goal
+use Rattle.city_decimals.proofs.decoding.tree.number_in.Goals as goal
 
 other : {A : Type 0} (ms : List (Bor (List ℕ) × Value A)) → length ms ≢ 1 → None ≡ number_in (members_view ms)
 other [] h = refl

@@ -4,7 +4,7 @@ use Rattle.json.specs.Value.{value_view, items_view}
 use Rattle.json.specs.declared.value.Value.{Value}
 use Rattle.json.proofs.Trees.{view-Array}
 use Rattle.city_decimals.specs.Shapes.{only}
-use Rattle.city_decimals.proofs.decoding.only.Goals as goal
+use Rattle.city_decimals.proofs.decoding.inner.only.Goals as goal
 
 several : {A : Type 0} (vs : List (Value A)) → length vs ≢ 1 → array (items_view vs) ≡ only (array (items_view vs))
 several [] h = refl

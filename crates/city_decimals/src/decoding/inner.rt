@@ -1,0 +1,51 @@
+//! What stands in the form of a member.
+ghost use Rattle.std.specs.Prelude.{◌≡◌};
+ghost use Rattle.json.specs.Value.{value_view};
+ghost use Rattle.city_decimals.specs.Shapes.{only};
+ghost use Rattle.city_decimals.specs.Inner.{front, inner};
+
+use crate::shapes::{is_tag, is_transform};
+use json::Value;
+
+/// What is decoded for a member: what stands in its form.
+pub(super) fn inner<'v, 'a>(top: bool, key: &str, value: &'v Value<'a>) -> &'v Value<'a>
+    ensures { value_view result.now ≡ inner top key.now (value_view value.now) }
+{
+    if top && is_transform(key, value) {
+        front(value)
+    } else if is_tag(key) {
+        only(value)
+    } else {
+        value
+    }
+}
+
+/// What stands under the tag in front, where something does.
+fn front<'v, 'a>(value: &'v Value<'a>) -> &'v Value<'a>
+    ensures { value_view result.now ≡ front (value_view value.now) }
+{
+    match value {
+        Value::Object(members) => {
+            if members.is_empty() {
+                return value;
+            }
+            let member = &members[0];
+            if is_tag(member.0) {
+                only(&member.1)
+            } else {
+                value
+            }
+        }
+        _ => value,
+    }
+}
+
+/// The item of an array that has one.
+fn only<'v, 'a>(value: &'v Value<'a>) -> &'v Value<'a>
+    ensures { value_view result.now ≡ only (value_view value.now) }
+{
+    match value {
+        Value::Array(items) => if items.len() == 1 { &items[0] } else { value },
+        _ => value,
+    }
+}

@@ -1,0 +1,31 @@
+//! The transform of a document.
+ghost use Rattle.std.specs.Prelude.{◌≡◌, OnOk, true, Some, None, Err, codes};
+ghost use Rattle.json.specs.Json.{value};
+ghost use Rattle.json.specs.Tree.{json_tokens};
+ghost use Rattle.city_decimals.specs.Decoded.{decoded, out_of_form};
+ghost use Rattle.city_decimals.specs.Streams.{written};
+ghost use Rattle.city_decimals.specs.declared.fault.DecimalsFault.TheVariants.{NotJson};
+
+use super::inner::inner;
+use super::tree::decode_tree;
+use crate::fault::DecimalsFault;
+use json::{Reader, Value, Writer};
+use std::alloc::Global;
+
+/// Writes the next value, that of a `transform` at the top, decoded and out of its frame.
+#[inline(never)]
+pub(super) fn decode_transform(
+    alloc: Global,
+    reader: &mut Reader<'_>,
+    depth: usize,
+    out: &mut Writer,
+) -> Result<(), DecimalsFault>
+    ensures before { OnOk result (out.new.before ≡ out.old.before) }
+    ensures ok { OnOk result (written (λ j. json_tokens (out_of_form true (codes "transform") j (decoded j)))
+        out.old.tokens (value depth reader.old) ≡ Some (out.new.tokens, reader.new)) }
+    ensures err { result ≡ Err NotJson → value depth reader.old ≡ None }
+{
+    let value = Value::read(alloc, reader, depth)?;
+    decode_tree(inner(true, "transform", &value), out)?;
+    Ok(())
+}

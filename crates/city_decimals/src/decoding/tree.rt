@@ -1,0 +1,97 @@
+//! A tree, decoded.
+ghost use Rattle.std.specs.Prelude.{◌≡◌, ◌++◌, false, OnOk, option_map, IfSome};
+ghost use Rattle.json.specs.Print.{IsNumber};
+ghost use Rattle.json.specs.Tree.{json_tokens, items_tokens, members_tokens, HasNumbers, ItemsHaveNumbers};
+ghost use Rattle.json.specs.Tree.{MembersHaveNumbers};
+ghost use Rattle.json.specs.Value.{value_view, items_view, members_view};
+ghost use Rattle.city_decimals.specs.Decoded.{number_in, number_under, decoded, decoded_items, decoded_object};
+
+use super::inner::inner;
+use crate::numbers::is_number;
+use crate::shapes::is_tag;
+use json::{Value, Writer};
+use std::alloc::AllocError;
+
+/// Writes a decoded value.
+#[cycle(decode)]
+pub(super) fn decode_tree(value: &Value<'_>, out: &mut Writer) -> Result<(), AllocError>
+    requires numbers { HasNumbers (value_view value.now) }
+    ensures before { OnOk result (out.new.before ≡ out.old.before) }
+    ensures tokens { OnOk result (out.new.tokens
+        ≡ out.old.tokens ++ json_tokens (decoded (value_view value.now))) }
+{
+    match value {
+        Value::Null => out.null(),
+        Value::Bool(b) => out.boolean(*b),
+        Value::Number(text) => out.number(text),
+        Value::String(text) => out.string(text),
+        Value::Array(items) => {
+            out.begin_array()?;
+            decode_tree_items(items, out)
+        }
+        Value::Object(members) => decode_tree_object(members, out),
+    }
+}
+
+/// Writes decoded items, and the bracket that closes them.
+#[cycle(decode)]
+fn decode_tree_items(items: &Vec<Value<'_>>, out: &mut Writer) -> Result<(), AllocError>
+    requires numbers { ItemsHaveNumbers (items_view items.now.items) }
+    ensures before { OnOk result (out.new.before ≡ out.old.before) }
+    ensures tokens { OnOk result (out.new.tokens
+        ≡ out.old.tokens ++ items_tokens (decoded_items (items_view items.now.items))) }
+{
+    for item in items {
+        decode_tree(item, out)?;
+    }
+    out.end_array()
+}
+
+/// Writes what the members of an object are decoded as: an object, or the number that they encode.
+#[cycle(decode)]
+fn decode_tree_object<'a>(
+    members: &Vec<(&'a str, Value<'a>)>,
+    out: &mut Writer,
+) -> Result<(), AllocError>
+    requires numbers { MembersHaveNumbers (members_view members.now.items) }
+    ensures before { OnOk result (out.new.before ≡ out.old.before) }
+    ensures tokens { OnOk result (out.new.tokens
+        ≡ out.old.tokens ++ json_tokens (decoded_object false (members_view members.now.items))) }
+{
+    if let Some(text) = number_in(members) {
+        return out.number(text);
+    }
+    out.begin_object()?;
+    for member in members {
+        out.key(member.0)?;
+        decode_tree(inner(false, member.0, &member.1), out)?;
+    }
+    out.end_object()
+}
+
+/// The number that the members encode.
+fn number_in<'a>(members: &Vec<(&'a str, Value<'a>)>) -> Option<&'a str>
+    ensures value { option_map (λ s. s.now) result ≡ number_in (members_view members.now.items) }
+    ensures number { IfSome result (λ s. IsNumber s.now) }
+{
+    if members.len() != 1 {
+        return None;
+    }
+    let member = &members[0];
+    number_under(member.0, &member.1)
+}
+
+/// The number that a member encodes.
+fn number_under<'a>(key: &str, value: &Value<'a>) -> Option<&'a str>
+    ensures value { option_map (λ s. s.now) result ≡ number_under key.now (value_view value.now) }
+    ensures number { IfSome result (λ s. IsNumber s.now) }
+{
+    match value {
+        Value::String(text) => if is_tag(key) && is_number(text) {
+            Some(*text)
+        } else {
+            None
+        },
+        _ => None,
+    }
+}
