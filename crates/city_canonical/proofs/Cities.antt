@@ -1,6 +1,6 @@
 -- The city objects that were read of encoded ones are written, each under its id.
 use Rattle.std.proofs.Common.{◌≡◌, ℕ, ◌<◌, List, [], ◌∷◌, length, Bool, true, false, cond, Option, Some, None, Ordering, Less, Equal, Greater, nat_cmp, is_eq, codes, refl, sym, ap, subst, ◌∙◌}
-use Rattle.std.specs.Prelude.{◌^◌, ◌&&◌, flat_map, option_map, option_and_then}
+use Rattle.std.specs.Prelude.{◌^◌, ◌&&◌, flat_map, option_map}
 use Rattle.std.specs.Ordering.{match_ordering}
 use Rattle.std.specs.Cmp.Lexicographic.{slice_cmp}
 use Rattle.std.specs.FinMap.{entries}
@@ -10,7 +10,7 @@ use Rattle.json.specs.Json as json
 use Rattle.json.specs.Find as look
 use Rattle.json.specs.Tree.{HasNumbers}
 use Rattle.json.proofs.Found.{Some_inj, not_found}
-use Rattle.serde_json.specs.Data.{Data, null, boolean, number, string, array, object, Items, no_items, item, Members, no_members, member}
+use Rattle.serde_json.specs.Data.{Data, null, boolean, number, string, array, object, Members, no_members, member}
 use Rattle.serde_json.specs.Find.{get_member}
 use Rattle.serde_json.specs.Read.{number_of, of_json, of_items, of_members}
 use Rattle.serde_json.specs.Written.{outline, members_outline}
@@ -29,7 +29,10 @@ use Rattle.city_doc.specs.object.Bodies.{object_of}
 use Rattle.city_doc.specs.object.Canonical.{object_data, objects_data}
 use Rattle.city_doc.proofs.Options.{and_then_some, map_some}
 use Rattle.city_doc.proofs.Laws.{is_in, are_in, points_in_pool, in_turn, written_in_turn, ordered_in_turn, at_listed, found}
-use Rattle.city_canonical.specs.Same.{Ascend, IsSameObject, IsSameObjectOrNone}
+use Rattle.city_canonical.specs.Members.{Ascend}
+use Rattle.city_canonical.specs.Same.{IsSameObjectOrNone}
+use Rattle.city_canonical.specs.Placed.{list_at}
+use Rattle.city_canonical.proofs.Geometries.{AreShown}
 use Rattle.city_canonical.proofs.CityObjects.{object_same, object_decoded}
 use Rattle.city_canonical.proofs.Members.{IsRead, member_read, in_shield, in_plain, value_at, read_members, decoded_members_at, Numbers, numbers_at}
 use Rattle.city_canonical.proofs.Objects.{ascend_decoded, IsObject, object_inj, decoded_object}
@@ -141,8 +144,26 @@ module _ (vs ws : json.Items) (ps : List Point) (c : CityValue) (small : length 
         let within = points_within pool (entries c.1) id f.0 (points_in_pool (city_points c)) here in
         let o = object_decoded pool f.0 in
         let value = turn_found id (Some f.0) here ∙ ap Some (only_object (is_tag id) (decoded (outline (object_data pool f.0))) o.0 o.1) in
-        subst (IsSameObjectOrNone vs ws (Some j)) (sym value) (object_same vs ws ps pool small show show_written j is.0 f.0 numbers read f.1 within)
+        subst (IsSameObjectOrNone vs ws (Some j)) (sym value) (object_same vs ws ps pool small show show_written j is.0 f.0 numbers read f.1 within).0
 
     pub objects_same : (js : json.Members) → HasNumbers (json.object js) → of_members (encoded_members false js) no_members ≡ Some objs → (id : List ℕ)
         → IsSameObjectOrNone vs ws (look.get_member id js) (look.get_member id (decoded_members false (members_outline turn)))
     objects_same js numbers read id = object_step id (look.get_member id js) (numbers_at id js numbers) (read_members false id js objs read)
+
+    shown_step : (id : List ℕ) (o : Object) (j : Option json.Json) → Numbers j → IsRead false id None j (get_member id objs) → found_in (entries c.1) id ≡ Some o
+        → (h : json.Json) × (look.get_member id (decoded_members false (members_outline turn)) ≡ Some h) × AreShown ws (list_at (codes "geometry") h) o.body.geometry
+    shown_step id o None numbers is here = not_found o (sym (same_found id ∙ found_none ps objs es id listed is) ∙ here)
+    shown_step id o (Some j) numbers is here =
+        let f = found ps objs es id is.0 listed is.2 in
+        let same : f.0 ≡ o = Some_inj _ _ (sym f.2 ∙ sym (same_found id) ∙ here) in
+        let read = bare_read ps id j is.0 f.0 (is_tag id && is_text_or_array j) refl is.1 f.1 in
+        let stands : object_of ps is.0 ≡ Some o = f.1 ∙ ap Some same in
+        let within = points_within pool (entries c.1) id o (points_in_pool (city_points c)) here in
+        let d = object_decoded pool o in
+        let value = turn_found id (Some o) here ∙ ap Some (only_object (is_tag id) (decoded (outline (object_data pool o))) d.0 d.1) in
+        (decoded (outline (object_data pool o)), value, (object_same vs ws ps pool small show show_written j is.0 o numbers read stands within).1)
+
+    -- each object of the city is there, and shows its shapes
+    pub object_shown : (js : json.Members) → HasNumbers (json.object js) → of_members (encoded_members false js) no_members ≡ Some objs → (id : List ℕ) (o : Object) → found_in (entries c.1) id ≡ Some o
+        → (h : json.Json) × (look.get_member id (decoded_members false (members_outline turn)) ≡ Some h) × AreShown ws (list_at (codes "geometry") h) o.body.geometry
+    object_shown js numbers read id o here = shown_step id o (look.get_member id js) (numbers_at id js numbers) (read_members false id js objs read) here

@@ -6,7 +6,7 @@ use Rattle.std.proofs.lemmas.Bool.{or_parts}
 use Rattle.std.proofs.lemmas.Slice.Eq.{bytes_eq-Decides}
 use Rattle.json.specs.Json as json
 use Rattle.json.specs.Find as look
-use Rattle.json.specs.Tree.{HasNumbers, ItemsHaveNumbers}
+use Rattle.json.specs.Tree.{HasNumbers}
 use Rattle.json.proofs.Found.{Some_inj, not_found}
 use Rattle.serde_json.specs.Data.{Data, null, boolean, number, string, array, object, Items, no_items, item, Members, no_members, member, put}
 use Rattle.serde_json.specs.Find.{get, get_member, as_str, as_array, as_object}
@@ -30,7 +30,7 @@ use Rattle.city_decimals.specs.Encoded.{tagged, encoded, encoded_items, encoded_
 use Rattle.city_decimals.specs.Decoded.{decoded, decoded_items, decoded_members}
 use Rattle.city_decimals.proofs.Wholes.{mapped}
 use Rattle.city_doc.specs.Pool.{geometry_points, object_points}
-use Rattle.city_doc.specs.object.Bodies.{type_of, without_object_members, body_of, ids_at, object_of}
+use Rattle.city_doc.specs.object.Bodies.{type_of, without_object_members, object_of}
 use Rattle.city_doc.specs.object.Canonical.{object_data}
 use Rattle.city_doc.specs.shape.Canonical.{geometry_data}
 use Rattle.city_doc.specs.shape.Geometries.{geometry_of}
@@ -40,12 +40,13 @@ use Rattle.city_doc.specs.tree.Tokens.{listed}
 use Rattle.city_doc.proofs.Options.{and_then_some, map_some}
 use Rattle.city_doc.proofs.Laws.{are_in, get_member-put_apart, get_member-put_list_apart, ordered_put, read_as}
 use Rattle.city_canonical.specs.Placed.{or_empty, list_at}
-use Rattle.city_canonical.specs.Same.{unless_empty, IsSameList, IsSameObject, AreSameGeometries}
-use Rattle.city_canonical.proofs.Geometries.{geometries_same}
+use Rattle.city_canonical.specs.Members.{unless_empty}
+use Rattle.city_canonical.specs.Same.{IsSameObject, AreSameGeometries}
+use Rattle.city_canonical.proofs.Geometries.{AreShown, AreWritten, geometries_same}
 use Rattle.city_canonical.proofs.Members.{value_at, decoded_members_at, no_number, Numbers, numbers_at, member_same}
-use Rattle.city_canonical.proofs.Objects.{ascend_decoded, ordered_read, ordered_without, object_is, array_is, string_is, kept_is, decoded_object, IsObject, object_read, found_read, none_read}
+use Rattle.city_canonical.proofs.Objects.{ascend_decoded, ordered_read, ordered_without, object_is, array_is, string_is, kept_is, decoded_object, object_read, found_read, none_read}
 use Rattle.city_canonical.proofs.Places.{Show}
-use Rattle.city_canonical.proofs.Plain.{IsPlain, ReadsPlain, list_plain, text_plain, itself, plain_decoded}
+use Rattle.city_canonical.proofs.Plain.{IsPlain, list_plain, text_plain, itself, plain_decoded}
 
 -- ---- what an object was read of
 
@@ -231,16 +232,16 @@ module _ (vs ws : json.Items) (ps pool : List Point) (small : length pool < 2 ^ 
   -- the geometries that were read are written
   geometry_step : (js : json.Members) (ms : Members) (gs : List Geometry) (r : Option Data) → of_members (encoded_members false js) no_members ≡ Some ms → HasNumbers (json.object js) → get_member (codes "geometry") ms ≡ r
       → list_or_absent (geometry_of ps) r ≡ Some gs → are_in pool (flat_map geometry_points gs) ≡ true
-      → AreSameGeometries vs ws (or_empty (option_and_then look.as_array (look.get_member (codes "geometry") js))) (decoded_items (items_outline (items_of (map (geometry_data pool) gs))))
+      → AreWritten vs ws ps pool small show show_written (or_empty (option_and_then look.as_array (look.get_member (codes "geometry") js))) gs
   geometry_step js ms gs None read numbers at h within =
-      subst (λ o. AreSameGeometries vs ws (or_empty (option_and_then look.as_array o)) (decoded_items (items_outline (items_of (map (geometry_data pool) gs))))) (sym (none_read false (codes "geometry") js ms read at))
-      (subst (λ gs. AreSameGeometries vs ws json.no_items (decoded_items (items_outline (items_of (map (geometry_data pool) gs))))) (Some_inj _ _ h) tt)
+      subst (λ o. AreWritten vs ws ps pool small show show_written (or_empty (option_and_then look.as_array o)) gs) (sym (none_read false (codes "geometry") js ms read at))
+      (subst (AreWritten vs ws ps pool small show show_written json.no_items) (Some_inj _ _ h) (tt, tt))
   geometry_step js ms gs (Some d) read numbers at h within =
       let ds = and_then_some (read_items (geometry_of ps)) (as_array d) gs h in
       let found = found_read false (codes "geometry") refl refl js ms read d at in
       let list = array_read found.0 ds.0 (found.2 ∙ ap Some (array_is d ds.0 ds.1)) in
       let there = found.1 ∙ ap Some list.1 in
-      subst (λ o. AreSameGeometries vs ws (or_empty (option_and_then look.as_array o)) (decoded_items (items_outline (items_of (map (geometry_data pool) gs))))) (sym there)
+      subst (λ o. AreWritten vs ws ps pool small show show_written (or_empty (option_and_then look.as_array o)) gs) (sym there)
       (geometries_same vs ws ps pool small show show_written list.0 ds.0 gs (subst Numbers there (numbers_at (codes "geometry") js numbers)) list.2 ds.2 within)
 
   module _ (js : json.Members) (d : Data) (o : Object) (p : IsObjectOf ps d o) (read : of_members (encoded_members false js) no_members ≡ Some p.ms) (numbers : HasNumbers (json.object js)) (within : are_in pool (object_points o) ≡ true) where
@@ -261,6 +262,12 @@ module _ (vs ws : json.Items) (ps pool : List Point) (small : length pool < 2 ^ 
     there : look.get_member (codes "geometry") (decoded_members false (members_outline all)) ≡ option_map (value_at false (codes "geometry")) (listed (geometry_data pool) o.body.geometry)
     there = found_at (codes "geometry") (listed (geometry_data pool) o.body.geometry) (written_geometry pool o p.ms p.extra)
 
+    list_there : list_at (codes "geometry") (json.object (decoded_members false (members_outline all))) ≡ decoded_items (items_outline (items_of (map (geometry_data pool) o.body.geometry)))
+    list_there = ap (λ o. or_empty (option_and_then look.as_array o)) there ∙ listed_items (geometry_data pool) o.body.geometry
+
+    geometries_written : AreWritten vs ws ps pool small show show_written (list_at (codes "geometry") (json.object js)) o.body.geometry
+    geometries_written = geometry_step js p.ms o.body.geometry (get_member (codes "geometry") p.ms) read numbers refl p.geometry within
+
     members_same : IsSameObject vs ws (json.object js) (json.object (decoded_members false (members_outline all)))
     members_same = record {
       names = ascend_decoded false all all_ordered;
@@ -271,21 +278,22 @@ module _ (vs ws : json.Items) (ps pool : List Point) (small : length pool < 2 ^ 
           member_same false name js p.ms all refl numbers read all_ordered (same_at name third.0 second.0 first.0);
       parents = found_at (codes "parents") (listed string o.parents) (written_parents pool o p.ms p.extra) ∙ ids_same (codes "parents") refl js p.ms read o.parents p.parents;
       children = found_at (codes "children") (listed string o.children) (written_children pool o p.ms p.extra) ∙ ids_same (codes "children") refl js p.ms read o.children p.children;
-      geometry = subst (AreSameGeometries vs ws (list_at (codes "geometry") (json.object js))) (sym (ap (λ o. or_empty (option_and_then look.as_array o)) there ∙ listed_items (geometry_data pool) o.body.geometry))
-          (geometry_step js p.ms o.body.geometry (get_member (codes "geometry") p.ms) read numbers refl p.geometry within);
+      geometry = subst (AreSameGeometries vs ws (list_at (codes "geometry") (json.object js))) (sym list_there) geometries_written.0;
       not_empty = ap unless_empty there ∙ listed_full (geometry_data pool) o.body.geometry ∙ sym there;
     }
 
-    written_same : IsSameObject vs ws (json.object js) (decoded (outline (object_data pool o)))
+    written_same : IsSameObject vs ws (json.object js) (decoded (outline (object_data pool o))) × AreShown ws (list_at (codes "geometry") (decoded (outline (object_data pool o)))) o.body.geometry
     written_same =
         let untagged = no_number (codes "type") refl all (string (name_of o.body.kind)) (written_type pool o) in
-        subst (IsSameObject vs ws (json.object js)) (sym (decoded_object all untagged)) members_same
+        subst (λ h. IsSameObject vs ws (json.object js) h × AreShown ws (list_at (codes "geometry") h) o.body.geometry) (sym (decoded_object all untagged))
+        (members_same, subst (λ hs. AreShown ws hs o.body.geometry) (sym list_there) geometries_written.1)
 
-  pub object_same : (j : json.Json) (d : Data) (o : Object) → HasNumbers j → of_json (encoded j) ≡ Some d → object_of ps d ≡ Some o → are_in pool (object_points o) ≡ true → IsSameObject vs ws j (decoded (outline (object_data pool o)))
+  pub object_same : (j : json.Json) (d : Data) (o : Object) → HasNumbers j → of_json (encoded j) ≡ Some d → object_of ps d ≡ Some o → are_in pool (object_points o) ≡ true
+      → IsSameObject vs ws j (decoded (outline (object_data pool o))) × AreShown ws (list_at (codes "geometry") (decoded (outline (object_data pool o)))) o.body.geometry
   object_same j d o numbers is h within =
       let p = object_parts ps d o h in
       let found = object_read j p.ms (codes "type") (string (name_of o.body.kind)) (λ s. refl) (is ∙ ap Some p.is) p.type in
-      subst (λ x. IsSameObject vs ws x (decoded (outline (object_data pool o)))) (sym found.is) (written_same found.ms d o p found.read (subst HasNumbers found.is numbers) within)
+      subst (λ x. IsSameObject vs ws x (decoded (outline (object_data pool o))) × AreShown ws (list_at (codes "geometry") (decoded (outline (object_data pool o)))) o.body.geometry) (sym found.is) (written_same found.ms d o p found.read (subst HasNumbers found.is numbers) within)
 
 -- an object is decoded as an object
 pub object_decoded : (pool : List Point) (o : Object) → (ms : json.Members) × (decoded (outline (object_data pool o)) ≡ json.object ms)

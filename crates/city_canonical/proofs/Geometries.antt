@@ -1,15 +1,14 @@
 -- A geometry that was read of an encoded one, and is written, is the same.
-use Rattle.std.proofs.Common.{◌≡◌, ℕ, ◌<◌, List, [], ◌∷◌, length, Bool, true, false, Option, Some, None, codes, refl, sym, ap, subst, ◌∙◌}
+use Rattle.std.proofs.Common.{◌≡◌, ℕ, ◌<◌, List, [], ◌∷◌, length, true, false, Some, codes, refl, sym, ap, subst, ◌∙◌}
 use Rattle.std.specs.Prelude.{◌^◌, map, flat_map, option_map, option_and_then}
-use Rattle.std.specs.Str.{bytes_eq}
 use Rattle.std.proofs.lemmas.Bool.{or_parts, and_parts}
 use Rattle.std.proofs.lemmas.List.Folds.{list_all-append}
 use Rattle.std.proofs.lemmas.Slice.Eq.{bytes_eq-Decides}
 use Rattle.json.specs.Json as json
 use Rattle.json.specs.Find as look
 use Rattle.json.specs.Tree.{HasNumbers, ItemsHaveNumbers}
-use Rattle.json.proofs.Found.{Some_inj, not_found}
-use Rattle.serde_json.specs.Data.{Data, null, boolean, number, string, array, object, Items, no_items, item, Members, no_members, member, put}
+use Rattle.json.proofs.Found.{Some_inj}
+use Rattle.serde_json.specs.Data.{Data, string, object, Items, item, Members, no_members, put}
 use Rattle.serde_json.specs.Find.{get, get_member, as_str, as_object}
 use Rattle.serde_json.specs.Read.{of_json, of_items, of_members}
 use Rattle.serde_json.specs.View.{items_of}
@@ -17,13 +16,13 @@ use Rattle.serde_json.specs.Written.{outline, items_outline, members_outline}
 use Rattle.serde_json.proofs.Views.{get_member-put}
 use Rattle.city_model.specs.declared.object.Geometry.{Geometry}
 use Rattle.city_model.specs.declared.object.Point.{Point}
-use Rattle.city_model.specs.CityMap.{same_id, has_id}
+use Rattle.city_model.specs.CityMap.{same_id}
 use Rattle.city_model.specs.Kept.{kept_at_geometry}
 use Rattle.city_model.specs.Members.{without, AreOrdered}
 use Rattle.city_model.proofs.Ids.{by_id}
 use Rattle.city_model.proofs.MemberLaws.{get_member-without}
 use Rattle.city_decimals.specs.Encoded.{encoded, encoded_items, encoded_members}
-use Rattle.city_decimals.specs.Decoded.{number_in, number_or, decoded, decoded_items, decoded_members}
+use Rattle.city_decimals.specs.Decoded.{decoded, decoded_items, decoded_members}
 use Rattle.city_decimals.proofs.Wholes.{mapped, bound}
 use Rattle.city_doc.specs.Pool.{geometry_points}
 use Rattle.city_doc.specs.shape.Canonical.{boundaries_data, geometry_data}
@@ -36,7 +35,7 @@ use Rattle.city_doc.proofs.Laws.{is_in, are_in, get_member-put_apart, ordered_pu
 use Rattle.city_canonical.specs.Placed.{placed}
 use Rattle.city_canonical.specs.Same.{IsSameGeometry, AreSameGeometries}
 use Rattle.city_canonical.proofs.Members.{value_at, decoded_members_at, no_number, member_same}
-use Rattle.city_canonical.proofs.Objects.{ascend_decoded, ordered_read, ordered_without, object_is, string_is, kept_is, decoded_object, IsObject, object_read, found_read}
+use Rattle.city_canonical.proofs.Objects.{ascend_decoded, ordered_read, ordered_without, object_is, string_is, kept_is, decoded_object, object_read, found_read}
 use Rattle.city_canonical.proofs.Places.{Show, shown_shape, nested_placed, type_is, shape_written, boundaries_plain}
 use Rattle.city_canonical.proofs.Plain.{IsPlain, nested_plain, itself, plain_decoded}
 
@@ -84,6 +83,16 @@ geometry_read ps d g h =
       plain = nested_plain ps t.0.depth bounds.0 x.0 x.1;
       shows = λ vs show j read. nested_placed vs ps show t.0.depth j bounds.0 x.0 read x.1 ∙ (named.1 x.0).1 ∙ ap shown_shape (sym shaped);
     }
+
+-- ---- what its boundaries show
+
+abbrev pub IsShown : json.Items → json.Json → Geometry → Type 0
+IsShown ws h g = option_map (placed ws) (look.get (codes "boundaries") h) ≡ Some (shown_shape g.shape)
+
+abbrev pub AreShown : json.Items → json.Items → List Geometry → Type 0
+AreShown ws json.no_items [] = Unit {0}
+AreShown ws (json.item h hs) (g ∷ gs) = IsShown ws h g × AreShown ws hs gs
+AreShown ws _ _ = ⊥
 
 -- ---- what is written for it
 
@@ -153,22 +162,27 @@ module _ (vs ws : json.Items) (ps pool : List Point) (small : length pool < 2 ^ 
       boundaries = placed_written ∙ sym placed_read;
     }
 
-    written_same : IsSameGeometry vs ws (json.object js) (decoded (outline (geometry_data pool g)))
+    written_same : IsSameGeometry vs ws (json.object js) (decoded (outline (geometry_data pool g))) × IsShown ws (decoded (outline (geometry_data pool g))) g
     written_same =
         let untagged = no_number (codes "type") refl all (string (shape_name g.shape)) (written_type bounds (string g.lod) (string (shape_name g.shape)) g.extra) in
-        subst (IsSameGeometry vs ws (json.object js)) (sym (decoded_object all untagged)) members_same
+        subst (λ h. IsSameGeometry vs ws (json.object js) h × IsShown ws h g) (sym (decoded_object all untagged)) (members_same, placed_written)
 
-  pub geometry_same : (j : json.Json) (d : Data) (g : Geometry) → HasNumbers j → of_json (encoded j) ≡ Some d → geometry_of ps d ≡ Some g → are_in pool (geometry_points g) ≡ true → IsSameGeometry vs ws j (decoded (outline (geometry_data pool g)))
+  pub geometry_same : (j : json.Json) (d : Data) (g : Geometry) → HasNumbers j → of_json (encoded j) ≡ Some d → geometry_of ps d ≡ Some g → are_in pool (geometry_points g) ≡ true
+      → IsSameGeometry vs ws j (decoded (outline (geometry_data pool g))) × IsShown ws (decoded (outline (geometry_data pool g))) g
   geometry_same j d g numbers is h within =
       let o = geometry_read ps d g h in
       let found = object_read j o.ms (codes "type") (string (shape_name g.shape)) (λ s. refl) (is ∙ ap Some o.is) o.type in
-      subst (λ x. IsSameGeometry vs ws x (decoded (outline (geometry_data pool g)))) (sym found.is) (written_same found.ms d g o found.read (subst HasNumbers found.is numbers) within)
+      subst (λ x. IsSameGeometry vs ws x (decoded (outline (geometry_data pool g))) × IsShown ws (decoded (outline (geometry_data pool g))) g) (sym found.is) (written_same found.ms d g o found.read (subst HasNumbers found.is numbers) within)
 
-  pub geometries_same : (js : json.Items) (ds : Items) (gs : List Geometry) → ItemsHaveNumbers js → of_items (encoded_items js) ≡ Some ds → read_items (geometry_of ps) ds ≡ Some gs → are_in pool (flat_map geometry_points gs) ≡ true
-      → AreSameGeometries vs ws js (decoded_items (items_outline (items_of (map (geometry_data pool) gs))))
+  -- the geometries are the same, and show their shapes
+  abbrev pub AreWritten : json.Items → List Geometry → Type 0
+  AreWritten js gs =
+      let hs = decoded_items (items_outline (items_of (map (geometry_data pool) gs))) in
+      AreSameGeometries vs ws js hs × AreShown ws hs gs
+
+  pub geometries_same : (js : json.Items) (ds : Items) (gs : List Geometry) → ItemsHaveNumbers js → of_items (encoded_items js) ≡ Some ds → read_items (geometry_of ps) ds ≡ Some gs → are_in pool (flat_map geometry_points gs) ≡ true → AreWritten js gs
   geometries_same json.no_items ds gs numbers is h within =
-      let none : [] ≡ gs = Some_inj _ _ (ap (read_items (geometry_of ps)) (Some_inj _ _ is) ∙ h) in
-      subst (λ gs. AreSameGeometries vs ws json.no_items (decoded_items (items_outline (items_of (map (geometry_data pool) gs))))) none tt
+      subst (AreWritten json.no_items) (Some_inj _ _ (ap (read_items (geometry_of ps)) (Some_inj _ _ is) ∙ h)) (tt, tt)
   geometries_same (json.item j js) ds gs numbers is h within =
       let d = bound (λ d. option_map (item d) (of_items (encoded_items js))) (of_json (encoded j)) ds is in
       let more = mapped (item d.0) (of_items (encoded_items js)) ds d.2 in
@@ -176,5 +190,6 @@ module _ (vs ws : json.Items) (ps pool : List Point) (small : length pool < 2 ^ 
       let rest = map_some (λ ys. g.0 ∷ ys) (read_items (geometry_of ps) more.0) gs g.2 in
       let points = ap (λ gs. are_in pool (flat_map geometry_points gs)) (sym rest.2) ∙ within in
       let both = and_parts (are_in pool (geometry_points g.0)) (are_in pool (flat_map geometry_points rest.0)) (sym (list_all-append (is_in pool) (geometry_points g.0) (flat_map geometry_points rest.0)) ∙ points) in
-      subst (λ gs. AreSameGeometries vs ws (json.item j js) (decoded_items (items_outline (items_of (map (geometry_data pool) gs))))) (sym rest.2)
-      (geometry_same j d.0 g.0 numbers.0 d.1 g.1 both.0, geometries_same js more.0 rest.0 numbers.1 more.1 rest.1 both.1)
+      let first = geometry_same j d.0 g.0 numbers.0 d.1 g.1 both.0 in
+      let later = geometries_same js more.0 rest.0 numbers.1 more.1 rest.1 both.1 in
+      subst (AreWritten (json.item j js)) (sym rest.2) ((first.0, later.0), (first.1, later.1))

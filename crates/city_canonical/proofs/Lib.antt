@@ -7,6 +7,7 @@ pub mod CityObjects
 pub mod Cities
 pub mod Transforms
 pub mod Vertices
+pub mod Used
 pub mod Models
 pub mod Decoded
 pub mod Texts

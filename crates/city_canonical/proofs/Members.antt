@@ -1,6 +1,6 @@
 -- Members that were read of encoded ones, and members that are decoded of written ones.
 use Rattle.std.proofs.Common.{◌≡◌, ℕ, List, Bool, true, false, true≢false, cond, Option, Some, None, Ordering, Less, Equal, Greater, nat_cmp, is_eq, refl, sym, ap, subst, ◌∙◌}
-use Rattle.std.specs.Prelude.{◌&&◌, codes, option_map, option_and_then}
+use Rattle.std.specs.Prelude.{◌&&◌, codes, option_map}
 use Rattle.std.specs.Ordering.{match_ordering}
 use Rattle.std.specs.Str.{bytes_eq}
 use Rattle.std.specs.Cmp.Lexicographic.{slice_cmp}
@@ -11,7 +11,7 @@ use Rattle.json.specs.Json as json
 use Rattle.json.specs.Find as look
 use Rattle.json.specs.Tree.{HasNumbers, MembersHaveNumbers}
 use Rattle.json.proofs.Found.{Some_inj, not_found}
-use Rattle.serde_json.specs.Data.{Data, null, boolean, number, string, array, object, Items, no_items, item, Members, no_members, member, put}
+use Rattle.serde_json.specs.Data.{Data, null, boolean, number, string, array, object, no_items, item, Members, no_members, member, put}
 use Rattle.serde_json.specs.Find.{get_member}
 use Rattle.serde_json.specs.Read.{of_json, of_members}
 use Rattle.serde_json.specs.Written.{outline, members_outline}
@@ -75,9 +75,9 @@ other : (name l : List ℕ) (o : Ordering) → slice_cmp nat_cmp name l ≡ o �
 other name l o at = elim (bytes_eq l name) as (λ b. bytes_eq l name ≡ b → b ≡ is_eq o) [
   | true ↦ λ e. sym (ap is_eq (sym at) ∙ is_eq-slice_cmp name l ∙ (bytes_eq-Decides name l).1 (sym ((bytes_eq-Decides l name).0 e)))
   | false ↦ λ e. elim (is_eq o) as (λ c. is_eq o ≡ c → false ≡ c) [
-      | true ↦ λ c. absurd (apart l name e ((bytes_eq-Decides name l).0 (sym (is_eq-slice_cmp name l) ∙ ap is_eq at ∙ c)))
-      | false ↦ λ c. refl
-    ] refl
+    | true ↦ λ c. absurd (apart l name e ((bytes_eq-Decides name l).0 (sym (is_eq-slice_cmp name l) ∙ ap is_eq at ∙ c)))
+    | false ↦ λ c. refl
+  ] refl
 ] refl
 
 decoded_step : (top : Bool) (name l : List ℕ) (d : Data) (ds : Members) (o : Ordering) → slice_cmp nat_cmp name l ≡ o → AllAbove l ds

@@ -1,8 +1,7 @@
 -- A model that was read of an encoded one, is written and decoded, is the same model.
-use Rattle.std.proofs.Common.{◌≡◌, ℕ, ◌<◌, List, [], ◌∷◌, length, Bool, true, false, true≢false, cond, Option, Some, None, nat_cmp, codes, refl, sym, ap, subst, ◌∙◌}
-use Rattle.std.specs.Prelude.{◌^◌, ◌&&◌, map, option_map, option_and_then}
+use Rattle.std.proofs.Common.{◌≡◌, ℕ, List, [], ◌∷◌, true, false, true≢false, Option, Some, None, codes, refl, sym, ap, subst, ◌∙◌}
+use Rattle.std.specs.Prelude.{map, option_map, option_and_then}
 use Rattle.std.specs.FinMap.{entries}
-use Rattle.std.specs.Str.{bytes_eq}
 use Rattle.std.proofs.lemmas.Bool.{and_parts, or_parts}
 use Rattle.std.proofs.lemmas.Map.Text.{is_eq-slice_cmp}
 use Rattle.std.proofs.lemmas.Slice.Eq.{bytes_eq-Decides}
@@ -10,7 +9,7 @@ use Rattle.json.specs.Json as json
 use Rattle.json.specs.Find as look
 use Rattle.json.specs.Tree.{HasNumbers}
 use Rattle.json.proofs.Found.{Some_inj, not_found}
-use Rattle.serde_json.specs.Data.{Data, null, boolean, number, string, array, object, Items, no_items, item, Members, no_members, member, put}
+use Rattle.serde_json.specs.Data.{Data, null, boolean, number, string, array, object, Items, Members, no_members, put}
 use Rattle.serde_json.specs.Find.{get, get_member, as_str, as_array, as_object}
 use Rattle.serde_json.specs.Read.{of_json, of_items, of_members}
 use Rattle.serde_json.specs.View.{items_of}
@@ -20,13 +19,14 @@ use Rattle.city_model.specs.declared.object.Point.{Point}
 use Rattle.city_model.specs.CityMap.{Entries, CityValue, same_id, has_id}
 use Rattle.city_model.specs.Members.{without, AreOrdered}
 use Rattle.city_model.proofs.Ids.{by_id}
+use Rattle.city_model.proofs.Objects.{entries_ascend}
 use Rattle.city_model.proofs.MemberLaws.{get_member-without}
 use Rattle.city_decimals.specs.Numbers.{is_whole}
-use Rattle.city_decimals.specs.Encoded.{encoded, encoded_items, encoded_members, encoded_top}
-use Rattle.city_decimals.specs.Decoded.{decoded, decoded_members, decoded_top}
+use Rattle.city_decimals.specs.Encoded.{encoded_items, encoded_members, encoded_top}
+use Rattle.city_decimals.specs.Decoded.{decoded_members, decoded_top}
 use Rattle.city_decimals.specs.Arranged.{arranged}
 use Rattle.city_decimals.proofs.Wholes.{mapped}
-use Rattle.city_doc.specs.Pool.{city_points, pool_of}
+use Rattle.city_doc.specs.Pool.{geometry_points, object_points, city_points, pool_of}
 use Rattle.city_doc.specs.document.Ranges.{IsInRange}
 use Rattle.city_doc.specs.document.Canonical.{transform_data, vertex_data, vertices_data, tree_of}
 use Rattle.city_doc.specs.document.Cities.{entries_of, objects_of, city_of}
@@ -37,13 +37,15 @@ use Rattle.city_doc.specs.tree.Triples.{point_of, points_of}
 use Rattle.city_doc.proofs.Options.{and_then_some}
 use Rattle.city_doc.proofs.Laws.{in_turn, get_member-put_apart, ordered_put, stands_for}
 use Rattle.city_canonical.specs.Placed.{or_empty, list_at}
-use Rattle.city_canonical.specs.Same.{IsInOrder, IsEachOnce, IsSameAt, IsSameObjectOrNone, object_at, IsSameModel}
-use Rattle.city_canonical.proofs.Cities.{ids_ascend, objects_read, objects_decoded, objects_same}
+use Rattle.city_canonical.specs.Members.{IsInOrder, IsSameAt}
+use Rattle.city_canonical.specs.Same.{IsEachOnce, IsPart, IsUsed, IsSameObjectOrNone, object_at, IsSameModel}
+use Rattle.city_canonical.proofs.Cities.{ids_ascend, object_shown, objects_read, objects_decoded, objects_same}
 use Rattle.city_canonical.proofs.Members.{IsRead, value_at, read_members, decoded_members_at, no_number, Numbers, numbers_at, member_same}
 use Rattle.city_canonical.proofs.Objects.{ascend_decoded, ordered_read, ordered_without, object_is, array_is, object_inj, number_object, found_read}
-use Rattle.city_canonical.proofs.Places.{Show, shows_read, shows_written}
-use Rattle.city_canonical.proofs.Plain.{IsPlain, ArePlain, vertices_plain, itself, plain_decoded}
-use Rattle.city_canonical.proofs.Vertices.{vertices_once}
+use Rattle.city_canonical.proofs.Places.{Show, shown_shape, shows_read, shows_written}
+use Rattle.city_canonical.proofs.Plain.{ArePlain, vertices_plain, itself, plain_decoded}
+use Rattle.city_canonical.proofs.Vertices.{vertex_at, vertices_once}
+use Rattle.city_canonical.proofs.Used.{has_repeats, has_flat, shape_part, shown_at, entry_found}
 use Rattle.city_canonical.proofs.Transforms.{IsFrameOf, frame_parts, transform_same}
 
 -- ---- what a city was read of
@@ -82,21 +84,24 @@ city_parts d c h =
     let texts = and_parts (is_text (codes "CityJSON") (get (codes "type") d)) (is_text (codes "2.0") (get (codes "version") d)) s.json in
     let objects = and_then_some as_object (get (codes "CityObjects") d) _ s.objects in
     let vertices = and_then_some points_of (get (codes "vertices") d) _ s.points in
-    let items = and_then_some (read_items point_of) (as_array vertices.0) _ vertices.2 in
-    (top.0, is, record {
-      type = ap (get (codes "type")) (sym is) ∙ text_is (codes "CityJSON") (get (codes "type") d) texts.0;
-      version = ap (get (codes "version")) (sym is) ∙ text_is (codes "2.0") (get (codes "version") d) texts.1;
-      frame = frame_parts top.0 c.0 top.2;
-      objs = _;
-      objects = ap (get (codes "CityObjects")) (sym is) ∙ objects.1 ∙ ap Some (object_is objects.0 _ objects.2);
-      dvs = items.0;
-      vertices = ap (get (codes "vertices")) (sym is) ∙ vertices.1 ∙ ap Some (array_is vertices.0 items.0 items.1);
-      ps = _;
-      points = items.2;
-      list = s.list;
-      entries_are = s.entries;
-      made = s.made;
-    })
+    let items = and_then_some (read_items point_of) (as_array vertices.0) _ vertices.2 in (
+      top.0,
+      is,
+      record {
+        type = ap (get (codes "type")) (sym is) ∙ text_is (codes "CityJSON") (get (codes "type") d) texts.0;
+        version = ap (get (codes "version")) (sym is) ∙ text_is (codes "2.0") (get (codes "version") d) texts.1;
+        frame = frame_parts top.0 c.0 top.2;
+        objs = _;
+        objects = ap (get (codes "CityObjects")) (sym is) ∙ objects.1 ∙ ap Some (object_is objects.0 _ objects.2);
+        dvs = items.0;
+        vertices = ap (get (codes "vertices")) (sym is) ∙ vertices.1 ∙ ap Some (array_is vertices.0 items.0 items.1);
+        ps = _;
+        points = items.2;
+        list = s.list;
+        entries_are = s.entries;
+        made = s.made;
+      },
+    )
 
 -- ---- the top was read of an object
 
@@ -273,10 +278,36 @@ module _ (js : json.Members) (ms : Members) (c : CityValue) (numbers : HasNumber
       subst (λ o. IsSameObjectOrNone vs ws o (object_at id back)) (sym (ap (option_and_then (look.get id)) there))
       (subst (IsSameObjectOrNone vs ws (look.get_member id o.ms)) (sym (ap (option_and_then (look.get id)) objects_there)) same)
 
+  -- vertices are used
+
+  vertex_used : (n : ℕ) (v : json.Json) → look.get_item n ws ≡ Some v → IsUsed back v
+  vertex_used n v is =
+      let q = vertex_at (pool_of c) n v (ap (look.get_item n) (sym vertices_back) ∙ is) in
+      let walked = has_repeats (city_points c) n q.0 q.1 in
+      let e = has_flat (λ e. object_points e.1) (entries c.1) walked.0 q.0 walked.1 in
+      let g = has_flat geometry_points (e.0).1.body.geometry e.2.0 q.0 e.2.1 in
+      let here = entry_found (entries c.1) (entries_ascend c.1) e.1.0 e.0 e.1.1 in
+      let found = found_read true (codes "CityObjects") refl refl js ms read (object p.objs) p.objects in
+      let o = objects_read p.ps found.0 p.objs p.list found.2 p.entries_are in
+      let numbered = subst Numbers (found.1 ∙ ap Some o.is) (numbers_at (codes "CityObjects") js numbers) in
+      let h = object_shown vs ws p.ps c range.fewer show show_written p.objs p.list p.entries_are p.made o.ms numbered o.read (e.0).0 (e.0).1 here in
+      let s = shown_at ws (list_at (codes "geometry") h.0) (e.0).1.body.geometry g.1.0 g.0 h.2 g.1.1 in
+      record {
+        id = (e.0).0;
+        owner = h.0;
+        there = ap (option_and_then (look.get (e.0).0)) objects_there ∙ h.1;
+        index = g.1.0;
+        geometry = s.0;
+        has = s.1;
+        boundaries = shown_shape (g.0).shape;
+        bounds = s.2;
+        part = subst (λ x. IsPart x (shown_shape (g.0).shape)) q.2 (shape_part (g.0).shape g.2.0 q.0 g.2.1);
+      }
+
   top_same : IsSameModel (json.object js) (decoded_top (outline (tree_of c)))
   top_same =
       subst (IsSameModel (json.object js)) (sym (top_decoded all type (written_type objects vertices transform version type c.0.extra)))
-      (record { names = ascend_decoded true all all_ordered; ids = ids_in_order; members = member_is; objects = object_is_same; vertices = subst IsEachOnce (sym vertices_back) (vertices_once (city_points c) range.points) })
+      (record { names = ascend_decoded true all all_ordered; ids = ids_in_order; members = member_is; objects = object_is_same; once = subst IsEachOnce (sym vertices_back) (vertices_once (city_points c) range.points); used = vertex_used })
 
 -- a model that is read and written is the same
 pub model_same : (j : json.Json) (d : Data) (c : CityValue) → HasNumbers j → of_json (encoded_top j) ≡ Some d → city_of d ≡ Some c → IsInRange (pool_of c) c.0 → IsSameModel j (decoded_top (outline (tree_of c)))

@@ -1,11 +1,11 @@
 -- Objects that were read of encoded ones, and objects that were written.
-use Rattle.std.proofs.Common.{◌≡◌, ℕ, List, [], ◌∷◌, Bool, true, false, true≢false, cond, Option, Some, None, nat_cmp, refl, sym, ap, subst, ◌∙◌}
-use Rattle.std.specs.Prelude.{◌&&◌, codes, option_map, option_and_then, if◌then◌else◌}
+use Rattle.std.proofs.Common.{◌≡◌, ℕ, List, Bool, true, false, cond, Option, Some, None, refl, sym, ap, subst, ◌∙◌}
+use Rattle.std.specs.Prelude.{◌&&◌, codes, if◌then◌else◌}
 use Rattle.std.specs.Str.{bytes_eq}
 use Rattle.json.specs.Json as json
 use Rattle.json.specs.Find as look
 use Rattle.json.proofs.Found.{Some_inj, not_found}
-use Rattle.serde_json.specs.Data.{Data, null, boolean, number, string, array, object, Items, no_items, item, Members, no_members, member, put}
+use Rattle.serde_json.specs.Data.{Data, null, boolean, number, string, array, object, Items, Members, no_members, member, put}
 use Rattle.serde_json.specs.Find.{get_member, as_str, as_array, as_object}
 use Rattle.serde_json.specs.Read.{number_of, of_json, of_items, of_members}
 use Rattle.serde_json.specs.Written.{outline, members_outline}
@@ -13,13 +13,13 @@ use Rattle.city_doc.specs.tree.Members.{kept_if}
 use Rattle.city_model.specs.CityMap.{same_id}
 use Rattle.city_model.specs.Members.{without, AllAbove, AreOrdered}
 use Rattle.city_decimals.specs.Numbers.{is_whole}
-use Rattle.city_decimals.specs.Shapes.{is_tag, is_text_or_array, is_frame, is_transform}
+use Rattle.city_decimals.specs.Shapes.{is_tag, is_text_or_array, is_frame}
 use Rattle.city_decimals.specs.Encoded.{tagged, encoded, encoded_items, encoded_members}
 use Rattle.city_decimals.specs.Decoded.{number_in, decoded, decoded_members}
 use Rattle.city_decimals.proofs.Wholes.{mapped}
 use Rattle.city_doc.proofs.Options.{and_then_some, if_some}
 use Rattle.city_doc.proofs.Laws.{ordered_put}
-use Rattle.city_canonical.specs.Same.{IsBelow, Ascend}
+use Rattle.city_canonical.specs.Members.{IsBelow, Ascend}
 use Rattle.city_canonical.proofs.Members.{member_read, IsRead, in_plain, no_frame, read_members}
 
 -- ---- the names ascend

@@ -1,14 +1,14 @@
 -- Boundaries with the vertices themselves: the same however the points are numbered.
-use Rattle.std.proofs.Common.{◌≡◌, ℕ, zero, suc, ◌+◌, ◌<◌, ◌≤◌, ℤ, pos, negsuc, List, [], ◌∷◌, length, Bool, true, false, cond, Option, Some, None, refl, sym, ap, ap₂, subst, ◌∙◌, arith, decimal}
-use Rattle.std.specs.Prelude.{◌^◌, map, not, nat_lt, slice_get, find, option_map, option_and_then}
+use Rattle.std.proofs.Common.{◌≡◌, ℕ, zero, suc, ◌<◌, ◌≤◌, ℤ, pos, negsuc, List, [], ◌∷◌, length, Bool, true, false, cond, Option, Some, refl, sym, ap, ap₂, subst, ◌∙◌, arith}
+use Rattle.std.specs.Prelude.{◌^◌, map, not, slice_get, find, option_map, option_and_then}
 use Rattle.std.specs.List.{AllByRecursion}
 use Rattle.std.specs.Str.{bytes_eq}
 use Rattle.std.proofs.lemmas.List.Sums.{prefix_len-le-length}
 use Rattle.json.specs.Json as json
 use Rattle.json.specs.Find as look
 use Rattle.json.proofs.Found.{Some_inj, not_found}
-use Rattle.serde_json.specs.Data.{Data, unsigned, null, boolean, number, string, array, object, Items, no_items, item, Members, no_members, member}
-use Rattle.serde_json.specs.Find.{as_number, as_i64}
+use Rattle.serde_json.specs.Data.{Data, number, array, object, Items, no_items, item, no_members}
+use Rattle.serde_json.specs.Find.{as_i64}
 use Rattle.serde_json.specs.Read.{of_json, of_items, of_members}
 use Rattle.serde_json.specs.View.{items_of}
 use Rattle.serde_json.specs.Written.{outline, items_outline}
@@ -21,9 +21,9 @@ use Rattle.city_doc.specs.Pool.{nested_points, shape_points, number_of}
 use Rattle.city_doc.specs.document.Canonical.{vertex_data}
 use Rattle.city_doc.specs.shape.Canonical.{point_data, nested_data, boundaries_data}
 use Rattle.city_doc.specs.shape.Forms.{natural}
-use Rattle.city_doc.specs.shape.Geometries.{point_at_position, point_at, nested_of, shape_of}
+use Rattle.city_doc.specs.shape.Geometries.{point_at_position, point_at, nested_of}
 use Rattle.city_doc.specs.shape.Nesting.{Nested, nested, GeometryType, geometry_type, geometry_types, shape_name}
-use Rattle.city_doc.specs.tree.Lists.{read_items, list_of, list_data}
+use Rattle.city_doc.specs.tree.Lists.{read_items, list_of}
 use Rattle.city_doc.specs.tree.Triples.{point_of}
 use Rattle.city_doc.proofs.Options.{and_then_some, map_some}
 use Rattle.city_doc.proofs.Laws.{are_in, nested_read}

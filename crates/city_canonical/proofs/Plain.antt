@@ -1,13 +1,12 @@
 -- Data without objects: it was read of the very value that is written for it.
 use Rattle.std.proofs.Common.{◌≡◌, ℕ, zero, suc, ℤ, pos, negsuc, List, [], ◌∷◌, Bool, true, false, true≢false, cond, Option, Some, None, refl, sym, ap, ap₂, subst, ◌∙◌}
-use Rattle.std.specs.Prelude.{◌&&◌, codes, is_some, option_map, option_and_then, if◌then◌else◌, nat_lt, ◌^◌}
-use Rattle.std.specs.Str.{bytes_eq}
+use Rattle.std.specs.Prelude.{is_some, option_map, option_and_then, if◌then◌else◌, nat_lt, ◌^◌}
 use Rattle.std.proofs.lemmas.Bool.{and_parts}
 use Rattle.std.proofs.lemmas.Slice.Eq.{bytes_eq-Decides}
 use Rattle.json.specs.Json as json
 use Rattle.json.proofs.Found.{Some_inj, not_found}
-use Rattle.serde_json.specs.Data.{Num, unsigned, negative, float, Data, null, boolean, number, string, array, object, Items, no_items, item, Members, no_members, member}
-use Rattle.serde_json.specs.Find.{get_item, at, as_str, as_array, as_number, as_i64, of_integer}
+use Rattle.serde_json.specs.Data.{Num, unsigned, negative, float, Data, null, boolean, number, string, array, object, Items, no_items, item, no_members}
+use Rattle.serde_json.specs.Find.{get_item, as_str, as_number, as_i64, of_integer}
 use Rattle.serde_json.specs.Read.{number_of, of_json, of_items, of_members}
 use Rattle.serde_json.specs.Written.{number_text, outline, items_outline}
 use Rattle.city_model.specs.declared.object.Point.{Point}
@@ -16,7 +15,7 @@ use Rattle.city_decimals.specs.Encoded.{tagged, encoded, encoded_items, encoded_
 use Rattle.city_decimals.specs.Decoded.{decoded, decoded_items}
 use Rattle.city_decimals.proofs.Wholes.{mapped, bound}
 use Rattle.city_doc.specs.document.Canonical.{vertex_data}
-use Rattle.city_doc.specs.shape.Geometries.{point_at_position, point_at, nested_of}
+use Rattle.city_doc.specs.shape.Geometries.{point_at, nested_of}
 use Rattle.city_doc.specs.tree.Lists.{read_items, list_of}
 use Rattle.city_doc.specs.tree.Triples.{integral_at, three_of, triple_of, point_of, points_of, integer_data}
 use Rattle.city_doc.proofs.Options.{and_then_some, map_some}

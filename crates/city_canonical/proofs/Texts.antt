@@ -1,6 +1,6 @@
 -- The text that is decoded is that of the same model.
-use Rattle.std.proofs.Common.{◌≡◌, ℕ, ◌<◌, ◌≤◌, List, [], ◌∷◌, length, Some, refl, sym, ap, subst, ◌∙◌, arith, append-nil}
-use Rattle.std.specs.Prelude.{◌^◌, option_and_then}
+use Rattle.std.proofs.Common.{◌≡◌, ℕ, ◌≤◌, List, [], ◌∷◌, Some, sym, ap, subst, ◌∙◌, arith, append-nil}
+use Rattle.std.specs.Prelude.{option_and_then}
 use Rattle.json.specs.Json.{Json, value, if_last, max_depth, document}
 use Rattle.json.specs.Lex.{tokens}
 use Rattle.json.specs.Print.{print}

@@ -1,13 +1,12 @@
 -- A transform that was framed is written in its frame, and decoded as it was.
-use Rattle.std.proofs.Common.{◌≡◌, ℕ, ◌<◌, ℤ, pos, List, [], ◌∷◌, Bool, true, false, true≢false, Option, Some, None, codes, refl, sym, ap, ap₂, subst, ◌∙◌, arith, decimal}
-use Rattle.std.specs.Prelude.{◌&&◌, option_map, option_and_then}
+use Rattle.std.proofs.Common.{◌≡◌, ℕ, ℤ, pos, List, [], ◌∷◌, Bool, true, false, true≢false, Some, None, codes, refl, sym, ap, ap₂, ◌∙◌, arith, decimal}
 use Rattle.std.proofs.lemmas.Bool.{and_from}
 use Rattle.std.proofs.lemmas.Fmt.{decimal_digit}
 use Rattle.json.specs.Json as json
 use Rattle.json.specs.Find as look
 use Rattle.json.specs.Tree.{HasNumbers}
 use Rattle.json.proofs.Found.{Some_inj, not_found}
-use Rattle.serde_json.specs.Data.{Data, unsigned, null, boolean, number, string, array, object, Items, no_items, item, Members, no_members, member, put}
+use Rattle.serde_json.specs.Data.{Data, unsigned, null, boolean, number, string, array, object, Members, no_members, member, put}
 use Rattle.serde_json.specs.Find.{get, get_member, as_object}
 use Rattle.serde_json.specs.Read.{number_of, of_json}
 use Rattle.serde_json.specs.Written.{outline}
@@ -16,12 +15,12 @@ use Rattle.city_model.specs.declared.frame.Frame.{Frame}
 use Rattle.city_model.specs.Kept.{kept_at_top, kept_at_transform}
 use Rattle.city_model.specs.Members.{without}
 use Rattle.city_model.proofs.MemberLaws.{get_member-without}
-use Rattle.city_decimals.specs.Shapes.{is_tag, is_triple, is_frame, is_transform, three, framed}
+use Rattle.city_decimals.specs.Shapes.{is_tag, is_triple, is_frame, three, framed}
 use Rattle.city_decimals.specs.Encoded.{encoded}
 use Rattle.city_decimals.specs.Decoded.{decoded, out_of_form}
 use Rattle.city_decimals.specs.Arranged.{arranged}
 use Rattle.city_decimals.proofs.Kept.{kept, transform_kept}
-use Rattle.city_doc.specs.document.Canonical.{vertex_data, transform_data}
+use Rattle.city_doc.specs.document.Canonical.{transform_data}
 use Rattle.city_doc.specs.document.Top.{triple_at, without_transform_members, more_of, without_top_members, frame_with, frame_of_rest}
 use Rattle.city_doc.specs.tree.Members.{kept_if}
 use Rattle.city_doc.specs.tree.Triples.{triple_of, triple_data}

@@ -1,9 +1,8 @@
 -- Of the vertices that are written none stands at two positions.
-use Rattle.std.proofs.Common.{◌≡◌, ℕ, zero, suc, ◌<◌, ℤ, pos, negsuc, Bool, true, false, true≢false, cond, not, List, [], ◌∷◌, Option, Some, None, refl, sym, ap, subst, ◌∙◌, arith}
-use Rattle.std.specs.Prelude.{◌&&◌, ◌||◌, ◌^◌, nat_lt, filter, map, slice_get, option_and_then}
+use Rattle.std.proofs.Common.{◌≡◌, ℕ, zero, suc, ◌<◌, ℤ, pos, negsuc, Bool, true, false, true≢false, cond, not, List, [], ◌∷◌, Option, Some, refl, sym, ap, ◌∙◌}
+use Rattle.std.specs.Prelude.{◌&&◌, ◌||◌, ◌^◌, filter, map, slice_get, option_and_then}
 use lib.Signed.{mag}
 use Rattle.std.specs.List.{list_any, list_all}
-use Rattle.std.specs.Ordering.{int_eq}
 use Rattle.std.specs.Fmt.{signed_decimal}
 use Rattle.std.proofs.lemmas.Bool.{and_parts, or_parts, ltb-true}
 use Rattle.std.proofs.lemmas.Bool.Decides.{Decides-int_eq}
@@ -13,7 +12,7 @@ use Rattle.json.specs.Find as look
 use Rattle.json.proofs.Found.{Some_inj, not_found}
 use Rattle.serde_json.specs.Find.{of_integer}
 use Rattle.serde_json.specs.View.{items_of}
-use Rattle.serde_json.specs.Written.{number_text, outline, items_outline}
+use Rattle.serde_json.specs.Written.{number_text, items_outline}
 use Rattle.city_model.specs.declared.object.Point.{Point}
 use Rattle.city_model.specs.Shells.{same_point}
 use Rattle.city_doc.specs.Pool.{without_repeats}
@@ -111,7 +110,7 @@ in_range_at [] h n p e = not_found p e
 in_range_at (q ∷ ps) h zero p e = ap is_i64_point (sym (Some_inj _ _ e)) ∙ (and_parts (is_i64_point q) (list_all is_i64_point ps) h).0
 in_range_at (q ∷ ps) h (suc n) p e = in_range_at ps (and_parts (is_i64_point q) (list_all is_i64_point ps) h).1 n p e
 
-vertex_at : (ps : List Point) (n : ℕ) (v : json.Json) → look.get_item n (items_outline (items_of (map vertex_data ps))) ≡ Some v → (p : Point) × (slice_get ps n ≡ Some p) × (shown_point p ≡ v)
+pub vertex_at : (ps : List Point) (n : ℕ) (v : json.Json) → look.get_item n (items_outline (items_of (map vertex_data ps))) ≡ Some v → (p : Point) × (slice_get ps n ≡ Some p) × (shown_point p ≡ v)
 vertex_at [] n v h = not_found v h
 vertex_at (p ∷ ps) zero v h = (p, refl, Some_inj _ _ h)
 vertex_at (p ∷ ps) (suc n) v h = vertex_at ps n v h

@@ -1,3 +1,4 @@
+pub mod Members
 pub mod Placed
 pub mod Same
 pub mod Texts

@@ -1,6 +1,6 @@
 -- Boundaries with the vertices themselves, whatever their positions are (CityJSON 2.0, sections 2 and 3).
 use Rattle.std.specs.Prelude.{ℕ, List, Option, Some, None, option_and_then}
-use Rattle.json.specs.Json.{Json, null, boolean, number, string, array, object, Items, no_items, item, Members}
+use Rattle.json.specs.Json.{Json, null, boolean, number, string, array, object, Items, no_items, item}
 use Rattle.json.specs.Find.{get, get_item, as_array}
 use Rattle.serde_json.specs.Find.{as_i64}
 use Rattle.serde_json.specs.Read.{number_of}

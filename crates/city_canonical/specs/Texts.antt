@@ -15,11 +15,14 @@ use Rattle.city_canonical.specs.declared.fault.CanonicalFault.TheVariants.{OutOf
 
 -- out is the compact text of the same model as that of the text
 abbrev pub IsSameText : List ℕ → List ℕ → Type 0
-IsSameText text out = (j : Json) × (k : Json) × IsValueOf j text × IsValueOf k out × (out ≡ print (json_tokens k)) × IsSameModel j k
+IsSameText text out =
+    (j : Json) × (k : Json) × IsValueOf j text × IsValueOf k out × (out ≡ print (json_tokens k)) × IsSameModel j k
 
 -- out is decoded of the canonical text of the city that the encoded text stands for
 abbrev pub IsCanonicalOf : List ℕ → List ℕ → Type 0
-IsCanonicalOf text out = (encoded : List ℕ) × (c : CityValue) × IsEncoded text encoded × StandsForCity encoded c × IsDecoded (city_text c) out
+IsCanonicalOf text out =
+    (encoded : List ℕ) × (c : CityValue) × IsEncoded text encoded × StandsForCity encoded c
+    × IsDecoded (city_text c) out
 
 -- want of memory may be answered at any text
 abbrev pub IsCanonicalFault : List ℕ → CanonicalFault → Type 0
