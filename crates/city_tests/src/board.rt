@@ -16,7 +16,7 @@ use std::alloc::Global;
 use std::sync::Wait;
 use std::thread::{Threads, join};
 
-/// A board over a city, and its one viewer.
+/// A board over a city, and a list of its one viewer.
 fn board_over<'r, R: Wait>(
     rt: &'r R,
     alloc: Global,
@@ -31,6 +31,22 @@ fn board_over<'r, R: Wait>(
         return None;
     };
     board(rt, alloc, copy, 1).ok()
+}
+
+/// The same with the viewer alone.
+fn board_for_one<'r, R: Wait>(
+    rt: &'r R,
+    alloc: Global,
+    city: &City,
+) -> Option<(Poster<&'r R>, Viewer)>
+    requires { IsLawful (at city.now.1) }
+    ensures name { IfSome result (λ r. r.1.name ≡ r.0.name) }
+    ensures opening { IfSome result (λ r. r.0.opening ≡ city.now) }
+    ensures taken { IfSome result (λ r. r.0.taken ≡ []) }
+{
+    let (poster, mut viewers) = board_over(rt, alloc, city)?;
+    let viewer = viewers.pop()?;
+    Some((poster, viewer))
 }
 
 /// A desk over the city of a board, whose shelf is the board's poster.
@@ -57,8 +73,7 @@ pub fn opened_to_one<'r, R: Wait>(rt: &'r R, alloc: Global) -> Option<(Desk<Post
     let text = scripts_of_roads(alloc, 3).ok()?;
     let scripts = scripts_of(alloc, text.as_str())?;
     let city = city_of(alloc, EMPTY)?;
-    let (poster, mut viewers) = board_over(rt, alloc, &city)?;
-    let viewer = viewers.pop()?;
+    let (poster, viewer) = board_for_one(rt, alloc, &city)?;
     let desk = desk_over(alloc, scripts, city, poster)?;
     Some((desk, viewer))
 }

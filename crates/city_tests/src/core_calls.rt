@@ -69,8 +69,7 @@ fn are_committed(core: &mut Core, commands: &[Command], count: usize) -> bool {
     begun && are_done(core, 5, commands) && commit(core, 5) == Some(count)
 }
 
-/// Whether the first command is done, or finds no memory and leaves no part of itself: then the second finds
-/// nothing there, and a commit changes nothing.
+/// Whether the first command is done, or finds no memory and leaves nothing that the second finds or a commit changes.
 fn is_done_or_absent(core: &mut Core, commands: &[Command]) -> bool {
     let [put, read, ..] = commands else {
         return false;

@@ -120,7 +120,7 @@ const SHORT: &str = "no memory to begin with";
 fn turns_leave_a_serial_history(rt: HostRuntime) -> Result<(), Fail> {
     for run in RUNS {
         let left = turns_leave(rt.alloc(), run).ok_or(SHORT)?;
-        assert!(rt; left, "{}", run.shows);
+        assert!(rt; left, "{}", run.scripts);
     }
     Ok(())
 }
@@ -169,8 +169,7 @@ fn seen_once_told(viewer: Viewer, note: &Note) -> Option<u64>
     Some(seen)
 }
 
-/// How many changes a viewer sees after a show, or, where that was refused and the viewer saw nothing,
-/// after the next.
+/// How many changes a viewer sees after a show, or after the next where that was refused and it saw nothing.
 fn seen_at_last<R: Wait + Drop, Q: Wait>(
     rt: &Q,
     desk: &mut Desk<Poster<R>>,
@@ -186,8 +185,7 @@ fn seen_at_last<R: Wait + Drop, Q: Wait>(
     seen_once_told(viewer, &note)
 }
 
-/// Whether a viewer sees nothing after a first show that is refused, and then what was committed,
-/// which is nothing where the script found no memory.
+/// Whether a viewer sees nothing after a first show that is refused, and then what was committed, if anything was.
 fn is_shown_at_last<R: Wait>(rt: &R, alloc: Global) -> Option<bool> {
     let (mut desk, viewer) = opened_to_one(rt, alloc)?;
     let _ended = commit_next(&mut desk);
@@ -202,8 +200,7 @@ fn a_show_can_be_made_again(rt: HostRuntime) -> Result<(), Fail> {
     Ok(())
 }
 
-/// Whether a run is refused for want of memory alone, or its scripts give the same when they are
-/// played again; the first time there may be no memory for that.
+/// Whether a run is refused for want of memory alone, or its scripts give the same when they are played again.
 fn is_serial_or_short(alloc: Global, run: &Run, ran: Result<Output, RunFault>) -> bool {
     match ran {
         Ok(output) => is_replayed(alloc, run, output.ends.as_slice(), output.bytes.as_slice()),
@@ -215,7 +212,7 @@ fn is_serial_or_short(alloc: Global, run: &Run, ran: Result<Output, RunFault>) -
 fn a_serial_run_is_refused_or_leaves_a_serial_history(rt: HostRuntime) {
     for run in RUNS {
         let ran = run_serial(rt.alloc(), run.document.as_bytes(), run.scripts.as_bytes());
-        assert!(rt; is_serial_or_short(rt.alloc(), run, ran), "{}", run.shows);
+        assert!(rt; is_serial_or_short(rt.alloc(), run, ran), "{}", run.scripts);
     }
 }
 

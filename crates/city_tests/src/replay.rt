@@ -50,8 +50,7 @@ fn without_since(alloc: Global, bytes: &[u8]) -> Option<String> {
     Some(text)
 }
 
-/// Whether the scripts of these ends of a run give the same when they are played one at a time in the order of
-/// the ends: none where there was no memory to tell.
+/// Whether the scripts of these ends of a run, played so, give the same; none where there was no memory to tell.
 fn compared(alloc: Global, run: &Run, ends: &[End], bytes: &[u8]) -> Option<bool> {
     let again = written_again(alloc, run, ends)?;
     let wanted = without_since(alloc, again.as_slice())?;

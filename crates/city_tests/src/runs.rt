@@ -10,10 +10,9 @@ use city_model::script::Script;
 use city_model::sequence::Sequence;
 use std::alloc::Global;
 
-/// A document and scripts, named for what they show.
+/// A document and scripts.
 #[derive(Clone, Copy)]
 pub struct Run {
-    pub shows: &'static str,
     pub document: &'static str,
     pub scripts: &'static str,
 }
@@ -44,7 +43,6 @@ pub fn opened(alloc: Global, run: &Run) -> Option<Desk<ListShelf>> {
 }
 
 pub const CHILD_OF_TWO: Run = Run {
-    shows: "a deleted child leaves both its parents, and another is attached",
     document: model!(
         r#"{"b1":{"children":["p"],"type":"Building"},"b2":{"children":["p"],"type":"Building"},"p":{"parents":["b1","b2"],"type":"BuildingPart"}}"#,
         "[]"
@@ -57,7 +55,6 @@ pub const CHILD_OF_TWO: Run = Run {
 };
 
 pub const TWO_READERS: Run = Run {
-    shows: "a script reads what the one before it wrote",
     document: model!(r#"{"x":{"type":"LandUse"},"y":{"type":"LandUse"}}"#, "[]"),
     scripts: concat!(
         r#"[{"name":"a","commands":[{"read":"y"},"#,
@@ -68,7 +65,6 @@ pub const TWO_READERS: Run = Run {
 };
 
 pub const ORPHAN: Run = Run {
-    shows: "an orphan isn't committed, and no longer is one once it is attached",
     document: model!(r#"{"b":{"type":"Building"}}"#, "[]"),
     scripts: concat!(
         r#"[{"name":"a","commands":[{"put":"p","object":{"type":"BuildingPart"}},"commit"]},"#,
@@ -78,7 +74,6 @@ pub const ORPHAN: Run = Run {
 };
 
 pub const UNDELETED: Run = Run {
-    shows: "what was deleted and put anew has its old type again",
     document: model!(r#"{"x":{"type":"LandUse"}}"#, "[]"),
     scripts: concat!(
         r#"[{"name":"s","commands":[{"mark":"m"},{"delete":"x"},"#,
@@ -87,7 +82,6 @@ pub const UNDELETED: Run = Run {
 };
 
 pub const CUBE: Run = Run {
-    shows: "a cube is read and found",
     document: model!(
         r#"{"c":{"type":"Building","geometry":[{"type":"Solid","lod":"1","boundaries":[[[[0,3,2,1]],[[4,5,6,7]],[[0,1,5,4]],[[1,2,6,5]],[[2,3,7,6]],[[3,0,4,7]]]]}]}}"#,
         "[[0,0,0],[1,0,0],[1,1,0],[0,1,0],[0,0,1],[1,0,1],[1,1,1],[0,1,1]]"

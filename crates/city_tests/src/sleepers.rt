@@ -68,10 +68,8 @@ impl<'a> InSteps<'a> {
 
 /// Yields for so many holds.
 fn hold(holds: u64) {
-    for _ in 0..holds {
-        for _ in 0..HOLD {
-            thread::yield_now();
-        }
+    for _ in 0..holds.wrapping_mul(HOLD) {
+        thread::yield_now();
     }
 }
 

@@ -16,6 +16,7 @@ struct ScriptsMeet {
     replies: usize,
     open: bool,
     inside: AtomicU64,
+    /// How many were at the gate at once.
     most: AtomicU64,
 }
 
@@ -29,11 +30,6 @@ impl ScriptsMeet {
             inside: AtomicU64::new(0),
             most: AtomicU64::new(0),
         }
-    }
-
-    /// How many were at the gate at once.
-    fn most(&self) -> u64 {
-        self.most.load(Ordering::SeqCst)
     }
 }
 
@@ -90,7 +86,11 @@ fn no_more_workers_come_than_are_asked_for(rt: HostRuntime) -> Result<(), Fail> 
             let gate = ScriptsMeet::of(scripts, SHORT, open);
             let committed = met(&rt, rt.alloc(), &gate, scripts as usize, workers);
             assert_eq!(&rt; committed, Some(scripts as usize), "{workers} {open}");
-            assert_eq!(&rt; gate.most(), workers as u64, "{workers} {open}");
+            assert_eq!(&rt;
+                gate.most.load(Ordering::SeqCst),
+                workers as u64,
+                "{workers} {open}"
+            );
         }
     }
     Ok(())
