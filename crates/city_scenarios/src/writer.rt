@@ -80,11 +80,11 @@ impl Write for Taking {
         }
         self.interrupts = self.habits.busy;
         if self.habits.room == 0 {
+            // it fails or takes none once, and would take all that comes after
+            self.habits.room = usize::MAX;
             if self.habits.stuck {
                 return Ok(0);
             }
-            // it fails once, and would take all that comes after
-            self.habits.room = usize::MAX;
             return Err(io::Error::other("full"));
         }
         let count = buf.len().min(self.habits.at_a_time).min(self.habits.room);
