@@ -144,6 +144,15 @@ fn least_badly_related(
     Ok(least)
 }
 
+/// Whether a city is lawful.
+pub fn is_lawful(alloc: Global, city: &City) -> Result<bool, AllocError>
+    ensures { IfOk result (λ b. IsTrue b → IsLawful (at city.now.1)) }
+{
+    let faultless = are_faultless(alloc, city)?;
+    let misrelated = least_misrelated(alloc, city)?;
+    Ok(faultless && misrelated.is_none())
+}
+
 /// The first fault of a city that was read, where a list of ids that isn't an array of texts counts
 /// as empty; the least id that has such a list is given. None where the city is lawful and there is
 /// no such list.
