@@ -1,0 +1,3 @@
+-- What the proofs of several functions of src/stream/ use.
+pub mod GeometryMembers
+pub mod Members
