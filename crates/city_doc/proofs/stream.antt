@@ -1,3 +1,4 @@
 -- What the proofs of several functions of src/stream/ use.
 pub mod GeometryMembers
 pub mod Members
+pub mod ObjectMembers
