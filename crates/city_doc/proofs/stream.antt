@@ -3,3 +3,4 @@ pub mod GeometryMembers
 pub mod ListedObjects
 pub mod Members
 pub mod ObjectMembers
+pub mod TopMembers
