@@ -6,6 +6,7 @@ use Rattle.city_model.specs.declared.object.Geometry.{Geometry}
 use Rattle.city_model.specs.declared.object.Shape.{Shape}
 use Rattle.city_model.specs.declared.object.Shape.TheVariants as shape
 use Rattle.city_model.specs.Kept.{kept_at_geometry}
+use Rattle.city_model.specs.Members.{AreOrdered}
 use Rattle.city_doc.specs.declared.stream.boundaries.Boundaries.{Boundaries}
 use Rattle.city_doc.specs.declared.stream.boundaries.Boundaries.TheVariants.{Surfaces, Shells, Solids}
 use Rattle.city_doc.specs.declared.stream.geometry.Kind.{Kind}
@@ -55,4 +56,5 @@ pub record IsGeometrySoFar (parts : GeometryParts) (found kept : Members) : Type
   pub kind : IsSlot IsKind parts.kind (get_member (codes "type") found)
   pub lod : IsSlot IsString parts.lod (get_member (codes "lod") found)
   pub boundaries : IsSlot AreBoundaries parts.boundaries (get_member (codes "boundaries") found)
-  pub kept : kept ≡ without_geometry_members found
+  pub ordered : AreOrdered found
+  pub extra : kept ≡ without_geometry_members found

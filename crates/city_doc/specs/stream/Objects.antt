@@ -5,6 +5,7 @@ use Rattle.serde_json.specs.Find.{get_member, as_str}
 use Rattle.city_model.specs.declared.object.Object.{Object}
 use Rattle.city_model.specs.declared.object_type.ObjectType.{ObjectType}
 use Rattle.city_model.specs.Kept.{kept_at_object}
+use Rattle.city_model.specs.Members.{AreOrdered}
 use Rattle.city_model.specs.Types.{type_named}
 use Rattle.city_doc.specs.declared.stream.object.ObjectParts.{ObjectParts}
 use Rattle.city_doc.specs.declared.stream.objects.Listing.{Listing}
@@ -31,7 +32,8 @@ pub record IsObjectSoFar (parts : ObjectParts) (found kept : Members) : Type 0 w
   pub geometry : IsListSlot IsGeometry parts.geometry (get_member (codes "geometry") found)
   pub parents : IsListSlot IsString parts.parents (get_member (codes "parents") found)
   pub children : IsListSlot IsString parts.children (get_member (codes "children") found)
-  pub kept : kept ≡ without_object_members found
+  pub ordered : AreOrdered found
+  pub extra : kept ≡ without_object_members found
 
 -- ---- objects by their ids, as a text lists them
 

@@ -2,7 +2,7 @@
 use Rattle.std.specs.Prelude.{◌≡◌, codes}
 use Rattle.serde_json.specs.Data.{Members}
 use Rattle.serde_json.specs.Find.{get_member}
-use Rattle.city_model.specs.Members.{without}
+use Rattle.city_model.specs.Members.{without, AreOrdered}
 use Rattle.city_doc.specs.declared.stream.document.TopParts.{TopParts}
 use Rattle.city_doc.specs.stream.Objects.{AreObjects}
 use Rattle.city_doc.specs.stream.Positions.{IsVertex}
@@ -11,4 +11,5 @@ use Rattle.city_doc.specs.stream.Standing.{IsArrayOf, IsSlot}
 pub record IsTopSoFar (parts : TopParts) (found kept : Members) : Type 0 where
   pub objects : IsSlot AreObjects parts.objects (get_member (codes "CityObjects") found)
   pub vertices : IsSlot (IsArrayOf IsVertex) parts.vertices (get_member (codes "vertices") found)
-  pub kept : kept ≡ without (codes "vertices") (without (codes "CityObjects") found)
+  pub ordered : AreOrdered found
+  pub extra : kept ≡ without (codes "vertices") (without (codes "CityObjects") found)
