@@ -1,6 +1,9 @@
 -- What the proofs of several functions of src/stream/ use.
-pub mod GeometryMembers
-pub mod ListedObjects
+pub mod Conversions
+mod GeometryMembers
+mod ListedObjects
 pub mod Members
-pub mod ObjectMembers
-pub mod TopMembers
+mod ObjectMembers
+pub mod Pairing
+pub mod Reading
+mod TopMembers

@@ -1,6 +1,5 @@
 //! Reads whole numbers.
-ghost use Rattle.std.specs.Prelude.{◌≡◌, ◌==◌, ◌<◌, ℕ, length, slice_index, Some, IfSome, IsTrue};
-ghost use Rattle.fast_float.specs.Text.{scan};
+ghost use Rattle.std.specs.Prelude.{◌≡◌, ◌==◌, ◌<◌, length, slice_index, true, false, Some, IfSome, IsTrue};
 ghost use Rattle.serde_json.specs.Find.{as_i64, of_integer};
 ghost use Rattle.serde_json.specs.Read.{number_of, number_from};
 

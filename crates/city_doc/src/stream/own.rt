@@ -72,5 +72,6 @@ pub fn read_object<O: Own>(
     if depth == 0 {
         return None;
     }
-    read_rest(alloc, reader, depth - 1, start)
+    let read = read_rest(alloc, reader, depth - 1, start)?;
+    Some(read)
 }

@@ -34,6 +34,7 @@ impl FromTokens for Id {
 
     fn from_tokens(alloc: Global, reader: &mut Reader<'_>, _depth: usize) -> Option<Id> {
         let text = read_str(reader)?;
-        text_of(alloc, text)
+        let copy = text_of(alloc, text)?;
+        Some(copy)
     }
 }
