@@ -1,4 +1,6 @@
 -- What the proofs of several functions of src/stream/ use.
+mod Brackets
+mod CityRead
 pub mod Conversions
 mod GeometryMembers
 mod ListedObjects

@@ -1,5 +1,5 @@
 -- Values that are read of tokens, an item or a member at a time.
-use Rattle.std.proofs.Common.{◌≡◌, ℕ, ◌-◌, ◌<◌, ◌≤◌, List, [], ◌∷◌, ◌++◌, length, map, ℤ, Bool, true, Option, Some, None, option_map, refl, sym, ap, ◌∙◌, subst, arith}
+use Rattle.std.proofs.Common.{◌≡◌, ℕ, ◌+◌, ◌-◌, ◌<◌, ◌≤◌, List, [], ◌∷◌, ◌++◌, length, map, ℤ, Bool, true, Option, Some, None, option_map, refl, sym, ap, ◌∙◌, subst, arith}
 use Rattle.std.specs.Prelude.{is_some}
 use Rattle.std.proofs.lemmas.Bool.{and_parts}
 use Rattle.json.specs.Token.{Token}
@@ -14,6 +14,7 @@ use Rattle.city_doc.proofs.stream.Conversions.{converted_some, converted-array, 
 use Rattle.city_model.specs.Integral.{is_integral, items_integral, members_integral}
 use Rattle.city_doc.proofs.tree.IntegralParts.{put-integral}
 use Rattle.city_doc.specs.stream.Taken.{IsValue, IsRestOfArray, IsRestOfObject}
+use Rattle.city_doc.specs.tree.Triples.{point_of}
 
 -- ---- one value
 
@@ -23,7 +24,7 @@ value_shorter depth old new d h = let j = converted_some of_json (value depth ol
 pub array_value : (depth : ℕ) (ts new : List Token) (ds : Items) → 0 < depth → IsRestOfArray (depth - 1) ts ds new → IsValue depth (Token.begin_array ∷ ts) (array ds) new
 array_value depth ts new ds some h =
     record {
-      read = ap (converted of_json) (value-begin_array depth ts some) ∙ converted-array (items (value (depth - 1)) (length ts) ts) ∙ ap (parse_map array) h.read;
+      read = ap (converted of_json) (value-begin_array depth ts some) ∙ converted-array (items (value (depth - 1)) (length ts) ts) ∙ ap (parse_map array) (h.read (length ts) (omega arith));
       whole = h.whole;
     }
 
@@ -85,32 +86,76 @@ views_push (w ∷ vs) v = ap (λ ds. view w ∷ ds) (views_push vs v)
 
 -- these items are read, and `now` is left
 pub record AreRead (depth : ℕ) (start now : List Token) (ds : List Data) : Type 0 where
-  pub n : ℕ
-  pub enough : length now ≤ n
-  pub read : converted of_items (items (value depth) (length start) start) ≡ parse_map (front ds) (converted of_items (items (value depth) n now))
+  pub read : (turns : ℕ) → length start ≤ turns
+      → (n : ℕ) × (length now ≤ n) × (converted of_items (items (value depth) turns start) ≡ parse_map (front ds) (converted of_items (items (value depth) n now)))
   pub whole : items_integral (items_of ds) ≡ true
 
 pub items_begin : (depth : ℕ) (start : List Token) → AreRead depth start start []
-items_begin depth start =
-    record { n = length start; enough = omega arith; read = front-begins (converted of_items (items (value depth) (length start) start)); whole = refl }
+items_begin depth start = record { read = λ turns enough. (turns, enough, front-begins (converted of_items (items (value depth) turns start))); whole = refl }
 
 pub items_next : {depth : ℕ} {start now next : List Token} {ds : List Data} {d : Data} → AreRead depth start now ds → after_end_array now ≡ None → IsValue depth now d next → AreRead depth start next (ds ++ d ∷ [])
 items_next {depth} {start} {now} {next} {ds} {d} h going v =
     let less = value_shorter depth now next d v in
     record {
-      n = h.n - 1;
-      enough = omega (arith, less, h.enough);
-      read = h.read ∙ ap (parse_map (front ds)) (item_read (value depth) h.n now next d (omega (arith, less, h.enough)) going v.read)
-          ∙ front-grows ds d (converted of_items (items (value depth) (h.n - 1) next));
+      read = λ turns enough.
+          let was = h.read turns enough in
+          let left : length now ≤ was.0 = was.1 in (
+            was.0 - 1,
+            omega (arith, less, left),
+            was.2 ∙ ap (parse_map (front ds)) (item_read (value depth) was.0 now next d (omega (arith, less, left)) going v.read)
+                ∙ front-grows ds d (converted of_items (items (value depth) (was.0 - 1) next)),
+          );
       whole = whole_push ds d h.whole v.whole;
     }
 
 pub items_end : {depth : ℕ} {start now next : List Token} {ds : List Data} → AreRead depth start now ds → after_end_array now ≡ Some next → IsRestOfArray depth start (items_of ds) next
 items_end {depth} {start} {now} {next} {ds} h end =
     record {
-      read = h.read ∙ ap (parse_map (front ds)) (items_over (value depth) h.n now next h.enough end) ∙ ap (λ all. Some (all, next)) (front-ends ds);
+      read = λ turns enough.
+          let was = h.read turns enough in
+          was.2 ∙ ap (parse_map (front ds)) (items_over (value depth) was.0 now next was.1 end) ∙ ap (λ all. Some (all, next)) (front-ends ds);
       whole = h.whole;
     }
+
+-- a value begins with no bracket that closes
+no_value : {P : Type 0} (depth : ℕ) (ts new : List Token) (d : Data) → value depth ts ≡ None → IsValue depth ts d new → P
+no_value depth ts new d none h = absurd (let no : None ≡ Some (d, new) = sym (ap (converted of_json) none) ∙ h.read in cc)
+
+pub value_going : (depth : ℕ) (ts new : List Token) (d : Data) → IsValue depth ts d new → after_end_array ts ≡ None
+value_going depth [] new d h = refl
+value_going depth (Token.begin_object ∷ ts) new d h = refl
+value_going depth (Token.end_object ∷ ts) new d h = refl
+value_going depth (Token.begin_array ∷ ts) new d h = refl
+value_going depth (Token.end_array ∷ ts) new d h = no_value depth (Token.end_array ∷ ts) new d (value_is depth (Token.end_array ∷ ts)) h
+value_going depth (Token.key s ∷ ts) new d h = refl
+value_going depth (Token.string s ∷ ts) new d h = refl
+value_going depth (Token.number s ∷ ts) new d h = refl
+value_going depth (Token.boolean b ∷ ts) new d h = refl
+value_going depth (Token.null ∷ ts) new d h = refl
+value_going depth (Token.bad ∷ ts) new d h = refl
+
+-- an item and the items after it are an array
+pub after_value : {depth : ℕ} {before now new : List Token} {d : Data} {ds : List Data} → IsValue depth before d now → IsRestOfArray depth now (items_of ds) new → IsValue (depth + 1) (Token.begin_array ∷ before) (array (items_of (d ∷ ds))) new
+after_value {depth} {before} {now} {new} {d} {ds} v rest =
+    let less = value_shorter depth before now d v in
+    let all : IsRestOfArray depth before (items_of (d ∷ ds)) new =
+    record {
+      read = λ turns enough.
+          item_read (value depth) turns before now d (omega (arith, less, enough)) (value_going depth before now d v) v.read
+          ∙ ap (parse_map (item d)) (rest.read (turns - 1) (omega (arith, less, enough)));
+      whole = rw (v.whole, rest.whole) refl;
+    } in
+    let one : depth ≡ depth + 1 - 1 = omega arith in
+    array_value (depth + 1) before new (items_of (d ∷ ds)) (omega arith) (subst (λ k. IsRestOfArray k before (items_of (d ∷ ds)) new) one all)
+
+-- three items, and the bracket that closes them
+pub three_value : (depth : ℕ) {a b c e new : List Token} {x y z : Data} → 0 < depth → IsValue (depth - 1) a x b → IsValue (depth - 1) b y c → IsValue (depth - 1) c z e → after_end_array e ≡ Some new
+    → IsValue depth (Token.begin_array ∷ a) (array (items_of (x ∷ y ∷ z ∷ []))) new
+three_value depth {a} {b} {c} {e} {new} {x} {y} {z} some one two three end =
+    let k = depth - 1 in
+    array_value depth a new (items_of (x ∷ y ∷ z ∷ [])) some
+    (items_end
+    (items_next (items_next (items_next (items_begin k a) (value_going k a b x one) one) (value_going k b c y two) two) (value_going k c e z three) three) end)
 
 -- ---- members
 
@@ -138,3 +183,7 @@ members_next {depth} {start} {now} {after} {next} {found} {k} {d} h named v =
 pub members_end : {depth : ℕ} {start now next : List Token} {found : Members} → AreFound depth start now found → read_key now ≡ Some (None, next) → IsRestOfObject depth start found next
 members_end {depth} {start} {now} {next} {found} h end =
     record { read = h.read ∙ members_over (value depth) found h.n now next h.enough end; whole = h.whole }
+
+pub point_read : (x y z : ℤ) → as_i64 (of_integer x) ≡ Some x → as_i64 (of_integer y) ≡ Some y → as_i64 (of_integer z) ≡ Some z
+    → point_of (array (items_of (number (of_integer x) ∷ number (of_integer y) ∷ number (of_integer z) ∷ []))) ≡ Some (record { x = x; y = y; z = z })
+point_read x y z one two three = rw (one, two, three) refl

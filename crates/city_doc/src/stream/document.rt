@@ -1,10 +1,11 @@
 //! Reads whole documents.
-ghost use Rattle.std.specs.Prelude.{◌≡◌, List, [], Some, IfSome, true};
-ghost use Rattle.json.specs.Token.{Token};
+ghost use Rattle.std.specs.Prelude.{◌≡◌, ◌&&◌, [], Some, IfSome, codes, true};
 ghost use Rattle.serde_json.specs.Data.{Data, Members, object};
+ghost use Rattle.serde_json.specs.Find.{get_member};
 ghost use Rattle.serde_json.specs.View.{members_view};
 ghost use Rattle.city_model.specs.Integral.{is_integral};
 ghost use Rattle.city_doc.specs.document.Cities.{city_of};
+ghost use Rattle.city_doc.specs.document.Top.{is_text};
 ghost use Rattle.city_doc.specs.stream.Tops.{IsTopSoFar};
 ghost use Rattle.city_doc.specs.stream.Taken.{IsValue};
 ghost use Rattle.city_doc.specs.tree.Texts.{HasTree};
@@ -61,7 +62,11 @@ impl Own for TopParts {
 }
 
 /// Whether the type and the version are those of a document.
-fn is_city_json(rest: &Map<String, Value>) -> bool {
+fn is_city_json(rest: &Map<String, Value>) -> bool
+    ensures { result ≡ (is_text (codes "CityJSON")
+        (get_member (codes "type") (members_view rest.now.entries))
+        && is_text (codes "2.0") (get_member (codes "version") (members_view rest.now.entries))) }
+{
     is_text(member(rest, "type"), "CityJSON") && is_text(member(rest, "version"), "2.0")
 }
 
@@ -87,11 +92,12 @@ fn read_whole(alloc: Global, reader: &mut Reader<'_>) -> Option<City>
         objects: None,
         vertices: None,
     };
-    let (parts, rest) = read_object(alloc, reader, DEPTH, start)?;
+    let read = read_object(alloc, reader, DEPTH, start)?;
     if reader.next().is_some() {
         return None;
     }
-    city_of(alloc, parts, rest)
+    let city = city_of(alloc, read.0, read.1)?;
+    Some(city)
 }
 
 /// The city that a text stands for; none where anything about the text is odd or there is no memory.
@@ -105,5 +111,6 @@ pub fn streamed_city(alloc: Global, bytes: &[u8]) -> Option<City>
     let text = simdutf8::compat::from_utf8(bytes).ok()?;
     let mut scratch = Scratch::new(alloc);
     let mut reader = Reader::new(text, &mut scratch).ok()?;
-    read_whole(alloc, &mut reader)
+    let city = read_whole(alloc, &mut reader)?;
+    Some(city)
 }
