@@ -1,6 +1,6 @@
 -- Objects by their ids: listed as they are read, and placed in the order of their ids.
 use Rattle.std.proofs.Common.{◌≡◌, ℕ, List, [], ◌∷◌, ◌++◌, Option, Some, None, option_map, Ordering, Less, Equal, Greater, nat_cmp, refl, sym, ap, ◌∙◌, subst}
-use Rattle.std.specs.Prelude.{option_and_then, OnOk}
+use Rattle.std.specs.Prelude.{OnOk}
 use Rattle.std.specs.declared.result.Result.{Result}
 use Rattle.std.specs.declared.result.Result.TheVariants.{Ok, Err}
 use Rattle.std.specs.Result.{result_ok}
@@ -16,6 +16,7 @@ use Rattle.city_doc.specs.object.Bodies.{object_of}
 use Rattle.city_doc.specs.stream.Objects.{IsObject, IsNamedObject, IsListing, put_all}
 use Rattle.city_doc.specs.stream.Standing.{Pairs}
 use Rattle.city_doc.proofs.Options.{and_then_some, map_some}
+use Rattle.city_doc.proofs.stream.Pairing.{pairs_push}
 
 -- ---- listed
 
@@ -23,17 +24,11 @@ put_all_push : (ms : List (List ℕ × Data)) (m : List ℕ × Data) (start : Me
 put_all_push [] m start = refl
 put_all_push (k ∷ ms) m start = put_all_push ms m (put k.0 k.1 start)
 
-pub pairs_push : {A B : Type 0} (R : A → B → Type 0) (xs : List A) (ys : List B) (x : A) (y : B) → R x y → Pairs R xs ys → Pairs R (xs ++ x ∷ []) (ys ++ y ∷ [])
-pairs_push R [] [] x y is h = (is, tt)
-pairs_push R [] (z ∷ ys) x y is h = absurd h
-pairs_push R (w ∷ xs) [] x y is h = absurd h
-pairs_push R (w ∷ xs) (z ∷ ys) x y is h = (h.0, pairs_push R xs ys x y is h.1)
-
 pub listed : (old new : Entries) (id name : List ℕ) (o : Object) (d : Data) (found : Members) → new ≡ old ++ (id, o) ∷ [] → id ≡ name → IsObject o d → IsListing old found
     → IsListing new (put name d found)
 listed old new id name o d found grown named is h =
     subst (λ es. IsListing es (put name d found)) (sym grown)
-    (h.0 ++ (name, d) ∷ [], ap (put name d) h.1 ∙ sym (put_all_push h.0 (name, d) no_members), pairs_push IsNamedObject old h.0 (id, o) (name, d) (named, is) h.2)
+    (h.0 ++ (name, d) ∷ [], ap (put name d) h.1 ∙ sym (put_all_push h.0 (name, d) no_members), pairs_push IsNamedObject old h.0 (id, o) (name, d) h.2 (named, is))
 
 -- what a call promises where it gave a value
 pub given : {T E : Type 0} (r : Result T E) (o : Option T) (x : T) (P : Type 0) → o ≡ result_ok r → o ≡ Some x → OnOk r P → P

@@ -1,8 +1,7 @@
 -- What was read of an object's members, with one more.
 use Rattle.std.proofs.Common.{◌≡◌, ℕ, List, [], ◌∷◌, false, Some, codes, refl, sym, ap, ◌∙◌, subst}
-use Rattle.std.specs.Prelude.{◌||◌}
 use Rattle.serde_json.specs.Data.{Data, Members, put}
-use Rattle.city_model.specs.CityMap.{same_id, has_id}
+use Rattle.city_model.specs.CityMap.{has_id}
 use Rattle.city_model.specs.declared.object.Geometry.{Geometry}
 use Rattle.city_model.specs.declared.object_type.ObjectType.{ObjectType}
 use Rattle.city_model.proofs.Ids.{same_id_back}

@@ -1,4 +1,4 @@
-use Rattle.std.proofs.Common.{◌≡◌, true, false, [], sym, subst, ap, ◌∙◌}
+use Rattle.std.proofs.Common.{[], sym, subst, ◌∙◌}
 use Rattle.std.specs.Vec.Iter.{into_iter_items}
 use Rattle.city_doc.specs.stream.Positions.{points_of}
 use Rattle.city_doc.proofs.stream.ListedObjects.{IsPlacing, given, begins, goes_on}

@@ -1,4 +1,4 @@
-use Rattle.std.proofs.Common.{refl, ap, sym, ◌∙◌}
+use Rattle.std.proofs.Common.{refl, sym, ◌∙◌}
 use Rattle.serde_json.specs.Data.{string}
 use Rattle.city_doc.proofs.stream.ObjectMembers.{with_kind, with_geometry, with_parents, with_children, with_kept}
 use Rattle.city_doc.proofs.stream.object.ObjectPartsOwn.take.Goals as goal
