@@ -1,5 +1,5 @@
 -- What the proofs of several functions of src/stream/ use.
-mod Brackets
+mod Opening
 mod CityRead
 pub mod Conversions
 mod GeometryMembers
@@ -9,3 +9,4 @@ mod ObjectMembers
 pub mod Pairing
 pub mod Reading
 mod TopMembers
+mod Written

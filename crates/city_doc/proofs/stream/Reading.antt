@@ -135,8 +135,8 @@ value_going depth (Token.null ∷ ts) new d h = refl
 value_going depth (Token.bad ∷ ts) new d h = refl
 
 -- an item and the items after it are an array
-pub after_value : {depth : ℕ} {before now new : List Token} {d : Data} {ds : List Data} → IsValue depth before d now → IsRestOfArray depth now (items_of ds) new → IsValue (depth + 1) (Token.begin_array ∷ before) (array (items_of (d ∷ ds))) new
-after_value {depth} {before} {now} {new} {d} {ds} v rest =
+pub after_value : {depth : ℕ} {before now new : List Token} {d : Data} (ds : List Data) → IsValue depth before d now → IsRestOfArray depth now (items_of ds) new → IsValue (depth + 1) (Token.begin_array ∷ before) (array (items_of (d ∷ ds))) new
+after_value {depth} {before} {now} {new} {d} ds v rest =
     let less = value_shorter depth before now d v in
     let all : IsRestOfArray depth before (items_of (d ∷ ds)) new =
     record {

@@ -61,7 +61,7 @@ pub fn read_boundaries(alloc: Global, reader: &mut Reader<'_>, depth: usize) -> 
     ensures { IfSome result (λ b. IsReadAs AreBoundaries b depth reader.old reader.new) }
 {
     let (brackets, first) = read_brackets(reader)?;
-    if brackets > depth {
+    if brackets < 3 || brackets > depth {
         return None;
     }
     let inner = depth - brackets;
