@@ -11,7 +11,7 @@ mod LawfulCities
 mod LawfulTrees
 mod Least
 mod LenientEntries
-mod Listings
+pub mod Listings
 mod NestsNoDeeper
 mod NoFault
 mod Objects

@@ -8,5 +8,6 @@ pub mod Members
 mod ObjectMembers
 pub mod Pairing
 pub mod Reading
+mod PlacedParts
 mod TopMembers
 mod Written

@@ -26,7 +26,6 @@ use Rattle.city_doc.proofs.tree.WithoutMembers.{without-swap, without-twice}
 abbrev others : Members → Members
 others found = without (codes "vertices") (without (codes "CityObjects") found)
 
-
 top_without : (rest : Members) → without_top_members (without (codes "vertices") rest) ≡ without_top_members rest
 top_without rest =
     let v = codes "vertices" in

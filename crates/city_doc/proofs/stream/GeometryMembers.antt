@@ -19,36 +19,36 @@ pub with_kind : (parts : GeometryParts) (k : Kind) (name : List ℕ) (d : Data) 
 with_kind parts k name d found kept named is h =
     let new : GeometryParts = record { kind = Some k; lod = parts.lod; boundaries = parts.boundaries } in
     subst (λ n. IsGeometrySoFar new (put n d found) kept) (sym named) (record {
-  kind = slot_here IsKind k (codes "type") d found is;
-  lod = slot_other IsString parts.lod (codes "lod") (codes "type") d found refl h.lod;
-  boundaries = slot_other AreBoundaries parts.boundaries (codes "boundaries") (codes "type") d found refl h.boundaries;
-  ordered = ordered_put (codes "type") d found h.ordered;
-  extra = h.extra ∙ sym (put_own names (codes "type") d found h.ordered refl);
-})
+      kind = slot_here IsKind k (codes "type") d found is;
+      lod = slot_other IsString parts.lod (codes "lod") (codes "type") d found refl h.lod;
+      boundaries = slot_other AreBoundaries parts.boundaries (codes "boundaries") (codes "type") d found refl h.boundaries;
+      ordered = ordered_put (codes "type") d found h.ordered;
+      extra = h.extra ∙ sym (put_own names (codes "type") d found h.ordered refl);
+    })
 
 pub with_lod : (parts : GeometryParts) (lod : List ℕ) (name : List ℕ) (d : Data) (found kept : Members) → name ≡ codes "lod" → IsString lod d → IsGeometrySoFar parts found kept
     → IsGeometrySoFar (record { kind = parts.kind; lod = Some lod; boundaries = parts.boundaries }) (put name d found) kept
 with_lod parts lod name d found kept named is h =
     let new : GeometryParts = record { kind = parts.kind; lod = Some lod; boundaries = parts.boundaries } in
     subst (λ n. IsGeometrySoFar new (put n d found) kept) (sym named) (record {
-  kind = slot_other IsKind parts.kind (codes "type") (codes "lod") d found refl h.kind;
-  lod = slot_here IsString lod (codes "lod") d found is;
-  boundaries = slot_other AreBoundaries parts.boundaries (codes "boundaries") (codes "lod") d found refl h.boundaries;
-  ordered = ordered_put (codes "lod") d found h.ordered;
-  extra = h.extra ∙ sym (put_own names (codes "lod") d found h.ordered refl);
-})
+      kind = slot_other IsKind parts.kind (codes "type") (codes "lod") d found refl h.kind;
+      lod = slot_here IsString lod (codes "lod") d found is;
+      boundaries = slot_other AreBoundaries parts.boundaries (codes "boundaries") (codes "lod") d found refl h.boundaries;
+      ordered = ordered_put (codes "lod") d found h.ordered;
+      extra = h.extra ∙ sym (put_own names (codes "lod") d found h.ordered refl);
+    })
 
 pub with_boundaries : (parts : GeometryParts) (b : Boundaries) (name : List ℕ) (d : Data) (found kept : Members) → name ≡ codes "boundaries" → AreBoundaries b d → IsGeometrySoFar parts found kept
     → IsGeometrySoFar (record { kind = parts.kind; lod = parts.lod; boundaries = Some b }) (put name d found) kept
 with_boundaries parts b name d found kept named is h =
     let new : GeometryParts = record { kind = parts.kind; lod = parts.lod; boundaries = Some b } in
     subst (λ n. IsGeometrySoFar new (put n d found) kept) (sym named) (record {
-  kind = slot_other IsKind parts.kind (codes "type") (codes "boundaries") d found refl h.kind;
-  lod = slot_other IsString parts.lod (codes "lod") (codes "boundaries") d found refl h.lod;
-  boundaries = slot_here AreBoundaries b (codes "boundaries") d found is;
-  ordered = ordered_put (codes "boundaries") d found h.ordered;
-  extra = h.extra ∙ sym (put_own names (codes "boundaries") d found h.ordered refl);
-})
+      kind = slot_other IsKind parts.kind (codes "type") (codes "boundaries") d found refl h.kind;
+      lod = slot_other IsString parts.lod (codes "lod") (codes "boundaries") d found refl h.lod;
+      boundaries = slot_here AreBoundaries b (codes "boundaries") d found is;
+      ordered = ordered_put (codes "boundaries") d found h.ordered;
+      extra = h.extra ∙ sym (put_own names (codes "boundaries") d found h.ordered refl);
+    })
 
 pub with_kept : (parts : GeometryParts) (name : List ℕ) (d : Data) (found kept : Members) → (name ≡ codes "type" → ⊥) → (name ≡ codes "lod" → ⊥) → (name ≡ codes "boundaries" → ⊥)
     → IsGeometrySoFar parts found kept → IsGeometrySoFar parts (put name d found) (put name d kept)

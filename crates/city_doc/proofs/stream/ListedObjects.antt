@@ -43,7 +43,7 @@ cmp = slice_cmp nat_cmp
 put_step : (o : Ordering) (points : List Point) (id l : List ℕ) (d e : Data) (x y : Object) (ms : Members) (es : Entries) → slice_cmp nat_cmp id l ≡ o → object_of points d ≡ Some x → object_of points e ≡ Some y
     → entries_of points ms ≡ Some es → entries_of points (put id d ms) ≡ Some (insert_entry cmp es id x)
     → entries_of points (match_ordering o (member id d (member l e ms)) (member l d ms) (member l e (put id d ms)))
-        ≡ Some (match_ordering o ((id, x) ∷ (l, y) ∷ es) ((l, x) ∷ es) ((l, y) ∷ insert_entry cmp es id x))
+    ≡ Some (match_ordering o ((id, x) ∷ (l, y) ∷ es) ((l, x) ∷ es) ((l, y) ∷ insert_entry cmp es id x))
 put_step Less points id l d e x y ms es is one other here rest = rw (one, other, here) refl
 put_step Equal points id l d e x y ms es is one other here rest = rw (one, here) refl
 put_step Greater points id l d e x y ms es is one other here rest = rw (other, rest) refl
@@ -72,9 +72,13 @@ next : (points : List Point) (id : List ℕ) (unplaced o : Object) (left placed 
     → found ≡ put_all rest start → Pairs IsNamedObject ((id, unplaced) ∷ left) rest → entries_of points start ≡ Some placed
     → (start : Members) × (rest : List (List ℕ × Data)) × (found ≡ put_all rest start) × Pairs IsNamedObject left rest × (entries_of points start ≡ Some (insert_entry cmp placed id o))
 next points id unplaced o left placed found start [] is same pairs here = absurd pairs
-next points id unplaced o left placed found start (m ∷ rest) is same pairs here =
-    (put m.0 m.1 start, rest, same, pairs.1,
-        subst (λ k. entries_of points (put m.0 m.1 start) ≡ Some (insert_entry cmp placed k o)) (sym pairs.0.0) (entries_put points m.0 m.1 o start placed (is m.1 pairs.0.1) here))
+next points id unplaced o left placed found start (m ∷ rest) is same pairs here = (
+  put m.0 m.1 start,
+  rest,
+  same,
+  pairs.1,
+  subst (λ k. entries_of points (put m.0 m.1 start) ≡ Some (insert_entry cmp placed k o)) (sym pairs.0.0) (entries_put points m.0 m.1 o start placed (is m.1 pairs.0.1) here),
+)
 
 pub goes_on : (points : List Point) (all left placed new : Entries) (id : List ℕ) (unplaced o : Object) → ((d : Data) → IsObject unplaced d → object_of points d ≡ Some o) → new ≡ insert_entry cmp placed id o
     → IsPlacing points all ((id, unplaced) ∷ left) placed → IsPlacing points all left new

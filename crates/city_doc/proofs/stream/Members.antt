@@ -73,8 +73,8 @@ put_own (n ∷ ns) name d ms h is =
     by_id name n
     (λ e. ap (without_all ns) (subst (λ k. without n (put k d ms) ≡ without n ms) (sym e) (without-put_own n d ms)))
     (λ apart.
-        ap (without_all ns) (without-put_apart n name d ms (same_id_back n name ∙ apart) h)
-        ∙ put_own ns name d (without n ms) (ordered_without n ms h) (ap (λ b. b || has_id ns name) (sym apart) ∙ is))
+    ap (without_all ns) (without-put_apart n name d ms (same_id_back n name ∙ apart) h)
+    ∙ put_own ns name d (without n ms) (ordered_without n ms h) (ap (λ b. b || has_id ns name) (sym apart) ∙ is))
 
 -- a member of another name is
 pub put_kept : (ns : List (List ℕ)) (name : List ℕ) (d : Data) (ms : Members) → AreOrdered ms → has_id ns name ≡ false → without_all ns (put name d ms) ≡ put name d (without_all ns ms)

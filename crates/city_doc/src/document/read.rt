@@ -51,11 +51,8 @@ fn lawful_city(alloc: Global, bytes: &[u8]) -> Option<City>
     ensures { IfSome result (λ c. IsAdmitted bytes.now c) }
 {
     let city = streamed_city(alloc, bytes)?;
-    if is_lawful(alloc, &city).ok()? {
-        Some(city)
-    } else {
-        None
-    }
+    let lawful = is_lawful(alloc, &city).ok()?;
+    if lawful { Some(city) } else { None }
 }
 
 /// Reads a document from its tree.

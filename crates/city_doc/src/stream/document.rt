@@ -108,9 +108,13 @@ pub fn streamed_city(alloc: Global, bytes: &[u8]) -> Option<City>
     if bytes.len() > MAX_TEXT {
         return None;
     }
-    let text = simdutf8::compat::from_utf8(bytes).ok()?;
+    let Ok(text) = simdutf8::compat::from_utf8(bytes) else {
+        return None;
+    };
     let mut scratch = Scratch::new(alloc);
-    let mut reader = Reader::new(text, &mut scratch).ok()?;
+    let Ok(mut reader) = Reader::new(text, &mut scratch) else {
+        return None;
+    };
     let city = read_whole(alloc, &mut reader)?;
     Some(city)
 }

@@ -47,14 +47,15 @@ impl Places for Point {
     }
 }
 
-fn place_all<T: Places>(alloc: Global, vertices: &[Vertex], items: &mut [T]) -> Option<()>
-    ensures { IfSome result (λ _. Pairs (IsPlaced T.stands (T.reads (points_of vertices.now)))
-        items.old items.new) }
+fn place_all<T: Places>(alloc: Global, vertices: &[Vertex], unplaced: Vec<T>) -> Option<Vec<T>>
+    ensures { IfSome result (λ placed. Pairs (IsPlaced T.stands (T.reads (points_of vertices.now)))
+        unplaced.items placed.items) }
 {
+    let mut items = unplaced;
     for item in items.iter_mut() {
         item.place(alloc, vertices)?;
     }
-    Some(())
+    Some(items)
 }
 
 impl<T: Places> Places for Sequence<T> {
@@ -63,8 +64,8 @@ impl<T: Places> Places for Sequence<T> {
     ghost reads = { λ points. list_of (T.reads points) };
 
     fn place(&mut self, alloc: Global, vertices: &[Vertex]) -> Option<()> {
-        let mut items = replace(self, Sequence::new(alloc)).into_vec();
-        place_all(alloc, vertices, items.as_mut_slice())?;
+        let unplaced = replace(self, Sequence::new(alloc)).into_vec();
+        let items = place_all(alloc, vertices, unplaced)?;
         *self = Sequence::from_vec(items);
         Some(())
     }

@@ -14,8 +14,8 @@ use Rattle.city_doc.proofs.stream.document.city_of.Goals as goal
 pub returns : goal.returns
 returns c = λ found so.
     let rest = members_view c.args.rest.entries in
-    let v = subst (λ o. IsSlot (IsArrayOf IsVertex) o (get_member (codes "vertices") found)) c.in_ok-vertices.is so.vertices in
-    let o = subst (λ o. IsSlot AreObjects o (get_member (codes "CityObjects") found)) c.in_ok-parts.is so.objects in
+    let v = subst (λ o. IsSlot (IsArrayOf IsVertex) o (get_member (codes "vertices") found)) c.in_ok-vertices.was so.vertices in
+    let o = subst (λ o. IsSlot AreObjects o (get_member (codes "CityObjects") found)) c.in_ok-parts.was so.objects in
     let right : (is_text (codes "CityJSON") (get_member (codes "type") rest) && is_text (codes "2.0") (get_member (codes "version") rest)) ≡ true = grind arith in
     let framed : frame_of_rest rest ≡ Some c.in_ok-frame.frame = grind arith in
     let listed = subst (λ vs. entries_of (points_of vs) o.2.0 ≡ Some c.in_ok-objects.objects.entries) c.as_slice.ensures (c.in_ok-objects.ensures o.2.0 o.2.2) in

@@ -1,5 +1,4 @@
 use Rattle.std.proofs.Common.{◌≡◌, ◌≤◌, [], length, Some, sym, ap, ◌∙◌, subst, arith}
-use Rattle.std.specs.Prelude.{IsUtf8}
 use Rattle.json.specs.Lex.{tokens}
 use Rattle.json.specs.Json.{value}
 use Rattle.serde_json.specs.Read.{read}
@@ -13,7 +12,7 @@ returns c =
     let bytes = c.args.bytes.now in
     let city = c.in_ok-city.ensures in
     let short : length bytes ≤ max_text = grind arith in
-    let checked : IsUtf8 bytes = grind arith in
-    let given : c.in_ok-reader.reader ≡ tokens bytes = grind arith in
+    let text = c.in-Ok.ensures.cases in
+    let given = c.in-Ok-new.ensures.ok ∙ ap tokens text.0 in
     let v = subst (λ ts. IsValue 127 ts city.0 []) given city.1 in
-    (city.0, (short, checked, whole_read (value 127 (tokens bytes)) city.0 v.read), v.whole, city.2)
+    (city.0, (short, (text.1, whole_read (value 127 (tokens bytes)) city.0 v.read)), v.whole, city.2)

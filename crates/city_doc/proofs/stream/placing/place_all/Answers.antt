@@ -9,12 +9,12 @@ pub loop-item-preserved : goal.loop-item-preserved
 loop-item-preserved g c =
     let l = c.loop-item in
     let i = l.item-index in
-    let start = c.args.items.now in
+    let start = c.deref_mut-item-items.result.now in
     let done = l.invariant.0 in
     let x = c.item-item.result in
     let y = c.place.new.self in
     let R = IsPlaced g.T.Places.stands (g.T.Places.reads (points_of c.args.vertices.now)) in
-    let within : i < length l.items = grind arith in
+    let within : i < length l.item-items = grind arith in
     let below : i < length (done ++ drop i start) = subst (λ zs. i < length zs) l.invariant.1 within in
     let is : x ≡ get_or (done ++ drop i start) i x = c.item-item.is ∙ ap (λ zs. get_or zs i x) l.invariant.1 in
     let one : R x y = subst (λ z. R z y) (sym c.item-item.is) c.in_ok-place.ensures in

@@ -9,7 +9,7 @@ use Rattle.serde_json.specs.View.{view, members_view}
 use Rattle.serde_json.specs.declared.value.Value.{String, Bool, Null, the_lemmas}
 use Rattle.serde_json.proofs.Views.{view-Array, view-Object, members_view-insert_entry}
 use Rattle.city_doc.proofs.stream.Reading.{AreRead, AreFound, value_shorter, seen_value, null_value, boolean_value, string_value, whole_value, array_value, object_value}
-use Rattle.city_doc.proofs.stream.Reading.{items_next, items_end, views_push, members_next, members_end}
+use Rattle.city_doc.proofs.stream.Reading.{items_begin, items_next, items_end, views_push, members_next, members_end}
 use Rattle.city_doc.proofs.stream.value.+value.Goals as goal
 
 pub read_items-items-smaller : goal.read_items-items-smaller
@@ -90,3 +90,6 @@ read_value-returns-in_ok-members-in-BeginObject t c =
     let first : c.args.reader.now ≡ Token.begin_object ∷ c.next.new.self = c.in_ok-next.ensures.value ∙ ap (λ k. token_of k ∷ c.next.new.self) c.in-BeginObject.is in
     let found = c.in_ok-members-in-BeginObject in
     seen_value first (view-Object found.members) (object_value c.args.depth c.next.new.self c.read_members.new.reader _ (omega arith) found.ensures)
+
+pub read_items-items-init : goal.read_items-items-init
+read_items-items-init t c = subst (λ vs. AreRead c.args.depth c.args.reader.now c.args.reader.now (map view vs)) (sym c.new-found.ensures.items) (items_begin c.args.depth c.args.reader.now)
