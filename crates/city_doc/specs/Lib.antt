@@ -5,4 +5,5 @@ pub mod object
 pub mod report
 pub mod script
 pub mod shape
+pub mod stream
 pub mod tree

@@ -1,5 +1,5 @@
 //! Judges a city that was read: its rings, its relations and its shells.
-ghost use Rattle.std.specs.Prelude.{◌≡◌, List, Bool, None, IfOk, IfSome, IfNone, MatchOption, option_map};
+ghost use Rattle.std.specs.Prelude.{◌≡◌, List, Bool, None, IfOk, IfSome, IfNone, IsTrue, MatchOption, option_map};
 ghost use Rattle.std.specs.List.{list_any};
 ghost use Rattle.std.specs.FinMap.{entries};
 ghost use Rattle.serde_json.specs.Data.{Members};
@@ -15,7 +15,7 @@ ghost use Rattle.city_doc.specs.document.LenientCities.{first_body, lesser, IsRe
 use crate::document::arranged::least_misrelated;
 use crate::fault::ReadFault;
 use crate::tree::values::named;
-use city_model::body_fault::{any_open_shell, any_same_twice, any_short_ring};
+use city_model::body_fault::{any_open_shell, any_same_twice, any_short_ring, body_fault};
 use city_model::city::City;
 use city_model::copied::Copied;
 use city_model::object::Body;
@@ -71,6 +71,37 @@ fn first_body<J: BodyTest>(alloc: Global, city: &City) -> Result<Option<&Id>, Al
     Ok(None)
 }
 
+/// Whether no body has a fault; each is judged in one go.
+fn are_faultless(alloc: Global, city: &City) -> Result<bool, AllocError>
+    ensures rings { IfOk result (λ b. IsTrue b → first_body is_bad_ringed (entries city.now.1) ≡ None) }
+    ensures shells { IfOk result (λ b. IsTrue b
+        → first_body (some_shape has_open_shell) (entries city.now.1) ≡ None) }
+{
+    for (_, object) in city.iter() {
+        let fault = body_fault(alloc, &object.body)?;
+        if fault.is_some() {
+            return Ok(false);
+        }
+    }
+    Ok(true)
+}
+
+/// The first id, in byte order, of an object whose body has it, where the bodies aren't known to be
+/// without fault.
+fn first_unless<J: BodyTest>(
+    alloc: Global,
+    faultless: bool,
+    city: &City,
+) -> Result<Option<&Id>, AllocError>
+    requires { IsTrue faultless → first_body J.test (entries city.now.1) ≡ None }
+    ensures { IfOk result (λ o. option_map (λ id. id.now) o ≡ first_body J.test (entries city.now.1)) }
+{
+    if faultless {
+        return Ok(None);
+    }
+    first_body::<J>(alloc, city)
+}
+
 /// The lesser of two ids, in byte order, where there are any.
 fn lesser<'i>(one: Option<&'i Id>, other: Option<&'i Id>) -> Option<&'i Id>
     ensures { option_map (λ id. id.now) result
@@ -113,6 +144,21 @@ fn least_badly_related(
     Ok(least)
 }
 
+/// Whether a city is lawful.
+#[tactic(auto, using(crate::proofs::document::LawfulCities::lawful))]
+pub fn is_lawful(alloc: Global, city: &City) -> Result<bool, AllocError>
+    ensures { IfOk result (λ b. IsTrue b → IsLawful (at city.now.1)) }
+{
+    let faultless = are_faultless(alloc, city)?;
+    if !faultless {
+        return Ok(false);
+    }
+    match least_misrelated(alloc, city)? {
+        Some(_) => Ok(false),
+        None => Ok(true),
+    }
+}
+
 /// The first fault of a city that was read, where a list of ids that isn't an array of texts counts
 /// as empty; the least id that has such a list is given. None where the city is lawful and there is
 /// no such list.
@@ -126,7 +172,8 @@ pub fn city_fault(
         → MatchOption o (IsLawful (at city.now.1) × (option_map (λ id. id.now) bad_list.entry ≡ None))
         (λ f. IsFirst (StandsAmong points objects) f)) }
 {
-    if let Some(id) = first_body::<BadRing>(alloc, city)? {
+    let faultless = are_faultless(alloc, city)?;
+    if let Some(id) = first_unless::<BadRing>(alloc, faultless, city)? {
         let id = named(alloc, id.as_str())?;
         return Ok(Some(ReadFault::BadRing(id)));
     }
@@ -134,7 +181,7 @@ pub fn city_fault(
     if let Some(id) = badly_related {
         return Ok(Some(ReadFault::Relations(id)));
     }
-    if let Some(id) = first_body::<OpenShell>(alloc, city)? {
+    if let Some(id) = first_unless::<OpenShell>(alloc, faultless, city)? {
         let id = named(alloc, id.as_str())?;
         return Ok(Some(ReadFault::OpenShell(id)));
     }

@@ -12,11 +12,12 @@ ghost use Rattle.city_doc.specs.document.LenientCities.{lenient_city_of};
 ghost use Rattle.city_doc.specs.tree.Texts.{IsReadable, HasTree};
 
 use crate::document::build::lenient_city_of;
-use crate::document::city_faults::city_fault;
+use crate::document::city_faults::{city_fault, is_lawful};
 use crate::document::faults::{first_bad_list, objects_fault};
 use crate::document::top::wrong_member;
 use crate::fault::ReadFault;
 use crate::shape::vertices::vertices_in;
+use crate::stream::document::streamed_city;
 use crate::tree::parse::{parse, tree_of};
 use crate::tree::values::named;
 use city_model::city::City;
@@ -31,6 +32,31 @@ use std::alloc::Global;
 /// `OutOfMemory` has no place in that order: it is answered where there was no memory for the tree,
 /// for an object or for a fault's name. The text is only lent, so a refusal leaves nothing behind.
 pub fn read_city(alloc: Global, bytes: &[u8]) -> Result<City, ReadFault>
+    ensures stands { IfOk result (λ c. StandsForCity bytes.now c) }
+    ensures lawful { IfOk result (λ c. IsLawful (at c.1)) }
+    ensures readable { OnOk result (IsReadable bytes.now) }
+    ensures admitted { IfOk result (λ c. IsAdmitted bytes.now c) }
+    ensures fault { IfErr result (λ f. DocumentFault bytes.now f) }
+    ensures refused { IfErr result (λ f. (f ≡ ReadFault.OutOfMemory)
+        ⊎ ((c : CityValue) → IsAdmitted bytes.now c → ⊥)) }
+{
+    match lawful_city(alloc, bytes) {
+        Some(city) => Ok(city),
+        None => read_tree(alloc, bytes),
+    }
+}
+
+/// The city of a text, read from its tokens, which is lawful; none where anything is odd.
+fn lawful_city(alloc: Global, bytes: &[u8]) -> Option<City>
+    ensures { IfSome result (λ c. IsAdmitted bytes.now c) }
+{
+    let city = streamed_city(alloc, bytes)?;
+    let lawful = is_lawful(alloc, &city).ok()?;
+    if lawful { Some(city) } else { None }
+}
+
+/// Reads a document from its tree.
+fn read_tree(alloc: Global, bytes: &[u8]) -> Result<City, ReadFault>
     ensures stands { IfOk result (λ c. StandsForCity bytes.now c) }
     ensures lawful { IfOk result (λ c. IsLawful (at c.1)) }
     ensures readable { OnOk result (IsReadable bytes.now) }

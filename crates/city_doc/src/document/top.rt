@@ -16,7 +16,7 @@ use city_model::members::{into_object, take};
 use serde_json::{Map, Value};
 
 /// Whether the member is there and is this text.
-fn is_text(member: Option<&Value>, text: &str) -> bool
+pub fn is_text(member: Option<&Value>, text: &str) -> bool
     ensures { result ≡ is_text text.now (option_map (λ v. view v.now) member.entry) }
 {
     match member.and_then(Value::as_str) {

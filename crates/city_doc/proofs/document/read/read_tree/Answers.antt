@@ -3,7 +3,7 @@ use Rattle.serde_json.specs.View.{view}
 use Rattle.city_doc.specs.document.Faults.{DocumentFault}
 use Rattle.city_doc.proofs.document.LawfulTrees.{refused, refused_result}
 use Rattle.city_doc.proofs.document.WholeTrees.{text_is_whole}
-use Rattle.city_doc.proofs.document.read.read_city.Goals as goal
+use Rattle.city_doc.proofs.document.read.read_tree.Goals as goal
 
 pub returns-in_err-tree-clause-refused : goal.returns-in_err-tree-clause-refused
 returns-in_err-tree-clause-refused c = let fault : IfErr c.from_residual.result (λ f. DocumentFault c.args.bytes.now f) = search rules in refused_result c.args.bytes.now c.from_residual.result fault

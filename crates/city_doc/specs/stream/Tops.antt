@@ -1,0 +1,15 @@
+-- What was read of the members of a document's top.
+use Rattle.std.specs.Prelude.{◌≡◌, codes}
+use Rattle.serde_json.specs.Data.{Members}
+use Rattle.serde_json.specs.Find.{get_member}
+use Rattle.city_model.specs.Members.{without, AreOrdered}
+use Rattle.city_doc.specs.declared.stream.document.TopParts.{TopParts}
+use Rattle.city_doc.specs.stream.Objects.{AreObjects}
+use Rattle.city_doc.specs.stream.Positions.{IsVertex}
+use Rattle.city_doc.specs.stream.Standing.{IsArrayOf, IsSlot}
+
+pub record IsTopSoFar (parts : TopParts) (found kept : Members) : Type 0 where
+  pub objects : IsSlot AreObjects parts.objects (get_member (codes "CityObjects") found)
+  pub vertices : IsSlot (IsArrayOf IsVertex) parts.vertices (get_member (codes "vertices") found)
+  pub ordered : AreOrdered found
+  pub extra : kept ≡ without (codes "vertices") (without (codes "CityObjects") found)
