@@ -10,8 +10,9 @@ use Rattle.city_model.specs.Standing.{Lock, names, names_exclusively}
 abbrev pub AgreeOn : List Lock → CityMap → CityMap → Type 0
 AgreeOn ls m n = (id : List ℕ) → names ls id ≡ true → m id ≡ n id
 
--- of one command at two maps: the same cause, reply and locks; each id that is locked exclusively
--- is the same before and after, and each other id keeps its object
+-- one command at two maps: the cause, the reply and the locks are the same; at each id that it
+-- locks exclusively the two maps have the same object before, and the same one after; each other
+-- id keeps its object
 pub record IsFramed (m n : CityMap) (c : Command) : Type 0 where
   pub cause : cause_of m c ≡ cause_of n c
   pub reply : reply_to m c ≡ reply_to n c

@@ -64,7 +64,7 @@ step_as Leaves v c = record { map = after v.map c; marks = v.marks }
 step_as (Marks name) v c = record { map = v.map; marks = (name, v.map) ∷ v.marks }
 step_as (GoesBack name) v c = back_to v (marks_from name v.marks)
 
--- why the command is refused; what Commit is refused by is `Refuses`
+-- why the command is refused; `Refuses` says when a Commit is
 abbrev pub refusal : View → Command → Option Cause
 refusal v c = refusal_as (marking c) v c
 
@@ -72,7 +72,7 @@ refusal v c = refusal_as (marking c) v c
 abbrev pub step : View → Command → View
 step v c = step_as (marking c) v c
 
--- the reply to a command; at Commit, to one that finds no orphan
+-- the reply to a command; to a Commit, the one that it gets where there is no orphan
 abbrev pub answer : View → Command → Reply
 answer v c = refused_or (refusal v c) (done_reply v.map c)
 

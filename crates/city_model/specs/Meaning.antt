@@ -98,8 +98,8 @@ detached m child parent =
 
 -- ---- every command
 
--- why the command is refused, judged from left to right; what Commit is refused by is `Refuses`, and a Back
--- is refused by the marks (`refusal`)
+-- why the command is refused, judged from left to right; `Refuses` says when a Commit is, and `refusal`
+-- when a Back is
 abbrev pub cause_of : CityMap → Command → Option Cause
 cause_of m (Read id) = None
 cause_of m (Put id body) = put_cause id body (m id) (body_fault body)
@@ -161,7 +161,7 @@ is_refusal Aborted = false
 abbrev pub after : CityMap → Command → CityMap
 after m c = map_unless (cause_of m c) m (effect_of m c)
 
--- the reply to a command; at Commit, to one that finds no orphan
+-- the reply to a command; to a Commit, the one that it gets where there is no orphan
 abbrev pub reply_to : CityMap → Command → Reply
 reply_to m c = refused_or (cause_of m c) (done_reply m c)
 

@@ -1,4 +1,4 @@
--- What is to come of a command: its refusal, or its reply and the change that it writes.
+-- The plan of a command: its refusal, or its reply and the change that it writes.
 use Rattle.std.specs.Prelude.{◌≡◌, ◌==◌, ℕ, List, [], ◌∷◌, length, None, Some, Option, option_map}
 use Rattle.std.specs.Prelude.{if◌then◌else◌}
 use Rattle.std.specs.Map.{keys_of}
@@ -12,13 +12,13 @@ use Rattle.city_model.specs.Meaning.{cause_of, effect_of, done_reply, locks_of, 
 use Rattle.city_model.specs.Runs.{Change}
 use Rattle.city_model.specs.Standing.{names_exclusively}
 
--- what the change writes at each id is what stands there in the map
+-- what the change writes at each id is what the map has there
 abbrev pub AreOf : CityMap → Change → Type 0
 AreOf m [] = Unit {0}
 AreOf m (w ∷ ws) = (w.1 ≡ m w.0) × AreOf m ws
 
--- at the map, the command isn't refused, it is answered so, and it writes this change:
--- just at the ids that it locks exclusively, as it leaves them
+-- at the map, the command isn't refused, it gets this reply, and it writes this change: exactly the ids
+-- that it locks exclusively, as it leaves them
 pub record AreWritesOf (m : CityMap) (command : Command) (answer : Reply) (change : Change) : Type 0 where
   pub allowed : cause_of m command ≡ None
   pub reply : done_reply m command ≡ answer
@@ -35,7 +35,7 @@ only [] = None
 only (p ∷ []) = Some p
 only (p ∷ q ∷ ps) = None
 
--- the parent of an object without children that has one parent only
+-- the parent of an object that has no children and just one parent
 abbrev pub only_parent : Option Object → Option (List ℕ)
 only_parent None = None
 only_parent (Some o) = if length o.children == 0 then only o.parents else None

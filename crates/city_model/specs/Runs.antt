@@ -33,14 +33,14 @@ abbrev pub Refuses : View → Command → Cause → Type 0
 Refuses v Commit cause = (id : List ℕ) × (cause ≡ Orphan id) × IsLeastOrphan v.map id
 Refuses v c cause = refusal v c ≡ Some cause
 
--- the command, which is number i, ends its script so at the view v
+-- the command, which is number i, ends its script with this outcome at the view v
 abbrev pub EndsAt : View → Command → ℕ → Outcome → Type 0
 EndsAt v c i Outcome.Committed = (c ≡ Commit) × HasNoOrphan v.map
 EndsAt v c i Outcome.Aborted = c ≡ Abort
 EndsAt v c i (Outcome.Refused j cause) = (j ≡ i) × Refuses v c cause
 EndsAt v c i (Outcome.NoMemory j) = j ≡ i
 
--- the command, which doesn't end its script, is answered so
+-- the command, which doesn't end its script, gets this reply
 abbrev pub Continues : View → Command → Reply → Type 0
 Continues v c reply = (is_end c ≡ false) × (refusal v c ≡ None) × (answer v c ≡ reply)
 
@@ -50,8 +50,8 @@ EndsFrom v i [] replies outcome = ⊥
 EndsFrom v i (c ∷ cs) [] outcome = EndsAt v c i outcome
 EndsFrom v i (c ∷ cs) (r ∷ rs) outcome = Continues v c r × EndsFrom (step v c) (i + 1) cs rs outcome
 
--- what a script gives at the map m: the replies before its ending command, and how it ends;
--- want of memory may end it at any command
+-- what a script gives at the map m: the replies before its ending command, and how it ends; it may run out
+-- of memory at any command
 abbrev pub HasResult : CityMap → List Command → List Reply → Outcome → Type 0
 HasResult m commands replies outcome = EndsFrom (unmarked m) 0 commands replies outcome
 
@@ -70,7 +70,7 @@ commands_of (Some s) = s.1
 abbrev pub left_by : List Scripted → CityMap → End → CityMap
 left_by scripts m e = map_left m (commands_of (slice_get scripts e.script)) e.outcome
 
--- the map after the scripts that ended so, one at a time, in this order
+-- the map after the scripts of these ends, one at a time, in this order
 abbrev pub model_after : List Scripted → CityMap → List End → CityMap
 model_after scripts m [] = m
 model_after scripts m (e ∷ es) = model_after scripts (left_by scripts m e) es
@@ -103,7 +103,7 @@ Fits scripts m ends = FitsFrom scripts m 0 ends
 
 -- ---- changes
 
--- what a commit writes: ids, and the object that stands there then
+-- what a commit writes: ids, each with the object that it has afterwards, or none
 abbrev pub Change : Type 0
 Change = List (List ℕ × Option Object)
 

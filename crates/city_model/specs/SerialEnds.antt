@@ -1,9 +1,9 @@
--- How scripts end: by a commit, for want of memory, and one after the other in their order.
+-- How scripts end: by a commit, out of memory, and one after the other in their order.
 use Rattle.std.specs.Prelude.{◌≡◌, ◌+◌, ℕ, List, [], ◌∷◌, Bool, true, false, count_by}
 use Rattle.city_model.specs.declared.end.End.{End}
 use Rattle.city_model.specs.declared.end.Outcome.{Outcome}
 
--- the script ended for want of memory
+-- the script ended out of memory
 abbrev pub is_no_memory : Outcome → Bool
 is_no_memory Outcome.Committed = false
 is_no_memory Outcome.Aborted = false
@@ -20,8 +20,8 @@ is_commit (Outcome.NoMemory i) = false
 abbrev pub commits_in : List End → ℕ
 commits_in ends = count_by (λ e. is_commit e.outcome) ends
 
--- from place k on, the end at each place is that of the script of that number, which began there,
--- and none is for want of memory
+-- from place k on, the end at each place is that of the script of that number, which began there, and none
+-- ended out of memory
 abbrev pub IsSerialFrom : ℕ → List End → Type 0
 IsSerialFrom k [] = Unit {0}
 IsSerialFrom k (e ∷ es) =

@@ -85,7 +85,7 @@ boundaries_of (Shape.Solid shells) = Shells shells
 boundaries_of (Shape.MultiSolid solids) = Solids solids
 boundaries_of (Shape.CompositeSolid solids) = Solids solids
 
--- boundaries as the code lends them
+-- boundaries as the code borrows them
 abbrev pub bounds_view : Bounds → Boundaries
 bounds_view (Bounds.Surfaces surfaces) = Surfaces surfaces.now
 bounds_view (Bounds.Shells shells) = Shells shells.now

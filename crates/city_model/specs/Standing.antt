@@ -1,5 +1,5 @@
--- The commands of an open transaction stand: from the committed map they get the replies that they got,
--- each under its locks.
+-- The commands of an open transaction stand: run from the committed map they would get the replies that
+-- they got, and the locks of each are held.
 use Rattle.std.specs.Prelude.{◌≡◌, ℕ, List, [], ◌∷◌, Bool, true, false, not, Option, Some, None, map}
 use Rattle.std.specs.Prelude.{if◌then◌else◌}
 use Rattle.city_model.specs.declared.command.Command.{Command}
@@ -26,7 +26,7 @@ abbrev pub AllHeld : Held → List Lock → Type 0
 AllHeld held [] = Unit {0}
 AllHeld held (l ∷ ls) = (covers (held l.0) l.1 ≡ true) × AllHeld held ls
 
--- a command, and what it was answered
+-- a command, and the reply that it got
 abbrev pub Answered : Type 0
 Answered = Command × Reply
 

@@ -28,12 +28,12 @@ named_by v [] q = None
 named_by v (c ∷ cs) q =
     stronger_of (as_named (names_exclusively (locks_of v.map c) q) (names (locks_of v.map c) q)) (named_by (step v c) cs q)
 
--- what the commands are answered
+-- the replies to the commands
 abbrev pub replies_to : View → List Command → List Reply
 replies_to v [] = []
 replies_to v (c ∷ cs) = answer v c ∷ replies_to (step v c) cs
 
--- the map where it is held exclusively, and the other one elsewhere
+-- this map at each id that is held exclusively, and the other one elsewhere
 abbrev pub carried_map : Held → CityMap → CityMap → CityMap
 carried_map held other m = λ q. if covers (held q) true then m q else other q
 
@@ -45,8 +45,8 @@ abbrev pub carried : Held → CityMap → View → View
 carried held other v =
     record { map = carried_map held other v.map; marks = carried_marks held other v.marks }
 
--- of the same commands at two maps: the same replies; and where the locks name an id exclusively, the map and
--- each mark of the one are those of the other, and elsewhere as at its start
+-- the same commands at two maps: the replies are the same; at an id that they lock exclusively the map and each mark
+-- are the same for both, and at any other id each is as at its own start
 pub record IsTraceFramed (m n : CityMap) (cs : List Command) : Type 0 where
   pub replies : replies_to (unmarked n) cs ≡ replies_to (unmarked m) cs
   pub view : view_after (unmarked n) cs

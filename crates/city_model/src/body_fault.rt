@@ -9,8 +9,8 @@ use crate::rings::{has_same_twice, has_short_ring};
 use crate::shells::has_open_shell;
 use std::alloc::{AllocError, Global};
 
-/// The first of ShortRing, SameTwice and OpenShell that some geometry of the body has, or None. The
-/// only refusal is want of memory, and only where no ring is at fault: rings take no memory.
+/// The first of ShortRing, SameTwice and OpenShell that some geometry of the body has, or None. It
+/// fails only when out of memory, and only if no ring is at fault: judging rings doesn't allocate.
 pub fn body_fault(alloc: Global, body: &Body) -> Result<Option<Cause>, AllocError>
     ensures fault { IfOk result (λ f. f ≡ body_fault body.now) }
     ensures no_short_ring { OnErr result (some_shape has_short_ring body.now ≡ false) }
@@ -29,15 +29,15 @@ pub fn body_fault(alloc: Global, body: &Body) -> Result<Option<Cause>, AllocErro
     Ok(None)
 }
 
-/// Whether a surface of some geometry has no ring, or has a ring of fewer than three points. Takes no
-/// memory.
+/// Whether a surface of some geometry has no ring, or has a ring of fewer than
+/// three points. Doesn't allocate.
 pub fn any_short_ring(geometry: &[Geometry]) -> bool
     ensures { result ≡ list_any (λ g. has_short_ring g.shape) geometry.now }
 {
     geometry.iter().any(|g| has_short_ring(&g.shape))
 }
 
-/// Whether a ring of some geometry has two equal neighbours. Takes no memory.
+/// Whether a ring of some geometry has two equal neighbours. Doesn't allocate.
 pub fn any_same_twice(geometry: &[Geometry]) -> bool
     ensures { result ≡ list_any (λ g. has_same_twice g.shape) geometry.now }
 {

@@ -3,6 +3,6 @@ use crate::object::Object;
 use crate::sequence::Sequence;
 use crate::text::Id;
 
-/// What a commit writes: ids, each with the object that stands there then, or none where it is
-/// taken out.
+/// What a commit writes: ids, each with the object that it has afterwards, or None if
+/// the object is removed.
 pub type Change = Sequence<(Id, Option<Object>)>;

@@ -42,17 +42,17 @@ impl Model for City {
 }
 
 impl City {
-    /// A city of these objects. Takes no memory.
+    /// A city of these objects. Doesn't allocate.
     pub fn from_parts(frame: Frame, objects: BTreeMap<Id, Object>) -> Self
         ensures frame { result.0 ≡ frame }
         ensures entries { entries result.1 ≡ objects.entries }
     {
-        // (called for its promise that the ids ascend)
+        // (called for its contract: the ids ascend)
         let _count = objects.len();
         City { frame, objects }
     }
 
-    /// A city without objects. Takes no memory.
+    /// A city without objects. Doesn't allocate.
     pub fn new(alloc: Global, frame: Frame) -> Self
         ensures { result ≡ (frame, empty) }
     {
@@ -62,44 +62,45 @@ impl City {
         }
     }
 
-    /// The frame. Takes no memory.
+    /// The frame. Doesn't allocate.
     pub fn frame(&self) -> &Frame
         ensures { result.now ≡ self.now.0 }
     {
         &self.frame
     }
 
-    /// How many objects there are. Takes no memory.
+    /// How many objects there are. Doesn't allocate.
     pub fn len(&self) -> usize
         ensures { result ≡ len self.now.1 }
     {
         self.objects.len()
     }
 
-    /// Whether there is no object. Takes no memory.
+    /// Whether there is no object. Doesn't allocate.
     pub fn is_empty(&self) -> bool
         ensures { result ≡ (len self.now.1 == 0) }
     {
         self.len() == 0
     }
 
-    /// The object of an id. Takes no memory.
+    /// The object of an id. Doesn't allocate.
     pub fn get(&self, id: &Id) -> Option<&Object>
         ensures { option_copied result ≡ at self.now.1 id.now }
     {
         self.objects.get(id)
     }
 
-    /// The pairs of id and object, the ids in byte order. Takes no memory.
+    /// The pairs of id and object, the ids in byte order. Doesn't allocate.
     pub fn iter(&self) -> btree_map::Iter<'_, Id, Object>
         ensures { result ≡ entries self.now.1 }
     {
         self.objects.iter()
     }
 
-    /// Sets the object of an id, and gives the one that stood there.
+    /// Sets the object of an id, and returns the one that it had.
     ///
-    /// Where there is no memory the city is unchanged; for an id that is there no memory is taken.
+    /// If memory runs out, the city is unchanged. For an id that has an object
+    /// already it doesn't allocate.
     pub fn set(&mut self, id: Id, object: Object) -> Result<Option<Object>, OutOfMemory>
         ensures old { IfOk result (λ old. old ≡ at self.old.1 id) }
         ensures objects { OnOk result (self.new ≡ (self.old.0, insert self.old.1 id object)) }
@@ -110,7 +111,7 @@ impl City {
         Ok(self.objects.insert(id, object)?)
     }
 
-    /// Takes the object of an id out, and gives it. Takes no memory.
+    /// Removes the object of an id, and returns it. Doesn't allocate.
     pub fn remove(&mut self, id: &Id) -> Option<Object>
         ensures old { result ≡ at self.old.1 id.now }
         ensures objects { self.new ≡ (self.old.0, remove self.old.1 id.now) }
@@ -119,7 +120,8 @@ impl City {
         self.objects.remove(id)
     }
 
-    /// Adds a child to the object of an id, which is there. Want of memory leaves the city.
+    /// Adds a child to the object of an id, which must have one. If memory runs out,
+    /// the city is unchanged.
     pub fn push_child(&mut self, id: &Id, child: Id) -> Result<(), OutOfMemory>
         requires { is_some (at self.old.1 id.now) ≡ true }
         ensures frame { self.new.0 ≡ self.old.0 }
@@ -135,7 +137,7 @@ impl City {
         }
     }
 
-    /// Takes a child from the object of an id, which is there. Takes no memory.
+    /// Removes a child from the object of an id, which must have one. Doesn't allocate.
     pub fn remove_child(&mut self, id: &Id, child: &Id)
         requires { is_some (at self.old.1 id.now) ≡ true }
         ensures frame { self.new.0 ≡ self.old.0 }

@@ -1,23 +1,24 @@
-//! The commands of a script, and what they are answered.
+//! The commands of a script, and the replies to them.
 use crate::object::{Body, Object};
 use crate::text::{Id, Text};
 
 /// A command of a script.
 #[derive(Drop)]
 pub enum Command {
-    /// Gives the object, or that none is there.
+    /// Returns the object, or says that none is there.
     Read(Id),
     /// Gives the object a body: a new object, without relations, where none is there.
     Put(Id, Body),
-    /// Takes the object out.
+    /// Removes the object, and its id from every list of children.
     Delete(Id),
     /// Makes the first object a child of the second.
     Attach(Id, Id),
     /// Makes the first object no longer a child of the second.
     Detach(Id, Id),
-    /// Marks what the script sees by a name. A name may be used again.
+    /// Marks what the script sees now, under a name. A name may be used again.
     Mark(Text),
-    /// Makes what the script sees that of the newest mark of the name, which stays; newer marks go.
+    /// Undoes what the script wrote since the newest mark of the name. That mark
+    /// stays; newer ones go.
     Back(Text),
     /// Ends the script; what it wrote stays.
     Commit,
@@ -25,7 +26,7 @@ pub enum Command {
     Abort,
 }
 
-/// Why a command is refused, in the order in which causes are judged.
+/// Why a command is refused. docs/COMMANDS.md has the order in which a command's causes are judged.
 #[derive(Drop)]
 pub enum Cause {
     /// There is no object of this id.
@@ -34,17 +35,18 @@ pub enum Cause {
     TypeFixed(Id),
     /// The object of this id has children.
     HasChildren(Id),
-    /// The child can't have this parent: its type is first-level or of another family.
+    /// The child can't have this parent: the two are one object, the child is first-level,
+    /// or their families differ.
     WrongFamily,
     /// The child has this parent already.
     AlreadyAttached,
     /// The child doesn't have this parent.
     NotAttached,
-    /// A surface without a ring, or a ring of fewer than three points.
+    /// A surface has no ring, or a ring has fewer than three points (error 101 of val3dity).
     ShortRing,
-    /// Two equal neighbours in a ring.
+    /// Two neighbours in a ring are equal (error 102 of val3dity).
     SameTwice,
-    /// A shell of a solid isn't closed.
+    /// A shell of a solid isn't closed (error 302 of val3dity).
     OpenShell,
     /// The object of this id is second-level and has no parent.
     Orphan(Id),
@@ -52,7 +54,7 @@ pub enum Cause {
     NoMark(Text),
 }
 
-/// What a command is answered.
+/// The reply to a command.
 #[derive(Drop)]
 pub enum Reply {
     Found(Object),

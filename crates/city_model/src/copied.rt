@@ -1,4 +1,4 @@
-//! Values that can be copied where there is memory.
+//! Values that can be copied, unless memory runs out.
 ghost use Rattle.std.specs.Prelude.{◌≡◌, IfOk};
 
 use crate::frame::Frame;
@@ -10,7 +10,7 @@ use crate::text::Text;
 use std::alloc::{AllocError, Global};
 use std::collections::BTreeMap;
 
-/// A value of which an equal one can be made.
+/// A value that can be copied.
 pub trait Copied {
     fn copy(&self, alloc: Global) -> Result<Self, AllocError>
         ensures { IfOk result (λ c. c ≡ self.now) };
@@ -117,7 +117,7 @@ impl<A: Copied + Drop, B: Copied> Copied for (A, B) {
     }
 }
 
-/// A copy of an ordered map. The only refusal is want of memory.
+/// A copy of an ordered map. It fails only when out of memory.
 pub fn copy_map<K: Copied + Ord + Drop, V: Copied + Drop>(
     alloc: Global,
     map: &BTreeMap<K, V>,

@@ -12,9 +12,9 @@ pub type Edge = (Point, Point);
 /// Edges, each noted from its lower point to its higher one.
 #[derive(Drop)]
 pub struct Edges {
-    /// Those that are run so.
+    /// Those that a ring runs from the lower point to the higher one.
     pub up: Vec<Edge>,
-    /// Those that are run the other way.
+    /// Those that a ring runs from the higher point to the lower one.
     pub down: Vec<Edge>,
 }
 
@@ -87,7 +87,7 @@ pub fn edges_of(alloc: Global, shell: &Shell) -> Result<Edges, AllocError>
     ensures up { IfOk result (λ es. es.up.items ≡ rising (edges_of shell.now)) }
     ensures down { IfOk result (λ es. es.down.items ≡ rising (map flipped (edges_of shell.now))) }
 {
-    // a closed shell has as many edges of either kind
+    // a closed shell has equally many edges of both kinds
     let room = points_in(shell) / 2;
     let mut edges = Edges {
         up: Vec::with_capacity(alloc, room)?,

@@ -10,7 +10,7 @@ pub enum Outcome {
     Aborted,
     /// A command was refused.
     Refused(usize, Cause),
-    /// There was no memory for a command.
+    /// A command ran out of memory.
     NoMemory(usize),
 }
 

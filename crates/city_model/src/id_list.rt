@@ -5,23 +5,24 @@ ghost use Rattle.city_model.specs.RelationTests.{are_distinct, are_increasing};
 
 use crate::text::Id;
 
-/// Whether two ids are the same. Takes no memory.
+/// Whether two ids are the same. Doesn't allocate.
 pub fn is_same_id(id: &Id, other: &Id) -> bool
     ensures { result ≡ same_id id.now other.now }
 {
     id.cmp(other).is_eq()
 }
 
-/// Whether the id is in the list. Takes no memory.
+/// Whether the id is in the list. Doesn't allocate.
 ///
-/// An id of a list in byte order is found by halving; else the list is read once.
+/// A binary search finds an id of a list in byte order; if it finds none, the list is read once.
 pub fn has_id(ids: &[Id], id: &Id) -> bool
     ensures { result ≡ has_id ids.now id.now }
 {
     is_found_by_halving(ids, id) || ids.iter().any(|other| is_same_id(id, other))
 }
 
-/// In a list that isn't in byte order an id may be missed, but none is found that isn't there.
+/// A binary search. In a list that isn't in byte order it may miss an id, but it finds
+/// none that isn't there.
 fn is_found_by_halving(ids: &[Id], id: &Id) -> bool
     ensures { IsTrue result → IsTrue (has_id ids.now id.now) }
 {
@@ -31,9 +32,9 @@ fn is_found_by_halving(ids: &[Id], id: &Id) -> bool
     }
 }
 
-/// Whether no id is in the list twice. Takes no memory.
+/// Whether no id is in the list twice. Doesn't allocate.
 ///
-/// A list in byte order is read once; else each id is looked for among those after it.
+/// A list in byte order is read once; in any other list each id is looked for among those after it.
 pub fn are_distinct(ids: &[Id]) -> bool
     ensures { result ≡ are_distinct ids.now }
 {

@@ -12,8 +12,8 @@ use crate::object::Body;
 use crate::relations::relations_fault;
 use std::alloc::Global;
 
-/// Whether every object is in order, none is an orphan, and no body has a fault. The only refusal is
-/// want of memory, and only where no relation is at fault: relations take no memory.
+/// Whether every object is in order, none is an orphan, and no body has a fault. It fails only when
+/// out of memory, and only if no relation is at fault: judging relations doesn't allocate.
 pub fn is_lawful(alloc: Global, city: &City) -> Result<bool, OutOfMemory>
     ensures lawful { IfOk result (λ b. IsTrue b → IsLawful (at city.now.1)) }
     ensures only_then { IfOk result (λ b. IsLawful (at city.now.1) → IsTrue b) }
@@ -28,7 +28,7 @@ pub fn is_lawful(alloc: Global, city: &City) -> Result<bool, OutOfMemory>
     }
 }
 
-/// Whether no body of the city has a fault. The only refusal is want of memory.
+/// Whether no body of the city has a fault. It fails only when out of memory.
 fn is_faultless(alloc: Global, city: &City) -> Result<bool, OutOfMemory>
     ensures faultless { IfOk result (λ b. IsTrue b → IsFaultless (at city.now.1)) }
     ensures only_then { IfOk result (λ b. IsFaultless (at city.now.1) → IsTrue b) }

@@ -1,4 +1,4 @@
-//! The members of a document that are kept where they stand, and not read.
+//! The members of a document that are kept in their places without being read.
 
 pub mod extra;
 pub mod place;

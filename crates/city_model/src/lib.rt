@@ -3,11 +3,11 @@
 //! - `object`, `object_type`, `frame`, `city`: what a city is made of
 //! - `shape`: what bounds a shape of any type
 //! - `text`, `sequence`, `copied`: texts that contracts see as bytes, lists that they see as items, copies
-//! - `kept`, `members`, `integral`: members that are kept as they stand, and the trees that they are
+//! - `kept`, `members`, `integral`: members that are kept unread, as JSON trees
 //! - `rings`, `edges`, `shells`, `body_fault`: what is wrong with a body
 //! - `id_list`, `relations`, `orphans`, `is_lawful`: what is wrong with a city
 //! - `command`, `script`: what is asked of a city
-//! - `plan`, `change`, `end`: what is to come of a command, what a commit writes, how a script ended
+//! - `plan`, `change`, `end`: the plan of a command, what a commit writes, how a script ended
 #![tactic(auto)]
 
 pub mod body_fault;
@@ -35,5 +35,5 @@ pub mod shape;
 pub mod shells;
 pub mod text;
 
-/// The one answer for want of memory, the same unit type in all crates.
+/// The one error for being out of memory, the same unit type in all crates.
 pub use std::alloc::AllocError as OutOfMemory;

@@ -13,7 +13,7 @@ pub fn member<'v>(members: &'v Map<String, Value>, name: &str) -> Option<&'v Val
     members.get(name)
 }
 
-/// Takes the member of a name out, and gives it.
+/// Removes the member of a name, and returns it.
 pub fn take(members: &mut Map<String, Value>, name: &str) -> Option<Value>
     ensures found { option_map view result ≡ get_member name.now (members_view members.old.entries) }
     ensures left { members_view members.new.entries ≡ without name.now (members_view members.old.entries) }
@@ -21,7 +21,7 @@ pub fn take(members: &mut Map<String, Value>, name: &str) -> Option<Value>
     members.remove(name)
 }
 
-/// The members of an object, which it gives up.
+/// The members of an object, which is consumed.
 pub fn into_object(value: Value) -> Option<Map<String, Value>>
     ensures { option_map (λ m. members_view m.entries) result ≡ as_object (view value) }
 {

@@ -161,7 +161,7 @@ pub fn family(kind: ObjectType) -> ObjectType
     }
 }
 
-/// 1 or 2.
+/// The level of a type, 1 or 2.
 pub fn level(kind: ObjectType) -> u8
     ensures { result ≡ level_of kind }
 {

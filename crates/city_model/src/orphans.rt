@@ -15,7 +15,7 @@ pub fn is_orphan(object: &Object) -> bool
     level(object.body.kind) == 2 && object.parents.len() == 0
 }
 
-/// The least id of an orphan, in byte order; none where no object is one. Takes no memory.
+/// The least id of an orphan, in byte order; none where no object is one. Doesn't allocate.
 pub fn least_orphan(city: &City) -> Option<&Id>
     ensures least { IfSome result (λ id. IsLeastOrphan (at city.now.1) id.now) }
     ensures none { IfNone result (HasNoOrphan (at city.now.1)) }

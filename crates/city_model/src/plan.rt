@@ -1,4 +1,4 @@
-//! What is to come of a command, and what it writes.
+//! The plan of a command: its reply, and what it writes.
 ghost use Rattle.std.specs.Prelude.{◌≡◌, false, IfOk};
 ghost use Rattle.city_model.specs.FrameLaw.{FrameLaw};
 ghost use Rattle.city_model.specs.Plans.{IsPlan};
@@ -24,21 +24,21 @@ mod writes;
 pub use crate::plan::deleting::only_parent;
 pub use crate::plan::relating::{attached_child, detached_child};
 
-/// What is to come of a command.
+/// The plan of a command.
 #[derive(Drop)]
 pub enum Plan {
     /// It is refused.
     Refused(Cause),
-    /// It is answered so, and writes this change.
+    /// It gets this reply, and writes this change.
     Writes(Reply, Change),
 }
 
-/// What is to come of a command that neither ends its script nor is about marks, at a sound city;
-/// nothing is written.
+/// The plan, at a sound city, of a command that neither ends its script nor is about
+/// marks. Nothing is written.
 ///
-/// It copies the objects that the command gives or changes; the one refusal is want of memory.
-/// The plan is as good at each other sound city that agrees with this one on the ids that the
-/// command locks.
+/// It copies the objects that the command returns or changes, and fails only when out of
+/// memory. The same plan is right for each other sound city that agrees with this one on the
+/// ids that the command locks.
 pub fn plan_of<V: View>(alloc: Global, view: &V, command: &Command) -> Result<Plan, OutOfMemory>
     requires no_end { is_end command.now ≡ false }
     requires no_mark { is_mark command.now ≡ false }

@@ -14,11 +14,11 @@ use crate::orphans::is_orphan;
 use crate::text::Id;
 
 /// The least id, in byte order, of an object that isn't in order or is an orphan; none where all
-/// relations agree. Takes no memory.
+/// relations agree. Doesn't allocate.
 ///
-/// Each parent and each child is looked up once, and one list of it is searched. A list in byte order
-/// is read once for repeats, and is searched by halving; any other list of n ids takes up to n² / 2
-/// comparisons.
+/// Each parent and each child is looked up once, and one list of it is searched. A list in byte
+/// order is read once for repeats, and gets a binary search; any other list of n ids takes up to
+/// n² / 2 comparisons.
 pub fn relations_fault(city: &City) -> Option<&Id>
     ensures fault { IfSome result (λ id. IsLeastMisrelated (at city.now.1) id.now) }
     ensures none { IfNone result (IsRelated (at city.now.1)) }

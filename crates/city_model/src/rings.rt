@@ -6,8 +6,8 @@ ghost use Rattle.city_model.specs.Shells.{is_short_ring, is_short_surface, has_s
 use crate::object::{Ring, Shape, Shell, Solid, Surface};
 use crate::shape::Bounds;
 
-/// Whether a surface of the shape has no ring, or has a ring of fewer than three points. Takes no
-/// memory.
+/// Whether a surface of the shape has no ring, or has a ring of fewer than
+/// three points. Doesn't allocate.
 pub fn has_short_ring(shape: &Shape) -> bool
     ensures { result ≡ has_short_ring shape.now }
 {
@@ -48,8 +48,8 @@ fn any_short_ring(rings: &[Ring]) -> bool
     rings.iter().any(|ring| ring.len() < 3)
 }
 
-/// Whether a ring of the shape has two equal neighbours, the last and the first point among them.
-/// Takes no memory.
+/// Whether a ring of the shape has two equal neighbours, the last and the first point
+/// among them. Doesn't allocate.
 pub fn has_same_twice(shape: &Shape) -> bool
     ensures { result ≡ has_same_twice shape.now }
 {

@@ -38,8 +38,8 @@ impl Model for Script {
 }
 
 impl Script {
-    /// A script, or its parts back where not exactly the last command is Commit or Abort. Takes no
-    /// memory.
+    /// A script, or its parts back unless the last command, and no other, is Commit
+    /// or Abort. Doesn't allocate.
     pub fn new(name: Text, commands: Sequence<Command>) -> Result<Script, (Text, Sequence<Command>)>
         ensures checked { is_ok result ≡ ends_once commands }
         ensures made { IfOk result (λ s. s ≡ (name, commands)) }
@@ -52,17 +52,17 @@ impl Script {
         }
     }
 
-    /// The script's name. Takes no memory.
+    /// The script's name. Doesn't allocate.
     pub fn name(&self) -> &Text
         ensures { result.now ≡ self.now.0 }
     {
         &self.name
     }
 
-    /// The script's commands, the last of which ends it. Takes no memory.
+    /// The script's commands, the last of which ends it. Doesn't allocate.
     ///
-    /// Of a sound city the first so many of them leave a sound one, and so is that of each mark; and
-    /// they see and write only what they lock.
+    /// On a sound city the first n commands leave a sound city, whatever n is, and the city at each
+    /// mark is sound. The commands read and write only what they lock.
     pub fn commands(&self) -> &[Command]
         ensures commands { result.now ≡ self.now.1 }
         ensures ends { ends_once self.now.1 ≡ true }
@@ -72,7 +72,7 @@ impl Script {
         self.commands.as_slice()
     }
 
-    /// The script's name and its commands. Takes no memory.
+    /// The script's name and its commands. Doesn't allocate.
     pub fn into_parts(self) -> (Text, Sequence<Command>)
         ensures parts { result ≡ self }
         ensures ends { ends_once self.1 ≡ true }

@@ -21,7 +21,7 @@ impl<T> Model for Sequence<T> {
 }
 
 impl<T> Sequence<T> {
-    /// A list of no items. Takes no memory.
+    /// A list of no items. Doesn't allocate.
     pub fn new(alloc: Global) -> Self
         ensures { result ≡ [] }
     {
@@ -30,35 +30,36 @@ impl<T> Sequence<T> {
         }
     }
 
-    /// The list of a vector's items, which it takes over. Takes no memory.
+    /// The list of a vector's items, which it takes over. Doesn't allocate.
     pub fn from_vec(items: Vec<T>) -> Self
         ensures { result ≡ items.items }
     {
         Sequence { items }
     }
 
-    /// The items as a vector. Takes no memory.
+    /// The items as a vector. Doesn't allocate.
     pub fn into_vec(self) -> Vec<T>
         ensures { result.items ≡ self }
     {
         self.items
     }
 
-    /// The items. Takes no memory.
+    /// The items. Doesn't allocate.
     pub fn as_slice(&self) -> &[T]
         ensures { result.now ≡ self.now }
     {
         self.items.as_slice()
     }
 
-    /// How many items there are. Takes no memory.
+    /// How many items there are. Doesn't allocate.
     pub fn len(&self) -> usize
         ensures { result ≡ length self.now }
     {
         self.items.len()
     }
 
-    /// Adds an item at the end; want of memory leaves the list as it was, and drops the item.
+    /// Adds an item at the end. If memory runs out, the list stays as it was, and
+    /// the item is dropped.
     pub fn push(&mut self, item: T) -> Result<(), AllocError>
     where
         T: Drop,
@@ -69,7 +70,7 @@ impl<T> Sequence<T> {
         Ok(())
     }
 
-    /// Takes the last item out, if there is one. Takes no memory.
+    /// Removes the last item, if there is one, and returns it. Doesn't allocate.
     pub fn pop(&mut self) -> Option<T>
         ensures items { self.old ≡ self.new ++ option_to_list result }
         ensures none { IfNone result (self.old ≡ []) }
@@ -77,7 +78,7 @@ impl<T> Sequence<T> {
         self.items.pop()
     }
 
-    /// Keeps the items at which the test gives true, in their order. Takes no memory.
+    /// Keeps the items for which the test is true, in their order. Doesn't allocate.
     pub fn retain<F: FnMut(&T) -> bool>(&mut self, keep: F)
     where
         T: Drop,

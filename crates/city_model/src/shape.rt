@@ -5,7 +5,7 @@ ghost use Rattle.city_model.specs.Shells.{boundaries_of, bounds_view};
 use crate::object::{Shape, Shell, Solid, Surface};
 use crate::sequence::Sequence;
 
-/// What bounds a shape, lent from it.
+/// What bounds a shape, borrowed from it.
 #[derive(Clone, Copy)]
 pub enum Bounds<'a> {
     /// Surfaces that needn't close.
@@ -16,7 +16,7 @@ pub enum Bounds<'a> {
 }
 
 impl Shape {
-    /// What bounds the shape. Takes no memory.
+    /// What bounds the shape. Doesn't allocate.
     pub fn bounds(&self) -> Bounds<'_>
         ensures { bounds_view result ≡ boundaries_of self.now }
     {

@@ -23,8 +23,8 @@ fn has_repeats<T: Ord>(items: &[T]) -> bool
     false
 }
 
-/// Whether each edge of the shell is run once each way, which takes time in proportion to the
-/// edges and their logarithm. The only refusal is want of memory.
+/// Whether each edge of the shell is run once each way. For n edges it takes time in proportion to
+/// n log n. It fails only when out of memory.
 pub fn shell_closed(alloc: Global, shell: &Shell) -> Result<bool, AllocError>
     ensures { IfOk result (λ b. b ≡ is_closed shell.now) }
 {
@@ -35,7 +35,7 @@ pub fn shell_closed(alloc: Global, shell: &Shell) -> Result<bool, AllocError>
     Ok(!has_repeats(up) && up == edges.down.as_slice())
 }
 
-/// Whether a shell of one of the shape's solids isn't closed. The only refusal is want of memory.
+/// Whether a shell of one of the shape's solids isn't closed. It fails only when out of memory.
 pub fn has_open_shell(alloc: Global, shape: &Shape) -> Result<bool, AllocError>
     ensures { IfOk result (λ b. b ≡ has_open_shell shape.now) }
 {

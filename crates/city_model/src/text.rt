@@ -75,14 +75,14 @@ impl Display for Text {
 impl Text {
     ghost use Rattle.std.specs.Prelude.{string_bytes};
 
-    /// The text of a string, which it takes over. Takes no memory.
+    /// The text of a string, which it takes over. Doesn't allocate.
     pub fn new(text: String) -> Self
         ensures { result ≡ string_bytes text }
     {
         Text { text }
     }
 
-    /// The text as a string slice. Takes no memory.
+    /// The text as a string slice. Doesn't allocate.
     pub fn as_str(&self) -> &str
         ensures { result.now ≡ self.now }
     {

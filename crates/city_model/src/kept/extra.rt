@@ -7,11 +7,11 @@ use serde_json::{Map, Value};
 use std::alloc::AllocError;
 use std::marker::{Model, PhantomData};
 
-/// The members that are kept at the place `P`: as JSON values, word for word.
+/// The members that are kept at the place `P`, as JSON, value for value.
 ///
-/// Their names ascend, so that none is there twice. None of them is one that is read at the place, no
-/// number in them is anything but an `i64`, at an object there is no `address` with a `location`, and
-/// at the top no `extensions` that isn't empty.
+/// Their names ascend, so none is there twice. None of them is a member that is read at the place,
+/// and each number in them is an `i64`. An object keeps no `address` with a `location`, and the top
+/// no `extensions` but an empty one.
 #[derive(Drop)]
 pub struct Extra<P: Place> {
     map: Map<String, Value>,
@@ -41,14 +41,14 @@ impl<P: Place> Extra<P> {
     ghost use Rattle.serde_json.specs.View.{members_view};
     ghost use Rattle.city_model.specs.Members.{AreOrdered};
 
-    /// The members as those of the place, or the map back where the place doesn't admit it. Takes
-    /// no memory.
+    /// The members as those of the place, or the map back if the place doesn't
+    /// admit it. Doesn't allocate.
     pub fn new(map: Map<String, Value>) -> Result<Self, Map<String, Value>>
         ensures admitted { is_ok result ≡ P.keeps (members_view map.entries) }
         ensures kept { IfOk result (λ e. e ≡ members_view map.entries) }
         ensures back { IfErr result (λ m. m ≡ map) }
     {
-        // (called for its promise that the names ascend)
+        // (called for its contract: the names ascend)
         let _count = members_count(&map);
         if P::admits(&map) {
             Ok(Extra {
@@ -60,7 +60,7 @@ impl<P: Place> Extra<P> {
         }
     }
 
-    /// The members. Takes no memory.
+    /// The members. Doesn't allocate.
     pub fn map(&self) -> &Map<String, Value>
         ensures members { members_view result.now.entries ≡ self.now }
         ensures kept { P.keeps self.now ≡ true }

@@ -1,4 +1,4 @@
-//! What is to come of a delete.
+//! The plan of a delete.
 ghost use Rattle.std.specs.Prelude.{◌≡◌, ◌++◌, map, option_copied, IfOk, OnOk};
 ghost use Rattle.city_model.specs.Plans.{IsPlan, only_parent, unlinked};
 ghost use Rattle.city_model.specs.Relations.{IsSound};
@@ -16,7 +16,7 @@ use crate::plan::writes::no_object;
 use crate::text::Id;
 use std::alloc::Global;
 
-/// What is to come of a delete.
+/// The plan of a delete.
 pub fn plan_delete<V: View>(alloc: Global, view: &V, id: &Id) -> Result<Plan, OutOfMemory>
     requires sound { IsSound (V.map view.now) }
     ensures { IfOk result (IsPlan (V.map view.now) (Command.Delete id.now)) }
@@ -33,9 +33,9 @@ pub fn plan_delete<V: View>(alloc: Global, view: &V, id: &Id) -> Result<Plan, Ou
     Ok(Plan::Writes(Reply::Deleted, change))
 }
 
-/// The parent of an object without children that has one parent only. Takes no memory.
+/// The parent of an object that has no children and just one parent. Doesn't allocate.
 ///
-/// What a delete of the object writes is that none is there, and the parent without the child.
+/// A delete of the object removes it, and writes the parent without the child.
 pub fn only_parent<'v, V: View>(view: &'v V, id: &Id) -> Option<&'v Id>
     ensures { option_copied result ≡ only_parent (V.map view.now id.now) }
 {
@@ -49,7 +49,7 @@ pub fn only_parent<'v, V: View>(view: &'v V, id: &Id) -> Option<&'v Id>
     }
 }
 
-/// Adds to the change that none of the parents has the child.
+/// Adds each parent, without the child, to the change.
 fn unlink_each<V: View>(
     alloc: Global,
     view: &V,

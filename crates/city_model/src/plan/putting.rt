@@ -1,4 +1,4 @@
-//! What is to come of a read and of a put.
+//! The plans of a read and of a put.
 ghost use Rattle.std.specs.Prelude.{IfOk};
 ghost use Rattle.city_model.specs.Plans.{IsPlan};
 ghost use Rattle.city_model.specs.declared.command.Command.{Command};
@@ -17,7 +17,7 @@ use crate::plan::writes::one;
 use crate::text::Id;
 use std::alloc::Global;
 
-/// What is to come of a read.
+/// The plan of a read.
 pub fn plan_read<V: View>(alloc: Global, view: &V, id: &Id) -> Result<Plan, OutOfMemory>
     ensures { IfOk result (IsPlan (V.map view.now) (Command.Read id.now)) }
 {
@@ -28,7 +28,7 @@ pub fn plan_read<V: View>(alloc: Global, view: &V, id: &Id) -> Result<Plan, OutO
     Ok(Plan::Writes(reply, Change::new(alloc)))
 }
 
-/// What is to come of a put.
+/// The plan of a put.
 pub fn plan_put<V: View>(alloc: Global, view: &V, id: &Id, body: &Body) -> Result<Plan, OutOfMemory>
     ensures { IfOk result (IsPlan (V.map view.now) (Command.Put id.now body.now)) }
 {

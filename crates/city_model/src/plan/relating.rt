@@ -1,4 +1,4 @@
-//! What is to come of an attach and of a detach.
+//! The plans of an attach and of a detach.
 ghost use Rattle.std.specs.Prelude.{◌≡◌, [], ◌∷◌, Some, IfOk, IfErr, option_map};
 ghost use Rattle.city_model.specs.Meaning.{cause_of, with_child, without_child};
 ghost use Rattle.city_model.specs.Plans.{IsPlan, AreWritesOf};
@@ -19,7 +19,7 @@ use crate::relations::is_wrong_family;
 use crate::text::Id;
 use std::alloc::Global;
 
-/// What is to come of an attach.
+/// The plan of an attach.
 pub fn plan_attach<V: View>(
     alloc: Global,
     view: &V,
@@ -42,7 +42,7 @@ pub fn plan_attach<V: View>(
 
 /// The child as an attach leaves it, or why the attach is refused.
 ///
-/// What the attach writes is this object, and the parent with the child.
+/// The attach writes this object, and the parent with the child.
 pub fn attached_child<V: View>(
     alloc: Global,
     view: &V,
@@ -69,7 +69,7 @@ pub fn attached_child<V: View>(
     Ok(Ok(below))
 }
 
-/// What is to come of a detach.
+/// The plan of a detach.
 pub fn plan_detach<V: View>(
     alloc: Global,
     view: &V,
@@ -93,7 +93,7 @@ pub fn plan_detach<V: View>(
 
 /// The child as a detach leaves it, or why the detach is refused.
 ///
-/// What the detach writes is this object, and the parent without the child.
+/// The detach writes this object, and the parent without the child.
 pub fn detached_child<V: View>(
     alloc: Global,
     view: &V,

@@ -11,7 +11,7 @@ pub trait View {
     /// The map.
     ghost map: { Self → CityMap };
 
-    /// The object of an id. Takes no memory.
+    /// The object of an id. Doesn't allocate.
     fn look(&self, id: &Id) -> Option<&Object>
         ensures { option_copied result ≡ map self.now id.now };
 }

@@ -1,4 +1,4 @@
-//! Plans of few words.
+//! Short plans, and changes of one or two ids.
 ghost use Rattle.std.specs.Prelude.{◌≡◌, [], ◌∷◌, Some, IfOk};
 ghost use Rattle.city_model.specs.declared.command.Cause.{Cause};
 ghost use Rattle.city_model.specs.declared.plan.Plan.{Plan};
