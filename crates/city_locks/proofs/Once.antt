@@ -134,3 +134,8 @@ module _ (v : Locks) (id : List ℕ) (s : ℕ) (m : Mode) where
         wait = (λ w. absurd (cc), λ w. absurd (none w.0.0 w.0.1));
         die = (λ d. absurd (cc), λ d. absurd (none d.0 d.1.0));
       })
+
+-- the same of a table that is seen as u
+pub wait_die_seen : (v u : Locks) (id : List ℕ) (s : ℕ) (m : Mode) (a : Answer) → v ≡ u → Once (holders_of v id) →
+    a ≡ answer_of v s id m → IsWaitDie (IsInConflict u s id m) s a
+wait_die_seen v u id s m a e o h = subst (λ (w : Locks). IsWaitDie (IsInConflict w s id m) s a) e (wait_die v id s m a o h)

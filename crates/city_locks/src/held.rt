@@ -15,6 +15,37 @@ use city_model::text::Id;
 use std::alloc::{AllocError, Global};
 use std::collections::BTreeMap;
 
+/// How an asker of an id stands.
+#[derive(Clone, Copy)]
+pub struct Standing {
+    /// The answer to it.
+    pub answer: Answer,
+    /// The mode in which it holds the id.
+    pub own: Option<Mode>,
+    /// Whether the id has holders.
+    pub is_held: bool,
+}
+
+/// How an asker of the id stands. The id is looked up once.
+pub fn standing_at(held: &BTreeMap<Id, Holders>, stamp: u64, id: &Id, mode: Mode) -> Standing
+    ensures answer { result.answer ≡ answer_of held.now.entries stamp id.now mode }
+    ensures own { result.own ≡ mode_of held.now.entries stamp id.now }
+    ensures is_held { result.is_held ≡ is_some (get (slice_cmp nat_cmp) held.now id.now) }
+{
+    match held.get(id) {
+        Some(holders) => Standing {
+            answer: holders.answer(stamp, mode),
+            own: holders.mode(stamp),
+            is_held: true,
+        },
+        None => Standing {
+            answer: Answer::Granted,
+            own: None,
+            is_held: false,
+        },
+    }
+}
+
 /// The answer to an asker of the id.
 pub fn answer_at(held: &BTreeMap<Id, Holders>, stamp: u64, id: &Id, mode: Mode) -> Answer
     ensures { result ≡ answer_of held.now.entries stamp id.now mode }
@@ -35,20 +66,22 @@ pub fn mode_at(held: &BTreeMap<Id, Holders>, stamp: u64, id: &Id) -> Option<Mode
     }
 }
 
-/// Makes the stamp a holder of the id; want of memory leaves all holders as they are, and comes
-/// only where the stamp doesn't hold the id.
+/// Makes the stamp a holder of the id, of which is known whether it has holders; want of memory leaves
+/// all holders as they are, and comes only where the stamp doesn't hold the id.
 pub fn grant(
     held: &mut BTreeMap<Id, Holders>,
     alloc: Global,
     stamp: u64,
     id: &Id,
     mode: Mode,
+    is_held: bool,
 ) -> Result<(), AllocError>
+    requires { is_held ≡ is_some (get (slice_cmp nat_cmp) held.old id.now) }
     ensures ok { OnOk result ((q : List ℕ) → holders_of held.new.entries q ≡ cond (same_id id.now q) (with_holder (holders_of held.old.entries id.now) stamp mode) (holders_of held.old.entries q)) }
     ensures err { OnErr result (held.new.entries ≡ held.old.entries) }
     ensures absent { OnErr result (mode_of held.old.entries stamp id.now ≡ None) }
 {
-    if held.contains_key(id) {
+    if is_held {
         grant_beside(held, stamp, id, mode)?;
     } else {
         grant_first(held, alloc, stamp, id, mode)?;

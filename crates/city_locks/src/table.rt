@@ -1,5 +1,8 @@
 //! The lock table.
-ghost use Rattle.std.specs.Prelude.{◌≡◌, ◌≢◌, ℕ, List, ◌==◌, ◌&&◌, cond, OnOk, OnErr, IfOk, None, Some, [], true};
+ghost use Rattle.std.specs.Prelude.{◌≡◌, ◌≢◌, ℕ, List, ◌==◌, ◌&&◌, cond, OnOk, OnErr, IfOk, None, Some, [], true, is_some};
+ghost use Rattle.std.specs.Ordering.{nat_cmp};
+ghost use Rattle.std.specs.Cmp.Lexicographic.{slice_cmp};
+ghost use Rattle.std.specs.BTreeMap.{get};
 ghost use Rattle.city_locks.specs.declared.mode.Mode.{Mode};
 ghost use Rattle.city_locks.specs.Mode.{stronger};
 ghost use Rattle.city_locks.specs.Holders.{with_holder, without};
@@ -9,6 +12,7 @@ ghost use Rattle.city_locks.specs.Listing.{ids_of, IsListed};
 ghost use Rattle.city_locks.specs.WaitDie.{IsWaitDie, IsInConflict};
 
 use crate::answer::Answer;
+use crate::held::Standing;
 use crate::holders::Holders;
 use crate::mode::Mode;
 use crate::{held, listing};
@@ -76,8 +80,8 @@ impl LockTable {
         ensures memory { OnErr result ((answer_of self.old stamp id.now mode ≡ Answer.Granted) × (mode_of self.old stamp id.now ≡ None)) }
         ensures lawful { Lawful self.new }
     {
-        let answer = self.would_answer(stamp, id, mode);
-        if let Answer::Granted = answer {
+        let there = held::standing_at(&self.holders, stamp, id, mode);
+        if let Answer::Granted = there.answer {
             take(
                 &mut self.holders,
                 &mut self.locked,
@@ -85,9 +89,10 @@ impl LockTable {
                 stamp,
                 id,
                 mode,
+                there,
             )?;
         }
-        Ok(answer)
+        Ok(there.answer)
     }
 
     /// Takes out all locks of the stamp, and no others. It takes no memory, and a stamp that
@@ -118,7 +123,7 @@ impl LockTable {
     }
 }
 
-/// Makes the stamp a holder of the id, and lists the id at the stamp.
+/// Makes the stamp, which stands so, a holder of the id, and lists the id at the stamp.
 ///
 /// Want of memory leaves all holders as they are. The id may be listed then, and isn't held: a
 /// release passes over it.
@@ -129,16 +134,19 @@ fn take(
     stamp: u64,
     id: &Id,
     mode: Mode,
+    there: Standing,
 ) -> Result<(), OutOfMemory>
-    requires { IsListed holders.old.entries locked.old }
+    requires listed { IsListed holders.old.entries locked.old }
+    requires own { there.own ≡ mode_of holders.old.entries stamp id.now }
+    requires is_held { there.is_held ≡ is_some (get (slice_cmp nat_cmp) holders.old id.now) }
     ensures ok { OnOk result ((q : List ℕ) → holders_of holders.new.entries q
         ≡ cond (same_id id.now q) (with_holder (holders_of holders.old.entries id.now) stamp mode) (holders_of holders.old.entries q)) }
     ensures err { OnErr result (holders.new.entries ≡ holders.old.entries) }
     ensures absent { OnErr result (mode_of holders.old.entries stamp id.now ≡ None) }
     ensures listed { IsListed holders.new.entries locked.new }
 {
-    list_unheld(holders, locked, alloc, stamp, id)?;
-    held::grant(holders, alloc, stamp, id, mode)?;
+    list_unheld(holders, locked, alloc, stamp, id, there.own)?;
+    held::grant(holders, alloc, stamp, id, mode, there.is_held)?;
     Ok(())
 }
 
@@ -149,13 +157,16 @@ fn list_unheld(
     alloc: Global,
     stamp: u64,
     id: &Id,
+    own: Option<Mode>,
 ) -> Result<(), OutOfMemory>
-    requires { IsListed holders.now.entries locked.old }
+    requires listed { IsListed holders.now.entries locked.old }
+    requires own { own ≡ mode_of holders.now.entries stamp id.now }
     ensures own { OnOk result (has_id (ids_of locked.new stamp) id.now ≡ true) }
     ensures absent { OnErr result (mode_of holders.now.entries stamp id.now ≡ None) }
     ensures listed { IsListed holders.now.entries locked.new }
 {
-    match held::mode_at(holders, stamp, id) {
+    let _ = holders;
+    match own {
         Some(_) => Ok(()),
         None => {
             listing::list(locked, alloc, stamp, id)?;

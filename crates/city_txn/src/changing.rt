@@ -143,12 +143,19 @@ pub fn has_orphan(city: &City, undo: &Undo, ids: &[Id]) -> bool
 fn is_orphan_written(city: &City, undo: &Undo, id: &Id) -> bool
     ensures { result ≡ is_orphan_written (written_at (at city.now.1 id.now) (image_at undo.now id.now)) }
 {
-    let Some(image) = undo.image(id) else {
-        return false;
-    };
-    if image.unwritten || image.deleted {
+    if !is_orphan_at(city, id) {
         return false;
     }
+    match undo.image(id) {
+        Some(image) => !image.unwritten && !image.deleted,
+        None => false,
+    }
+}
+
+/// Whether the city has an orphan at the id.
+fn is_orphan_at(city: &City, id: &Id) -> bool
+    ensures { result ≡ is_orphan_there (at city.now.1 id.now) }
+{
     match city.get(id) {
         Some(object) => is_orphan(object),
         None => false,

@@ -9,4 +9,4 @@ returns-in_ok-list-in-None-clause-own c =
 pub returns-in_ok-list-in-None-clause-listed : goal.returns-in_ok-list-in-None-clause-listed
 returns-in_ok-list-in-None-clause-listed c =
     let more : Lists c.args.locked.now c.list.new.locked c.args.stamp c.args.id.now = record { ids = c.in_ok-list-in-None.ensures.ok } in
-    still_listed c.args.holders.now.entries c.args.locked.now c.list.new.locked c.args.stamp c.args.id.now more c.requires
+    still_listed c.args.holders.now.entries c.args.locked.now c.list.new.locked c.args.stamp c.args.id.now more c.requires.listed
