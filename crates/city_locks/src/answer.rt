@@ -1,12 +1,12 @@
 //! The answers of a lock table.
 
-/// What an asker is told. A smaller stamp is older.
+/// The answer to an asker. A smaller stamp is older.
 #[derive(Clone, Copy, Debug, PartialEq, Eq)]
 pub enum Answer {
     /// No other holder is in conflict: the asker holds the lock.
     Granted,
     /// The asker is older than all holders in conflict, and may wait for them.
     Wait,
-    /// Some holder in conflict is older than the asker, which is to give up.
+    /// Some holder in conflict is older than the asker, which must give up.
     Die,
 }

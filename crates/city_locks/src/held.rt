@@ -66,8 +66,8 @@ pub fn mode_at(held: &BTreeMap<Id, Holders>, stamp: u64, id: &Id) -> Option<Mode
     }
 }
 
-/// Makes the stamp a holder of the id, of which is known whether it has holders; want of memory leaves
-/// all holders as they are, and comes only where the stamp doesn't hold the id.
+/// Makes the stamp a holder of the id, given whether it has holders. If memory runs out, all
+/// holders stay as they are; that happens only if the stamp doesn't hold the id yet.
 pub fn grant(
     held: &mut BTreeMap<Id, Holders>,
     alloc: Global,
@@ -129,7 +129,7 @@ fn grant_first(
     Ok(())
 }
 
-/// Takes the stamp out of the holders of each of the ids.
+/// Removes the stamp from the holders of each of the ids.
 pub fn release_each(held: &mut BTreeMap<Id, Holders>, stamp: u64, ids: &[Id])
     ensures { (q : List ℕ) → holders_of held.new.entries q ≡ cond (has_id ids.now q) (without (holders_of held.old.entries q) stamp) (holders_of held.old.entries q) }
 {
@@ -138,7 +138,7 @@ pub fn release_each(held: &mut BTreeMap<Id, Holders>, stamp: u64, ids: &[Id])
     }
 }
 
-/// Takes the stamp out of the holders of the id, and the id out where it was the last.
+/// Removes the stamp from the holders of the id, and the id if no holder is left.
 fn release(held: &mut BTreeMap<Id, Holders>, stamp: u64, id: &Id)
     ensures { (q : List ℕ) → holders_of held.new.entries q ≡ cond (same_id id.now q) (without (holders_of held.old.entries id.now) stamp) (holders_of held.old.entries q) }
 {
@@ -147,7 +147,8 @@ fn release(held: &mut BTreeMap<Id, Holders>, stamp: u64, id: &Id)
     }
 }
 
-/// Takes the stamp out of the holders of the id, and says whether no holder is left in place.
+/// Removes the stamp from the holders of the id, and says whether that leaves
+/// the id without holders.
 fn leave(held: &mut BTreeMap<Id, Holders>, stamp: u64, id: &Id) -> bool
     ensures empty { result ≡ true → holders_of held.new.entries id.now ≡ [] }
     ensures after { (q : List ℕ) → holders_of held.new.entries q ≡ cond (same_id id.now q) (without (holders_of held.old.entries id.now) stamp) (holders_of held.old.entries q) }

@@ -62,8 +62,9 @@ impl Holders {
         held(&self.list, stamp)
     }
 
-    /// Makes the stamp a holder, in the stronger of the mode and the one that it has.
-    /// Want of memory leaves the holders as they are, and comes only where the stamp is none of them.
+    /// Makes the stamp a holder, in the stronger of the mode and the one that it has. If
+    /// memory runs out, the holders stay as they are; that happens only if the stamp isn't
+    /// one of them yet.
     pub fn grant(&mut self, stamp: u64, mode: Mode) -> Result<(), AllocError>
         ensures ok { OnOk result (self.new ≡ with_holder self.old stamp mode) }
         ensures err { OnErr result (self.new ≡ self.old) }
@@ -73,7 +74,7 @@ impl Holders {
         Ok(())
     }
 
-    /// Takes the stamp out; the other holders stay.
+    /// Removes the stamp; the other holders stay.
     pub fn release(&mut self, stamp: u64)
         ensures { self.new ≡ without self.old stamp }
     {

@@ -10,7 +10,8 @@ use city_model::text::Id;
 use std::alloc::{AllocError, Global};
 use std::collections::BTreeMap;
 
-/// Lists the id at the stamp, after those that are there; want of memory leaves the lists as they are.
+/// Lists the id at the stamp, after those that are there. If memory runs out, the lists
+/// stay as they are.
 pub fn list(
     locked: &mut BTreeMap<u64, Sequence<Id>>,
     alloc: Global,

@@ -49,7 +49,7 @@ impl Model for LockTable {
 }
 
 impl LockTable {
-    /// A table with no locks. It takes no memory.
+    /// A table with no locks. Doesn't allocate.
     pub fn new(alloc: Global) -> Self
         ensures { result ≡ [] }
     {
@@ -62,11 +62,11 @@ impl LockTable {
 
     /// Asks for the id in the mode, and says what came of it.
     ///
-    /// The other holders of the id are in conflict where the mode or theirs is exclusive.
-    /// With none in conflict the answer is `Granted`, and the stamp holds the id in the stronger
-    /// of the mode and the one that it had. Where the stamp is less than all in conflict it is
-    /// `Wait`, and otherwise `Die`; both leave the table as it is. So does want of memory, which
-    /// comes only in place of `Granted`, and never where the stamp holds the id already.
+    /// The other holders of the id are in conflict where the mode or theirs is exclusive. With none
+    /// in conflict the answer is `Granted`, and the stamp holds the id in the stronger of the mode
+    /// and the one that it had. If the stamp is less than all in conflict the answer is `Wait`, and
+    /// otherwise `Die`; both leave the table as it is. So does `OutOfMemory`, which comes only in
+    /// place of `Granted`, and never if the stamp holds the id already.
     pub fn ask(&mut self, stamp: u64, id: &Id, mode: Mode) -> Result<Answer, OutOfMemory>
         ensures answer { IfOk result (λ a. a ≡ answer_of self.old stamp id.now mode) }
         ensures wait_die { IfOk result (IsWaitDie (IsInConflict self.old stamp id.now mode) stamp) }
@@ -95,8 +95,8 @@ impl LockTable {
         Ok(there.answer)
     }
 
-    /// Takes out all locks of the stamp, and no others. It takes no memory, and a stamp that
-    /// holds nothing changes nothing.
+    /// Releases all locks of the stamp, and no others. Doesn't allocate. For a stamp that
+    /// holds nothing, nothing changes.
     pub fn release_all(&mut self, stamp: u64)
         ensures modes { (t : ℕ) (q : List ℕ) → mode_of self.new t q ≡ cond (stamp == t) None (mode_of self.old t q) }
         ensures holders { (q : List ℕ) → holders_of self.new q ≡ without (holders_of self.old q) stamp }
@@ -113,7 +113,7 @@ impl LockTable {
         held::mode_at(&self.holders, stamp, id)
     }
 
-    /// What `ask` would answer, want of memory aside. It takes no memory.
+    /// What `ask` would answer, unless memory runs out. Doesn't allocate.
     pub fn would_answer(&self, stamp: u64, id: &Id, mode: Mode) -> Answer
         ensures answer { result ≡ answer_of self.now stamp id.now mode }
         ensures wait_die { IsWaitDie (IsInConflict self.now stamp id.now mode) stamp result }
@@ -123,9 +123,9 @@ impl LockTable {
     }
 }
 
-/// Makes the stamp, which stands so, a holder of the id, and lists the id at the stamp.
+/// Makes the stamp, whose standing is given, a holder of the id, and lists the id at the stamp.
 ///
-/// Want of memory leaves all holders as they are. The id may be listed then, and isn't held: a
+/// If memory runs out, all holders stay as they are. The id may then be listed and not held: a
 /// release passes over it.
 fn take(
     holders: &mut BTreeMap<Id, Holders>,
@@ -175,7 +175,7 @@ fn list_unheld(
     }
 }
 
-/// Takes the stamp out of the holders of each id that is listed at it, and drops its list.
+/// Removes the stamp from the holders of each id that is listed at it, and drops its list.
 fn give_back(
     holders: &mut BTreeMap<Id, Holders>,
     locked: &mut BTreeMap<u64, Sequence<Id>>,

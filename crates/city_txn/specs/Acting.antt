@@ -30,7 +30,7 @@ writes_id m command id = is_none (cause_of m command) && names_exclusively (lock
 abbrev pub own_after : CityMap → OwnWrites → Command → OwnWrites
 own_after m f command id = if writes_id m command id then Some (after m command id) else f id
 
--- what the transaction would be replied to the command
+-- the reply that the transaction would get to the command
 abbrev pub reply_in : CoreState → ℕ → Command → Reply
 reply_in v stamp command = answer (seen v stamp) command
 
@@ -38,7 +38,7 @@ reply_in v stamp command = answer (seen v stamp) command
 abbrev pub seen_after : CoreState → ℕ → Command → View
 seen_after v stamp command = step (seen v stamp) command
 
--- what its locks would be answered: the first that isn't granted, or Granted
+-- the answer to its locks: that of the first that isn't granted, or Granted
 abbrev pub answer_in : CoreState → ℕ → Command → Answer
 answer_in v stamp command = first_answer v.locks stamp (locks_of (view v stamp) command)
 
@@ -46,7 +46,7 @@ answer_in v stamp command = first_answer v.locks stamp (locks_of (view v stamp) 
 abbrev pub granted_in : CoreState → ℕ → Command → List Lock
 granted_in v stamp command = granted_before v.locks stamp (locks_of (view v stamp) command)
 
--- so the transaction ends at the command, which is number `number` of its script
+-- the transaction ends with this outcome at the command, which is number `number` of its script
 abbrev pub EndsIn : CoreState → ℕ → Command → ℕ → Outcome → Type 0
 EndsIn v stamp command number outcome = EndsAt (seen v stamp) command number outcome
 
@@ -85,7 +85,7 @@ pub record Acted (stamp : ℕ) (command : Command) (result : Result Step TxnFaul
   pub step : IfOk result (λ step. step ≡ step_of (answer_in old stamp command) (reply_in old stamp command))
   pub fault : IfErr result (λ fault. fault ≡ (if is_open old stamp then OutOfMemory else NotOpen stamp))
   pub not_open : is_open old stamp ≡ false → IsErr result
-  -- want of memory hides no Wait and no Die, where it holds the locks before
+  -- being out of memory hides no Wait and no Die, if it holds the locks before
   pub answered : is_open old stamp ≡ true → answer_in old stamp command ≢ Granted
       → AllHeld (held old stamp) (granted_in old stamp command) → IsOk result
   -- nor keeps it from going back to a mark that is there
@@ -97,12 +97,12 @@ pub record Acted (stamp : ℕ) (command : Command) (result : Result Step TxnFaul
   pub city : committed new ≡ committed old
   pub views : (t : ℕ) → (stamp == t) ≡ false → seen new t ≡ seen old t
   pub opened : is_open new stamp ≡ is_open old stamp
-  -- of the locks before the first that isn't granted it gains the first so many, in their order, and no
-  -- others; where there is memory, all of them. It loses none; the others keep theirs
+  -- of the locks before the first that isn't granted it gains the first few, in their order, and no others;
+  -- unless memory runs out, all of them. It loses none; the others keep theirs
   pub locks : GainsFirst stamp (granted_in old stamp command) old.locks new.locks
   pub granted : OnOk result (AllHeld (held new stamp) (granted_in old stamp command))
-  -- its writes gain just the ids that the command writes, a mark has the writes of now, and going back makes
-  -- them those of the mark; the others' writes and marks stay
+  -- its writes gain just the ids that the command writes, a new mark has the writes of now, and going back makes them
+  -- those of the mark; the others' writes and marks stay
   pub writes : written new stamp ≡ (if is_done result
       then written_as (marking command) (own_after (view old stamp) (own old stamp) command) (written old stamp)
       else written old stamp)

@@ -40,7 +40,7 @@ own v stamp id = own_write stamp (write_of v.writes id)
 abbrev pub written : CoreState → ℕ → Written
 written v stamp = (own v stamp, marked (log_of v.logs stamp) (own v stamp))
 
--- what the transaction sees: that map, and for each mark the committed one with the writes of then
+-- what the transaction sees: that map, and for each mark the committed one with the writes that it had then
 abbrev pub seen : CoreState → ℕ → View
 seen v stamp = record { map = view v stamp; marks = marks_with (committed v) (written v stamp).1 }
 
@@ -89,7 +89,7 @@ pub record IsOver (stamp : ℕ) (old new : CoreState) : Type 0 where
   pub closed : is_open new stamp ≡ false
   pub keeps : KeepsOthers stamp old new
 
--- it is over, and what it wrote is taken back: all else that is seen stays
+-- it is over, and what it wrote is undone: all else that is seen stays
 pub record IsUndone (stamp : ℕ) (old new : CoreState) : Type 0 where
   pub city : committed new ≡ committed old
   pub views : (t : ℕ) → (stamp == t) ≡ false → seen new t ≡ seen old t

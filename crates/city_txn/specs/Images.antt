@@ -47,7 +47,7 @@ written_over x deleted i =
 abbrev pub unwritten_image : ℕ → Bool → Image
 unwritten_image stamp deleted = record { by = stamp; unwritten = true; deleted = deleted; before = None }
 
--- the object that goes back into the city where the write is taken back
+-- the object that goes back into the city if the write is undone
 abbrev pub put_back : Image → Option Object
 put_back i = if i.unwritten then None else i.before
 

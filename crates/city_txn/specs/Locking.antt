@@ -51,7 +51,7 @@ pub record MoreLocks (stamp : ℕ) (ls : List Lock) (old new : Locks) : Type 0 w
   pub lawful : Lawful old → Lawful new
   pub answers : (id : List ℕ) (mode : Mode) → answer_of new stamp id mode ≡ answer_of old stamp id mode
 
--- the stamp gained the first so many of these locks, in their order, and no others
+-- the stamp gained the first few of these locks, perhaps none or all, in their order, and no others
 pub record GainsFirst (stamp : ℕ) (ls : List Lock) (old new : Locks) : Type 0 where
   pub gained : List Lock
   pub left : List Lock
@@ -69,12 +69,12 @@ IsBlocked P stamp Wait = (t : ℕ) × (stamp < t) × P t
 IsBlocked P stamp Die = (t : ℕ) × (t < stamp) × P t
 
 -- The locks asked for in turn: the answer is that of the first that isn't granted, and those before it are
--- gained; for want of memory the first so many of them.
+-- gained; if memory runs out, the first few of them.
 pub record Asked {E : Type 0} (stamp : ℕ) (ls : List Lock) (result : Result Answer E)
     (old new : Locks) : Type 0 where
   pub answer : IfOk result (λ a. a ≡ first_answer old stamp ls)
   pub gains : GainsFirst stamp (granted_before old stamp ls) old new
   pub held : OnOk result (AllHeld (held_in new stamp) (granted_before old stamp ls))
   pub blocked : IfOk result (IsBlocked (HoldsLock old) stamp)
-  -- memory is wanted only for a lock that the stamp didn't hold
+  -- it allocates only for a lock that the stamp didn't hold
   pub answered : AllHeld (held_in old stamp) (granted_before old stamp ls) → IsOk result

@@ -33,12 +33,12 @@ AreNoted v logs stamp = (id : List ℕ) → has_before (log_of logs stamp) id �
 pub record Performed {E : Type 0} (stamp : ℕ) (command : Command) (result : Result Reply E)
     (old : State) (before : Logs) (new : State) (after : Logs) : Type 0 where
   pub reply : IfOk result (λ reply. reply ≡ answer (seen_in old before stamp) command)
-  -- going back to a mark that is there wants no memory
+  -- going back to a mark that is there doesn't allocate
   pub found : finds_mark (seen_in old before stamp) command ≡ true → IsOk result
   pub frame : new.frame ≡ old.frame
   pub city : committed new ≡ committed old
   pub opened : (t : ℕ) → is_open new t ≡ is_open old t
-  -- what the command writes stands there as the command leaves it, and so with marks; for want of memory
+  -- what the command writes stands there as the command leaves it, and so with marks; if memory runs out,
   -- nothing is written. The others' writes and logs stay
   pub written : written_in new after stamp ≡ (if is_ok result
       then written_as (marking command) (own_after (view old stamp) (own old stamp) command) (written_in old before stamp)

@@ -111,7 +111,7 @@ fn in_order(alloc: Global, mut writes: Writes) -> Result<Change, OutOfMemory>
     Ok(change)
 }
 
-/// The least id of an orphan among what was written; none where no object of it is one.
+/// The least id of an orphan among what was written; None if there is none.
 pub fn orphan_in(change: &[(Id, Option<Object>)]) -> Option<&Id>
     requires { IsStrictlySortedBy (slice_cmp nat_cmp) (keys_of change.now) }
     ensures least { IfSome result (λ id. IsLeastOrphan (found_in (objects_in change.now)) id.now) }
@@ -127,7 +127,7 @@ pub fn orphan_in(change: &[(Id, Option<Object>)]) -> Option<&Id>
     None
 }
 
-/// Whether an object that was written at one of the ids is an orphan. Takes no memory.
+/// Whether an object that was written at one of the ids is an orphan. Doesn't allocate.
 pub fn has_orphan(city: &City, undo: &Undo, ids: &[Id]) -> bool
     ensures { result ≡ list_any (λ id. is_orphan_written (written_at (at city.now.1 id) (image_at undo.now id))) ids.now }
 {

@@ -24,8 +24,8 @@ pub fn first_lock(command: &Command) -> Option<(&Id, Mode)>
     }
 }
 
-/// The ids that a command locks after the first, exclusively. Once the first is locked nobody else
-/// changes what they are.
+/// The ids that a command locks after the first, exclusively. Once the first is locked, no other
+/// transaction can change which ids these are.
 pub fn further_locks<'a>(store: &'a Store, stamp: u64, command: &'a Command) -> &'a [Id]
     ensures { drop 1 (locks_of (view store.now stamp) command.now) ≡ exclusively result.now }
 {

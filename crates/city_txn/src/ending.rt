@@ -15,11 +15,11 @@ use city_model::text::Id;
 pub enum End {
     /// What it wrote stays, and is committed.
     Commit,
-    /// What it wrote is taken back.
+    /// What it wrote is undone.
     RollBack,
 }
 
-/// Ends at the ids, one after another. Takes no memory.
+/// Ends the transaction at the ids, one after another. Doesn't allocate.
 pub fn end_each(city: &mut City, undo: &mut Undo, end: End, ids: &[Id])
     requires { (q : List ℕ) → is_some (image_at undo.old q) ≡ true → is_some (at city.old.1 q) ≡ true }
     ensures { AreEnded end (has_id ids.now) city.old undo.old city.new undo.new }
@@ -29,7 +29,7 @@ pub fn end_each(city: &mut City, undo: &mut Undo, end: End, ids: &[Id])
     }
 }
 
-/// Ends at the id: its image, if there is one, is gone.
+/// Ends the transaction at the id, and removes the id's image, if there is one.
 fn end_one(city: &mut City, undo: &mut Undo, end: End, id: &Id)
     requires { is_some (image_at undo.old id.now) ≡ true → is_some (at city.old.1 id.now) ≡ true }
     ensures { AreEnded end (same_id id.now) city.old undo.old city.new undo.new }
@@ -39,7 +39,7 @@ fn end_one(city: &mut City, undo: &mut Undo, end: End, id: &Id)
     }
 }
 
-/// Leaves at the id of the image what stands there from now on.
+/// Gives the id of the image the object that it has from now on.
 fn settle(city: &mut City, end: End, id: Id, image: Image)
     requires { is_some (at city.old.1 id) ≡ true }
     ensures after { at city.new.1 ≡ changed (at city.old.1) id (left_by end (at city.old.1 id) (Some image)) }

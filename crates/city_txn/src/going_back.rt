@@ -10,8 +10,8 @@ use crate::undo_log::{Entry, UndoLogs};
 use city_model::text::Text;
 use std::alloc::Global;
 
-/// Goes back to the newest mark of the name, which the transaction has: what it wrote is what it had
-/// written then, newer marks are gone, and the mark stays. Takes no memory.
+/// Goes back to the newest mark of the name, which the transaction must have. Its writes are again
+/// those that it had at the mark, newer marks are gone, and the mark stays. Doesn't allocate.
 pub fn go_back(store: &mut Store, logs: &mut UndoLogs, alloc: Global, stamp: u64, name: &Text)
     requires marked { has_mark (log_of logs.old stamp) name.now ≡ true }
     requires noted { AreNoted store.old logs.old stamp }
@@ -29,7 +29,7 @@ pub fn go_back(store: &mut Store, logs: &mut UndoLogs, alloc: Global, stamp: u64
     }
 }
 
-/// Takes the newest entry of the transaction's log back. Takes no memory.
+/// Undoes the newest entry of the transaction's log. Doesn't allocate.
 fn undo_newest(store: &mut Store, logs: &mut UndoLogs, alloc: Global, stamp: u64)
     requires { AreNoted store.old logs.old stamp }
     ensures own { own store.new stamp ≡ newest_undone (log_of logs.old stamp) (own store.old stamp) }
@@ -46,7 +46,7 @@ fn undo_newest(store: &mut Store, logs: &mut UndoLogs, alloc: Global, stamp: u64
     }
 }
 
-/// Takes an entry of the transaction's log back. Takes no memory.
+/// Undoes an entry of the transaction's log. Doesn't allocate.
 fn undo_entry(store: &mut Store, alloc: Global, stamp: u64, entry: Entry)
     requires { (id : List ℕ) → is_before id entry ≡ true → is_reserved store.old stamp id ≡ true }
     ensures own { own store.new stamp ≡ undone entry (own store.old stamp) }

@@ -18,7 +18,7 @@ pub struct Image {
 }
 
 impl Image {
-    /// The image of an id that nobody has written. Takes no memory.
+    /// The image of an id that nobody has written. Doesn't allocate.
     pub fn unwritten(stamp: u64, deleted: bool) -> Self
         ensures { result ≡ unwritten_image stamp deleted }
     {
@@ -40,8 +40,7 @@ impl Image {
         if self.deleted { None } else { here }
     }
 
-    /// Notes a write: what stood there goes into the image at the first one, and is dropped at a
-    /// later one.
+    /// Notes a write: the first one moves what stood there into the image, a later one drops it.
     pub fn write_over(&mut self, old: Object, deleted: bool)
         ensures { self.new ≡ written_over (Some old) deleted self.old }
     {
@@ -52,8 +51,8 @@ impl Image {
         self.deleted = deleted;
     }
 
-    /// Takes what was written back, and gives the object to be put back into the city, if there is
-    /// one: none where nothing was written, or where no object stood there.
+    /// Undoes the write, and returns the object that has to go back into the city: None if nothing
+    /// was written, or if no object stood there.
     pub fn unwrite(&mut self) -> Option<Object>
         ensures image { self.new ≡ written_back self.old }
         ensures object { result ≡ put_back self.old }

@@ -1,10 +1,10 @@
 //! The transaction core: one city as its open transactions have written it, with undo images.
 //!
 //! - `txn_core`, `step`: the core, and what it answers
-//! - `command_locks`, `lock`, `would_lock`: which locks a command has, how it asks for them, what that would come to
+//! - `command_locks`, `lock`, `would_lock`: which locks a command needs, how it asks for them, what the answer would be
 //! - `seen`, `perform`, `writing`: a command planned on what its transaction sees, and written
 //! - `relating`: an attach, a detach and a delete in place
-//! - `store`, `slot`, `placeholder`: the one city, in place
+//! - `store`, `slot`, `placeholder`: the one city, edited in place
 //! - `undo`, `image`: what stood there before, and who has written
 //! - `changing`, `ending`: what a transaction wrote, and how it ends
 #![tactic(auto)]

@@ -10,8 +10,8 @@ use city_model::OutOfMemory;
 use city_model::command::Command;
 use city_model::text::Id;
 
-/// Asks for the locks of a command in their order, up to the first that isn't granted. Want of
-/// memory leaves those that were granted.
+/// Asks for the locks of a command in their order, up to the first that isn't granted. If memory
+/// runs out, those that were granted stay granted.
 pub fn lock(
     locks: &mut LockTable,
     store: &Store,

@@ -21,7 +21,7 @@ use city_model::plan::{Plan, only_parent};
 use city_model::text::{Id, Text};
 use std::alloc::Global;
 
-/// Does a command, whose locks the stamp holds. Want of memory writes nothing.
+/// Does a command, whose locks the stamp holds. If memory runs out, nothing is written.
 pub fn perform(
     store: &mut Store,
     logs: &mut UndoLogs,
@@ -67,7 +67,7 @@ fn mark(
     Ok(Reply::Marked)
 }
 
-/// Goes back to a mark. Takes no memory where it is there.
+/// Goes back to a mark. Doesn't allocate if it is there.
 fn back(
     store: &mut Store,
     logs: &mut UndoLogs,
@@ -85,7 +85,7 @@ fn back(
     Ok(Reply::WentBack)
 }
 
-/// Deletes an object, in place where that can be.
+/// Deletes an object, in place if possible.
 fn delete(
     store: &mut Store,
     logs: &mut UndoLogs,
@@ -110,7 +110,7 @@ fn delete(
     }
 }
 
-/// Does a command that leaves marks.
+/// Does a command that doesn't change the marks.
 fn carry_out(
     store: &mut Store,
     logs: &mut UndoLogs,

@@ -9,8 +9,8 @@ use city_model::sequence::Sequence;
 use serde_json::Map;
 use std::alloc::Global;
 
-/// A generic object without geometry, kept members and relations, to hold the slot of an object
-/// that isn't there. Takes no memory.
+/// A generic object without geometry, kept members or relations, to hold the slot of an object that
+/// isn't there. Doesn't allocate.
 pub fn placeholder(alloc: Global) -> Object
     ensures { result ≡ placeholder }
 {

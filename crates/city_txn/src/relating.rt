@@ -19,15 +19,15 @@ use city_model::plan::{attached_child, detached_child};
 use city_model::text::Id;
 use std::alloc::Global;
 
-/// Whether the transaction has written the parent, and no mark needs that write as it is. Takes no
-/// memory.
+/// Whether the transaction has written the parent, and no mark needs that write as
+/// it is. Doesn't allocate.
 pub fn is_in_place(store: &Store, logs: &UndoLogs, stamp: u64, parent: &Id) -> bool
     ensures { result ≡ (is_by stamp (write_of store.now.writes parent.now) && (length (log_of logs.now stamp) == 0)) }
 {
     store.has_written(stamp, parent) && logs.is_empty(stamp)
 }
 
-/// Attaches the child in place. Want of memory writes nothing.
+/// Attaches the child in place. If memory runs out, nothing is written.
 pub fn attach(
     store: &mut Store,
     logs: &UndoLogs,
@@ -55,7 +55,7 @@ pub fn attach(
     Ok(Reply::Attached)
 }
 
-/// Detaches the child in place. Want of memory writes nothing.
+/// Detaches the child in place. If memory runs out, nothing is written.
 pub fn detach(
     store: &mut Store,
     logs: &UndoLogs,
@@ -83,8 +83,8 @@ pub fn detach(
     Ok(Reply::Detached)
 }
 
-/// Deletes an object without children, which has this parent only, in place. Want of memory writes
-/// nothing.
+/// Deletes in place an object that has no children and only this parent. If memory runs
+/// out, nothing is written.
 pub fn delete(
     store: &mut Store,
     logs: &UndoLogs,

@@ -14,8 +14,8 @@ use city_model::object::Object;
 use city_model::text::Id;
 use std::alloc::Global;
 
-/// Gives the id a slot: a placeholder where no object is there, and says whether that was made.
-/// Want of memory leaves the city.
+/// Gives the id a slot, and says whether it made a placeholder, as it does if no object is there.
+/// If memory runs out, the city is unchanged.
 pub fn make(city: &mut City, alloc: Global, id: &Id) -> Result<bool, OutOfMemory>
     ensures made { IfOk result (λ made. made ≡ not (is_some (at city.old.1 id.now))) }
     ensures after { OnOk result (at city.new.1 ≡ with_slot (at city.old.1) id.now) }
@@ -30,7 +30,7 @@ pub fn make(city: &mut City, alloc: Global, id: &Id) -> Result<bool, OutOfMemory
     Ok(true)
 }
 
-/// Takes out the placeholder, if one is there.
+/// Removes the placeholder, if one is there.
 pub fn clear(city: &mut City, id: &Id, deleted: bool)
     ensures after { at city.new.1 ≡ (if deleted then changed (at city.old.1) id.now None else at city.old.1) }
     ensures frame { city.new.0 ≡ city.old.0 }
@@ -40,7 +40,7 @@ pub fn clear(city: &mut City, id: &Id, deleted: bool)
     }
 }
 
-/// Sets the object of an id that has a slot, and gives the one that stood there.
+/// Sets the object of an id that has a slot, and returns the one that stood there.
 pub fn swap(city: &mut City, id: Id, object: Object) -> Object
     requires { is_some (at city.old.1 id) ≡ true }
     ensures old { at city.old.1 id ≡ Some result }
@@ -78,7 +78,7 @@ pub fn refill(city: &mut City, id: Id, object: Option<Object>)
     }
 }
 
-/// Undoes what the image stands for.
+/// Puts back what the image says stood at the id.
 pub fn give_back(city: &mut City, id: Id, image: Image)
     requires { is_some (at city.old.1 id) ≡ true }
     ensures after { at city.new.1 ≡ changed (at city.old.1) id (before_image (at city.old.1 id) image) }
@@ -97,7 +97,7 @@ pub fn give_back(city: &mut City, id: Id, image: Image)
     }
 }
 
-/// Sets the object of an id that has a slot, or takes it out.
+/// Sets the object of an id that has a slot, or removes it.
 fn put(city: &mut City, id: Id, object: Option<Object>)
     requires { is_some (at city.old.1 id) ≡ true }
     ensures after { at city.new.1 ≡ changed (at city.old.1) id object }

@@ -7,9 +7,9 @@ use city_model::command::{Cause, Reply};
 pub enum Step {
     /// It was done, or refused: `Reply::Refused`, which changes nothing.
     Done(Reply),
-    /// A lock of the command is held by younger transactions alone, which may be waited for.
+    /// A lock of the command is held by younger transactions only: the asker may wait for them.
     Wait,
-    /// A lock of the command is held by an older transaction: the asker is to give up.
+    /// A lock of the command is held by an older transaction: the asker must give up.
     Die,
 }
 
@@ -29,6 +29,6 @@ pub enum TxnFault {
     NotOpen(u64),
     /// A transaction of this stamp is open already.
     StampOpen(u64),
-    /// There was no memory.
+    /// Memory ran out.
     OutOfMemory,
 }

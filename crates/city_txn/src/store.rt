@@ -54,7 +54,7 @@ impl Model for Store {
 }
 
 impl Store {
-    /// A store of this city, with no transaction open. Takes no memory.
+    /// A store of this city, with no transaction open. Doesn't allocate.
     pub fn new(alloc: Global, city: City) -> Self
         ensures { result ≡ record { frame = city.0; city = city.1; writes = []; opened = [] } }
     {
@@ -64,15 +64,15 @@ impl Store {
         }
     }
 
-    /// Whether the stamp is open. Takes no memory.
+    /// Whether the stamp is open. Doesn't allocate.
     pub fn is_open(&self, stamp: u64) -> bool
         ensures { result ≡ is_open self.now stamp }
     {
         self.undo.is_open(stamp)
     }
 
-    /// Opens the stamp, which isn't open, with no writes and nothing reserved. Want of memory leaves the
-    /// store.
+    /// Opens the stamp, which must not be open, with no writes and nothing reserved. If memory runs
+    /// out, the store is unchanged.
     pub fn begin(&mut self, stamp: u64) -> Result<(), OutOfMemory>
         requires { is_open self.old stamp ≡ false }
         ensures begins { OnOk result (Begins stamp self.old self.new) }
@@ -82,7 +82,7 @@ impl Store {
         Ok(())
     }
 
-    /// What the stamp sees at an id. Takes no memory.
+    /// What the stamp sees at an id. Doesn't allocate.
     pub fn read(&self, stamp: u64, id: &Id) -> Option<&Object>
         ensures { option_copied result ≡ view self.now stamp id.now }
     {
@@ -92,7 +92,7 @@ impl Store {
         }
     }
 
-    /// Whether the stamp wrote the id. Takes no memory.
+    /// Whether the stamp wrote the id. Doesn't allocate.
     pub fn has_written(&self, stamp: u64, id: &Id) -> bool
         ensures { result ≡ is_by stamp (write_of self.now.writes id.now) }
     {
@@ -102,8 +102,8 @@ impl Store {
         }
     }
 
-    /// Reserves for the stamp, which is open, an id that no other has reserved.
-    /// Nobody sees a difference; want of memory leaves the store.
+    /// Reserves for the stamp, which is open, an id that no other has reserved. No transaction sees
+    /// a difference. If memory runs out, the store is unchanged.
     pub fn reserve(&mut self, alloc: Global, stamp: u64, id: &Id) -> Result<(), OutOfMemory>
         requires opened { is_open self.old stamp ≡ true }
         requires alone { (t : ℕ) → is_reserved self.old t id.now ≡ true → t ≡ stamp }
@@ -122,8 +122,8 @@ impl Store {
         Ok(())
     }
 
-    /// Writes an id that the stamp has reserved: an object, or that none is there. Takes no
-    /// memory.
+    /// Writes an id that the stamp has reserved: an object, or that none is
+    /// there. Doesn't allocate.
     pub fn set(&mut self, alloc: Global, stamp: u64, id: Id, object: Option<Object>)
         requires { is_reserved self.old stamp id ≡ true }
         ensures frame { self.new.frame ≡ self.old.frame }
@@ -137,7 +137,8 @@ impl Store {
         self.undo.write(&mut self.city, id, standing, deleted);
     }
 
-    /// Adds a child to what was written at an id. Want of memory leaves the store.
+    /// Adds a child to the object that was written at an id. If memory runs out,
+    /// the store is unchanged.
     pub fn push_child(&mut self, id: &Id, child: Id) -> Result<(), OutOfMemory>
         requires { is_some (write_of self.old.writes id.now) ≡ true }
         ensures frame { self.new.frame ≡ self.old.frame }
@@ -150,7 +151,7 @@ impl Store {
         Ok(())
     }
 
-    /// Takes a child from what was written at an id. Takes no memory.
+    /// Removes a child from the object that was written at an id. Doesn't allocate.
     pub fn remove_child(&mut self, id: &Id, child: &Id)
         requires { is_some (write_of self.old.writes id.now) ≡ true }
         ensures frame { self.new.frame ≡ self.old.frame }
@@ -170,8 +171,8 @@ impl Store {
         Ok(write)
     }
 
-    /// Makes what the stamp wrote at an id that it has reserved this: an object, or that none is
-    /// there, or nothing. Takes no memory.
+    /// Sets what the stamp wrote at an id that it has reserved: an object, or that none is there,
+    /// or nothing. Doesn't allocate.
     pub fn restore(&mut self, alloc: Global, stamp: u64, id: Id, write: OwnWrite)
         requires { is_reserved self.old stamp id ≡ true }
         ensures frame { self.new.frame ≡ self.old.frame }
@@ -186,7 +187,7 @@ impl Store {
         }
     }
 
-    /// Takes the stamp's write of an id that it has reserved back, if it wrote it. Takes no memory.
+    /// Undoes the stamp's write of an id that it has reserved, if it wrote it. Doesn't allocate.
     fn unset(&mut self, stamp: u64, id: Id)
         requires { is_reserved self.old stamp id ≡ true }
         ensures frame { self.new.frame ≡ self.old.frame }
@@ -206,7 +207,7 @@ impl Store {
         change_of(&self.city, &self.undo, alloc, self.undo.reserved(stamp))
     }
 
-    /// Whether an object that the stamp wrote is an orphan. Takes no memory.
+    /// Whether an object that the stamp wrote is an orphan. Doesn't allocate.
     pub fn has_orphan(&self, stamp: u64) -> bool
         ensures none { result ≡ false → (q : List ℕ) → is_orphan_written (own_write stamp (write_of self.now.writes q)) ≡ false }
         ensures lists { (q : List ℕ) → lookup (is_at (slice_cmp nat_cmp q)) (change_in self.now.writes stamp) ≡ own_write stamp (write_of self.now.writes q) }
@@ -215,7 +216,7 @@ impl Store {
         has_orphan(&self.city, &self.undo, self.undo.reserved(stamp))
     }
 
-    /// The city, where no stamp is open. Takes no memory.
+    /// The city, where no stamp is open. Doesn't allocate.
     pub fn into_city(self) -> City
         requires { self.opened ≡ [] }
         ensures { result ≡ (self.frame, self.city) }
@@ -223,15 +224,15 @@ impl Store {
         self.city
     }
 
-    /// Whether no stamp is open. Takes no memory.
+    /// Whether no stamp is open. Doesn't allocate.
     pub fn is_idle(&self) -> bool
         ensures { IsTrue result ↔ (self.now.opened ≡ []) }
     {
         self.undo.is_idle()
     }
 
-    /// Makes what the stamp wrote the committed city, and closes the stamp. It works through the
-    /// ids that the stamp has reserved, and takes no memory.
+    /// Makes what the stamp wrote the committed city, and closes the stamp. It visits the ids that
+    /// the stamp has reserved, and doesn't allocate.
     pub fn commit(&mut self, stamp: u64)
         ensures city { committed self.new ≡ view self.old stamp }
         ensures forgets { Forgets stamp self.old self.new }
@@ -239,8 +240,8 @@ impl Store {
         self.end(stamp, End::Commit);
     }
 
-    /// Takes back what the stamp wrote, and closes the stamp. It works through the ids that the
-    /// stamp has reserved, and takes no memory.
+    /// Undoes what the stamp wrote, and closes the stamp. It visits the ids that the stamp has
+    /// reserved, and doesn't allocate.
     pub fn roll_back(&mut self, stamp: u64)
         ensures city { committed self.new ≡ committed self.old }
         ensures forgets { Forgets stamp self.old self.new }
@@ -248,7 +249,8 @@ impl Store {
         self.end(stamp, End::RollBack);
     }
 
-    /// Ends at each id that the stamp has reserved, and closes the stamp. Takes no memory.
+    /// Ends the transaction at each id that the stamp has reserved, and closes
+    /// the stamp. Doesn't allocate.
     fn end(&mut self, stamp: u64, end: End)
         ensures city { committed self.new ≡ city_after end self.old stamp }
         ensures forgets { Forgets stamp self.old self.new }

@@ -31,9 +31,9 @@ use std::marker::Model;
 
 /// A committed city and the open transactions on it.
 ///
-/// Contracts see the committed city, and of each open transaction its writes, its marks and its locks.
-/// What a transaction sees is the committed city with its own writes; what it saw at a mark is that city
-/// with its writes of then.
+/// Contracts see the committed city, and of each open transaction its writes, its marks and its
+/// locks. What a transaction sees is the committed city with its own writes; what it saw at a mark
+/// is that city with the writes that it had then.
 #[derive(Drop)]
 pub struct Core {
     alloc: Global,
@@ -61,7 +61,7 @@ impl Model for Core {
 }
 
 impl Core {
-    /// A core over this city, with no transaction open. Takes no memory.
+    /// A core over this city, with no transaction open. Doesn't allocate.
     pub fn open(alloc: Global, city: City) -> Self
         requires { IsLawful (at city.1) }
         ensures { result ≡ record { frame = city.0; city = city.1; writes = []; opened = []; logs = []; locks = [] } }
@@ -76,8 +76,8 @@ impl Core {
 
     /// Opens a transaction, with no writes, no marks and no locks, and changes nothing else.
     ///
-    /// `StampOpen` comes exactly where the stamp is open; then, and for want of memory, nothing
-    /// changes.
+    /// `StampOpen` comes exactly where the stamp is open; then, and if memory
+    /// runs out, nothing changes.
     pub fn begin(&mut self, stamp: u64) -> Result<(), TxnFault>
         ensures city { self.new.city ≡ self.old.city }
         ensures writes { self.new.writes ≡ self.old.writes }
@@ -108,8 +108,8 @@ impl Core {
     /// locks before it are held, and the transaction stays open. A refused command is done: its
     /// reply is `Refused`, and it changes nothing. `NotOpen` comes exactly where the stamp isn't
     /// open, and changes nothing. After `OutOfMemory` the transaction is open as before, and may
-    /// have gained locks of the command. Marks ask for no locks, and going back gives none back; it takes
-    /// no memory where the mark is there.
+    /// have gained locks of the command. Marks ask for no locks, and going back gives none back; it
+    /// doesn't allocate if the mark is there.
     pub fn act(&mut self, stamp: u64, command: &Command) -> Result<Step, TxnFault>
         requires { is_end command.now ≡ false }
         ensures { Acted stamp command.now result self.old self.new }
@@ -131,8 +131,8 @@ impl Core {
         Ok(Step::Done(reply))
     }
 
-    /// Whether `act` would answer `Wait`, want of memory aside: false where the stamp isn't open.
-    /// Takes no memory.
+    /// Whether `act` would answer `Wait`, unless memory runs out; false if the stamp
+    /// isn't open. Doesn't allocate.
     pub fn would_wait(&self, stamp: u64, command: &Command) -> bool
         requires { is_end command.now ≡ false }
         ensures { result ≡ (is_open self.now stamp && is_wait (answer_in self.now stamp command.now)) }
@@ -194,7 +194,7 @@ impl Core {
         }
     }
 
-    /// Makes the transaction's view the committed city, and gives its locks back. Takes no memory.
+    /// Makes the transaction's view the committed city, and gives its locks back. Doesn't allocate.
     pub fn commit(&mut self, stamp: u64)
         requires opened { is_open self.old stamp ≡ true }
         requires no_orphan { HasNoOrphan (view self.old stamp) }
@@ -207,7 +207,8 @@ impl Core {
         self.locks.release_all(stamp);
     }
 
-    /// Undoes what the transaction, which is open, wrote, and gives its locks back. Takes no memory.
+    /// Undoes what the transaction, which is open, wrote, and gives its
+    /// locks back. Doesn't allocate.
     pub fn roll_back(&mut self, stamp: u64)
         requires { is_open self.old stamp ≡ true }
         ensures { IsUndone stamp self.old self.new }
@@ -217,9 +218,10 @@ impl Core {
         self.locks.release_all(stamp);
     }
 
-    /// Undoes what the transaction wrote, and gives its locks back. Takes no memory.
+    /// Undoes what the transaction wrote, and gives its locks back. Doesn't allocate.
     ///
-    /// It is `roll_back` for a stamp that may not be open: `NotOpen` comes exactly where the stamp isn't open, and then nothing changes.
+    /// It is `roll_back` for a stamp that need not be open: `NotOpen` comes exactly where the stamp isn't open,
+    /// and then nothing changes.
     pub fn abort(&mut self, stamp: u64) -> Result<(), TxnFault>
         ensures undone { OnOk result (IsUndone stamp self.old self.new) }
         ensures err { OnErr result (self.new ≡ self.old) }
@@ -234,7 +236,7 @@ impl Core {
         Ok(())
     }
 
-    /// The committed city, or the core as it was where a transaction is open. Takes no memory.
+    /// The committed city, or the core as it was where a transaction is open. Doesn't allocate.
     pub fn into_city(self) -> Result<City, Core>
         ensures city { IfOk result (λ city. city ≡ (self.frame, self.city)) }
         ensures back { IfErr result (λ core. core ≡ self) }
@@ -247,7 +249,7 @@ impl Core {
         }
     }
 
-    /// Whether a transaction of the stamp is open. Takes no memory.
+    /// Whether a transaction of the stamp is open. Doesn't allocate.
     pub fn is_open(&self, stamp: u64) -> bool
         ensures opened { result ≡ is_open self.now stamp }
         ensures committed { IsLawful (committed self.now) }

@@ -54,7 +54,7 @@ impl Model for Undo {
 }
 
 impl Undo {
-    /// No stamp is open, and no id reserved. Takes no memory.
+    /// No stamp is open, and no id reserved. Doesn't allocate.
     pub fn new(alloc: Global) -> Self
         ensures images { entries result.images ≡ [] }
         ensures reservations { result.reservations ≡ [] }
@@ -66,35 +66,35 @@ impl Undo {
         }
     }
 
-    /// Whether the stamp is open. Takes no memory.
+    /// Whether the stamp is open. Doesn't allocate.
     pub fn is_open(&self, stamp: u64) -> bool
         ensures { result ≡ is_some (listed_by self.now.reservations stamp) }
     {
         self.reservations.contains_key(&stamp)
     }
 
-    /// Whether no stamp is open. Takes no memory.
+    /// Whether no stamp is open. Doesn't allocate.
     pub fn is_idle(&self) -> bool
         ensures { IsTrue result ↔ (self.now.reservations ≡ []) }
     {
         self.reservations.is_empty()
     }
 
-    /// Whether the id is reserved. Takes no memory.
+    /// Whether the id is reserved. Doesn't allocate.
     pub fn has_image(&self, id: &Id) -> bool
         ensures { result ≡ is_some (image_at self.now id.now) }
     {
         self.images.contains_key(id)
     }
 
-    /// The image of the id, if it is reserved. Takes no memory.
+    /// The image of the id, if it is reserved. Doesn't allocate.
     pub fn image(&self, id: &Id) -> Option<&Image>
         ensures { option_copied result ≡ image_at self.now id.now }
     {
         self.images.get(id)
     }
 
-    /// The ids that the stamp has reserved: none where it isn't open. Takes no memory.
+    /// The ids that the stamp has reserved: none where it isn't open. Doesn't allocate.
     pub fn reserved(&self, stamp: u64) -> &[Id]
         ensures { result.now ≡ reservations_of self.now.reservations stamp }
     {
@@ -104,7 +104,7 @@ impl Undo {
         }
     }
 
-    /// Opens the stamp, with no id reserved. Want of memory leaves all as it is.
+    /// Opens the stamp, with no id reserved. If memory runs out, nothing changes.
     pub fn open(&mut self, stamp: u64) -> Result<(), OutOfMemory>
         ensures images { self.new.images ≡ self.old.images }
         ensures ok { OnOk result ((t : ℕ) → listed_by self.new.reservations t
@@ -116,7 +116,7 @@ impl Undo {
     }
 
     /// Reserves an id without image for the stamp, which is open: its image is unwritten, and says
-    /// whether a placeholder holds its slot. Want of memory leaves all as it is.
+    /// whether a placeholder holds its slot. If memory runs out, nothing changes.
     pub fn reserve(&mut self, stamp: u64, id: &Id, deleted: bool) -> Result<(), OutOfMemory>
         requires opened { is_some (listed_by self.old.reservations stamp) ≡ true }
         requires absent { image_at self.old id.now ≡ None }
@@ -136,8 +136,8 @@ impl Undo {
         Ok(())
     }
 
-    /// Puts the object at a reserved id of the city, and what stood there into its image. Takes no
-    /// memory.
+    /// Puts the object at a reserved id of the city, and what stood there into
+    /// its image. Doesn't allocate.
     pub fn write(&mut self, city: &mut City, id: Id, object: Object, deleted: bool)
         requires has_slot { is_some (at city.old.1 id) ≡ true }
         requires there { is_some (image_at self.old id) ≡ true }
@@ -156,8 +156,8 @@ impl Undo {
         }
     }
 
-    /// Takes the write of a reserved id back, if it was written: what stood there goes back into the
-    /// city. Takes no memory.
+    /// Undoes the write of a reserved id, if it was written: what stood there goes back into
+    /// the city. Doesn't allocate.
     pub fn unwrite(&mut self, city: &mut City, id: Id)
         requires has_slot { is_some (at city.old.1 id) ≡ true }
         requires there { is_some (image_at self.old id) ≡ true }
@@ -176,7 +176,7 @@ impl Undo {
         }
     }
 
-    /// Takes the image of the id out, with the id. Takes no memory.
+    /// Removes the image of the id, and returns it with the id. Doesn't allocate.
     pub fn take(&mut self, id: &Id) -> Option<(Id, Image)>
         ensures key { IfSome result (λ taken. taken.0 ≡ id.now) }
         ensures image { option_map (λ taken. taken.1) result ≡ image_at self.old id.now }
@@ -186,8 +186,8 @@ impl Undo {
         self.images.remove_entry(id)
     }
 
-    /// Closes the stamp, and gives the ids that it had reserved: none where it wasn't open. Takes no
-    /// memory.
+    /// Closes the stamp, and returns the ids that it had reserved: none if it
+    /// wasn't open. Doesn't allocate.
     pub fn close(&mut self, stamp: u64) -> Sequence<Id>
         ensures ids { result ≡ reservations_of self.old.reservations stamp }
         ensures images { self.new.images ≡ self.old.images }
@@ -201,7 +201,7 @@ impl Undo {
     }
 }
 
-/// Lists the id at a stamp that is open. Want of memory leaves all as it is.
+/// Lists the id at a stamp that is open. If memory runs out, nothing changes.
 fn list(
     reservations: &mut BTreeMap<u64, Sequence<Id>>,
     alloc: Global,

@@ -49,7 +49,7 @@ impl Model for UndoLogs {
 }
 
 impl UndoLogs {
-    /// No transaction has marks. Takes no memory.
+    /// No transaction has marks. Doesn't allocate.
     pub fn new(alloc: Global) -> Self
         ensures { result ≡ [] }
     {
@@ -59,21 +59,21 @@ impl UndoLogs {
         }
     }
 
-    /// Whether the transaction has no marks: its log is empty. Takes no memory.
+    /// Whether the transaction has no marks: its log is empty. Doesn't allocate.
     pub fn is_empty(&self, stamp: u64) -> bool
         ensures { result ≡ (length (log_of self.now stamp) == 0) }
     {
         self.entries(stamp).is_empty()
     }
 
-    /// Whether the transaction has a mark of the name. Takes no memory.
+    /// Whether the transaction has a mark of the name. Doesn't allocate.
     pub fn has_mark(&self, stamp: u64, name: &Text) -> bool
         ensures { result ≡ has_mark (log_of self.now stamp) name.now }
     {
         any_is_mark(self.entries(stamp), name)
     }
 
-    /// Whether a mark of the name is the newest entry. Takes no memory.
+    /// Whether a mark of the name is the newest entry. Doesn't allocate.
     pub fn is_at_mark(&self, stamp: u64, name: &Text) -> bool
         ensures { result ≡ is_at_mark (log_of self.now stamp) name.now }
     {
@@ -83,7 +83,7 @@ impl UndoLogs {
         }
     }
 
-    /// Adds an entry to the transaction's log. Want of memory leaves the logs as they were.
+    /// Adds an entry to the transaction's log. If memory runs out, the logs stay as they were.
     pub fn push(&mut self, stamp: u64, entry: Entry) -> Result<(), OutOfMemory>
         ensures ok { OnOk result ((t : ℕ) → log_of self.new t ≡ (if stamp == t then entry ∷ log_of self.old t else log_of self.old t)) }
         ensures err { OnErr result ((t : ℕ) → log_of self.new t ≡ log_of self.old t) }
@@ -94,7 +94,8 @@ impl UndoLogs {
         add(&mut self.by_stamp, stamp, entry)
     }
 
-    /// Takes the newest entry out of the transaction's log, if there is one. Takes no memory.
+    /// Removes the newest entry of the transaction's log, if there is one, and
+    /// returns it. Doesn't allocate.
     pub fn pop(&mut self, stamp: u64) -> Option<Entry>
         ensures entries { (t : ℕ) → log_of self.old t ≡ (if stamp == t then option_to_list result ++ log_of self.new t else log_of self.new t) }
         ensures none { IfNone result (log_of self.old stamp ≡ []) }
@@ -105,7 +106,7 @@ impl UndoLogs {
         }
     }
 
-    /// Forgets the transaction's log. Takes no memory.
+    /// Forgets the transaction's log. Doesn't allocate.
     pub fn close(&mut self, stamp: u64)
         ensures { (t : ℕ) → log_of self.new t ≡ (if stamp == t then [] else log_of self.old t) }
     {
@@ -123,7 +124,7 @@ impl UndoLogs {
     }
 }
 
-/// Adds an entry to a log that is there. Want of memory leaves all as it is.
+/// Adds an entry to a log that is there. If memory runs out, nothing changes.
 fn add(
     by_stamp: &mut BTreeMap<u64, Sequence<Entry>>,
     stamp: u64,

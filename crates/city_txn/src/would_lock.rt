@@ -1,4 +1,4 @@
-//! What asking for the locks of a command would come to.
+//! What the answer to asking for a command's locks would be.
 ghost use Rattle.std.specs.Prelude.{◌≡◌};
 ghost use Rattle.city_model.specs.Meaning.{exclusively, locks_of};
 ghost use Rattle.city_txn.specs.State.{view};
@@ -10,7 +10,7 @@ use city_locks::{Answer, LockTable, Mode};
 use city_model::command::Command;
 use city_model::text::Id;
 
-/// What `lock` would answer, want of memory aside. Takes no memory.
+/// What `lock` would answer, unless memory runs out. Doesn't allocate.
 pub fn would_lock(locks: &LockTable, store: &Store, stamp: u64, command: &Command) -> Answer
     ensures { result ≡ first_answer locks.now stamp (locks_of (view store.now stamp) command.now) }
 {

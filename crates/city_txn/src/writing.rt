@@ -1,4 +1,4 @@
-//! Writes of a command: all of them reserved and noted first, then all of them.
+//! Writes of a command: first all its ids are reserved and noted, then all are written.
 ghost use Rattle.std.specs.Prelude.{◌≡◌, ◌==◌, ◌&&◌, ◌||◌, ℕ, List, Some, true, false, OnOk, OnErr, if◌then◌else◌};
 ghost use Rattle.city_model.specs.CityMap.{CityMap};
 ghost use Rattle.city_txn.specs.State.{write_of, unless_by, own, is_reserved, is_open, committed, SeesSame};
@@ -15,7 +15,7 @@ use city_model::object::Object;
 use city_model::text::Id;
 use std::alloc::Global;
 
-/// Writes all that is planned, or, for want of memory, nothing. Marks stay as they are.
+/// Writes all that is planned, or nothing if memory runs out. Marks stay as they are.
 pub fn write_all(
     store: &mut Store,
     logs: &mut UndoLogs,
@@ -45,7 +45,7 @@ pub fn write_all(
     Ok(())
 }
 
-/// Reserves all that is planned. Nobody sees a difference.
+/// Reserves the ids of all that is planned. No transaction sees a difference.
 fn reserve_all(
     store: &mut Store,
     alloc: Global,
@@ -65,8 +65,8 @@ fn reserve_all(
     Ok(())
 }
 
-/// Notes what the transaction had written where all that is planned goes, if it has marks. Each mark
-/// stays as it is, and will after a write of what is planned.
+/// If the transaction has marks, notes what it had written at each planned id. Each mark stays as
+/// it is, also after the plan is written.
 fn note_all(
     store: &Store,
     logs: &mut UndoLogs,
@@ -87,7 +87,7 @@ fn note_all(
     Ok(())
 }
 
-/// Notes what the transaction had written at an id that it has reserved, if it has marks.
+/// If the transaction has marks, notes what it had written at an id that it has reserved.
 fn note(
     store: &Store,
     logs: &mut UndoLogs,
@@ -112,7 +112,7 @@ fn note(
     Ok(())
 }
 
-/// Writes all that is planned, which is reserved. Takes no memory.
+/// Writes all that is planned, which is reserved. Doesn't allocate.
 fn set_all(store: &mut Store, alloc: Global, stamp: u64, mut writes: Vec<(Id, Option<Object>)>)
     requires { (id : List ℕ) → plans writes.items id ≡ true → is_reserved store.old stamp id ≡ true }
     ensures frame { store.new.frame ≡ store.old.frame }
