@@ -7,7 +7,8 @@ BEFORE and AFTER are CityJSON files, or an input or an output of cityed: the lin
 The viewer stands DEGREES east of north, 150 if not given, and looks down at 35 degrees. Of each object the finest
 geometry is drawn, and a footprint (level of detail 0) on the ground. With AFTER, an object that only AFTER has
 is green, one that only BEFORE has is red, and one that isn't the same in both is orange; where something was
-taken out, its outline is left on the ground. It compares each face with each other, so it is for small models.
+taken out, its outline is left on the ground. A name has the colour of its building, whose parts may have others.
+Each face is compared with each other one to find which hides which, so it is for small models.
 """
 import argparse
 import heapq
@@ -16,6 +17,7 @@ from html import escape
 from math import cos, hypot, radians, sin
 
 PANEL = 430  # the width of one picture, in pixels
+MOST_NAMES = 12  # names are left out where there are more buildings
 COLOURS = {
     "same": (228, 221, 209),
     "changed": (240, 165, 60),
@@ -112,7 +114,7 @@ class View:
         light = [0.35 * v - 0.60 * r for r, v in zip(self.right, self.viewer)]
         light[2] += 0.9
         self.light = [it / hypot(*light) for it in light]
-        self.ground = min((p[2] for p in points), default=0)
+        self.ground = min(p[2] for p in points)
         low = [min(p[i] for p in points) for i in (0, 1)]
         high = [max(p[i] for p in points) for i in (0, 1)]
         edge = 0.07 * max(high[0] - low[0], high[1] - low[1])
@@ -246,11 +248,14 @@ def panel(city, states, gone, view, title):
 
 def names(city, states, view):
     """The names of the objects that have no parent, each above its highest point and clear of the others."""
-    lines, placed = [], []
+    lines, placed, tops = [], [], {}
     for name, it in city.objects.items():
         points = [p for part in city.family(name) for rings in city.faces[part] for p in rings[0]]
-        if not points or it.get("parents"):
-            continue
+        if points and not it.get("parents"):
+            tops[name] = points
+    if len(tops) > MOST_NAMES:
+        return []
+    for name, points in tops.items():
         top = max(p[2] for p in points)
         highest = [view.flat(p) for p in points if p[2] == top]
         x, foot = (sum(p[i] for p in highest) / len(highest) for i in (0, 1))
@@ -292,7 +297,10 @@ def picture(before, after, degrees):
     """The lines of the picture of one city, or of two."""
     cities = [before] if after is None else [before, after]
     every = [it for city in cities for part in (city.faces, city.footprints) for it in part.values()]
-    view = View(degrees, [p for surfaces in every for rings in surfaces for ring in rings for p in ring])
+    points = [p for surfaces in every for rings in surfaces for ring in rings for p in ring]
+    if not points:
+        raise SystemExit("draw.py: no object has a shape")
+    view = View(degrees, points)
     width, height = PANEL * len(cities), round(view.height) + (72 if after is None else 104)
     lines = [
         f'<svg xmlns="http://www.w3.org/2000/svg" viewBox="0 0 {width} {height}" width="{width}" height="{height}">',

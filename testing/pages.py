@@ -1,0 +1,201 @@
+#!/usr/bin/env python3
+"""Runs the commands of the pages as they stand, and compares what they print with what the pages show.
+
+usage: pages.py PROGRAM [--slow] [PAGE ..]
+
+PROGRAM is a built cityed. Without pages it goes through README.md, CONTRIBUTING.md and every other page of the
+repository. The commands of a page are the blocks that begin with ```sh. They are run by bash in a copy of the
+repository, each page in a new copy, in which PROGRAM stands as crates/cityed/out/cityed. It says which command
+
+- doesn't end with status 0;
+- prints anything else than the block that follows the commands' block at once (`..` stands for anything);
+- writes a file of the repository, a picture for example, otherwise than it stands there.
+
+A link that leads to no file, or to no heading of a page, is told too. Commands that prove, or that take long, are
+skipped (SKIPPED has the reasons); --slow runs those that take a few minutes. The status is 1 if anything was wrong.
+"""
+import argparse
+import filecmp
+import os
+import re
+import shutil
+import subprocess
+import sys
+import tempfile
+from pathlib import Path
+
+ROOT = Path(__file__).resolve().parent.parent
+SECONDS = 300  # for each block of commands, with --slow 1,800
+
+# What a command has in it, why it is skipped, and whether --slow runs it.
+SKIPPED = [
+    (r"\brt (ci|check|verdict|lib|run|test|all|tidy|plant|must-fail)\b", "it proves", False),
+    (r"\b(NAME|NAMES|MODEL|SCRIPTS|OLD|NEW|EDIT|FILE|FUNCTION)\b", "the reader fills in a name", False),
+    (r"\bout/city_(tests_tests|scenarios)\b", "it wants another program", False),
+    (r"\brt (try|fmt|seed|expand)\b", "minutes", True),
+    (r"\btesting/(hostile_texts|refused_calls|decimals|pages)\.py", "minutes", True),
+    (r"\bgrowth\.py|\bside_by_side\.py", "minutes", True),
+    (r"make_city\.py \w+ \d{5,}|/tmp/\w+\.(input|output|json)", "texts of up to 60 MB", True),
+]
+
+
+def pages():
+    """The pages of the repository."""
+    return sorted(it for it in files() if it.endswith(".md"))
+
+
+def files():
+    """The files of the repository, by their names from its root."""
+    words = ["git", "ls-files", "-z", "--cached", "--others", "--exclude-standard"]
+    listed = subprocess.run(words, cwd=ROOT, stdout=subprocess.PIPE, check=True).stdout.decode()
+    return [it for it in listed.split("\0") if it and (ROOT / it).is_file()]
+
+
+def copied(folder, program):
+    """A copy of the repository, with the program in its place."""
+    for name in files():
+        (folder / name).parent.mkdir(parents=True, exist_ok=True)
+        shutil.copy2(ROOT / name, folder / name)
+    out = folder / "crates" / "cityed" / "out"
+    out.mkdir(parents=True, exist_ok=True)
+    shutil.copy2(program, out / "cityed")
+
+
+def blocks(text):
+    """The fenced blocks of a page: language, number of the first line, lines, and whether it follows another at once."""
+    found, inside, last = [], None, 0
+    for number, line in enumerate(text.split("\n"), 1):
+        fence = re.match(r"\s*```(\w*)\s*$", line)
+        if inside is None and fence:
+            inside = (fence[1], number + 1, [], last and not "".join(text.split("\n")[last : number - 1]).strip())
+        elif inside is not None and fence:
+            found.append(inside)
+            inside, last = None, number
+        elif inside is not None:
+            inside[2].append(line)
+    return found
+
+
+def commands(lines, first):
+    """The commands of a block, each with the number of its first line; a command ends where bash can read it."""
+    found, part, start = [], [], first
+    for number, line in enumerate(lines, first):
+        if not part:
+            if not line.strip():
+                continue
+            start = number
+        part.append(line)
+        text = "\n".join(part)
+        read = subprocess.run(["bash", "-n"], input=text, text=True, stdout=subprocess.PIPE, stderr=subprocess.STDOUT)
+        if read.returncode == 0 and not re.search(r"(\\|&&|\|)\s*$", line):
+            found.append((start, text))
+            part = []
+    return found + ([(start, "\n".join(part))] if part else [])
+
+
+def reason(text, slow):
+    """Why a command is skipped, or None."""
+    return next((why for has, why, is_slow in SKIPPED if re.search(has, text) and not (slow and is_slow)), None)
+
+
+def is_like(wanted, given):
+    """Whether lines are those that a page shows, in which `..` stands for anything."""
+    pattern = ".*".join(re.escape(part) for part in "\n".join(wanted).strip().split(".."))
+    return re.fullmatch(pattern, given.strip(), re.DOTALL) is not None
+
+
+class Trial:
+    """What has come of the pages so far."""
+
+    def __init__(self, program, slow):
+        self.program, self.slow, self.ran, self.wrong, self.skipped, self.shown = program, slow, 0, 0, 0, 0
+
+    def fault(self, place, what):
+        self.wrong += 1
+        print(f"{place}: {what}")
+
+    def page(self, page):
+        """Runs a page's blocks of commands in a copy of the repository."""
+        text = (ROOT / page).read_text(encoding="utf-8")
+        self.links(page, text)
+        found = blocks(text)
+        if not any(language == "sh" for language, *_ in found):
+            return
+        with tempfile.TemporaryDirectory(prefix="pages-") as room:
+            copy = Path(room) / "repository"
+            copied(copy, self.program)
+            for i, (language, first, lines, _) in enumerate(found):
+                if language == "sh":
+                    follows = i + 1 < len(found) and found[i + 1][3] and found[i + 1][0] != "sh"
+                    self.block(page, copy, commands(lines, first), found[i + 1][2] if follows else None)
+            for name in files():
+                if not (copy / name).exists():
+                    self.fault(page, f"its commands take {name} away")
+                elif not filecmp.cmp(ROOT / name, copy / name, shallow=False):
+                    self.fault(page, f"its commands write {name} otherwise than it stands")
+
+    def block(self, page, copy, found, wanted):
+        """Runs one block. The commands share a shell; each one's status stands in a file of its own."""
+        script, kept = [], []
+        for line, text in found:
+            why = reason(text, self.slow)
+            if why:
+                self.skipped += 1
+                print(f"{page}:{line}: skipped, {why}: {text.splitlines()[0][:80]}")
+            else:
+                kept.append((line, text))
+                script += [text, f'echo $? > "$STATUS/{line}"']
+        with tempfile.TemporaryDirectory(prefix="pages-") as status:
+            words = {"cwd": copy, "env": {**os.environ, "STATUS": status}, "stdin": subprocess.DEVNULL, "text": True}
+            caught = {"stdout": subprocess.PIPE, "stderr": subprocess.STDOUT, "errors": "replace"}
+            seconds = 1800 if self.slow else SECONDS
+            try:
+                output = subprocess.run(["bash", "-c", "\n".join(script)], timeout=seconds, **words, **caught).stdout
+            except subprocess.TimeoutExpired:
+                self.fault(f"{page}:{found[0][0]}", f"no end within {seconds} seconds")
+                return
+            for line, text in kept:
+                self.ran += 1
+                place = Path(status) / str(line)
+                ended = place.read_text().strip() if place.exists() else "none"
+                if ended != "0":
+                    self.fault(f"{page}:{line}", f"status {ended}: {text}\n{output[-1500:]}")
+        if wanted is not None and len(kept) == len(found):
+            self.shown += 1
+            if not is_like(wanted, output):
+                self.fault(f"{page}:{found[0][0]}", "prints otherwise than the page shows:\n" + output[-3000:])
+
+    def links(self, page, text):
+        """Looks up each link of a page to a file of the repository."""
+        outside = re.sub(r"```.*?```", "", text, flags=re.DOTALL)
+        for target in re.findall(r"\]\(([^)\s]+)\)", outside):
+            if re.match(r"\w+:", target):
+                continue
+            path, _, heading = target.partition("#")
+            file = (ROOT / page).parent / path if path else ROOT / page
+            if not file.exists():
+                self.fault(page, f"links to {target}, which isn't there")
+            elif heading and heading not in headings(file.read_text(encoding="utf-8")):
+                self.fault(page, f"links to {target}, of which there is no such heading")
+
+
+def headings(text):
+    """The names by which the headings of a page are linked to."""
+    lines = re.findall(r"^#+ +(.*)$", re.sub(r"```.*?```", "", text, flags=re.DOTALL), re.MULTILINE)
+    return {re.sub(r"[^\w\- ]", "", line.lower()).strip().replace(" ", "-") for line in lines}
+
+
+def main():
+    words = argparse.ArgumentParser(usage=__doc__.split("usage: ")[1].split("\n")[0])
+    words.add_argument("program")
+    words.add_argument("--slow", action="store_true")
+    words.add_argument("pages", nargs="*")
+    asked = words.parse_args()
+    trial = Trial(Path(asked.program).resolve(), asked.slow)
+    for page in asked.pages or pages():
+        trial.page(page)
+    print(f"{trial.ran} commands run, {trial.shown} outputs compared, {trial.skipped} skipped, {trial.wrong} wrong")
+    sys.exit(1 if trial.wrong else 0)
+
+
+main()
