@@ -8,6 +8,7 @@ table under "How time grows with the text", one line for each kind of text. Both
 in proportion to the text is a line of slope one; such a line is dashed from the first point of each. The figures are
 read from the page, and stand there alone.
 """
+import os
 import re
 import sys
 from html import escape
@@ -120,15 +121,16 @@ def chart(title, series):
         lines.append(f'<path class="grid" d="M{LEFT} {y:.1f}h{WIDTH}"/>')
         lines.append(f'<text x="{LEFT - 8}" y="{y + 4:.1f}" text-anchor="end">{label(10**power, TIMES)}</text>')
     lines.append(f'<path class="grid" d="M{LEFT} {TOP}v{HEIGHT}h{WIDTH}v{-HEIGHT}z"/>')
-    foot = TOP + HEIGHT + 40
-    lines.append(f'<text x="{LEFT + WIDTH / 2}" y="{foot}" text-anchor="middle">length of the text; dashed: slope one</text>')
+    middle, foot = LEFT + WIDTH / 2, TOP + HEIGHT + 40
+    lines.append(f'<text x="{middle}" y="{foot}" text-anchor="middle">length of the text (dashed: slope one)</text>')
 
     tips, right = [at(*max(points)) for points in series.values()], LEFT + WIDTH
     drawn = zip(series.items(), COLOURS * 9, tips, spread([y for _, y in tips], 16))
     for (name, points), colour, (x, y), line in drawn:
         (size, time), last = min(points), max(points)[0]
         one = [at(size, time), at(last, time * last / size)]
-        lines.append('<path class="one" stroke="{}" d="M{:.1f} {:.1f}L{:.1f} {:.1f}"/>'.format(colour, *one[0], *one[1]))
+        ends = "L".join(f"{x:.1f} {y:.1f}" for x, y in one)
+        lines.append(f'<path class="one" stroke="{colour}" d="M{ends}"/>')
         places = [at(*point) for point in sorted(points)]
         shape = "L".join(f"{x:.1f} {y:.1f}" for x, y in places)
         lines.append(f'<path class="line" stroke="{colour}" d="M{shape}"/>')
@@ -150,7 +152,7 @@ def main():
             sys.exit(f'plot.py: bench/README.md has no table of times under "{heading}"')
         folder.mkdir(parents=True, exist_ok=True)
         (folder / file).write_text(chart(title, points_of(tables[0])), encoding="utf-8")
-        print(folder / file)
+        print(os.path.relpath(folder / file))
 
 
 main()

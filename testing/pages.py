@@ -3,9 +3,10 @@
 
 usage: pages.py PROGRAM [--slow] [PAGE ..]
 
-PROGRAM is a built cityed. Without pages it goes through README.md, CONTRIBUTING.md and every other page of the
-repository. The commands of a page are the blocks that begin with ```sh. They are run by bash in a copy of the
-repository, each page in a new copy, in which PROGRAM stands as crates/cityed/out/cityed. It says which command
+PROGRAM is a built cityed. Without pages it goes through all pages of the repository. The commands of a page are
+the blocks that begin with ```sh, and what stands as `python3 ..` in its sentences. One bash runs them for each page,
+each block from the top of a copy of the repository, in which PROGRAM stands as crates/cityed/out/cityed. It says which
+command
 
 - doesn't end with status 0;
 - prints anything else than the block that follows the commands' block at once (`..` stands for anything);
@@ -25,7 +26,7 @@ import tempfile
 from pathlib import Path
 
 ROOT = Path(__file__).resolve().parent.parent
-SECONDS = 300  # for each block of commands, with --slow 1,800
+SECONDS = 300  # for each page, with --slow 3,600
 
 # What a command has in it, why it is skipped, and whether --slow runs it.
 SKIPPED = [
@@ -35,7 +36,7 @@ SKIPPED = [
     (r"\brt (try|fmt|seed|expand)\b", "minutes", True),
     (r"\btesting/(hostile_texts|refused_calls|decimals|pages)\.py", "minutes", True),
     (r"\bgrowth\.py|\bside_by_side\.py", "minutes", True),
-    (r"make_city\.py \w+ \d{5,}|/tmp/\w+\.(input|output|json)", "texts of up to 60 MB", True),
+    (r"\bmake_(city|scripts)\.py\b|/tmp/[\w-]+\.(input|output|json)", "texts of up to 60 MB", True),
 ]
 
 
@@ -62,17 +63,22 @@ def copied(folder, program):
 
 
 def blocks(text):
-    """The fenced blocks of a page: language, number of the first line, lines, and whether it follows another at once."""
-    found, inside, last = [], None, 0
-    for number, line in enumerate(text.split("\n"), 1):
+    """The fenced blocks of a page, and the commands in its sentences as blocks of one line: language, number of the
+    first line, lines, and whether it follows the block before at once."""
+    found, language, lines, first, start = [], None, [], 0, 1
+    page = text.split("\n")
+    for number, line in enumerate([*page, "```"], 1):
         fence = re.match(r"\s*```(\w*)\s*$", line)
-        if inside is None and fence:
-            inside = (fence[1], number + 1, [], last and not "".join(text.split("\n")[last : number - 1]).strip())
-        elif inside is not None and fence:
-            found.append(inside)
-            inside, last = None, number
-        elif inside is not None:
-            inside[2].append(line)
+        if fence and language is None:
+            prose = "\n".join(page[start - 1 : number - 1])
+            for it in re.finditer(r"`(python3 [^`]+)`", prose):
+                found.append(("sh", start + prose.count("\n", 0, it.start()), [" ".join(it[1].split())], False))
+            language, lines, first, follows = fence[1], [], number + 1, not prose.strip()
+        elif fence:
+            found.append((language, first, lines, follows))
+            language, start = None, number + 1
+        elif language is not None:
+            lines.append(line)
     return found
 
 
@@ -93,9 +99,9 @@ def commands(lines, first):
     return found + ([(start, "\n".join(part))] if part else [])
 
 
-def reason(text, slow):
-    """Why a command is skipped, or None."""
-    return next((why for has, why, is_slow in SKIPPED if re.search(has, text) and not (slow and is_slow)), None)
+def written(path):
+    """What was written to a file, if there is one."""
+    return path.read_text(encoding="utf-8", errors="replace") if path.exists() else ""
 
 
 def is_like(wanted, given):
@@ -112,58 +118,67 @@ class Trial:
 
     def fault(self, place, what):
         self.wrong += 1
-        print(f"{place}: {what}")
+        print(f"{place}: {what[:3000]}")
 
     def page(self, page):
-        """Runs a page's blocks of commands in a copy of the repository."""
+        """Runs a page's blocks of commands in a copy of the repository, and compares what they print and write."""
         text = (ROOT / page).read_text(encoding="utf-8")
         self.links(page, text)
         found = blocks(text)
-        if not any(language == "sh" for language, *_ in found):
-            return
-        with tempfile.TemporaryDirectory(prefix="pages-") as room:
-            copy = Path(room) / "repository"
-            copied(copy, self.program)
-            for i, (language, first, lines, _) in enumerate(found):
-                if language == "sh":
-                    follows = i + 1 < len(found) and found[i + 1][3] and found[i + 1][0] != "sh"
-                    self.block(page, copy, commands(lines, first), found[i + 1][2] if follows else None)
-            for name in files():
-                if not (copy / name).exists():
-                    self.fault(page, f"its commands take {name} away")
-                elif not filecmp.cmp(ROOT / name, copy / name, shallow=False):
-                    self.fault(page, f"its commands write {name} otherwise than it stands")
+        script, kept, compared = [], [], []
+        for i, (language, first, lines, _) in enumerate(found):
+            if language != "sh":
+                continue
+            parts = commands(lines, first)
+            run = [part for part in parts if not self.skips(page, *part)]
+            noted = []
+            for line, command in run:
+                noted.append(f'{command}\necho $? > "$NOTES/{len(kept)}.status"\n')
+                kept.append((line, command, i))
+            if run:
+                script.append(f'cd "$NOTES/repository"\n{{\n{"".join(noted)}}} > "$NOTES/{i}.output" 2>&1\n')
+            if len(run) == len(parts) and i + 1 < len(found) and found[i + 1][3] and found[i + 1][0] != "sh":
+                compared.append((first, i, found[i + 1][2]))
+        if kept:
+            with tempfile.TemporaryDirectory(prefix="pages-") as room:
+                copied(Path(room) / "repository", self.program)
+                self.run(page, "".join(script), room)
+                self.judge(page, kept, compared, Path(room))
 
-    def block(self, page, copy, found, wanted):
-        """Runs one block. The commands share a shell; each one's status stands in a file of its own."""
-        script, kept = [], []
-        for line, text in found:
-            why = reason(text, self.slow)
-            if why:
-                self.skipped += 1
-                print(f"{page}:{line}: skipped, {why}: {text.splitlines()[0][:80]}")
-            else:
-                kept.append((line, text))
-                script += [text, f'echo $? > "$STATUS/{line}"']
-        with tempfile.TemporaryDirectory(prefix="pages-") as status:
-            words = {"cwd": copy, "env": {**os.environ, "STATUS": status}, "stdin": subprocess.DEVNULL, "text": True}
-            caught = {"stdout": subprocess.PIPE, "stderr": subprocess.STDOUT, "errors": "replace"}
-            seconds = 1800 if self.slow else SECONDS
-            try:
-                output = subprocess.run(["bash", "-c", "\n".join(script)], timeout=seconds, **words, **caught).stdout
-            except subprocess.TimeoutExpired:
-                self.fault(f"{page}:{found[0][0]}", f"no end within {seconds} seconds")
-                return
-            for line, text in kept:
-                self.ran += 1
-                place = Path(status) / str(line)
-                ended = place.read_text().strip() if place.exists() else "none"
-                if ended != "0":
-                    self.fault(f"{page}:{line}", f"status {ended}: {text}\n{output[-1500:]}")
-        if wanted is not None and len(kept) == len(found):
+    def skips(self, page, line, text):
+        """Whether a command is skipped; says why."""
+        why = next((why for has, why, slow in SKIPPED if re.search(has, text) and not (slow and self.slow)), None)
+        if why:
+            self.skipped += 1
+            print(f"{page}:{line}: skipped, {why}: {text.splitlines()[0][:80]}")
+        return why is not None
+
+    def run(self, page, script, notes):
+        """Runs a page's commands, each of which notes its status, and each block its output."""
+        words = {"stdin": subprocess.DEVNULL, "env": {**os.environ, "NOTES": notes}}
+        seconds = 3600 if self.slow else SECONDS
+        try:
+            subprocess.run(["bash", "-c", script], timeout=seconds, **words)
+        except subprocess.TimeoutExpired:
+            self.fault(page, f"no end within {seconds} seconds")
+
+    def judge(self, page, kept, compared, notes):
+        """Compares statuses, output and files with what the page and the repository have."""
+        for i, (line, text, block) in enumerate(kept):
+            self.ran += 1
+            status = written(notes / f"{i}.status").strip() or "none"
+            if status != "0":
+                self.fault(f"{page}:{line}", f"status {status}: {text}\n{written(notes / f'{block}.output')}")
+        for first, block, wanted in compared:
             self.shown += 1
+            output = written(notes / f"{block}.output")
             if not is_like(wanted, output):
-                self.fault(f"{page}:{found[0][0]}", "prints otherwise than the page shows:\n" + output[-3000:])
+                self.fault(f"{page}:{first}", f"prints otherwise than the page shows:\n{output}")
+        for name in files():
+            if not (notes / "repository" / name).exists():
+                self.fault(page, f"its commands take {name} away")
+            elif not filecmp.cmp(ROOT / name, notes / "repository" / name, shallow=False):
+                self.fault(page, f"its commands write {name} otherwise than it stands")
 
     def links(self, page, text):
         """Looks up each link of a page to a file of the repository."""
