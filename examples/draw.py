@@ -76,17 +76,20 @@ class City:
             return [placed(it) for it in item] if isinstance(item, list) else points[item]
 
         self.objects = model["CityObjects"]
-        self.faces, self.footprints, self.shapes = {}, {}, {}
+        self.shapes, self.faces, self.footprints = {}, {}, {}
         for name, it in self.objects.items():
             geometries = sorted(it.get("geometry", []), key=lambda geometry: geometry["lod"])
-            shapes = [placed(list(surfaces_of(geometry["boundaries"]))) for geometry in geometries]
-            self.shapes[name] = [[g["type"], g["lod"], shape] for g, shape in zip(geometries, shapes)]
-            solid = bool(geometries) and not geometries[-1]["lod"].startswith("0")
-            self.faces[name] = shapes[-1] if solid else []
-            flat = [shape for g, shape in zip(geometries, shapes) if g["lod"].startswith("0")]
+            shapes = [[g["type"], g["lod"], placed(list(surfaces_of(g["boundaries"])))] for g in geometries]
+            self.shapes[name] = shapes
+            flat = [faces for _, lod, faces in shapes if lod.startswith("0")]
+            self.faces[name] = shapes[-1][2] if len(shapes) > len(flat) else []
             lowest = min((p[2] for face in self.faces[name] for p in face[0]), default=0)
             bottom = [face for face in self.faces[name] if all(p[2] == lowest for p in face[0])]
             self.footprints[name] = flat[-1] if flat else bottom
+
+    def is_solid(self, name):
+        """Whether what is drawn of an object is a solid, whose faces are seen from outside alone."""
+        return bool(self.shapes[name]) and self.shapes[name][-1][0].endswith("Solid")
 
     def value(self, name):
         """What is compared of an object: all that it is, with coordinates for its positions."""
@@ -99,7 +102,8 @@ class City:
         """The object and all that is below it."""
         below = [name]
         for it in below:
-            below += [child for child in self.objects[it].get("children", []) if child in self.objects]
+            children = self.objects[it].get("children", [])
+            below += [child for child in children if child in self.objects and child not in below]
         return below
 
 
@@ -147,10 +151,12 @@ class View:
 
 
 class Face:
-    """A face that looks to the viewer."""
+    """A face of an object; one that bounds no solid is seen from both sides."""
 
-    def __init__(self, rings, state, view):
+    def __init__(self, rings, state, view, is_solid):
         self.rings, self.state, self.normal = rings, state, normal_of(rings[0])
+        if not is_solid and dot(self.normal, view.viewer) < 0:
+            self.normal = [-it for it in self.normal]
         self.points = [p for ring in rings for p in ring]
         self.outline = hull([view.flat(p) for p in rings[0]])
         self.depth = sum(dot(p, view.viewer) for p in rings[0]) / len(rings[0])
@@ -229,7 +235,9 @@ def path(rings, view):
 def panel(city, states, gone, view, title):
     """The drawing of one city: the ground, shadows, footprints, faces in painter's order, and names."""
     lines = [f'<path class="plot" d="{path([view.plot], view)}"/>']
-    faces = [Face(rings, states[name], view) for name in city.objects for rings in city.faces[name]]
+    faces = []
+    for name in city.objects:
+        faces += [Face(rings, states[name], view, city.is_solid(name)) for rings in city.faces[name]]
     shadows = [path([[view.shadow(p) for p in face.rings[0]]], view) for face in faces]
     lines += ['<g class="shadow">', *(f'<path d="{it}"/>' for it in shadows), "</g>"]
     for name in city.objects:
