@@ -334,7 +334,7 @@ def main():
     words.add_argument("--from", dest="degrees", type=float, default=150)
     words.add_argument("before")
     words.add_argument("after", nargs="?")
-    asked = words.parse_args()
+    asked = words.parse_intermixed_args()
     before = City(model_of(asked.before))
     after = City(model_of(asked.after)) if asked.after else None
     print("\n".join(picture(before, after, asked.degrees)))

@@ -205,7 +205,7 @@ def main():
     words.add_argument("program")
     words.add_argument("--slow", action="store_true")
     words.add_argument("pages", nargs="*")
-    asked = words.parse_args()
+    asked = words.parse_intermixed_args()
     trial = Trial(Path(asked.program).resolve(), asked.slow)
     for page in asked.pages or pages():
         trial.page(page)
