@@ -34,7 +34,8 @@ SKIPPED = [
     (r"\b(NAME|NAMES|MODEL|SCRIPTS|OLD|NEW|EDIT|FILE|FUNCTION)\b", "the reader fills in a name", False),
     (r"\bout/city_(tests_tests|scenarios)\b", "it wants another program", False),
     (r"\brt (try|fmt|seed|expand)\b", "minutes", True),
-    (r"\btesting/(hostile_texts|refused_calls|decimals|pages)\.py", "minutes", True),
+    (r"\btesting/pages\.py", "it is this script", False),
+    (r"\btesting/(hostile_texts|refused_calls|decimals)\.py", "minutes", True),
     (r"\bgrowth\.py|\bside_by_side\.py", "minutes", True),
     (r"\bmake_(city|scripts)\.py\b|/tmp/[\w-]+\.(input|output|json)", "texts of up to 60 MB", True),
 ]
