@@ -1,0 +1,217 @@
+#!/usr/bin/env python3
+"""Runs the commands of the pages as they stand, and compares what they print with what the pages show.
+
+usage: pages.py PROGRAM [--slow] [PAGE ..]
+
+PROGRAM is a built cityed. Without pages it goes through all pages of the repository. The commands of a page are
+the blocks that begin with ```sh, and what stands as `python3 ..` in its sentences. One bash runs them for each page,
+each block from the top of a copy of the repository, in which PROGRAM stands as crates/cityed/out/cityed. It says which
+command
+
+- doesn't end with status 0;
+- prints anything else than the block that follows the commands' block at once (`..` stands for anything);
+- writes a file of the repository, a picture for example, otherwise than it stands there.
+
+A link that leads to no file, or to no heading of a page, is told too. Commands that prove, or that take long, are
+skipped (SKIPPED has the reasons); --slow runs those that take a few minutes. The status is 1 if anything was wrong.
+"""
+import argparse
+import filecmp
+import os
+import re
+import shutil
+import subprocess
+import sys
+import tempfile
+from pathlib import Path
+
+ROOT = Path(__file__).resolve().parent.parent
+SECONDS = 300  # for each page, with --slow 3,600
+
+# What a command has in it, why it is skipped, and whether --slow runs it.
+SKIPPED = [
+    (r"\brt (ci|check|verdict|lib|run|test|all|tidy|plant|must-fail)\b", "it proves", False),
+    (r"\b(NAME|NAMES|MODEL|SCRIPTS|OLD|NEW|EDIT|FILE|FUNCTION)\b", "the reader fills in a name", False),
+    (r"\bout/city_(tests_tests|scenarios)\b", "it wants another program", False),
+    (r"\brt (try|fmt|seed|expand)\b", "minutes", True),
+    (r"\btesting/pages\.py", "it is this script", False),
+    (r"\btesting/(hostile_texts|refused_calls|decimals)\.py", "minutes", True),
+    (r"\bgrowth\.py|\bside_by_side\.py", "minutes", True),
+    (r"\bmake_(city|scripts)\.py\b|/tmp/[\w-]+\.(input|output|json)", "texts of up to 60 MB", True),
+]
+
+
+def pages():
+    """The pages of the repository."""
+    return sorted(it for it in files() if it.endswith(".md"))
+
+
+def files():
+    """The files of the repository, by their names from its root."""
+    words = ["git", "ls-files", "-z", "--cached", "--others", "--exclude-standard"]
+    listed = subprocess.run(words, cwd=ROOT, stdout=subprocess.PIPE, check=True).stdout.decode()
+    return [it for it in listed.split("\0") if it and (ROOT / it).is_file()]
+
+
+def copied(folder, program):
+    """A copy of the repository, with the program in its place."""
+    for name in files():
+        (folder / name).parent.mkdir(parents=True, exist_ok=True)
+        shutil.copy2(ROOT / name, folder / name)
+    out = folder / "crates" / "cityed" / "out"
+    out.mkdir(parents=True, exist_ok=True)
+    shutil.copy2(program, out / "cityed")
+
+
+def blocks(text):
+    """The fenced blocks of a page, and the commands in its sentences as blocks of one line: language, number of the
+    first line, lines, and whether it follows the block before at once."""
+    found, language, lines, first, start = [], None, [], 0, 1
+    page = text.split("\n")
+    for number, line in enumerate([*page, "```"], 1):
+        fence = re.match(r"\s*```(\w*)\s*$", line)
+        if fence and language is None:
+            prose = "\n".join(page[start - 1 : number - 1])
+            for it in re.finditer(r"`(python3 [^`]+)`", prose):
+                found.append(("sh", start + prose.count("\n", 0, it.start()), [" ".join(it[1].split())], False))
+            language, lines, first, follows = fence[1], [], number + 1, not prose.strip()
+        elif fence:
+            found.append((language, first, lines, follows))
+            language, start = None, number + 1
+        elif language is not None:
+            lines.append(line)
+    return found
+
+
+def commands(lines, first):
+    """The commands of a block, each with the number of its first line; a command ends where bash can read it."""
+    found, part, start = [], [], first
+    for number, line in enumerate(lines, first):
+        if not part:
+            if not line.strip():
+                continue
+            start = number
+        part.append(line)
+        text = "\n".join(part)
+        read = subprocess.run(["bash", "-n"], input=text, text=True, stdout=subprocess.PIPE, stderr=subprocess.STDOUT)
+        if read.returncode == 0 and not re.search(r"(\\|&&|\|)\s*$", line):
+            found.append((start, text))
+            part = []
+    return found + ([(start, "\n".join(part))] if part else [])
+
+
+def written(path):
+    """What was written to a file, if there is one."""
+    return path.read_text(encoding="utf-8", errors="replace") if path.exists() else ""
+
+
+def is_like(wanted, given):
+    """Whether lines are those that a page shows, in which `..` stands for anything."""
+    pattern = ".*".join(re.escape(part) for part in "\n".join(wanted).strip().split(".."))
+    return re.fullmatch(pattern, given.strip(), re.DOTALL) is not None
+
+
+class Trial:
+    """What has come of the pages so far."""
+
+    def __init__(self, program, slow):
+        self.program, self.slow, self.ran, self.wrong, self.skipped, self.shown = program, slow, 0, 0, 0, 0
+
+    def fault(self, place, what):
+        self.wrong += 1
+        print(f"{place}: {what[:3000]}")
+
+    def page(self, page):
+        """Runs a page's blocks of commands in a copy of the repository, and compares what they print and write."""
+        text = (ROOT / page).read_text(encoding="utf-8")
+        self.links(page, text)
+        found = blocks(text)
+        script, kept, compared = [], [], []
+        for i, (language, first, lines, _) in enumerate(found):
+            if language != "sh":
+                continue
+            parts = commands(lines, first)
+            run = [part for part in parts if not self.skips(page, *part)]
+            noted = []
+            for line, command in run:
+                noted.append(f'{command}\necho $? > "$NOTES/{len(kept)}.status"\n')
+                kept.append((line, command, i))
+            if run:
+                script.append(f'cd "$NOTES/repository"\n{{\n{"".join(noted)}}} > "$NOTES/{i}.output" 2>&1\n')
+            if len(run) == len(parts) and i + 1 < len(found) and found[i + 1][3] and found[i + 1][0] != "sh":
+                compared.append((first, i, found[i + 1][2]))
+        if kept:
+            with tempfile.TemporaryDirectory(prefix="pages-") as room:
+                copied(Path(room) / "repository", self.program)
+                self.run(page, "".join(script), room)
+                self.judge(page, kept, compared, Path(room))
+
+    def skips(self, page, line, text):
+        """Whether a command is skipped; says why."""
+        why = next((why for has, why, slow in SKIPPED if re.search(has, text) and not (slow and self.slow)), None)
+        if why:
+            self.skipped += 1
+            print(f"{page}:{line}: skipped, {why}: {text.splitlines()[0][:80]}")
+        return why is not None
+
+    def run(self, page, script, notes):
+        """Runs a page's commands, each of which notes its status, and each block its output."""
+        words = {"stdin": subprocess.DEVNULL, "env": {**os.environ, "NOTES": notes}}
+        seconds = 3600 if self.slow else SECONDS
+        try:
+            subprocess.run(["bash", "-c", script], timeout=seconds, **words)
+        except subprocess.TimeoutExpired:
+            self.fault(page, f"no end within {seconds} seconds")
+
+    def judge(self, page, kept, compared, notes):
+        """Compares statuses, output and files with what the page and the repository have."""
+        for i, (line, text, block) in enumerate(kept):
+            self.ran += 1
+            status = written(notes / f"{i}.status").strip() or "none"
+            if status != "0":
+                self.fault(f"{page}:{line}", f"status {status}: {text}\n{written(notes / f'{block}.output')}")
+        for first, block, wanted in compared:
+            self.shown += 1
+            output = written(notes / f"{block}.output")
+            if not is_like(wanted, output):
+                self.fault(f"{page}:{first}", f"prints otherwise than the page shows:\n{output}")
+        for name in files():
+            if not (notes / "repository" / name).exists():
+                self.fault(page, f"its commands take {name} away")
+            elif not filecmp.cmp(ROOT / name, notes / "repository" / name, shallow=False):
+                self.fault(page, f"its commands write {name} otherwise than it stands")
+
+    def links(self, page, text):
+        """Looks up each link of a page to a file of the repository."""
+        outside = re.sub(r"```.*?```", "", text, flags=re.DOTALL)
+        for target in re.findall(r"\]\(([^)\s]+)\)", outside):
+            if re.match(r"\w+:", target):
+                continue
+            path, _, heading = target.partition("#")
+            file = (ROOT / page).parent / path if path else ROOT / page
+            if not file.exists():
+                self.fault(page, f"links to {target}, which isn't there")
+            elif heading and heading not in headings(file.read_text(encoding="utf-8")):
+                self.fault(page, f"links to {target}, of which there is no such heading")
+
+
+def headings(text):
+    """The names by which the headings of a page are linked to."""
+    lines = re.findall(r"^#+ +(.*)$", re.sub(r"```.*?```", "", text, flags=re.DOTALL), re.MULTILINE)
+    return {re.sub(r"[^\w\- ]", "", line.lower()).strip().replace(" ", "-") for line in lines}
+
+
+def main():
+    words = argparse.ArgumentParser(usage=__doc__.split("usage: ")[1].split("\n")[0])
+    words.add_argument("program")
+    words.add_argument("--slow", action="store_true")
+    words.add_argument("pages", nargs="*")
+    asked = words.parse_intermixed_args()
+    trial = Trial(Path(asked.program).resolve(), asked.slow)
+    for page in asked.pages or pages():
+        trial.page(page)
+    print(f"{trial.ran} commands run, {trial.shown} outputs compared, {trial.skipped} skipped, {trial.wrong} wrong")
+    sys.exit(1 if trial.wrong else 0)
+
+
+main()
