@@ -7,10 +7,10 @@ use Rattle.city_doc.specs.tree.Texts.{max_text}
 use Rattle.city_doc.proofs.stream.Conversions.{whole_read}
 use Rattle.city_doc.proofs.stream.document.streamed_city.Goals as goal
 
-pub returns : goal.returns
-returns c =
+pub returns-clause-stands : goal.returns-clause-stands
+returns-clause-stands c =
     let bytes = c.args.bytes.now in
-    let city = c.in_ok-city.ensures in
+    let city = c.in_ok-city.ensures.stands in
     let short : length bytes ≤ max_text = grind arith in
     let text = c.in-Ok.ensures.cases in
     let given = c.in-Ok-new.ensures.ok ∙ ap tokens text.0 in
