@@ -1,4 +1,4 @@
-use Rattle.std.proofs.Common.{◌≡◌, Option, Some, None, Result, Ok, Err, sym, subst, ◌∙◌, IfOk, rules}
+use Rattle.std.proofs.Common.{◌≡◌, Option, Some, None, Result, Ok, Err, sym, subst, ◌∙◌, IfOk}
 use Rattle.std.specs.Prelude.{IfNone}
 use Rattle.std.specs.Result.{result_ok}
 use Rattle.city_model.specs.CityMap.{at}
