@@ -2,6 +2,8 @@
 mod Opening
 mod CityRead
 pub mod Conversions
+mod Digits
+pub mod FaultlessObjects
 mod GeometryMembers
 mod ListedObjects
 pub mod Members

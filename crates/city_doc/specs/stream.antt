@@ -1,3 +1,4 @@
+pub mod Faultless
 pub mod Geometries
 pub mod Objects
 pub mod Positions

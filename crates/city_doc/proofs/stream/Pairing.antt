@@ -1,5 +1,5 @@
 -- Lists whose items belong together one by one.
-use Rattle.std.proofs.Common.{◌≡◌, List, [], ◌∷◌, ◌++◌}
+use Rattle.std.proofs.Common.{List, [], ◌∷◌, ◌++◌}
 use Rattle.city_doc.specs.stream.Standing.{Pairs}
 
 -- both grow by one at their ends

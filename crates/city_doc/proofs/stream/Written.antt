@@ -1,5 +1,5 @@
 -- Lists whose items are written one after another.
-use Rattle.std.proofs.Common.{◌≡◌, ℕ, zero, suc, ◌<◌, List, [], ◌∷◌, ◌++◌, drop, take, length, get_or, sym, refl, ap, subst, arith}
+use Rattle.std.proofs.Common.{◌≡◌, ℕ, zero, suc, ◌<◌, List, [], ◌∷◌, ◌++◌, drop, take, length, get_or, refl, ap, subst, arith}
 use Rattle.std.specs.Prelude.{slice_set}
 use Rattle.city_doc.specs.stream.Standing.{Pairs}
 

@@ -144,21 +144,6 @@ fn least_badly_related(
     Ok(least)
 }
 
-/// Whether a city is lawful.
-#[tactic(auto, using(crate::proofs::document::LawfulCities::lawful))]
-pub fn is_lawful(alloc: Global, city: &City) -> Result<bool, AllocError>
-    ensures { IfOk result (λ b. IsTrue b → IsLawful (at city.now.1)) }
-{
-    let faultless = are_faultless(alloc, city)?;
-    if !faultless {
-        return Ok(false);
-    }
-    match least_misrelated(alloc, city)? {
-        Some(_) => Ok(false),
-        None => Ok(true),
-    }
-}
-
 /// The first fault of a city that was read, where a list of ids that isn't an array of texts counts
 /// as empty; the least id that has such a list is given. None where the city is lawful and there is
 /// no such list.

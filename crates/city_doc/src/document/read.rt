@@ -11,8 +11,9 @@ ghost use Rattle.city_doc.specs.document.Top.{wrong_member};
 ghost use Rattle.city_doc.specs.document.LenientCities.{lenient_city_of};
 ghost use Rattle.city_doc.specs.tree.Texts.{IsReadable, HasTree};
 
+use crate::document::arranged::least_misrelated;
 use crate::document::build::lenient_city_of;
-use crate::document::city_faults::{city_fault, is_lawful};
+use crate::document::city_faults::city_fault;
 use crate::document::faults::{first_bad_list, objects_fault};
 use crate::document::top::wrong_member;
 use crate::fault::ReadFault;
@@ -51,8 +52,10 @@ fn lawful_city(alloc: Global, bytes: &[u8]) -> Option<City>
     ensures { IfSome result (λ c. IsAdmitted bytes.now c) }
 {
     let city = streamed_city(alloc, bytes)?;
-    let lawful = is_lawful(alloc, &city).ok()?;
-    if lawful { Some(city) } else { None }
+    match least_misrelated(alloc, &city).ok()? {
+        None => Some(city),
+        Some(_) => None,
+    }
 }
 
 /// Reads a document from its tree.

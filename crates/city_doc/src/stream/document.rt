@@ -3,6 +3,8 @@ ghost use Rattle.std.specs.Prelude.{◌≡◌, ◌&&◌, [], Some, IfSome, codes
 ghost use Rattle.serde_json.specs.Data.{Data, Members, object};
 ghost use Rattle.serde_json.specs.Find.{get_member};
 ghost use Rattle.serde_json.specs.View.{members_view};
+ghost use Rattle.city_model.specs.CityMap.{at};
+ghost use Rattle.city_model.specs.Faultless.{IsFaultless};
 ghost use Rattle.city_model.specs.Integral.{is_integral};
 ghost use Rattle.city_doc.specs.document.Cities.{city_of};
 ghost use Rattle.city_doc.specs.document.Top.{is_text};
@@ -72,8 +74,9 @@ fn is_city_json(rest: &Map<String, Value>) -> bool
 
 /// The city of what was read of all members of the top, and of the kept ones.
 fn city_of(alloc: Global, parts: TopParts, rest: Map<String, Value>) -> Option<City>
-    ensures { IfSome result (λ c. (found : Members)
+    ensures stands { IfSome result (λ c. (found : Members)
         → IsTopSoFar parts found (members_view rest.entries) → city_of (object found) ≡ Some c) }
+    ensures faultless { IfSome result (λ c. IsFaultless (at c.1)) }
 {
     if !is_city_json(&rest) {
         return None;
@@ -86,7 +89,9 @@ fn city_of(alloc: Global, parts: TopParts, rest: Map<String, Value>) -> Option<C
 
 /// The city of all the tokens.
 fn read_whole(alloc: Global, reader: &mut Reader<'_>) -> Option<City>
-    ensures { IfSome result (λ c. (d : Data) × IsValue 127 reader.old d [] × (city_of d ≡ Some c)) }
+    ensures stands { IfSome result
+        (λ c. (d : Data) × IsValue 127 reader.old d [] × (city_of d ≡ Some c)) }
+    ensures faultless { IfSome result (λ c. IsFaultless (at c.1)) }
 {
     let start = TopParts {
         objects: None,
@@ -100,10 +105,12 @@ fn read_whole(alloc: Global, reader: &mut Reader<'_>) -> Option<City>
     Some(city)
 }
 
-/// The city that a text stands for; none where anything about the text is odd or there is no memory.
+/// The city that a text stands for, none of whose bodies has a fault; none where anything about the text
+/// is odd or there is no memory.
 pub fn streamed_city(alloc: Global, bytes: &[u8]) -> Option<City>
-    ensures { IfSome result (λ c. (d : Data) × HasTree bytes.now d × (is_integral d ≡ true)
+    ensures stands { IfSome result (λ c. (d : Data) × HasTree bytes.now d × (is_integral d ≡ true)
         × (city_of d ≡ Some c)) }
+    ensures faultless { IfSome result (λ c. IsFaultless (at c.1)) }
 {
     if bytes.len() > MAX_TEXT {
         return None;

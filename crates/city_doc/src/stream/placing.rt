@@ -1,10 +1,12 @@
 //! Puts points in the places of their positions.
-ghost use Rattle.std.specs.Prelude.{◌≡◌, ℕ, List, Option, Some, IfSome};
+ghost use Rattle.std.specs.Prelude.{◌≡◌, ℕ, List, Option, Some, None, IfSome};
 ghost use Rattle.serde_json.specs.Data.{Data, Members};
 ghost use Rattle.city_model.specs.declared.object.Point as p;
+ghost use Rattle.city_model.specs.Shells.{body_fault};
 ghost use Rattle.city_doc.specs.document.Cities.{entries_of};
 ghost use Rattle.city_doc.specs.object.Bodies.{object_of};
 ghost use Rattle.city_doc.specs.shape.Geometries.{point_at, shape_of, geometry_of};
+ghost use Rattle.city_doc.specs.stream.Faultless.{AreFaultless};
 ghost use Rattle.city_doc.specs.stream.Geometries.{IsShape, IsGeometry};
 ghost use Rattle.city_doc.specs.stream.Objects.{IsObject, IsListing};
 ghost use Rattle.city_doc.specs.stream.Positions.{IsPlaced, IsPosition, points_of};
@@ -12,6 +14,7 @@ ghost use Rattle.city_doc.specs.stream.Standing.{Pairs, IsArrayOf};
 ghost use Rattle.city_doc.specs.tree.Lists.{list_of};
 
 use crate::stream::vertices::Vertex;
+use city_model::body_fault::body_fault;
 use city_model::object::{Geometry, Object, Point, Shape};
 use city_model::sequence::Sequence;
 use city_model::text::Id;
@@ -121,24 +124,31 @@ impl Places for Geometry {
     }
 }
 
+/// The object, with points in the places of its positions; none where a position names no vertex, or
+/// where its body has a fault, which is judged at once.
 fn placed_object(alloc: Global, vertices: &[Vertex], unplaced: Object) -> Option<Object>
-    ensures { IfSome result (λ o. (d : Data) → IsObject unplaced d
+    ensures placed { IfSome result (λ o. (d : Data) → IsObject unplaced d
         → object_of (points_of vertices.now) d ≡ Some o) }
+    ensures faultless { IfSome result (λ o. body_fault o.body ≡ None) }
 {
     let mut object = unplaced;
     object.body.geometry.place(alloc, vertices)?;
-    Some(object)
+    match body_fault(alloc, &object.body).ok()? {
+        None => Some(object),
+        Some(_) => None,
+    }
 }
 
 /// The objects by their ids, with points in the places of their positions; none where a position names
-/// no vertex.
+/// no vertex, or where a body has a fault.
 pub fn placed_objects(
     alloc: Global,
     vertices: &[Vertex],
     listed: Sequence<(Id, Object)>,
 ) -> Option<BTreeMap<Id, Object>>
-    ensures { IfSome result (λ objects. (found : Members) → IsListing listed found
+    ensures placed { IfSome result (λ objects. (found : Members) → IsListing listed found
         → entries_of (points_of vertices.now) found ≡ Some objects.entries) }
+    ensures faultless { IfSome result (λ objects. AreFaultless objects.entries) }
 {
     let mut objects = BTreeMap::new(alloc);
     for (id, unplaced) in listed.into_vec() {

@@ -12,6 +12,7 @@ impl FromTokens for Point {
 
     ghost stands = { IsPosition };
 
+    #[inline(always)]
     fn from_tokens(_alloc: Global, reader: &mut Reader<'_>, _depth: usize) -> Option<Point> {
         let x = read_whole(reader)?;
         Some(Point { x, y: 0, z: 0 })

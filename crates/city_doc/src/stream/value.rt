@@ -52,6 +52,7 @@ fn read_items(alloc: Global, reader: &mut Reader<'_>, depth: usize) -> Option<Ve
         let item = read_value(alloc, reader, depth)?;
         found.push(item).ok()?;
     }
+    found.shrink_to_fit();
     Some(found)
 }
 

@@ -18,6 +18,7 @@ pub struct Vertex {
 }
 
 /// The next value, which is a whole number.
+#[inline(always)]
 pub fn read_whole(reader: &mut Reader<'_>) -> Option<i64>
     ensures value { IfSome result
         (λ n. (depth : ℕ) → IsValue depth reader.old (number (of_integer n)) reader.new) }

@@ -1,13 +1,14 @@
-use Rattle.std.proofs.Common.{◌≡◌, ◌-◌, ◌<◌, [], ◌∷◌, ◌++◌, length, map, Some, None, string_bytes, refl, sym, ap, ◌∙◌, subst, arith, rules}
+use Rattle.std.proofs.Common.{◌≡◌, ◌<◌, [], ◌∷◌, ◌++◌, length, map, Some, None, string_bytes, refl, sym, ap, ◌∙◌, subst, arith, rules}
 use Rattle.json.specs.Token.{Token}
 use Rattle.json.specs.Json.{after_end_array, read_key}
 use Rattle.json.specs.Reads.{token_of}
 use Rattle.json.proofs.Grammar.{read_key-shorter}
 use Rattle.serde_json.specs.Data.{null, boolean, number, string, put}
 use Rattle.serde_json.specs.Find.{of_integer}
-use Rattle.serde_json.specs.View.{view, members_view}
+use Rattle.serde_json.specs.View.{view, items_of, members_view}
 use Rattle.serde_json.specs.declared.value.Value.{String, Bool, Null, the_lemmas}
 use Rattle.serde_json.proofs.Views.{view-Array, view-Object, members_view-insert_entry}
+use Rattle.city_doc.specs.stream.Taken.{IsRestOfArray}
 use Rattle.city_doc.proofs.stream.Reading.{AreRead, AreFound, value_shorter, seen_value, null_value, boolean_value, string_value, whole_value, array_value, object_value}
 use Rattle.city_doc.proofs.stream.Reading.{items_begin, items_next, items_end, views_push, members_next, members_end}
 use Rattle.city_doc.proofs.stream.value.+value.Goals as goal
@@ -29,7 +30,7 @@ read_items-items-preserved t c =
 pub read_items-returns : goal.read_items-returns
 read_items-returns t c =
     let end : after_end_array c.items.reader ≡ Some c.take_end_array.new.self = grind arith in
-    items_end c.items.invariant end
+    subst (λ vs. IsRestOfArray c.args.depth c.args.reader.now (items_of (map view vs)) c.take_end_array.new.self) (sym c.shrink_to_fit.ensures.items) (items_end c.items.invariant end)
 
 pub read_members-members-smaller : goal.read_members-members-smaller
 read_members-members-smaller t c =

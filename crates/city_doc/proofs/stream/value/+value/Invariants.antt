@@ -1,5 +1,5 @@
 use Rattle.std.proofs.Common.{◌+◌, ◌*◌, length}
-use Rattle.std.specs.Prelude.{List, map}
+use Rattle.std.specs.Prelude.{map}
 use Rattle.serde_json.specs.View.{view, members_view}
 use Rattle.city_doc.proofs.stream.Reading.{AreRead, AreFound}
 use Rattle.city_doc.proofs.stream.value.+value.Given as goal

@@ -1,4 +1,4 @@
-use Rattle.std.proofs.Common.{◌≡◌, sym, ap, ◌∙◌, subst, arith, rules}
+use Rattle.std.proofs.Common.{◌≡◌, sym, subst, arith}
 use Rattle.city_doc.specs.stream.Positions.{IsPlaced, points_of}
 use Rattle.city_doc.specs.stream.Standing.{IsArrayOf}
 use Rattle.city_doc.specs.tree.Lists.{list_of}
