@@ -1,6 +1,8 @@
 -- What the proofs of several functions of src/stream/ use.
+mod Bodies
 mod Opening
 mod CityRead
+mod CommandMembers
 pub mod Conversions
 mod GeometryMembers
 mod ListedObjects
@@ -9,5 +11,8 @@ mod ObjectMembers
 pub mod Pairing
 pub mod Reading
 mod PlacedParts
+mod ReadCommands
+mod ReadScripts
+mod ScriptMembers
 mod TopMembers
 mod Written
