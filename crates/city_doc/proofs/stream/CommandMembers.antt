@@ -1,5 +1,6 @@
 -- What was read of a command's members, with one more.
-use Rattle.std.proofs.Common.{◌≡◌, ℕ, List, [], ◌∷◌, Option, Some, None, codes, refl, sym, ap, ◌∙◌, subst}
+use Rattle.std.proofs.Common.{◌≡◌, ℕ, List, [], ◌∷◌, false, true≢false, Option, Some, None, codes, refl, sym, ap, ◌∙◌, subst}
+use Rattle.std.specs.Prelude.{is_some}
 use Rattle.serde_json.specs.Data.{Data, string, Members, no_members, put}
 use Rattle.city_doc.specs.declared.stream.command.CommandParts.{CommandParts}
 use Rattle.city_doc.specs.declared.stream.command.Other.{Other}
@@ -8,11 +9,19 @@ use Rattle.city_doc.specs.declared.stream.command.Verb.{Verb}
 use Rattle.city_doc.specs.declared.stream.command.Verb.TheVariants.{Read, Put, Delete, Attach, Detach, Mark, Back}
 use Rattle.city_doc.specs.stream.Commands.{verb_name, with_verb, IsOther, AreOthers, IsCommandSoFar}
 
+unread : {A : Type 0} (o : Option A) → is_some o ≡ false → o ≡ None
+unread None h = refl
+unread (Some x) h = absurd (true≢false h)
+
 -- that of a verb, where there was none
-pub verb_taken : (parts : CommandParts) (v : Verb) (text name : List ℕ) (found kept : Members) → name ≡ verb_name v → parts.verb ≡ None → IsCommandSoFar parts found kept
-    → IsCommandSoFar (record { verb = Some (v, text); other = parts.other }) (put name (string text) found) kept
-verb_taken parts v text name found kept named none h =
-    (h.0, ap (λ n. put n (string text) found) named ∙ ap (put (verb_name v) (string text)) (h.1 ∙ ap (λ o. with_verb o h.0) none), h.2)
+pub verb_taken : (parts : CommandParts) (v : Verb) (copy text name : List ℕ) (found kept : Members) → name ≡ verb_name v → copy ≡ text → is_some parts.verb ≡ false → IsCommandSoFar parts found kept
+    → IsCommandSoFar (record { verb = Some (v, copy); other = parts.other }) (put name (string text) found) kept
+verb_taken parts v copy text name found kept named same none h = (
+  h.0,
+  ap (λ n. put n (string text) found) named ∙ ap (λ t. put (verb_name v) (string t) found) (sym same)
+  ∙ ap (put (verb_name v) (string copy)) (h.1 ∙ ap (λ o. with_verb o h.0) (unread parts.verb none)),
+  h.2,
+)
 
 object_last : (v : Verb) (x d : Data) → put (codes "object") d (put (verb_name v) x no_members) ≡ put (verb_name v) x (put (codes "object") d no_members)
 object_last Read x d = refl
@@ -43,8 +52,8 @@ other_last (Some v) (Parent id) name d is =
     subst (λ n. put n d (put (verb_name v.0) x no_members) ≡ put (verb_name v.0) x (put n d no_members)) (sym is.0) (parent_last v.0 x d)
 
 -- that beside the verb's, where there was none
-pub other_taken : (parts : CommandParts) (o : Other) (name : List ℕ) (d : Data) (found kept : Members) → IsOther o name d → parts.other ≡ None → IsCommandSoFar parts found kept
+pub other_taken : (parts : CommandParts) (o : Other) (name : List ℕ) (d : Data) (found kept : Members) → IsOther o name d → is_some parts.other ≡ false → IsCommandSoFar parts found kept
     → IsCommandSoFar (record { verb = parts.verb; other = Some o }) (put name d found) kept
 other_taken parts o name d found kept is none h =
-    let alone : h.0 ≡ no_members = subst (λ x. AreOthers x h.0) none h.2 in
+    let alone : h.0 ≡ no_members = subst (λ x. AreOthers x h.0) (unread parts.other none) h.2 in
     (put name d no_members, ap (put name d) (h.1 ∙ ap (with_verb parts.verb) alone) ∙ other_last parts.verb o name d is, (name, d, refl, is))

@@ -1,5 +1,5 @@
 -- What was read of a script's members, with one more; and the script of all of them.
-use Rattle.std.proofs.Common.{◌≡◌, ◌≤◌, ℕ, List, [], ◌∷◌, length, true, false, Option, Some, None, Ordering, Less, Equal, Greater, codes, refl, sym, ap, ◌∙◌, arith}
+use Rattle.std.proofs.Common.{◌≡◌, ◌≤◌, ℕ, List, [], ◌∷◌, length, true, false, Option, Some, None, Ordering, Less, Equal, Greater, codes, refl, sym, ap, ap₂, ◌∙◌, subst, arith}
 use Rattle.std.specs.Prelude.{nat_lt}
 use Rattle.std.specs.Ordering.{match_ordering}
 use Rattle.std.proofs.lemmas.Cmp.{nat_list_cmp_total, tied_itself}
@@ -15,11 +15,14 @@ use Rattle.city_doc.specs.script.Commands.{command_of}
 use Rattle.city_doc.specs.script.Forms.{script_of_item}
 use Rattle.city_doc.specs.script.Scripts.{are_vertices, vertex_points, word_ends, max_commands}
 use Rattle.city_doc.specs.stream.Commands.{IsCommand}
-use Rattle.city_doc.specs.stream.Positions.{IsVertex}
-use Rattle.city_doc.specs.stream.Scripts.{with_part, script_members, IsScriptSoFar}
-use Rattle.city_doc.specs.stream.Standing.{IsArrayOf, IsString}
-use Rattle.city_doc.specs.tree.Lists.{items_list, all_read}
+use Rattle.city_doc.specs.stream.Positions.{IsVertex, IsPlaced, points_of}
+use Rattle.city_doc.specs.stream.Scripts.{with_part, script_members, IsPart, IsScript, IsScriptSoFar}
+use Rattle.city_doc.specs.stream.Standing.{IsArrayOf, IsListSlot, IsString}
+use Rattle.city_doc.specs.tree.Lists.{list_of, all_read}
+use Rattle.city_doc.proofs.document.LawfulTrees.{vertices_right}
 use Rattle.city_doc.proofs.script.CommandLists.{ends_once-read}
+use Rattle.city_doc.proofs.stream.CityRead.{vertices_read}
+use Rattle.city_doc.proofs.stream.ReadScripts.{all_items}
 use Rattle.city_doc.proofs.tree.AllRead.{all_read-length}
 use Rattle.city_doc.proofs.tree.IntegralParts.{items_list-of}
 use Rattle.city_doc.proofs.tree.Puts.{cmp, put-swap}
@@ -71,7 +74,7 @@ with_name parts text name d found kept named is h = (
 )
 
 pub with_vertices : (parts : ScriptParts) (vertices : List Vertex) (name : List ℕ) (d : Data) (found kept : Members) → name ≡ codes "vertices" → IsArrayOf IsVertex vertices d → IsScriptSoFar parts found kept
-    → IsScriptSoFar (record { name = parts.name; commands = parts.commands; vertices = Some vertices }) (put name d found) kept
+    → IsScriptSoFar (record { name = parts.name; commands = parts.commands; vertices = vertices }) (put name d found) kept
 with_vertices parts vertices name d found kept named is h = (
   h.0,
   h.1,
@@ -89,9 +92,9 @@ few : (n m : ℕ) → n ≡ m → n ≤ max_commands → nat_lt max_commands m �
 few n m same short = grind (arith, same, short)
 
 -- the trees of its commands stand for these at the points of its vertices
-pub script_read : (commands : List Data) (text : Data) (vertices : Option Data) (found : Members) (name : List ℕ) (cs : List Command) (points : List Point)
+script_read : (commands : List Data) (text : Data) (vertices : Option Data) (found : Members) (name : List ℕ) (cs : List Command) (points : List Point)
     → found ≡ script_members (Some (array (items_of commands))) (Some text) vertices → as_str text ≡ Some name → all_read (command_of points) commands ≡ Some cs → ends_once cs ≡ true → length cs ≤ max_commands
-    → are_vertices vertices ≡ true → vertex_points vertices ≡ Some points → script_of_item (object found) ≡ Some (name, cs)
+    → are_vertices vertices ≡ true → vertex_points vertices ≡ Some points → IsScript (name, cs) (object found)
 script_read commands text None found name cs points is named read ends short right placed =
     let items = items_list-of commands in
     let ended : word_ends commands ≡ true = sym (ends_once-read points commands cs read) ∙ ends in
@@ -104,3 +107,29 @@ script_read commands text (Some v) found name cs points is named read ends short
     let ended : word_ends commands ≡ true = sym (ends_once-read points commands cs read) ∙ ends in
     let below : nat_lt max_commands (length commands) ≡ false = few (length cs) (length commands) (all_read-length (command_of points) commands cs read) short in
     ap (λ ms. script_of_item (object ms)) is ∙ rw (right, named, items, ended, below, placed, read) refl
+
+-- a member is there where anything was read of it
+part_there : {A : Type 0} (R : A → Data → Type 0) (slot : Option A) (x : A) (member : Option Data) → slot ≡ Some x → IsPart R slot member → (d : Data) × (member ≡ Some d) × R x d
+part_there R slot x None is h = absurd (subst (λ o. IsPart R o None) is h)
+part_there R slot x (Some d) is h = (d, refl, subst (λ o. IsPart R o (Some d)) is h)
+
+points_there : (vs : List Vertex) (member : Option Data) → IsListSlot IsVertex vs member → vertex_points member ≡ Some (points_of vs)
+points_there vs None h = ap (λ xs. Some (points_of xs)) (sym h)
+points_there vs (Some d) h = vertices_read vs d h
+
+right_there : (member : Option Data) (points : List Point) → vertex_points member ≡ Some points → are_vertices member ≡ true
+right_there None points h = refl
+right_there (Some d) points h = vertices_right (Some d) points h
+
+-- its commands are those that were read, placed at its vertices
+pub script_made : (parts : ScriptParts) (name : List ℕ) (commands cs : List Command) (found kept : Members) → parts.name ≡ Some name → parts.commands ≡ Some commands
+    → IsPlaced (IsArrayOf IsCommand) (list_of (command_of (points_of parts.vertices))) commands cs → ends_once cs ≡ true → length cs ≤ max_commands → IsScriptSoFar parts found kept → IsScript (name, cs) (object found)
+script_made parts name commands cs found kept named listed placed ends short so =
+    let points = points_of parts.vertices in
+    let text = part_there IsString parts.name name so.1 named so.5 in
+    let list = part_there (IsArrayOf IsCommand) parts.commands commands so.0 listed so.4 in
+    let trees = list.2.0 in
+    let read : all_read (command_of points) trees ≡ Some cs = sym (all_items (command_of points) trees) ∙ ap (list_of (command_of points)) (sym list.2.1) ∙ placed list.0 list.2 in
+    let there = points_there parts.vertices so.2 so.6 in
+    let is : found ≡ script_members (Some (array (items_of trees))) (Some text.0) so.2 = so.3 ∙ ap₂ (λ c n. script_members c n so.2) (list.1 ∙ ap Some list.2.1) text.1 in
+    script_read trees text.0 so.2 found name cs points is text.2 read ends short (right_there so.2 points there) there

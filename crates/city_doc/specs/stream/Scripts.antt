@@ -6,7 +6,7 @@ use Rattle.city_doc.specs.declared.stream.script.ScriptParts.{ScriptParts}
 use Rattle.city_doc.specs.script.Forms.{script_of_item}
 use Rattle.city_doc.specs.stream.Commands.{IsCommand}
 use Rattle.city_doc.specs.stream.Positions.{IsVertex}
-use Rattle.city_doc.specs.stream.Standing.{IsArrayOf, IsString}
+use Rattle.city_doc.specs.stream.Standing.{IsArrayOf, IsListSlot, IsString}
 
 abbrev pub IsScript : Scripted → Data → Type 0
 IsScript s d = script_of_item d ≡ Some s
@@ -33,4 +33,4 @@ IsScriptSoFar parts found kept =
     × (found ≡ script_members commands name vertices)
     × IsPart (IsArrayOf IsCommand) parts.commands commands
     × IsPart IsString parts.name name
-    × IsPart (IsArrayOf IsVertex) parts.vertices vertices
+    × IsListSlot IsVertex parts.vertices vertices

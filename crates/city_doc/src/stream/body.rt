@@ -26,10 +26,10 @@ impl Own for BodyParts {
         reader: &mut Reader<'_>,
         depth: usize,
     ) -> Option<bool> {
-        if name == "parents" || name == "children" {
-            return None;
+        match name {
+            "parents" | "children" => None,
+            _ => self.object.take(alloc, name, reader, depth),
         }
-        self.object.take(alloc, name, reader, depth)
     }
 }
 

@@ -178,9 +178,9 @@ impl Places for Command {
     ghost reads = { command_of };
 
     fn place(&mut self, alloc: Global, vertices: &[Vertex]) -> Option<()> {
-        match self {
-            Command::Put(_, body) => body.geometry.place(alloc, vertices),
-            _ => Some(()),
+        if let Command::Put(_, body) = self {
+            body.geometry.place(alloc, vertices)?;
         }
+        Some(())
     }
 }

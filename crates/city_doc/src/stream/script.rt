@@ -20,7 +20,7 @@ use std::alloc::Global;
 pub struct ScriptParts {
     pub name: Option<Text>,
     pub commands: Option<Sequence<Command>>,
-    pub vertices: Option<Sequence<Vertex>>,
+    pub vertices: Sequence<Vertex>,
 }
 
 impl Own for ScriptParts {
@@ -44,7 +44,7 @@ impl Own for ScriptParts {
             }
             "vertices" => {
                 let vertices = Sequence::<Vertex>::from_tokens(alloc, reader, depth)?;
-                self.vertices = Some(vertices);
+                self.vertices = vertices;
             }
             _ => return None,
         }
@@ -59,14 +59,10 @@ fn script_of(alloc: Global, parts: ScriptParts) -> Option<Script>
 {
     let name = parts.name?;
     let mut commands = parts.commands?;
+    commands.place(alloc, parts.vertices.as_slice())?;
     if commands.len() > MAX_COMMANDS {
         return None;
     }
-    let vertices = match parts.vertices {
-        Some(vertices) => vertices,
-        None => Sequence::new(alloc),
-    };
-    commands.place(alloc, vertices.as_slice())?;
     Script::new(name, commands).ok()
 }
 
@@ -79,7 +75,7 @@ impl FromTokens for Script {
         let start = ScriptParts {
             name: None,
             commands: None,
-            vertices: None,
+            vertices: Sequence::new(alloc),
         };
         let (parts, _kept) = read_object(alloc, reader, depth, start)?;
         script_of(alloc, parts)
