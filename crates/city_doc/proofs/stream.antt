@@ -11,7 +11,7 @@ mod ObjectMembers
 pub mod Pairing
 pub mod Reading
 mod PlacedParts
-mod ReadCommands
+mod PlacedCommands
 mod ReadScripts
 mod ScriptMembers
 mod TopMembers
