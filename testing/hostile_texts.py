@@ -8,7 +8,6 @@ difference with status 1, the two texts in files and what each side said.
 """
 
 import argparse
-import functools
 import itertools
 import json
 import os
@@ -157,43 +156,6 @@ def changed_values():
         yield city, text
 
 
-def with_members(tree, path, members):
-    """The text of the tree, in which the object at the path has these members, in this order."""
-    object_text = "{" + ",".join(f"{json.dumps(name)}:{json.dumps(value)}" for name, value in members) + "}"
-    if not path:
-        return object_text.encode("utf-8")
-    text = with_change(tree, path, lambda parent, name: parent.__setitem__(name, "members"))
-    return text.replace(b'"members"', object_text.encode("utf-8"))
-
-
-def orders_of(members):
-    """The members turned round, each of them first, last and twice, the second time with the same value or another."""
-    yield members[::-1]
-    for one in members:
-        others = [it for it in members if it is not one]
-        yield [one, *others]
-        yield [*others, one]
-        yield [one, *members]
-        yield [(one[0], 0), *members]
-        yield [*members, (one[0], 0)]
-
-
-def orders_in(tree):
-    for path in [(), *places(tree)]:
-        found = functools.reduce(lambda parent, name: parent[name], path, tree)
-        if isinstance(found, dict):
-            for members in orders_of(list(found.items())):
-                yield with_members(tree, path, members)
-
-
-def ordered_members():
-    city, scripts = sample("sample.city.json"), sample("sample.scripts.json")
-    for text in orders_in(json.loads(city)):
-        yield text, b"[]"
-    for text in orders_in(json.loads(scripts)):
-        yield city, text
-
-
 def nested():
     for depth in range(120, 135):
         arrays, objects = b"[" * depth + b"]" * depth, b'{"a":' * depth + b"1" + b"}" * depth
@@ -273,8 +235,7 @@ def json_table():
         yield EMPTY, PUT_AND_READ % text
 
 
-KINDS = [prefixes, removed_bytes, replaced_bytes, changed_values, ordered_members, nested, limits, several_faults]
-KINDS += [forms, json_table]
+KINDS = [prefixes, removed_bytes, replaced_bytes, changed_values, nested, limits, several_faults, forms, json_table]
 
 
 def try_kind(program, kind):

@@ -1,22 +1,19 @@
 -- Bodies that are put: their members so far, and what is read of their trees.
-use Rattle.std.proofs.Common.{◌≡◌, ℕ, List, [], Bool, true, false, Option, Some, None, codes, refl, sym, ap, ◌∙◌, subst}
+use Rattle.std.proofs.Common.{◌≡◌, ℕ, List, Bool, true, false, Some, None, codes, refl, ap, ◌∙◌}
 use Rattle.std.specs.Bool.{MatchBool}
 use Rattle.json.specs.Token.{Token}
 use Rattle.serde_json.specs.Data.{Data, Members, object, put}
 use Rattle.serde_json.specs.Find.{get_member}
-use Rattle.city_model.specs.CityMap.{same_id}
 use Rattle.city_model.specs.declared.object.Body.{Body}
 use Rattle.city_model.specs.declared.object.Geometry.{Geometry}
-use Rattle.city_model.specs.declared.object.Object.{Object}
 use Rattle.city_model.specs.declared.object.Point.{Point}
 use Rattle.city_model.proofs.Ids.{same_id_back}
-use Rattle.city_doc.specs.declared.stream.body.BodyParts.{BodyParts}
 use Rattle.city_doc.specs.declared.stream.object.ObjectParts.{ObjectParts}
 use Rattle.city_doc.specs.object.Bodies.{body_of}
 use Rattle.city_doc.specs.shape.Geometries.{geometry_of}
 use Rattle.city_doc.specs.stream.Commands.{IsBody, IsBodySoFar}
 use Rattle.city_doc.specs.stream.Geometries.{IsGeometry}
-use Rattle.city_doc.specs.stream.Objects.{IsObject, IsObjectSoFar}
+use Rattle.city_doc.specs.stream.Objects.{IsObjectSoFar}
 use Rattle.city_doc.specs.stream.Positions.{IsPlaced}
 use Rattle.city_doc.specs.stream.Standing.{IsArrayOf, IsTaken, IsPassed}
 use Rattle.city_doc.specs.tree.Lists.{list_of}

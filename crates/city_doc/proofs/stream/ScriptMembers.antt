@@ -1,5 +1,5 @@
 -- What was read of a script's members, with one more; and the script of all of them.
-use Rattle.std.proofs.Common.{◌≡◌, ◌≤◌, ℕ, List, [], ◌∷◌, length, true, false, Option, Some, None, Ordering, Less, Equal, Greater, codes, refl, sym, ap, ap₂, ◌∙◌, subst, arith}
+use Rattle.std.proofs.Common.{◌≡◌, ◌≤◌, ℕ, List, [], length, true, false, Option, Some, None, Ordering, Less, Equal, Greater, codes, refl, sym, ap, ap₂, ◌∙◌, subst, arith}
 use Rattle.std.specs.Prelude.{nat_lt}
 use Rattle.std.specs.Ordering.{match_ordering}
 use Rattle.std.proofs.lemmas.Cmp.{nat_list_cmp_total, tied_itself}

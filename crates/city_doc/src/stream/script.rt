@@ -1,5 +1,5 @@
 //! Reads scripts.
-ghost use Rattle.std.specs.Prelude.{◌≡◌, Some, IfSome};
+ghost use Rattle.std.specs.Prelude.{Some, IfSome};
 ghost use Rattle.serde_json.specs.Data.{Members, object};
 ghost use Rattle.city_doc.specs.stream.Scripts.{IsScript, IsScriptSoFar};
 

@@ -6,7 +6,7 @@ use Rattle.city_doc.specs.script.Commands.{command_of}
 use Rattle.city_doc.specs.script.Scripts.{max_commands}
 use Rattle.city_doc.specs.stream.Commands.{IsCommand}
 use Rattle.city_doc.specs.stream.Positions.{IsPlaced, points_of}
-use Rattle.city_doc.specs.stream.Scripts.{IsScript, IsScriptSoFar}
+use Rattle.city_doc.specs.stream.Scripts.{IsScript}
 use Rattle.city_doc.specs.stream.Standing.{IsArrayOf}
 use Rattle.city_doc.specs.tree.Lists.{list_of}
 use Rattle.city_doc.proofs.Options.{ok_holds}
