@@ -19,7 +19,7 @@ pub verb_taken : (parts : CommandParts) (v : Verb) (copy text name : List ℕ) (
 verb_taken parts v copy text name found kept named same none h = (
   h.0,
   ap (λ n. put n (string text) found) named ∙ ap (λ t. put (verb_name v) (string t) found) (sym same)
-  ∙ ap (put (verb_name v) (string copy)) (h.1 ∙ ap (λ o. with_verb o h.0) (unread parts.verb none)),
+      ∙ ap (put (verb_name v) (string copy)) (h.1 ∙ ap (λ o. with_verb o h.0) (unread parts.verb none)),
   h.2,
 )
 

@@ -67,7 +67,7 @@ with_name parts text name d found kept named is h = (
   Some d,
   h.2,
   ap (λ n. put n d found) named ∙ ap (put (codes "name") d) h.3 ∙ part_below (codes "commands") (codes "name") d h.0 _ refl
-  ∙ ap (with_part (codes "commands") h.0) (part_here (codes "name") d h.1 _),
+      ∙ ap (with_part (codes "commands") h.0) (part_here (codes "name") d h.1 _),
   h.4,
   is,
   h.6,
@@ -80,7 +80,7 @@ with_vertices parts vertices name d found kept named is h = (
   h.1,
   Some d,
   ap (λ n. put n d found) named ∙ ap (put (codes "vertices") d) h.3 ∙ part_below (codes "commands") (codes "vertices") d h.0 _ refl
-  ∙ ap (with_part (codes "commands") h.0) (part_below (codes "name") (codes "vertices") d h.1 _ refl ∙ ap (with_part (codes "name") h.1) (part_here (codes "vertices") d h.2 _)),
+      ∙ ap (with_part (codes "commands") h.0) (part_below (codes "name") (codes "vertices") d h.1 _ refl ∙ ap (with_part (codes "name") h.1) (part_here (codes "vertices") d h.2 _)),
   h.4,
   h.5,
   is,
