@@ -1,5 +1,5 @@
 //! Reads whole documents.
-ghost use Rattle.std.specs.Prelude.{◌≡◌, ◌&&◌, Some, IfSome, codes, true};
+ghost use Rattle.std.specs.Prelude.{◌≡◌, ◌&&◌, [], Some, IfSome, codes, true};
 ghost use Rattle.serde_json.specs.Data.{Data, Members, object};
 ghost use Rattle.serde_json.specs.Find.{get_member};
 ghost use Rattle.serde_json.specs.View.{members_view};
@@ -7,6 +7,7 @@ ghost use Rattle.city_model.specs.Integral.{is_integral};
 ghost use Rattle.city_doc.specs.document.Cities.{city_of};
 ghost use Rattle.city_doc.specs.document.Top.{is_text};
 ghost use Rattle.city_doc.specs.stream.Tops.{IsTopSoFar};
+ghost use Rattle.city_doc.specs.stream.Taken.{IsValue};
 ghost use Rattle.city_doc.specs.tree.Texts.{HasTree};
 
 use crate::document::top::{frame_of_rest, is_text};
@@ -15,15 +16,18 @@ use crate::stream::objects::read_objects;
 use crate::stream::own::{Own, read_object};
 use crate::stream::placing::placed_objects;
 use crate::stream::vertices::Vertex;
-use crate::stream::whole_text::read_whole_text;
+use crate::tree::parse::MAX_TEXT;
 use city_model::city::City;
 use city_model::members::member;
 use city_model::object::Object;
 use city_model::sequence::Sequence;
 use city_model::text::Id;
-use json::Reader;
+use json::{Reader, Scratch};
 use serde_json::{Map, Value};
 use std::alloc::Global;
+
+/// How deep a text's arrays and objects may nest.
+const DEPTH: usize = 127;
 
 /// What was read of the members of a document's top so far.
 #[derive(Drop)]
@@ -80,20 +84,20 @@ fn city_of(alloc: Global, parts: TopParts, rest: Map<String, Value>) -> Option<C
     Some(City::from_parts(frame, objects))
 }
 
-impl FromTokens for City {
-    const ROOM: usize = 1;
-
-    ghost stands = { λ c d. city_of d ≡ Some c };
-
-    fn from_tokens(alloc: Global, reader: &mut Reader<'_>, depth: usize) -> Option<City> {
-        let start = TopParts {
-            objects: None,
-            vertices: None,
-        };
-        let read = read_object(alloc, reader, depth, start)?;
-        let city = city_of(alloc, read.0, read.1)?;
-        Some(city)
+/// The city of all the tokens.
+fn read_whole(alloc: Global, reader: &mut Reader<'_>) -> Option<City>
+    ensures { IfSome result (λ c. (d : Data) × IsValue 127 reader.old d [] × (city_of d ≡ Some c)) }
+{
+    let start = TopParts {
+        objects: None,
+        vertices: None,
+    };
+    let read = read_object(alloc, reader, DEPTH, start)?;
+    if reader.next().is_some() {
+        return None;
     }
+    let city = city_of(alloc, read.0, read.1)?;
+    Some(city)
 }
 
 /// The city that a text stands for; none where anything about the text is odd or there is no memory.
@@ -101,5 +105,16 @@ pub fn streamed_city(alloc: Global, bytes: &[u8]) -> Option<City>
     ensures { IfSome result (λ c. (d : Data) × HasTree bytes.now d × (is_integral d ≡ true)
         × (city_of d ≡ Some c)) }
 {
-    read_whole_text::<City>(alloc, bytes)
+    if bytes.len() > MAX_TEXT {
+        return None;
+    }
+    let Ok(text) = simdutf8::compat::from_utf8(bytes) else {
+        return None;
+    };
+    let mut scratch = Scratch::new(alloc);
+    let Ok(mut reader) = Reader::new(text, &mut scratch) else {
+        return None;
+    };
+    let city = read_whole(alloc, &mut reader)?;
+    Some(city)
 }

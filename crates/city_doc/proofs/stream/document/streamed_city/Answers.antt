@@ -1,0 +1,18 @@
+use Rattle.std.proofs.Common.{◌≡◌, ◌≤◌, [], length, Some, sym, ap, ◌∙◌, subst, arith}
+use Rattle.json.specs.Lex.{tokens}
+use Rattle.json.specs.Json.{value}
+use Rattle.serde_json.specs.Read.{read}
+use Rattle.city_doc.specs.stream.Taken.{IsValue}
+use Rattle.city_doc.specs.tree.Texts.{max_text}
+use Rattle.city_doc.proofs.stream.Conversions.{whole_read}
+use Rattle.city_doc.proofs.stream.document.streamed_city.Goals as goal
+
+pub returns : goal.returns
+returns c =
+    let bytes = c.args.bytes.now in
+    let city = c.in_ok-city.ensures in
+    let short : length bytes ≤ max_text = grind arith in
+    let text = c.in-Ok.ensures.cases in
+    let given = c.in-Ok-new.ensures.ok ∙ ap tokens text.0 in
+    let v = subst (λ ts. IsValue 127 ts city.0 []) given city.1 in
+    (city.0, (short, (text.1, whole_read (value 127 (tokens bytes)) city.0 v.read)), v.whole, city.2)
