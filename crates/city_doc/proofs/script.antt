@@ -1,7 +1,7 @@
 -- What the proofs of several functions of src/script/ use.
-mod BuiltScripts
+pub mod BuiltScripts
 mod CommandLaws
-mod CommandLists
+pub mod CommandLists
 mod CommandMeanings
 mod FirstAt
 mod FirstFaults

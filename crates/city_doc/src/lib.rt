@@ -9,7 +9,7 @@
 //! - `document`: whole documents: their tops, their cities, their faults, the canonical text
 //! - `script`: texts of scripts: the forms of commands, commands, faults
 //! - `report`: the report of a run: ends and replies
-//! - `stream`: documents read from the tokens of their texts
+//! - `stream`: documents and scripts read from the tokens of their texts
 //! - `pool`: points, each with a number
 //! - `fault`: why a text is refused
 #![tactic(auto)]

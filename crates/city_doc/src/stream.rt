@@ -1,8 +1,11 @@
-//! Documents read straight from the tokens of their texts: each city object is built as it is met.
+//! Documents and scripts read straight from the tokens of their texts: each city object and each command is
+//! built as it is met.
 //!
-//! None of this tells faults: where anything is odd it gives up, and the document's tree is read.
+//! None of this tells faults: where anything is odd it gives up, and the tree of the text is read.
 
+pub mod body;
 pub mod boundaries;
+pub mod command;
 pub mod document;
 pub mod geometry;
 pub mod list;
@@ -12,6 +15,9 @@ pub mod objects;
 pub mod own;
 pub mod placing;
 pub mod position;
+pub mod script;
+pub mod scripts;
 pub mod text;
 pub mod value;
 pub mod vertices;
+pub mod whole_text;

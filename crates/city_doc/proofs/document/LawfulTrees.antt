@@ -81,7 +81,7 @@ triples (item d ds) ps h =
     let r = map_some (λ ys. p.0 ∷ ys) (read_items point_of ds) ps p.2 in
     and_from (is_some (triple_of d)) (all_triples ds) (triple_some d p.0 p.1) (triples ds r.0 r.1)
 
-vertices_right : (o : Option Data) (ps : List Point) → option_and_then points_of o ≡ Some ps → are_vertices o ≡ true
+pub vertices_right : (o : Option Data) (ps : List Point) → option_and_then points_of o ≡ Some ps → are_vertices o ≡ true
 vertices_right None ps h = absurd (let no : ⊥ = cc in no)
 vertices_right (Some v) ps h = let ds = and_then_some (read_items point_of) (as_array v) ps h in ap are_all_triples ds.1 ∙ triples ds.0 ps ds.2
 

@@ -68,6 +68,9 @@ many_none n o h = grind (arith, h)
 few_same : {A : Type 0} (n : ℕ) (o : Option A) → n ≤ max_scripts → (if nat_lt max_scripts n then None else o) ≡ o
 few_same n o h = grind (arith, h)
 
+pub few_built : (ds : List Data) → length ds ≤ max_scripts → option_and_then scripts_of_parts (all_read parts_of ds) ≡ all_read script_of_item ds
+few_built ds few = built ds ∙ few_same (length ds) (all_read script_of_item ds) few
+
 pub built_many : {A : Type 0} (f : A → Data) (d : Data) (xs : List A) (n : ℕ) → Some (map f xs) ≡ array_of d → n ≡ length xs → max_scripts < n → None ≡ scripts_of d
 built_many f d xs n is count many = sym (built_array f d xs n is count ∙ many_none n (all_read script_of_item (map f xs)) many)
 

@@ -8,7 +8,7 @@ use Rattle.city_model.specs.Members.{AllAbove, AreOrdered}
 use Rattle.city_doc.specs.tree.Tokens.{ReadsBack, MembersReadBack}
 use Rattle.city_doc.proofs.tree.AllMembers.{all_put}
 
-abbrev cmp : List ℕ → List ℕ → Ordering
+abbrev pub cmp : List ℕ → List ℕ → Ordering
 cmp = slice_cmp nat_cmp
 
 -- ---- the order of names

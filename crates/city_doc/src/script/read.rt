@@ -15,6 +15,7 @@ use crate::script::faults::first_fault;
 use crate::script::form::ScriptForm;
 use crate::script::parts::{MAX_SCRIPTS, has_too_many_commands, parts_of};
 use crate::shape::vertices::points_of;
+use crate::stream::scripts::streamed_scripts;
 use crate::tree::parse::parse;
 use crate::tree::values::into_array;
 use city_model::command::Command;
@@ -31,6 +32,21 @@ use std::alloc::{AllocError, Global};
 /// answer is `Ok` exactly where the text isn't too long, its numbers are whole, and it stands for
 /// scripts.
 pub fn read_scripts(alloc: Global, bytes: &[u8]) -> Result<Sequence<Script>, ScriptFault>
+    ensures stands { IfOk result (λ ss. StandsForScripts bytes.now ss) }
+    ensures readable { OnOk result (IsReadable bytes.now) }
+    ensures fault { IfErr result (λ f. ScriptTextFault bytes.now f) }
+    ensures read { IfOk result (λ ss. IsReadAs bytes.now ss) }
+    ensures refused { IfErr result (λ f. (f ≡ ScriptFault.OutOfMemory)
+        ⊎ ((ss : List Scripted) → IsReadAs bytes.now ss → ⊥)) }
+{
+    match streamed_scripts(alloc, bytes) {
+        Some(scripts) => Ok(scripts),
+        None => read_tree(alloc, bytes),
+    }
+}
+
+/// Reads a text of scripts from its tree.
+fn read_tree(alloc: Global, bytes: &[u8]) -> Result<Sequence<Script>, ScriptFault>
     ensures stands { IfOk result (λ ss. StandsForScripts bytes.now ss) }
     ensures readable { OnOk result (IsReadable bytes.now) }
     ensures fault { IfErr result (λ f. ScriptTextFault bytes.now f) }

@@ -60,7 +60,7 @@ impl Own for ObjectParts {
 }
 
 /// The object of what was read of all its members, and of the kept ones.
-fn object_of(parts: ObjectParts, kept: Map<String, Value>) -> Option<Object>
+pub fn object_of(parts: ObjectParts, kept: Map<String, Value>) -> Option<Object>
     ensures { IfSome result (λ o. (found : Members)
         → IsObjectSoFar parts found (members_view kept.entries) → IsObject o (object found)) }
 {

@@ -1,6 +1,7 @@
 //! Reads objects some of whose members have places of their own, while the others are kept.
-ghost use Rattle.std.specs.Prelude.{◌≡◌, IfSome};
+ghost use Rattle.std.specs.Prelude.{◌≡◌, ◌∷◌, IfSome};
 ghost use Rattle.std.specs.Bool.{MatchBool};
+ghost use Rattle.json.specs.Token.{begin_object};
 ghost use Rattle.serde_json.specs.Data.{Members, no_members, object};
 ghost use Rattle.serde_json.specs.View.{members_view};
 ghost use Rattle.city_doc.specs.stream.Standing.{IsTaken, IsPassed};
@@ -54,6 +55,25 @@ fn read_rest<O: Own>(
     Some((own, kept))
 }
 
+/// Reads an object, whose brace is read: what is made of its own members, and the kept ones.
+pub fn read_opened<O: Own>(
+    alloc: Global,
+    reader: &mut Reader<'_>,
+    depth: usize,
+    start: O,
+) -> Option<(O, Map<String, Value>)>
+    ensures { IfSome result (λ read. (found : Members)
+        × IsValue depth (begin_object ∷ reader.old) (object found) reader.new
+        × (O.stands start no_members no_members
+        → O.stands read.0 found (members_view read.1.entries))) }
+{
+    if depth == 0 {
+        return None;
+    }
+    let read = read_rest(alloc, reader, depth - 1, start)?;
+    Some(read)
+}
+
 /// Reads an object: what is made of its own members, and the kept ones.
 pub fn read_object<O: Own>(
     alloc: Global,
@@ -69,9 +89,6 @@ pub fn read_object<O: Own>(
     let Token::BeginObject = reader.next()? else {
         return None;
     };
-    if depth == 0 {
-        return None;
-    }
-    let read = read_rest(alloc, reader, depth - 1, start)?;
+    let read = read_opened(alloc, reader, depth, start)?;
     Some(read)
 }
