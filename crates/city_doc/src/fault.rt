@@ -6,7 +6,7 @@ use thiserror::Error;
 /// Why a document is refused: the first fault of this list that stands in it, at the least id.
 #[derive(Debug, Drop, Error)]
 pub enum ReadFault {
-    /// There was no memory; this has no place in the order.
+    /// Memory ran out; this has no place in the order.
     #[error("out of memory")]
     OutOfMemory,
     #[error("the text is longer than 67,108,864 bytes")]
@@ -37,7 +37,7 @@ pub enum ReadFault {
 /// script and then the first command.
 #[derive(Debug, Drop, Error)]
 pub enum ScriptFault {
-    /// There was no memory; this has no place in the order.
+    /// Memory ran out; this has no place in the order.
     #[error("out of memory")]
     OutOfMemory,
     #[error("the text is longer than 67,108,864 bytes")]

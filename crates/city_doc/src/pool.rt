@@ -1,4 +1,4 @@
-//! Numbers points in the order of their first meeting.
+//! Numbers points in the order in which they are first met.
 ghost use Rattle.std.specs.Prelude.{◌≡◌, [], IfOk, OnOk, OnErr};
 ghost use Rattle.city_doc.specs.Pool.{number_of, with_point};
 
@@ -24,7 +24,7 @@ impl Model for VertexPool {
 }
 
 impl VertexPool {
-    /// A pool without points. Takes no memory.
+    /// A pool without points. Doesn't allocate.
     pub fn new(alloc: Global) -> Self
         ensures { result ≡ [] }
     {
@@ -35,7 +35,7 @@ impl VertexPool {
 
     /// Adds a point, and gives its number. A point that is there keeps its number.
     ///
-    /// Where there is no memory the pool is unchanged.
+    /// If memory runs out, the pool is unchanged.
     pub fn add(&mut self, point: Point) -> Result<usize, OutOfMemory>
         ensures number { IfOk result (λ i. i ≡ number_of self.old point) }
         ensures added { OnOk result (self.new ≡ with_point self.old point) }
@@ -45,7 +45,7 @@ impl VertexPool {
         Ok(number)
     }
 
-    /// The points by their numbers. Takes no memory.
+    /// The points by their numbers. Doesn't allocate.
     pub fn points(&self) -> &IndexSet<Point>
         ensures { result.now.keys ≡ self.now }
     {

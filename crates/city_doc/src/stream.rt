@@ -1,7 +1,7 @@
 //! Documents and scripts read straight from the tokens of their texts: each city object and each command is
 //! built as it is met.
 //!
-//! None of this tells faults: where anything is odd it gives up, and the tree of the text is read.
+//! None of this reports faults: if anything is odd it stops, and the tree of the text is read.
 
 pub mod body;
 pub mod boundaries;

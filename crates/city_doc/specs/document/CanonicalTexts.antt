@@ -13,9 +13,9 @@ use Rattle.city_doc.specs.tree.Texts.{IsReadable}
 use Rattle.city_doc.specs.tree.Tokens.{tokens_of}
 use Rattle.city_doc.specs.Pool.{pool_of}
 
--- it stands for the city, whatever city is read of it is written as it, where the city is lawful and
--- the text isn't too long it has no fault, it stands for the city where some text does, and its tokens
--- are those of the city's tree, whose numbers are in range
+-- the text stands for the city; any city that it stands for is written as it; if the city is lawful and the
+-- text isn't too long, the text is accepted; where some text stands for the city, this one does; its tokens
+-- are those of the city's tree, and the tree's numbers are in range
 pub record IsCanonicalText (text : List ℕ) (city : CityValue) : Type 0 where
   pub read_again : depth (tree_of city) ≤ max_depth → StandsForCity text city
   pub canonical : depth (tree_of city) ≤ max_depth → (other : CityValue) → StandsForCity text other → city_text other ≡ text

@@ -81,7 +81,7 @@ IsFirst stands f = stands f × ((g : ReadFault) → rank_of g < rank_of f → st
 abbrev pub IsFirstInTree : List ℕ → ReadFault → Type 0
 IsFirstInTree text f = (d : Data) × HasTree text d × IsFirst (StandsIn d) f
 
--- memory was short, or the fault is the first that stands in the text
+-- memory ran out, or the fault is the first that stands in the text
 abbrev pub DocumentFault : List ℕ → ReadFault → Type 0
 DocumentFault text f =
     (f ≡ OutOfMemory)

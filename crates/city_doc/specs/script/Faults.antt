@@ -72,7 +72,7 @@ TreeFault d f =
     ((f ≡ ScriptFault.NotScripts) × (array_of d ≡ None))
     ⊎ ((ds : List Data) × (array_of d ≡ Some ds) × ItemsFault ds f)
 
--- the first fault of a text; want of memory may be answered at any
+-- the first fault of a text; `OutOfMemory` may be answered for any
 abbrev pub ScriptTextFault : List ℕ → ScriptFault → Type 0
 ScriptTextFault text f =
     (f ≡ ScriptFault.OutOfMemory)

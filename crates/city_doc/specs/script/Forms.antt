@@ -30,7 +30,7 @@ fit_script_of p = if has_too_many_commands p then None else script_of p
 abbrev pub script_of_item : Data → Option Scripted
 script_of_item d = option_and_then fit_script_of (parts_of d)
 
--- what the tree says that a form was lent from
+-- what the tree says that a form was borrowed from
 abbrev pub form_view : Form → CommandForm
 form_view (Read id) = ReadForm id.now
 form_view (Put id tree) = PutForm id.now (view tree.now)

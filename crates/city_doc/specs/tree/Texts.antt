@@ -35,7 +35,7 @@ HasTree text d = IsReadable text × IsText text d
 abbrev pub HasOtherNumber : List ℕ → Type 0
 HasOtherNumber text = (d : Data) × HasTree text d × (is_integral d ≡ false)
 
--- why a text has no tree of whole numbers; want of memory may be answered at any text
+-- why a text has no tree of whole numbers; `OutOfMemory` may be answered for any text
 abbrev pub IsRefused : List ℕ → TextFault → Type 0
 IsRefused text OutOfMemory = Unit {0}
 IsRefused text TooLong = IsTooLong text

@@ -21,16 +21,16 @@ use serde_json::Map;
 use std::alloc::{AllocError, Global};
 use std::collections::BTreeMap;
 
-/// Of how many ids a list may be searched in any order.
+/// A list of so many ids, or fewer, is searched in any order.
 const FEW: usize = 64;
 
-/// Whether the ids are searched quickly: they are few, or each is above the one before it. Nothing but
-/// time rests on it.
+/// Whether the ids are searched quickly: they are few, or each is above the one before it. Only the
+/// time depends on it.
 fn is_quick(ids: &Sequence<Id>) -> bool {
     ids.len() <= FEW || ids.as_slice().is_sorted() && repeated_at(ids.as_slice()).is_none()
 }
 
-/// Whether all lists of ids are searched quickly. Nothing but time rests on it.
+/// Whether all lists of ids are searched quickly. Only the time depends on it.
 fn are_quick(city: &City) -> bool {
     for (_, object) in city.iter() {
         if !is_quick(&object.parents) || !is_quick(&object.children) {
@@ -52,7 +52,8 @@ fn repeated_at(ids: &[Id]) -> Option<usize>
     None
 }
 
-/// A copy of the ids in byte order, but one that recurs stands first, where it is soon found again.
+/// A copy of the ids in byte order, except that a repeated one stands first, where
+/// it is soon found.
 fn arranged_ids(alloc: Global, ids: &Sequence<Id>) -> Result<Sequence<Id>, AllocError>
     ensures { IfOk result (λ s. IsPermutation ids.now s) }
 {
@@ -65,7 +66,7 @@ fn arranged_ids(alloc: Global, ids: &Sequence<Id>) -> Result<Sequence<Id>, Alloc
     Ok(Sequence::from_vec(copies))
 }
 
-/// A body of this type, without geometries and kept members. Takes no memory.
+/// A body of this type, without geometries and kept members. Doesn't allocate.
 fn bare_body(alloc: Global, kind: ObjectType) -> Body
     ensures { result.kind ≡ kind }
 {

@@ -17,7 +17,7 @@ use serde_json::{Map, Value};
 use std::alloc::{AllocError, Global};
 use std::collections::BTreeMap;
 
-/// The object of a tree, which it gives up; a list that isn't an array of texts counts as empty.
+/// The object of a tree, which is consumed; a list that isn't an array of texts counts as empty.
 fn lenient_object_of(
     alloc: Global,
     points: &[Point],
@@ -59,7 +59,7 @@ fn lenient_objects_of(
     Ok(Some(objects))
 }
 
-/// Takes the object of a name out, and gives its members.
+/// Removes the object of a name, and returns its members.
 fn take_object(members: &mut Map<String, Value>, name: &str) -> Option<Map<String, Value>>
     ensures found { option_map (λ m. members_view m.entries) result
         ≡ option_and_then as_object (get_member name.now (members_view members.old.entries)) }
@@ -69,7 +69,7 @@ fn take_object(members: &mut Map<String, Value>, name: &str) -> Option<Map<Strin
     into_object(take(members, name)?)
 }
 
-/// The city of a tree, which it gives up; a list of ids that isn't an array of texts counts as empty.
+/// The city of a tree, which is consumed; a list of ids that isn't an array of texts counts as empty.
 pub fn lenient_city_of(
     alloc: Global,
     points: &[Point],

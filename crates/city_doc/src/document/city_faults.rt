@@ -26,7 +26,7 @@ use std::alloc::{AllocError, Global};
 trait BodyTest {
     ghost test: { b.Body → Bool };
 
-    /// Whether the body has it.
+    /// Whether the body has the fault.
     fn judge(alloc: Global, body: &Body) -> Result<bool, AllocError>
         ensures { IfOk result (λ wrong. wrong ≡ test body.now) };
 }
@@ -59,7 +59,7 @@ fn is_bad_ringed(body: &Body) -> bool
     any_short_ring(geometry) || any_same_twice(geometry)
 }
 
-/// The first id, in byte order, of an object whose body has it.
+/// The first id, in byte order, of an object whose body has the fault.
 fn first_body<J: BodyTest>(alloc: Global, city: &City) -> Result<Option<&Id>, AllocError>
     ensures { IfOk result (λ o. option_map (λ id. id.now) o ≡ first_body J.test (entries city.now.1)) }
 {
@@ -86,8 +86,8 @@ fn are_faultless(alloc: Global, city: &City) -> Result<bool, AllocError>
     Ok(true)
 }
 
-/// The first id, in byte order, of an object whose body has it, where the bodies aren't known to be
-/// without fault.
+/// The first id, in byte order, of an object whose body has the fault, where the bodies aren't
+/// known to be without fault.
 fn first_unless<J: BodyTest>(
     alloc: Global,
     faultless: bool,

@@ -30,7 +30,7 @@ use std::alloc::{AllocError, Global};
 trait ObjectTest {
     ghost test: { Self → Data → Bool };
 
-    /// Whether the object has it.
+    /// Whether the object has the fault.
     fn judge(&self, object: &Value) -> bool
         ensures { result ≡ test self.now (view object.now) };
 }
@@ -88,7 +88,7 @@ impl ObjectTest for BadList {
     }
 }
 
-/// The first id of an object that has it; the ids are in byte order.
+/// The first id of an object that has the fault; the ids are in byte order.
 fn first_with<'m, J: ObjectTest>(judge: &J, objects: &'m Map<String, Value>) -> Option<&'m str>
     ensures first { option_map (λ s. s.now) result
         ≡ first_with (J.test judge.now) (members_view objects.now.entries) }
@@ -199,8 +199,8 @@ fn tree_fault(alloc: Global, tree: &Value) -> Result<ReadFault, AllocError>
     }
 }
 
-/// The first fault of a text whose top is right and of whose tree no city can be built, or want of
-/// memory.
+/// The first fault of a text whose top is right and of whose tree no city can
+/// be built, or `OutOfMemory`.
 pub fn objects_fault(alloc: Global, bytes: &[u8]) -> ReadFault
     requires right { (d : Data) → HasTree bytes.now d → wrong_member d ≡ None }
     requires unbuilt { (d : Data) → HasTree bytes.now d → lenient_city_of (vertices_in d) d ≡ None }

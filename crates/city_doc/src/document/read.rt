@@ -27,11 +27,11 @@ use std::alloc::Global;
 
 /// Reads a document: the city that its text stands for, which is lawful.
 ///
-/// Want of memory aside, it is Ok exactly on texts that are admitted: not too long, of whole
+/// Unless memory runs out, it is Ok exactly on texts that are admitted: not too long, of whole
 /// numbers, and standing for a lawful city. It refuses a text with the first fault of `ReadFault`'s
 /// list that stands in it, which names the least id in byte order where several objects have it.
-/// `OutOfMemory` has no place in that order: it is answered where there was no memory for the tree,
-/// for an object or for a fault's name. The text is only lent, so a refusal leaves nothing behind.
+/// `OutOfMemory` has no place in that order: it is answered if memory ran out for the tree, for an
+/// object or for a fault's name. The text is only borrowed, so a refusal leaves nothing behind.
 pub fn read_city(alloc: Global, bytes: &[u8]) -> Result<City, ReadFault>
     ensures stands { IfOk result (λ c. StandsForCity bytes.now c) }
     ensures lawful { IfOk result (λ c. IsLawful (at c.1)) }

@@ -131,7 +131,7 @@ fn extra_of(mut top: Map<String, Value>) -> Option<Extra<AtTop>>
     }
 }
 
-/// The frame of a transform and of the kept members of the top, which it gives up.
+/// The frame of a transform and of the kept members of the top, which are consumed.
 fn frame_with(extra: Extra<AtTop>, transform: Value) -> Option<Frame>
     ensures { result ≡ frame_with extra (view transform) }
 {
@@ -146,7 +146,7 @@ fn frame_with(extra: Extra<AtTop>, transform: Value) -> Option<Frame>
     })
 }
 
-/// The frame of the members of the top but `CityObjects`, which it gives up.
+/// The frame of the members of the top but `CityObjects`, which are consumed.
 pub fn frame_of_rest(mut rest: Map<String, Value>) -> Option<Frame>
     ensures { result ≡ frame_of_rest (members_view rest.entries) }
 {

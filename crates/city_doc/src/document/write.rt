@@ -23,9 +23,9 @@ use std::alloc::Global;
 /// The canonical text of a city, without a newline.
 ///
 /// The text is JSON that stands for the same city, unless the city's kept members nest so deep that
-/// the text has more than the 127 levels that are read. Those of a city that was read don't. Whatever
-/// city is read of the text is written as the same bytes. The text of a lawful city, where it isn't too
-/// long, has no fault.
+/// the text has more than the 127 levels that are read. Those of a city that was read don't. Any
+/// city that is read from the text is written as the same bytes again. The text of a lawful city,
+/// where it isn't too long, has no fault.
 pub fn write_city(alloc: Global, city: &City) -> Result<Vec<u8>, OutOfMemory>
     ensures text { IfOk result (λ b. b.items ≡ city_text city.now) }
     ensures read_again { IfOk result (λ b. depth (tree_of city.now) ≤ max_depth

@@ -29,7 +29,7 @@ fn kept(mut members: Map<String, Value>) -> Option<Extra<AtObject>>
 }
 
 /// The body that the tree of an object stands for where its positions name these points; None where
-/// it stands for none. It gives the tree up. The only refusal is want of memory.
+/// it stands for none. The tree is consumed. It fails only when out of memory.
 pub fn body_of(alloc: Global, points: &[Point], object: Value) -> Result<Option<Body>, AllocError>
     ensures { IfOk result (λ o. o ≡ body_of points.now (view object)) }
 {

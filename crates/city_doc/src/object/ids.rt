@@ -64,7 +64,7 @@ fn read_ids(alloc: Global, items: Vec<Value>) -> Result<Option<Sequence<Id>>, Al
     Ok(Some(ids))
 }
 
-/// The ids of a member, which it gives up.
+/// The ids of a member, which is consumed.
 fn ids_of(alloc: Global, member: Option<Value>) -> Result<Option<Sequence<Id>>, AllocError>
     ensures { IfOk result (λ o. o ≡ list_or_absent as_str (option_map view member)) }
 {
@@ -77,7 +77,7 @@ fn ids_of(alloc: Global, member: Option<Value>) -> Result<Option<Sequence<Id>>, 
     read_ids(alloc, items)
 }
 
-/// The ids of a member, which it gives up; none where it is absent or isn't an array of texts.
+/// The ids of a member, which is consumed; none where it is absent or isn't an array of texts.
 pub fn ids_or_none(alloc: Global, member: Option<Value>) -> Result<Sequence<Id>, AllocError>
     ensures { IfOk result (λ ids. ids ≡ or_empty (list_or_absent as_str (option_map view member))) }
 {

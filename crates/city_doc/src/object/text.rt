@@ -54,8 +54,8 @@ fn write_list<T: Written>(
     list.write(pool, out)
 }
 
-/// Writes an object, each point as its number. Points that the pool doesn't have go into it as they
-/// are met.
+/// Writes an object, each point as its number. Points that the pool doesn't have are added
+/// as they are met.
 #[tactic(auto, unfolding(crate::specs::document::KeptMembers::is_kept_object))]
 pub fn write_object(
     object: &Object,

@@ -1,4 +1,4 @@
-//! Tells which commands are refused.
+//! Says which commands are refused.
 ghost use Rattle.std.specs.Prelude.{◌≡◌};
 ghost use Rattle.serde_json.specs.View.{view};
 ghost use Rattle.city_doc.specs.script.Commands.{names_relations};

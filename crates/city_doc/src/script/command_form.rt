@@ -1,4 +1,4 @@
-//! Tells the forms of commands.
+//! Recognises the forms of commands.
 ghost use Rattle.std.specs.Prelude.{◌≡◌, option_map};
 ghost use Rattle.std.specs.Option.{option_or};
 ghost use Rattle.serde_json.specs.View.{view, members_view};
@@ -9,7 +9,7 @@ ghost use Rattle.city_doc.specs.script.Forms.{form_view};
 use city_model::members::{member, members_count};
 use serde_json::{Map, Value};
 
-/// What the tree of a command says, lent from it.
+/// What the tree of a command says, borrowed from it.
 #[derive(Clone, Copy)]
 pub enum Form<'v> {
     Read(&'v str),

@@ -25,7 +25,7 @@ use std::alloc::Global;
 trait CommandTest {
     ghost test: { ℕ → Data → Bool };
 
-    /// Whether a command of a script with so many vertices has it.
+    /// Whether a command of a script with so many vertices has the fault.
     fn judge(vertices: usize, command: &Value) -> bool
         ensures { result ≡ test vertices (view command.now) };
 }
@@ -70,7 +70,7 @@ fn vertex_count(form: &ScriptForm) -> usize
     }
 }
 
-/// The first of a script's commands that has it.
+/// The first of a script's commands that has the fault.
 fn first_in<J: CommandTest>(vertices: usize, commands: &[Value]) -> Option<usize>
     ensures { result ≡ first_in J.test vertices (map view commands.now) }
 {
@@ -140,7 +140,7 @@ fn tree_fault(alloc: Global, tree: Value) -> ScriptFault
     }
 }
 
-/// The first fault of a text that stands for no scripts, or want of memory.
+/// The first fault of a text that stands for no scripts, or `OutOfMemory`.
 pub fn first_fault(alloc: Global, bytes: &[u8]) -> ScriptFault
     requires { (d : Data) → HasTree bytes.now d → scripts_of d ≡ None }
     ensures { ScriptTextFault bytes.now result }

@@ -63,7 +63,7 @@ fn are_vertices(vertices: Option<&Value>) -> bool
     }
 }
 
-/// Whether there are as many members as a script has, and its vertices are such.
+/// Whether there are as many members as a script has, and its vertices have their form.
 fn has_script_members(members: &Map<String, Value>) -> bool
     ensures { result ≡ has_script_members (members_view members.now.entries) }
 {
@@ -125,8 +125,8 @@ pub fn parts_of(script: Value) -> Option<ScriptForm>
 
 /// The forms of the scripts of an array's items.
 ///
-/// `BadScript` names the first item that isn't a script; `OutOfMemory` where there was no memory
-/// for the list.
+/// `BadScript` names the first item that isn't a script; `OutOfMemory` if memory ran
+/// out for the list.
 pub fn forms_of(alloc: Global, items: Vec<Value>) -> Result<Sequence<ScriptForm>, ScriptFault>
     ensures forms { IfOk result (λ fs. all_read parts_of (map view items.items) ≡ Some (parts_views fs)) }
     ensures fault { IfErr result (λ f. (f ≡ ScriptFault.OutOfMemory)

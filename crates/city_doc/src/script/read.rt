@@ -27,10 +27,10 @@ use std::alloc::{AllocError, Global};
 
 /// Reads a text of scripts.
 ///
-/// The fault is the first of `ScriptFault`'s list that stands in the text, at the least script and
-/// then the least command; `OutOfMemory` may be answered at any text. Want of memory aside, the
-/// answer is `Ok` exactly where the text isn't too long, its numbers are whole, and it stands for
-/// scripts.
+/// The fault is the first of `ScriptFault`'s list that stands in the text, at the least script
+/// and then the least command; `OutOfMemory` may be answered for any text. Unless memory runs
+/// out, the answer is `Ok` exactly where the text isn't too long, its numbers are whole, and
+/// it stands for scripts.
 pub fn read_scripts(alloc: Global, bytes: &[u8]) -> Result<Sequence<Script>, ScriptFault>
     ensures stands { IfOk result (λ ss. StandsForScripts bytes.now ss) }
     ensures readable { OnOk result (IsReadable bytes.now) }
@@ -91,7 +91,7 @@ fn scripts_of_items(
     Ok(Some(scripts))
 }
 
-/// The script that an item stands for, where it has not too many commands.
+/// The script that an item stands for, if it doesn't have too many commands.
 fn script_of_item(alloc: Global, item: Value) -> Result<Option<Script>, AllocError>
     ensures { IfOk result (λ o. o ≡ script_of_item (view item)) }
 {

@@ -1,4 +1,4 @@
-//! Tells the trees that have the form of geometries (CityJSON 2.0, section 3).
+//! Recognises the trees that have the form of geometries (CityJSON 2.0, section 3).
 ghost use Rattle.std.specs.Prelude.{◌≡◌, option_map};
 ghost use Rattle.serde_json.specs.View.{view, items_view};
 ghost use Rattle.city_doc.specs.shape.Forms.{all_items, are_items, is_boundaries, are_boundaries_of, is_geometry};

@@ -68,7 +68,7 @@ fn kept(mut members: Map<String, Value>) -> Option<Extra<AtGeometry>>
     }
 }
 
-/// Takes the type and the level of detail out, and gives the latter where it is a text.
+/// Removes the type and the level of detail, and returns the latter if it is a text.
 fn take_lod(members: &mut Map<String, Value>) -> Option<Text>
     ensures found { result
         ≡ option_and_then as_str (get_member (codes "lod") (members_view members.old.entries)) }
@@ -79,7 +79,7 @@ fn take_lod(members: &mut Map<String, Value>) -> Option<Text>
     take(members, "lod").and_then(into_text)
 }
 
-/// The geometry of this shape, of the members of its tree, which they give up.
+/// The geometry of this shape and of the members of its tree, which are consumed.
 fn geometry_with(shape: Shape, mut members: Map<String, Value>) -> Option<Geometry>
     ensures { result ≡ geometry_with shape (members_view members.entries) }
 {
@@ -88,7 +88,7 @@ fn geometry_with(shape: Shape, mut members: Map<String, Value>) -> Option<Geomet
     Some(Geometry { lod, shape, extra })
 }
 
-/// The geometry of a tree, which it gives up.
+/// The geometry of a tree, which is consumed.
 fn geometry_of(
     alloc: Global,
     points: &[Point],
@@ -105,7 +105,7 @@ fn geometry_of(
     Ok(geometry_with(shape, members))
 }
 
-/// The geometries of an array's items, which they give up.
+/// The geometries of an array's items, which are consumed.
 fn read_geometries(
     alloc: Global,
     points: &[Point],
@@ -123,7 +123,7 @@ fn read_geometries(
     Ok(Some(found))
 }
 
-/// The geometries of a member, which it gives up; none where it is absent.
+/// The geometries of a member, which is consumed; none where it is absent.
 pub fn geometries_of(
     alloc: Global,
     points: &[Point],

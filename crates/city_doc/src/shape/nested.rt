@@ -66,12 +66,12 @@ pub trait Nested: Sized {
 
     ghost reads: { List p.Point → Data → Option Self };
 
-    /// Whether a value is nested so, down to values that the leaf admits.
+    /// Whether a value is nested like this, down to values that the leaf admits.
     fn has_form<L: Leaf>(leaf: &L, value: &Value) -> bool
         ensures { result ≡ has_form (L.test leaf.now) (view value.now) };
 
-    /// What a value stands for where each position names one of the points; None where it isn't
-    /// nested so, or where a position names none.
+    /// What a value stands for where each position names one of the points; None if it isn't nested
+    /// like this, or if a position names no point.
     fn read(alloc: Global, points: &[Point], value: &Value) -> Result<Option<Self>, AllocError>
         ensures { IfOk result (λ o. o ≡ reads points.now (view value.now)) };
 }

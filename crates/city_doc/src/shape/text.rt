@@ -27,7 +27,7 @@ pub trait Written {
 
     ghost is_kept: { Self → Bool };
 
-    /// Writes the value. Points that the pool doesn't have go into it as they are met.
+    /// Writes the value. Points that the pool doesn't have are added as they are met.
     fn write(&self, pool: &mut VertexPool, out: &mut Writer) -> Result<(), AllocError>
         ensures pool { OnOk result (pool.new ≡ with_points pool.old (points self.now)) }
         ensures before { OnOk result (out.new.before ≡ out.old.before) }

@@ -38,7 +38,7 @@ fn read_brackets(reader: &mut Reader<'_>) -> Option<(usize, Point)>
     None
 }
 
-/// Reads the items up to the bracket that closes them, behind the first one.
+/// Reads the items up to the bracket that closes them, after the first one.
 fn read_after<T: FromTokens>(
     alloc: Global,
     reader: &mut Reader<'_>,
@@ -56,7 +56,7 @@ fn read_after<T: FromTokens>(
     Some(Sequence::from_vec(all))
 }
 
-/// The boundaries, of which none is empty where its first position would stand.
+/// The boundaries; none where a list is empty that should hold the first position.
 pub fn read_boundaries(alloc: Global, reader: &mut Reader<'_>, depth: usize) -> Option<Boundaries>
     ensures { IfSome result (λ b. IsReadAs AreBoundaries b depth reader.old reader.new) }
 {

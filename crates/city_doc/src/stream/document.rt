@@ -105,8 +105,8 @@ fn read_whole(alloc: Global, reader: &mut Reader<'_>) -> Option<City>
     Some(city)
 }
 
-/// The city that a text stands for, none of whose bodies has a fault; none where anything about the text
-/// is odd or there is no memory.
+/// The city that a text stands for, none of whose bodies has a fault; none where anything about the
+/// text is odd, or memory runs out.
 pub fn streamed_city(alloc: Global, bytes: &[u8]) -> Option<City>
     ensures stands { IfSome result (λ c. (d : Data) × HasTree bytes.now d × (is_integral d ≡ true)
         × (city_of d ≡ Some c)) }

@@ -38,7 +38,7 @@ fn kind_named(name: &str) -> Option<Kind>
     }
 }
 
-/// The shape of this type, where it is one of such boundaries.
+/// The shape of this type and these boundaries, if they fit each other.
 fn shape_of(kind: Kind, boundaries: Boundaries) -> Option<Shape>
     ensures { IfSome result (λ shape. (d : Data) → AreBoundaries boundaries d
         → IsShape shape (kind_name kind) d) }

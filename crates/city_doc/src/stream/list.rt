@@ -13,7 +13,7 @@ use std::alloc::Global;
 pub trait FromTokens: Sized + Drop {
     ghost stands: { Self → Data → Type 0 };
 
-    /// For how many of them a list has room at first.
+    /// For how many items a list has room at first.
     const ROOM: usize;
 
     /// What stands for the next value; none where it is of another form.
@@ -21,7 +21,7 @@ pub trait FromTokens: Sized + Drop {
         ensures { IfSome result (λ x. IsReadAs stands x depth reader.old reader.new) };
 }
 
-/// Reads the items up to the bracket that closes them, behind those that are read.
+/// Reads the items up to the bracket that closes them, after those that are read already.
 pub fn read_rest<T: FromTokens>(
     alloc: Global,
     reader: &mut Reader<'_>,

@@ -35,7 +35,7 @@ impl Own for Listing {
     }
 }
 
-/// The next value, which is an object of objects of a city.
+/// The next value, an object whose members are city objects.
 pub fn read_objects(
     alloc: Global,
     reader: &mut Reader<'_>,

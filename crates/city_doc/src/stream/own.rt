@@ -17,7 +17,7 @@ pub trait Own: Sized + Drop {
     /// It stands for the members that were found, of which those are kept.
     ghost stands: { Self → Members → Members → Type 0 };
 
-    /// Reads the member of this name, where it has a place of its own; false where it is to be kept.
+    /// Reads the member of this name, if it has a place of its own; false if it has to be kept.
     fn take(
         &mut self,
         alloc: Global,

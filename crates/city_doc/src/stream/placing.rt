@@ -1,4 +1,4 @@
-//! Puts points in the places of their positions.
+//! Replaces positions by their points.
 ghost use Rattle.std.specs.Prelude.{◌≡◌, ℕ, List, Option, Some, None, IfSome};
 ghost use Rattle.serde_json.specs.Data.{Data, Members};
 ghost use Rattle.city_model.specs.declared.object.Point as p;
@@ -22,13 +22,13 @@ use std::alloc::Global;
 use std::collections::BTreeMap;
 use std::mem::replace;
 
-/// What has positions, which points take the places of.
+/// What has positions, each to be replaced by its point.
 pub trait Places: Sized + Drop {
     ghost stands: { Self → Data → Type 0 };
 
     ghost reads: { List p.Point → Data → Option Self };
 
-    /// Puts the points of these vertices in; none where a position names no vertex.
+    /// Replaces each position by the point of its vertex; none where a position names no vertex.
     fn place(&mut self, alloc: Global, vertices: &[Vertex]) -> Option<()>
         ensures { IfSome result
             (λ _. IsPlaced stands (reads (points_of vertices.now)) self.old self.new) };
@@ -139,7 +139,7 @@ fn placed_object(alloc: Global, vertices: &[Vertex], unplaced: Object) -> Option
     }
 }
 
-/// The objects by their ids, with points in the places of their positions; none where a position names
+/// The objects by their ids, with each position replaced by its point; none where a position names
 /// no vertex, or where a body has a fault.
 pub fn placed_objects(
     alloc: Global,

@@ -8,7 +8,7 @@ use city_model::script::Script;
 use city_model::sequence::Sequence;
 use std::alloc::Global;
 
-/// The scripts that a text stands for; none where anything about the text is odd or there is no memory.
+/// The scripts that a text stands for; none where anything about the text is odd, or memory runs out.
 pub fn streamed_scripts(alloc: Global, bytes: &[u8]) -> Option<Sequence<Script>>
     ensures { IfSome result (λ ss. IsReadAs bytes.now ss) }
 {

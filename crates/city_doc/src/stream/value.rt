@@ -8,7 +8,7 @@ use json::{Reader, Token};
 use serde_json::{Map, Value};
 use std::alloc::Global;
 
-/// The next value, where its arrays and objects nest no deeper than the number.
+/// The next value, if its arrays and objects nest no deeper than `depth`.
 #[cycle(value)]
 pub fn read_value(alloc: Global, reader: &mut Reader<'_>, depth: usize) -> Option<Value>
     ensures { IfSome result (λ v. IsValue depth reader.old (view v) reader.new) }

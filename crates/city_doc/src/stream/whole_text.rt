@@ -24,7 +24,7 @@ fn read_tokens<T: FromTokens>(alloc: Global, reader: &mut Reader<'_>) -> Option<
     Some(read)
 }
 
-/// What stands for a text; none where anything about the text is odd or there is no memory.
+/// What stands for a text; none where anything about the text is odd, or memory runs out.
 pub fn read_whole_text<T: FromTokens>(alloc: Global, bytes: &[u8]) -> Option<T>
     ensures { IfSome result (λ x. (d : Data) × HasTree bytes.now d × (is_integral d ≡ true) × T.stands x d) }
 {

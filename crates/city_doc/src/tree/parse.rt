@@ -15,7 +15,7 @@ pub const MAX_TEXT: usize = 67_108_864;
 /// Why a text has no tree of whole numbers: the first of this list that stands in it.
 #[derive(Drop)]
 pub enum TextFault {
-    /// There was no memory; this has no place in the order.
+    /// Memory ran out; this has no place in the order.
     OutOfMemory,
     /// The text has more than `MAX_TEXT` bytes.
     TooLong,
@@ -27,7 +27,7 @@ pub enum TextFault {
 
 /// The tree of a text, whatever its numbers are.
 ///
-/// `TooLong` is judged before `NotJson`; `OutOfMemory` where there was no memory for the tree.
+/// `TooLong` is judged before `NotJson`; `OutOfMemory` if memory ran out for the tree.
 pub fn tree_of(alloc: Global, bytes: &[u8]) -> Result<Value, TextFault>
     ensures tree { IfOk result (λ v. HasTree bytes.now (view v)) }
     ensures fault { IfErr result (λ f. IsRefused bytes.now f) }

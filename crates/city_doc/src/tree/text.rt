@@ -21,7 +21,7 @@ fn write_number(n: &Number, out: &mut Writer) -> Result<(), AllocError>
 {
     match n.as_i64() {
         Some(z) => out.i64(z),
-        // (no number that is kept)
+        // (no kept number is of this kind)
         None => out.null(),
     }
 }

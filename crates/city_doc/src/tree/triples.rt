@@ -1,4 +1,4 @@
-//! Reads three whole numbers, and tells lists of them.
+//! Reads three whole numbers, and recognises lists of them.
 ghost use Rattle.std.specs.Prelude.{◌≡◌, option_map};
 ghost use Rattle.serde_json.specs.View.{view, items_view};
 ghost use Rattle.city_doc.specs.tree.Triples.{triple_of, all_triples, are_all_triples, are_triples};

@@ -8,7 +8,7 @@ use city_model::text::Text;
 use serde_json::Value;
 use std::alloc::{AllocError, Global};
 
-/// The text that a value is, which it gives up.
+/// The text that a value is, which is consumed.
 pub fn into_text(value: Value) -> Option<Text>
     ensures { result ≡ as_str (view value) }
 {
@@ -18,7 +18,7 @@ pub fn into_text(value: Value) -> Option<Text>
     }
 }
 
-/// The items of an array, which it gives up.
+/// The items of an array, which is consumed.
 pub fn into_array(value: Value) -> Option<Vec<Value>>
     ensures items { option_map (λ v. items_view v.items) result ≡ as_array (view value) }
     ensures list { option_map (λ v. map view v.items) result ≡ array_of (view value) }
