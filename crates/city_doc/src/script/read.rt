@@ -1,4 +1,4 @@
-//! Reads a text of scripts: its tree is taken apart, and each command is built at once.
+//! Reads a text of scripts: from its tokens, or else its tree is taken apart, and each command is built at once.
 ghost use Rattle.std.specs.Prelude.{◌≡◌, ◌⊎◌, List, map, IfOk, IfErr, OnOk, option_map};
 ghost use Rattle.serde_json.specs.View.{view};
 ghost use Rattle.city_model.specs.Runs.{Scripted};
