@@ -135,7 +135,7 @@ fn run<R: Threads + Wait + Sync, G: Gate + Sync>(
         moved: _moved,
     } = shared;
     let finished = turns.into_inner().end(document, scripts)?;
-    gather(rt, alloc, finished, watchers, viewers)
+    gather(rt, alloc, finished, watchers, viewers, document.len())
 }
 
 /// Shows what isn't shown yet, has each viewer look once more, and writes the report and the model.
@@ -145,6 +145,7 @@ fn gather<S: Shelf, Q: Wait>(
     finished: Finished<S>,
     watchers: Vec<Watcher>,
     viewers: usize,
+    room: usize,
 ) -> Result<Output, CrewFault>
     ensures ran { (document scripts : List ℕ) → IsResult document scripts finished.city finished.ends
         → IfOk result (λ o. IsRun document scripts o.ends o.bytes.items) }
@@ -158,6 +159,6 @@ fn gather<S: Shelf, Q: Wait>(
     shelf.show(rt)?;
     let commits = count_commits(ends.as_slice());
     let seen = last_looks(alloc, watchers, viewers, commits)?;
-    let bytes = output_bytes(alloc, &city, ends.as_slice())?;
+    let bytes = output_bytes(alloc, &city, ends.as_slice(), room)?;
     Ok(Output { ends, bytes, seen })
 }

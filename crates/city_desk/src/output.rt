@@ -22,10 +22,19 @@ pub struct Output {
 }
 
 /// The report of the ends, then the model's text and a newline.
-pub fn output_bytes(alloc: Global, city: &City, ends: &[End]) -> Result<Vec<u8>, OutOfMemory>
+///
+/// `room` is how many bytes the model's text may well take. Room for them is made at once, where there is
+/// memory for it.
+pub fn output_bytes(
+    alloc: Global,
+    city: &City,
+    ends: &[End],
+    room: usize,
+) -> Result<Vec<u8>, OutOfMemory>
     ensures { IfOk result (λ b. b.items ≡ report_text ends.now ++ city_text city.now ++ 10 ∷ []) }
 {
-    let report = write_report(alloc, ends)?;
+    let mut report = write_report(alloc, ends)?;
+    let _ = report.reserve(room);
     let mut bytes = append_city(alloc, report, city)?;
     bytes.push(b'\n')?;
     Ok(bytes)

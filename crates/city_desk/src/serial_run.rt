@@ -41,7 +41,12 @@ pub fn run_serial_to_city(
 {
     let (city, scripts) = read_texts(alloc, document, scripts)?;
     let finished = run_each(alloc, city, scripts)?;
-    let bytes = output_bytes(alloc, &finished.city, finished.ends.as_slice())?;
+    let bytes = output_bytes(
+        alloc,
+        &finished.city,
+        finished.ends.as_slice(),
+        document.len(),
+    )?;
     let output = Output {
         ends: finished.ends,
         bytes,

@@ -249,7 +249,7 @@ fn replay_scripts(
     requires { IsSound (at city.old.1) }
 {
     let again = ends_again(alloc, city, scripts, ends)?;
-    output_bytes(alloc, city, again.as_slice()).ok()
+    output_bytes(alloc, city, again.as_slice(), 0).ok()
 }
 
 /// Whether each script ends once, and none since more ends than there were before it.

@@ -69,7 +69,7 @@ fn add_output(
     shelf: &ListShelf,
     answer: &mut Vec<u8>,
 ) -> Result<(), AllocError> {
-    let bytes = output_bytes(alloc, city, ends)?;
+    let bytes = output_bytes(alloc, city, ends, 0)?;
     answer.extend_from_slice(bytes.as_slice())?;
     for change in shelf.changes() {
         let line = change_text(alloc, "committed", change.as_slice())?;

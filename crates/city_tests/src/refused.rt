@@ -91,7 +91,7 @@ pub fn end_all<S: Shelf>(desk: &mut Desk<S>) {
 
 /// Whether ends and the city that they leave are those of scripts played one at a time.
 fn are_replayed(alloc: Global, run: &Run, city: &City, ends: &[End]) -> bool {
-    let bytes = output_bytes(alloc, city, ends).or(output_bytes(alloc, city, ends));
+    let bytes = output_bytes(alloc, city, ends, 0).or(output_bytes(alloc, city, ends, 0));
     bytes.is_ok_and(|bytes| is_replayed(alloc, run, ends, bytes.as_slice()))
 }
 

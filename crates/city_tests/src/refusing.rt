@@ -61,7 +61,7 @@ fn written(alloc: Global, run: &Run) -> Option<Vec<u8>> {
     let mut desk = Desk::open(alloc, city, scripts, Refusing::new(alloc)).ok()?;
     end_all(&mut desk);
     let (city, ends, _shelf) = desk.close();
-    output_bytes(alloc, &city, ends.as_slice()).ok()
+    output_bytes(alloc, &city, ends.as_slice(), 0).ok()
 }
 
 const REPORT: &str = concat!(

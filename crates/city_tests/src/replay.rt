@@ -31,7 +31,7 @@ fn written_again(alloc: Global, run: &Run, ends: &[End]) -> Option<Vec<u8>> {
     let mut desk = opened(alloc, run)?;
     end_each(&mut desk, ends);
     let (city, ends, _shelf) = desk.close();
-    output_bytes(alloc, &city, ends.as_slice()).ok()
+    output_bytes(alloc, &city, ends.as_slice(), 0).ok()
 }
 
 /// What is written of an output's lines, but for `since` and for scripts that found no memory.
