@@ -3,6 +3,7 @@ pub mod Insides
 pub mod Forms
 pub mod RoundTrip
 pub mod Wholes
+pub mod PlainNumbers
 pub mod Kept
 pub mod Texts
 pub mod OneLine
