@@ -7,6 +7,8 @@ pub mod PlainNumbers
 pub mod Kept
 pub mod Texts
 pub mod OneLine
+pub mod Copies
+pub mod Compact
 pub mod Streams
 pub mod Starts
 pub mod Objects

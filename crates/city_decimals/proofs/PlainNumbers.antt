@@ -7,6 +7,8 @@ use Rattle.std.proofs.lemmas.Fmt.{decimal-digits_value}
 use Rattle.std.proofs.lemmas.Str.Parse.{numerals_by_value, tells_by_index, digits_value_short}
 use Rattle.std.proofs.lemmas.Bool.{and_from, lt-ltb}
 use Rattle.std.proofs.lemmas.Slice.Eq.{bytes_eq-Decides}
+use Rattle.json.specs.Print.{IsNumber}
+use Rattle.json.proofs.Printed.Decimals.{IsNumber-decimal}
 use Rattle.serde_json.specs.Data.{unsigned}
 use Rattle.serde_json.specs.Find.{as_i64}
 use Rattle.serde_json.specs.Read.{number_of}
@@ -31,3 +33,8 @@ pub plain_is_whole : (s : List ℕ) → IsPlain s → is_whole s ≡ true
 plain_is_whole s p =
     let found = plain_is_decimal s p in
     subst (λ t. is_whole t ≡ true) found.2 (decimal_is_whole found.0 found.1)
+
+pub plain_is_number : (s : List ℕ) → IsPlain s → IsNumber s
+plain_is_number s p =
+    let found = plain_is_decimal s p in
+    subst IsNumber found.2 (IsNumber-decimal found.0 (omega (arith, found.1)))

@@ -27,7 +27,7 @@ pub(crate) fn is_whole(text: &str) -> bool
 
 /// Whether these are digits, at most 18, without a leading zero: those of an `i64`, as it is written.
 #[inline(always)]
-fn is_plain(bytes: &[u8]) -> bool
+pub(crate) fn is_plain(bytes: &[u8]) -> bool
     ensures { OnTrue result (IsPlain bytes.now) }
 {
     let len = bytes.len();
