@@ -1,10 +1,10 @@
 -- What is copied of a compact text, from its parts.
-use Rattle.std.proofs.Common.{◌≡◌, ℕ, ◌+◌, ◌-◌, ◌<◌, ◌≤◌, max, List, [], ◌∷◌, ◌++◌, length, Bool, true, false, true≢false, cond, ◌&&◌}
-use Rattle.std.proofs.Common.{Some, None, refl, sym, ap, ap₂, ◌∙◌, subst, arith, append_assoc, append-nil, length-append}
+use Rattle.std.proofs.Common.{◌≡◌, ℕ, ◌-◌, ◌<◌, ◌≤◌, List, [], ◌∷◌, ◌++◌, length, Bool, true, false, true≢false, cond, ◌&&◌}
+use Rattle.std.proofs.Common.{Some, None, refl, sym, ap, ap₂, ◌∙◌, arith, append_assoc, append-nil, length-append}
 use Rattle.std.specs.Prelude.{codes, Option, IfSome}
 use Rattle.std.specs.Str.{bytes_eq}
 use Rattle.std.proofs.lemmas.Slice.Eq.{bytes_eq-Decides}
-use Rattle.json.specs.Json.{Json, null, boolean, number, string, array, object, Items, no_items, item, Members}
+use Rattle.json.specs.Json.{Json, null, boolean, number, string, array, object, no_items, item, Members}
 use Rattle.json.specs.Json.{no_members, member}
 use Rattle.json.specs.Print.{escape, escape_byte, quoted, IsNumber}
 use Rattle.json.specs.Text.{content, plain}
@@ -12,7 +12,7 @@ use Rattle.json.specs.Tree.{HasNumbers, depth}
 use Rattle.json.specs.Word.{after_number}
 use Rattle.json.proofs.Found.{Some_inj, not_found}
 use Rattle.json.proofs.Printed.Strings.{content-escape}
-use Rattle.city_decimals.specs.Shapes.{is_tag, is_transform, is_frame, tag, three, framed, only, fronted}
+use Rattle.city_decimals.specs.Shapes.{is_tag, is_transform, is_frame, tag, framed, only, fronted}
 use Rattle.city_decimals.specs.Decoded.{decoded, decoded_items, decoded_members, number_in, number_under, number_or, out_of_form}
 use Rattle.city_decimals.specs.Numbers.{is_end, is_number}
 use Rattle.city_decimals.specs.Copies.{Moves}

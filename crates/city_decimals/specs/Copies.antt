@@ -1,5 +1,5 @@
 -- Texts that are copied, but for what is left out.
-use Rattle.std.specs.Prelude.{◌≡◌, ◌+◌, ◌-◌, ◌≤◌, ℕ, List, [], ◌∷◌, ◌++◌, length, take, drop}
+use Rattle.std.specs.Prelude.{◌≡◌, ◌-◌, ◌≤◌, ℕ, List, [], ◌∷◌, ◌++◌, length, take, drop}
 use Rattle.json.specs.Print.{escape_byte}
 use Rattle.city_decimals.specs.declared.copier.Copier.TheInside.{Inside}
 

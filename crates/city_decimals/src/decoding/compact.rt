@@ -32,11 +32,13 @@ pub(super) fn decode_compact(bytes: &[u8], out: Vec<u8>) -> Result<Vec<u8>, Vec<
         return Err(copier.give_up());
     }
     let mut out = copier.finish()?;
-    if text_of(&out[before..]).is_err() {
-        out.truncate(before);
-        return Err(out);
+    match text_of(&out[before..]) {
+        Ok(_) => Ok(out),
+        Err(_) => {
+            out.truncate(before);
+            Err(out)
+        }
     }
-    Ok(out)
 }
 
 /// Copies the object that a whole text is, decoded.

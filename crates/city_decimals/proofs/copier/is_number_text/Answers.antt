@@ -1,4 +1,4 @@
-use Rattle.std.proofs.Common.{◌≡◌, sym, subst}
+use Rattle.std.proofs.Common.{sym, subst}
 use Rattle.std.specs.Bool.{OnTrue}
 use Rattle.json.specs.Print.{IsNumber}
 use Rattle.city_decimals.proofs.PlainNumbers.{plain_is_number}

@@ -1,4 +1,4 @@
-use Rattle.std.proofs.Common.{◌≡◌, ◌-◌, ◌++◌, drop, take, sym, ap, ◌∙◌, subst, append-nil, arith, rules}
+use Rattle.std.proofs.Common.{◌≡◌, ◌-◌, ◌++◌, drop, take, ap, arith, rules}
 use Rattle.city_decimals.proofs.Copies.{rest_more, all_written}
 use Rattle.city_decimals.proofs.copier.Copier.leave_out.Goals as goal
 

@@ -1,4 +1,4 @@
-use Rattle.std.proofs.Common.{◌≡◌, ◌<◌, take, get_or, length, sym, subst, arith}
+use Rattle.std.proofs.Common.{◌<◌, take, get_or, sym, subst, arith}
 use Rattle.std.proofs.lemmas.List.{get_or-take, length-take}
 use Rattle.json.specs.Print.{IsNumber}
 use Rattle.city_decimals.specs.Copies.{IsPlainByte}

@@ -1,9 +1,8 @@
-use Rattle.std.proofs.Common.{◌≡◌, ◌<◌, ◌++◌, length, false, refl, sym, ap, ◌∙◌, subst, arith}
-use Rattle.city_decimals.specs.Copies.{Moves}
-use Rattle.city_decimals.specs.Compact.{State, IsItemCopied, IsMemberCopied}
+use Rattle.std.proofs.Common.{length, refl, sym, ap, ◌∙◌, subst, arith}
+use Rattle.city_decimals.specs.Compact.{IsItemCopied, IsMemberCopied}
 use Rattle.city_decimals.proofs.Compact.{array_copied, object_copied, frame_copied, items_end, items_first}
 use Rattle.city_decimals.proofs.Compact.{members_end, members_first, member_plain, member_framed, item_shorter}
-use Rattle.city_decimals.proofs.Compact.{member_shorter, some_weaker}
+use Rattle.city_decimals.proofs.Compact.{some_weaker}
 use Rattle.city_decimals.proofs.decoding.compact.+copy.Goals as goal
 
 pub copy_array-returns-clause-copied : goal.copy_array-returns-clause-copied
