@@ -4,7 +4,7 @@ use Rattle.std.proofs.Common.{Some, None, refl, sym, ap, ap₂, ◌∙◌, arith
 use Rattle.std.specs.Prelude.{codes, Option, IfSome}
 use Rattle.std.specs.Str.{bytes_eq}
 use Rattle.std.proofs.lemmas.Slice.Eq.{bytes_eq-Decides}
-use Rattle.json.specs.Json.{Json, null, boolean, number, string, array, object, no_items, item, Members}
+use Rattle.json.specs.Json.{Items, Json, null, boolean, number, string, array, object, no_items, item, Members}
 use Rattle.json.specs.Json.{no_members, member}
 use Rattle.json.specs.Print.{escape, escape_byte, quoted, IsNumber}
 use Rattle.json.specs.Text.{content, plain}
@@ -12,12 +12,15 @@ use Rattle.json.specs.Tree.{HasNumbers, depth}
 use Rattle.json.specs.Word.{after_number}
 use Rattle.json.proofs.Found.{Some_inj, not_found}
 use Rattle.json.proofs.Printed.Strings.{content-escape}
-use Rattle.city_decimals.specs.Shapes.{is_tag, is_transform, is_frame, tag, framed, only, fronted}
-use Rattle.city_decimals.specs.Decoded.{decoded, decoded_items, decoded_members, number_in, number_under, number_or, out_of_form}
-use Rattle.city_decimals.specs.Numbers.{is_end, is_number}
+use Rattle.city_decimals.specs.Shapes.{is_tag, is_transform, is_frame, tag, framed, only, fronted, in_form, is_text_or_array}
+use Rattle.city_decimals.specs.Encoded.{encoded, tagged}
+use Rattle.city_decimals.specs.declared.shapes.Form.TheVariants.{Plain, Shielded, Framed}
+use Rattle.city_decimals.specs.Decoded.{decoded, decoded_members, number_in, number_under, number_or}
+use Rattle.city_decimals.specs.Numbers.{is_end, is_number, is_whole}
 use Rattle.city_decimals.specs.Copies.{Moves}
 use Rattle.city_decimals.specs.Compact.{value_text, items_text, members_text, comma_if, State, IsUntagged, IsCopied, IsItemCopied}
 use Rattle.city_decimals.specs.Compact.{AreItemsCopied, IsMemberCopied, AreMembersCopied, IsFrameCopied, IsKeyPassed}
+use Rattle.city_decimals.specs.Compact.{triple, IsNumberCopied, IsTripleCopied, member_decoded, member_encoded, frame_decoded, frame_encoded}
 
 pub moves_on : (a b d : State) (xs ys us vs : List ℕ) → Moves a b xs ys → Moves b d us vs
     → Moves a d (xs ++ us) (ys ++ vs)
@@ -34,38 +37,45 @@ moves_as a b xs ys us vs moves first second = (
 
 -- ---- values
 
-pub string_copied : (limit : ℕ) (a b d : State) (inside : List ℕ) → Moves a b (34 ∷ []) (34 ∷ [])
-    → (s : List ℕ) × (inside ≡ escape s) × Moves b d (escape s ++ 34 ∷ []) (escape s ++ 34 ∷ []) → IsCopied limit a d
-string_copied limit a b d inside first (s, e, rest) =
+pub string_copied : (f : Json → Json) → ((s : List ℕ) → f (string s) ≡ string s) → (limit : ℕ) (a b d : State)
+    (inside : List ℕ) → Moves a b (34 ∷ []) (34 ∷ [])
+    → (s : List ℕ) × (inside ≡ escape s) × Moves b d (escape s ++ 34 ∷ []) (escape s ++ 34 ∷ []) → IsCopied f limit a d
+string_copied f same limit a b d inside first (s, e, rest) =
     record {
       j = string s;
-      moves = moves_on a b d (34 ∷ []) (34 ∷ []) (escape s ++ 34 ∷ []) (escape s ++ 34 ∷ []) first rest;
+      moves = moves_as a d (quoted s) (quoted s) (quoted s) (value_text (f (string s)))
+          (moves_on a b d (34 ∷ []) (34 ∷ []) (escape s ++ 34 ∷ []) (escape s ++ 34 ∷ []) first rest) refl
+          (ap value_text (sym (same s)));
       numbers = tt;
       shallow = omega arith;
     }
 
 pub number_copied : (limit : ℕ) (a b : State) → (s : List ℕ) × IsNumber s × (escape s ≡ s) × Moves a b s s
-    → IsCopied limit a b
+    → IsCopied decoded limit a b
 number_copied limit a b (s, h, e, moves) =
     record { j = number s; moves = moves; numbers = h; shallow = omega arith }
 
-pub name_copied : (limit : ℕ) (a b : State) (j : Json) → HasNumbers j → depth j ≡ 0 → decoded j ≡ j
-    → Moves a b (value_text j) (value_text j) → IsCopied limit a b
-name_copied limit a b j h flat same moves =
+pub name_copied : (f : Json → Json) (limit : ℕ) (a b : State) (j : Json) → HasNumbers j → depth j ≡ 0 → f j ≡ j
+    → Moves a b (value_text j) (value_text j) → IsCopied f limit a b
+name_copied f limit a b j h flat same moves =
     record {
       j = j;
-      moves = moves_as a b _ _ _ _ moves refl (ap value_text (sym same));
+      moves = moves_as a b (value_text j) (value_text j) (value_text j) (value_text (f j)) moves refl
+          (ap value_text (sym same));
       numbers = h;
       shallow = omega (arith, flat);
     }
 
-pub array_copied : (limit : ℕ) (a b d : State) → (limit ≡ 0 → ⊥) → Moves a b (91 ∷ []) (91 ∷ [])
-    → AreItemsCopied false (limit - 1) b d → IsCopied limit a d
-array_copied limit a b d some first rest =
+pub array_copied : (f : Json → Json) (g : Items → Items) → ((js : Items) → f (array js) ≡ array (g js))
+    → (limit : ℕ) (a b d : State) → (limit ≡ 0 → ⊥) → Moves a b (91 ∷ []) (91 ∷ [])
+    → AreItemsCopied g false (limit - 1) b d → IsCopied f limit a d
+array_copied f g same limit a b d some first rest =
     record {
       j = array rest.js;
-      moves = moves_on a b d (91 ∷ []) (91 ∷ []) (items_text false rest.js) (items_text false (decoded_items rest.js))
-          first rest.moves;
+      moves = moves_as a d (91 ∷ items_text false rest.js) (91 ∷ items_text false (g rest.js))
+          (value_text (array rest.js)) (value_text (f (array rest.js)))
+          (moves_on a b d (91 ∷ []) (91 ∷ []) (items_text false rest.js) (items_text false (g rest.js))
+          first rest.moves) refl (ap value_text (sym (same rest.js)));
       numbers = rest.numbers;
       shallow = omega (arith, some, rest.shallow);
     }
@@ -85,17 +95,19 @@ untagged_none no_members h = refl
 untagged_none (member k j no_members) h = untagged_under k j h
 untagged_none (member k j (member l i ms)) h = refl
 
-pub object_copied : (limit : ℕ) (a b d : State) → (limit ≡ 0 → ⊥) → Moves a b (123 ∷ []) (123 ∷ [])
-    → AreMembersCopied false false (limit - 1) b d → IsCopied limit a d
-object_copied limit a b d some first rest =
-    let none = untagged_none rest.ms rest.untagged in
+pub object_decoded : (ms : Members) → IsUntagged ms → decoded (object ms) ≡ object (decoded_members false ms)
+object_decoded ms h = ap (λ o. number_or o (decoded_members false ms)) (untagged_none ms h)
+
+pub object_copied : (f : Json → Json) (h : Members → Members)
+    → ((ms : Members) → IsUntagged ms → f (object ms) ≡ object (h ms)) → (limit : ℕ) (a b d : State)
+    → (limit ≡ 0 → ⊥) → Moves a b (123 ∷ []) (123 ∷ []) → AreMembersCopied h false (limit - 1) b d → IsCopied f limit a d
+object_copied f h same limit a b d some first rest =
     record {
       j = object rest.ms;
-      moves = moves_as a d (123 ∷ members_text false rest.ms) (123 ∷ members_text false (decoded_members false rest.ms))
-          (value_text (object rest.ms)) (value_text (decoded (object rest.ms)))
-          (moves_on a b d (123 ∷ []) (123 ∷ []) (members_text false rest.ms)
-          (members_text false (decoded_members false rest.ms)) first rest.moves) refl
-          (ap (λ o. value_text (number_or o (decoded_members false rest.ms))) (sym none));
+      moves = moves_as a d (123 ∷ members_text false rest.ms) (123 ∷ members_text false (h rest.ms))
+          (value_text (object rest.ms)) (value_text (f (object rest.ms)))
+          (moves_on a b d (123 ∷ []) (123 ∷ []) (members_text false rest.ms) (members_text false (h rest.ms))
+          first rest.moves) refl (ap value_text (sym (same rest.ms rest.untagged)));
       numbers = rest.numbers;
       shallow = omega (arith, some, rest.shallow);
     }
@@ -103,7 +115,7 @@ object_copied limit a b d some first rest =
 pub encoded_copied : (limit : ℕ) (a b d e : State) → (limit ≡ 0 → ⊥)
     → Moves a b (123 ∷ 34 ∷ 35 ∷ 34 ∷ 58 ∷ 34 ∷ []) []
     → (s : List ℕ) × IsNumber s × (escape s ≡ s) × Moves b d s s
-    → Moves d e (34 ∷ 125 ∷ []) [] → IsCopied limit a e
+    → Moves d e (34 ∷ 125 ∷ []) [] → IsCopied decoded limit a e
 unfolding escape_byte
 encoded_copied limit a b d e some first (s, h, same, moves) last =
     let begin : List ℕ = 123 ∷ 34 ∷ 35 ∷ 34 ∷ 58 ∷ 34 ∷ [] in
@@ -123,35 +135,43 @@ encoded_copied limit a b d e some first (s, h, same, moves) last =
 
 -- ---- items
 
-pub item_copied : (later : Bool) (limit : ℕ) (a b d : State) → Moves a b (comma_if later) (comma_if later)
-    → IsCopied limit b d → IsItemCopied later limit a d
-item_copied later limit a b d first rest =
+pub item_copied : (f : Json → Json) (later : Bool) (limit : ℕ) (a b d : State)
+    → Moves a b (comma_if later) (comma_if later) → IsCopied f limit b d → IsItemCopied f later limit a d
+item_copied f later limit a b d first rest =
     record {
       j = rest.j;
-      moves = moves_on a b d (comma_if later) (comma_if later) (value_text rest.j) (value_text (decoded rest.j)) first
+      moves = moves_on a b d (comma_if later) (comma_if later) (value_text rest.j) (value_text (f rest.j)) first
           rest.moves;
       numbers = rest.numbers;
       shallow = rest.shallow;
     }
 
-pub items_end : (later : Bool) (limit : ℕ) (a b : State) → Moves a b (93 ∷ []) (93 ∷ [])
-    → AreItemsCopied later limit a b
-items_end later limit a b moves =
-    record { js = no_items; moves = moves; numbers = tt; shallow = omega arith }
+pub items_end : (g : Items → Items) → g no_items ≡ no_items → (later : Bool) (limit : ℕ) (a b : State)
+    → Moves a b (93 ∷ []) (93 ∷ []) → AreItemsCopied g later limit a b
+items_end g same later limit a b moves =
+    record {
+      js = no_items;
+      moves = moves_as a b (93 ∷ []) (93 ∷ []) (93 ∷ []) (items_text later (g no_items)) moves refl
+          (ap (items_text later) (sym same));
+      numbers = tt;
+      shallow = omega arith;
+    }
 
-pub items_first : (later : Bool) (limit : ℕ) (a b d : State) → IsItemCopied later limit a b
-    → AreItemsCopied true limit b d → AreItemsCopied later limit a d
-items_first later limit a b d first rest =
+pub items_first : (f : Json → Json) (g : Items → Items) → ((j : Json) (js : Items) → g (item j js) ≡ item (f j) (g js))
+    → (later : Bool) (limit : ℕ) (a b d : State) → IsItemCopied f later limit a b → AreItemsCopied g true limit b d
+    → AreItemsCopied g later limit a d
+items_first f g same later limit a b d first rest =
     let comma = comma_if later in
     record {
       js = item first.j rest.js;
       moves = moves_as a d ((comma ++ value_text first.j) ++ items_text true rest.js)
-          ((comma ++ value_text (decoded first.j)) ++ items_text true (decoded_items rest.js))
-          (items_text later (item first.j rest.js)) (items_text later (decoded_items (item first.j rest.js)))
-          (moves_on a b d (comma ++ value_text first.j) (comma ++ value_text (decoded first.j))
-          (items_text true rest.js) (items_text true (decoded_items rest.js)) first.moves rest.moves)
+          ((comma ++ value_text (f first.j)) ++ items_text true (g rest.js))
+          (items_text later (item first.j rest.js)) (items_text later (g (item first.j rest.js)))
+          (moves_on a b d (comma ++ value_text first.j) (comma ++ value_text (f first.j))
+          (items_text true rest.js) (items_text true (g rest.js)) first.moves rest.moves)
           (append_assoc comma (value_text first.j) (items_text true rest.js))
-          (append_assoc comma (value_text (decoded first.j)) (items_text true (decoded_items rest.js)));
+          (append_assoc comma (value_text (f first.j)) (items_text true (g rest.js))
+          ∙ ap (items_text later) (sym (same first.j rest.js)));
       numbers = (first.numbers, rest.numbers);
       shallow = omega (arith, first.shallow, rest.shallow);
     }
@@ -161,27 +181,37 @@ items_first later limit a b d first rest =
 regroup : (c q v r : List ℕ) → (c ++ (q ++ 58 ∷ v)) ++ r ≡ c ++ (q ++ 58 ∷ (v ++ r))
 regroup c q v r = append_assoc c (q ++ 58 ∷ v) r ∙ ap (λ w. c ++ w) (append_assoc q (58 ∷ v) r)
 
-pub members_end : (later top : Bool) (limit : ℕ) (a b : State) → Moves a b (125 ∷ []) (125 ∷ [])
-    → AreMembersCopied later top limit a b
-members_end later top limit a b moves =
-    record { ms = no_members; moves = moves; untagged = tt; numbers = tt; shallow = omega arith }
+pub members_end : (h : Members → Members) → h no_members ≡ no_members → (later : Bool) (limit : ℕ) (a b : State)
+    → Moves a b (125 ∷ []) (125 ∷ []) → AreMembersCopied h later limit a b
+members_end h same later limit a b moves =
+    record {
+      ms = no_members;
+      moves = moves_as a b (125 ∷ []) (125 ∷ []) (125 ∷ []) (members_text later (h no_members))
+          moves refl (ap (members_text later) (sym same));
+      untagged = tt;
+      numbers = tt;
+      shallow = omega arith;
+    }
 
-pub members_first : (later top : Bool) (limit : ℕ) (a b d : State) → IsMemberCopied later top limit a b
-    → AreMembersCopied true top limit b d → AreMembersCopied later top limit a d
-members_first later top limit a b d first rest =
+pub members_first : (m : List ℕ → Json → Json) (h : Members → Members)
+    → ((k : List ℕ) (j : Json) (ms : Members) → h (member k j ms) ≡ member k (m k j) (h ms))
+    → (later : Bool) (limit : ℕ) (a b d : State) → IsMemberCopied m later limit a b
+    → AreMembersCopied h true limit b d → AreMembersCopied h later limit a d
+members_first m h same later limit a b d first rest =
     let comma = comma_if later in
     let q = quoted first.k in
-    let made = out_of_form top first.k first.j (decoded first.j) in
-    let more = members_text true (decoded_members top rest.ms) in
+    let made = m first.k first.j in
+    let more = members_text true (h rest.ms) in
     record {
       ms = member first.k first.j rest.ms;
       moves = moves_as a d ((comma ++ (q ++ 58 ∷ value_text first.j)) ++ members_text true rest.ms)
           ((comma ++ (q ++ 58 ∷ value_text made)) ++ more)
           (members_text later (member first.k first.j rest.ms))
-          (members_text later (decoded_members top (member first.k first.j rest.ms)))
+          (members_text later (h (member first.k first.j rest.ms)))
           (moves_on a b d (comma ++ (q ++ 58 ∷ value_text first.j)) (comma ++ (q ++ 58 ∷ value_text made))
           (members_text true rest.ms) more first.moves rest.moves)
-          (regroup comma q (value_text first.j) (members_text true rest.ms)) (regroup comma q (value_text made) more);
+          (regroup comma q (value_text first.j) (members_text true rest.ms))
+          (regroup comma q (value_text made) more ∙ ap (members_text later) (sym (same first.k first.j rest.ms)));
       untagged = first.untagged;
       numbers = (first.numbers, rest.numbers);
       shallow = omega (arith, first.shallow, rest.shallow);
@@ -232,56 +262,71 @@ both false b h = absurd (true≢false (sym h))
 key_then : (c q v : List ℕ) → (c ++ (q ++ 58 ∷ [])) ++ v ≡ c ++ (q ++ 58 ∷ v)
 key_then c q v = regroup c q [] v
 
-pub member_plain : (later top : Bool) (limit : ℕ) (a b d : State) (key : List ℕ) → IsKeyPassed later key a b
-    → bytes_eq key (35 ∷ []) ≡ false → (top && bytes_eq key (codes "transform")) ≡ false → IsCopied limit b d
-    → IsMemberCopied later top limit a d
-member_plain later top limit a b d key (k, is, passed) other no_frame rest =
-    let untagged = untagged_key k key is other in
-    let form : out_of_form top k rest.j (decoded rest.j) ≡ decoded rest.j
-    = ap₂ (λ t u. cond t (fronted (decoded rest.j)) (cond u (only (decoded rest.j)) (decoded rest.j)))
-    (not_framed top k key rest.j is no_frame) untagged in
+-- the value of a member, for which that under f is written
+member_of : (f : Json → Json) (m : List ℕ → Json → Json) (later : Bool) (limit : ℕ) (a b d : State) (k : List ℕ) (j : Json)
+    → Moves a b (comma_if later ++ (quoted k ++ 58 ∷ [])) (comma_if later ++ (quoted k ++ 58 ∷ []))
+    → Moves b d (value_text j) (value_text (f j)) → m k j ≡ f j → is_tag k ≡ false → HasNumbers j → depth j ≤ limit
+    → IsMemberCopied m later limit a d
+member_of f m later limit a b d k j passed moves form untagged numbers shallow =
     let name_text = comma_if later ++ (quoted k ++ 58 ∷ []) in
     record {
       k = k;
-      j = rest.j;
-      moves = moves_as a d (name_text ++ value_text rest.j) (name_text ++ value_text (decoded rest.j))
-          (comma_if later ++ (quoted k ++ 58 ∷ value_text rest.j))
-          (comma_if later ++ (quoted k ++ 58 ∷ value_text (out_of_form top k rest.j (decoded rest.j))))
-          (moves_on a b d name_text name_text (value_text rest.j) (value_text (decoded rest.j)) passed rest.moves)
-          (key_then (comma_if later) (quoted k) (value_text rest.j))
-          (key_then (comma_if later) (quoted k) (value_text (decoded rest.j))
+      j = j;
+      moves = moves_as a d (name_text ++ value_text j) (name_text ++ value_text (f j))
+          (comma_if later ++ (quoted k ++ 58 ∷ value_text j)) (comma_if later ++ (quoted k ++ 58 ∷ value_text (m k j)))
+          (moves_on a b d name_text name_text (value_text j) (value_text (f j)) passed moves)
+          (key_then (comma_if later) (quoted k) (value_text j))
+          (key_then (comma_if later) (quoted k) (value_text (f j))
           ∙ ap (λ i. comma_if later ++ (quoted k ++ 58 ∷ value_text i)) (sym form));
       untagged = untagged;
-      numbers = rest.numbers;
-      shallow = rest.shallow;
+      numbers = numbers;
+      shallow = shallow;
     }
 
-pub member_framed : (later top : Bool) (limit : ℕ) (a b d : State) (key : List ℕ) → IsKeyPassed later key a b
-    → bytes_eq key (35 ∷ []) ≡ false → (top && bytes_eq key (codes "transform")) ≡ true → IsFrameCopied limit b d
-    → IsMemberCopied later top limit a d
-member_framed later top limit a b d key (k, is, passed) other framed_here rest =
+-- a member that is neither under the tag nor in a frame has no form
+pub decoded_plain : (top : Bool) (k : List ℕ) (j : Json) → (top && is_transform k j) ≡ false → is_tag k ≡ false
+    → member_decoded top k j ≡ decoded j
+decoded_plain top k j no_frame untagged =
+    ap₂ (λ t u. cond t (fronted (decoded j)) (cond u (only (decoded j)) (decoded j))) no_frame untagged
+
+pub encoded_plain : (top : Bool) (k : List ℕ) (j : Json) → (top && is_transform k j) ≡ false → is_tag k ≡ false
+    → member_encoded top k j ≡ encoded j
+encoded_plain top k j no_frame untagged =
+    ap₂ (λ t u. in_form (cond t Framed (cond (u && is_text_or_array j) Shielded Plain)) (encoded j)) no_frame untagged
+
+-- a transform at the top is framed
+pub decoded_framed : (top : Bool) (k : List ℕ) (j : Json) → top ≡ true → is_transform k j ≡ true
+    → member_decoded top k j ≡ frame_decoded j
+decoded_framed top k j at_top is =
+    ap₂ (λ t u. cond (t && u) (fronted (decoded j)) (cond (is_tag k) (only (decoded j)) (decoded j))) at_top is
+
+pub encoded_framed : (top : Bool) (k : List ℕ) (j : Json) → top ≡ true → is_transform k j ≡ true
+    → member_encoded top k j ≡ frame_encoded j
+encoded_framed top k j at_top is =
+    ap₂ (λ t u. in_form (cond (t && u) Framed (cond (is_tag k && is_text_or_array j) Shielded Plain)) (encoded j)) at_top is
+
+pub member_plain : (f : Json → Json) (m : Bool → List ℕ → Json → Json)
+    → ((top : Bool) (k : List ℕ) (j : Json) → (top && is_transform k j) ≡ false → is_tag k ≡ false → m top k j ≡ f j)
+    → (later top : Bool) (limit : ℕ) (a b d : State) (key : List ℕ) → IsKeyPassed later key a b
+    → bytes_eq key (35 ∷ []) ≡ false → (top && bytes_eq key (codes "transform")) ≡ false → IsCopied f limit b d
+    → IsMemberCopied (m top) later limit a d
+member_plain f m form later top limit a b d key (k, is, passed) other no_frame rest =
+    let untagged = untagged_key k key is other in
+    member_of f (m top) later limit a b d k rest.j passed rest.moves
+    (form top k rest.j (not_framed top k key rest.j is no_frame) untagged) untagged rest.numbers rest.shallow
+
+pub member_framed : (f : Json → Json) (m : Bool → List ℕ → Json → Json)
+    → ((top : Bool) (k : List ℕ) (j : Json) → top ≡ true → is_transform k j ≡ true → m top k j ≡ f j)
+    → (later top : Bool) (limit : ℕ) (a b d : State) (key : List ℕ) → IsKeyPassed later key a b
+    → bytes_eq key (35 ∷ []) ≡ false → (top && bytes_eq key (codes "transform")) ≡ true → IsFrameCopied f limit b d
+    → IsMemberCopied (m top) later limit a d
+member_framed f m form later top limit a b d key (k, is, passed) other framed_here rest =
     let here = both top (bytes_eq key (codes "transform")) framed_here in
     let transform = (bytes_eq-Decides key (codes "transform")).0 here.1 in
     let name : is_transform k rest.j ≡ true
     = ap₂ (λ t u. t && u) (is_transform_name k (sym is ∙ transform)) rest.frame in
-    let form : out_of_form top k rest.j (decoded rest.j) ≡ fronted (decoded rest.j)
-    = ap₂ (λ t u. cond (t && u) (fronted (decoded rest.j)) (cond (is_tag k) (only (decoded rest.j))
-    (decoded rest.j))) here.0 name in
-    let name_text = comma_if later ++ (quoted k ++ 58 ∷ []) in
-    record {
-      k = k;
-      j = rest.j;
-      moves = moves_as a d (name_text ++ value_text rest.j) (name_text ++ value_text (fronted (decoded rest.j)))
-          (comma_if later ++ (quoted k ++ 58 ∷ value_text rest.j))
-          (comma_if later ++ (quoted k ++ 58 ∷ value_text (out_of_form top k rest.j (decoded rest.j))))
-          (moves_on a b d name_text name_text (value_text rest.j) (value_text (fronted (decoded rest.j))) passed rest.moves)
-          (key_then (comma_if later) (quoted k) (value_text rest.j))
-          (key_then (comma_if later) (quoted k) (value_text (fronted (decoded rest.j)))
-          ∙ ap (λ i. comma_if later ++ (quoted k ++ 58 ∷ value_text i)) (sym form));
-      untagged = untagged_key k key is other;
-      numbers = rest.numbers;
-      shallow = rest.shallow;
-    }
+    member_of f (m top) later limit a b d k rest.j passed rest.moves (form top k rest.j here.0 name)
+    (untagged_key k key is other) rest.numbers rest.shallow
 
 -- ---- a value has a byte at least
 
@@ -324,7 +369,8 @@ framed_decoded ms none = ap (λ o. value_text (only (number_or o (decoded_member
 
 pub frame_copied : (limit : ℕ) (a b d e f : State) → 2 ≤ limit
     → Moves a b (123 ∷ 34 ∷ 35 ∷ 34 ∷ 58 ∷ []) [] → Moves b d (123 ∷ []) (123 ∷ [])
-    → AreMembersCopied false false (limit - 2) d e → Moves e f frame_end [] → IsFrameCopied limit a f
+    → AreMembersCopied (decoded_members false) false (limit - 2) d e → Moves e f frame_end []
+    → IsFrameCopied frame_decoded limit a f
 frame_copied limit a b d e f deep first brace rest last =
     let ms = rest.ms in
     let none = untagged_none ms rest.untagged in
@@ -353,15 +399,125 @@ pub some_weaker : {T : Type 0} (o : Option T) {P Q : T → Type 0} → ((t : T) 
 some_weaker None f h = h
 some_weaker (Some t) f h = f t h
 
-pub item_shorter : (later : Bool) (limit : ℕ) (a b : State) → IsItemCopied later limit a b → length b.2 < length a.2
-item_shorter later limit a b h =
+pub item_shorter : (f : Json → Json) (later : Bool) (limit : ℕ) (a b : State) → IsItemCopied f later limit a b
+    → length b.2 < length a.2
+item_shorter f later limit a b h =
     let some = value_some h.j h.numbers in
     let sum = ap length h.moves.0 ∙ length-append (comma_if later ++ value_text h.j) b.2 in
     omega (arith, some, sum, length-append (comma_if later) (value_text h.j))
 
-pub member_shorter : (later top : Bool) (limit : ℕ) (a b : State) → IsMemberCopied later top limit a b
-    → length b.2 < length a.2
-member_shorter later top limit a b h =
+pub member_shorter : (m : List ℕ → Json → Json) (later : Bool) (limit : ℕ) (a b : State)
+    → IsMemberCopied m later limit a b → length b.2 < length a.2
+member_shorter m later limit a b h =
     let text = quoted h.k ++ 58 ∷ value_text h.j in
     let sum = ap length h.moves.0 ∙ length-append (comma_if later ++ text) b.2 in
     omega (arith, sum, length-append (comma_if later) text, length-append (quoted h.k) (58 ∷ value_text h.j))
+
+-- ---- what encodes
+
+pub number_encoded : (limit : ℕ) (a b : State) → IsNumberCopied a b → IsCopied encoded limit a b
+number_encoded limit a b n =
+    record { j = number n.s; moves = n.moves; numbers = n.numbers; shallow = omega arith }
+
+pub whole_encoded : (a b : State) (s : List ℕ) → IsNumber s → is_whole s ≡ true → Moves a b s s → IsNumberCopied a b
+whole_encoded a b s h whole moves =
+    record {
+      s = s;
+      moves = moves_as a b s s s (value_text (encoded (number s))) moves refl
+          (ap (λ t. value_text (cond t (number s) (tagged s))) (sym whole));
+      numbers = h;
+    }
+
+pub tagged_encoded : (a b d e : State) (s : List ℕ) → IsNumber s → escape s ≡ s → is_whole s ≡ false
+    → Moves a b [] (123 ∷ 34 ∷ 35 ∷ 34 ∷ 58 ∷ 34 ∷ []) → Moves b d s s → Moves d e [] (34 ∷ 125 ∷ [])
+    → IsNumberCopied a e
+unfolding escape_byte
+tagged_encoded a b d e s h same whole first moves last =
+    let begin : List ℕ = 123 ∷ 34 ∷ 35 ∷ 34 ∷ 58 ∷ 34 ∷ [] in
+    record {
+      s = s;
+      moves = moves_as a e ([] ++ (s ++ [])) (begin ++ (s ++ 34 ∷ 125 ∷ [])) s (value_text (encoded (number s)))
+          (moves_on a b e [] begin (s ++ []) (s ++ 34 ∷ 125 ∷ []) first
+          (moves_on b d e s s [] (34 ∷ 125 ∷ []) moves last)) (append-nil s)
+          (ap (λ t. begin ++ t) (ap (λ t. t ++ 34 ∷ 125 ∷ []) (sym same)
+          ∙ sym (append_assoc (escape s) (34 ∷ []) (125 ∷ [])))
+          ∙ ap (λ t. value_text (cond t (number s) (tagged s))) (sym whole));
+      numbers = h;
+    }
+
+-- ---- a transform that is put into a frame
+
+pub triple_encoded : (a b d e f g h i : State) → Moves a b (91 ∷ []) (91 ∷ []) → IsNumberCopied b d
+    → Moves d e (44 ∷ []) (44 ∷ []) → IsNumberCopied e f → Moves f g (44 ∷ []) (44 ∷ []) → IsNumberCopied g h
+    → Moves h i (93 ∷ []) (93 ∷ []) → IsTripleCopied a i
+triple_encoded a b d e f g h i p0 n0 p1 n1 p2 n2 p3 =
+    let v0 = value_text (encoded (number n0.s)) in
+    let v1 = value_text (encoded (number n1.s)) in
+    let v2 = value_text (encoded (number n2.s)) in
+    record {
+      a = n0.s;
+      b = n1.s;
+      c = n2.s;
+      moves = moves_on a b i (91 ∷ []) (91 ∷ []) (n0.s ++ 44 ∷ (n1.s ++ 44 ∷ (n2.s ++ 93 ∷ []))) (v0 ++ 44 ∷ (v1 ++ 44
+          ∷ (v2 ++ 93 ∷ []))) p0
+          (moves_on b d i n0.s v0 (44 ∷ (n1.s ++ 44 ∷ (n2.s ++ 93 ∷ []))) (44 ∷ (v1 ++ 44 ∷ (v2 ++ 93 ∷ []))) n0.moves
+          (moves_on d e i (44 ∷ []) (44 ∷ []) (n1.s ++ 44 ∷ (n2.s ++ 93 ∷ [])) (v1 ++ 44 ∷ (v2 ++ 93 ∷ [])) p1
+          (moves_on e f i n1.s v1 (44 ∷ (n2.s ++ 93 ∷ [])) (44 ∷ (v2 ++ 93 ∷ [])) n1.moves
+          (moves_on f g i (44 ∷ []) (44 ∷ []) (n2.s ++ 93 ∷ []) (v2 ++ 93 ∷ []) p2
+          (moves_on g h i n2.s v2 (93 ∷ []) (93 ∷ []) n2.moves p3)))));
+      numbers = (n0.numbers, (n1.numbers, (n2.numbers, tt)));
+    }
+
+abbrev pub scale_begin : List ℕ
+scale_begin = codes "{\"scale\":"
+
+abbrev pub translate_begin : List ℕ
+translate_begin = codes ",\"translate\":"
+
+abbrev transform : Json → Json → Json
+transform x y = object (member (codes "scale") x (member (codes "translate") y no_members))
+
+transform_text : (x y : Json) → value_text (transform x y)
+    ≡ scale_begin ++ (value_text x ++ (translate_begin ++ (value_text y ++ 125 ∷ [])))
+unfolding escape_byte
+transform_text x y = refl
+
+enframed_text : (x y : Json) → value_text (framed (transform x y))
+    ≡ (123 ∷ 34 ∷ 35 ∷ 34 ∷ 58 ∷ []) ++ (scale_begin ++ (value_text x ++ (translate_begin ++ (value_text y
+    ++ (125 ∷ frame_end)))))
+unfolding escape_byte
+enframed_text x y =
+    ap (λ w. (123 ∷ 34 ∷ 35 ∷ 34 ∷ 58 ∷ []) ++ (scale_begin ++ w))
+    (append_assoc (value_text x) (translate_begin ++ (value_text y ++ 125 ∷ [])) frame_end
+    ∙ ap (λ w. value_text x ++ (translate_begin ++ w)) (append_assoc (value_text y) (125 ∷ []) frame_end))
+
+pub frame_put : (limit : ℕ) (a b d e f g h i : State) → 2 ≤ limit → Moves a b [] (123 ∷ 34 ∷ 35 ∷ 34 ∷ 58 ∷ [])
+    → Moves b d scale_begin scale_begin → IsTripleCopied d e → Moves e f translate_begin translate_begin
+    → IsTripleCopied f g → Moves g h (125 ∷ []) (125 ∷ []) → Moves h i [] frame_end
+    → IsFrameCopied frame_encoded limit a i
+frame_put limit a b d e f g h i deep p0 p1 t0 p2 t1 p3 p4 =
+    let x = triple t0.a t0.b t0.c in
+    let y = triple t1.a t1.b t1.c in
+    let u = value_text (encoded x) in
+    let v = value_text (encoded y) in
+    let begin : List ℕ = 123 ∷ 34 ∷ 35 ∷ 34 ∷ 58 ∷ [] in
+    let read2 = value_text y ++ (125 ∷ []) in
+    let made2 = v ++ (125 ∷ frame_end) in
+    record {
+      j = transform x y;
+      moves = moves_as a i ([] ++ (scale_begin ++ (value_text x ++ (translate_begin ++ read2))))
+          (begin ++ (scale_begin ++ (u ++ (translate_begin ++ made2)))) (value_text (transform x y))
+          (value_text (frame_encoded (transform x y)))
+          (moves_on a b i [] begin (scale_begin ++ (value_text x ++ (translate_begin ++ read2)))
+          (scale_begin ++ (u ++ (translate_begin ++ made2))) p0
+          (moves_on b d i scale_begin scale_begin (value_text x ++ (translate_begin ++ read2))
+          (u ++ (translate_begin ++ made2)) p1
+          (moves_on d e i (value_text x) u (translate_begin ++ read2) (translate_begin ++ made2) t0.moves
+          (moves_on e f i translate_begin translate_begin read2 made2 p2
+          (moves_on f g i (value_text y) v (125 ∷ []) (125 ∷ frame_end) t1.moves
+          (moves_on g h i (125 ∷ []) (125 ∷ []) [] frame_end p3 p4))))))
+          (sym (transform_text x y)) (sym (enframed_text (encoded x) (encoded y)));
+      frame = refl;
+      numbers = (t0.numbers, (t1.numbers, tt));
+      shallow = omega (arith, deep);
+    }

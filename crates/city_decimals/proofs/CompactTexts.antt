@@ -1,13 +1,14 @@
 -- A compact text is the print of its value, and what is copied of it that of the decoded value.
-use Rattle.std.proofs.Common.{◌≡◌, List, ℕ, [], ◌∷◌, ◌++◌, Bool, true, false, refl, sym, ap, ◌∙◌, arith, append_assoc}
+use Rattle.std.proofs.Common.{◌≤◌, Some, ◌≡◌, List, ℕ, [], ◌∷◌, ◌++◌, Bool, true, false, refl, sym, ap, ◌∙◌, arith, append_assoc}
 use Rattle.std.proofs.Common.{append-nil}
 use Rattle.std.specs.Str.{IsUtf8}
 use Rattle.json.specs.Token.{Token}
 use Rattle.json.specs.Json.{Json, null, boolean, number, string, array, object, Items, no_items, item, Members}
-use Rattle.json.specs.Json.{no_members, member, document}
+use Rattle.json.specs.Json.{no_members, member, document, max_depth}
 use Rattle.json.specs.Print.{print, print_from, quoted}
-use Rattle.json.specs.Tree.{json_tokens, items_tokens, members_tokens}
+use Rattle.json.specs.Tree.{json_tokens, items_tokens, members_tokens, depth, members_depth, HasNumbers}
 use Rattle.json.proofs.Printed.Trees.{document-print}
+use Rattle.city_decimals.specs.Encoded.{encoded_members, encoded_top}
 use Rattle.city_decimals.specs.Decoded.{decoded_members, number_or}
 use Rattle.city_decimals.specs.Texts.{IsDecoded}
 use Rattle.city_decimals.specs.Compact.{value_text, items_text, members_text, comma_if, IsTopCopied}
@@ -72,13 +73,38 @@ text_printed j = ap print (sym (append-nil (json_tokens j))) ∙ print_value fal
 
 -- ---- a whole text
 
-pub top_decoded : (text out : List ℕ) → IsTopCopied text out → IsUtf8 text → IsDecoded text out
+top_shallow : (ms : Members) → members_depth ms ≤ 127 → depth (object ms) ≤ max_depth
+top_shallow ms h = omega (arith, h)
+
+-- the value that a compact text is
+top_is : (h : Members → Members) (text out : List ℕ) (t : IsTopCopied h text out) → document text ≡ Some (object t.ms)
+top_is h text out t =
+    ap document (t.text_is ∙ sym (text_printed (object t.ms)))
+    ∙ document-print (object t.ms) t.numbers (top_shallow t.ms t.shallow)
+
+pub top_decoded : (text out : List ℕ) → IsTopCopied (decoded_members true) text out → IsUtf8 text → IsDecoded text out
 top_decoded text out t utf8 =
-    let j = object t.ms in
     let none = untagged_none t.ms t.untagged in
     let made = decoded_members true t.ms in (
-      j,
-      (utf8, ap document (t.text_is ∙ sym (text_printed j)) ∙ document-print j t.numbers (omega (arith, t.shallow))),
-      t.out_is ∙ sym (text_printed (object made))
-          ∙ ap (λ o. print (json_tokens (number_or o made))) (sym none),
+      object t.ms,
+      (utf8, top_is (decoded_members true) text out t),
+      t.out_is ∙ sym (text_printed (object made)) ∙ ap (λ o. print (json_tokens (number_or o made))) (sym none),
     )
+
+-- the value of a text that is encoded, and what it is encoded as
+pub record IsTopEncoded (text out : List ℕ) : Type 0 where
+  pub j : Json
+  pub is : document text ≡ Some j
+  pub numbers : HasNumbers j
+  pub shallow : depth j ≤ max_depth
+  pub out_is : out ≡ print (json_tokens (encoded_top j))
+
+pub top_encoded : (text out : List ℕ) → IsTopCopied (encoded_members true) text out → IsTopEncoded text out
+top_encoded text out t =
+    record {
+      j = object t.ms;
+      is = top_is (encoded_members true) text out t;
+      numbers = t.numbers;
+      shallow = top_shallow t.ms t.shallow;
+      out_is = t.out_is ∙ sym (text_printed (object (encoded_members true t.ms)));
+    }

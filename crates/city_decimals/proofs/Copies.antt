@@ -79,3 +79,11 @@ plain_text [] h = refl
 plain_text (x ∷ s) h =
     let first = h 0 (omega arith) in
     ap₂ (λ a b. a ++ b) (escape_byte_plain x first.0 first.1 first.2) (plain_text s (λ i l. h (suc i) (omega arith)))
+
+-- the buffer, once the piece and more are written
+pub more_written : (out piece more mid new now : List ℕ) (base a : ℕ) (rest : List ℕ) → a ≡ 0 → base ≤ length out
+    → mid ≡ out ++ piece → new ≡ mid ++ more → drop base out ++ piece ≡ now → drop base new ++ take a rest ≡ now ++ more
+more_written out piece more mid new now base a rest none h first is before =
+    ap₂ (λ n k. drop base n ++ take k rest) (is ∙ ap (λ m. m ++ more) first ∙ append_assoc out piece more) none
+    ∙ append-nil (drop base (out ++ (piece ++ more))) ∙ drop-append-le base out (piece ++ more) h
+    ∙ sym (append_assoc (drop base out) piece more) ∙ ap (λ w. w ++ more) before

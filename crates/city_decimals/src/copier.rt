@@ -100,7 +100,7 @@ impl<'a> Copier<'a> {
 
     /// Copies so many bytes.
     #[inline(always)]
-    fn advance(&mut self, count: usize)
+    pub(crate) fn advance(&mut self, count: usize)
         requires { count ≤ length self.old.2 }
         ensures before { self.new.0 ≡ self.old.0 }
         ensures moves { Moves self.old self.new (take count self.old.2) (take count self.old.2) }
@@ -202,6 +202,36 @@ impl<'a> Copier<'a> {
         }
         let key = self.pass_inside()?;
         if self.take(b':') { Some(key) } else { None }
+    }
+
+    /// Writes these bytes, and reads nothing.
+    pub(crate) fn insert(&mut self, bytes: &[u8]) -> Option<()>
+        ensures before { self.new.0 ≡ self.old.0 }
+        ensures moves { IfSome result (λ _. Moves self.old self.new [] bytes.now) }
+    {
+        if self
+            .out
+            .extend_from_slice(&self.text[self.start..self.at])
+            .is_err()
+        {
+            return None;
+        }
+        self.start = self.at;
+        if self.out.extend_from_slice(bytes).is_err() {
+            return None;
+        }
+        Some(())
+    }
+
+    /// The bytes up to one that can't stand in a number.
+    #[inline(always)]
+    pub(crate) fn next_number(&self) -> &'a [u8]
+        ensures within { length result.now ≤ length self.now.2 }
+        ensures front { take (length result.now) self.now.2 ≡ result.now }
+        ensures plain { escape result.now ≡ result.now }
+    {
+        let rest = self.rest();
+        &rest[..number_end(rest)]
     }
 
     /// Copies a number.

@@ -12,6 +12,7 @@ mod decoding;
 mod encoding;
 mod fault;
 mod laws;
+mod leaves;
 mod lines;
 mod numbers;
 mod shapes;

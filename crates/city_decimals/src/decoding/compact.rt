@@ -2,10 +2,12 @@
 ghost use Rattle.std.specs.Prelude.{◌≡◌, ◌++◌, ◌∷◌, [], ℕ, List, true, false, ◌&&◌, codes, IfSome, IfOk, IfErr};
 ghost use Rattle.std.specs.Str.{IsUtf8, bytes_eq};
 ghost use Rattle.city_decimals.specs.Compact.{IsCopied, IsItemCopied, AreItemsCopied, IsMemberCopied, AreMembersCopied};
-ghost use Rattle.city_decimals.specs.Compact.{IsFrameCopied, IsTopCopied, State};
+ghost use Rattle.city_decimals.specs.Compact.{IsFrameCopied, IsTopCopied, State, member_decoded, frame_decoded};
+ghost use Rattle.city_decimals.specs.Decoded.{decoded, decoded_items, decoded_members};
 ghost use Rattle.city_decimals.specs.Copies.{Moves};
 
 use crate::copier::Copier;
+use crate::leaves::{copy_name, copy_string, is_framed, is_tag};
 use crate::text::text_of;
 use json::MAX_DEPTH;
 
@@ -23,7 +25,7 @@ const FRAME_END: &[u8] = b",\"scale\":[1,1,1],\"translate\":[0,0,0]}";
 /// here; else as it was.
 pub(super) fn decode_compact(bytes: &[u8], out: Vec<u8>) -> Result<Vec<u8>, Vec<u8>>
     ensures ok { IfOk result (λ v. (text : List ℕ)
-        × IsTopCopied bytes.now text × IsUtf8 text × (v.items ≡ out.items ++ text)) }
+        × IsTopCopied (decoded_members true) bytes.now text × IsUtf8 text × (v.items ≡ out.items ++ text)) }
     ensures err { IfErr result (λ v. v.items ≡ out.items) }
 {
     let before = out.len();
@@ -45,7 +47,7 @@ pub(super) fn decode_compact(bytes: &[u8], out: Vec<u8>) -> Result<Vec<u8>, Vec<
 fn copy_top(copier: &mut Copier<'_>) -> Option<()>
     ensures before { copier.new.0 ≡ copier.old.0 }
     ensures copied { IfSome result (λ _. (m : State) × Moves copier.old m (123 ∷ []) (123 ∷ [])
-        × AreMembersCopied false true 127 m copier.new) }
+        × AreMembersCopied (decoded_members true) false 127 m copier.new) }
 {
     if !copier.take(b'{') {
         return None;
@@ -58,7 +60,7 @@ fn copy_top(copier: &mut Copier<'_>) -> Option<()>
 #[inline(always)]
 fn copy_value(copier: &mut Copier<'_>, depth: usize) -> Option<()>
     ensures before { copier.new.0 ≡ copier.old.0 }
-    ensures copied { IfSome result (λ _. IsCopied depth copier.old copier.new) }
+    ensures copied { IfSome result (λ _. IsCopied decoded depth copier.old copier.new) }
 {
     match copier.peek() {
         b'"' => copy_string(copier, depth),
@@ -69,45 +71,20 @@ fn copy_value(copier: &mut Copier<'_>, depth: usize) -> Option<()>
     }
 }
 
-/// Copies a string.
-#[inline(always)]
-fn copy_string(copier: &mut Copier<'_>, depth: usize) -> Option<()>
-    ensures before { copier.new.0 ≡ copier.old.0 }
-    ensures copied { IfSome result (λ _. IsCopied depth copier.old copier.new) }
-{
-    if !copier.take(b'"') {
-        return None;
-    }
-    let _inside = copier.pass_inside()?;
-    Some(())
-}
-
 /// Copies a number.
 #[inline(always)]
 fn copy_number(copier: &mut Copier<'_>, depth: usize) -> Option<()>
     ensures before { copier.new.0 ≡ copier.old.0 }
-    ensures copied { IfSome result (λ _. IsCopied depth copier.old copier.new) }
+    ensures copied { IfSome result (λ _. IsCopied decoded depth copier.old copier.new) }
 {
     copier.pass_number()
-}
-
-/// Copies `true`, `false` or `null`.
-fn copy_name(copier: &mut Copier<'_>, depth: usize) -> Option<()>
-    ensures before { copier.new.0 ≡ copier.old.0 }
-    ensures copied { IfSome result (λ _. IsCopied depth copier.old copier.new) }
-{
-    match copier.peek() {
-        b't' => copier.pass(b"true"),
-        b'f' => copier.pass(b"false"),
-        _ => copier.pass(b"null"),
-    }
 }
 
 /// Copies the number that an object encodes.
 #[inline(never)]
 fn copy_encoded_number(copier: &mut Copier<'_>, depth: usize) -> Option<()>
     ensures before { copier.new.0 ≡ copier.old.0 }
-    ensures copied { IfSome result (λ _. IsCopied depth copier.old copier.new) }
+    ensures copied { IfSome result (λ _. IsCopied decoded depth copier.old copier.new) }
 {
     if depth == 0 {
         return None;
@@ -122,7 +99,7 @@ fn copy_encoded_number(copier: &mut Copier<'_>, depth: usize) -> Option<()>
 #[inline(always)]
 fn copy_array(copier: &mut Copier<'_>, depth: usize) -> Option<()>
     ensures before { copier.new.0 ≡ copier.old.0 }
-    ensures copied { IfSome result (λ _. IsCopied depth copier.old copier.new) }
+    ensures copied { IfSome result (λ _. IsCopied decoded depth copier.old copier.new) }
 {
     if depth == 0 || !copier.take(b'[') {
         return None;
@@ -135,7 +112,7 @@ fn copy_array(copier: &mut Copier<'_>, depth: usize) -> Option<()>
 #[inline(never)]
 fn copy_items(copier: &mut Copier<'_>, depth: usize) -> Option<()>
     ensures before { copier.new.0 ≡ copier.old.0 }
-    ensures copied { IfSome result (λ _. AreItemsCopied false depth copier.old copier.new) }
+    ensures copied { IfSome result (λ _. AreItemsCopied decoded_items false depth copier.old copier.new) }
 {
     let mut later = false;
     'items: while !copier.take(b']') {
@@ -150,7 +127,7 @@ fn copy_items(copier: &mut Copier<'_>, depth: usize) -> Option<()>
 #[inline(always)]
 fn copy_item(copier: &mut Copier<'_>, later: bool, depth: usize) -> Option<()>
     ensures before { copier.new.0 ≡ copier.old.0 }
-    ensures copied { IfSome result (λ _. IsItemCopied later depth copier.old copier.new) }
+    ensures copied { IfSome result (λ _. IsItemCopied decoded later depth copier.old copier.new) }
 {
     copier.pass_comma(later)?;
     copy_value(copier, depth)
@@ -161,7 +138,7 @@ fn copy_item(copier: &mut Copier<'_>, later: bool, depth: usize) -> Option<()>
 #[inline(always)]
 fn copy_object(copier: &mut Copier<'_>, depth: usize) -> Option<()>
     ensures before { copier.new.0 ≡ copier.old.0 }
-    ensures copied { IfSome result (λ _. IsCopied depth copier.old copier.new) }
+    ensures copied { IfSome result (λ _. IsCopied decoded depth copier.old copier.new) }
 {
     if copier.rest().starts_with(NUMBER_BEGIN) {
         return copy_encoded_number(copier, depth);
@@ -177,7 +154,7 @@ fn copy_object(copier: &mut Copier<'_>, depth: usize) -> Option<()>
 #[inline(never)]
 fn copy_members(copier: &mut Copier<'_>, depth: usize, top: bool) -> Option<()>
     ensures before { copier.new.0 ≡ copier.old.0 }
-    ensures copied { IfSome result (λ _. AreMembersCopied false top depth copier.old copier.new) }
+    ensures copied { IfSome result (λ _. AreMembersCopied (decoded_members top) false depth copier.old copier.new) }
 {
     let mut later = false;
     'members: while !copier.take(b'}') {
@@ -192,7 +169,7 @@ fn copy_members(copier: &mut Copier<'_>, depth: usize, top: bool) -> Option<()>
 #[inline(always)]
 fn copy_member(copier: &mut Copier<'_>, later: bool, depth: usize, top: bool) -> Option<()>
     ensures before { copier.new.0 ≡ copier.old.0 }
-    ensures copied { IfSome result (λ _. IsMemberCopied later top depth copier.old copier.new) }
+    ensures copied { IfSome result (λ _. IsMemberCopied (member_decoded top) later depth copier.old copier.new) }
 {
     let key = copier.pass_key(later)?;
     if is_tag(key) {
@@ -209,7 +186,7 @@ fn copy_member(copier: &mut Copier<'_>, later: bool, depth: usize, top: bool) ->
 #[inline(never)]
 fn copy_frame(copier: &mut Copier<'_>, depth: usize) -> Option<()>
     ensures before { copier.new.0 ≡ copier.old.0 }
-    ensures copied { IfSome result (λ _. IsFrameCopied depth copier.old copier.new) }
+    ensures copied { IfSome result (λ _. IsFrameCopied frame_decoded depth copier.old copier.new) }
 {
     if depth < 2 {
         return None;
@@ -220,20 +197,4 @@ fn copy_frame(copier: &mut Copier<'_>, depth: usize) -> Option<()>
     }
     copy_members(copier, depth - 2, false)?;
     copier.skip(FRAME_END)
-}
-
-/// Whether this is the tag, as it stands in a text.
-#[inline(always)]
-fn is_tag(key: &[u8]) -> bool
-    ensures { result ≡ bytes_eq key.now (35 ∷ []) }
-{
-    key == b"#".as_slice()
-}
-
-/// Whether a frame stands under this name, as it stands in a text.
-#[inline(always)]
-fn is_framed(top: bool, key: &[u8]) -> bool
-    ensures { result ≡ (top && bytes_eq key.now (codes "transform")) }
-{
-    top && key == b"transform".as_slice()
 }

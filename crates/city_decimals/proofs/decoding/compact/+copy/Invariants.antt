@@ -1,4 +1,5 @@
 use Rattle.std.proofs.Common.{◌≡◌, ◌+◌, ◌*◌, false, length}
+use Rattle.city_decimals.specs.Decoded.{decoded_items, decoded_members}
 use Rattle.city_decimals.specs.Compact.{State, AreItemsCopied, AreMembersCopied}
 use Rattle.city_decimals.proofs.decoding.compact.+copy.Given as goal
 
@@ -28,16 +29,16 @@ decreases-copy_members l = 8 * l.depth + 5
 
 abbrev pub invariant-copy_items-items : goal.invariant-copy_items-items
 invariant-copy_items-items l =
-    (l.copier.0 ≡ l.initial.copier.0) × ((end : State) → AreItemsCopied l.later l.depth l.copier end
-    → AreItemsCopied false l.depth l.initial.copier end)
+    (l.copier.0 ≡ l.initial.copier.0) × ((end : State) → AreItemsCopied decoded_items l.later l.depth l.copier end
+    → AreItemsCopied decoded_items false l.depth l.initial.copier end)
 
 abbrev pub decreases-copy_items-items : goal.decreases-copy_items-items
 decreases-copy_items-items l = length l.copier.2
 
 abbrev pub invariant-copy_members-members : goal.invariant-copy_members-members
 invariant-copy_members-members l =
-    (l.copier.0 ≡ l.initial.copier.0) × ((end : State) → AreMembersCopied l.later l.top l.depth l.copier end
-    → AreMembersCopied false l.top l.depth l.initial.copier end)
+    (l.copier.0 ≡ l.initial.copier.0) × ((end : State) → AreMembersCopied (decoded_members l.top) l.later l.depth l.copier end
+    → AreMembersCopied (decoded_members l.top) false l.depth l.initial.copier end)
 
 abbrev pub decreases-copy_members-members : goal.decreases-copy_members-members
 decreases-copy_members-members l = length l.copier.2
