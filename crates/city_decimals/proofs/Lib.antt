@@ -9,6 +9,7 @@ pub mod Texts
 pub mod OneLine
 pub mod Copies
 pub mod Compact
+pub mod CompactForms
 pub mod CompactTexts
 pub mod Streams
 pub mod Starts

@@ -1,4 +1,5 @@
-use Rattle.city_decimals.proofs.Compact.{frame_put, some_weaker}
+use Rattle.city_decimals.proofs.Compact.{some_weaker}
+use Rattle.city_decimals.proofs.CompactForms.{frame_put}
 use Rattle.city_decimals.proofs.encoding.compact.copy_frame.Goals as goal
 
 pub returns-clause-copied : goal.returns-clause-copied

@@ -1,7 +1,7 @@
 use Rattle.std.proofs.Common.{subst}
 use Rattle.city_decimals.specs.Copies.{Moves}
 use Rattle.city_decimals.proofs.PlainNumbers.{plain_is_number, plain_is_whole}
-use Rattle.city_decimals.proofs.Compact.{whole_encoded}
+use Rattle.city_decimals.proofs.CompactForms.{whole_encoded}
 use Rattle.city_decimals.proofs.encoding.compact.copy_number.Goals as goal
 
 pub returns-then-is_plain-clause-number : goal.returns-then-is_plain-clause-number

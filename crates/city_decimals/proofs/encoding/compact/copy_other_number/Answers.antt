@@ -1,7 +1,8 @@
 use Rattle.std.proofs.Common.{◌≡◌, refl, sym, ap, ◌∙◌, subst, rules}
 use Rattle.json.specs.Print.{IsNumber}
 use Rattle.city_decimals.specs.Numbers.{is_whole}
-use Rattle.city_decimals.proofs.Compact.{tagged_encoded, some_weaker}
+use Rattle.city_decimals.proofs.Compact.{some_weaker}
+use Rattle.city_decimals.proofs.CompactForms.{tagged_encoded}
 use Rattle.city_decimals.proofs.encoding.compact.copy_other_number.Goals as goal
 
 pub returns-in_ok-pass-clause-number : goal.returns-in_ok-pass-clause-number

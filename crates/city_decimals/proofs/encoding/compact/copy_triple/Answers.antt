@@ -1,4 +1,5 @@
-use Rattle.city_decimals.proofs.Compact.{triple_encoded, some_weaker}
+use Rattle.city_decimals.proofs.Compact.{some_weaker}
+use Rattle.city_decimals.proofs.CompactForms.{triple_encoded}
 use Rattle.city_decimals.proofs.encoding.compact.copy_triple.Goals as goal
 
 pub returns-clause-triple : goal.returns-clause-triple

@@ -1,4 +1,5 @@
-use Rattle.city_decimals.proofs.Compact.{number_encoded, some_weaker}
+use Rattle.city_decimals.proofs.Compact.{some_weaker}
+use Rattle.city_decimals.proofs.CompactForms.{number_encoded}
 use Rattle.city_decimals.proofs.encoding.compact.encode_number.Goals as goal
 
 pub returns-clause-copied : goal.returns-clause-copied
