@@ -1,5 +1,6 @@
 -- What is copied of a compact text, from its parts.
-use Rattle.std.proofs.Common.{◌≡◌, ℕ, ◌-◌, ◌<◌, ◌≤◌, List, [], ◌∷◌, ◌++◌, length, Bool, true, false, true≢false, cond, ◌&&◌}
+use Rattle.std.proofs.Common.{◌≡◌, ℕ, ◌-◌, ◌<◌, ◌≤◌, List, [], ◌∷◌, ◌++◌, length, Bool, true, false, true≢false}
+use Rattle.std.proofs.Common.{cond, ◌&&◌}
 use Rattle.std.proofs.Common.{Some, None, refl, sym, ap, ap₂, ◌∙◌, arith, append_assoc, append-nil, length-append}
 use Rattle.std.specs.Prelude.{codes, Option, IfSome}
 use Rattle.std.specs.Str.{bytes_eq}
@@ -18,7 +19,8 @@ use Rattle.city_decimals.specs.declared.shapes.Form.TheVariants.{Plain, Shielded
 use Rattle.city_decimals.specs.Decoded.{decoded, decoded_members, number_in, number_under, number_or}
 use Rattle.city_decimals.specs.Numbers.{is_end, is_number}
 use Rattle.city_decimals.specs.Copies.{Moves}
-use Rattle.city_decimals.specs.Compact.{value_text, items_text, members_text, comma_if, State, IsUntagged, IsCopied, IsItemCopied}
+use Rattle.city_decimals.specs.Compact.{value_text, items_text, members_text, comma_if, State, IsUntagged, IsCopied}
+use Rattle.city_decimals.specs.Compact.{IsItemCopied}
 use Rattle.city_decimals.specs.Compact.{AreItemsCopied, IsMemberCopied, AreMembersCopied, IsFrameCopied, IsKeyPassed}
 use Rattle.city_decimals.specs.Compact.{member_decoded, member_encoded, frame_decoded, frame_encoded}
 
@@ -100,7 +102,8 @@ object_decoded ms h = ap (λ o. number_or o (decoded_members false ms)) (untagge
 
 pub object_copied : (f : Json → Json) (h : Members → Members)
     → ((ms : Members) → IsUntagged ms → f (object ms) ≡ object (h ms)) → (limit : ℕ) (a b d : State)
-    → (limit ≡ 0 → ⊥) → Moves a b (123 ∷ []) (123 ∷ []) → AreMembersCopied h false (limit - 1) b d → IsCopied f limit a d
+    → (limit ≡ 0 → ⊥) → Moves a b (123 ∷ []) (123 ∷ []) → AreMembersCopied h false (limit - 1) b d → IsCopied f
+    limit a d
 object_copied f h same limit a b d some first rest =
     record {
       j = object rest.ms;
@@ -121,7 +124,8 @@ encoded_copied limit a b d e some first (s, h, same, moves) last =
     let begin : List ℕ = 123 ∷ 34 ∷ 35 ∷ 34 ∷ 58 ∷ 34 ∷ [] in
     record {
       j = object (member tag (string s) no_members);
-      moves = moves_as a e (begin ++ (s ++ 34 ∷ 125 ∷ [])) ([] ++ (s ++ [])) (begin ++ ((escape s ++ 34 ∷ []) ++ 125 ∷ []))
+      moves = moves_as a e (begin ++ (s ++ 34 ∷ 125 ∷ [])) ([] ++ (s ++ [])) (begin ++ ((escape s ++ 34 ∷ []) ++
+      125 ∷ []))
           (value_text (decoded (object (member tag (string s) no_members))))
           (moves_on a b e begin [] (s ++ 34 ∷ 125 ∷ []) (s ++ []) first
           (moves_on b d e s s (34 ∷ 125 ∷ []) [] moves last))
@@ -263,7 +267,8 @@ key_then : (c q v : List ℕ) → (c ++ (q ++ 58 ∷ [])) ++ v ≡ c ++ (q ++ 58
 key_then c q v = regroup c q [] v
 
 -- the value of a member, for which that under f is written
-member_of : (f : Json → Json) (m : List ℕ → Json → Json) (later : Bool) (limit : ℕ) (a b d : State) (k : List ℕ) (j : Json)
+member_of : (f : Json → Json) (m : List ℕ → Json → Json) (later : Bool) (limit : ℕ) (a b d : State) (k : List ℕ) (j
+    : Json)
     → Moves a b (comma_if later ++ (quoted k ++ 58 ∷ [])) (comma_if later ++ (quoted k ++ 58 ∷ []))
     → Moves b d (value_text j) (value_text (f j)) → m k j ≡ f j → is_tag k ≡ false → HasNumbers j → depth j ≤ limit
     → IsMemberCopied m later limit a d
@@ -303,7 +308,8 @@ decoded_framed top k j at_top is =
 pub encoded_framed : (top : Bool) (k : List ℕ) (j : Json) → top ≡ true → is_transform k j ≡ true
     → member_encoded top k j ≡ frame_encoded j
 encoded_framed top k j at_top is =
-    ap₂ (λ t u. in_form (cond (t && u) Framed (cond (is_tag k && is_text_or_array j) Shielded Plain)) (encoded j)) at_top is
+    ap₂ (λ t u. in_form (cond (t && u) Framed (cond (is_tag k && is_text_or_array j) Shielded Plain)) (encoded j))
+    at_top is
 
 pub member_plain : (f : Json → Json) (m : Bool → List ℕ → Json → Json)
     → ((top : Bool) (k : List ℕ) (j : Json) → (top && is_transform k j) ≡ false → is_tag k ≡ false → m top k j ≡ f j)

@@ -1,5 +1,6 @@
 -- A compact text is the print of its value, and what is copied of it that of the decoded value.
-use Rattle.std.proofs.Common.{◌≤◌, Some, ◌≡◌, List, ℕ, [], ◌∷◌, ◌++◌, Bool, true, false, refl, sym, ap, ◌∙◌, arith, append_assoc}
+use Rattle.std.proofs.Common.{◌≤◌, Some, ◌≡◌, List, ℕ, [], ◌∷◌, ◌++◌, Bool, true, false, refl, sym, ap, ◌∙◌, arith}
+use Rattle.std.proofs.Common.{append_assoc}
 use Rattle.std.proofs.Common.{append-nil}
 use Rattle.std.specs.Str.{IsUtf8}
 use Rattle.json.specs.Token.{Token}
@@ -21,7 +22,8 @@ regroup_item : (q a b c : List ℕ) → q ++ (a ++ (b ++ c)) ≡ (q ++ (a ++ b))
 regroup_item q a b c = simp append_assoc
 
 print_member : (k : List ℕ) (j : Json) (ms : Members) (ts : List Token)
-    → print_from false (json_tokens j ++ (members_tokens ms ++ ts)) ≡ value_text j ++ print_from true (members_tokens ms ++ ts)
+    → print_from false (json_tokens j ++ (members_tokens ms ++ ts)) ≡ value_text j ++ print_from true
+    (members_tokens ms ++ ts)
     → print_from true (members_tokens ms ++ ts) ≡ members_text true ms ++ print_from true ts
     → (quoted k ++ 58 ∷ []) ++ print_from false ((json_tokens j ++ members_tokens ms) ++ ts)
     ≡ (quoted k ++ 58 ∷ (value_text j ++ members_text true ms)) ++ print_from true ts

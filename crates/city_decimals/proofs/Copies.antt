@@ -1,5 +1,6 @@
 -- Pieces of a text, one after another.
-use Rattle.std.proofs.Common.{◌≡◌, ℕ, ◌+◌, ◌-◌, ◌≤◌, List, [], ◌∷◌, ◌++◌, length, take, drop, refl, sym, ap, ap₂, ◌∙◌, arith}
+use Rattle.std.proofs.Common.{◌≡◌, ℕ, ◌+◌, ◌-◌, ◌≤◌, List, [], ◌∷◌, ◌++◌, length, take, drop, refl, sym, ap, ap₂}
+use Rattle.std.proofs.Common.{◌∙◌, arith}
 use Rattle.std.proofs.Common.{append_assoc, append-nil, get_or, ◌<◌, suc}
 use Rattle.std.proofs.lemmas.List.{take-append-drop, drop-take, drop-drop, take-take, take_more, drop-append-le}
 use Rattle.std.proofs.lemmas.Grind.{flat_map-append}

@@ -1,5 +1,6 @@
 //! A compact text that is copied in pieces, but for what is left out.
-ghost use Rattle.std.specs.Prelude.{◌≡◌, ◌∷◌, ◌++◌, ◌+◌, ◌<◌, ◌≤◌, get_or, [], ℕ, List, true, false, length, take, drop, IfOk, IfErr, IfSome};
+ghost use Rattle.std.specs.Prelude.{◌≡◌, ◌∷◌, ◌++◌, ◌+◌, ◌<◌, ◌≤◌, get_or, [], ℕ, List, true, false, length, take};
+ghost use Rattle.std.specs.Prelude.{drop, IfOk, IfErr, IfSome};
 ghost use Rattle.std.specs.Bool.{OnTrue};
 ghost use Rattle.json.specs.Print.{IsNumber, escape};
 ghost use Rattle.city_decimals.specs.Copies.{Moves, IsEscaped, IsPlainByte};

@@ -6,7 +6,9 @@ pub returns-clause-moves : goal.returns-clause-moves
 returns-clause-moves c =
     let i = c.self.inside in
     let left : drop i.at i.text.now ≡ c.args.self.now.2 = ap (λ v. v.2) c.self.view_is in
-    let items : c.extend_from_slice.new.self.items ≡ i.out.items ++ take (i.at - i.start) (drop i.start i.text.now) = search rules in (
+    let items : c.extend_from_slice.new.self.items ≡ i.out.items ++ take (i.at - i.start) (drop i.start i.text.now)
+    = search rules in (
       rest_more i.text.now c.args.self.now.2 i.at c.args.count left,
-      all_written i.out.items _ _ c.args.self.now.1 i.base _ _ (omega arith) c.self.invariant.behind items (ap (λ v. v.1) c.self.view_is),
+      all_written i.out.items _ _ c.args.self.now.1 i.base _ _ (omega arith) c.self.invariant.behind items (ap (λ
+      v. v.1) c.self.view_is),
     )

@@ -34,7 +34,8 @@ decreases-copy_items-items l = length l.copier.2
 
 abbrev pub invariant-copy_members-members : goal.invariant-copy_members-members
 invariant-copy_members-members l =
-    (l.copier.0 ≡ l.initial.copier.0) × ((end : State) → AreMembersCopied (encoded_members l.top) l.later l.depth l.copier end
+    (l.copier.0 ≡ l.initial.copier.0) × ((end : State) → AreMembersCopied (encoded_members l.top) l.later l.depth
+    l.copier end
     → AreMembersCopied (encoded_members l.top) false l.depth l.initial.copier end)
 
 abbrev pub decreases-copy_members-members : goal.decreases-copy_members-members
