@@ -3,9 +3,14 @@ pub mod Insides
 pub mod Forms
 pub mod RoundTrip
 pub mod Wholes
+pub mod PlainNumbers
 pub mod Kept
 pub mod Texts
 pub mod OneLine
+pub mod Copies
+pub mod Compact
+pub mod CompactForms
+pub mod CompactTexts
 pub mod Streams
 pub mod Starts
 pub mod Objects

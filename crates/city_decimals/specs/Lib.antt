@@ -11,3 +11,5 @@ pub mod Arranged
 pub mod Kept
 pub mod Lines
 pub mod Streams
+pub mod Copies
+pub mod Compact

@@ -3,6 +3,7 @@ ghost use Rattle.std.specs.Prelude.{◌≡◌, ◌++◌, IfOk, IfErr, ℕ, List}
 ghost use Rattle.std.specs.Str.{IsUtf8};
 ghost use Rattle.city_decimals.specs.Texts.{IsDecoded, IsDecimalsFault};
 
+mod compact;
 mod inner;
 mod transform;
 mod tree;
@@ -10,6 +11,7 @@ mod value;
 
 use crate::fault::DecimalsFault;
 use crate::text::text_of;
+use compact::decode_compact;
 use json::{Reader, Scratch, Writer};
 use std::alloc::Global;
 use value::decode_top;
@@ -37,6 +39,10 @@ pub(crate) fn decode_onto(
     ensures fault { IfErr result (λ f. IsDecimalsFault bytes.now f) }
 {
     let text = text_of(bytes)?;
+    let out = match decode_compact(bytes, out) {
+        Ok(decoded) => return Ok(decoded),
+        Err(out) => out,
+    };
     let mut reader = Reader::new(text, scratch)?;
     let mut writer = Writer::new(out);
     decode_top(alloc, &mut reader, &mut writer)?;

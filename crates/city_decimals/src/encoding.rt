@@ -8,6 +8,7 @@ ghost use Rattle.serde_json.specs.Read.{read, max_depth};
 ghost use Rattle.city_decimals.specs.Texts.{IsEncoded, IsDecoded, IsDecimalsFault};
 ghost use Rattle.city_decimals.specs.Whole.{is_integral};
 
+mod compact;
 mod form;
 mod number;
 mod transform;
@@ -16,6 +17,7 @@ mod value;
 
 use crate::fault::DecimalsFault;
 use crate::text::text_of;
+use compact::encode_compact;
 use json::{Reader, Scratch, Writer};
 use std::alloc::Global;
 use value::encode_top;
@@ -40,9 +42,13 @@ pub fn encode(alloc: Global, bytes: &[u8]) -> Result<Vec<u8>, DecimalsFault>
     ensures fault { IfErr result (λ f. IsDecimalsFault bytes.now f) }
 {
     let text = text_of(bytes)?;
+    let out = match encode_compact(bytes, Vec::with_capacity(alloc, bytes.len())?) {
+        Ok(encoded) => return Ok(encoded),
+        Err(out) => out,
+    };
     let mut scratch = Scratch::new(alloc);
     let mut reader = Reader::new(text, &mut scratch)?;
-    let mut out = Writer::new(Vec::with_capacity(alloc, bytes.len())?);
+    let mut out = Writer::new(out);
     encode_top(alloc, &mut reader, &mut out)?;
     if reader.next().is_some() {
         return Err(DecimalsFault::NotJson);

@@ -7,10 +7,12 @@
 //! - a `transform` at the top is framed: the identity stands there, with the transform under `#`
 #![tactic(auto)]
 
+mod copier;
 mod decoding;
 mod encoding;
 mod fault;
 mod laws;
+mod leaves;
 mod lines;
 mod numbers;
 mod shapes;

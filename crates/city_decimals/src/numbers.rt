@@ -1,10 +1,11 @@
 //! Whether a number is whole.
 ghost use Rattle.std.specs.Prelude.{◌≡◌, ◌==◌, ◌<◌, true, false, IsTrue, length, slice_index, decimal};
+ghost use Rattle.std.specs.Bool.{OnTrue};
 ghost use Rattle.std.specs.Fmt.{signed_decimal};
 ghost use Rattle.std.specs.Str.{bytes_eq};
 ghost use Rattle.json.specs.Print.{IsNumber};
 ghost use Rattle.serde_json.specs.Read.{number_from};
-ghost use Rattle.city_decimals.specs.Numbers.{is_written_so, is_whole, is_number};
+ghost use Rattle.city_decimals.specs.Numbers.{IsPlain, is_written_so, is_whole, is_number};
 
 use fast_float::Numeral;
 
@@ -14,11 +15,31 @@ pub(crate) fn is_whole(text: &str) -> bool
     ensures { result ≡ is_whole text.now }
 {
     let bytes = text.as_bytes();
+    if is_plain(bytes) {
+        return true;
+    }
     if has_minus(bytes) {
         is_negative_i64(&Numeral::scan(&bytes[1..]), text)
     } else {
         is_positive_i64(&Numeral::scan(bytes), text)
     }
+}
+
+/// Whether these are digits, at most 18, without a leading zero: those of an `i64`, as it is written.
+#[inline(always)]
+pub(crate) fn is_plain(bytes: &[u8]) -> bool
+    ensures { OnTrue result (IsPlain bytes.now) }
+{
+    let len = bytes.len();
+    if len == 0 || len > 18 || (bytes[0] == b'0' && len > 1) {
+        return false;
+    }
+    for &byte in bytes {
+        if byte < b'0' || byte > b'9' {
+            return false;
+        }
+    }
+    true
 }
 
 #[inline(always)]

@@ -1,7 +1,8 @@
-use Rattle.std.proofs.Common.{◌≡◌, drop, get_or, true, false, ◌==◌, sym, ap, ◌∙◌, arith, take_all, length-drop}
+use Rattle.std.proofs.Common.{◌≡◌, drop, get_or, true, false, ◌==◌, sym, ap, ◌∙◌, arith, take_all, length-drop, subst}
 use Rattle.fast_float.specs.Text.{scan}
 use Rattle.serde_json.specs.Read.{number_of, number_from}
-use Rattle.city_decimals.specs.Numbers.{is_written_so}
+use Rattle.city_decimals.specs.Numbers.{IsPlain, is_written_so}
+use Rattle.city_decimals.proofs.PlainNumbers.{plain_is_whole}
 use Rattle.city_decimals.proofs.numbers.is_whole.Goals as goal
 
 pub returns-then-has_minus : goal.returns-then-has_minus
@@ -23,3 +24,7 @@ returns-else-has_minus c =
     let read : number_from false (scan s) ≡ number_of s = rw unsigned in
     c.is_positive_i64.ensures ∙ ap (is_written_so c.args.text.now) (ap
     (number_from false) c.scan-else-has_minus.ensures.parts ∙ read ∙ ap number_of c.as_bytes-bytes.ensures.value)
+
+pub returns-then-is_plain : goal.returns-then-is_plain
+returns-then-is_plain c =
+    sym (plain_is_whole c.args.text.now (subst IsPlain c.as_bytes-bytes.ensures.value c.if-is_plain.ensures))

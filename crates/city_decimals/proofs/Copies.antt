@@ -1,0 +1,90 @@
+-- Pieces of a text, one after another.
+use Rattle.std.proofs.Common.{◌≡◌, ℕ, ◌+◌, ◌-◌, ◌≤◌, List, [], ◌∷◌, ◌++◌, length, take, drop, refl, sym, ap, ap₂}
+use Rattle.std.proofs.Common.{◌∙◌, arith}
+use Rattle.std.proofs.Common.{append_assoc, append-nil, get_or, ◌<◌, suc}
+use Rattle.std.proofs.lemmas.List.{take-append-drop, drop-take, drop-drop, take-take, take_more, drop-append-le}
+use Rattle.std.proofs.lemmas.Grind.{flat_map-append}
+use Rattle.json.specs.Print.{escape_byte, escape}
+use Rattle.json.proofs.Printed.Strings.{escape_byte_plain}
+use Rattle.city_decimals.specs.Copies.{IsEscaped, IsPlainByte}
+
+take_plus : (a n : ℕ) (xs : List ℕ) → take (a + n) xs ≡ take a xs ++ take n (drop a xs)
+take_plus a n xs =
+    sym (take-append-drop a (take (a + n) xs))
+    ∙ ap₂ (λ p q. p ++ q) (take-take a (a + n) xs (omega arith)) (drop-take a n xs)
+
+-- what is left of a text, once n more bytes are read
+pub rest_more : (text rest : List ℕ) (at n : ℕ) → drop at text ≡ rest → rest ≡ take n rest ++ drop (at + n) text
+rest_more text rest at n is =
+    sym (take-append-drop n rest)
+    ∙ ap (λ r. take n rest ++ r) (ap (drop n) (sym is) ∙ drop-drop n at text)
+
+-- the piece that isn't written yet, with n more bytes
+pub piece_more : (before text rest now : List ℕ) (start at n : ℕ) → start ≤ at → drop at text ≡ rest
+    → before ++ take (at - start) (drop start text) ≡ now
+    → before ++ take (at + n - start) (drop start text) ≡ now ++ take n rest
+piece_more before text rest now start at n le is written =
+    let sum : at + n - start ≡ (at - start) + n = omega arith in
+    let back : start + (at - start) ≡ at = omega arith in
+    let tail : drop (at - start) (drop start text) ≡ rest
+    = drop-drop (at - start) start text ∙ ap (λ k. drop k text) back ∙ is in
+    ap (λ k. before ++ take k (drop start text)) sum
+    ∙ ap (λ p. before ++ p) (take_plus (at - start) n (drop start text)
+    ∙ ap (λ r. take (at - start) (drop start text) ++ take n r) tail)
+    ∙ sym (append_assoc before (take (at - start) (drop start text)) (take n rest))
+    ∙ ap (λ w. w ++ take n rest) written
+
+-- one more byte inside a string, or an escape
+one_byte : (b : ℕ) (w : List ℕ) → escape_byte b ≡ w → escape (b ∷ []) ≡ w
+one_byte b w e = append-nil (escape_byte b) ∙ e
+
+pub plain_inside : (text : List ℕ) (at b : ℕ) → (s : List ℕ) × (take at text ≡ escape s) → at < length text
+    → get_or text at 0 ≡ b → (b ≡ 34 → ⊥) → (b ≡ 92 → ⊥) → 32 ≤ b → (t : List ℕ) × (take (at + 1) text ≡ escape t)
+plain_inside text at b inside h is quote backslash control = (
+  inside.0 ++ b ∷ [],
+  take_more text at 0 h ∙ ap₂ (λ xs x. xs ++ x ∷ []) inside.1 is
+      ∙ ap (λ w. escape inside.0 ++ w) (sym (one_byte b (b ∷ []) (escape_byte_plain b quote backslash control)))
+      ∙ sym (flat_map-append escape_byte inside.0 (b ∷ [])),
+)
+
+pub escape_inside : (text : List ℕ) (at b c : ℕ) → (s : List ℕ) × (take at text ≡ escape s) → at + 1 < length text
+    → get_or text at 0 ≡ b → b ≡ 92 → get_or text (at + 1) 0 ≡ c → IsEscaped c
+    → (t : List ℕ) × (take (at + 2) text ≡ escape t)
+escape_inside text at b c inside h is backslash then (x, e) =
+    let first : take (at + 1) text ≡ escape inside.0 ++ 92 ∷ []
+    = take_more text at 0 (omega (arith, h)) ∙ ap₂ (λ xs y. xs ++ y ∷ []) inside.1 (is ∙ backslash) in
+    let two : at + 1 + 1 ≡ at + 2 = omega arith in (
+      inside.0 ++ x ∷ [],
+      ap (λ k. take k text) (sym two) ∙ take_more text (at + 1) 0 h ∙ ap₂ (λ xs y. xs ++ y ∷ []) first then
+          ∙ append_assoc (escape inside.0) (92 ∷ []) (c ∷ [])
+          ∙ ap (λ w. escape inside.0 ++ w) (sym (one_byte x (92 ∷ c ∷ []) e))
+          ∙ sym (flat_map-append escape_byte inside.0 (x ∷ [])),
+    )
+
+-- the buffer, once the piece is written
+pub all_written : (out piece new now : List ℕ) (base a : ℕ) (rest : List ℕ) → a ≡ 0 → base ≤ length out
+    → new ≡ out ++ piece → drop base out ++ piece ≡ now → drop base new ++ take a rest ≡ now ++ []
+all_written out piece new now base a rest none h is before =
+    ap₂ (λ n k. drop base n ++ take k rest) is none ∙ append-nil (drop base (out ++ piece))
+    ∙ drop-append-le base out piece h ∙ before ∙ sym (append-nil now)
+
+pub whole_written : (out piece : List ℕ) (base : ℕ) (before now : List ℕ) → take base out ≡ before
+    → drop base out ++ piece ≡ now → out ++ piece ≡ before ++ now
+whole_written out piece base before now first then =
+    ap (λ o. o ++ piece) (sym (take-append-drop base out)) ∙ append_assoc (take base out) (drop base out) piece
+    ∙ ap₂ (λ a b. a ++ b) first then
+
+-- a text without quotes, backslashes and controls stands for itself
+pub plain_text : (s : List ℕ) → ((i : ℕ) → i < length s → IsPlainByte (get_or s i 0)) → escape s ≡ s
+plain_text [] h = refl
+plain_text (x ∷ s) h =
+    let first = h 0 (omega arith) in
+    ap₂ (λ a b. a ++ b) (escape_byte_plain x first.0 first.1 first.2) (plain_text s (λ i l. h (suc i) (omega arith)))
+
+-- the buffer, once the piece and more are written
+pub more_written : (out piece more mid new now : List ℕ) (base a : ℕ) (rest : List ℕ) → a ≡ 0 → base ≤ length out
+    → mid ≡ out ++ piece → new ≡ mid ++ more → drop base out ++ piece ≡ now → drop base new ++ take a rest ≡ now ++ more
+more_written out piece more mid new now base a rest none h first is before =
+    ap₂ (λ n k. drop base n ++ take k rest) (is ∙ ap (λ m. m ++ more) first ∙ append_assoc out piece more) none
+    ∙ append-nil (drop base (out ++ (piece ++ more))) ∙ drop-append-le base out (piece ++ more) h
+    ∙ sym (append_assoc (drop base out) piece more) ∙ ap (λ w. w ++ more) before

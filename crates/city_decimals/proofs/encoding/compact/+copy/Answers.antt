@@ -1,0 +1,73 @@
+use Rattle.std.proofs.Common.{false, length, refl, sym, ap, ◌∙◌, subst, arith}
+use Rattle.city_decimals.specs.Encoded.{encoded, encoded_items, encoded_members}
+use Rattle.city_decimals.specs.Compact.{IsItemCopied, IsMemberCopied, member_encoded, frame_encoded}
+use Rattle.city_decimals.proofs.Compact.{array_copied, object_copied, items_end, items_first}
+use Rattle.city_decimals.proofs.Compact.{members_end, members_first, member_plain, member_framed, item_shorter}
+use Rattle.city_decimals.proofs.Compact.{some_weaker, encoded_plain, encoded_framed}
+use Rattle.city_decimals.proofs.encoding.compact.+copy.Goals as goal
+
+pub copy_array-returns-clause-copied : goal.copy_array-returns-clause-copied
+copy_array-returns-clause-copied t c =
+    some_weaker c.copy_items.result (λ _ rest. array_copied encoded encoded_items (λ js. refl) c.args.depth
+    c.args.copier.now c.take.new.self
+    c.copy_items.new.copier c.if-depth-eq0.false (c.if-not-take.ensures.taken refl) rest) c.copy_items.ensures.copied
+
+pub copy_object-returns-clause-copied : goal.copy_object-returns-clause-copied
+copy_object-returns-clause-copied t c =
+    some_weaker c.copy_members.result (λ _ rest. object_copied encoded (encoded_members false) (λ ms h. refl)
+    c.args.depth c.args.copier.now c.take.new.self
+    c.copy_members.new.copier c.if-depth-eq0.false (c.if-not-take.ensures.taken refl) rest)
+    c.copy_members.ensures.copied
+
+pub copy_items-items-smaller : goal.copy_items-items-smaller
+copy_items-items-smaller t c =
+    let same = c.items-test.ensures.kept refl in
+    let less = item_shorter encoded c.items.later c.args.depth c.take.new.self c.copy_item.new.copier
+    c.in_ok-copy_item.ensures.copied in
+    omega (arith, less, ap (λ s. length s.2) same)
+
+pub copy_items-items-preserved : goal.copy_items-items-preserved
+copy_items-items-preserved t c =
+    let same = c.items-test.ensures.kept refl in (
+      c.copy_item.ensures.before ∙ ap (λ s. s.0) same ∙ c.items.invariant.0,
+      λ end rest. c.items.invariant.1 end (items_first encoded encoded_items (λ j js. refl) c.items.later
+      c.args.depth c.items.copier
+          c.copy_item.new.copier end (subst (λ s. IsItemCopied encoded c.items.later c.args.depth s
+          c.copy_item.new.copier) same c.in_ok-copy_item.ensures.copied) rest),
+    )
+
+pub copy_items-returns-clause-copied : goal.copy_items-returns-clause-copied
+copy_items-returns-clause-copied t c =
+    c.items.invariant.1 c.take.new.self
+    (items_end encoded_items refl c.items.later c.args.depth c.items.copier c.take.new.self
+    (c.items-test.ensures.taken refl))
+
+pub copy_members-members-preserved : goal.copy_members-members-preserved
+copy_members-members-preserved t c =
+    let same = c.members-test.ensures.kept refl in (
+      c.copy_member.ensures.before ∙ ap (λ s. s.0) same ∙ c.members.invariant.0,
+      λ end rest. c.members.invariant.1 end (members_first (member_encoded c.args.top) (encoded_members c.args.top)
+          (λ k j ms. refl) c.members.later c.args.depth c.members.copier
+          c.copy_member.new.copier end (subst (λ s. IsMemberCopied (member_encoded c.args.top) c.members.later
+          c.args.depth s c.copy_member.new.copier) same c.in_ok-copy_member.ensures.copied) rest),
+    )
+
+pub copy_members-returns-clause-copied : goal.copy_members-returns-clause-copied
+copy_members-returns-clause-copied t c =
+    c.members.invariant.1 c.take.new.self
+    (members_end (encoded_members c.args.top) refl c.members.later c.args.depth c.members.copier c.take.new.self
+    (c.members-test.ensures.taken refl))
+
+pub copy_member-returns-then-is_framed-clause-copied : goal.copy_member-returns-then-is_framed-clause-copied
+copy_member-returns-then-is_framed-clause-copied t c =
+    some_weaker c.copy_frame.result (λ _ rest. member_framed frame_encoded member_encoded encoded_framed
+    c.args.later c.args.top c.args.depth c.args.copier.now
+    c.pass_key.new.self c.copy_frame.new.copier c.in_ok-key.key.now c.in_ok-key.ensures.moves
+    (sym c.if-is_tag.ensures) (sym c.if-is_framed.ensures) rest) c.copy_frame.ensures.copied
+
+pub copy_member-returns-clause-copied : goal.copy_member-returns-clause-copied
+copy_member-returns-clause-copied t c =
+    some_weaker c.copy_value.result (λ _ rest. member_plain encoded member_encoded encoded_plain c.args.later
+    c.args.top c.args.depth c.args.copier.now
+    c.pass_key.new.self c.copy_value.new.copier c.in_ok-key.key.now c.in_ok-key.ensures.moves
+    (sym c.if-is_tag.ensures) (sym c.if-is_framed.ensures) rest) c.copy_value.ensures.copied

@@ -1,0 +1,349 @@
+//! A compact text that is copied in pieces, but for what is left out.
+ghost use Rattle.std.specs.Prelude.{◌≡◌, ◌∷◌, ◌++◌, ◌+◌, ◌<◌, ◌≤◌, get_or, [], ℕ, List, true, false, length, take};
+ghost use Rattle.std.specs.Prelude.{drop, IfOk, IfErr, IfSome};
+ghost use Rattle.std.specs.Bool.{OnTrue};
+ghost use Rattle.json.specs.Print.{IsNumber, escape};
+ghost use Rattle.city_decimals.specs.Copies.{Moves, IsEscaped, IsPlainByte};
+ghost use Rattle.city_decimals.specs.Compact.{comma_if, IsKeyPassed};
+ghost use Rattle.city_decimals.specs.Numbers.{IsPlain};
+
+use crate::numbers::{is_number, is_plain};
+use crate::text::text_of;
+use std::marker::Model;
+
+/// A text of which some is read, and what is written for that. A clause sees what the buffer held before, what was
+/// written, and what is left to read.
+#[derive(Drop)]
+pub(crate) struct Copier<'a> {
+    text: &'a [u8],
+    at: usize,
+    /// Where the piece begins that is read and not written yet.
+    start: usize,
+    out: Vec<u8>,
+    /// How many bytes the buffer held before.
+    base: usize,
+}
+
+impl<'a> Model for Copier<'a> {
+    ghost use Rattle.std.specs.Prelude.{List, ℕ};
+
+    ghost Value = { List ℕ × List ℕ × List ℕ };
+
+    ghost use Rattle.city_decimals.specs.Copies.{copier_view, IsCopier};
+
+    ghost view = { copier_view };
+
+    ghost invariant = { IsCopier };
+}
+
+impl<'a> Copier<'a> {
+    /// Nothing is read yet, and what is written goes behind what the buffer holds.
+    pub(crate) fn new(text: &'a [u8], out: Vec<u8>) -> Copier<'a>
+        ensures { result ≡ (out.items, [], text.now) }
+    {
+        let base = out.len();
+        Copier {
+            text,
+            at: 0,
+            start: 0,
+            out,
+            base,
+        }
+    }
+
+    /// The buffer with what was written, where the whole text is read and there is memory; else as it was before.
+    pub(crate) fn finish(self) -> Result<Vec<u8>, Vec<u8>>
+        ensures ok { IfOk result (λ v. (self.entry.2 ≡ []) × (v.items ≡ self.entry.0 ++ self.entry.1)) }
+        ensures err { IfErr result (λ v. v.items ≡ self.entry.0) }
+    {
+        let Copier {
+            text,
+            at,
+            start,
+            out,
+            base,
+        } = self;
+        let mut out = out;
+        if at < text.len() || out.extend_from_slice(&text[start..at]).is_err() {
+            out.truncate(base);
+            return Err(out);
+        }
+        Ok(out)
+    }
+
+    /// The buffer as it was before.
+    pub(crate) fn give_up(self) -> Vec<u8>
+        ensures { result.items ≡ self.entry.0 }
+    {
+        let Copier { out, base, .. } = self;
+        let mut out = out;
+        out.truncate(base);
+        out
+    }
+
+    /// What is left to read.
+    #[inline(always)]
+    pub(crate) fn rest(&self) -> &'a [u8]
+        ensures { result.now ≡ self.now.2 }
+    {
+        &self.text[self.at..]
+    }
+
+    /// The next byte, and 0 at the end.
+    #[inline(always)]
+    pub(crate) fn peek(&self) -> u8 {
+        if self.at < self.text.len() {
+            self.text[self.at]
+        } else {
+            0
+        }
+    }
+
+    /// Copies so many bytes.
+    #[inline(always)]
+    pub(crate) fn advance(&mut self, count: usize)
+        requires { count ≤ length self.old.2 }
+        ensures before { self.new.0 ≡ self.old.0 }
+        ensures moves { Moves self.old self.new (take count self.old.2) (take count self.old.2) }
+    {
+        self.at += count;
+    }
+
+    /// Leaves so many bytes out.
+    fn leave_out(&mut self, count: usize) -> Option<()>
+        requires { count ≤ length self.old.2 }
+        ensures before { self.new.0 ≡ self.old.0 }
+        ensures moves { IfSome result (λ _. Moves self.old self.new (take count self.old.2) []) }
+    {
+        if self
+            .out
+            .extend_from_slice(&self.text[self.start..self.at])
+            .is_err()
+        {
+            return None;
+        }
+        self.at += count;
+        self.start = self.at;
+        Some(())
+    }
+
+    /// Copies this byte, where it is next: whether it was.
+    #[inline(always)]
+    pub(crate) fn take(&mut self, byte: u8) -> bool
+        ensures before { self.new.0 ≡ self.old.0 }
+        ensures taken { result ≡ true → Moves self.old self.new (byte ∷ []) (byte ∷ []) }
+        ensures kept { result ≡ false → self.new ≡ self.old }
+    {
+        let rest = self.rest();
+        if rest.is_empty() || rest[0] != byte {
+            return false;
+        }
+        self.advance(1);
+        true
+    }
+
+    /// Copies these bytes, where they are next.
+    #[inline(always)]
+    pub(crate) fn pass(&mut self, bytes: &[u8]) -> Option<()>
+        ensures before { self.new.0 ≡ self.old.0 }
+        ensures moves { IfSome result (λ _. Moves self.old self.new bytes.now bytes.now) }
+    {
+        if !begins_with(self.rest(), bytes) {
+            return None;
+        }
+        self.advance(bytes.len());
+        Some(())
+    }
+
+    /// Leaves these bytes out, where they are next.
+    pub(crate) fn skip(&mut self, bytes: &[u8]) -> Option<()>
+        ensures before { self.new.0 ≡ self.old.0 }
+        ensures moves { IfSome result (λ _. Moves self.old self.new bytes.now []) }
+    {
+        if !begins_with(self.rest(), bytes) {
+            return None;
+        }
+        self.leave_out(bytes.len())
+    }
+
+    /// Copies what stands in a string, and the quote that closes it: what stands there, as it is written.
+    #[inline(always)]
+    pub(crate) fn pass_inside(&mut self) -> Option<&'a [u8]>
+        ensures before { self.new.0 ≡ self.old.0 }
+        ensures moves { IfSome result (λ inside. (s : List ℕ) × (inside.now ≡ escape s)
+            × Moves self.old self.new (escape s ++ 34 ∷ []) (escape s ++ 34 ∷ [])) }
+    {
+        let rest = self.rest();
+        let end = string_end(rest)?;
+        self.advance(end + 1);
+        Some(&rest[..end])
+    }
+
+    /// Copies a comma, where something stands before.
+    #[inline(always)]
+    pub(crate) fn pass_comma(&mut self, later: bool) -> Option<()>
+        ensures before { self.new.0 ≡ self.old.0 }
+        ensures moves { IfSome result (λ _. Moves self.old self.new (comma_if later) (comma_if later)) }
+    {
+        if !later {
+            return Some(());
+        }
+        if self.take(b',') { Some(()) } else { None }
+    }
+
+    /// Copies a comma, where something stands before, and a name with its colon: the name, as it is written.
+    #[inline(always)]
+    pub(crate) fn pass_key(&mut self, later: bool) -> Option<&'a [u8]>
+        ensures before { self.new.0 ≡ self.old.0 }
+        ensures moves { IfSome result (λ key. IsKeyPassed later key.now self.old self.new) }
+    {
+        self.pass_comma(later)?;
+        if !self.take(b'"') {
+            return None;
+        }
+        let key = self.pass_inside()?;
+        if self.take(b':') { Some(key) } else { None }
+    }
+
+    /// Writes these bytes, and reads nothing.
+    pub(crate) fn insert(&mut self, bytes: &[u8]) -> Option<()>
+        ensures before { self.new.0 ≡ self.old.0 }
+        ensures moves { IfSome result (λ _. Moves self.old self.new [] bytes.now) }
+    {
+        if self
+            .out
+            .extend_from_slice(&self.text[self.start..self.at])
+            .is_err()
+        {
+            return None;
+        }
+        self.start = self.at;
+        if self.out.extend_from_slice(bytes).is_err() {
+            return None;
+        }
+        Some(())
+    }
+
+    /// The bytes up to one that can't stand in a number.
+    #[inline(always)]
+    pub(crate) fn next_number(&self) -> &'a [u8]
+        ensures within { length result.now ≤ length self.now.2 }
+        ensures front { take (length result.now) self.now.2 ≡ result.now }
+        ensures plain { escape result.now ≡ result.now }
+    {
+        let rest = self.rest();
+        &rest[..number_end(rest)]
+    }
+
+    /// Copies a number.
+    #[inline(always)]
+    pub(crate) fn pass_number(&mut self) -> Option<()>
+        ensures before { self.new.0 ≡ self.old.0 }
+        ensures moves { IfSome result (λ _. (s : List ℕ) × IsNumber s × (escape s ≡ s)
+            × Moves self.old self.new s s) }
+    {
+        let rest = self.rest();
+        let end = number_end(rest);
+        if !is_number_text(&rest[..end]) {
+            return None;
+        }
+        self.advance(end);
+        Some(())
+    }
+}
+
+/// Whether the text begins with these bytes.
+#[inline(always)]
+fn begins_with(text: &[u8], bytes: &[u8]) -> bool
+    ensures len { OnTrue result (length bytes.now ≤ length text.now) }
+    ensures value { OnTrue result (take (length bytes.now) text.now ≡ bytes.now) }
+{
+    text.len() >= bytes.len() && &text[..bytes.len()] == bytes
+}
+
+/// Whether these bytes are a number.
+#[inline(always)]
+fn is_number_text(bytes: &[u8]) -> bool
+    ensures { OnTrue result (IsNumber bytes.now) }
+{
+    is_plain(bytes) || is_other_number(bytes)
+}
+
+#[inline(never)]
+fn is_other_number(bytes: &[u8]) -> bool
+    ensures { OnTrue result (IsNumber bytes.now) }
+{
+    match text_of(bytes) {
+        Ok(text) => is_number(text),
+        Err(_) => false,
+    }
+}
+
+/// Where the bytes end that may stand in a number.
+#[inline(always)]
+fn number_end(text: &[u8]) -> usize
+    ensures within { result ≤ length text.now }
+    ensures plain { (i : ℕ) → i < result → IsPlainByte (get_or text.now i 0) }
+{
+    let mut at = 0;
+    while at < text.len() && is_of_number(text[at]) {
+        at += 1;
+    }
+    at
+}
+
+#[inline(always)]
+fn is_of_number(byte: u8) -> bool
+    ensures { OnTrue result (IsPlainByte byte) }
+{
+    (byte >= b'0' && byte <= b'9') || is_mark(byte)
+}
+
+/// Whether this is a sign, a point or an exponent's letter.
+#[inline(always)]
+fn is_mark(byte: u8) -> bool
+    ensures { OnTrue result (IsPlainByte byte) }
+{
+    byte == b'-' || byte == b'+' || byte == b'.' || byte == b'e' || byte == b'E'
+}
+
+/// Where the quote stands that closes a string, of whose inside this is the text. None where the inside isn't
+/// written with the escapes that a writer gives, or has an escape other than of a quote, a backslash and a newline.
+#[inline(always)]
+fn string_end(text: &[u8]) -> Option<usize>
+    ensures within { IfSome result (λ end. end + 1 ≤ length text.now) }
+    ensures inside { IfSome result (λ end. (s : List ℕ) × (take end text.now ≡ escape s)
+        × (take (end + 1) text.now ≡ escape s ++ 34 ∷ [])) }
+{
+    let mut at = 0;
+    while at < text.len() {
+        let byte = text[at];
+        if byte == b'"' {
+            return Some(at);
+        }
+        if byte < 0x20 {
+            return None;
+        }
+        if byte == b'\\' {
+            if at + 1 >= text.len() || !is_escaped(text[at + 1]) {
+                return None;
+            }
+            at += 2;
+        } else {
+            at += 1;
+        }
+    }
+    None
+}
+
+/// Whether a backslash and this byte are what a writer gives for a byte.
+fn is_escaped(byte: u8) -> bool
+    ensures { OnTrue result (IsEscaped byte) }
+{
+    match byte {
+        b'"' => true,
+        b'\\' => true,
+        b'n' => true,
+        _ => false,
+    }
+}

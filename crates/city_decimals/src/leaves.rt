@@ -1,0 +1,51 @@
+//! Values of compact texts that are copied as they are, and the names of members.
+ghost use Rattle.std.specs.Prelude.{◌≡◌, ◌∷◌, [], ◌&&◌, codes, IfSome};
+ghost use Rattle.std.specs.Str.{bytes_eq};
+ghost use Rattle.city_decimals.specs.Compact.{IsCopied};
+ghost use Rattle.city_decimals.specs.Decoded.{decoded};
+ghost use Rattle.city_decimals.specs.Encoded.{encoded};
+
+use crate::copier::Copier;
+
+/// Copies a string.
+#[inline(always)]
+pub(crate) fn copy_string(copier: &mut Copier<'_>, depth: usize) -> Option<()>
+    ensures before { copier.new.0 ≡ copier.old.0 }
+    ensures decoded { IfSome result (λ _. IsCopied decoded depth copier.old copier.new) }
+    ensures encoded { IfSome result (λ _. IsCopied encoded depth copier.old copier.new) }
+{
+    if !copier.take(b'"') {
+        return None;
+    }
+    let _inside = copier.pass_inside()?;
+    Some(())
+}
+
+/// Copies `true`, `false` or `null`.
+pub(crate) fn copy_name(copier: &mut Copier<'_>, depth: usize) -> Option<()>
+    ensures before { copier.new.0 ≡ copier.old.0 }
+    ensures decoded { IfSome result (λ _. IsCopied decoded depth copier.old copier.new) }
+    ensures encoded { IfSome result (λ _. IsCopied encoded depth copier.old copier.new) }
+{
+    match copier.peek() {
+        b't' => copier.pass(b"true"),
+        b'f' => copier.pass(b"false"),
+        _ => copier.pass(b"null"),
+    }
+}
+
+/// Whether this is the tag, as it stands in a text.
+#[inline(always)]
+pub(crate) fn is_tag(key: &[u8]) -> bool
+    ensures { result ≡ bytes_eq key.now (35 ∷ []) }
+{
+    key == b"#".as_slice()
+}
+
+/// Whether a frame stands under this name, as it stands in a text.
+#[inline(always)]
+pub(crate) fn is_framed(top: bool, key: &[u8]) -> bool
+    ensures { result ≡ (top && bytes_eq key.now (codes "transform")) }
+{
+    top && key == b"transform".as_slice()
+}
