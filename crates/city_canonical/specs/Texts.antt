@@ -18,13 +18,13 @@ abbrev pub IsSameText : List ℕ → List ℕ → Type 0
 IsSameText text out =
     (j : Json) × (k : Json) × IsValueOf j text × IsValueOf k out × (out ≡ print (json_tokens k)) × IsSameModel j k
 
--- out is decoded of the canonical text of the city that the encoded text stands for
+-- out is decoded from the canonical text of the city that the encoded text stands for
 abbrev pub IsCanonicalOf : List ℕ → List ℕ → Type 0
 IsCanonicalOf text out =
     (encoded : List ℕ) × (c : CityValue) × IsEncoded text encoded × StandsForCity encoded c
     × IsDecoded (city_text c) out
 
--- want of memory may be answered at any text
+-- `OutOfMemory` may be answered for any text
 abbrev pub IsCanonicalFault : List ℕ → CanonicalFault → Type 0
 IsCanonicalFault text OutOfMemory = Unit {0}
 IsCanonicalFault text NotJson = IsUtf8 text → document text ≡ None

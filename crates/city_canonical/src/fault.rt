@@ -8,7 +8,7 @@ use std::alloc::AllocError;
 /// Why a text has no canonical form.
 #[derive(Debug, Drop)]
 pub enum CanonicalFault {
-    /// There was no memory.
+    /// Memory ran out.
     OutOfMemory,
     /// The text isn't JSON, or nests deeper than 128.
     NotJson,

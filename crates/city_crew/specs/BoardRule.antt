@@ -17,7 +17,7 @@ pub record IsNoOlder (known : Known) (x : Version) : Type 0 where
   pub opening : x.opening ≡ known.opening
   pub later : IsPrefix known.history.changes x.history.changes
 
--- who knows nothing yet
+-- one who knows nothing yet
 abbrev pub newcomer : Known
 newcomer = record {
   met = false;
@@ -25,7 +25,7 @@ newcomer = record {
   history = history_of (record { number = 0; log_name = 0; cells_name = 0 }) [];
 }
 
--- what is known to who has seen the version
+-- what is known to one who has seen the version
 abbrev pub known_from : Version → Known
 known_from x = record { met = true; opening = x.opening; history = x.history }
 
@@ -35,7 +35,7 @@ MeetsRule x each =
     IsFaithful x
     × ((place : ℕ) (known : Known) → get_elem? each place ≡ some known → known.met ≡ true → IsNoOlder known x)
 
--- who knew this has seen the version y, which is faithful and no older
+-- one who knew this has seen the version y, which is faithful and no older
 abbrev pub Sees : Known → Version → Version → Known → Type 0
 Sees before x y after = (after ≡ known_from y) × IsFaithful y × (before.met ≡ true → IsNoOlder before y)
 

@@ -6,7 +6,7 @@ use Rattle.city_model.specs.Relations.{IsLawful}
 use Rattle.city_model.specs.Runs.{Scripted, Fits, model_after}
 use Rattle.city_desk.specs.TextRuns.{IsReadFrom}
 
--- the scripts of a text, run on the city of a document, have ended so, and left this city
+-- the scripts of a text, run on the city of a document, have these ends, and left this city
 pub record IsResult (document scripts : List ℕ) (left : CityValue) (ends : List End) : Type 0 where
   pub city : CityValue
   pub list : List Scripted

@@ -3,7 +3,8 @@ use Rattle.std.specs.Prelude.{◌≡◌, ◌≤◌, ℕ, List, length, All}
 use Rattle.std.specs.Global.{Vec}
 use Rattle.city_crew.specs.Rising.{Rises, last_of}
 
--- so many viewers saw more and more changes, each of them at last no fewer than so many
+-- there are so many viewers; each saw more and more changes, and at last at least as many
+-- as there are commits
 pub record AreSeen (viewers commits : ℕ) (seen : List (Vec ℕ)) : Type 0 where
   pub one_each : length seen ≡ viewers
   pub rising : All (λ s. Rises s.items) seen

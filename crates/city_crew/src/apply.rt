@@ -12,9 +12,10 @@ use city_model::object::Object;
 use city_model::text::Id;
 use std::alloc::Global;
 
-/// Writes all to the city. Where there is no memory the city is unchanged, and all comes back.
+/// Makes the writes in the city. If memory runs out, the city is unchanged, and
+/// the writes come back.
 ///
-/// The city isn't copied; memory is taken for the places of new ids alone.
+/// The city isn't copied; it allocates only for the places of new ids.
 pub fn apply(alloc: Global, city: &mut City, writes: Writes) -> Result<(), Writes>
     ensures { MatchResult result
         (λ _. city.new ≡ city_after city.old writes.entries)
@@ -27,7 +28,7 @@ pub fn apply(alloc: Global, city: &mut City, writes: Writes) -> Result<(), Write
     Ok(())
 }
 
-/// Writes all to the city, in which each id has a place. Takes no memory.
+/// Makes the writes in the city, in which each id has a place. Doesn't allocate.
 fn write_all(city: &mut City, mut writes: Writes)
     requires { (q : List ℕ) → has_id (keys_of writes.entries) q ≡ true → is_some (at city.old.1 q) ≡ true }
     ensures frame { city.new.0 ≡ city.old.0 }
@@ -38,7 +39,7 @@ fn write_all(city: &mut City, mut writes: Writes)
     }
 }
 
-/// Sets the object of an id that has a place, or takes it out. Takes no memory.
+/// Sets the object of an id that has a place, or removes it. Doesn't allocate.
 fn write(city: &mut City, id: Id, object: Option<Object>)
     requires { is_some (at city.old.1 id) ≡ true }
     ensures frame { city.new.0 ≡ city.old.0 }

@@ -23,7 +23,7 @@ use std::sync::Wait;
 /// Why there is no board.
 #[derive(Clone, Copy, Debug, PartialEq, Eq, Drop)]
 pub enum BoardFault {
-    /// There was no memory.
+    /// Memory ran out.
     OutOfMemory,
     /// A viewer's place was refused.
     NoPlace,

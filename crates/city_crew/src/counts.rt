@@ -25,7 +25,7 @@ impl Model for Counts {
 }
 
 impl Counts {
-    /// Of no looks. Takes no memory.
+    /// No looks yet. Doesn't allocate.
     pub fn new(alloc: Global) -> Counts
         ensures { result ≡ [] }
     {

@@ -6,8 +6,8 @@ use city_model::change::Change;
 use city_txn::Core;
 use std::sync::Wait;
 
-/// Where the desk of a run puts the changes of its commits: on a board where there are viewers, and nowhere
-/// where nobody looks.
+/// Where the desk of a run puts the changes of its commits: on a board if there are
+/// viewers, and nowhere otherwise.
 #[derive(Drop)]
 pub enum CrewShelf<R: Wait + Drop> {
     Unseen(NullShelf),

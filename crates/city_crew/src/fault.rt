@@ -6,7 +6,7 @@ use city_model::OutOfMemory;
 /// Why a run over texts that were read has no output.
 #[derive(Clone, Copy, Debug, PartialEq, Eq, Drop)]
 pub enum CrewFault {
-    /// There was no memory, or a thread couldn't be made.
+    /// Memory ran out, or a thread couldn't be made.
     OutOfMemory,
     /// A viewer's place or one of its looks was refused.
     NoPlace,

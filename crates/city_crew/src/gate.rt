@@ -25,7 +25,7 @@ impl Gate for OpenGate {
     /// Returns at once.
     fn saw(&self, _viewer: usize, _edits: u64) {}
 
-    /// It is.
+    /// Always true.
     fn is_open(&self) -> bool {
         true
     }

@@ -1,4 +1,4 @@
-//! The history of a board's changes. It stands in the proofs alone, and only grows.
+//! The history of a board's changes. It exists for the proofs only, and it only grows.
 ghost use Rattle.std.specs.Prelude.{◌≡◌, ◌⊎◌, ◌<◌, ◌^◌, [], ◌∷◌, ◌++◌, length, IfSome};
 ghost use mathlib.Core.List.{IsPrefix};
 ghost use Rattle.city_crew.specs.HistoryValue.{history_of};
@@ -28,7 +28,7 @@ impl Rule<Change, u64> for HistoryRule {
     ghost moves = { λ ask before after answer. Unit {0} };
 }
 
-/// What is gained by adding a change besides: nothing.
+/// What adding a change yields besides the change: nothing.
 pub struct NoGain;
 
 impl Gain<Change, u64> for NoGain {
@@ -112,7 +112,7 @@ impl History {
         self.len
     }
 
-    /// The same once more. Takes no memory.
+    /// The same once more. Doesn't allocate.
     pub fn again(&self) -> History
         ensures { result ≡ self.now }
     {

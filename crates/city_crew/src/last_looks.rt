@@ -6,9 +6,9 @@ use crate::fault::CrewFault;
 use crate::watcher::Watcher;
 use std::alloc::Global;
 
-/// Has each watcher look once more, after so many commits, and gives what each of so many saw.
+/// Has each watcher look once more, after so many commits, and returns what each of so many saw.
 ///
-/// It is mixed up where a watcher is missing, or where one saw fewer changes than there were commits.
+/// It answers `Mixed` if a watcher is missing, or if one saw fewer changes than there were commits.
 pub fn last_looks(
     alloc: Global,
     watchers: Vec<Watcher>,

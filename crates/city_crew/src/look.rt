@@ -12,7 +12,7 @@ use std::marker::Model;
 /// A look at a version, which stays as it is until the look is left.
 ///
 /// Contracts see what they see of a viewer; the changes are those of the version. The poster waits
-/// for looks that aren't left, so a look isn't dropped: end it by `leave`.
+/// for looks that aren't left, so a look can't just be dropped: end it by `leave`.
 pub struct Look {
     reading: BoardReading,
     seen: History,
@@ -43,7 +43,7 @@ impl Look {
     ghost use Rattle.city_crew.specs.BoardValues.{viewer_of};
     ghost use Rattle.city_crew.specs.Versions.{IsFaithful};
 
-    /// A look at the version that is read, whose changes these are. Takes no memory.
+    /// A look at the version that is read, whose changes these are. Doesn't allocate.
     pub(crate) fn new(reading: BoardReading, seen: History) -> Look
         requires met { view_of reading.place ≡ known_from reading.part.value }
         requires faithful { IsFaithful reading.part.value }
@@ -53,8 +53,8 @@ impl Look {
         Look { reading, seen }
     }
 
-    /// The city: the one that the board was made over, after the changes of this look. Takes no
-    /// memory.
+    /// The city: the one that the board was made over, after the changes of
+    /// this look. Doesn't allocate.
     pub fn city(&self) -> &City
         ensures frame { result.now.0 ≡ self.now.opening.0 }
         ensures objects { at result.now.1 ≡ shown (at self.now.opening.1) self.now.seen }
@@ -64,14 +64,14 @@ impl Look {
         &self.reading.get().city
     }
 
-    /// How many changes it has. Takes no memory.
+    /// How many changes it has. Doesn't allocate.
     pub fn edits(&self) -> u64
         ensures { result ≡ length self.now.seen }
     {
         self.seen.len()
     }
 
-    /// Ends the look, and gives the viewer back, who has seen its changes. Takes no memory.
+    /// Ends the look, and gives the viewer back, who has seen its changes. Doesn't allocate.
     pub fn leave(self) -> Viewer
         ensures { result ≡ self }
     {

@@ -11,8 +11,8 @@ use city_model::text::Id;
 use city_txn::placeholder::placeholder;
 use std::alloc::Global;
 
-/// Gives each id of the writes a place in the city: a placeholder where no object is there. Where
-/// there is no memory the city is unchanged.
+/// Gives each id of the writes a place in the city: a placeholder if no object is there. If memory
+/// runs out, the city is unchanged.
 pub fn make_places(alloc: Global, city: &mut City, writes: &Writes) -> Result<(), OutOfMemory>
     ensures frame { city.new.0 ≡ city.old.0 }
     ensures others { OnOk result ((q : List ℕ) → has_id (keys_of writes.now.entries) q ≡ false → at city.new.1 q ≡ at city.old.1 q) }
@@ -40,7 +40,7 @@ fn missing(alloc: Global, city: &City, writes: &Writes) -> Result<Vec<Id>, OutOf
     Ok(ids)
 }
 
-/// Puts a placeholder at each of the ids; where there is no memory, at some of them.
+/// Puts a placeholder at each of the ids; if memory runs out, at some of them.
 fn fill(alloc: Global, city: &mut City, ids: &[Id]) -> Result<(), OutOfMemory>
     ensures frame { city.new.0 ≡ city.old.0 }
     ensures others { (q : List ℕ) → has_id ids.now q ≡ false → at city.new.1 q ≡ at city.old.1 q }
@@ -52,7 +52,7 @@ fn fill(alloc: Global, city: &mut City, ids: &[Id]) -> Result<(), OutOfMemory>
     Ok(())
 }
 
-/// Takes the objects of the ids out. Takes no memory.
+/// Removes the objects of the ids. Doesn't allocate.
 fn clear(city: &mut City, ids: &[Id])
     ensures frame { city.new.0 ≡ city.old.0 }
     ensures objects { (q : List ℕ) → at city.new.1 q ≡ (if has_id ids.now q then None else at city.old.1 q) }

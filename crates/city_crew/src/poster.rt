@@ -24,12 +24,12 @@ use std::sync::Wait;
 /// Takes changes of a city, and publishes them to the viewers of its board.
 ///
 /// Contracts see the board's name, the city that it was made over, the changes that are published,
-/// and all that were taken: the published ones, and after them the pending ones. The drop waits for
-/// the looks that aren't left.
+/// and all that were taken: the published ones, and after them the pending ones. Its drop waits
+/// until each look has been left.
 #[derive(Drop)]
 pub struct Poster<R: Wait + Drop> {
     alloc: Global,
-    /// There but while `publish` runs.
+    /// None only while `publish` runs.
     writer: Option<OwnWriter<R>>,
     head: Head,
     opening: OpeningCity,
@@ -60,7 +60,7 @@ impl<R: Wait + Drop> Model for Poster<R> {
 }
 
 impl<R: Wait + Drop> Poster<R> {
-    /// A poster that has taken nothing yet. Takes no memory.
+    /// A poster that has taken nothing yet. Doesn't allocate.
     pub(crate) fn new(
         alloc: Global,
         writer: OwnWriter<R>,
@@ -86,7 +86,7 @@ impl<R: Wait + Drop> Poster<R> {
         }
     }
 
-    /// Takes a change, which is pending then. Where there is no memory nothing changes.
+    /// Takes a change, which is then pending. If memory runs out, nothing changes.
     pub fn append(&mut self, change: Change) -> Result<(), OutOfMemory>
         requires room { length self.old.taken + 1 < 2 ^ 64 }
         requires lawful { IsLawful (shown (at self.old.opening.1) (self.old.taken ++ change ∷ [])) }
@@ -106,8 +106,8 @@ impl<R: Wait + Drop> Poster<R> {
         Ok(())
     }
 
-    /// Publishes all pending changes at once, and gives a note of all that is published then. Where
-    /// there is no memory nothing changes, and they are still pending.
+    /// Publishes all pending changes at once, and returns a note of all that is published by then.
+    /// If memory runs out, nothing changes, and they are still pending.
     ///
     /// It waits for looks at the version before the published one.
     pub fn publish(&mut self) -> Result<Note, OutOfMemory>

@@ -13,8 +13,8 @@ use std::sync::Wait;
 /// What writes both versions of a board.
 pub type BoardWriter = Writer<Version, Edit, Known, BoardRule>;
 
-/// Shows viewers all edits that were appended, at once. Where there is no memory they see what
-/// they saw, and the edits are kept.
+/// Shows viewers all appended edits at once. If memory runs out, they still see what they saw, and
+/// the edits are kept.
 pub fn publish<R: Wait>(rt: &R, writer: BoardWriter) -> (BoardWriter, Result<(), AllocError>)
     requires later { IsLater writer.desk.shown.value (fold edited writer.desk.shown.value (drop writer.behind writer.log.items)) }
     ensures { MatchResult result.1

@@ -5,7 +5,7 @@ use atomic_table::{Join, Split};
 use city_desk::OpeningCity;
 use crossbeam_utils::rule::{Outcome, Protocol};
 
-/// What a viewer or the poster knows of its board. It stands in the proofs alone.
+/// What a viewer or the poster knows of its board. It exists for the proofs only.
 pub struct Known {
     /// Whether a version was seen yet.
     pub met: bool,
@@ -24,7 +24,7 @@ impl Protocol<Version, Known> for BoardRule {
     ghost first = { newcomer };
 }
 
-/// Who publishes a version or begins to look at one has seen it.
+/// Whoever publishes a version or begins to look at one has seen it.
 pub struct SeesVersion;
 
 impl Outcome<Version, Known> for SeesVersion {

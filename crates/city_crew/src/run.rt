@@ -31,18 +31,18 @@ use std::alloc::Global;
 use std::sync::{Condvar, Mutex, Wait};
 use std::thread::Threads;
 
-/// Runs the scripts on the document's city by so many workers, while so many viewers look.
+/// Runs the scripts on the document's city with so many workers, while so many viewers look.
 ///
 /// Workers are 1 to 16. The document is judged before the scripts. However the workers' turns
 /// interleave, the ends and the bytes are those of the scripts run one at a time, each once, in the
-/// order of the ends. A script that finds no memory ends so and changes nothing.
+/// order of the ends. A script that runs out of memory ends as `NoMemory` and changes nothing.
 ///
 /// For each viewer `seen` has the number of changes at its first look, and then each larger number
 /// that it saw; the last look comes after all workers have ended.
 ///
-/// It is `OutOfMemory` also where a thread couldn't be made, `NoPlace` where a viewer's place or
-/// look was refused, `Unfinished` where a script hadn't ended when the workers had, and `Mixed`
-/// where what was gathered then isn't of these texts, or a viewer is missing or saw too little.
+/// It answers `OutOfMemory` also if a thread couldn't be made, `NoPlace` if a viewer's place or
+/// look was refused, `Unfinished` if a script hadn't ended when the workers had, and `Mixed` if
+/// what was gathered then isn't of these texts, or a viewer is missing or saw too little.
 pub fn run_crew<R: Threads + Wait + Sync, G: Gate + Sync>(
     rt: &R,
     alloc: Global,

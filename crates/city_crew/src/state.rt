@@ -55,8 +55,8 @@ impl<R: Wait + Drop> State<R> {
         }
     }
 
-    /// What the run came to. It is mixed up where its texts aren't these, and unfinished where a
-    /// script hasn't ended.
+    /// The result of the run: `Mixed` if its texts aren't these, `Unfinished` if
+    /// a script hasn't ended.
     pub fn end(self, document: &[u8], scripts: &[u8]) -> Result<Finished<CrewShelf<R>>, CrewFault>
         ensures { IfOk result (λ f. IsResult document.now scripts.now f.city f.ends) }
     {

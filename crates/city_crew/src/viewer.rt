@@ -16,7 +16,7 @@ pub type BoardReader = Reader<Version, Known, BoardRule>;
 /// A version that a viewer is reading.
 pub type BoardReading = Reading<Version, Known, BoardRule>;
 
-/// Who looks at the versions of a board, from any thread and without waiting.
+/// A reader of a board's versions, from any thread and without waiting.
 ///
 /// Contracts see the board's name, the city that it was made over, and the changes that the viewer
 /// saw or was told of.
@@ -47,7 +47,7 @@ impl Viewer {
     ghost use Rattle.left_right.specs.Sides.{view as view_of};
     ghost use Rattle.city_crew.specs.BoardValues.{viewer_of};
 
-    /// A viewer that has seen so much. Takes no memory.
+    /// A viewer that has seen these changes. Doesn't allocate.
     pub(crate) fn new(reader: BoardReader, seen: History) -> Viewer
         requires { ((view_of reader.place).met ≡ true) × ((view_of reader.place).history.name ≡ seen.name) }
         ensures { result ≡ viewer_of seen (view_of reader.place).opening }
@@ -55,7 +55,7 @@ impl Viewer {
         Viewer { reader, seen }
     }
 
-    /// A look at the version that is published now. Takes no memory, and waits for nobody.
+    /// A look at the version that is published now. Doesn't allocate, and waits for nobody.
     ///
     /// It has all changes that this viewer saw or was told of. Where the poster is gone the viewer
     /// comes back as it was.
@@ -83,10 +83,10 @@ impl Viewer {
         }
     }
 
-    /// From now on each look has the note's changes. Takes no memory.
+    /// From now on each look has the note's changes. Doesn't allocate.
     ///
-    /// Of the viewer's changes and the note's, one list begins with the other; the viewer has the
-    /// longer then.
+    /// Of the viewer's changes and the note's, one list begins with the other; from then on the
+    /// viewer has the longer one.
     pub fn learn(self, note: &Note) -> Viewer
         requires { note.now.name ≡ self.name }
         ensures name { result.name ≡ self.name }

@@ -61,7 +61,7 @@ impl Watcher {
 
 /// What looks again and again from a thread of its own.
 pub trait Watch: Drop {
-    /// Looks until the workers are over, or a look was refused.
+    /// Looks until the workers have ended, or a look is refused.
     fn watch<R: Wait, G: Gate>(self, rt: &R, gate: &G, over: &AtomicBool) -> Self;
 }
 

@@ -11,7 +11,7 @@ const TURNS_OF_THE_OLDEST: usize = 64;
 /// whole, and few enough that little is lost where it dies.
 const TURNS_OF_A_YOUNGER: usize = 16;
 
-/// Scripts that take turns, of which workers hand out the next one to themselves.
+/// Scripts that take turns, and of which each free worker takes the next.
 pub trait Turns: Drop {
     /// The next script to be worked on.
     fn take(&mut self) -> Option<usize>;
@@ -38,7 +38,7 @@ pub struct Shared<T: Turns> {
     pub moved: Condvar,
 }
 
-/// Turns scripts to their ends, one after the other, until all were handed out.
+/// Runs scripts to their ends, one after the other, until all were handed out.
 pub fn work<R: Wait, T: Turns, G: Gate>(rt: &R, shared: &Shared<T>, gate: &G) {
     for _ in rt.forever() {
         let taken = shared.turns.lock(rt).take();
@@ -49,7 +49,7 @@ pub fn work<R: Wait, T: Turns, G: Gate>(rt: &R, shared: &Shared<T>, gate: &G) {
     }
 }
 
-/// Turns a script to its end.
+/// Runs a script to its end.
 fn turn_to_end<R: Wait, T: Turns, G: Gate>(rt: &R, shared: &Shared<T>, gate: &G, script: usize) {
     let mut replies = 0usize;
     for _ in rt.forever() {
@@ -61,11 +61,13 @@ fn turn_to_end<R: Wait, T: Turns, G: Gate>(rt: &R, shared: &Shared<T>, gate: &G,
     }
 }
 
-/// Turns of a script under one lock: one, or many where no gate may hold it between them, up to one
-/// that neither begins it nor replies. Gives the last one, and counts the replies of the attempt.
+/// Makes turns of a script under one lock: one, or many if no gate may hold it between them,
+/// up to one that neither begins it nor replies. Returns the last one, and counts the
+/// replies of the attempt.
 ///
-/// A turn that waits returns after another turn has ended a script or killed it. One that died
-/// returns when it is the oldest under way, which no turn kills: so it dies once.
+/// If the last turn waits, it returns after another turn has ended a script or killed it. If the
+/// script died, it returns when the script is the oldest under way, which no turn kills: so a
+/// script dies at most once.
 fn turns_at_once<R: Wait, T: Turns>(
     rt: &R,
     shared: &Shared<T>,
@@ -95,7 +97,7 @@ fn turns_at_once<R: Wait, T: Turns>(
     turn
 }
 
-/// Turns of a script: so many, or fewer where one neither begins it nor replies. Gives the last
+/// Makes so many turns of a script, or fewer if one neither begins it nor replies. Returns the last
 /// one, and counts the replies of the attempt.
 fn go_on<T: Turns>(turns: &mut T, script: usize, most: usize, replies: &mut usize) -> Turn {
     for _ in 1..most {
@@ -107,7 +109,7 @@ fn go_on<T: Turns>(turns: &mut T, script: usize, most: usize, replies: &mut usiz
     turn_once(turns, script, replies)
 }
 
-/// One turn of a script, which counts the replies of the attempt.
+/// Makes one turn of a script, and counts the replies of the attempt.
 fn turn_once<T: Turns>(turns: &mut T, script: usize, replies: &mut usize) -> Turn {
     let turn = turns.turn(script);
     match turn {

@@ -6,7 +6,7 @@ use crate::version::Edit;
 use std::collections::VecDeque;
 use std::sync::Wait;
 
-/// A writer, and the runtime that ends it: the drop waits for the looks that aren't left.
+/// A writer, and the runtime that ends it: its drop waits until each look has been left.
 pub struct OwnWriter<R: Wait + Drop> {
     pub writer: BoardWriter,
     pub rt: R,
@@ -30,7 +30,7 @@ impl<R: Wait + Drop> Drop for OwnWriter<R> {
     }
 }
 
-/// Hands the edits to the writer. Where there is no memory it is false, and the rest of them stay.
+/// Hands the edits to the writer. If memory runs out, it answers false, and the rest of them stay.
 pub fn append_all(writer: &mut BoardWriter, waiting: &mut VecDeque<Edit>) -> bool
     ensures desk { writer.new.desk ≡ writer.old.desk }
     ensures edits { drop writer.new.behind writer.new.log.items ++ waiting.new.items ≡ drop writer.old.behind writer.old.log.items ++ waiting.old.items }

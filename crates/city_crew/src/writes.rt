@@ -10,10 +10,10 @@ use city_model::text::Id;
 use std::alloc::Global;
 use std::collections::BTreeMap;
 
-/// Ids, each with the object that stands there then, or none where it is taken out.
+/// Ids, each with the object that it has afterwards, or None if the object is removed.
 pub type Writes = BTreeMap<Id, Option<Object>>;
 
-/// What the change writes; of an id that it writes twice, the last. No object is copied.
+/// What the change writes; of an id that it writes twice, the last one wins. No object is copied.
 pub fn writes_of(alloc: Global, change: Change) -> Result<Writes, OutOfMemory>
     ensures { IfOk result (λ writes. (m : CityMap) → with_change m writes.entries ≡ with_change m change) }
 {

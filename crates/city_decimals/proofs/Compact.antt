@@ -125,7 +125,7 @@ encoded_copied limit a b d e some first (s, h, same, moves) last =
     record {
       j = object (member tag (string s) no_members);
       moves = moves_as a e (begin ++ (s ++ 34 ∷ 125 ∷ [])) ([] ++ (s ++ [])) (begin ++ ((escape s ++ 34 ∷ []) ++
-      125 ∷ []))
+          125 ∷ []))
           (value_text (decoded (object (member tag (string s) no_members))))
           (moves_on a b e begin [] (s ++ 34 ∷ 125 ∷ []) (s ++ []) first
           (moves_on b d e s s (34 ∷ 125 ∷ []) [] moves last))

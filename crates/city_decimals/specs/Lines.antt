@@ -34,7 +34,7 @@ pub record AreDecodedLines (text out : List ℕ) : Type 0 where
   pub text_is : text ≡ first_text pairs rest
   pub out_is : out ≡ second_text pairs rest
 
--- want of memory may be answered at any text; else a line isn't JSON
+-- `OutOfMemory` may be answered for any text; any other fault says that a line isn't JSON
 abbrev pub IsLinesFault : List ℕ → DecimalsFault → Type 0
 IsLinesFault text OutOfMemory = Unit {0}
 IsLinesFault text NotJson = (before : List ℕ) × (line : List ℕ) × (after : List ℕ)

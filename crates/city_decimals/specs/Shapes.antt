@@ -1,4 +1,4 @@
--- The shapes of values that are encoded otherwise than by their parts.
+-- The shapes of values that aren't just encoded part by part.
 use Rattle.std.specs.Prelude.{ℕ, ◌&&◌, List, Bool, true, false, not, cond, Option, Some, None, option_and_then}
 use Rattle.std.specs.Prelude.{is_some, codes}
 use Rattle.std.specs.Str.{bytes_eq}
@@ -60,7 +60,7 @@ in_form Framed j = framed j
 
 -- ---- what stands in a form
 
--- the item of an array that has one
+-- the item of an array of one; any other value as it is
 abbrev pub only : Json → Json
 only null = null
 only (boolean b) = boolean b
@@ -71,7 +71,7 @@ only (array (item j no_items)) = j
 only (array (item j (item i js))) = array (item j (item i js))
 only (object ms) = object ms
 
--- the first member, where it stands under the tag
+-- the value of the first member, if its name is the tag; any other value as it is
 abbrev pub fronted : Json → Json
 fronted null = null
 fronted (boolean b) = boolean b

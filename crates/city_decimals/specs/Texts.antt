@@ -21,7 +21,7 @@ IsEncoded text out = (j : Json) × IsValueOf j text × (out ≡ print (json_toke
 abbrev pub IsDecoded : List ℕ → List ℕ → Type 0
 IsDecoded text out = (j : Json) × IsValueOf j text × (out ≡ print (json_tokens (decoded_top j)))
 
--- want of memory may be answered at any text
+-- `OutOfMemory` may be answered for any text
 abbrev pub IsDecimalsFault : List ℕ → DecimalsFault → Type 0
 IsDecimalsFault text OutOfMemory = Unit {0}
 IsDecimalsFault text NotJson = IsUtf8 text → document text ≡ None

@@ -16,7 +16,7 @@ use json::{Reader, Scratch, Writer};
 use std::alloc::Global;
 use value::decode_top;
 
-/// The text with its numbers as they were before `encode`, in one line, out of shield and frame.
+/// The text with its numbers as they were before `encode`, without shields and frames, in one line.
 pub fn decode(alloc: Global, bytes: &[u8]) -> Result<Vec<u8>, DecimalsFault>
     ensures decoded { IfOk result (λ out. IsDecoded bytes.now out.items) }
     ensures utf8 { IfOk result (λ out. IsUtf8 out.items) }
@@ -27,7 +27,7 @@ pub fn decode(alloc: Global, bytes: &[u8]) -> Result<Vec<u8>, DecimalsFault>
     decode_onto(alloc, bytes, &mut scratch, out)
 }
 
-/// The buffer, with the decoded text behind what it holds.
+/// The buffer, with the decoded text appended.
 pub(crate) fn decode_onto(
     alloc: Global,
     bytes: &[u8],

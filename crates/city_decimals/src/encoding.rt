@@ -27,7 +27,7 @@ use value::encode_top;
 pub fn encode(alloc: Global, bytes: &[u8]) -> Result<Vec<u8>, DecimalsFault>
     ensures encoded { IfOk result (λ out. IsEncoded bytes.now out.items) }
 
-    // What is decoded of it is read as the text itself: not a digit is lost.
+    // Decoded again it has the value of the text itself: not a digit is lost.
     ensures lossless { IfOk result (λ out. (back : List ℕ)
         → IsDecoded out.items back → document back ≡ document bytes.now) }
 

@@ -6,7 +6,7 @@ use std::alloc::AllocError;
 /// Why a text is neither encoded nor decoded.
 #[derive(Clone, Copy, Debug, Drop, PartialEq, Eq)]
 pub enum DecimalsFault {
-    /// There was no memory.
+    /// Memory ran out.
     OutOfMemory,
     /// The text isn't JSON, or nests deeper than 128.
     NotJson,

@@ -1,4 +1,4 @@
-//! Encodes a JSON text for an editor that takes whole numbers alone, and decodes what the editor writes.
+//! Encodes a JSON text for an editor that takes only whole numbers, and decodes what the editor writes.
 //!
 //! `encode` gives a text of whole numbers, `decode` the numbers as they were written; not a digit is lost.
 //!

@@ -1,4 +1,4 @@
-//! The shapes of values that are encoded otherwise than by their parts.
+//! The shapes of values that aren't just encoded part by part.
 ghost use Rattle.std.specs.Prelude.{◌≡◌, Some};
 ghost use Rattle.json.specs.Find.{get};
 ghost use Rattle.json.specs.Value.{value_view};

@@ -16,7 +16,7 @@ use Rattle.city_desk.specs.declared.progress.Phase.TheVariants.{Idle}
 use Rattle.city_desk.specs.declared.turn.Turn.{Turn}
 use Rattle.city_desk.specs.declared.turn.Turn.TheVariants as turns
 
--- the command was done and stands with those before it, and its reply was heard
+-- the command was done and stands with those before it, and its reply was noted
 pub record IsReplied (stamp : ℕ) (command : Command) (p q : Progress) (old new : CoreState) : Type 0 where
   pub goes_on : is_end command ≡ false
   pub granted : answer_in old stamp command ≡ Granted
@@ -35,7 +35,7 @@ pub record IsToWait (stamp : ℕ) (command : Command) (p q : Progress) (old new 
   pub opened : is_open new stamp ≡ true
   pub stands : (done : List Answered) → Stands old stamp done → Stands new stamp done
 
--- the transaction had to die for an older one
+-- the transaction had to die because of an older one
 pub record IsToDie (stamp : ℕ) (command : Command) (q : Progress) (old new : CoreState) : Type 0 where
   pub goes_on : is_end command ≡ false
   pub dies : answer_in old stamp command ≡ Die
@@ -52,7 +52,7 @@ Publishes true stamp old new before after =
     × (after ≡ before ++ change ∷ []) × (with_change (committed old) change ≡ view old stamp))
 Publishes false stamp old new before after = (committed new ≡ committed old) × (after ≡ before)
 
--- the transaction ended so at the command, which is number `number` of its script
+-- the transaction ended with this outcome at the command, which is number `number` of its script
 pub record AttemptEnded (stamp : ℕ) (command : Command) (number : ℕ) (outcome : Outcome) (old new : CoreState)
     (before after : List Change) : Type 0 where
   pub ends : EndsIn old stamp command number outcome

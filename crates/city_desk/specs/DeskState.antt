@@ -25,7 +25,7 @@ pub record DeskState : Type 0 where
   pub progress : List Progress
   pub core : CoreState
 
--- how far a script is that isn't there
+-- the progress of a script that isn't there
 abbrev pub nowhere : Progress
 nowhere = record { phase = Ended; replies = [] }
 

@@ -32,7 +32,7 @@ is_of_crew RunFault.Mixed = true
 abbrev pub IsSerialFault : List ℕ → List ℕ → RunFault → Type 0
 IsSerialFault document scripts f = IsRunFault document scripts f × (is_of_crew f ≡ false)
 
--- want of memory for a text is want of memory
+-- a document's `OutOfMemory` is the run's
 abbrev pub fault_of_document : ReadFault → RunFault
 fault_of_document ReadFault.OutOfMemory = RunFault.OutOfMemory
 fault_of_document f = RunFault.Read f

@@ -29,7 +29,7 @@ pub record IsAttempt (d : DeskState) (commands : List Command) (stamp start : �
   pub unrefused : list_any is_refusal replies ≡ false
   pub stands : Stands d.core stamp (answered commands replies)
 
--- how a script stands that is so far
+-- how a script stands that has come this far
 abbrev pub StandsAs : DeskState → List Command → Phase → List Reply → Type 0
 StandsAs d commands NotBegun replies = replies ≡ []
 StandsAs d commands (Idle stamp) replies = (replies ≡ []) × (stamp < d.begun)

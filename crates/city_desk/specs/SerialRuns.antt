@@ -11,12 +11,12 @@ pub record IsSerialRun (document scripts : List ℕ) (ends : List End) (bytes : 
   pub run : IsRun document scripts ends bytes
   pub in_turn : AreInTurn 0 ends
 
--- no script ended for want of memory
+-- no script ended out of memory
 abbrev pub had_memory : List End → Bool
 had_memory ends = list_all (λ e. not (is_no_memory e.outcome)) ends
 
--- the texts decide the ends and what is written: where each script had its memory, no other run of them
--- in which each has it differs
+-- the texts decide the ends and what is written: all runs of them in which no script ends out of
+-- memory are the same
 abbrev pub IsDecided : List ℕ → List ℕ → List End → List ℕ → Type 0
 IsDecided document scripts ends bytes =
     had_memory ends ≡ true → (others : List End) (written : List ℕ)

@@ -63,7 +63,7 @@ pub record IsOpenAt (d : DeskState) (stamp : ℕ) : Type 0 where
   pub began : ℕ
   pub phase : phase_of d script ≡ Open stamp began
 
--- its next command is neither Commit nor Abort, and is answered so by the locks
+-- its next command is neither Commit nor Abort, and the locks give this answer to it
 pub record IsAnswered (d : DeskState) (n stamp since : ℕ) (answer : Answer) : Type 0 where
   pub command : Command
   pub next : IsNext d n stamp since command
@@ -108,7 +108,7 @@ pub record HasDied (d e : DeskState) (n : ℕ) : Type 0 where
 
 -- ---- ended
 
--- the open transaction ends so at its next command
+-- the open transaction ends with this outcome at its next command
 pub record EndsOpen (d : DeskState) (n stamp since : ℕ) (outcome : Outcome) : Type 0 where
   pub command : Command
   pub next : IsNext d n stamp since command
@@ -116,14 +116,15 @@ pub record EndsOpen (d : DeskState) (n stamp since : ℕ) (outcome : Outcome) : 
   pub granted : is_end command ≡ false → is_no_memory outcome ≡ false
       → answer_in d.core stamp command ≡ Granted
 
--- a script that is so far ends so; where it has no open transaction, it couldn't be begun
+-- a script that has come this far ends with this outcome; if it has no open transaction,
+-- it couldn't be begun
 abbrev pub IsDue : DeskState → ℕ → Phase → ℕ → Outcome → Type 0
 IsDue d n NotBegun since outcome = (since ≡ length d.ends) × (outcome ≡ Outcome.NoMemory 0)
 IsDue d n (Idle stamp) since outcome = (since ≡ length d.ends) × (outcome ≡ Outcome.NoMemory 0)
 IsDue d n (Open stamp began) since outcome = (since ≡ began) × EndsOpen d n stamp began outcome
 IsDue d n Ended since outcome = ⊥
 
--- script n ends so, with the replies that it has
+-- the end of script n with this outcome, and with the replies that it has
 abbrev pub end_of : DeskState → ℕ → ℕ → Outcome → End
 end_of d n since outcome = record {
   script = n;

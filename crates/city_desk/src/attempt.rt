@@ -98,11 +98,12 @@ fn commit<S: Shelf>(core: &mut Core, shelf: &mut S, stamp: u64, number: usize) -
     }
 }
 
-/// Runs the next command of an attempt, under its locks: gives the turn after which the script goes
-/// on, or how the script ends.
+/// Runs the next command of an attempt, under its locks. Returns the turn after which the script
+/// goes on, or how the script ends.
 ///
-/// A commit puts its change on the shelf. Where the script ends, and where the attempt died, its
-/// transaction is over and has left nothing but what it committed. Replies that died are forgotten.
+/// A commit puts its change on the shelf. If the script ends or the attempt dies, its
+/// transaction is over and has left nothing but what it committed. The replies of an attempt
+/// that died are dropped.
 pub fn step<S: Shelf>(
     alloc: Global,
     core: &mut Core,

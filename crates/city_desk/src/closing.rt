@@ -11,11 +11,11 @@ fn roll_back_if_open(core: &mut Core, stamp: u64)
     ensures keeps { KeepsCity core.old core.new }
     ensures opened { (t : ℕ) → is_open core.new t ≡ (if stamp == t then false else is_open core.old t) }
 {
-    // Nothing is open where it answers that.
+    // An error means that it wasn't open.
     let _ = core.abort(stamp);
 }
 
-/// Rolls back each open transaction; they are all of these scripts.
+/// Rolls back each open transaction; all of them belong to these scripts.
 pub fn roll_back_all(core: &mut Core, progress: &[Progress])
     requires { AreOpenFrom 0 progress.now core.old }
     ensures keeps { KeepsCity core.old core.new }

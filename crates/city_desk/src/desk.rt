@@ -113,14 +113,15 @@ impl<S: Shelf> Desk<S> {
         })
     }
 
-    /// How many scripts there are. Takes no memory.
+    /// How many scripts there are. Doesn't allocate.
     pub fn scripts(&self) -> usize
         ensures { result ≡ length self.now.0.scripts }
     {
         self.scripts.len()
     }
 
-    /// The ends so far: those of scripts run one at a time in this order, each once. Takes no memory.
+    /// The ends so far: those of scripts run one at a time in this order,
+    /// each once. Doesn't allocate.
     pub fn ends(&self) -> &[End]
         ensures ends { result.now ≡ self.now.0.ends }
         ensures serial { IsSerial self.now.0 (S.list self.now.1) (S.base self.now.1) }
@@ -128,7 +129,7 @@ impl<S: Shelf> Desk<S> {
         self.ends.as_slice()
     }
 
-    /// The next script to be worked on: 0, 1, .. each once. Takes no memory.
+    /// The next script to be worked on: 0, 1, .. each once. Doesn't allocate.
     pub fn take(&mut self) -> Option<usize>
         ensures next { result ≡ (if nat_lt self.old.0.taken (length self.old.0.scripts) then Some self.old.0.taken else None) }
         ensures taken { self.new.0 ≡ record self.old.0 { taken = if nat_lt self.old.0.taken (length self.old.0.scripts) then self.old.0.taken + 1 else self.old.0.taken } }
@@ -142,10 +143,10 @@ impl<S: Shelf> Desk<S> {
         }
     }
 
-    /// A script whose next turn doesn't wait; none exactly where all have ended. Takes no memory.
+    /// A script whose next turn doesn't wait; none exactly where all have ended. Doesn't allocate.
     ///
-    /// Where each script that hasn't ended has an open transaction, it is the script of the youngest,
-    /// since a transaction waits for younger ones alone.
+    /// Where each script that hasn't ended has an open transaction, it is the script of the
+    /// youngest, since a transaction waits only for younger ones.
     pub fn ready(&self) -> Option<usize>
         ensures some { IfSome result (λ n. (n < length self.now.0.scripts) × (has_end n self.now.0.ends ≡ false) × (IsWaiting self.now.0 n → ⊥)) }
         ensures none { result ≡ None ↔ ((n : ℕ) → n < length self.now.0.scripts → has_end n self.now.0.ends ≡ true) }
@@ -170,9 +171,9 @@ impl<S: Shelf> Desk<S> {
 
     /// The next turn of script n: begins it, or runs its next command.
     ///
-    /// A refused command ends the script, and so does want of memory; its transaction is rolled back
-    /// then. A script that died keeps its stamp and forgets its replies. No other script's progress
-    /// changes. The shelf's list stays, and gains the change of a commit.
+    /// A refused command ends the script, and so does running out of memory; its transaction is
+    /// then rolled back. A script that died keeps its stamp, and its replies are dropped. No other
+    /// script's progress changes. The shelf's list stays, and gains the change of a commit.
     pub fn turn(&mut self, n: usize) -> Turn
         requires { n < length self.old.0.scripts }
         ensures turned { Turned n result self.old.0 self.new.0 }
@@ -188,8 +189,8 @@ impl<S: Shelf> Desk<S> {
         }
     }
 
-    /// Begins script n, or ends it where that was refused. `begun` is how many scripts have begun
-    /// then.
+    /// Begins script n, or ends it if that was refused. `begun` is how many scripts
+    /// have begun by then.
     fn begin(&mut self, n: usize, stamp: u64, begun: u64) -> Turn
         requires there { n < length self.old.0.scripts }
         requires its { stamp_for self.old.0 (phase_of self.old.0 n) ≡ Some stamp }
@@ -254,8 +255,8 @@ impl<S: Shelf> Desk<S> {
         }
     }
 
-    /// The final city, the ends and the shelf, or the desk as it was where a script hasn't ended.
-    /// Takes no memory.
+    /// The final city, the ends and the shelf, or the desk as it was where a script
+    /// hasn't ended. Doesn't allocate.
     pub fn finish(self) -> Result<Finished<S>, Desk<S>>
         ensures ended { IsOk result ↔ ((n : ℕ) → n < length self.0.scripts → has_end n self.0.ends ≡ true) }
         ensures each_once { IfOk result (λ f. length f.ends ≡ length self.0.scripts) }
@@ -273,8 +274,8 @@ impl<S: Shelf> Desk<S> {
         Ok(Finished { city, ends, shelf })
     }
 
-    /// The city that the ends so far leave, the ends and the shelf; every open transaction is rolled
-    /// back. Takes no memory.
+    /// The city that the ends so far leave, the ends and the shelf; every open transaction is
+    /// rolled back. Doesn't allocate.
     pub fn close(self) -> (City, Sequence<End>, S)
         ensures frame { result.0.0 ≡ self.0.start.0 }
         ensures city { at result.0.1 ≡ model_after self.0.scripts (at self.0.start.1) self.0.ends }

@@ -3,10 +3,10 @@
 //! - `desk`, `turn`: the desk, and what a turn answers
 //! - `opening`, `attempt`, `ready`, `closing`: what it makes at its opening, the next command of a script, whose turn
 //!   doesn't wait, what is rolled back at the close
-//! - `opening_city`: the city that it was opened over, for contracts alone
+//! - `opening_city`: the city that it was opened over, for contracts only
 //! - `progress`: how far a script is
 //! - `shelf`, `null_shelf`: where the changes of commits go, and a shelf that keeps none
-//! - `taken_changes`, `no_rule`: the changes that a shelf has taken, and records of what was, for contracts alone
+//! - `taken_changes`, `no_rule`: the changes that a shelf has taken, and records of what was, for contracts only
 //! - `texts`, `in_turn`, `serial_run`: the two texts of a run read, and the run of one worker
 //! - `output`, `fault`: what a run answers, and why it may have no answer
 #![tactic(auto)]

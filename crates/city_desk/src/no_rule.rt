@@ -1,4 +1,4 @@
-//! A record that is never added to, for the proofs alone.
+//! A record that is never added to, for the proofs only.
 use logbook::Rule;
 
 /// A record that is never added to.

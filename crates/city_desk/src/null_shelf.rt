@@ -9,7 +9,7 @@ use city_txn::Core;
 use std::marker::Model;
 use std::sync::Wait;
 
-/// A shelf that keeps no change. It has no bytes; contracts see the changes that it took.
+/// A shelf that keeps no change. It is zero-sized; contracts see the changes that it took.
 #[derive(Drop)]
 pub struct NullShelf {
     taken: TakenChanges,
@@ -29,7 +29,7 @@ impl Model for NullShelf {
 }
 
 impl NullShelf {
-    /// A shelf that has taken no change. Takes no memory.
+    /// A shelf that has taken no change. Doesn't allocate.
     pub fn new() -> NullShelf
         ensures { result ≡ [] }
     {
@@ -50,19 +50,19 @@ impl Shelf for NullShelf {
 
     ghost tells = { λ shelf note. Unit {0} };
 
-    /// Takes no memory, and answers Ok.
+    /// Doesn't allocate, and answers Ok.
     fn take(&mut self, change: Change) -> Result<(), OutOfMemory> {
         self.taken = self.taken.with(&change);
         Ok(())
     }
 
-    /// Takes no memory, and answers Ok. No change is made.
+    /// Doesn't allocate, and answers Ok. No change is made.
     fn take_from(&mut self, core: &Core, stamp: u64) -> Result<(), OutOfMemory> {
         self.taken = self.taken.with_writes(core, stamp);
         Ok(())
     }
 
-    /// Takes no memory, and answers Ok.
+    /// Doesn't allocate, and answers Ok.
     fn show<R: Wait>(&mut self, _rt: &R) -> Result<(), OutOfMemory> {
         Ok(())
     }

@@ -1,4 +1,4 @@
-//! The city that a desk or a board was opened over, for the proofs alone.
+//! The city that a desk or a board was opened over, for the proofs only.
 ghost use Rattle.std.specs.Prelude.{◌≡◌};
 
 use crate::no_rule::NoRule;
@@ -15,7 +15,7 @@ impl FirstEntry<City, City> for OneCity {
     ghost log = { λ count city. city ∷ [] };
 }
 
-/// The city that a desk or a board was opened over. It has no bytes; contracts see the city.
+/// The city that a desk or a board was opened over. It is zero-sized; contracts see the city.
 #[derive(Drop)]
 pub struct OpeningCity {
     seen: Seen<City, u64, NoRule>,
@@ -37,7 +37,7 @@ impl Model for OpeningCity {
 }
 
 impl OpeningCity {
-    /// A record of the city. Takes no memory.
+    /// A record of the city. Doesn't allocate.
     pub fn of(city: &City) -> OpeningCity
         ensures { result ≡ city.now }
     {

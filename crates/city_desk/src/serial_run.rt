@@ -14,9 +14,9 @@ use std::alloc::Global;
 
 /// Runs the scripts on the document's city, one after the other in their order.
 ///
-/// The document is judged before the scripts. A script that finds no memory ends so and changes
-/// nothing; want of memory for a text, for the desk or for the output ends the run. Where each script
-/// had its memory, the two texts alone decide the ends and the bytes.
+/// The document is judged before the scripts. A script that runs out of memory ends as `NoMemory`
+/// and changes nothing; running out of memory for a text, for the desk or for the output ends the
+/// run. If no script ran out of memory, the two texts alone decide the ends and the bytes.
 pub fn run_serial(alloc: Global, document: &[u8], scripts: &[u8]) -> Result<Output, RunFault>
     ensures ran { IfOk result (λ o. IsSerialRun document.now scripts.now o.ends o.bytes.items) }
     ensures decided { IfOk result (λ o. IsDecided document.now scripts.now o.ends o.bytes.items) }

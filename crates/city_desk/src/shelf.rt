@@ -31,7 +31,7 @@ pub trait Shelf: Drop {
     /// The note stands for the list.
     ghost tells: { Self → Self.Note → Type 0 };
 
-    /// Takes a change; where there is no memory the list stays.
+    /// Takes a change. If memory runs out, the list stays.
     fn take(&mut self, change: Change) -> Result<(), OutOfMemory>
         requires room { length (list self.old) + 1 < 2 ^ 64 }
         requires lawful { IfSome (base self.old) (λ city. IsLawful (shown (at city.1) (list self.old ++ change ∷ []))) }
@@ -40,9 +40,10 @@ pub trait Shelf: Drop {
         ensures base { base self.new ≡ base self.old }
         ensures name { name self.new ≡ name self.old };
 
-    /// Takes the change of an open transaction that may commit; where there is no memory the list stays.
+    /// Takes the change of an open transaction that may commit. If memory runs out, the list stays.
     ///
-    /// A shelf that keeps its changes has the core make it. One that doesn't needs none.
+    /// A shelf that keeps its changes has the core make the change. One that keeps
+    /// none doesn't need it.
     fn take_from(&mut self, core: &Core, stamp: u64) -> Result<(), OutOfMemory>
         requires room { length (list self.old) + 1 < 2 ^ 64 }
         requires allowed { IsChangeOf core.now stamp (change_in core.now.writes stamp) }
@@ -87,7 +88,7 @@ impl Model for ListShelf {
 }
 
 impl ListShelf {
-    /// A shelf with no changes. Takes no memory.
+    /// A shelf with no changes. Doesn't allocate.
     pub fn new(alloc: Global) -> ListShelf
         ensures { result ≡ [] }
     {
@@ -96,7 +97,7 @@ impl ListShelf {
         }
     }
 
-    /// The changes that it took. Takes no memory.
+    /// The changes that it took. Doesn't allocate.
     pub fn changes(&self) -> &[Change]
         ensures { result.now ≡ self.now }
     {
@@ -119,7 +120,7 @@ impl Shelf for ListShelf {
         self.changes.push(change)
     }
 
-    /// Takes no memory, and answers Ok.
+    /// Doesn't allocate, and answers Ok.
     fn show<R: Wait>(&mut self, _rt: &R) -> Result<(), OutOfMemory>
         ensures list { self.new ≡ self.old }
         ensures ok { IsOk result }

@@ -1,4 +1,4 @@
-//! The changes that a shelf has taken, for contracts alone.
+//! The changes that a shelf has taken, for contracts only.
 ghost use Rattle.std.specs.Prelude.{◌≡◌, ◌++◌, ◌∷◌, []};
 ghost use Rattle.city_txn.specs.Changing.{change_in};
 
@@ -8,7 +8,7 @@ use city_txn::Core;
 use logbook::{Opening as FirstEntries, Seen, Start};
 use std::marker::Model;
 
-/// Of no change.
+/// The first entries of `TakenChanges::none`: no change.
 pub struct NoChange;
 
 impl FirstEntries<(), Change> for NoChange {
@@ -24,7 +24,7 @@ pub struct WithChange<'a> {
     change: &'a Change,
 }
 
-/// Of these changes, and that one.
+/// The first entries of `TakenChanges::with`: these changes, and that one.
 pub struct OneMore;
 
 impl<'a> FirstEntries<WithChange<'a>, Change> for OneMore {
@@ -41,7 +41,7 @@ pub struct WithWrites<'a> {
     stamp: u64,
 }
 
-/// Of these changes, and that of the transaction.
+/// The first entries of `TakenChanges::with_writes`: these changes, and that of the transaction.
 pub struct OneWritten;
 
 impl<'a> FirstEntries<WithWrites<'a>, Change> for OneWritten {
@@ -51,7 +51,7 @@ impl<'a> FirstEntries<WithWrites<'a>, Change> for OneWritten {
     ghost log = { λ count with. with.taken.now ++ change_in with.core.now.writes with.stamp ∷ [] };
 }
 
-/// The changes that a shelf has taken. It has no bytes; contracts see the changes.
+/// The changes that a shelf has taken. It is zero-sized; contracts see the changes.
 #[derive(Drop)]
 pub struct TakenChanges {
     seen: Seen<Change, u64, NoRule>,
@@ -91,7 +91,7 @@ impl TakenChanges {
         TakenChanges { seen }
     }
 
-    /// These changes, and that of an open transaction, which isn't made.
+    /// These changes, and that of an open transaction, for which the change itself isn't made.
     pub fn with_writes(&self, core: &Core, stamp: u64) -> TakenChanges
         ensures { result ≡ self.now ++ change_in core.now.writes stamp ∷ [] }
     {

@@ -13,7 +13,7 @@ use city_model::sequence::Sequence;
 use std::alloc::Global;
 
 /// The city and the scripts that two texts stand for. The document is judged before the scripts;
-/// want of memory for a text is `OutOfMemory`.
+/// running out of memory for a text is `OutOfMemory`.
 pub fn read_texts(
     alloc: Global,
     document: &[u8],

@@ -100,7 +100,7 @@ fn opened<'r, R: Wait>(
     Some((desk, viewers))
 }
 
-/// Takes the steps at a desk, which it lets go of at one place alone.
+/// Takes the steps at a desk, which is dropped in one place only.
 fn play_at<R: Wait + Drop, Q: Wait>(
     rt: &Q,
     alloc: Global,
@@ -168,10 +168,10 @@ fn take_step<R: Wait + Drop, Q: Wait>(
     Ok(viewers)
 }
 
-/// How often a script is turned at most.
+/// The most turns that a script is given.
 const TURNS: usize = 2000;
 
-/// Turns the next script to its end.
+/// Runs the next script to its end.
 fn end_next<S: Shelf>(desk: &mut Desk<S>) -> &'static str {
     let Some(script) = desk.take() else {
         return "no script";

@@ -1,4 +1,4 @@
-//! A change, told by its ids.
+//! A change, written as its ids.
 use city_model::object::Object;
 use city_model::text::Text;
 use std::alloc::{AllocError, Global};

@@ -14,7 +14,7 @@ pub fn play_words(alloc: Global, lines: &str, answer: &mut Vec<u8>) -> Result<()
     Ok(())
 }
 
-/// What a command line asks for: a word and the names, or the first line of the text that is told.
+/// What a command line asks for: a word and the names, or the first line of the text that is shown.
 fn told(alloc: Global, line: &str) -> Result<String, AllocError> {
     let mut words = Vec::new(alloc);
     for word in line.split_whitespace() {

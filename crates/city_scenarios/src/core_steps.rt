@@ -157,7 +157,7 @@ fn act_first(
     }
 }
 
-/// What a command is answered, as `would_wait` foretold it.
+/// The answer to a command, or a line that says that `would_wait` foretold another.
 fn act(core: &mut Core, alloc: Global, stamp: u64, command: &Command) -> Result<String, AllocError>
     requires { is_end command.now ≡ false }
 {

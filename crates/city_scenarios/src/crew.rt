@@ -12,7 +12,7 @@ use std::alloc::{AllocError, Global};
 use std::sync::Wait;
 use std::thread::Threads;
 
-/// What is told of a run.
+/// What is reported of a run.
 #[derive(Clone, Copy)]
 pub enum Told {
     /// The bytes.
@@ -25,8 +25,8 @@ pub enum Told {
     Texts,
 }
 
-/// Runs the scripts by each of the crews, written as `4x1` for four workers before one viewer, and answers what is told
-/// of the run: once, where it is the same each time.
+/// Runs the scripts by each of the crews, written as `4x1` for four workers before one viewer, and answers what is
+/// reported of the run: once, where it is the same each time.
 pub fn play_crews<T: Threads + Wait + Sync>(
     rt: &T,
     alloc: Global,
@@ -51,7 +51,7 @@ pub fn play_crews<T: Threads + Wait + Sync>(
     Ok(())
 }
 
-/// Runs the scripts by one crew, and answers what is told of the run.
+/// Runs the scripts by one crew, and answers what is reported of the run.
 fn play_crew<T: Threads + Wait + Sync>(
     rt: &T,
     alloc: Global,
@@ -97,7 +97,7 @@ fn run_texts<T: Threads + Wait + Sync>(
     }
 }
 
-/// Adds what is told of a run's output, whose viewers must have seen all commits at last.
+/// Adds what is reported of a run's output, whose viewers must have seen all commits at last.
 fn add_output(
     alloc: Global,
     told: Told,

@@ -19,12 +19,13 @@ pub fn play_document(
     }
 }
 
-/// Adds the line that tells why a document is refused.
+/// Adds the line that says why a document is refused.
 fn add_read_fault(alloc: Global, fault: ReadFault, answer: &mut Vec<u8>) -> Result<(), AllocError> {
     add_run_fault(alloc, answer, RunFault::from(fault))
 }
 
-/// Adds the canonical text of a city; that it isn't lawful, or its copy another city, where it is so.
+/// Adds the canonical text of a city; or, if it isn't lawful or its copy has another text, a
+/// line that says so.
 pub fn add_city(alloc: Global, city: &City, answer: &mut Vec<u8>) -> Result<(), AllocError> {
     if !is_lawful(alloc, city)? {
         return add_line(answer, "not lawful");

@@ -9,14 +9,14 @@ use std::thread::Threads;
 
 /// What came of the parts of a file so far.
 enum Came {
-    /// All as wanted: how many scenarios there were.
+    /// All went as wanted: how many scenarios there were.
     All(u64),
-    /// One went otherwise: which, and how.
+    /// One failed: which, and how.
     Otherwise(String),
 }
 
 /// Plays the scenarios of a file, and prints what came of it: whether all went as they say. `threads` is the runtime
-/// again, which has threads in `main` alone.
+/// again, which is known to have threads only in `main`.
 pub fn play_file<T: Threads + Wait + Sync>(rt: &HostRuntime, threads: &T, name: &str) -> bool {
     let Ok(text) = fs::read_to_string(rt, name) else {
         let _ = println!(rt; "{name}: not read");
@@ -35,7 +35,7 @@ pub fn play_file<T: Threads + Wait + Sync>(rt: &HostRuntime, threads: &T, name: 
     }
 }
 
-/// Plays the scenarios of a text up to the first that goes otherwise. Between two there is an empty line.
+/// Plays the scenarios of a text up to the first that fails. Between two there is an empty line.
 fn play_text<T: Threads + Wait + Sync>(
     rt: &T,
     alloc: Global,
@@ -57,7 +57,7 @@ fn is_scenario(part: &str) -> bool {
     !(part.is_empty() || part.starts_with("#") || part.starts_with("let "))
 }
 
-/// Plays a part of a file: how it goes otherwise, if it does.
+/// Plays a part of a file, and says how it fails, if it does.
 fn play_part<'a, T: Threads + Wait + Sync>(
     rt: &T,
     alloc: Global,
@@ -78,7 +78,7 @@ fn play_part<'a, T: Threads + Wait + Sync>(
     }
 }
 
-/// Plays a scenario: how it goes otherwise, if it does.
+/// Plays a scenario, and says how it fails, if it does.
 fn play_scenario<T: Threads + Wait + Sync>(
     rt: &T,
     alloc: Global,

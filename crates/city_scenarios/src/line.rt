@@ -20,12 +20,12 @@ pub fn add_bytes(answer: &mut Vec<u8>, bytes: &[u8]) -> Result<(), AllocError> {
     Ok(())
 }
 
-/// Adds the line that tells a fault.
+/// Adds the line that reports a fault.
 pub fn add_fault(alloc: Global, answer: &mut Vec<u8>, fault: ServeFault) -> Result<(), AllocError> {
     add_line(answer, fault_line(alloc, &fault)?.as_str())
 }
 
-/// Adds the line that tells why a run has no output.
+/// Adds the line that says why a run has no output.
 pub fn add_run_fault(
     alloc: Global,
     answer: &mut Vec<u8>,

@@ -45,7 +45,7 @@ fn said(table: &mut LockTable, alloc: Global, step: &str) -> Result<String, Allo
     }
 }
 
-/// What an asker is answered, as it was foretold.
+/// The answer to an asker, or a line that says that `would_answer` foretold another.
 fn asked(
     table: &mut LockTable,
     alloc: Global,

@@ -15,7 +15,7 @@ pub struct Reads {
 }
 
 impl Reads {
-    /// The habits that these words tell.
+    /// The habits that these words describe.
     pub fn told(words: &str) -> Reads {
         Reads {
             at_a_time: if words.contains("bytewise") {

@@ -1,8 +1,8 @@
 //! The scripts of a list of ends, played one at a time in the order of their ends.
 //!
 //! A script is played by the plans of its commands, on a copy of the city that is kept where the
-//! script commits. A script that goes back is one that never had the commands since the mark: the others
-//! are done anew. No lock, no transaction and no desk has a part in it.
+//! script commits. A script that goes back is played as one that never had the commands since the
+//! mark: the others are done anew. No lock, no transaction and no desk has a part in it.
 ghost use Rattle.std.specs.Prelude.{◌≡◌, false, IfOk, OnOk};
 ghost use Rattle.city_model.specs.CityMap.{at};
 ghost use Rattle.city_model.specs.Relations.{IsSound};
@@ -152,7 +152,7 @@ fn ended(
     }
 }
 
-/// Plays the commands on a copy of the opening city, and gives how they end: where none of them ends the script, for want of
+/// Plays the commands on a copy of the opening city, and returns how they end: if none of them ends the script, out of
 /// memory at the next one.
 fn play(
     alloc: Global,
@@ -179,7 +179,8 @@ fn play(
     Ok(Outcome::NoMemory(commands.len()))
 }
 
-/// The commands of the script that were tried before it ended: all, but for want of memory.
+/// The commands of the script that were tried before it ended: all of them, unless it
+/// ran out of memory.
 fn tried<'a>(script: &'a Script, outcome: &Outcome) -> &'a [Command] {
     let commands = script.commands();
     match outcome {
@@ -209,7 +210,7 @@ fn play_on_copy(
 }
 
 /// The end of the script of this end when it is played on the city, which changes where the script
-/// commits; none where there is no such script, or no memory.
+/// commits; none if there is no such script, or memory runs out.
 fn end_again(alloc: Global, city: &mut City, scripts: &[Script], end: &End) -> Option<End>
     requires { IsSound (at city.old.1) }
     ensures { IsSound (at city.new.1) }

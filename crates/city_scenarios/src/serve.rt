@@ -9,7 +9,7 @@ use std::alloc::{AllocError, Global};
 use std::sync::Wait;
 use std::thread::Threads;
 
-/// Serves the input by the habits that the words tell of its reader and its writer, and answers what the writer has, and
+/// Serves the input with the habits that the words give its reader and its writer, and answers what the writer has, and
 /// then why the rest wasn't served.
 pub fn play_serve<T: Threads + Wait + Sync>(
     rt: &T,
@@ -43,7 +43,7 @@ fn joined(alloc: Global, texts: &[&[u8]]) -> Result<Vec<u8>, AllocError> {
     Ok(all)
 }
 
-/// What the writer has, and the line that tells why the rest wasn't served, if it wasn't.
+/// What the writer has, and the line that says why the rest wasn't served, if it wasn't.
 fn served<T: Threads + Wait + Sync>(
     rt: &T,
     alloc: Global,

@@ -4,7 +4,7 @@ use std::alloc::{AllocError, Global};
 /// How much of a line is shown.
 const SHOWN: usize = 2000;
 
-/// The first line that differs, told with a scenario's title; none where all are the same.
+/// The first line that differs, with a scenario's title; none where all are the same.
 pub fn differing(
     alloc: Global,
     title: &str,

@@ -21,7 +21,7 @@ pub struct Writes {
 }
 
 impl Writes {
-    /// The habits that these words tell.
+    /// The habits that these words describe.
     pub fn told(words: &str) -> Writes {
         let full = number_after(words, "full ");
         let stuck = number_after(words, "stuck ");

@@ -31,7 +31,7 @@ IsReadEncoded text encoded = IsReadable text × IsEncoded text encoded
 abbrev pub IsGiven : List ℕ → List ℕ → Type 0
 IsGiven text given = IsReadEncoded text given ⊎ (IsRefusedText text × (given ≡ text))
 
--- each tree that the editor may read of the text has whole numbers alone
+-- each tree that the editor may read from the text has only whole numbers
 abbrev pub HasWholeNumbers : List ℕ → Type 0
 HasWholeNumbers text = (d : Data) → HasTree text d → is_integral d ≡ true
 
@@ -64,7 +64,7 @@ pub record IsFaultOnGiven (document scripts : List ℕ) (workers viewers : ℕ) 
   pub fault : IsFaultOfRun given_document given_scripts workers viewers f
   pub whole : IsOfWholeNumbers f
 
--- want of memory may be answered at any texts
+-- `OutOfMemory` may be answered for any texts
 abbrev pub IsFaultOfDecimalsRun : List ℕ → List ℕ → ℕ → ℕ → RunFault → Type 0
 IsFaultOfDecimalsRun document scripts workers viewers f =
     (f ≡ RunFault.OutOfMemory) ⊎ IsFaultOnGiven document scripts workers viewers f

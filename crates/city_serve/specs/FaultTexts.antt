@@ -1,5 +1,5 @@
--- The line that tells a fault: its number, its name and its fields, texts as JSON texts and numbers in
--- decimal.
+-- The line that reports a fault: its number, its name and its fields, texts as JSON texts
+-- and numbers in decimal.
 use Rattle.std.specs.Prelude.{ℕ, List, ◌++◌, codes}
 use Rattle.std.specs.Fmt.{decimal}
 use Rattle.serde_json.specs.Data.{string}

@@ -1,4 +1,4 @@
--- The line that tells what a viewer saw.
+-- The line that reports what a viewer saw.
 use Rattle.std.specs.Prelude.{ℕ, List, [], ◌∷◌, ◌++◌, codes}
 use Rattle.std.specs.Fmt.{decimal}
 

@@ -39,7 +39,7 @@ IsCutShortBy ran input workers viewers old new =
 abbrev pub IsServed : List ℕ → ℕ → ℕ → List (Vec ℕ) → Option (List ℕ) → Option (List ℕ) → Type 0
 IsServed = IsServedBy IsRun
 
--- the reader has failed, or there was want of memory for what it gave
+-- the reader has failed, or ran out of memory
 abbrev pub IsReadFault : Bool → ServeFault → Type 0
 IsReadFault failed f = ((f ≡ ServeFault.Read) × (failed ≡ true)) ⊎ (f ≡ ServeFault.Run RunFault.OutOfMemory)
 

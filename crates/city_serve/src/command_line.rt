@@ -31,16 +31,16 @@ Standard output gets a line of JSON for each script, then the edited model in on
 The scripts are a JSON array. Each is run as one transaction:
   [{\"name\": NAME, \"commands\": [COMMAND, .., \"commit\"]}, ..]
 Its last command is \"commit\" or \"abort\"; the ones before it are of these forms:
-  {\"read\": ID}                          what is there?
-  {\"put\": ID, \"object\": OBJECT}         add an object, or replace what it is
-  {\"delete\": ID}                        take out an object without children
-  {\"attach\": CHILD, \"parent\": PARENT}   make them child and parent
-  {\"detach\": CHILD, \"parent\": PARENT}   part them
-  {\"mark\": NAME}                        give what is seen here a name
-  {\"back\": NAME}                        undo what was written since the newest mark of the name
-Positions in an OBJECT count in the script's own \"vertices\": [[x, y, z], ..].
+  {\"read\": ID}                          report the object, or that there is none
+  {\"put\": ID, \"object\": OBJECT}         add an object, or replace all but type and relations
+  {\"delete\": ID}                        delete an object that has no children
+  {\"attach\": CHILD, \"parent\": PARENT}   make CHILD a child of PARENT
+  {\"detach\": CHILD, \"parent\": PARENT}   end that relation; both objects stay
+  {\"mark\": NAME}                        set a mark of this name, to go back to
+  {\"back\": NAME}                        undo what the script wrote since its newest mark NAME
+Boundaries in an OBJECT are indices into the script's own \"vertices\": [[x, y, z], ..].
 Numbers are whole. With --decimals others are taken, and given back as they were written.
-Vertices are whole in every CityJSON file, and stay in the model's own grid.
+Vertices are whole in every CityJSON file, and count in the grid of the model's \"transform\".
 
 With one worker the scripts run one after the other. With several the scripts take turns and
 end in any order. With --watch, after success, standard error gets a line for each viewer,
@@ -49,7 +49,7 @@ end in any order. With --watch, after success, standard error gets a line for ea
 
 Status:
   0  done, or help was asked for
-  1  the input was refused, there was no memory, or a device failed: standard error says which
+  1  the input was refused, memory ran out, or reading or writing failed; see standard error
   2  the command line isn't understood: standard error says what is wrong
 A script that is refused ends as \"refused\" in its line, and the status is 0.";
 
@@ -202,8 +202,8 @@ fn options_by<'a>(
     })
 }
 
-/// The number that an option's text writes, from `least` to `most`, and `least` without a text.
-/// `None` where the text writes no such number.
+/// The number that an option's text writes, from `least` to `most`; `least` without a text. `None`
+/// if the text writes no such number.
 fn count_by(given: Option<&str>, least: usize, most: usize) -> Option<usize>
     requires { least ≤ most }
     ensures { MatchOption result

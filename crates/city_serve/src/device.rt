@@ -10,9 +10,9 @@ use std::marker::Model;
 
 /// A reader or a writer, and whether it has failed since it was wrapped.
 ///
-/// A reader fails where it answers an error that isn't want of memory. A writer fails where it
-/// answers an error, or takes no byte of some. Being interrupted is no failure: the call is made
-/// again.
+/// A reader fails if it answers an error other than being out of memory. A writer fails if
+/// it answers an error, or takes none of the bytes. Being interrupted is no failure: the
+/// call is made again.
 #[derive(Drop)]
 pub struct Device<D> {
     inner: D,
@@ -28,7 +28,7 @@ impl<D> Model for Device<D> {
 }
 
 impl<D> Device<D> {
-    /// A device that hasn't failed. Takes no memory.
+    /// A device that hasn't failed. Doesn't allocate.
     pub fn new(inner: D) -> Self
         ensures { result ≡ (inner, false) }
     {
@@ -40,10 +40,10 @@ impl<D> Device<D> {
 }
 
 impl<R: Read> Device<R> {
-    /// Reads some bytes into the chunk: how many, and none only at the end.
+    /// Reads some bytes into the chunk, and returns how many: 0 only at the end of the input.
     ///
-    /// Refused with `Read` where the reader fails, and else for want of memory; either way the reader
-    /// has given nothing.
+    /// It answers `Read` if the reader fails, and `OutOfMemory` if the reader ran out of memory;
+    /// either way the reader has given nothing.
     pub fn read_some(&mut self, chunk: &mut [u8]) -> Result<usize, ServeFault>
         requires { 0 < length chunk.old }
         ensures within { IfOk result (λ n. n ≤ length chunk.new) }
@@ -69,9 +69,9 @@ impl<R: Read> Device<R> {
 }
 
 impl<W: Write> Device<W> {
-    /// Gives the writer some bytes: how many it took, which is at least one.
+    /// Gives the writer some bytes, and returns how many it took, which is at least one.
     ///
-    /// None where it fails, and then it took nothing.
+    /// None if it fails; then it took nothing.
     pub fn write_some(&mut self, bytes: &[u8]) -> Option<usize>
         requires { 0 < length bytes.now }
         ensures taken { IfSome result (λ n. (0 < n) × (n ≤ length bytes.now)) }
@@ -95,7 +95,7 @@ impl<W: Write> Device<W> {
         None
     }
 
-    /// Lets the writer pass on what it holds: whether it did.
+    /// Flushes the writer, and says whether that succeeded.
     pub fn flush(&mut self) -> bool
         ensures kept { Keeps (W.contents self.old.0) (W.contents self.new.0) }
         ensures unfailed { result ≡ true → self.new.1 ≡ self.old.1 }

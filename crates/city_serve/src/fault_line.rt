@@ -1,4 +1,4 @@
-//! The line that tells a fault.
+//! The line that reports a fault.
 ghost use Rattle.std.specs.Prelude.{◌≡◌, ◌++◌, IfOk, codes, string_bytes};
 ghost use Rattle.std.specs.Fmt.{decimal};
 ghost use Rattle.city_serve.specs.FaultTexts.{quoted, model_text, scripts_text, run_text, fault_text};
@@ -11,7 +11,7 @@ use city_model::text::Text;
 use serde_json::Value;
 use std::alloc::Global;
 
-/// The line that tells a fault, without a newline. Refused only where there is no memory.
+/// The line that reports a fault, without a newline. It fails only when out of memory.
 pub fn fault_line(alloc: Global, fault: &ServeFault) -> Result<String, OutOfMemory>
     ensures { IfOk result (λ s. string_bytes s ≡ fault_text fault.now) }
 {

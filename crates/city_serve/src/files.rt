@@ -14,8 +14,8 @@ use std::fs;
 use std::fs::Files;
 use std::io::{ErrorKind, Read};
 
-/// The most bytes that are read of a text: by one more than it may have, a text that is too long is
-/// told from one that isn't.
+/// The most bytes that are read of a text: one more than it may have, so that a text that is
+/// too long is noticed.
 const MOST: usize = MAX_TEXT + 1;
 
 /// The text that a file has, or where it is too long its first `MAX_TEXT` + 1 bytes.
@@ -30,7 +30,7 @@ pub fn read_file<R: Files + AllocGlobal>(rt: &R, path: &str) -> Result<Vec<u8>, 
     }
 }
 
-/// What the kind of an error in opening a file says.
+/// The fault that an error of this kind in opening a file is.
 fn open_fault(kind: ErrorKind) -> ServeFault
     ensures { IsReadFault true result }
 {

@@ -33,8 +33,8 @@ pub(crate) fn run<R: Threads + Wait + Sync, G: Gate + Sync>(
 {
     if workers == 1 && viewers == 0 {
         let (output, city) = run_serial_to_city(alloc, document, scripts)?;
-        // The process ends after its output, and takes the city with it at once: to let a city go object by object
-        // is a twentieth of a run.
+        // The process ends after its output, and its memory goes with it. To drop the city object by
+        // object would take time.
         forget(city);
         Ok(output)
     } else {

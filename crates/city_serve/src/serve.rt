@@ -50,7 +50,7 @@ pub fn serve<T: Threads + Wait + Sync, R: Read, W: Write>(
     serve_texts(rt, alloc, document, scripts, writer, workers, viewers)
 }
 
-/// What a reader gives, but no more than so many bytes; nor are more taken from it.
+/// What a reader gives, up to so many bytes; no more are taken from it.
 pub(crate) fn read_at_most<R: Read>(
     alloc: Global,
     reader: &mut Device<R>,
@@ -93,7 +93,7 @@ fn first_newline(bytes: &[u8]) -> Option<usize>
     memchr(b'\n', bytes)
 }
 
-/// Writes the bytes, and lets the writer pass them on: whether it did.
+/// Writes the bytes and flushes the writer, and says whether both succeeded.
 pub fn write_output<W: Write>(writer: &mut Device<W>, bytes: &[u8]) -> bool
     ensures written { result ≡ true → Appends (W.contents writer.old.0) (W.contents writer.new.0) bytes.now }
     ensures cut_short { result ≡ false → AppendsSome (W.contents writer.old.0) (W.contents writer.new.0) bytes.now }

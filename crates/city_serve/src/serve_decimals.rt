@@ -100,7 +100,7 @@ fn run_decimals<R: Threads + Wait + Sync>(
     let output = run(rt, alloc, &OpenGate, model, commands, workers, viewers)?;
     match decode_lines(alloc, output.bytes.as_slice()) {
         Ok(bytes) => Ok(Output { bytes, ..output }),
-        // Each line of an output is JSON, so that memory alone is short here.
+        // Each line of an output is JSON, so only memory can have run out here.
         Err(_) => Err(RunFault::OutOfMemory),
     }
 }

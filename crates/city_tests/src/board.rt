@@ -89,7 +89,7 @@ pub fn turn<S: Shelf>(desk: &mut Desk<S>, script: usize) -> Option<Turn>
     }
 }
 
-/// Turns the next script, which has two commands, to its end: whether it ended.
+/// Runs the next script, which has two commands, to its end: whether it ended.
 fn end_next<S: Shelf>(desk: &mut Desk<S>) -> bool
     ensures { S.name desk.new.1 ≡ S.name desk.old.1 }
 {

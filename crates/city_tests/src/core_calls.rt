@@ -1,4 +1,4 @@
-//! Calls of a transaction core: each that found no memory is made again, and answers then.
+//! Calls of a transaction core: each that ran out of memory is made again, and answers then.
 ghost use Rattle.city_model.specs.CityMap.{at};
 ghost use Rattle.city_model.specs.Relations.{IsLawful};
 
@@ -69,7 +69,8 @@ fn are_committed(core: &mut Core, commands: &[Command], count: usize) -> bool {
     begun && are_done(core, 5, commands) && commit(core, 5) == Some(count)
 }
 
-/// Whether the first command is done, or finds no memory and leaves nothing that the second finds or a commit changes.
+/// Whether the first command is done, or runs out of memory and leaves nothing that the second finds
+/// or a commit changes.
 fn is_done_or_absent(core: &mut Core, commands: &[Command]) -> bool {
     let [put, read, ..] = commands else {
         return false;
@@ -97,7 +98,7 @@ fn is_left(alloc: Global, city: City, commands: &[Command], count: usize, wanted
     done && left
 }
 
-/// The same of a document and a text of one script, whose commands are meant; none where there was no memory for them.
+/// The same for a document and the commands of a text of one script; none if memory ran out for them.
 pub fn is_done(
     alloc: Global,
     document: &str,

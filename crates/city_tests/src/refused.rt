@@ -1,6 +1,7 @@
-//! What a refused growth leaves. `testing/refused_growths.py` takes each of these tests once for each
-//! growth that it makes, and refuses that one: a call that was refused can be made again, and what a
-//! run leaves is a serial history. A test that finds no memory to begin with says so and no more.
+//! What a refused growth, an allocation, leaves. `testing/refused_growths.py` runs each of these
+//! tests once for each growth that it makes, and refuses that one: a call that was refused can be
+//! made again, and what a run leaves is a serial history. A test that has no memory to begin with
+//! says so and does no more.
 ghost use Rattle.std.specs.Prelude.{◌≡◌, IfSome};
 
 use crate::board::{commit_next, counted, opened_to_one, shown, turn};
@@ -104,7 +105,7 @@ fn leaves_a_history(mut desk: Desk<ListShelf>, alloc: Global, run: &Run) -> bool
     }
 }
 
-/// The same of a new desk; none where there was no memory for it.
+/// The same of a new desk; none if memory ran out for it.
 fn turns_leave(alloc: Global, run: &Run) -> Option<bool> {
     let desk = opened(alloc, run)?;
     Some(leaves_a_history(desk, alloc, run))
@@ -125,7 +126,7 @@ fn turns_leave_a_serial_history(rt: HostRuntime) -> Result<(), Fail> {
     Ok(())
 }
 
-/// Whether no script of a run ends for want of memory at its command 3.
+/// Whether no script of a run ends out of memory at its command 3.
 fn never_ends_at_three(alloc: Global, run: &Run) -> Option<bool> {
     let mut desk = opened(alloc, run)?;
     end_all(&mut desk);
@@ -200,7 +201,7 @@ fn a_show_can_be_made_again(rt: HostRuntime) -> Result<(), Fail> {
     Ok(())
 }
 
-/// Whether a run is refused for want of memory alone, or its scripts give the same when they are played again.
+/// Whether a run fails only because memory ran out, or its scripts give the same when they are played again.
 fn is_serial_or_short(alloc: Global, run: &Run, ran: Result<Output, RunFault>) -> bool {
     match ran {
         Ok(output) => is_replayed(alloc, run, output.ends.as_slice(), output.bytes.as_slice()),

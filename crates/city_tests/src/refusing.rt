@@ -10,7 +10,7 @@ use std::alloc::Global;
 use std::sync::Wait;
 use std::test::Fail;
 
-/// A list of changes that refuses the first, though there is memory.
+/// A list of changes that refuses the first one as if memory had run out.
 #[derive(Drop)]
 pub struct Refusing {
     list: ListShelf,

@@ -8,7 +8,7 @@ use std::alloc::Global;
 /// The most turns that a script of a run here takes.
 const TURNS: usize = 16;
 
-/// Turns a script to its end.
+/// Runs a script to its end.
 fn end(desk: &mut Desk<ListShelf>, script: usize) {
     for _ in 0..TURNS {
         if turn(desk, script) == Some(Turn::Ended) {
@@ -17,7 +17,7 @@ fn end(desk: &mut Desk<ListShelf>, script: usize) {
     }
 }
 
-/// Turns the scripts of these ends to theirs, in this order, but for those that found no memory.
+/// Runs the scripts of these ends to theirs, in this order, but for those that ran out of memory.
 fn end_each(desk: &mut Desk<ListShelf>, ends: &[End]) {
     for one in ends {
         if !matches!(one.outcome, Outcome::NoMemory(_)) {
@@ -26,7 +26,7 @@ fn end_each(desk: &mut Desk<ListShelf>, ends: &[End]) {
     }
 }
 
-/// What is written where the scripts of these ends are played so.
+/// What is written if the scripts of these ends are played in this way.
 fn written_again(alloc: Global, run: &Run, ends: &[End]) -> Option<Vec<u8>> {
     let mut desk = opened(alloc, run)?;
     end_each(&mut desk, ends);
@@ -34,7 +34,7 @@ fn written_again(alloc: Global, run: &Run, ends: &[End]) -> Option<Vec<u8>> {
     output_bytes(alloc, &city, ends.as_slice(), 0).ok()
 }
 
-/// What is written of an output's lines, but for `since` and for scripts that found no memory.
+/// What is written of an output's lines, but for `since` and for scripts that ran out of memory.
 fn without_since(alloc: Global, bytes: &[u8]) -> Option<String> {
     let mut text = String::new(alloc);
     for line in str::from_utf8(bytes).ok()?.lines() {
@@ -50,7 +50,7 @@ fn without_since(alloc: Global, bytes: &[u8]) -> Option<String> {
     Some(text)
 }
 
-/// Whether the scripts of these ends of a run, played so, give the same; none where there was no memory to tell.
+/// Whether the scripts of these ends of a run, played in this way, give the same; none if memory ran out.
 fn compared(alloc: Global, run: &Run, ends: &[End], bytes: &[u8]) -> Option<bool> {
     let again = written_again(alloc, run, ends)?;
     let wanted = without_since(alloc, again.as_slice())?;
@@ -58,7 +58,7 @@ fn compared(alloc: Global, run: &Run, ends: &[End], bytes: &[u8]) -> Option<bool
     Some(found.as_str() == wanted.as_str())
 }
 
-/// The same, where the first time there may be no memory to tell.
+/// The same, where memory may run out the first time.
 pub fn is_replayed(alloc: Global, run: &Run, ends: &[End], bytes: &[u8]) -> bool {
     let first = compared(alloc, run, ends, bytes);
     first.or(compared(alloc, run, ends, bytes)) == Some(true)

@@ -16,7 +16,7 @@ use std::time::{Clock, Duration};
 const HOLD: u64 = 20_000;
 
 /// A script, the number of a pass of it, from 1, and before it goes on: which pass of which other
-/// script has come, and how many holds it waits then.
+/// script has come, and how many times `HOLD` it waits then.
 type Step = (usize, u64, usize, u64, u64);
 
 /// Lets scripts pass in the order of its steps.
@@ -66,7 +66,7 @@ impl<'a> InSteps<'a> {
     }
 }
 
-/// Yields for so many holds.
+/// Yields for so many times `HOLD`.
 fn hold(holds: u64) {
     for _ in 0..holds.wrapping_mul(HOLD) {
         thread::yield_now();
@@ -146,7 +146,7 @@ fn puts(alloc: Global, count: usize) -> Option<String> {
     Some(text)
 }
 
-/// Three scripts that put `x`: the first so often, before it ends so.
+/// Three scripts that put `x`: the first `count` times, before it ends with `end`.
 fn three_scripts(alloc: Global, count: usize, end: &str) -> Option<String> {
     let (first, other) = (puts(alloc, count)?, puts(alloc, 1)?);
     let mut text = String::new(alloc);

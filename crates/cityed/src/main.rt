@@ -1,11 +1,10 @@
 //! Edits a CityJSON 2.0 document by scripts.
 //!
-//! Two names are files, the model's and the scripts'. Without names standard input has the document in
-//! its first line and the scripts after it. `--decimals` has numbers of any form taken, and given back as they were
-//! written; `--workers` and `--watch` say how many workers run the scripts and how many viewers look on. Standard
-//! output gets a line for each script and the model,
-//! standard error one for each viewer. Status 1: a fault, told on standard error; 2: a command line that is
-//! refused.
+//! Two names are files, the model's and the scripts'. Without names standard input has the document in its first line
+//! and the scripts after it. With `--decimals` numbers of any form are taken, and given back as they were written;
+//! `--workers` and `--watch` say how many workers run the scripts and how many viewers look on. Standard output gets a
+//! line for each script and the model, standard error one for each viewer. Status 1: a fault, told on standard error;
+//! 2: a command line that is refused.
 #![tactic(auto)]
 
 ghost use Rattle.city_serve.specs.CommandLines.{HasOptions};
@@ -49,7 +48,8 @@ fn words(rt: &HostRuntime) -> Result<Vec<String>, LineFault> {
     }
 }
 
-/// Does what is asked for. `threads` is the runtime again, which has threads in `main` alone.
+/// Does what is asked for. `threads` is the runtime again, which is known to have
+/// threads only in `main`.
 fn answer<T: Threads + Wait + Sync>(
     rt: &HostRuntime,
     threads: &T,

@@ -20,7 +20,8 @@ pub(super) fn inner<'v, 'a>(top: bool, key: &str, value: &'v Value<'a>) -> &'v V
     }
 }
 
-/// What stands under the tag in front, where something does.
+/// The value of the first member, out of its array, if its name is the tag; any other
+/// value as it is.
 fn front<'v, 'a>(value: &'v Value<'a>) -> &'v Value<'a>
     ensures { value_view result.now ≡ front (value_view value.now) }
 {
@@ -40,7 +41,7 @@ fn front<'v, 'a>(value: &'v Value<'a>) -> &'v Value<'a>
     }
 }
 
-/// The item of an array that has one.
+/// The item of an array of one; any other value as it is.
 fn only<'v, 'a>(value: &'v Value<'a>) -> &'v Value<'a>
     ensures { value_view result.now ≡ only (value_view value.now) }
 {

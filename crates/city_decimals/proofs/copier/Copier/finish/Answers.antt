@@ -10,5 +10,5 @@ returns-clause-ok c =
     = search rules in (
       sym (ap (λ v. v.2) c.self.view_is) ∙ drop_all i.at i.text.now c.if-at-text.false,
       items ∙ whole_written i.out.items _ i.base c.args.self.0 c.args.self.1 (ap (λ v. v.0) c.self.view_is) (ap (λ
-      v. v.1) c.self.view_is),
+          v. v.1) c.self.view_is),
     )

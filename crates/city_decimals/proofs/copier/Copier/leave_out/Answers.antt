@@ -10,5 +10,5 @@ returns-clause-moves c =
     = search rules in (
       rest_more i.text.now c.args.self.now.2 i.at c.args.count left,
       all_written i.out.items _ _ c.args.self.now.1 i.base _ _ (omega arith) c.self.invariant.behind items (ap (λ
-      v. v.1) c.self.view_is),
+          v. v.1) c.self.view_is),
     )

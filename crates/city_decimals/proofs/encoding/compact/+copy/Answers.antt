@@ -31,7 +31,7 @@ copy_items-items-preserved t c =
     let same = c.items-test.ensures.kept refl in (
       c.copy_item.ensures.before ∙ ap (λ s. s.0) same ∙ c.items.invariant.0,
       λ end rest. c.items.invariant.1 end (items_first encoded encoded_items (λ j js. refl) c.items.later
-      c.args.depth c.items.copier
+          c.args.depth c.items.copier
           c.copy_item.new.copier end (subst (λ s. IsItemCopied encoded c.items.later c.args.depth s
           c.copy_item.new.copier) same c.in_ok-copy_item.ensures.copied) rest),
     )
