@@ -34,7 +34,7 @@ pub use fault::RunFault;
 pub use null_shelf::NullShelf;
 pub use opening_city::OpeningCity;
 pub use output::{Output, output_bytes};
-pub use serial_run::{run_serial, run_serial_to_city};
+pub use serial_run::{run_read, run_serial, run_serial_to_city};
 pub use shelf::{ListShelf, Shelf};
 pub use texts::read_texts;
 pub use turn::Turn;

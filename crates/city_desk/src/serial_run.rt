@@ -1,15 +1,22 @@
 //! Runs the scripts of a text on the city of a document, one after the other.
-ghost use Rattle.std.specs.Prelude.{◌≡◌, ◌++◌, ◌∷◌, [], IfOk, IfErr};
+ghost use Rattle.std.specs.Prelude.{◌≡◌, ◌++◌, ◌∷◌, [], ℕ, List, IfOk, IfErr};
+ghost use Rattle.city_model.specs.CityMap.{at};
+ghost use Rattle.city_model.specs.Relations.{IsLawful};
 ghost use Rattle.city_doc.specs.document.Canonical.{city_text};
 ghost use Rattle.city_doc.specs.report.Reports.{report_text};
+ghost use Rattle.city_desk.specs.InTurn.{AreInTurn};
 ghost use Rattle.city_desk.specs.RunFaults.{IsSerialFault};
 ghost use Rattle.city_desk.specs.SerialRuns.{IsSerialRun, IsDecided};
+ghost use Rattle.city_desk.specs.TextRuns.{IsReadFrom, IsRun};
 
 use crate::fault::RunFault;
 use crate::in_turn::run_each;
 use crate::output::{Output, output_bytes};
 use crate::texts::read_texts;
+use city_model::OutOfMemory;
 use city_model::city::City;
+use city_model::script::Script;
+use city_model::sequence::Sequence;
 use std::alloc::Global;
 
 /// Runs the scripts on the document's city, one after the other in their order.
@@ -39,14 +46,29 @@ pub fn run_serial_to_city(
     ensures city { IfOk result (λ r. r.0.bytes.items ≡ report_text r.0.ends ++ city_text r.1 ++ 10 ∷ []) }
     ensures fault { IfErr result (λ f. IsSerialFault document.now scripts.now f) }
 {
-    let (city, scripts) = read_texts(alloc, document, scripts)?;
+    let (city, list) = read_texts(alloc, document, scripts)?;
+    Ok(run_read(alloc, city, list, document.len())?)
+}
+
+/// Runs scripts that were read on a city that was read, one after the other, and gives the city that they leave
+/// beside the output. The texts may be let go before.
+///
+/// `room` is how many bytes the model's text may well take.
+pub fn run_read(
+    alloc: Global,
+    city: City,
+    scripts: Sequence<Script>,
+    room: usize,
+) -> Result<(Output, City), OutOfMemory>
+    requires { IsLawful (at city.1) }
+    ensures ran { IfOk result (λ r. (document text : List ℕ) → IsReadFrom document text city scripts
+        → IsRun document text r.0.ends r.0.bytes.items) }
+    ensures in_turn { IfOk result (λ r. AreInTurn 0 r.0.ends) }
+    ensures seen { IfOk result (λ r. r.0.seen.items ≡ []) }
+    ensures city { IfOk result (λ r. r.0.bytes.items ≡ report_text r.0.ends ++ city_text r.1 ++ 10 ∷ []) }
+{
     let finished = run_each(alloc, city, scripts)?;
-    let bytes = output_bytes(
-        alloc,
-        &finished.city,
-        finished.ends.as_slice(),
-        document.len(),
-    )?;
+    let bytes = output_bytes(alloc, &finished.city, finished.ends.as_slice(), room)?;
     let output = Output {
         ends: finished.ends,
         bytes,

@@ -1,0 +1,27 @@
+use Rattle.std.proofs.Common.{List, [], ◌∷◌, ◌++◌, ap, ◌∙◌}
+use Rattle.city_doc.specs.document.Canonical.{city_text}
+use Rattle.city_doc.specs.report.Reports.{report_text}
+use Rattle.city_model.specs.declared.end.End.{End}
+use Rattle.city_model.specs.declared.frame.Frame.{Frame}
+use Rattle.city_desk.proofs.serial_run.run_read.Goals as goal
+
+pub returns-clause-ran : goal.returns-clause-ran
+returns-clause-ran c document text read =
+    let run = c.in_ok-finished.ensures in
+    let left = c.in_ok-finished.finished.city in
+    record {
+      city = c.args.city;
+      list = c.args.scripts;
+      stands_for_city = read.stands_for_city;
+      stands_for_scripts = read.stands_for_scripts;
+      admitted = read.admitted;
+      read_as = read.read_as;
+      each_once = run.each_once;
+      fits = run.fits;
+      lawful = run.lawful;
+      output = record {
+        model = left.1;
+        left = run.model;
+        text = c.in_ok-bytes.ensures ∙ ap (λ (es : List End). report_text es ++ city_text left ++ 10 ∷ []) c.as_slice.ensures ∙ ap (λ (f : Frame). report_text c.in_ok-finished.finished.ends ++ city_text (f, left.1) ++ 10 ∷ []) run.frame;
+      };
+    }
