@@ -82,6 +82,9 @@ whole_encoded a b s h whole moves =
       numbers = h;
     }
 
+pub whole_same : (s : List ℕ) → is_whole s ≡ true → encoded (number s) ≡ number s
+whole_same s whole = ap (λ t. cond t (number s) (tagged s)) whole
+
 pub tagged_encoded : (a b d e : State) (s : List ℕ) → IsNumber s → escape s ≡ s → is_whole s ≡ false
     → Moves a b [] (123 ∷ 34 ∷ 35 ∷ 34 ∷ 58 ∷ 34 ∷ []) → Moves b d s s → Moves d e [] (34 ∷ 125 ∷ [])
     → IsNumberCopied a e
