@@ -150,18 +150,6 @@ item_copied f later limit a b d first rest =
       shallow = rest.shallow;
     }
 
-pub number_item_copied : (f : Json → Json) (later : Bool) (limit : ℕ) (a b : State) (s : List ℕ) → IsNumber s
-    → f (number s) ≡ number s → Moves a b (comma_if later ++ s) (comma_if later ++ s) → IsItemCopied f later limit a b
-number_item_copied f later limit a b s h same moves =
-    let text = comma_if later ++ s in
-    record {
-      j = number s;
-      moves = moves_as a b text text text (comma_if later ++ value_text (f (number s))) moves refl
-          (ap (λ i. comma_if later ++ value_text i) (sym same));
-      numbers = h;
-      shallow = omega arith;
-    }
-
 pub items_end : (g : Items → Items) → g no_items ≡ no_items → (later : Bool) (limit : ℕ) (a b : State)
     → Moves a b (93 ∷ []) (93 ∷ []) → AreItemsCopied g later limit a b
 items_end g same later limit a b moves =

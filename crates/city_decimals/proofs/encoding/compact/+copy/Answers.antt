@@ -1,11 +1,10 @@
 use Rattle.std.proofs.Common.{false, length, refl, sym, ap, ◌∙◌, subst, arith}
 use Rattle.city_decimals.specs.Encoded.{encoded, encoded_items, encoded_members}
 use Rattle.city_decimals.specs.Compact.{AreItemsCopied, IsItemCopied, IsMemberCopied, member_encoded, frame_encoded}
-use Rattle.city_decimals.proofs.Compact.{array_copied, object_copied, items_end, items_first, number_item_copied}
+use Rattle.city_decimals.proofs.Compact.{array_copied, object_copied, items_end, items_first}
 use Rattle.city_decimals.proofs.Compact.{members_end, members_first, member_plain, member_framed, item_shorter}
 use Rattle.city_decimals.proofs.Compact.{some_weaker, encoded_plain, encoded_framed}
-use Rattle.city_decimals.proofs.CompactForms.{whole_same}
-use Rattle.city_decimals.proofs.PlainNumbers.{plain_is_number, plain_is_whole}
+use Rattle.city_decimals.proofs.CompactForms.{plain_encoded, plain_copied}
 use Rattle.city_decimals.proofs.encoding.compact.+copy.Goals as goal
 
 pub copy_array-returns-clause-copied : goal.copy_array-returns-clause-copied
@@ -23,26 +22,25 @@ copy_object-returns-clause-copied t c =
 
 pub copy_items-numbers-smaller : goal.copy_items-numbers-smaller
 copy_items-numbers-smaller t c =
-    let taken = c.numbers-test.ensures.taken refl in
-    item_shorter encoded c.numbers.later c.args.depth c.numbers.copier c.take_plain.new.self
-    (number_item_copied encoded c.numbers.later c.args.depth c.numbers.copier c.take_plain.new.self
-    taken.0 (plain_is_number taken.0 taken.1) (whole_same taken.0 (plain_is_whole taken.0 taken.1)) taken.2)
+    item_shorter encoded c.numbers.later c.args.depth c.numbers.copier c.take_plain.new.self (plain_copied encoded
+    plain_encoded c.numbers.later c.args.depth c.numbers.copier c.take_plain.new.self
+    (c.numbers-test.ensures.taken refl))
 
 pub copy_items-numbers-preserved : goal.copy_items-numbers-preserved
 copy_items-numbers-preserved t c =
-    let taken = c.numbers-test.ensures.taken refl in (
+    let first = plain_copied encoded plain_encoded c.numbers.later c.args.depth c.numbers.copier c.take_plain.new.self
+    (c.numbers-test.ensures.taken refl) in (
       c.take_plain.ensures.before ∙ c.numbers.invariant.0,
-      λ end rest. c.numbers.invariant.1 end (items_first encoded encoded_items (λ j js. refl) c.numbers.later c.args.depth
-          c.numbers.copier c.take_plain.new.self end (number_item_copied encoded c.numbers.later c.args.depth c.numbers.copier c.take_plain.new.self
-          taken.0 (plain_is_number taken.0 taken.1) (whole_same taken.0 (plain_is_whole taken.0 taken.1)) taken.2) rest),
+      λ end rest. c.numbers.invariant.1 end (items_first encoded encoded_items (λ j js. refl) c.numbers.later
+          c.args.depth c.numbers.copier c.take_plain.new.self end first rest),
     )
 
 pub copy_items-items-init : goal.copy_items-items-init
 copy_items-items-init t c =
     let same = c.numbers-test.ensures.kept refl in (
       ap (λ s. s.0) same ∙ c.numbers.invariant.0,
-      λ end rest. c.numbers.invariant.1 end (subst (λ s. AreItemsCopied encoded_items c.numbers.later c.args.depth s end)
-          same rest),
+      λ end rest. c.numbers.invariant.1 end (subst (λ s. AreItemsCopied encoded_items c.numbers.later c.args.depth
+          s end) same rest),
     )
 
 pub copy_items-items-smaller : goal.copy_items-items-smaller
