@@ -357,6 +357,10 @@ fn string_end(text: &[u8]) -> Option<usize>
     let mut at = 0;
     while at < text.len() {
         let byte = text[at];
+        if byte > b'\\' {
+            at += 1;
+            continue;
+        }
         if byte == b'"' {
             return Some(at);
         }

@@ -91,10 +91,11 @@ fn copy_other_number(copier: &mut Copier<'_>) -> Option<()>
         return None;
     }
     if is_whole(text) {
-        copier.pass(number)
+        copier.advance(number.len());
+        Some(())
     } else {
         copier.insert(NUMBER_BEGIN)?;
-        copier.pass(number)?;
+        copier.advance(number.len());
         copier.insert(NUMBER_END)
     }
 }
