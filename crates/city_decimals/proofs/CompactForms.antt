@@ -1,5 +1,5 @@
 -- What is copied of numbers that are encoded and of transforms in frames.
-use Rattle.std.proofs.Common.{◌≡◌, ℕ, ◌-◌, ◌≤◌, List, [], ◌∷◌, ◌++◌, true, false, cond}
+use Rattle.std.proofs.Common.{◌≡◌, ℕ, ◌-◌, ◌≤◌, List, [], ◌∷◌, ◌++◌, Bool, true, false, cond}
 use Rattle.std.proofs.Common.{None, refl, sym, ap, ◌∙◌, arith, append_assoc, append-nil}
 use Rattle.std.specs.Prelude.{codes}
 use Rattle.json.specs.Json.{Json, number, object, Members}
@@ -9,11 +9,12 @@ use Rattle.json.specs.Word.{after_number}
 use Rattle.city_decimals.specs.Shapes.{framed, only, fronted}
 use Rattle.city_decimals.specs.Encoded.{encoded, tagged}
 use Rattle.city_decimals.specs.Decoded.{decoded, decoded_members, number_in, number_or}
-use Rattle.city_decimals.specs.Numbers.{is_whole}
+use Rattle.city_decimals.specs.Numbers.{is_whole, IsPlain}
 use Rattle.city_decimals.specs.Copies.{Moves}
-use Rattle.city_decimals.specs.Compact.{value_text, members_text, State, IsCopied}
+use Rattle.city_decimals.specs.Compact.{value_text, members_text, comma_if, State, IsCopied, IsItemCopied}
 use Rattle.city_decimals.specs.Compact.{AreMembersCopied, IsFrameCopied}
 use Rattle.city_decimals.specs.Compact.{triple, IsNumberCopied, IsTripleCopied, frame_decoded, frame_encoded}
+use Rattle.city_decimals.proofs.PlainNumbers.{plain_is_number, plain_is_whole}
 use Rattle.city_decimals.proofs.Compact.{moves_on, moves_as, untagged_none}
 
 -- ---- a frame
@@ -80,6 +81,23 @@ whole_encoded a b s h whole moves =
       moves = moves_as a b s s s (value_text (encoded (number s))) moves refl
           (ap (λ t. value_text (cond t (number s) (tagged s))) (sym whole));
       numbers = h;
+    }
+
+pub plain_encoded : (s : List ℕ) → IsPlain s → encoded (number s) ≡ number s
+plain_encoded s p = ap (λ t. cond t (number s) (tagged s)) (plain_is_whole s p)
+
+-- a plain number that is an item, for which itself is written
+pub plain_copied : (f : Json → Json) → ((s : List ℕ) → IsPlain s → f (number s) ≡ number s) → (later : Bool)
+    (limit : ℕ) (a b : State)
+    → (s : List ℕ) × IsPlain s × Moves a b (comma_if later ++ s) (comma_if later ++ s) → IsItemCopied f later limit a b
+plain_copied f same later limit a b (s, p, moves) =
+    let text = comma_if later ++ s in
+    record {
+      j = number s;
+      moves = moves_as a b text text text (comma_if later ++ value_text (f (number s))) moves refl
+          (ap (λ i. comma_if later ++ value_text i) (sym (same s p)));
+      numbers = plain_is_number s p;
+      shallow = omega arith;
     }
 
 pub tagged_encoded : (a b d e : State) (s : List ℕ) → IsNumber s → escape s ≡ s → is_whole s ≡ false

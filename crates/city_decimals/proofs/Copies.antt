@@ -8,7 +8,7 @@ use Rattle.json.specs.Print.{escape_byte, escape}
 use Rattle.json.proofs.Printed.Strings.{escape_byte_plain}
 use Rattle.city_decimals.specs.Copies.{IsEscaped, IsPlainByte}
 
-take_plus : (a n : ℕ) (xs : List ℕ) → take (a + n) xs ≡ take a xs ++ take n (drop a xs)
+pub take_plus : (a n : ℕ) (xs : List ℕ) → take (a + n) xs ≡ take a xs ++ take n (drop a xs)
 take_plus a n xs =
     sym (take-append-drop a (take (a + n) xs))
     ∙ ap₂ (λ p q. p ++ q) (take-take a (a + n) xs (omega arith)) (drop-take a n xs)

@@ -7,7 +7,7 @@ ghost use Rattle.city_decimals.specs.Copies.{Moves, IsEscaped, IsPlainByte};
 ghost use Rattle.city_decimals.specs.Compact.{comma_if, IsKeyPassed};
 ghost use Rattle.city_decimals.specs.Numbers.{IsPlain};
 
-use crate::numbers::{is_number, is_plain};
+use crate::numbers::{is_number, plain_len};
 use crate::text::text_of;
 use std::marker::Model;
 
@@ -225,7 +225,6 @@ impl<'a> Copier<'a> {
     }
 
     /// The bytes up to one that can't stand in a number.
-    #[inline(always)]
     pub(crate) fn next_number(&self) -> &'a [u8]
         ensures within { length result.now ≤ length self.now.2 }
         ensures front { take (length result.now) self.now.2 ≡ result.now }
@@ -235,9 +234,43 @@ impl<'a> Copier<'a> {
         &rest[..number_end(rest)]
     }
 
+    /// Copies a comma, where something stands before, and a plain number, where they are next: whether they were.
+    #[inline(always)]
+    pub(crate) fn take_plain(&mut self, later: bool) -> bool
+        ensures before { self.new.0 ≡ self.old.0 }
+        ensures taken { result ≡ true → (s : List ℕ) × IsPlain s
+            × Moves self.old self.new (comma_if later ++ s) (comma_if later ++ s) }
+        ensures kept { result ≡ false → self.new ≡ self.old }
+    {
+        let rest = self.rest();
+        if !has_comma(rest, later) {
+            return false;
+        }
+        let start = comma_len(later);
+        let len = plain_len(&rest[start..]);
+        if len == 0 {
+            return false;
+        }
+        self.advance(start + len);
+        true
+    }
+
     /// Copies a number.
     #[inline(always)]
     pub(crate) fn pass_number(&mut self) -> Option<()>
+        ensures before { self.new.0 ≡ self.old.0 }
+        ensures moves { IfSome result (λ _. (s : List ℕ) × IsNumber s × (escape s ≡ s)
+            × Moves self.old self.new s s) }
+    {
+        if self.take_plain(false) {
+            return Some(());
+        }
+        self.pass_other_number()
+    }
+
+    /// Copies a number of any form.
+    #[inline(never)]
+    fn pass_other_number(&mut self) -> Option<()>
         ensures before { self.new.0 ≡ self.old.0 }
         ensures moves { IfSome result (λ _. (s : List ℕ) × IsNumber s × (escape s ≡ s)
             × Moves self.old self.new s s) }
@@ -262,15 +295,7 @@ fn begins_with(text: &[u8], bytes: &[u8]) -> bool
 }
 
 /// Whether these bytes are a number.
-#[inline(always)]
 fn is_number_text(bytes: &[u8]) -> bool
-    ensures { OnTrue result (IsNumber bytes.now) }
-{
-    is_plain(bytes) || is_other_number(bytes)
-}
-
-#[inline(never)]
-fn is_other_number(bytes: &[u8]) -> bool
     ensures { OnTrue result (IsNumber bytes.now) }
 {
     match text_of(bytes) {
@@ -279,8 +304,23 @@ fn is_other_number(bytes: &[u8]) -> bool
     }
 }
 
-/// Where the bytes end that may stand in a number.
+/// Whether a comma is next, where one has to be.
 #[inline(always)]
+fn has_comma(text: &[u8], later: bool) -> bool
+    ensures len { OnTrue result (length (comma_if later) ≤ length text.now) }
+    ensures value { OnTrue result (take (length (comma_if later)) text.now ≡ comma_if later) }
+{
+    !later || (!text.is_empty() && text[0] == b',')
+}
+
+#[inline(always)]
+fn comma_len(later: bool) -> usize
+    ensures { result ≡ length (comma_if later) }
+{
+    if later { 1 } else { 0 }
+}
+
+/// Where the bytes end that may stand in a number.
 fn number_end(text: &[u8]) -> usize
     ensures within { result ≤ length text.now }
     ensures plain { (i : ℕ) → i < result → IsPlainByte (get_or text.now i 0) }
@@ -292,7 +332,6 @@ fn number_end(text: &[u8]) -> usize
     at
 }
 
-#[inline(always)]
 fn is_of_number(byte: u8) -> bool
     ensures { OnTrue result (IsPlainByte byte) }
 {
@@ -318,6 +357,10 @@ fn string_end(text: &[u8]) -> Option<usize>
     let mut at = 0;
     while at < text.len() {
         let byte = text[at];
+        if byte > b'\\' {
+            at += 1;
+            continue;
+        }
         if byte == b'"' {
             return Some(at);
         }

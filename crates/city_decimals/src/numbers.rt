@@ -1,5 +1,5 @@
 //! Whether a number is whole.
-ghost use Rattle.std.specs.Prelude.{◌≡◌, ◌==◌, ◌<◌, true, false, IsTrue, length, slice_index, decimal};
+ghost use Rattle.std.specs.Prelude.{◌≡◌, ◌==◌, ◌<◌, ◌≤◌, true, false, IsTrue, length, take, slice_index, decimal};
 ghost use Rattle.std.specs.Bool.{OnTrue};
 ghost use Rattle.std.specs.Fmt.{signed_decimal};
 ghost use Rattle.std.specs.Str.{bytes_eq};
@@ -40,6 +40,34 @@ pub(crate) fn is_plain(bytes: &[u8]) -> bool
         }
     }
     true
+}
+
+/// How many digits the plain number has that is next, with what ends an item or a member behind it; 0 where none is.
+#[inline(always)]
+pub(crate) fn plain_len(text: &[u8]) -> usize
+    ensures within { result ≤ length text.now }
+    ensures plain { 0 < result → IsPlain (take result text.now) }
+{
+    let mut at = 0;
+    while at < text.len() && is_digit(text[at]) {
+        at += 1;
+    }
+    if at == 0 || at > 18 || at >= text.len() || !ends_value(text[at]) || (text[0] == b'0' && at > 1) {
+        return 0;
+    }
+    at
+}
+
+#[inline(always)]
+fn is_digit(byte: u8) -> bool
+    ensures { OnTrue result ((48 ≤ byte) × (byte ≤ 57)) }
+{
+    byte >= b'0' && byte <= b'9'
+}
+
+#[inline(always)]
+fn ends_value(byte: u8) -> bool {
+    byte == b',' || byte == b']' || byte == b'}'
 }
 
 #[inline(always)]

@@ -115,6 +115,9 @@ fn copy_items(copier: &mut Copier<'_>, depth: usize) -> Option<()>
     ensures copied { IfSome result (λ _. AreItemsCopied decoded_items false depth copier.old copier.new) }
 {
     let mut later = false;
+    'numbers: while copier.take_plain(later) {
+        later = true;
+    }
     'items: while !copier.take(b']') {
         copy_item(copier, later, depth)?;
         later = true;

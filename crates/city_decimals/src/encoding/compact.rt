@@ -9,7 +9,7 @@ ghost use Rattle.city_decimals.specs.Copies.{Moves};
 
 use crate::copier::Copier;
 use crate::leaves::{copy_name, copy_string, is_framed, is_tag};
-use crate::numbers::{is_number, is_plain, is_whole};
+use crate::numbers::{is_number, is_whole};
 use crate::text::text_of;
 use json::MAX_DEPTH;
 
@@ -73,9 +73,7 @@ fn copy_number(copier: &mut Copier<'_>) -> Option<()>
     ensures before { copier.new.0 ≡ copier.old.0 }
     ensures number { IfSome result (λ _. IsNumberCopied copier.old copier.new) }
 {
-    let number = copier.next_number();
-    if is_plain(number) {
-        copier.advance(number.len());
+    if copier.take_plain(false) {
         return Some(());
     }
     copy_other_number(copier)
@@ -93,10 +91,11 @@ fn copy_other_number(copier: &mut Copier<'_>) -> Option<()>
         return None;
     }
     if is_whole(text) {
-        copier.pass(number)
+        copier.advance(number.len());
+        Some(())
     } else {
         copier.insert(NUMBER_BEGIN)?;
-        copier.pass(number)?;
+        copier.advance(number.len());
         copier.insert(NUMBER_END)
     }
 }
@@ -170,6 +169,9 @@ fn copy_items(copier: &mut Copier<'_>, depth: usize) -> Option<()>
     ensures copied { IfSome result (λ _. AreItemsCopied encoded_items false depth copier.old copier.new) }
 {
     let mut later = false;
+    'numbers: while copier.take_plain(later) {
+        later = true;
+    }
     'items: while !copier.take(b']') {
         copy_item(copier, later, depth)?;
         later = true;

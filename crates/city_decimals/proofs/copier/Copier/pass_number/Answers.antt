@@ -1,19 +1,8 @@
-use Rattle.std.proofs.Common.{◌<◌, take, get_or, sym, subst, arith}
-use Rattle.std.proofs.lemmas.List.{get_or-take, length-take}
-use Rattle.json.specs.Print.{IsNumber}
-use Rattle.city_decimals.specs.Copies.{IsPlainByte}
-use Rattle.city_decimals.proofs.Copies.{plain_text}
+use Rattle.std.proofs.Common.{refl}
+use Rattle.city_decimals.proofs.PlainNumbers.{plain_is_number, plain_is_itself}
 use Rattle.city_decimals.proofs.copier.Copier.pass_number.Goals as goal
 
-pub returns-clause-moves : goal.returns-clause-moves
-returns-clause-moves c =
-    let n = c.number_end-end.result in
-    let rest = c.args.self.now.2 in
-    let same = c.rest-rest.ensures in (
-      take n rest,
-      subst (λ r. IsNumber (take n r)) same c.if-not-is_number_text.ensures,
-      plain_text (take n rest) (λ i h. let below : i < n = omega (arith, h, length-take n rest) in
-          subst IsPlainByte (sym (get_or-take n rest i 0 below)) (subst (λ r. IsPlainByte (get_or r i 0)) same
-          (c.number_end-end.ensures.plain i below))),
-      c.advance.ensures.moves,
-    )
+pub returns-then-take_plain-clause-moves : goal.returns-then-take_plain-clause-moves
+returns-then-take_plain-clause-moves c =
+    let taken = c.if-take_plain.ensures.taken refl in
+    (taken.0, plain_is_number taken.0 taken.1, plain_is_itself taken.0 taken.1, taken.2)

@@ -1,8 +1,8 @@
 use Rattle.std.proofs.Common.{false, length, refl, sym, ap, ◌∙◌, subst, arith}
 use Rattle.city_decimals.specs.Decoded.{decoded, decoded_items, decoded_members}
-use Rattle.city_decimals.specs.Compact.{IsItemCopied, IsMemberCopied, member_decoded, frame_decoded}
+use Rattle.city_decimals.specs.Compact.{AreItemsCopied, IsItemCopied, IsMemberCopied, member_decoded, frame_decoded}
 use Rattle.city_decimals.proofs.Compact.{array_copied, object_copied, items_end, items_first}
-use Rattle.city_decimals.proofs.CompactForms.{frame_copied}
+use Rattle.city_decimals.proofs.CompactForms.{frame_copied, plain_copied}
 use Rattle.city_decimals.proofs.Compact.{members_end, members_first, member_plain, member_framed, item_shorter}
 use Rattle.city_decimals.proofs.Compact.{some_weaker, object_decoded, decoded_plain, decoded_framed}
 use Rattle.city_decimals.proofs.decoding.compact.+copy.Goals as goal
@@ -25,6 +25,29 @@ copy_frame-returns-clause-copied t c =
     some_weaker c.skip-2.result (λ _ last. frame_copied c.args.depth c.args.copier.now c.skip.new.self
     c.take.new.self c.copy_members.new.copier c.skip-2.new.self c.if-depth-lt2.false c.in_ok-skip.ensures.moves
     (c.if-not-take.ensures.taken refl) c.in_ok-copy_members.ensures.copied last) c.skip-2.ensures.moves
+
+pub copy_items-numbers-smaller : goal.copy_items-numbers-smaller
+copy_items-numbers-smaller t c =
+    item_shorter decoded c.numbers.later c.args.depth c.numbers.copier c.take_plain.new.self (plain_copied decoded
+    (λ s p. refl) c.numbers.later c.args.depth c.numbers.copier c.take_plain.new.self
+    (c.numbers-test.ensures.taken refl))
+
+pub copy_items-numbers-preserved : goal.copy_items-numbers-preserved
+copy_items-numbers-preserved t c =
+    let first = plain_copied decoded (λ s p. refl) c.numbers.later c.args.depth c.numbers.copier c.take_plain.new.self
+    (c.numbers-test.ensures.taken refl) in (
+      c.take_plain.ensures.before ∙ c.numbers.invariant.0,
+      λ end rest. c.numbers.invariant.1 end (items_first decoded decoded_items (λ j js. refl) c.numbers.later
+          c.args.depth c.numbers.copier c.take_plain.new.self end first rest),
+    )
+
+pub copy_items-items-init : goal.copy_items-items-init
+copy_items-items-init t c =
+    let same = c.numbers-test.ensures.kept refl in (
+      ap (λ s. s.0) same ∙ c.numbers.invariant.0,
+      λ end rest. c.numbers.invariant.1 end (subst (λ s. AreItemsCopied decoded_items c.numbers.later c.args.depth
+          s end) same rest),
+    )
 
 pub copy_items-items-smaller : goal.copy_items-items-smaller
 copy_items-items-smaller t c =

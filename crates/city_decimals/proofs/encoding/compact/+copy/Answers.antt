@@ -1,9 +1,10 @@
 use Rattle.std.proofs.Common.{false, length, refl, sym, ap, ◌∙◌, subst, arith}
 use Rattle.city_decimals.specs.Encoded.{encoded, encoded_items, encoded_members}
-use Rattle.city_decimals.specs.Compact.{IsItemCopied, IsMemberCopied, member_encoded, frame_encoded}
+use Rattle.city_decimals.specs.Compact.{AreItemsCopied, IsItemCopied, IsMemberCopied, member_encoded, frame_encoded}
 use Rattle.city_decimals.proofs.Compact.{array_copied, object_copied, items_end, items_first}
 use Rattle.city_decimals.proofs.Compact.{members_end, members_first, member_plain, member_framed, item_shorter}
 use Rattle.city_decimals.proofs.Compact.{some_weaker, encoded_plain, encoded_framed}
+use Rattle.city_decimals.proofs.CompactForms.{plain_encoded, plain_copied}
 use Rattle.city_decimals.proofs.encoding.compact.+copy.Goals as goal
 
 pub copy_array-returns-clause-copied : goal.copy_array-returns-clause-copied
@@ -18,6 +19,29 @@ copy_object-returns-clause-copied t c =
     c.args.depth c.args.copier.now c.take.new.self
     c.copy_members.new.copier c.if-depth-eq0.false (c.if-not-take.ensures.taken refl) rest)
     c.copy_members.ensures.copied
+
+pub copy_items-numbers-smaller : goal.copy_items-numbers-smaller
+copy_items-numbers-smaller t c =
+    item_shorter encoded c.numbers.later c.args.depth c.numbers.copier c.take_plain.new.self (plain_copied encoded
+    plain_encoded c.numbers.later c.args.depth c.numbers.copier c.take_plain.new.self
+    (c.numbers-test.ensures.taken refl))
+
+pub copy_items-numbers-preserved : goal.copy_items-numbers-preserved
+copy_items-numbers-preserved t c =
+    let first = plain_copied encoded plain_encoded c.numbers.later c.args.depth c.numbers.copier c.take_plain.new.self
+    (c.numbers-test.ensures.taken refl) in (
+      c.take_plain.ensures.before ∙ c.numbers.invariant.0,
+      λ end rest. c.numbers.invariant.1 end (items_first encoded encoded_items (λ j js. refl) c.numbers.later
+          c.args.depth c.numbers.copier c.take_plain.new.self end first rest),
+    )
+
+pub copy_items-items-init : goal.copy_items-items-init
+copy_items-items-init t c =
+    let same = c.numbers-test.ensures.kept refl in (
+      ap (λ s. s.0) same ∙ c.numbers.invariant.0,
+      λ end rest. c.numbers.invariant.1 end (subst (λ s. AreItemsCopied encoded_items c.numbers.later c.args.depth
+          s end) same rest),
+    )
 
 pub copy_items-items-smaller : goal.copy_items-items-smaller
 copy_items-items-smaller t c =

@@ -1,13 +1,10 @@
-use Rattle.std.proofs.Common.{subst}
-use Rattle.city_decimals.specs.Copies.{Moves}
+use Rattle.std.proofs.Common.{refl}
 use Rattle.city_decimals.proofs.PlainNumbers.{plain_is_number, plain_is_whole}
 use Rattle.city_decimals.proofs.CompactForms.{whole_encoded}
 use Rattle.city_decimals.proofs.encoding.compact.copy_number.Goals as goal
 
-pub returns-then-is_plain-clause-number : goal.returns-then-is_plain-clause-number
-returns-then-is_plain-clause-number c =
-    let s = c.next_number-number.result.now in
-    let plain = c.if-is_plain.ensures in
-    whole_encoded c.args.copier.now c.advance.new.self s (plain_is_number s plain) (plain_is_whole s plain)
-    (subst (λ t. Moves c.args.copier.now c.advance.new.self t t) c.next_number-number.ensures.front
-    c.advance.ensures.moves)
+pub returns-then-take_plain-clause-number : goal.returns-then-take_plain-clause-number
+returns-then-take_plain-clause-number c =
+    let taken = c.if-take_plain.ensures.taken refl in
+    whole_encoded c.args.copier.now c.take_plain.new.self taken.0 (plain_is_number taken.0 taken.1)
+    (plain_is_whole taken.0 taken.1) taken.2
