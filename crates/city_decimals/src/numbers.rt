@@ -52,7 +52,12 @@ pub(crate) fn plain_len(text: &[u8]) -> usize
     while at < text.len() && is_digit(text[at]) {
         at += 1;
     }
-    if at == 0 || at > 18 || at >= text.len() || !ends_value(text[at]) || (text[0] == b'0' && at > 1) {
+    if at == 0
+        || at > 18
+        || at >= text.len()
+        || !ends_value(text[at])
+        || (text[0] == b'0' && at > 1)
+    {
         return 0;
     }
     at
