@@ -35,10 +35,6 @@ IsGiven text given = IsReadEncoded text given ⊎ (IsRefusedText text × (given 
 abbrev pub HasWholeNumbers : List ℕ → Type 0
 HasWholeNumbers text = (d : Data) → HasTree text d → is_integral d ≡ true
 
-abbrev pub given_text : Option (Vec ℕ) → List ℕ → List ℕ
-given_text None text = text
-given_text (Some encoded) text = encoded.items
-
 -- ---- what it answers
 
 -- the bytes are those of a run on the encoded texts, decoded line by line

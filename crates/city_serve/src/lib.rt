@@ -1,6 +1,7 @@
 //! Serving: a document and its scripts in, the report and the edited model out; and what the program is asked for.
 //!
-//! - `serve`: from a reader to a writer; `serve_texts`, `run`: from two texts, by as many workers as are asked for
+//! - `serve`: from a reader to a writer; `serve_texts`, `run`: from two texts, borrowed or owned, by as many workers as
+//!   are asked for
 //! - `serve_decimals`: the same with numbers of any form, which are given back as they were written
 //! - `device`: a reader or a writer that keeps whether it has failed; `files`: a text from a file
 //! - `fault`, `fault_line`: why nothing was served, and the line that reports it; `seen_line`: what a viewer saw

@@ -6,8 +6,8 @@ ghost use Rattle.city_desk.specs.InTurn.{AreInTurn};
 ghost use Rattle.city_desk.specs.TextRuns.{IsRun};
 ghost use Rattle.city_serve.specs.ServedTexts.{IsFaultOfRun, WhereAlone};
 
-use city_crew::{Gate, run_crew};
-use city_desk::{Output, RunFault, run_serial_to_city};
+use city_crew::{Gate, OpenGate, run_crew};
+use city_desk::{Output, RunFault, read_texts, run_read, run_serial_to_city};
 use std::alloc::Global;
 use std::mem::forget;
 use std::sync::Wait;
@@ -39,5 +39,36 @@ pub(crate) fn run<R: Threads + Wait + Sync, G: Gate + Sync>(
         Ok(output)
     } else {
         run_crew(rt, alloc, document, scripts, workers, viewers, gate)
+    }
+}
+
+/// As `run`, with no gate and texts of its own, which one worker without viewers lets go once they are read.
+pub(crate) fn run_owned<R: Threads + Wait + Sync>(
+    rt: &R,
+    alloc: Global,
+    document: Vec<u8>,
+    scripts: Vec<u8>,
+    workers: usize,
+    viewers: usize,
+) -> Result<Output, RunFault>
+    requires workers { (1 ≤ workers) × (workers ≤ 16) }
+    requires viewers { viewers ≤ 4 }
+    ensures ran { IfOk result (λ o. IsRun document.items scripts.items o.ends o.bytes.items) }
+    ensures in_turn { IfOk result (λ o. WhereAlone workers viewers (AreInTurn 0 o.ends)) }
+    ensures seen { IfOk result (λ o. AreSeen viewers (commits_in o.ends) o.seen.items) }
+    ensures fault { IfErr result (IsFaultOfRun document.items scripts.items workers viewers) }
+{
+    let (model, commands) = (document.as_slice(), scripts.as_slice());
+    if workers == 1 && viewers == 0 {
+        let (city, list) = read_texts(alloc, model, commands)?;
+        let room = model.len();
+        drop(document);
+        drop(scripts);
+        let (output, city) = run_read(alloc, city, list, room)?;
+        // As in `run`.
+        forget(city);
+        Ok(output)
+    } else {
+        run_crew(rt, alloc, model, commands, workers, viewers, &OpenGate)
     }
 }

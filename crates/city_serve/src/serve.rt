@@ -6,10 +6,10 @@ ghost use Rattle.city_serve.specs.ServedTexts.{LosesAtMost, AppendsSome};
 
 use crate::device::Device;
 use crate::fault::ServeFault;
-use crate::serve_texts::serve_texts;
+use crate::serve_texts::serve_owned_texts;
 use city_doc::MAX_TEXT;
 use memchr::memchr;
-use std::alloc::Global;
+use std::alloc::{AllocError, Global};
 use std::io::{Read, Write};
 use std::sync::Wait;
 use std::thread::Threads;
@@ -46,8 +46,8 @@ pub fn serve<T: Threads + Wait + Sync, R: Read, W: Write>(
         (W.contents writer.old.0) (W.contents writer.new.0) writer.new.1) }
 {
     let input = read_at_most(alloc, reader, MOST)?;
-    let (document, scripts) = cut(input.as_slice());
-    serve_texts(rt, alloc, document, scripts, writer, workers, viewers)
+    let (document, scripts) = split(alloc, input)?;
+    serve_owned_texts(rt, alloc, document, scripts, writer, workers, viewers)
 }
 
 /// What a reader gives, up to so many bytes; no more are taken from it.
@@ -75,8 +75,21 @@ pub(crate) fn read_at_most<R: Read>(
     Ok(input)
 }
 
+/// The document and the scripts of an input, each on its own.
+pub(crate) fn split(alloc: Global, input: Vec<u8>) -> Result<(Vec<u8>, Vec<u8>), AllocError>
+    ensures document { IfOk result (λ r. r.0.items ≡ document_of input.items) }
+    ensures scripts { IfOk result (λ r. r.1.items ≡ scripts_of input.items) }
+{
+    let (document, scripts) = cut(input.as_slice());
+    let scripts = scripts.to_vec(alloc)?;
+    let length = document.len();
+    let mut document = input;
+    document.truncate(length);
+    Ok((document, scripts))
+}
+
 /// The document and the scripts of an input.
-pub(crate) fn cut(input: &[u8]) -> (&[u8], &[u8])
+fn cut(input: &[u8]) -> (&[u8], &[u8])
     ensures document { result.0.now ≡ document_of input.now }
     ensures scripts { result.1.now ≡ scripts_of input.now }
 {

@@ -5,14 +5,13 @@ ghost use Rattle.city_crew.specs.Seen.{AreSeen};
 ghost use Rattle.city_desk.specs.InTurn.{AreInTurn};
 ghost use Rattle.city_serve.specs.Served.{max_input};
 ghost use Rattle.city_serve.specs.ServedTexts.{LosesAtMost, WhereAlone};
-ghost use Rattle.city_serve.specs.Decimals.{IsGiven, HasWholeNumbers, given_text, IsDecimalsRun, IsFaultOfDecimalsRun};
+ghost use Rattle.city_serve.specs.Decimals.{IsGiven, HasWholeNumbers, IsDecimalsRun, IsFaultOfDecimalsRun};
 ghost use Rattle.city_serve.specs.Decimals.{AreServedDecimals, IsDecimalsTextsFault, IsServedDecimals, IsServeDecimalsFault};
 
 use crate::device::Device;
 use crate::fault::ServeFault;
-use crate::run::run;
-use crate::serve::{MOST, cut, read_at_most, write_output};
-use city_crew::OpenGate;
+use crate::run::run_owned;
+use crate::serve::{MOST, read_at_most, split, write_output};
 use city_decimals::{DecimalsFault, decode_lines, encode};
 use city_desk::{Output, RunFault};
 use city_doc::MAX_TEXT;
@@ -44,28 +43,29 @@ pub fn serve_decimals<T: Threads + Wait + Sync, R: Read, W: Write>(
         (W.contents writer.old.0) (W.contents writer.new.0) writer.new.1) }
 {
     let input = read_at_most(alloc, reader, MOST)?;
-    let (document, scripts) = cut(input.as_slice());
+    let (document, scripts) = split(alloc, input)?;
     serve_decimals_texts(rt, alloc, document, scripts, writer, workers, viewers)
 }
 
 /// As `serve_texts`, with numbers of any form, which are given back as they were written.
 ///
-/// The texts and the faults are as for `serve_decimals`.
+/// The texts and the faults are as for `serve_decimals`. Each text is let go once it is encoded, and an encoded one
+/// where `serve_owned_texts` lets go a text.
 pub fn serve_decimals_texts<R: Threads + Wait + Sync, W: Write>(
     rt: &R,
     alloc: Global,
-    document: &[u8],
-    scripts: &[u8],
+    document: Vec<u8>,
+    scripts: Vec<u8>,
     writer: &mut Device<W>,
     workers: usize,
     viewers: usize,
 ) -> Result<Vec<Vec<u64>>, ServeFault>
     requires workers { (1 ≤ workers) × (workers ≤ 16) }
     requires viewers { viewers ≤ 4 }
-    ensures served { IfOk result (λ seen. AreServedDecimals document.now scripts.now workers viewers seen.items
+    ensures served { IfOk result (λ seen. AreServedDecimals document.items scripts.items workers viewers seen.items
         (W.contents writer.old.0) (W.contents writer.new.0)) }
     ensures unfailed { OnOk result (writer.new.1 ≡ writer.old.1) }
-    ensures fault { IfErr result (IsDecimalsTextsFault document.now scripts.now workers viewers
+    ensures fault { IfErr result (IsDecimalsTextsFault document.items scripts.items workers viewers
         (W.contents writer.old.0) (W.contents writer.new.0) writer.new.1) }
 {
     let output = match run_decimals(rt, alloc, document, scripts, workers, viewers) {
@@ -82,22 +82,21 @@ pub fn serve_decimals_texts<R: Threads + Wait + Sync, W: Write>(
 fn run_decimals<R: Threads + Wait + Sync>(
     rt: &R,
     alloc: Global,
-    document: &[u8],
-    scripts: &[u8],
+    document: Vec<u8>,
+    scripts: Vec<u8>,
     workers: usize,
     viewers: usize,
 ) -> Result<Output, RunFault>
     requires workers { (1 ≤ workers) × (workers ≤ 16) }
     requires viewers { viewers ≤ 4 }
-    ensures ran { IfOk result (λ o. IsDecimalsRun document.now scripts.now o.ends o.bytes.items) }
+    ensures ran { IfOk result (λ o. IsDecimalsRun document.items scripts.items o.ends o.bytes.items) }
     ensures in_turn { IfOk result (λ o. WhereAlone workers viewers (AreInTurn 0 o.ends)) }
     ensures seen { IfOk result (λ o. AreSeen viewers (commits_in o.ends) o.seen.items) }
-    ensures fault { IfErr result (IsFaultOfDecimalsRun document.now scripts.now workers viewers) }
+    ensures fault { IfErr result (IsFaultOfDecimalsRun document.items scripts.items workers viewers) }
 {
     let model = encoded(alloc, document)?;
     let commands = encoded(alloc, scripts)?;
-    let (model, commands) = (given(&model, document), given(&commands, scripts));
-    let output = run(rt, alloc, &OpenGate, model, commands, workers, viewers)?;
+    let output = run_owned(rt, alloc, model, commands, workers, viewers)?;
     match decode_lines(alloc, output.bytes.as_slice()) {
         Ok(bytes) => Ok(Output { bytes, ..output }),
         // Each line of an output is JSON, so only memory can have run out here.
@@ -105,27 +104,18 @@ fn run_decimals<R: Threads + Wait + Sync>(
     }
 }
 
-/// The encoded text, and none where the text is too long or no JSON: the run refuses it as it stands.
-fn encoded(alloc: Global, text: &[u8]) -> Result<Option<Vec<u8>>, AllocError>
-    ensures given { IfOk result (λ o. IsGiven text.now (given_text o text.now)) }
-    ensures whole { IfOk result (λ o. HasWholeNumbers (given_text o text.now)) }
+/// What the run is given of a text: the encoded text. A text that is too long or no JSON stays as it is: the run
+/// refuses it.
+fn encoded(alloc: Global, text: Vec<u8>) -> Result<Vec<u8>, AllocError>
+    ensures given { IfOk result (λ v. IsGiven text.items v.items) }
+    ensures whole { IfOk result (λ v. HasWholeNumbers v.items) }
 {
     if text.len() > MAX_TEXT {
-        return Ok(None);
+        return Ok(text);
     }
-    match encode(alloc, text) {
-        Ok(encoded) => Ok(Some(encoded)),
-        Err(DecimalsFault::NotJson) => Ok(None),
+    match encode(alloc, text.as_slice()) {
+        Ok(encoded) => Ok(encoded),
+        Err(DecimalsFault::NotJson) => Ok(text),
         Err(DecimalsFault::OutOfMemory) => Err(AllocError),
-    }
-}
-
-/// What the run is given of a text.
-fn given<'a>(encoded: &'a Option<Vec<u8>>, text: &'a [u8]) -> &'a [u8]
-    ensures { result.now ≡ given_text encoded.now text.now }
-{
-    match encoded {
-        Some(encoded) => encoded.as_slice(),
-        None => text,
     }
 }

@@ -4,7 +4,7 @@ ghost use Rattle.city_serve.specs.ServedTexts.{AreServed, IsTextsFault};
 
 use crate::device::Device;
 use crate::fault::ServeFault;
-use crate::run::run;
+use crate::run::{run, run_owned};
 use crate::serve::write_output;
 use city_crew::{Gate, OpenGate};
 use std::alloc::Global;
@@ -60,6 +60,34 @@ pub fn serve_texts_through<R: Threads + Wait + Sync, G: Gate + Sync, W: Write>(
         (W.contents writer.old.0) (W.contents writer.new.0) writer.new.1) }
 {
     let output = match run(rt, alloc, gate, document, scripts, workers, viewers) {
+        Ok(output) => output,
+        Err(fault) => return Err(ServeFault::Run(fault)),
+    };
+    if !write_output(writer, output.bytes.as_slice()) {
+        return Err(ServeFault::Write);
+    }
+    Ok(output.seen)
+}
+
+/// As `serve_texts`, with texts of its own, which one worker without viewers lets go once they are read.
+pub fn serve_owned_texts<R: Threads + Wait + Sync, W: Write>(
+    rt: &R,
+    alloc: Global,
+    document: Vec<u8>,
+    scripts: Vec<u8>,
+    writer: &mut Device<W>,
+    workers: usize,
+    viewers: usize,
+) -> Result<Vec<Vec<u64>>, ServeFault>
+    requires workers { (1 ≤ workers) × (workers ≤ 16) }
+    requires viewers { viewers ≤ 4 }
+    ensures served { IfOk result (λ seen. AreServed document.items scripts.items workers viewers seen.items
+        (W.contents writer.old.0) (W.contents writer.new.0)) }
+    ensures unfailed { OnOk result (writer.new.1 ≡ writer.old.1) }
+    ensures fault { IfErr result (IsTextsFault document.items scripts.items workers viewers
+        (W.contents writer.old.0) (W.contents writer.new.0) writer.new.1) }
+{
+    let output = match run_owned(rt, alloc, document, scripts, workers, viewers) {
         Ok(output) => output,
         Err(fault) => return Err(ServeFault::Run(fault)),
     };

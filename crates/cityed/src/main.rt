@@ -15,7 +15,7 @@ use city_serve::fault_line::fault_line;
 use city_serve::seen_line::seen_line;
 use city_serve::serve::{serve, write_output};
 use city_serve::serve_decimals::{serve_decimals, serve_decimals_texts};
-use city_serve::serve_texts::serve_texts;
+use city_serve::serve_texts::serve_owned_texts;
 use city_serve::{Device, ServeFault, read_file};
 use std::io::ErrorKind;
 use std::process::ExitCode;
@@ -78,7 +78,6 @@ fn answer<T: Threads + Wait + Sync>(
         Asked::Files(options, model, scripts) => {
             let document = read_file(rt, *model)?;
             let scripts = read_file(rt, *scripts)?;
-            let (document, scripts) = (document.as_slice(), scripts.as_slice());
             let (workers, viewers) = (options.workers, options.viewers);
             if options.decimals {
                 serve_decimals_texts(
@@ -91,7 +90,7 @@ fn answer<T: Threads + Wait + Sync>(
                     viewers,
                 )?
             } else {
-                serve_texts(
+                serve_owned_texts(
                     threads,
                     alloc,
                     document,

@@ -1,6 +1,4 @@
-use Rattle.std.proofs.Common.{ap, ◌∙◌}
 use Rattle.std.proofs.lemmas.Result.{IfOk-weaker, IfErr-weaker}
-use Rattle.city_serve.specs.Served.{document_of, scripts_of}
 use Rattle.city_serve.specs.Decimals.{AreServedDecimals, IsDecimalsRun, IsFaultOfDecimalsRun}
 use Rattle.city_serve.proofs.Serving.{of_input, fault_of_input}
 use Rattle.city_serve.proofs.serve_decimals.serve_decimals.Goals as goal
@@ -10,14 +8,14 @@ returns-clause-served g c =
     let old = g.W.Write.contents c.args.writer.now.0 in
     let new = g.W.Write.contents c.serve_decimals_texts.new.writer.0 in
     IfOk-weaker c.serve_decimals_texts.result _ _
-    (λ seen served. of_input (g.R.Read.remaining c.args.reader.now.0) c.in_ok-input.input.items c.cut.result.0.now c.cut.result.1.now c.in_ok-input.ensures.input
-    (c.cut.ensures.document ∙ ap document_of c.as_slice.ensures.value) (c.cut.ensures.scripts ∙ ap scripts_of c.as_slice.ensures.value) (λ d s. AreServedDecimals d s c.args.workers c.args.viewers seen.items old new) served)
+    (λ seen served. of_input (g.R.Read.remaining c.args.reader.now.0) c.in_ok-input.input.items c.in_ok-document.document.items c.in_ok-document.scripts.items c.in_ok-input.ensures.input
+    c.in_ok-document.ensures.document c.in_ok-document.ensures.scripts (λ d s. AreServedDecimals d s c.args.workers c.args.viewers seen.items old new) served)
     c.serve_decimals_texts.ensures.served
 
 pub returns-clause-fault : goal.returns-clause-fault
 returns-clause-fault g c =
     IfErr-weaker c.serve_decimals_texts.result _ _
-    (fault_of_input (g.R.Read.remaining c.args.reader.now.0) c.in_ok-input.input.items c.cut.result.0.now c.cut.result.1.now c.in_ok-input.ensures.input
-    (c.cut.ensures.document ∙ ap document_of c.as_slice.ensures.value) (c.cut.ensures.scripts ∙ ap scripts_of c.as_slice.ensures.value)
+    (fault_of_input (g.R.Read.remaining c.args.reader.now.0) c.in_ok-input.input.items c.in_ok-document.document.items c.in_ok-document.scripts.items c.in_ok-input.ensures.input
+    c.in_ok-document.ensures.document c.in_ok-document.ensures.scripts
     IsDecimalsRun IsFaultOfDecimalsRun c.args.workers c.args.viewers (g.W.Write.contents c.args.writer.now.0) (g.W.Write.contents c.serve_decimals_texts.new.writer.0) c.read_at_most.new.reader.1 c.serve_decimals_texts.new.writer.1)
     c.serve_decimals_texts.ensures.fault

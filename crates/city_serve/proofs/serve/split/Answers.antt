@@ -1,0 +1,14 @@
+use Rattle.city_serve.specs.Served.{is_newline, document_of}
+use Rattle.std.proofs.Common.{take, length, ap, ◌∙◌}
+use Rattle.std.specs.List.{position_or_len}
+use Rattle.std.proofs.lemmas.List.{length-take, take_min}
+use Rattle.city_serve.proofs.serve.split.Goals as goal
+
+pub returns-clause-document : goal.returns-clause-document
+returns-clause-document c =
+    let all = c.args.input.items in
+    let at = position_or_len is_newline all in
+    c.truncate.ensures.items
+    ∙ ap (λ xs. take (length xs) all) (c.cut.ensures.document ∙ ap document_of c.as_slice.ensures.value)
+    ∙ ap (λ n. take n all) (length-take at all)
+    ∙ take_min at all
