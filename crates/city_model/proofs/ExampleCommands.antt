@@ -14,7 +14,7 @@ use Rattle.city_model.specs.CityMap.{Entries, found_in, changed}
 use Rattle.city_model.specs.Meaning.{attached, detached}
 use Rattle.city_model.specs.Runs.{HasResult, map_left}
 use Rattle.city_model.proofs.ExampleCities.{one_id, bare, object, alone, numbered}
-use Rattle.city_model.specs.Relations.{is_orphan_there}
+use Rattle.city_model.specs.Relations.{is_orphan_there, HasNoOrphan}
 use Rattle.city_model.proofs.NoOrphan.{no_orphan, least_orphan, orphan_below, no_orphan_at, no_orphan_attached, orphan_apart, no_orphan_detached_below}
 
 -- ---- the causes: a building b with the part p, and a building r
@@ -93,11 +93,11 @@ put_and_attach_part = Put (codes "p") (bare BuildingPart) ∷ Attach (codes "p")
 pub attached_part_is_committed : HasResult (found_in building) put_and_attach_part (Added ∷ Attached ∷ []) Outcome.Committed
 attached_part_is_committed =
     let put = changed (found_in building) (codes "p") (Some (alone BuildingPart)) in
-    let left = attached put (codes "p") (codes "b") in (refl, refl, (refl, refl, (inl (refl, no_orphan left (λ q.
-              no_orphan_attached put (codes "p") (codes "b") q refl refl
-              (λ apart. orphan_apart (found_in building) (codes "p") (Some (alone BuildingPart)) q apart (no_orphan_at building q refl)))), refl),
-      ),
-    )
+    let left = attached put (codes "p") (codes "b") in
+    let none : HasNoOrphan left = no_orphan left (λ q.
+    no_orphan_attached put (codes "p") (codes "b") q refl refl
+    (λ apart. orphan_apart (found_in building) (codes "p") (Some (alone BuildingPart)) q apart (no_orphan_at building q refl))) in
+    (refl, refl, (refl, refl, (inl (refl, none), refl)))
 
 -- ---- a script that gives up
 

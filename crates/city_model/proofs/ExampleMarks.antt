@@ -12,6 +12,7 @@ use Rattle.city_model.specs.declared.end.Outcome.{Outcome}
 use Rattle.city_model.specs.CityMap.{Entries, CityMap, found_in, changed}
 use Rattle.city_model.specs.Marks.{unmarked}
 use Rattle.city_model.specs.Meaning.{Does}
+use Rattle.city_model.specs.Relations.{HasNoOrphan}
 use Rattle.city_model.specs.Runs.{Scripted, Trace, HasResult, map_left, Fits}
 use Rattle.city_model.proofs.ExampleCities.{bare, alone, numbered}
 use Rattle.city_model.proofs.NoOrphan.{no_orphan, no_orphan_at, no_orphan_put}
@@ -46,17 +47,13 @@ marks_twice =
 abbrev second_number : CityMap
 second_number = changed (changed (found_in meadow) (codes "x") (Some (with_number 1))) (codes "x") (Some (with_number 2))
 
+second_number_no_orphan : HasNoOrphan second_number
+second_number_no_orphan = no_orphan second_number (λ q.
+    no_orphan_put (changed (found_in meadow) (codes "x") (Some (with_number 1))) (codes "x") (Some (with_number 2)) q refl
+    (no_orphan_put (found_in meadow) (codes "x") (Some (with_number 1)) q refl (no_orphan_at meadow q refl)))
+
 pub newest_mark_counts : HasResult (found_in meadow) marks_twice (Replaced ∷ Marked ∷ Replaced ∷ Marked ∷ Replaced ∷ WentBack ∷ WentBack ∷ []) Outcome.Committed
-newest_mark_counts = (refl, refl, (refl, refl, (refl, refl, (refl, refl, (refl, refl, (refl, refl, (refl, refl, (inl (refl, no_orphan second_number (λ q.
-                    no_orphan_put (changed (found_in meadow) (codes "x") (Some (with_number 1))) (codes "x") (Some (with_number 2)) q refl
-                    (no_orphan_put (found_in meadow) (codes "x") (Some (with_number 1)) q refl (no_orphan_at meadow q refl)))), refl),
-            ),
-          ),
-        ),
-      ),
-    ),
-  ),
-)
+newest_mark_counts = (refl, refl, (refl, refl, (refl, refl, (refl, refl, (refl, refl, (refl, refl, (refl, refl, (inl (refl, second_number_no_orphan), refl))))))))
 
 pub newest_mark_is_left : map_left (found_in meadow) marks_twice Outcome.Committed (codes "x") ≡ Some (with_number 2)
 newest_mark_is_left = refl
