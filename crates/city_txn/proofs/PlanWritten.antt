@@ -12,7 +12,7 @@ use Rattle.city_model.proofs.IdLists.{not_both}
 use Rattle.city_txn.specs.UndoState.{reservations_of}
 use Rattle.city_txn.specs.State.{State, Write, own, own_write, is_reserved, SeesSame}
 use Rattle.city_txn.specs.Performing.{plans}
-use Rattle.city_model.specs.Plans.{AreOf}
+use Rattle.city_model.specs.inside.Plans.{AreOf}
 use Rattle.city_model.specs.Runs.{Change}
 
 pub or_cases : (a b : Bool) {A : Type 0} → (a || b) ≡ true → (a ≡ true → A) → (b ≡ true → A) → A

@@ -3,7 +3,7 @@ ghost use Rattle.std.specs.Prelude.{◌≡◌, ◌==◌, ◌&&◌, ◌||◌, ℕ
 ghost use Rattle.city_model.specs.CityMap.{CityMap};
 ghost use Rattle.city_txn.specs.State.{write_of, unless_by, own, is_reserved, is_open, committed, SeesSame};
 ghost use Rattle.city_txn.specs.UndoLog.{log_of, marked, is_noted};
-ghost use Rattle.city_model.specs.Plans.{AreOf};
+ghost use Rattle.city_model.specs.inside.Plans.{AreOf};
 ghost use Rattle.city_txn.specs.Performing.{plans, AreNoted};
 
 use crate::store::Store;
