@@ -75,9 +75,12 @@ fn unlink<V: View>(
 ) -> Result<(Id, Option<Object>), OutOfMemory>
     ensures { IfOk result (λ write. write ≡ unlinked (V.map view.now) child.now parent.now) }
 {
-    let object = match view.look(parent) {
-        None => None,
-        Some(object) => Some(without_child(alloc, child, object)?),
-    };
-    Ok((parent.copy(alloc)?, object))
+    let id = parent.copy(alloc)?;
+    match view.look(parent) {
+        None => Ok((id, None)),
+        Some(object) => {
+            let left = without_child(alloc, child, object)?;
+            Ok((id, Some(left)))
+        },
+    }
 }
