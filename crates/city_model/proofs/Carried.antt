@@ -5,7 +5,9 @@ use Rattle.city_model.specs.declared.command.Command.{Command}
 use Rattle.city_model.specs.declared.command.Reply.{Reply}
 use Rattle.city_model.specs.CityMap.{CityMap, same_id}
 use Rattle.city_model.specs.Meaning.{Answers, effect, locks_of}
-use Rattle.city_model.specs.inside.CommandParts.{seen_next, after, done_reply, refused_or, Marking, Leaves, Marks, GoesBack, marking, back_to, back_cause, refusal_as, step_as, refusal, answer}
+use Rattle.city_model.specs.inside.CommandParts.{seen_next, after, done_reply, refused_or, Marking, Leaves, Marks}
+use Rattle.city_model.specs.inside.CommandParts.{GoesBack, marking, back_to, back_cause, refusal_as, step_as, refusal}
+use Rattle.city_model.specs.inside.CommandParts.{answer}
 use Rattle.city_model.specs.Marks.{Marked, View, unmarked, marks_from, IsSoundView}
 use Rattle.city_model.specs.Relations.{IsSound}
 use Rattle.city_model.specs.Standing.{Held, covers, AllHeld, Answered, Follows, names_exclusively}
@@ -13,7 +15,8 @@ use Rattle.city_model.specs.FrameLaw.{AgreeOn}
 use Rattle.city_model.specs.TraceLaw.{carried_map, carried_marks, carried}
 use Rattle.city_model.proofs.IdLists.{bool_cases}
 use Rattle.city_model.proofs.FrameLaw.{frame, same_cause, same_done, same_locks, same_after}
-use Rattle.city_model.proofs.Effects.{goes_on_case, goes_on_at, effect_is, answered_no_end, answered_reply, answered_next}
+use Rattle.city_model.proofs.Effects.{goes_on_case, goes_on_at, effect_is, answered_no_end, answered_reply}
+use Rattle.city_model.proofs.Effects.{answered_next}
 use Rattle.city_model.proofs.MarksKept.{from_mapped, sound_effect}
 use Rattle.city_model.proofs.History.{Next, covered, held_named, not_named}
 

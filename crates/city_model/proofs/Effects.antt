@@ -1,34 +1,41 @@
 -- What a command does, by the parts of its meaning, and what follows from an effect that goes on.
-use Rattle.std.proofs.Common.{◌≡◌, ℕ, List, [], ◌∷◌, Bool, true, false, Option, None, Some, inl, inr, refl, ap, sym, subst, ◌∙◌}
+use Rattle.std.proofs.Common.{◌≡◌, ℕ, List, [], ◌∷◌, Bool, true, false, Option, None, Some, inl, inr, refl, ap, sym}
+use Rattle.std.proofs.Common.{subst, ◌∙◌}
 use Rattle.std.proofs.lemmas.Bool.{false≢true}
 use Rattle.city_model.specs.declared.object.Object.{Object}
 use Rattle.city_model.specs.declared.command.Command.{Command}
-use Rattle.city_model.specs.declared.command.Command.TheVariants.{Read, Put, Delete, Attach, Detach, Mark, Back, Commit, Abort}
+use Rattle.city_model.specs.declared.command.Command.TheVariants.{Read, Put, Delete, Attach, Detach, Mark, Back, Commit}
+use Rattle.city_model.specs.declared.command.Command.TheVariants.{Abort}
 use Rattle.city_model.specs.declared.command.Cause.{Cause}
 use Rattle.city_model.specs.declared.command.Cause.TheVariants.{Orphan}
 use Rattle.city_model.specs.declared.command.Reply.{Reply}
 use Rattle.city_model.specs.declared.command.Reply.TheVariants.{WentBack, Committed, Aborted, Refused}
 use Rattle.city_model.specs.CityMap.{CityMap}
 use Rattle.city_model.specs.Marks.{Marked, View, with_map, marks_from}
-use Rattle.city_model.specs.Meaning.{read_reply, put_done, Effect, Answers, Commits, Aborts, unless, back, effect, IsCommitReply, IsReply, left, step, Does, GoesOn, is_refusal}
+use Rattle.city_model.specs.Meaning.{read_reply, put_done, Effect, Answers, Commits, Aborts, unless, back, effect}
+use Rattle.city_model.specs.Meaning.{IsCommitReply, IsReply, left, step, Does, GoesOn, is_refusal}
 use Rattle.city_model.specs.Relations.{HasNoOrphan, IsLeastOrphan}
 use Rattle.city_model.specs.Scripts.{is_end}
-use Rattle.city_model.specs.inside.CommandParts.{cause_of, effect_of, done_reply, map_unless, refused_or, back_to, back_cause, refusal, seen_next, answer}
+use Rattle.city_model.specs.inside.CommandParts.{cause_of, effect_of, done_reply, map_unless, refused_or, back_to}
+use Rattle.city_model.specs.inside.CommandParts.{back_cause, refusal, seen_next, answer}
 use Rattle.city_model.proofs.Refused.{refused_stays}
 
 -- ---- an effect that goes on
 
-pub goes_on_case : {X : Type 0} (P : Reply → View → Type 0) (e : Effect) → ((reply : Reply) (u : View) → e ≡ Answers reply u → P reply u → X) → GoesOn e P → X
+pub goes_on_case : {X : Type 0} (P : Reply → View → Type 0) (e : Effect)
+    → ((reply : Reply) (u : View) → e ≡ Answers reply u → P reply u → X) → GoesOn e P → X
 goes_on_case P (Answers reply u) f g = f reply u refl g
 goes_on_case P Commits f g = absurd g
 goes_on_case P Aborts f g = absurd g
 
-pub goes_on_map : (P Q : Reply → View → Type 0) (e : Effect) → ((reply : Reply) (u : View) → P reply u → Q reply u) → GoesOn e P → GoesOn e Q
+pub goes_on_map : (P Q : Reply → View → Type 0) (e : Effect) → ((reply : Reply) (u : View) → P reply u → Q reply u)
+    → GoesOn e P → GoesOn e Q
 goes_on_map P Q (Answers reply u) f g = f reply u g
 goes_on_map P Q Commits f g = g
 goes_on_map P Q Aborts f g = g
 
-pub goes_on_at : (P : Reply → View → Type 0) (e : Effect) (reply : Reply) (u : View) → e ≡ Answers reply u → P reply u → GoesOn e P
+pub goes_on_at : (P : Reply → View → Type 0) (e : Effect) (reply : Reply) (u : View) → e ≡ Answers reply u → P reply u
+    → GoesOn e P
 goes_on_at P e reply u is h = subst (λ (x : Effect). GoesOn x P) (sym is) h
 
 pub goes_on_no_end : (P : Reply → View → Type 0) (v : View) (c : Command) → GoesOn (effect v c) P → is_end c ≡ false
@@ -43,20 +50,24 @@ goes_on_no_end P v Commit g = absurd g
 goes_on_no_end P v Abort g = absurd g
 
 -- a command that is answered doesn't end its script
-pub answered_no_end : (v : View) (c : Command) (reply : Reply) (u : View) → effect v c ≡ Answers reply u → is_end c ≡ false
+pub answered_no_end : (v : View) (c : Command) (reply : Reply) (u : View) → effect v c ≡ Answers reply u
+    → is_end c ≡ false
 answered_no_end v c reply u is = goes_on_no_end (λ r w. r ≡ reply) v c (goes_on_at (λ r w. r ≡ reply) (effect v c) reply u is refl)
 
 -- ---- by parts
 
-unless_is : (x : Option Cause) (v : View) (r : Reply) (m : CityMap) → unless x v (Answers r (with_map v m)) ≡ Answers (refused_or x r) (with_map v (map_unless x v.map m))
+unless_is : (x : Option Cause) (v : View) (r : Reply) (m : CityMap)
+    → unless x v (Answers r (with_map v m)) ≡ Answers (refused_or x r) (with_map v (map_unless x v.map m))
 unless_is None v r m = refl
 unless_is (Some cause) v r m = refl
 
-back_is : (name : List ℕ) (v : View) (ks : List Marked) → back name v ks ≡ Answers (refused_or (back_cause name ks) WentBack) (back_to v ks)
+back_is : (name : List ℕ) (v : View) (ks : List Marked)
+    → back name v ks ≡ Answers (refused_or (back_cause name ks) WentBack) (back_to v ks)
 back_is name v [] = refl
 back_is name v (k ∷ ks) = refl
 
-changing_is : (v : View) (c : Command) → unless (cause_of v.map c) v (Answers (done_reply v.map c) (with_map v (effect_of v.map c)))
+changing_is : (v : View) (c : Command)
+    → unless (cause_of v.map c) v (Answers (done_reply v.map c) (with_map v (effect_of v.map c)))
     ≡ Answers (refused_or (cause_of v.map c) (done_reply v.map c)) (with_map v (map_unless (cause_of v.map c) v.map (effect_of v.map c)))
 changing_is v c = unless_is (cause_of v.map c) v (done_reply v.map c) (effect_of v.map c)
 
@@ -87,10 +98,12 @@ reply_or other (Answers reply u) = reply
 reply_or other Commits = other
 reply_or other Aborts = other
 
-pub answered_reply : (v : View) (c : Command) (reply : Reply) (u : View) → effect v c ≡ Answers reply u → reply ≡ answer v c
+pub answered_reply : (v : View) (c : Command) (reply : Reply) (u : View) → effect v c ≡ Answers reply u
+    → reply ≡ answer v c
 answered_reply v c reply u is = ap (reply_or reply) (sym is ∙ effect_is v c (answered_no_end v c reply u is))
 
-pub answered_next : (v : View) (c : Command) (reply : Reply) (u : View) → effect v c ≡ Answers reply u → u ≡ seen_next v c
+pub answered_next : (v : View) (c : Command) (reply : Reply) (u : View) → effect v c ≡ Answers reply u
+    → u ≡ seen_next v c
 answered_next v c reply u is = ap (left v) (sym is ∙ effect_is v c (answered_no_end v c reply u is))
 
 pub answered_step : (v : View) (c : Command) (reply : Reply) (u : View) → effect v c ≡ Answers reply u → step v c ≡ u
@@ -99,10 +112,12 @@ answered_step v c reply u is = ap (left v) is
 -- ---- refusals
 
 -- a refused command changes nothing
-pub refusal_leaves : (v : View) (c : Command) (reply : Reply) (u : View) → effect v c ≡ Answers reply u → is_refusal reply ≡ true → u ≡ v
+pub refusal_leaves : (v : View) (c : Command) (reply : Reply) (u : View) → effect v c ≡ Answers reply u
+    → is_refusal reply ≡ true → u ≡ v
 refusal_leaves v c reply u is h = answered_next v c reply u is ∙ refused_stays v c (ap is_refusal (sym (answered_reply v c reply u is)) ∙ h)
 
-pub refused_does : (v : View) (c : Command) (cause : Cause) (u : View) → effect v c ≡ Answers (Refused cause) u → Does v c (Refused cause) v
+pub refused_does : (v : View) (c : Command) (cause : Cause) (u : View) → effect v c ≡ Answers (Refused cause) u
+    → Does v c (Refused cause) v
 refused_does v c cause u is = (
   subst (λ (e : Effect). IsReply v e (Refused cause)) (sym is) refl,
   sym (answered_step v c (Refused cause) u is ∙ refusal_leaves v c (Refused cause) u is refl),
@@ -138,7 +153,8 @@ or_no_ending : (x : Option Cause) (done : Reply) → is_ending done ≡ false �
 or_no_ending None done h = h
 or_no_ending (Some cause) done h = refl
 
-pub answered_no_ending : (v : View) (c : Command) (reply : Reply) (u : View) → effect v c ≡ Answers reply u → is_ending reply ≡ false
+pub answered_no_ending : (v : View) (c : Command) (reply : Reply) (u : View) → effect v c ≡ Answers reply u
+    → is_ending reply ≡ false
 answered_no_ending v c reply u is =
     ap is_ending (answered_reply v c reply u is) ∙ or_no_ending (refusal v c) (done_reply v.map c) (done_no_ending v.map c (answered_no_end v c reply u is))
 

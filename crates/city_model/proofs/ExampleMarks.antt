@@ -6,7 +6,8 @@ use Rattle.city_model.specs.declared.object_type.ObjectType.TheVariants.{LandUse
 use Rattle.city_model.specs.declared.command.Command.{Command}
 use Rattle.city_model.specs.declared.command.Command.TheVariants.{Read, Put, Delete, Mark, Back, Commit, Abort}
 use Rattle.city_model.specs.declared.command.Cause.TheVariants.{NoMark}
-use Rattle.city_model.specs.declared.command.Reply.TheVariants.{Found, Added, Replaced, Deleted, Marked, WentBack, Refused}
+use Rattle.city_model.specs.declared.command.Reply.TheVariants.{Found, Added, Replaced, Deleted, Marked, WentBack}
+use Rattle.city_model.specs.declared.command.Reply.TheVariants.{Refused}
 use Rattle.city_model.specs.declared.end.End.{End}
 use Rattle.city_model.specs.declared.end.Outcome.{Outcome}
 use Rattle.city_model.specs.CityMap.{Entries, CityMap, found_in, changed}
@@ -80,7 +81,8 @@ outer_mark_is_left = (refl, (refl, (refl, (refl, refl))))
 
 -- ---- without its mark
 
-pub no_mark_is_a_refusal : (m : CityMap) → Does (unmarked m) (Back (codes "m")) (Refused (NoMark (codes "m"))) (unmarked m)
+pub no_mark_is_a_refusal : (m : CityMap)
+    → Does (unmarked m) (Back (codes "m")) (Refused (NoMark (codes "m"))) (unmarked m)
 no_mark_is_a_refusal m = (refl, refl)
 
 -- ---- an object that was deleted and put again is the first one after going back

@@ -10,8 +10,12 @@ use Rattle.city_model.specs.declared.command.Command.{Command}
 use Rattle.city_model.specs.declared.command.Command.TheVariants.{Read, Put, Delete, Attach, Detach, Mark, Back, Commit, Abort}
 use Rattle.city_model.specs.declared.command.Reply.{Reply}
 use Rattle.city_model.specs.CityMap.{CityMap, same_id, has_id, changed, parents_of, children_of}
-use Rattle.city_model.specs.Meaning.{Answers, read_reply, with_body, put_cause, put_done, delete_cause, attach_cause, detach_cause, without_child, without_parent, with_child, with_parent, deleted, exclusively, delete_locks, locks_of}
-use Rattle.city_model.specs.inside.CommandParts.{cause_of, effect_of, done_reply, map_unless, refused_or, after, Marking, Leaves, Marks, GoesBack, marking, refusal_as, refusal, seen_next, answer}
+use Rattle.city_model.specs.Meaning.{Answers, read_reply, with_body, put_cause, put_done, delete_cause, attach_cause}
+use Rattle.city_model.specs.Meaning.{detach_cause, without_child, without_parent, with_child, with_parent, deleted}
+use Rattle.city_model.specs.Meaning.{exclusively, delete_locks, locks_of}
+use Rattle.city_model.specs.inside.CommandParts.{cause_of, effect_of, done_reply, map_unless, refused_or, after}
+use Rattle.city_model.specs.inside.CommandParts.{Marking, Leaves, Marks, GoesBack, marking, refusal_as, refusal}
+use Rattle.city_model.specs.inside.CommandParts.{seen_next, answer}
 use Rattle.city_model.specs.Shells.{body_fault}
 use Rattle.city_model.specs.Relations.{IsSound}
 use Rattle.city_model.specs.Marks.{unmarked}
@@ -176,7 +180,8 @@ same_after m n c q a h = same_where_agreed m n c q a (a q (exclusive_is_named (l
 
 -- ---- without marks
 
-same_refusal : (m n : CityMap) (c : Command) (k : Marking) → AgreeOn (locks_of m c) m n → refusal_as k (unmarked m) c ≡ refusal_as k (unmarked n) c
+same_refusal : (m n : CityMap) (c : Command) (k : Marking) → AgreeOn (locks_of m c) m n
+    → refusal_as k (unmarked m) c ≡ refusal_as k (unmarked n) c
 same_refusal m n c Leaves a = same_cause m n c a
 same_refusal m n c (Marks name) a = refl
 same_refusal m n c (GoesBack name) a = refl

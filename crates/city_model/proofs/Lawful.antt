@@ -1,5 +1,6 @@
 -- What a script leaves of a sound map is sound, and of a lawful map lawful.
-use Rattle.std.proofs.Common.{◌≡◌, ◌<◌, ℕ, zero, suc, ◌+◌, List, [], ◌∷◌, length, take, true, false, Option, refl, ap, sym, subst, ◌∙◌, arith}
+use Rattle.std.proofs.Common.{◌≡◌, ◌<◌, ℕ, zero, suc, ◌+◌, List, [], ◌∷◌, length, take, true, false, Option, refl, ap}
+use Rattle.std.proofs.Common.{sym, subst, ◌∙◌, arith}
 use Rattle.std.specs.Prelude.{if◌then◌else◌}
 use Rattle.std.proofs.lemmas.Bool.{false≢true}
 use Rattle.city_model.specs.declared.command.Command.{Command}
@@ -10,7 +11,8 @@ use Rattle.city_model.specs.CityMap.{CityMap}
 use Rattle.city_model.specs.Marks.{View, unmarked, IsSoundView}
 use Rattle.city_model.specs.Meaning.{Effect, Answers, Commits, Aborts, effect, is_refusal}
 use Rattle.city_model.specs.Relations.{HasNoOrphan, IsSound, IsLawful}
-use Rattle.city_model.specs.Runs.{Scripted, Trace, EndsFrom, HasResult, goes_to, view_at_end, map_left, left_by_found, left_by, model_after, FitsFrom, Fits}
+use Rattle.city_model.specs.Runs.{Scripted, Trace, EndsFrom, HasResult, goes_to, view_at_end, map_left, left_by_found}
+use Rattle.city_model.specs.Runs.{left_by, model_after, FitsFrom, Fits}
 use Rattle.city_model.specs.Scripts.{is_end, is_empty_list, ends_once}
 use Rattle.city_model.specs.inside.CommandParts.{seen_next, answer}
 use Rattle.city_model.proofs.Effects.{goes_on_case, goes_on_at, effect_is, committed_at}
@@ -23,7 +25,8 @@ use Rattle.city_model.proofs.MarksKept.{sound_effect}
 abbrev pub Further : Reply → List Command → List Reply → View → Reply → View → Type 0
 Further r cs rs w reply u = (reply ≡ r) × Trace u cs rs w
 
-pub trace_sound : (v : View) (cs : List Command) (rs : List Reply) (w : View) → IsSoundView v → Trace v cs rs w → IsSoundView w
+pub trace_sound : (v : View) (cs : List Command) (rs : List Reply) (w : View) → IsSoundView v → Trace v cs rs w
+    → IsSoundView w
 trace_sound v [] [] w s f = subst IsSoundView (sym f) s
 trace_sound v [] (r ∷ rs) w s f = absurd f
 trace_sound v (c ∷ cs) [] w s f = absurd f
@@ -37,7 +40,8 @@ nothing_more (c ∷ cs) h = absurd (false≢true h)
 abbrev IsTraced : View → List Command → Type 0
 IsTraced v cs = (replies : List Reply) × (w : View) × Trace v cs replies w
 
-traced_further : (v : View) (c : Command) (cs : List Command) → is_end c ≡ false → IsTraced (seen_next v c) cs → IsTraced v (c ∷ cs)
+traced_further : (v : View) (c : Command) (cs : List Command) → is_end c ≡ false → IsTraced (seen_next v c) cs
+    → IsTraced v (c ∷ cs)
 traced_further v c cs on t =
     (answer v c ∷ t.0, t.1, goes_on_at (Further (answer v c) cs t.0 t.1) (effect v c) (answer v c) (seen_next v c) (effect_is v c on) (refl, t.2))
 
@@ -55,7 +59,8 @@ trace_there v (c ∷ cs) (suc k) e less = bool_cases (is_end c)
 
 -- ---- a script to its end
 
-sound_to : (v : View) (e : Effect) (others : View → View) → IsSoundView v → ((reply : Reply) (u : View) → e ≡ Answers reply u → IsSoundView (others u)) → IsSoundView (goes_to v e others)
+sound_to : (v : View) (e : Effect) (others : View → View) → IsSoundView v
+    → ((reply : Reply) (u : View) → e ≡ Answers reply u → IsSoundView (others u)) → IsSoundView (goes_to v e others)
 sound_to v (Answers reply u) others s f = bool_cases (is_refusal reply)
     (λ h. subst (λ b. IsSoundView (if b then v else others u)) (sym h) s)
     (λ h. subst (λ b. IsSoundView (if b then v else others u)) (sym h) (f reply u refl))
@@ -67,7 +72,8 @@ sound_at_end v [] s = s
 sound_at_end v (c ∷ cs) s = sound_to v (effect v c) (λ u. view_at_end u cs) s (λ reply u is. sound_at_end u cs (sound_effect v c reply u is s))
 
 -- a command that is answered, and not refused, leads on
-pub leads_on : (v : View) (c : Command) (cs : List Command) (reply : Reply) (u : View) → effect v c ≡ Answers reply u → is_refusal reply ≡ false → view_at_end v (c ∷ cs) ≡ view_at_end u cs
+pub leads_on : (v : View) (c : Command) (cs : List Command) (reply : Reply) (u : View) → effect v c ≡ Answers reply u
+    → is_refusal reply ≡ false → view_at_end v (c ∷ cs) ≡ view_at_end u cs
 leads_on v c cs reply u is h =
     ap (λ (e : Effect). goes_to v e (λ k. view_at_end k cs)) is ∙ ap (λ b. if b then v else view_at_end u cs) h
 
@@ -75,7 +81,8 @@ leads_on v c cs reply u is h =
 abbrev pub EndsFurther : Reply → ℕ → List Command → List Reply → Outcome → Reply → View → Type 0
 EndsFurther r i cs rs outcome reply u = (reply ≡ r) × (is_refusal reply ≡ false) × EndsFrom u (i + 1) cs rs outcome
 
-no_orphan_from : (v : View) (i : ℕ) (cs : List Command) (rs : List Reply) → EndsFrom v i cs rs Outcome.Committed → HasNoOrphan (view_at_end v cs).map
+no_orphan_from : (v : View) (i : ℕ) (cs : List Command) (rs : List Reply) → EndsFrom v i cs rs Outcome.Committed
+    → HasNoOrphan (view_at_end v cs).map
 no_orphan_from v i [] rs h = absurd h
 no_orphan_from v i (c ∷ cs) [] h =
     let commit = committed_at v c v h in
@@ -85,11 +92,13 @@ no_orphan_from v i (c ∷ cs) (r ∷ rs) h =
     subst (λ (k : View). HasNoOrphan k.map) (sym (leads_on v c cs reply u is g.1)) (no_orphan_from u (i + 1) cs rs g.2)) h
 
 -- a script that commits leaves a lawful map of a sound one
-pub lawful_when_committed : (m : CityMap) (cs : List Command) (rs : List Reply) → IsSound m → HasResult m cs rs Outcome.Committed → IsLawful (map_left m cs Outcome.Committed)
+pub lawful_when_committed : (m : CityMap) (cs : List Command) (rs : List Reply) → IsSound m
+    → HasResult m cs rs Outcome.Committed → IsLawful (map_left m cs Outcome.Committed)
 lawful_when_committed m cs rs s h = ((sound_at_end (unmarked m) cs (s, tt)).0, no_orphan_from (unmarked m) 0 cs rs h)
 
 -- whatever a script's outcome, it leaves a lawful map of a lawful one
-pub lawful_left : (m : CityMap) (cs : List Command) (rs : List Reply) (o : Outcome) → IsLawful m → HasResult m cs rs o → IsLawful (map_left m cs o)
+pub lawful_left : (m : CityMap) (cs : List Command) (rs : List Reply) (o : Outcome) → IsLawful m → HasResult m cs rs o
+    → IsLawful (map_left m cs o)
 lawful_left m cs rs Outcome.Committed s h = lawful_when_committed m cs rs s.0 h
 lawful_left m cs rs Outcome.Aborted s h = s
 lawful_left m cs rs (Outcome.Refused i cause) s h = s
@@ -97,7 +106,8 @@ lawful_left m cs rs (Outcome.NoMemory i) s h = s
 
 -- ---- scripts run one at a time
 
-lawful_from : (scripts : List Scripted) (m : CityMap) (place : ℕ) (ends : List End) → IsLawful m → FitsFrom scripts m place ends → IsLawful (model_after scripts m ends)
+lawful_from : (scripts : List Scripted) (m : CityMap) (place : ℕ) (ends : List End) → IsLawful m
+    → FitsFrom scripts m place ends → IsLawful (model_after scripts m ends)
 lawful_from scripts m place [] l h = l
 lawful_from scripts m place (e ∷ es) l h =
     let left : IsLawful (left_by scripts m e) =
@@ -105,5 +115,6 @@ lawful_from scripts m place (e ∷ es) l h =
     lawful_from scripts (left_by scripts m e) (place + 1) es left h.2
 
 -- after scripts run one at a time a lawful map is lawful
-pub lawful_after : (scripts : List Scripted) (m : CityMap) (ends : List End) → IsLawful m → Fits scripts m ends → IsLawful (model_after scripts m ends)
+pub lawful_after : (scripts : List Scripted) (m : CityMap) (ends : List End) → IsLawful m → Fits scripts m ends
+    → IsLawful (model_after scripts m ends)
 lawful_after scripts m ends l h = lawful_from scripts m 0 ends l h

@@ -17,7 +17,8 @@ use Rattle.city_model.proofs.RelationLaws.{misrelated_true, misrelated_false}
 
 -- ---- relations
 
-related_no_fault : (m : CityMap) (id : List ℕ) (o : Object) → IsInOrder m id o × (is_orphan o ≡ false) → (IsInOrder m id o → ⊥) ⊎ (is_orphan o ≡ true) → ⊥
+related_no_fault : (m : CityMap) (id : List ℕ) (o : Object) → IsInOrder m id o × (is_orphan o ≡ false)
+    → (IsInOrder m id o → ⊥) ⊎ (is_orphan o ≡ true) → ⊥
 related_no_fault m id o h (inl f) = f h.0
 related_no_fault m id o h (inr e) = false≢true (sym h.1 ∙ e)
 

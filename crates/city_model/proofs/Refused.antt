@@ -8,7 +8,9 @@ use Rattle.city_model.specs.declared.command.Reply.{Reply}
 use Rattle.city_model.specs.declared.command.Cause.{Cause}
 use Rattle.city_model.specs.CityMap.{CityMap}
 use Rattle.city_model.specs.Meaning.{read_reply, put_done, is_refusal}
-use Rattle.city_model.specs.inside.CommandParts.{seen_next, cause_of, effect_of, done_reply, map_unless, refused_or, Marking, Leaves, Marks, GoesBack, marking, back_to, back_cause, refusal_as, step_as, answer}
+use Rattle.city_model.specs.inside.CommandParts.{seen_next, cause_of, effect_of, done_reply, map_unless, refused_or}
+use Rattle.city_model.specs.inside.CommandParts.{Marking, Leaves, Marks, GoesBack, marking, back_to, back_cause}
+use Rattle.city_model.specs.inside.CommandParts.{refusal_as, step_as, answer}
 use Rattle.city_model.specs.Marks.{Marked, View, marks_from}
 
 read_unrefused : (o : Option Object) → is_refusal (read_reply o) ≡ false

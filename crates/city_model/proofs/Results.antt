@@ -1,5 +1,6 @@
 -- A script has one result at a map, and scripts run in their order have one list of ends, but for want of memory.
-use Rattle.std.proofs.Common.{◌≡◌, ℕ, ◌+◌, List, [], ◌∷◌, length, false, Some, inl, inr, Ordering, Less, Equal, Greater, refl, ap, sym, subst, ◌∙◌, arith}
+use Rattle.std.proofs.Common.{◌≡◌, ℕ, ◌+◌, List, [], ◌∷◌, length, false, Some, inl, inr, Ordering, Less, Equal, Greater}
+use Rattle.std.proofs.Common.{refl, ap, sym, subst, ◌∙◌, arith}
 use Rattle.std.specs.Prelude.{slice_get}
 use Rattle.std.specs.Ordering.{nat_cmp, ordering_reverse}
 use Rattle.std.specs.Cmp.Lexicographic.{slice_cmp}
@@ -15,7 +16,8 @@ use Rattle.city_model.specs.declared.end.Outcome.{Outcome}
 use Rattle.city_model.specs.CityMap.{CityMap}
 use Rattle.city_model.specs.Least.{IsLeast}
 use Rattle.city_model.specs.Marks.{View, unmarked}
-use Rattle.city_model.specs.Meaning.{Effect, Answers, Commits, Aborts, effect, IsCommitReply, IsReply, GoesOn, is_refusal}
+use Rattle.city_model.specs.Meaning.{Effect, Answers, Commits, Aborts, effect, IsCommitReply, IsReply, GoesOn}
+use Rattle.city_model.specs.Meaning.{is_refusal}
 use Rattle.city_model.specs.Relations.{IsOrphanAt, IsLeastOrphan, HasNoOrphan}
 use Rattle.city_model.specs.Runs.{Scripted, EndsAt, EndsFrom, HasResult, left_by, IsEndOf, FitsFrom, Fits}
 use Rattle.city_model.specs.SerialEnds.{is_no_memory, IsSerialFrom}
@@ -76,7 +78,8 @@ end_is_unique v c i o (Outcome.NoMemory j) n l h k = absurd (false≢true (sym l
 ended_so : (v : View) (e : Effect) (reply q : Reply) (u : View) → e ≡ Answers reply u → IsReply v e q → q ≡ reply
 ended_so v e reply q u is h = subst (λ (x : Effect). IsReply v x q) is h
 
-ends_or_goes_on : (v : View) (c : Command) (i j : ℕ) (o p : Outcome) (r : Reply) (cs : List Command) (rs : List Reply) → is_no_memory o ≡ false
+ends_or_goes_on : (v : View) (c : Command) (i j : ℕ) (o p : Outcome) (r : Reply) (cs : List Command) (rs : List Reply)
+    → is_no_memory o ≡ false
     → EndsAt v c i o → GoesOn (effect v c) (EndsFurther r j cs rs p) → ⊥
 ends_or_goes_on v c i j Outcome.Committed p r cs rs n h g = goes_on_case (EndsFurther r j cs rs p) (effect v c) (λ reply u is f.
     false≢true (sym (answered_no_ending v c reply u is) ∙ ap is_ending (sym (ended_so v (effect v c) reply Committed u is h.0)))) g

@@ -1,5 +1,6 @@
 -- Commands run from two maps that agree on what their locks name do the same.
-use Rattle.std.proofs.Common.{◌≡◌, ℕ, suc, List, [], ◌∷◌, length, Bool, true, false, Option, Some, None, refl, ap, subst, ◌∙◌, arith}
+use Rattle.std.proofs.Common.{◌≡◌, ℕ, suc, List, [], ◌∷◌, length, Bool, true, false, Option, Some, None, refl, ap}
+use Rattle.std.proofs.Common.{subst, ◌∙◌, arith}
 use Rattle.std.specs.Prelude.{is_some, if◌then◌else◌}
 use Rattle.std.proofs.lemmas.Bool.{false≢true, or_left, or_right}
 use Rattle.city_model.specs.declared.command.Command.{Command}
@@ -9,7 +10,8 @@ use Rattle.city_model.specs.Meaning.{effect, step, locks_of}
 use Rattle.city_model.specs.Marks.{View, unmarked}
 use Rattle.city_model.specs.Relations.{IsSound}
 use Rattle.city_model.specs.Runs.{Trace}
-use Rattle.city_model.specs.Standing.{Held, Lock, covers, AllHeld, answered, Follows, names, names_exclusively, exclusive_ids}
+use Rattle.city_model.specs.Standing.{Held, Lock, covers, AllHeld, answered, Follows, names, names_exclusively}
+use Rattle.city_model.specs.Standing.{exclusive_ids}
 use Rattle.city_model.specs.TraceLaw.{as_named, stronger_of, named_by, carried, TraceLaw}
 use Rattle.city_model.proofs.Ids.{same_id_itself}
 use Rattle.city_model.proofs.IdLists.{bool_cases}
@@ -82,7 +84,8 @@ trace_long v [] (r ∷ rs) w f = absurd f
 trace_long v (c ∷ cs) [] w f = absurd f
 trace_long v (c ∷ cs) (r ∷ rs) w f = goes_on_case (Further r cs rs w) (effect v c) (λ reply u is g. ap suc (trace_long u cs rs w g.1)) f
 
-trace_follows : (v : View) (cs : List Command) (rs : List Reply) (w : View) → Trace v cs rs w → Follows (named_by v cs) v (answered cs rs) w
+trace_follows : (v : View) (cs : List Command) (rs : List Reply) (w : View) → Trace v cs rs w
+    → Follows (named_by v cs) v (answered cs rs) w
 trace_follows v [] [] w f = f
 trace_follows v [] (r ∷ rs) w f = absurd f
 trace_follows v (c ∷ cs) [] w f = absurd f
@@ -97,7 +100,8 @@ trace_follows v (c ∷ cs) (r ∷ rs) w f = (
       (g.0, follows_held (named_by u cs) (named_by v (c ∷ cs)) u (answered cs rs) w more (trace_follows u cs rs w g.1))) f,
 )
 
-read_off : (held : Held) (v : View) (cs : List Command) (rs : List Reply) (w : View) → length cs ≡ length rs → Follows held v (answered cs rs) w → Trace v cs rs w
+read_off : (held : Held) (v : View) (cs : List Command) (rs : List Reply) (w : View) → length cs ≡ length rs
+    → Follows held v (answered cs rs) w → Trace v cs rs w
 read_off held v [] [] w e f = f
 read_off held v [] (r ∷ rs) w e f = absurd (omega arith)
 read_off held v (c ∷ cs) [] w e f = absurd (omega arith)
