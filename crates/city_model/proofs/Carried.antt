@@ -117,7 +117,8 @@ module _ (held : Held) (other : CityMap) where
       effect_carried : effect (carried held other v) c ≡ Answers reply (carried held other u)
       effect_carried =
           effect_is (carried held other v) c (answered_no_end v c reply u answers)
-          ∙ ap (λ (r : Reply). Answers r (seen_next (carried held other v) c)) (sym (answered_reply v c reply u answers ∙ answer_carried))
+          ∙ ap (λ (r : Reply). Answers r (seen_next (carried held other v) c))
+          (sym (answered_reply v c reply u answers ∙ answer_carried))
           ∙ ap (Answers reply) (step_carried ∙ ap (carried held other) (sym (answered_next v c reply u answers)))
 
       is_carried_next : IsCarriedView u
@@ -131,9 +132,11 @@ module _ (held : Held) (other : CityMap) where
     subst (AllHeld held) (same v d.0 s t is f.0) f.0,
     goes_on_case (Next held d.1 ds w) (effect v d.0) (λ reply u answers g.
         let moved = effect_carried v d.0 s t is f.0 reply u answers in
-        goes_on_at (Next held d.1 ds (carried held other w)) (effect (carried held other v) d.0) reply (carried held other u) moved (
+        goes_on_at (Next held d.1 ds (carried held other w)) (effect (carried held other v) d.0) reply
+        (carried held other u) moved (
           g.0,
-          history_carried u ds w (sound_effect v d.0 reply u answers s) (sound_effect (carried held other v) d.0 reply (carried held other u) moved t)
+          history_carried u ds w (sound_effect v d.0 reply u answers s)
+              (sound_effect (carried held other v) d.0 reply (carried held other u) moved t)
               (is_carried_next v d.0 s t is f.0 reply u answers) g.1,
         )) f.1,
   )

@@ -52,7 +52,8 @@ goes_on_no_end P v Abort g = absurd g
 -- a command that is answered doesn't end its script
 pub answered_no_end : (v : View) (c : Command) (reply : Reply) (u : View) → effect v c ≡ Answers reply u
     → is_end c ≡ false
-answered_no_end v c reply u is = goes_on_no_end (λ r w. r ≡ reply) v c (goes_on_at (λ r w. r ≡ reply) (effect v c) reply u is refl)
+answered_no_end v c reply u is =
+    goes_on_no_end (λ r w. r ≡ reply) v c (goes_on_at (λ r w. r ≡ reply) (effect v c) reply u is refl)
 
 -- ---- by parts
 
@@ -68,7 +69,8 @@ back_is name v (k ∷ ks) = refl
 
 changing_is : (v : View) (c : Command)
     → unless (cause_of v.map c) v (Answers (done_reply v.map c) (with_map v (effect_of v.map c)))
-    ≡ Answers (refused_or (cause_of v.map c) (done_reply v.map c)) (with_map v (map_unless (cause_of v.map c) v.map (effect_of v.map c)))
+    ≡ Answers (refused_or (cause_of v.map c) (done_reply v.map c))
+    (with_map v (map_unless (cause_of v.map c) v.map (effect_of v.map c)))
 changing_is v c = unless_is (cause_of v.map c) v (done_reply v.map c) (effect_of v.map c)
 
 pub effect_is : (v : View) (c : Command) → is_end c ≡ false → effect v c ≡ Answers (answer v c) (seen_next v c)
@@ -114,7 +116,8 @@ answered_step v c reply u is = ap (left v) is
 -- a refused command changes nothing
 pub refusal_leaves : (v : View) (c : Command) (reply : Reply) (u : View) → effect v c ≡ Answers reply u
     → is_refusal reply ≡ true → u ≡ v
-refusal_leaves v c reply u is h = answered_next v c reply u is ∙ refused_stays v c (ap is_refusal (sym (answered_reply v c reply u is)) ∙ h)
+refusal_leaves v c reply u is h =
+    answered_next v c reply u is ∙ refused_stays v c (ap is_refusal (sym (answered_reply v c reply u is)) ∙ h)
 
 pub refused_does : (v : View) (c : Command) (cause : Cause) (u : View) → effect v c ≡ Answers (Refused cause) u
     → Does v c (Refused cause) v
@@ -156,7 +159,8 @@ or_no_ending (Some cause) done h = refl
 pub answered_no_ending : (v : View) (c : Command) (reply : Reply) (u : View) → effect v c ≡ Answers reply u
     → is_ending reply ≡ false
 answered_no_ending v c reply u is =
-    ap is_ending (answered_reply v c reply u is) ∙ or_no_ending (refusal v c) (done_reply v.map c) (done_no_ending v.map c (answered_no_end v c reply u is))
+    ap is_ending (answered_reply v c reply u is) ∙ or_no_ending (refusal v c) (done_reply v.map c)
+    (done_no_ending v.map c (answered_no_end v c reply u is))
 
 commit_no_orphan : (m : CityMap) → IsCommitReply m Committed → HasNoOrphan m
 commit_no_orphan m (inl h) = h.1
@@ -168,7 +172,9 @@ reply_no_ending v e reply r u is h = subst (λ (x : Effect). IsReply v x reply) 
 not_committed : {X : Type 0} (v : View) (c : Command) → is_end c ≡ false → IsReply v (effect v c) Committed → X
 not_committed v c on h =
     let is = effect_is v c on in
-    absurd (false≢true (sym (answered_no_ending v c (answer v c) (seen_next v c) is) ∙ ap is_ending (sym (reply_no_ending v (effect v c) Committed (answer v c) (seen_next v c) is h))))
+    absurd (false≢true
+    (sym (answered_no_ending v c (answer v c) (seen_next v c) is) ∙ ap is_ending
+    (sym (reply_no_ending v (effect v c) Committed (answer v c) (seen_next v c) is h))))
 
 -- only a Commit of a map without orphan is answered so
 pub committed_at : (v : View) (c : Command) (w : View) → Does v c Committed w → (c ≡ Commit) × HasNoOrphan v.map

@@ -62,8 +62,17 @@ pub detached_part_is_an_orphan : HasResult (found_in family) detach_only (Detach
 detached_part_is_an_orphan =
     let left = detached (found_in family) (codes "p") (codes "b") in
     let others : (q : List ℕ) → slice_cmp nat_cmp q (codes "p") ≡ Less → is_orphan_there (left q) ≡ false =
-    λ q below. no_orphan_detached_below (found_in family) (codes "p") (codes "b") q below refl (no_orphan_at family q refl) in
-    (refl, refl, (refl, (inr (codes "p", refl, least_orphan left (codes "p") (object BuildingPart [] [], refl, refl) others), refl)))
+    λ q below. no_orphan_detached_below (found_in family) (codes "p") (codes "b") q below refl (no_orphan_at family q refl) in (
+      refl,
+      refl,
+      (
+        refl,
+        (
+          inr (codes "p", refl, least_orphan left (codes "p") (object BuildingPart [] [], refl, refl) others),
+          refl,
+        ),
+      ),
+    )
 
 -- and a refused script leaves the city as it was
 pub refused_script_leaves_the_map : map_left (found_in family) detach_only (Outcome.Refused 1 (Orphan (codes "p"))) ≡ found_in family
@@ -81,8 +90,11 @@ pub new_part_is_an_orphan : HasResult (found_in building) put_part (Added ∷ []
 new_part_is_an_orphan =
     let left = changed (found_in building) (codes "p") (Some (alone BuildingPart)) in
     let others : (q : List ℕ) → slice_cmp nat_cmp q (codes "p") ≡ Less → is_orphan_there (left q) ≡ false =
-    λ q below. orphan_below (found_in building) (codes "p") (Some (alone BuildingPart)) q below (no_orphan_at building q refl) in
-    (refl, refl, (refl, (inr (codes "p", refl, least_orphan left (codes "p") (alone BuildingPart, refl, refl) others), refl)))
+    λ q below. orphan_below (found_in building) (codes "p") (Some (alone BuildingPart)) q below (no_orphan_at building q refl) in (
+      refl,
+      refl,
+      (refl, (inr (codes "p", refl, least_orphan left (codes "p") (alone BuildingPart, refl, refl) others), refl)),
+    )
 
 pub orphan_leaves_the_map : map_left (found_in building) put_part (Outcome.Refused 1 (Orphan (codes "p"))) ≡ found_in building
 orphan_leaves_the_map = refl
@@ -96,7 +108,8 @@ attached_part_is_committed =
     let left = attached put (codes "p") (codes "b") in
     let none : HasNoOrphan left = no_orphan left (λ q.
     no_orphan_attached put (codes "p") (codes "b") q refl refl
-    (λ apart. orphan_apart (found_in building) (codes "p") (Some (alone BuildingPart)) q apart (no_orphan_at building q refl))) in
+    (λ apart. orphan_apart (found_in building) (codes "p") (Some (alone BuildingPart)) q apart
+    (no_orphan_at building q refl))) in
     (refl, refl, (refl, refl, (inl (refl, none), refl)))
 
 -- ---- a script that gives up

@@ -34,7 +34,11 @@ abbrev goes_back : List Command
 goes_back = Mark (codes "m") ∷ put_number 1 ∷ Back (codes "m") ∷ Commit ∷ []
 
 pub back_takes_the_put_back : HasResult (found_in meadow) goes_back (Marked ∷ Replaced ∷ WentBack ∷ []) Outcome.Committed
-back_takes_the_put_back = (refl, refl, (refl, refl, (refl, refl, (inl (refl, no_orphan (found_in meadow) (λ q. no_orphan_at meadow q refl)), refl))))
+back_takes_the_put_back = (
+  refl,
+  refl,
+  (refl, refl, (refl, refl, (inl (refl, no_orphan (found_in meadow) (λ q. no_orphan_at meadow q refl)), refl))),
+)
 
 pub back_leaves_the_marked_map : map_left (found_in meadow) goes_back Outcome.Committed ≡ found_in meadow
 back_leaves_the_marked_map = refl
@@ -50,11 +54,24 @@ second_number = changed (changed (found_in meadow) (codes "x") (Some (with_numbe
 
 second_number_no_orphan : HasNoOrphan second_number
 second_number_no_orphan = no_orphan second_number (λ q.
-    no_orphan_put (changed (found_in meadow) (codes "x") (Some (with_number 1))) (codes "x") (Some (with_number 2)) q refl
+    no_orphan_put (changed (found_in meadow) (codes "x") (Some (with_number 1))) (codes "x")
+    (Some (with_number 2)) q refl
     (no_orphan_put (found_in meadow) (codes "x") (Some (with_number 1)) q refl (no_orphan_at meadow q refl)))
 
 pub newest_mark_counts : HasResult (found_in meadow) marks_twice (Replaced ∷ Marked ∷ Replaced ∷ Marked ∷ Replaced ∷ WentBack ∷ WentBack ∷ []) Outcome.Committed
-newest_mark_counts = (refl, refl, (refl, refl, (refl, refl, (refl, refl, (refl, refl, (refl, refl, (refl, refl, (inl (refl, second_number_no_orphan), refl))))))))
+newest_mark_counts = (
+  refl,
+  refl,
+  (
+    refl,
+    refl,
+    (
+      refl,
+      refl,
+      (refl, refl, (refl, refl, (refl, refl, (refl, refl, (inl (refl, second_number_no_orphan), refl))))),
+    ),
+  ),
+)
 
 pub newest_mark_is_left : map_left (found_in meadow) marks_twice Outcome.Committed (codes "x") ≡ Some (with_number 2)
 newest_mark_is_left = refl
@@ -71,11 +88,15 @@ pub refused_back_leaves_the_map : map_left (found_in meadow) goes_behind (Outcom
 refused_back_leaves_the_map = refl
 
 -- a mark inside another: both are there, and going back to the inner one leaves the outer one
-pub inner_mark_is_found : Trace (unmarked (found_in meadow)) (Mark (codes "a") ∷ Mark (codes "b") ∷ put_number 1 ∷ Back (codes "b") ∷ []) (Marked ∷ Marked ∷ Replaced ∷ WentBack ∷ [])
+pub inner_mark_is_found : Trace (unmarked (found_in meadow))
+    (Mark (codes "a") ∷ Mark (codes "b") ∷ put_number 1 ∷ Back (codes "b") ∷ [])
+    (Marked ∷ Marked ∷ Replaced ∷ WentBack ∷ [])
     (record { map = found_in meadow; marks = (codes "b", found_in meadow) ∷ (codes "a", found_in meadow) ∷ [] })
 inner_mark_is_found = (refl, (refl, (refl, (refl, refl))))
 
-pub outer_mark_is_left : Trace (unmarked (found_in meadow)) (Mark (codes "a") ∷ Mark (codes "b") ∷ put_number 1 ∷ Back (codes "a") ∷ []) (Marked ∷ Marked ∷ Replaced ∷ WentBack ∷ [])
+pub outer_mark_is_left : Trace (unmarked (found_in meadow))
+    (Mark (codes "a") ∷ Mark (codes "b") ∷ put_number 1 ∷ Back (codes "a") ∷ [])
+    (Marked ∷ Marked ∷ Replaced ∷ WentBack ∷ [])
     (record { map = found_in meadow; marks = (codes "a", found_in meadow) ∷ [] })
 outer_mark_is_left = (refl, (refl, (refl, (refl, refl))))
 
@@ -122,7 +143,13 @@ marks_end_with_the_script = (
   },
   (λ same. omega arith, tt),
   (
-    record { script = (codes "b", goes_back_at_once); is_there = refl; named = refl; since = omega arith; result = (refl, (refl, refl)) },
+    record {
+      script = (codes "b", goes_back_at_once);
+      is_there = refl;
+      named = refl;
+      since = omega arith;
+      result = (refl, (refl, refl));
+    },
     tt,
     tt,
   ),

@@ -57,7 +57,18 @@ attaches_commits : HasResult (found_in two_buildings) attaches (Added ∷ Attach
 attaches_commits = (refl, refl, (refl, refl, (inl (refl, no_orphan both_parts both_parts_no_orphan), refl)))
 
 deletes_commits : HasResult both_parts deletes (Deleted ∷ []) Outcome.Committed
-deletes_commits = (refl, refl, (inl (refl, no_orphan (deleted both_parts (codes "p")) (λ q. no_orphan_deleted both_parts (codes "p") q (both_parts_no_orphan q))), refl))
+deletes_commits = (
+  refl,
+  refl,
+  (
+    inl (
+      refl,
+      no_orphan (deleted both_parts (codes "p"))
+          (λ q. no_orphan_deleted both_parts (codes "p") q (both_parts_no_orphan q)),
+    ),
+    refl,
+  ),
+)
 
 -- these ends are those of the scripts, run one at a time
 pub attach_then_delete_fits : Fits delete_and_attach (found_in two_buildings) attach_then_delete
@@ -123,7 +134,18 @@ reads_commits : HasResult (found_in no_objects) reads_twice (Absent ∷ Absent �
 reads_commits = (refl, refl, (refl, refl, (inl (refl, no_orphan (found_in no_objects) (λ q. refl)), refl)))
 
 puts_commits : HasResult (found_in no_objects) puts_road (Added ∷ []) Outcome.Committed
-puts_commits = (refl, refl, (inl (refl, no_orphan (changed (found_in no_objects) (codes "h") (Some (alone Road))) (λ q. no_orphan_put (found_in no_objects) (codes "h") (Some (alone Road)) q refl refl)), refl))
+puts_commits = (
+  refl,
+  refl,
+  (
+    inl (
+      refl,
+      no_orphan (changed (found_in no_objects) (codes "h") (Some (alone Road)))
+          (λ q. no_orphan_put (found_in no_objects) (codes "h") (Some (alone Road)) q refl refl),
+    ),
+    refl,
+  ),
+)
 
 pub read_then_put_fits : Fits read_and_put (found_in no_objects) read_then_put
 read_then_put_fits = (

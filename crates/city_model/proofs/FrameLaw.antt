@@ -187,7 +187,9 @@ same_refusal m n c (Marks name) a = refl
 same_refusal m n c (GoesBack name) a = refl
 
 same_answer : (m n : CityMap) (c : Command) → AgreeOn (locks_of m c) m n → answer (unmarked m) c ≡ answer (unmarked n) c
-same_answer m n c a = ap (λ x. refused_or x (done_reply m c)) (same_refusal m n c (marking c) a) ∙ ap (refused_or (refusal (unmarked n) c)) (same_done m n c a)
+same_answer m n c a =
+    ap (λ x. refused_or x (done_reply m c)) (same_refusal m n c (marking c) a)
+    ∙ ap (refused_or (refusal (unmarked n) c)) (same_done m n c a)
 
 map_after : (m : CityMap) (c : Command) → (seen_next (unmarked m) c).map ≡ after m c
 map_after m (Read id) = refl
@@ -209,9 +211,16 @@ frame_law m c s on n t a = record {
   left = seen_next (unmarked m) c;
   left_there = seen_next (unmarked n) c;
   here = effect_is (unmarked m) c on;
-  there = effect_is (unmarked n) c on ∙ ap (λ (r : Reply). Answers r (seen_next (unmarked n) c)) (sym (same_answer m n c a));
+  there =
+      effect_is (unmarked n) c on ∙ ap (λ (r : Reply). Answers r (seen_next (unmarked n) c))
+      (sym (same_answer m n c a));
   locks = same_locks m n c a;
-  written = λ id h. (a id (exclusive_is_named (locks_of m c) id h), at_after m c id ∙ same_after m n c id a h ∙ sym (at_after n c id));
+  written =
+      λ id h. (
+        a id (exclusive_is_named (locks_of m c) id h),
+        at_after m c id ∙ same_after m n c id a h
+            ∙ sym (at_after n c id),
+      );
   kept = λ id h. (
     at_after m c id ∙ frame m c id s h,
     at_after n c id ∙ frame n c id t (sym (ap (λ ls. names_exclusively ls id) (same_locks m n c a)) ∙ h),

@@ -52,7 +52,8 @@ abbrev pub Next : Held → Reply → List Answered → View → Reply → View �
 Next held r ds w reply u = (reply ≡ r) × Follows held u ds w
 
 pub follows_more : (held more : Held) (v : View) (ds : List Answered) (w : View) (c : Command) (r : Reply) (k : View) → HoldsMore held more
-    → Follows held v ds w → AllHeld more (locks_of w.map c) → effect w c ≡ Answers r k → Follows more v (ds ++ (c, r) ∷ []) k
+    → Follows held v ds w → AllHeld more (locks_of w.map c) → effect w c ≡ Answers r k → Follows more v
+    (ds ++ (c, r) ∷ []) k
 follows_more held more v [] w c r k h f a e = (
   subst (λ (x : View). AllHeld more (locks_of x.map c)) f a,
   goes_on_at (Next more r [] k) (effect v c) r k (ap (λ (x : View). effect x c) (sym f) ∙ e) (refl, refl),
@@ -68,7 +69,8 @@ pub follows_held : (held more : Held) (v : View) (ds : List Answered) (w : View)
 follows_held held more v [] w h f = f
 follows_held held more v (d ∷ ds) w h f = (
   more_held held more (locks_of v.map d.0) h f.0,
-  goes_on_map (Next held d.1 ds w) (Next more d.1 ds w) (effect v d.0) (λ reply u g. (g.0, follows_held held more u ds w h g.1)) f.1,
+  goes_on_map (Next held d.1 ds w) (Next more d.1 ds w) (effect v d.0)
+      (λ reply u g. (g.0, follows_held held more u ds w h g.1)) f.1,
 )
 
 -- the same with more locks, from and to equal views
@@ -80,4 +82,5 @@ follows_same held more v other ds w k h e g f =
 pub follows_sound : (held : Held) (v : View) (ds : List Answered) (w : View) → IsSoundView v → Follows held v ds w → IsSoundView w
 follows_sound held v [] w s f = subst IsSoundView (sym f) s
 follows_sound held v (d ∷ ds) w s f =
-    goes_on_case (Next held d.1 ds w) (effect v d.0) (λ reply u is g. follows_sound held u ds w (sound_effect v d.0 reply u is s) g.1) f.1
+    goes_on_case (Next held d.1 ds w) (effect v d.0) (λ reply u is g. follows_sound held u ds w
+    (sound_effect v d.0 reply u is s) g.1) f.1

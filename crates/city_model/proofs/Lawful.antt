@@ -31,7 +31,8 @@ trace_sound v [] [] w s f = subst IsSoundView (sym f) s
 trace_sound v [] (r ∷ rs) w s f = absurd f
 trace_sound v (c ∷ cs) [] w s f = absurd f
 trace_sound v (c ∷ cs) (r ∷ rs) w s f =
-    goes_on_case (Further r cs rs w) (effect v c) (λ reply u is g. trace_sound u cs rs w (sound_effect v c reply u is s) g.1) f
+    goes_on_case (Further r cs rs w) (effect v c) (λ reply u is g. trace_sound u cs rs w
+    (sound_effect v c reply u is s) g.1) f
 
 pub nothing_more : (cs : List Command) → is_empty_list cs ≡ true → cs ≡ []
 nothing_more [] h = refl
@@ -42,8 +43,12 @@ IsTraced v cs = (replies : List Reply) × (w : View) × Trace v cs replies w
 
 traced_further : (v : View) (c : Command) (cs : List Command) → is_end c ≡ false → IsTraced (seen_next v c) cs
     → IsTraced v (c ∷ cs)
-traced_further v c cs on t =
-    (answer v c ∷ t.0, t.1, goes_on_at (Further (answer v c) cs t.0 t.1) (effect v c) (answer v c) (seen_next v c) (effect_is v c on) (refl, t.2))
+traced_further v c cs on t = (
+  answer v c ∷ t.0,
+  t.1,
+  goes_on_at (Further (answer v c) cs t.0 t.1) (effect v c) (answer v c) (seen_next v c)
+      (effect_is v c on) (refl, t.2),
+)
 
 -- the commands of a script before its last are all answered
 pub trace_there : (v : View) (cs : List Command) (k : ℕ) → ends_once cs ≡ true → k < length cs → IsTraced v (take k cs)
@@ -55,7 +60,8 @@ trace_there v (c ∷ cs) (suc k) e less = bool_cases (is_end c)
     let long : length cs ≡ 0 = ap length none in
     absurd (omega arith))
     (λ h. traced_further v c (take k cs) h
-    (trace_there (seen_next v c) cs k (sym (ap (λ b. if b then is_empty_list cs else ends_once cs) h) ∙ e) (omega arith)))
+    (trace_there (seen_next v c) cs k (sym (ap (λ b. if b then is_empty_list cs else ends_once cs) h) ∙ e)
+    (omega arith)))
 
 -- ---- a script to its end
 
@@ -69,7 +75,8 @@ sound_to v Aborts others s f = s
 
 sound_at_end : (v : View) (cs : List Command) → IsSoundView v → IsSoundView (view_at_end v cs)
 sound_at_end v [] s = s
-sound_at_end v (c ∷ cs) s = sound_to v (effect v c) (λ u. view_at_end u cs) s (λ reply u is. sound_at_end u cs (sound_effect v c reply u is s))
+sound_at_end v (c ∷ cs) s =
+    sound_to v (effect v c) (λ u. view_at_end u cs) s (λ reply u is. sound_at_end u cs (sound_effect v c reply u is s))
 
 -- a command that is answered, and not refused, leads on
 pub leads_on : (v : View) (c : Command) (cs : List Command) (reply : Reply) (u : View) → effect v c ≡ Answers reply u
@@ -89,7 +96,8 @@ no_orphan_from v i (c ∷ cs) [] h =
     subst (λ (d : Command). HasNoOrphan (view_at_end v (d ∷ cs)).map) (sym commit.0) commit.1
 no_orphan_from v i (c ∷ cs) (r ∷ rs) h =
     goes_on_case (EndsFurther r i cs rs Outcome.Committed) (effect v c) (λ reply u is g.
-    subst (λ (k : View). HasNoOrphan k.map) (sym (leads_on v c cs reply u is g.1)) (no_orphan_from u (i + 1) cs rs g.2)) h
+    subst (λ (k : View). HasNoOrphan k.map) (sym (leads_on v c cs reply u is g.1))
+    (no_orphan_from u (i + 1) cs rs g.2)) h
 
 -- a script that commits leaves a lawful map of a sound one
 pub lawful_when_committed : (m : CityMap) (cs : List Command) (rs : List Reply) → IsSound m
@@ -111,7 +119,8 @@ lawful_from : (scripts : List Scripted) (m : CityMap) (place : ℕ) (ends : List
 lawful_from scripts m place [] l h = l
 lawful_from scripts m place (e ∷ es) l h =
     let left : IsLawful (left_by scripts m e) =
-    subst (λ (s : Option Scripted). IsLawful (left_by_found m s e.outcome)) (sym h.0.is_there) (lawful_left m h.0.script.1 e.replies e.outcome l h.0.result) in
+    subst (λ (s : Option Scripted). IsLawful (left_by_found m s e.outcome)) (sym h.0.is_there)
+    (lawful_left m h.0.script.1 e.replies e.outcome l h.0.result) in
     lawful_from scripts (left_by scripts m e) (place + 1) es left h.2
 
 -- after scripts run one at a time a lawful map is lawful

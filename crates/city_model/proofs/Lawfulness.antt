@@ -26,7 +26,8 @@ pub least_misrelated : (objects : Objects) (id : List ℕ) → first_that (is_mi
 least_misrelated objects id found =
     let least = least_in (is_misrelated (at objects)) objects id found in (
       (least.0.0, least.0.1, misrelated_true (at objects) id least.0.0 least.0.2),
-      λ q below h. related_no_fault (at objects) q h.0 (misrelated_false (at objects) q h.0 (least.1 q h.0 below h.1)) h.2,
+      λ q below h. related_no_fault (at objects) q h.0 (misrelated_false (at objects) q h.0
+          (least.1 q h.0 below h.1)) h.2,
     )
 
 pub all_related : (objects : Objects) → first_that (is_misrelated (at objects)) (entries objects) ≡ None → IsRelated (at objects)

@@ -59,7 +59,8 @@ result_from held v w i (d ∷ cs) (r ∷ rs) c o f u h k =
 
 -- a script whose next command is Commit leaves what its first commands lead to
 pub committed_from : (held : Held) (v w : View) (cs : List Command) (rs : List Reply)
-    → Follows held v (answered cs rs) w → list_any is_refusal rs ≡ false → slice_get cs (length rs) ≡ Some Commit → view_at_end v cs ≡ w
+    → Follows held v (answered cs rs) w → list_any is_refusal rs ≡ false → slice_get cs (length rs) ≡ Some Commit
+    → view_at_end v cs ≡ w
 committed_from held v w [] rs f u h = absurd (cc)
 committed_from held v w (d ∷ cs) [] f u h =
     let same : d ≡ Commit = cc in

@@ -44,7 +44,8 @@ commit_reply_is_unique : (m : CityMap) (r s : Reply) → IsCommitReply m r → I
 commit_reply_is_unique m r s (inl h) (inl k) = h.0 ∙ sym k.0
 commit_reply_is_unique m r s (inl h) (inr k) = absurd (orphan_is_found m k.0 h.1 k.2)
 commit_reply_is_unique m r s (inr h) (inl k) = absurd (orphan_is_found m h.0 k.1 h.2)
-commit_reply_is_unique m r s (inr h) (inr k) = h.1 ∙ ap (λ id. Refused (Orphan id)) (least_is_unique (IsOrphanAt m) h.0 k.0 h.2 k.2) ∙ sym k.1
+commit_reply_is_unique m r s (inr h) (inr k) =
+    h.1 ∙ ap (λ id. Refused (Orphan id)) (least_is_unique (IsOrphanAt m) h.0 k.0 h.2 k.2) ∙ sym k.1
 
 reply_is_unique : (v : View) (e : Effect) (r s : Reply) → IsReply v e r → IsReply v e s → r ≡ s
 reply_is_unique v (Answers q u) r s h k = h ∙ sym k
@@ -81,11 +82,16 @@ ended_so v e reply q u is h = subst (λ (x : Effect). IsReply v x q) is h
 ends_or_goes_on : (v : View) (c : Command) (i j : ℕ) (o p : Outcome) (r : Reply) (cs : List Command) (rs : List Reply)
     → is_no_memory o ≡ false
     → EndsAt v c i o → GoesOn (effect v c) (EndsFurther r j cs rs p) → ⊥
-ends_or_goes_on v c i j Outcome.Committed p r cs rs n h g = goes_on_case (EndsFurther r j cs rs p) (effect v c) (λ reply u is f.
-    false≢true (sym (answered_no_ending v c reply u is) ∙ ap is_ending (sym (ended_so v (effect v c) reply Committed u is h.0)))) g
-ends_or_goes_on v c i j Outcome.Aborted p r cs rs n h g = goes_on_case (EndsFurther r j cs rs p) (effect v c) (λ reply u is f.
-    false≢true (sym (answered_no_ending v c reply u is) ∙ ap is_ending (sym (ended_so v (effect v c) reply Aborted u is h.0)))) g
-ends_or_goes_on v c i j (Outcome.Refused k x) p r cs rs n h g = goes_on_case (EndsFurther r j cs rs p) (effect v c) (λ reply u is f.
+ends_or_goes_on v c i j Outcome.Committed p r cs rs n h g =
+    goes_on_case (EndsFurther r j cs rs p) (effect v c) (λ reply u is f.
+    false≢true (sym (answered_no_ending v c reply u is) ∙ ap is_ending
+    (sym (ended_so v (effect v c) reply Committed u is h.0)))) g
+ends_or_goes_on v c i j Outcome.Aborted p r cs rs n h g =
+    goes_on_case (EndsFurther r j cs rs p) (effect v c) (λ reply u is f.
+    false≢true (sym (answered_no_ending v c reply u is) ∙ ap is_ending
+    (sym (ended_so v (effect v c) reply Aborted u is h.0)))) g
+ends_or_goes_on v c i j (Outcome.Refused k x) p r cs rs n h g =
+    goes_on_case (EndsFurther r j cs rs p) (effect v c) (λ reply u is f.
     false≢true (sym f.1 ∙ ap is_refusal (sym (ended_so v (effect v c) reply (Refused x) u is h.1.0)))) g
 ends_or_goes_on v c i j (Outcome.NoMemory k) p r cs rs n h g = false≢true (sym n)
 

@@ -82,7 +82,8 @@ trace_long : (v : View) (cs : List Command) (rs : List Reply) (w : View) → Tra
 trace_long v [] [] w f = refl
 trace_long v [] (r ∷ rs) w f = absurd f
 trace_long v (c ∷ cs) [] w f = absurd f
-trace_long v (c ∷ cs) (r ∷ rs) w f = goes_on_case (Further r cs rs w) (effect v c) (λ reply u is g. ap suc (trace_long u cs rs w g.1)) f
+trace_long v (c ∷ cs) (r ∷ rs) w f =
+    goes_on_case (Further r cs rs w) (effect v c) (λ reply u is g. ap suc (trace_long u cs rs w g.1)) f
 
 trace_follows : (v : View) (cs : List Command) (rs : List Reply) (w : View) → Trace v cs rs w
     → Follows (named_by v cs) v (answered cs rs) w
@@ -96,8 +97,11 @@ trace_follows v (c ∷ cs) (r ∷ rs) w f = (
       let more : HoldsMore (named_by u cs) (named_by v (c ∷ cs)) =
       subst (λ (k : View). HoldsMore (named_by k cs) (named_by v (c ∷ cs))) (answered_step v c reply u is)
       (λ q b h. covers_right (named_in (locks_of v.map c) q) (named_by (step v c) cs q) b h) in
-      goes_on_at (Next (named_by v (c ∷ cs)) r (answered cs rs) w) (effect v c) reply u is
-      (g.0, follows_held (named_by u cs) (named_by v (c ∷ cs)) u (answered cs rs) w more (trace_follows u cs rs w g.1))) f,
+      goes_on_at (Next (named_by v (c ∷ cs)) r (answered cs rs) w) (effect v c) reply u is (
+        g.0,
+        follows_held (named_by u cs) (named_by v (c ∷ cs)) u (answered cs rs) w more
+            (trace_follows u cs rs w g.1),
+      )) f,
 )
 
 read_off : (held : Held) (v : View) (cs : List Command) (rs : List Reply) (w : View) → length cs ≡ length rs
@@ -106,9 +110,11 @@ read_off held v [] [] w e f = f
 read_off held v [] (r ∷ rs) w e f = absurd (omega arith)
 read_off held v (c ∷ cs) [] w e f = absurd (omega arith)
 read_off held v (c ∷ cs) (r ∷ rs) w e f =
-    goes_on_map (Next held r (answered cs rs) w) (Further r cs rs w) (effect v c) (λ reply u g. (g.0, read_off held u cs rs w (omega arith) g.1)) f.1
+    goes_on_map (Next held r (answered cs rs) w) (Further r cs rs w) (effect v c)
+    (λ reply u g. (g.0, read_off held u cs rs w (omega arith) g.1)) f.1
 
 pub trace_law : (m : CityMap) (cs : List Command) → IsSound m → TraceLaw m cs
 trace_law m cs s rs w f n t agree =
-    read_off (named_by (unmarked m) cs) (unmarked n) cs rs (carried (named_by (unmarked m) cs) n w) (trace_long (unmarked m) cs rs w f)
+    read_off (named_by (unmarked m) cs) (unmarked n) cs rs (carried (named_by (unmarked m) cs) n w)
+    (trace_long (unmarked m) cs rs w f)
     (history_kept (named_by (unmarked m) cs) m n (answered cs rs) w s t agree (trace_follows (unmarked m) cs rs w f))
