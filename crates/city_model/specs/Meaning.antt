@@ -163,17 +163,7 @@ GoesOn Aborts P = ⊥
 
 abbrev pub is_refusal : Reply → Bool
 is_refusal (Refused cause) = true
-is_refusal (Found object) = false
-is_refusal Absent = false
-is_refusal Added = false
-is_refusal Replaced = false
-is_refusal Deleted = false
-is_refusal Attached = false
-is_refusal Detached = false
-is_refusal Marked = false
-is_refusal WentBack = false
-is_refusal Committed = false
-is_refusal Aborted = false
+is_refusal reply = false
 
 -- ---- the locks of a command: ids, and whether the lock is exclusive, in the order of asking
 
@@ -190,7 +180,4 @@ locks_of m (Put id body) = (id, true) ∷ []
 locks_of m (Delete id) = (id, true) ∷ delete_locks (m id)
 locks_of m (Attach child parent) = (child, true) ∷ (parent, true) ∷ []
 locks_of m (Detach child parent) = (child, true) ∷ (parent, true) ∷ []
-locks_of m (Mark name) = []
-locks_of m (Back name) = []
-locks_of m Commit = []
-locks_of m Abort = []
+locks_of m command = []
