@@ -3,7 +3,7 @@ use Rattle.std.proofs.Common.{◌≡◌, ℕ, Bool, true, false, List, ◌∷◌
 use Rattle.std.specs.Prelude.{is_none, is_some}
 use Rattle.std.specs.List.{list_all}
 use Rattle.std.specs.FinMap.{entries}
-use Rattle.std.proofs.lemmas.Bool.{false≢true, and_parts}
+use Rattle.std.proofs.lemmas.Bool.{false≢true, false_from_ne_true, and_parts}
 use Rattle.city_model.specs.declared.object.Object.{Object}
 use Rattle.city_model.specs.declared.command.Cause.{Cause}
 use Rattle.city_model.specs.CityMap.{Objects, Entries, CityMap, at}
@@ -26,8 +26,10 @@ pub least_misrelated : (objects : Objects) (id : List ℕ) → first_that (is_mi
 least_misrelated objects id found =
     let least = least_in (is_misrelated (at objects)) objects id found in (
       (least.0.0, least.0.1, misrelated_true (at objects) id least.0.0 least.0.2),
-      λ q below h. related_no_fault (at objects) q h.0 (misrelated_false (at objects) q h.0
-          (least.1 q h.0 below h.1)) h.2,
+      λ q below h.
+          let not : is_misrelated (at objects) q h.0 ≡ false =
+          false_from_ne_true (is_misrelated (at objects) q h.0) (λ e. least.1 q below (h.0, h.1, e)) in
+          related_no_fault (at objects) q h.0 (misrelated_false (at objects) q h.0 not) h.2,
     )
 
 pub all_related : (objects : Objects) → first_that (is_misrelated (at objects)) (entries objects) ≡ None → IsRelated (at objects)
