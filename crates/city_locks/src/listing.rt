@@ -2,7 +2,7 @@
 ghost use Rattle.std.specs.Prelude.{◌≡◌, ℕ, ◌==◌, cond, OnOk, OnErr, None, Some, [], ◌∷◌, ◌++◌, true, is_some};
 ghost use Rattle.std.specs.Ordering.{nat_cmp};
 ghost use Rattle.std.specs.BTreeMap.{get, is_at};
-ghost use Rattle.city_locks.specs.Listing.{ids_of};
+ghost use Rattle.city_locks.specs.inside.Listing.{ids_of};
 
 use city_model::copied::Copied;
 use city_model::sequence::Sequence;

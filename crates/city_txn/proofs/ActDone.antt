@@ -22,14 +22,16 @@ use Rattle.city_txn.specs.declared.step.Step.{Step}
 use Rattle.city_txn.specs.declared.step.Step.TheVariants as steps
 use Rattle.city_txn.specs.declared.step.TxnFault.{TxnFault}
 use Rattle.city_txn.specs.declared.step.TxnFault.TheVariants.{NotOpen, OutOfMemory}
-use Rattle.city_txn.specs.State.{State, Write, write_of, own_write, unless_by, is_reserved}
+use Rattle.city_txn.specs.inside.State.{State, is_reserved}
+use Rattle.city_txn.specs.Writes.{Write, write_of, own_write, unless_by}
 use Rattle.city_txn.specs.UndoLog.{Logs, Written, log_of, has_before, written_as}
 use Rattle.city_model.specs.Standing.{Lock, Answered, AllHeld, covers, names, names_exclusively}
 use Rattle.city_txn.specs.CoreState.{CoreState, view, own, written, seen, is_open, held, held_in, Stands, IsConsistent}
-use Rattle.city_txn.specs.Core.{core_state, IsCore}
-use Rattle.city_txn.specs.Locking.{granted_before, GainsFirst, HoldsLock, IsBlocked, Asked}
+use Rattle.city_txn.specs.inside.Core.{core_state, IsCore}
+use Rattle.city_txn.specs.Locking.{granted_before, GainsFirst, IsBlocked}
+use Rattle.city_txn.specs.inside.Asking.{HoldsLock, Asked}
 use Rattle.city_txn.specs.Acting.{writes_id, own_after, seen_after, reply_in, answer_in, granted_in, step_of, finds_as, finds_mark, is_done, with_step, Acted}
-use Rattle.city_txn.specs.Performing.{AreNoted, Performed}
+use Rattle.city_txn.specs.inside.Performing.{AreNoted, Performed}
 use Rattle.city_txn.specs.declared.txn_core.Core.TheInside.{Inside}
 use Rattle.city_txn.proofs.Ended.{held_exclusively, sound_view}
 use Rattle.city_txn.proofs.SeenWrites.{seen_same, written_same, step_seen, IsCovered, covered_as, own_covered, marks_covered, own_same, write_same, others_write}

@@ -25,12 +25,13 @@ use Rattle.city_model.proofs.FirstOrphan.{first_orphan, is_least_orphan, has_no_
 use Rattle.city_model.proofs.Objects.{entries_of, at_sorted}
 use Rattle.city_txn.specs.declared.image.Image.{Image}
 use Rattle.city_txn.specs.declared.store.Store.TheInside.{Inside}
-use Rattle.city_txn.specs.Images.{written_at, write_at, writer_of}
-use Rattle.city_txn.specs.State.{Write, write_of, own_or, own_write, is_by}
+use Rattle.city_txn.specs.inside.Images.{written_at, write_at, writer_of, or_else}
+use Rattle.city_txn.specs.Writes.{Write, write_of, own_or, own_write, is_by, with_some}
 use Rattle.city_txn.specs.CoreState.{CoreState, committed, view}
-use Rattle.city_txn.specs.InPlace.{with_some, state_of, is_writer, IsInPlace}
-use Rattle.city_txn.specs.UndoState.{image_at, reservations_of}
-use Rattle.city_txn.specs.Changing.{or_else, objects_in, change_in, is_orphan_written, IsChangeOf}
+use Rattle.city_txn.specs.inside.InPlace.{state_of, is_writer, IsInPlace}
+use Rattle.city_txn.specs.inside.UndoState.{image_at, reservations_of}
+use Rattle.city_txn.specs.inside.Orphans.{objects_in, is_orphan_written}
+use Rattle.city_txn.specs.Changing.{change_in, IsChangeOf}
 use Rattle.city_txn.proofs.AtOneId.{through, at_made, sorted_made, here, writes_is}
 use Rattle.city_txn.proofs.ImagesHeld.{images_ascend}
 

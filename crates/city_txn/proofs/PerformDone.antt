@@ -18,10 +18,12 @@ use Rattle.city_model.specs.Scripts.{is_mark}
 use Rattle.city_model.specs.Standing.{names_exclusively}
 use Rattle.city_model.proofs.MarksKept.{from_mapped, plain, plain_answer}
 use Rattle.city_txn.specs.declared.undo_log.Entry.TheVariants as entries
-use Rattle.city_txn.specs.State.{State, Write, write_of, own_write, unless_by, own, is_reserved, is_open, committed, view}
-use Rattle.city_txn.specs.UndoLog.{Logs, OwnWrites, Written, log_of, marked, has_before, has_mark, written_back, written_as, map_with, marks_with}
+use Rattle.city_txn.specs.inside.State.{State, own, is_reserved, is_open, committed, view}
+use Rattle.city_txn.specs.Writes.{Write, write_of, own_write, unless_by}
+use Rattle.city_txn.specs.UndoLog.{Logs, OwnWrites, Written, log_of, marked, has_before, written_back, written_as, map_with, marks_with}
+use Rattle.city_txn.specs.inside.LogTests.{has_mark}
 use Rattle.city_txn.specs.Acting.{writes_id, own_after, finds_as, finds_mark}
-use Rattle.city_txn.specs.Performing.{plans, written_in, seen_in, AreNoted, Performed}
+use Rattle.city_txn.specs.inside.Performing.{plans, written_in, seen_in, AreNoted, Performed}
 use Rattle.city_txn.proofs.UndoLogs.{no_mark_from, mark_is_there}
 
 -- ---- nothing done, for want of memory

@@ -22,8 +22,9 @@ use Rattle.city_locks.specs.declared.mode.Mode.TheVariants.{Exclusive}
 use Rattle.city_locks.specs.Locks.{mode_of}
 use Rattle.city_txn.specs.declared.undo_log.Entry.{Entry}
 use Rattle.city_txn.specs.declared.undo_log.Entry.TheVariants.{Mark, Before}
-use Rattle.city_txn.specs.State.{Write, write_of, own_or, own_write, unless_by}
-use Rattle.city_txn.specs.UndoLog.{OwnWrites, Written, log_of, marked, has_before, written_back, written_as, map_with, marks_with, view_with}
+use Rattle.city_txn.specs.Writes.{Write, write_of, own_or, own_write, unless_by}
+use Rattle.city_txn.specs.UndoLog.{OwnWrites, Written, log_of, marked, has_before, written_back, written_as, map_with, marks_with}
+use Rattle.city_txn.specs.inside.LogTests.{view_with}
 use Rattle.city_txn.specs.CoreState.{CoreState, committed, view, own, written, seen, held, IsConsistent}
 use Rattle.city_txn.specs.Acting.{writes_id, own_after}
 use Rattle.city_txn.proofs.OneIdChanged.{at_each}

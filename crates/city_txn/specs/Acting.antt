@@ -15,7 +15,7 @@ use Rattle.city_txn.specs.declared.step.Step.{Step}
 use Rattle.city_txn.specs.declared.step.Step.TheVariants as steps
 use Rattle.city_txn.specs.declared.step.TxnFault.{TxnFault}
 use Rattle.city_txn.specs.declared.step.TxnFault.TheVariants.{NotOpen, OutOfMemory}
-use Rattle.city_txn.specs.State.{write_of, unless_by}
+use Rattle.city_txn.specs.Writes.{write_of, unless_by}
 use Rattle.city_txn.specs.UndoLog.{OwnWrites, written_as}
 use Rattle.city_model.specs.Standing.{Lock, Answered, AllHeld, names_exclusively}
 use Rattle.city_txn.specs.CoreState.{CoreState, committed, view, own, written, seen, is_open, held, Stands, KeepsOthers}

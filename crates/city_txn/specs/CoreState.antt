@@ -9,7 +9,7 @@ use Rattle.city_model.specs.Relations.{IsLawful}
 use Rattle.city_locks.specs.declared.mode.Mode.TheVariants.{Exclusive}
 use Rattle.city_locks.specs.Mode.{is_exclusive}
 use Rattle.city_locks.specs.Locks.{Locks, mode_of, Lawful}
-use Rattle.city_txn.specs.State.{Write, write_of, own_or, own_write, unless_by}
+use Rattle.city_txn.specs.Writes.{Write, write_of, own_or, own_write, unless_by}
 use Rattle.city_txn.specs.UndoLog.{Logs, OwnWrites, Written, log_of, marked, has_before, marks_with}
 use Rattle.city_model.specs.Marks.{View, unmarked}
 use Rattle.city_model.specs.Standing.{Held, Answered, Follows}

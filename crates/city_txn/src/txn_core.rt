@@ -6,7 +6,7 @@ ghost use Rattle.city_model.specs.Marks.{AreSound};
 ghost use Rattle.city_model.specs.Relations.{IsLawful, HasNoOrphan, IsSound};
 ghost use Rattle.city_locks.specs.declared.mode.Mode.{Mode};
 ghost use Rattle.city_locks.specs.Locks.{mode_of};
-ghost use Rattle.city_txn.specs.State.{write_of, is_by};
+ghost use Rattle.city_txn.specs.Writes.{write_of, is_by};
 ghost use Rattle.city_txn.specs.CoreState.{committed, view, seen, is_open, Stands, KeepsOthers, IsOver, IsUndone};
 ghost use Rattle.city_txn.specs.UndoLog.{log_of, has_before};
 ghost use Rattle.city_model.specs.declared.command.Command.{Command};
@@ -49,11 +49,11 @@ impl Model for Core {
 
     ghost use Rattle.std.specs.Coded.{codes};
     ghost use Rattle.city_model.specs.DataCode.{coded_members};
-    ghost use Rattle.city_txn.specs.Codes.{coded_objects};
+    ghost use Rattle.city_txn.specs.inside.Codes.{coded_objects};
 
     ghost coded = { Prim.hlevel (codes, coded_members, coded_objects) };
 
-    ghost use Rattle.city_txn.specs.Core.{core_state, IsCore};
+    ghost use Rattle.city_txn.specs.inside.Core.{core_state, IsCore};
 
     ghost view = { core_state };
 

@@ -5,9 +5,8 @@ ghost use Rattle.std.specs.Cmp.Lexicographic.{slice_cmp};
 ghost use Rattle.std.specs.BTreeMap.{get, is_at, IsOrdered};
 ghost use Rattle.std.specs.FinMap.{entries};
 ghost use Rattle.city_model.specs.CityMap.{at, changed, same_id};
-ghost use Rattle.city_txn.specs.Images.{unwritten_image, written_over, written_back, put_back_at};
-ghost use Rattle.city_txn.specs.Changing.{or_else};
-ghost use Rattle.city_txn.specs.UndoState.{image_at, listed_by, reservations_of};
+ghost use Rattle.city_txn.specs.inside.Images.{unwritten_image, written_over, written_back, put_back_at, or_else};
+ghost use Rattle.city_txn.specs.inside.UndoState.{image_at, listed_by, reservations_of};
 
 use crate::image::Image;
 use crate::slot;
@@ -33,12 +32,12 @@ pub struct Undo {
 }
 
 impl Model for Undo {
-    ghost use Rattle.city_txn.specs.UndoState.{UndoState};
+    ghost use Rattle.city_txn.specs.inside.UndoState.{UndoState};
 
     ghost Value = { UndoState };
 
     ghost use Rattle.std.specs.Coded.{codes};
-    ghost use Rattle.city_txn.specs.Codes.{coded_images};
+    ghost use Rattle.city_txn.specs.inside.Codes.{coded_images};
 
     ghost coded = { Prim.hlevel (codes, coded_images) };
 

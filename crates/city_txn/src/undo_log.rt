@@ -3,7 +3,8 @@ ghost use Rattle.std.specs.Prelude.{◌≡◌, ◌==◌, ℕ, [], ◌∷◌, ◌
 ghost use Rattle.std.specs.Ordering.{nat_cmp};
 ghost use Rattle.std.specs.BTreeMap.{get, is_at};
 ghost use Rattle.std.specs.List.{list_any};
-ghost use Rattle.city_txn.specs.UndoLog.{log_of, has_mark, is_at_mark, is_mark};
+ghost use Rattle.city_txn.specs.UndoLog.{log_of};
+ghost use Rattle.city_txn.specs.inside.LogTests.{has_mark, is_at_mark, is_mark};
 
 use city_model::OutOfMemory;
 use city_model::id_list::is_same_id;
@@ -41,7 +42,7 @@ impl Model for UndoLogs {
     ghost Value = { Logs };
 
     ghost use Rattle.std.specs.Coded.{codes};
-    ghost use Rattle.city_txn.specs.Codes.{coded_entries};
+    ghost use Rattle.city_txn.specs.inside.Codes.{coded_entries};
 
     ghost coded = { Prim.hlevel (codes, coded_entries) };
 

@@ -1,7 +1,7 @@
 use Rattle.std.proofs.Common.{◌∙◌, sym, ap, refl}
 use Rattle.city_txn.specs.declared.step.Step.TheVariants as steps
 use Rattle.city_txn.specs.Acting.{reply_in, step_of}
-use Rattle.city_txn.specs.Core.{core_state}
+use Rattle.city_txn.specs.inside.Core.{core_state}
 use Rattle.city_txn.proofs.Ended.{sound_view}
 use Rattle.city_txn.proofs.CoreFields.{open_stored}
 use Rattle.city_txn.proofs.ActDone.{noted_for, asked_core, asked_failed, asked_refused, not_open_acted, alone_named, failed_core, failed_acted, performed_core, performed_acted}

@@ -3,8 +3,9 @@ use Rattle.city_model.specs.CityMap.{found_in}
 use Rattle.city_model.specs.Relations.{HasNoOrphan, IsLeastOrphan}
 use Rattle.city_model.specs.Runs.{Change}
 use Rattle.city_txn.specs.CoreState.{CoreState, view}
-use Rattle.city_txn.specs.Core.{core_state}
-use Rattle.city_txn.specs.Changing.{objects_in, IsChangeOf}
+use Rattle.city_txn.specs.inside.Core.{core_state}
+use Rattle.city_txn.specs.inside.Orphans.{objects_in}
+use Rattle.city_txn.specs.Changing.{IsChangeOf}
 use Rattle.city_txn.proofs.ChangeMade.{is_change_of, least_of_view}
 use Rattle.city_txn.proofs.Ended.{sound_view}
 use Rattle.city_txn.proofs.txn_core.Core.prepare.Goals as goal

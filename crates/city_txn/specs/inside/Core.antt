@@ -4,7 +4,7 @@ use Rattle.std.specs.Map.{keys_of}
 use Rattle.city_locks.specs.declared.mode.Mode.TheVariants.{Exclusive}
 use Rattle.city_locks.specs.Locks.{mode_of}
 use Rattle.city_txn.specs.declared.txn_core.Core.TheInside.{Inside}
-use Rattle.city_txn.specs.State.{is_reserved}
+use Rattle.city_txn.specs.inside.State.{is_reserved}
 use Rattle.city_txn.specs.UndoLog.{log_of, has_before}
 use Rattle.city_txn.specs.CoreState.{CoreState, IsConsistent}
 

@@ -8,7 +8,8 @@ use Rattle.city_model.specs.declared.command.Command.{Command}
 use Rattle.city_model.specs.declared.command.Reply.{Reply}
 use Rattle.city_model.specs.Marks.{View, marking, answer}
 use Rattle.city_model.specs.Meaning.{locks_of}
-use Rattle.city_txn.specs.State.{State, write_of, unless_by, own, is_reserved, is_open, committed, view}
+use Rattle.city_txn.specs.inside.State.{State, own, is_reserved, is_open, committed, view}
+use Rattle.city_txn.specs.Writes.{write_of, unless_by}
 use Rattle.city_txn.specs.UndoLog.{Logs, Written, log_of, marked, has_before, written_as, marks_with}
 use Rattle.city_model.specs.Standing.{names_exclusively}
 use Rattle.city_txn.specs.Acting.{own_after, finds_mark}
