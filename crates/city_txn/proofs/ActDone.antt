@@ -24,22 +24,24 @@ use Rattle.city_txn.specs.declared.step.TxnFault.{TxnFault}
 use Rattle.city_txn.specs.declared.step.TxnFault.TheVariants.{NotOpen, OutOfMemory}
 use Rattle.city_txn.specs.inside.State.{State, is_reserved}
 use Rattle.city_txn.specs.Writes.{Write, write_of, own_write, unless_by}
-use Rattle.city_txn.specs.UndoLog.{Logs, Written, log_of, has_before, written_as}
+use Rattle.city_txn.specs.UndoLog.{Logs, Written, log_of, has_before, written_after}
 use Rattle.city_model.specs.Standing.{Lock, Answered, AllHeld, covers, names, names_exclusively}
 use Rattle.city_txn.specs.CoreState.{CoreState, view, own, written, seen, is_open, held, held_in, Stands, IsConsistent}
 use Rattle.city_txn.specs.inside.Core.{core_state, IsCore}
 use Rattle.city_txn.specs.Locking.{granted_before, GainsFirst, IsBlocked}
 use Rattle.city_txn.specs.inside.Asking.{HoldsLock, Asked}
-use Rattle.city_txn.specs.Acting.{writes_id, own_after, seen_after, reply_in, answer_in, granted_in, step_of, finds_as, finds_mark, is_done, with_step, Acted}
+use Rattle.city_txn.specs.Acting.{own_after, answer_in, granted_in, step_of, is_done, with_step, Acted}
+use Rattle.city_txn.specs.inside.Done.{writes_id, own_done, seen_after, reply_in, finds_as, finds_mark}
 use Rattle.city_txn.specs.inside.Performing.{AreNoted, Performed}
 use Rattle.city_txn.specs.declared.txn_core.Core.TheInside.{Inside}
 use Rattle.city_txn.proofs.Ended.{held_exclusively, sound_view}
-use Rattle.city_txn.proofs.SeenWrites.{seen_same, written_same, step_seen, IsCovered, covered_as, own_covered, marks_covered, own_same, write_same, others_write}
+use Rattle.city_txn.proofs.SeenWrites.{seen_same, written_same, step_seen, IsCovered, covered_after, own_covered, marks_covered, own_same, write_same, others_write}
 use Rattle.city_txn.proofs.CoreFields.{open_is}
 use Rattle.city_txn.proofs.LocksGained.{LocksGained, seen_gained, view_gained, stands_gained, keeps_gained, exclusive_kept, gained_consistent, all_granted, no_more_locks}
 use Rattle.city_txn.proofs.LocksAsked.{gains_nothing, blocked_weaker}
 use Rattle.city_txn.proofs.CommandDone.{CommandDone, stands_done, stands_refused, keeps_done, done_consistent}
 use Rattle.city_txn.proofs.PlanWritten.{or_cases}
+use Rattle.city_txn.proofs.Answering.{went_back, written_alike}
 
 -- ---- no command done
 
@@ -61,11 +63,14 @@ not_done : (s : ℕ) (c : Command) (result : Result Step TxnFault) (v w : CoreSt
     OnOk result (AllHeld (held w s) (granted_in v s c)) →
     Acted s c result v w
 not_done s c result v w ls k idle step fault shut answered found blocked gains granted = record {
+  reply = reply_in v s c;
+  after = seen_after v s c;
+  does = (refl, refl);
   step = step;
   fault = fault;
   not_open = shut;
   answered = answered;
-  found = found;
+  found = λ e h. found e (went_back (seen v s) c h);
   blocked = blocked;
   sees = seen_gained s ls v w k s ∙ sym (ap (λ b. if b then seen_after v s c else seen v s) idle);
   city = k.city;
@@ -73,7 +78,7 @@ not_done s c result v w ls k idle step fault shut answered found blocked gains g
   opened = k.opened s;
   locks = gains;
   granted = granted;
-  writes = k.written s ∙ sym (ap (λ b. if b then written_as (marking c) (own_after (view v s) (own v s) c) (written v s) else written v s) idle);
+  writes = k.written s ∙ sym (ap (λ b. if b then written_after c (own_after (own v s) (locks_of (view v s) c) (reply_in v s c) (seen_after v s c).map) (written v s) else written v s) idle);
   unwritten = λ q. ap (unless_by s) (k.writes q);
   others = λ t ne. k.written t;
   own = λ done f. subst (λ ds. Stands w s ds) (sym (no_step result c done idle)) (stands_gained s ls v w k s done f);
@@ -114,11 +119,14 @@ acted_done : (s : ℕ) (c : Command) (r : Reply) (v u w : CoreState) (ls : List 
 acted_done s c r v u w ls o k d gains granted =
     let same : seen u s ≡ seen v s = seen_gained s ls v u k s in
     let map_same : view u s ≡ view v s = view_gained s ls v u k s in
-    let reply : r ≡ reply_in v s c = sym d.reply ∙ ap (λ x. answer x c) same in
+    let got : r ≡ reply_in v s c = sym d.reply ∙ ap (λ x. answer x c) same in
     let kept = keeps_gained s ls v u k in
     let done = keeps_done s c r u w d in
     record {
-      step = ap steps.Done reply ∙ ap (λ a. step_of a (reply_in v s c)) (sym granted);
+      reply = reply_in v s c;
+      after = seen_after v s c;
+      does = (refl, refl);
+      step = ap steps.Done got ∙ ap (λ a. step_of a (reply_in v s c)) (sym granted);
       fault = tt;
       not_open = λ e. absurd (false≢true (sym e ∙ o));
       answered = λ e n h. refl;
@@ -130,12 +138,13 @@ acted_done s c r v u w ls o k d gains granted =
       opened = d.opened s ∙ k.opened s;
       locks = subst (GainsFirst s (granted_in v s c) v.locks) (sym d.locks) gains;
       granted = subst (AllHeld (held w s)) (sym (all_granted v.locks s (locks_of (view v s) c) granted)) (subst (λ m. AllHeld (held w s) (locks_of m c)) map_same d.all_held);
-      writes = d.writes ∙ ap (λ m. written_as (marking c) (own_after m (own u s) c) (written u s)) map_same
-          ∙ ap (λ (x : Written). written_as (marking c) (own_after (view v s) x.0 c) x) (k.written s);
+      writes = d.writes ∙ ap (λ m. written_after c (own_done m (own u s) c) (written u s)) map_same
+          ∙ ap (λ (x : Written). written_after c (own_done (view v s) x.0 c) x) (k.written s)
+          ∙ written_alike (seen v s) c (own v s) (written v s);
       unwritten = λ q. d.unwritten q ∙ ap (unless_by s) (k.writes q);
       others = λ t ne. d.others t ne ∙ k.written t;
       own = λ ds f. stands_done s c r u w d ds (stands_gained s ls v u k s ds f);
-      refused = λ h ds f. stands_refused s c r u w d (ap is_refusal reply ∙ h) ds (stands_gained s ls v u k s ds f);
+      refused = λ h ds f. stands_refused s c r u w d (ap is_refusal got ∙ h) ds (stands_gained s ls v u k s ds f);
       keeps = record {
         frame = done.frame ∙ kept.frame;
         opened = λ t ne. done.opened t ne ∙ kept.opened t ne;
@@ -294,7 +303,7 @@ module _ (a : Inside) (k : IsCore a) {v : CoreState} (known : core_state a ≡ v
         failed_acted = stopped ask (Err OutOfMemory) (core_state (after_it st ls p)) failed refl tt refl (λ n h. absurd (n granted)) (λ h. p.found h) tt ask.gains tt
 
       module _ {F : Type 0} (r : Reply) (st : State) (ls : Logs) (p : Performed {E = F} s c (Ok r) a.store a.logs st ls) where
-        written_mine : IsCovered (held_in ks s) (own_after m (own (core_state a) s) c)
+        written_mine : IsCovered (held_in ks s) (own_done m (own (core_state a) s) c)
         written_mine q h = bool_cases (writes_id m c q)
             (λ e. ap (λ o. covers (option_map is_exclusive o) true) (mine q (writes_is_named (cause_of m c) (names_exclusively (locks_of m c) q) e)))
             (λ e. own_covered (core_state locked) s (consistent ask) q (sym (ap (λ b. is_some (if b then Some (after m c q) else own (core_state a) s q)) e) ∙ h))
@@ -302,7 +311,7 @@ module _ (a : Inside) (k : IsCore a) {v : CoreState} (known : core_state a ≡ v
         -- what s wrote by now it holds exclusively
         covered_now : IsCovered (held_in ks s) (own (core_state (after_it st ls p)) s)
         covered_now = subst (λ (x : Written). IsCovered (held_in ks s) x.0) (sym p.written)
-            (covered_as (held_in ks s) (marking c) (own_after m (own (core_state a) s) c) (written (core_state a) s)
+            (covered_after (held_in ks s) c (own_done m (own (core_state a) s) c) (written (core_state a) s)
             written_mine (own_covered (core_state locked) s (consistent ask)) (marks_covered (core_state locked) s (consistent ask)))
 
         locked_still : (q : List ℕ) (y : Write) → write_of st.writes q ≡ Some y → mode_of ks y.0 q ≡ Some Exclusive

@@ -4,7 +4,7 @@ use Rattle.std.proofs.lemmas.Bool.{ne_eqb, cases_eq}
 use Rattle.city_model.specs.declared.command.Command.{Command}
 use Rattle.city_model.specs.declared.command.Reply.{Reply}
 use Rattle.city_model.specs.CityMap.{CityMap}
-use Rattle.city_model.specs.Marks.{unmarked, marking, step, answer}
+use Rattle.city_model.specs.Marks.{unmarked, step, answer}
 use Rattle.city_model.specs.Meaning.{is_refusal, locks_of}
 use Rattle.city_model.specs.Relations.{IsLawful}
 use Rattle.city_model.proofs.Refused.{refused_stays}
@@ -12,10 +12,10 @@ use Rattle.city_model.proofs.History.{follows_more, follows_same}
 use Rattle.city_locks.specs.declared.mode.Mode.TheVariants.{Exclusive}
 use Rattle.city_locks.specs.Locks.{mode_of, Lawful}
 use Rattle.city_txn.specs.Writes.{Write, write_of, unless_by}
-use Rattle.city_txn.specs.UndoLog.{log_of, has_before, written_as}
+use Rattle.city_txn.specs.UndoLog.{log_of, has_before, written_after}
 use Rattle.city_model.specs.Standing.{Answered, AllHeld, Follows, covers}
 use Rattle.city_txn.specs.CoreState.{CoreState, committed, view, own, written, seen, is_open, held, held_in, Stands, IsConsistent, KeepsOthers}
-use Rattle.city_txn.specs.Acting.{own_after}
+use Rattle.city_txn.specs.inside.Done.{own_done}
 use Rattle.city_txn.proofs.SeenWrites.{seen_same}
 
 -- ---- a command done, by s under its locks
@@ -24,7 +24,7 @@ pub record CommandDone (s : ℕ) (c : Command) (r : Reply) (v w : CoreState) : T
   pub frame : w.frame ≡ v.frame
   pub city : committed w ≡ committed v
   pub sees : seen w s ≡ step (seen v s) c
-  pub writes : written w s ≡ written_as (marking c) (own_after (view v s) (own v s) c) (written v s)
+  pub writes : written w s ≡ written_after c (own_done (view v s) (own v s) c) (written v s)
   pub others : (t : ℕ) → (s == t) ≡ false → written w t ≡ written v t
   pub unwritten : (q : List ℕ) → unless_by s (write_of w.writes q) ≡ unless_by s (write_of v.writes q)
   pub locks : w.locks ≡ v.locks

@@ -6,8 +6,11 @@ use Rattle.std.specs.Map.{lookup, update}
 use Rattle.std.specs.Ordering.{nat_cmp}
 use Rattle.std.specs.BTreeMap.{is_at}
 use Rattle.city_model.specs.declared.object.Object.{Object}
+use Rattle.city_model.specs.declared.command.Command.{Command}
+use Rattle.city_model.specs.declared.command.Command.TheVariants as commands
+use Rattle.city_model.specs.declared.command.Command.TheVariants.{Read, Put, Delete, Attach, Detach, Back, Commit, Abort}
 use Rattle.city_model.specs.CityMap.{CityMap, same_id}
-use Rattle.city_model.specs.Marks.{Marked, Marking, Leaves, Marks, GoesBack, marks_from}
+use Rattle.city_model.specs.Marks.{Marked, marks_from}
 use Rattle.city_txn.specs.declared.undo_log.Entry.{Entry}
 use Rattle.city_txn.specs.declared.undo_log.Entry.TheVariants.{Mark, Before}
 
@@ -47,12 +50,18 @@ abbrev pub written_back : Written → List (List ℕ × OwnWrites) → Written
 written_back w [] = w
 written_back w (k ∷ ks) = (k.1, k ∷ ks)
 
--- the same after a command: where it leaves marks f is what is written then, and going back makes the writes
+-- the same after a command, where f is what is written then: a mark has the writes of now, and going back makes them
 -- those of the mark
-abbrev pub written_as : Marking → OwnWrites → Written → Written
-written_as Leaves f w = (f, w.1)
-written_as (Marks name) f w = (w.0, (name, w.0) ∷ w.1)
-written_as (GoesBack name) f w = written_back w (marks_from name w.1)
+abbrev pub written_after : Command → OwnWrites → Written → Written
+written_after (Read id) f w = (f, w.1)
+written_after (Put id body) f w = (f, w.1)
+written_after (Delete id) f w = (f, w.1)
+written_after (Attach child parent) f w = (f, w.1)
+written_after (Detach child parent) f w = (f, w.1)
+written_after (commands.Mark name) f w = (w.0, (name, w.0) ∷ w.1)
+written_after (Back name) f w = written_back w (marks_from name w.1)
+written_after Commit f w = (f, w.1)
+written_after Abort f w = (f, w.1)
 
 -- the map with what was written
 abbrev pub map_with : CityMap → OwnWrites → CityMap

@@ -2,6 +2,7 @@
 pub mod Asking
 pub mod Codes
 pub mod Core
+pub mod Done
 pub mod Ending
 pub mod Images
 pub mod InPlace

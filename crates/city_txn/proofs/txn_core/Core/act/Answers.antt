@@ -1,6 +1,7 @@
 use Rattle.std.proofs.Common.{◌∙◌, sym, ap, refl}
 use Rattle.city_txn.specs.declared.step.Step.TheVariants as steps
-use Rattle.city_txn.specs.Acting.{reply_in, step_of}
+use Rattle.city_txn.specs.Acting.{step_of}
+use Rattle.city_txn.specs.inside.Done.{reply_in}
 use Rattle.city_txn.specs.inside.Core.{core_state}
 use Rattle.city_txn.proofs.Ended.{sound_view}
 use Rattle.city_txn.proofs.CoreFields.{open_stored}
