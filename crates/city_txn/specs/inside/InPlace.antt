@@ -3,6 +3,7 @@ use Rattle.std.specs.Prelude.{◌≡◌, ◌==◌, ℕ, Bool, true, false, List,
 use Rattle.std.specs.FinMap.{entries, from_sorted}
 use Rattle.city_model.specs.CityMap.{at, has_id}
 use Rattle.city_txn.specs.declared.store.Store.TheInside.{Inside}
+use Rattle.city_txn.specs.Writes.{made_by}
 use Rattle.city_txn.specs.inside.State.{State}
 use Rattle.city_txn.specs.inside.UndoState.{image_at, reservations_of}
 use Rattle.city_txn.specs.inside.Images.{committed_at, write_at, writer_of}

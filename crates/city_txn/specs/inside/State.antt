@@ -6,6 +6,7 @@ use Rattle.city_model.specs.declared.object.Object.{Object}
 use Rattle.city_model.specs.CityMap.{Objects, CityMap, at, has_id}
 use Rattle.city_txn.specs.inside.UndoState.{Reservations, listed_by, reservations_of}
 use Rattle.city_txn.specs.UndoLog.{OwnWrites}
+use Rattle.city_txn.specs.Writes.{Write, write_of, own_or, own_write, unless_by}
 
 pub record State : Type 0 where
   -- the committed city
