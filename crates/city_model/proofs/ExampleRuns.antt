@@ -1,5 +1,5 @@
 -- Scripts run one after another over small cities: what they reply, and what they leave.
-use Rattle.std.proofs.Common.{◌≡◌, refl, ap, ◌∙◌, arith}
+use Rattle.std.proofs.Common.{◌≡◌, inl, refl, ap, ◌∙◌, arith}
 use Rattle.std.specs.Prelude.{option_map, ℕ, List, [], ◌∷◌, false, Some, None, codes}
 use Rattle.std.proofs.lemmas.Bool.{or_parts}
 use Rattle.std.proofs.lemmas.Map.{update_other}
@@ -54,10 +54,10 @@ both_parts_no_orphan q = no_orphan_attached with_part (codes "q") (codes "b2") q
     (λ apart. orphan_apart (found_in two_buildings) (codes "q") (Some (alone BuildingPart)) q apart (no_orphan_at two_buildings q refl))
 
 attaches_commits : HasResult (found_in two_buildings) attaches (Added ∷ Attached ∷ []) Outcome.Committed
-attaches_commits = ((refl, refl, refl), ((refl, refl, refl), (refl, no_orphan both_parts both_parts_no_orphan)))
+attaches_commits = (refl, refl, (refl, refl, (inl (refl, no_orphan both_parts both_parts_no_orphan), refl)))
 
 deletes_commits : HasResult both_parts deletes (Deleted ∷ []) Outcome.Committed
-deletes_commits = ((refl, refl, refl), (refl, no_orphan (deleted both_parts (codes "p")) (λ q. no_orphan_deleted both_parts (codes "p") q (both_parts_no_orphan q))))
+deletes_commits = (refl, refl, (inl (refl, no_orphan (deleted both_parts (codes "p")) (λ q. no_orphan_deleted both_parts (codes "p") q (both_parts_no_orphan q))), refl))
 
 -- these ends are those of the scripts, run one at a time
 pub attach_then_delete_fits : Fits delete_and_attach (found_in two_buildings) attach_then_delete
@@ -120,10 +120,10 @@ read_then_put =
     ∷ []
 
 reads_commits : HasResult (found_in no_objects) reads_twice (Absent ∷ Absent ∷ []) Outcome.Committed
-reads_commits = ((refl, refl, refl), ((refl, refl, refl), (refl, no_orphan (found_in no_objects) (λ q. refl))))
+reads_commits = (refl, refl, (refl, refl, (inl (refl, no_orphan (found_in no_objects) (λ q. refl)), refl)))
 
 puts_commits : HasResult (found_in no_objects) puts_road (Added ∷ []) Outcome.Committed
-puts_commits = ((refl, refl, refl), (refl, no_orphan (changed (found_in no_objects) (codes "h") (Some (alone Road))) (λ q. no_orphan_put (found_in no_objects) (codes "h") (Some (alone Road)) q refl refl)))
+puts_commits = (refl, refl, (inl (refl, no_orphan (changed (found_in no_objects) (codes "h") (Some (alone Road))) (λ q. no_orphan_put (found_in no_objects) (codes "h") (Some (alone Road)) q refl refl)), refl))
 
 pub read_then_put_fits : Fits read_and_put (found_in no_objects) read_then_put
 read_then_put_fits = (

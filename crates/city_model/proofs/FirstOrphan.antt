@@ -1,5 +1,6 @@
 -- The first orphan of a city's objects, in byte order of their ids, is the least one.
-use Rattle.std.proofs.Common.{◌≡◌, ℕ, List, Option, Some, None}
+use Rattle.std.proofs.Common.{◌≡◌, ℕ, List, Option, Some, None, sym, ◌∙◌}
+use Rattle.std.proofs.lemmas.Bool.{false≢true}
 use Rattle.std.specs.FinMap.{entries}
 use Rattle.city_model.specs.CityMap.{Objects, Entries, at}
 use Rattle.city_model.specs.Relations.{is_orphan, HasNoOrphan, IsLeastOrphan}
@@ -9,7 +10,9 @@ abbrev pub first_orphan : Entries → Option (List ℕ)
 first_orphan es = first_that (λ _ o. is_orphan o) es
 
 pub is_least_orphan : (objects : Objects) (id : List ℕ) → first_orphan (entries objects) ≡ Some id → IsLeastOrphan (at objects) id
-is_least_orphan objects id there = least_in (λ _ o. is_orphan o) objects id there
+is_least_orphan objects id there =
+    let least = least_in (λ _ o. is_orphan o) objects id there in
+    (least.0, λ q below h. false≢true (sym (least.1 q h.0 below h.1) ∙ h.2))
 
 pub has_no_orphan : (objects : Objects) → first_orphan (entries objects) ≡ None → HasNoOrphan (at objects)
 has_no_orphan objects none = λ q o there. none_in (λ _ o. is_orphan o) objects q o none there

@@ -8,12 +8,17 @@ use Rattle.city_model.specs.declared.command.Cause.{Cause}
 use Rattle.city_model.specs.declared.command.Cause.TheVariants.{HasChildren}
 use Rattle.city_model.specs.declared.command.Command.{Command}
 use Rattle.city_model.specs.declared.command.Command.TheVariants.{Read, Put, Delete, Attach, Detach, Mark, Back, Commit, Abort}
+use Rattle.city_model.specs.declared.command.Reply.{Reply}
 use Rattle.city_model.specs.CityMap.{CityMap, same_id, has_id, changed, parents_of, children_of}
-use Rattle.city_model.specs.Meaning.{read_reply, with_body, put_cause, put_done, delete_cause, attach_cause, detach_cause, without_child, without_parent, with_child, with_parent, deleted, cause_of, effect_of, done_reply, map_unless, refused_or, after, reply_to, exclusively, delete_locks, locks_of}
+use Rattle.city_model.specs.Meaning.{Answers, read_reply, with_body, put_cause, put_done, delete_cause, attach_cause, detach_cause, without_child, without_parent, with_child, with_parent, deleted, exclusively, delete_locks, locks_of}
+use Rattle.city_model.specs.inside.CommandParts.{cause_of, effect_of, done_reply, map_unless, refused_or, after, Marking, Leaves, Marks, GoesBack, marking, refusal_as, refusal, seen_next, answer}
 use Rattle.city_model.specs.Shells.{body_fault}
 use Rattle.city_model.specs.Relations.{IsSound}
+use Rattle.city_model.specs.Marks.{unmarked}
+use Rattle.city_model.specs.Scripts.{is_end}
 use Rattle.city_model.specs.Standing.{Lock, exclusive_ids, names, names_exclusively}
 use Rattle.city_model.specs.FrameLaw.{AgreeOn, FrameLaw}
+use Rattle.city_model.proofs.Effects.{effect_is}
 use Rattle.city_model.proofs.Changed.{attached_apart, detached_apart, deleted_apart}
 use Rattle.city_model.proofs.Ids.{same_id_itself, same_id_back}
 use Rattle.city_model.proofs.IdLists.{bool_cases, not_both, without_absent}
@@ -122,9 +127,6 @@ same_done m n (Back name) a = refl
 same_done m n Commit a = refl
 same_done m n Abort a = refl
 
-pub same_reply : (m n : CityMap) (c : Command) → AgreeOn (locks_of m c) m n → reply_to m c ≡ reply_to n c
-same_reply m n c a = ap (λ x. refused_or x (done_reply m c)) (same_cause m n c a) ∙ ap (refused_or (cause_of n c)) (same_done m n c a)
-
 pub same_locks : (m n : CityMap) (c : Command) → AgreeOn (locks_of m c) m n → locks_of m c ≡ locks_of n c
 same_locks m n (Read id) a = refl
 same_locks m n (Put id body) a = refl
@@ -172,13 +174,43 @@ same_where_agreed m n c q a e =
 pub same_after : (m n : CityMap) (c : Command) (q : List ℕ) → AgreeOn (locks_of m c) m n → names_exclusively (locks_of m c) q ≡ true → after m c q ≡ after n c q
 same_after m n c q a h = same_where_agreed m n c q a (a q (exclusive_is_named (locks_of m c) q h))
 
-pub frame_law : (m : CityMap) (c : Command) → IsSound m → FrameLaw m c
-frame_law m c s n t a = record {
-  cause = same_cause m n c a;
-  reply = same_reply m n c a;
+-- ---- without marks
+
+same_refusal : (m n : CityMap) (c : Command) (k : Marking) → AgreeOn (locks_of m c) m n → refusal_as k (unmarked m) c ≡ refusal_as k (unmarked n) c
+same_refusal m n c Leaves a = same_cause m n c a
+same_refusal m n c (Marks name) a = refl
+same_refusal m n c (GoesBack name) a = refl
+
+same_answer : (m n : CityMap) (c : Command) → AgreeOn (locks_of m c) m n → answer (unmarked m) c ≡ answer (unmarked n) c
+same_answer m n c a = ap (λ x. refused_or x (done_reply m c)) (same_refusal m n c (marking c) a) ∙ ap (refused_or (refusal (unmarked n) c)) (same_done m n c a)
+
+map_after : (m : CityMap) (c : Command) → (seen_next (unmarked m) c).map ≡ after m c
+map_after m (Read id) = refl
+map_after m (Put id body) = refl
+map_after m (Delete id) = refl
+map_after m (Attach child parent) = refl
+map_after m (Detach child parent) = refl
+map_after m (Mark name) = refl
+map_after m (Back name) = refl
+map_after m Commit = refl
+map_after m Abort = refl
+
+at_after : (m : CityMap) (c : Command) (q : List ℕ) → (seen_next (unmarked m) c).map q ≡ after m c q
+at_after m c q = ap (λ (n : CityMap). n q) (map_after m c)
+
+pub frame_law : (m : CityMap) (c : Command) → IsSound m → is_end c ≡ false → FrameLaw m c
+frame_law m c s on n t a = record {
+  reply = answer (unmarked m) c;
+  left = seen_next (unmarked m) c;
+  left_there = seen_next (unmarked n) c;
+  here = effect_is (unmarked m) c on;
+  there = effect_is (unmarked n) c on ∙ ap (λ (r : Reply). Answers r (seen_next (unmarked n) c)) (sym (same_answer m n c a));
   locks = same_locks m n c a;
-  written = λ id h. (a id (exclusive_is_named (locks_of m c) id h), same_after m n c id a h);
-  kept = λ id h. (frame m c id s h, frame n c id t (sym (ap (λ ls. names_exclusively ls id) (same_locks m n c a)) ∙ h));
+  written = λ id h. (a id (exclusive_is_named (locks_of m c) id h), at_after m c id ∙ same_after m n c id a h ∙ sym (at_after n c id));
+  kept = λ id h. (
+    at_after m c id ∙ frame m c id s h,
+    at_after n c id ∙ frame n c id t (sym (ap (λ ls. names_exclusively ls id) (same_locks m n c a)) ∙ h),
+  );
 }
 
 -- a delete changes its id and the object's parents alone

@@ -17,11 +17,15 @@ use Rattle.city_model.proofs.RelationLaws.{misrelated_true, misrelated_false}
 
 -- ---- relations
 
+related_no_fault : (m : CityMap) (id : List ℕ) (o : Object) → IsInOrder m id o × (is_orphan o ≡ false) → (IsInOrder m id o → ⊥) ⊎ (is_orphan o ≡ true) → ⊥
+related_no_fault m id o h (inl f) = f h.0
+related_no_fault m id o h (inr e) = false≢true (sym h.1 ∙ e)
+
 pub least_misrelated : (objects : Objects) (id : List ℕ) → first_that (is_misrelated (at objects)) (entries objects) ≡ Some id → IsLeastMisrelated (at objects) id
 least_misrelated objects id found =
     let least = least_in (is_misrelated (at objects)) objects id found in (
       (least.0.0, least.0.1, misrelated_true (at objects) id least.0.0 least.0.2),
-      λ q o below there. misrelated_false (at objects) q o (least.1 q o below there),
+      λ q below h. related_no_fault (at objects) q h.0 (misrelated_false (at objects) q h.0 (least.1 q h.0 below h.1)) h.2,
     )
 
 pub all_related : (objects : Objects) → first_that (is_misrelated (at objects)) (entries objects) ≡ None → IsRelated (at objects)
@@ -60,9 +64,5 @@ lawful_by m r f = (λ id o there. ((r id o there).0, f id o there), λ id o ther
 pub faultless_of_lawful : (m : CityMap) → IsLawful m → IsFaultless m
 faultless_of_lawful m l id o there = (l.0 id o there).1
 
-no_fault_in_lawful : (m : CityMap) (id : List ℕ) (o : Object) → m id ≡ Some o → IsLawful m → (IsInOrder m id o → ⊥) ⊎ (is_orphan o ≡ true) → ⊥
-no_fault_in_lawful m id o there l (inl f) = f (l.0 id o there).0
-no_fault_in_lawful m id o there l (inr e) = false≢true (sym (l.1 id o there) ∙ e)
-
 pub misrelated_unlawful : (m : CityMap) (id : List ℕ) → IsMisrelatedAt m id → IsLawful m → ⊥
-misrelated_unlawful m id w l = no_fault_in_lawful m id w.0 w.1 l w.2
+misrelated_unlawful m id w l = related_no_fault m id w.0 ((l.0 id w.0 w.1).0, l.1 id w.0 w.1) w.2

@@ -12,7 +12,8 @@ use Rattle.city_model.specs.declared.command.Command.TheVariants.{Put, Delete, A
 use Rattle.city_model.specs.declared.command.Reply.{Reply}
 use Rattle.city_model.specs.declared.command.Reply.TheVariants.{Deleted, Attached, Detached}
 use Rattle.city_model.specs.CityMap.{CityMap, same_id, has_id, changed}
-use Rattle.city_model.specs.Meaning.{with_body, put_cause, put_done, delete_cause, delete_locks, deleted, without_child, without_parent, with_child, with_parent, is_wrong_family, attach_cause, detach_cause, exclusively, effect_of, map_unless, after}
+use Rattle.city_model.specs.Meaning.{with_body, put_cause, put_done, delete_cause, delete_locks, deleted, without_child, without_parent, with_child, with_parent, is_wrong_family, attach_cause, detach_cause, exclusively}
+use Rattle.city_model.specs.inside.CommandParts.{effect_of, map_unless, after}
 use Rattle.city_model.specs.Relations.{is_second_level, same_family, IsSound}
 use Rattle.city_model.specs.Shells.{body_fault}
 use Rattle.city_model.proofs.Ids.{same_id_itself, same_id_back, same_id_true}

@@ -4,6 +4,7 @@ pub mod Faultless
 pub mod FrameLaw
 pub mod Integral
 pub mod Kept
+pub mod Least
 pub mod Marks
 pub mod Meaning
 pub mod Members
@@ -19,3 +20,4 @@ pub mod Standing
 pub mod TraceLaw
 pub mod Types
 pub mod Writing
+pub mod inside

@@ -8,8 +8,9 @@ use Rattle.city_model.specs.declared.command.Reply.{Reply}
 use Rattle.city_model.specs.declared.plan.Plan.{Plan}
 use Rattle.city_model.specs.declared.plan.Plan.TheVariants.{Refused, Writes}
 use Rattle.city_model.specs.CityMap.{CityMap, has_id}
-use Rattle.city_model.specs.Meaning.{cause_of, effect_of, done_reply, locks_of, without_child}
+use Rattle.city_model.specs.Meaning.{locks_of, without_child}
 use Rattle.city_model.specs.Runs.{Change}
+use Rattle.city_model.specs.inside.CommandParts.{cause_of, effect_of, done_reply}
 use Rattle.city_model.specs.Standing.{names_exclusively}
 
 -- what the change writes at each id is what the map has there
