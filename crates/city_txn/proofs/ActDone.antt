@@ -8,8 +8,10 @@ use Rattle.city_model.specs.declared.command.Command.{Command}
 use Rattle.city_model.specs.declared.command.Command.TheVariants.{Read, Put, Delete, Attach, Detach, Mark, Back, Commit, Abort}
 use Rattle.city_model.specs.declared.command.Reply.{Reply}
 use Rattle.city_model.specs.CityMap.{CityMap}
-use Rattle.city_model.specs.Marks.{Marked, marking, step, answer}
-use Rattle.city_model.specs.Meaning.{cause_of, after, is_refusal, locks_of}
+use Rattle.city_model.specs.Marks.{Marked}
+use Rattle.city_model.specs.Meaning.{is_refusal, locks_of}
+use Rattle.city_model.specs.Scripts.{is_end}
+use Rattle.city_model.proofs.Effects.{effect_is}
 use Rattle.city_model.proofs.IdLists.{bool_cases}
 use Rattle.city_model.proofs.History as history
 use Rattle.city_locks.specs.declared.answer.Answer.{Answer}
@@ -26,6 +28,7 @@ use Rattle.city_txn.specs.inside.State.{State, is_reserved}
 use Rattle.city_txn.specs.Writes.{Write, write_of, own_write, unless_by}
 use Rattle.city_txn.specs.UndoLog.{Logs, Written, log_of, has_before, written_after}
 use Rattle.city_model.specs.Standing.{Lock, Answered, AllHeld, covers, names, names_exclusively}
+use Rattle.city_model.specs.inside.CommandParts.{marking, seen_next, answer, cause_of, after}
 use Rattle.city_txn.specs.CoreState.{CoreState, view, own, written, seen, is_open, held, held_in, Stands, IsConsistent}
 use Rattle.city_txn.specs.inside.Core.{core_state, IsCore}
 use Rattle.city_txn.specs.Locking.{granted_before, GainsFirst, IsBlocked}
@@ -52,7 +55,7 @@ no_step (Ok steps.Die) c done h = refl
 no_step (Err e) c done h = refl
 
 -- locks may have been gained
-not_done : (s : ℕ) (c : Command) (result : Result Step TxnFault) (v w : CoreState) (ls : List Lock) → LocksGained s ls v w → is_done result ≡ false →
+not_done : (s : ℕ) (c : Command) (result : Result Step TxnFault) (v w : CoreState) (ls : List Lock) → is_end c ≡ false → LocksGained s ls v w → is_done result ≡ false →
     IfOk result (λ step. step ≡ step_of (answer_in v s c) (reply_in v s c)) →
     IfErr result (λ e. e ≡ (if is_open v s then OutOfMemory else NotOpen s)) →
     (is_open v s ≡ false → IsErr result) →
@@ -62,10 +65,10 @@ not_done : (s : ℕ) (c : Command) (result : Result Step TxnFault) (v w : CoreSt
     GainsFirst s (granted_in v s c) v.locks w.locks →
     OnOk result (AllHeld (held w s) (granted_in v s c)) →
     Acted s c result v w
-not_done s c result v w ls k idle step fault shut answered found blocked gains granted = record {
+not_done s c result v w ls no_end k idle step fault shut answered found blocked gains granted = record {
   reply = reply_in v s c;
   after = seen_after v s c;
-  does = (refl, refl);
+  does = effect_is (seen v s) c no_end;
   step = step;
   fault = fault;
   not_open = shut;
@@ -125,14 +128,14 @@ acted_done s c r v u w ls o k d gains granted =
     record {
       reply = reply_in v s c;
       after = seen_after v s c;
-      does = (refl, refl);
+      does = effect_is (seen v s) c d.no_end;
       step = ap steps.Done got ∙ ap (λ a. step_of a (reply_in v s c)) (sym granted);
       fault = tt;
       not_open = λ e. absurd (false≢true (sym e ∙ o));
       answered = λ e n h. refl;
       found = λ e h. refl;
       blocked = subst (IsBlocked (λ t. is_open v t ≡ true) s) (sym granted) tt;
-      sees = d.sees ∙ ap (λ x. step x c) same;
+      sees = d.sees ∙ ap (λ x. seen_next x c) same;
       city = d.city ∙ k.city;
       views = λ t ne. seen_same u w t d.city (d.others t ne) ∙ seen_gained s ls v u k t;
       opened = d.opened s ∙ k.opened s;
@@ -164,7 +167,7 @@ some_mode (Some m) h = refl
 
 -- ---- a call, of a core that is seen as v: its locks are asked for, and ks are the locks then
 
-module _ (a : Inside) (k : IsCore a) {v : CoreState} (known : core_state a ≡ v) (s : ℕ) (c : Command) (here : is_open v s ≡ true) (ks : Locks) where
+module _ (a : Inside) (k : IsCore a) {v : CoreState} (known : core_state a ≡ v) (s : ℕ) (c : Command) (here : is_open v s ≡ true) (no_end : is_end c ≡ false) (ks : Locks) where
   abbrev m : CityMap
   m = view (core_state a) s
 
@@ -206,7 +209,7 @@ module _ (a : Inside) (k : IsCore a) {v : CoreState} (known : core_state a ≡ v
         OnOk result (IsBlocked (HoldsLock a.locks) s (answer_in (core_state a) s c)) →
         GainsFirst s (granted_in (core_state a) s c) a.locks w.locks →
         OnOk result (AllHeld (held w s) (granted_in (core_state a) s c)) → Acted s c result v w
-    stopped result w g idle step fault answered found blocked gains held = subst (λ u. Acted s c result u w) known (not_done s c result (core_state a) w ask.gains.gained g idle step
+    stopped result w g idle step fault answered found blocked gains held = subst (λ u. Acted s c result u w) known (not_done s c result (core_state a) w ask.gains.gained no_end g idle step
         (subst (λ f. IfErr result (λ e. e ≡ f)) (sym (ap (λ b. if b then OutOfMemory else NotOpen s) o)) fault) (λ f. absurd (false≢true (sym f ∙ o))) (λ e. answered) (λ e. found)
         (on_ok_weaker result (blocked_weaker (HoldsLock a.locks) (λ t. is_open (core_state a) t ≡ true) s (λ t ne h. k.state.open_only t h.0 h.1) (answer_in (core_state a) s c)) blocked)
         gains held)
@@ -335,6 +338,7 @@ module _ (a : Inside) (k : IsCore a) {v : CoreState} (known : core_state a ≡ v
           marks_open = marks_open_still st ls p;
           all_held = all;
           reply = sym p.reply;
+          no_end = no_end;
         }
 
         pub performed_core : IsCore (record a { store = st; logs = ls; locks = ks })
@@ -349,7 +353,7 @@ pub noted_for : (a : Inside) → IsCore a → (s : ℕ) → AreNoted a.store a.l
 noted_for a k s = k.noted s
 
 -- a stamp that isn't open
-pub not_open_acted : (a : Inside) (k : IsCore a) {v : CoreState} (known : core_state a ≡ v) (s : ℕ) (c : Command) → is_open v s ≡ false → Acted s c (Err (NotOpen s)) v v
-not_open_acted a k {v} known s c shut =
-    not_done s c (Err (NotOpen s)) v v [] (nothing_gained s [] v (subst IsConsistent known k.state)) refl tt
+pub not_open_acted : (a : Inside) (k : IsCore a) {v : CoreState} (known : core_state a ≡ v) (s : ℕ) (c : Command) → is_end c ≡ false → is_open v s ≡ false → Acted s c (Err (NotOpen s)) v v
+not_open_acted a k {v} known s c no_end shut =
+    not_done s c (Err (NotOpen s)) v v [] no_end (nothing_gained s [] v (subst IsConsistent known k.state)) refl tt
     (sym (ap (λ b. if b then OutOfMemory else NotOpen s) shut)) (λ f. refl) (λ f. absurd (false≢true (sym shut ∙ f))) (λ f. absurd (false≢true (sym shut ∙ f))) tt (gains_nothing s (granted_in v s c) v.locks) tt

@@ -8,10 +8,11 @@ use Rattle.city_model.specs.declared.command.Command.TheVariants.{Read, Put, Del
 use Rattle.city_model.specs.declared.command.Reply.{Reply}
 use Rattle.city_model.specs.declared.command.Reply.TheVariants.{WentBack}
 use Rattle.city_model.specs.CityMap.{CityMap}
-use Rattle.city_model.specs.Marks.{View, Marked, marks_from, back_cause, step_as, step, answer}
-use Rattle.city_model.specs.Meaning.{read_reply, put_done, cause_of, done_reply, refused_or, after, is_refusal, locks_of}
+use Rattle.city_model.specs.Marks.{View, Marked, marks_from}
+use Rattle.city_model.specs.Meaning.{read_reply, put_done, is_refusal, locks_of}
 use Rattle.city_model.specs.Scripts.{is_mark}
 use Rattle.city_model.specs.Standing.{names_exclusively}
+use Rattle.city_model.specs.inside.CommandParts.{back_cause, step_as, seen_next, answer, cause_of, done_reply, refused_or, after}
 use Rattle.city_model.proofs.MarksKept.{plain, plain_answer}
 use Rattle.city_model.proofs.Refused.{done_unrefused}
 use Rattle.city_txn.specs.Acting.{own_after}
@@ -55,21 +56,21 @@ unrefused_alike None r h = ap not (sym h)
 unrefused_alike (Some cause) r h = refl
 
 own_alike : (v : View) (c : Command) (f : OwnWrites) (q : List ℕ) → is_mark c ≡ false
-    → own_done v.map f c q ≡ own_after f (locks_of v.map c) (answer v c) (step v c).map q
+    → own_done v.map f c q ≡ own_after f (locks_of v.map c) (answer v c) (seen_next v c).map q
 own_alike v c f q h =
     let named = names_exclusively (locks_of v.map c) q in
     let b : is_none (cause_of v.map c) ≡ not (is_refusal (answer v c)) =
     unrefused_alike (cause_of v.map c) (done_reply v.map c) (done_unrefused v.map c) ∙ ap (λ r. not (is_refusal r)) (sym (plain_answer v c h)) in
-    let n : after v.map c ≡ (step v c).map = ap (λ k. (step_as k v c).map) (sym (plain c h)) in
+    let n : after v.map c ≡ (seen_next v c).map = ap (λ k. (step_as k v c).map) (sym (plain c h)) in
     ap (λ x. if x && named then Some (after v.map c q) else f q) b
     ∙ ap (λ (m : CityMap). if not (is_refusal (answer v c)) && named then Some (m q) else f q) n
 
 written_plain : (v : View) (c : Command) (f : OwnWrites) (w : Written) → is_mark c ≡ false
-    → written_after c (own_done v.map f c) w ≡ written_after c (own_after f (locks_of v.map c) (answer v c) (step v c).map) w
+    → written_after c (own_done v.map f c) w ≡ written_after c (own_after f (locks_of v.map c) (answer v c) (seen_next v c).map) w
 written_plain v c f w h = ap (λ (g : OwnWrites). written_after c g w) (λ i q. own_alike v c f q h i)
 
 pub written_alike : (v : View) (c : Command) (f : OwnWrites) (w : Written)
-    → written_after c (own_done v.map f c) w ≡ written_after c (own_after f (locks_of v.map c) (answer v c) (step v c).map) w
+    → written_after c (own_done v.map f c) w ≡ written_after c (own_after f (locks_of v.map c) (answer v c) (seen_next v c).map) w
 written_alike v (Read id) f w = written_plain v (Read id) f w refl
 written_alike v (Put id body) f w = written_plain v (Put id body) f w refl
 written_alike v (Delete id) f w = written_plain v (Delete id) f w refl

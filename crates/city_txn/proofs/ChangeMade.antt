@@ -189,7 +189,8 @@ module _ (v : CoreState) (s : ℕ) (c : Change) (lists : (q : List ℕ) → look
   pub least_of_view : (id : List ℕ) → IsLeastOrphan (found_in (objects_in c)) id → IsLeastOrphan (view v s) id
   least_of_view id l = (
     (l.0.0, view_over id ∙ over_written (lookup (is_at (slice_cmp nat_cmp id)) c) (committed v id) l.0.0 (sym (objects_at id) ∙ l.0.1), l.0.2),
-    λ q o less is. not_orphan q o is (l.1 q o less),
+    λ q less h. over_cases (lookup (is_at (slice_cmp nat_cmp q)) c) (committed v q) h.0 (sym (view_over q) ∙ h.1)
+        (λ t. l.1 q less (h.0, objects_at q ∙ t, h.2)) (λ t. false≢true (sym (none q h.0 t) ∙ h.2)),
   )
 
   pub no_orphan_listed : ((q : List ℕ) → is_orphan_written (own_write s (write_of v.writes q)) ≡ false) → HasNoOrphan (found_in (objects_in c))

@@ -10,12 +10,13 @@ use Rattle.city_model.specs.declared.command.Cause.TheVariants.{NoMark}
 use Rattle.city_model.specs.declared.command.Reply.{Reply}
 use Rattle.city_model.specs.declared.command.Reply.TheVariants.{Marked, WentBack, Refused}
 use Rattle.city_model.specs.CityMap.{CityMap}
-use Rattle.city_model.specs.Marks.{marks_from, back_cause}
-use Rattle.city_model.specs.Meaning.{cause_of, effect_of, done_reply, map_unless, refused_or, after, locks_of}
+use Rattle.city_model.specs.Marks.{marks_from}
+use Rattle.city_model.specs.Meaning.{locks_of}
 use Rattle.city_model.specs.Plans.{AreOf, AreWritesOf}
 use Rattle.city_model.specs.Runs.{Change}
 use Rattle.city_model.specs.Scripts.{is_mark}
 use Rattle.city_model.specs.Standing.{names_exclusively}
+use Rattle.city_model.specs.inside.CommandParts.{back_cause, cause_of, effect_of, done_reply, map_unless, refused_or, after}
 use Rattle.city_model.proofs.MarksKept.{from_mapped, plain, plain_answer}
 use Rattle.city_txn.specs.declared.undo_log.Entry.TheVariants as entries
 use Rattle.city_txn.specs.inside.State.{State, own, is_reserved, is_open, committed, view}

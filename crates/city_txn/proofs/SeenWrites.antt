@@ -10,11 +10,12 @@ use Rattle.city_model.specs.declared.command.Command.{Command}
 use Rattle.city_model.specs.declared.command.Command.TheVariants as commands
 use Rattle.city_model.specs.declared.command.Command.TheVariants.{Read, Put, Delete, Attach, Detach, Back, Commit, Abort}
 use Rattle.city_model.specs.CityMap.{CityMap, at, same_id}
-use Rattle.city_model.specs.Marks.{View, marks_from, back_to, step}
-use Rattle.city_model.specs.Meaning.{cause_of, effect_of, map_unless, after, locks_of}
+use Rattle.city_model.specs.Marks.{View, marks_from}
+use Rattle.city_model.specs.Meaning.{locks_of}
 use Rattle.city_model.specs.Relations.{IsSound}
 use Rattle.city_model.specs.Standing.{Held, covers, names_exclusively}
 use Rattle.city_model.specs.TraceLaw.{carried_map, carried_marks, carried}
+use Rattle.city_model.specs.inside.CommandParts.{back_to, seen_next, cause_of, effect_of, map_unless, after}
 use Rattle.city_model.proofs.FrameLaw.{frame}
 use Rattle.city_model.proofs.Ids.{same_id_itself}
 use Rattle.city_model.proofs.IdLists.{bool_cases, not_both}
@@ -74,7 +75,7 @@ back_with : (m : CityMap) (w : Written) (ks : List (List ℕ × OwnWrites)) → 
 back_with m w [] = refl
 back_with m w (k ∷ ks) = refl
 
-step_with : (c : Command) (m : CityMap) (g : OwnWrites) (w : Written) → map_with m g ≡ after (map_with m w.0) c → view_with m (written_after c g w) ≡ step (view_with m w) c
+step_with : (c : Command) (m : CityMap) (g : OwnWrites) (w : Written) → map_with m g ≡ after (map_with m w.0) c → view_with m (written_after c g w) ≡ seen_next (view_with m w) c
 step_with (Read id) m g w e = ap (λ (n : CityMap). record { map = n; marks = marks_with m w.1 }) e
 step_with (Put id body) m g w e = ap (λ (n : CityMap). record { map = n; marks = marks_with m w.1 }) e
 step_with (Delete id) m g w e = ap (λ (n : CityMap). record { map = n; marks = marks_with m w.1 }) e
@@ -87,14 +88,14 @@ step_with Abort m g w e = ap (λ (n : CityMap). record { map = n; marks = marks_
 
 -- what was written by the command gives what is seen after it
 pub step_seen : (v w : CoreState) (s : ℕ) (c : Command) → IsSound (view v s) → committed w ≡ committed v
-    → written w s ≡ written_after c (own_done (view v s) (own v s) c) (written v s) → seen w s ≡ step (seen v s) c
+    → written w s ≡ written_after c (own_done (view v s) (own v s) c) (written v s) → seen w s ≡ seen_next (seen v s) c
 step_seen v w s c sound city e =
     let same : view v s ≡ map_with (committed v) (own v s) = ap (λ (x : View). x.map) (seen_with v s) in
     let done : map_with (committed v) (own_done (view v s) (own v s) c) ≡ after (map_with (committed v) (own v s)) c =
     subst (λ (n : CityMap). map_with (committed v) (own_done n (own v s) c) ≡ after (map_with (committed v) (own v s)) c) (sym same)
     (own_after_with (committed v) (own v s) c (subst IsSound same sound)) in
     seen_with w s ∙ ap (λ (m : CityMap). view_with m (written w s)) city ∙ ap (view_with (committed v)) e
-    ∙ step_with c (committed v) (own_done (view v s) (own v s) c) (written v s) done ∙ ap (λ (x : View). step x c) (sym (seen_with v s))
+    ∙ step_with c (committed v) (own_done (view v s) (own v s) c) (written v s) done ∙ ap (λ (x : View). seen_next x c) (sym (seen_with v s))
 
 -- ---- what is written is held exclusively
 

@@ -3,13 +3,15 @@ use Rattle.std.specs.Prelude.{◌≡◌, ◌≢◌, ◌==◌, ◌&&◌, not, ℕ
 use Rattle.std.specs.Prelude.{if◌then◌else◌}
 use Rattle.std.specs.Prelude.{Result, Ok, Err, IfOk, IfErr, OnOk, IsOk, IsErr}
 use Rattle.city_model.specs.declared.command.Command.{Command}
+use Rattle.city_model.specs.declared.command.Command.TheVariants.{Commit}
+use Rattle.city_model.specs.declared.command.Cause.{Cause}
 use Rattle.city_model.specs.declared.command.Reply.{Reply}
-use Rattle.city_model.specs.declared.command.Reply.TheVariants.{WentBack}
+use Rattle.city_model.specs.declared.command.Reply.TheVariants.{WentBack, Refused}
 use Rattle.city_model.specs.CityMap.{CityMap}
 use Rattle.city_model.specs.Runs.{EndsAt}
 use Rattle.city_model.specs.declared.end.Outcome.{Outcome}
-use Rattle.city_model.specs.Marks.{View, step, answer}
-use Rattle.city_model.specs.Meaning.{is_refusal, locks_of}
+use Rattle.city_model.specs.Marks.{View}
+use Rattle.city_model.specs.Meaning.{Answers, effect, Does, is_refusal, locks_of}
 use Rattle.city_locks.specs.declared.answer.Answer.{Answer}
 use Rattle.city_locks.specs.declared.answer.Answer.TheVariants.{Granted, Wait, Die}
 use Rattle.city_txn.specs.declared.step.Step.{Step}
@@ -39,6 +41,10 @@ granted_in v stamp command = granted_before v.locks stamp (locks_of (view v stam
 abbrev pub EndsIn : CoreState → ℕ → Command → ℕ → Outcome → Type 0
 EndsIn v stamp command number outcome = EndsAt (seen v stamp) command number outcome
 
+-- a commit of the transaction is refused by this cause
+abbrev pub RefusesCommit : CoreState → ℕ → Cause → Type 0
+RefusesCommit v stamp cause = Does (seen v stamp) Commit (Refused cause) (seen v stamp)
+
 -- the step that an answer of the locks and a reply give
 abbrev pub step_of : Answer → Reply → Step
 step_of Granted reply = steps.Done reply
@@ -64,7 +70,7 @@ pub record Acted (stamp : ℕ) (command : Command) (result : Result Step TxnFaul
   -- what the command is answered at what the transaction sees, and what is seen after it
   pub reply : Reply
   pub after : View
-  pub does : (answer (seen old stamp) command ≡ reply) × (step (seen old stamp) command ≡ after)
+  pub does : effect (seen old stamp) command ≡ Answers reply after
   -- done where each lock is granted, and else the answer of the first that isn't
   pub step : IfOk result (λ step. step ≡ step_of (answer_in old stamp command) reply)
   pub fault : IfErr result (λ fault. fault ≡ (if is_open old stamp then OutOfMemory else NotOpen stamp))

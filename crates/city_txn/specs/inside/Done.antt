@@ -3,9 +3,10 @@ use Rattle.std.specs.Prelude.{◌&&◌, ℕ, Bool, false, List, Some, is_none, i
 use Rattle.city_model.specs.declared.command.Command.{Command}
 use Rattle.city_model.specs.declared.command.Reply.{Reply}
 use Rattle.city_model.specs.CityMap.{CityMap}
-use Rattle.city_model.specs.Marks.{View, Marked, Marking, Leaves, Marks, GoesBack, marking, marks_from, back_cause, step, answer}
-use Rattle.city_model.specs.Meaning.{cause_of, after, locks_of}
+use Rattle.city_model.specs.Marks.{View, Marked, marks_from}
+use Rattle.city_model.specs.Meaning.{locks_of}
 use Rattle.city_model.specs.Standing.{names_exclusively}
+use Rattle.city_model.specs.inside.CommandParts.{Marking, Leaves, Marks, GoesBack, marking, back_cause, seen_next, answer, cause_of, after}
 use Rattle.city_txn.specs.UndoLog.{OwnWrites}
 use Rattle.city_txn.specs.CoreState.{CoreState, seen}
 
@@ -24,7 +25,7 @@ reply_in v stamp command = answer (seen v stamp) command
 
 -- what it would see after the command
 abbrev pub seen_after : CoreState → ℕ → Command → View
-seen_after v stamp command = step (seen v stamp) command
+seen_after v stamp command = seen_next (seen v stamp) command
 
 abbrev pub finds_as : Marking → List Marked → Bool
 finds_as Leaves ks = false

@@ -6,12 +6,13 @@ use Rattle.city_model.specs.CityMap.{has_id}
 use Rattle.city_model.specs.Runs.{Change}
 use Rattle.city_model.specs.declared.command.Command.{Command}
 use Rattle.city_model.specs.declared.command.Reply.{Reply}
-use Rattle.city_model.specs.Marks.{View, answer}
+use Rattle.city_model.specs.Marks.{View}
 use Rattle.city_model.specs.Meaning.{locks_of}
 use Rattle.city_txn.specs.inside.State.{State, own, is_reserved, is_open, committed, view}
 use Rattle.city_txn.specs.Writes.{write_of, unless_by}
 use Rattle.city_txn.specs.UndoLog.{Logs, Written, log_of, marked, has_before, written_after, marks_with}
 use Rattle.city_model.specs.Standing.{names_exclusively}
+use Rattle.city_model.specs.inside.CommandParts.{answer}
 use Rattle.city_txn.specs.inside.Done.{own_done, finds_mark}
 
 -- whether the change writes the id
