@@ -10,6 +10,7 @@ ghost use Rattle.city_txn.specs.inside.UndoState.{image_at, listed_by, reservati
 
 use crate::image::Image;
 use crate::slot;
+use city_locks::by_stamp::push_at;
 use city_model::OutOfMemory;
 use city_model::city::City;
 use city_model::copied::Copied;
@@ -213,11 +214,6 @@ fn list(
     ensures err { OnErr result (reservations.new.entries ≡ reservations.old.entries) }
 {
     let copy = id.copy(alloc)?;
-    match reservations.get_mut(&stamp) {
-        Some(ids) => {
-            ids.push(copy)?;
-            Ok(())
-        }
-        None => unreachable!(),
-    }
+    push_at(reservations, stamp, copy)?;
+    Ok(())
 }
