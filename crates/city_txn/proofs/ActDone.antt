@@ -29,8 +29,8 @@ use Rattle.city_txn.specs.Writes.{Write, write_of, own_write, unless_by}
 use Rattle.city_txn.specs.UndoLog.{Logs, Written, log_of, has_before, written_after}
 use Rattle.city_model.specs.Standing.{Lock, Answered, AllHeld, covers, names, names_exclusively}
 use Rattle.city_model.specs.inside.CommandParts.{marking, seen_next, answer, cause_of, after}
-use Rattle.city_txn.specs.CoreState.{CoreState, view, own, written, seen, is_open, held, held_in, Stands, IsConsistent}
-use Rattle.city_txn.specs.inside.Core.{core_state, IsCore}
+use Rattle.city_txn.specs.CoreState.{CoreState, view, own, written, seen, is_open, held, held_in, Stands}
+use Rattle.city_txn.specs.inside.Core.{core_state, IsCore, IsConsistent}
 use Rattle.city_txn.specs.Locking.{granted_before, GainsFirst, IsBlocked}
 use Rattle.city_txn.specs.inside.Asking.{HoldsLock, Asked}
 use Rattle.city_txn.specs.Acting.{own_after, answer_in, granted_in, step_of, is_done, with_step, Acted}

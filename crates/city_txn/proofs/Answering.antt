@@ -1,10 +1,12 @@
 -- What a command is answered, and what it writes, said by its reply and by what is seen after it.
-use Rattle.std.proofs.Common.{◌≡◌, ◌&&◌, ℕ, List, [], ◌∷◌, true, false, not, Option, None, Some, refl, ap, sym, ◌∙◌}
+use Rattle.std.proofs.Common.{◌≡◌, ◌&&◌, ℕ, List, [], ◌∷◌, true, false, not, Option, None, Some, refl}
+use Rattle.std.proofs.Common.{ap, sym, ◌∙◌}
 use Rattle.std.specs.Prelude.{if◌then◌else◌, is_none}
 use Rattle.city_model.specs.declared.object.Object.{Object}
 use Rattle.city_model.specs.declared.command.Cause.{Cause}
 use Rattle.city_model.specs.declared.command.Command.{Command}
-use Rattle.city_model.specs.declared.command.Command.TheVariants.{Read, Put, Delete, Attach, Detach, Mark, Back, Commit, Abort}
+use Rattle.city_model.specs.declared.command.Command.TheVariants.{Read, Put, Delete, Attach, Detach}
+use Rattle.city_model.specs.declared.command.Command.TheVariants.{Mark, Back, Commit, Abort}
 use Rattle.city_model.specs.declared.command.Reply.{Reply}
 use Rattle.city_model.specs.declared.command.Reply.TheVariants.{WentBack}
 use Rattle.city_model.specs.CityMap.{CityMap}
@@ -12,7 +14,8 @@ use Rattle.city_model.specs.Marks.{View, Marked, marks_from}
 use Rattle.city_model.specs.Meaning.{read_reply, put_done, is_refusal, locks_of}
 use Rattle.city_model.specs.Scripts.{is_mark}
 use Rattle.city_model.specs.Standing.{names_exclusively}
-use Rattle.city_model.specs.inside.CommandParts.{back_cause, step_as, seen_next, answer, cause_of, done_reply, refused_or, after}
+use Rattle.city_model.specs.inside.CommandParts.{back_cause, step_as, seen_next, answer}
+use Rattle.city_model.specs.inside.CommandParts.{cause_of, done_reply, refused_or, after}
 use Rattle.city_model.proofs.MarksKept.{plain, plain_answer}
 use Rattle.city_model.proofs.Refused.{done_unrefused}
 use Rattle.city_txn.specs.Acting.{own_after}
@@ -33,17 +36,22 @@ put_not : (o : Option Object) → put_done o ≡ WentBack → ⊥
 put_not None e = cc
 put_not (Some o) e = cc
 
-back_found : (name : List ℕ) (ks : List Marked) → refused_or (back_cause name ks) WentBack ≡ WentBack → is_none (back_cause name ks) ≡ true
+back_found : (name : List ℕ) (ks : List Marked) → refused_or (back_cause name ks) WentBack ≡ WentBack
+    → is_none (back_cause name ks) ≡ true
 back_found name [] e = absurd (cc)
 back_found name (k ∷ ks) e = refl
+
+plain_not : (v : View) (c : Command) → (done_reply v.map c ≡ WentBack → ⊥)
+    → refused_or (cause_of v.map c) (done_reply v.map c) ≡ WentBack → ⊥
+plain_not v c n e = refused_not (cause_of v.map c) (done_reply v.map c) n e
 
 -- it found its mark
 pub went_back : (v : View) (c : Command) → answer v c ≡ WentBack → finds_mark v c ≡ true
 went_back v (Read id) e = absurd (read_not (v.map id) e)
-went_back v (Put id body) e = absurd (refused_not (cause_of v.map (Put id body)) (put_done (v.map id)) (put_not (v.map id)) e)
-went_back v (Delete id) e = absurd (refused_not (cause_of v.map (Delete id)) (done_reply v.map (Delete id)) (λ h. cc) e)
-went_back v (Attach child parent) e = absurd (refused_not (cause_of v.map (Attach child parent)) (done_reply v.map (Attach child parent)) (λ h. cc) e)
-went_back v (Detach child parent) e = absurd (refused_not (cause_of v.map (Detach child parent)) (done_reply v.map (Detach child parent)) (λ h. cc) e)
+went_back v (Put id body) e = absurd (plain_not v (Put id body) (put_not (v.map id)) e)
+went_back v (Delete id) e = absurd (plain_not v (Delete id) (λ h. cc) e)
+went_back v (Attach child parent) e = absurd (plain_not v (Attach child parent) (λ h. cc) e)
+went_back v (Detach child parent) e = absurd (plain_not v (Detach child parent) (λ h. cc) e)
 went_back v (Mark name) e = absurd (cc)
 went_back v (Back name) e = back_found name (marks_from name v.marks) e
 went_back v Commit e = absurd (cc)
@@ -60,17 +68,20 @@ own_alike : (v : View) (c : Command) (f : OwnWrites) (q : List ℕ) → is_mark 
 own_alike v c f q h =
     let named = names_exclusively (locks_of v.map c) q in
     let b : is_none (cause_of v.map c) ≡ not (is_refusal (answer v c)) =
-    unrefused_alike (cause_of v.map c) (done_reply v.map c) (done_unrefused v.map c) ∙ ap (λ r. not (is_refusal r)) (sym (plain_answer v c h)) in
+    unrefused_alike (cause_of v.map c) (done_reply v.map c) (done_unrefused v.map c)
+    ∙ ap (λ r. not (is_refusal r)) (sym (plain_answer v c h)) in
     let n : after v.map c ≡ (seen_next v c).map = ap (λ k. (step_as k v c).map) (sym (plain c h)) in
     ap (λ x. if x && named then Some (after v.map c q) else f q) b
     ∙ ap (λ (m : CityMap). if not (is_refusal (answer v c)) && named then Some (m q) else f q) n
 
 written_plain : (v : View) (c : Command) (f : OwnWrites) (w : Written) → is_mark c ≡ false
-    → written_after c (own_done v.map f c) w ≡ written_after c (own_after f (locks_of v.map c) (answer v c) (seen_next v c).map) w
+    → written_after c (own_done v.map f c) w
+    ≡ written_after c (own_after f (locks_of v.map c) (answer v c) (seen_next v c).map) w
 written_plain v c f w h = ap (λ (g : OwnWrites). written_after c g w) (λ i q. own_alike v c f q h i)
 
 pub written_alike : (v : View) (c : Command) (f : OwnWrites) (w : Written)
-    → written_after c (own_done v.map f c) w ≡ written_after c (own_after f (locks_of v.map c) (answer v c) (seen_next v c).map) w
+    → written_after c (own_done v.map f c) w
+    ≡ written_after c (own_after f (locks_of v.map c) (answer v c) (seen_next v c).map) w
 written_alike v (Read id) f w = written_plain v (Read id) f w refl
 written_alike v (Put id body) f w = written_plain v (Put id body) f w refl
 written_alike v (Delete id) f w = written_plain v (Delete id) f w refl

@@ -17,7 +17,8 @@ use Rattle.city_txn.specs.Writes.{Write, write_of, unless_by}
 use Rattle.city_txn.specs.UndoLog.{log_of, has_before, written_after}
 use Rattle.city_model.specs.Standing.{Answered, AllHeld, Follows, covers}
 use Rattle.city_model.specs.inside.CommandParts.{seen_next, answer}
-use Rattle.city_txn.specs.CoreState.{CoreState, committed, view, own, written, seen, is_open, held, held_in, Stands, IsConsistent, KeepsOthers}
+use Rattle.city_txn.specs.CoreState.{CoreState, committed, view, own, written, seen, is_open, held, held_in, Stands, KeepsOthers}
+use Rattle.city_txn.specs.inside.Core.{IsConsistent}
 use Rattle.city_txn.specs.inside.Done.{own_done}
 use Rattle.city_txn.proofs.SeenWrites.{seen_same}
 

@@ -19,7 +19,8 @@ use Rattle.city_txn.specs.Writes.{Write, write_of, own_or, unless_by}
 use Rattle.city_txn.specs.UndoLog.{log_of, marked, has_before, map_with}
 use Rattle.city_txn.specs.inside.LogTests.{view_with}
 use Rattle.city_model.specs.Standing.{Held, Answered, Follows, covers}
-use Rattle.city_txn.specs.CoreState.{CoreState, committed, view, own, written, seen, is_open, held, Stands, IsConsistent, IsOver}
+use Rattle.city_txn.specs.CoreState.{CoreState, committed, view, own, written, seen, is_open, held, Stands, IsOver}
+use Rattle.city_txn.specs.inside.Core.{IsConsistent}
 use Rattle.city_txn.proofs.SeenWrites.{seen_with, seen_same, written_same, own_covered, marks_covered, view_carried, own_left, own_gone}
 
 pub held_exclusively : (o : Option Mode) → covers (option_map is_exclusive o) true ≡ true → o ≡ Some Exclusive

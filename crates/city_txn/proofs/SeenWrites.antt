@@ -28,7 +28,8 @@ use Rattle.city_txn.specs.declared.undo_log.Entry.TheVariants.{Mark, Before}
 use Rattle.city_txn.specs.Writes.{Write, write_of, own_or, own_write, unless_by}
 use Rattle.city_txn.specs.UndoLog.{OwnWrites, Written, log_of, marked, has_before, written_back, written_after, map_with, marks_with}
 use Rattle.city_txn.specs.inside.LogTests.{view_with}
-use Rattle.city_txn.specs.CoreState.{CoreState, committed, view, own, written, seen, held, IsConsistent}
+use Rattle.city_txn.specs.CoreState.{CoreState, committed, view, own, written, seen, held}
+use Rattle.city_txn.specs.inside.Core.{IsConsistent}
 use Rattle.city_txn.specs.inside.Done.{writes_id, own_done}
 use Rattle.city_txn.proofs.OneIdChanged.{at_each}
 use Rattle.city_txn.proofs.Slots.{absent_from}

@@ -6,7 +6,8 @@ use Rattle.city_model.specs.CityMap.{CityMap}
 use Rattle.city_model.specs.Marks.{View, Marked, marks_from}
 use Rattle.city_model.specs.Meaning.{locks_of}
 use Rattle.city_model.specs.Standing.{names_exclusively}
-use Rattle.city_model.specs.inside.CommandParts.{Marking, Leaves, Marks, GoesBack, marking, back_cause, seen_next, answer, cause_of, after}
+use Rattle.city_model.specs.inside.CommandParts.{Marking, Leaves, Marks, GoesBack, marking}
+use Rattle.city_model.specs.inside.CommandParts.{back_cause, seen_next, answer, cause_of, after}
 use Rattle.city_txn.specs.UndoLog.{OwnWrites}
 use Rattle.city_txn.specs.CoreState.{CoreState, seen}
 
