@@ -82,7 +82,7 @@ pub struct History {
 impl Model for History {
     ghost use Rattle.std.specs.Prelude.{◌≡◌, length};
     ghost use Rattle.std.specs.Coded.{codes};
-    ghost use Rattle.city_model.specs.DataCode.{coded_members};
+    ghost use Rattle.city_model.specs.inside.DataCode.{coded_members};
     ghost use Rattle.city_crew.specs.HistoryValue.{HistoryValue, history_of};
 
     ghost Value = { HistoryValue };
@@ -161,7 +161,7 @@ pub struct Addition {
 impl Model for Addition {
     ghost use Rattle.std.specs.Prelude.{◌≡◌, [], ◌∷◌, ◌++◌, length, None};
     ghost use Rattle.std.specs.Coded.{codes};
-    ghost use Rattle.city_model.specs.DataCode.{coded_members};
+    ghost use Rattle.city_model.specs.inside.DataCode.{coded_members};
     ghost use Rattle.city_crew.specs.HistoryValue.{HistoryValue, history_of};
 
     ghost Value = { HistoryValue };

@@ -7,10 +7,10 @@ use Rattle.std.proofs.lemmas.Bool.{false≢true, and_parts}
 use Rattle.city_model.specs.declared.object.Object.{Object}
 use Rattle.city_model.specs.declared.command.Cause.{Cause}
 use Rattle.city_model.specs.CityMap.{Objects, Entries, CityMap, at}
-use Rattle.city_model.specs.Faultless.{IsFaultless}
+use Rattle.city_model.specs.inside.Faultless.{IsFaultless}
 use Rattle.city_model.specs.Misrelated.{IsMisrelatedAt, IsLeastMisrelated}
 use Rattle.city_model.specs.Relations.{IsInOrder, IsRelated, IsLawful, is_orphan}
-use Rattle.city_model.specs.RelationTests.{is_misrelated}
+use Rattle.city_model.specs.inside.RelationTests.{is_misrelated}
 use Rattle.city_model.specs.Shells.{body_fault}
 use Rattle.city_model.proofs.FirstEntry.{first_that, least_in, none_in, all_in, in_all}
 use Rattle.city_model.proofs.RelationLaws.{misrelated_true, misrelated_false}

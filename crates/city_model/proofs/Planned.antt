@@ -20,7 +20,7 @@ use Rattle.city_model.proofs.Ids.{same_id_itself, same_id_back, same_id_true}
 use Rattle.city_model.proofs.IdLists.{bool_cases, or_first}
 use Rattle.city_model.specs.Standing.{names_exclusively}
 use Rattle.city_model.specs.Runs.{Change, with_change}
-use Rattle.city_model.specs.Plans.{AreOf, AreWritesOf, only, only_parent, unlinked}
+use Rattle.city_model.specs.inside.Plans.{AreOf, AreWritesOf, only, only_parent, unlinked}
 use Rattle.city_model.proofs.FrameLaw.{frame}
 
 -- ---- a put, where x stands at the id

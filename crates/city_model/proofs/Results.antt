@@ -7,7 +7,6 @@ use Rattle.std.proofs.lemmas.Bool.{false≢true}
 use Rattle.std.proofs.lemmas.Cmp.{nat_list_cmp_total}
 use Rattle.std.proofs.lemmas.Map.Lookups.{exact_bytes}
 use Rattle.city_model.specs.declared.command.Command.{Command}
-use Rattle.city_model.specs.declared.command.Cause.{Cause}
 use Rattle.city_model.specs.declared.command.Cause.TheVariants.{Orphan}
 use Rattle.city_model.specs.declared.command.Reply.{Reply}
 use Rattle.city_model.specs.declared.command.Reply.TheVariants.{Committed, Aborted, Refused}
@@ -20,7 +19,7 @@ use Rattle.city_model.specs.Meaning.{Effect, Answers, Commits, Aborts, effect, I
 use Rattle.city_model.specs.Relations.{IsOrphanAt, IsLeastOrphan, HasNoOrphan}
 use Rattle.city_model.specs.Runs.{Scripted, EndsAt, EndsFrom, HasResult, left_by, IsEndOf, FitsFrom, Fits}
 use Rattle.city_model.specs.SerialEnds.{is_no_memory, IsSerialFrom}
-use Rattle.city_model.proofs.Effects.{goes_on_case, goes_on_at, answered_no_ending, is_ending}
+use Rattle.city_model.proofs.Effects.{goes_on_case, answered_no_ending, is_ending}
 use Rattle.city_model.proofs.Lawful.{EndsFurther}
 
 -- ---- the least id

@@ -1,6 +1,4 @@
 pub mod CityMap
-pub mod DataCode
-pub mod Faultless
 pub mod FrameLaw
 pub mod Integral
 pub mod Kept
@@ -9,8 +7,6 @@ pub mod Marks
 pub mod Meaning
 pub mod Members
 pub mod Misrelated
-pub mod Plans
-pub mod RelationTests
 pub mod Relations
 pub mod Runs
 pub mod Scripts

@@ -71,7 +71,7 @@ first_named s (t ∷ ts) = if bytes_eq s (name_of t) then Some t else first_name
 unfoldable pub type_named : List ℕ → Option ObjectType
 type_named s = first_named s all_types
 
--- the first-level type of the family
+-- the first-level type of the family; of a first-level type itself
 abbrev pub family_of : ObjectType → ObjectType
 family_of BuildingPart = Building
 family_of BuildingInstallation = Building
@@ -90,21 +90,7 @@ family_of TunnelInstallation = Tunnel
 family_of TunnelConstructiveElement = Tunnel
 family_of TunnelHollowSpace = Tunnel
 family_of TunnelFurniture = Tunnel
-family_of Building = Building
-family_of Bridge = Bridge
-family_of Tunnel = Tunnel
-family_of CityFurniture = CityFurniture
-family_of LandUse = LandUse
-family_of OtherConstruction = OtherConstruction
-family_of PlantCover = PlantCover
-family_of SolitaryVegetationObject = SolitaryVegetationObject
-family_of TINRelief = TINRelief
-family_of Road = Road
-family_of Railway = Railway
-family_of Waterway = Waterway
-family_of TransportSquare = TransportSquare
-family_of WaterBody = WaterBody
-family_of GenericCityObject = GenericCityObject
+family_of kind = kind
 
 abbrev pub level_of : ObjectType → ℕ
 level_of BuildingPart = 2
@@ -124,18 +110,4 @@ level_of TunnelInstallation = 2
 level_of TunnelConstructiveElement = 2
 level_of TunnelHollowSpace = 2
 level_of TunnelFurniture = 2
-level_of Building = 1
-level_of Bridge = 1
-level_of Tunnel = 1
-level_of CityFurniture = 1
-level_of LandUse = 1
-level_of OtherConstruction = 1
-level_of PlantCover = 1
-level_of SolitaryVegetationObject = 1
-level_of TINRelief = 1
-level_of Road = 1
-level_of Railway = 1
-level_of Waterway = 1
-level_of TransportSquare = 1
-level_of WaterBody = 1
-level_of GenericCityObject = 1
+level_of kind = 1

@@ -3,7 +3,7 @@ ghost use Rattle.std.specs.Prelude.{◌≡◌, IfSome, IfNone};
 ghost use Rattle.city_model.specs.CityMap.{at, has_id, parents_of};
 ghost use Rattle.city_model.specs.Meaning.{is_wrong_family};
 ghost use Rattle.city_model.specs.Misrelated.{IsLeastMisrelated};
-ghost use Rattle.city_model.specs.RelationTests.{relatives_once, level_fits, parent_fits, parents_fit, children_fit, is_in_order, is_misrelated};
+ghost use Rattle.city_model.specs.inside.RelationTests.{relatives_once, level_fits, parent_fits, parents_fit, children_fit, is_in_order, is_misrelated};
 ghost use Rattle.city_model.specs.Relations.{IsRelated, same_family};
 
 use crate::city::City;

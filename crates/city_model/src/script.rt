@@ -27,7 +27,7 @@ impl Model for Script {
     ghost Value = { List ℕ × List Command };
 
     ghost use Rattle.std.specs.Coded.{codes};
-    ghost use Rattle.city_model.specs.DataCode.{coded_members};
+    ghost use Rattle.city_model.specs.inside.DataCode.{coded_members};
 
     ghost coded = { Prim.hlevel (codes, coded_members) };
 

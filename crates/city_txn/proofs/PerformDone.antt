@@ -12,7 +12,7 @@ use Rattle.city_model.specs.declared.command.Reply.TheVariants.{Marked, WentBack
 use Rattle.city_model.specs.CityMap.{CityMap}
 use Rattle.city_model.specs.Marks.{marks_from}
 use Rattle.city_model.specs.Meaning.{locks_of}
-use Rattle.city_model.specs.Plans.{AreOf, AreWritesOf}
+use Rattle.city_model.specs.inside.Plans.{AreOf, AreWritesOf}
 use Rattle.city_model.specs.Runs.{Change}
 use Rattle.city_model.specs.Scripts.{is_mark}
 use Rattle.city_model.specs.Standing.{names_exclusively}

@@ -13,7 +13,7 @@ use Rattle.city_txn.specs.inside.UndoState.{reservations_of}
 use Rattle.city_txn.specs.inside.State.{State, own, is_reserved, SeesSame}
 use Rattle.city_txn.specs.Writes.{Write, own_write}
 use Rattle.city_txn.specs.inside.Performing.{plans}
-use Rattle.city_model.specs.Plans.{AreOf}
+use Rattle.city_model.specs.inside.Plans.{AreOf}
 use Rattle.city_model.specs.Runs.{Change}
 
 pub or_cases : (a b : Bool) {A : Type 0} → (a || b) ≡ true → (a ≡ true → A) → (b ≡ true → A) → A

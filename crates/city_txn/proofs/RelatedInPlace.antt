@@ -6,7 +6,7 @@ use Rattle.city_model.specs.declared.object.Object.{Object}
 use Rattle.city_model.specs.declared.command.Command.{Command}
 use Rattle.city_model.specs.declared.command.Reply.{Reply}
 use Rattle.city_model.specs.CityMap.{CityMap, same_id}
-use Rattle.city_model.specs.Plans.{AreOf, AreWritesOf}
+use Rattle.city_model.specs.inside.Plans.{AreOf, AreWritesOf}
 use Rattle.city_model.specs.Runs.{Change}
 use Rattle.city_model.specs.Scripts.{is_mark}
 use Rattle.city_model.proofs.Ids.{same_id_itself, same_id_back}

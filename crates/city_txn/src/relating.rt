@@ -1,7 +1,7 @@
 //! An attach, a detach and a delete in place: no copy of the parent, which may have many children.
 ghost use Rattle.std.specs.Prelude.{◌≡◌, ◌==◌, ◌&&◌, ℕ, List, length, Some, true};
 ghost use Rattle.city_model.specs.Meaning.{locks_of};
-ghost use Rattle.city_model.specs.Plans.{only_parent};
+ghost use Rattle.city_model.specs.inside.Plans.{only_parent};
 ghost use Rattle.city_model.specs.Relations.{IsSound};
 ghost use Rattle.city_model.specs.Standing.{names};
 ghost use Rattle.city_model.specs.declared.command.Command.{Command};

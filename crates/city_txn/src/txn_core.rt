@@ -46,7 +46,7 @@ impl Model for Core {
     ghost Value = { CoreState };
 
     ghost use Rattle.std.specs.Coded.{codes};
-    ghost use Rattle.city_model.specs.DataCode.{coded_members};
+    ghost use Rattle.city_model.specs.inside.DataCode.{coded_members};
     ghost use Rattle.city_txn.specs.inside.Codes.{coded_objects};
 
     ghost coded = { Prim.hlevel (codes, coded_members, coded_objects) };

@@ -5,7 +5,7 @@ ghost use Rattle.city_txn.specs.Writes.{write_of, unless_by};
 ghost use Rattle.city_txn.specs.inside.State.{own, is_reserved, is_open, committed, SeesSame};
 ghost use Rattle.city_txn.specs.UndoLog.{log_of, marked};
 ghost use Rattle.city_txn.specs.inside.LogTests.{is_noted};
-ghost use Rattle.city_model.specs.Plans.{AreOf};
+ghost use Rattle.city_model.specs.inside.Plans.{AreOf};
 ghost use Rattle.city_txn.specs.inside.Performing.{plans, AreNoted};
 
 use crate::store::Store;

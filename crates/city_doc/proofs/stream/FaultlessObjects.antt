@@ -6,7 +6,7 @@ use Rattle.std.specs.FinMap.{entries}
 use Rattle.std.specs.Ordering.{match_ordering}
 use Rattle.city_model.specs.declared.object.Object.{Object}
 use Rattle.city_model.specs.CityMap.{Entries, Objects, at, found_in}
-use Rattle.city_model.specs.Faultless.{IsFaultless}
+use Rattle.city_model.specs.inside.Faultless.{IsFaultless}
 use Rattle.city_model.specs.Relations.{IsRelated, IsLawful}
 use Rattle.city_model.specs.Shells.{body_fault}
 use Rattle.city_model.proofs.Objects.{at_entries}

@@ -4,7 +4,7 @@ ghost use Rattle.serde_json.specs.Data.{Data, Members, object};
 ghost use Rattle.serde_json.specs.Find.{get_member};
 ghost use Rattle.serde_json.specs.View.{members_view};
 ghost use Rattle.city_model.specs.CityMap.{at};
-ghost use Rattle.city_model.specs.Faultless.{IsFaultless};
+ghost use Rattle.city_model.specs.inside.Faultless.{IsFaultless};
 ghost use Rattle.city_model.specs.Integral.{is_integral};
 ghost use Rattle.city_doc.specs.document.Cities.{city_of};
 ghost use Rattle.city_doc.specs.document.Top.{is_text};

@@ -24,7 +24,7 @@ impl<P: Place> Model for Extra<P> {
 
     ghost Value = { Members };
 
-    ghost use Rattle.city_model.specs.DataCode.{coded_members};
+    ghost use Rattle.city_model.specs.inside.DataCode.{coded_members};
 
     ghost coded = { coded_members };
 

@@ -1,6 +1,6 @@
 //! The plan of a delete.
 ghost use Rattle.std.specs.Prelude.{◌≡◌, ◌++◌, map, option_copied, IfOk, OnOk};
-ghost use Rattle.city_model.specs.Plans.{IsPlan, only_parent, unlinked};
+ghost use Rattle.city_model.specs.inside.Plans.{IsPlan, only_parent, unlinked};
 ghost use Rattle.city_model.specs.Relations.{IsSound};
 ghost use Rattle.city_model.specs.declared.command.Command.{Command};
 

@@ -1,6 +1,6 @@
 //! The plans of a read and of a put.
 ghost use Rattle.std.specs.Prelude.{IfOk};
-ghost use Rattle.city_model.specs.Plans.{IsPlan};
+ghost use Rattle.city_model.specs.inside.Plans.{IsPlan};
 ghost use Rattle.city_model.specs.declared.command.Command.{Command};
 
 use crate::OutOfMemory;

@@ -1,7 +1,7 @@
 //! The plans of an attach and of a detach.
 ghost use Rattle.std.specs.Prelude.{◌≡◌, [], ◌∷◌, Some, IfOk, IfErr, option_map};
 ghost use Rattle.city_model.specs.Meaning.{with_child, without_child};
-ghost use Rattle.city_model.specs.Plans.{IsPlan, AreWritesOf};
+ghost use Rattle.city_model.specs.inside.Plans.{IsPlan, AreWritesOf};
 ghost use Rattle.city_model.specs.Relations.{IsSound};
 ghost use Rattle.city_model.specs.declared.command.Command.{Command};
 ghost use Rattle.city_model.specs.declared.command.Reply.{Reply};

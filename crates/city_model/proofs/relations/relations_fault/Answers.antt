@@ -1,6 +1,6 @@
 use Rattle.std.proofs.Common.{cond, Some, ap, sym, ◌∙◌}
 use Rattle.city_model.specs.CityMap.{at}
-use Rattle.city_model.specs.RelationTests.{is_misrelated}
+use Rattle.city_model.specs.inside.RelationTests.{is_misrelated}
 use Rattle.city_model.proofs.FirstEntry.{first_that}
 use Rattle.city_model.proofs.Lawfulness.{least_misrelated, all_related}
 use Rattle.city_model.proofs.relations.relations_fault.Goals as goal

@@ -3,7 +3,7 @@ use Rattle.city_model.specs.declared.command.Command.{Command}
 use Rattle.city_model.specs.declared.command.Reply.{Reply}
 use Rattle.city_model.specs.CityMap.{CityMap, at}
 use Rattle.city_model.specs.Meaning.{effect_of, map_unless, after}
-use Rattle.city_model.specs.Plans.{IsPlan, AreWritesOf}
+use Rattle.city_model.specs.inside.Plans.{IsPlan, AreWritesOf}
 use Rattle.city_model.specs.Relations.{IsSound}
 use Rattle.city_model.specs.Runs.{Change, with_change}
 use Rattle.city_model.proofs.Planned.{plan_makes}

@@ -3,7 +3,7 @@ use Rattle.std.specs.Prelude.{if◌then◌else◌, IfOk}
 use Rattle.std.proofs.lemmas.Bool.{and_parts, or_left}
 use Rattle.city_model.specs.CityMap.{same_id}
 use Rattle.city_model.specs.Meaning.{without_child}
-use Rattle.city_model.specs.Plans.{AreWritesOf}
+use Rattle.city_model.specs.inside.Plans.{AreWritesOf}
 use Rattle.city_model.specs.declared.object.Object.{Object}
 use Rattle.city_model.specs.declared.command.Cause.{Cause}
 use Rattle.city_model.specs.declared.command.Command.{Command}
