@@ -23,7 +23,7 @@ impl Model for Look {
     ghost use Rattle.std.specs.Coded.{codes};
     ghost use Rattle.left_right.specs.Sides.{view as view_of};
     ghost use Rattle.city_model.specs.inside.DataCode.{coded_members};
-    ghost use Rattle.city_txn.specs.Codes.{coded_objects};
+    ghost use Rattle.city_txn.specs.inside.Codes.{coded_objects};
     ghost use Rattle.city_crew.specs.BoardRule.{known_from};
     ghost use Rattle.city_crew.specs.BoardValues.{ViewerValue};
     ghost use Rattle.city_crew.specs.Versions.{IsFaithful};

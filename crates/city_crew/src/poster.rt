@@ -44,7 +44,7 @@ impl<R: Wait + Drop> Model for Poster<R> {
     ghost use mathlib.Core.List.{IsPrefix};
     ghost use Rattle.std.specs.Coded.{codes};
     ghost use Rattle.city_model.specs.inside.DataCode.{coded_members};
-    ghost use Rattle.city_txn.specs.Codes.{coded_objects};
+    ghost use Rattle.city_txn.specs.inside.Codes.{coded_objects};
     ghost use Rattle.left_right.specs.Sides.{view as view_of};
     ghost use Rattle.city_crew.specs.BoardRule.{HoldsEdits};
     ghost use Rattle.city_crew.specs.BoardValues.{PosterValue};

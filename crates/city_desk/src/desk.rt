@@ -66,7 +66,7 @@ impl<S: Shelf> Model for Desk<S> {
 
     ghost use Rattle.std.specs.Coded.{codes};
     ghost use Rattle.city_model.specs.inside.DataCode.{coded_members};
-    ghost use Rattle.city_txn.specs.Codes.{coded_objects};
+    ghost use Rattle.city_txn.specs.inside.Codes.{coded_objects};
 
     ghost coded = { Prim.hlevel (codes, coded_members, coded_objects) };
 

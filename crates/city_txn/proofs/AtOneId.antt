@@ -21,11 +21,11 @@ use Rattle.city_model.proofs.Ids.{same_id_of_equal, by_id}
 use Rattle.city_model.proofs.IdLists.{bool_cases}
 use Rattle.city_txn.specs.declared.image.Image.{Image}
 use Rattle.city_txn.specs.declared.store.Store.TheInside.{Inside}
-use Rattle.city_txn.specs.Images.{seen_under, seen_by, committed_at, write_at, writer_of}
-use Rattle.city_txn.specs.State.{write_of, own_or, committed, view}
-use Rattle.city_txn.specs.Changing.{or_else}
-use Rattle.city_txn.specs.InPlace.{with_some, made_by, state_of, is_writer, IsInPlace}
-use Rattle.city_txn.specs.UndoState.{Images, image_at, reservations_of}
+use Rattle.city_txn.specs.inside.Images.{seen_under, seen_by, committed_at, write_at, writer_of, or_else}
+use Rattle.city_txn.specs.Writes.{write_of, own_or, with_some, made_by}
+use Rattle.city_txn.specs.inside.State.{committed, view}
+use Rattle.city_txn.specs.inside.InPlace.{state_of, is_writer, IsInPlace}
+use Rattle.city_txn.specs.inside.UndoState.{Images, image_at, reservations_of}
 use Rattle.city_txn.proofs.ImagesHeld.{images_ascend, image_listed}
 
 -- the test of a map's keys is that of numbers

@@ -4,18 +4,22 @@ use Rattle.std.proofs.lemmas.Bool.{ne_eqb, cases_eq}
 use Rattle.city_model.specs.declared.command.Command.{Command}
 use Rattle.city_model.specs.declared.command.Reply.{Reply}
 use Rattle.city_model.specs.CityMap.{CityMap}
-use Rattle.city_model.specs.Marks.{unmarked, marking, step, answer}
-use Rattle.city_model.specs.Meaning.{is_refusal, locks_of}
+use Rattle.city_model.specs.Marks.{View, unmarked}
+use Rattle.city_model.specs.Meaning.{Answers, effect, is_refusal, locks_of}
 use Rattle.city_model.specs.Relations.{IsLawful}
+use Rattle.city_model.specs.Scripts.{is_end}
+use Rattle.city_model.proofs.Effects.{effect_is}
 use Rattle.city_model.proofs.Refused.{refused_stays}
 use Rattle.city_model.proofs.History.{follows_more, follows_same}
 use Rattle.city_locks.specs.declared.mode.Mode.TheVariants.{Exclusive}
 use Rattle.city_locks.specs.Locks.{mode_of, Lawful}
-use Rattle.city_txn.specs.State.{Write, write_of, unless_by}
-use Rattle.city_txn.specs.UndoLog.{log_of, has_before, written_as}
+use Rattle.city_txn.specs.Writes.{Write, write_of, unless_by}
+use Rattle.city_txn.specs.UndoLog.{log_of, has_before, written_after}
 use Rattle.city_model.specs.Standing.{Answered, AllHeld, Follows, covers}
-use Rattle.city_txn.specs.CoreState.{CoreState, committed, view, own, written, seen, is_open, held, held_in, Stands, IsConsistent, KeepsOthers}
-use Rattle.city_txn.specs.Acting.{own_after}
+use Rattle.city_model.specs.inside.CommandParts.{seen_next, answer}
+use Rattle.city_txn.specs.CoreState.{CoreState, committed, view, own, written, seen, is_open, held, held_in, Stands, KeepsOthers}
+use Rattle.city_txn.specs.inside.Core.{IsConsistent}
+use Rattle.city_txn.specs.inside.Done.{own_done}
 use Rattle.city_txn.proofs.SeenWrites.{seen_same}
 
 -- ---- a command done, by s under its locks
@@ -23,8 +27,8 @@ use Rattle.city_txn.proofs.SeenWrites.{seen_same}
 pub record CommandDone (s : ℕ) (c : Command) (r : Reply) (v w : CoreState) : Type 0 where
   pub frame : w.frame ≡ v.frame
   pub city : committed w ≡ committed v
-  pub sees : seen w s ≡ step (seen v s) c
-  pub writes : written w s ≡ written_as (marking c) (own_after (view v s) (own v s) c) (written v s)
+  pub sees : seen w s ≡ seen_next (seen v s) c
+  pub writes : written w s ≡ written_after c (own_done (view v s) (own v s) c) (written v s)
   pub others : (t : ℕ) → (s == t) ≡ false → written w t ≡ written v t
   pub unwritten : (q : List ℕ) → unless_by s (write_of w.writes q) ≡ unless_by s (write_of v.writes q)
   pub locks : w.locks ≡ v.locks
@@ -34,13 +38,17 @@ pub record CommandDone (s : ℕ) (c : Command) (r : Reply) (v w : CoreState) : T
   pub marks_open : (t : ℕ) → is_open w t ≡ false → log_of w.logs t ≡ []
   pub all_held : AllHeld (held w s) (locks_of (view v s) c)
   pub reply : answer (seen v s) c ≡ r
+  pub no_end : is_end c ≡ false
 
 module _ (s : ℕ) (c : Command) (r : Reply) (v w : CoreState) (k : CommandDone s c r v w) where
+  does : effect (seen v s) c ≡ Answers r (seen w s)
+  does = effect_is (seen v s) c k.no_end ∙ ap (λ x. Answers x (seen_next (seen v s) c)) k.reply ∙ ap (λ (x : View). Answers r x) (sym k.sees)
+
   pub stands_done : (done : List Answered) → Stands v s done → Stands w s (done ++ (c, r) ∷ [])
   stands_done done f =
       subst (λ (m : CityMap). Follows (held w s) (unmarked m) (done ++ (c, r) ∷ []) (seen w s)) (sym k.city)
       (follows_more (held v s) (held w s) (unmarked (committed v)) done (seen v s) c r (seen w s)
-      (λ q b h. ap (λ hs. covers (held_in hs s q) b) k.locks ∙ h) f k.all_held k.reply k.sees)
+      (λ q b h. ap (λ hs. covers (held_in hs s q) b) k.locks ∙ h) f k.all_held does)
 
   pub stands_beside : (t : ℕ) (done : List Answered) → (s == t) ≡ false → Stands v t done → Stands w t done
   stands_beside t done ne f = follows_same (held v t) (held w t) (unmarked (committed v)) (unmarked (committed w)) done (seen v t) (seen w t)

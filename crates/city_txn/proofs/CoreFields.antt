@@ -15,13 +15,14 @@ use Rattle.city_model.proofs.History.{follows_same}
 use Rattle.city_locks.proofs.Among.{none_from}
 use Rattle.city_locks.specs.declared.mode.Mode.TheVariants.{Exclusive}
 use Rattle.city_locks.specs.Locks.{Locks, mode_of, Lawful}
-use Rattle.city_txn.specs.State as store
-use Rattle.city_txn.specs.State.{State, Write, write_of, own_or, own_write, is_reserved, is_by, Begins, Forgets}
+use Rattle.city_txn.specs.inside.State as store
+use Rattle.city_txn.specs.inside.State.{State, is_reserved, Begins, Forgets}
+use Rattle.city_txn.specs.Writes.{Write, write_of, own_or, own_write, is_by}
 use Rattle.city_txn.specs.UndoLog.{Logs, log_of, marked, has_before, marks_with}
 use Rattle.city_model.specs.Marks.{unmarked}
 use Rattle.city_model.specs.Standing.{Answered, covers}
-use Rattle.city_txn.specs.CoreState.{CoreState, committed, view, own, written, seen, is_open, held, held_in, Stands, IsConsistent, KeepsOthers, IsOver, IsUndone}
-use Rattle.city_txn.specs.Core.{core_state, IsCore}
+use Rattle.city_txn.specs.CoreState.{CoreState, committed, view, own, written, seen, is_open, held, held_in, Stands, KeepsOthers, IsOver, IsUndone}
+use Rattle.city_txn.specs.inside.Core.{core_state, IsCore, IsConsistent}
 use Rattle.city_txn.specs.declared.txn_core.Core.TheInside.{Inside}
 use Rattle.city_txn.proofs.AtOneId.{tied}
 use Rattle.city_txn.proofs.Ended.{Ended, own_not, is_over, stands_committed, committed_consistent, seen_undone, stands_aborted, aborted_consistent}

@@ -9,9 +9,9 @@ use Rattle.city_model.proofs.Ids.{same_id_back, same_id_of_equal, by_id}
 use Rattle.city_txn.specs.declared.image.Image.{Image}
 use Rattle.city_txn.specs.declared.ending.End.{End}
 use Rattle.city_txn.specs.declared.ending.End.TheVariants.{Commit, RollBack}
-use Rattle.city_txn.specs.Ending.{left_by, AreEnded}
-use Rattle.city_txn.specs.Images.{before_image}
-use Rattle.city_txn.specs.UndoState.{UndoState, image_at}
+use Rattle.city_txn.specs.inside.Ending.{left_by, AreEnded}
+use Rattle.city_txn.specs.inside.Images.{before_image}
+use Rattle.city_txn.specs.inside.UndoState.{UndoState, image_at}
 use Rattle.city_txn.proofs.Slots.{unchanged}
 
 -- one more id of a list

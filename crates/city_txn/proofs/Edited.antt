@@ -8,10 +8,11 @@ use Rattle.city_model.proofs.Ids.{same_id_itself}
 use Rattle.city_model.proofs.IdLists.{bool_cases}
 use Rattle.city_txn.specs.declared.image.Image.{Image}
 use Rattle.city_txn.specs.declared.store.Store.TheInside.{Inside}
-use Rattle.city_txn.specs.Images.{seen_under, committed_at, write_at}
-use Rattle.city_txn.specs.InPlace.{state_of, IsInPlace}
-use Rattle.city_txn.specs.State.{Write, write_of, rewritten, is_by, committed}
-use Rattle.city_txn.specs.UndoState.{image_at}
+use Rattle.city_txn.specs.inside.Images.{seen_under, committed_at, write_at}
+use Rattle.city_txn.specs.inside.InPlace.{state_of, IsInPlace}
+use Rattle.city_txn.specs.Writes.{Write, write_of, is_by}
+use Rattle.city_txn.specs.inside.State.{rewritten, committed}
+use Rattle.city_txn.specs.inside.UndoState.{image_at}
 use Rattle.city_txn.proofs.AtOneId.{here, writes_is}
 use Rattle.city_txn.proofs.OneIdChanged.{at_each, slots_kept, committed_kept, write_changed}
 

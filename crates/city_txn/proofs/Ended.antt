@@ -15,10 +15,12 @@ use Rattle.city_locks.specs.declared.mode.Mode.{Mode}
 use Rattle.city_locks.specs.declared.mode.Mode.TheVariants.{Shared, Exclusive}
 use Rattle.city_locks.specs.Mode.{is_exclusive}
 use Rattle.city_locks.specs.Locks.{mode_of, Lawful}
-use Rattle.city_txn.specs.State.{Write, write_of, own_or, unless_by}
-use Rattle.city_txn.specs.UndoLog.{log_of, marked, has_before, map_with, view_with}
+use Rattle.city_txn.specs.Writes.{Write, write_of, own_or, unless_by}
+use Rattle.city_txn.specs.UndoLog.{log_of, marked, has_before, map_with}
+use Rattle.city_txn.specs.inside.LogTests.{view_with}
 use Rattle.city_model.specs.Standing.{Held, Answered, Follows, covers}
-use Rattle.city_txn.specs.CoreState.{CoreState, committed, view, own, written, seen, is_open, held, Stands, IsConsistent, IsOver}
+use Rattle.city_txn.specs.CoreState.{CoreState, committed, view, own, written, seen, is_open, held, Stands, IsOver}
+use Rattle.city_txn.specs.inside.Core.{IsConsistent}
 use Rattle.city_txn.proofs.SeenWrites.{seen_with, seen_same, written_same, own_covered, marks_covered, view_carried, own_left, own_gone}
 
 pub held_exclusively : (o : Option Mode) → covers (option_map is_exclusive o) true ≡ true → o ≡ Some Exclusive

@@ -12,11 +12,12 @@ use Rattle.city_txn.specs.declared.image.Image.{Image}
 use Rattle.city_txn.specs.declared.store.Store.TheInside.{Inside}
 use Rattle.city_txn.specs.declared.ending.End.{End}
 use Rattle.city_txn.specs.declared.ending.End.TheVariants.{Commit, RollBack}
-use Rattle.city_txn.specs.Ending.{left_by, city_after, AreEnded}
-use Rattle.city_txn.specs.Images.{committed_at, write_at, writer_of}
-use Rattle.city_txn.specs.State.{is_open, is_reserved, own_or, committed, unless_by, Forgets}
-use Rattle.city_txn.specs.InPlace.{state_of, is_writer, IsInPlace}
-use Rattle.city_txn.specs.UndoState.{UndoState, image_at, listed_by, reservations_of}
+use Rattle.city_txn.specs.inside.Ending.{left_by, city_after, AreEnded}
+use Rattle.city_txn.specs.inside.Images.{committed_at, write_at, writer_of}
+use Rattle.city_txn.specs.inside.State.{is_open, is_reserved, committed, Forgets}
+use Rattle.city_txn.specs.Writes.{own_or, unless_by}
+use Rattle.city_txn.specs.inside.InPlace.{state_of, is_writer, IsInPlace}
+use Rattle.city_txn.specs.inside.UndoState.{UndoState, image_at, listed_by, reservations_of}
 use Rattle.city_txn.proofs.EachId.{still_has_slot}
 use Rattle.city_txn.proofs.AtOneId.{tied, here, city_is, writes_is, view_is, own_seen, own_committed}
 

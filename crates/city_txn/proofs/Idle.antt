@@ -7,9 +7,10 @@ use Rattle.std.proofs.lemmas.Bool.{false≢true, eq-eqb}
 use Rattle.city_model.specs.CityMap.{has_id}
 use Rattle.city_txn.specs.declared.image.Image.{Image}
 use Rattle.city_txn.specs.declared.store.Store.TheInside.{Inside}
-use Rattle.city_txn.specs.Images.{committed_at, writer_of}
-use Rattle.city_txn.specs.UndoState.{image_at, reservations_of}
-use Rattle.city_txn.specs.InPlace.{made_by, state_of, is_writer, IsInPlace}
+use Rattle.city_txn.specs.inside.Images.{committed_at, writer_of}
+use Rattle.city_txn.specs.inside.UndoState.{image_at, reservations_of}
+use Rattle.city_txn.specs.Writes.{made_by}
+use Rattle.city_txn.specs.inside.InPlace.{state_of, is_writer, IsInPlace}
 use Rattle.city_txn.proofs.AtOneId.{all_there}
 
 unwritten : (i : Option Image) → ((s : ℕ) → is_writer s (writer_of i) ≡ false) → i ≡ None

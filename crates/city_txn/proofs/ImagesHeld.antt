@@ -12,7 +12,7 @@ use Rattle.std.proofs.lemmas.Map.Lookups.{exact_bytes}
 use Rattle.city_model.specs.CityMap.{same_id}
 use Rattle.city_model.proofs.Objects.{in_order, ascending, find_is_lookup}
 use Rattle.city_txn.specs.declared.image.Image.{Image}
-use Rattle.city_txn.specs.UndoState.{Images, UndoState, image_at}
+use Rattle.city_txn.specs.inside.UndoState.{Images, UndoState, image_at}
 
 pub images_ascend : (images : Images) → IsStrictlySortedBy (slice_cmp nat_cmp) (keys_of (entries images))
 images_ascend images = ascending (slice_cmp nat_cmp) (entries images) (entries_sorted images)

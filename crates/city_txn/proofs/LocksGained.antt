@@ -15,10 +15,11 @@ use Rattle.city_locks.specs.Mode.{is_exclusive, stronger}
 use Rattle.city_locks.specs.Locks.{Locks, mode_of, answer_of, Lawful}
 use Rattle.city_model.specs.CityMap.{CityMap}
 use Rattle.city_model.specs.Marks.{View, unmarked}
-use Rattle.city_txn.specs.State.{write_of}
+use Rattle.city_txn.specs.Writes.{write_of}
 use Rattle.city_txn.specs.UndoLog.{log_of, has_before}
 use Rattle.city_model.specs.Standing.{Lock, Answered, covers, names, names_exclusively}
-use Rattle.city_txn.specs.CoreState.{CoreState, committed, view, written, seen, is_open, held, held_in, Stands, IsConsistent, KeepsOthers}
+use Rattle.city_txn.specs.CoreState.{CoreState, committed, view, written, seen, is_open, held, held_in, Stands, KeepsOthers}
+use Rattle.city_txn.specs.inside.Core.{IsConsistent}
 use Rattle.city_txn.specs.Locking.{go_on, first_answer, first_if, granted_before, mode_for, MoreLocks}
 use Rattle.city_txn.proofs.Ended.{held_exclusively}
 use Rattle.city_txn.proofs.SeenWrites.{seen_same}

@@ -7,10 +7,11 @@ use Rattle.city_model.specs.CityMap.{at, changed, same_id}
 use Rattle.city_model.proofs.Ids.{same_id_itself, by_id}
 use Rattle.city_txn.specs.declared.image.Image.{Image}
 use Rattle.city_txn.specs.declared.store.Store.TheInside.{Inside}
-use Rattle.city_txn.specs.Images.{committed_at, write_at}
-use Rattle.city_txn.specs.InPlace.{state_of, IsInPlace}
-use Rattle.city_txn.specs.State.{write_of, committed}
-use Rattle.city_txn.specs.UndoState.{image_at}
+use Rattle.city_txn.specs.inside.Images.{committed_at, write_at}
+use Rattle.city_txn.specs.inside.InPlace.{state_of, IsInPlace}
+use Rattle.city_txn.specs.Writes.{write_of}
+use Rattle.city_txn.specs.inside.State.{committed}
+use Rattle.city_txn.specs.inside.UndoState.{image_at}
 use Rattle.city_txn.proofs.AtOneId.{here, city_is, writes_is}
 
 -- what holds of the id, and of each other one, holds of all

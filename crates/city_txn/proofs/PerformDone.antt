@@ -10,18 +10,21 @@ use Rattle.city_model.specs.declared.command.Cause.TheVariants.{NoMark}
 use Rattle.city_model.specs.declared.command.Reply.{Reply}
 use Rattle.city_model.specs.declared.command.Reply.TheVariants.{Marked, WentBack, Refused}
 use Rattle.city_model.specs.CityMap.{CityMap}
-use Rattle.city_model.specs.Marks.{Marking, Leaves, marking, marks_from, back_cause}
-use Rattle.city_model.specs.Meaning.{cause_of, effect_of, done_reply, map_unless, refused_or, after, locks_of}
+use Rattle.city_model.specs.Marks.{marks_from}
+use Rattle.city_model.specs.Meaning.{locks_of}
 use Rattle.city_model.specs.inside.Plans.{AreOf, AreWritesOf}
 use Rattle.city_model.specs.Runs.{Change}
 use Rattle.city_model.specs.Scripts.{is_mark}
 use Rattle.city_model.specs.Standing.{names_exclusively}
+use Rattle.city_model.specs.inside.CommandParts.{back_cause, cause_of, effect_of, done_reply, map_unless, refused_or, after}
 use Rattle.city_model.proofs.MarksKept.{from_mapped, plain, plain_answer}
 use Rattle.city_txn.specs.declared.undo_log.Entry.TheVariants as entries
-use Rattle.city_txn.specs.State.{State, Write, write_of, own_write, unless_by, own, is_reserved, is_open, committed, view}
-use Rattle.city_txn.specs.UndoLog.{Logs, OwnWrites, Written, log_of, marked, has_before, has_mark, written_back, written_as, map_with, marks_with}
-use Rattle.city_txn.specs.Acting.{writes_id, own_after, finds_as, finds_mark}
-use Rattle.city_txn.specs.Performing.{plans, written_in, seen_in, AreNoted, Performed}
+use Rattle.city_txn.specs.inside.State.{State, own, is_reserved, is_open, committed, view}
+use Rattle.city_txn.specs.Writes.{Write, write_of, own_write, unless_by}
+use Rattle.city_txn.specs.UndoLog.{Logs, OwnWrites, Written, log_of, marked, has_before, written_back, written_after, map_with, marks_with}
+use Rattle.city_txn.specs.inside.LogTests.{has_mark}
+use Rattle.city_txn.specs.inside.Done.{writes_id, own_done, finds_as, finds_mark}
+use Rattle.city_txn.specs.inside.Performing.{plans, written_in, seen_in, AreNoted, Performed}
 use Rattle.city_txn.proofs.UndoLogs.{no_mark_from, mark_is_there}
 
 -- ---- nothing done, for want of memory
@@ -119,22 +122,30 @@ back_performed s name v w ls ks there written noted frame city opened unwritten 
 
 -- ---- a command that leaves marks
 
-leaves : (k : Marking) (g : OwnWrites) (w : Written) → k ≡ Leaves → written_as k g w ≡ (g, w.1)
-leaves k g w e = ap (λ x. written_as x g w) e
+leaves : (c : Command) (g : OwnWrites) (w : Written) → is_mark c ≡ false → written_after c g w ≡ (g, w.1)
+leaves (commands.Read id) g w h = refl
+leaves (commands.Put id body) g w h = refl
+leaves (commands.Delete id) g w h = refl
+leaves (commands.Attach child parent) g w h = refl
+leaves (commands.Detach child parent) g w h = refl
+leaves (commands.Mark name) g w h = absurd (false≢true (sym h))
+leaves (commands.Back name) g w h = absurd (false≢true (sym h))
+leaves commands.Commit g w h = refl
+leaves commands.Abort g w h = refl
 
 pub refused_performed : {E : Type 0} (s : ℕ) (c : Command) (cause : Cause) (v : State) (ls : Logs) → is_mark c ≡ false → cause_of (view v s) c ≡ Some cause → AreNoted v ls s
     → Performed {E = E} s c (Ok (Refused cause)) v ls v ls
 refused_performed s c cause v ls plain_one why noted =
-    let same : (q : List ℕ) → own_after (view v s) (own v s) c q ≡ own v s q =
+    let same : (q : List ℕ) → own_done (view v s) (own v s) c q ≡ own v s q =
     λ q. ap (λ x. if is_none x && names_exclusively (locks_of (view v s) c) q then Some (after (view v s) c q) else own v s q) why in
-    let kept : own_after (view v s) (own v s) c ≡ own v s = λ i q. same q i in
+    let kept : own_done (view v s) (own v s) c ≡ own v s = λ i q. same q i in
     record {
       reply = sym (plain_answer (seen_in v ls s) c plain_one ∙ ap (λ x. refused_or x (done_reply (view v s) c)) why);
       found = λ h. refl;
       frame = refl;
       city = refl;
       opened = λ t. refl;
-      written = sym (leaves (marking c) (own_after (view v s) (own v s) c) (written_in v ls s) (plain c plain_one) ∙ ap (λ g. (g, marked (log_of ls s) (own v s))) kept);
+      written = sym (leaves c (own_done (view v s) (own v s) c) (written_in v ls s) plain_one ∙ ap (λ g. (g, marked (log_of ls s) (own v s))) kept);
       unwritten = λ q. refl;
       logs = λ t ne. refl;
       reserved = λ t q h. or_left (is_reserved v t q) ((s == t) && names_exclusively (locks_of (view v s) c) q) h;
@@ -187,17 +198,17 @@ module _ (s : ℕ) (c : Command) (r : Reply) (change : Change) (v w : State) (ls
       let made : effect_of m c ≡ after m c = sym (ap (λ x. map_unless x m (effect_of m c)) is.allowed) in
       let all : AreOf (after m c) change = subst (λ (n : CityMap). AreOf n change) made is.objects in
       let writes : (q : List ℕ) → plans change q ≡ writes_id m c q = λ q. is.ids q ∙ sym (ap (λ x. is_none x && names_exclusively (locks_of m c) q) is.allowed) in
-      let at_one : (q : List ℕ) → own w s q ≡ own_after m (own v s) c q =
+      let at_one : (q : List ℕ) → own w s q ≡ own_done m (own v s) c q =
       λ q. ap (own_write s) (done (after m c) all q) ∙ own_written s (plans change q) (after m c q) (write_of v.writes q)
       ∙ ap (λ b. if b then Some (after m c q) else own v s q) (writes q) in
-      let now : own w s ≡ own_after m (own v s) c = λ i q. at_one q i in
+      let now : own w s ≡ own_done m (own v s) c = λ i q. at_one q i in
       record {
         reply = sym is.reply ∙ sym (plain_answer (seen_in v ls s) c plain_one ∙ ap (λ x. refused_or x (done_reply m c)) is.allowed);
         found = λ h. refl;
         frame = frame;
         city = city;
         opened = opened;
-        written = (λ i. (now i, marks i)) ∙ sym (leaves (marking c) (own_after m (own v s) c) (written_in v ls s) (plain c plain_one));
+        written = (λ i. (now i, marks i)) ∙ sym (leaves c (own_done m (own v s) c) (written_in v ls s) plain_one);
         unwritten = others;
         logs = logs;
         reserved = named;

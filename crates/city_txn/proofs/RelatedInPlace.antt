@@ -12,10 +12,11 @@ use Rattle.city_model.specs.Scripts.{is_mark}
 use Rattle.city_model.proofs.Ids.{same_id_itself, same_id_back}
 use Rattle.city_model.proofs.IdLists.{not_both}
 use Rattle.city_model.proofs.Planned.{related}
-use Rattle.city_txn.specs.State.{State, Write, write_of, rewritten, is_by, own_or, own, unless_by, is_reserved, committed, view, SeesSame}
-use Rattle.city_txn.specs.UndoState.{listed_by}
+use Rattle.city_txn.specs.inside.State.{State, rewritten, own, is_reserved, committed, view, SeesSame}
+use Rattle.city_txn.specs.Writes.{Write, write_of, is_by, own_or, unless_by}
+use Rattle.city_txn.specs.inside.UndoState.{listed_by}
 use Rattle.city_txn.specs.UndoLog.{Logs, log_of, marked}
-use Rattle.city_txn.specs.Performing.{plans, AreNoted, Performed}
+use Rattle.city_txn.specs.inside.Performing.{plans, AreNoted, Performed}
 use Rattle.city_txn.proofs.OneIdChanged.{at_each}
 use Rattle.city_txn.proofs.PerformDone.{unwritten_performed, written_performed}
 use Rattle.city_txn.proofs.PlanWritten.{or_cases, reserved_by}

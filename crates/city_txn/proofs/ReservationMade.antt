@@ -12,11 +12,13 @@ use Rattle.city_model.proofs.Ids.{same_id_true, same_id_back, same_id_itself}
 use Rattle.city_model.proofs.Objects.{same_objects}
 use Rattle.city_txn.specs.declared.image.Image.{Image}
 use Rattle.city_txn.specs.declared.store.Store.TheInside.{Inside}
-use Rattle.city_txn.specs.Images.{committed_at, write_at, writer_of, unwritten_image}
-use Rattle.city_txn.specs.State.{write_of, is_open, is_reserved, SeesSame}
-use Rattle.city_txn.specs.InPlace.{state_of, is_writer, IsInPlace}
-use Rattle.city_txn.specs.UndoState.{image_at, listed_by, reservations_of}
-use Rattle.city_txn.specs.Slots.{placeholder, with_slot}
+use Rattle.city_txn.specs.inside.Images.{committed_at, write_at, writer_of, unwritten_image}
+use Rattle.city_txn.specs.Writes.{write_of}
+use Rattle.city_txn.specs.inside.State.{is_open, is_reserved, SeesSame}
+use Rattle.city_txn.specs.inside.InPlace.{state_of, is_writer, IsInPlace}
+use Rattle.city_txn.specs.inside.UndoState.{image_at, listed_by, reservations_of}
+use Rattle.city_txn.specs.Placeholder.{placeholder}
+use Rattle.city_txn.specs.inside.Slots.{with_slot}
 use Rattle.city_txn.proofs.AtOneId.{tied, here, writes_is}
 use Rattle.city_txn.proofs.OneIdChanged.{at_each, image_there, image_beside, slots_kept, committed_kept, write_changed}
 

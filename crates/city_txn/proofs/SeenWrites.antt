@@ -7,12 +7,15 @@ use Rattle.std.proofs.lemmas.Map.{update_other}
 use Rattle.city_model.specs.declared.object.Object.{Object}
 use Rattle.city_model.specs.declared.command.Cause.{Cause}
 use Rattle.city_model.specs.declared.command.Command.{Command}
+use Rattle.city_model.specs.declared.command.Command.TheVariants as commands
+use Rattle.city_model.specs.declared.command.Command.TheVariants.{Read, Put, Delete, Attach, Detach, Back, Commit, Abort}
 use Rattle.city_model.specs.CityMap.{CityMap, at, same_id}
-use Rattle.city_model.specs.Marks.{View, Marking, Leaves, Marks, GoesBack, marking, marks_from, back_to, step_as, step}
-use Rattle.city_model.specs.Meaning.{cause_of, effect_of, map_unless, after, locks_of}
+use Rattle.city_model.specs.Marks.{View, marks_from}
+use Rattle.city_model.specs.Meaning.{locks_of}
 use Rattle.city_model.specs.Relations.{IsSound}
 use Rattle.city_model.specs.Standing.{Held, covers, names_exclusively}
 use Rattle.city_model.specs.TraceLaw.{carried_map, carried_marks, carried}
+use Rattle.city_model.specs.inside.CommandParts.{back_to, seen_next, cause_of, effect_of, map_unless, after}
 use Rattle.city_model.proofs.FrameLaw.{frame}
 use Rattle.city_model.proofs.Ids.{same_id_itself}
 use Rattle.city_model.proofs.IdLists.{bool_cases, not_both}
@@ -22,10 +25,12 @@ use Rattle.city_locks.specs.declared.mode.Mode.TheVariants.{Exclusive}
 use Rattle.city_locks.specs.Locks.{mode_of}
 use Rattle.city_txn.specs.declared.undo_log.Entry.{Entry}
 use Rattle.city_txn.specs.declared.undo_log.Entry.TheVariants.{Mark, Before}
-use Rattle.city_txn.specs.State.{Write, write_of, own_or, own_write, unless_by}
-use Rattle.city_txn.specs.UndoLog.{OwnWrites, Written, log_of, marked, has_before, written_back, written_as, map_with, marks_with, view_with}
-use Rattle.city_txn.specs.CoreState.{CoreState, committed, view, own, written, seen, held, IsConsistent}
-use Rattle.city_txn.specs.Acting.{writes_id, own_after}
+use Rattle.city_txn.specs.Writes.{Write, write_of, own_or, own_write, unless_by}
+use Rattle.city_txn.specs.UndoLog.{OwnWrites, Written, log_of, marked, has_before, written_back, written_after, map_with, marks_with}
+use Rattle.city_txn.specs.inside.LogTests.{view_with}
+use Rattle.city_txn.specs.CoreState.{CoreState, committed, view, own, written, seen, held}
+use Rattle.city_txn.specs.inside.Core.{IsConsistent}
+use Rattle.city_txn.specs.inside.Done.{writes_id, own_done}
 use Rattle.city_txn.proofs.OneIdChanged.{at_each}
 use Rattle.city_txn.proofs.Slots.{absent_from}
 
@@ -59,9 +64,9 @@ by_cause m c q s h (Some cause) e = ap (λ x. map_unless x m (effect_of m c) q) 
 after_unwritten : (m : CityMap) (c : Command) (q : List ℕ) → IsSound m → writes_id m c q ≡ false → after m c q ≡ m q
 after_unwritten m c q s h = by_cause m c q s h (cause_of m c) refl
 
-own_after_with : (m : CityMap) (f : OwnWrites) (c : Command) → IsSound (map_with m f) → map_with m (own_after (map_with m f) f c) ≡ after (map_with m f) c
+own_after_with : (m : CityMap) (f : OwnWrites) (c : Command) → IsSound (map_with m f) → map_with m (own_done (map_with m f) f c) ≡ after (map_with m f) c
 own_after_with m f c s =
-    let at_one : (q : List ℕ) → map_with m (own_after (map_with m f) f c) q ≡ after (map_with m f) c q =
+    let at_one : (q : List ℕ) → map_with m (own_done (map_with m f) f c) q ≡ after (map_with m f) c q =
     λ q. bool_cases (writes_id (map_with m f) c q)
     (λ e. ap (λ b. unwrap_or (if b then Some (after (map_with m f) c q) else f q) (m q)) e)
     (λ e. ap (λ b. unwrap_or (if b then Some (after (map_with m f) c q) else f q) (m q)) e ∙ sym (after_unwritten (map_with m f) c q s e)) in
@@ -71,21 +76,27 @@ back_with : (m : CityMap) (w : Written) (ks : List (List ℕ × OwnWrites)) → 
 back_with m w [] = refl
 back_with m w (k ∷ ks) = refl
 
-step_with : (k : Marking) (m : CityMap) (g : OwnWrites) (w : Written) (c : Command) → map_with m g ≡ after (map_with m w.0) c → view_with m (written_as k g w) ≡ step_as k (view_with m w) c
-step_with Leaves m g w c e = ap (λ (n : CityMap). record { map = n; marks = marks_with m w.1 }) e
-step_with (Marks name) m g w c e = refl
-step_with (GoesBack name) m g w c e = back_with m w (marks_from name w.1) ∙ ap (back_to (view_with m w)) (sym (from_mapped (map_with m) name w.1))
+step_with : (c : Command) (m : CityMap) (g : OwnWrites) (w : Written) → map_with m g ≡ after (map_with m w.0) c → view_with m (written_after c g w) ≡ seen_next (view_with m w) c
+step_with (Read id) m g w e = ap (λ (n : CityMap). record { map = n; marks = marks_with m w.1 }) e
+step_with (Put id body) m g w e = ap (λ (n : CityMap). record { map = n; marks = marks_with m w.1 }) e
+step_with (Delete id) m g w e = ap (λ (n : CityMap). record { map = n; marks = marks_with m w.1 }) e
+step_with (Attach child parent) m g w e = ap (λ (n : CityMap). record { map = n; marks = marks_with m w.1 }) e
+step_with (Detach child parent) m g w e = ap (λ (n : CityMap). record { map = n; marks = marks_with m w.1 }) e
+step_with (commands.Mark name) m g w e = refl
+step_with (Back name) m g w e = back_with m w (marks_from name w.1) ∙ ap (back_to (view_with m w)) (sym (from_mapped (map_with m) name w.1))
+step_with Commit m g w e = ap (λ (n : CityMap). record { map = n; marks = marks_with m w.1 }) e
+step_with Abort m g w e = ap (λ (n : CityMap). record { map = n; marks = marks_with m w.1 }) e
 
 -- what was written by the command gives what is seen after it
 pub step_seen : (v w : CoreState) (s : ℕ) (c : Command) → IsSound (view v s) → committed w ≡ committed v
-    → written w s ≡ written_as (marking c) (own_after (view v s) (own v s) c) (written v s) → seen w s ≡ step (seen v s) c
+    → written w s ≡ written_after c (own_done (view v s) (own v s) c) (written v s) → seen w s ≡ seen_next (seen v s) c
 step_seen v w s c sound city e =
     let same : view v s ≡ map_with (committed v) (own v s) = ap (λ (x : View). x.map) (seen_with v s) in
-    let done : map_with (committed v) (own_after (view v s) (own v s) c) ≡ after (map_with (committed v) (own v s)) c =
-    subst (λ (n : CityMap). map_with (committed v) (own_after n (own v s) c) ≡ after (map_with (committed v) (own v s)) c) (sym same)
+    let done : map_with (committed v) (own_done (view v s) (own v s) c) ≡ after (map_with (committed v) (own v s)) c =
+    subst (λ (n : CityMap). map_with (committed v) (own_done n (own v s) c) ≡ after (map_with (committed v) (own v s)) c) (sym same)
     (own_after_with (committed v) (own v s) c (subst IsSound same sound)) in
     seen_with w s ∙ ap (λ (m : CityMap). view_with m (written w s)) city ∙ ap (view_with (committed v)) e
-    ∙ step_with (marking c) (committed v) (own_after (view v s) (own v s) c) (written v s) c done ∙ ap (λ (x : View). step x c) (sym (seen_with v s))
+    ∙ step_with c (committed v) (own_done (view v s) (own v s) c) (written v s) done ∙ ap (λ (x : View). seen_next x c) (sym (seen_with v s))
 
 -- ---- what is written is held exclusively
 
@@ -115,10 +126,16 @@ covered_back : (held : Held) (w : Written) (ks : List (List ℕ × OwnWrites)) �
 covered_back held w [] is a = is
 covered_back held w (k ∷ ks) is a = a.0
 
-pub covered_as : (held : Held) (k : Marking) (g : OwnWrites) (w : Written) → IsCovered held g → IsCovered held w.0 → AreCovered held w.1 → IsCovered held (written_as k g w).0
-covered_as held Leaves g w now is a = now
-covered_as held (Marks name) g w now is a = is
-covered_as held (GoesBack name) g w now is a = covered_back held w (marks_from name w.1) is (covered_from held name w.1 a)
+pub covered_after : (held : Held) (c : Command) (g : OwnWrites) (w : Written) → IsCovered held g → IsCovered held w.0 → AreCovered held w.1 → IsCovered held (written_after c g w).0
+covered_after held (Read id) g w now is a = now
+covered_after held (Put id body) g w now is a = now
+covered_after held (Delete id) g w now is a = now
+covered_after held (Attach child parent) g w now is a = now
+covered_after held (Detach child parent) g w now is a = now
+covered_after held (commands.Mark name) g w now is a = is
+covered_after held (Back name) g w now is a = covered_back held w (marks_from name w.1) is (covered_from held name w.1 a)
+covered_after held Commit g w now is a = now
+covered_after held Abort g w now is a = now
 
 own_locked : (v : CoreState) (t : ℕ) (q : List ℕ) → IsConsistent v → (x : Option Write) → write_of v.writes q ≡ x → is_some (own_write t x) ≡ true → mode_of v.locks t q ≡ Some Exclusive
 own_locked v t q c None e h = absurd (false≢true h)

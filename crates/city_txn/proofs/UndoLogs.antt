@@ -11,7 +11,8 @@ use Rattle.city_model.proofs.Ids.{same_id_itself}
 use Rattle.city_model.proofs.IdLists.{bool_cases}
 use Rattle.city_txn.specs.declared.undo_log.Entry.{Entry}
 use Rattle.city_txn.specs.declared.undo_log.Entry.TheVariants.{Mark, Before}
-use Rattle.city_txn.specs.UndoLog.{OwnWrites, Written, marked, is_before, has_before, is_noted, has_mark, is_at_mark, newest_undone, written_back}
+use Rattle.city_txn.specs.UndoLog.{OwnWrites, Written, marked, is_before, has_before, written_back}
+use Rattle.city_txn.specs.inside.LogTests.{is_noted, has_mark, is_at_mark, newest_undone}
 use Rattle.city_txn.proofs.OneIdChanged.{at_each}
 
 -- ---- marks over other writes

@@ -8,11 +8,11 @@ use Rattle.city_model.proofs.Ids.{same_id_itself}
 use Rattle.city_model.proofs.IdLists.{bool_cases}
 use Rattle.city_txn.specs.declared.image.Image.{Image}
 use Rattle.city_txn.specs.declared.store.Store.TheInside.{Inside}
-use Rattle.city_txn.specs.Changing.{or_else}
-use Rattle.city_txn.specs.Images.{committed_at, write_at, written_at, writer_of, written_back, put_back, put_back_at}
-use Rattle.city_txn.specs.State.{Write, write_of, own_write, unless_by, own, is_reserved, committed}
-use Rattle.city_txn.specs.InPlace.{state_of, is_writer, IsInPlace}
-use Rattle.city_txn.specs.UndoState.{image_at, reservations_of}
+use Rattle.city_txn.specs.inside.Images.{or_else, committed_at, write_at, written_at, writer_of, written_back, put_back, put_back_at}
+use Rattle.city_txn.specs.Writes.{Write, write_of, own_write, unless_by}
+use Rattle.city_txn.specs.inside.State.{own, is_reserved, committed}
+use Rattle.city_txn.specs.inside.InPlace.{state_of, is_writer, IsInPlace}
+use Rattle.city_txn.specs.inside.UndoState.{image_at, reservations_of}
 use Rattle.city_txn.proofs.AtOneId.{here, writes_is}
 use Rattle.city_txn.proofs.Forgotten.{own_write_gone}
 use Rattle.city_txn.proofs.OneIdChanged.{at_each, image_there, image_beside, slots_kept, committed_kept, write_changed}

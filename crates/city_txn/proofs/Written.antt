@@ -6,11 +6,12 @@ use Rattle.city_model.specs.declared.object.Object.{Object}
 use Rattle.city_model.specs.CityMap.{at, same_id, has_id, changed}
 use Rattle.city_txn.specs.declared.image.Image.{Image}
 use Rattle.city_txn.specs.declared.store.Store.TheInside.{Inside}
-use Rattle.city_txn.specs.Images.{committed_at, write_at, writer_of, written_over}
-use Rattle.city_txn.specs.State.{write_of, is_reserved, committed}
-use Rattle.city_txn.specs.InPlace.{state_of, is_writer, IsInPlace}
-use Rattle.city_txn.specs.UndoState.{image_at, reservations_of}
-use Rattle.city_txn.specs.Slots.{placeholder}
+use Rattle.city_txn.specs.inside.Images.{committed_at, write_at, writer_of, written_over}
+use Rattle.city_txn.specs.Writes.{write_of}
+use Rattle.city_txn.specs.inside.State.{is_reserved, committed}
+use Rattle.city_txn.specs.inside.InPlace.{state_of, is_writer, IsInPlace}
+use Rattle.city_txn.specs.inside.UndoState.{image_at, reservations_of}
+use Rattle.city_txn.specs.Placeholder.{placeholder}
 use Rattle.city_txn.proofs.AtOneId.{here}
 use Rattle.city_txn.proofs.OneIdChanged.{at_each, image_there, image_beside, slots_kept, committed_kept, write_changed}
 

@@ -1,16 +1,14 @@
 -- What contracts see of a core: its committed city, and the writes, the marks and the locks of its open
 -- transactions.
-use Rattle.std.specs.Prelude.{◌≡◌, ◌==◌, ℕ, Bool, true, false, List, [], None, Some, is_some, option_map}
+use Rattle.std.specs.Prelude.{◌≡◌, ◌==◌, ℕ, Bool, false, List, [], None, option_map}
 use Rattle.std.specs.Prelude.{if◌then◌else◌}
 use Rattle.std.specs.List.{list_any}
 use Rattle.city_model.specs.declared.frame.Frame.{Frame}
 use Rattle.city_model.specs.CityMap.{Objects, CityMap, at}
-use Rattle.city_model.specs.Relations.{IsLawful}
-use Rattle.city_locks.specs.declared.mode.Mode.TheVariants.{Exclusive}
 use Rattle.city_locks.specs.Mode.{is_exclusive}
-use Rattle.city_locks.specs.Locks.{Locks, mode_of, Lawful}
-use Rattle.city_txn.specs.State.{Write, write_of, own_or, own_write, unless_by}
-use Rattle.city_txn.specs.UndoLog.{Logs, OwnWrites, Written, log_of, marked, has_before, marks_with}
+use Rattle.city_locks.specs.Locks.{Locks, mode_of}
+use Rattle.city_txn.specs.Writes.{Write, write_of, own_or, own_write, unless_by}
+use Rattle.city_txn.specs.UndoLog.{Logs, OwnWrites, Written, log_of, marked, marks_with}
 use Rattle.city_model.specs.Marks.{View, unmarked}
 use Rattle.city_model.specs.Standing.{Held, Answered, Follows}
 
@@ -58,20 +56,6 @@ held v stamp = held_in v.locks stamp
 -- held, and lead to what it sees, marks too
 abbrev pub Stands : CoreState → ℕ → List Answered → Type 0
 Stands v stamp done = Follows (held v stamp) (unmarked (committed v)) done (seen v stamp)
-
--- writes stand under exclusive locks, those of marks too, only open transactions hold locks and have marks,
--- the committed city is lawful, and what each sees comes of commands that stand
-pub record IsConsistent (v : CoreState) : Type 0 where
-  pub lawful : Lawful v.locks
-  pub locked : (id : List ℕ) (w : Write) → write_of v.writes id ≡ Some w
-      → mode_of v.locks w.0 id ≡ Some Exclusive
-  pub marks_locked : (stamp : ℕ) (id : List ℕ) → has_before (log_of v.logs stamp) id ≡ true
-      → mode_of v.locks stamp id ≡ Some Exclusive
-  pub open_only : (stamp : ℕ) (id : List ℕ)
-      → is_some (mode_of v.locks stamp id) ≡ true → is_open v stamp ≡ true
-  pub marks_open : (stamp : ℕ) → is_open v stamp ≡ false → log_of v.logs stamp ≡ []
-  pub city : IsLawful (committed v)
-  pub history : (stamp : ℕ) → (done : List Answered) × Stands v stamp done
 
 -- each other transaction stays open or not, and its commands stand as they stood
 pub record KeepsOthers (stamp : ℕ) (old new : CoreState) : Type 0 where

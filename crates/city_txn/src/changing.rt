@@ -8,9 +8,9 @@ ghost use Rattle.std.specs.List.{list_any};
 ghost use Rattle.std.specs.List.Sorted.{IsStrictlySortedBy};
 ghost use Rattle.city_model.specs.CityMap.{at, found_in, has_id, same_id};
 ghost use Rattle.city_model.specs.Relations.{is_orphan_there, HasNoOrphan, IsLeastOrphan};
-ghost use Rattle.city_txn.specs.Images.{written_at};
-ghost use Rattle.city_txn.specs.Changing.{or_else, objects_in, is_orphan_written};
-ghost use Rattle.city_txn.specs.UndoState.{image_at};
+ghost use Rattle.city_txn.specs.inside.Images.{written_at, or_else};
+ghost use Rattle.city_txn.specs.inside.Orphans.{objects_in, is_orphan_written};
+ghost use Rattle.city_txn.specs.inside.UndoState.{image_at};
 
 use crate::undo::Undo;
 use crate::undo_log::OwnWrite;

@@ -1,8 +1,8 @@
 //! The end of a transaction, at the ids that it has reserved.
 ghost use Rattle.std.specs.Prelude.{◌≡◌, ℕ, List, Some, is_some, true};
 ghost use Rattle.city_model.specs.CityMap.{at, changed, has_id, same_id};
-ghost use Rattle.city_txn.specs.Ending.{left_by, AreEnded};
-ghost use Rattle.city_txn.specs.UndoState.{image_at};
+ghost use Rattle.city_txn.specs.inside.Ending.{left_by, AreEnded};
+ghost use Rattle.city_txn.specs.inside.UndoState.{image_at};
 
 use crate::image::Image;
 use crate::slot;

@@ -1,9 +1,11 @@
 //! Going back to a mark.
 ghost use Rattle.std.specs.Prelude.{◌≡◌, ◌==◌, ℕ, List, [], true, false, drop};
 ghost use Rattle.city_model.specs.Marks.{marks_from};
-ghost use Rattle.city_txn.specs.State.{write_of, unless_by, own, is_reserved, is_open, committed};
-ghost use Rattle.city_txn.specs.UndoLog.{log_of, has_mark, is_before, undone, newest_undone, written_back};
-ghost use Rattle.city_txn.specs.Performing.{AreNoted, written_in};
+ghost use Rattle.city_txn.specs.Writes.{write_of, unless_by};
+ghost use Rattle.city_txn.specs.inside.State.{own, is_reserved, is_open, committed};
+ghost use Rattle.city_txn.specs.UndoLog.{log_of, is_before, written_back};
+ghost use Rattle.city_txn.specs.inside.LogTests.{has_mark, undone, newest_undone};
+ghost use Rattle.city_txn.specs.inside.Performing.{AreNoted, written_in};
 
 use crate::store::Store;
 use crate::undo_log::{Entry, UndoLogs};

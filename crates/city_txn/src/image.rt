@@ -1,6 +1,6 @@
 //! Undo images: what stood at an id before a transaction wrote it.
 ghost use Rattle.std.specs.Prelude.{◌≡◌, Some, option_copied};
-ghost use Rattle.city_txn.specs.Images.{seen_by, written_over, unwritten_image, written_back, put_back};
+ghost use Rattle.city_txn.specs.inside.Images.{seen_by, written_over, unwritten_image, written_back, put_back};
 
 use city_model::object::Object;
 

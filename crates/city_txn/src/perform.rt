@@ -5,8 +5,8 @@ ghost use Rattle.city_model.specs.Relations.{IsSound};
 ghost use Rattle.city_model.specs.Scripts.{is_end, is_mark};
 ghost use Rattle.city_model.specs.Standing.{names};
 ghost use Rattle.city_model.specs.declared.command.Command.{Command};
-ghost use Rattle.city_txn.specs.State.{is_reserved, is_open, view};
-ghost use Rattle.city_txn.specs.Performing.{AreNoted, Performed};
+ghost use Rattle.city_txn.specs.inside.State.{is_reserved, is_open, view};
+ghost use Rattle.city_txn.specs.inside.Performing.{AreNoted, Performed};
 
 use crate::going_back::go_back;
 use crate::relating::{self, attach, detach, is_in_place};

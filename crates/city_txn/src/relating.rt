@@ -5,8 +5,9 @@ ghost use Rattle.city_model.specs.inside.Plans.{only_parent};
 ghost use Rattle.city_model.specs.Relations.{IsSound};
 ghost use Rattle.city_model.specs.Standing.{names};
 ghost use Rattle.city_model.specs.declared.command.Command.{Command};
-ghost use Rattle.city_txn.specs.Performing.{AreNoted, Performed};
-ghost use Rattle.city_txn.specs.State.{write_of, is_by, is_reserved, is_open, view};
+ghost use Rattle.city_txn.specs.inside.Performing.{AreNoted, Performed};
+ghost use Rattle.city_txn.specs.Writes.{write_of, is_by};
+ghost use Rattle.city_txn.specs.inside.State.{is_reserved, is_open, view};
 ghost use Rattle.city_txn.specs.UndoLog.{log_of};
 
 use crate::seen::Seen;

@@ -1,9 +1,9 @@
 //! Slots of the city: placeholders, and objects put back.
 ghost use Rattle.std.specs.Prelude.{◌≡◌, None, Some, unwrap_or, IfOk, OnOk, OnErr, is_some, not, true, if◌then◌else◌};
 ghost use Rattle.city_model.specs.CityMap.{at, changed};
-ghost use Rattle.city_txn.specs.Changing.{or_else};
-ghost use Rattle.city_txn.specs.Images.{before_image};
-ghost use Rattle.city_txn.specs.Slots.{placeholder, with_slot};
+ghost use Rattle.city_txn.specs.inside.Images.{or_else, before_image};
+ghost use Rattle.city_txn.specs.Placeholder.{placeholder};
+ghost use Rattle.city_txn.specs.inside.Slots.{with_slot};
 
 use crate::image::Image;
 use crate::placeholder::placeholder;

@@ -6,12 +6,10 @@ ghost use Rattle.city_model.specs.Marks.{AreSound};
 ghost use Rattle.city_model.specs.Relations.{IsLawful, HasNoOrphan, IsSound};
 ghost use Rattle.city_locks.specs.declared.mode.Mode.{Mode};
 ghost use Rattle.city_locks.specs.Locks.{mode_of};
-ghost use Rattle.city_txn.specs.State.{write_of, is_by};
+ghost use Rattle.city_txn.specs.Writes.{write_of, is_by};
 ghost use Rattle.city_txn.specs.CoreState.{committed, view, seen, is_open, Stands, KeepsOthers, IsOver, IsUndone};
 ghost use Rattle.city_txn.specs.UndoLog.{log_of, has_before};
-ghost use Rattle.city_model.specs.declared.command.Command.{Command};
-ghost use Rattle.city_model.specs.declared.end.Outcome.{Outcome};
-ghost use Rattle.city_txn.specs.Acting.{answer_in, Acted, EndsIn};
+ghost use Rattle.city_txn.specs.Acting.{answer_in, Acted, RefusesCommit};
 ghost use Rattle.city_txn.specs.Changing.{IsPrepared, IsChangeOf, change_in};
 ghost use Rattle.city_txn.specs.Locking.{is_wait};
 
@@ -49,11 +47,11 @@ impl Model for Core {
 
     ghost use Rattle.std.specs.Coded.{codes};
     ghost use Rattle.city_model.specs.inside.DataCode.{coded_members};
-    ghost use Rattle.city_txn.specs.Codes.{coded_objects};
+    ghost use Rattle.city_txn.specs.inside.Codes.{coded_objects};
 
     ghost coded = { Prim.hlevel (codes, coded_members, coded_objects) };
 
-    ghost use Rattle.city_txn.specs.Core.{core_state, IsCore};
+    ghost use Rattle.city_txn.specs.inside.Core.{core_state, IsCore};
 
     ghost view = { core_state };
 
@@ -177,7 +175,7 @@ impl Core {
     /// exactly where the stamp isn't open.
     pub fn refusal(&self, stamp: u64) -> Result<Option<Cause>, TxnFault>
         ensures allowed { IfOk result (λ cause. IfNone cause (IsChangeOf self.now stamp (change_in self.now.writes stamp))) }
-        ensures refused { IfOk result (λ cause. IfSome cause (λ cause. (number : ℕ) → EndsIn self.now stamp Command.Commit number (Outcome.Refused number cause))) }
+        ensures refused { IfOk result (λ cause. IfSome cause (RefusesCommit self.now stamp)) }
         ensures fault { IfErr result (λ fault. fault ≡ (if is_open self.now stamp then TxnFault.OutOfMemory else TxnFault.NotOpen stamp)) }
         ensures not_open { is_open self.now stamp ≡ false → IsErr result }
     {

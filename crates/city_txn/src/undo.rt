@@ -5,12 +5,12 @@ ghost use Rattle.std.specs.Cmp.Lexicographic.{slice_cmp};
 ghost use Rattle.std.specs.BTreeMap.{get, is_at, IsOrdered};
 ghost use Rattle.std.specs.FinMap.{entries};
 ghost use Rattle.city_model.specs.CityMap.{at, changed, same_id};
-ghost use Rattle.city_txn.specs.Images.{unwritten_image, written_over, written_back, put_back_at};
-ghost use Rattle.city_txn.specs.Changing.{or_else};
-ghost use Rattle.city_txn.specs.UndoState.{image_at, listed_by, reservations_of};
+ghost use Rattle.city_txn.specs.inside.Images.{unwritten_image, written_over, written_back, put_back_at, or_else};
+ghost use Rattle.city_txn.specs.inside.UndoState.{image_at, listed_by, reservations_of};
 
 use crate::image::Image;
 use crate::slot;
+use city_locks::by_stamp::push_at;
 use city_model::OutOfMemory;
 use city_model::city::City;
 use city_model::copied::Copied;
@@ -33,12 +33,12 @@ pub struct Undo {
 }
 
 impl Model for Undo {
-    ghost use Rattle.city_txn.specs.UndoState.{UndoState};
+    ghost use Rattle.city_txn.specs.inside.UndoState.{UndoState};
 
     ghost Value = { UndoState };
 
     ghost use Rattle.std.specs.Coded.{codes};
-    ghost use Rattle.city_txn.specs.Codes.{coded_images};
+    ghost use Rattle.city_txn.specs.inside.Codes.{coded_images};
 
     ghost coded = { Prim.hlevel (codes, coded_images) };
 
@@ -214,11 +214,6 @@ fn list(
     ensures err { OnErr result (reservations.new.entries ≡ reservations.old.entries) }
 {
     let copy = id.copy(alloc)?;
-    match reservations.get_mut(&stamp) {
-        Some(ids) => {
-            ids.push(copy)?;
-            Ok(())
-        }
-        None => unreachable!(),
-    }
+    push_at(reservations, stamp, copy)?;
+    Ok(())
 }

@@ -1,9 +1,9 @@
 use Rattle.std.proofs.Common.{◌≡◌, false, take}
 use Rattle.std.specs.List.{list_any}
 use Rattle.city_model.specs.CityMap.{at}
-use Rattle.city_txn.specs.Changing.{is_orphan_written}
-use Rattle.city_txn.specs.Images.{written_at}
-use Rattle.city_txn.specs.UndoState.{image_at}
+use Rattle.city_txn.specs.inside.Orphans.{is_orphan_written}
+use Rattle.city_txn.specs.inside.Images.{written_at}
+use Rattle.city_txn.specs.inside.UndoState.{image_at}
 use Rattle.city_txn.proofs.changing.has_orphan.Given as goal
 
 abbrev pub invariant-loop-id : goal.invariant-loop-id

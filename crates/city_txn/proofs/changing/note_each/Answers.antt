@@ -3,8 +3,8 @@ use Rattle.std.specs.Ordering.{nat_cmp}
 use Rattle.std.specs.Cmp.Lexicographic.{slice_cmp}
 use Rattle.std.specs.BTreeMap.{get}
 use Rattle.city_model.specs.CityMap.{at}
-use Rattle.city_txn.specs.Images.{written_at}
-use Rattle.city_txn.specs.UndoState.{image_at}
+use Rattle.city_txn.specs.inside.Images.{written_at}
+use Rattle.city_txn.specs.inside.UndoState.{image_at}
 use Rattle.city_txn.proofs.ChangeMade.{noted_more}
 use Rattle.city_txn.proofs.changing.note_each.Goals as goal
 

@@ -4,8 +4,8 @@ use Rattle.std.specs.Ordering.{nat_cmp}
 use Rattle.std.specs.Cmp.Lexicographic.{slice_cmp}
 use Rattle.std.specs.BTreeMap.{get, IsOrdered}
 use Rattle.city_model.specs.CityMap.{at, has_id}
-use Rattle.city_txn.specs.Images.{written_at}
-use Rattle.city_txn.specs.UndoState.{image_at}
+use Rattle.city_txn.specs.inside.Images.{written_at}
+use Rattle.city_txn.specs.inside.UndoState.{image_at}
 use Rattle.city_txn.proofs.changing.note_each.Given as goal
 
 abbrev pub invariant-loop-id : goal.invariant-loop-id

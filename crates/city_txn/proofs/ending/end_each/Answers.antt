@@ -2,8 +2,8 @@ use Rattle.std.proofs.Common.{take, length, ◌<◌, arith, subst}
 use Rattle.std.specs.Prelude.{List, ℕ}
 use Rattle.std.proofs.lemmas.List.{take_all}
 use Rattle.city_model.specs.CityMap.{at, has_id}
-use Rattle.city_txn.specs.Ending.{left_by, AreEnded}
-use Rattle.city_txn.specs.UndoState.{image_at}
+use Rattle.city_txn.specs.inside.Ending.{left_by, AreEnded}
+use Rattle.city_txn.specs.inside.UndoState.{image_at}
 use Rattle.city_txn.proofs.EachId.{none_ended, one_more_ended, still_has_slot}
 use Rattle.city_txn.proofs.ending.end_each.Goals as goal
 

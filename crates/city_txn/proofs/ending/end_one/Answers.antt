@@ -1,6 +1,6 @@
 use Rattle.std.proofs.Common.{◌∙◌, sym, ap, is_some, Some, refl}
 use Rattle.city_model.specs.CityMap.{at, changed}
-use Rattle.city_txn.specs.Ending.{left_by}
+use Rattle.city_txn.specs.inside.Ending.{left_by}
 use Rattle.city_txn.proofs.EachId.{one_ended, idle_there}
 use Rattle.city_txn.proofs.ending.end_one.Goals as goal
 

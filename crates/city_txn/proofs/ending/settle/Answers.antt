@@ -1,6 +1,6 @@
 use Rattle.std.proofs.Common.{◌∙◌, ap, sym, Some}
 use Rattle.city_model.specs.CityMap.{at, changed}
-use Rattle.city_txn.specs.Ending.{left_by}
+use Rattle.city_txn.specs.inside.Ending.{left_by}
 use Rattle.city_txn.proofs.EachId.{cleared_seen}
 use Rattle.city_txn.proofs.ending.settle.Goals as goal
 

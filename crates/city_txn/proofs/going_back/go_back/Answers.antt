@@ -1,7 +1,8 @@
 use Rattle.std.proofs.Common.{◌≡◌, ◌∙◌, ap, sym, false, drop, rules}
 use Rattle.city_model.specs.Marks.{marks_from}
-use Rattle.city_txn.specs.State.{own}
-use Rattle.city_txn.specs.UndoLog.{log_of, marked, has_before, has_mark, is_at_mark}
+use Rattle.city_txn.specs.inside.State.{own}
+use Rattle.city_txn.specs.UndoLog.{log_of, marked, has_before}
+use Rattle.city_txn.specs.inside.LogTests.{has_mark, is_at_mark}
 use Rattle.city_txn.proofs.PlanWritten.{reserved_by}
 use Rattle.city_txn.proofs.UndoLogs.{undone_marks, undone_has, undone_noted}
 use Rattle.city_txn.proofs.going_back.go_back.Goals as goal

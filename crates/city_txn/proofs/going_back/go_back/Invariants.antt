@@ -1,8 +1,10 @@
 use Rattle.std.proofs.Common.{◌≡◌, ◌==◌, ℕ, List, true, false, length}
 use Rattle.city_model.specs.Marks.{marks_from}
-use Rattle.city_txn.specs.State.{write_of, unless_by, own, committed}
-use Rattle.city_txn.specs.UndoLog.{log_of, marked, has_mark}
-use Rattle.city_txn.specs.Performing.{AreNoted}
+use Rattle.city_txn.specs.Writes.{write_of, unless_by}
+use Rattle.city_txn.specs.inside.State.{own, committed}
+use Rattle.city_txn.specs.UndoLog.{log_of, marked}
+use Rattle.city_txn.specs.inside.LogTests.{has_mark}
+use Rattle.city_txn.specs.inside.Performing.{AreNoted}
 use Rattle.city_txn.proofs.going_back.go_back.Given as goal
 
 abbrev pub invariant-loop-alloc : goal.invariant-loop-alloc

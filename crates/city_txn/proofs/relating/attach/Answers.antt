@@ -11,9 +11,10 @@ use Rattle.city_model.specs.declared.command.Command.TheVariants.{Attach}
 use Rattle.city_model.specs.declared.command.Reply.TheVariants.{Attached}
 use Rattle.city_model.proofs.Ids.{same_id_itself}
 use Rattle.city_model.proofs.Planned.{related}
-use Rattle.city_txn.specs.State.{State, write_of, rewritten, is_by, is_reserved, view}
+use Rattle.city_txn.specs.inside.State.{State, rewritten, is_reserved, view}
+use Rattle.city_txn.specs.Writes.{write_of, is_by}
 use Rattle.city_txn.specs.UndoLog.{log_of}
-use Rattle.city_txn.specs.Performing.{Performed}
+use Rattle.city_txn.specs.inside.Performing.{Performed}
 use Rattle.city_txn.proofs.PlanWritten.{reserved_by}
 use Rattle.city_txn.proofs.RelatedInPlace.{child_reserved, related_unwritten, related_performed}
 use Rattle.city_txn.proofs.relating.attach.Goals as goal

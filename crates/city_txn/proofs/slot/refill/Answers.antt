@@ -1,6 +1,6 @@
 use Rattle.std.proofs.Common.{◌∙◌, ap, sym, refl}
 use Rattle.city_model.specs.CityMap.{at, changed}
-use Rattle.city_txn.specs.Changing.{or_else}
+use Rattle.city_txn.specs.inside.Images.{or_else}
 use Rattle.city_txn.proofs.Slots.{unchanged}
 use Rattle.city_txn.proofs.slot.refill.Goals as goal
 

@@ -4,8 +4,9 @@ use Rattle.std.proofs.lemmas.Bool.{eq-eqb}
 use Rattle.city_model.specs.CityMap.{same_id}
 use Rattle.city_model.proofs.Ids.{same_id_true}
 use Rattle.city_txn.specs.declared.undo_log.Entry.TheVariants.{Before}
-use Rattle.city_txn.specs.State.{own, is_reserved}
-use Rattle.city_txn.specs.UndoLog.{log_of, marked, has_before, is_noted}
+use Rattle.city_txn.specs.inside.State.{own, is_reserved}
+use Rattle.city_txn.specs.UndoLog.{log_of, marked, has_before}
+use Rattle.city_txn.specs.inside.LogTests.{is_noted}
 use Rattle.city_txn.proofs.PlanWritten.{or_cases}
 use Rattle.city_txn.proofs.UndoLogs.{noted_marked, noted_there}
 use Rattle.city_txn.proofs.writing.note.Goals as goal

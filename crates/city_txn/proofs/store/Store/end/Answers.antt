@@ -1,7 +1,7 @@
 use Rattle.std.proofs.Common.{◌∙◌, ap, subst}
-use Rattle.city_txn.specs.Ending.{city_after}
-use Rattle.city_txn.specs.State.{State, Forgets}
-use Rattle.city_txn.specs.InPlace.{state_of}
+use Rattle.city_txn.specs.inside.Ending.{city_after}
+use Rattle.city_txn.specs.inside.State.{State, Forgets}
+use Rattle.city_txn.specs.inside.InPlace.{state_of}
 use Rattle.city_txn.specs.declared.store.Store.TheInside.{Inside}
 use Rattle.city_txn.proofs.Forgotten.{forgotten_in_place, forgets, ended_city}
 use Rattle.city_txn.proofs.store.Store.end.Goals as goal

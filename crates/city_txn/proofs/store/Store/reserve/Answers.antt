@@ -1,9 +1,9 @@
 use Rattle.std.proofs.Common.{◌≡◌, ◌∙◌, sym, ap, subst, None, ℕ, true, is_some, ◌==◌, ◌&&◌, ◌||◌}
 use Rattle.std.specs.Prelude.{if◌then◌else◌}
 use Rattle.city_model.specs.CityMap.{at, changed, same_id}
-use Rattle.city_txn.specs.State.{State, is_reserved, is_open, SeesSame}
-use Rattle.city_txn.specs.InPlace.{state_of, IsInPlace}
-use Rattle.city_txn.specs.UndoState.{image_at}
+use Rattle.city_txn.specs.inside.State.{State, is_reserved, is_open, SeesSame}
+use Rattle.city_txn.specs.inside.InPlace.{state_of, IsInPlace}
+use Rattle.city_txn.specs.inside.UndoState.{image_at}
 use Rattle.city_txn.specs.declared.store.Store.TheInside.{Inside}
 use Rattle.city_txn.proofs.Slots.{slot_cleared, absent_from}
 use Rattle.city_txn.proofs.ReservationMade.{same_city, more_reserved, reserved_in_place, reserved_seen, reserved_already}

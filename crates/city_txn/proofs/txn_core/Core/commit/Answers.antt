@@ -1,7 +1,7 @@
 use Rattle.std.proofs.Common.{◌∙◌, ap, subst, sym}
 use Rattle.city_model.specs.Relations.{HasNoOrphan}
 use Rattle.city_txn.specs.CoreState.{CoreState, view, IsOver}
-use Rattle.city_txn.specs.Core.{core_state}
+use Rattle.city_txn.specs.inside.Core.{core_state}
 use Rattle.city_txn.specs.declared.txn_core.Core.TheInside.{Inside}
 use Rattle.city_txn.proofs.CoreFields.{committed_core, committed_over}
 use Rattle.city_txn.proofs.txn_core.Core.commit.Goals as goal

@@ -2,7 +2,7 @@ use Rattle.std.proofs.Common.{◌∙◌, sym, ap, subst}
 use Rattle.city_model.specs.Marks.{AreSound}
 use Rattle.city_model.specs.Relations.{IsLawful, IsSound}
 use Rattle.city_txn.specs.CoreState.{CoreState, committed, view, seen, is_open}
-use Rattle.city_txn.specs.Core.{core_state}
+use Rattle.city_txn.specs.inside.Core.{core_state}
 use Rattle.city_txn.proofs.CoreFields.{open_is}
 use Rattle.city_txn.proofs.Ended.{sound_view, sound_seen}
 use Rattle.city_txn.proofs.txn_core.Core.is_open.Goals as goal

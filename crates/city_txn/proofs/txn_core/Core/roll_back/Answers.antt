@@ -1,6 +1,6 @@
 use Rattle.std.proofs.Common.{subst}
 use Rattle.city_txn.specs.CoreState.{CoreState, IsUndone}
-use Rattle.city_txn.specs.Core.{core_state}
+use Rattle.city_txn.specs.inside.Core.{core_state}
 use Rattle.city_txn.specs.declared.txn_core.Core.TheInside.{Inside}
 use Rattle.city_txn.proofs.CoreFields.{undone, undone_core}
 use Rattle.city_txn.proofs.txn_core.Core.roll_back.Goals as goal

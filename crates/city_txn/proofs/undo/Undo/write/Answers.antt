@@ -4,8 +4,8 @@ use Rattle.std.specs.Ordering.{nat_cmp}
 use Rattle.std.specs.Cmp.Lexicographic.{slice_cmp}
 use Rattle.std.specs.BTreeMap.{get, IsOrdered}
 use Rattle.city_model.specs.CityMap.{at, same_id}
-use Rattle.city_txn.specs.Images.{written_over}
-use Rattle.city_txn.specs.UndoState.{UndoState, image_at}
+use Rattle.city_txn.specs.inside.Images.{written_over}
+use Rattle.city_txn.specs.inside.UndoState.{UndoState, image_at}
 use Rattle.city_txn.proofs.ImagesHeld.{held_at, one_changed}
 use Rattle.city_txn.proofs.undo.Undo.write.Goals as goal
 

@@ -4,6 +4,11 @@ use Rattle.std.specs.Prelude.{if◌then◌else◌}
 use Rattle.city_model.specs.declared.object.Object.{Object}
 use Rattle.city_txn.specs.declared.image.Image.{Image}
 
+-- the first, or where there is none the second
+abbrev pub or_else : {Y : Type 0} → Option Y → Option Y → Option Y
+or_else None y = y
+or_else (Some x) y = Some x
+
 -- what its transaction sees: nothing where a placeholder holds the slot
 abbrev pub seen_under : Option Object → Image → Option Object
 seen_under x i = if i.deleted then None else x

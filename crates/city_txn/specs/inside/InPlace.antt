@@ -1,20 +1,12 @@
 -- One city as the open transactions have written it, with an undo image of each written id.
-use Rattle.std.specs.Prelude.{◌≡◌, ◌==◌, ℕ, Bool, true, false, List, [], ◌∷◌, Option, None, Some, is_some}
+use Rattle.std.specs.Prelude.{◌≡◌, ◌==◌, ℕ, Bool, true, false, List, Option, None, Some, is_some}
 use Rattle.std.specs.FinMap.{entries, from_sorted}
 use Rattle.city_model.specs.CityMap.{at, has_id}
 use Rattle.city_txn.specs.declared.store.Store.TheInside.{Inside}
-use Rattle.city_txn.specs.State.{State}
-use Rattle.city_txn.specs.UndoState.{image_at, reservations_of}
-use Rattle.city_txn.specs.Images.{committed_at, write_at, writer_of}
-
-abbrev pub with_some : {Y : Type 0} → List ℕ → Option Y → List (List ℕ × Y) → List (List ℕ × Y)
-with_some id None es = es
-with_some id (Some y) es = (id, y) ∷ es
-
--- the ids with what f makes of them, without those of which it makes nothing
-abbrev pub made_by : {X Y : Type 0} → (List ℕ → X → Option Y) → List (List ℕ × X) → List (List ℕ × Y)
-made_by f [] = []
-made_by f (e ∷ es) = with_some e.0 (f e.0 e.1) (made_by f es)
+use Rattle.city_txn.specs.Writes.{made_by}
+use Rattle.city_txn.specs.inside.State.{State}
+use Rattle.city_txn.specs.inside.UndoState.{image_at, reservations_of}
+use Rattle.city_txn.specs.inside.Images.{committed_at, write_at, writer_of}
 
 -- the committed city is the one city with all images put back
 abbrev pub state_of : Inside → State

@@ -6,12 +6,14 @@ use Rattle.city_model.specs.CityMap.{has_id}
 use Rattle.city_model.specs.Runs.{Change}
 use Rattle.city_model.specs.declared.command.Command.{Command}
 use Rattle.city_model.specs.declared.command.Reply.{Reply}
-use Rattle.city_model.specs.Marks.{View, marking, answer}
+use Rattle.city_model.specs.Marks.{View}
 use Rattle.city_model.specs.Meaning.{locks_of}
-use Rattle.city_txn.specs.State.{State, write_of, unless_by, own, is_reserved, is_open, committed, view}
-use Rattle.city_txn.specs.UndoLog.{Logs, Written, log_of, marked, has_before, written_as, marks_with}
+use Rattle.city_txn.specs.inside.State.{State, own, is_reserved, is_open, committed, view}
+use Rattle.city_txn.specs.Writes.{write_of, unless_by}
+use Rattle.city_txn.specs.UndoLog.{Logs, Written, log_of, marked, has_before, written_after, marks_with}
 use Rattle.city_model.specs.Standing.{names_exclusively}
-use Rattle.city_txn.specs.Acting.{own_after, finds_mark}
+use Rattle.city_model.specs.inside.CommandParts.{answer}
+use Rattle.city_txn.specs.inside.Done.{own_done, finds_mark}
 
 -- whether the change writes the id
 abbrev pub plans : Change → List ℕ → Bool
@@ -41,7 +43,7 @@ pub record Performed {E : Type 0} (stamp : ℕ) (command : Command) (result : Re
   -- what the command writes stands there as the command leaves it, and so with marks; if memory runs out,
   -- nothing is written. The others' writes and logs stay
   pub written : written_in new after stamp ≡ (if is_ok result
-      then written_as (marking command) (own_after (view old stamp) (own old stamp) command) (written_in old before stamp)
+      then written_after command (own_done (view old stamp) (own old stamp) command) (written_in old before stamp)
       else written_in old before stamp)
   pub unwritten : (id : List ℕ) → unless_by stamp (write_of new.writes id) ≡ unless_by stamp (write_of old.writes id)
   pub logs : (t : ℕ) → (stamp == t) ≡ false → log_of after t ≡ log_of before t

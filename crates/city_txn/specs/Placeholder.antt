@@ -1,7 +1,6 @@
--- What stands in the city at a reserved id.
-use Rattle.std.specs.Prelude.{ℕ, [], List, Some, unwrap_or}
+-- The object that stands where none is.
+use Rattle.std.specs.Prelude.{[]}
 use Rattle.serde_json.specs.Data.{no_members}
-use Rattle.city_model.specs.CityMap.{CityMap, changed}
 use Rattle.city_model.specs.declared.object.Object.{Object}
 use Rattle.city_model.specs.declared.object_type.ObjectType.TheVariants.{GenericCityObject}
 
@@ -12,7 +11,3 @@ placeholder = record {
   parents = [];
   children = [];
 }
-
--- the map with a placeholder at the id, where no object was
-abbrev pub with_slot : CityMap → List ℕ → CityMap
-with_slot m id = changed m id (Some (unwrap_or (m id) placeholder))

@@ -5,9 +5,9 @@ use Rattle.city_model.specs.CityMap.{CityValue, CityMap, at}
 use Rattle.city_txn.specs.declared.ending.End.{End}
 use Rattle.city_txn.specs.declared.ending.End.TheVariants.{Commit, RollBack}
 use Rattle.city_txn.specs.declared.image.Image.{Image}
-use Rattle.city_txn.specs.Images.{seen_at, committed_at}
-use Rattle.city_txn.specs.State.{State, committed, view}
-use Rattle.city_txn.specs.UndoState.{UndoState, image_at}
+use Rattle.city_txn.specs.inside.Images.{seen_at, committed_at}
+use Rattle.city_txn.specs.inside.State.{State, committed, view}
+use Rattle.city_txn.specs.inside.UndoState.{UndoState, image_at}
 
 -- what the end leaves of the object and the image at an id: what the transaction sees, or what stood there
 -- before

@@ -6,7 +6,7 @@ use Rattle.city_model.specs.contracts.object.Object as object
 use Rattle.city_txn.specs.contracts.image.Image as image
 use Rattle.city_txn.specs.contracts.undo_log.Entry as entry
 use Rattle.city_txn.specs.declared.undo_log.Entry.{Entry}
-use Rattle.city_txn.specs.UndoState.{Images}
+use Rattle.city_txn.specs.inside.UndoState.{Images}
 
 abbrev pub coded_objects : Coded Objects
 coded_objects = code (coded_list coded_ℕ) object.the_row.coded
