@@ -7,7 +7,7 @@ ghost use Rattle.city_doc.specs.script.Scripts.{StandsForScripts, IsReadAs, vert
 ghost use Rattle.city_doc.specs.script.Faults.{ScriptTextFault};
 ghost use Rattle.city_doc.specs.script.Commands.{command_of};
 ghost use Rattle.city_doc.specs.tree.Lists.{all_read};
-ghost use Rattle.city_doc.specs.script.Forms.{parts_view, script_of_item};
+ghost use Rattle.city_doc.specs.inside.script.Forms.{parts_view, script_of_item};
 
 use crate::fault::ScriptFault;
 use crate::script::command::command_of;

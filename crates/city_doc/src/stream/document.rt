@@ -8,8 +8,8 @@ ghost use Rattle.city_model.specs.Faultless.{IsFaultless};
 ghost use Rattle.city_model.specs.Integral.{is_integral};
 ghost use Rattle.city_doc.specs.document.Cities.{city_of};
 ghost use Rattle.city_doc.specs.document.Top.{is_text};
-ghost use Rattle.city_doc.specs.stream.Tops.{IsTopSoFar};
-ghost use Rattle.city_doc.specs.stream.Taken.{IsValue};
+ghost use Rattle.city_doc.specs.inside.stream.Tops.{IsTopSoFar};
+ghost use Rattle.city_doc.specs.inside.stream.Taken.{IsValue};
 ghost use Rattle.city_doc.specs.tree.Texts.{HasTree};
 
 use crate::document::top::{frame_of_rest, is_text};

@@ -3,8 +3,9 @@ ghost use Rattle.std.specs.Prelude.{◌≡◌, ◌++◌, ◌∷◌, [], OnOk, tr
 ghost use Rattle.json.specs.Token.{key, end_object};
 ghost use Rattle.serde_json.specs.View.{members_view};
 ghost use Rattle.city_model.specs.Integral.{members_integral};
-ghost use Rattle.city_doc.specs.tree.Between.{is_after, is_before, members_between};
-ghost use Rattle.city_doc.specs.tree.Tokens.{tokens_of_members, MembersReadBack};
+ghost use Rattle.city_doc.specs.inside.tree.Between.{is_after, is_before, members_between};
+ghost use Rattle.city_doc.specs.inside.tree.PartTokens.{tokens_of_members};
+ghost use Rattle.city_doc.specs.inside.tree.ReadsBack.{MembersReadBack};
 
 use crate::tree::text::write_value;
 use json::Writer;

@@ -1,6 +1,6 @@
 use Rattle.city_model.specs.CityMap.{at}
 use Rattle.city_model.specs.Misrelated.{IsMisrelatedAt}
-use Rattle.city_doc.specs.document.Searches.{IsLeastId}
+use Rattle.city_doc.specs.document.Least.{IsLeastId}
 use Rattle.city_doc.proofs.document.ArrangedCities.{arranged_maps, least_of_arranged, related_of_arranged}
 use Rattle.city_doc.proofs.document.Least.{mapped, mapped_some}
 use Rattle.city_doc.proofs.document.arranged.least_misrelated.Goals as goal

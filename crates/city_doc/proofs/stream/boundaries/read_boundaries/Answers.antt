@@ -1,7 +1,7 @@
 use Rattle.std.proofs.Common.{◌≡◌, ◌+◌, ◌-◌, ◌≤◌, ◌∷◌, ap, ◌∙◌, subst, arith}
 use Rattle.json.specs.Token.{begin_array}
-use Rattle.city_doc.specs.stream.Positions.{IsPosition, opened}
-use Rattle.city_doc.specs.stream.Standing.{IsArrayOf, IsReadAs}
+use Rattle.city_doc.specs.inside.stream.Positions.{IsPosition, opened}
+use Rattle.city_doc.specs.inside.stream.Standing.{IsArrayOf, IsReadAs}
 use Rattle.city_doc.proofs.stream.Opening.{read_within}
 use Rattle.city_doc.proofs.stream.boundaries.read_boundaries.Goals as goal
 

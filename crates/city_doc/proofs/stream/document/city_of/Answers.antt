@@ -4,9 +4,9 @@ use Rattle.serde_json.specs.Find.{get_member}
 use Rattle.serde_json.specs.View.{members_view}
 use Rattle.city_doc.specs.document.Cities.{objects_of, entries_of}
 use Rattle.city_doc.specs.document.Top.{is_text, frame_of_rest}
-use Rattle.city_doc.specs.stream.Objects.{AreObjects}
-use Rattle.city_doc.specs.stream.Positions.{IsVertex, points_of}
-use Rattle.city_doc.specs.stream.Standing.{IsArrayOf, IsSlot}
+use Rattle.city_doc.specs.inside.stream.Objects.{AreObjects}
+use Rattle.city_doc.specs.inside.stream.Positions.{IsVertex, points_of}
+use Rattle.city_doc.specs.inside.stream.Standing.{IsArrayOf, IsSlot}
 use Rattle.city_doc.proofs.document.Listings.{listed_again}
 use Rattle.city_doc.proofs.stream.CityRead.{vertices_read, city_read}
 use Rattle.city_doc.proofs.stream.FaultlessObjects.{faultless_city}

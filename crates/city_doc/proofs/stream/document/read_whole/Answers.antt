@@ -1,6 +1,6 @@
 use Rattle.std.proofs.Common.{◌≡◌, [], refl, subst, rules}
 use Rattle.serde_json.specs.Data.{object}
-use Rattle.city_doc.specs.stream.Taken.{IsValue}
+use Rattle.city_doc.specs.inside.stream.Taken.{IsValue}
 use Rattle.city_doc.proofs.stream.document.read_whole.Goals as goal
 
 pub returns-clause-stands : goal.returns-clause-stands

@@ -4,9 +4,9 @@ use Rattle.serde_json.specs.Data.{Members}
 use Rattle.serde_json.specs.Find.{get_member}
 use Rattle.city_model.specs.Members.{without, AreOrdered}
 use Rattle.city_doc.specs.declared.stream.document.TopParts.{TopParts}
-use Rattle.city_doc.specs.stream.Objects.{AreObjects}
-use Rattle.city_doc.specs.stream.Positions.{IsVertex}
-use Rattle.city_doc.specs.stream.Standing.{IsArrayOf, IsSlot}
+use Rattle.city_doc.specs.inside.stream.Objects.{AreObjects}
+use Rattle.city_doc.specs.inside.stream.Positions.{IsVertex}
+use Rattle.city_doc.specs.inside.stream.Standing.{IsArrayOf, IsSlot}
 
 pub record IsTopSoFar (parts : TopParts) (found kept : Members) : Type 0 where
   pub objects : IsSlot AreObjects parts.objects (get_member (codes "CityObjects") found)
