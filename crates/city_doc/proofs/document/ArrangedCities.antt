@@ -14,8 +14,8 @@ use Rattle.city_model.specs.Misrelated.{IsMisrelatedAt}
 use Rattle.city_model.specs.Relations.{AreDistinct, IsInOrder, IsRelated, is_orphan, is_second_level, same_family}
 use Rattle.city_model.proofs.Ids.{same_id_back}
 use Rattle.city_model.proofs.Objects.{at_entries}
-use Rattle.city_doc.specs.document.Arranged.{IsArranged, AreArranged}
-use Rattle.city_doc.specs.document.Searches.{IsLeastId}
+use Rattle.city_doc.specs.inside.document.Arranged.{IsArranged, AreArranged}
+use Rattle.city_doc.specs.document.Least.{IsLeastId}
 
 -- ---- lists
 

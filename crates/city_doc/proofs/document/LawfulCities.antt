@@ -9,7 +9,7 @@ use Rattle.city_model.specs.Shells.{body_fault, some_shape, has_short_ring, has_
 use Rattle.city_model.specs.declared.object.Object.{Object}
 use Rattle.city_model.proofs.Objects.{at_entries}
 use Rattle.city_doc.specs.document.CityFaults.{is_bad_ringed}
-use Rattle.city_doc.specs.document.LenientCities.{first_body}
+use Rattle.city_doc.specs.inside.document.LenientCities.{first_body}
 use Rattle.city_doc.proofs.document.LenientEntries.{first_body-none}
 
 faultless : (body : Body) → is_bad_ringed body ≡ false → some_shape has_open_shell body ≡ false → body_fault body ≡ None

@@ -16,9 +16,10 @@ use Rattle.city_model.specs.Members.{AreOrdered}
 use Rattle.city_model.proofs.Ids.{same_id_true}
 use Rattle.city_model.proofs.Objects.{at_entries}
 use Rattle.city_doc.specs.document.CityFaults.{lenient_map_of, IsBadlyRelatedAt}
-use Rattle.city_doc.specs.document.LenientCities.{lesser, IsReadOf}
+use Rattle.city_doc.specs.inside.document.LenientCities.{lesser, IsReadOf}
 use Rattle.city_doc.specs.object.Faults.{has_bad_list}
-use Rattle.city_doc.specs.document.Searches.{Has, IsLeastId, first_with}
+use Rattle.city_doc.specs.document.Least.{Has, IsLeastId}
+use Rattle.city_doc.specs.inside.document.Searches.{first_with}
 use Rattle.city_doc.proofs.document.LenientEntries.{found-lenient}
 use Rattle.city_doc.proofs.document.Searches.{first_is_least, none_is_none}
 

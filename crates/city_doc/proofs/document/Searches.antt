@@ -8,7 +8,8 @@ use Rattle.serde_json.specs.Data.{Data, Members, no_members, member}
 use Rattle.serde_json.specs.Find.{get_member}
 use Rattle.city_model.specs.Members.{AreOrdered, AllAbove}
 use Rattle.city_model.proofs.Ids.{same_id_true}
-use Rattle.city_doc.specs.document.Searches.{Has, IsLeast, first_with}
+use Rattle.city_doc.specs.document.Least.{Has, IsLeast}
+use Rattle.city_doc.specs.inside.document.Searches.{first_with}
 
 -- a look-up passes a key that is above
 below : (o : Ordering) (a b : Option Data) → o ≡ Less → match_ordering o a b a ≡ a

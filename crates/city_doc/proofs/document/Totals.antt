@@ -21,11 +21,11 @@ use Rattle.city_doc.specs.object.Bodies.{body_of, ids_at}
 use Rattle.city_doc.specs.document.CityFaults.{or_empty}
 use Rattle.city_doc.specs.document.Cities.{city_of, objects_of, points_in}
 use Rattle.city_doc.specs.document.Faults.{objects_in, vertices_in, is_unsupported, StandsAmong, StandsIn, IsFirst}
-use Rattle.city_doc.specs.document.Forms.{AreReadable, HasForm}
+use Rattle.city_doc.specs.inside.document.Forms.{AreReadable, HasForm}
 use Rattle.city_doc.specs.document.Top.{triple_at, has_triple, wrong_member, more_of, frame_with, frame_of_rest, is_transform, all_objects, are_all_objects, are_objects, without_transform_members, without_top_members}
-use Rattle.city_doc.specs.document.LenientCities.{listed, lenient_entries_of, lenient_city_of, IsReadOf}
+use Rattle.city_doc.specs.inside.document.LenientCities.{listed, lenient_entries_of, lenient_city_of, IsReadOf}
 use Rattle.city_doc.specs.object.Faults.{is_unknown_type, is_bad_geometry, has_bad_vertex, has_bad_list}
-use Rattle.city_doc.specs.document.Searches.{first_with}
+use Rattle.city_doc.specs.inside.document.Searches.{first_with}
 use Rattle.city_doc.proofs.document.BuiltObjects.{IsBuilt, is_built, has_form}
 use Rattle.city_doc.proofs.document.Cities.{get-object, objects_at, city_joined}
 use Rattle.city_doc.proofs.document.KeptMembers.{kept_all, transform_admitted, top_admitted}

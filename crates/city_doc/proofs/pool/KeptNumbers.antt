@@ -6,7 +6,8 @@ use Rattle.std.proofs.lemmas.Bool.Decides.{Decides-int_eq}
 use Rattle.std.proofs.lemmas.List.Sums.{prefix_len-le-length}
 use Rattle.city_model.specs.declared.object.Point.{Point}
 use Rattle.city_model.specs.Shells.{same_point}
-use Rattle.city_doc.specs.Pool.{number_of, with_point, without_repeats, with_points}
+use Rattle.city_doc.specs.Pool.{number_of, with_point, without_repeats}
+use Rattle.city_doc.specs.inside.Pool.{with_points}
 use Rattle.city_doc.proofs.pool.Repeats.{is_new, with_points-is}
 
 module _ (test : Point → Bool) where

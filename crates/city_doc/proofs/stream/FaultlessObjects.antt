@@ -10,7 +10,7 @@ use Rattle.city_model.specs.inside.Faultless.{IsFaultless}
 use Rattle.city_model.specs.Relations.{IsRelated, IsLawful}
 use Rattle.city_model.specs.Shells.{body_fault}
 use Rattle.city_model.proofs.Objects.{at_entries}
-use Rattle.city_doc.specs.stream.Faultless.{AreFaultless}
+use Rattle.city_doc.specs.inside.stream.Faultless.{AreFaultless}
 
 put_at : (r : Ordering) (id : List ℕ) (o : Object) (e : List ℕ × Object) (es rest : Entries) → body_fault o.body ≡ None → AreFaultless (e ∷ es) → AreFaultless rest
     → AreFaultless (match_ordering r ((id, o) ∷ e ∷ es) ((e.0, o) ∷ es) (e ∷ rest))

@@ -12,7 +12,7 @@ use Rattle.city_model.specs.Misrelated.{IsMisrelatedAt}
 use Rattle.city_model.specs.Shells as shells
 use Rattle.city_doc.specs.object.Bodies.{body_of, ids_at}
 use Rattle.city_doc.specs.object.Faults.{has_bad_list}
-use Rattle.city_doc.specs.document.Searches.{Has, IsLeastId}
+use Rattle.city_doc.specs.document.Least.{Has, IsLeastId}
 
 -- ---- rings and shells
 

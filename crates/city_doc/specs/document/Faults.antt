@@ -13,7 +13,7 @@ use Rattle.city_doc.specs.declared.fault.ReadFault.TheVariants.{OpenShell}
 use Rattle.city_doc.specs.document.CityFaults.{or_empty, has_bad_ring, has_open_shell, IsLeastBadlyRelated}
 use Rattle.city_doc.specs.document.Top.{wrong_member}
 use Rattle.city_doc.specs.object.Faults.{is_unknown_type, unsupported_name, is_bad_geometry, has_bad_vertex}
-use Rattle.city_doc.specs.document.Searches.{IsLeast}
+use Rattle.city_doc.specs.document.Least.{IsLeast}
 use Rattle.city_doc.specs.tree.Texts.{IsTooLong, IsNoJson, HasTree}
 use Rattle.city_doc.specs.document.Cities.{points_in}
 

@@ -5,8 +5,8 @@ ghost use Rattle.std.specs.List.Sorted.{IsPermutation};
 ghost use Rattle.city_model.specs.CityMap.{at};
 ghost use Rattle.city_model.specs.Misrelated.{IsMisrelatedAt};
 ghost use Rattle.city_model.specs.Relations.{IsRelated};
-ghost use Rattle.city_doc.specs.document.Arranged.{IsArranged, AreArranged};
-ghost use Rattle.city_doc.specs.document.Searches.{IsLeastId};
+ghost use Rattle.city_doc.specs.inside.document.Arranged.{IsArranged, AreArranged};
+ghost use Rattle.city_doc.specs.document.Least.{IsLeastId};
 
 use city_model::city::City;
 use city_model::copied::Copied;

@@ -1,7 +1,7 @@
 //! Reads scripts.
 ghost use Rattle.std.specs.Prelude.{Some, IfSome};
 ghost use Rattle.serde_json.specs.Data.{Members, object};
-ghost use Rattle.city_doc.specs.stream.Scripts.{IsScript, IsScriptSoFar};
+ghost use Rattle.city_doc.specs.inside.stream.Scripts.{IsScript, IsScriptSoFar};
 
 use crate::script::parts::MAX_COMMANDS;
 use crate::stream::list::FromTokens;

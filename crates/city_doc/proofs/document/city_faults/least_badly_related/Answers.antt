@@ -4,7 +4,7 @@ use Rattle.std.proofs.lemmas.Iterator.Adapters.{option_map_id}
 use Rattle.city_model.specs.CityMap.{at}
 use Rattle.city_model.specs.Misrelated.{IsMisrelatedAt}
 use Rattle.city_doc.specs.document.CityFaults.{IsBadlyRelatedAt}
-use Rattle.city_doc.specs.document.LenientCities.{lesser}
+use Rattle.city_doc.specs.inside.document.LenientCities.{lesser}
 use Rattle.city_doc.proofs.document.Least.{none_misrelated, least_badly_related, any_of, of_any, if_none, from_none, mapped, lesser-none}
 use Rattle.city_doc.proofs.document.city_faults.least_badly_related.Goals as goal
 

@@ -6,7 +6,7 @@ use Rattle.city_model.specs.Integral.{is_integral}
 use Rattle.city_model.specs.Relations.{IsLawful}
 use Rattle.city_doc.specs.document.Cities.{city_of}
 use Rattle.city_doc.specs.document.Faults.{IsFirst, StandsIn}
-use Rattle.city_doc.specs.document.LenientCities.{listed}
+use Rattle.city_doc.specs.inside.document.LenientCities.{listed}
 use Rattle.city_doc.proofs.document.Totals.{judged}
 use Rattle.city_doc.proofs.document.read.city_of_tree.Goals as goal
 

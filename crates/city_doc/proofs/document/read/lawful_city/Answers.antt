@@ -12,7 +12,7 @@ given (Err e) o x P is some h = absurd (let no : None ≡ Some x = sym is ∙ so
 
 pub returns-in-None : goal.returns-in-None
 returns-in-None c =
-    let city = c.in_ok-city.ensures.stands in
+    let city = c.in_ok-city.ensures in
     let agree = given c.least_misrelated.result c.ok.result c.in_ok-ok.field-0 (λ o. IfNone o (IsRelated (at c.in_ok-city.city.1))) c.ok.ensures.value c.in_ok-ok.was c.least_misrelated.ensures.none in
     let related = subst (λ o. IfNone o (IsRelated (at c.in_ok-city.city.1))) c.in-None.is agree in
-    (city.0, city.1, city.2, city.3, lawful c.in_ok-city.city.1 c.in_ok-city.ensures.faultless related)
+    (city.0, city.1, city.2, city.3, lawful c.in_ok-city.city.1 city.4 related)

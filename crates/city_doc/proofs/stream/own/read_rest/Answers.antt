@@ -4,7 +4,7 @@ use Rattle.json.proofs.Grammar.{read_key-shorter}
 use Rattle.serde_json.specs.Data.{no_members, put}
 use Rattle.serde_json.specs.View.{view, members_view}
 use Rattle.serde_json.proofs.Views.{members_view-insert_entry}
-use Rattle.city_doc.specs.stream.Standing.{IsTaken, IsPassed}
+use Rattle.city_doc.specs.inside.stream.Standing.{IsTaken, IsPassed}
 use Rattle.city_doc.proofs.stream.Reading.{value_shorter, seen_value, members_begin, members_next, members_end}
 use Rattle.city_doc.proofs.stream.own.read_rest.Goals as goal
 

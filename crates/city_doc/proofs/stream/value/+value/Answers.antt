@@ -8,7 +8,7 @@ use Rattle.serde_json.specs.Find.{of_integer}
 use Rattle.serde_json.specs.View.{view, items_of, members_view}
 use Rattle.serde_json.specs.declared.value.Value.{String, Bool, Null, the_lemmas}
 use Rattle.serde_json.proofs.Views.{view-Array, view-Object, members_view-insert_entry}
-use Rattle.city_doc.specs.stream.Taken.{IsRestOfArray}
+use Rattle.city_doc.specs.inside.stream.Taken.{IsRestOfArray}
 use Rattle.city_doc.proofs.stream.Reading.{AreRead, AreFound, value_shorter, seen_value, null_value, boolean_value, string_value, whole_value, array_value, object_value}
 use Rattle.city_doc.proofs.stream.Reading.{items_begin, items_next, items_end, views_push, members_next, members_end}
 use Rattle.city_doc.proofs.stream.value.+value.Goals as goal

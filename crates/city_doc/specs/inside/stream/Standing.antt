@@ -4,7 +4,7 @@ use Rattle.json.specs.Token.{Token}
 use Rattle.serde_json.specs.Data.{Data, array, Members, put}
 use Rattle.serde_json.specs.Find.{as_str}
 use Rattle.serde_json.specs.View.{items_of}
-use Rattle.city_doc.specs.stream.Taken.{IsValue}
+use Rattle.city_doc.specs.inside.stream.Taken.{IsValue}
 
 -- two lists of one length, whose items belong together one by one
 abbrev pub Pairs : {A B : Type 0} → (A → B → Type 0) → List A → List B → Type 0

@@ -1,3 +1,4 @@
+-- Words for what is read of tokens.
 pub mod Commands
 pub mod Faultless
 pub mod Geometries

@@ -12,10 +12,10 @@ use Rattle.city_model.specs.CityMap.{Entries, CityValue}
 use Rattle.city_model.specs.Members.{without, AreOrdered}
 use Rattle.city_model.specs.declared.frame.Frame.{Frame}
 use Rattle.city_doc.specs.document.CityFaults.{lenient_object_of}
-use Rattle.city_doc.specs.document.Forms.{AreReadable}
+use Rattle.city_doc.specs.inside.document.Forms.{AreReadable}
 use Rattle.city_doc.specs.document.Top.{frame_of_rest}
 use Rattle.city_doc.specs.object.Faults.{has_bad_list}
-use Rattle.city_doc.specs.document.Searches.{first_with}
+use Rattle.city_doc.specs.inside.document.Searches.{first_with}
 
 abbrev pub lenient_entries_of : List Point → Members → Option Entries
 lenient_entries_of points no_members = Some []

@@ -3,7 +3,7 @@ use Rattle.std.specs.Prelude.{◌≡◌, ℕ, None, length}
 use Rattle.serde_json.specs.Data.{Data, Members}
 use Rattle.city_doc.specs.document.Top.{wrong_member}
 use Rattle.city_doc.specs.object.Faults.{is_unknown_type, is_bad_geometry, has_bad_vertex}
-use Rattle.city_doc.specs.document.Searches.{first_with}
+use Rattle.city_doc.specs.inside.document.Searches.{first_with}
 use Rattle.city_doc.specs.document.Faults.{objects_in, vertices_in, is_unsupported}
 
 -- no object is of an unknown type, unsupported, or has a geometry that can't be read with this many vertices

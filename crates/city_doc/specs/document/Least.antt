@@ -1,9 +1,9 @@
 -- The least id of an object that has something.
-use Rattle.std.specs.Prelude.{◌≡◌, ℕ, List, Bool, true, Option, Some, None, if◌then◌else◌}
+use Rattle.std.specs.Prelude.{◌≡◌, ℕ, List, Bool, true, Some}
 use Rattle.std.specs.declared.cmp.Ordering.TheVariants.{Less}
 use Rattle.std.specs.Ordering.{nat_cmp}
 use Rattle.std.specs.Cmp.Lexicographic.{slice_cmp}
-use Rattle.serde_json.specs.Data.{Data, Members, no_members, member}
+use Rattle.serde_json.specs.Data.{Data, Members}
 use Rattle.serde_json.specs.Find.{get_member}
 
 -- the object of this id has it
@@ -17,8 +17,3 @@ IsLeastId P id = P id × ((j : List ℕ) → slice_cmp nat_cmp j id ≡ Less →
 -- the object of this id has it, and none of a smaller id
 abbrev pub IsLeast : (Data → Bool) → Members → List ℕ → Type 0
 IsLeast test objects id = IsLeastId (Has test objects) id
-
--- the first id, in the order of the members
-abbrev pub first_with : (Data → Bool) → Members → Option (List ℕ)
-first_with test no_members = None
-first_with test (member id d ms) = if test d then Some id else first_with test ms

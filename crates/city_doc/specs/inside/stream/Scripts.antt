@@ -3,10 +3,10 @@ use Rattle.std.specs.Prelude.{◌≡◌, ℕ, List, Option, Some, None, codes}
 use Rattle.serde_json.specs.Data.{Data, Members, no_members, put}
 use Rattle.city_model.specs.Runs.{Scripted}
 use Rattle.city_doc.specs.declared.stream.script.ScriptParts.{ScriptParts}
-use Rattle.city_doc.specs.script.Forms.{script_of_item}
-use Rattle.city_doc.specs.stream.Commands.{IsCommand}
-use Rattle.city_doc.specs.stream.Positions.{IsVertex}
-use Rattle.city_doc.specs.stream.Standing.{IsArrayOf, IsListSlot, IsString}
+use Rattle.city_doc.specs.inside.script.Forms.{script_of_item}
+use Rattle.city_doc.specs.inside.stream.Commands.{IsCommand}
+use Rattle.city_doc.specs.inside.stream.Positions.{IsVertex}
+use Rattle.city_doc.specs.inside.stream.Standing.{IsArrayOf, IsListSlot, IsString}
 
 abbrev pub IsScript : Scripted → Data → Type 0
 IsScript s d = script_of_item d ≡ Some s

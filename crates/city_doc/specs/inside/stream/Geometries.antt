@@ -13,8 +13,8 @@ use Rattle.city_doc.specs.declared.stream.geometry.Kind.{Kind}
 use Rattle.city_doc.specs.declared.stream.geometry.Kind.TheVariants as kind
 use Rattle.city_doc.specs.declared.stream.geometry.GeometryParts.{GeometryParts}
 use Rattle.city_doc.specs.shape.Geometries.{without_geometry_members}
-use Rattle.city_doc.specs.stream.Positions.{IsNested}
-use Rattle.city_doc.specs.stream.Standing.{IsSlot, IsString}
+use Rattle.city_doc.specs.inside.stream.Positions.{IsNested}
+use Rattle.city_doc.specs.inside.stream.Standing.{IsSlot, IsString}
 use Rattle.city_doc.specs.tree.Members.{kept_if}
 
 abbrev pub AreBoundaries : Boundaries → Data → Type 0

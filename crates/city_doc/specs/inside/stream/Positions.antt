@@ -6,7 +6,7 @@ use Rattle.serde_json.specs.Find.{as_number, as_i64}
 use Rattle.city_model.specs.declared.object.Point.{Point}
 use Rattle.city_doc.specs.declared.stream.vertices.Vertex.{Vertex}
 use Rattle.city_doc.specs.shape.Nesting.{Nested}
-use Rattle.city_doc.specs.stream.Standing.{IsArrayOf}
+use Rattle.city_doc.specs.inside.stream.Standing.{IsArrayOf}
 use Rattle.city_doc.specs.tree.Triples.{point_of}
 
 abbrev pub IsVertex : Vertex → Data → Type 0

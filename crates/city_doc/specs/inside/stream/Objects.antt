@@ -10,8 +10,8 @@ use Rattle.city_model.specs.Types.{type_named}
 use Rattle.city_doc.specs.declared.stream.object.ObjectParts.{ObjectParts}
 use Rattle.city_doc.specs.declared.stream.objects.Listing.{Listing}
 use Rattle.city_doc.specs.object.Bodies.{without_object_members}
-use Rattle.city_doc.specs.stream.Geometries.{IsGeometry}
-use Rattle.city_doc.specs.stream.Standing.{Pairs, IsSlot, IsListSlot, IsString}
+use Rattle.city_doc.specs.inside.stream.Geometries.{IsGeometry}
+use Rattle.city_doc.specs.inside.stream.Standing.{Pairs, IsSlot, IsListSlot, IsString}
 use Rattle.city_doc.specs.tree.Members.{kept_if}
 
 abbrev pub IsType : ObjectType → Data → Type 0

@@ -15,8 +15,8 @@ use Rattle.city_doc.specs.declared.stream.command.Verb.TheVariants as verb
 use Rattle.city_doc.specs.script.CommandForms.{ReadForm, PutForm, DeleteForm, AttachForm}
 use Rattle.city_doc.specs.script.CommandForms.{DetachForm, MarkForm, BackForm, CommitForm, AbortForm, form_of}
 use Rattle.city_doc.specs.script.Commands.{names_relations}
-use Rattle.city_doc.specs.stream.Objects.{IsObject, IsObjectSoFar}
-use Rattle.city_doc.specs.stream.Standing.{IsString}
+use Rattle.city_doc.specs.inside.stream.Objects.{IsObject, IsObjectSoFar}
+use Rattle.city_doc.specs.inside.stream.Standing.{IsString}
 
 -- ---- bodies
 
