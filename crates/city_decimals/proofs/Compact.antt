@@ -18,11 +18,13 @@ use Rattle.city_decimals.specs.Encoded.{encoded}
 use Rattle.city_decimals.specs.declared.shapes.Form.TheVariants.{Plain, Shielded, Framed}
 use Rattle.city_decimals.specs.Decoded.{decoded, decoded_members, number_in, number_under, number_or}
 use Rattle.city_decimals.specs.Numbers.{is_end, is_number}
-use Rattle.city_decimals.specs.Copies.{Moves}
-use Rattle.city_decimals.specs.Compact.{value_text, items_text, members_text, comma_if, State, IsUntagged, IsCopied}
-use Rattle.city_decimals.specs.Compact.{IsItemCopied}
-use Rattle.city_decimals.specs.Compact.{AreItemsCopied, IsMemberCopied, AreMembersCopied, IsFrameCopied, IsKeyPassed}
-use Rattle.city_decimals.specs.Compact.{member_decoded, member_encoded, frame_decoded, frame_encoded}
+use Rattle.city_decimals.specs.inside.Copies.{Moves}
+use Rattle.city_decimals.specs.inside.Compact.{value_text, items_text, members_text, comma_if, State, IsUntagged}
+use Rattle.city_decimals.specs.inside.Compact.{IsCopied}
+use Rattle.city_decimals.specs.inside.Compact.{IsItemCopied}
+use Rattle.city_decimals.specs.inside.Compact.{AreItemsCopied, IsMemberCopied, AreMembersCopied, IsFrameCopied}
+use Rattle.city_decimals.specs.inside.Compact.{IsKeyPassed}
+use Rattle.city_decimals.specs.inside.Compact.{member_decoded, member_encoded, frame_decoded, frame_encoded}
 
 pub moves_on : (a b d : State) (xs ys us vs : List ℕ) → Moves a b xs ys → Moves b d us vs
     → Moves a d (xs ++ us) (ys ++ vs)

@@ -9,11 +9,12 @@ use Rattle.json.specs.Word.{after_number}
 use Rattle.city_decimals.specs.Shapes.{framed, only, fronted}
 use Rattle.city_decimals.specs.Encoded.{encoded, tagged}
 use Rattle.city_decimals.specs.Decoded.{decoded, decoded_members, number_in, number_or}
-use Rattle.city_decimals.specs.Numbers.{is_whole, IsPlain}
-use Rattle.city_decimals.specs.Copies.{Moves}
-use Rattle.city_decimals.specs.Compact.{value_text, members_text, comma_if, State, IsCopied, IsItemCopied}
-use Rattle.city_decimals.specs.Compact.{AreMembersCopied, IsFrameCopied}
-use Rattle.city_decimals.specs.Compact.{triple, IsNumberCopied, IsTripleCopied, frame_decoded, frame_encoded}
+use Rattle.city_decimals.specs.Numbers.{is_whole}
+use Rattle.city_decimals.specs.inside.PlainNumbers.{IsPlain}
+use Rattle.city_decimals.specs.inside.Copies.{Moves}
+use Rattle.city_decimals.specs.inside.Compact.{value_text, members_text, comma_if, State, IsCopied, IsItemCopied}
+use Rattle.city_decimals.specs.inside.Compact.{AreMembersCopied, IsFrameCopied}
+use Rattle.city_decimals.specs.inside.Compact.{triple, IsNumberCopied, IsTripleCopied, frame_decoded, frame_encoded}
 use Rattle.city_decimals.proofs.PlainNumbers.{plain_is_number, plain_is_whole}
 use Rattle.city_decimals.proofs.Compact.{moves_on, moves_as, untagged_none}
 

@@ -15,7 +15,7 @@ use Rattle.city_decimals.specs.Numbers.{is_number}
 use Rattle.city_decimals.specs.Shapes.{tag, is_tag, only}
 use Rattle.city_decimals.specs.Decoded.{number_under, number_in, number_or, out_of_form, decoded, decoded_items}
 use Rattle.city_decimals.specs.Decoded.{decoded_members, decoded_object}
-use Rattle.city_decimals.specs.Streams.{written}
+use Rattle.city_decimals.specs.inside.Streams.{written}
 
 -- where the members encode no number, they are written behind a brace
 pub object_written : (top : Bool) (out : List Token) (o : Option (Members × List Token))

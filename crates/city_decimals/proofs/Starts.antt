@@ -14,7 +14,7 @@ use Rattle.json.specs.declared.token.Token.TheVariants.{Number, Bool, Null, Bad}
 use Rattle.city_decimals.specs.Shapes.{is_text_or_array, only}
 use Rattle.city_decimals.specs.Decoded.{number_under, number_in, number_or, decoded, decoded_members, decoded_top}
 use Rattle.city_decimals.specs.Encoded.{encoded, encoded_top}
-use Rattle.city_decimals.specs.Streams.{begins_shielded}
+use Rattle.city_decimals.specs.inside.Streams.{begins_shielded}
 
 abbrev pub first : Json → Token
 first null = Token.null

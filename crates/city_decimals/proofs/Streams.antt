@@ -12,7 +12,7 @@ use Rattle.json.proofs.Numbered.{document-HasNumbers}
 use Rattle.json.proofs.Found.{Some_inj, not_found}
 use Rattle.json.proofs.Grammar.{left, left-parse_map, skip_value-shorter}
 use Rattle.json.proofs.Grammar.{items_end, items_more, members_end, members_more}
-use Rattle.city_decimals.specs.Streams.{written}
+use Rattle.city_decimals.specs.inside.Streams.{written}
 
 module _ {A : Type 0} (f : A → List Token) where
   -- what was read, where something was written

@@ -3,9 +3,9 @@ ghost use Rattle.std.specs.Prelude.{◌≡◌, ◌∷◌, ◌++◌, ◌+◌, ◌
 ghost use Rattle.std.specs.Prelude.{drop, IfOk, IfErr, IfSome};
 ghost use Rattle.std.specs.Bool.{OnTrue};
 ghost use Rattle.json.specs.Print.{IsNumber, escape};
-ghost use Rattle.city_decimals.specs.Copies.{Moves, IsEscaped, IsPlainByte};
-ghost use Rattle.city_decimals.specs.Compact.{comma_if, IsKeyPassed};
-ghost use Rattle.city_decimals.specs.Numbers.{IsPlain};
+ghost use Rattle.city_decimals.specs.inside.Copies.{Moves, IsEscaped, IsPlainByte};
+ghost use Rattle.city_decimals.specs.inside.Compact.{comma_if, IsKeyPassed};
+ghost use Rattle.city_decimals.specs.inside.PlainNumbers.{IsPlain};
 
 use crate::numbers::{is_number, plain_len};
 use crate::text::text_of;
@@ -29,7 +29,7 @@ impl<'a> Model for Copier<'a> {
 
     ghost Value = { List ℕ × List ℕ × List ℕ };
 
-    ghost use Rattle.city_decimals.specs.Copies.{copier_view, IsCopier};
+    ghost use Rattle.city_decimals.specs.inside.Copies.{copier_view, IsCopier};
 
     ghost view = { copier_view };
 

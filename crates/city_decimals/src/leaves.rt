@@ -1,7 +1,7 @@
 //! Values of compact texts that are copied as they are, and the names of members.
 ghost use Rattle.std.specs.Prelude.{◌≡◌, ◌∷◌, [], ◌&&◌, codes, IfSome};
 ghost use Rattle.std.specs.Str.{bytes_eq};
-ghost use Rattle.city_decimals.specs.Compact.{IsCopied};
+ghost use Rattle.city_decimals.specs.inside.Compact.{IsCopied};
 ghost use Rattle.city_decimals.specs.Decoded.{decoded};
 ghost use Rattle.city_decimals.specs.Encoded.{encoded};
 

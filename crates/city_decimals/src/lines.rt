@@ -1,6 +1,7 @@
 //! Decodes a text line by line, as a report and a model stand in it.
 ghost use Rattle.std.specs.Prelude.{◌≡◌, IfOk, IfErr};
-ghost use Rattle.city_decimals.specs.Lines.{IsFirstNewline, AreDecodedLines, IsLinesFault};
+ghost use Rattle.city_decimals.specs.Lines.{AreDecodedLines, IsLinesFault};
+ghost use Rattle.city_decimals.specs.inside.Newlines.{IsFirstNewline};
 
 use crate::decoding::decode_onto;
 use crate::fault::DecimalsFault;

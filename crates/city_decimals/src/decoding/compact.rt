@@ -1,10 +1,11 @@
 //! Compact texts, copied but for what is encoded.
 ghost use Rattle.std.specs.Prelude.{◌≡◌, ◌++◌, ◌∷◌, [], ℕ, List, true, false, ◌&&◌, codes, IfSome, IfOk, IfErr};
 ghost use Rattle.std.specs.Str.{IsUtf8, bytes_eq};
-ghost use Rattle.city_decimals.specs.Compact.{IsCopied, IsItemCopied, AreItemsCopied, IsMemberCopied, AreMembersCopied};
-ghost use Rattle.city_decimals.specs.Compact.{IsFrameCopied, IsTopCopied, State, member_decoded, frame_decoded};
+ghost use Rattle.city_decimals.specs.inside.Compact.{IsCopied, IsItemCopied, AreItemsCopied, IsMemberCopied};
+ghost use Rattle.city_decimals.specs.inside.Compact.{AreMembersCopied};
+ghost use Rattle.city_decimals.specs.inside.Compact.{IsFrameCopied, IsTopCopied, State, member_decoded, frame_decoded};
 ghost use Rattle.city_decimals.specs.Decoded.{decoded, decoded_items, decoded_members};
-ghost use Rattle.city_decimals.specs.Copies.{Moves};
+ghost use Rattle.city_decimals.specs.inside.Copies.{Moves};
 
 use crate::copier::Copier;
 use crate::leaves::{copy_name, copy_string, is_framed, is_tag};

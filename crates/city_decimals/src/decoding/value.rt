@@ -8,7 +8,7 @@ ghost use Rattle.json.specs.Tree.{json_tokens, items_tokens, members_tokens};
 ghost use Rattle.city_decimals.specs.Shapes.{is_tag, only};
 ghost use Rattle.city_decimals.specs.Decoded.{decoded, decoded_items, decoded_members, decoded_object, decoded_top};
 ghost use Rattle.city_decimals.specs.Decoded.{out_of_form};
-ghost use Rattle.city_decimals.specs.Streams.{written};
+ghost use Rattle.city_decimals.specs.inside.Streams.{written};
 ghost use Rattle.city_decimals.specs.declared.fault.DecimalsFault.TheVariants.{NotJson};
 
 use super::transform::decode_transform;

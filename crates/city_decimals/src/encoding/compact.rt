@@ -1,11 +1,12 @@
 //! Compact texts, copied but for what is encoded.
 ghost use Rattle.std.specs.Prelude.{◌≡◌, ◌++◌, ◌∷◌, [], ℕ, List, true, false, IfSome, IfOk, IfErr};
 ghost use Rattle.std.specs.Str.{IsUtf8};
-ghost use Rattle.city_decimals.specs.Compact.{IsCopied, IsItemCopied, AreItemsCopied, IsMemberCopied, AreMembersCopied};
-ghost use Rattle.city_decimals.specs.Compact.{IsFrameCopied, IsTopCopied, State, member_encoded, frame_encoded};
-ghost use Rattle.city_decimals.specs.Compact.{IsNumberCopied, IsTripleCopied};
+ghost use Rattle.city_decimals.specs.inside.Compact.{IsCopied, IsItemCopied, AreItemsCopied, IsMemberCopied};
+ghost use Rattle.city_decimals.specs.inside.Compact.{AreMembersCopied};
+ghost use Rattle.city_decimals.specs.inside.Compact.{IsFrameCopied, IsTopCopied, State, member_encoded, frame_encoded};
+ghost use Rattle.city_decimals.specs.inside.Compact.{IsNumberCopied, IsTripleCopied};
 ghost use Rattle.city_decimals.specs.Encoded.{encoded, encoded_items, encoded_members};
-ghost use Rattle.city_decimals.specs.Copies.{Moves};
+ghost use Rattle.city_decimals.specs.inside.Copies.{Moves};
 
 use crate::copier::Copier;
 use crate::leaves::{copy_name, copy_string, is_framed, is_tag};

@@ -6,7 +6,7 @@ ghost use Rattle.json.specs.Reads.{token_of};
 ghost use Rattle.json.specs.Tree.{json_tokens, items_tokens, members_tokens};
 ghost use Rattle.city_decimals.specs.Shapes.{form_of, in_form, is_tag, is_text_or_array};
 ghost use Rattle.city_decimals.specs.Encoded.{encoded, encoded_items, encoded_members, encoded_top};
-ghost use Rattle.city_decimals.specs.Streams.{written, begins_shielded};
+ghost use Rattle.city_decimals.specs.inside.Streams.{written, begins_shielded};
 ghost use Rattle.city_decimals.specs.declared.fault.DecimalsFault.TheVariants.{NotJson};
 ghost use Rattle.city_decimals.specs.declared.shapes.Form.TheVariants.{Shielded, Plain};
 

@@ -6,7 +6,7 @@ use Rattle.json.specs.Lex.{tokens}
 use Rattle.json.specs.Print.{print}
 use Rattle.json.specs.Tree.{json_tokens}
 use Rattle.city_decimals.specs.Decoded.{decoded_top}
-use Rattle.city_decimals.specs.Streams.{written}
+use Rattle.city_decimals.specs.inside.Streams.{written}
 use Rattle.city_decimals.proofs.CompactTexts.{top_decoded}
 use Rattle.city_decimals.proofs.Streams.{whole_read}
 use Rattle.city_decimals.proofs.decoding.decode_onto.Goals as goal

@@ -5,7 +5,7 @@ use Rattle.json.specs.Lex.{tokens}
 use Rattle.json.specs.Print.{print}
 use Rattle.json.specs.Tree.{json_tokens}
 use Rattle.city_decimals.specs.Encoded.{encoded_top}
-use Rattle.city_decimals.specs.Streams.{written}
+use Rattle.city_decimals.specs.inside.Streams.{written}
 use Rattle.city_decimals.proofs.CompactTexts.{top_encoded}
 use Rattle.city_decimals.proofs.Streams.{whole_read}
 use Rattle.city_decimals.proofs.Texts.{lossless, whole_text, text_read}

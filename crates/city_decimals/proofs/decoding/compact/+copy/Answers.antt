@@ -1,6 +1,7 @@
 use Rattle.std.proofs.Common.{false, length, refl, sym, ap, ◌∙◌, subst, arith}
 use Rattle.city_decimals.specs.Decoded.{decoded, decoded_items, decoded_members}
-use Rattle.city_decimals.specs.Compact.{AreItemsCopied, IsItemCopied, IsMemberCopied, member_decoded, frame_decoded}
+use Rattle.city_decimals.specs.inside.Compact.{AreItemsCopied, IsItemCopied, IsMemberCopied, member_decoded}
+use Rattle.city_decimals.specs.inside.Compact.{frame_decoded}
 use Rattle.city_decimals.proofs.Compact.{array_copied, object_copied, items_end, items_first}
 use Rattle.city_decimals.proofs.CompactForms.{frame_copied, plain_copied}
 use Rattle.city_decimals.proofs.Compact.{members_end, members_first, member_plain, member_framed, item_shorter}

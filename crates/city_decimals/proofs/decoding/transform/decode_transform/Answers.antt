@@ -4,7 +4,7 @@ use Rattle.json.specs.Json.{Json}
 use Rattle.json.specs.Tree.{json_tokens, HasNumbers}
 use Rattle.json.specs.Value.{value_view}
 use Rattle.city_decimals.specs.Decoded.{decoded, out_of_form}
-use Rattle.city_decimals.specs.Streams.{written}
+use Rattle.city_decimals.specs.inside.Streams.{written}
 use Rattle.city_decimals.proofs.Insides.{inner_decoded, inner_numbers}
 use Rattle.city_decimals.proofs.decoding.transform.decode_transform.Goals as goal
 

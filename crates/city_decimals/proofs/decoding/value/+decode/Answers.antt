@@ -16,7 +16,7 @@ use Rattle.city_decimals.specs.Numbers.{is_number}
 use Rattle.city_decimals.specs.Shapes.{is_tag, only}
 use Rattle.city_decimals.specs.Decoded.{number_or, decoded, decoded_items, decoded_members}
 use Rattle.city_decimals.specs.Decoded.{decoded_object, out_of_form}
-use Rattle.city_decimals.specs.Streams.{written}
+use Rattle.city_decimals.specs.inside.Streams.{written}
 use Rattle.city_decimals.proofs.Objects.{object_written, first_is_no_number, two_are_no_number, other_name}
 use Rattle.city_decimals.proofs.Objects.{text_number, tag_form}
 use Rattle.city_decimals.proofs.Objects.{has_item, several_written}

@@ -6,7 +6,7 @@ use Rattle.json.specs.Reads.{token_of}
 use Rattle.json.specs.Tree.{json_tokens}
 use Rattle.json.proofs.Grammar.{value_is, value-begin_object}
 use Rattle.city_decimals.specs.Decoded.{decoded, decoded_top}
-use Rattle.city_decimals.specs.Streams.{written}
+use Rattle.city_decimals.specs.inside.Streams.{written}
 use Rattle.city_decimals.proofs.Streams.{written_under, written_as}
 use Rattle.city_decimals.proofs.Starts.{decoded_other, no_brace}
 use Rattle.city_decimals.proofs.decoding.value.decode_top.Goals as goal

@@ -1,6 +1,7 @@
 use Rattle.std.proofs.Common.{false, length, refl, sym, ap, ◌∙◌, subst, arith}
 use Rattle.city_decimals.specs.Encoded.{encoded, encoded_items, encoded_members}
-use Rattle.city_decimals.specs.Compact.{AreItemsCopied, IsItemCopied, IsMemberCopied, member_encoded, frame_encoded}
+use Rattle.city_decimals.specs.inside.Compact.{AreItemsCopied, IsItemCopied, IsMemberCopied, member_encoded}
+use Rattle.city_decimals.specs.inside.Compact.{frame_encoded}
 use Rattle.city_decimals.proofs.Compact.{array_copied, object_copied, items_end, items_first}
 use Rattle.city_decimals.proofs.Compact.{members_end, members_first, member_plain, member_framed, item_shorter}
 use Rattle.city_decimals.proofs.Compact.{some_weaker, encoded_plain, encoded_framed}

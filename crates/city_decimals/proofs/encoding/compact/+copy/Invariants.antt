@@ -1,6 +1,6 @@
 use Rattle.std.proofs.Common.{◌≡◌, ◌+◌, ◌*◌, false, length}
 use Rattle.city_decimals.specs.Encoded.{encoded_items, encoded_members}
-use Rattle.city_decimals.specs.Compact.{State, AreItemsCopied, AreMembersCopied}
+use Rattle.city_decimals.specs.inside.Compact.{State, AreItemsCopied, AreMembersCopied}
 use Rattle.city_decimals.proofs.encoding.compact.+copy.Given as goal
 
 abbrev pub decreases-copy_array : goal.decreases-copy_array

@@ -1,7 +1,7 @@
 use Rattle.std.proofs.Common.{◌≡◌, length, take, refl, sym, ap, ◌∙◌, subst, rules}
 use Rattle.json.specs.Print.{IsNumber}
 use Rattle.city_decimals.specs.Numbers.{is_whole}
-use Rattle.city_decimals.specs.Copies.{Moves}
+use Rattle.city_decimals.specs.inside.Copies.{Moves}
 use Rattle.city_decimals.proofs.Compact.{some_weaker}
 use Rattle.city_decimals.proofs.CompactForms.{tagged_encoded}
 use Rattle.city_decimals.proofs.encoding.compact.copy_other_number.Goals as goal

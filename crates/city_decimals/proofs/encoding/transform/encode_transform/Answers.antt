@@ -5,8 +5,8 @@ use Rattle.json.specs.Tree.{json_tokens}
 use Rattle.json.specs.Value.{value_view}
 use Rattle.city_decimals.specs.Shapes.{form_of, in_form}
 use Rattle.city_decimals.specs.Encoded.{encoded}
-use Rattle.city_decimals.specs.Forms.{tokens_before, tokens_after}
-use Rattle.city_decimals.specs.Streams.{written}
+use Rattle.city_decimals.specs.inside.Forms.{tokens_before, tokens_after}
+use Rattle.city_decimals.specs.inside.Streams.{written}
 use Rattle.city_decimals.proofs.Forms.{around}
 use Rattle.city_decimals.proofs.encoding.transform.encode_transform.Goals as goal
 

@@ -10,7 +10,7 @@ use Rattle.json.proofs.Grammar.{value_is, value-begin_array, value-begin_object,
 use Rattle.json.proofs.Grammar.{members_fail, members_no_key}
 use Rattle.city_decimals.specs.Shapes.{form_of, in_form, is_text_or_array}
 use Rattle.city_decimals.specs.Encoded.{encoded, encoded_items, encoded_members}
-use Rattle.city_decimals.specs.Streams.{written, begins_shielded}
+use Rattle.city_decimals.specs.inside.Streams.{written, begins_shielded}
 use Rattle.city_decimals.specs.declared.shapes.Form.TheVariants.{Shielded, Plain}
 use Rattle.city_decimals.proofs.Starts.{shielded_starts}
 use Rattle.city_decimals.proofs.Streams.{none_written, written_as, written_between, token_first, value_shorter}

@@ -3,7 +3,7 @@ use Rattle.json.specs.Token.{Token}
 use Rattle.json.specs.Json.{Items, Members, items, members, value}
 use Rattle.json.specs.Tree.{items_tokens, members_tokens}
 use Rattle.city_decimals.specs.Encoded.{encoded_items, encoded_members}
-use Rattle.city_decimals.specs.Streams.{written}
+use Rattle.city_decimals.specs.inside.Streams.{written}
 use Rattle.city_decimals.proofs.encoding.value.+encode.Given as goal
 
 abbrev pub decreases-encode_from : goal.decreases-encode_from

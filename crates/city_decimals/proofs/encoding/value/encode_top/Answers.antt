@@ -6,7 +6,7 @@ use Rattle.json.specs.Reads.{token_of}
 use Rattle.json.specs.Tree.{json_tokens, members_tokens}
 use Rattle.json.proofs.Grammar.{value_is, value-begin_object}
 use Rattle.city_decimals.specs.Encoded.{encoded, encoded_members, encoded_top}
-use Rattle.city_decimals.specs.Streams.{written}
+use Rattle.city_decimals.specs.inside.Streams.{written}
 use Rattle.city_decimals.proofs.Streams.{token_first, written_as}
 use Rattle.city_decimals.proofs.Starts.{encoded_other, no_brace}
 use Rattle.city_decimals.proofs.encoding.value.encode_top.Goals as goal

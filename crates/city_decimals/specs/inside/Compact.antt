@@ -8,7 +8,7 @@ use Rattle.json.specs.Tree.{depth, items_depth, members_depth, HasNumbers, Items
 use Rattle.city_decimals.specs.Shapes.{is_tag, is_frame, fronted, framed, form_of, in_form}
 use Rattle.city_decimals.specs.Decoded.{decoded, out_of_form}
 use Rattle.city_decimals.specs.Encoded.{encoded}
-use Rattle.city_decimals.specs.Copies.{Moves}
+use Rattle.city_decimals.specs.inside.Copies.{Moves}
 
 abbrev pub comma_if : Bool → List ℕ
 comma_if later = cond later (44 ∷ []) []
