@@ -16,8 +16,9 @@ use Rattle.json.proofs.Printed.Strings.{content-escape}
 use Rattle.city_decimals.specs.Shapes.{is_tag, is_transform, is_frame, tag, only, fronted, in_form, is_text_or_array}
 use Rattle.city_decimals.specs.Encoded.{encoded}
 use Rattle.city_decimals.specs.declared.shapes.Form.TheVariants.{Plain, Shielded, Framed}
-use Rattle.city_decimals.specs.Decoded.{decoded, decoded_members, number_in, number_under, number_or}
-use Rattle.city_decimals.specs.Numbers.{is_end, is_number}
+use Rattle.city_decimals.specs.Decoded.{decoded, decoded_members, number_in, number_or}
+use Rattle.city_decimals.specs.Numbers.{is_end}
+use Rattle.city_decimals.specs.inside.Forms.{can_have_form}
 use Rattle.city_decimals.specs.inside.Copies.{Moves}
 use Rattle.city_decimals.specs.inside.Compact.{value_text, items_text, members_text, comma_if, State, IsUntagged}
 use Rattle.city_decimals.specs.inside.Compact.{IsCopied}
@@ -25,6 +26,8 @@ use Rattle.city_decimals.specs.inside.Compact.{IsItemCopied}
 use Rattle.city_decimals.specs.inside.Compact.{AreItemsCopied, IsMemberCopied, AreMembersCopied, IsFrameCopied}
 use Rattle.city_decimals.specs.inside.Compact.{IsKeyPassed}
 use Rattle.city_decimals.specs.inside.Compact.{member_decoded, member_encoded, frame_decoded, frame_encoded}
+use Rattle.city_decimals.proofs.Bools.{neither}
+use Rattle.city_decimals.proofs.Objects.{other_name}
 
 pub moves_on : (a b d : State) (xs ys us vs : List ℕ) → Moves a b xs ys → Moves b d us vs
     → Moves a d (xs ++ us) (ys ++ vs)
@@ -86,17 +89,9 @@ array_copied f g same limit a b d some first rest =
 
 -- ---- objects
 
-untagged_under : (k : List ℕ) (j : Json) → is_tag k ≡ false → number_under k j ≡ None
-untagged_under k null e = refl
-untagged_under k (boolean b) e = refl
-untagged_under k (number s) e = refl
-untagged_under k (string s) e = ap (λ b. cond (b && is_number s) (Some s) None) e
-untagged_under k (array js) e = refl
-untagged_under k (object ms) e = refl
-
 pub untagged_none : (ms : Members) → IsUntagged ms → number_in ms ≡ None
 untagged_none no_members h = refl
-untagged_none (member k j no_members) h = untagged_under k j h
+untagged_none (member k j no_members) h = other_name k j h
 untagged_none (member k j (member l i ms)) h = refl
 
 pub object_decoded : (ms : Members) → IsUntagged ms → decoded (object ms) ≡ object (decoded_members false ms)
@@ -300,6 +295,11 @@ pub encoded_plain : (top : Bool) (k : List ℕ) (j : Json) → (top && is_transf
     → member_encoded top k j ≡ encoded j
 encoded_plain top k j no_frame untagged =
     ap₂ (λ t u. in_form (cond t Framed (cond (u && is_text_or_array j) Shielded Plain)) (encoded j)) no_frame untagged
+
+-- a name under which no form stands
+pub formless : (top : Bool) (k : List ℕ) (j : Json) → can_have_form top k ≡ false
+    → ((top && is_transform k j) ≡ false) × (is_tag k ≡ false)
+formless top k j h = neither top (bytes_eq k (codes "transform")) (is_tag k) (is_frame j) h
 
 -- a transform at the top is framed
 pub decoded_framed : (top : Bool) (k : List ℕ) (j : Json) → top ≡ true → is_transform k j ≡ true

@@ -36,16 +36,6 @@ module _ {A : Type 0} (f : A → List Token) where
       let a = was_read out now o r e in
       ap (written g out) a.1 ∙ ap (λ ts. Some (ts, r)) (ap (λ ts. out ++ ts) (same a.0 a.1) ∙ sym a.2)
 
-  -- a token before it and one after it
-  pub written_between : (g : A → List Token) (s t : Token) (out now : List Token) (o : Option (A
-      × List Token)) (r : List Token) → written f (out ++ s ∷ []) o ≡ Some (now, r)
-      → ((a : A) → o ≡ Some (a, r) → g a ≡ s ∷ (f a ++ t ∷ [])) → written g out o ≡ Some (now ++ t ∷ [], r)
-  written_between g s t out now o r e same =
-      let a = was_read (out ++ s ∷ []) now o r e in
-      ap (written g out) a.1 ∙ ap (λ ts. Some (ts, r)) (ap (λ ts. out ++ ts) (same a.0 a.1)
-      ∙ sym (append_assoc out (s ∷ []) (f a.0 ++ t ∷ [])) ∙ sym (append_assoc (out ++ s ∷ []) (f a.0) (t ∷ []))
-      ∙ ap (λ ts. ts ++ t ∷ []) (sym a.2))
-
   -- a token before all else
   pub token_first : {B : Type 0} (h : A → B) (g : B → List Token) (t : Token) → ((a : A) → g (h a) ≡ t ∷ f a)
       → (out : List Token) (o : Option (A × List Token))

@@ -6,3 +6,4 @@ pub mod Copies
 pub mod Compact
 pub mod PlainNumbers
 pub mod Newlines
+pub mod Objects

@@ -4,8 +4,9 @@ ghost use Rattle.std.specs.Str.{IsUtf8};
 ghost use Rattle.city_decimals.specs.Texts.{IsDecoded, IsDecimalsFault};
 
 mod compact;
+mod first;
 mod inner;
-mod transform;
+mod member;
 mod tree;
 mod value;
 

@@ -10,8 +10,8 @@ ghost use Rattle.city_decimals.specs.Whole.{is_integral};
 
 mod compact;
 mod form;
+mod member;
 mod number;
-mod transform;
 mod tree;
 mod value;
 

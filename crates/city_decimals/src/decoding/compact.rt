@@ -9,7 +9,6 @@ ghost use Rattle.city_decimals.specs.inside.Copies.{Moves};
 
 use crate::copier::Copier;
 use crate::leaves::{copy_name, copy_string, is_framed, is_tag};
-use crate::text::text_of;
 use json::MAX_DEPTH;
 
 /// What begins an object that is an encoded number, and what ends it.
@@ -29,19 +28,11 @@ pub(super) fn decode_compact(bytes: &[u8], out: Vec<u8>) -> Result<Vec<u8>, Vec<
         × IsTopCopied (decoded_members true) bytes.now text × IsUtf8 text × (v.items ≡ out.items ++ text)) }
     ensures err { IfErr result (λ v. v.items ≡ out.items) }
 {
-    let before = out.len();
     let mut copier = Copier::new(bytes, out);
     if copy_top(&mut copier).is_none() {
         return Err(copier.give_up());
     }
-    let mut out = copier.finish()?;
-    match text_of(&out[before..]) {
-        Ok(_) => Ok(out),
-        Err(_) => {
-            out.truncate(before);
-            Err(out)
-        }
-    }
+    copier.finish()
 }
 
 /// Copies the object that a whole text is, decoded.

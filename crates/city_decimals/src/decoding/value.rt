@@ -1,22 +1,20 @@
 //! Values, token by token.
-ghost use Rattle.std.specs.Prelude.{◌≡◌, ◌≢◌, ◌∷◌, ◌+◌, ◌<◌, ◌≤◌, true, OnOk, Some, None, Err, ℕ, length};
-ghost use Rattle.json.specs.Token.{key, string};
-ghost use Rattle.json.specs.Json.{value, items, members, array};
+ghost use Rattle.std.specs.Prelude.{◌≡◌, ◌≢◌, ◌∷◌, ◌<◌, ◌≤◌, OnOk, Some, None, Err, ℕ, length};
+ghost use Rattle.json.specs.Token.{key};
+ghost use Rattle.json.specs.Json.{value, items, members};
 ghost use Rattle.json.specs.Print.{IsPrintable};
 ghost use Rattle.json.specs.Reads.{token_of};
 ghost use Rattle.json.specs.Tree.{json_tokens, items_tokens, members_tokens};
-ghost use Rattle.city_decimals.specs.Shapes.{is_tag, only};
-ghost use Rattle.city_decimals.specs.Decoded.{decoded, decoded_items, decoded_members, decoded_object, decoded_top};
-ghost use Rattle.city_decimals.specs.Decoded.{out_of_form};
+ghost use Rattle.city_decimals.specs.Decoded.{decoded, decoded_items, decoded_members, decoded_top, out_of_form};
 ghost use Rattle.city_decimals.specs.inside.Streams.{written};
+ghost use Rattle.city_decimals.specs.inside.Objects.{decoded_object};
 ghost use Rattle.city_decimals.specs.declared.fault.DecimalsFault.TheVariants.{NotJson};
 
-use super::transform::decode_transform;
-use super::tree::decode_tree;
+use super::first::decode_first_member;
+use super::member::decode_member_tree;
 use crate::fault::DecimalsFault;
-use crate::numbers::is_number;
-use crate::shapes::is_tag;
-use json::{MAX_DEPTH, Reader, Token, Value, Writer};
+use crate::shapes::{can_have_form, is_tag};
+use json::{MAX_DEPTH, Reader, Token, Writer};
 use std::alloc::Global;
 
 /// Writes the value of a whole text, decoded.
@@ -150,7 +148,7 @@ fn decode_object(
     }
 }
 
-/// Writes what the members are decoded as, where the first has this name: the tag.
+/// Writes what the members are decoded as, of which the first has this name: a tree is made of its value.
 #[cycle(decode)]
 #[inline(always)]
 fn decode_tagged(
@@ -161,7 +159,6 @@ fn decode_tagged(
     top: bool,
     out: &mut Writer,
 ) -> Result<(), DecimalsFault>
-    requires tag { is_tag name.now ≡ true }
     ensures before { OnOk result (out.new.before ≡ out.old.before) }
     ensures ok { OnOk result ((n : ℕ) → length reader.old < n
         → written (λ ms. json_tokens (decoded_object top ms)) out.old.tokens
@@ -169,56 +166,10 @@ fn decode_tagged(
     ensures err { result ≡ Err NotJson
         → (n : ℕ) → length reader.old < n → members (value depth) n (key name.now ∷ reader.old) ≡ None }
 {
-    let token = reader.next().ok_or(DecimalsFault::NotJson)?;
-    match token {
-        Token::String(text) => decode_after_text(alloc, name, text, reader, depth, top, out),
-        _ => {
-            out.begin_object()?;
-            out.key(name)?;
-            decode_inner(alloc, token, reader, depth, out)?;
-            decode_more(alloc, reader, depth, top, out)
-        }
-    }
-}
-
-/// Writes what the members are decoded as, where the first is this text under the tag.
-#[cycle(decode)]
-#[inline(always)]
-fn decode_after_text(
-    alloc: Global,
-    name: &str,
-    text: &str,
-    reader: &mut Reader<'_>,
-    depth: usize,
-    top: bool,
-    out: &mut Writer,
-) -> Result<(), DecimalsFault>
-    requires tag { is_tag name.now ≡ true }
-    ensures before { OnOk result (out.new.before ≡ out.old.before) }
-    ensures ok { OnOk result ((n : ℕ) → length reader.old + 1 < n
-        → written (λ ms. json_tokens (decoded_object top ms)) out.old.tokens
-        (members (value depth) n (key name.now ∷ string text.now ∷ reader.old))
-        ≡ Some (out.new.tokens, reader.new)) }
-    ensures err { result ≡ Err NotJson → (n : ℕ) → length reader.old + 1 < n
-        → members (value depth) n (key name.now ∷ string text.now ∷ reader.old) ≡ None }
-{
-    match reader.next_key()? {
-        Some(next) => {
-            out.begin_object()?;
-            out.key(name)?;
-            out.string(text)?;
-            decode_members(alloc, next, reader, depth, top, out)
-        }
-        None => if is_number(text) {
-            out.number(text)?;
-            Ok(())
-        } else {
-            out.begin_object()?;
-            out.key(name)?;
-            out.string(text)?;
-            out.end_object()?;
-            Ok(())
-        },
+    let next = decode_first_member(alloc, name, reader, depth, top, out)?;
+    match next {
+        Some(next) => decode_members(alloc, next, reader, depth, top, out),
+        None => Ok(()),
     }
 }
 
@@ -286,69 +237,9 @@ fn decode_member(
         out.old.tokens (value depth reader.old) ≡ Some (out.new.tokens, reader.new)) }
     ensures err { result ≡ Err NotJson → value depth reader.old ≡ None }
 {
-    if top && name == "transform" {
-        decode_transform(alloc, reader, depth, out)
-    } else if is_tag(name) {
-        let token = reader.next().ok_or(DecimalsFault::NotJson)?;
-        decode_inner(alloc, token, reader, depth, out)
+    if can_have_form(top, name) {
+        decode_member_tree(alloc, name, reader, depth, top, out)
     } else {
         decode_value(alloc, reader, depth, out)
     }
-}
-
-/// Writes the value that begins with the token, decoded, and out of its shield where it has one.
-#[cycle(decode)]
-#[inline(never)]
-fn decode_inner(
-    alloc: Global,
-    token: Token<'_>,
-    reader: &mut Reader<'_>,
-    depth: usize,
-    out: &mut Writer,
-) -> Result<(), DecimalsFault>
-    requires printable { token ≢ Token.Bad → IsPrintable (token_of token) }
-    ensures before { OnOk result (out.new.before ≡ out.old.before) }
-    ensures ok { OnOk result (written (λ j. json_tokens (only (decoded j))) out.old.tokens
-        (value depth (token_of token.entry ∷ reader.old)) ≡ Some (out.new.tokens, reader.new)) }
-    ensures err { result ≡ Err NotJson → value depth (token_of token.entry ∷ reader.old) ≡ None }
-{
-    match token {
-        Token::BeginArray => {
-            if depth == 0 {
-                return Err(DecimalsFault::NotJson);
-            }
-            decode_shield(alloc, reader, depth - 1, out)
-        }
-        _ => decode_from(alloc, token, reader, depth, out),
-    }
-}
-
-/// Writes the array of the items that are left, decoded, and one alone without the array.
-#[cycle(decode)]
-#[inline(never)]
-fn decode_shield(
-    alloc: Global,
-    reader: &mut Reader<'_>,
-    depth: usize,
-    out: &mut Writer,
-) -> Result<(), DecimalsFault>
-    ensures before { OnOk result (out.new.before ≡ out.old.before) }
-    ensures ok { OnOk result (written (λ js. json_tokens (only (array (decoded_items js)))) out.old.tokens
-        (items (value depth) (length reader.old) reader.old) ≡ Some (out.new.tokens, reader.new)) }
-    ensures err { result ≡ Err NotJson
-        → items (value depth) (length reader.old) reader.old ≡ None }
-{
-    if reader.take_end_array() {
-        out.begin_array()?;
-        out.end_array()?;
-        return Ok(());
-    }
-    let first = Value::read(alloc, reader, depth)?;
-    if reader.take_end_array() {
-        decode_tree(&first, out)?;
-        return Ok(());
-    }
-    out.begin_array()?;
-    decode_tree(&first, out)?;
-    decode_items(alloc, reader, depth, out)
 }

@@ -31,19 +31,11 @@ pub(super) fn encode_compact(bytes: &[u8], out: Vec<u8>) -> Result<Vec<u8>, Vec<
         × IsTopCopied (encoded_members true) bytes.now text × IsUtf8 text × (v.items ≡ out.items ++ text)) }
     ensures err { IfErr result (λ v. v.items ≡ out.items) }
 {
-    let before = out.len();
     let mut copier = Copier::new(bytes, out);
     if copy_top(&mut copier).is_none() {
         return Err(copier.give_up());
     }
-    let mut out = copier.finish()?;
-    match text_of(&out[before..]) {
-        Ok(_) => Ok(out),
-        Err(_) => {
-            out.truncate(before);
-            Err(out)
-        }
-    }
+    copier.finish()
 }
 
 /// Copies the object that a whole text is, encoded.

@@ -1,19 +1,18 @@
 //! Values, token by token.
-ghost use Rattle.std.specs.Prelude.{◌≡◌, ◌≢◌, ◌∷◌, ◌≤◌, OnOk, Some, None, Err, ℕ, length, cond};
+ghost use Rattle.std.specs.Prelude.{◌≡◌, ◌≢◌, ◌∷◌, ◌≤◌, OnOk, Some, None, Err, length};
 ghost use Rattle.json.specs.Json.{value, items, members};
 ghost use Rattle.json.specs.Print.{IsPrintable};
 ghost use Rattle.json.specs.Reads.{token_of};
 ghost use Rattle.json.specs.Tree.{json_tokens, items_tokens, members_tokens};
-ghost use Rattle.city_decimals.specs.Shapes.{form_of, in_form, is_tag, is_text_or_array};
+ghost use Rattle.city_decimals.specs.Shapes.{form_of, in_form};
 ghost use Rattle.city_decimals.specs.Encoded.{encoded, encoded_items, encoded_members, encoded_top};
-ghost use Rattle.city_decimals.specs.inside.Streams.{written, begins_shielded};
+ghost use Rattle.city_decimals.specs.inside.Streams.{written};
 ghost use Rattle.city_decimals.specs.declared.fault.DecimalsFault.TheVariants.{NotJson};
-ghost use Rattle.city_decimals.specs.declared.shapes.Form.TheVariants.{Shielded, Plain};
 
+use super::member::encode_member_tree;
 use super::number::encode_number;
-use super::transform::encode_transform;
 use crate::fault::DecimalsFault;
-use crate::shapes::is_tag;
+use crate::shapes::can_have_form;
 use json::{MAX_DEPTH, Reader, Token, Writer};
 use std::alloc::Global;
 
@@ -160,45 +159,9 @@ fn encode_member(
         out.old.tokens (value depth reader.old) ≡ Some (out.new.tokens, reader.new)) }
     ensures err { result ≡ Err NotJson → value depth reader.old ≡ None }
 {
-    if top && key == "transform" {
-        encode_transform(alloc, reader, depth, out)
-    } else if is_tag(key) {
-        encode_tagged(alloc, reader, depth, out)
+    if can_have_form(top, key) {
+        encode_member_tree(alloc, key, reader, depth, top, out)
     } else {
         encode_value(alloc, reader, depth, out)
     }
-}
-
-/// Writes the next value, that of a member under the tag, encoded and in its form.
-#[cycle(encode)]
-#[inline(never)]
-fn encode_tagged(
-    alloc: Global,
-    reader: &mut Reader<'_>,
-    depth: usize,
-    out: &mut Writer,
-) -> Result<(), DecimalsFault>
-    ensures before { OnOk result (out.new.before ≡ out.old.before) }
-    ensures ok { OnOk result
-        (written (λ j. json_tokens (in_form (cond (is_text_or_array j) Shielded Plain) (encoded j)))
-        out.old.tokens (value depth reader.old) ≡ Some (out.new.tokens, reader.new)) }
-    ensures err { result ≡ Err NotJson → value depth reader.old ≡ None }
-{
-    let token = reader.next().ok_or(DecimalsFault::NotJson)?;
-    if is_shielded(&token) {
-        out.begin_array()?;
-        encode_from(alloc, token, reader, depth, out)?;
-        out.end_array()?;
-        Ok(())
-    } else {
-        encode_from(alloc, token, reader, depth, out)
-    }
-}
-
-/// Whether a text or an array begins with this token.
-#[inline(always)]
-fn is_shielded(token: &Token<'_>) -> bool
-    ensures { result ≡ begins_shielded (token_of token.now) }
-{
-    matches!(token, Token::String(_) | Token::BeginArray)
 }

@@ -7,37 +7,28 @@ use Rattle.city_decimals.specs.inside.Streams.{written}
 use Rattle.city_decimals.proofs.decoding.value.+decode.Given as goal
 
 abbrev pub decreases-decode_from : goal.decreases-decode_from
-decreases-decode_from l = 9 * l.depth
+decreases-decode_from l = 7 * l.depth
 
 abbrev pub decreases-decode_value : goal.decreases-decode_value
-decreases-decode_value l = 9 * l.depth + 1
-
-abbrev pub decreases-decode_inner : goal.decreases-decode_inner
-decreases-decode_inner l = 9 * l.depth + 1
+decreases-decode_value l = 7 * l.depth + 1
 
 abbrev pub decreases-decode_items : goal.decreases-decode_items
-decreases-decode_items l = 9 * l.depth + 2
+decreases-decode_items l = 7 * l.depth + 2
 
 abbrev pub decreases-decode_member : goal.decreases-decode_member
-decreases-decode_member l = 9 * l.depth + 2
-
-abbrev pub decreases-decode_shield : goal.decreases-decode_shield
-decreases-decode_shield l = 9 * l.depth + 3
+decreases-decode_member l = 7 * l.depth + 2
 
 abbrev pub decreases-decode_more : goal.decreases-decode_more
-decreases-decode_more l = 9 * l.depth + 3
+decreases-decode_more l = 7 * l.depth + 3
 
 abbrev pub decreases-decode_members : goal.decreases-decode_members
-decreases-decode_members l = 9 * l.depth + 4
-
-abbrev pub decreases-decode_after_text : goal.decreases-decode_after_text
-decreases-decode_after_text l = 9 * l.depth + 5
+decreases-decode_members l = 7 * l.depth + 4
 
 abbrev pub decreases-decode_tagged : goal.decreases-decode_tagged
-decreases-decode_tagged l = 9 * l.depth + 6
+decreases-decode_tagged l = 7 * l.depth + 5
 
 abbrev pub decreases-decode_object : goal.decreases-decode_object
-decreases-decode_object l = 9 * l.depth + 7
+decreases-decode_object l = 7 * l.depth + 6
 
 abbrev pub invariant-decode_items-items : goal.invariant-decode_items-items
 invariant-decode_items-items l =

@@ -1,4 +1,4 @@
-use Rattle.std.proofs.Common.{◌≡◌, ℕ, ◌-◌, List, [], ◌∷◌, ◌++◌, length, true, false, cond, Some, None, refl, sym}
+use Rattle.std.proofs.Common.{◌≡◌, ℕ, ◌-◌, List, [], ◌∷◌, ◌++◌, length, false, Some, None, refl, sym}
 use Rattle.std.proofs.Common.{ap, ap₂, ◌∙◌, arith}
 use Rattle.std.proofs.lemmas.Result.{on_ok_weaker}
 use Rattle.json.specs.Token.{Token}
@@ -8,22 +8,16 @@ use Rattle.json.specs.Reads.{token_of}
 use Rattle.json.specs.Tree.{json_tokens, items_tokens, members_tokens}
 use Rattle.json.proofs.Grammar.{value_is, value-begin_array, value-begin_object, read_key-shorter, items_fail}
 use Rattle.json.proofs.Grammar.{members_fail, members_no_key}
-use Rattle.city_decimals.specs.Shapes.{form_of, in_form, is_text_or_array}
+use Rattle.city_decimals.specs.Shapes.{form_of, in_form}
 use Rattle.city_decimals.specs.Encoded.{encoded, encoded_items, encoded_members}
-use Rattle.city_decimals.specs.inside.Streams.{written, begins_shielded}
-use Rattle.city_decimals.specs.declared.shapes.Form.TheVariants.{Shielded, Plain}
-use Rattle.city_decimals.proofs.Starts.{shielded_starts}
-use Rattle.city_decimals.proofs.Streams.{none_written, written_as, written_between, token_first, value_shorter}
+use Rattle.city_decimals.specs.inside.Streams.{written}
+use Rattle.city_decimals.proofs.Compact.{formless, encoded_plain}
+use Rattle.city_decimals.proofs.Streams.{none_written, written_as, token_first, value_shorter}
 use Rattle.city_decimals.proofs.Streams.{item_written, items_over, member_written, members_over}
 use Rattle.city_decimals.proofs.encoding.value.+encode.Goals as goal
 
 pub encode_value-returns-in_err-token-clause-err : goal.encode_value-returns-in_err-token-clause-err
 encode_value-returns-in_err-token-clause-err t c refused =
-    let empty : c.args.reader.now ≡ [] = grind arith in
-    ap (value c.args.depth) empty ∙ value_is c.args.depth []
-
-pub encode_tagged-returns-in_err-token-clause-err : goal.encode_tagged-returns-in_err-token-clause-err
-encode_tagged-returns-in_err-token-clause-err t c refused =
     let empty : c.args.reader.now ≡ [] = grind arith in
     ap (value c.args.depth) empty ∙ value_is c.args.depth []
 
@@ -224,36 +218,13 @@ encode_members-returns-clause-ok t c =
     (λ k j ms. refl) l.invariant.0 l.out.tokens l.reader r l.invariant.1 (grind arith)
     ∙ ap (λ us. Some (us, r)) (sym c.in_ok-end_object.ensures.ok)
 
-pub encode_tagged-returns-else-is_shielded-clause-ok : goal.encode_tagged-returns-else-is_shielded-clause-ok
-encode_tagged-returns-else-is_shielded-clause-ok t c =
+pub encode_member-returns-else-can_have_form-clause-ok : goal.encode_member-returns-else-can_have_form-clause-ok
+encode_member-returns-else-can_have_form-clause-ok t c =
+    let top = c.args.top in
+    let k = c.args.key.now in
     let f : Json → List Token = λ j. json_tokens (encoded j) in
-    let g : Json → List Token = λ j. json_tokens (in_form (cond (is_text_or_array j) Shielded Plain) (encoded j)) in
-    let k = token_of c.in_ok-token.token in
-    let ts = c.next.new.self in
-    let read : c.args.reader.now ≡ k ∷ ts = grind arith in
-    let other : begins_shielded k ≡ false = grind arith in
-    on_ok_weaker c.encode_from-else-is_shielded.result (λ e. ap (λ us. written g c.args.out.now.tokens
-    (value c.args.depth us)) read
-    ∙ written_as f g c.args.out.now.tokens c.encode_from-else-is_shielded.new.out.tokens (value c.args.depth
-    (k ∷ ts)) c.encode_from-else-is_shielded.new.reader e
-    (λ j is. ap (λ b. json_tokens (in_form (cond b Shielded Plain) (encoded j)))
-    (shielded_starts c.args.depth k ts j _ is ∙ other))) c.encode_from-else-is_shielded.ensures.ok
-
-pub encode_tagged-returns-in_ok-end_array-clause-ok : goal.encode_tagged-returns-in_ok-end_array-clause-ok
-encode_tagged-returns-in_ok-end_array-clause-ok t c =
-    let f : Json → List Token = λ j. json_tokens (encoded j) in
-    let g : Json → List Token = λ j. json_tokens (in_form (cond (is_text_or_array j) Shielded Plain) (encoded j)) in
-    let k = token_of c.in_ok-token.token in
-    let ts = c.next.new.self in
-    let out = c.args.out.now.tokens in
-    let read : c.args.reader.now ≡ k ∷ ts = grind arith in
-    let so : begins_shielded k ≡ true = grind arith in
-    let opened : written f (out ++ Token.begin_array ∷ []) (value c.args.depth (k ∷ ts))
-    ≡ Some (c.encode_from.new.out.tokens, c.encode_from.new.reader) = rw
-    (← c.in_ok-begin_array.ensures.ok) c.in_ok-encode_from.ensures.ok in
-    ap (λ us. written g out (value c.args.depth us)) read
-    ∙ written_between f g Token.begin_array Token.end_array out c.encode_from.new.out.tokens (value c.args.depth
-    (k ∷ ts)) c.encode_from.new.reader opened
-    (λ j is. ap (λ b. json_tokens (in_form (cond b Shielded Plain) (encoded j)))
-    (shielded_starts c.args.depth k ts j _ is ∙ so))
-    ∙ ap (λ us. Some (us, c.encode_from.new.reader)) (sym c.in_ok-end_array.ensures.ok)
+    let g : Json → List Token = λ j. json_tokens (in_form (form_of top k j) (encoded j)) in
+    on_ok_weaker c.encode_value.result (λ e. written_as f g c.args.out.now.tokens c.encode_value.new.out.tokens
+    (value c.args.depth c.args.reader.now) c.encode_value.new.reader e
+    (λ j is. let n = formless top k j (sym c.if-can_have_form.ensures) in
+    ap json_tokens (encoded_plain top k j n.0 n.1))) c.encode_value.ensures.ok

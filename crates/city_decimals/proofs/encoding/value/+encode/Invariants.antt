@@ -12,9 +12,6 @@ decreases-encode_from l = 4 * l.depth
 abbrev pub decreases-encode_value : goal.decreases-encode_value
 decreases-encode_value l = 4 * l.depth + 1
 
-abbrev pub decreases-encode_tagged : goal.decreases-encode_tagged
-decreases-encode_tagged l = 4 * l.depth + 1
-
 abbrev pub decreases-encode_member : goal.decreases-encode_member
 decreases-encode_member l = 4 * l.depth + 2
 

@@ -1,4 +1,4 @@
-use Rattle.std.proofs.Common.{List, ◌++◌, true, Some, codes, sym, ap, ◌∙◌, append_assoc}
+use Rattle.std.proofs.Common.{List, ◌++◌, Some, sym, ap, ◌∙◌, append_assoc}
 use Rattle.json.specs.Token.{Token}
 use Rattle.json.specs.Json.{Json}
 use Rattle.json.specs.Tree.{json_tokens}
@@ -8,11 +8,11 @@ use Rattle.city_decimals.specs.Encoded.{encoded}
 use Rattle.city_decimals.specs.inside.Forms.{tokens_before, tokens_after}
 use Rattle.city_decimals.specs.inside.Streams.{written}
 use Rattle.city_decimals.proofs.Forms.{around}
-use Rattle.city_decimals.proofs.encoding.transform.encode_transform.Goals as goal
+use Rattle.city_decimals.proofs.encoding.member.encode_member_tree.Goals as goal
 
 pub returns-clause-ok : goal.returns-clause-ok
 returns-clause-ok c =
-    let f : Json → List Token = λ j. json_tokens (in_form (form_of true (codes "transform") j) (encoded j)) in
+    let f : Json → List Token = λ j. json_tokens (in_form (form_of c.args.top c.args.key.now j) (encoded j)) in
     let out = c.args.out.now.tokens in
     let j = value_view c.in_ok-value.value in
     let v = json_tokens (encoded j) in

@@ -1,5 +1,5 @@
-//! The transform of a document.
-ghost use Rattle.std.specs.Prelude.{◌≡◌, OnOk, true, Some, None, Err, codes};
+//! The value of a member that may have a form.
+ghost use Rattle.std.specs.Prelude.{◌≡◌, OnOk, Some, None, Err};
 ghost use Rattle.json.specs.Json.{value};
 ghost use Rattle.json.specs.Tree.{json_tokens};
 ghost use Rattle.city_decimals.specs.Decoded.{decoded, out_of_form};
@@ -12,20 +12,22 @@ use crate::fault::DecimalsFault;
 use json::{Reader, Value, Writer};
 use std::alloc::Global;
 
-/// Writes the next value, that of a `transform` at the top, decoded and out of its frame.
+/// Writes the next value, that of a member of this name, decoded and out of its form; a tree is made of it.
 #[inline(never)]
-pub(super) fn decode_transform(
+pub(super) fn decode_member_tree(
     alloc: Global,
+    name: &str,
     reader: &mut Reader<'_>,
     depth: usize,
+    top: bool,
     out: &mut Writer,
 ) -> Result<(), DecimalsFault>
     ensures before { OnOk result (out.new.before ≡ out.old.before) }
-    ensures ok { OnOk result (written (λ j. json_tokens (out_of_form true (codes "transform") j (decoded j)))
+    ensures ok { OnOk result (written (λ j. json_tokens (out_of_form top name.now j (decoded j)))
         out.old.tokens (value depth reader.old) ≡ Some (out.new.tokens, reader.new)) }
     ensures err { result ≡ Err NotJson → value depth reader.old ≡ None }
 {
     let value = Value::read(alloc, reader, depth)?;
-    decode_tree(inner(true, "transform", &value), out)?;
+    decode_tree(inner(top, name, &value), out)?;
     Ok(())
 }
