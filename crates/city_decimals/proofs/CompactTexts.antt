@@ -13,7 +13,7 @@ use Rattle.city_decimals.specs.Encoded.{encoded_members, encoded_top}
 use Rattle.city_decimals.specs.Decoded.{decoded_members, number_or}
 use Rattle.city_decimals.specs.Texts.{IsDecoded}
 use Rattle.city_decimals.specs.inside.Compact.{value_text, items_text, members_text, comma_if, IsTopCopied}
-use Rattle.city_decimals.proofs.Compact.{untagged_none}
+use Rattle.city_decimals.proofs.Copied.{untagged_none}
 
 regroup : (q a b c : List ℕ) → (q ++ 58 ∷ []) ++ (a ++ (b ++ c)) ≡ (q ++ 58 ∷ (a ++ b)) ++ c
 regroup q a b c = append_assoc q _ _ ∙ sym (append_assoc q _ c ∙ ap (λ s. q ++ 58 ∷ s) (append_assoc a b c))

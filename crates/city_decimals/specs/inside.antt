@@ -7,3 +7,4 @@ pub mod Compact
 pub mod PlainNumbers
 pub mod Newlines
 pub mod Objects
+pub mod Ways

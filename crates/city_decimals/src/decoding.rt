@@ -3,16 +3,16 @@ ghost use Rattle.std.specs.Prelude.{◌≡◌, ◌++◌, IfOk, IfErr, ℕ, List}
 ghost use Rattle.std.specs.Str.{IsUtf8};
 ghost use Rattle.city_decimals.specs.Texts.{IsDecoded, IsDecimalsFault};
 
-mod compact;
 mod first;
 mod inner;
 mod member;
 mod tree;
 mod value;
 
+use crate::compact::copy_compact;
 use crate::fault::DecimalsFault;
 use crate::text::text_of;
-use compact::decode_compact;
+use crate::way::Way;
 use json::{Reader, Scratch, Writer};
 use std::alloc::Global;
 use value::decode_top;
@@ -40,7 +40,7 @@ pub(crate) fn decode_onto(
     ensures fault { IfErr result (λ f. IsDecimalsFault bytes.now f) }
 {
     let text = text_of(bytes)?;
-    let out = match decode_compact(bytes, out) {
+    let out = match copy_compact(Way::Decode, bytes, out) {
         Ok(decoded) => return Ok(decoded),
         Err(out) => out,
     };

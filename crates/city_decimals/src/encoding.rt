@@ -8,16 +8,16 @@ ghost use Rattle.serde_json.specs.Read.{read, max_depth};
 ghost use Rattle.city_decimals.specs.Texts.{IsEncoded, IsDecoded, IsDecimalsFault};
 ghost use Rattle.city_decimals.specs.Whole.{is_integral};
 
-mod compact;
 mod form;
 mod member;
 mod number;
 mod tree;
 mod value;
 
+use crate::compact::copy_compact;
 use crate::fault::DecimalsFault;
 use crate::text::text_of;
-use compact::encode_compact;
+use crate::way::Way;
 use json::{Reader, Scratch, Writer};
 use std::alloc::Global;
 use value::encode_top;
@@ -42,7 +42,7 @@ pub fn encode(alloc: Global, bytes: &[u8]) -> Result<Vec<u8>, DecimalsFault>
     ensures fault { IfErr result (λ f. IsDecimalsFault bytes.now f) }
 {
     let text = text_of(bytes)?;
-    let out = match encode_compact(bytes, Vec::with_capacity(alloc, bytes.len())?) {
+    let out = match copy_compact(Way::Encode, bytes, Vec::with_capacity(alloc, bytes.len())?) {
         Ok(encoded) => return Ok(encoded),
         Err(out) => out,
     };

@@ -5,8 +5,7 @@ use Rattle.json.specs.Json.{Json, null, boolean, number, string, array, object, 
 use Rattle.json.specs.Json.{no_members, member}
 use Rattle.json.specs.Print.{escape, quoted, token_text, IsNumber}
 use Rattle.json.specs.Tree.{depth, items_depth, members_depth, HasNumbers, ItemsHaveNumbers, MembersHaveNumbers}
-use Rattle.city_decimals.specs.Shapes.{is_tag, is_frame, fronted, framed, form_of, in_form}
-use Rattle.city_decimals.specs.Decoded.{decoded, out_of_form}
+use Rattle.city_decimals.specs.Shapes.{is_tag, is_frame}
 use Rattle.city_decimals.specs.Encoded.{encoded}
 use Rattle.city_decimals.specs.inside.Copies.{Moves}
 
@@ -83,13 +82,6 @@ pub record IsMemberCopied (m : List ℕ → Json → Json) (later : Bool) (limit
   pub numbers : HasNumbers j
   pub shallow : depth j ≤ limit
 
--- what is written for the value of a member of this name
-abbrev pub member_decoded : Bool → List ℕ → Json → Json
-member_decoded top k j = out_of_form top k j (decoded j)
-
-abbrev pub member_encoded : Bool → List ℕ → Json → Json
-member_encoded top k j = in_form (form_of top k j) (encoded j)
-
 -- the value of a frame, or what is put into one; m is what is written for it
 pub record IsFrameCopied (m : Json → Json) (limit : ℕ) (old new : State) : Type 0 where
   pub j : Json
@@ -97,12 +89,6 @@ pub record IsFrameCopied (m : Json → Json) (limit : ℕ) (old new : State) : T
   pub frame : is_frame j ≡ true
   pub numbers : HasNumbers j
   pub shallow : depth j ≤ limit
-
-abbrev pub frame_decoded : Json → Json
-frame_decoded j = fronted (decoded j)
-
-abbrev pub frame_encoded : Json → Json
-frame_encoded j = framed (encoded j)
 
 -- a number, for which that under `encoded` is written
 pub record IsNumberCopied (old new : State) : Type 0 where

@@ -16,7 +16,9 @@ use Rattle.city_decimals.specs.Shapes.{is_tag}
 use Rattle.city_decimals.specs.Decoded.{decoded, decoded_items, decoded_members, out_of_form}
 use Rattle.city_decimals.specs.inside.Streams.{written}
 use Rattle.city_decimals.specs.inside.Objects.{decoded_object, IsFirstWritten}
-use Rattle.city_decimals.proofs.Compact.{formless, decoded_plain}
+use Rattle.city_decimals.proofs.Copied.{formless}
+use Rattle.city_decimals.proofs.Ways.{plain_member}
+use Rattle.city_decimals.specs.declared.way.Way.TheVariants.{Decode}
 use Rattle.city_decimals.proofs.Objects.{object_written, first_is_no_number, two_are_no_number, other_name}
 use Rattle.city_decimals.proofs.Streams.{none_written, written_as, written_under, token_first, value_shorter}
 use Rattle.city_decimals.proofs.Streams.{item_written, items_over, member_written, members_over}
@@ -72,7 +74,7 @@ decode_member-returns-else-can_have_form-clause-ok t c =
     on_ok_weaker c.decode_value.result (λ e. written_as f g c.args.out.now.tokens c.decode_value.new.out.tokens
     (value c.args.depth c.args.reader.now) c.decode_value.new.reader e
     (λ j is. let n = formless top k j (sym c.if-can_have_form.ensures) in
-    ap json_tokens (decoded_plain top k j n.0 n.1))) c.decode_value.ensures.ok
+    ap json_tokens (plain_member Decode top k j n.0 n.1))) c.decode_value.ensures.ok
 
 pub decode_from-returns-in_ok-number-in-Number-clause-ok : goal.decode_from-returns-in_ok-number-in-Number-clause-ok
 decode_from-returns-in_ok-number-in-Number-clause-ok t c =

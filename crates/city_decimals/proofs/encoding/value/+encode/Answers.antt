@@ -11,7 +11,9 @@ use Rattle.json.proofs.Grammar.{members_fail, members_no_key}
 use Rattle.city_decimals.specs.Shapes.{form_of, in_form}
 use Rattle.city_decimals.specs.Encoded.{encoded, encoded_items, encoded_members}
 use Rattle.city_decimals.specs.inside.Streams.{written}
-use Rattle.city_decimals.proofs.Compact.{formless, encoded_plain}
+use Rattle.city_decimals.proofs.Copied.{formless}
+use Rattle.city_decimals.proofs.Ways.{plain_member}
+use Rattle.city_decimals.specs.declared.way.Way.TheVariants.{Encode}
 use Rattle.city_decimals.proofs.Streams.{none_written, written_as, token_first, value_shorter}
 use Rattle.city_decimals.proofs.Streams.{item_written, items_over, member_written, members_over}
 use Rattle.city_decimals.proofs.encoding.value.+encode.Goals as goal
@@ -227,4 +229,4 @@ encode_member-returns-else-can_have_form-clause-ok t c =
     on_ok_weaker c.encode_value.result (λ e. written_as f g c.args.out.now.tokens c.encode_value.new.out.tokens
     (value c.args.depth c.args.reader.now) c.encode_value.new.reader e
     (λ j is. let n = formless top k j (sym c.if-can_have_form.ensures) in
-    ap json_tokens (encoded_plain top k j n.0 n.1))) c.encode_value.ensures.ok
+    ap json_tokens (plain_member Encode top k j n.0 n.1))) c.encode_value.ensures.ok
