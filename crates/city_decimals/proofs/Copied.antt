@@ -13,9 +13,7 @@ use Rattle.json.specs.Tree.{HasNumbers, depth}
 use Rattle.json.specs.Word.{after_number}
 use Rattle.json.proofs.Found.{Some_inj, not_found}
 use Rattle.json.proofs.Printed.Strings.{content-escape}
-use Rattle.city_decimals.specs.Shapes.{is_tag, is_transform, is_frame, tag, only, fronted, in_form, is_text_or_array}
-use Rattle.city_decimals.specs.Encoded.{encoded}
-use Rattle.city_decimals.specs.declared.shapes.Form.TheVariants.{Plain, Shielded, Framed}
+use Rattle.city_decimals.specs.Shapes.{is_tag, is_transform, is_frame, tag}
 use Rattle.city_decimals.specs.Decoded.{decoded, decoded_members, number_in, number_or}
 use Rattle.city_decimals.specs.Numbers.{is_end}
 use Rattle.city_decimals.specs.inside.Forms.{can_have_form}

@@ -12,6 +12,7 @@ pub mod Copied
 pub mod CompactForms
 pub mod CompactTexts
 pub mod Ways
+pub mod Changes
 pub mod Streams
 pub mod Starts
 pub mod Objects

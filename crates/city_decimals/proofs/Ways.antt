@@ -1,5 +1,5 @@
 -- A value is changed part by part, whichever way.
-use Rattle.std.proofs.Common.{◌≡◌, ℕ, List, Bool, true, false, cond, ◌&&◌, refl, ap, ap₂}
+use Rattle.std.proofs.Common.{◌≡◌, ℕ, List, Bool, true, false, cond, ◌&&◌, refl, ap₂}
 use Rattle.json.specs.Json.{Json, null, boolean, number, string, array, object, Items, no_items, item, Members}
 use Rattle.json.specs.Json.{no_members, member}
 use Rattle.city_decimals.specs.Shapes.{is_tag, is_transform, is_text_or_array, in_form, only, fronted}

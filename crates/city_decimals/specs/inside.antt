@@ -8,3 +8,4 @@ pub mod PlainNumbers
 pub mod Newlines
 pub mod Objects
 pub mod Ways
+pub mod Changes

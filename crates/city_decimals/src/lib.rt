@@ -7,6 +7,7 @@
 //! - a `transform` at the top is framed: the identity stands there, with the transform under `#`
 #![tactic(auto)]
 
+mod change;
 mod compact;
 mod copier;
 mod decoding;

@@ -18,7 +18,7 @@ use json::{MAX_DEPTH, Reader, Token, Writer};
 use std::alloc::Global;
 
 /// Writes the value of a whole text, decoded.
-pub(super) fn decode_top(
+pub(crate) fn decode_top(
     alloc: Global,
     reader: &mut Reader<'_>,
     out: &mut Writer,

@@ -17,7 +17,7 @@ use json::{MAX_DEPTH, Reader, Token, Writer};
 use std::alloc::Global;
 
 /// Writes the value of a whole text, encoded.
-pub(super) fn encode_top(
+pub(crate) fn encode_top(
     alloc: Global,
     reader: &mut Reader<'_>,
     out: &mut Writer,
