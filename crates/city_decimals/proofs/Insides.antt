@@ -104,7 +104,7 @@ inner_smaller top k j =
     elim (top && is_transform k j) as (λ b. length (json_tokens (cond b (front j) (cond (is_tag k)
     (only j) j))) ≤ length (json_tokens j)) [ true ↦ front_smaller j | false ↦ plain ]
 
-only_numbers : (j : Json) → HasNumbers j → HasNumbers (only j)
+pub only_numbers : (j : Json) → HasNumbers j → HasNumbers (only j)
 only_numbers null h = h
 only_numbers (boolean b) h = h
 only_numbers (number s) h = h

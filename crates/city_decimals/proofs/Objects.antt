@@ -12,7 +12,11 @@ use Rattle.std.specs.Prelude.{◌&&◌}
 use Rattle.city_decimals.specs.Numbers.{is_number}
 use Rattle.city_decimals.specs.Shapes.{is_tag}
 use Rattle.city_decimals.specs.Decoded.{number_under, number_in, number_or, decoded_members}
+use Rattle.city_decimals.specs.Encoded.{encoded_members}
 use Rattle.city_decimals.specs.inside.Objects.{decoded_object}
+use Rattle.city_decimals.specs.inside.Ways.{members_changed, object_made}
+use Rattle.city_decimals.specs.declared.way.Way.{Way}
+use Rattle.city_decimals.specs.declared.way.Way.TheVariants.{Encode, Decode}
 use Rattle.city_decimals.specs.inside.Streams.{written}
 
 -- where the members encode no number, they are written behind a brace
@@ -24,6 +28,17 @@ object_written top out None h = refl
 object_written top out (Some q) h =
     ap (λ ts. Some (ts, q.1)) (ap (λ n. out ++ json_tokens (number_or n (decoded_members top q.0))) (h q.0 q.1 refl)
     ∙ sym (append_assoc out (Token.begin_object ∷ []) (members_tokens (decoded_members top q.0))))
+
+-- the same, whichever way; only decoded members can be a number
+pub object_put : (way : Way) (top : Bool) (out : List Token) (o : Option (Members × List Token))
+    → (way ≡ Decode → (ms : Members) (r : List Token) → o ≡ Some (ms, r) → number_in ms ≡ None)
+    → written (λ ms. json_tokens (object_made way top ms)) out o
+    ≡ written (λ ms. members_tokens (members_changed way top ms)) (out ++ Token.begin_object ∷ []) o
+object_put Encode top out None h = refl
+object_put Encode top out (Some q) h =
+    ap (λ ts. Some (ts, q.1)) (sym (append_assoc out (Token.begin_object ∷ []) (members_tokens
+    (encoded_members top q.0))))
+object_put Decode top out o h = object_written top out o (h refl)
 
 -- the first member, and the rest
 record HasFirst (p : Parse Json) (n : ℕ) (k : List ℕ) (s : List Token) (ms : Members) (r : List Token) : Type 0 where

@@ -45,11 +45,11 @@ module _ {A : Type 0} (f : A → List Token) where
       ∙ sym (append_assoc out (t ∷ []) (f p.0)))
 
 -- what is written of a value is what is written of what it was made of
-pub written_under : {A B : Type 0} (h : A → B) (g : B
-    → List Token) (out : List Token) (o : Option (A × List Token))
-    → written g out (parse_map h o) ≡ written (λ a. g (h a)) out o
-written_under h g out None = refl
-written_under h g out (Some p) = refl
+pub written_with : {A B : Type 0} (h : A → B) (g : B → List Token) (f : A → List Token)
+    → ((a : A) → g (h a) ≡ f a) → (out : List Token) (o : Option (A × List Token))
+    → written g out (parse_map h o) ≡ written f out o
+written_with h g f same out None = refl
+written_with h g f same out (Some p) = ap (λ ts. Some (out ++ ts, p.1)) (same p.0)
 
 -- a value takes at least one token
 pub value_shorter : (f : Json → List Token) (d : ℕ) (out now ts r : List Token)

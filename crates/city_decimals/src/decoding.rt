@@ -7,14 +7,14 @@ mod first;
 mod inner;
 mod member;
 mod tree;
-mod value;
 
 use crate::change::change_onto;
 use crate::fault::DecimalsFault;
 use crate::way::Way;
+pub(crate) use first::decode_first_member;
 use json::Scratch;
+pub(crate) use member::decode_member_tree;
 use std::alloc::Global;
-pub(crate) use value::decode_top;
 
 /// The text with its numbers as they were before `encode`, without shields and frames, in one line.
 pub fn decode(alloc: Global, bytes: &[u8]) -> Result<Vec<u8>, DecimalsFault>

@@ -12,14 +12,14 @@ mod form;
 mod member;
 mod number;
 mod tree;
-mod value;
 
 use crate::change::change_onto;
 use crate::fault::DecimalsFault;
 use crate::way::Way;
 use json::Scratch;
+pub(crate) use member::encode_member_tree;
+pub(crate) use number::encode_number;
 use std::alloc::Global;
-pub(crate) use value::encode_top;
 
 /// The text with each number that is no `i64` as a text under `#`, in one line. A text or an array under `#` is
 /// shielded, a `transform` at the top framed.

@@ -13,7 +13,7 @@ use std::alloc::Global;
 /// Writes the first member, decoded, behind the brace of its object; where it is alone, what the object is decoded
 /// as. A tree is made of its value. Gives the name of the next member.
 #[inline(never)]
-pub(super) fn decode_first_member<'a>(
+pub(crate) fn decode_first_member<'a>(
     alloc: Global,
     name: &str,
     reader: &mut Reader<'a>,

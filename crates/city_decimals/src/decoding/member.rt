@@ -14,7 +14,7 @@ use std::alloc::Global;
 
 /// Writes the next value, that of a member of this name, decoded and out of its form; a tree is made of it.
 #[inline(never)]
-pub(super) fn decode_member_tree(
+pub(crate) fn decode_member_tree(
     alloc: Global,
     name: &str,
     reader: &mut Reader<'_>,

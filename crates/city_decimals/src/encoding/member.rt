@@ -16,7 +16,7 @@ use std::alloc::Global;
 
 /// Writes the next value, that of a member of this name, encoded and in its form; a tree is made of it.
 #[inline(never)]
-pub(super) fn encode_member_tree(
+pub(crate) fn encode_member_tree(
     alloc: Global,
     key: &str,
     reader: &mut Reader<'_>,

@@ -14,9 +14,9 @@ use Rattle.city_decimals.proofs.change.change_onto.Goals as goal
 pub returns-clause-changed : goal.returns-clause-changed
 returns-clause-changed c =
     let f : Json → List Token = λ j. json_tokens (top_changed c.args.way j) in
-    let over : c.write_top.new.reader ≡ [] = grind arith in
+    let over : c.change_top.new.reader ≡ [] = grind arith in
     let read : written f [] (value max_depth (tokens c.args.bytes.now))
-    ≡ Some (c.write_top.new.out.tokens, c.write_top.new.reader) = search rules in
+    ≡ Some (c.change_top.new.out.tokens, c.change_top.new.reader) = search rules in
     let w = whole_read f c.args.bytes.now _ _ over read in
     let text = print (f w.j) in
     let items : c.into_inner.result.items ≡ c.args.out.items ++ text = search (rules, w.now_is) in
