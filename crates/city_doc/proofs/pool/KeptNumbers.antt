@@ -27,7 +27,7 @@ module _ (test : Point → Bool) where
         | false ↦ λ e. ap (λ n. 1 + n) (place_last p is xs ys e)
       ] h
 
-same_itself : (p : Point) → same_point p p ≡ true
+pub same_itself : (p : Point) → same_point p p ≡ true
 same_itself p = rw ((Decides-int_eq p.x p.x).1 refl, (Decides-int_eq p.y p.y).1 refl, (Decides-int_eq p.z p.z).1 refl) refl
 
 pub number_kept : (pool : List Point) (p : Point) (later : List Point) → number_of (with_points (with_point pool p) later) p ≡ number_of pool p
