@@ -26,7 +26,8 @@ use Rattle.city_serve.specs.ServedTexts.{IsFaultOfRun}
 use Rattle.city_desk.specs.TextRuns.{IsRun}
 use Rattle.city_decimals.specs.Lines.{AreDecodedLines}
 use Rattle.city_model.specs.declared.end.End.{End}
-use Rattle.city_serve.specs.Decimals.{IsGiven, IsReadEncoded, IsRefusedText, HasWholeNumbers, IsOfWholeNumbers}
+use Rattle.city_serve.specs.Decimals.{IsGiven, IsReadEncoded, IsRefusedText, IsOfWholeNumbers}
+use Rattle.city_serve.specs.inside.WholeTexts.{HasWholeNumbers}
 use Rattle.city_serve.specs.Decimals.{IsDecimalsRun, IsFaultOfDecimalsRun}
 
 -- a text that is read has a value

@@ -40,8 +40,8 @@ abbrev pub IsServed : List ℕ → ℕ → ℕ → List (Vec ℕ) → Option (Li
 IsServed = IsServedBy IsRun
 
 -- the reader has failed, or ran out of memory
-abbrev pub IsReadFault : Bool → ServeFault → Type 0
-IsReadFault failed f = ((f ≡ ServeFault.Read) × (failed ≡ true)) ⊎ (f ≡ ServeFault.Run RunFault.OutOfMemory)
+abbrev pub IsDeviceFault : Bool → ServeFault → Type 0
+IsDeviceFault failed f = ((f ≡ ServeFault.Read) × (failed ≡ true)) ⊎ (f ≡ ServeFault.Run RunFault.OutOfMemory)
 
 -- Read comes only where the reader has failed, and Write only where the writer has. Where the reader or
 -- the run is at fault, the writer has got nothing

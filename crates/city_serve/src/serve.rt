@@ -1,7 +1,7 @@
 //! Serves a document and its scripts from a reader to a writer.
 ghost use Rattle.std.specs.Prelude.{◌≡◌, ◌≤◌, true, false, IfOk, IfErr, IfSome, OnOk, position, take};
 ghost use Rattle.std.specs.Io.KnownBytes.{Appends};
-ghost use Rattle.city_serve.specs.Served.{is_newline, max_input, document_of, scripts_of, IsServed, IsReadFault, IsServeFault};
+ghost use Rattle.city_serve.specs.Served.{is_newline, max_input, document_of, scripts_of, IsServed, IsDeviceFault, IsServeFault};
 ghost use Rattle.city_serve.specs.ServedTexts.{LosesAtMost, AppendsSome};
 
 use crate::device::Device;
@@ -60,7 +60,7 @@ pub(crate) fn read_at_most<R: Read>(
         (λ all. v.items ≡ take most all)) }
     ensures taken { LosesAtMost most (R.remaining reader.old.0) (R.remaining reader.new.0) }
     ensures unfailed { OnOk result (reader.new.1 ≡ reader.old.1) }
-    ensures fault { IfErr result (IsReadFault reader.new.1) }
+    ensures fault { IfErr result (IsDeviceFault reader.new.1) }
 {
     let mut input = Vec::new(alloc);
     let mut chunk = [0; PIECE];
