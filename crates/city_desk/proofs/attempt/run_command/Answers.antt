@@ -14,7 +14,7 @@ returns-in-Ok c changes =
 
 pub returns-in-Err-unless_refused : goal.returns-in-Err-unless_refused
 returns-in-Err-unless_refused c changes =
-    refused c.args.stamp c.args.command.now c.args.progress.now c.args.progress.now c.args.core.now c.act.new.self c.requires.goes_on changes c.roll_back-in-Err-unless_refused.new.self c.roll_back-in-Err-unless_refused.ensures
+    refused c.args.stamp c.args.command.now c.args.progress.now c.args.progress.now c.args.core.now c.act.new.self c.requires.goes_on changes c.roll_back.new.self c.roll_back.ensures
     c.len-number.result c.in-Ok-Done.reply c.in-Err-unless_refused.cause
     (subst (λ (s : Step). Acted c.args.stamp c.args.command.now (Ok s) c.args.core.now c.act.new.self) c.in-Ok-Done.field-0-is c.in-Ok-Done.ensures)
     c.in-Err-unless_refused.ensures.err c.len-number.ensures (λ i. c.args.progress.now)
