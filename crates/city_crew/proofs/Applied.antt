@@ -9,7 +9,7 @@ use Rattle.city_model.proofs.IdLists.{bool_cases}
 use Rattle.city_model.proofs.Ids.{same_id_back}
 use Rattle.city_model.proofs.Objects.{same_objects}
 use Rattle.city_model.proofs.Writing.{same_map, at_after}
-use Rattle.city_crew.specs.Versions.{city_after}
+use Rattle.city_crew.specs.inside.Versions.{city_after}
 
 -- writes give the same where maps differ at written ids alone
 same_after : (c : Change) (m n : CityMap) (q : List ℕ) → (has_id (keys_of c) q ≡ false → m q ≡ n q) → with_change m c q ≡ with_change n c q

@@ -8,10 +8,9 @@ use Rattle.city_doc.specs.document.Canonical.{city_text}
 use Rattle.city_doc.specs.report.Reports.{report_text}
 use Rattle.city_desk.specs.DeskState.{DeskState}
 use Rattle.city_desk.specs.Serial.{IsSerial}
-use Rattle.city_desk.specs.TextRuns.{IsRun}
 use Rattle.city_desk.proofs.Throughout.{lawful_throughout}
-use Rattle.city_desk.specs.TextRuns.{IsReadFrom}
-use Rattle.city_crew.specs.CrewRuns.{IsResult}
+use Rattle.city_desk.specs.TextRuns.{IsReadFrom, IsRun}
+use Rattle.city_crew.specs.inside.CrewRuns.{IsResult}
 
 pub is_result : (document scripts : List ℕ) (d : DeskState) (changes : List Change) (base : Option CityValue) (left : CityValue) (ends : List End)
     → IsReadFrom document scripts d.start d.scripts → IsSerial d changes base → length ends ≡ length d.scripts
@@ -21,9 +20,11 @@ is_result document scripts d changes base left ends read serial once frame model
       city = d.start;
       list = d.scripts;
       read = read;
-      each_once = ap length (sym same) ∙ once;
-      fits = serial.fits;
-      lawful = lawful_throughout d changes base serial;
+      ran = record {
+        each_once = ap length (sym same) ∙ once;
+        fits = serial.fits;
+        lawful = lawful_throughout d changes base serial;
+      };
       frame = frame;
       model = model;
     })
@@ -33,13 +34,8 @@ pub is_run : (document scripts : List ℕ) (left : CityValue) (ends : List End) 
 is_run document scripts left ends bytes result text = record {
   city = result.city;
   list = result.list;
-  stands_for_city = result.read.stands_for_city;
-  stands_for_scripts = result.read.stands_for_scripts;
-  admitted = result.read.admitted;
-  read_as = result.read.read_as;
-  each_once = result.each_once;
-  fits = result.fits;
-  lawful = result.lawful;
+  read = result.read;
+  ran = result.ran;
   output = record {
     model = left.1;
     left = result.model;

@@ -4,9 +4,9 @@ use Rattle.city_model.specs.CityMap.{CityMap, CityValue, at}
 use Rattle.city_model.specs.Relations.{IsLawful}
 use Rattle.city_model.specs.Runs.{Change, with_change, shown}
 use Rattle.city_model.proofs.Writing.{shown_more}
-use Rattle.city_crew.specs.BoardRule.{HoldsEdits, known_from}
+use Rattle.city_crew.specs.inside.BoardRule.{HoldsEdits, known_from}
 use Rattle.city_crew.specs.HistoryValue.{HistoryValue, history_of}
-use Rattle.city_crew.specs.Versions.{edited, IsFaithful, IsNextEdit}
+use Rattle.city_crew.specs.inside.Versions.{edited, IsFaithful, IsNextEdit}
 use Rattle.city_crew.specs.declared.rule.Known.{Known}
 use Rattle.city_crew.specs.declared.version.Edit.{Edit}
 use Rattle.city_crew.specs.declared.version.Version.{Version}

@@ -4,9 +4,9 @@ use Rattle.city_model.specs.CityMap.{CityMap, CityValue, at}
 use Rattle.city_model.specs.Relations.{IsLawful}
 use Rattle.city_model.specs.Runs.{Change, with_change, shown}
 use Rattle.city_model.proofs.Writing.{at_after, shown_more}
-use Rattle.city_crew.specs.BoardRule.{IsNoOlder, IsLater, known_from}
+use Rattle.city_crew.specs.inside.BoardRule.{IsNoOlder, IsLater, known_from}
 use Rattle.city_crew.specs.HistoryValue.{HistoryValue}
-use Rattle.city_crew.specs.Versions.{edited, IsFaithful, IsNextEdit, LeadTo}
+use Rattle.city_crew.specs.inside.Versions.{edited, IsFaithful, IsNextEdit, LeadTo}
 use Rattle.city_crew.specs.declared.rule.Known.{Known}
 use Rattle.city_crew.specs.declared.version.Edit.{Edit}
 use Rattle.city_crew.specs.declared.version.Version.{Version}

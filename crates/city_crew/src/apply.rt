@@ -3,7 +3,7 @@ ghost use Rattle.std.specs.Prelude.{◌≡◌, ℕ, List, true, is_some, MatchRe
 ghost use Rattle.std.specs.Map.{keys_of};
 ghost use Rattle.city_model.specs.CityMap.{at, changed, has_id};
 ghost use Rattle.city_model.specs.Runs.{with_change};
-ghost use Rattle.city_crew.specs.Versions.{city_after};
+ghost use Rattle.city_crew.specs.inside.Versions.{city_after};
 
 use crate::places::make_places;
 use crate::writes::Writes;

@@ -3,7 +3,7 @@ ghost use Rattle.std.specs.Prelude.{◌≡◌, ◌<◌, ◌≤◌, [], All, IfOk
 ghost use Rattle.left_right.specs.Sides.{view};
 ghost use Rattle.city_model.specs.CityMap.{at};
 ghost use Rattle.city_model.specs.Relations.{IsLawful};
-ghost use Rattle.city_crew.specs.BoardRule.{known_from};
+ghost use Rattle.city_crew.specs.inside.BoardRule.{known_from};
 ghost use Rattle.city_crew.specs.BoardValues.{new_poster, viewer_of};
 
 use crate::history::History;

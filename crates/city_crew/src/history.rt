@@ -13,7 +13,7 @@ pub struct HistoryRule;
 impl Rule<Change, u64> for HistoryRule {
     ghost use Rattle.std.specs.Prelude.{[]};
     ghost use base.Fml.{ftrue};
-    ghost use Rattle.city_crew.specs.HistoryRule.{HasLength};
+    ghost use Rattle.city_crew.specs.inside.HistoryRule.{HasLength};
 
     ghost holds = { λ cells changes. HasLength cells changes };
 
@@ -41,7 +41,7 @@ impl Gain<Change, u64> for NoGain {
 pub struct AddsChange;
 
 impl Play<Change, u64> for AddsChange {
-    ghost use Rattle.city_crew.specs.HistoryRule.{Adds};
+    ghost use Rattle.city_crew.specs.inside.HistoryRule.{Adds};
 
     ghost then = { Adds };
 }
@@ -63,7 +63,7 @@ pub struct Head {
 impl Model for Head {
     ghost use Rattle.std.specs.Prelude.{◌≡◌};
     ghost use Rattle.logbook.specs.Pages.{Book};
-    ghost use Rattle.city_crew.specs.HistoryRule.{head_of};
+    ghost use Rattle.city_crew.specs.inside.HistoryRule.{head_of};
 
     ghost Value = { Book };
 

@@ -4,7 +4,7 @@ ghost use Rattle.left_right.specs.Sides.{view};
 ghost use Rattle.city_model.specs.CityMap.{at};
 ghost use Rattle.city_model.specs.Relations.{IsLawful};
 ghost use Rattle.city_model.specs.Runs.{shown};
-ghost use Rattle.city_crew.specs.BoardRule.{HoldsEdits};
+ghost use Rattle.city_crew.specs.inside.BoardRule.{HoldsEdits};
 ghost use Rattle.city_crew.specs.HistoryValue.{history_of};
 
 use crate::history::{Head, History};
@@ -46,7 +46,7 @@ impl<R: Wait + Drop> Model for Poster<R> {
     ghost use Rattle.city_model.specs.inside.DataCode.{coded_members};
     ghost use Rattle.city_txn.specs.inside.Codes.{coded_objects};
     ghost use Rattle.left_right.specs.Sides.{view as view_of};
-    ghost use Rattle.city_crew.specs.BoardRule.{HoldsEdits};
+    ghost use Rattle.city_crew.specs.inside.BoardRule.{HoldsEdits};
     ghost use Rattle.city_crew.specs.BoardValues.{PosterValue};
 
     ghost Value = { PosterValue };

@@ -6,8 +6,8 @@ ghost use Rattle.city_model.specs.SerialEnds.{commits_in};
 ghost use Rattle.city_desk.specs.RunFaults.{IsRunFault};
 ghost use Rattle.city_desk.specs.TextRuns.{IsRun};
 ghost use Rattle.city_desk.specs.TextRuns.{IsReadFrom};
-ghost use Rattle.city_crew.specs.CrewRuns.{IsResult};
-ghost use Rattle.city_crew.specs.CrewShelves.{taken_by, base_of};
+ghost use Rattle.city_crew.specs.inside.CrewRuns.{IsResult};
+ghost use Rattle.city_crew.specs.inside.CrewShelves.{taken_by, base_of};
 ghost use Rattle.city_crew.specs.Seen.{AreSeen};
 
 use crate::ages::Ages;

@@ -27,7 +27,8 @@ use Rattle.city_txn.specs.Locking.{IsBlocked}
 use Rattle.city_desk.specs.declared.progress.Progress.{Progress}
 use Rattle.city_desk.specs.declared.progress.Phase.TheVariants.{Idle}
 use Rattle.city_desk.specs.declared.turn.Turn.TheVariants as turns
-use Rattle.city_desk.specs.Attempt.{AttemptEnded, HasStepped}
+use Rattle.city_desk.specs.DeskState.{progress_to}
+use Rattle.city_desk.specs.inside.Attempt.{AttemptEnded, HasStepped}
 use Rattle.city_model.proofs.Writing.{shown_more}
 use Rattle.city_desk.proofs.Shelved.{if_some_to}
 
@@ -77,7 +78,7 @@ refused_by v Abort x g e = absurd (false≢true (sym g))
 -- ---- a command that doesn't end its script
 
 module _ (stamp : ℕ) (command : Command) (p q : Progress) (v w : CoreState) (goes_on : is_end command ≡ false) (changes : List Change) where
-  pub replied : (reply : Reply) → Acted stamp command (Ok (steps.Done reply)) v w → is_open v stamp ≡ true → is_refusal reply ≡ false → q ≡ record { phase = p.phase; replies = p.replies ++ reply ∷ [] }
+  pub replied : (reply : Reply) → Acted stamp command (Ok (steps.Done reply)) v w → is_open v stamp ≡ true → is_refusal reply ≡ false → q ≡ progress_to p.phase (p.replies.list ++ reply ∷ []) p.replies.room
       → HasStepped stamp command (Ok turns.Replied) p q v w changes changes
   replied reply k opened unrefused heard =
       let by = by_done (answer_in v stamp command) (reply_in v stamp command) reply k.step in
@@ -86,7 +87,7 @@ module _ (stamp : ℕ) (command : Command) (p q : Progress) (v w : CoreState) (g
           goes_on = goes_on;
           granted = by.0;
           unrefused = sym (ap is_refusal by.1) ∙ unrefused;
-          heard = heard ∙ ap (λ r. record { phase = p.phase; replies = p.replies ++ r ∷ [] }) by.1;
+          heard = heard ∙ ap (λ r. progress_to p.phase (p.replies.list ++ r ∷ []) p.replies.room) by.1;
           opened = k.opened ∙ opened;
           stands = λ done h. subst (λ r. Stands w stamp (done ++ (command, r) ∷ [])) by.1 (k.own done h);
         };
@@ -115,7 +116,7 @@ module _ (stamp : ℕ) (command : Command) (p q : Progress) (v w : CoreState) (g
   -- ---- and the transaction is rolled back
 
   module _ (x : CoreState) (undone : IsUndone stamp w x) where
-    pub dies : Acted stamp command (Ok steps.Die) v w → q ≡ record { phase = Idle stamp; replies = [] } → HasStepped stamp command (Ok turns.Died) p q v x changes changes
+    pub dies : Acted stamp command (Ok steps.Die) v w → q ≡ progress_to (Idle stamp) [] p.replies.room → HasStepped stamp command (Ok turns.Died) p q v x changes changes
     dies k idle =
         let by = by_die (answer_in v stamp command) (reply_in v stamp command) k.step in
         record {
@@ -131,7 +132,7 @@ module _ (stamp : ℕ) (command : Command) (p q : Progress) (v w : CoreState) (g
           changes = refl;
         }
 
-    pub refused : (number : ℕ) (reply : Reply) (cause : Cause) → Acted stamp command (Ok (steps.Done reply)) v w → reply ≡ replies.Refused cause → number ≡ length p.replies → q ≡ p
+    pub refused : (number : ℕ) (reply : Reply) (cause : Cause) → Acted stamp command (Ok (steps.Done reply)) v w → reply ≡ replies.Refused cause → number ≡ length p.replies.list → q ≡ p
         → HasStepped stamp command (Err (Outcome.Refused number cause)) p q v x changes changes
     refused number reply cause k is count same =
         let by = by_done (answer_in v stamp command) (reply_in v stamp command) reply k.step in (
@@ -145,7 +146,7 @@ module _ (stamp : ℕ) (command : Command) (p q : Progress) (v w : CoreState) (g
           },
         )
 
-    pub unheard : (number : ℕ) (result : Result Step TxnFault) → Acted stamp command result v w → number ≡ length p.replies → q ≡ p → HasStepped stamp command (Err (Outcome.NoMemory number)) p q v x changes changes
+    pub unheard : (number : ℕ) (result : Result Step TxnFault) → Acted stamp command result v w → number ≡ length p.replies.list → q ≡ p → HasStepped stamp command (Err (Outcome.NoMemory number)) p q v x changes changes
     unheard number result k count same = (
       same,
       record {

@@ -3,7 +3,7 @@ use Rattle.std.proofs.Common.{◌≡◌, ℕ, Result, Ok, Err, ap}
 use Rattle.std.specs.Prelude.{OnOk, OnErr}
 use Rattle.city_txn.specs.declared.step.TxnFault.{TxnFault}
 use Rattle.city_txn.specs.CoreState.{CoreState, committed, IsUndone}
-use Rattle.city_desk.specs.Closing.{KeepsCity}
+use Rattle.city_desk.specs.inside.Closing.{KeepsCity}
 
 pub city_kept : (stamp : ℕ) (v w : CoreState) (result : Result (Unit {0}) TxnFault) → OnOk result (IsUndone stamp v w) → OnErr result (w ≡ v) → KeepsCity v w
 city_kept stamp v w (Ok x) undone same = record { frame = undone.over.keeps.frame; city = undone.city }

@@ -16,7 +16,7 @@ use Rattle.city_desk.specs.declared.progress.Phase.{Phase}
 use Rattle.city_desk.specs.declared.progress.Phase.TheVariants.{NotBegun, Idle, Open, Ended}
 use Rattle.city_desk.specs.declared.turn.Turn.{Turn}
 use Rattle.city_desk.specs.declared.turn.Turn.TheVariants as turns
-use Rattle.city_desk.specs.DeskState.{DeskState, phase_of, replies_of, commands_at, name_at}
+use Rattle.city_desk.specs.DeskState.{DeskState, progress_to, nowhere, phase_of, replies_of, room_of, commands_at, name_at}
 
 -- a transaction of the script is open, and this command is its next
 pub record IsNext (d : DeskState) (n stamp since : ℕ) (command : Command) : Type 0 where
@@ -29,9 +29,9 @@ pub record Keeps (d e : DeskState) : Type 0 where
   pub scripts : e.scripts ≡ d.scripts
   pub taken : e.taken ≡ d.taken
 
--- how far script n is; all others are as they were
+-- how far script n is, with the room that it had; all others are as they were
 abbrev pub Moves : DeskState → DeskState → ℕ → Phase → List Reply → Type 0
-Moves d e n phase replies = e.progress ≡ slice_set d.progress n (record { phase = phase; replies = replies })
+Moves d e n phase replies = e.progress ≡ slice_set d.progress n (progress_to phase replies (room_of d n))
 
 -- ---- begun
 
@@ -139,7 +139,7 @@ pub record HasEnded (d e : DeskState) (n : ℕ) : Type 0 where
   pub outcome : Outcome
   pub due : IsDue d n (phase_of d n) since outcome
   pub ends : e.ends ≡ d.ends ++ end_of d n since outcome ∷ []
-  pub moves : Moves d e n Ended []
+  pub moves : e.progress ≡ slice_set d.progress n nowhere
   pub begun : e.begun ≡ d.begun
 
 -- ---- any turn

@@ -1,5 +1,5 @@
 //! The desk.
-ghost use Rattle.std.specs.Prelude.{◌≡◌, ◌<◌, ◌+◌, ◌↔◌, ℕ, List, [], length, map, true, false, None, Some, IfSome, IsOk, IfOk, IfErr, if◌then◌else◌, nat_lt};
+ghost use Rattle.std.specs.Prelude.{◌≡◌, ◌<◌, ◌+◌, ◌↔◌, ℕ, List, [], length, map, true, false, None, Some, option_map, IfSome, IsOk, IfOk, IfErr, OnOk, OnErr, if◌then◌else◌, nat_lt};
 ghost use Rattle.city_model.specs.CityMap.{at};
 ghost use Rattle.city_model.specs.Relations.{IsLawful};
 ghost use Rattle.city_model.specs.Runs.{model_after, has_end};
@@ -72,7 +72,7 @@ impl<S: Shelf> Model for Desk<S> {
 
     ghost use Rattle.std.specs.Prelude.{vec_capacity};
     ghost use Rattle.city_desk.specs.Serial.{IsSerial};
-    ghost use Rattle.city_desk.specs.Room.{HasRoom};
+    ghost use Rattle.city_desk.specs.inside.Room.{HasRoom};
 
     ghost view = { λ d. (record { start = d.start; scripts = d.scripts.items; ends = d.ends.items; taken = d.taken; begun = d.begun; progress = d.progress.items; core = d.core }, d.shelf) };
 
@@ -158,12 +158,15 @@ impl<S: Shelf> Desk<S> {
         }
     }
 
-    /// Shows the shelf as it is; the desk is otherwise unchanged.
+    /// Shows the shelf as it is; the desk is otherwise unchanged. If memory runs out, viewers see what
+    /// they saw.
     pub fn show<R: Wait>(&mut self, rt: &R) -> Result<S::Note, OutOfMemory>
         ensures desk { self.new.0 ≡ self.old.0 }
         ensures list { S.list self.new.1 ≡ S.list self.old.1 }
         ensures base { S.base self.new.1 ≡ S.base self.old.1 }
         ensures name { S.name self.new.1 ≡ S.name self.old.1 }
+        ensures published { OnOk result (S.published self.new.1 ≡ option_map (λ seen. S.list self.old.1) (S.published self.old.1)) }
+        ensures err { OnErr result (S.published self.new.1 ≡ S.published self.old.1) }
         ensures note { IfOk result (λ note. S.tells self.new.1 note) }
     {
         self.shelf.show(rt)
@@ -180,6 +183,7 @@ impl<S: Shelf> Desk<S> {
         ensures changes { GainsCommits self.old.0.ends self.new.0.ends (S.list self.old.1) (S.list self.new.1) }
         ensures base { S.base self.new.1 ≡ S.base self.old.1 }
         ensures name { S.name self.new.1 ≡ S.name self.old.1 }
+        ensures published { S.published self.new.1 ≡ S.published self.old.1 }
     {
         match self.progress[n].phase {
             Phase::NotBegun => self.begin(n, self.begun, self.begun + 1),
@@ -199,6 +203,7 @@ impl<S: Shelf> Desk<S> {
         ensures changes { GainsCommits self.old.0.ends self.new.0.ends (S.list self.old.1) (S.list self.new.1) }
         ensures base { S.base self.new.1 ≡ S.base self.old.1 }
         ensures name { S.name self.new.1 ≡ S.name self.old.1 }
+        ensures published { S.published self.new.1 ≡ S.published self.old.1 }
     {
         let since = self.ends.len();
         let progress = &mut self.progress[n];
@@ -227,18 +232,12 @@ impl<S: Shelf> Desk<S> {
         ensures changes { GainsCommits self.old.0.ends self.new.0.ends (S.list self.old.1) (S.list self.new.1) }
         ensures base { S.base self.new.1 ≡ S.base self.old.1 }
         ensures name { S.name self.new.1 ≡ S.name self.old.1 }
+        ensures published { S.published self.new.1 ≡ S.published self.old.1 }
     {
         let progress = &mut self.progress[n];
         let number = progress.replies.len();
         let command = &self.scripts[n].commands()[number];
-        match step(
-            self.alloc,
-            &mut self.core,
-            &mut self.shelf,
-            progress,
-            stamp,
-            command,
-        ) {
+        match step(&mut self.core, &mut self.shelf, progress, stamp, command) {
             Ok(turn) => turn,
             Err(outcome) => {
                 record_end(

@@ -27,7 +27,7 @@ impl Model for OpeningCity {
     ghost use Rattle.city_model.specs.inside.DataCode.{coded_members};
     ghost use Rattle.city_txn.specs.inside.Codes.{coded_objects};
     ghost use Rattle.city_model.specs.CityMap.{CityValue};
-    ghost use Rattle.city_desk.specs.NoCity.{no_city};
+    ghost use Rattle.city_desk.specs.inside.NoCity.{no_city};
 
     ghost Value = { CityValue };
 

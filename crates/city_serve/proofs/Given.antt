@@ -130,8 +130,8 @@ module _ (model commands given_model given_commands : List ℕ) (first : IsGiven
     encoded_document = given_model;
     encoded_scripts = given_commands;
     output = output;
-    document_is = given_is_encoded model given_model ran.admitted.0 first ran.admitted.1;
-    scripts_are = given_is_encoded commands given_commands ran.read_as.0 second ran.read_as.1;
+    document_is = given_is_encoded model given_model ran.read.admitted.0 first ran.read.admitted.1;
+    scripts_are = given_is_encoded commands given_commands ran.read.read_as.0 second ran.read.read_as.1;
     ran = ran;
     decoded = decoded;
   }

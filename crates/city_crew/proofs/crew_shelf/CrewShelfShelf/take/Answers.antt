@@ -2,7 +2,7 @@ use Rattle.std.proofs.Common.{[], ◌∷◌, ◌++◌, subst, IfSome}
 use Rattle.city_model.specs.CityMap.{CityValue, at}
 use Rattle.city_model.specs.Relations.{IsLawful}
 use Rattle.city_model.specs.Runs.{shown}
-use Rattle.city_crew.specs.CrewShelves.{taken_by, base_of}
+use Rattle.city_crew.specs.inside.CrewShelves.{taken_by, base_of}
 use Rattle.city_crew.proofs.crew_shelf.CrewShelfShelf.take.Goals as goal
 
 pub take-requires-in-Posted-clause-lawful : goal.take-requires-in-Posted-clause-lawful

@@ -10,6 +10,11 @@ abbrev pub taken_by : {R : Type 0} → CrewShelf R → List Change
 taken_by (Unseen changes) = changes
 taken_by (Posted poster) = poster.taken
 
+-- the changes that viewers see, if it has viewers
+abbrev pub published_by : {R : Type 0} → CrewShelf R → Option (List Change)
+published_by (Unseen changes) = None
+published_by (Posted poster) = Some poster.published
+
 -- the city that its board was made over, if it has one
 abbrev pub base_of : {R : Type 0} → CrewShelf R → Option CityValue
 base_of (Unseen changes) = None

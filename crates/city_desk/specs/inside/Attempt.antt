@@ -13,6 +13,7 @@ use Rattle.city_txn.specs.Acting.{reply_in, answer_in, EndsIn}
 use Rattle.city_txn.specs.Locking.{IsBlocked}
 use Rattle.city_desk.specs.declared.progress.Progress.{Progress}
 use Rattle.city_desk.specs.declared.progress.Phase.TheVariants.{Idle}
+use Rattle.city_desk.specs.DeskState.{progress_to}
 use Rattle.city_desk.specs.declared.turn.Turn.{Turn}
 use Rattle.city_desk.specs.declared.turn.Turn.TheVariants as turns
 
@@ -21,7 +22,7 @@ pub record IsReplied (stamp : ℕ) (command : Command) (p q : Progress) (old new
   pub goes_on : is_end command ≡ false
   pub granted : answer_in old stamp command ≡ Granted
   pub unrefused : is_refusal (reply_in old stamp command) ≡ false
-  pub heard : q ≡ record { phase = p.phase; replies = p.replies ++ reply_in old stamp command ∷ [] }
+  pub heard : q ≡ progress_to p.phase (p.replies.list ++ reply_in old stamp command ∷ []) p.replies.room
   pub opened : is_open new stamp ≡ true
   pub stands : (done : List Answered) → Stands old stamp done
       → Stands new stamp (done ++ (command, reply_in old stamp command) ∷ [])
@@ -35,12 +36,12 @@ pub record IsToWait (stamp : ℕ) (command : Command) (p q : Progress) (old new 
   pub opened : is_open new stamp ≡ true
   pub stands : (done : List Answered) → Stands old stamp done → Stands new stamp done
 
--- the transaction had to die because of an older one
-pub record IsToDie (stamp : ℕ) (command : Command) (q : Progress) (old new : CoreState) : Type 0 where
+-- the transaction had to die because of an older one; the room for replies stays
+pub record IsToDie (stamp : ℕ) (command : Command) (p q : Progress) (old new : CoreState) : Type 0 where
   pub goes_on : is_end command ≡ false
   pub dies : answer_in old stamp command ≡ Die
   pub blocked : IsBlocked (λ t. is_open old t ≡ true) stamp Die
-  pub idle : q ≡ record { phase = Idle stamp; replies = [] }
+  pub idle : q ≡ progress_to (Idle stamp) [] p.replies.room
   pub closed : is_open new stamp ≡ false
 
 -- what becomes of the committed city and of the shelf's changes: by a commit the city is the transaction's
@@ -66,7 +67,7 @@ abbrev pub GoesOn : ℕ → Command → Turn → Progress → Progress → CoreS
 GoesOn stamp command turns.Began p q old new = ⊥
 GoesOn stamp command turns.Replied p q old new = IsReplied stamp command p q old new
 GoesOn stamp command turns.Waits p q old new = IsToWait stamp command p q old new
-GoesOn stamp command turns.Died p q old new = IsToDie stamp command q old new
+GoesOn stamp command turns.Died p q old new = IsToDie stamp command p q old new
 GoesOn stamp command turns.Ended p q old new = ⊥
 GoesOn stamp command turns.AlreadyEnded p q old new = ⊥
 
@@ -84,4 +85,4 @@ abbrev pub HasStepped : ℕ → Command → Result Turn Outcome → Progress →
 HasStepped stamp command (Ok turn) p q old new before after =
     HasGoneOn stamp command turn p q old new before after
 HasStepped stamp command (Err outcome) p q old new before after =
-    (q ≡ p) × AttemptEnded stamp command (length p.replies) outcome old new before after
+    (q ≡ p) × AttemptEnded stamp command (length p.replies.list) outcome old new before after
