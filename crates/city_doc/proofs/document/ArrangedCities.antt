@@ -15,7 +15,7 @@ use Rattle.city_model.specs.Relations.{AreDistinct, IsInOrder, IsRelated, is_orp
 use Rattle.city_model.proofs.Ids.{same_id_back}
 use Rattle.city_model.proofs.Objects.{at_entries}
 use Rattle.city_doc.specs.inside.document.Arranged.{IsArranged, AreArranged}
-use Rattle.city_doc.specs.document.Least.{IsLeastId}
+use Rattle.city_model.specs.Least.{IsLeast}
 
 -- ---- lists
 
@@ -124,7 +124,7 @@ still_misrelated : (m n : CityMap) (id : List ℕ) → AreArrangedMaps m n → I
 still_misrelated m n id maps h = there (n id) (m id) h.0 h.1 (there_back (m id) (n id) (maps id)) (λ p is alike.
     (p, is, still_wrong m n id h.0 p maps (arranged_back p h.0 alike) h.2))
 
-pub least_of_arranged : (m n : CityMap) (id : List ℕ) → AreArrangedMaps m n → IsLeastId (IsMisrelatedAt n) id → IsLeastId (IsMisrelatedAt m) id
+pub least_of_arranged : (m n : CityMap) (id : List ℕ) → AreArrangedMaps m n → IsLeast (IsMisrelatedAt n) id → IsLeast (IsMisrelatedAt m) id
 least_of_arranged m n id maps h = (still_misrelated n m id (maps_back m n maps) h.0, λ q below wrong. h.1 q below (still_misrelated m n q maps wrong))
 
 pub related_of_arranged : (m n : CityMap) → AreArrangedMaps m n → IsRelated n → IsRelated m

@@ -18,7 +18,8 @@ use Rattle.city_model.proofs.Objects.{at_entries}
 use Rattle.city_doc.specs.document.CityFaults.{lenient_map_of, IsBadlyRelatedAt}
 use Rattle.city_doc.specs.inside.document.LenientCities.{lesser, IsReadOf}
 use Rattle.city_doc.specs.object.Faults.{has_bad_list}
-use Rattle.city_doc.specs.document.Least.{Has, IsLeastId}
+use Rattle.city_doc.specs.document.Least.{Has}
+use Rattle.city_model.specs.Least.{IsLeast}
 use Rattle.city_doc.specs.inside.document.Searches.{first_with}
 use Rattle.city_doc.proofs.document.LenientEntries.{found-lenient}
 use Rattle.city_doc.proofs.document.Searches.{first_is_least, none_is_none}
@@ -27,7 +28,7 @@ use Rattle.city_doc.proofs.document.Searches.{first_is_least, none_is_none}
 
 -- the least id that has it, or none has it
 abbrev pub IsLeastIfAny : (List ℕ → Type 0) → Option (List ℕ) → Type 0
-IsLeastIfAny P o = MatchOption o ((id : List ℕ) → P id → ⊥) (λ id. IsLeastId P id)
+IsLeastIfAny P o = MatchOption o ((id : List ℕ) → P id → ⊥) (λ id. IsLeast P id)
 
 module _ (P Q : List ℕ → Type 0) where
   abbrev Either : List ℕ → Type 0
@@ -47,7 +48,7 @@ module _ (P Q : List ℕ → Type 0) where
   below_both a b Equal is out = absurd (true≢false (sym out))
   below_both a b Greater is out = absurd (true≢false (sym out))
 
-  of_two : (a b : List ℕ) (t : Bool) → is_lt (slice_cmp nat_cmp b a) ≡ t → IsLeastId P a → IsLeastId Q b → IsLeastIfAny Either (if t then Some b else Some a)
+  of_two : (a b : List ℕ) (t : Bool) → is_lt (slice_cmp nat_cmp b a) ≡ t → IsLeast P a → IsLeast Q b → IsLeastIfAny Either (if t then Some b else Some a)
   of_two a b true is p q =
       let lt = below_both a b (slice_cmp nat_cmp b a) refl is in
       (inr q.0, λ j less. neither j (p.1 j (nat_list_cmp_total.trans j b a less lt)) (q.1 j less))
@@ -86,11 +87,11 @@ least_badly_related points objects city bad found h least =
 -- ---- of what searches answer
 
 module _ {R : Type 0} (id_of : R → List ℕ) where
-  pub any_of : (P : List ℕ → Type 0) (o : Option R) → IfSome o (λ r. IsLeastId P (id_of r)) → IfNone o ((id : List ℕ) → P id → ⊥) → IsLeastIfAny P (option_map id_of o)
+  pub any_of : (P : List ℕ → Type 0) (o : Option R) → IfSome o (λ r. IsLeast P (id_of r)) → IfNone o ((id : List ℕ) → P id → ⊥) → IsLeastIfAny P (option_map id_of o)
   any_of P None least none = none
   any_of P (Some r) least none = least
 
-  pub of_any : (P : List ℕ → Type 0) (o : Option R) (a : Option (List ℕ)) → option_map id_of o ≡ a → IsLeastIfAny P a → IfSome o (λ r. IsLeastId P (id_of r))
+  pub of_any : (P : List ℕ → Type 0) (o : Option R) (a : Option (List ℕ)) → option_map id_of o ≡ a → IsLeastIfAny P a → IfSome o (λ r. IsLeast P (id_of r))
   of_any P None a is h = tt
   of_any P (Some r) a is h = subst (IsLeastIfAny P) (sym is) h
 

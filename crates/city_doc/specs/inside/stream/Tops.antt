@@ -3,7 +3,7 @@ use Rattle.std.specs.Prelude.{◌≡◌, Some, codes}
 use Rattle.serde_json.specs.Data.{Data, Members}
 use Rattle.serde_json.specs.Find.{get_member}
 use Rattle.city_model.specs.CityMap.{CityValue, at}
-use Rattle.city_model.specs.Faultless.{IsFaultless}
+use Rattle.city_model.specs.inside.Faultless.{IsFaultless}
 use Rattle.city_model.specs.Members.{without, AreOrdered}
 use Rattle.city_doc.specs.declared.stream.document.TopParts.{TopParts}
 use Rattle.city_doc.specs.document.Cities.{city_of}

@@ -1,6 +1,6 @@
 use Rattle.city_model.specs.CityMap.{at}
 use Rattle.city_model.specs.Misrelated.{IsMisrelatedAt}
-use Rattle.city_doc.specs.document.Least.{IsLeastId}
+use Rattle.city_model.specs.Least.{IsLeast}
 use Rattle.city_doc.proofs.document.ArrangedCities.{arranged_maps, least_of_arranged, related_of_arranged}
 use Rattle.city_doc.proofs.document.Least.{mapped, mapped_some}
 use Rattle.city_doc.proofs.document.arranged.least_misrelated.Goals as goal
@@ -10,7 +10,7 @@ returns-clause-least c =
     let m = c.args.city.now.1 in
     let n = c.in_ok-arranged.arranged.1 in
     let maps = arranged_maps m n c.in_ok-arranged.ensures in
-    mapped_some (λ id. id) (λ id. IsLeastId (IsMisrelatedAt (at n)) id) (λ id. IsLeastId (IsMisrelatedAt (at m)) id) c.in_ok-least.least (λ id. least_of_arranged (at m) (at n) id maps) c.in_ok-least.ensures.least
+    mapped_some (λ id. id) (λ id. IsLeast (IsMisrelatedAt (at n)) id) (λ id. IsLeast (IsMisrelatedAt (at m)) id) c.in_ok-least.least (λ id. least_of_arranged (at m) (at n) id maps) c.in_ok-least.ensures.least
 
 pub returns-clause-none : goal.returns-clause-none
 returns-clause-none c =
