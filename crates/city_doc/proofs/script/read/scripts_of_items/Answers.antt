@@ -6,5 +6,6 @@ use Rattle.city_doc.proofs.script.read.scripts_of_items.Goals as goal
 
 pub loop-item-preserved : goal.loop-item-preserved
 loop-item-preserved c =
-    all_read-step script_of_item _ c.loop-item.scripts _ _ _ (view c.in-Some.item) c.in-Some-2.script c.loop-item.invariant (ap (map view) c.in-Some.ensures.steps.0)
+    all_read-step script_of_item _ c.loop-item.scripts _ _ _ (view c.in-Some.item) c.in-Some-2.script
+    c.loop-item.invariant (ap (map view) c.in-Some.ensures.steps.0)
     (sym c.in_ok-script.ensures ∙ c.in-Some-2.is) c.in_ok-push.ensures.ok

@@ -20,7 +20,8 @@ pub members-smaller-then-not-taken : goal.members-smaller-then-not-taken
 members-smaller-then-not-taken g c =
     let k = c.in-Some.name.now in
     let named : read_key c.members.reader ≡ Some (Some k, c.next_key.new.self) =
-    key_read c.next_key.result c.ok.result _ (Some c.in-Some.name) (λ s. s.now) c.members.reader c.next_key.new.self c.ok.ensures.value c.in_ok-name.was c.in-Some.is c.next_key.ensures.value in
+    key_read c.next_key.result c.ok.result _ (Some c.in-Some.name) (λ s. s.now) c.members.reader c.next_key.new.self
+    c.ok.ensures.value c.in_ok-name.was c.in-Some.is c.next_key.ensures.value in
     let off : c.in_ok-taken.taken ≡ false = grind arith in
     let passed : IsPassed g.O.Own.stands c.members.own c.take.new.self k c.next_key.new.self c.take.new.reader = rw off at c.in_ok-taken.ensures in
     let less = value_shorter c.args.depth c.next_key.new.self c.read_value.new.reader (view c.in_ok-value.value) (seen_value (sym passed.0) refl c.in_ok-value.ensures) in
@@ -34,7 +35,8 @@ members-preserved-then-not-taken g c =
     let v = c.in_ok-value.value in
     let old = members_view l.kept.entries in
     let named : read_key l.reader ≡ Some (Some k, c.next_key.new.self) =
-    key_read c.next_key.result c.ok.result _ (Some c.in-Some.name) (λ s. s.now) l.reader c.next_key.new.self c.ok.ensures.value c.in_ok-name.was c.in-Some.is c.next_key.ensures.value in
+    key_read c.next_key.result c.ok.result _ (Some c.in-Some.name) (λ s. s.now) l.reader c.next_key.new.self
+    c.ok.ensures.value c.in_ok-name.was c.in-Some.is c.next_key.ensures.value in
     let off : c.in_ok-taken.taken ≡ false = grind arith in
     let passed : IsPassed g.O.Own.stands l.own c.take.new.self k c.next_key.new.self c.take.new.reader = rw off at c.in_ok-taken.ensures in
     let copied : string_bytes c.in_ok-key.key ≡ k = search rules in
@@ -49,7 +51,8 @@ pub members-smaller : goal.members-smaller
 members-smaller g c =
     let k = c.in-Some.name.now in
     let named : read_key c.members.reader ≡ Some (Some k, c.next_key.new.self) =
-    key_read c.next_key.result c.ok.result _ (Some c.in-Some.name) (λ s. s.now) c.members.reader c.next_key.new.self c.ok.ensures.value c.in_ok-name.was c.in-Some.is c.next_key.ensures.value in
+    key_read c.next_key.result c.ok.result _ (Some c.in-Some.name) (λ s. s.now) c.members.reader c.next_key.new.self
+    c.ok.ensures.value c.in_ok-name.was c.in-Some.is c.next_key.ensures.value in
     let on : c.in_ok-taken.taken ≡ true = grind arith in
     let taken : IsTaken g.O.Own.stands c.members.own c.take.new.self k c.args.depth c.next_key.new.self c.take.new.reader = rw on at c.in_ok-taken.ensures in
     let less = value_shorter c.args.depth c.next_key.new.self c.take.new.reader taken.0 taken.1 in
@@ -61,7 +64,8 @@ members-preserved g c =
     let l = c.members in
     let k = c.in-Some.name.now in
     let named : read_key l.reader ≡ Some (Some k, c.next_key.new.self) =
-    key_read c.next_key.result c.ok.result _ (Some c.in-Some.name) (λ s. s.now) l.reader c.next_key.new.self c.ok.ensures.value c.in_ok-name.was c.in-Some.is c.next_key.ensures.value in
+    key_read c.next_key.result c.ok.result _ (Some c.in-Some.name) (λ s. s.now) l.reader c.next_key.new.self
+    c.ok.ensures.value c.in_ok-name.was c.in-Some.is c.next_key.ensures.value in
     let on : c.in_ok-taken.taken ≡ true = grind arith in
     let taken : IsTaken g.O.Own.stands l.own c.take.new.self k c.args.depth c.next_key.new.self c.take.new.reader = rw on at c.in_ok-taken.ensures in (
       put k taken.0 l.invariant.0,

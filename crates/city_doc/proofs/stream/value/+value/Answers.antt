@@ -37,7 +37,8 @@ pub read_members-members-smaller : goal.read_members-members-smaller
 read_members-members-smaller t c =
     let k = c.in-Some.name.now in
     let named : read_key c.members.reader ≡ Some (Some k, c.next_key.new.self) =
-    key_read c.next_key.result c.ok.result _ (Some c.in-Some.name) (λ s. s.now) c.members.reader c.next_key.new.self c.ok.ensures.value c.in_ok-name.was c.in-Some.is c.next_key.ensures.value in
+    key_read c.next_key.result c.ok.result _ (Some c.in-Some.name) (λ s. s.now) c.members.reader c.next_key.new.self
+    c.ok.ensures.value c.in_ok-name.was c.in-Some.is c.next_key.ensures.value in
     let less = value_shorter c.args.depth c.next_key.new.self c.read_value.new.reader (view c.in_ok-member.member) c.in_ok-member.ensures in
     let lesser = read_key-shorter c.members.reader (Some k) c.next_key.new.self named in
     omega (arith, less, lesser)
@@ -48,7 +49,8 @@ read_members-members-preserved t c =
     let v = c.in_ok-member.member in
     let old = members_view c.members.found.entries in
     let named : read_key c.members.reader ≡ Some (Some k, c.next_key.new.self) =
-    key_read c.next_key.result c.ok.result _ (Some c.in-Some.name) (λ s. s.now) c.members.reader c.next_key.new.self c.ok.ensures.value c.in_ok-name.was c.in-Some.is c.next_key.ensures.value in
+    key_read c.next_key.result c.ok.result _ (Some c.in-Some.name) (λ s. s.now) c.members.reader c.next_key.new.self
+    c.ok.ensures.value c.in_ok-name.was c.in-Some.is c.next_key.ensures.value in
     let copied : string_bytes c.in_ok-key.key ≡ k = search rules in
     let inserted : members_view c.insert.new.self.entries ≡ put k (view v) old =
     ap members_view (grind arith) ∙ members_view-insert_entry c.members.found.entries c.in_ok-key.key v ∙ ap (λ name. put name (view v) old) copied in

@@ -5,4 +5,5 @@ use Rattle.city_doc.proofs.stream.script.ScriptFromTokens.from_tokens.Goals as g
 pub returns : goal.returns
 returns c =
     let read = c.in_ok-read.ensures in
-    (object read.0, read.1, c.in_ok-script.ensures read.0 no_members (read.2 (None, None, None, refl, tt, tt, c.new.ensures)))
+    let begun = read.2 (None, None, None, refl, tt, tt, c.new.ensures) in
+    (object read.0, read.1, c.in_ok-script.ensures read.0 no_members begun)
