@@ -59,8 +59,6 @@ fn lawful_city(alloc: Global, bytes: &[u8]) -> Option<City>
 
 /// Reads a document from its tree.
 fn read_tree(alloc: Global, bytes: &[u8]) -> Result<City, ReadFault>
-    ensures lawful { IfOk result (λ c. IsLawful (at c.1)) }
-    ensures readable { OnOk result (IsReadable bytes.now) }
     ensures admitted { IfOk result (λ c. IsAdmitted bytes.now c) }
     ensures fault { IfErr result (λ f. DocumentFault bytes.now f) }
     ensures refused { IfErr result (λ f. (f ≡ ReadFault.OutOfMemory)
@@ -90,8 +88,8 @@ fn fault_of(alloc: Global, bytes: &[u8], fault: ReadFault) -> ReadFault
 /// the first of a tree of whole numbers: whether they are whole isn't judged here, since a city is
 /// built of nothing else.
 fn city_of_tree(alloc: Global, tree: Value) -> Result<Option<City>, ReadFault>
-    ensures stands { IfOk result (λ o. IfSome o (λ c. city_of (view tree) ≡ Some c)) }
-    ensures lawful { IfOk result (λ o. IfSome o (λ c. IsLawful (at c.1))) }
+    ensures built { IfOk result (λ o. IfSome o
+        (λ c. (city_of (view tree) ≡ Some c) × IsLawful (at c.1))) }
     ensures right { IfOk result (λ _. wrong_member (view tree) ≡ None) }
     ensures unbuilt { IfOk result (λ o. IfNone o
         (lenient_city_of (vertices_in (view tree)) (view tree) ≡ None)) }

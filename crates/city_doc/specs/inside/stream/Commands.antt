@@ -1,6 +1,6 @@
 -- Commands whose positions aren't replaced by points yet.
 use Rattle.std.specs.Prelude.{◌≡◌, ℕ, List, Option, Some, None, false, codes}
-use Rattle.serde_json.specs.Data.{Data, string, object, Members, no_members, put}
+use Rattle.serde_json.specs.Data.{Data, string, Members, no_members, put}
 use Rattle.serde_json.specs.Find.{get_member}
 use Rattle.city_model.specs.declared.command.Command.{Command}
 use Rattle.city_model.specs.declared.command.Command.TheVariants.{Read, Put, Delete, Attach, Detach, Mark, Back}

@@ -3,6 +3,7 @@ use Rattle.std.specs.Prelude.{IfNone}
 use Rattle.std.specs.Result.{result_ok}
 use Rattle.city_model.specs.CityMap.{at}
 use Rattle.city_model.specs.Relations.{IsRelated}
+use Rattle.city_doc.specs.inside.stream.Tops.{IsCity}
 use Rattle.city_doc.proofs.stream.FaultlessObjects.{lawful}
 use Rattle.city_doc.proofs.document.read.lawful_city.Goals as goal
 
@@ -15,4 +16,5 @@ returns-in-None c =
     let city = c.in_ok-city.ensures in
     let agree = given c.least_misrelated.result c.ok.result c.in_ok-ok.field-0 (λ o. IfNone o (IsRelated (at c.in_ok-city.city.1))) c.ok.ensures.value c.in_ok-ok.was c.least_misrelated.ensures.none in
     let related = subst (λ o. IfNone o (IsRelated (at c.in_ok-city.city.1))) c.in-None.is agree in
-    (city.0, city.1, city.2, city.3, lawful c.in_ok-city.city.1 city.4 related)
+    let stands : IsCity c.in_ok-city.city city.0 = city.3 in
+    (city.0, city.1, city.2, stands.0, lawful c.in_ok-city.city.1 stands.1 related)
