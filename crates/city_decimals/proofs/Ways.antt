@@ -1,9 +1,9 @@
 -- A value is changed part by part, whichever way.
-use Rattle.std.proofs.Common.{◌≡◌, ℕ, List, [], ◌∷◌, Bool, true, false, cond, Some, ◌&&◌, refl, ap₂}
+use Rattle.std.proofs.Common.{◌≡◌, ℕ, List, [], ◌∷◌, ◌++◌, Bool, true, false, cond, Some, ◌&&◌, refl, ap, ap₂}
 use Rattle.json.specs.Json.{Json, null, boolean, number, string, array, object, Items, no_items, item, Members}
 use Rattle.json.specs.Json.{no_members, member, value}
 use Rattle.json.specs.Token.{Token}
-use Rattle.json.specs.Tree.{json_tokens}
+use Rattle.json.specs.Tree.{json_tokens, items_tokens, members_tokens}
 use Rattle.city_decimals.specs.Shapes.{is_tag, is_transform, is_text_or_array, in_form, only, fronted}
 use Rattle.city_decimals.specs.Encoded.{encoded}
 use Rattle.city_decimals.specs.Decoded.{decoded}
@@ -49,6 +49,10 @@ pub item_changed : (way : Way) (j : Json) (js : Items)
 item_changed Encode j js = refl
 item_changed Decode j js = refl
 
+pub item_tokens : (way : Way) (j : Json) (js : Items) → items_tokens (items_changed way (item j js))
+    ≡ json_tokens (changed way j) ++ items_tokens (items_changed way js)
+item_tokens way j js = ap items_tokens (item_changed way j js)
+
 pub object_changed : (way : Way) (ms : Members) → IsUntagged ms
     → changed way (object ms) ≡ object (members_changed way false ms)
 object_changed Encode ms h = refl
@@ -62,6 +66,11 @@ pub first_changed : (way : Way) (top : Bool) (k : List ℕ) (j : Json) (ms : Mem
     → members_changed way top (member k j ms) ≡ member k (member_changed way top k j) (members_changed way top ms)
 first_changed Encode top k j ms = refl
 first_changed Decode top k j ms = refl
+
+pub member_tokens : (way : Way) (top : Bool) (k : List ℕ) (j : Json) (ms : Members)
+    → members_tokens (members_changed way top (member k j ms))
+    ≡ Token.key k ∷ (json_tokens (member_changed way top k j) ++ members_tokens (members_changed way top ms))
+member_tokens way top k j ms = ap members_tokens (first_changed way top k j ms)
 
 -- a member that is neither under the tag nor in a frame has no form
 pub plain_member : (way : Way) (top : Bool) (k : List ℕ) (j : Json) → (top && is_transform k j) ≡ false

@@ -4,14 +4,11 @@ use Rattle.std.specs.Prelude.{option_map}
 use Rattle.std.proofs.lemmas.Result.{on_ok_weaker}
 use Rattle.json.specs.Token.{Token}
 use Rattle.json.specs.Json.{Json, array, object, Items, Members, member}
-use Rattle.json.specs.Json.{parse_map, after_end_array, read_key}
-use Rattle.json.specs.Json.{items, members, value}
+use Rattle.json.specs.Json.{parse_map, after_end_array, read_key, items, members, value}
 use Rattle.json.specs.Reads.{token_of}
 use Rattle.json.specs.Tree.{json_tokens, items_tokens, members_tokens}
-use Rattle.json.proofs.Grammar.{value_is, value-begin_array, value-begin_object}
-use Rattle.json.proofs.Grammar.{read_key-shorter, read_key_is}
-use Rattle.json.proofs.Grammar.{items_fail, members_end, members_more, members_fail}
-use Rattle.json.proofs.Grammar.{members_no_key}
+use Rattle.json.proofs.Grammar.{value_is, value-begin_array, value-begin_object, read_key-shorter, read_key_is}
+use Rattle.json.proofs.Grammar.{items_fail, members_end, members_more, members_fail, members_no_key}
 use Rattle.city_decimals.specs.Decoded.{decoded, decoded_members, out_of_form}
 use Rattle.city_decimals.specs.inside.Objects.{decoded_object, IsFirstWritten}
 use Rattle.city_decimals.specs.inside.Streams.{written}
@@ -20,8 +17,8 @@ use Rattle.city_decimals.proofs.Copied.{formless}
 use Rattle.city_decimals.proofs.Objects.{object_written, object_put, first_is_no_number, two_are_no_number, other_name}
 use Rattle.city_decimals.proofs.Streams.{none_written, written_as, written_with, token_first, value_shorter}
 use Rattle.city_decimals.proofs.Streams.{item_written, items_over, member_written, members_over}
-use Rattle.city_decimals.proofs.Ways.{string_changed, boolean_changed, null_changed, array_changed, item_changed}
-use Rattle.city_decimals.proofs.Ways.{no_items_changed, first_changed, no_members_changed, plain_member}
+use Rattle.city_decimals.proofs.Ways.{string_changed, boolean_changed, null_changed, array_changed, item_tokens}
+use Rattle.city_decimals.proofs.Ways.{no_items_changed, member_tokens, no_members_changed, plain_member}
 use Rattle.city_decimals.proofs.Ways.{object_is_made, no_object, decode_here, untagged_here}
 use Rattle.city_decimals.proofs.change.value.+change.Goals as goal
 
@@ -80,7 +77,8 @@ change_member-returns-else-can_have_form-clause-ok t c =
     (λ j is. let n = formless top k j (sym c.if-can_have_form.ensures) in
     ap json_tokens (plain_member c.args.way top k j n.0 n.1))) c.change_value.ensures.ok
 
-pub change_from-returns-in_ok-write_number-in-Number-clause-ok : goal.change_from-returns-in_ok-write_number-in-Number-clause-ok
+pub change_from-returns-in_ok-write_number-in-Number-clause-ok :
+    goal.change_from-returns-in_ok-write_number-in-Number-clause-ok
 change_from-returns-in_ok-write_number-in-Number-clause-ok t c =
     let f : Json → List Token = λ j. json_tokens (changed c.args.way j) in
     let ts = c.args.reader.now in
@@ -156,8 +154,8 @@ change_items-items-preserved t c =
       λ a enough. let i = l.invariant.1 a enough in (
         i.0 - 1,
         omega (arith, i.1),
-        i.2 ∙ item_written p f g (λ j js. ap items_tokens (item_changed c.args.way j js)) i.0 l.out.tokens c.change_value.new.out.tokens l.reader r (omega
-            (arith, i.1)) going.0 done,
+        i.2 ∙ item_written p f g (item_tokens c.args.way) i.0 l.out.tokens c.change_value.new.out.tokens l.reader r
+            (omega (arith, i.1)) going.0 done,
       ),
     )
 
@@ -178,7 +176,7 @@ change_items-returns-clause-ok t c =
     let r = c.take_end_array.new.self in
     let over : after_end_array l.reader ≡ Some r = grind arith in
     λ a enough. let i = l.invariant.1 a enough in
-    i.2 ∙ items_over (value c.args.depth) f g (λ j js. ap items_tokens (item_changed c.args.way j js)) i.0 l.out.tokens l.reader r i.1 over
+    i.2 ∙ items_over (value c.args.depth) f g (item_tokens c.args.way) i.0 l.out.tokens l.reader r i.1 over
     ∙ ap (λ us. Some (us, r)) (ap (λ js. l.out.tokens ++ items_tokens js) (no_items_changed c.args.way)
     ∙ sym c.in_ok-end_array.ensures.ok)
 
@@ -189,7 +187,8 @@ change_more-members-smaller t c =
     let s = c.next_key.new.self in
     let named : read_key l.reader ≡ Some (Some k, s) = grind arith in
     let less = read_key-shorter l.reader (Some k) s named in
-    let lesser = value_shorter (λ j. json_tokens (member_changed c.args.way c.args.top k j)) c.args.depth _ _ _ c.change_member.new.reader c.in_ok-change_member.ensures.ok in
+    let lesser = value_shorter (λ j. json_tokens (member_changed c.args.way c.args.top k j)) c.args.depth _ _ _
+    c.change_member.new.reader c.in_ok-change_member.ensures.ok in
     omega arith
 
 pub change_more-members-preserved : goal.change_more-members-preserved
@@ -211,8 +210,8 @@ change_more-members-preserved t c =
       λ a enough. let i = l.invariant.1 a enough in (
         i.0 - 1,
         omega (arith, i.1),
-        i.2 ∙ member_written p f g (λ k j ms. ap members_tokens (first_changed c.args.way c.args.top k j ms)) i.0 k l.out.tokens c.change_member.new.out.tokens l.reader s r
-            (omega (arith, i.1)) named done,
+        i.2 ∙ member_written p f g (member_tokens c.args.way c.args.top) i.0 k l.out.tokens
+            c.change_member.new.out.tokens l.reader s r (omega (arith, i.1)) named done,
       ),
     )
 
@@ -242,9 +241,9 @@ change_more-returns-clause-ok t c =
     let r = c.next_key.new.self in
     let over : read_key l.reader ≡ Some (None, r) = grind arith in
     λ a enough. let i = l.invariant.1 a enough in
-    i.2 ∙ members_over (value c.args.depth) f g (λ k j ms. ap members_tokens (first_changed c.args.way c.args.top k j ms)) i.0 l.out.tokens l.reader r i.1 over
-    ∙ ap (λ us. Some (us, r)) (ap (λ ms. l.out.tokens ++ members_tokens ms) (no_members_changed c.args.way c.args.top)
-    ∙ sym c.in_ok-end_object.ensures.ok)
+    i.2 ∙ members_over (value c.args.depth) f g (member_tokens c.args.way c.args.top) i.0 l.out.tokens l.reader r i.1
+    over ∙ ap (λ us. Some (us, r)) (ap (λ ms. l.out.tokens ++ members_tokens ms)
+    (no_members_changed c.args.way c.args.top) ∙ sym c.in_ok-end_object.ensures.ok)
 
 pub change_members-returns-in_err-change_member-clause-err : goal.change_members-returns-in_err-change_member-clause-err
 change_members-returns-in_err-change_member-clause-err t c refused n enough =
@@ -265,8 +264,8 @@ change_members-returns-clause-ok t c =
     let done : written (f k) (out ++ Token.key k ∷ []) (p s)
     ≡ Some (now, r) = rw (← c.in_ok-key.ensures.ok) c.in_ok-change_member.ensures.ok in
     let less = value_shorter (f k) c.args.depth (out ++ Token.key k ∷ []) now s r done in
-    on_ok_weaker c.change_more.result (λ e n enough. member_written p f g (λ k j ms. ap members_tokens (first_changed c.args.way c.args.top k j ms)) n k out now
-    (Token.key k ∷ s) s r (omega (arith, enough)) refl done
+    on_ok_weaker c.change_more.result (λ e n enough. member_written p f g (member_tokens c.args.way c.args.top) n k out
+    now (Token.key k ∷ s) s r (omega (arith, enough)) refl done
     ∙ e (n - 1) (omega (arith, enough, less))) c.change_more.ensures.ok
 
 pub change_members-returns-clause-err : goal.change_members-returns-clause-err
@@ -285,7 +284,7 @@ change_members-returns-clause-err t c refused n enough =
     let none : members p (n - 1) r ≡ None = c.change_more.ensures.err (grind arith) (n - 1) (omega
     (arith, enough, less)) in
     none_written g out now (members p n (Token.key k ∷ s)) (members p (n - 1) r) (member_written p f g
-    (λ k j ms. ap members_tokens (first_changed c.args.way c.args.top k j ms)) n k out now (Token.key k ∷ s) s r (omega (arith, enough)) refl done) none
+    (member_tokens c.args.way c.args.top) n k out now (Token.key k ∷ s) s r (omega (arith, enough)) refl done) none
 
 pub change_object-returns-in_err-name-clause-err : goal.change_object-returns-in_err-name-clause-err
 change_object-returns-in_err-name-clause-err t c refused = members_no_key (value c.args.depth)
