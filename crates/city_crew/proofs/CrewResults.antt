@@ -2,7 +2,7 @@
 use Rattle.std.proofs.Common.{◌≡◌, ℕ, List, [], ◌∷◌, ◌++◌, length, Option, ap, sym, ◌∙◌, subst}
 use Rattle.city_model.specs.declared.end.End.{End}
 use Rattle.city_model.specs.declared.frame.Frame.{Frame}
-use Rattle.city_model.specs.CityMap.{CityValue, at}
+use Rattle.city_model.specs.CityMap.{CityValue, object_at}
 use Rattle.city_model.specs.Runs.{Change, model_after}
 use Rattle.city_doc.specs.document.Canonical.{city_text}
 use Rattle.city_doc.specs.report.Reports.{report_text}
@@ -14,7 +14,7 @@ use Rattle.city_crew.specs.inside.CrewRuns.{IsResult}
 
 pub is_result : (document scripts : List ℕ) (d : DeskState) (changes : List Change) (base : Option CityValue) (left : CityValue) (ends : List End)
     → IsReadFrom document scripts d.start d.scripts → IsSerial d changes base → length ends ≡ length d.scripts
-    → left.0 ≡ d.start.0 → at left.1 ≡ model_after d.scripts (at d.start.1) d.ends → ends ≡ d.ends → IsResult document scripts left ends
+    → left.0 ≡ d.start.0 → object_at left.1 ≡ model_after d.scripts (object_at d.start.1) d.ends → ends ≡ d.ends → IsResult document scripts left ends
 is_result document scripts d changes base left ends read serial once frame model same =
     subst (λ (es : List End). IsResult document scripts left es) (sym same) (record {
       city = d.start;

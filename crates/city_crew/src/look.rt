@@ -1,8 +1,8 @@
 //! A look at a version that was published.
 ghost use Rattle.std.specs.Prelude.{◌≡◌, length};
-ghost use Rattle.city_model.specs.CityMap.{at};
+ghost use Rattle.city_model.specs.CityMap.{object_at};
 ghost use Rattle.city_model.specs.Relations.{IsLawful};
-ghost use Rattle.city_model.specs.Runs.{shown};
+ghost use Rattle.city_model.specs.Runs.{after_changes};
 
 use crate::history::History;
 use crate::viewer::{BoardReading, Viewer};
@@ -57,8 +57,8 @@ impl Look {
     /// this look. Doesn't allocate.
     pub fn city(&self) -> &City
         ensures frame { result.now.0 ≡ self.now.opening.0 }
-        ensures objects { at result.now.1 ≡ shown (at self.now.opening.1) self.now.seen }
-        ensures lawful { IsLawful (at result.now.1) }
+        ensures objects { object_at result.now.1 ≡ after_changes (object_at self.now.opening.1) self.now.seen }
+        ensures lawful { IsLawful (object_at result.now.1) }
     {
         let _ = &self.seen;
         &self.reading.get().city

@@ -6,7 +6,7 @@ use Rattle.std.proofs.lemmas.List.{get_or-set_same, get_or-set_other}
 use Rattle.city_model.specs.declared.command.Command.{Command}
 use Rattle.city_model.specs.declared.command.Reply.{Reply}
 use Rattle.city_model.specs.Standing.{Answered, answered}
-use Rattle.city_txn.specs.CoreState.{is_open, Stands}
+use Rattle.city_txn.specs.CoreState.{is_open, StandsUnderLocks}
 use Rattle.city_desk.specs.declared.progress.Progress.{Progress}
 use Rattle.city_desk.specs.declared.progress.Phase.{Phase}
 use Rattle.city_desk.specs.declared.progress.Phase.TheVariants.{NotBegun, Idle, Open, Ended}
@@ -20,7 +20,7 @@ pub record IsTurnOf (d e : DeskState) (n stamp : ℕ) (q : Progress) : Type 0 wh
   pub progress : e.progress ≡ slice_set d.progress n q
   pub begun : d.begun ≤ e.begun
   pub ends : length d.ends ≤ length e.ends
-  pub others : (t : ℕ) (done : List Answered) → (stamp == t) ≡ false → Stands d.core t done → Stands e.core t done
+  pub others : (t : ℕ) (done : List Answered) → (stamp == t) ≡ false → StandsUnderLocks d.core t done → StandsUnderLocks e.core t done
   pub opened : (t : ℕ) → (stamp == t) ≡ false → is_open e.core t ≡ is_open d.core t
   pub own : is_open e.core stamp ≡ is_open_phase q.phase
   pub was : (s : ℕ) → stamp_of (phase_of d n) ≡ Some s → s ≡ stamp

@@ -7,11 +7,11 @@ use Rattle.city_model.specs.declared.command.Command.{Command}
 use Rattle.city_model.specs.declared.command.Reply.{Reply}
 use Rattle.city_model.specs.declared.end.End.{End}
 use Rattle.city_model.specs.declared.end.Outcome.{Outcome}
-use Rattle.city_model.specs.CityMap.{CityMap, at, CityValue}
-use Rattle.city_model.specs.Runs.{HasResult, IsEndOf, commands_of, model_after, Change}
+use Rattle.city_model.specs.CityMap.{CityMap, object_at, CityValue}
+use Rattle.city_model.specs.Runs.{IsScriptResult, IsEndOf, commands_of, model_after, Change}
 use Rattle.city_model.specs.Scripts.{ends_once}
 use Rattle.city_model.proofs.Fitting.{model_more}
-use Rattle.city_txn.specs.CoreState.{CoreState, committed, is_open, Stands, KeepsOthers}
+use Rattle.city_txn.specs.CoreState.{CoreState, committed, is_open, StandsUnderLocks, KeepsOthers}
 use Rattle.city_desk.specs.declared.progress.Progress.{Progress}
 use Rattle.city_desk.specs.declared.progress.Phase.{Phase}
 use Rattle.city_desk.specs.declared.progress.Phase.TheVariants.{NotBegun, Idle, Open, Ended}
@@ -41,7 +41,7 @@ none_some s e = cc
 some_eq : (s t : ℕ) → Some s ≡ Some t → s ≡ t
 some_eq s t e = cc
 
-no_room : (m : CityMap) (all : List Command) → ends_once all ≡ true → HasResult m all [] (Outcome.NoMemory 0)
+no_room : (m : CityMap) (all : List Command) → ends_once all ≡ true → IsScriptResult m all [] (Outcome.NoMemory 0)
 no_room m [] h = absurd (false≢true h)
 no_room m (c ∷ cs) h = refl
 
@@ -127,7 +127,7 @@ module _ (d : DeskState) (changes : List Change) (base : Option CityValue) (n st
   room_read p read = sym (ap (λ (q : Progress). q.replies.room) (progress_at d.progress n p within read))
 
   begins : (p : Progress) (since begun : ℕ) (core : CoreState) (names : List (List ℕ)) (capacity : ℕ) → p ≡ slice_index_or d.progress n p → since ≡ length d.ends → begun ≡ begun_after d.begun (phase_of d n)
-      → KeepsOthers stamp d.core core → core.city ≡ d.core.city → is_open core stamp ≡ true → Stands core stamp [] → HasRoom d names capacity
+      → KeepsOthers stamp d.core core → core.city ≡ d.core.city → is_open core stamp ≡ true → StandsUnderLocks core stamp [] → HasRoom d names capacity
       → LeavesDesk n turns.Began d (now_at d (slice_set d.progress n (record { phase = Open stamp since; replies = p.replies })) begun core) names capacity changes changes base
   begins p since begun core names capacity read now more keeps objects opened stands r =
       let progress : List Progress = slice_set d.progress n (record { phase = Open stamp since; replies = p.replies }) in
@@ -137,7 +137,7 @@ module _ (d : DeskState) (changes : List Change) (base : Option CityValue) (n st
       ap (λ k. slice_set d.progress n (record { phase = Open stamp k; replies = p.replies })) now
       ∙ (ap (λ rs. slice_set d.progress n (progress_to (Open stamp (length d.ends)) rs p.replies.room)) (reads p read)
       ∙ ap (λ k. slice_set d.progress n (progress_to (Open stamp (length d.ends)) [] k)) (room_read p read)) in
-      let city : committed core ≡ committed d.core = λ i id. at (objects i) id in
+      let city : committed core ≡ committed d.core = λ i id. object_at (objects i) id in
       let below = is_fresh.below in
       let grown = is_fresh.more in
       let attempt : IsAttempt e (commands_at d.scripts n) stamp (length d.ends) [] = record {
@@ -179,18 +179,18 @@ module _ (d : DeskState) (changes : List Change) (base : Option CityValue) (n st
   due_unbegun (Open t since) e = absurd (cc)
   due_unbegun Ended e = absurd (cc)
 
-  fits_unbegun : IsEndOf d.scripts (model_after d.scripts (at d.start.1) d.ends) (length d.ends) (end_of d n (length d.ends) (Outcome.NoMemory 0))
+  fits_unbegun : IsEndOf d.scripts (model_after d.scripts (object_at d.start.1) d.ends) (length d.ends) (end_of d n (length d.ends) (Outcome.NoMemory 0))
   fits_unbegun =
       let script : slice_get d.scripts n ≡ Some (slice_index_or d.scripts n ([], [])) = slice_get-get_or d.scripts n ([], []) there in
-      let m : CityMap = model_after d.scripts (at d.start.1) d.ends in
-      let nothing : HasResult m (commands_at d.scripts n) [] (Outcome.NoMemory 0) = no_room m (commands_at d.scripts n) once in
-      let heard : HasResult m (commands_at d.scripts n) (replies_of d n) (Outcome.NoMemory 0) = subst (λ (rs : List Reply). HasResult m (commands_at d.scripts n) rs (Outcome.NoMemory 0)) (sym is_fresh.unheard) nothing in
+      let m : CityMap = model_after d.scripts (object_at d.start.1) d.ends in
+      let nothing : IsScriptResult m (commands_at d.scripts n) [] (Outcome.NoMemory 0) = no_room m (commands_at d.scripts n) once in
+      let heard : IsScriptResult m (commands_at d.scripts n) (replies_of d n) (Outcome.NoMemory 0) = subst (λ (rs : List Reply). IsScriptResult m (commands_at d.scripts n) rs (Outcome.NoMemory 0)) (sym is_fresh.unheard) nothing in
       record {
         script = slice_index_or d.scripts n ([], []);
         is_there = script;
         named = ap name_in script;
         since = omega arith;
-        result = subst (λ (cs : List Command). HasResult m cs (replies_of d n) (Outcome.NoMemory 0)) (ap commands_of script) heard;
+        result = subst (λ (cs : List Command). IsScriptResult m cs (replies_of d n) (Outcome.NoMemory 0)) (ap commands_of script) heard;
       }
 
   ended_unbegun : (ends : List End) (progress : List Progress) (names left : List (List ℕ)) (name : List ℕ) (capacity room : ℕ) → ends ≡ d.ends ++ end_of d n (length d.ends) (Outcome.NoMemory 0) ∷ []
@@ -214,7 +214,7 @@ module _ (d : DeskState) (changes : List Change) (base : Option CityValue) (n st
         stands = refl;
       } in
       let serial : IsSerial e changes base = ended_serial d changes changes base ends progress d.core n stamp last s refl turn more refl there is_fresh.unended fits_unbegun s.city
-      (changes_kept d.scripts (at d.start.1) d.ends changes s.shelf last refl (model_more d.scripts d.ends last (at d.start.1))) in
+      (changes_kept d.scripts (object_at d.start.1) d.ends changes s.shelf last refl (model_more d.scripts d.ends last (object_at d.start.1))) in
       record {
         serial = serial;
         room_left = room_ended d names left capacity room ends progress d.core n last name r within moves more is_fresh.unended taken same;
@@ -239,7 +239,7 @@ module _ (d : DeskState) (changes : List Change) (base : Option CityValue) (n st
 
 -- ---- the same of the desk that contracts see
 
-module _ {d seen : DeskState} {changes shown : List Change} {base : Option CityValue} {n stamp : ℕ} (run : d ≡ seen) (listed : changes ≡ shown) (s : IsSerial d changes base)
+module _ {d seen : DeskState} {changes listing : List Change} {base : Option CityValue} {n stamp : ℕ} (run : d ≡ seen) (listed : changes ≡ listing) (s : IsSerial d changes base)
     (its : stamp_for seen (phase_of seen n) ≡ Some stamp) (there : n < length seen.scripts) {names : List (List ℕ)} {capacity : ℕ} (r : HasRoom d names capacity) where
   its_here : stamp_for d (phase_of d n) ≡ Some stamp
   its_here = subst (λ (x : DeskState). stamp_for x (phase_of x n) ≡ Some stamp) (sym run) its
@@ -251,7 +251,7 @@ module _ {d seen : DeskState} {changes shown : List Change} {base : Option CityV
   place_for_end = place_unbegun d changes base n stamp s its_here there_here names capacity r
 
   module _ {p : Progress} {since : ℕ} {core : CoreState} (read : p ≡ slice_index_or d.progress n p) (now : since ≡ length d.ends) where
-    pub turn_begins : {begun : ℕ} → begun ≡ begun_after seen.begun (phase_of seen n) → KeepsOthers stamp d.core core → core.city ≡ d.core.city → is_open core stamp ≡ true → Stands core stamp []
+    pub turn_begins : {begun : ℕ} → begun ≡ begun_after seen.begun (phase_of seen n) → KeepsOthers stamp d.core core → core.city ≡ d.core.city → is_open core stamp ≡ true → StandsUnderLocks core stamp []
         → LeavesDesk n turns.Began seen (now_at d (slice_set d.progress n (record { phase = Open stamp since; replies = p.replies })) begun core) names capacity shown changes base
     turn_begins {begun} more keeps objects opened stands = left_of run listed
         (begins d changes base n stamp s its_here there_here p since begun core names capacity read now

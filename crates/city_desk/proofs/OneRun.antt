@@ -3,8 +3,8 @@ use Rattle.std.proofs.Common.{◌≡◌, ℕ, ◌+◌, List, [], ◌∷◌, ◌+
 use Rattle.std.specs.Prelude.{not}
 use Rattle.std.proofs.lemmas.Bool.{and_parts, not-true}
 use Rattle.city_model.specs.declared.end.End.{End}
-use Rattle.city_model.specs.CityMap.{CityValue, Objects, at}
-use Rattle.city_model.specs.Runs.{Scripted, Fits}
+use Rattle.city_model.specs.CityMap.{CityValue, Objects, object_at}
+use Rattle.city_model.specs.Runs.{Scripted, IsSerialHistory}
 use Rattle.city_model.specs.SerialEnds.{is_no_memory, IsSerialFrom}
 use Rattle.city_model.proofs.Results.{serial_ends_are_unique}
 use Rattle.city_model.proofs.Objects.{same_objects}
@@ -46,10 +46,10 @@ decided document scripts ends bytes serial_run had others written other too =
     let k = other.run in
     let city : k.city ≡ h.city = admitted_once document k.city h.city k.read.admitted h.read.admitted in
     let list : k.list ≡ h.list = read_once scripts k.list h.list k.read.read_as h.read.read_as in
-    let fits : Fits h.list (at h.city.1) others =
-    subst (λ (c : CityValue). Fits h.list (at c.1) others) city (subst (λ (l : List Scripted). Fits l (at k.city.1) others) list k.ran.fits) in
+    let fits : IsSerialHistory h.list (object_at h.city.1) others =
+    subst (λ (c : CityValue). IsSerialHistory h.list (object_at c.1) others) city (subst (λ (l : List Scripted). IsSerialHistory l (object_at k.city.1) others) list k.ran.fits) in
     let output : IsOutput h.city h.list others written =
     subst (λ (c : CityValue). IsOutput c h.list others written) city (subst (λ (l : List Scripted). IsOutput k.city l others written) list k.output) in
     let same : others ≡ ends =
-    serial_ends_are_unique h.list (at h.city.1) others ends (k.ran.each_once ∙ ap length list) h.ran.each_once (serial 0 others other.in_turn too) (serial 0 ends serial_run.in_turn had) fits h.ran.fits in
+    serial_ends_are_unique h.list (object_at h.city.1) others ends (k.ran.each_once ∙ ap length list) h.ran.each_once (serial 0 others other.in_turn too) (serial 0 ends serial_run.in_turn had) fits h.ran.fits in
     (same, one_output h.city h.list ends bytes written h.output (subst (λ (es : List End). IsOutput h.city h.list es written) same output))

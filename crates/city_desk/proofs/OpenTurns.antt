@@ -10,17 +10,17 @@ use Rattle.city_model.specs.declared.command.Command.TheVariants.{Commit}
 use Rattle.city_model.specs.declared.command.Reply.{Reply}
 use Rattle.city_model.specs.declared.end.End.{End}
 use Rattle.city_model.specs.declared.end.Outcome.{Outcome}
-use Rattle.city_model.specs.CityMap.{CityMap, at, CityValue}
+use Rattle.city_model.specs.CityMap.{CityMap, object_at, CityValue}
 use Rattle.city_model.specs.Marks.{View, unmarked}
 use Rattle.city_model.specs.Meaning.{is_refusal}
-use Rattle.city_model.specs.Runs.{Scripted, EndsAt, HasResult, IsEndOf, map_left, commands_of, model_after, Change, with_change, shown}
+use Rattle.city_model.specs.Runs.{Scripted, EndsAt, IsScriptResult, IsEndOf, map_left, commands_of, model_after, Change, after_change, after_changes}
 use Rattle.city_model.specs.Scripts.{is_end, ends_once}
 use Rattle.city_model.specs.SerialEnds.{is_commit}
-use Rattle.city_model.specs.Standing.{Answered, answered, Follows}
+use Rattle.city_model.specs.Standing.{Answered, answered, IsTraceUnderLocks}
 use Rattle.city_model.proofs.Fitting.{model_more}
 use Rattle.city_model.proofs.Replied.{goes_on, ends_later, answered_more, result_from, committed_from}
 use Rattle.city_txn.specs.CoreState as txn
-use Rattle.city_txn.specs.CoreState.{CoreState, committed, view, is_open, held, Stands, KeepsOthers}
+use Rattle.city_txn.specs.CoreState.{CoreState, committed, view, is_open, held, StandsUnderLocks, KeepsOthers}
 use Rattle.city_txn.specs.Acting.{reply_in}
 use Rattle.city_desk.specs.declared.progress.Progress.{Progress}
 use Rattle.city_desk.specs.declared.progress.Phase.{Phase}
@@ -31,7 +31,7 @@ use Rattle.city_desk.specs.inside.Attempt.{IsReplied, IsToWait, Publishes, Attem
 use Rattle.city_desk.specs.DeskState.{DeskState, progress_to, nowhere, phase_of, replies_of, room_of, commands_at, name_at, name_in, is_ended, is_open_phase, stamp_of}
 use Rattle.city_desk.specs.inside.Room.{is_not_begun, HasRoom}
 use Rattle.city_desk.specs.Serial.{IsAttempt, StandsAs, AreChangesOf, IsSerial}
-use Rattle.city_desk.specs.Turning.{IsNext, IsOpenAt, IsDue, end_of, Turned, TurnedSo, GainsCommits}
+use Rattle.city_desk.specs.Turning.{IsNext, IsOpenAt, IsDue, end_of, IsTurn, IsTurnAs, GainsCommits}
 use Rattle.city_desk.proofs.AttemptsKept.{IsTurnOf}
 use Rattle.city_desk.proofs.ScriptReads.{once_of, commands_read, progress_at, next_at, name_there, end_as}
 use Rattle.city_desk.proofs.RoomKept.{one_if, place_left, room_now, room_ended}
@@ -43,7 +43,7 @@ use Rattle.city_desk.proofs.Shelved.{shows_all, changes_kept, changes_more, if_s
 pub record LeavesDesk (n : ℕ) (turn : Turn) (d e : DeskState) (names : List (List ℕ)) (room : ℕ) (before after : List Change) (base : Option CityValue) : Type 0 where
   pub serial : IsSerial e after base
   pub room_left : HasRoom e names room
-  pub turned : Turned n turn d e
+  pub turned : IsTurn n turn d e
   pub changes : GainsCommits d.ends e.ends before after
 
 -- where both histories are serial the commits count the changes that were gained
@@ -100,9 +100,9 @@ gained_by false stamp v w before after p = ([], p.1 ∙ sym (append-nil before))
 -- ---- a script with an open transaction
 
 -- the shelf shows the committed city
-pub shows_core : (d : DeskState) (changes : List Change) (base : Option CityValue) → IsSerial d changes base → IfSome base (λ city. shown (at city.1) changes ≡ committed d.core)
-shows_core d changes base s = if_some_to base (λ city. city ≡ d.start) (λ city. shown (at city.1) changes ≡ committed d.core)
-    (λ city same. ap (λ (x : CityValue). shown (at x.1) changes) same ∙ (shows_all d.scripts (at d.start.1) d.ends changes s.shelf ∙ sym s.city))
+pub shows_core : (d : DeskState) (changes : List Change) (base : Option CityValue) → IsSerial d changes base → IfSome base (λ city. after_changes (object_at city.1) changes ≡ committed d.core)
+shows_core d changes base s = if_some_to base (λ city. city ≡ d.start) (λ city. after_changes (object_at city.1) changes ≡ committed d.core)
+    (λ city same. ap (λ (x : CityValue). after_changes (object_at x.1) changes) same ∙ (shows_all d.scripts (object_at d.start.1) d.ends changes s.shelf ∙ sym s.city))
     s.based
 
 stamp_same : (a b : ℕ) → Some a ≡ Some b → b ≡ a
@@ -180,7 +180,7 @@ module _ (d : DeskState) (changes : List Change) (base : Option CityValue) (n st
 
     leaves : (turn : Turn) (progress : List Progress) (q : Progress) (names : List (List ℕ)) (capacity : ℕ) → progress ≡ slice_set d.progress n q → q.replies.room ≡ room_of d n → KeepsOthers stamp d.core core → committed core ≡ committed d.core → after ≡ changes
         → is_open core stamp ≡ is_open_phase q.phase → ((t : ℕ) → stamp_of q.phase ≡ Some t → t ≡ stamp) → StandsAs (now progress) (commands_at d.scripts n) q.phase q.replies.list → is_ended q.phase ≡ false → is_not_begun q.phase ≡ false
-        → HasRoom d names capacity → TurnedSo d (now progress) n turn → LeavesDesk n turn d (now progress) names capacity changes after base
+        → HasRoom d names capacity → IsTurnAs d (now progress) n turn → LeavesDesk n turn d (now progress) names capacity changes after base
     leaves turn progress q names capacity moves kept k city same own becomes stands on begun r so =
         let made = turn_of (now progress) q refl moves (omega arith) (omega arith) k own becomes stands in
         let serial : IsSerial (now progress) after base = subst (λ cs. IsSerial (now progress) cs base) (sym same)
@@ -206,7 +206,7 @@ module _ (d : DeskState) (changes : List Change) (base : Option CityValue) (n st
           since = attempt.since;
           unfinished = omega arith;
           unrefused = any_more (replies_of d n) (reply_in d.core stamp command) attempt.unrefused h.unrefused;
-          stands = subst (λ (l : List Answered). Stands core stamp l) (sym (answered_more (commands_at d.scripts n) (replies_of d n) command (reply_in d.core stamp command) next)) (h.stands (answered (commands_at d.scripts n) (replies_of d n)) attempt.stands);
+          stands = subst (λ (l : List Answered). StandsUnderLocks core stamp l) (sym (answered_more (commands_at d.scripts n) (replies_of d n) command (reply_in d.core stamp command) next)) (h.stands (answered (commands_at d.scripts n) (replies_of d n)) attempt.stands);
         }
 
     waiting_stands : (p q : Progress) (progress : List Progress) → IsToWait stamp command p q d.core core → IsAttempt (now progress) (commands_at d.scripts n) stamp since (replies_of d n)
@@ -286,45 +286,45 @@ module _ (d : DeskState) (changes : List Change) (base : Option CityValue) (n st
     script_there = slice_get-get_or d.scripts n ([], []) there
 
     abbrev model : CityMap
-    model = model_after d.scripts (at d.start.1) d.ends
+    model = model_after d.scripts (object_at d.start.1) d.ends
 
-    stands_on_model : Follows (held d.core stamp) (unmarked model) (answered (commands_at d.scripts n) (replies_of d n)) (txn.seen d.core stamp)
-    stands_on_model = subst (λ (m : CityMap). Follows (held d.core stamp) (unmarked m) (answered (commands_at d.scripts n) (replies_of d n)) (txn.seen d.core stamp)) s.city attempt.stands
+    stands_on_model : IsTraceUnderLocks (held d.core stamp) (unmarked model) (answered (commands_at d.scripts n) (replies_of d n)) (txn.snapshot d.core stamp)
+    stands_on_model = subst (λ (m : CityMap). IsTraceUnderLocks (held d.core stamp) (unmarked m) (answered (commands_at d.scripts n) (replies_of d n)) (txn.snapshot d.core stamp)) s.city attempt.stands
 
-    result : (outcome : Outcome) → EndsAt (txn.seen d.core stamp) command (length (replies_of d n)) outcome → HasResult model (commands_at d.scripts n) (replies_of d n) outcome
+    result : (outcome : Outcome) → EndsAt (txn.snapshot d.core stamp) command (length (replies_of d n)) outcome → IsScriptResult model (commands_at d.scripts n) (replies_of d n) outcome
     result outcome e =
         let number : length (replies_of d n) ≡ 0 + length (replies_of d n) = omega arith in
-        result_from (held d.core stamp) (unmarked model) (txn.seen d.core stamp) 0 (commands_at d.scripts n) (replies_of d n) command outcome
-        stands_on_model attempt.unrefused once next (subst (λ i. EndsAt (txn.seen d.core stamp) command i outcome) number e)
+        result_from (held d.core stamp) (unmarked model) (txn.snapshot d.core stamp) 0 (commands_at d.scripts n) (replies_of d n) command outcome
+        stands_on_model attempt.unrefused once next (subst (λ i. EndsAt (txn.snapshot d.core stamp) command i outcome) number e)
 
-    fits_here : (outcome : Outcome) → EndsAt (txn.seen d.core stamp) command (length (replies_of d n)) outcome → IsEndOf d.scripts model (length d.ends) (end_of d n since outcome)
+    fits_here : (outcome : Outcome) → EndsAt (txn.snapshot d.core stamp) command (length (replies_of d n)) outcome → IsEndOf d.scripts model (length d.ends) (end_of d n since outcome)
     fits_here outcome e = record {
       script = slice_index_or d.scripts n ([], []);
       is_there = script_there;
       named = ap name_in script_there;
       since = attempt.since;
-      result = subst (λ (cs : List Command). HasResult model cs (replies_of d n) outcome) (ap commands_of script_there) (result outcome e);
+      result = subst (λ (cs : List Command). IsScriptResult model cs (replies_of d n) outcome) (ap commands_of script_there) (result outcome e);
     }
 
-    published : (outcome : Outcome) (b : Bool) → is_commit outcome ≡ b → EndsAt (txn.seen d.core stamp) command (length (replies_of d n)) outcome → Publishes b stamp d.core core changes after
-        → (committed core ≡ map_left model (commands_at d.scripts n) outcome) × AreChangesOf d.scripts (at d.start.1) (d.ends ++ end_of d n since outcome ∷ []) after
+    published : (outcome : Outcome) (b : Bool) → is_commit outcome ≡ b → EndsAt (txn.snapshot d.core stamp) command (length (replies_of d n)) outcome → Publishes b stamp d.core core changes after
+        → (committed core ≡ map_left model (commands_at d.scripts n) outcome) × AreChangesOf d.scripts (object_at d.start.1) (d.ends ++ end_of d n since outcome ∷ []) after
     published outcome true one e p =
-        let by = commits (txn.seen d.core stamp) command (length (replies_of d n)) outcome one e in
+        let by = commits (txn.snapshot d.core stamp) command (length (replies_of d n)) outcome one e in
         let last : slice_get (commands_at d.scripts n) (length (replies_of d n)) ≡ Some Commit = next ∙ ap Some by.1 in
         let left : map_left model (commands_at d.scripts n) outcome ≡ view d.core stamp =
         ap (map_left model (commands_at d.scripts n)) by.0
-        ∙ ap (λ (x : View). x.map) (committed_from (held d.core stamp) (unmarked model) (txn.seen d.core stamp) (commands_at d.scripts n) (replies_of d n) stands_on_model once last) in
-        let made : model_after d.scripts (at d.start.1) (d.ends ++ end_of d n since outcome ∷ []) ≡ with_change model p.1.0 =
-        model_more d.scripts d.ends (end_of d n since outcome) (at d.start.1) ∙ (left ∙ (sym p.1.2 ∙ ap (λ m. with_change m p.1.0) s.city)) in (
+        ∙ ap (λ (x : View). x.map) (committed_from (held d.core stamp) (unmarked model) (txn.snapshot d.core stamp) (commands_at d.scripts n) (replies_of d n) stands_on_model once last) in
+        let made : model_after d.scripts (object_at d.start.1) (d.ends ++ end_of d n since outcome ∷ []) ≡ after_change model p.1.0 =
+        model_more d.scripts d.ends (end_of d n since outcome) (object_at d.start.1) ∙ (left ∙ (sym p.1.2 ∙ ap (λ m. after_change m p.1.0) s.city)) in (
           p.0 ∙ sym left,
-          subst (λ cs. AreChangesOf d.scripts (at d.start.1) (d.ends ++ end_of d n since outcome ∷ []) cs) (sym p.1.1)
-              (changes_more d.scripts (at d.start.1) d.ends changes s.shelf (end_of d n since outcome) p.1.0 one made),
+          subst (λ cs. AreChangesOf d.scripts (object_at d.start.1) (d.ends ++ end_of d n since outcome ∷ []) cs) (sym p.1.1)
+              (changes_more d.scripts (object_at d.start.1) d.ends changes s.shelf (end_of d n since outcome) p.1.0 one made),
         )
     published outcome false one e p =
         let left : map_left model (commands_at d.scripts n) outcome ≡ model = left_same model (commands_at d.scripts n) outcome one in (
           p.0 ∙ (s.city ∙ sym left),
-          subst (λ cs. AreChangesOf d.scripts (at d.start.1) (d.ends ++ end_of d n since outcome ∷ []) cs) (sym p.1)
-              (changes_kept d.scripts (at d.start.1) d.ends changes s.shelf (end_of d n since outcome) one (model_more d.scripts d.ends (end_of d n since outcome) (at d.start.1) ∙ left)),
+          subst (λ cs. AreChangesOf d.scripts (object_at d.start.1) (d.ends ++ end_of d n since outcome ∷ []) cs) (sym p.1)
+              (changes_kept d.scripts (object_at d.start.1) d.ends changes s.shelf (end_of d n since outcome) one (model_more d.scripts d.ends (end_of d n since outcome) (object_at d.start.1) ∙ left)),
         )
 
     pub ended : (outcome : Outcome) (ends : List End) (progress : List Progress) (names left : List (List ℕ)) (name : List ℕ) (capacity room : ℕ)
@@ -388,13 +388,13 @@ module _ (d : DeskState) (changes : List Change) (base : Option CityValue) (n st
 -- ---- the same of the desk that contracts see
 
 -- what is left of a desk is left of its equal
-pub left_of : {n : ℕ} {turn : Turn} {d seen e : DeskState} {names : List (List ℕ)} {room : ℕ} {before shown after : List Change} {base : Option CityValue} → d ≡ seen → before ≡ shown
-    → LeavesDesk n turn d e names room before after base → LeavesDesk n turn seen e names room shown after base
-left_of {n} {turn} {d} {seen} {e} {names} {room} {before} {shown} {after} {base} run listed h =
-    subst (λ (x : DeskState). LeavesDesk n turn x e names room shown after base) run
+pub left_of : {n : ℕ} {turn : Turn} {d seen e : DeskState} {names : List (List ℕ)} {room : ℕ} {before listing after : List Change} {base : Option CityValue} → d ≡ seen → before ≡ listing
+    → LeavesDesk n turn d e names room before after base → LeavesDesk n turn seen e names room listing after base
+left_of {n} {turn} {d} {seen} {e} {names} {room} {before} {listing} {after} {base} run listed h =
+    subst (λ (x : DeskState). LeavesDesk n turn x e names room listing after base) run
     (subst (λ (l : List Change). LeavesDesk n turn d e names room l after base) listed h)
 
-module _ {d seen : DeskState} {changes shown : List Change} {base : Option CityValue} {n stamp since : ℕ} (run : d ≡ seen) (listed : changes ≡ shown) (s : IsSerial d changes base)
+module _ {d seen : DeskState} {changes listing : List Change} {base : Option CityValue} {n stamp since : ℕ} (run : d ≡ seen) (listed : changes ≡ listing) (s : IsSerial d changes base)
     (opened : phase_of seen n ≡ Open stamp since) (there : n < length seen.scripts) {names : List (List ℕ)} {capacity : ℕ} (r : HasRoom d names capacity) where
   is_here : phase_of d n ≡ Open stamp since
   is_here = subst (λ (x : DeskState). phase_of x n ≡ Open stamp since) (sym run) opened
@@ -411,12 +411,12 @@ module _ {d seen : DeskState} {changes shown : List Change} {base : Option CityV
   module _ {p : Progress} {x : Scripted} {cs : List Command} {number : ℕ} {command : Command} (read : p ≡ slice_index_or d.progress n p) (script : x ≡ slice_index_or d.scripts n x) (list : cs ≡ x.1)
       (count : number ≡ length p.replies.list) (at_number : command ≡ slice_index_or cs number command) {q : Progress} {core : CoreState} {after : List Change} where
     pub turn_goes_on : {turn : Turn} → HasStepped stamp command (Ok turn) p q d.core core changes after
-        → LeavesDesk n turn seen (now_at d (slice_set d.progress n q) d.begun core) names capacity shown after base
+        → LeavesDesk n turn seen (now_at d (slice_set d.progress n q) d.begun core) names capacity listing after base
     turn_goes_on {turn} h = left_of run listed
         (goes_on_from d changes base n stamp since s is_here there_here p x cs number command read script list count at_number turn q core after names capacity h r)
 
     pub turn_ends : {outcome : Outcome} {w : Progress} {ends : List End} {name : List ℕ} (taken : List ℕ) {room : ℕ} → HasStepped stamp command (Err outcome) p q d.core core changes after
         → w ≡ nowhere → ends ≡ d.ends ++ (record { script = n; name = name; since = since; replies = q.replies.list; outcome = outcome }) ∷ [] → name ≡ slice_index_or names n name
-        → room ≡ capacity → LeavesDesk n turns.Ended seen (ended_at d ends (slice_set d.progress n w) core) (slice_set names n taken) room shown after base
+        → room ≡ capacity → LeavesDesk n turns.Ended seen (ended_at d ends (slice_set d.progress n w) core) (slice_set names n taken) room listing after base
     turn_ends {outcome} {w} {ends} {name} taken {room} h over more named same = left_of run listed
         (ends_from d changes base n stamp since s is_here there_here p x cs number command read script list count at_number outcome q w core after ends names name taken capacity room h over more named r same)

@@ -4,9 +4,9 @@ use Rattle.std.specs.Prelude.{slice_index_or, IfSome}
 use Rattle.std.proofs.lemmas.Bool.{false≢true}
 use Rattle.std.proofs.lemmas.List.{length-map}
 use Rattle.std.proofs.lemmas.List.Sums.{sum_by-append, count_by-le-length}
-use Rattle.city_model.specs.CityMap.{CityMap, at, CityValue}
+use Rattle.city_model.specs.CityMap.{CityMap, object_at, CityValue}
 use Rattle.city_model.specs.Relations.{IsLawful}
-use Rattle.city_model.specs.Runs.{Scripted, Change, shown, model_after, has_end}
+use Rattle.city_model.specs.Runs.{Scripted, Change, after_changes, model_after, has_end}
 use Rattle.city_model.proofs.IdLists.{bool_cases}
 use Rattle.city_model.specs.declared.end.End.{End}
 use Rattle.city_txn.specs.CoreState.{CoreState}
@@ -53,10 +53,10 @@ no_stamp city scripts n stamp h = elim (each_unbegun scripts n) [
 nothing_shown : (scripts : List Scripted) (start : CityMap) → AreChangesOf scripts start [] []
 nothing_shown scripts start = record {
   one_each = refl;
-  shows = λ n. subst (λ es. shown start (take (commits_in es) []) ≡ model_after scripts start es) (sym (none_of_none n)) refl;
+  shows = λ n. subst (λ es. after_changes start (take (commits_in es) []) ≡ model_after scripts start es) (sym (none_of_none n)) refl;
 }
 
-pub opened_serial : (city : CityValue) (scripts : List Scripted) (list : List Change) (base : Option CityValue) → IsLawful (at city.1) → AreScripts scripts → list ≡ [] → IfSome base (λ b. b ≡ city) → IsSerial (opened city scripts) list base
+pub opened_serial : (city : CityValue) (scripts : List Scripted) (list : List Change) (base : Option CityValue) → IsLawful (object_at city.1) → AreScripts scripts → list ≡ [] → IfSome base (λ b. b ≡ city) → IsSerial (opened city scripts) list base
 opened_serial city scripts list base lawful scripted empty based = record {
   lawful = lawful;
   scripted = scripted;
@@ -70,7 +70,7 @@ opened_serial city scripts list base lawful scripted empty based = record {
   };
   ended = λ n lt. sym (ap (λ (p : Progress). is_ended p.phase) (unbegun_within scripts n lt));
   of_each = length-map scripts unbegun;
-  shelf = subst (λ (cs : List Change). AreChangesOf scripts (at city.1) [] cs) (sym empty) (nothing_shown scripts (at city.1));
+  shelf = subst (λ (cs : List Change). AreChangesOf scripts (object_at city.1) [] cs) (sym empty) (nothing_shown scripts (object_at city.1));
   based = based;
 }
 

@@ -145,18 +145,18 @@ pub record HasEnded (d e : DeskState) (n : ℕ) : Type 0 where
 -- ---- any turn
 
 -- what the turn did, by its answer
-abbrev pub TurnedSo : DeskState → DeskState → ℕ → Turn → Type 0
-TurnedSo d e n turns.Began = HasBegun d e n
-TurnedSo d e n turns.Replied = HasReplied d e n
-TurnedSo d e n turns.Waits = HasWaited d e n
-TurnedSo d e n turns.Died = HasDied d e n
-TurnedSo d e n turns.Ended = HasEnded d e n
-TurnedSo d e n turns.AlreadyEnded = (phase_of d n ≡ Ended) × (e ≡ d)
+abbrev pub IsTurnAs : DeskState → DeskState → ℕ → Turn → Type 0
+IsTurnAs d e n turns.Began = HasBegun d e n
+IsTurnAs d e n turns.Replied = HasReplied d e n
+IsTurnAs d e n turns.Waits = HasWaited d e n
+IsTurnAs d e n turns.Died = HasDied d e n
+IsTurnAs d e n turns.Ended = HasEnded d e n
+IsTurnAs d e n turns.AlreadyEnded = (phase_of d n ≡ Ended) × (e ≡ d)
 
 -- A turn of script n: what it answers, and what becomes of the desk.
-pub record Turned (n : ℕ) (turn : Turn) (d e : DeskState) : Type 0 where
+pub record IsTurn (n : ℕ) (turn : Turn) (d e : DeskState) : Type 0 where
   pub keeps : Keeps d e
-  pub so : TurnedSo d e n turn
+  pub so : IsTurnAs d e n turn
 
 -- the shelf's changes stay, and gain one for each commit of the turn
 abbrev pub GainsCommits : List End → List End → List Change → List Change → Type 0

@@ -2,9 +2,9 @@
 ghost use Rattle.std.specs.Prelude.{◌≡◌, ◌+◌, ◌<◌, ◌^◌, List, length, true, false, IfSome, IfOk, IfErr};
 ghost use Rattle.city_model.specs.declared.command.Command.{Command};
 ghost use Rattle.city_model.specs.declared.command.Reply.{Reply};
-ghost use Rattle.city_model.specs.CityMap.{at};
+ghost use Rattle.city_model.specs.CityMap.{object_at};
 ghost use Rattle.city_model.specs.Meaning.{is_refusal};
-ghost use Rattle.city_model.specs.Runs.{Change, shown};
+ghost use Rattle.city_model.specs.Runs.{Change, after_changes};
 ghost use Rattle.city_model.specs.Scripts.{is_end};
 ghost use Rattle.city_txn.specs.CoreState.{committed, is_open};
 ghost use Rattle.city_desk.specs.inside.Attempt.{AttemptEnded, HasStepped};
@@ -69,7 +69,7 @@ fn run_command(
 fn commit<S: Shelf>(core: &mut Core, shelf: &mut S, stamp: u64, number: usize) -> Outcome
     requires opened { is_open core.old stamp ≡ true }
     requires room { length (S.list shelf.old) + 1 < 2 ^ 64 }
-    requires shows { IfSome (S.base shelf.old) (λ city. shown (at city.1) (S.list shelf.old) ≡ committed core.old) }
+    requires shows { IfSome (S.base shelf.old) (λ city. after_changes (object_at city.1) (S.list shelf.old) ≡ committed core.old) }
     ensures ended { AttemptEnded stamp Command.Commit number result core.old core.new (S.list shelf.old) (S.list shelf.new) }
     ensures base { S.base shelf.new ≡ S.base shelf.old }
     ensures name { S.name shelf.new ≡ S.name shelf.old }
@@ -111,7 +111,7 @@ pub fn step<S: Shelf>(
     requires place { length progress.old.replies.list < progress.old.replies.room }
     requires opened { is_open core.old stamp ≡ true }
     requires room { length (S.list shelf.old) + 1 < 2 ^ 64 }
-    requires shows { IfSome (S.base shelf.old) (λ city. shown (at city.1) (S.list shelf.old) ≡ committed core.old) }
+    requires shows { IfSome (S.base shelf.old) (λ city. after_changes (object_at city.1) (S.list shelf.old) ≡ committed core.old) }
     ensures stepped { HasStepped stamp command.now result progress.old progress.new core.old core.new (S.list shelf.old) (S.list shelf.new) }
     ensures base { S.base shelf.new ≡ S.base shelf.old }
     ensures name { S.name shelf.new ≡ S.name shelf.old }

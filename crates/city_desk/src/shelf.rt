@@ -1,8 +1,8 @@
 //! Where a desk puts the changes of its commits.
 ghost use Rattle.std.specs.Prelude.{◌≡◌, ◌+◌, ◌<◌, ◌^◌, ℕ, List, [], ◌∷◌, ◌++◌, length, Option, None, option_map, IfSome, IfOk, IsOk, OnOk, OnErr};
-ghost use Rattle.city_model.specs.CityMap.{at, CityValue};
+ghost use Rattle.city_model.specs.CityMap.{object_at, CityValue};
 ghost use Rattle.city_model.specs.Relations.{IsLawful};
-ghost use Rattle.city_model.specs.Runs.{Change, shown};
+ghost use Rattle.city_model.specs.Runs.{Change, after_changes};
 ghost use Rattle.city_txn.specs.Changing.{IsChangeOf, change_in};
 ghost use Rattle.city_txn.specs.CoreState.{committed};
 
@@ -36,7 +36,7 @@ pub trait Shelf: Drop {
     /// Takes a change, which no viewer sees yet. If memory runs out, the list stays.
     fn take(&mut self, change: Change) -> Result<(), OutOfMemory>
         requires room { length (list self.old) + 1 < 2 ^ 64 }
-        requires lawful { IfSome (base self.old) (λ city. IsLawful (shown (at city.1) (list self.old ++ change ∷ []))) }
+        requires lawful { IfSome (base self.old) (λ city. IsLawful (after_changes (object_at city.1) (list self.old ++ change ∷ []))) }
         ensures ok { OnOk result (list self.new ≡ list self.old ++ change ∷ []) }
         ensures err { OnErr result (list self.new ≡ list self.old) }
         ensures base { base self.new ≡ base self.old }
@@ -50,7 +50,7 @@ pub trait Shelf: Drop {
     fn take_from(&mut self, core: &Core, stamp: u64) -> Result<(), OutOfMemory>
         requires room { length (list self.old) + 1 < 2 ^ 64 }
         requires allowed { IsChangeOf core.now stamp (change_in core.now.writes stamp) }
-        requires shows { IfSome (base self.old) (λ city. shown (at city.1) (list self.old) ≡ committed core.now) }
+        requires shows { IfSome (base self.old) (λ city. after_changes (object_at city.1) (list self.old) ≡ committed core.now) }
         ensures ok { OnOk result ((change : Change) × IsChangeOf core.now stamp change × (list self.new ≡ list self.old ++ change ∷ [])) }
         ensures err { OnErr result (list self.new ≡ list self.old) }
         ensures base { base self.new ≡ base self.old }

@@ -10,7 +10,7 @@ use Rattle.city_model.specs.inside.CommandParts.{GoesBack, marking, back_to, bac
 use Rattle.city_model.specs.inside.CommandParts.{answer}
 use Rattle.city_model.specs.Marks.{Marked, View, unmarked, marks_from, IsSoundView}
 use Rattle.city_model.specs.Relations.{IsSound}
-use Rattle.city_model.specs.Standing.{Held, covers, AllHeld, Answered, Follows, names_exclusively}
+use Rattle.city_model.specs.Standing.{Held, covers, AllHeld, Answered, IsTraceUnderLocks, locks_id_exclusively}
 use Rattle.city_model.specs.FrameLaw.{AgreeOn}
 use Rattle.city_model.specs.TraceLaw.{carried_map, carried_marks, carried}
 use Rattle.city_model.proofs.IdLists.{bool_cases}
@@ -70,15 +70,15 @@ module _ (held : Held) (other : CityMap) where
     same : locks_of v.map c ≡ locks_of (carried_map held other v.map) c
     same = same_locks v.map (carried_map held other v.map) c on
 
-    apart : (q : List ℕ) → names_exclusively (locks_of v.map c) q ≡ false → after (carried_map held other v.map) c q ≡ carried_map held other v.map q
-    apart q e = frame (carried_map held other v.map) c q t.0 (sym (ap (λ ls. names_exclusively ls q) same) ∙ e)
+    apart : (q : List ℕ) → locks_id_exclusively (locks_of v.map c) q ≡ false → after (carried_map held other v.map) c q ≡ carried_map held other v.map q
+    apart q e = frame (carried_map held other v.map) c q t.0 (sym (ap (λ ls. locks_id_exclusively ls q) same) ∙ e)
 
     still : (q : List ℕ) → covers (held q) true ≡ false → after v.map c q ≡ v.map q
     still q e = frame v.map c q s.0 (not_named held (locks_of v.map c) q all e)
 
     after_carried_at : (q : List ℕ) → after (carried_map held other v.map) c q ≡ carried_map held other (after v.map c) q
     after_carried_at q = bool_cases (covers (held q) true)
-        (λ e. bool_cases (names_exclusively (locks_of v.map c) q)
+        (λ e. bool_cases (locks_id_exclusively (locks_of v.map c) q)
         (λ f. sym (same_after v.map (carried_map held other v.map) c q on f))
         (λ f. apart q f ∙ carried_held v.map q e ∙ sym (frame v.map c q s.0 f)) ∙ sym (carried_held (after v.map c) q e))
         (λ e. apart q (not_named held (locks_of v.map c) q all e) ∙ carried_apart v.map q e ∙ sym (carried_apart (after v.map c) q e))
@@ -126,7 +126,7 @@ module _ (held : Held) (other : CityMap) where
 
   -- a history under locks holds from the view that is carried, and leads to the carried one
   pub history_carried : (v : View) (ds : List Answered) (w : View) → IsSoundView v → IsSoundView (carried held other v) → IsCarriedView v
-      → Follows held v ds w → Follows held (carried held other v) ds (carried held other w)
+      → IsTraceUnderLocks held v ds w → IsTraceUnderLocks held (carried held other v) ds (carried held other w)
   history_carried v [] w s t is f = ap (carried held other) f
   history_carried v (d ∷ ds) w s t is f = (
     subst (AllHeld held) (same v d.0 s t is f.0) f.0,
@@ -145,12 +145,12 @@ module _ (held : Held) (other : CityMap) where
 -- anything is held
 pub history_kept : (held : Held) (m other : CityMap) (ds : List Answered) (w : View) → IsSound m → IsSound other
     → ((q : List ℕ) → is_some (held q) ≡ true → m q ≡ other q)
-    → Follows held (unmarked m) ds w → Follows held (unmarked other) ds (carried held other w)
+    → IsTraceUnderLocks held (unmarked m) ds w → IsTraceUnderLocks held (unmarked other) ds (carried held other w)
 history_kept held m other ds w s t agree f =
     let at : (q : List ℕ) → carried_map held other m q ≡ other q =
     λ q. bool_cases (covers (held q) true)
     (λ e. carried_held held other m q e ∙ agree q (covered (held q) true e))
     (λ e. carried_apart held other m q e) in
     let same : carried_map held other m ≡ other = λ i q. at q i in
-    subst (λ (k : CityMap). Follows held (unmarked k) ds (carried held other w)) same
+    subst (λ (k : CityMap). IsTraceUnderLocks held (unmarked k) ds (carried held other w)) same
     (history_carried held other (unmarked m) ds w (s, tt) (subst IsSound (sym same) t, tt) (λ q h. agree q h ∙ sym (at q), tt) f)

@@ -12,7 +12,7 @@ use Rattle.std.specs.Ordering.{nat_cmp}
 use Rattle.std.specs.Cmp.Lexicographic.{slice_cmp}
 use Rattle.city_model.specs.CityMap.{Entries, found_in, changed}
 use Rattle.city_model.specs.Meaning.{attached, detached}
-use Rattle.city_model.specs.Runs.{HasResult, map_left}
+use Rattle.city_model.specs.Runs.{IsScriptResult, map_left}
 use Rattle.city_model.proofs.ExampleCities.{one_id, bare, object, alone, numbered}
 use Rattle.city_model.specs.Relations.{is_orphan_there, HasNoOrphan}
 use Rattle.city_model.proofs.NoOrphan.{no_orphan, least_orphan, orphan_below, no_orphan_at, no_orphan_attached, orphan_apart, no_orphan_detached_below}
@@ -28,7 +28,7 @@ family =
 
 -- the script of this command and Commit is refused at its command by the cause
 abbrev IsRefusedBy : Command → Cause → Type 0
-IsRefusedBy command cause = HasResult (found_in family) (command ∷ Commit ∷ []) [] (Outcome.Refused 0 cause)
+IsRefusedBy command cause = IsScriptResult (found_in family) (command ∷ Commit ∷ []) [] (Outcome.Refused 0 cause)
 
 pub type_is_fixed : IsRefusedBy (Put (codes "b") (bare Bridge)) (TypeFixed (codes "b"))
 type_is_fixed = (refl, (refl, refl))
@@ -58,7 +58,7 @@ no_such_parent = (refl, (refl, refl))
 abbrev detach_only : List Command
 detach_only = Detach (codes "p") (codes "b") ∷ Commit ∷ []
 
-pub detached_part_is_an_orphan : HasResult (found_in family) detach_only (Detached ∷ []) (Outcome.Refused 1 (Orphan (codes "p")))
+pub detached_part_is_an_orphan : IsScriptResult (found_in family) detach_only (Detached ∷ []) (Outcome.Refused 1 (Orphan (codes "p")))
 detached_part_is_an_orphan =
     let left = detached (found_in family) (codes "p") (codes "b") in
     let others : (q : List ℕ) → slice_cmp nat_cmp q (codes "p") ≡ Less → is_orphan_there (left q) ≡ false =
@@ -86,7 +86,7 @@ building = (codes "b", alone Building) ∷ []
 abbrev put_part : List Command
 put_part = Put (codes "p") (bare BuildingPart) ∷ Commit ∷ []
 
-pub new_part_is_an_orphan : HasResult (found_in building) put_part (Added ∷ []) (Outcome.Refused 1 (Orphan (codes "p")))
+pub new_part_is_an_orphan : IsScriptResult (found_in building) put_part (Added ∷ []) (Outcome.Refused 1 (Orphan (codes "p")))
 new_part_is_an_orphan =
     let left = changed (found_in building) (codes "p") (Some (alone BuildingPart)) in
     let others : (q : List ℕ) → slice_cmp nat_cmp q (codes "p") ≡ Less → is_orphan_there (left q) ≡ false =
@@ -102,7 +102,7 @@ orphan_leaves_the_map = refl
 abbrev put_and_attach_part : List Command
 put_and_attach_part = Put (codes "p") (bare BuildingPart) ∷ Attach (codes "p") (codes "b") ∷ Commit ∷ []
 
-pub attached_part_is_committed : HasResult (found_in building) put_and_attach_part (Added ∷ Attached ∷ []) Outcome.Committed
+pub attached_part_is_committed : IsScriptResult (found_in building) put_and_attach_part (Added ∷ Attached ∷ []) Outcome.Committed
 attached_part_is_committed =
     let put = changed (found_in building) (codes "p") (Some (alone BuildingPart)) in
     let left = attached put (codes "p") (codes "b") in
@@ -120,7 +120,7 @@ meadow = (codes "x", alone LandUse) ∷ []
 abbrev give_up : List Command
 give_up = Put (codes "x") (numbered 1) ∷ Put (codes "x") (numbered 2) ∷ Delete (codes "x") ∷ Put (codes "x") (numbered 3) ∷ Abort ∷ []
 
-pub abort_answers_as_if_it_stayed : HasResult (found_in meadow) give_up (Replaced ∷ Replaced ∷ Deleted ∷ Added ∷ []) Outcome.Aborted
+pub abort_answers_as_if_it_stayed : IsScriptResult (found_in meadow) give_up (Replaced ∷ Replaced ∷ Deleted ∷ Added ∷ []) Outcome.Aborted
 abort_answers_as_if_it_stayed = (refl, refl, (refl, refl, (refl, refl, (refl, refl, (refl, refl)))))
 
 pub abort_leaves_the_map : map_left (found_in meadow) give_up Outcome.Aborted ≡ found_in meadow

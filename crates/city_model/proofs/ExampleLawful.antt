@@ -10,7 +10,7 @@ use Rattle.city_model.specs.declared.end.Outcome.{Outcome}
 use Rattle.city_model.specs.CityMap.{Entries, CityMap, found_in, changed}
 use Rattle.city_model.specs.Meaning.{attached}
 use Rattle.city_model.specs.Relations.{is_orphan_there, IsSound, IsLawful}
-use Rattle.city_model.specs.Runs.{HasResult, map_left}
+use Rattle.city_model.specs.Runs.{IsScriptResult, map_left}
 use Rattle.city_model.proofs.ExampleCities.{one_id, bare, object, alone}
 use Rattle.city_model.proofs.Lawful.{lawful_when_committed}
 use Rattle.city_model.proofs.NoOrphan.{no_orphan, orphan_apart, no_orphan_attached, no_orphan_put}
@@ -57,7 +57,7 @@ integral_no_orphan : (q : List ℕ) → is_orphan_there (whole q) ≡ false
 integral_no_orphan q = no_orphan_attached with_room (codes "r") (codes "p") q refl refl
     (λ apart. orphan_apart with_child (codes "r") (Some (alone BuildingRoom)) q apart (with_child_no_orphan q))
 
-builds_commits : HasResult (found_in no_objects) builds (Added ∷ Added ∷ Attached ∷ Added ∷ Attached ∷ []) Outcome.Committed
+builds_commits : IsScriptResult (found_in no_objects) builds (Added ∷ Added ∷ Attached ∷ Added ∷ Attached ∷ []) Outcome.Committed
 builds_commits = (
   refl,
   refl,

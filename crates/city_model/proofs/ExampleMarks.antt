@@ -14,7 +14,7 @@ use Rattle.city_model.specs.CityMap.{Entries, CityMap, found_in, changed}
 use Rattle.city_model.specs.Marks.{unmarked}
 use Rattle.city_model.specs.Meaning.{Does}
 use Rattle.city_model.specs.Relations.{HasNoOrphan}
-use Rattle.city_model.specs.Runs.{Scripted, Trace, HasResult, map_left, Fits}
+use Rattle.city_model.specs.Runs.{Scripted, Trace, IsScriptResult, map_left, IsSerialHistory}
 use Rattle.city_model.proofs.ExampleCities.{bare, alone, numbered}
 use Rattle.city_model.proofs.NoOrphan.{no_orphan, no_orphan_at, no_orphan_put}
 
@@ -33,7 +33,7 @@ put_number n = Put (codes "x") (numbered n)
 abbrev goes_back : List Command
 goes_back = Mark (codes "m") ∷ put_number 1 ∷ Back (codes "m") ∷ Commit ∷ []
 
-pub back_takes_the_put_back : HasResult (found_in meadow) goes_back (Marked ∷ Replaced ∷ WentBack ∷ []) Outcome.Committed
+pub back_takes_the_put_back : IsScriptResult (found_in meadow) goes_back (Marked ∷ Replaced ∷ WentBack ∷ []) Outcome.Committed
 back_takes_the_put_back = (
   refl,
   refl,
@@ -58,7 +58,7 @@ second_number_no_orphan = no_orphan second_number (λ q.
     (Some (with_number 2)) q refl
     (no_orphan_put (found_in meadow) (codes "x") (Some (with_number 1)) q refl (no_orphan_at meadow q refl)))
 
-pub newest_mark_counts : HasResult (found_in meadow) marks_twice (Replaced ∷ Marked ∷ Replaced ∷ Marked ∷ Replaced ∷ WentBack ∷ WentBack ∷ []) Outcome.Committed
+pub newest_mark_counts : IsScriptResult (found_in meadow) marks_twice (Replaced ∷ Marked ∷ Replaced ∷ Marked ∷ Replaced ∷ WentBack ∷ WentBack ∷ []) Outcome.Committed
 newest_mark_counts = (
   refl,
   refl,
@@ -81,7 +81,7 @@ newest_mark_is_left = refl
 abbrev goes_behind : List Command
 goes_behind = Mark (codes "a") ∷ Put (codes "g") (bare Road) ∷ Mark (codes "b") ∷ Back (codes "a") ∷ Back (codes "b") ∷ Commit ∷ []
 
-pub newer_mark_is_gone : HasResult (found_in meadow) goes_behind (Marked ∷ Added ∷ Marked ∷ WentBack ∷ []) (Outcome.Refused 4 (NoMark (codes "b")))
+pub newer_mark_is_gone : IsScriptResult (found_in meadow) goes_behind (Marked ∷ Added ∷ Marked ∷ WentBack ∷ []) (Outcome.Refused 4 (NoMark (codes "b")))
 newer_mark_is_gone = (refl, refl, (refl, refl, (refl, refl, (refl, refl, (refl, (refl, refl))))))
 
 pub refused_back_leaves_the_map : map_left (found_in meadow) goes_behind (Outcome.Refused 4 (NoMark (codes "b"))) ≡ found_in meadow
@@ -112,7 +112,7 @@ abbrev puts_again : List Command
 puts_again =
     Mark (codes "m") ∷ Delete (codes "x") ∷ Put (codes "x") (bare Road) ∷ Back (codes "m") ∷ Read (codes "x") ∷ Abort ∷ []
 
-pub deleted_object_is_back : HasResult (found_in meadow) puts_again (Marked ∷ Deleted ∷ Added ∷ WentBack ∷ Found (alone LandUse) ∷ []) Outcome.Aborted
+pub deleted_object_is_back : IsScriptResult (found_in meadow) puts_again (Marked ∷ Deleted ∷ Added ∷ WentBack ∷ Found (alone LandUse) ∷ []) Outcome.Aborted
 deleted_object_is_back = (refl, refl, (refl, refl, (refl, refl, (refl, refl, (refl, refl, (refl, refl))))))
 
 -- ---- marks end with the script
@@ -132,7 +132,7 @@ mark_then_back =
     ∷ record { script = 1; name = codes "b"; since = 1; replies = []; outcome = Outcome.Refused 0 (NoMark (codes "m")) }
     ∷ []
 
-pub marks_end_with_the_script : Fits two_scripts (found_in meadow) mark_then_back
+pub marks_end_with_the_script : IsSerialHistory two_scripts (found_in meadow) mark_then_back
 marks_end_with_the_script = (
   record {
     script = (codes "a", marks_and_ends);

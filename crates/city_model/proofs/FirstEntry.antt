@@ -11,7 +11,7 @@ use Rattle.std.proofs.lemmas.Cmp.{nat_list_cmp_total, tied_itself}
 use Rattle.std.proofs.lemmas.Map.{lookup-none}
 use Rattle.std.proofs.lemmas.Map.Entries.{none_below_head}
 use Rattle.city_model.specs.declared.object.Object.{Object}
-use Rattle.city_model.specs.CityMap.{Objects, Entries, CityMap, at, found_in, same_id}
+use Rattle.city_model.specs.CityMap.{Objects, Entries, CityMap, object_at, found_in, same_id}
 use Rattle.city_model.specs.Least.{IsLeast}
 use Rattle.city_model.proofs.Ids.{same_id_true}
 use Rattle.city_model.proofs.Objects.{at_entries, entries_ascend}
@@ -115,15 +115,15 @@ at_all test (e ∷ es) sorted f =
 
 -- ---- of the objects of a city
 
-pub least_in : (test : Test) (objects : Objects) (id : List ℕ) → first_that test (entries objects) ≡ Some id → IsLeast (Passes test (at objects)) id
+pub least_in : (test : Test) (objects : Objects) (id : List ℕ) → first_that test (entries objects) ≡ Some id → IsLeast (Passes test (object_at objects)) id
 least_in test objects id there = subst (λ (m : CityMap). IsLeast (Passes test m) id) (sym (at_entries objects)) (least_that test (entries objects) id (entries_ascend objects) there)
 
-pub none_in : (test : Test) (objects : Objects) (q : List ℕ) (o : Object) → first_that test (entries objects) ≡ None → at objects q ≡ Some o → test q o ≡ false
+pub none_in : (test : Test) (objects : Objects) (q : List ℕ) (o : Object) → first_that test (entries objects) ≡ None → object_at objects q ≡ Some o → test q o ≡ false
 none_in test objects q o none there = none_that test (entries objects) q o none (ap (λ (m : CityMap). m q) (sym (at_entries objects)) ∙ there)
 
-pub all_in : (test : Object → Bool) (objects : Objects) (q : List ℕ) (o : Object) → list_all (λ (e : List ℕ × Object). test e.1) (entries objects) ≡ true → at objects q ≡ Some o → test o ≡ true
+pub all_in : (test : Object → Bool) (objects : Objects) (q : List ℕ) (o : Object) → list_all (λ (e : List ℕ × Object). test e.1) (entries objects) ≡ true → object_at objects q ≡ Some o → test o ≡ true
 all_in test objects q o all there = all_at test (entries objects) q o all (ap (λ (m : CityMap). m q) (sym (at_entries objects)) ∙ there)
 
-pub in_all : (test : Object → Bool) (objects : Objects) → ((q : List ℕ) (o : Object) → at objects q ≡ Some o → test o ≡ true)
+pub in_all : (test : Object → Bool) (objects : Objects) → ((q : List ℕ) (o : Object) → object_at objects q ≡ Some o → test o ≡ true)
     → list_all (λ (e : List ℕ × Object). test e.1) (entries objects) ≡ true
 in_all test objects f = at_all test (entries objects) (entries_ascend objects) (λ q o there. f q o (ap (λ (m : CityMap). m q) (at_entries objects) ∙ there))

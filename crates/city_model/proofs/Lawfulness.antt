@@ -6,7 +6,7 @@ use Rattle.std.specs.FinMap.{entries}
 use Rattle.std.proofs.lemmas.Bool.{false≢true, false_from_ne_true, and_parts}
 use Rattle.city_model.specs.declared.object.Object.{Object}
 use Rattle.city_model.specs.declared.command.Cause.{Cause}
-use Rattle.city_model.specs.CityMap.{Objects, Entries, CityMap, at}
+use Rattle.city_model.specs.CityMap.{Objects, Entries, CityMap, object_at}
 use Rattle.city_model.specs.inside.Faultless.{IsFaultless}
 use Rattle.city_model.specs.Misrelated.{IsMisrelatedAt, IsLeastMisrelated}
 use Rattle.city_model.specs.Relations.{IsInOrder, IsRelated, IsLawful, is_orphan}
@@ -22,18 +22,18 @@ related_no_fault : (m : CityMap) (id : List ℕ) (o : Object) → IsInOrder m id
 related_no_fault m id o h (inl f) = f h.0
 related_no_fault m id o h (inr e) = false≢true (sym h.1 ∙ e)
 
-pub least_misrelated : (objects : Objects) (id : List ℕ) → first_that (is_misrelated (at objects)) (entries objects) ≡ Some id → IsLeastMisrelated (at objects) id
+pub least_misrelated : (objects : Objects) (id : List ℕ) → first_that (is_misrelated (object_at objects)) (entries objects) ≡ Some id → IsLeastMisrelated (object_at objects) id
 least_misrelated objects id found =
-    let least = least_in (is_misrelated (at objects)) objects id found in (
-      (least.0.0, least.0.1, misrelated_true (at objects) id least.0.0 least.0.2),
+    let least = least_in (is_misrelated (object_at objects)) objects id found in (
+      (least.0.0, least.0.1, misrelated_true (object_at objects) id least.0.0 least.0.2),
       λ q below h.
-          let not : is_misrelated (at objects) q h.0 ≡ false =
-          false_from_ne_true (is_misrelated (at objects) q h.0) (λ e. least.1 q below (h.0, h.1, e)) in
-          related_no_fault (at objects) q h.0 (misrelated_false (at objects) q h.0 not) h.2,
+          let not : is_misrelated (object_at objects) q h.0 ≡ false =
+          false_from_ne_true (is_misrelated (object_at objects) q h.0) (λ e. least.1 q below (h.0, h.1, e)) in
+          related_no_fault (object_at objects) q h.0 (misrelated_false (object_at objects) q h.0 not) h.2,
     )
 
-pub all_related : (objects : Objects) → first_that (is_misrelated (at objects)) (entries objects) ≡ None → IsRelated (at objects)
-all_related objects none id o there = misrelated_false (at objects) id o (none_in (is_misrelated (at objects)) objects id o none there)
+pub all_related : (objects : Objects) → first_that (is_misrelated (object_at objects)) (entries objects) ≡ None → IsRelated (object_at objects)
+all_related objects none id o there = misrelated_false (object_at objects) id o (none_in (is_misrelated (object_at objects)) objects id o none there)
 
 -- ---- bodies
 
@@ -47,10 +47,10 @@ none_of : (fault : Option Cause) → is_none fault ≡ true → fault ≡ None
 none_of None h = refl
 none_of (Some cause) h = absurd (false≢true h)
 
-pub faultless_by : (objects : Objects) → all_faultless (entries objects) ≡ true → IsFaultless (at objects)
+pub faultless_by : (objects : Objects) → all_faultless (entries objects) ≡ true → IsFaultless (object_at objects)
 faultless_by objects all id o there = none_of (body_fault o.body) (all_in has_no_fault objects id o all there)
 
-pub faultless_all : (objects : Objects) → IsFaultless (at objects) → all_faultless (entries objects) ≡ true
+pub faultless_all : (objects : Objects) → IsFaultless (object_at objects) → all_faultless (entries objects) ≡ true
 faultless_all objects f = in_all has_no_fault objects (λ id o there. ap is_none (f id o there))
 
 -- an entry whose body has a fault, among those that are left

@@ -20,8 +20,8 @@ use Rattle.city_model.specs.Relations.{is_second_level, same_family, IsSound}
 use Rattle.city_model.specs.Shells.{body_fault}
 use Rattle.city_model.proofs.Ids.{same_id_itself, same_id_back, same_id_true}
 use Rattle.city_model.proofs.IdLists.{bool_cases, or_first}
-use Rattle.city_model.specs.Standing.{names_exclusively}
-use Rattle.city_model.specs.Runs.{Change, with_change}
+use Rattle.city_model.specs.Standing.{locks_id_exclusively}
+use Rattle.city_model.specs.Runs.{Change, after_change}
 use Rattle.city_model.specs.inside.Plans.{AreOf, AreWritesOf, only, only_parent, unlinked}
 use Rattle.city_model.proofs.FrameLaw.{frame}
 
@@ -52,7 +52,7 @@ unlinked_are m id (p ∷ ps) apart = (
   unlinked_are m id ps (λ r h. apart r (or_right (same_id r p) (has_id ps r) h)),
 )
 
-unlinked_ids : (m : CityMap) (id : List ℕ) (ps : List (List ℕ)) (q : List ℕ) → has_id (keys_of (map (unlinked m id) ps)) q ≡ names_exclusively (exclusively ps) q
+unlinked_ids : (m : CityMap) (id : List ℕ) (ps : List (List ℕ)) (q : List ℕ) → has_id (keys_of (map (unlinked m id) ps)) q ≡ locks_id_exclusively (exclusively ps) q
 unlinked_ids m id [] q = refl
 unlinked_ids m id (p ∷ ps) q = ap (λ b. same_id q p || b) (unlinked_ids m id ps q)
 
@@ -65,7 +65,7 @@ delete_writes m id o ws s is childless items = subst (AreWritesOf m (Delete id) 
     sym (ap (λ b. if b then None else option_map (without_child id) (m id)) (same_id_itself id)),
     unlinked_are m id o.parents (λ p h. same_id_back id p ∙ ((s id o is).0.parents_know_it p h).0),
   );
-  ids = λ q. ap (λ b. same_id q id || b) (unlinked_ids m id o.parents q ∙ ap (λ ls. names_exclusively ls q) (sym (parents_locked m id o is childless)));
+  ids = λ q. ap (λ b. same_id q id || b) (unlinked_ids m id o.parents q ∙ ap (λ ls. locks_id_exclusively ls q) (sym (parents_locked m id o is childless)));
 })
 
 only_is : (ps : List (List ℕ)) (p : List ℕ) → only ps ≡ Some p → p ∷ [] ≡ ps
@@ -129,13 +129,13 @@ module _ (m : CityMap) (child parent : List ℕ) (c p below : Object) (is_child 
 
 -- ---- the map with the change
 
-at_unwritten : (m : CityMap) (ws : Change) (q : List ℕ) → has_id (keys_of ws) q ≡ false → with_change m ws q ≡ m q
+at_unwritten : (m : CityMap) (ws : Change) (q : List ℕ) → has_id (keys_of ws) q ≡ false → after_change m ws q ≡ m q
 at_unwritten m [] q h = refl
 at_unwritten m (w ∷ ws) q h =
     let parts = or_parts (same_id q w.0) (has_id (keys_of ws) q) h in
     at_unwritten (changed m w.0 w.1) ws q parts.1 ∙ update_other same_id m w.0 w.1 q (same_id_back w.0 q ∙ parts.0)
 
-at_written : (m n : CityMap) (ws : Change) (q : List ℕ) → AreOf n ws → has_id (keys_of ws) q ≡ true → with_change m ws q ≡ n q
+at_written : (m n : CityMap) (ws : Change) (q : List ℕ) → AreOf n ws → has_id (keys_of ws) q ≡ true → after_change m ws q ≡ n q
 at_written m n [] q is h = absurd (false≢true h)
 at_written m n (w ∷ ws) q is h = bool_cases (has_id (keys_of ws) q)
     (λ e. at_written (changed m w.0 w.1) n ws q is.1 e)
@@ -144,10 +144,10 @@ at_written m n (w ∷ ws) q is h = bool_cases (has_id (keys_of ws) q)
     at_unwritten (changed m w.0 w.1) ws q e ∙ update_same same_id m w.0 w.1 q (same_id_back w.0 q ∙ here) ∙ is.0 ∙ ap n (sym (same_id_true q w.0 here)))
 
 -- what is planned makes of a sound map what the command makes of it
-pub plan_makes : (m : CityMap) (c : Command) (r : Reply) (ws : Change) → IsSound m → AreWritesOf m c r ws → with_change m ws ≡ effect_of m c
+pub plan_makes : (m : CityMap) (c : Command) (r : Reply) (ws : Change) → IsSound m → AreWritesOf m c r ws → after_change m ws ≡ effect_of m c
 plan_makes m c r ws s is =
     let done : after m c ≡ effect_of m c = ap (λ x. map_unless x m (effect_of m c)) is.allowed in
-    let at : (q : List ℕ) → with_change m ws q ≡ effect_of m c q =
+    let at : (q : List ℕ) → after_change m ws q ≡ effect_of m c q =
     λ q. bool_cases (has_id (keys_of ws) q)
     (λ e. at_written m (effect_of m c) ws q is.objects e)
     (λ e. at_unwritten m ws q e ∙ sym (frame m c q s (sym (is.ids q) ∙ e)) ∙ ap (λ (n : CityMap). n q) done) in

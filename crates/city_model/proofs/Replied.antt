@@ -11,7 +11,7 @@ use Rattle.city_model.specs.Marks.{View}
 use Rattle.city_model.specs.Meaning.{effect, is_refusal}
 use Rattle.city_model.specs.Runs.{EndsAt, EndsFrom, view_at_end}
 use Rattle.city_model.specs.Scripts.{is_end, is_empty_list, ends_once}
-use Rattle.city_model.specs.Standing.{Held, answered, Follows}
+use Rattle.city_model.specs.Standing.{Held, answered, IsTraceUnderLocks}
 use Rattle.city_model.proofs.Effects.{goes_on_case, goes_on_map}
 use Rattle.city_model.proofs.History.{Next}
 use Rattle.city_model.proofs.IdLists.{bool_cases}
@@ -41,7 +41,7 @@ answered_more (d ∷ cs) (s ∷ rs) c r h = ap (λ l. (d, s) ∷ l) (answered_mo
 
 -- the result of a script whose first commands stand so, and whose next command ends it so
 pub result_from : (held : Held) (v w : View) (i : ℕ) (cs : List Command) (rs : List Reply) (c : Command) (o : Outcome)
-    → Follows held v (answered cs rs) w → list_any is_refusal rs ≡ false → slice_get cs (length rs) ≡ Some c
+    → IsTraceUnderLocks held v (answered cs rs) w → list_any is_refusal rs ≡ false → slice_get cs (length rs) ≡ Some c
     → EndsAt w c (i + length rs) o → EndsFrom v i cs rs o
 result_from held v w i [] rs c o f u h k = absurd (cc)
 result_from held v w i (d ∷ cs) [] c o f u h k =
@@ -59,7 +59,7 @@ result_from held v w i (d ∷ cs) (r ∷ rs) c o f u h k =
 
 -- a script whose next command is Commit leaves what its first commands lead to
 pub committed_from : (held : Held) (v w : View) (cs : List Command) (rs : List Reply)
-    → Follows held v (answered cs rs) w → list_any is_refusal rs ≡ false → slice_get cs (length rs) ≡ Some Commit
+    → IsTraceUnderLocks held v (answered cs rs) w → list_any is_refusal rs ≡ false → slice_get cs (length rs) ≡ Some Commit
     → view_at_end v cs ≡ w
 committed_from held v w [] rs f u h = absurd (cc)
 committed_from held v w (d ∷ cs) [] f u h =

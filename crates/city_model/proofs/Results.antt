@@ -19,7 +19,7 @@ use Rattle.city_model.specs.Marks.{View, unmarked}
 use Rattle.city_model.specs.Meaning.{Effect, Answers, Commits, Aborts, effect, IsCommitReply, IsReply, GoesOn}
 use Rattle.city_model.specs.Meaning.{is_refusal}
 use Rattle.city_model.specs.Relations.{IsOrphanAt, IsLeastOrphan, HasNoOrphan}
-use Rattle.city_model.specs.Runs.{Scripted, EndsAt, EndsFrom, HasResult, left_by, IsEndOf, FitsFrom, Fits}
+use Rattle.city_model.specs.Runs.{Scripted, EndsAt, EndsFrom, IsScriptResult, left_by, IsEndOf, IsSerialHistoryFrom, IsSerialHistory}
 use Rattle.city_model.specs.SerialEnds.{is_no_memory, IsSerialFrom}
 use Rattle.city_model.proofs.Effects.{goes_on_case, answered_no_ending, is_ending}
 use Rattle.city_model.proofs.Lawful.{EndsFurther}
@@ -111,7 +111,7 @@ result_from v i (c ∷ cs) (r ∷ rs) (s ∷ ss) o p n l h k =
 
 -- two results of a list of commands at one map are the same, unless there was no memory
 pub result_is_unique : (m : CityMap) (cs : List Command) (rs ss : List Reply) (o p : Outcome) → is_no_memory o ≡ false → is_no_memory p ≡ false
-    → HasResult m cs rs o → HasResult m cs ss p → (rs ≡ ss) × (o ≡ p)
+    → IsScriptResult m cs rs o → IsScriptResult m cs ss p → (rs ≡ ss) × (o ≡ p)
 result_is_unique m cs rs ss o p n l h k = result_from (unmarked m) 0 cs rs ss o p n l h k
 
 -- ---- scripts run in their order
@@ -125,7 +125,7 @@ end_of_script_is_unique scripts m place e f script since n l h k =
     let found : Some h.script ≡ Some k.script = sym h.is_there ∙ ap (slice_get scripts) script ∙ k.is_there in
     let same : h.script ≡ k.script = cc in
     let result = result_is_unique m k.script.1 e.replies f.replies e.outcome f.outcome n l
-    (subst (λ (s : Scripted). HasResult m s.1 e.replies e.outcome) same h.result) k.result in
+    (subst (λ (s : Scripted). IsScriptResult m s.1 e.replies e.outcome) same h.result) k.result in
     same_end e f script (h.named ∙ ap (λ (s : Scripted). s.0) same ∙ sym k.named) since result.0 result.1
 
 -- the ends at each place are of one script, which began its last attempt at one place, and neither is for want of memory
@@ -135,7 +135,7 @@ AreInOneOrder [] (f ∷ fs) = ⊥
 AreInOneOrder (e ∷ es) [] = ⊥
 AreInOneOrder (e ∷ es) (f ∷ fs) = (e.script ≡ f.script) × (e.since ≡ f.since) × (is_no_memory e.outcome ≡ false) × (is_no_memory f.outcome ≡ false) × AreInOneOrder es fs
 
-ends_from : (scripts : List Scripted) (m : CityMap) (k : ℕ) (es fs : List End) → AreInOneOrder es fs → FitsFrom scripts m k es → FitsFrom scripts m k fs → es ≡ fs
+ends_from : (scripts : List Scripted) (m : CityMap) (k : ℕ) (es fs : List End) → AreInOneOrder es fs → IsSerialHistoryFrom scripts m k es → IsSerialHistoryFrom scripts m k fs → es ≡ fs
 ends_from scripts m k [] [] o h g = refl
 ends_from scripts m k [] (y ∷ fs) o h g = absurd o
 ends_from scripts m k (x ∷ es) [] o h g = absurd o
@@ -144,7 +144,7 @@ ends_from scripts m k (x ∷ es) (y ∷ fs) o h g =
     let same : left_by scripts m x ≡ left_by scripts m y =
     ap (λ (z : End). left_by scripts m z) first in
     let rest : es ≡ fs = ends_from scripts (left_by scripts m y) (k + 1) es fs o.4
-    (subst (λ (n : CityMap). FitsFrom scripts n (k + 1) es) same h.2) g.2 in
+    (subst (λ (n : CityMap). IsSerialHistoryFrom scripts n (k + 1) es) same h.2) g.2 in
     ap (λ z. z ∷ es) first ∙ ap (λ zs. y ∷ zs) rest
 
 serial_order : (k : ℕ) (es fs : List End) → length es ≡ length fs → IsSerialFrom k es → IsSerialFrom k fs → AreInOneOrder es fs
@@ -155,5 +155,5 @@ serial_order k (x ∷ es) (y ∷ fs) e s t = (s.0 ∙ sym t.0, s.1 ∙ sym t.1, 
 
 -- two lists of ends of the same scripts, each run in its turn from the same map, are the same, unless there was no memory
 pub serial_ends_are_unique : (scripts : List Scripted) (m : CityMap) (es fs : List End) → length es ≡ length scripts → length fs ≡ length scripts
-    → IsSerialFrom 0 es → IsSerialFrom 0 fs → Fits scripts m es → Fits scripts m fs → es ≡ fs
+    → IsSerialFrom 0 es → IsSerialFrom 0 fs → IsSerialHistory scripts m es → IsSerialHistory scripts m fs → es ≡ fs
 serial_ends_are_unique scripts m es fs a b s t h g = ends_from scripts m 0 es fs (serial_order 0 es fs (a ∙ sym b) s t) h g

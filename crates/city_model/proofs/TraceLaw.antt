@@ -10,7 +10,7 @@ use Rattle.city_model.specs.Meaning.{effect, step, locks_of}
 use Rattle.city_model.specs.Marks.{View, unmarked}
 use Rattle.city_model.specs.Relations.{IsSound}
 use Rattle.city_model.specs.Runs.{Trace}
-use Rattle.city_model.specs.Standing.{Held, Lock, covers, AllHeld, answered, Follows, names, names_exclusively}
+use Rattle.city_model.specs.Standing.{Held, Lock, covers, AllHeld, answered, IsTraceUnderLocks, locks_id, locks_id_exclusively}
 use Rattle.city_model.specs.Standing.{exclusive_ids}
 use Rattle.city_model.specs.TraceLaw.{as_named, stronger_of, named_by, carried, TraceLaw}
 use Rattle.city_model.proofs.Ids.{same_id_itself}
@@ -56,25 +56,25 @@ one_held : (o : Option Bool) (b : Bool) → is_some o ≡ true → (b ≡ true �
 one_held o true s x = x refl
 one_held o false s x = some_shared o s
 
-all_held : (held : Held) (ls : List Lock) → ((q : List ℕ) → names ls q ≡ true → is_some (held q) ≡ true)
-    → ((q : List ℕ) → names_exclusively ls q ≡ true → covers (held q) true ≡ true) → AllHeld held ls
+all_held : (held : Held) (ls : List Lock) → ((q : List ℕ) → locks_id ls q ≡ true → is_some (held q) ≡ true)
+    → ((q : List ℕ) → locks_id_exclusively ls q ≡ true → covers (held q) true ≡ true) → AllHeld held ls
 all_held held [] s x = tt
 all_held held (l ∷ ls) s x = (
-  one_held (held l.0) l.1 (s l.0 (or_left (same_id l.0 l.0) (names ls l.0) (same_id_itself l.0)))
+  one_held (held l.0) l.1 (s l.0 (or_left (same_id l.0 l.0) (locks_id ls l.0) (same_id_itself l.0)))
       (λ e. x l.0 (ap (λ b. has_id (if b then l.0 ∷ exclusive_ids ls else exclusive_ids ls) l.0) e
-      ∙ or_left (same_id l.0 l.0) (names_exclusively ls l.0) (same_id_itself l.0))),
-  all_held held ls (λ q h. s q (or_right (same_id q l.0) (names ls q) h))
+      ∙ or_left (same_id l.0 l.0) (locks_id_exclusively ls l.0) (same_id_itself l.0))),
+  all_held held ls (λ q h. s q (or_right (same_id q l.0) (locks_id ls q) h))
       (λ q h. x q (bool_cases l.1
-      (λ e. ap (λ b. has_id (if b then l.0 ∷ exclusive_ids ls else exclusive_ids ls) q) e ∙ or_right (same_id q l.0) (names_exclusively ls q) h)
+      (λ e. ap (λ b. has_id (if b then l.0 ∷ exclusive_ids ls else exclusive_ids ls) q) e ∙ or_right (same_id q l.0) (locks_id_exclusively ls q) h)
       (λ e. ap (λ b. has_id (if b then l.0 ∷ exclusive_ids ls else exclusive_ids ls) q) e ∙ h))),
 )
 
 abbrev named_in : List Lock → Held
-named_in ls q = as_named (names_exclusively ls q) (names ls q)
+named_in ls q = as_named (locks_id_exclusively ls q) (locks_id ls q)
 
 named_held : (ls : List Lock) → AllHeld (named_in ls) ls
 named_held ls = all_held (named_in ls) ls
-    (λ q h. named_some (names_exclusively ls q) (names ls q) h) (λ q h. named_exclusive (names_exclusively ls q) (names ls q) h)
+    (λ q h. named_some (locks_id_exclusively ls q) (locks_id ls q) h) (λ q h. named_exclusive (locks_id_exclusively ls q) (locks_id ls q) h)
 
 -- ---- the commands with what they are answered
 
@@ -86,7 +86,7 @@ trace_long v (c ∷ cs) (r ∷ rs) w f =
     goes_on_case (Further r cs rs w) (effect v c) (λ reply u is g. ap suc (trace_long u cs rs w g.1)) f
 
 trace_follows : (v : View) (cs : List Command) (rs : List Reply) (w : View) → Trace v cs rs w
-    → Follows (named_by v cs) v (answered cs rs) w
+    → IsTraceUnderLocks (named_by v cs) v (answered cs rs) w
 trace_follows v [] [] w f = f
 trace_follows v [] (r ∷ rs) w f = absurd f
 trace_follows v (c ∷ cs) [] w f = absurd f
@@ -105,7 +105,7 @@ trace_follows v (c ∷ cs) (r ∷ rs) w f = (
 )
 
 read_off : (held : Held) (v : View) (cs : List Command) (rs : List Reply) (w : View) → length cs ≡ length rs
-    → Follows held v (answered cs rs) w → Trace v cs rs w
+    → IsTraceUnderLocks held v (answered cs rs) w → Trace v cs rs w
 read_off held v [] [] w e f = f
 read_off held v [] (r ∷ rs) w e f = absurd (omega arith)
 read_off held v (c ∷ cs) [] w e f = absurd (omega arith)

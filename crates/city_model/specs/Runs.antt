@@ -38,8 +38,8 @@ EndsFrom v i (c ∷ cs) (r ∷ rs) outcome = GoesOn (effect v c)
 
 -- what a script gives at the map m: the replies before its ending command, and how it ends; it may run out
 -- of memory at any command
-abbrev pub HasResult : CityMap → List Command → List Reply → Outcome → Type 0
-HasResult m commands replies outcome = EndsFrom (unmarked m) 0 commands replies outcome
+abbrev pub IsScriptResult : CityMap → List Command → List Reply → Outcome → Type 0
+IsScriptResult m commands replies outcome = EndsFrom (unmarked m) 0 commands replies outcome
 
 -- what is seen where the first of the commands has this effect, and the others lead from a view to another one
 abbrev pub goes_to : View → Effect → (View → View) → View
@@ -79,7 +79,7 @@ pub record IsEndOf (scripts : List Scripted) (m : CityMap) (place : ℕ) (e : En
   pub is_there : slice_get scripts e.script ≡ Some script
   pub named : e.name ≡ script.0
   pub since : e.since ≤ place
-  pub result : HasResult m script.1 e.replies e.outcome
+  pub result : IsScriptResult m script.1 e.replies e.outcome
 
 -- no end of the list is of this script
 abbrev pub NoEndOf : ℕ → List End → Type 0
@@ -91,13 +91,13 @@ abbrev pub has_end : ℕ → List End → Bool
 has_end script ends = list_any (λ e. e.script == script) ends
 
 -- the ends from this place on are those of scripts run one at a time from the map m, no script twice
-abbrev pub FitsFrom : List Scripted → CityMap → ℕ → List End → Type 0
-FitsFrom scripts m place [] = Unit {0}
-FitsFrom scripts m place (e ∷ es) =
-    IsEndOf scripts m place e × NoEndOf e.script es × FitsFrom scripts (left_by scripts m e) (place + 1) es
+abbrev pub IsSerialHistoryFrom : List Scripted → CityMap → ℕ → List End → Type 0
+IsSerialHistoryFrom scripts m place [] = Unit {0}
+IsSerialHistoryFrom scripts m place (e ∷ es) =
+    IsEndOf scripts m place e × NoEndOf e.script es × IsSerialHistoryFrom scripts (left_by scripts m e) (place + 1) es
 
-abbrev pub Fits : List Scripted → CityMap → List End → Type 0
-Fits scripts m ends = FitsFrom scripts m 0 ends
+abbrev pub IsSerialHistory : List Scripted → CityMap → List End → Type 0
+IsSerialHistory scripts m ends = IsSerialHistoryFrom scripts m 0 ends
 
 -- ---- changes
 
@@ -105,11 +105,11 @@ Fits scripts m ends = FitsFrom scripts m 0 ends
 abbrev pub Change : Type 0
 Change = List (List ℕ × Option Object)
 
-abbrev pub with_change : CityMap → Change → CityMap
-with_change m [] = m
-with_change m (w ∷ ws) = with_change (changed m w.0 w.1) ws
+abbrev pub after_change : CityMap → Change → CityMap
+after_change m [] = m
+after_change m (w ∷ ws) = after_change (changed m w.0 w.1) ws
 
 -- the map after changes, one after another
-abbrev pub shown : CityMap → List Change → CityMap
-shown m [] = m
-shown m (c ∷ cs) = shown (with_change m c) cs
+abbrev pub after_changes : CityMap → List Change → CityMap
+after_changes m [] = m
+after_changes m (c ∷ cs) = after_changes (after_change m c) cs

@@ -38,10 +38,10 @@ answered (c ∷ cs) (r ∷ rs) = (c, r) ∷ answered cs rs
 
 -- from the first view the commands, none of which ends a script, get these replies, each with its locks held,
 -- and lead to the second
-abbrev pub Follows : Held → View → List Answered → View → Type 0
-Follows held v [] w = w ≡ v
-Follows held v (d ∷ ds) w =
-    AllHeld held (locks_of v.map d.0) × GoesOn (effect v d.0) (λ reply u. (reply ≡ d.1) × Follows held u ds w)
+abbrev pub IsTraceUnderLocks : Held → View → List Answered → View → Type 0
+IsTraceUnderLocks held v [] w = w ≡ v
+IsTraceUnderLocks held v (d ∷ ds) w =
+    AllHeld held (locks_of v.map d.0) × GoesOn (effect v d.0) (λ reply u. (reply ≡ d.1) × IsTraceUnderLocks held u ds w)
 
 -- ---- what locks name
 
@@ -54,9 +54,9 @@ exclusive_ids [] = []
 exclusive_ids (l ∷ ls) = if l.1 then l.0 ∷ exclusive_ids ls else exclusive_ids ls
 
 -- whether the locks name the id
-abbrev pub names : List Lock → List ℕ → Bool
-names ls id = has_id (locked_ids ls) id
+abbrev pub locks_id : List Lock → List ℕ → Bool
+locks_id ls id = has_id (locked_ids ls) id
 
 -- whether they name it exclusively
-abbrev pub names_exclusively : List Lock → List ℕ → Bool
-names_exclusively ls id = has_id (exclusive_ids ls) id
+abbrev pub locks_id_exclusively : List Lock → List ℕ → Bool
+locks_id_exclusively ls id = has_id (exclusive_ids ls) id

@@ -8,7 +8,7 @@ use Rattle.city_model.specs.Marks.{Marked, View, unmarked}
 use Rattle.city_model.specs.Meaning.{step, locks_of}
 use Rattle.city_model.specs.Relations.{IsSound}
 use Rattle.city_model.specs.Runs.{Trace}
-use Rattle.city_model.specs.Standing.{Held, covers, names, names_exclusively}
+use Rattle.city_model.specs.Standing.{Held, covers, locks_id, locks_id_exclusively}
 
 -- how locks name an id: not, shared (false) or exclusively (true)
 abbrev pub as_named : Bool → Bool → Option Bool
@@ -26,7 +26,7 @@ stronger_of (Some false) (Some b) = Some b
 abbrev pub named_by : View → List Command → Held
 named_by v [] q = None
 named_by v (c ∷ cs) q =
-    stronger_of (as_named (names_exclusively (locks_of v.map c) q) (names (locks_of v.map c) q)) (named_by (step v c) cs q)
+    stronger_of (as_named (locks_id_exclusively (locks_of v.map c) q) (locks_id (locks_of v.map c) q)) (named_by (step v c) cs q)
 
 -- this map at each id that is held exclusively, and the other one elsewhere
 abbrev pub carried_map : Held → CityMap → CityMap → CityMap

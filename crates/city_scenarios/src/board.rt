@@ -1,6 +1,6 @@
 //! The verb `board`: viewers of a board whose poster is a desk's shelf.
 ghost use Rattle.std.specs.Prelude.{◌≡◌, ◌≤◌, [], All, IfOk, IfSome};
-ghost use Rattle.city_model.specs.CityMap.{at};
+ghost use Rattle.city_model.specs.CityMap.{object_at};
 ghost use Rattle.city_model.specs.Relations.{IsLawful};
 
 use crate::document::add_city;
@@ -42,7 +42,7 @@ fn play_over<R: Wait>(
     lines: &str,
     answer: &mut Vec<u8>,
 ) -> Result<(), AllocError>
-    requires lawful { IsLawful (at city.1) }
+    requires lawful { IsLawful (object_at city.1) }
     requires places { places ≤ 4 }
 {
     match opened(rt, alloc, scripts, city, places) {
@@ -58,7 +58,7 @@ fn board_over<'r, R: Wait>(
     city: &City,
     places: usize,
 ) -> Option<(Poster<&'r R>, Vec<Viewer>)>
-    requires lawful { IsLawful (at city.now.1) }
+    requires lawful { IsLawful (object_at city.now.1) }
     requires places { places ≤ 4 }
     ensures opening { IfSome result (λ r. r.0.opening ≡ city.now) }
     ensures taken { IfSome result (λ r. r.0.taken ≡ []) }
@@ -76,7 +76,7 @@ fn desk_over<'r, R: Wait>(
     city: City,
     poster: Poster<&'r R>,
 ) -> Option<Desk<Poster<&'r R>>>
-    requires lawful { IsLawful (at city.1) }
+    requires lawful { IsLawful (object_at city.1) }
     requires opening { poster.opening ≡ city }
     requires taken { poster.taken ≡ [] }
 {
@@ -92,7 +92,7 @@ fn opened<'r, R: Wait>(
     city: City,
     places: usize,
 ) -> Option<(Desk<Poster<&'r R>>, Vec<Viewer>)>
-    requires lawful { IsLawful (at city.1) }
+    requires lawful { IsLawful (object_at city.1) }
     requires places { places ≤ 4 }
 {
     let (poster, viewers) = board_over(rt, alloc, &city, places)?;

@@ -13,7 +13,7 @@ use Rattle.city_model.specs.CityMap.{CityMap}
 use Rattle.city_model.specs.Marks.{View, Marked, marks_from}
 use Rattle.city_model.specs.Meaning.{read_reply, put_done, is_refusal, locks_of}
 use Rattle.city_model.specs.Scripts.{is_mark}
-use Rattle.city_model.specs.Standing.{names_exclusively}
+use Rattle.city_model.specs.Standing.{locks_id_exclusively}
 use Rattle.city_model.specs.inside.CommandParts.{back_cause, step_as, seen_next, answer}
 use Rattle.city_model.specs.inside.CommandParts.{cause_of, done_reply, refused_or, after}
 use Rattle.city_model.proofs.MarksKept.{plain, plain_answer}
@@ -66,7 +66,7 @@ unrefused_alike (Some cause) r h = refl
 own_alike : (v : View) (c : Command) (f : OwnWrites) (q : List ℕ) → is_mark c ≡ false
     → own_done v.map f c q ≡ own_after f (locks_of v.map c) (answer v c) (seen_next v c).map q
 own_alike v c f q h =
-    let named = names_exclusively (locks_of v.map c) q in
+    let named = locks_id_exclusively (locks_of v.map c) q in
     let b : is_none (cause_of v.map c) ≡ not (is_refusal (answer v c)) =
     unrefused_alike (cause_of v.map c) (done_reply v.map c) (done_unrefused v.map c)
     ∙ ap (λ r. not (is_refusal r)) (sym (plain_answer v c h)) in

@@ -18,12 +18,12 @@ use Rattle.std.proofs.lemmas.Map.Entries.{none_past_head}
 use Rattle.city_model.specs.declared.object.Object.{Object}
 use Rattle.city_model.specs.CityMap.{CityMap, found_in, same_id, has_id, changed}
 use Rattle.city_model.specs.Relations.{is_orphan, is_orphan_there, HasNoOrphan, IsLeastOrphan, IsSound, IsLawful}
-use Rattle.city_model.specs.Runs.{Change, with_change}
+use Rattle.city_model.specs.Runs.{Change, after_change}
 use Rattle.city_model.proofs.Ids.{same_id_true, same_id_back}
 use Rattle.city_model.proofs.IdLists.{bool_cases}
 use Rattle.city_model.proofs.FirstOrphan.{first_orphan, is_least_orphan, has_no_orphan}
 use Rattle.city_model.proofs.Objects.{entries_of, at_sorted}
-use Rattle.city_txn.specs.declared.image.Image.{Image}
+use Rattle.city_txn.specs.declared.image.UndoImage.{UndoImage}
 use Rattle.city_txn.specs.declared.store.Store.TheInside.{Inside}
 use Rattle.city_txn.specs.inside.Images.{written_at, write_at, writer_of, or_else}
 use Rattle.city_txn.specs.Writes.{Write, write_of, own_or, own_write, is_by, with_some}
@@ -64,7 +64,7 @@ either_none : {Y : Type 0} (b : Bool) → ◌≡◌ {A = Option Y} (if b then No
 either_none true = refl
 either_none false = refl
 
-own_point : (s : ℕ) (x : Option Object) (i : Option Image) → (if is_writer s (writer_of i) then written_at x i else None) ≡ own_write s (write_at x i)
+own_point : (s : ℕ) (x : Option Object) (i : Option UndoImage) → (if is_writer s (writer_of i) then written_at x i else None) ≡ own_write s (write_at x i)
 own_point s x None = refl
 own_point s x (Some i) = bool_cases i.unwritten (λ e. rw e (either_none (i.by == s))) (λ e. rw e refl)
 
@@ -138,7 +138,7 @@ abbrev over : Option (Option Object) → Option Object → Option Object
 over None o = o
 over (Some w) o = w
 
-changed_by : (c : Change) (m : CityMap) (q : List ℕ) → IsStrictlySortedBy (slice_cmp nat_cmp) (keys_of c) → with_change m c q ≡ over (lookup (is_at (slice_cmp nat_cmp q)) c) (m q)
+changed_by : (c : Change) (m : CityMap) (q : List ℕ) → IsStrictlySortedBy (slice_cmp nat_cmp) (keys_of c) → after_change m c q ≡ over (lookup (is_at (slice_cmp nat_cmp q)) c) (m q)
 changed_by [] m q s = refl
 changed_by (w ∷ ws) m q s =
     let rest = lookup (is_at (slice_cmp nat_cmp q)) ws in

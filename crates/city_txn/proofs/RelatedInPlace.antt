@@ -16,7 +16,7 @@ use Rattle.city_txn.specs.inside.State.{State, rewritten, own, is_reserved, comm
 use Rattle.city_txn.specs.Writes.{Write, write_of, is_by, own_or, unless_by}
 use Rattle.city_txn.specs.inside.UndoState.{listed_by}
 use Rattle.city_txn.specs.UndoLog.{Logs, log_of, marked}
-use Rattle.city_txn.specs.inside.Performing.{plans, AreNoted, Performed}
+use Rattle.city_txn.specs.inside.Performing.{plans, AreNoted, IsPerform}
 use Rattle.city_txn.proofs.OneIdChanged.{at_each}
 use Rattle.city_txn.proofs.PerformDone.{unwritten_performed, written_performed}
 use Rattle.city_txn.proofs.PlanWritten.{or_cases, reserved_by}
@@ -57,7 +57,7 @@ module _ (s : ℕ) (c : Command) (r : Reply) (child parent : List ℕ) (below : 
   unmarked : (w : State) → marked (log_of ls s) (own w s) ≡ marked (log_of ls s) (own v s)
   unmarked w = marked_same (log_of ls s) (own w s) (own v s) (λ q h. absurd (not_both _ (noted_if_empty (log_of ls s) q none) h))
 
-  pub related_unwritten : {E : Type 0} (result : Result Reply E) → IsErr result → Performed s c result v ls u ls
+  pub related_unwritten : {E : Type 0} (result : Result Reply E) → IsErr result → IsPerform s c result v ls u ls
   related_unwritten result failed = unwritten_performed s c r change v u ls ls plain_one is same.frame same.city same.opened
       (λ q. ap (unless_by s) (same.writes q)) more kept (unmarked u) (λ q h. kept s q (noted q h)) (λ t ne. refl) result failed same.writes
 
@@ -91,7 +91,7 @@ module _ (s : ℕ) (c : Command) (r : Reply) (child parent : List ℕ) (below : 
         ∙ edited_write s f (write_of v.writes parent) (committed v parent) by ∙ ap (λ o. Some (s, o)) of.1.0))
         (λ q e. rw (same_id_back q parent ∙ e) (beside q e)) q))
 
-    pub related_performed : {E : Type 0} → Performed {E = E} s c (Ok r) v ls w ls
+    pub related_performed : {E : Type 0} → IsPerform {E = E} s c (Ok r) v ls w ls
     related_performed = written_performed s c r change v w ls ls plain_one is (frame_w ∙ frame_x ∙ same.frame) (city_w ∙ city_x ∙ same.city)
         (λ t. ap (λ o. is_some (listed_by o t)) (opened_w ∙ opened_x) ∙ same.opened t)
         others (λ t q h. more t q (sym (reserved_by u w t q (opened_w ∙ opened_x)) ∙ h)) (λ t q h. reserved_by u w t q (opened_w ∙ opened_x) ∙ kept t q h)

@@ -20,14 +20,14 @@ use Rattle.city_txn.specs.declared.step.TxnFault.{TxnFault}
 use Rattle.city_txn.specs.declared.step.TxnFault.TheVariants.{NotOpen, OutOfMemory}
 use Rattle.city_txn.specs.Writes.{write_of, unless_by}
 use Rattle.city_txn.specs.UndoLog.{OwnWrites, written_after}
-use Rattle.city_model.specs.Standing.{Lock, Answered, AllHeld, names_exclusively}
-use Rattle.city_txn.specs.CoreState.{CoreState, committed, view, own, written, seen, is_open, held, Stands, KeepsOthers}
+use Rattle.city_model.specs.Standing.{Lock, Answered, AllHeld, locks_id_exclusively}
+use Rattle.city_txn.specs.CoreState.{CoreState, committed, view, own, written, snapshot, is_open, held, StandsUnderLocks, KeepsOthers}
 use Rattle.city_txn.specs.Locking.{first_answer, granted_before, GainsFirst, IsBlocked}
 
 -- what is written after a command that asked for these locks, got this reply and left this map, marks aside: where it
 -- isn't refused, at each id that it locks exclusively, what stands there then
 abbrev pub own_after : OwnWrites → List Lock → Reply → CityMap → OwnWrites
-own_after f ls reply m id = if not (is_refusal reply) && names_exclusively ls id then Some (m id) else f id
+own_after f ls reply m id = if not (is_refusal reply) && locks_id_exclusively ls id then Some (m id) else f id
 
 -- the answer to its locks: that of the first that isn't granted, or Granted
 abbrev pub answer_in : CoreState → ℕ → Command → Answer
@@ -39,11 +39,11 @@ granted_in v stamp command = granted_before v.locks stamp (locks_of (view v stam
 
 -- the transaction ends with this outcome at the command, which is number `number` of its script
 abbrev pub EndsIn : CoreState → ℕ → Command → ℕ → Outcome → Type 0
-EndsIn v stamp command number outcome = EndsAt (seen v stamp) command number outcome
+EndsIn v stamp command number outcome = EndsAt (snapshot v stamp) command number outcome
 
 -- a commit of the transaction is refused by this cause
 abbrev pub RefusesCommit : CoreState → ℕ → Cause → Type 0
-RefusesCommit v stamp cause = Does (seen v stamp) Commit (Refused cause) (seen v stamp)
+RefusesCommit v stamp cause = Does (snapshot v stamp) Commit (Refused cause) (snapshot v stamp)
 
 -- the step that an answer of the locks and a reply give
 abbrev pub step_of : Answer → Reply → Step
@@ -65,12 +65,12 @@ with_step (Ok steps.Die) command done = done
 with_step (Err fault) command done = done
 
 -- A call by the stamp to do the command: what it answers, and what becomes of the core.
-pub record Acted (stamp : ℕ) (command : Command) (result : Result Step TxnFault)
+pub record IsAct (stamp : ℕ) (command : Command) (result : Result Step TxnFault)
     (old new : CoreState) : Type 0 where
   -- what the command is answered at what the transaction sees, and what is seen after it
   pub reply : Reply
   pub after : View
-  pub does : effect (seen old stamp) command ≡ Answers reply after
+  pub does : effect (snapshot old stamp) command ≡ Answers reply after
   -- done where each lock is granted, and else the answer of the first that isn't
   pub step : IfOk result (λ step. step ≡ step_of (answer_in old stamp command) reply)
   pub fault : IfErr result (λ fault. fault ≡ (if is_open old stamp then OutOfMemory else NotOpen stamp))
@@ -83,9 +83,9 @@ pub record Acted (stamp : ℕ) (command : Command) (result : Result Step TxnFaul
   -- told to wait, it is older than another open one; told to die, it is younger than one
   pub blocked : OnOk result (IsBlocked (λ t. is_open old t ≡ true) stamp (answer_in old stamp command))
   -- it sees what is seen after the command, where that is done; all else that is seen stays
-  pub sees : seen new stamp ≡ (if is_done result then after else seen old stamp)
+  pub sees : snapshot new stamp ≡ (if is_done result then after else snapshot old stamp)
   pub city : committed new ≡ committed old
-  pub views : (t : ℕ) → (stamp == t) ≡ false → seen new t ≡ seen old t
+  pub views : (t : ℕ) → (stamp == t) ≡ false → snapshot new t ≡ snapshot old t
   pub opened : is_open new stamp ≡ is_open old stamp
   -- of the locks before the first that isn't granted it gains the first few, in their order, and no others;
   -- unless memory runs out, all of them. It loses none; the others keep theirs
@@ -100,7 +100,7 @@ pub record Acted (stamp : ℕ) (command : Command) (result : Result Step TxnFaul
   pub unwritten : (id : List ℕ) → unless_by stamp (write_of new.writes id) ≡ unless_by stamp (write_of old.writes id)
   pub others : (t : ℕ) → (stamp == t) ≡ false → written new t ≡ written old t
   -- all commands that stood stand, and this one with them; without it too, where it is refused
-  pub own : (done : List Answered) → Stands old stamp done → Stands new stamp (with_step result command done)
+  pub own : (done : List Answered) → StandsUnderLocks old stamp done → StandsUnderLocks new stamp (with_step result command done)
   pub refused : is_refusal reply ≡ true
-      → (done : List Answered) → Stands old stamp done → Stands new stamp done
+      → (done : List Answered) → StandsUnderLocks old stamp done → StandsUnderLocks new stamp done
   pub keeps : KeepsOthers stamp old new

@@ -6,7 +6,7 @@ use Rattle.std.specs.Cmp.Lexicographic.{slice_cmp}
 use Rattle.std.specs.List.Sorted.{IsStrictlySortedBy}
 use Rattle.city_model.specs.CityMap.{has_id}
 use Rattle.city_model.specs.Relations.{IsLawful}
-use Rattle.city_model.specs.Runs.{Change, with_change}
+use Rattle.city_model.specs.Runs.{Change, after_change}
 use Rattle.city_txn.specs.declared.step.Prepared.{Prepared}
 use Rattle.city_txn.specs.declared.step.Prepared.TheVariants.{Ready, Refused}
 use Rattle.city_txn.specs.Writes.{Write, write_of, is_by, own_write, made_by}
@@ -20,7 +20,7 @@ change_in writes stamp = made_by (λ id w. own_write stamp (Some w)) writes
 -- The change turns the committed map into the transaction's view, which is lawful; its ids are those that the
 -- transaction wrote, in byte order, each once.
 pub record IsChangeOf (v : CoreState) (stamp : ℕ) (change : Change) : Type 0 where
-  pub makes_view : with_change (committed v) change ≡ view v stamp
+  pub makes_view : after_change (committed v) change ≡ view v stamp
   pub ids : (id : List ℕ) → has_id (keys_of change) id ≡ is_by stamp (write_of v.writes id)
   pub in_byte_order : IsStrictlySortedBy (slice_cmp nat_cmp) (keys_of change)
   pub lawful : IsLawful (view v stamp)

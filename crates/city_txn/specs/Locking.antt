@@ -6,7 +6,7 @@ use Rattle.city_locks.specs.declared.mode.Mode.TheVariants.{Shared, Exclusive}
 use Rattle.city_locks.specs.declared.answer.Answer.{Answer}
 use Rattle.city_locks.specs.declared.answer.Answer.TheVariants.{Granted, Wait, Die}
 use Rattle.city_locks.specs.Locks.{Locks, answer_of, mode_of, Lawful}
-use Rattle.city_model.specs.Standing.{Lock, AllHeld, covers, names, names_exclusively}
+use Rattle.city_model.specs.Standing.{Lock, AllHeld, covers, locks_id, locks_id_exclusively}
 use Rattle.city_txn.specs.CoreState.{held_in}
 
 abbrev pub mode_for : Bool → Mode
@@ -45,9 +45,9 @@ pub record MoreLocks (stamp : ℕ) (ls : List Lock) (old new : Locks) : Type 0 w
   pub others : (t : ℕ) (id : List ℕ) → (stamp == t) ≡ false → mode_of new t id ≡ mode_of old t id
   pub more : (id : List ℕ) (exclusive : Bool) → covers (held_in old stamp id) exclusive ≡ true
       → covers (held_in new stamp id) exclusive ≡ true
-  pub only : (id : List ℕ) → names ls id ≡ false → mode_of new stamp id ≡ mode_of old stamp id
+  pub only : (id : List ℕ) → locks_id ls id ≡ false → mode_of new stamp id ≡ mode_of old stamp id
   pub modes : (id : List ℕ) → covers (held_in new stamp id) true ≡ true
-      → (covers (held_in old stamp id) true ≡ true) ⊎ (names_exclusively ls id ≡ true)
+      → (covers (held_in old stamp id) true ≡ true) ⊎ (locks_id_exclusively ls id ≡ true)
   pub lawful : Lawful old → Lawful new
   pub answers : (id : List ℕ) (mode : Mode) → answer_of new stamp id mode ≡ answer_of old stamp id mode
 

@@ -13,7 +13,7 @@ use Rattle.city_model.specs.declared.command.Command.TheVariants.{Back, Commit, 
 use Rattle.city_model.specs.CityMap.{CityMap, same_id}
 use Rattle.city_model.specs.Marks.{Marked, marks_from}
 use Rattle.city_txn.specs.declared.undo_log.Entry.{Entry}
-use Rattle.city_txn.specs.declared.undo_log.Entry.TheVariants.{Mark, Before}
+use Rattle.city_txn.specs.declared.undo_log.Entry.TheVariants.{Mark, BeforeImage}
 
 -- the logs by stamps, the entries of each newest last
 abbrev pub Logs : Type 0
@@ -31,12 +31,12 @@ OwnWrites = List ℕ → Option (Option Object)
 abbrev pub marked : List Entry → OwnWrites → List (List ℕ × OwnWrites)
 marked [] f = []
 marked (Mark name ∷ es) f = (name, f) ∷ marked es f
-marked (Before id own ∷ es) f = marked es (update same_id f id own)
+marked (BeforeImage id own ∷ es) f = marked es (update same_id f id own)
 
 -- whether an entry says what was written at the id
 abbrev pub is_before : List ℕ → Entry → Bool
 is_before id (Mark name) = false
-is_before id (Before q own) = same_id q id
+is_before id (BeforeImage q own) = same_id q id
 
 abbrev pub has_before : List Entry → List ℕ → Bool
 has_before es id = list_any (is_before id) es
@@ -47,9 +47,9 @@ has_before es id = list_any (is_before id) es
 abbrev pub Written : Type 0
 Written = OwnWrites × List (List ℕ × OwnWrites)
 
-abbrev pub written_back : Written → List (List ℕ × OwnWrites) → Written
-written_back w [] = w
-written_back w (k ∷ ks) = (k.1, k ∷ ks)
+abbrev pub written_at_mark : Written → List (List ℕ × OwnWrites) → Written
+written_at_mark w [] = w
+written_at_mark w (k ∷ ks) = (k.1, k ∷ ks)
 
 -- the same after a command, where f is what is written then: a mark has the writes of now, and going back makes them
 -- those of the mark
@@ -60,7 +60,7 @@ written_after (Delete id) f w = (f, w.1)
 written_after (Attach child parent) f w = (f, w.1)
 written_after (Detach child parent) f w = (f, w.1)
 written_after (commands.Mark name) f w = (w.0, (name, w.0) ∷ w.1)
-written_after (Back name) f w = written_back w (marks_from name w.1)
+written_after (Back name) f w = written_at_mark w (marks_from name w.1)
 written_after Commit f w = (f, w.1)
 written_after Abort f w = (f, w.1)
 

@@ -9,7 +9,7 @@ ghost use Rattle.city_model.specs.CityMap.{same_id};
 ghost use Rattle.city_model.specs.Meaning.{with_child, without_child};
 ghost use Rattle.city_txn.specs.Changing.{change_in};
 ghost use Rattle.city_txn.specs.inside.Orphans.{is_orphan_written};
-ghost use Rattle.city_txn.specs.inside.Ending.{city_after};
+ghost use Rattle.city_txn.specs.inside.Ending.{map_at_end};
 ghost use Rattle.city_txn.specs.inside.State.{State, rewritten, is_reserved, is_open, committed, view, own, SeesSame, Begins, Forgets};
 ghost use Rattle.city_txn.specs.Writes.{write_of, is_by, own_write, unless_by};
 
@@ -254,7 +254,7 @@ impl Store {
     /// Ends the transaction at each id that the stamp has reserved, and closes
     /// the stamp. Doesn't allocate.
     fn end(&mut self, stamp: u64, end: End)
-        ensures city { committed self.new ≡ city_after end self.old stamp }
+        ensures city { committed self.new ≡ map_at_end end self.old stamp }
         ensures forgets { Forgets stamp self.old self.new }
     {
         let ids = self.undo.close(stamp);

@@ -1,15 +1,15 @@
 //! The transaction core: strict two-phase locking over one city.
 ghost use Rattle.std.specs.Prelude.{◌≡◌, ◌&&◌, ℕ, List, [], None, true, false, Some, is_some, OnOk, OnErr, IfOk, IfErr, IfSome, IfNone, IsErr, IsOk, ◌↔◌, if◌then◌else◌};
-ghost use Rattle.city_model.specs.CityMap.{at};
+ghost use Rattle.city_model.specs.CityMap.{object_at};
 ghost use Rattle.city_model.specs.Scripts.{is_end};
 ghost use Rattle.city_model.specs.Marks.{AreSound};
 ghost use Rattle.city_model.specs.Relations.{IsLawful, HasNoOrphan, IsSound};
 ghost use Rattle.city_locks.specs.declared.mode.Mode.{Mode};
 ghost use Rattle.city_locks.specs.Locks.{mode_of};
 ghost use Rattle.city_txn.specs.Writes.{write_of, is_by};
-ghost use Rattle.city_txn.specs.CoreState.{committed, view, seen, is_open, Stands, KeepsOthers, IsOver, IsUndone};
+ghost use Rattle.city_txn.specs.CoreState.{committed, view, snapshot, is_open, StandsUnderLocks, KeepsOthers, IsTransactionEnd, IsRolledBack};
 ghost use Rattle.city_txn.specs.UndoLog.{log_of, has_before};
-ghost use Rattle.city_txn.specs.Acting.{answer_in, Acted, RefusesCommit};
+ghost use Rattle.city_txn.specs.Acting.{answer_in, IsAct, RefusesCommit};
 ghost use Rattle.city_txn.specs.Changing.{IsPrepared, IsChangeOf, change_in};
 ghost use Rattle.city_txn.specs.Locking.{is_wait};
 
@@ -61,7 +61,7 @@ impl Model for Core {
 impl Core {
     /// A core over this city, with no transaction open. Doesn't allocate.
     pub fn open(alloc: Global, city: City) -> Self
-        requires { IsLawful (at city.1) }
+        requires { IsLawful (object_at city.1) }
         ensures { result ≡ record { frame = city.0; city = city.1; writes = []; opened = []; logs = []; locks = [] } }
     {
         Core {
@@ -82,7 +82,7 @@ impl Core {
         ensures logs { self.new.logs ≡ self.old.logs }
         ensures locks { self.new.locks ≡ self.old.locks }
         ensures opened { OnOk result (is_open self.new stamp ≡ true) }
-        ensures own { OnOk result (Stands self.new stamp []) }
+        ensures own { OnOk result (StandsUnderLocks self.new stamp []) }
         ensures keeps { OnOk result (KeepsOthers stamp self.old self.new) }
         ensures unlocked { OnOk result ((id : List ℕ) → mode_of self.new.locks stamp id ≡ None) }
         ensures unwritten { OnOk result ((id : List ℕ) → is_by stamp (write_of self.new.writes id) ≡ false) }
@@ -110,7 +110,7 @@ impl Core {
     /// doesn't allocate if the mark is there.
     pub fn act(&mut self, stamp: u64, command: &Command) -> Result<Step, TxnFault>
         requires { is_end command.now ≡ false }
-        ensures { Acted stamp command.now result self.old self.new }
+        ensures { IsAct stamp command.now result self.old self.new }
     {
         if !self.is_open(stamp) {
             return Err(TxnFault::NotOpen(stamp));
@@ -197,7 +197,7 @@ impl Core {
         requires opened { is_open self.old stamp ≡ true }
         requires no_orphan { HasNoOrphan (view self.old stamp) }
         ensures city { committed self.new ≡ view self.old stamp }
-        ensures over { IsOver stamp self.old self.new }
+        ensures over { IsTransactionEnd stamp self.old self.new }
         ensures lawful { IsLawful (committed self.new) }
     {
         self.store.commit(stamp);
@@ -209,7 +209,7 @@ impl Core {
     /// locks back. Doesn't allocate.
     pub fn roll_back(&mut self, stamp: u64)
         requires { is_open self.old stamp ≡ true }
-        ensures { IsUndone stamp self.old self.new }
+        ensures { IsRolledBack stamp self.old self.new }
     {
         self.store.roll_back(stamp);
         self.logs.close(stamp);
@@ -221,7 +221,7 @@ impl Core {
     /// It is `roll_back` for a stamp that need not be open: `NotOpen` comes exactly where the stamp isn't open,
     /// and then nothing changes.
     pub fn abort(&mut self, stamp: u64) -> Result<(), TxnFault>
-        ensures undone { OnOk result (IsUndone stamp self.old self.new) }
+        ensures undone { OnOk result (IsRolledBack stamp self.old self.new) }
         ensures err { OnErr result (self.new ≡ self.old) }
         ensures fault { IfErr result (λ fault. fault ≡ TxnFault.NotOpen stamp) }
         ensures opened { is_open self.old stamp ≡ true → IsOk result }
@@ -252,7 +252,7 @@ impl Core {
         ensures opened { result ≡ is_open self.now stamp }
         ensures committed { IsLawful (committed self.now) }
         ensures views { (t : ℕ) → IsSound (view self.now t) }
-        ensures marks { (t : ℕ) → AreSound (seen self.now t).marks }
+        ensures marks { (t : ℕ) → AreSound (snapshot self.now t).marks }
         ensures locked { (t : ℕ) (id : List ℕ) → is_by t (write_of self.now.writes id) ≡ true → mode_of self.now.locks t id ≡ Some Mode.Exclusive }
         ensures marks_locked { (t : ℕ) (id : List ℕ) → has_before (log_of self.now.logs t) id ≡ true → mode_of self.now.locks t id ≡ Some Mode.Exclusive }
         ensures open_only { (t : ℕ) (id : List ℕ) → is_some (mode_of self.now.locks t id) ≡ true → is_open self.now t ≡ true }

@@ -23,7 +23,7 @@ pub enum Entry {
     /// A mark of this name was made.
     Mark(Text),
     /// The id was written, and this is what the transaction had written there before.
-    Before(Id, OwnWrite),
+    BeforeImage(Id, OwnWrite),
 }
 
 /// The undo logs of the transactions that have marks, by their stamps.
@@ -138,6 +138,6 @@ fn is_mark(entry: &Entry, name: &Text) -> bool
 {
     match entry {
         Entry::Mark(there) => is_same_id(name, there),
-        Entry::Before(_, _) => false,
+        Entry::BeforeImage(_, _) => false,
     }
 }

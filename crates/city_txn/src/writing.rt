@@ -109,7 +109,7 @@ fn note(
         return Ok(());
     }
     let write = store.written(alloc, stamp, id)?;
-    let entry = Entry::Before(id.copy(alloc)?, write);
+    let entry = Entry::BeforeImage(id.copy(alloc)?, write);
     logs.push(stamp, entry)?;
     Ok(())
 }

@@ -3,12 +3,12 @@ use Rattle.std.specs.Prelude.{◌≡◌, ℕ, Bool, true, false, List, [], ◌�
 use Rattle.city_model.specs.declared.command.Command.{Command}
 use Rattle.city_model.specs.declared.end.Outcome.{Outcome}
 use Rattle.city_model.specs.Meaning.{is_refusal}
-use Rattle.city_model.specs.Runs.{Change, with_change}
+use Rattle.city_model.specs.Runs.{Change, after_change}
 use Rattle.city_model.specs.Scripts.{is_end}
 use Rattle.city_model.specs.SerialEnds.{is_no_memory, is_commit}
 use Rattle.city_model.specs.Standing.{Answered}
 use Rattle.city_locks.specs.declared.answer.Answer.TheVariants.{Granted, Wait, Die}
-use Rattle.city_txn.specs.CoreState.{CoreState, committed, view, is_open, Stands, KeepsOthers}
+use Rattle.city_txn.specs.CoreState.{CoreState, committed, view, is_open, StandsUnderLocks, KeepsOthers}
 use Rattle.city_txn.specs.Acting.{reply_in, answer_in, EndsIn}
 use Rattle.city_txn.specs.Locking.{IsBlocked}
 use Rattle.city_desk.specs.declared.progress.Progress.{Progress}
@@ -24,8 +24,8 @@ pub record IsReplied (stamp : ℕ) (command : Command) (p q : Progress) (old new
   pub unrefused : is_refusal (reply_in old stamp command) ≡ false
   pub heard : q ≡ progress_to p.phase (p.replies.list ++ reply_in old stamp command ∷ []) p.replies.room
   pub opened : is_open new stamp ≡ true
-  pub stands : (done : List Answered) → Stands old stamp done
-      → Stands new stamp (done ++ (command, reply_in old stamp command) ∷ [])
+  pub stands : (done : List Answered) → StandsUnderLocks old stamp done
+      → StandsUnderLocks new stamp (done ++ (command, reply_in old stamp command) ∷ [])
 
 -- the command has to wait for a younger transaction; what was done stands
 pub record IsToWait (stamp : ℕ) (command : Command) (p q : Progress) (old new : CoreState) : Type 0 where
@@ -34,7 +34,7 @@ pub record IsToWait (stamp : ℕ) (command : Command) (p q : Progress) (old new 
   pub blocked : IsBlocked (λ t. is_open old t ≡ true) stamp Wait
   pub same : q ≡ p
   pub opened : is_open new stamp ≡ true
-  pub stands : (done : List Answered) → Stands old stamp done → Stands new stamp done
+  pub stands : (done : List Answered) → StandsUnderLocks old stamp done → StandsUnderLocks new stamp done
 
 -- the transaction had to die because of an older one; the room for replies stays
 pub record IsToDie (stamp : ℕ) (command : Command) (p q : Progress) (old new : CoreState) : Type 0 where
@@ -50,7 +50,7 @@ abbrev pub Publishes : Bool → ℕ → CoreState → CoreState → List Change 
 Publishes true stamp old new before after =
     (committed new ≡ view old stamp)
     × ((change : Change)
-    × (after ≡ before ++ change ∷ []) × (with_change (committed old) change ≡ view old stamp))
+    × (after ≡ before ++ change ∷ []) × (after_change (committed old) change ≡ view old stamp))
 Publishes false stamp old new before after = (committed new ≡ committed old) × (after ≡ before)
 
 -- the transaction ended with this outcome at the command, which is number `number` of its script

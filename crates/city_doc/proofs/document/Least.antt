@@ -9,7 +9,7 @@ use mathlib.Core.Path.{fun_ext}
 use Rattle.serde_json.specs.Data.{Members}
 use Rattle.city_model.specs.declared.object.Object.{Object}
 use Rattle.city_model.specs.declared.object.Point.{Point}
-use Rattle.city_model.specs.CityMap.{CityMap, Objects, at}
+use Rattle.city_model.specs.CityMap.{CityMap, Objects, object_at}
 use Rattle.city_model.specs.Misrelated.{IsMisrelatedAt}
 use Rattle.city_model.specs.Relations.{IsInOrder, IsRelated, is_orphan}
 use Rattle.city_model.specs.Members.{AreOrdered}
@@ -74,11 +74,11 @@ in_order m id o order parented (inr orphan) = true≢false (sym orphan ∙ paren
 pub none_misrelated : (m : CityMap) → IsRelated m → (id : List ℕ) → IsMisrelatedAt m id → ⊥
 none_misrelated m related id h = let r = related id h.0 h.1 in in_order m id h.0 r.0 r.1 h.2
 
-pub same_map : (points : List Point) (objects : Members) (city : Objects) (bad : Option (List ℕ)) → IsReadOf points objects (entries city) bad → at city ≡ lenient_map_of points objects
+pub same_map : (points : List Point) (objects : Members) (city : Objects) (bad : Option (List ℕ)) → IsReadOf points objects (entries city) bad → object_at city ≡ lenient_map_of points objects
 same_map points objects city bad h = at_entries city ∙ fun_ext (found-lenient points objects (entries city) h.read)
 
 -- the least of both searches is the least badly related object
-pub least_badly_related : (points : List Point) (objects : Members) (city : Objects) (bad found : Option (List ℕ)) → IsReadOf points objects (entries city) bad → IsLeastIfAny (IsMisrelatedAt (at city)) found
+pub least_badly_related : (points : List Point) (objects : Members) (city : Objects) (bad found : Option (List ℕ)) → IsReadOf points objects (entries city) bad → IsLeastIfAny (IsMisrelatedAt (object_at city)) found
     → IsLeastIfAny (IsBadlyRelatedAt points objects) (lesser bad found)
 least_badly_related points objects city bad found h least =
     lesser_least (Has has_bad_list objects) (IsMisrelatedAt (lenient_map_of points objects)) bad found (least_list objects bad h.ordered h.lists)
@@ -122,6 +122,6 @@ lesser-none (Some a) None h = absurd (let no : ⊥ = cc in no)
 lesser-none (Some a) (Some b) h = absurd (some_choice (is_lt (slice_cmp nat_cmp b a)) a b h)
 
 -- where the relations of the objects agree, and there is no bad list, no object is badly related
-pub none_badly_related : (points : List Point) (objects : Members) (city : Objects) (bad : Option (List ℕ)) → IsReadOf points objects (entries city) bad → bad ≡ None → IsRelated (at city) → (id : List ℕ) → IsBadlyRelatedAt points objects id → ⊥
+pub none_badly_related : (points : List Point) (objects : Members) (city : Objects) (bad : Option (List ℕ)) → IsReadOf points objects (entries city) bad → bad ≡ None → IsRelated (object_at city) → (id : List ℕ) → IsBadlyRelatedAt points objects id → ⊥
 none_badly_related points objects city bad h none related id (inl list) = none_is_none has_bad_list objects id h.ordered (sym h.lists ∙ none) list
 none_badly_related points objects city bad h none related id (inr wrong) = none_misrelated (lenient_map_of points objects) (subst IsRelated (same_map points objects city bad h) related) id wrong

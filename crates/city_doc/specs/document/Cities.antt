@@ -5,7 +5,7 @@ use Rattle.std.specs.FinMap.{from_entries}
 use Rattle.serde_json.specs.Data.{Data, Members, no_members, member}
 use Rattle.serde_json.specs.Find.{get, as_object}
 use Rattle.city_model.specs.declared.object.Point.{Point}
-use Rattle.city_model.specs.CityMap.{Objects, CityValue, Entries, at}
+use Rattle.city_model.specs.CityMap.{Objects, CityValue, Entries, object_at}
 use Rattle.city_model.specs.Relations.{IsLawful}
 use Rattle.city_model.specs.Integral.{is_integral}
 use Rattle.city_doc.specs.object.Bodies.{object_of}
@@ -54,4 +54,4 @@ StandsForCity text city = (d : Data) × IsText text d × (city_of d ≡ Some cit
 -- the text isn't too long, its numbers are whole, and it stands for this city, which is lawful
 abbrev pub IsAdmitted : List ℕ → CityValue → Type 0
 IsAdmitted text city =
-    (d : Data) × HasTree text d × (is_integral d ≡ true) × (city_of d ≡ Some city) × IsLawful (at city.1)
+    (d : Data) × HasTree text d × (is_integral d ≡ true) × (city_of d ≡ Some city) × IsLawful (object_at city.1)

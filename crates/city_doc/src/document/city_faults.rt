@@ -5,7 +5,7 @@ ghost use Rattle.std.specs.FinMap.{entries};
 ghost use Rattle.serde_json.specs.Data.{Members};
 ghost use Rattle.city_model.specs.declared.object.Body as b;
 ghost use Rattle.city_model.specs.declared.object.Point as p;
-ghost use Rattle.city_model.specs.CityMap.{at};
+ghost use Rattle.city_model.specs.CityMap.{object_at};
 ghost use Rattle.city_model.specs.Relations.{IsRelated, IsLawful};
 ghost use Rattle.city_model.specs.Shells.{some_shape, has_short_ring, has_same_twice, has_open_shell};
 ghost use Rattle.city_doc.specs.document.CityFaults.{is_bad_ringed, IsLeastBadlyRelated};
@@ -102,7 +102,7 @@ fn least_badly_related(
     bad_list: Option<&Id>,
     city: &City,
 ) -> Result<Option<Id>, AllocError>
-    ensures related { IfOk result (λ o. IfNone o (IsRelated (at city.now.1))) }
+    ensures related { IfOk result (λ o. IfNone o (IsRelated (object_at city.now.1))) }
     ensures lists { IfOk result (λ o. IfNone o (option_map (λ id. id.now) bad_list.entry ≡ None)) }
     ensures least { IfOk result (λ o. (points : List p.Point) (objects : Members)
         → IsReadOf points objects (entries city.now.1) (option_map (λ id. id.now) bad_list.entry)
@@ -123,7 +123,7 @@ pub fn city_fault(
 ) -> Result<Option<ReadFault>, AllocError>
     ensures { IfOk result (λ o. (points : List p.Point) (objects : Members)
         → IsReadOf points objects (entries city.now.1) (option_map (λ id. id.now) bad_list.entry)
-        → MatchOption o (IsLawful (at city.now.1) × (option_map (λ id. id.now) bad_list.entry ≡ None))
+        → MatchOption o (IsLawful (object_at city.now.1) × (option_map (λ id. id.now) bad_list.entry ≡ None))
         (λ f. IsFirst (StandsAmong points objects) f)) }
 {
     if let Some(id) = first_body::<BadRing>(alloc, city)? {

@@ -2,7 +2,7 @@
 ghost use Rattle.std.specs.Prelude.{◌≡◌, ◌⊎◌, true, Some, None, IfOk, IfErr, IfSome, IfNone, OnOk};
 ghost use Rattle.serde_json.specs.Data.{Data};
 ghost use Rattle.serde_json.specs.View.{view};
-ghost use Rattle.city_model.specs.CityMap.{at, CityValue};
+ghost use Rattle.city_model.specs.CityMap.{object_at, CityValue};
 ghost use Rattle.city_model.specs.Relations.{IsLawful};
 ghost use Rattle.city_model.specs.Integral.{is_integral};
 ghost use Rattle.city_doc.specs.document.Cities.{city_of, IsAdmitted};
@@ -33,7 +33,7 @@ use std::alloc::Global;
 /// `OutOfMemory` has no place in that order: it is answered if memory ran out for the tree, for an
 /// object or for a fault's name. The text is only borrowed, so a refusal leaves nothing behind.
 pub fn read_city(alloc: Global, bytes: &[u8]) -> Result<City, ReadFault>
-    ensures lawful { IfOk result (λ c. IsLawful (at c.1)) }
+    ensures lawful { IfOk result (λ c. IsLawful (object_at c.1)) }
     ensures readable { OnOk result (IsReadable bytes.now) }
     ensures admitted { IfOk result (λ c. IsAdmitted bytes.now c) }
     ensures fault { IfErr result (λ f. DocumentFault bytes.now f) }
@@ -89,7 +89,7 @@ fn fault_of(alloc: Global, bytes: &[u8], fault: ReadFault) -> ReadFault
 /// built of nothing else.
 fn city_of_tree(alloc: Global, tree: Value) -> Result<Option<City>, ReadFault>
     ensures built { IfOk result (λ o. IfSome o
-        (λ c. (city_of (view tree) ≡ Some c) × IsLawful (at c.1))) }
+        (λ c. (city_of (view tree) ≡ Some c) × IsLawful (object_at c.1))) }
     ensures right { IfOk result (λ _. wrong_member (view tree) ≡ None) }
     ensures unbuilt { IfOk result (λ o. IfNone o
         (lenient_city_of (vertices_in (view tree)) (view tree) ≡ None)) }

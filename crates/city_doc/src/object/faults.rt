@@ -11,7 +11,7 @@ ghost use Rattle.city_doc.specs.object.Faults.{unsupported_name, is_bad_geometry
 
 use crate::shape::form::are_geometries;
 use crate::shape::nested::{AnyNumber, PositionBelow};
-use city_model::kept::place::has_location;
+use city_model::kept::site::has_location;
 use city_model::object_type::{self, ObjectType};
 use serde_json::Value;
 

@@ -11,7 +11,7 @@ use Rattle.city_model.specs.CityMap.{CityMap, has_id}
 use Rattle.city_model.specs.Meaning.{locks_of, without_child}
 use Rattle.city_model.specs.Runs.{Change}
 use Rattle.city_model.specs.inside.CommandParts.{cause_of, effect_of, done_reply}
-use Rattle.city_model.specs.Standing.{names_exclusively}
+use Rattle.city_model.specs.Standing.{locks_id_exclusively}
 
 -- what the change writes at each id is what the map has there
 abbrev pub AreOf : CityMap → Change → Type 0
@@ -24,7 +24,7 @@ pub record AreWritesOf (m : CityMap) (command : Command) (answer : Reply) (chang
   pub allowed : cause_of m command ≡ None
   pub reply : done_reply m command ≡ answer
   pub objects : AreOf (effect_of m command) change
-  pub ids : (id : List ℕ) → has_id (keys_of change) id ≡ names_exclusively (locks_of m command) id
+  pub ids : (id : List ℕ) → has_id (keys_of change) id ≡ locks_id_exclusively (locks_of m command) id
 
 abbrev pub IsPlan : CityMap → Command → Plan → Type 0
 IsPlan m command (Refused cause) = cause_of m command ≡ Some cause

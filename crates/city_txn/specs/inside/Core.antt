@@ -9,7 +9,7 @@ use Rattle.city_txn.specs.declared.txn_core.Core.TheInside.{Inside}
 use Rattle.city_txn.specs.inside.State.{is_reserved}
 use Rattle.city_txn.specs.UndoLog.{log_of, has_before}
 use Rattle.city_txn.specs.Writes.{Write, write_of}
-use Rattle.city_txn.specs.CoreState.{CoreState, committed, is_open, Stands}
+use Rattle.city_txn.specs.CoreState.{CoreState, committed, is_open, StandsUnderLocks}
 
 -- writes stand under exclusive locks, those of marks too, only open transactions hold locks and have marks,
 -- the committed city is lawful, and what each sees comes of commands that stand
@@ -23,7 +23,7 @@ pub record IsConsistent (v : CoreState) : Type 0 where
       → is_some (mode_of v.locks stamp id) ≡ true → is_open v stamp ≡ true
   pub marks_open : (stamp : ℕ) → is_open v stamp ≡ false → log_of v.logs stamp ≡ []
   pub city : IsLawful (committed v)
-  pub history : (stamp : ℕ) → (done : List Answered) × Stands v stamp done
+  pub history : (stamp : ℕ) → (done : List Answered) × StandsUnderLocks v stamp done
 
 abbrev pub core_state : Inside → CoreState
 core_state a = record {

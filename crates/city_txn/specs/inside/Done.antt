@@ -5,16 +5,16 @@ use Rattle.city_model.specs.declared.command.Reply.{Reply}
 use Rattle.city_model.specs.CityMap.{CityMap}
 use Rattle.city_model.specs.Marks.{View, Marked, marks_from}
 use Rattle.city_model.specs.Meaning.{locks_of}
-use Rattle.city_model.specs.Standing.{names_exclusively}
+use Rattle.city_model.specs.Standing.{locks_id_exclusively}
 use Rattle.city_model.specs.inside.CommandParts.{Marking, Leaves, Marks, GoesBack, marking}
 use Rattle.city_model.specs.inside.CommandParts.{back_cause, seen_next, answer, cause_of, after}
 use Rattle.city_txn.specs.UndoLog.{OwnWrites}
-use Rattle.city_txn.specs.CoreState.{CoreState, seen}
+use Rattle.city_txn.specs.CoreState.{CoreState, snapshot}
 
 -- whether the command, done at this map, writes the id: not where it is refused, and else each id that it
 -- locks exclusively
 abbrev pub writes_id : CityMap → Command → List ℕ → Bool
-writes_id m command id = is_none (cause_of m command) && names_exclusively (locks_of m command) id
+writes_id m command id = is_none (cause_of m command) && locks_id_exclusively (locks_of m command) id
 
 -- what the transaction with these writes at this map has written after the command, marks aside
 abbrev pub own_done : CityMap → OwnWrites → Command → OwnWrites
@@ -22,11 +22,11 @@ own_done m f command id = if writes_id m command id then Some (after m command i
 
 -- the reply that the transaction would get to the command
 abbrev pub reply_in : CoreState → ℕ → Command → Reply
-reply_in v stamp command = answer (seen v stamp) command
+reply_in v stamp command = answer (snapshot v stamp) command
 
 -- what it would see after the command
 abbrev pub seen_after : CoreState → ℕ → Command → View
-seen_after v stamp command = seen_next (seen v stamp) command
+seen_after v stamp command = seen_next (snapshot v stamp) command
 
 abbrev pub finds_as : Marking → List Marked → Bool
 finds_as Leaves ks = false

@@ -11,7 +11,7 @@ use Rattle.city_model.specs.Meaning.{locks_of}
 use Rattle.city_txn.specs.inside.State.{State, own, is_reserved, is_open, committed, view}
 use Rattle.city_txn.specs.Writes.{write_of, unless_by}
 use Rattle.city_txn.specs.UndoLog.{Logs, Written, log_of, marked, has_before, written_after, marks_with}
-use Rattle.city_model.specs.Standing.{names_exclusively}
+use Rattle.city_model.specs.Standing.{locks_id_exclusively}
 use Rattle.city_model.specs.inside.CommandParts.{answer}
 use Rattle.city_txn.specs.inside.Done.{own_done, finds_mark}
 
@@ -32,7 +32,7 @@ seen_in v logs stamp =
 abbrev pub AreNoted : State → Logs → ℕ → Type 0
 AreNoted v logs stamp = (id : List ℕ) → has_before (log_of logs stamp) id ≡ true → is_reserved v stamp id ≡ true
 
-pub record Performed {E : Type 0} (stamp : ℕ) (command : Command) (result : Result Reply E)
+pub record IsPerform {E : Type 0} (stamp : ℕ) (command : Command) (result : Result Reply E)
     (old : State) (before : Logs) (new : State) (after : Logs) : Type 0 where
   pub reply : IfOk result (λ reply. reply ≡ answer (seen_in old before stamp) command)
   -- going back to a mark that is there doesn't allocate
@@ -50,7 +50,7 @@ pub record Performed {E : Type 0} (stamp : ℕ) (command : Command) (result : Re
   -- what is newly reserved is the transaction's, at ids that the command locks exclusively
   pub reserved : (t : ℕ) (id : List ℕ) → is_reserved new t id ≡ true
       → (is_reserved old t id
-      || ((stamp == t) && names_exclusively (locks_of (view old stamp) command) id)) ≡ true
+      || ((stamp == t) && locks_id_exclusively (locks_of (view old stamp) command) id)) ≡ true
   -- and what was reserved, is
   pub kept : (t : ℕ) (id : List ℕ) → is_reserved old t id ≡ true → is_reserved new t id ≡ true
   pub noted : AreNoted new after stamp

@@ -3,7 +3,7 @@ use Rattle.std.specs.Prelude.{◌≡◌, ◌==◌, ◌||◌, ℕ, Bool, false, L
 use Rattle.std.specs.Prelude.{if◌then◌else◌}
 use Rattle.city_model.specs.declared.frame.Frame.{Frame}
 use Rattle.city_model.specs.declared.object.Object.{Object}
-use Rattle.city_model.specs.CityMap.{Objects, CityMap, at, has_id}
+use Rattle.city_model.specs.CityMap.{Objects, CityMap, object_at, has_id}
 use Rattle.city_txn.specs.inside.UndoState.{Reservations, listed_by, reservations_of}
 use Rattle.city_txn.specs.UndoLog.{OwnWrites}
 use Rattle.city_txn.specs.Writes.{Write, write_of, own_or, own_write, unless_by}
@@ -33,11 +33,11 @@ abbrev pub own : State → ℕ → OwnWrites
 own v stamp id = own_write stamp (write_of v.writes id)
 
 abbrev pub committed : State → CityMap
-committed v id = at v.city id
+committed v id = object_at v.city id
 
 -- what the transaction sees: the committed map with its own writes
 abbrev pub view : State → ℕ → CityMap
-view v stamp id = own_or stamp (write_of v.writes id) (at v.city id)
+view v stamp id = own_or stamp (write_of v.writes id) (object_at v.city id)
 
 -- what anyone sees is the same
 pub record SeesSame (v w : State) : Type 0 where

@@ -5,10 +5,10 @@ use Rattle.std.specs.Ordering.{nat_cmp}
 use Rattle.std.specs.Cmp.Lexicographic.{slice_cmp}
 use Rattle.std.specs.BTreeMap.{is_at}
 use Rattle.std.specs.FinMap.{FinMap, get}
-use Rattle.city_txn.specs.declared.image.Image.{Image}
+use Rattle.city_txn.specs.declared.image.UndoImage.{UndoImage}
 
 abbrev pub Images : Type 0
-Images = FinMap (slice_cmp nat_cmp) Image
+Images = FinMap (slice_cmp nat_cmp) UndoImage
 
 -- the open transactions by their stamps, each with the ids that it has reserved
 abbrev pub Reservations : Type 0
@@ -19,7 +19,7 @@ pub record UndoState : Type 0 where
   pub images : Images
   pub reservations : Reservations
 
-abbrev pub image_at : UndoState → List ℕ → Option Image
+abbrev pub image_at : UndoState → List ℕ → Option UndoImage
 image_at u id = get u.images id
 
 -- the ids of an open transaction

@@ -2,7 +2,7 @@
 use Rattle.std.specs.Prelude.{◌≡◌, Some, codes}
 use Rattle.serde_json.specs.Data.{Data, Members}
 use Rattle.serde_json.specs.Find.{get_member}
-use Rattle.city_model.specs.CityMap.{CityValue, at}
+use Rattle.city_model.specs.CityMap.{CityValue, object_at}
 use Rattle.city_model.specs.inside.Faultless.{IsFaultless}
 use Rattle.city_model.specs.Members.{without, AreOrdered}
 use Rattle.city_doc.specs.declared.stream.document.TopParts.{TopParts}
@@ -19,4 +19,4 @@ pub record IsTopSoFar (parts : TopParts) (found kept : Members) : Type 0 where
 
 -- the city that a document's tree stands for, none of whose bodies has a fault
 abbrev pub IsCity : CityValue → Data → Type 0
-IsCity c d = (city_of d ≡ Some c) × IsFaultless (at c.1)
+IsCity c d = (city_of d ≡ Some c) × IsFaultless (object_at c.1)

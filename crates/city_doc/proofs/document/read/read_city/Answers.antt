@@ -1,5 +1,5 @@
 use Rattle.std.proofs.lemmas.Result.{IfOk-weaker}
-use Rattle.city_model.specs.CityMap.{at}
+use Rattle.city_model.specs.CityMap.{object_at}
 use Rattle.city_model.specs.Relations.{IsLawful}
 use Rattle.city_doc.specs.document.Cities.{IsAdmitted}
 use Rattle.city_doc.specs.tree.Texts.{IsReadable}
@@ -7,7 +7,7 @@ use Rattle.city_doc.proofs.document.read.read_city.Goals as goal
 
 pub returns-in-None-clause-lawful : goal.returns-in-None-clause-lawful
 returns-in-None-clause-lawful c =
-    IfOk-weaker c.read_tree.result (λ city. IsAdmitted c.args.bytes.now city) (λ city. IsLawful (at city.1))
+    IfOk-weaker c.read_tree.result (λ city. IsAdmitted c.args.bytes.now city) (λ city. IsLawful (object_at city.1))
     (λ city h. h.4) c.read_tree.ensures.admitted
 
 pub returns-in-None-clause-readable : goal.returns-in-None-clause-readable

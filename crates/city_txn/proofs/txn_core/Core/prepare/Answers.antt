@@ -3,7 +3,7 @@ use Rattle.city_model.specs.declared.command.Cause.TheVariants.{Orphan}
 use Rattle.city_model.specs.CityMap.{found_in}
 use Rattle.city_model.specs.Relations.{HasNoOrphan, IsLeastOrphan}
 use Rattle.city_model.specs.Runs.{Change}
-use Rattle.city_txn.specs.CoreState.{CoreState, seen}
+use Rattle.city_txn.specs.CoreState.{CoreState, snapshot}
 use Rattle.city_txn.specs.Acting.{RefusesCommit}
 use Rattle.city_txn.specs.inside.Core.{core_state}
 use Rattle.city_txn.specs.inside.Orphans.{objects_in}
@@ -21,7 +21,7 @@ returns-in-Some-clause-prepared c =
     subst (λ id. IsLeastOrphan (found_in (objects_in c.in-Ok.change)) id) (sym c.in-Ok-copy.ensures)
     (subst (λ (change : Change). IsLeastOrphan (found_in (objects_in change)) c.in-Some.id.now) c.as_slice.ensures c.in-Some.ensures.least) in
     subst (λ (v : CoreState). RefusesCommit v c.args.stamp (Orphan id)) c.self.view_is
-    (commit_refused (seen v c.args.stamp) id (least_of_view v c.args.stamp c.in-Ok.change c.in-Ok.ensures.lists c.in-Ok.ensures.ordered c.self.invariant.state.city.1 id least))
+    (commit_refused (snapshot v c.args.stamp) id (least_of_view v c.args.stamp c.in-Ok.change c.in-Ok.ensures.lists c.in-Ok.ensures.ordered c.self.invariant.state.city.1 id least))
 
 pub returns-clause-prepared : goal.returns-clause-prepared
 returns-clause-prepared c =

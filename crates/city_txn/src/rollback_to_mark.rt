@@ -3,7 +3,7 @@ ghost use Rattle.std.specs.Prelude.{◌≡◌, ◌==◌, ℕ, List, [], true, fa
 ghost use Rattle.city_model.specs.Marks.{marks_from};
 ghost use Rattle.city_txn.specs.Writes.{write_of, unless_by};
 ghost use Rattle.city_txn.specs.inside.State.{own, is_reserved, is_open, committed};
-ghost use Rattle.city_txn.specs.UndoLog.{log_of, is_before, written_back};
+ghost use Rattle.city_txn.specs.UndoLog.{log_of, is_before, written_at_mark};
 ghost use Rattle.city_txn.specs.inside.LogTests.{has_mark, undone, newest_undone};
 ghost use Rattle.city_txn.specs.inside.Performing.{AreNoted, written_in};
 
@@ -18,7 +18,7 @@ pub fn go_back(store: &mut Store, logs: &mut UndoLogs, alloc: Global, stamp: u64
     requires marked { has_mark (log_of logs.old stamp) name.now ≡ true }
     requires noted { AreNoted store.old logs.old stamp }
     ensures written { written_in store.new logs.new stamp
-        ≡ written_back (written_in store.old logs.old stamp) (marks_from name.now (written_in store.old logs.old stamp).1) }
+        ≡ written_at_mark (written_in store.old logs.old stamp) (marks_from name.now (written_in store.old logs.old stamp).1) }
     ensures noted { AreNoted store.new logs.new stamp }
     ensures frame { store.new.frame ≡ store.old.frame }
     ensures city { committed store.new ≡ committed store.old }
@@ -58,7 +58,7 @@ fn undo_entry(store: &mut Store, alloc: Global, stamp: u64, entry: Entry)
     ensures unwritten { (id : List ℕ) → unless_by stamp (write_of store.new.writes id) ≡ unless_by stamp (write_of store.old.writes id) }
 {
     match entry {
-        Entry::Before(id, write) => store.restore(alloc, stamp, id, write),
+        Entry::BeforeImage(id, write) => store.restore(alloc, stamp, id, write),
         Entry::Mark(_) => {}
     }
 }

@@ -1,4 +1,4 @@
-//! The places of a document at which members are kept.
+//! The sites of a document at which members are kept.
 ghost use Rattle.std.specs.Prelude.{◌≡◌, Bool, codes};
 ghost use Rattle.serde_json.specs.Data.{Members};
 ghost use Rattle.serde_json.specs.View.{view, members_view};
@@ -8,11 +8,11 @@ use crate::integral::have_integral;
 use crate::members::member;
 use serde_json::{Map, Value};
 
-/// A place of a document that keeps the members which aren't read there.
-pub trait Place {
+/// A site of a document that keeps the members which aren't read there.
+pub trait Site {
     ghost keeps: { Members → Bool };
 
-    /// Whether these members may be kept at the place.
+    /// Whether these members may be kept at the site.
     fn admits(members: &Map<String, Value>) -> bool
         ensures { result ≡ keeps (members_view members.now.entries) };
 }
@@ -49,7 +49,7 @@ fn lacks_both(members: &Map<String, Value>, name: &str, other: &str) -> bool
     lacks(members, name) && lacks(members, other)
 }
 
-impl Place for AtTransform {
+impl Site for AtTransform {
     ghost keeps = { kept_at_transform };
 
     fn admits(members: &Map<String, Value>) -> bool {
@@ -57,7 +57,7 @@ impl Place for AtTransform {
     }
 }
 
-impl Place for AtGeometry {
+impl Site for AtGeometry {
     ghost keeps = { kept_at_geometry };
 
     fn admits(members: &Map<String, Value>) -> bool {
@@ -65,7 +65,7 @@ impl Place for AtGeometry {
     }
 }
 
-impl Place for AtObject {
+impl Site for AtObject {
     ghost keeps = { kept_at_object };
 
     fn admits(members: &Map<String, Value>) -> bool {
@@ -76,7 +76,7 @@ impl Place for AtObject {
     }
 }
 
-impl Place for AtTop {
+impl Site for AtTop {
     ghost keeps = { kept_at_top };
 
     fn admits(members: &Map<String, Value>) -> bool {

@@ -5,7 +5,7 @@ use Rattle.city_txn.specs.UndoLog.{log_of, marked, has_before}
 use Rattle.city_txn.specs.inside.LogTests.{has_mark, is_at_mark}
 use Rattle.city_txn.proofs.PlanWritten.{reserved_by}
 use Rattle.city_txn.proofs.UndoLogs.{undone_marks, undone_has, undone_noted}
-use Rattle.city_txn.proofs.going_back.go_back.Goals as goal
+use Rattle.city_txn.proofs.rollback_to_mark.go_back.Goals as goal
 
 pub loop-alloc-preserved : goal.loop-alloc-preserved
 loop-alloc-preserved c =

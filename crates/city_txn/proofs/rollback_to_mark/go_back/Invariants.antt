@@ -5,7 +5,7 @@ use Rattle.city_txn.specs.inside.State.{own, committed}
 use Rattle.city_txn.specs.UndoLog.{log_of, marked}
 use Rattle.city_txn.specs.inside.LogTests.{has_mark}
 use Rattle.city_txn.specs.inside.Performing.{AreNoted}
-use Rattle.city_txn.proofs.going_back.go_back.Given as goal
+use Rattle.city_txn.proofs.rollback_to_mark.go_back.Given as goal
 
 abbrev pub invariant-loop-alloc : goal.invariant-loop-alloc
 invariant-loop-alloc l = record {
