@@ -8,7 +8,6 @@ use Rattle.city_model.specs.declared.command.Reply.{Reply}
 use Rattle.city_model.specs.declared.end.End.{End}
 use Rattle.city_model.specs.declared.end.Outcome.{Outcome}
 use Rattle.city_model.specs.Runs.{Scripted, has_end}
-use Rattle.city_txn.specs.Acting.{reply_in}
 use Rattle.city_desk.specs.declared.progress.Progress.{Progress}
 use Rattle.city_desk.specs.declared.progress.Phase.{Phase}
 use Rattle.city_desk.specs.declared.progress.Phase.TheVariants.{NotBegun, Idle, Open, Ended}
@@ -141,9 +140,9 @@ module _ (n : ℕ) (start d e : DeskState) (r : IsRunning n start d) (keeps : Ke
 
   pub replied_fewer : HasReplied d e n → turns_left e.scripts n (phase_of e n) (replies_of e n) < turns_left d.scripts n (phase_of d n) (replies_of d n)
   replied_fewer h =
-      let rs : List Reply = replies_of d n ++ reply_in d.core h.stamp h.is.command ∷ [] in
+      let rs : List Reply = replies_of d n ++ h.reply ∷ [] in
       let now = left_as (Open h.stamp h.since) rs (phase_moved d e n (at_now (Open h.stamp h.since) rs) within h.moves) (replies_moved d e n (at_now (Open h.stamp h.since) rs) within h.moves) in
-      let long : length rs ≡ length (replies_of d n) + 1 = length-append (replies_of d n) (reply_in d.core h.stamp h.is.command ∷ []) in
+      let long : length rs ≡ length (replies_of d n) + 1 = length-append (replies_of d n) (h.reply ∷ []) in
       let lt = slice_get_within (commands_at d.scripts n) (length (replies_of d n)) h.is.command h.is.next.next in
       let before : turns_left d.scripts n (phase_of d n) (replies_of d n) ≡ length (commands_at d.scripts n) - length (replies_of d n) = ap (λ p. turns_left d.scripts n p (replies_of d n)) h.is.next.phase in
       omega arith

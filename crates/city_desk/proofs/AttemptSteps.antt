@@ -10,10 +10,9 @@ use Rattle.city_model.specs.declared.command.Reply.TheVariants as replies
 use Rattle.city_model.specs.declared.end.Outcome.{Outcome}
 use Rattle.city_model.specs.CityMap.{object_at, CityValue}
 use Rattle.city_model.specs.Relations.{IsLawful}
-use Rattle.city_model.specs.Marks.{View, refusal, answer}
-use Rattle.city_model.specs.Meaning.{refused_or, done_reply, is_refusal}
-use Rattle.city_model.proofs.Refused.{done_unrefused}
-use Rattle.city_model.specs.Runs.{Refuses, Change, after_change, after_changes}
+use Rattle.city_model.specs.Meaning.{Answers, is_refusal}
+use Rattle.city_model.proofs.Effects.{refused_does}
+use Rattle.city_model.specs.Runs.{Change, after_change, after_changes}
 use Rattle.city_model.specs.Scripts.{is_end}
 use Rattle.city_locks.specs.declared.answer.Answer.{Answer}
 use Rattle.city_locks.specs.declared.answer.Answer.TheVariants.{Granted, Wait, Die}
@@ -21,7 +20,7 @@ use Rattle.city_txn.specs.declared.step.Step.{Step}
 use Rattle.city_txn.specs.declared.step.Step.TheVariants as steps
 use Rattle.city_txn.specs.declared.step.TxnFault.{TxnFault}
 use Rattle.city_txn.specs.CoreState.{CoreState, committed, snapshot, is_open, StandsUnderLocks, KeepsOthers, IsRolledBack}
-use Rattle.city_txn.specs.Acting.{IsAct, reply_in, answer_in, step_of, EndsIn}
+use Rattle.city_txn.specs.Acting.{IsAct, answer_in, step_of, EndsIn}
 use Rattle.city_txn.specs.Changing.{IsChangeOf}
 use Rattle.city_txn.specs.Locking.{IsBlocked}
 use Rattle.city_desk.specs.declared.progress.Progress.{Progress}
@@ -58,34 +57,20 @@ by_die Granted reply e = absurd (cc)
 by_die Wait reply e = absurd (cc)
 by_die Die reply e = refl
 
--- ---- a refused command
-
-why : (cause : Option Cause) (done : Reply) (x : Cause) → refused_or cause done ≡ replies.Refused x → is_refusal done ≡ false → cause ≡ Some x
-why None done x e h = absurd (false≢true (sym h ∙ ap is_refusal e))
-why (Some cause) done x e h = cc
-
-refused_by : (v : View) (c : Command) (x : Cause) → is_end c ≡ false → answer v c ≡ replies.Refused x → Refuses v c x
-refused_by v (Read id) x g e = why (refusal v (Read id)) (done_reply v.map (Read id)) x e (done_unrefused v.map (Read id))
-refused_by v (Put id body) x g e = why (refusal v (Put id body)) (done_reply v.map (Put id body)) x e (done_unrefused v.map (Put id body))
-refused_by v (Delete id) x g e = why (refusal v (Delete id)) (done_reply v.map (Delete id)) x e (done_unrefused v.map (Delete id))
-refused_by v (Attach child parent) x g e = why (refusal v (Attach child parent)) (done_reply v.map (Attach child parent)) x e (done_unrefused v.map (Attach child parent))
-refused_by v (Detach child parent) x g e = why (refusal v (Detach child parent)) (done_reply v.map (Detach child parent)) x e (done_unrefused v.map (Detach child parent))
-refused_by v (Mark name) x g e = why (refusal v (Mark name)) (done_reply v.map (Mark name)) x e (done_unrefused v.map (Mark name))
-refused_by v (Back name) x g e = why (refusal v (Back name)) (done_reply v.map (Back name)) x e (done_unrefused v.map (Back name))
-refused_by v Commit x g e = absurd (false≢true (sym g))
-refused_by v Abort x g e = absurd (false≢true (sym g))
-
 -- ---- a command that doesn't end its script
 
 module _ (stamp : ℕ) (command : Command) (p q : Progress) (v w : CoreState) (goes_on : is_end command ≡ false) (changes : List Change) where
   pub replied : (reply : Reply) → IsAct stamp command (Ok (steps.Done reply)) v w → is_open v stamp ≡ true → is_refusal reply ≡ false → q ≡ progress_to p.phase (p.replies.list ++ reply ∷ []) p.replies.room
       → HasStepped stamp command (Ok turns.Replied) p q v w changes changes
   replied reply k opened unrefused heard =
-      let by = by_done (answer_in v stamp command) (reply_in v stamp command) reply k.step in
+      let by = by_done (answer_in v stamp command) k.reply reply k.step in
       record {
         so = record {
           goes_on = goes_on;
           granted = by.0;
+          reply = k.reply;
+          after = k.after;
+          does = k.does;
           unrefused = sym (ap is_refusal by.1) ∙ unrefused;
           heard = heard ∙ ap (λ r. progress_to p.phase (p.replies.list ++ r ∷ []) p.replies.room) by.1;
           opened = k.opened ∙ opened;
@@ -98,7 +83,7 @@ module _ (stamp : ℕ) (command : Command) (p q : Progress) (v w : CoreState) (g
 
   pub waits : IsAct stamp command (Ok steps.Wait) v w → is_open v stamp ≡ true → q ≡ p → HasStepped stamp command (Ok turns.Waits) p q v w changes changes
   waits k opened same =
-      let by = by_wait (answer_in v stamp command) (reply_in v stamp command) k.step in
+      let by = by_wait (answer_in v stamp command) k.reply k.step in
       record {
         so = record {
           goes_on = goes_on;
@@ -118,7 +103,7 @@ module _ (stamp : ℕ) (command : Command) (p q : Progress) (v w : CoreState) (g
   module _ (x : CoreState) (undone : IsRolledBack stamp w x) where
     pub dies : IsAct stamp command (Ok steps.Die) v w → q ≡ progress_to (Idle stamp) [] p.replies.room → HasStepped stamp command (Ok turns.Died) p q v x changes changes
     dies k idle =
-        let by = by_die (answer_in v stamp command) (reply_in v stamp command) k.step in
+        let by = by_die (answer_in v stamp command) k.reply k.step in
         record {
           so = record {
             goes_on = goes_on;
@@ -135,10 +120,10 @@ module _ (stamp : ℕ) (command : Command) (p q : Progress) (v w : CoreState) (g
     pub refused : (number : ℕ) (reply : Reply) (cause : Cause) → IsAct stamp command (Ok (steps.Done reply)) v w → reply ≡ replies.Refused cause → number ≡ length p.replies.list → q ≡ p
         → HasStepped stamp command (Err (Outcome.Refused number cause)) p q v x changes changes
     refused number reply cause k is count same =
-        let by = by_done (answer_in v stamp command) (reply_in v stamp command) reply k.step in (
+        let by = by_done (answer_in v stamp command) k.reply reply k.step in (
           same,
           record {
-            ends = (count, refused_by (snapshot v stamp) command cause goes_on (sym by.1 ∙ is));
+            ends = (count, refused_does (snapshot v stamp) command cause k.after (k.does ∙ ap (λ r. Answers r k.after) (sym by.1 ∙ is)));
             granted = λ _ _. by.0;
             closed = undone.over.closed;
             keeps = keeps_both stamp v w x k.keeps undone.over.keeps;

@@ -8,7 +8,7 @@ use Rattle.city_model.specs.declared.command.Reply.{Reply}
 use Rattle.city_model.specs.declared.end.End.{End}
 use Rattle.city_model.specs.declared.end.Outcome.{Outcome}
 use Rattle.city_model.specs.CityMap.{CityMap, object_at, CityValue}
-use Rattle.city_model.specs.Runs.{IsScriptResult, IsEndOf, commands_of, model_after, Change}
+use Rattle.city_model.specs.Runs.{IsScriptResult, IsEndOf, model_after, Change}
 use Rattle.city_model.specs.Scripts.{ends_once}
 use Rattle.city_model.proofs.Fitting.{model_more}
 use Rattle.city_txn.specs.CoreState.{CoreState, committed, is_open, StandsUnderLocks, KeepsOthers}
@@ -16,7 +16,7 @@ use Rattle.city_desk.specs.declared.progress.Progress.{Progress}
 use Rattle.city_desk.specs.declared.progress.Phase.{Phase}
 use Rattle.city_desk.specs.declared.progress.Phase.TheVariants.{NotBegun, Idle, Open, Ended}
 use Rattle.city_desk.specs.declared.turn.Turn.TheVariants as turns
-use Rattle.city_desk.specs.DeskState.{DeskState, progress_to, nowhere, phase_of, replies_of, room_of, commands_at, name_at, name_in, is_ended, is_open_phase, stamp_of}
+use Rattle.city_desk.specs.DeskState.{DeskState, progress_to, nowhere, phase_of, replies_of, room_of, commands_of, commands_at, name_at, name_in, is_ended, is_open_phase, stamp_of}
 use Rattle.city_desk.specs.inside.Room.{is_not_begun, HasRoom}
 use Rattle.city_desk.specs.Serial.{IsAttempt, StandsAs, AreStanding, IsSerial}
 use Rattle.city_desk.specs.Turning.{stamp_for, begun_after, IsDue, end_of}

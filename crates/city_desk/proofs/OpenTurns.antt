@@ -13,22 +13,23 @@ use Rattle.city_model.specs.declared.end.Outcome.{Outcome}
 use Rattle.city_model.specs.CityMap.{CityMap, object_at, CityValue}
 use Rattle.city_model.specs.Marks.{View, unmarked}
 use Rattle.city_model.specs.Meaning.{is_refusal}
-use Rattle.city_model.specs.Runs.{Scripted, EndsAt, IsScriptResult, IsEndOf, map_left, commands_of, model_after, Change, after_change, after_changes}
+use Rattle.city_model.specs.Runs.{Scripted, EndsAt, IsScriptResult, IsEndOf, map_left, left_by, left_by_found}
+use Rattle.city_model.specs.Runs.{model_after, Change, after_change, after_changes}
 use Rattle.city_model.specs.Scripts.{is_end, ends_once}
 use Rattle.city_model.specs.SerialEnds.{is_commit}
 use Rattle.city_model.specs.Standing.{Answered, answered, IsTraceUnderLocks}
+use Rattle.city_model.proofs.Effects.{committed_at}
 use Rattle.city_model.proofs.Fitting.{model_more}
 use Rattle.city_model.proofs.Replied.{goes_on, ends_later, answered_more, result_from, committed_from}
 use Rattle.city_txn.specs.CoreState as txn
 use Rattle.city_txn.specs.CoreState.{CoreState, committed, view, is_open, held, StandsUnderLocks, KeepsOthers}
-use Rattle.city_txn.specs.Acting.{reply_in}
 use Rattle.city_desk.specs.declared.progress.Progress.{Progress}
 use Rattle.city_desk.specs.declared.progress.Phase.{Phase}
 use Rattle.city_desk.specs.declared.progress.Phase.TheVariants.{Idle, Open, Ended}
 use Rattle.city_desk.specs.declared.turn.Turn.{Turn}
 use Rattle.city_desk.specs.declared.turn.Turn.TheVariants as turns
 use Rattle.city_desk.specs.inside.Attempt.{IsReplied, IsToWait, Publishes, AttemptEnded, HasGoneOn, HasStepped}
-use Rattle.city_desk.specs.DeskState.{DeskState, progress_to, nowhere, phase_of, replies_of, room_of, commands_at, name_at, name_in, is_ended, is_open_phase, stamp_of}
+use Rattle.city_desk.specs.DeskState.{DeskState, progress_to, nowhere, phase_of, replies_of, room_of, commands_of, commands_at, name_at, name_in, is_ended, is_open_phase, stamp_of}
 use Rattle.city_desk.specs.inside.Room.{is_not_begun, HasRoom}
 use Rattle.city_desk.specs.Serial.{IsAttempt, StandsAs, AreChangesOf, IsSerial}
 use Rattle.city_desk.specs.Turning.{IsNext, IsOpenAt, IsDue, end_of, IsTurn, IsTurnAs, GainsCommits}
@@ -88,10 +89,17 @@ left_same m cs (Outcome.Refused i cause) h = refl
 left_same m cs (Outcome.NoMemory i) h = refl
 
 commits : (v : View) (c : Command) (i : ℕ) (o : Outcome) → is_commit o ≡ true → EndsAt v c i o → (o ≡ Outcome.Committed) × (c ≡ Commit)
-commits v c i Outcome.Committed h e = (refl, e.0)
+commits v c i Outcome.Committed h e = (refl, (committed_at v c v e).0)
 commits v c i Outcome.Aborted h e = absurd (false≢true h)
 commits v c i (Outcome.Refused j cause) h e = absurd (false≢true h)
 commits v c i (Outcome.NoMemory j) h e = absurd (false≢true h)
+
+-- what the script of an end leaves, where it is there
+found_left : (m : CityMap) (s : Option Scripted) (x : Scripted) (o : Outcome) → s ≡ Some x
+    → left_by_found m s o ≡ map_left m (commands_of s) o
+found_left m s x o is =
+    ap (λ (f : Option Scripted). left_by_found m f o) is
+    ∙ sym (ap (λ (f : Option Scripted). map_left m (commands_of f) o) is)
 
 gained_by : (b : Bool) (stamp : ℕ) (v w : CoreState) (before after : List Change) → Publishes b stamp v w before after → (gained : List Change) × (after ≡ before ++ gained)
 gained_by true stamp v w before after p = (p.1.0 ∷ [], p.1.1)
@@ -193,20 +201,21 @@ module _ (d : DeskState) (changes : List Change) (base : Option CityValue) (n st
           changes = counted d (now progress) changes after [] base s serial (same ∙ sym (append-nil changes));
         }
 
-    abbrev heard : Progress
-    heard = progress_to (Open stamp since) (replies_of d n ++ reply_in d.core stamp command ∷ []) (room_of d n)
+    abbrev heard : Reply → Progress
+    heard reply = progress_to (Open stamp since) (replies_of d n ++ reply ∷ []) (room_of d n)
 
-    replied_stands : (p q : Progress) (progress : List Progress) → IsReplied stamp command p q d.core core → IsAttempt (now progress) (commands_at d.scripts n) stamp since heard.replies.list
+    replied_stands : (p q : Progress) (progress : List Progress) → (h : IsReplied stamp command p q d.core core)
+        → IsAttempt (now progress) (commands_at d.scripts n) stamp since (heard h.reply).replies.list
     replied_stands p q progress h =
-        let more : length heard.replies.list ≡ length (replies_of d n) + 1 = length-append (replies_of d n) (reply_in d.core stamp command ∷ []) in
+        let more : length (heard h.reply).replies.list ≡ length (replies_of d n) + 1 = length-append (replies_of d n) (h.reply ∷ []) in
         let last = not_last (commands_at d.scripts n) (length (replies_of d n)) command once next h.goes_on in
         record {
           opened = h.opened;
           begun = attempt.begun;
           since = attempt.since;
           unfinished = omega arith;
-          unrefused = any_more (replies_of d n) (reply_in d.core stamp command) attempt.unrefused h.unrefused;
-          stands = subst (λ (l : List Answered). StandsUnderLocks core stamp l) (sym (answered_more (commands_at d.scripts n) (replies_of d n) command (reply_in d.core stamp command) next)) (h.stands (answered (commands_at d.scripts n) (replies_of d n)) attempt.stands);
+          unrefused = any_more (replies_of d n) h.reply attempt.unrefused h.unrefused;
+          stands = subst (λ (l : List Answered). StandsUnderLocks core stamp l) (sym (answered_more (commands_at d.scripts n) (replies_of d n) command h.reply next)) (h.stands (answered (commands_at d.scripts n) (replies_of d n)) attempt.stands);
         }
 
     waiting_stands : (p q : Progress) (progress : List Progress) → IsToWait stamp command p q d.core core → IsAttempt (now progress) (commands_at d.scripts n) stamp since (replies_of d n)
@@ -233,14 +242,18 @@ module _ (d : DeskState) (changes : List Change) (base : Option CityValue) (n st
     went_on turns.Began p q names capacity read h r = absurd h.so
     went_on turns.Replied p q names capacity read h r =
         let phase : p.phase ≡ Open stamp since = sym (ap (λ (x : Progress). x.phase) read) ∙ is in
-        let made : q ≡ heard = h.so.heard ∙ (ap (λ f. progress_to f (p.replies.list ++ reply_in d.core stamp command ∷ []) p.replies.room) phase
-        ∙ ap (λ (x : Progress). progress_to (Open stamp since) (x.replies.list ++ reply_in d.core stamp command ∷ []) x.replies.room) (sym read)) in
-        let moves : slice_set d.progress n q ≡ slice_set d.progress n heard = ap (slice_set d.progress n) made in
-        leaves turns.Replied (slice_set d.progress n q) heard names capacity moves refl h.keeps h.city h.changes h.so.opened (λ t e. stamp_same stamp t e)
+        let last = heard h.so.reply in
+        let made : q ≡ last = h.so.heard ∙ (ap (λ f. progress_to f (p.replies.list ++ h.so.reply ∷ []) p.replies.room) phase
+        ∙ ap (λ (x : Progress). progress_to (Open stamp since) (x.replies.list ++ h.so.reply ∷ []) x.replies.room) (sym read)) in
+        let moves : slice_set d.progress n q ≡ slice_set d.progress n last = ap (slice_set d.progress n) made in
+        leaves turns.Replied (slice_set d.progress n q) last names capacity moves refl h.keeps h.city h.changes h.so.opened (λ t e. stamp_same stamp t e)
         (replied_stands p q (slice_set d.progress n q) h.so) refl refl r (record {
           stamp = stamp;
           since = since;
           is = record { command = command; next = is_next; goes_on = h.so.goes_on; answered = h.so.granted };
+          reply = h.so.reply;
+          after = h.so.after;
+          does = h.so.does;
           unrefused = h.so.unrefused;
           moves = moves;
           begun = refl;
@@ -295,7 +308,7 @@ module _ (d : DeskState) (changes : List Change) (base : Option CityValue) (n st
     result outcome e =
         let number : length (replies_of d n) ≡ 0 + length (replies_of d n) = omega arith in
         result_from (held d.core stamp) (unmarked model) (txn.snapshot d.core stamp) 0 (commands_at d.scripts n) (replies_of d n) command outcome
-        stands_on_model attempt.unrefused once next (subst (λ i. EndsAt (txn.snapshot d.core stamp) command i outcome) number e)
+        stands_on_model attempt.unrefused next (subst (λ i. EndsAt (txn.snapshot d.core stamp) command i outcome) number e)
 
     fits_here : (outcome : Outcome) → EndsAt (txn.snapshot d.core stamp) command (length (replies_of d n)) outcome → IsEndOf d.scripts model (length d.ends) (end_of d n since outcome)
     fits_here outcome e = record {
@@ -306,14 +319,19 @@ module _ (d : DeskState) (changes : List Change) (base : Option CityValue) (n st
       result = subst (λ (cs : List Command). IsScriptResult model cs (replies_of d n) outcome) (ap commands_of script_there) (result outcome e);
     }
 
+    left_here : (outcome : Outcome)
+        → left_by d.scripts model (end_of d n since outcome) ≡ map_left model (commands_at d.scripts n) outcome
+    left_here outcome =
+        found_left model (slice_get d.scripts n) (slice_index_or d.scripts n ([], [])) outcome script_there
+
     published : (outcome : Outcome) (b : Bool) → is_commit outcome ≡ b → EndsAt (txn.snapshot d.core stamp) command (length (replies_of d n)) outcome → Publishes b stamp d.core core changes after
-        → (committed core ≡ map_left model (commands_at d.scripts n) outcome) × AreChangesOf d.scripts (object_at d.start.1) (d.ends ++ end_of d n since outcome ∷ []) after
+        → (committed core ≡ left_by d.scripts model (end_of d n since outcome)) × AreChangesOf d.scripts (object_at d.start.1) (d.ends ++ end_of d n since outcome ∷ []) after
     published outcome true one e p =
         let by = commits (txn.snapshot d.core stamp) command (length (replies_of d n)) outcome one e in
         let last : slice_get (commands_at d.scripts n) (length (replies_of d n)) ≡ Some Commit = next ∙ ap Some by.1 in
-        let left : map_left model (commands_at d.scripts n) outcome ≡ view d.core stamp =
-        ap (map_left model (commands_at d.scripts n)) by.0
-        ∙ ap (λ (x : View). x.map) (committed_from (held d.core stamp) (unmarked model) (txn.snapshot d.core stamp) (commands_at d.scripts n) (replies_of d n) stands_on_model once last) in
+        let left : left_by d.scripts model (end_of d n since outcome) ≡ view d.core stamp =
+        left_here outcome ∙ ap (map_left model (commands_at d.scripts n)) by.0
+        ∙ ap (λ (x : View). x.map) (committed_from (held d.core stamp) (unmarked model) (txn.snapshot d.core stamp) (commands_at d.scripts n) (replies_of d n) stands_on_model attempt.unrefused last) in
         let made : model_after d.scripts (object_at d.start.1) (d.ends ++ end_of d n since outcome ∷ []) ≡ after_change model p.1.0 =
         model_more d.scripts d.ends (end_of d n since outcome) (object_at d.start.1) ∙ (left ∙ (sym p.1.2 ∙ ap (λ m. after_change m p.1.0) s.city)) in (
           p.0 ∙ sym left,
@@ -321,7 +339,8 @@ module _ (d : DeskState) (changes : List Change) (base : Option CityValue) (n st
               (changes_more d.scripts (object_at d.start.1) d.ends changes s.shelf (end_of d n since outcome) p.1.0 one made),
         )
     published outcome false one e p =
-        let left : map_left model (commands_at d.scripts n) outcome ≡ model = left_same model (commands_at d.scripts n) outcome one in (
+        let left : left_by d.scripts model (end_of d n since outcome) ≡ model =
+        left_here outcome ∙ left_same model (commands_at d.scripts n) outcome one in (
           p.0 ∙ (s.city ∙ sym left),
           subst (λ cs. AreChangesOf d.scripts (object_at d.start.1) (d.ends ++ end_of d n since outcome ∷ []) cs) (sym p.1)
               (changes_kept d.scripts (object_at d.start.1) d.ends changes s.shelf (end_of d n since outcome) one (model_more d.scripts d.ends (end_of d n since outcome) (object_at d.start.1) ∙ left)),

@@ -4,7 +4,7 @@ use Rattle.std.specs.Prelude.{slice_get}
 use Rattle.city_model.specs.declared.end.End.{End}
 use Rattle.city_model.specs.CityMap.{CityMap, object_at, CityValue}
 use Rattle.city_model.specs.Relations.{IsLawful}
-use Rattle.city_model.specs.Runs.{Scripted, IsSerialHistoryFrom, NoEndOf, map_left, commands_of, model_after, Change}
+use Rattle.city_model.specs.Runs.{Scripted, IsSerialHistoryFrom, NoEndOf, left_by, model_after, Change}
 use Rattle.city_model.proofs.Lawful.{lawful_after}
 use Rattle.city_desk.specs.DeskState.{DeskState}
 use Rattle.city_desk.specs.Serial.{IsSerial}
@@ -20,7 +20,7 @@ fits_take : (scripts : List Scripted) (m : CityMap) (p : ℕ) (es : List End) (n
 fits_take scripts m p [] zero h = tt
 fits_take scripts m p [] (suc n) h = tt
 fits_take scripts m p (e ∷ es) zero h = tt
-fits_take scripts m p (e ∷ es) (suc n) h = (h.0, no_end_take e.script es n h.1, fits_take scripts (map_left m (commands_of (slice_get scripts e.script)) e.outcome) (p + 1) es n h.2)
+fits_take scripts m p (e ∷ es) (suc n) h = (h.0, no_end_take e.script es n h.1, fits_take scripts (left_by scripts m e) (p + 1) es n h.2)
 
 module _ (d : DeskState) (changes : List Change) (base : Option CityValue) (s : IsSerial d changes base) where
   pub lawful_throughout : (n : ℕ) → IsLawful (model_after d.scripts (object_at d.start.1) (take n d.ends))

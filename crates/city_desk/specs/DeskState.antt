@@ -4,7 +4,7 @@ use Rattle.std.specs.Prelude.{ℕ, Bool, true, false, List, [], Option, None, So
 use Rattle.city_model.specs.declared.command.Command.{Command}
 use Rattle.city_model.specs.declared.command.Reply.{Reply}
 use Rattle.city_model.specs.declared.end.End.{End}
-use Rattle.city_model.specs.Runs.{Scripted, commands_of}
+use Rattle.city_model.specs.Runs.{Scripted}
 use Rattle.city_txn.specs.CoreState.{CoreState}
 use Rattle.city_model.specs.CityMap.{CityValue}
 use Rattle.city_desk.specs.declared.progress.Progress.{Progress}
@@ -52,6 +52,10 @@ replies_of d n = replies_in d.progress n
 -- how many replies the script has room for
 abbrev pub room_of : DeskState → ℕ → ℕ
 room_of d n = room_in d.progress n
+
+abbrev pub commands_of : Option Scripted → List Command
+commands_of None = []
+commands_of (Some s) = s.1
 
 abbrev pub commands_at : List Scripted → ℕ → List Command
 commands_at scripts n = commands_of (slice_get scripts n)

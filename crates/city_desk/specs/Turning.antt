@@ -5,13 +5,15 @@ use Rattle.city_model.specs.declared.command.Command.{Command}
 use Rattle.city_model.specs.declared.command.Reply.{Reply}
 use Rattle.city_model.specs.declared.end.Outcome.{Outcome}
 use Rattle.city_model.specs.declared.end.End.{End}
-use Rattle.city_model.specs.Meaning.{is_refusal}
+use Rattle.city_model.specs.Marks.{View}
+use Rattle.city_model.specs.Meaning.{Answers, effect, is_refusal}
 use Rattle.city_model.specs.Runs.{Change}
 use Rattle.city_model.specs.Scripts.{is_end}
 use Rattle.city_model.specs.SerialEnds.{is_no_memory, commits_in}
 use Rattle.city_locks.specs.declared.answer.Answer.{Answer}
 use Rattle.city_locks.specs.declared.answer.Answer.TheVariants.{Granted, Wait, Die}
-use Rattle.city_txn.specs.Acting.{reply_in, answer_in, EndsIn}
+use Rattle.city_txn.specs.Acting.{answer_in, EndsIn}
+use Rattle.city_txn.specs.CoreState.{snapshot}
 use Rattle.city_desk.specs.declared.progress.Phase.{Phase}
 use Rattle.city_desk.specs.declared.progress.Phase.TheVariants.{NotBegun, Idle, Open, Ended}
 use Rattle.city_desk.specs.declared.turn.Turn.{Turn}
@@ -74,8 +76,11 @@ pub record HasReplied (d e : DeskState) (n : ℕ) : Type 0 where
   pub stamp : ℕ
   pub since : ℕ
   pub is : IsAnswered d n stamp since Granted
-  pub unrefused : is_refusal (reply_in d.core stamp is.command) ≡ false
-  pub moves : Moves d e n (Open stamp since) (replies_of d n ++ reply_in d.core stamp is.command ∷ [])
+  pub reply : Reply
+  pub after : View
+  pub does : effect (snapshot d.core stamp) is.command ≡ Answers reply after
+  pub unrefused : is_refusal reply ≡ false
+  pub moves : Moves d e n (Open stamp since) (replies_of d n ++ reply ∷ [])
   pub begun : e.begun ≡ d.begun
   pub ends : e.ends ≡ d.ends
 

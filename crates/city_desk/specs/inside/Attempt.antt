@@ -1,15 +1,18 @@
 -- One step of an attempt: the next command of an open transaction, run on a core.
 use Rattle.std.specs.Prelude.{◌≡◌, ℕ, Bool, true, false, List, [], ◌∷◌, ◌++◌, length, Result, Ok, Err}
 use Rattle.city_model.specs.declared.command.Command.{Command}
+use Rattle.city_model.specs.declared.command.Reply.{Reply}
 use Rattle.city_model.specs.declared.end.Outcome.{Outcome}
-use Rattle.city_model.specs.Meaning.{is_refusal}
+use Rattle.city_model.specs.Marks.{View}
+use Rattle.city_model.specs.Meaning.{Answers, effect, is_refusal}
 use Rattle.city_model.specs.Runs.{Change, after_change}
 use Rattle.city_model.specs.Scripts.{is_end}
 use Rattle.city_model.specs.SerialEnds.{is_no_memory, is_commit}
 use Rattle.city_model.specs.Standing.{Answered}
 use Rattle.city_locks.specs.declared.answer.Answer.TheVariants.{Granted, Wait, Die}
-use Rattle.city_txn.specs.CoreState.{CoreState, committed, view, is_open, StandsUnderLocks, KeepsOthers}
-use Rattle.city_txn.specs.Acting.{reply_in, answer_in, EndsIn}
+use Rattle.city_txn.specs.CoreState.{CoreState, committed, view, snapshot, is_open, StandsUnderLocks}
+use Rattle.city_txn.specs.CoreState.{KeepsOthers}
+use Rattle.city_txn.specs.Acting.{answer_in, EndsIn}
 use Rattle.city_txn.specs.Locking.{IsBlocked}
 use Rattle.city_desk.specs.declared.progress.Progress.{Progress}
 use Rattle.city_desk.specs.declared.progress.Phase.TheVariants.{Idle}
@@ -21,11 +24,14 @@ use Rattle.city_desk.specs.declared.turn.Turn.TheVariants as turns
 pub record IsReplied (stamp : ℕ) (command : Command) (p q : Progress) (old new : CoreState) : Type 0 where
   pub goes_on : is_end command ≡ false
   pub granted : answer_in old stamp command ≡ Granted
-  pub unrefused : is_refusal (reply_in old stamp command) ≡ false
-  pub heard : q ≡ progress_to p.phase (p.replies.list ++ reply_in old stamp command ∷ []) p.replies.room
+  pub reply : Reply
+  pub after : View
+  pub does : effect (snapshot old stamp) command ≡ Answers reply after
+  pub unrefused : is_refusal reply ≡ false
+  pub heard : q ≡ progress_to p.phase (p.replies.list ++ reply ∷ []) p.replies.room
   pub opened : is_open new stamp ≡ true
   pub stands : (done : List Answered) → StandsUnderLocks old stamp done
-      → StandsUnderLocks new stamp (done ++ (command, reply_in old stamp command) ∷ [])
+      → StandsUnderLocks new stamp (done ++ (command, reply) ∷ [])
 
 -- the command has to wait for a younger transaction; what was done stands
 pub record IsToWait (stamp : ℕ) (command : Command) (p q : Progress) (old new : CoreState) : Type 0 where
