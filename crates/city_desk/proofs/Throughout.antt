@@ -24,7 +24,7 @@ fits_take scripts m p (e ∷ es) (suc n) h = (h.0, no_end_take e.script es n h.1
 
 module _ (d : DeskState) (changes : List Change) (base : Option CityValue) (s : IsSerial d changes base) where
   pub lawful_throughout : (n : ℕ) → IsLawful (model_after d.scripts (object_at d.start.1) (take n d.ends))
-  lawful_throughout n = lawful_after d.scripts (object_at d.start.1) (take n d.ends) s.scripted s.lawful (fits_take d.scripts (object_at d.start.1) 0 d.ends n s.fits)
+  lawful_throughout n = lawful_after d.scripts (object_at d.start.1) (take n d.ends) s.lawful (fits_take d.scripts (object_at d.start.1) 0 d.ends n s.fits)
 
 -- what is said of a desk's own city and scripts is said of those that it was opened with
 pub as_opened : (P : List Scripted → CityMap → Type 0) (d e : DeskState) (city : CityValue) (scripts : List Scripted) → d.start ≡ city → d.scripts ≡ scripts → Keeps d e → P e.scripts (object_at e.start.1) → P scripts (object_at city.1)
