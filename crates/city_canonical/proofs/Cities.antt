@@ -16,7 +16,7 @@ use Rattle.serde_json.specs.Read.{number_of, of_json, of_items, of_members}
 use Rattle.serde_json.specs.Written.{outline, members_outline}
 use Rattle.city_model.specs.declared.object.Object.{Object}
 use Rattle.city_model.specs.declared.object.Point.{Point}
-use Rattle.city_model.specs.CityMap.{Entries, CityValue, at, found_in}
+use Rattle.city_model.specs.CityMap.{Entries, CityValue, object_at, found_in}
 use Rattle.city_model.proofs.Objects.{at_entries, entries_ascend}
 use Rattle.city_decimals.specs.Numbers.{is_whole}
 use Rattle.city_decimals.specs.Shapes.{is_tag, is_text_or_array, only}
@@ -130,7 +130,7 @@ module _ (vs ws : json.Items) (ps : List Point) (c : CityValue) (small : length 
 
   module _ (objs : Members) (es : Entries) (listed : entries_of ps objs ≡ Some es) (made : c.1 ≡ objects_of es) where
     same_found : (id : List ℕ) → found_in (entries c.1) id ≡ found_in es id
-    same_found id = ap (λ m. m id) (sym (at_entries c.1)) ∙ ap (λ x. at x id) made ∙ ap (λ m. m id) (at_listed es)
+    same_found id = ap (λ m. m id) (sym (at_entries c.1)) ∙ ap (λ x. object_at x id) made ∙ ap (λ m. m id) (at_listed es)
 
     object_step : (id : List ℕ) (j : Option json.Json) → Numbers j → IsRead false id None j (get_member id objs)
         → IsSameObjectOrNone vs ws j (look.get_member id (decoded_members false (members_outline turn)))

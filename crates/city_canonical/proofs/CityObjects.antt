@@ -36,7 +36,7 @@ use Rattle.city_doc.specs.shape.Canonical.{geometry_data}
 use Rattle.city_doc.specs.shape.Geometries.{geometry_of}
 use Rattle.city_doc.specs.tree.Lists.{read_items, list_of, list_or_absent, list_data, put_list}
 use Rattle.city_doc.specs.tree.Members.{kept_if, text_at}
-use Rattle.city_doc.specs.tree.Tokens.{listed}
+use Rattle.city_doc.specs.inside.tree.PartTokens.{listed}
 use Rattle.city_doc.proofs.Options.{and_then_some, map_some}
 use Rattle.city_doc.proofs.Laws.{are_in, get_member-put_apart, get_member-put_list_apart, ordered_put, read_as}
 use Rattle.city_canonical.specs.Placed.{or_empty, list_at}

@@ -10,6 +10,7 @@ use Rattle.city_decimals.specs.Numbers.{is_number, is_end}
 use Rattle.city_decimals.specs.Shapes.{is_tag, is_transform, only, fronted}
 use Rattle.city_decimals.specs.Decoded.{number_under, number_in, number_or, out_of_form, decoded, decoded_items, decoded_members, decoded_top}
 use Rattle.city_decimals.proofs.Bools.{and_right}
+use Rattle.city_decimals.proofs.Insides.{only_numbers}
 
 chosen : (P : Json → Type 0) (b : Bool) (x y : Json) → P x → P y → P (cond b x y)
 chosen P true x y h g = h
@@ -43,16 +44,6 @@ or_numbered : (o : Option (List ℕ)) (ms : Members) → ((t : List ℕ) → o �
 or_numbered None ms each h = h
 or_numbered (Some t) ms each h = each t refl
 
-only_numbered : (j : Json) → HasNumbers j → HasNumbers (only j)
-only_numbered null h = tt
-only_numbered (boolean b) h = tt
-only_numbered (number s) h = h
-only_numbered (string s) h = tt
-only_numbered (array no_items) h = tt
-only_numbered (array (item j no_items)) h = h.0
-only_numbered (array (item j (item i js))) h = h
-only_numbered (object ms) h = h
-
 fronted_numbered : (j : Json) → HasNumbers j → HasNumbers (fronted j)
 fronted_numbered null h = tt
 fronted_numbered (boolean b) h = tt
@@ -64,7 +55,7 @@ fronted_numbered (object (member k j ms)) h = chosen HasNumbers (is_tag k) j (ob
 
 out_numbered : (top : Bool) (k : List ℕ) (j r : Json) → HasNumbers r → HasNumbers (out_of_form top k j r)
 out_numbered top k j r h =
-    chosen HasNumbers (top && is_transform k j) (fronted r) (cond (is_tag k) (only r) r) (fronted_numbered r h) (chosen HasNumbers (is_tag k) (only r) r (only_numbered r h) h)
+    chosen HasNumbers (top && is_transform k j) (fronted r) (cond (is_tag k) (only r) r) (fronted_numbered r h) (chosen HasNumbers (is_tag k) (only r) r (only_numbers r h) h)
 
 mutual
   numbered : (j : Json) → HasNumbers j → HasNumbers (decoded j)

@@ -22,7 +22,7 @@ use Rattle.city_decimals.specs.Encoded.{encoded, encoded_members}
 use Rattle.city_decimals.specs.Decoded.{number_under, number_in, out_of_form, decoded, decoded_members}
 use Rattle.city_decimals.specs.Arranged.{arranged}
 use Rattle.city_decimals.proofs.Bools.{and_left}
-use Rattle.city_decimals.proofs.Kept.{kept}
+use Rattle.city_decimals.proofs.Kept.{kept, same_kind}
 use Rattle.city_decimals.proofs.RoundTrip.{only_other}
 use Rattle.city_doc.proofs.Options.{and_then_some}
 
@@ -119,14 +119,6 @@ no_number name e (member k c no_members) d h = under k (ap is_tag (sym (exact_by
 no_number name e (member k c (member l b ds)) d h = refl
 
 -- ---- a member that is kept
-
-pub same_kind : (j : json.Json) → is_text_or_array (arranged j) ≡ is_text_or_array j
-same_kind json.null = refl
-same_kind (json.boolean b) = refl
-same_kind (json.number s) = refl
-same_kind (json.string s) = refl
-same_kind (json.array js) = refl
-same_kind (json.object ms) = refl
 
 module _ (top : Bool) (name : List ℕ) (j c : json.Json) where
   pub in_frame : (top && is_transform name j) ≡ true → in_form (form_of top name j) c ≡ framed c

@@ -5,8 +5,8 @@ use Rattle.std.specs.Str.{bytes_eq}
 use Rattle.json.specs.Json as json
 use Rattle.json.specs.Find as look
 use Rattle.json.proofs.Found.{Some_inj, not_found}
-use Rattle.serde_json.specs.Data.{Data, null, boolean, number, string, array, object, Items, Members, no_members, member, put}
-use Rattle.serde_json.specs.Find.{get_member, as_str, as_array, as_object}
+use Rattle.serde_json.specs.Data.{Data, null, boolean, number, string, array, object, Members, no_members, member, put}
+use Rattle.serde_json.specs.Find.{get_member, as_str}
 use Rattle.serde_json.specs.Read.{number_of, of_json, of_items, of_members}
 use Rattle.serde_json.specs.Written.{outline, members_outline}
 use Rattle.city_doc.specs.tree.Members.{kept_if}
@@ -19,6 +19,7 @@ use Rattle.city_decimals.specs.Decoded.{number_in, decoded, decoded_members}
 use Rattle.city_decimals.proofs.Wholes.{mapped}
 use Rattle.city_doc.proofs.Options.{and_then_some, if_some}
 use Rattle.city_doc.proofs.Laws.{ordered_put}
+pub use Rattle.city_doc.proofs.Laws.{array_is, object_is}
 use Rattle.city_canonical.specs.Members.{IsBelow, Ascend}
 use Rattle.city_canonical.proofs.Members.{member_read, IsRead, in_plain, no_frame, read_members}
 
@@ -53,22 +54,6 @@ ascend_decoded top no_members h = tt
 ascend_decoded top (member k d ms) h = (below_decoded top k ms h.0, ascend_decoded top ms h.1)
 
 -- ---- parts of data
-
-pub object_is : (d : Data) (ms : Members) → as_object d ≡ Some ms → d ≡ object ms
-object_is null ms h = not_found ms h
-object_is (boolean b) ms h = not_found ms h
-object_is (number n) ms h = not_found ms h
-object_is (string s) ms h = not_found ms h
-object_is (array ds) ms h = not_found ms h
-object_is (object es) ms h = ap object (Some_inj _ _ h)
-
-pub array_is : (d : Data) (ds : Items) → as_array d ≡ Some ds → d ≡ array ds
-array_is null ds h = not_found ds h
-array_is (boolean b) ds h = not_found ds h
-array_is (number n) ds h = not_found ds h
-array_is (string s) ds h = not_found ds h
-array_is (array es) ds h = ap array (Some_inj _ _ h)
-array_is (object ms) ds h = not_found ds h
 
 pub string_is : (d : Data) (s : List ℕ) → as_str d ≡ Some s → d ≡ string s
 string_is null s h = not_found s h

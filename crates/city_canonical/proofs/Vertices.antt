@@ -3,9 +3,7 @@ use Rattle.std.proofs.Common.{◌≡◌, ℕ, zero, suc, ◌<◌, ℤ, pos, negs
 use Rattle.std.specs.Prelude.{◌&&◌, ◌||◌, ◌^◌, filter, map, slice_get, option_and_then}
 use lib.Signed.{mag}
 use Rattle.std.specs.List.{list_any, list_all}
-use Rattle.std.specs.Fmt.{signed_decimal}
 use Rattle.std.proofs.lemmas.Bool.{and_parts, or_parts, ltb-true}
-use Rattle.std.proofs.lemmas.Bool.Decides.{Decides-int_eq}
 use Rattle.std.proofs.lemmas.Fmt.{signed_decimal_injective}
 use Rattle.json.specs.Json as json
 use Rattle.json.specs.Find as look
@@ -18,6 +16,7 @@ use Rattle.city_model.specs.Shells.{same_point}
 use Rattle.city_doc.specs.Pool.{without_repeats}
 use Rattle.city_doc.specs.document.Canonical.{vertex_data}
 use Rattle.city_doc.specs.document.Ranges.{is_i64, is_i64_point}
+use Rattle.city_doc.proofs.Laws.{same_itself, text_of_integer}
 use Rattle.city_canonical.specs.Same.{IsEachOnce}
 use Rattle.city_canonical.proofs.Places.{shown_point}
 
@@ -51,9 +50,6 @@ pub each_once : (ps : List Point) → AreOnce (without_repeats ps)
 each_once [] = tt
 each_once (p ∷ ps) = (none_same p (without_repeats ps), once_left (λ q. not (same_point p q)) (without_repeats ps) (each_once ps))
 
-same_itself : (p : Point) → same_point p p ≡ true
-same_itself p = rw ((Decides-int_eq p.x p.x).1 refl, (Decides-int_eq p.y p.y).1 refl, (Decides-int_eq p.z p.z).1 refl) refl
-
 any_step : (b : Bool) (c : Bool) → c ≡ true → (b || c) ≡ true
 any_step true c h = refl
 any_step false c h = h
@@ -76,16 +72,12 @@ once_at (q ∷ ps) h (suc m) (suc n) p a b = ap suc (once_at ps h.1 m n p a b)
 
 -- ---- what is written for a point is written for no other
 
-text_of : (z : ℤ) → number_text (of_integer z) ≡ signed_decimal z
-text_of (pos n) = refl
-text_of (negsuc n) = refl
-
 in_width : (z : ℤ) → is_i64 z ≡ true → mag z < 2 ^ 63
 in_width (pos n) h = ltb-true n (2 ^ 63) h
 in_width (negsuc n) h = ltb-true n (2 ^ 63) h
 
 whole_is : (y z : ℤ) → is_i64 y ≡ true → is_i64 z ≡ true → number_text (of_integer y) ≡ number_text (of_integer z) → y ≡ z
-whole_is y z a b e = signed_decimal_injective y z (in_width y a) (in_width z b) (sym (text_of y) ∙ e ∙ text_of z)
+whole_is y z a b e = signed_decimal_injective y z (in_width y a) (in_width z b) (sym (text_of_integer y) ∙ e ∙ text_of_integer z)
 
 -- the text of the number at an index
 abbrev number_at : ℕ → json.Json → Option (List ℕ)

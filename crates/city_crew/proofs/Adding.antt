@@ -6,7 +6,7 @@ use mathlib.Core.List.{IsPrefix}
 use prog.Atomic.{either}
 use Rattle.logbook.specs.Pages.{Cell, cell, keeps, no_nib, step, Moves, Goes}
 use Rattle.city_model.specs.Runs.{Change}
-use Rattle.city_crew.specs.HistoryRule.{HasLength, Adds}
+use Rattle.city_crew.specs.inside.HistoryRule.{HasLength, Adds}
 use Rattle.city_crew.proofs.Prefixes.{prefix_whole}
 
 abbrev pub hidden : List Change → List Change

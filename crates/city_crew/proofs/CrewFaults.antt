@@ -3,7 +3,7 @@ use Rattle.std.proofs.Common.{◌≡◌, ℕ, List, sym, subst}
 use Rattle.city_desk.specs.declared.fault.RunFault.{RunFault}
 use Rattle.city_desk.specs.RunFaults.{IsRunFault}
 use Rattle.city_crew.specs.declared.fault.CrewFault.{CrewFault}
-use Rattle.city_crew.specs.CrewFaults.{fault_of_crew}
+use Rattle.city_crew.specs.inside.CrewFaults.{fault_of_crew}
 
 crew_fault : (document scripts : List ℕ) (f : CrewFault) → IsRunFault document scripts (fault_of_crew f)
 crew_fault document scripts CrewFault.OutOfMemory = tt

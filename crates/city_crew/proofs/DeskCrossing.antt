@@ -21,6 +21,7 @@ use Rattle.city_desk.specs.contracts.desk.Desk.TheInside as DeskInside
 use Rattle.city_desk.specs.declared.shelf.Shelf.{Ghosts}
 use Rattle.city_desk.proofs.opening_city.OpeningCity.TheSendSync as opening
 use Rattle.city_desk.specs.contracts.progress.Progress as Progress
+use Rattle.city_desk.specs.contracts.replies.Replies as Replies
 
 cause_sends : IsSend Cause.the_field.row
 cause_sends = search (text_sends, values.crosses, sendable) depth 60 fits 20000
@@ -40,8 +41,11 @@ outcome_sends = search (cause_sends, values.crosses, sendable) depth 60 fits 200
 end_sends : IsSend End.the_row
 end_sends = search (text_sends, reply_sends, outcome_sends, values.crosses, sendable) depth 60 fits 20000
 
+replies_send : IsSend Replies.the_row
+replies_send = search (reply_sends, values.crosses, sendable) depth 60 fits 20000
+
 progress_sends : IsSend Progress.the_row
-progress_sends = search (reply_sends, values.crosses, sendable) depth 60 fits 20000
+progress_sends = search (replies_send, reply_sends, values.crosses, sendable) depth 60 fits 20000
 
 store_sends : IsSend Store.the_field.row
 store_sends = search (text_sends, object_sends, city_field_sends, maps.crosses, values.crosses, sendable) depth 60 fits 20000

@@ -4,8 +4,8 @@ use mathlib.Core.Option.{some}
 use lib.ListN.{get_elem?}
 use Rattle.left_right.specs.Register.{Admits, Turns, TurnsAt, Forks, Merges}
 use Rattle.atomic_table.proofs.Lists.{at_set, at_snoc}
-use Rattle.city_crew.specs.BoardRule.{IsNoOlder, IsLater, MeetsRule, Sees, known_from, newcomer}
-use Rattle.city_crew.specs.Versions.{IsFaithful}
+use Rattle.city_crew.specs.inside.BoardRule.{IsNoOlder, IsLater, MeetsRule, Sees, known_from, newcomer}
+use Rattle.city_crew.specs.inside.Versions.{IsFaithful}
 use Rattle.city_crew.specs.declared.rule.Known.{Known}
 use Rattle.city_crew.specs.declared.version.Version.{Version}
 use Rattle.city_crew.proofs.LaterVersions.{no_older_itself, no_older_on}

@@ -1,12 +1,12 @@
 -- Edits lead from a faithful version to a later one that is faithful too.
 use Rattle.std.proofs.Common.{◌≡◌, List, [], ◌∷◌, ◌++◌, fold, refl, ap, sym, ◌∙◌, subst}
-use Rattle.city_model.specs.CityMap.{CityMap, CityValue, at}
+use Rattle.city_model.specs.CityMap.{CityMap, CityValue, object_at}
 use Rattle.city_model.specs.Relations.{IsLawful}
-use Rattle.city_model.specs.Runs.{Change, with_change, shown}
+use Rattle.city_model.specs.Runs.{Change, after_change, after_changes}
 use Rattle.city_model.proofs.Writing.{at_after, shown_more}
-use Rattle.city_crew.specs.BoardRule.{IsNoOlder, IsLater, known_from}
+use Rattle.city_crew.specs.inside.BoardRule.{IsNoOlder, IsLater, known_from}
 use Rattle.city_crew.specs.HistoryValue.{HistoryValue}
-use Rattle.city_crew.specs.Versions.{edited, IsFaithful, IsNextEdit, LeadTo}
+use Rattle.city_crew.specs.inside.Versions.{edited, IsFaithful, IsNextEdit, LeadTo}
 use Rattle.city_crew.specs.declared.rule.Known.{Known}
 use Rattle.city_crew.specs.declared.version.Edit.{Edit}
 use Rattle.city_crew.specs.declared.version.Version.{Version}
@@ -26,11 +26,11 @@ no_older_on known x y f g = record {
 
 -- ---- the first version
 
-pub first_faithful : (x : Version) (city : CityValue) → x.city ≡ city → x.opening ≡ city → x.history.changes ≡ [] → IsLawful (at city.1) → IsFaithful x
+pub first_faithful : (x : Version) (city : CityValue) → x.city ≡ city → x.opening ≡ city → x.history.changes ≡ [] → IsLawful (object_at city.1) → IsFaithful x
 first_faithful x city c o none lawful = record {
   frame = ap (λ (d : CityValue). d.0) (c ∙ sym o);
-  objects = ap (λ (d : CityValue). at d.1) (c ∙ sym o) ∙ ap (λ (l : List Change). shown (at x.opening.1) l) (sym none);
-  lawful = subst (λ (d : CityValue). IsLawful (at d.1)) (sym c) lawful;
+  objects = ap (λ (d : CityValue). object_at d.1) (c ∙ sym o) ∙ ap (λ (l : List Change). after_changes (object_at x.opening.1) l) (sym none);
+  lawful = subst (λ (d : CityValue). IsLawful (object_at d.1)) (sym c) lawful;
 }
 
 pub no_edits : (x : Version) (es : List Edit) → IsFaithful x → es ≡ [] → IsLater x (fold edited x es)
@@ -38,8 +38,8 @@ no_edits x es faithful none = subst (λ (ds : List Edit). IsLater x (fold edited
 
 -- ---- the next ones
 
-next_objects : (x : Version) (e : Edit) (next : IsNextEdit x e) → at (edited x e).city.1 ≡ with_change (at x.city.1) next.change
-next_objects x e next = at_after x.city.1 e.writes.entries ∙ next.writes (at x.city.1)
+next_objects : (x : Version) (e : Edit) (next : IsNextEdit x e) → object_at (edited x e).city.1 ≡ after_change (object_at x.city.1) next.change
+next_objects x e next = at_after x.city.1 e.writes.entries ∙ next.writes (object_at x.city.1)
 
 pub next_later : (x : Version) (e : Edit) → IsFaithful x → IsNextEdit x e → IsLater x (edited x e)
 next_later x e faithful next =
@@ -47,8 +47,8 @@ next_later x e faithful next =
     let objects = next_objects x e next in (
       record {
         frame = faithful.frame;
-        objects = objects ∙ (ap (λ (m : CityMap). with_change m next.change) faithful.objects
-            ∙ (sym (shown_more (at x.opening.1) x.history.changes next.change) ∙ ap (λ l. shown (at x.opening.1) l) (sym changes)));
+        objects = objects ∙ (ap (λ (m : CityMap). after_change m next.change) faithful.objects
+            ∙ (sym (shown_more (object_at x.opening.1) x.history.changes next.change) ∙ ap (λ l. after_changes (object_at x.opening.1) l) (sym changes)));
         lawful = subst IsLawful (sym objects) next.lawful;
       },
       record { name = ap (λ h. h.name) next.history; opening = refl; later = (next.change ∷ [], sym changes) },

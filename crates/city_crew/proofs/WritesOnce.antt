@@ -14,7 +14,7 @@ use Rattle.std.proofs.lemmas.Map.Entries.{none_past_head}
 use Rattle.std.proofs.lemmas.Map.Keys.{IsDistinct-from_sorted, sorted_tail}
 use Rattle.city_model.specs.declared.object.Object.{Object}
 use Rattle.city_model.specs.CityMap.{CityMap, changed, same_id, has_id}
-use Rattle.city_model.specs.Runs.{Change, with_change}
+use Rattle.city_model.specs.Runs.{Change, after_change}
 use Rattle.city_model.proofs.IdLists.{bool_cases}
 use Rattle.city_model.proofs.Ids.{same_id_true, same_id_back}
 use Rattle.city_model.proofs.Writing.{same_map}
@@ -41,7 +41,7 @@ over (Some w) o = w
 abbrev write_of : Change → List ℕ → Option (Option Object)
 write_of c q = lookup (is_at (slice_cmp nat_cmp q)) c
 
-written_by : (c : Change) (m : CityMap) (q : List ℕ) → AreAscending c → with_change m c q ≡ over (write_of c q) (m q)
+written_by : (c : Change) (m : CityMap) (q : List ℕ) → AreAscending c → after_change m c q ≡ over (write_of c q) (m q)
 written_by [] m q s = refl
 written_by (w ∷ ws) m q s =
     let rest = write_of ws q in
@@ -57,6 +57,6 @@ over_point false w x y = refl
 
 -- one more write, last of all
 pub written_more : (c d : Change) (id : List ℕ) (w : Option Object) → AreAscending c → AreAscending d → ((q : List ℕ) → write_of d q ≡ cond (same_id id q) (Some w) (write_of c q))
-    → (m : CityMap) → with_change m d ≡ changed (with_change m c) id w
-written_more c d id w s t h m = same_map (with_change m d) (changed (with_change m c) id w)
+    → (m : CityMap) → after_change m d ≡ changed (after_change m c) id w
+written_more c d id w s t h m = same_map (after_change m d) (changed (after_change m c) id w)
     (λ q. written_by d m q t ∙ ap (λ x. over x (m q)) (h q) ∙ over_point (same_id id q) w (m q) (write_of c q) ∙ sym (ap (λ x. if same_id id q then w else x) (written_by c m q s)))

@@ -1,10 +1,5 @@
-pub mod BoardRule
 pub mod BoardValues
-pub mod CrewFaults
-pub mod CrewRuns
-pub mod CrewShelves
-pub mod HistoryRule
 pub mod HistoryValue
 pub mod Rising
 pub mod Seen
-pub mod Versions
+pub mod inside

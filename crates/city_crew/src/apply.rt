@@ -1,9 +1,9 @@
 //! Writing a change into a city: all of it or nothing.
 ghost use Rattle.std.specs.Prelude.{◌≡◌, ℕ, List, true, is_some, MatchResult};
 ghost use Rattle.std.specs.Map.{keys_of};
-ghost use Rattle.city_model.specs.CityMap.{at, changed, has_id};
-ghost use Rattle.city_model.specs.Runs.{with_change};
-ghost use Rattle.city_crew.specs.Versions.{city_after};
+ghost use Rattle.city_model.specs.CityMap.{object_at, changed, has_id};
+ghost use Rattle.city_model.specs.Runs.{after_change};
+ghost use Rattle.city_crew.specs.inside.Versions.{city_after};
 
 use crate::places::make_places;
 use crate::writes::Writes;
@@ -30,9 +30,9 @@ pub fn apply(alloc: Global, city: &mut City, writes: Writes) -> Result<(), Write
 
 /// Makes the writes in the city, in which each id has a place. Doesn't allocate.
 fn write_all(city: &mut City, mut writes: Writes)
-    requires { (q : List ℕ) → has_id (keys_of writes.entries) q ≡ true → is_some (at city.old.1 q) ≡ true }
+    requires { (q : List ℕ) → has_id (keys_of writes.entries) q ≡ true → is_some (object_at city.old.1 q) ≡ true }
     ensures frame { city.new.0 ≡ city.old.0 }
-    ensures objects { at city.new.1 ≡ with_change (at city.old.1) writes.entries }
+    ensures objects { object_at city.new.1 ≡ after_change (object_at city.old.1) writes.entries }
 {
     while let Some((id, object)) = writes.pop_first() {
         write(city, id, object);
@@ -41,9 +41,9 @@ fn write_all(city: &mut City, mut writes: Writes)
 
 /// Sets the object of an id that has a place, or removes it. Doesn't allocate.
 fn write(city: &mut City, id: Id, object: Option<Object>)
-    requires { is_some (at city.old.1 id) ≡ true }
+    requires { is_some (object_at city.old.1 id) ≡ true }
     ensures frame { city.new.0 ≡ city.old.0 }
-    ensures objects { at city.new.1 ≡ changed (at city.old.1) id object }
+    ensures objects { object_at city.new.1 ≡ changed (object_at city.old.1) id object }
 {
     match object {
         Some(o) => match city.set(id, o) {

@@ -1,9 +1,9 @@
 //! A new board.
 ghost use Rattle.std.specs.Prelude.{◌≡◌, ◌<◌, ◌≤◌, [], All, IfOk, IfSome, drop, vec_len};
 ghost use Rattle.left_right.specs.Sides.{view};
-ghost use Rattle.city_model.specs.CityMap.{at};
+ghost use Rattle.city_model.specs.CityMap.{object_at};
 ghost use Rattle.city_model.specs.Relations.{IsLawful};
-ghost use Rattle.city_crew.specs.BoardRule.{known_from};
+ghost use Rattle.city_crew.specs.inside.BoardRule.{known_from};
 ghost use Rattle.city_crew.specs.BoardValues.{new_poster, viewer_of};
 
 use crate::history::History;
@@ -38,7 +38,7 @@ pub fn board<R: Wait + Drop>(
     city: City,
     places: usize,
 ) -> Result<(Poster<R>, Vec<Viewer>), BoardFault>
-    requires lawful { IsLawful (at city.1) }
+    requires lawful { IsLawful (object_at city.1) }
     requires places { places ≤ 4 }
     ensures poster { IfOk result (λ board. board.0 ≡ new_poster board.0.name city) }
     ensures count { IfOk result (λ board. vec_len board.1 ≡ places) }

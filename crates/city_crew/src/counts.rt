@@ -1,5 +1,5 @@
 //! How many changes a viewer saw, look by look.
-ghost use Rattle.std.specs.Prelude.{◌≡◌, []};
+ghost use Rattle.std.specs.Prelude.{◌≡◌, ◌<◌, [], length, OnOk};
 ghost use Rattle.city_crew.specs.Rising.{Rises, last_of};
 
 use city_model::OutOfMemory;
@@ -44,7 +44,9 @@ impl Counts {
 
     /// Keeps a number that is the first or larger than the last.
     #[tactic(auto, using(crate::proofs::Risen::rises_more, crate::proofs::Risen::last_more))]
-    pub fn keep(&mut self, count: u64) -> Result<(), OutOfMemory> {
+    pub fn keep(&mut self, count: u64) -> Result<(), OutOfMemory>
+        ensures { OnOk result (0 < length self.new) }
+    {
         if !self.counts.is_empty() && count <= self.last {
             return Ok(());
         }

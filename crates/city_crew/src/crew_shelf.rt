@@ -18,13 +18,15 @@ impl<R: Wait + Drop> Shelf for CrewShelf<R> {
     type Note = ();
 
     ghost use Rattle.std.specs.Prelude.{[]};
-    ghost use Rattle.city_crew.specs.CrewShelves.{taken_by, base_of};
+    ghost use Rattle.city_crew.specs.inside.CrewShelves.{taken_by, base_of, published_by};
 
     ghost list = { taken_by };
 
     ghost base = { base_of };
 
     ghost name = { λ shelf. [] };
+
+    ghost published = { published_by };
 
     ghost tells = { λ shelf note. Unit {0} };
 

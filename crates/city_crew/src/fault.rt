@@ -33,7 +33,7 @@ impl From<BoardFault> for CrewFault {
 
 impl From<CrewFault> for RunFault {
     ghost use Rattle.std.specs.Prelude.{◌≡◌};
-    ghost use Rattle.city_crew.specs.CrewFaults.{fault_of_crew};
+    ghost use Rattle.city_crew.specs.inside.CrewFaults.{fault_of_crew};
 
     ghost from_gives = { λ f r. r ≡ fault_of_crew f };
 

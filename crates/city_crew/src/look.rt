@@ -1,8 +1,8 @@
 //! A look at a version that was published.
 ghost use Rattle.std.specs.Prelude.{◌≡◌, length};
-ghost use Rattle.city_model.specs.CityMap.{at};
+ghost use Rattle.city_model.specs.CityMap.{object_at};
 ghost use Rattle.city_model.specs.Relations.{IsLawful};
-ghost use Rattle.city_model.specs.Runs.{shown};
+ghost use Rattle.city_model.specs.Runs.{after_changes};
 
 use crate::history::History;
 use crate::viewer::{BoardReading, Viewer};
@@ -22,11 +22,11 @@ impl Model for Look {
     ghost use Rattle.std.specs.Prelude.{◌≡◌};
     ghost use Rattle.std.specs.Coded.{codes};
     ghost use Rattle.left_right.specs.Sides.{view as view_of};
-    ghost use Rattle.city_model.specs.DataCode.{coded_members};
-    ghost use Rattle.city_txn.specs.Codes.{coded_objects};
-    ghost use Rattle.city_crew.specs.BoardRule.{known_from};
+    ghost use Rattle.city_model.specs.inside.DataCode.{coded_members};
+    ghost use Rattle.city_txn.specs.inside.Codes.{coded_objects};
+    ghost use Rattle.city_crew.specs.inside.BoardRule.{known_from};
     ghost use Rattle.city_crew.specs.BoardValues.{ViewerValue};
-    ghost use Rattle.city_crew.specs.Versions.{IsFaithful};
+    ghost use Rattle.city_crew.specs.inside.Versions.{IsFaithful};
 
     ghost Value = { ViewerValue };
 
@@ -39,9 +39,9 @@ impl Model for Look {
 
 impl Look {
     ghost use Rattle.left_right.specs.Sides.{view as view_of};
-    ghost use Rattle.city_crew.specs.BoardRule.{known_from};
+    ghost use Rattle.city_crew.specs.inside.BoardRule.{known_from};
     ghost use Rattle.city_crew.specs.BoardValues.{viewer_of};
-    ghost use Rattle.city_crew.specs.Versions.{IsFaithful};
+    ghost use Rattle.city_crew.specs.inside.Versions.{IsFaithful};
 
     /// A look at the version that is read, whose changes these are. Doesn't allocate.
     pub(crate) fn new(reading: BoardReading, seen: History) -> Look
@@ -57,8 +57,8 @@ impl Look {
     /// this look. Doesn't allocate.
     pub fn city(&self) -> &City
         ensures frame { result.now.0 ≡ self.now.opening.0 }
-        ensures objects { at result.now.1 ≡ shown (at self.now.opening.1) self.now.seen }
-        ensures lawful { IsLawful (at result.now.1) }
+        ensures objects { object_at result.now.1 ≡ after_changes (object_at self.now.opening.1) self.now.seen }
+        ensures lawful { IsLawful (object_at result.now.1) }
     {
         let _ = &self.seen;
         &self.reading.get().city

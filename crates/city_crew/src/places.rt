@@ -1,7 +1,7 @@
 //! Places in a city for the ids that are to be written.
 ghost use Rattle.std.specs.Prelude.{◌≡◌, ◌&&◌, ℕ, List, None, true, false, not, is_some, IfOk, OnOk, OnErr, if◌then◌else◌};
 ghost use Rattle.std.specs.Map.{keys_of};
-ghost use Rattle.city_model.specs.CityMap.{at, has_id};
+ghost use Rattle.city_model.specs.CityMap.{object_at, has_id};
 
 use crate::writes::Writes;
 use city_model::OutOfMemory;
@@ -15,8 +15,8 @@ use std::alloc::Global;
 /// runs out, the city is unchanged.
 pub fn make_places(alloc: Global, city: &mut City, writes: &Writes) -> Result<(), OutOfMemory>
     ensures frame { city.new.0 ≡ city.old.0 }
-    ensures others { OnOk result ((q : List ℕ) → has_id (keys_of writes.now.entries) q ≡ false → at city.new.1 q ≡ at city.old.1 q) }
-    ensures there { OnOk result ((q : List ℕ) → has_id (keys_of writes.now.entries) q ≡ true → is_some (at city.new.1 q) ≡ true) }
+    ensures others { OnOk result ((q : List ℕ) → has_id (keys_of writes.now.entries) q ≡ false → object_at city.new.1 q ≡ object_at city.old.1 q) }
+    ensures there { OnOk result ((q : List ℕ) → has_id (keys_of writes.now.entries) q ≡ true → is_some (object_at city.new.1 q) ≡ true) }
     ensures err { OnErr result (city.new ≡ city.old) }
 {
     let ids = missing(alloc, city, writes)?;
@@ -29,7 +29,7 @@ pub fn make_places(alloc: Global, city: &mut City, writes: &Writes) -> Result<()
 
 /// The ids of the writes for which no object is there.
 fn missing(alloc: Global, city: &City, writes: &Writes) -> Result<Vec<Id>, OutOfMemory>
-    ensures { IfOk result (λ ids. (q : List ℕ) → has_id ids.items q ≡ (has_id (keys_of writes.now.entries) q && not (is_some (at city.now.1 q)))) }
+    ensures { IfOk result (λ ids. (q : List ℕ) → has_id ids.items q ≡ (has_id (keys_of writes.now.entries) q && not (is_some (object_at city.now.1 q)))) }
 {
     let mut ids = Vec::new(alloc);
     for (id, _) in writes {
@@ -43,8 +43,8 @@ fn missing(alloc: Global, city: &City, writes: &Writes) -> Result<Vec<Id>, OutOf
 /// Puts a placeholder at each of the ids; if memory runs out, at some of them.
 fn fill(alloc: Global, city: &mut City, ids: &[Id]) -> Result<(), OutOfMemory>
     ensures frame { city.new.0 ≡ city.old.0 }
-    ensures others { (q : List ℕ) → has_id ids.now q ≡ false → at city.new.1 q ≡ at city.old.1 q }
-    ensures there { OnOk result ((q : List ℕ) → has_id ids.now q ≡ true → is_some (at city.new.1 q) ≡ true) }
+    ensures others { (q : List ℕ) → has_id ids.now q ≡ false → object_at city.new.1 q ≡ object_at city.old.1 q }
+    ensures there { OnOk result ((q : List ℕ) → has_id ids.now q ≡ true → is_some (object_at city.new.1 q) ≡ true) }
 {
     for id in ids {
         drop(city.set(id.copy(alloc)?, placeholder(alloc))?);
@@ -55,7 +55,7 @@ fn fill(alloc: Global, city: &mut City, ids: &[Id]) -> Result<(), OutOfMemory>
 /// Removes the objects of the ids. Doesn't allocate.
 fn clear(city: &mut City, ids: &[Id])
     ensures frame { city.new.0 ≡ city.old.0 }
-    ensures objects { (q : List ℕ) → at city.new.1 q ≡ (if has_id ids.now q then None else at city.old.1 q) }
+    ensures objects { (q : List ℕ) → object_at city.new.1 q ≡ (if has_id ids.now q then None else object_at city.old.1 q) }
 {
     for id in ids {
         drop(city.remove(id));

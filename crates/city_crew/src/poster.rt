@@ -1,10 +1,10 @@
 //! The poster of a board.
 ghost use Rattle.std.specs.Prelude.{◌≡◌, ◌+◌, ◌<◌, ◌^◌, [], ◌∷◌, ◌++◌, length, drop, IfOk, OnOk, OnErr};
 ghost use Rattle.left_right.specs.Sides.{view};
-ghost use Rattle.city_model.specs.CityMap.{at};
+ghost use Rattle.city_model.specs.CityMap.{object_at};
 ghost use Rattle.city_model.specs.Relations.{IsLawful};
-ghost use Rattle.city_model.specs.Runs.{shown};
-ghost use Rattle.city_crew.specs.BoardRule.{HoldsEdits};
+ghost use Rattle.city_model.specs.Runs.{after_changes};
+ghost use Rattle.city_crew.specs.inside.BoardRule.{HoldsEdits};
 ghost use Rattle.city_crew.specs.HistoryValue.{history_of};
 
 use crate::history::{Head, History};
@@ -43,10 +43,10 @@ impl<R: Wait + Drop> Model for Poster<R> {
     ghost use Rattle.std.specs.Prelude.{◌≡◌, ◌++◌, drop, IfSome};
     ghost use mathlib.Core.List.{IsPrefix};
     ghost use Rattle.std.specs.Coded.{codes};
-    ghost use Rattle.city_model.specs.DataCode.{coded_members};
-    ghost use Rattle.city_txn.specs.Codes.{coded_objects};
+    ghost use Rattle.city_model.specs.inside.DataCode.{coded_members};
+    ghost use Rattle.city_txn.specs.inside.Codes.{coded_objects};
     ghost use Rattle.left_right.specs.Sides.{view as view_of};
-    ghost use Rattle.city_crew.specs.BoardRule.{HoldsEdits};
+    ghost use Rattle.city_crew.specs.inside.BoardRule.{HoldsEdits};
     ghost use Rattle.city_crew.specs.BoardValues.{PosterValue};
 
     ghost Value = { PosterValue };
@@ -89,7 +89,7 @@ impl<R: Wait + Drop> Poster<R> {
     /// Takes a change, which is then pending. If memory runs out, nothing changes.
     pub fn append(&mut self, change: Change) -> Result<(), OutOfMemory>
         requires room { length self.old.taken + 1 < 2 ^ 64 }
-        requires lawful { IsLawful (shown (at self.old.opening.1) (self.old.taken ++ change ∷ [])) }
+        requires lawful { IsLawful (after_changes (object_at self.old.opening.1) (self.old.taken ++ change ∷ [])) }
         ensures ok { OnOk result (self.new ≡ record self.old { taken = self.old.taken ++ change ∷ [] }) }
         ensures err { OnErr result (self.new ≡ self.old) }
     {

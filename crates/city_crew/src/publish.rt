@@ -1,8 +1,8 @@
 //! Publishing what a board's writer has.
 ghost use Rattle.std.specs.Prelude.{◌≡◌, [], drop, fold, MatchResult};
 ghost use Rattle.left_right.specs.Sides.{view};
-ghost use Rattle.city_crew.specs.BoardRule.{known_from, IsLater};
-ghost use Rattle.city_crew.specs.Versions.{edited};
+ghost use Rattle.city_crew.specs.inside.BoardRule.{known_from, IsLater};
+ghost use Rattle.city_crew.specs.inside.Versions.{edited};
 
 use crate::rule::{BoardRule, Known, SeesVersion};
 use crate::version::{Edit, Version};

@@ -17,7 +17,7 @@ pub struct Known {
 pub struct BoardRule;
 
 impl Protocol<Version, Known> for BoardRule {
-    ghost use Rattle.city_crew.specs.BoardRule.{MeetsRule, newcomer};
+    ghost use Rattle.city_crew.specs.inside.BoardRule.{MeetsRule, newcomer};
 
     ghost holds = { MeetsRule };
 
@@ -28,7 +28,7 @@ impl Protocol<Version, Known> for BoardRule {
 pub struct SeesVersion;
 
 impl Outcome<Version, Known> for SeesVersion {
-    ghost use Rattle.city_crew.specs.BoardRule.{Sees};
+    ghost use Rattle.city_crew.specs.inside.BoardRule.{Sees};
 
     ghost then = { Sees };
 }
@@ -46,7 +46,7 @@ impl Split<Known> for TellsAll {
 pub struct BelievesAll;
 
 impl Join<Known> for BelievesAll {
-    ghost use Rattle.city_crew.specs.BoardRule.{newcomer};
+    ghost use Rattle.city_crew.specs.inside.BoardRule.{newcomer};
 
     ghost both = { λ known told. told };
 

@@ -1,13 +1,13 @@
 //! Runs the scripts of a text on the city of a document, with workers and viewers.
 ghost use Rattle.std.specs.Prelude.{◌≡◌, ◌≤◌, ℕ, List, [], IfOk, IfErr, IfSome};
-ghost use Rattle.city_model.specs.CityMap.{at};
+ghost use Rattle.city_model.specs.CityMap.{object_at};
 ghost use Rattle.city_model.specs.Relations.{IsLawful};
 ghost use Rattle.city_model.specs.SerialEnds.{commits_in};
 ghost use Rattle.city_desk.specs.RunFaults.{IsRunFault};
 ghost use Rattle.city_desk.specs.TextRuns.{IsRun};
 ghost use Rattle.city_desk.specs.TextRuns.{IsReadFrom};
-ghost use Rattle.city_crew.specs.CrewRuns.{IsResult};
-ghost use Rattle.city_crew.specs.CrewShelves.{taken_by, base_of};
+ghost use Rattle.city_crew.specs.inside.CrewRuns.{IsResult};
+ghost use Rattle.city_crew.specs.inside.CrewShelves.{taken_by, base_of};
 ghost use Rattle.city_crew.specs.Seen.{AreSeen};
 
 use crate::ages::Ages;
@@ -77,7 +77,7 @@ fn open<'r, R: Wait>(
     workers: usize,
     viewers: usize,
 ) -> Result<(State<&'r R>, Vec<Viewer>), CrewFault>
-    requires lawful { IsLawful (at city.1) }
+    requires lawful { IsLawful (object_at city.1) }
     requires read { IsReadFrom document.now scripts.now city list }
     requires viewers { viewers ≤ 4 }
 {
@@ -96,7 +96,7 @@ fn new_shelf<'r, R: Wait>(
     city: &City,
     viewers: usize,
 ) -> Result<(CrewShelf<&'r R>, Vec<Viewer>), CrewFault>
-    requires lawful { IsLawful (at city.now.1) }
+    requires lawful { IsLawful (object_at city.now.1) }
     requires viewers { viewers ≤ 4 }
     ensures empty { IfOk result (λ made. taken_by made.0 ≡ []) }
     ensures based { IfOk result (λ made. IfSome (base_of made.0) (λ base. base ≡ city.now)) }

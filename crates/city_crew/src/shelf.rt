@@ -6,8 +6,8 @@ use city_model::OutOfMemory;
 use city_model::change::Change;
 use std::sync::Wait;
 
-/// The list is that of all changes that were taken; the base is the city that the board was made
-/// over.
+/// The list is that of all changes that were taken, and viewers see the published ones; the base is
+/// the city that the board was made over.
 impl<R: Wait + Drop> Shelf for Poster<R> {
     type Note = Note;
 
@@ -18,6 +18,8 @@ impl<R: Wait + Drop> Shelf for Poster<R> {
     ghost base = { λ poster. Some poster.opening };
 
     ghost name = { λ poster. poster.name.number ∷ poster.name.log_name ∷ poster.name.cells_name ∷ [] };
+
+    ghost published = { λ poster. Some poster.published };
 
     ghost tells = { λ poster note. (note.changes ≡ poster.taken) × (note.name ≡ poster.name) };
 

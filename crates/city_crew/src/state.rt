@@ -1,7 +1,7 @@
 //! What lies under the lock of a run.
 ghost use Rattle.std.specs.Prelude.{◌≡◌, ℕ, List, IfOk};
 ghost use Rattle.city_desk.specs.TextRuns.{IsReadFrom};
-ghost use Rattle.city_crew.specs.CrewRuns.{IsResult};
+ghost use Rattle.city_crew.specs.inside.CrewRuns.{IsResult};
 
 use crate::ages::Ages;
 use crate::commits::is_commit;

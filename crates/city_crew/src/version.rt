@@ -27,7 +27,7 @@ pub struct Edit {
 impl Absorb<Edit> for Version {
     type State = Version;
 
-    ghost use Rattle.city_crew.specs.Versions.{edited};
+    ghost use Rattle.city_crew.specs.inside.Versions.{edited};
 
     ghost state = { λ version. version };
 

@@ -1,4 +1,6 @@
 //! A viewer in a run.
+ghost use Rattle.std.specs.Prelude.{◌<◌, length, IfNone};
+
 use crate::counts::Counts;
 use crate::fault::CrewFault;
 use crate::gate::Gate;
@@ -19,7 +21,9 @@ pub struct Watcher {
 
 impl Watcher {
     /// One look, and how many changes it had; none where it was refused.
-    pub fn look_once(self) -> (Watcher, Option<u64>) {
+    pub fn look_once(self) -> (Watcher, Option<u64>)
+        ensures { IfNone result.0.fault (0 < length result.0.counts) }
+    {
         let Watcher {
             number,
             viewer,
@@ -42,7 +46,7 @@ impl Watcher {
             Ok(look) => {
                 let edits = look.edits();
                 let viewer = look.leave();
-                if counts.keep(edits).is_err() {
+                if let Err(_) = counts.keep(edits) {
                     fault = Some(CrewFault::OutOfMemory);
                 }
                 (

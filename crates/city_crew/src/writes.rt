@@ -1,7 +1,7 @@
 //! What a change writes, each id once.
 ghost use Rattle.std.specs.Prelude.{◌≡◌, IfOk};
 ghost use Rattle.city_model.specs.CityMap.{CityMap};
-ghost use Rattle.city_model.specs.Runs.{with_change};
+ghost use Rattle.city_model.specs.Runs.{after_change};
 
 use city_model::OutOfMemory;
 use city_model::change::Change;
@@ -15,7 +15,7 @@ pub type Writes = BTreeMap<Id, Option<Object>>;
 
 /// What the change writes; of an id that it writes twice, the last one wins. No object is copied.
 pub fn writes_of(alloc: Global, change: Change) -> Result<Writes, OutOfMemory>
-    ensures { IfOk result (λ writes. (m : CityMap) → with_change m writes.entries ≡ with_change m change) }
+    ensures { IfOk result (λ writes. (m : CityMap) → after_change m writes.entries ≡ after_change m change) }
 {
     let mut writes = BTreeMap::new(alloc);
     for (id, object) in change.into_vec() {

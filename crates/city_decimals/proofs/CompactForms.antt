@@ -9,13 +9,16 @@ use Rattle.json.specs.Word.{after_number}
 use Rattle.city_decimals.specs.Shapes.{framed, only, fronted}
 use Rattle.city_decimals.specs.Encoded.{encoded, tagged}
 use Rattle.city_decimals.specs.Decoded.{decoded, decoded_members, number_in, number_or}
-use Rattle.city_decimals.specs.Numbers.{is_whole, IsPlain}
-use Rattle.city_decimals.specs.Copies.{Moves}
-use Rattle.city_decimals.specs.Compact.{value_text, members_text, comma_if, State, IsCopied, IsItemCopied}
-use Rattle.city_decimals.specs.Compact.{AreMembersCopied, IsFrameCopied}
-use Rattle.city_decimals.specs.Compact.{triple, IsNumberCopied, IsTripleCopied, frame_decoded, frame_encoded}
+use Rattle.city_decimals.specs.Numbers.{is_whole}
+use Rattle.city_decimals.specs.inside.PlainNumbers.{IsPlain}
+use Rattle.city_decimals.specs.inside.Copies.{Moves}
+use Rattle.city_decimals.specs.inside.Compact.{value_text, members_text, comma_if, State, IsCopied, IsItemCopied}
+use Rattle.city_decimals.specs.inside.Compact.{AreMembersCopied, IsFrameCopied}
+use Rattle.city_decimals.specs.inside.Compact.{triple, IsNumberCopied, IsTripleCopied}
+use Rattle.city_decimals.specs.inside.Ways.{frame_changed}
+use Rattle.city_decimals.specs.declared.way.Way.TheVariants.{Encode, Decode}
 use Rattle.city_decimals.proofs.PlainNumbers.{plain_is_number, plain_is_whole}
-use Rattle.city_decimals.proofs.Compact.{moves_on, moves_as, untagged_none}
+use Rattle.city_decimals.proofs.Copied.{moves_on, moves_as, untagged_none}
 
 -- ---- a frame
 
@@ -43,7 +46,7 @@ framed_decoded ms none = ap (λ o. value_text (only (number_or o (decoded_member
 pub frame_copied : (limit : ℕ) (a b d e f : State) → 2 ≤ limit
     → Moves a b (123 ∷ 34 ∷ 35 ∷ 34 ∷ 58 ∷ []) [] → Moves b d (123 ∷ []) (123 ∷ [])
     → AreMembersCopied (decoded_members false) false (limit - 2) d e → Moves e f frame_end []
-    → IsFrameCopied frame_decoded limit a f
+    → IsFrameCopied (frame_changed Decode) limit a f
 frame_copied limit a b d e f deep first brace rest last =
     let ms = rest.ms in
     let none = untagged_none ms rest.untagged in
@@ -166,7 +169,7 @@ enframed_text x y =
 pub frame_put : (limit : ℕ) (a b d e f g h i : State) → 2 ≤ limit → Moves a b [] (123 ∷ 34 ∷ 35 ∷ 34 ∷ 58 ∷ [])
     → Moves b d scale_begin scale_begin → IsTripleCopied d e → Moves e f translate_begin translate_begin
     → IsTripleCopied f g → Moves g h (125 ∷ []) (125 ∷ []) → Moves h i [] frame_end
-    → IsFrameCopied frame_encoded limit a i
+    → IsFrameCopied (frame_changed Encode) limit a i
 frame_put limit a b d e f g h i deep p0 p1 t0 p2 t1 p3 p4 =
     let x = triple t0.a t0.b t0.c in
     let y = triple t1.a t1.b t1.c in
@@ -179,7 +182,7 @@ frame_put limit a b d e f g h i deep p0 p1 t0 p2 t1 p3 p4 =
       j = transform x y;
       moves = moves_as a i ([] ++ (scale_begin ++ (value_text x ++ (translate_begin ++ read2))))
           (begin ++ (scale_begin ++ (u ++ (translate_begin ++ made2)))) (value_text (transform x y))
-          (value_text (frame_encoded (transform x y)))
+          (value_text (frame_changed Encode (transform x y)))
           (moves_on a b i [] begin (scale_begin ++ (value_text x ++ (translate_begin ++ read2)))
           (scale_begin ++ (u ++ (translate_begin ++ made2))) p0
           (moves_on b d i scale_begin scale_begin (value_text x ++ (translate_begin ++ read2))

@@ -7,13 +7,16 @@ use Rattle.json.specs.Token.{Token}
 use Rattle.json.specs.Json.{Json, null, boolean, number, string, array, object, Items, no_items, item, Members}
 use Rattle.json.specs.Json.{no_members, member, document, max_depth}
 use Rattle.json.specs.Print.{print, print_from, quoted}
-use Rattle.json.specs.Tree.{json_tokens, items_tokens, members_tokens, depth, members_depth, HasNumbers}
+use Rattle.json.specs.Tree.{json_tokens, items_tokens, members_tokens, depth, members_depth}
 use Rattle.json.proofs.Printed.Trees.{document-print}
-use Rattle.city_decimals.specs.Encoded.{encoded_members, encoded_top}
+use Rattle.city_decimals.specs.Encoded.{encoded_members}
 use Rattle.city_decimals.specs.Decoded.{decoded_members, number_or}
-use Rattle.city_decimals.specs.Texts.{IsDecoded}
-use Rattle.city_decimals.specs.Compact.{value_text, items_text, members_text, comma_if, IsTopCopied}
-use Rattle.city_decimals.proofs.Compact.{untagged_none}
+use Rattle.city_decimals.specs.inside.Compact.{value_text, items_text, members_text, comma_if, IsTopCopied, IsUntagged}
+use Rattle.city_decimals.specs.inside.Changes.{top_changed, IsChanged}
+use Rattle.city_decimals.specs.inside.Ways.{members_changed}
+use Rattle.city_decimals.specs.declared.way.Way.{Way}
+use Rattle.city_decimals.specs.declared.way.Way.TheVariants.{Encode, Decode}
+use Rattle.city_decimals.proofs.Copied.{untagged_none}
 
 regroup : (q a b c : List ℕ) → (q ++ 58 ∷ []) ++ (a ++ (b ++ c)) ≡ (q ++ 58 ∷ (a ++ b)) ++ c
 regroup q a b c = append_assoc q _ _ ∙ sym (append_assoc q _ c ∙ ap (λ s. q ++ 58 ∷ s) (append_assoc a b c))
@@ -84,29 +87,20 @@ top_is h text out t =
     ap document (t.text_is ∙ sym (text_printed (object t.ms)))
     ∙ document-print (object t.ms) t.numbers (top_shallow t.ms t.shallow)
 
-pub top_decoded : (text out : List ℕ) → IsTopCopied (decoded_members true) text out → IsUtf8 text → IsDecoded text out
-top_decoded text out t utf8 =
-    let none = untagged_none t.ms t.untagged in
-    let made = decoded_members true t.ms in (
-      object t.ms,
-      (utf8, top_is (decoded_members true) text out t),
-      t.out_is ∙ sym (text_printed (object made)) ∙ ap (λ o. print (json_tokens (number_or o made))) (sym none),
-    )
+made_is : (way : Way) (ms : Members) → IsUntagged ms
+    → value_text (object (members_changed way true ms)) ≡ print (json_tokens (top_changed way (object ms)))
+made_is Encode ms h = sym (text_printed (object (encoded_members true ms)))
+made_is Decode ms h =
+    let made = decoded_members true ms in
+    sym (text_printed (object made)) ∙ ap (λ o. print (json_tokens (number_or o made))) (sym (untagged_none ms h))
 
--- the value of a text that is encoded, and what it is encoded as
-pub record IsTopEncoded (text out : List ℕ) : Type 0 where
-  pub j : Json
-  pub is : document text ≡ Some j
-  pub numbers : HasNumbers j
-  pub shallow : depth j ≤ max_depth
-  pub out_is : out ≡ print (json_tokens (encoded_top j))
-
-pub top_encoded : (text out : List ℕ) → IsTopCopied (encoded_members true) text out → IsTopEncoded text out
-top_encoded text out t =
+pub top_made : (way : Way) (text out : List ℕ) → IsTopCopied (members_changed way true) text out → IsUtf8 text
+    → IsChanged way text out
+top_made way text out t utf8 =
     record {
       j = object t.ms;
-      is = top_is (encoded_members true) text out t;
+      value = (utf8, top_is (members_changed way true) text out t);
       numbers = t.numbers;
       shallow = top_shallow t.ms t.shallow;
-      out_is = t.out_is ∙ sym (text_printed (object (encoded_members true t.ms)));
+      out_is = t.out_is ∙ made_is way t.ms t.untagged;
     }

@@ -6,7 +6,7 @@ use Rattle.std.proofs.lemmas.List.{take-append-drop, drop-take, drop-drop, take-
 use Rattle.std.proofs.lemmas.Grind.{flat_map-append}
 use Rattle.json.specs.Print.{escape_byte, escape}
 use Rattle.json.proofs.Printed.Strings.{escape_byte_plain}
-use Rattle.city_decimals.specs.Copies.{IsEscaped, IsPlainByte}
+use Rattle.city_decimals.specs.inside.Copies.{IsEscaped, IsPlainByte}
 
 pub take_plus : (a n : ℕ) (xs : List ℕ) → take (a + n) xs ≡ take a xs ++ take n (drop a xs)
 take_plus a n xs =

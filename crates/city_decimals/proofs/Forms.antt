@@ -4,7 +4,7 @@ use Rattle.json.specs.Token.{Token}
 use Rattle.json.specs.Json.{Json}
 use Rattle.json.specs.Tree.{json_tokens}
 use Rattle.city_decimals.specs.Shapes.{in_form}
-use Rattle.city_decimals.specs.Forms.{tokens_before, tokens_after}
+use Rattle.city_decimals.specs.inside.Forms.{tokens_before, tokens_after}
 use Rattle.city_decimals.specs.declared.shapes.Form.{Form}
 use Rattle.city_decimals.specs.declared.shapes.Form.TheVariants.{Plain, Shielded, Framed}
 

@@ -10,7 +10,7 @@ use Rattle.json.specs.Find.{get}
 use Rattle.json.specs.Tree.{json_tokens, items_tokens, members_tokens, HasNumbers}
 use Rattle.city_decimals.specs.Shapes.{is_tag, is_triple, is_frame, is_transform, only, fronted}
 use Rattle.city_decimals.specs.Decoded.{number_in, number_or, out_of_form, decoded, decoded_members}
-use Rattle.city_decimals.specs.Inner.{front, inner}
+use Rattle.city_decimals.specs.inside.Inner.{front, inner}
 use Rattle.city_decimals.proofs.Bools.{and_right, contradiction}
 
 only_of_object : (o : Option (List ℕ)) (ms : Members) → number_or o ms ≡ only (number_or o ms)
@@ -104,7 +104,7 @@ inner_smaller top k j =
     elim (top && is_transform k j) as (λ b. length (json_tokens (cond b (front j) (cond (is_tag k)
     (only j) j))) ≤ length (json_tokens j)) [ true ↦ front_smaller j | false ↦ plain ]
 
-only_numbers : (j : Json) → HasNumbers j → HasNumbers (only j)
+pub only_numbers : (j : Json) → HasNumbers j → HasNumbers (only j)
 only_numbers null h = h
 only_numbers (boolean b) h = h
 only_numbers (number s) h = h

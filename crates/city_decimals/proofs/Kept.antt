@@ -78,7 +78,7 @@ decoded_put k d (member l e ms) = decoded_at (slice_cmp nat_cmp k l) k l d e ms 
 
 -- ---- one member
 
-same_kind : (j : json.Json) → is_text_or_array (arranged j) ≡ is_text_or_array j
+pub same_kind : (j : json.Json) → is_text_or_array (arranged j) ≡ is_text_or_array j
 same_kind json.null = refl
 same_kind (json.boolean b) = refl
 same_kind (json.number s) = refl

@@ -8,9 +8,11 @@ pub mod Kept
 pub mod Texts
 pub mod OneLine
 pub mod Copies
-pub mod Compact
+pub mod Copied
 pub mod CompactForms
 pub mod CompactTexts
+pub mod Ways
+pub mod Changes
 pub mod Streams
 pub mod Starts
 pub mod Objects

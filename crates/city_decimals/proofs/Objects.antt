@@ -1,21 +1,23 @@
 -- The members of an object, and when they encode no number.
-use Rattle.std.proofs.Common.{◌≡◌, ℕ, zero, suc, ◌-◌, List, [], ◌∷◌, ◌++◌, Bool, true, false}
-use Rattle.std.proofs.Common.{cond, Option, Some, None, option_and_then, refl, sym, ap, ◌∙◌, subst, arith}
+use Rattle.std.proofs.Common.{◌≡◌, ℕ, zero, suc, ◌-◌, List, [], ◌∷◌, ◌++◌, Bool, false}
+use Rattle.std.proofs.Common.{cond, Option, Some, None, option_and_then, refl, sym, ap, ◌∙◌, arith}
 use Rattle.std.proofs.Common.{append_assoc}
 use Rattle.json.specs.Token.{Token}
-use Rattle.json.specs.Json.{Json, null, boolean, number, string, array, object, Items, no_items, item, Members}
+use Rattle.json.specs.Json.{Json, null, boolean, number, string, array, object, Members}
 use Rattle.json.specs.Json.{no_members, member, Parse, parse_map}
-use Rattle.json.specs.Json.{after_end_array, read_key, items_step, members_step, items, members}
+use Rattle.json.specs.Json.{read_key, members_step, members}
 use Rattle.json.specs.Tree.{json_tokens, members_tokens}
 use Rattle.json.proofs.Found.{Some_inj, not_found}
 use Rattle.std.specs.Prelude.{◌&&◌}
-use Rattle.std.proofs.lemmas.Slice.Eq.{bytes_eq-Decides}
-use Rattle.json.specs.Tree.{items_tokens}
 use Rattle.city_decimals.specs.Numbers.{is_number}
-use Rattle.city_decimals.specs.Shapes.{tag, is_tag, only}
-use Rattle.city_decimals.specs.Decoded.{number_under, number_in, number_or, out_of_form, decoded, decoded_items}
-use Rattle.city_decimals.specs.Decoded.{decoded_members, decoded_object}
-use Rattle.city_decimals.specs.Streams.{written}
+use Rattle.city_decimals.specs.Shapes.{is_tag}
+use Rattle.city_decimals.specs.Decoded.{number_under, number_in, number_or, decoded_members}
+use Rattle.city_decimals.specs.Encoded.{encoded_members}
+use Rattle.city_decimals.specs.inside.Objects.{decoded_object}
+use Rattle.city_decimals.specs.inside.Ways.{members_changed, object_made}
+use Rattle.city_decimals.specs.declared.way.Way.{Way}
+use Rattle.city_decimals.specs.declared.way.Way.TheVariants.{Encode, Decode}
+use Rattle.city_decimals.specs.inside.Streams.{written}
 
 -- where the members encode no number, they are written behind a brace
 pub object_written : (top : Bool) (out : List Token) (o : Option (Members × List Token))
@@ -26,6 +28,17 @@ object_written top out None h = refl
 object_written top out (Some q) h =
     ap (λ ts. Some (ts, q.1)) (ap (λ n. out ++ json_tokens (number_or n (decoded_members top q.0))) (h q.0 q.1 refl)
     ∙ sym (append_assoc out (Token.begin_object ∷ []) (members_tokens (decoded_members top q.0))))
+
+-- the same, whichever way; only decoded members can be a number
+pub object_put : (way : Way) (top : Bool) (out : List Token) (o : Option (Members × List Token))
+    → (way ≡ Decode → (ms : Members) (r : List Token) → o ≡ Some (ms, r) → number_in ms ≡ None)
+    → written (λ ms. json_tokens (object_made way top ms)) out o
+    ≡ written (λ ms. members_tokens (members_changed way top ms)) (out ++ Token.begin_object ∷ []) o
+object_put Encode top out None h = refl
+object_put Encode top out (Some q) h =
+    ap (λ ts. Some (ts, q.1)) (sym (append_assoc out (Token.begin_object ∷ []) (members_tokens
+    (encoded_members top q.0))))
+object_put Decode top out o h = object_written top out o (h refl)
 
 -- the first member, and the rest
 record HasFirst (p : Parse Json) (n : ℕ) (k : List ℕ) (s : List Token) (ms : Members) (r : List Token) : Type 0 where
@@ -98,50 +111,3 @@ other_name k (number s) h = refl
 other_name k (string s) h = ap (λ b. cond (b && is_number s) (Some s) None) h
 other_name k (array js) h = refl
 other_name k (object ms) h = refl
-
-pub text_number : (k s : List ℕ) (a b : Bool) → is_tag k ≡ a → is_number s ≡ b
-    → number_under k (string s) ≡ cond (a && b) (Some s) None
-text_number k s a b h e = ap (λ x. cond (x && is_number s) (Some s) None) h ∙ ap (λ x. cond (a && x) (Some s) None) e
-
-tag_at : (top : Bool) (j r : Json) → out_of_form top tag j r ≡ only r
-tag_at true j r = refl
-tag_at false j r = refl
-
--- under the tag no transform stands
-pub tag_form : (top : Bool) (k : List ℕ) (j r : Json) → is_tag k ≡ true → out_of_form top k j r ≡ only r
-tag_form top k j r h = ap (λ n. out_of_form top n j r) ((bytes_eq-Decides k tag).0 h) ∙ tag_at top j r
-
--- ---- items that are more than one
-
-abbrev pub IsItem : Items → Type 0
-IsItem no_items = ⊥
-IsItem (item j js) = Unit {0}
-
-item_then : (j : Json) (js : Items) (r : List Token) (o : Option (Items × List Token))
-    → parse_map (item j) o ≡ Some (js, r) → IsItem js
-item_then j js r None e = not_found (js, r) e
-item_then j js r (Some q) e = subst (λ x. IsItem x.0) (Some_inj (item j q.0, q.1) (js, r) e) tt
-
-items_then : (more : Parse Items) (js : Items) (r : List Token) (o : Option (Json × List Token))
-    → option_and_then (λ q. parse_map (item q.0) (more q.1)) o ≡ Some (js, r) → IsItem js
-items_then more js r None e = not_found (js, r) e
-items_then more js r (Some q) e = item_then q.0 js r (more q.1) e
-
-pub has_item : (p : Parse Json) (n : ℕ) (ts : List Token) (js : Items) (r : List Token)
-    → after_end_array ts ≡ None → items p n ts ≡ Some (js, r) → IsItem js
-unfolding items
-has_item p zero ts js r going e = not_found (js, r) e
-has_item p (suc m) ts js r going e = items_then (items p m) js r (p ts) (sym (ap (items_step p
-    (items p m) ts) going) ∙ e)
-
-pub several_written : (j : Json) (out now : List Token)
-    → now ≡ (out ++ Token.begin_array ∷ []) ++ json_tokens (decoded j) → (o : Option (Items × List Token))
-    → ((js : Items) (r : List Token) → o ≡ Some (js, r) → IsItem js)
-    → written (λ js. json_tokens (only (array (decoded_items js)))) out (parse_map (item j) o)
-    ≡ written (λ js. items_tokens (decoded_items js)) now o
-several_written j out now e None h = refl
-several_written j out now e (Some (no_items, r)) h = absurd (h no_items r refl)
-several_written j out now e (Some (item i js, r)) h =
-    let more = items_tokens (decoded_items (item i js)) in
-    ap (λ ts. Some (ts, r)) (sym (append_assoc out (Token.begin_array ∷ []) (json_tokens (decoded j) ++ more))
-    ∙ sym (append_assoc (out ++ Token.begin_array ∷ []) (json_tokens (decoded j)) more) ∙ ap (λ ts. ts ++ more) (sym e))

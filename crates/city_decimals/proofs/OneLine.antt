@@ -6,7 +6,8 @@ use Rattle.std.proofs.lemmas.List.{get_or-take, length-take}
 use Rattle.std.proofs.lemmas.Bool.{eqb-true}
 use Rattle.memchr.specs.Find.{IsFirstByte, is_byte}
 use Rattle.city_decimals.specs.Texts.{IsDecoded, IsDecimalsFault}
-use Rattle.city_decimals.specs.Lines.{HasNoNewline, IsFirstNewline, AreDecodedLines, IsLinesFault}
+use Rattle.city_decimals.specs.Lines.{HasNoNewline, AreDecodedLines, IsLinesFault}
+use Rattle.city_decimals.specs.inside.Newlines.{IsFirstNewline}
 use Rattle.city_decimals.specs.declared.fault.DecimalsFault.{DecimalsFault}
 use Rattle.city_decimals.specs.declared.fault.DecimalsFault.TheVariants.{OutOfMemory, NotJson}
 

@@ -13,9 +13,10 @@ use Rattle.json.proofs.Printed.Decimals.{IsNumber-decimal}
 use Rattle.serde_json.specs.Data.{unsigned}
 use Rattle.serde_json.specs.Find.{as_i64}
 use Rattle.serde_json.proofs.Numbers.{number_of-decimal}
-use Rattle.city_decimals.specs.Numbers.{IsPlain, is_written_so, is_whole}
-use Rattle.city_decimals.specs.Copies.{Moves}
-use Rattle.city_decimals.specs.Compact.{comma_if, State}
+use Rattle.city_decimals.specs.Numbers.{is_written_so, is_whole}
+use Rattle.city_decimals.specs.inside.PlainNumbers.{IsPlain}
+use Rattle.city_decimals.specs.inside.Copies.{Moves}
+use Rattle.city_decimals.specs.inside.Compact.{comma_if, State}
 use Rattle.city_decimals.proofs.Copies.{plain_text, take_plus}
 
 -- the text is that of a number that is written so

@@ -12,7 +12,7 @@ use Rattle.json.proofs.Numbered.{document-HasNumbers}
 use Rattle.json.proofs.Found.{Some_inj, not_found}
 use Rattle.json.proofs.Grammar.{left, left-parse_map, skip_value-shorter}
 use Rattle.json.proofs.Grammar.{items_end, items_more, members_end, members_more}
-use Rattle.city_decimals.specs.Streams.{written}
+use Rattle.city_decimals.specs.inside.Streams.{written}
 
 module _ {A : Type 0} (f : A → List Token) where
   -- what was read, where something was written
@@ -36,16 +36,6 @@ module _ {A : Type 0} (f : A → List Token) where
       let a = was_read out now o r e in
       ap (written g out) a.1 ∙ ap (λ ts. Some (ts, r)) (ap (λ ts. out ++ ts) (same a.0 a.1) ∙ sym a.2)
 
-  -- a token before it and one after it
-  pub written_between : (g : A → List Token) (s t : Token) (out now : List Token) (o : Option (A
-      × List Token)) (r : List Token) → written f (out ++ s ∷ []) o ≡ Some (now, r)
-      → ((a : A) → o ≡ Some (a, r) → g a ≡ s ∷ (f a ++ t ∷ [])) → written g out o ≡ Some (now ++ t ∷ [], r)
-  written_between g s t out now o r e same =
-      let a = was_read (out ++ s ∷ []) now o r e in
-      ap (written g out) a.1 ∙ ap (λ ts. Some (ts, r)) (ap (λ ts. out ++ ts) (same a.0 a.1)
-      ∙ sym (append_assoc out (s ∷ []) (f a.0 ++ t ∷ [])) ∙ sym (append_assoc (out ++ s ∷ []) (f a.0) (t ∷ []))
-      ∙ ap (λ ts. ts ++ t ∷ []) (sym a.2))
-
   -- a token before all else
   pub token_first : {B : Type 0} (h : A → B) (g : B → List Token) (t : Token) → ((a : A) → g (h a) ≡ t ∷ f a)
       → (out : List Token) (o : Option (A × List Token))
@@ -55,11 +45,11 @@ module _ {A : Type 0} (f : A → List Token) where
       ∙ sym (append_assoc out (t ∷ []) (f p.0)))
 
 -- what is written of a value is what is written of what it was made of
-pub written_under : {A B : Type 0} (h : A → B) (g : B
-    → List Token) (out : List Token) (o : Option (A × List Token))
-    → written g out (parse_map h o) ≡ written (λ a. g (h a)) out o
-written_under h g out None = refl
-written_under h g out (Some p) = refl
+pub written_with : {A B : Type 0} (h : A → B) (g : B → List Token) (f : A → List Token)
+    → ((a : A) → g (h a) ≡ f a) → (out : List Token) (o : Option (A × List Token))
+    → written g out (parse_map h o) ≡ written f out o
+written_with h g f same out None = refl
+written_with h g f same out (Some p) = ap (λ ts. Some (out ++ ts, p.1)) (same p.0)
 
 -- a value takes at least one token
 pub value_shorter : (f : Json → List Token) (d : ℕ) (out now ts r : List Token)

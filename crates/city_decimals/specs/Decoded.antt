@@ -52,7 +52,3 @@ decoded_top (number s) = number s
 decoded_top (string s) = string s
 decoded_top (array js) = array (decoded_items js)
 decoded_top (object ms) = number_or (number_in ms) (decoded_members true ms)
-
--- what the members of an object are decoded as
-abbrev pub decoded_object : Bool → Members → Json
-decoded_object top ms = number_or (number_in ms) (decoded_members top ms)

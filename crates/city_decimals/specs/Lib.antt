@@ -5,11 +5,7 @@ pub mod Decoded
 pub mod Faults
 pub mod Texts
 pub mod Whole
-pub mod Forms
-pub mod Inner
 pub mod Arranged
 pub mod Kept
 pub mod Lines
-pub mod Streams
-pub mod Copies
-pub mod Compact
+pub mod inside

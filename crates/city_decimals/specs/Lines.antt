@@ -1,15 +1,11 @@
 -- Texts that are decoded line by line.
-use Rattle.std.specs.Prelude.{◌≡◌, ◌≢◌, ◌<◌, ℕ, List, [], ◌∷◌, ◌++◌, Option, Some, None, length, take, get_or}
+use Rattle.std.specs.Prelude.{◌≡◌, ◌≢◌, ◌<◌, ℕ, List, [], ◌∷◌, ◌++◌, length, get_or}
 use Rattle.city_decimals.specs.Texts.{IsDecoded, IsDecimalsFault}
 use Rattle.city_decimals.specs.declared.fault.DecimalsFault.{DecimalsFault}
 use Rattle.city_decimals.specs.declared.fault.DecimalsFault.TheVariants.{OutOfMemory, NotJson}
 
 abbrev pub HasNoNewline : List ℕ → Type 0
 HasNoNewline line = (k : ℕ) → k < length line → get_or line k 0 ≢ 10
-
-abbrev pub IsFirstNewline : List ℕ → Option ℕ → Type 0
-IsFirstNewline text None = HasNoNewline text
-IsFirstNewline text (Some at) = (at < length text) × (get_or text at 0 ≡ 10) × HasNoNewline (take at text)
 
 -- a line, and what it is decoded as
 abbrev pub ArePairs : List (List ℕ × List ℕ) → Type 0

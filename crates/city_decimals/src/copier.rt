@@ -2,13 +2,14 @@
 ghost use Rattle.std.specs.Prelude.{◌≡◌, ◌∷◌, ◌++◌, ◌+◌, ◌<◌, ◌≤◌, get_or, [], ℕ, List, true, false, length, take};
 ghost use Rattle.std.specs.Prelude.{drop, IfOk, IfErr, IfSome};
 ghost use Rattle.std.specs.Bool.{OnTrue};
+ghost use Rattle.std.specs.Str.{IsUtf8};
 ghost use Rattle.json.specs.Print.{IsNumber, escape};
-ghost use Rattle.city_decimals.specs.Copies.{Moves, IsEscaped, IsPlainByte};
-ghost use Rattle.city_decimals.specs.Compact.{comma_if, IsKeyPassed};
-ghost use Rattle.city_decimals.specs.Numbers.{IsPlain};
+ghost use Rattle.city_decimals.specs.inside.Copies.{Moves, IsEscaped, IsPlainByte};
+ghost use Rattle.city_decimals.specs.inside.Compact.{comma_if, IsKeyPassed};
+ghost use Rattle.city_decimals.specs.inside.PlainNumbers.{IsPlain};
 
 use crate::numbers::{is_number, plain_len};
-use crate::text::text_of;
+use crate::text::{is_text, text_of};
 use std::marker::Model;
 
 /// A text of which some is read, and what is written for that. A clause sees what the buffer held before, what was
@@ -29,7 +30,7 @@ impl<'a> Model for Copier<'a> {
 
     ghost Value = { List ℕ × List ℕ × List ℕ };
 
-    ghost use Rattle.city_decimals.specs.Copies.{copier_view, IsCopier};
+    ghost use Rattle.city_decimals.specs.inside.Copies.{copier_view, IsCopier};
 
     ghost view = { copier_view };
 
@@ -51,9 +52,11 @@ impl<'a> Copier<'a> {
         }
     }
 
-    /// The buffer with what was written, where the whole text is read and there is memory; else as it was before.
+    /// The buffer with what was written, where the whole text is read, what was written is text, and there is
+    /// memory; else as it was before.
     pub(crate) fn finish(self) -> Result<Vec<u8>, Vec<u8>>
-        ensures ok { IfOk result (λ v. (self.entry.2 ≡ []) × (v.items ≡ self.entry.0 ++ self.entry.1)) }
+        ensures ok { IfOk result (λ v. (self.entry.2 ≡ []) × IsUtf8 self.entry.1
+            × (v.items ≡ self.entry.0 ++ self.entry.1)) }
         ensures err { IfErr result (λ v. v.items ≡ self.entry.0) }
     {
         let Copier {
@@ -64,7 +67,10 @@ impl<'a> Copier<'a> {
             base,
         } = self;
         let mut out = out;
-        if at < text.len() || out.extend_from_slice(&text[start..at]).is_err() {
+        if at < text.len()
+            || out.extend_from_slice(&text[start..at]).is_err()
+            || !is_text(&out[base..])
+        {
             out.truncate(base);
             return Err(out);
         }

@@ -8,19 +8,18 @@ ghost use Rattle.serde_json.specs.Read.{read, max_depth};
 ghost use Rattle.city_decimals.specs.Texts.{IsEncoded, IsDecoded, IsDecimalsFault};
 ghost use Rattle.city_decimals.specs.Whole.{is_integral};
 
-mod compact;
 mod form;
+mod member;
 mod number;
-mod transform;
 mod tree;
-mod value;
 
+use crate::change::change_onto;
 use crate::fault::DecimalsFault;
-use crate::text::text_of;
-use compact::encode_compact;
-use json::{Reader, Scratch, Writer};
+use crate::way::Way;
+use json::Scratch;
+pub(crate) use member::encode_member_tree;
+pub(crate) use number::encode_number;
 use std::alloc::Global;
-use value::encode_top;
 
 /// The text with each number that is no `i64` as a text under `#`, in one line. A text or an array under `#` is
 /// shielded, a `transform` at the top framed.
@@ -41,17 +40,7 @@ pub fn encode(alloc: Global, bytes: &[u8]) -> Result<Vec<u8>, DecimalsFault>
     ensures utf8 { IfOk result (λ out. IsUtf8 out.items) }
     ensures fault { IfErr result (λ f. IsDecimalsFault bytes.now f) }
 {
-    let text = text_of(bytes)?;
-    let out = match encode_compact(bytes, Vec::with_capacity(alloc, bytes.len())?) {
-        Ok(encoded) => return Ok(encoded),
-        Err(out) => out,
-    };
     let mut scratch = Scratch::new(alloc);
-    let mut reader = Reader::new(text, &mut scratch)?;
-    let mut out = Writer::new(out);
-    encode_top(alloc, &mut reader, &mut out)?;
-    if reader.next().is_some() {
-        return Err(DecimalsFault::NotJson);
-    }
-    Ok(out.into_inner())
+    let out = Vec::with_capacity(alloc, bytes.len())?;
+    change_onto(alloc, Way::Encode, bytes, &mut scratch, out)
 }

@@ -7,16 +7,18 @@
 //! - a `transform` at the top is framed: the identity stands there, with the transform under `#`
 #![tactic(auto)]
 
+mod change;
+mod compact;
 mod copier;
 mod decoding;
 mod encoding;
 mod fault;
 mod laws;
-mod leaves;
 mod lines;
 mod numbers;
 mod shapes;
 mod text;
+mod way;
 
 pub use decoding::decode;
 pub use encoding::encode;

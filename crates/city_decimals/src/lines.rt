@@ -1,9 +1,11 @@
 //! Decodes a text line by line, as a report and a model stand in it.
 ghost use Rattle.std.specs.Prelude.{◌≡◌, IfOk, IfErr};
-ghost use Rattle.city_decimals.specs.Lines.{IsFirstNewline, AreDecodedLines, IsLinesFault};
+ghost use Rattle.city_decimals.specs.Lines.{AreDecodedLines, IsLinesFault};
+ghost use Rattle.city_decimals.specs.inside.Newlines.{IsFirstNewline};
 
-use crate::decoding::decode_onto;
+use crate::change::change_onto;
 use crate::fault::DecimalsFault;
+use crate::way::Way;
 use json::Scratch;
 use memchr::memchr;
 use std::alloc::Global;
@@ -17,7 +19,7 @@ pub fn decode_lines(alloc: Global, bytes: &[u8]) -> Result<Vec<u8>, DecimalsFaul
     let mut out = Vec::with_capacity(alloc, bytes.len())?;
     let mut rest = bytes;
     while let Some(at) = first_newline(rest) {
-        out = decode_onto(alloc, &rest[..at], &mut scratch, out)?;
+        out = change_onto(alloc, Way::Decode, &rest[..at], &mut scratch, out)?;
         out.extend_from_slice(b"\n")?;
         rest = &rest[at + 1..];
     }

@@ -5,7 +5,8 @@ ghost use Rattle.std.specs.Fmt.{signed_decimal};
 ghost use Rattle.std.specs.Str.{bytes_eq};
 ghost use Rattle.json.specs.Print.{IsNumber};
 ghost use Rattle.serde_json.specs.Read.{number_from};
-ghost use Rattle.city_decimals.specs.Numbers.{IsPlain, is_written_so, is_whole, is_number};
+ghost use Rattle.city_decimals.specs.Numbers.{is_written_so, is_whole, is_number};
+ghost use Rattle.city_decimals.specs.inside.PlainNumbers.{IsPlain};
 
 use fast_float::Numeral;
 

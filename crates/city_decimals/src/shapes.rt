@@ -4,6 +4,7 @@ ghost use Rattle.json.specs.Find.{get};
 ghost use Rattle.json.specs.Value.{value_view};
 ghost use Rattle.city_decimals.specs.Shapes.{is_tag, is_triple, is_number_at, is_frame, is_transform};
 ghost use Rattle.city_decimals.specs.Shapes.{is_text_or_array, form_of};
+ghost use Rattle.city_decimals.specs.inside.Forms.{can_have_form};
 
 use json::Value;
 
@@ -32,6 +33,14 @@ pub(crate) fn form_of(top: bool, key: &str, value: &Value<'_>) -> Form
     } else {
         Form::Plain
     }
+}
+
+/// Whether the member of this name can have a form, by its name alone.
+#[inline(always)]
+pub(crate) fn can_have_form(top: bool, key: &str) -> bool
+    ensures { result ≡ can_have_form top key.now }
+{
+    (top && key == "transform") || is_tag(key)
 }
 
 pub(crate) fn is_tag(key: &str) -> bool

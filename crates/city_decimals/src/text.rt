@@ -1,5 +1,6 @@
 //! Bytes as text.
 ghost use Rattle.std.specs.Prelude.{◌≡◌, IfOk, IfErr};
+ghost use Rattle.std.specs.Bool.{OnTrue};
 ghost use Rattle.std.specs.Str.{IsUtf8};
 ghost use Rattle.city_decimals.specs.declared.fault.DecimalsFault.TheVariants.{NotJson};
 
@@ -14,5 +15,15 @@ pub(crate) fn text_of(bytes: &[u8]) -> Result<&str, DecimalsFault>
     match from_utf8(bytes) {
         Ok(text) => Ok(text),
         Err(_) => Err(DecimalsFault::NotJson),
+    }
+}
+
+/// Whether the bytes are text.
+pub(crate) fn is_text(bytes: &[u8]) -> bool
+    ensures { OnTrue result (IsUtf8 bytes.now) }
+{
+    match text_of(bytes) {
+        Ok(_) => true,
+        Err(_) => false,
     }
 }

@@ -1,6 +1,6 @@
 -- A script that is run to its end while nothing else is open.
 use Rattle.std.proofs.Common.{◌≡◌, ◌≢◌, ◌<◌, ◌+◌, ◌-◌, ◌==◌, ◌||◌, ℕ, false, List, [], ◌∷◌, ◌++◌, length, Some, None, refl, ap, sym, subst, ◌∙◌, inl, inr, arith, length-append}
-use Rattle.std.specs.Prelude.{slice_index_or}
+use Rattle.std.specs.Prelude.{slice_index_or, slice_set}
 use Rattle.std.proofs.lemmas.Bool.{false≢true, cases_eq, eq-eqb}
 use Rattle.std.proofs.lemmas.List.{get_or-set_same, get_or-set_other}
 use Rattle.std.proofs.lemmas.Option.{slice_get_within}
@@ -8,13 +8,13 @@ use Rattle.city_model.specs.declared.command.Reply.{Reply}
 use Rattle.city_model.specs.declared.end.End.{End}
 use Rattle.city_model.specs.declared.end.Outcome.{Outcome}
 use Rattle.city_model.specs.Runs.{Scripted, has_end}
-use Rattle.city_txn.specs.Acting.{reply_in}
 use Rattle.city_desk.specs.declared.progress.Progress.{Progress}
 use Rattle.city_desk.specs.declared.progress.Phase.{Phase}
 use Rattle.city_desk.specs.declared.progress.Phase.TheVariants.{NotBegun, Idle, Open, Ended}
-use Rattle.city_desk.specs.DeskState.{DeskState, nowhere, phase_of, replies_of, commands_at, name_at, is_ended, is_open_phase}
+use Rattle.city_desk.specs.DeskState.{DeskState, progress_to, nowhere, replies_in, phase_of, replies_of, room_of, commands_at, name_at, is_ended, is_open_phase}
 use Rattle.city_desk.specs.Turning.{Keeps, Moves, stamp_for, HasBegun, HasReplied, HasWaited, HasDied, IsDue, HasEnded, IsOpenAt}
-use Rattle.city_desk.specs.InTurn.{AreInTurn, HasRun, HaveRun}
+use Rattle.city_desk.specs.InTurn.{AreInTurn}
+use Rattle.city_desk.specs.inside.RunInTurn.{HasRun, HaveRun}
 use Rattle.city_model.proofs.Fitting.{has_end_more}
 use Rattle.city_desk.proofs.SerialKept.{or_true}
 use Rattle.city_desk.proofs.Youngest.{open_within}
@@ -49,27 +49,30 @@ unended since (Idle stamp) h = refl
 unended since (Open stamp began) h = refl
 unended since Ended h = absurd h
 
-module _ (d e : DeskState) (n : ℕ) (phase : Phase) (replies : List Reply) (within : n < length d.progress) (moves : Moves d e n phase replies) where
-  pub phase_moved : phase_of e n ≡ phase
-  phase_moved = ap (λ ps. (slice_index_or ps n nowhere).phase) moves ∙ ap (λ (p : Progress). p.phase) (get_or-set_same d.progress n (record { phase = phase; replies = replies }) nowhere within)
+module _ (d e : DeskState) (n : ℕ) (q : Progress) (within : n < length d.progress) (moves : e.progress ≡ slice_set d.progress n q) where
+  pub phase_moved : phase_of e n ≡ q.phase
+  phase_moved = ap (λ ps. (slice_index_or ps n nowhere).phase) moves ∙ ap (λ (p : Progress). p.phase) (get_or-set_same d.progress n q nowhere within)
 
-  pub replies_moved : replies_of e n ≡ replies
-  replies_moved = ap (λ ps. (slice_index_or ps n nowhere).replies) moves ∙ ap (λ (p : Progress). p.replies) (get_or-set_same d.progress n (record { phase = phase; replies = replies }) nowhere within)
+  pub replies_moved : replies_of e n ≡ q.replies.list
+  replies_moved = ap (λ ps. replies_in ps n) moves ∙ ap (λ (p : Progress). p.replies.list) (get_or-set_same d.progress n q nowhere within)
 
   pub phase_unmoved : (k : ℕ) → k ≢ n → phase_of e k ≡ phase_of d k
-  phase_unmoved k ne = ap (λ ps. (slice_index_or ps k nowhere).phase) moves ∙ ap (λ (p : Progress). p.phase) (get_or-set_other d.progress n k (record { phase = phase; replies = replies }) nowhere ne)
+  phase_unmoved k ne = ap (λ ps. (slice_index_or ps k nowhere).phase) moves ∙ ap (λ (p : Progress). p.phase) (get_or-set_other d.progress n k q nowhere ne)
 
 module _ (n : ℕ) (start d e : DeskState) (r : IsRunning n start d) (keeps : Keeps d e) where
   within : n < length d.progress
   within = open_within d.progress n (unended (length start.ends) (phase_of d n) r.going)
 
+  abbrev at_now : Phase → List Reply → Progress
+  at_now phase replies = progress_to phase replies (room_of d n)
+
   went_on : (phase : Phase) (replies : List Reply) → Moves d e n phase replies → IsGoing (length start.ends) phase → e.ends ≡ d.ends → IsRunning n start e
   went_on phase replies moves going ends = record {
     keeps = keeps_both start d e r.keeps keeps;
     ends = ends ∙ r.ends;
-    going = subst (IsGoing (length start.ends)) (sym (phase_moved d e n phase replies within moves)) going;
-    beside = λ k ne. phase_unmoved d e n phase replies within moves k ne ∙ r.beside k ne;
-    alone = λ k ne. ap is_open_phase (phase_unmoved d e n phase replies within moves k ne) ∙ r.alone k ne;
+    going = subst (IsGoing (length start.ends)) (sym (phase_moved d e n (at_now phase replies) within moves)) going;
+    beside = λ k ne. phase_unmoved d e n (at_now phase replies) within moves k ne ∙ r.beside k ne;
+    alone = λ k ne. ap is_open_phase (phase_unmoved d e n (at_now phase replies) within moves k ne) ∙ r.alone k ne;
   }
 
   pub began : HasBegun d e n → IsRunning n start e
@@ -114,8 +117,8 @@ module _ (n : ℕ) (start d e : DeskState) (r : IsRunning n start d) (keeps : Ke
         script = refl;
         since = since_of (phase_of d n) h.since h.outcome r.going h.due;
         ends = h.ends ∙ ap (λ es. es ++ last ∷ []) r.ends;
-        over = phase_moved d e n Ended [] within h.moves;
-        beside = λ k ne. phase_unmoved d e n Ended [] within h.moves k ne ∙ r.beside k ne;
+        over = phase_moved d e n nowhere within h.moves;
+        beside = λ k ne. phase_unmoved d e n nowhere within h.moves k ne ∙ r.beside k ne;
       }
 
   -- ---- fewer turns are left
@@ -131,15 +134,15 @@ module _ (n : ℕ) (start d e : DeskState) (r : IsRunning n start d) (keeps : Ke
 
   pub began_fewer : HasBegun d e n → turns_left e.scripts n (phase_of e n) (replies_of e n) < turns_left d.scripts n (phase_of d n) (replies_of d n)
   began_fewer h =
-      let now = left_as (Open h.stamp (length d.ends)) [] (phase_moved d e n (Open h.stamp (length d.ends)) [] within h.moves) (replies_moved d e n (Open h.stamp (length d.ends)) [] within h.moves) in
+      let now = left_as (Open h.stamp (length d.ends)) [] (phase_moved d e n (at_now (Open h.stamp (length d.ends)) []) within h.moves) (replies_moved d e n (at_now (Open h.stamp (length d.ends)) []) within h.moves) in
       let before = more_at_first (phase_of d n) (replies_of d n) h.stamp r.going h.is_its in
       omega arith
 
   pub replied_fewer : HasReplied d e n → turns_left e.scripts n (phase_of e n) (replies_of e n) < turns_left d.scripts n (phase_of d n) (replies_of d n)
   replied_fewer h =
-      let rs : List Reply = replies_of d n ++ reply_in d.core h.stamp h.is.command ∷ [] in
-      let now = left_as (Open h.stamp h.since) rs (phase_moved d e n (Open h.stamp h.since) rs within h.moves) (replies_moved d e n (Open h.stamp h.since) rs within h.moves) in
-      let long : length rs ≡ length (replies_of d n) + 1 = length-append (replies_of d n) (reply_in d.core h.stamp h.is.command ∷ []) in
+      let rs : List Reply = replies_of d n ++ h.reply ∷ [] in
+      let now = left_as (Open h.stamp h.since) rs (phase_moved d e n (at_now (Open h.stamp h.since) rs) within h.moves) (replies_moved d e n (at_now (Open h.stamp h.since) rs) within h.moves) in
+      let long : length rs ≡ length (replies_of d n) + 1 = length-append (replies_of d n) (h.reply ∷ []) in
       let lt = slice_get_within (commands_at d.scripts n) (length (replies_of d n)) h.is.command h.is.next.next in
       let before : turns_left d.scripts n (phase_of d n) (replies_of d n) ≡ length (commands_at d.scripts n) - length (replies_of d n) = ap (λ p. turns_left d.scripts n p (replies_of d n)) h.is.next.phase in
       omega arith

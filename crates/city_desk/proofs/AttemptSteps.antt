@@ -8,26 +8,26 @@ use Rattle.city_model.specs.declared.command.Cause.{Cause}
 use Rattle.city_model.specs.declared.command.Reply.{Reply}
 use Rattle.city_model.specs.declared.command.Reply.TheVariants as replies
 use Rattle.city_model.specs.declared.end.Outcome.{Outcome}
-use Rattle.city_model.specs.CityMap.{at, CityValue}
+use Rattle.city_model.specs.CityMap.{object_at, CityValue}
 use Rattle.city_model.specs.Relations.{IsLawful}
-use Rattle.city_model.specs.Marks.{View, refusal, answer}
-use Rattle.city_model.specs.Meaning.{refused_or, done_reply, is_refusal}
-use Rattle.city_model.proofs.Refused.{done_unrefused}
-use Rattle.city_model.specs.Runs.{Refuses, Change, with_change, shown}
+use Rattle.city_model.specs.Meaning.{Answers, is_refusal}
+use Rattle.city_model.proofs.Effects.{refused_does}
+use Rattle.city_model.specs.Runs.{Change, after_change, after_changes}
 use Rattle.city_model.specs.Scripts.{is_end}
 use Rattle.city_locks.specs.declared.answer.Answer.{Answer}
 use Rattle.city_locks.specs.declared.answer.Answer.TheVariants.{Granted, Wait, Die}
 use Rattle.city_txn.specs.declared.step.Step.{Step}
 use Rattle.city_txn.specs.declared.step.Step.TheVariants as steps
 use Rattle.city_txn.specs.declared.step.TxnFault.{TxnFault}
-use Rattle.city_txn.specs.CoreState.{CoreState, committed, seen, is_open, Stands, KeepsOthers, IsUndone}
-use Rattle.city_txn.specs.Acting.{Acted, reply_in, answer_in, step_of, EndsIn}
+use Rattle.city_txn.specs.CoreState.{CoreState, committed, snapshot, is_open, StandsUnderLocks, KeepsOthers, IsRolledBack}
+use Rattle.city_txn.specs.Acting.{IsAct, answer_in, step_of, EndsIn}
 use Rattle.city_txn.specs.Changing.{IsChangeOf}
 use Rattle.city_txn.specs.Locking.{IsBlocked}
 use Rattle.city_desk.specs.declared.progress.Progress.{Progress}
 use Rattle.city_desk.specs.declared.progress.Phase.TheVariants.{Idle}
 use Rattle.city_desk.specs.declared.turn.Turn.TheVariants as turns
-use Rattle.city_desk.specs.Attempt.{AttemptEnded, HasStepped}
+use Rattle.city_desk.specs.DeskState.{progress_to}
+use Rattle.city_desk.specs.inside.Attempt.{AttemptEnded, HasStepped}
 use Rattle.city_model.proofs.Writing.{shown_more}
 use Rattle.city_desk.proofs.Shelved.{if_some_to}
 
@@ -57,47 +57,33 @@ by_die Granted reply e = absurd (cc)
 by_die Wait reply e = absurd (cc)
 by_die Die reply e = refl
 
--- ---- a refused command
-
-why : (cause : Option Cause) (done : Reply) (x : Cause) → refused_or cause done ≡ replies.Refused x → is_refusal done ≡ false → cause ≡ Some x
-why None done x e h = absurd (false≢true (sym h ∙ ap is_refusal e))
-why (Some cause) done x e h = cc
-
-refused_by : (v : View) (c : Command) (x : Cause) → is_end c ≡ false → answer v c ≡ replies.Refused x → Refuses v c x
-refused_by v (Read id) x g e = why (refusal v (Read id)) (done_reply v.map (Read id)) x e (done_unrefused v.map (Read id))
-refused_by v (Put id body) x g e = why (refusal v (Put id body)) (done_reply v.map (Put id body)) x e (done_unrefused v.map (Put id body))
-refused_by v (Delete id) x g e = why (refusal v (Delete id)) (done_reply v.map (Delete id)) x e (done_unrefused v.map (Delete id))
-refused_by v (Attach child parent) x g e = why (refusal v (Attach child parent)) (done_reply v.map (Attach child parent)) x e (done_unrefused v.map (Attach child parent))
-refused_by v (Detach child parent) x g e = why (refusal v (Detach child parent)) (done_reply v.map (Detach child parent)) x e (done_unrefused v.map (Detach child parent))
-refused_by v (Mark name) x g e = why (refusal v (Mark name)) (done_reply v.map (Mark name)) x e (done_unrefused v.map (Mark name))
-refused_by v (Back name) x g e = why (refusal v (Back name)) (done_reply v.map (Back name)) x e (done_unrefused v.map (Back name))
-refused_by v Commit x g e = absurd (false≢true (sym g))
-refused_by v Abort x g e = absurd (false≢true (sym g))
-
 -- ---- a command that doesn't end its script
 
 module _ (stamp : ℕ) (command : Command) (p q : Progress) (v w : CoreState) (goes_on : is_end command ≡ false) (changes : List Change) where
-  pub replied : (reply : Reply) → Acted stamp command (Ok (steps.Done reply)) v w → is_open v stamp ≡ true → is_refusal reply ≡ false → q ≡ record { phase = p.phase; replies = p.replies ++ reply ∷ [] }
+  pub replied : (reply : Reply) → IsAct stamp command (Ok (steps.Done reply)) v w → is_open v stamp ≡ true → is_refusal reply ≡ false → q ≡ progress_to p.phase (p.replies.list ++ reply ∷ []) p.replies.room
       → HasStepped stamp command (Ok turns.Replied) p q v w changes changes
   replied reply k opened unrefused heard =
-      let by = by_done (answer_in v stamp command) (reply_in v stamp command) reply k.step in
+      let by = by_done (answer_in v stamp command) k.reply reply k.step in
       record {
         so = record {
           goes_on = goes_on;
           granted = by.0;
+          reply = k.reply;
+          after = k.after;
+          does = k.does;
           unrefused = sym (ap is_refusal by.1) ∙ unrefused;
-          heard = heard ∙ ap (λ r. record { phase = p.phase; replies = p.replies ++ r ∷ [] }) by.1;
+          heard = heard ∙ ap (λ r. progress_to p.phase (p.replies.list ++ r ∷ []) p.replies.room) by.1;
           opened = k.opened ∙ opened;
-          stands = λ done h. subst (λ r. Stands w stamp (done ++ (command, r) ∷ [])) by.1 (k.own done h);
+          stands = λ done h. subst (λ r. StandsUnderLocks w stamp (done ++ (command, r) ∷ [])) by.1 (k.own done h);
         };
         keeps = k.keeps;
         city = k.city;
         changes = refl;
       }
 
-  pub waits : Acted stamp command (Ok steps.Wait) v w → is_open v stamp ≡ true → q ≡ p → HasStepped stamp command (Ok turns.Waits) p q v w changes changes
+  pub waits : IsAct stamp command (Ok steps.Wait) v w → is_open v stamp ≡ true → q ≡ p → HasStepped stamp command (Ok turns.Waits) p q v w changes changes
   waits k opened same =
-      let by = by_wait (answer_in v stamp command) (reply_in v stamp command) k.step in
+      let by = by_wait (answer_in v stamp command) k.reply k.step in
       record {
         so = record {
           goes_on = goes_on;
@@ -114,10 +100,10 @@ module _ (stamp : ℕ) (command : Command) (p q : Progress) (v w : CoreState) (g
 
   -- ---- and the transaction is rolled back
 
-  module _ (x : CoreState) (undone : IsUndone stamp w x) where
-    pub dies : Acted stamp command (Ok steps.Die) v w → q ≡ record { phase = Idle stamp; replies = [] } → HasStepped stamp command (Ok turns.Died) p q v x changes changes
+  module _ (x : CoreState) (undone : IsRolledBack stamp w x) where
+    pub dies : IsAct stamp command (Ok steps.Die) v w → q ≡ progress_to (Idle stamp) [] p.replies.room → HasStepped stamp command (Ok turns.Died) p q v x changes changes
     dies k idle =
-        let by = by_die (answer_in v stamp command) (reply_in v stamp command) k.step in
+        let by = by_die (answer_in v stamp command) k.reply k.step in
         record {
           so = record {
             goes_on = goes_on;
@@ -131,13 +117,13 @@ module _ (stamp : ℕ) (command : Command) (p q : Progress) (v w : CoreState) (g
           changes = refl;
         }
 
-    pub refused : (number : ℕ) (reply : Reply) (cause : Cause) → Acted stamp command (Ok (steps.Done reply)) v w → reply ≡ replies.Refused cause → number ≡ length p.replies → q ≡ p
+    pub refused : (number : ℕ) (reply : Reply) (cause : Cause) → IsAct stamp command (Ok (steps.Done reply)) v w → reply ≡ replies.Refused cause → number ≡ length p.replies.list → q ≡ p
         → HasStepped stamp command (Err (Outcome.Refused number cause)) p q v x changes changes
     refused number reply cause k is count same =
-        let by = by_done (answer_in v stamp command) (reply_in v stamp command) reply k.step in (
+        let by = by_done (answer_in v stamp command) k.reply reply k.step in (
           same,
           record {
-            ends = (count, refused_by (seen v stamp) command cause goes_on (sym by.1 ∙ is));
+            ends = (count, refused_does (snapshot v stamp) command cause k.after (k.does ∙ ap (λ r. Answers r k.after) (sym by.1 ∙ is)));
             granted = λ _ _. by.0;
             closed = undone.over.closed;
             keeps = keeps_both stamp v w x k.keeps undone.over.keeps;
@@ -145,7 +131,7 @@ module _ (stamp : ℕ) (command : Command) (p q : Progress) (v w : CoreState) (g
           },
         )
 
-    pub unheard : (number : ℕ) (result : Result Step TxnFault) → Acted stamp command result v w → number ≡ length p.replies → q ≡ p → HasStepped stamp command (Err (Outcome.NoMemory number)) p q v x changes changes
+    pub unheard : (number : ℕ) (result : Result Step TxnFault) → IsAct stamp command result v w → number ≡ length p.replies.list → q ≡ p → HasStepped stamp command (Err (Outcome.NoMemory number)) p q v x changes changes
     unheard number result k count same = (
       same,
       record {
@@ -158,8 +144,8 @@ module _ (stamp : ℕ) (command : Command) (p q : Progress) (v w : CoreState) (g
     )
 
 -- the step, as the code takes it apart
-pub done_as : (stamp : ℕ) (command : Command) (step : Step) (reply heard : Reply) (v w : CoreState) → Acted stamp command (Ok step) v w → step ≡ steps.Done reply → reply ≡ heard → Acted stamp command (Ok (steps.Done heard)) v w
-done_as stamp command step reply heard v w k is same = subst (λ (s : Step). Acted stamp command (Ok s) v w) (is ∙ ap (λ r. steps.Done r) same) k
+pub done_as : (stamp : ℕ) (command : Command) (step : Step) (reply heard : Reply) (v w : CoreState) → IsAct stamp command (Ok step) v w → step ≡ steps.Done reply → reply ≡ heard → IsAct stamp command (Ok (steps.Done heard)) v w
+done_as stamp command step reply heard v w k is same = subst (λ (s : Step). IsAct stamp command (Ok s) v w) (is ∙ ap (λ r. steps.Done r) same) k
 
 pub goes_on_else : (c : Command) → (c ≡ Commit → ⊥) → (c ≡ Abort → ⊥) → is_end c ≡ false
 goes_on_else (Read id) f g = refl
@@ -176,13 +162,13 @@ goes_on_else Abort f g = absurd (g refl)
 
 -- the shelf may take the change
 pub may_take : (v : CoreState) (stamp : ℕ) (change : Change) (list : List Change) (base : Option CityValue) → IsChangeOf v stamp change
-    → IfSome base (λ city. shown (at city.1) list ≡ committed v) → IfSome base (λ city. IsLawful (shown (at city.1) (list ++ change ∷ [])))
+    → IfSome base (λ city. after_changes (object_at city.1) list ≡ committed v) → IfSome base (λ city. IsLawful (after_changes (object_at city.1) (list ++ change ∷ [])))
 may_take v stamp change list base k shows =
-    if_some_to base (λ city. shown (at city.1) list ≡ committed v) (λ city. IsLawful (shown (at city.1) (list ++ change ∷ [])))
-    (λ city same. subst IsLawful (sym (shown_more (at city.1) list change ∙ (ap (λ m. with_change m change) same ∙ k.makes_view))) k.lawful)
+    if_some_to base (λ city. after_changes (object_at city.1) list ≡ committed v) (λ city. IsLawful (after_changes (object_at city.1) (list ++ change ∷ [])))
+    (λ city same. subst IsLawful (sym (shown_more (object_at city.1) list change ∙ (ap (λ m. after_change m change) same ∙ k.makes_view))) k.lawful)
     shows
 
-pub commit_refused : (v w : CoreState) (stamp number : ℕ) (cause : Cause) (changes : List Change) → EndsIn v stamp Commit number (Outcome.Refused number cause) → IsUndone stamp v w
+pub commit_refused : (v w : CoreState) (stamp number : ℕ) (cause : Cause) (changes : List Change) → EndsIn v stamp Commit number (Outcome.Refused number cause) → IsRolledBack stamp v w
     → AttemptEnded stamp Commit number (Outcome.Refused number cause) v w changes changes
 commit_refused v w stamp number cause changes ends undone = record {
   ends = ends;

@@ -6,7 +6,7 @@ use Rattle.std.proofs.lemmas.List.{get_or-set_same, get_or-set_other}
 use Rattle.city_model.specs.declared.command.Command.{Command}
 use Rattle.city_model.specs.declared.command.Reply.{Reply}
 use Rattle.city_model.specs.Standing.{Answered, answered}
-use Rattle.city_txn.specs.CoreState.{is_open, Stands}
+use Rattle.city_txn.specs.CoreState.{is_open, StandsUnderLocks}
 use Rattle.city_desk.specs.declared.progress.Progress.{Progress}
 use Rattle.city_desk.specs.declared.progress.Phase.{Phase}
 use Rattle.city_desk.specs.declared.progress.Phase.TheVariants.{NotBegun, Idle, Open, Ended}
@@ -14,19 +14,19 @@ use Rattle.city_desk.specs.DeskState.{DeskState, nowhere, phase_of, replies_of, 
 use Rattle.city_desk.specs.Serial.{StandsAs, AreStanding}
 
 -- Script n, whose stamp this is and no other's, comes so far; the other transactions stand as they stood.
-pub record IsTurnOf (d e : DeskState) (n stamp : ℕ) (phase : Phase) (replies : List Reply) : Type 0 where
+pub record IsTurnOf (d e : DeskState) (n stamp : ℕ) (q : Progress) : Type 0 where
   pub there : n < length d.progress
   pub scripts : e.scripts ≡ d.scripts
-  pub progress : e.progress ≡ slice_set d.progress n (record { phase = phase; replies = replies })
+  pub progress : e.progress ≡ slice_set d.progress n q
   pub begun : d.begun ≤ e.begun
   pub ends : length d.ends ≤ length e.ends
-  pub others : (t : ℕ) (done : List Answered) → (stamp == t) ≡ false → Stands d.core t done → Stands e.core t done
+  pub others : (t : ℕ) (done : List Answered) → (stamp == t) ≡ false → StandsUnderLocks d.core t done → StandsUnderLocks e.core t done
   pub opened : (t : ℕ) → (stamp == t) ≡ false → is_open e.core t ≡ is_open d.core t
-  pub own : is_open e.core stamp ≡ is_open_phase phase
+  pub own : is_open e.core stamp ≡ is_open_phase q.phase
   pub was : (s : ℕ) → stamp_of (phase_of d n) ≡ Some s → s ≡ stamp
-  pub becomes : (s : ℕ) → stamp_of phase ≡ Some s → s ≡ stamp
+  pub becomes : (s : ℕ) → stamp_of q.phase ≡ Some s → s ≡ stamp
   pub alone : (k : ℕ) → stamp_of (phase_of d k) ≡ Some stamp → k ≡ n
-  pub stands : StandsAs e (commands_at d.scripts n) phase replies
+  pub stands : StandsAs e (commands_at d.scripts n) q.phase q.replies.list
 
 open_by : (phase : Phase) → is_open_phase phase ≡ true → (stamp : ℕ) × (since : ℕ) × (phase ≡ Open stamp since)
 open_by NotBegun h = absurd (false≢true h)
@@ -34,24 +34,24 @@ open_by (Idle stamp) h = absurd (false≢true h)
 open_by (Open stamp since) h = (stamp, since, refl)
 open_by Ended h = absurd (false≢true h)
 
-module _ (d e : DeskState) (n stamp : ℕ) (phase : Phase) (replies : List Reply) (k : IsTurnOf d e n stamp phase replies) where
-  progress_here : slice_index_or e.progress n nowhere ≡ record { phase = phase; replies = replies }
-  progress_here = ap (λ ps. slice_index_or ps n nowhere) k.progress ∙ get_or-set_same d.progress n (record { phase = phase; replies = replies }) nowhere k.there
+module _ (d e : DeskState) (n stamp : ℕ) (q : Progress) (k : IsTurnOf d e n stamp q) where
+  progress_here : slice_index_or e.progress n nowhere ≡ q
+  progress_here = ap (λ ps. slice_index_or ps n nowhere) k.progress ∙ get_or-set_same d.progress n q nowhere k.there
 
-  pub phase_here : phase_of e n ≡ phase
+  pub phase_here : phase_of e n ≡ q.phase
   phase_here = ap (λ (p : Progress). p.phase) progress_here
 
-  pub replies_here : replies_of e n ≡ replies
-  replies_here = ap (λ (p : Progress). p.replies) progress_here
+  pub replies_here : replies_of e n ≡ q.replies.list
+  replies_here = ap (λ (p : Progress). p.replies.list) progress_here
 
   progress_beside : (j : ℕ) → j ≢ n → slice_index_or e.progress j nowhere ≡ slice_index_or d.progress j nowhere
-  progress_beside j ne = ap (λ ps. slice_index_or ps j nowhere) k.progress ∙ get_or-set_other d.progress n j (record { phase = phase; replies = replies }) nowhere ne
+  progress_beside j ne = ap (λ ps. slice_index_or ps j nowhere) k.progress ∙ get_or-set_other d.progress n j q nowhere ne
 
   pub phase_beside : (j : ℕ) → j ≢ n → phase_of e j ≡ phase_of d j
   phase_beside j ne = ap (λ (p : Progress). p.phase) (progress_beside j ne)
 
   pub replies_beside : (j : ℕ) → j ≢ n → replies_of e j ≡ replies_of d j
-  replies_beside j ne = ap (λ (p : Progress). p.replies) (progress_beside j ne)
+  replies_beside j ne = ap (λ (p : Progress). p.replies.list) (progress_beside j ne)
 
   stands_still : (cs : List Command) (p : Phase) (rs : List Reply) → (stamp_of p ≡ Some stamp → ⊥) → StandsAs d cs p rs → StandsAs e cs p rs
   stands_still cs NotBegun rs ne h = h
@@ -75,7 +75,7 @@ module _ (d e : DeskState) (n stamp : ℕ) (phase : Phase) (replies : List Reply
       subst (λ i. StandsAs e (commands_at e.scripts i) (phase_of e i) (replies_of e i)) (sym same)
       (subst (λ ss. StandsAs e (commands_at ss n) (phase_of e n) (replies_of e n)) (sym k.scripts)
       (subst (λ p. StandsAs e (commands_at d.scripts n) p (replies_of e n)) (sym phase_here)
-      (subst (λ rs. StandsAs e (commands_at d.scripts n) phase rs) (sym replies_here) k.stands)))
+      (subst (λ rs. StandsAs e (commands_at d.scripts n) q.phase rs) (sym replies_here) k.stands)))
 
   stands_beside : AreStanding d → (j : ℕ) → j ≢ n → StandsAs e (commands_at e.scripts j) (phase_of e j) (replies_of e j)
   stands_beside s j ne =
@@ -86,7 +86,7 @@ module _ (d e : DeskState) (n stamp : ℕ) (phase : Phase) (replies : List Reply
 
   owner_here : (s : ℕ) → stamp ≡ s → is_open e.core s ≡ true → (j : ℕ) × (since : ℕ) × (phase_of e j ≡ Open s since)
   owner_here s same h =
-      let by = open_by phase (sym k.own ∙ (ap (is_open e.core) same ∙ h)) in
+      let by = open_by q.phase (sym k.own ∙ (ap (is_open e.core) same ∙ h)) in
       let its : by.0 ≡ s = k.becomes by.0 (ap stamp_of by.2) ∙ same in
       (n, by.1, phase_here ∙ (by.2 ∙ ap (λ t. Open t by.1) its))
 
@@ -99,7 +99,7 @@ module _ (d e : DeskState) (n stamp : ℕ) (phase : Phase) (replies : List Reply
   -- a script with the stamp of n is n
   apart_here : (j i s : ℕ) → j ≡ n → i ≢ n → stamp_of (phase_of e j) ≡ Some s → stamp_of (phase_of e i) ≡ Some s → ⊥
   apart_here j i s same ne a b =
-      let own : stamp_of phase ≡ Some s = sym (ap stamp_of phase_here) ∙ (ap (λ x. stamp_of (phase_of e x)) (sym same) ∙ a) in
+      let own : stamp_of q.phase ≡ Some s = sym (ap stamp_of phase_here) ∙ (ap (λ x. stamp_of (phase_of e x)) (sym same) ∙ a) in
       ne (k.alone i (sym (ap stamp_of (phase_beside i ne)) ∙ (b ∙ ap Some (k.becomes s own))))
 
   pub attempts_kept : AreStanding d → AreStanding e

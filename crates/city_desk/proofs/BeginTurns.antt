@@ -7,17 +7,17 @@ use Rattle.city_model.specs.declared.command.Command.{Command}
 use Rattle.city_model.specs.declared.command.Reply.{Reply}
 use Rattle.city_model.specs.declared.end.End.{End}
 use Rattle.city_model.specs.declared.end.Outcome.{Outcome}
-use Rattle.city_model.specs.CityMap.{CityMap, at, CityValue}
-use Rattle.city_model.specs.Runs.{HasResult, IsEndOf, commands_of, model_after, Change}
+use Rattle.city_model.specs.CityMap.{CityMap, object_at, CityValue}
+use Rattle.city_model.specs.Runs.{IsScriptResult, IsEndOf, model_after, Change}
 use Rattle.city_model.specs.Scripts.{ends_once}
 use Rattle.city_model.proofs.Fitting.{model_more}
-use Rattle.city_txn.specs.CoreState.{CoreState, committed, is_open, Stands, KeepsOthers}
+use Rattle.city_txn.specs.CoreState.{CoreState, committed, is_open, StandsUnderLocks, KeepsOthers}
 use Rattle.city_desk.specs.declared.progress.Progress.{Progress}
 use Rattle.city_desk.specs.declared.progress.Phase.{Phase}
 use Rattle.city_desk.specs.declared.progress.Phase.TheVariants.{NotBegun, Idle, Open, Ended}
 use Rattle.city_desk.specs.declared.turn.Turn.TheVariants as turns
-use Rattle.city_desk.specs.DeskState.{DeskState, phase_of, replies_of, commands_at, name_at, name_in, is_ended, is_open_phase, stamp_of}
-use Rattle.city_desk.specs.Room.{is_not_begun, HasRoom}
+use Rattle.city_desk.specs.DeskState.{DeskState, progress_to, nowhere, phase_of, replies_of, room_of, commands_of, commands_at, name_at, name_in, is_ended, is_open_phase, stamp_of}
+use Rattle.city_desk.specs.inside.Room.{is_not_begun, HasRoom}
 use Rattle.city_desk.specs.Serial.{IsAttempt, StandsAs, AreStanding, IsSerial}
 use Rattle.city_desk.specs.Turning.{stamp_for, begun_after, IsDue, end_of}
 use Rattle.city_desk.proofs.AttemptsKept.{IsTurnOf}
@@ -41,7 +41,7 @@ none_some s e = cc
 some_eq : (s t : ℕ) → Some s ≡ Some t → s ≡ t
 some_eq s t e = cc
 
-no_room : (m : CityMap) (all : List Command) → ends_once all ≡ true → HasResult m all [] (Outcome.NoMemory 0)
+no_room : (m : CityMap) (all : List Command) → ends_once all ≡ true → IsScriptResult m all [] (Outcome.NoMemory 0)
 no_room m [] h = absurd (false≢true h)
 no_room m (c ∷ cs) h = refl
 
@@ -120,18 +120,24 @@ module _ (d : DeskState) (changes : List Change) (base : Option CityValue) (n st
       let places = r.places in
       omega arith
 
-  reads : (p : Progress) → p ≡ slice_index_or d.progress n p → p.replies ≡ []
-  reads p read = sym (ap (λ (q : Progress). q.replies) (progress_at d.progress n p within read)) ∙ is_fresh.unheard
+  reads : (p : Progress) → p ≡ slice_index_or d.progress n p → p.replies.list ≡ []
+  reads p read = sym (ap (λ (q : Progress). q.replies.list) (progress_at d.progress n p within read)) ∙ is_fresh.unheard
+
+  room_read : (p : Progress) → p ≡ slice_index_or d.progress n p → p.replies.room ≡ room_of d n
+  room_read p read = sym (ap (λ (q : Progress). q.replies.room) (progress_at d.progress n p within read))
 
   begins : (p : Progress) (since begun : ℕ) (core : CoreState) (names : List (List ℕ)) (capacity : ℕ) → p ≡ slice_index_or d.progress n p → since ≡ length d.ends → begun ≡ begun_after d.begun (phase_of d n)
-      → KeepsOthers stamp d.core core → core.city ≡ d.core.city → is_open core stamp ≡ true → Stands core stamp [] → HasRoom d names capacity
+      → KeepsOthers stamp d.core core → core.city ≡ d.core.city → is_open core stamp ≡ true → StandsUnderLocks core stamp [] → HasRoom d names capacity
       → LeavesDesk n turns.Began d (now_at d (slice_set d.progress n (record { phase = Open stamp since; replies = p.replies })) begun core) names capacity changes changes base
   begins p since begun core names capacity read now more keeps objects opened stands r =
       let progress : List Progress = slice_set d.progress n (record { phase = Open stamp since; replies = p.replies }) in
       let e : DeskState = now_at d progress begun core in
-      let moves : progress ≡ slice_set d.progress n (record { phase = Open stamp (length d.ends); replies = [] }) =
-      ap (λ k. slice_set d.progress n (record { phase = Open stamp k; replies = p.replies })) now ∙ ap (λ rs. slice_set d.progress n (record { phase = Open stamp (length d.ends); replies = rs })) (reads p read) in
-      let city : committed core ≡ committed d.core = λ i id. at (objects i) id in
+      let begun_now : Progress = progress_to (Open stamp (length d.ends)) [] (room_of d n) in
+      let moves : progress ≡ slice_set d.progress n begun_now =
+      ap (λ k. slice_set d.progress n (record { phase = Open stamp k; replies = p.replies })) now
+      ∙ (ap (λ rs. slice_set d.progress n (progress_to (Open stamp (length d.ends)) rs p.replies.room)) (reads p read)
+      ∙ ap (λ k. slice_set d.progress n (progress_to (Open stamp (length d.ends)) [] k)) (room_read p read)) in
+      let city : committed core ≡ committed d.core = λ i id. object_at (objects i) id in
       let below = is_fresh.below in
       let grown = is_fresh.more in
       let attempt : IsAttempt e (commands_at d.scripts n) stamp (length d.ends) [] = record {
@@ -142,7 +148,7 @@ module _ (d : DeskState) (changes : List Change) (base : Option CityValue) (n st
         unrefused = refl;
         stands = stands;
       } in
-      let turn : IsTurnOf d e n stamp (Open stamp (length d.ends)) [] = record {
+      let turn : IsTurnOf d e n stamp begun_now = record {
         there = within;
         scripts = refl;
         progress = moves;
@@ -156,10 +162,10 @@ module _ (d : DeskState) (changes : List Change) (base : Option CityValue) (n st
         alone = is_fresh.alone;
         stands = attempt;
       } in
-      let serial : IsSerial e changes base = kept_serial d changes base progress begun core n stamp (Open stamp (length d.ends)) [] s keeps.frame city turn (sym is_fresh.unended) in
+      let serial : IsSerial e changes base = kept_serial d changes base progress begun core n stamp begun_now s keeps.frame city turn (sym is_fresh.unended) in
       record {
         serial = serial;
-        room_left = room_now d names capacity progress begun core n (Open stamp (length d.ends)) [] r within moves (sym is_fresh.unended) (begun_room d n stamp begun (phase_of d n) its more);
+        room_left = room_now d names capacity progress begun core n begun_now r within moves refl (sym is_fresh.unended) (begun_room d n stamp begun (phase_of d n) its more);
         turned = record {
           keeps = record { start = refl; scripts = refl; taken = refl };
           so = record { stamp = stamp; is_its = its; moves = moves; begun = more; ends = refl };
@@ -173,27 +179,27 @@ module _ (d : DeskState) (changes : List Change) (base : Option CityValue) (n st
   due_unbegun (Open t since) e = absurd (cc)
   due_unbegun Ended e = absurd (cc)
 
-  fits_unbegun : IsEndOf d.scripts (model_after d.scripts (at d.start.1) d.ends) (length d.ends) (end_of d n (length d.ends) (Outcome.NoMemory 0))
+  fits_unbegun : IsEndOf d.scripts (model_after d.scripts (object_at d.start.1) d.ends) (length d.ends) (end_of d n (length d.ends) (Outcome.NoMemory 0))
   fits_unbegun =
       let script : slice_get d.scripts n ≡ Some (slice_index_or d.scripts n ([], [])) = slice_get-get_or d.scripts n ([], []) there in
-      let m : CityMap = model_after d.scripts (at d.start.1) d.ends in
-      let nothing : HasResult m (commands_at d.scripts n) [] (Outcome.NoMemory 0) = no_room m (commands_at d.scripts n) once in
-      let heard : HasResult m (commands_at d.scripts n) (replies_of d n) (Outcome.NoMemory 0) = subst (λ (rs : List Reply). HasResult m (commands_at d.scripts n) rs (Outcome.NoMemory 0)) (sym is_fresh.unheard) nothing in
+      let m : CityMap = model_after d.scripts (object_at d.start.1) d.ends in
+      let nothing : IsScriptResult m (commands_at d.scripts n) [] (Outcome.NoMemory 0) = no_room m (commands_at d.scripts n) once in
+      let heard : IsScriptResult m (commands_at d.scripts n) (replies_of d n) (Outcome.NoMemory 0) = subst (λ (rs : List Reply). IsScriptResult m (commands_at d.scripts n) rs (Outcome.NoMemory 0)) (sym is_fresh.unheard) nothing in
       record {
         script = slice_index_or d.scripts n ([], []);
         is_there = script;
         named = ap name_in script;
         since = omega arith;
-        result = subst (λ (cs : List Command). HasResult m cs (replies_of d n) (Outcome.NoMemory 0)) (ap commands_of script) heard;
+        result = subst (λ (cs : List Command). IsScriptResult m cs (replies_of d n) (Outcome.NoMemory 0)) (ap commands_of script) heard;
       }
 
   ended_unbegun : (ends : List End) (progress : List Progress) (names left : List (List ℕ)) (name : List ℕ) (capacity room : ℕ) → ends ≡ d.ends ++ end_of d n (length d.ends) (Outcome.NoMemory 0) ∷ []
-      → progress ≡ slice_set d.progress n (record { phase = Ended; replies = [] }) → HasRoom d names capacity → left ≡ slice_set names n name → room ≡ capacity → LeavesDesk n turns.Ended d (ended_at d ends progress d.core) left room changes changes base
+      → progress ≡ slice_set d.progress n nowhere → HasRoom d names capacity → left ≡ slice_set names n name → room ≡ capacity → LeavesDesk n turns.Ended d (ended_at d ends progress d.core) left room changes changes base
   ended_unbegun ends progress names left name capacity room more moves r taken same =
       let last : End = end_of d n (length d.ends) (Outcome.NoMemory 0) in
       let e : DeskState = ended_at d ends progress d.core in
       let long : length ends ≡ length d.ends + 1 = ap length more ∙ length-append d.ends (last ∷ []) in
-      let turn : IsTurnOf d e n stamp Ended [] = record {
+      let turn : IsTurnOf d e n stamp nowhere = record {
         there = within;
         scripts = refl;
         progress = moves;
@@ -208,7 +214,7 @@ module _ (d : DeskState) (changes : List Change) (base : Option CityValue) (n st
         stands = refl;
       } in
       let serial : IsSerial e changes base = ended_serial d changes changes base ends progress d.core n stamp last s refl turn more refl there is_fresh.unended fits_unbegun s.city
-      (changes_kept d.scripts (at d.start.1) d.ends changes s.shelf last refl (model_more d.scripts d.ends last (at d.start.1))) in
+      (changes_kept d.scripts (object_at d.start.1) d.ends changes s.shelf last refl (model_more d.scripts d.ends last (object_at d.start.1))) in
       record {
         serial = serial;
         room_left = room_ended d names left capacity room ends progress d.core n last name r within moves more is_fresh.unended taken same;
@@ -220,20 +226,20 @@ module _ (d : DeskState) (changes : List Change) (base : Option CityValue) (n st
       }
 
   ends_unbegun : (p w : Progress) (since : ℕ) (core : CoreState) (ends : List End) (names : List (List ℕ)) (name taken : List ℕ) (capacity room : ℕ) → p ≡ slice_index_or d.progress n p → since ≡ length d.ends → core ≡ d.core
-      → w ≡ record { phase = Ended; replies = [] } → ends ≡ d.ends ++ (record { script = n; name = name; since = since; replies = p.replies; outcome = Outcome.NoMemory 0 }) ∷ [] → name ≡ slice_index_or names n name
+      → w ≡ nowhere → ends ≡ d.ends ++ (record { script = n; name = name; since = since; replies = p.replies.list; outcome = Outcome.NoMemory 0 }) ∷ [] → name ≡ slice_index_or names n name
       → HasRoom d names capacity → room ≡ capacity → LeavesDesk n turns.Ended d (ended_at d ends (slice_set d.progress n w) core) (slice_set names n taken) room changes changes base
   ends_unbegun p w since core ends names name taken capacity room read now same over more named r long =
       let called : name ≡ name_at d.scripts n = sym (name_there names n name (subst (λ k. n < k) (sym r.names_long) there) named) ∙ r.named n there is_fresh.unended in
-      let replies : p.replies ≡ replies_of d n = reads p read ∙ sym is_fresh.unheard in
-      let at_now : ends ≡ d.ends ++ (record { script = n; name = name; since = length d.ends; replies = p.replies; outcome = Outcome.NoMemory 0 }) ∷ [] =
-      more ∙ ap (λ k. d.ends ++ (record { script = n; name = name; since = k; replies = p.replies; outcome = Outcome.NoMemory 0 }) ∷ []) now in
+      let replies : p.replies.list ≡ replies_of d n = reads p read ∙ sym is_fresh.unheard in
+      let at_now : ends ≡ d.ends ++ (record { script = n; name = name; since = length d.ends; replies = p.replies.list; outcome = Outcome.NoMemory 0 }) ∷ [] =
+      more ∙ ap (λ k. d.ends ++ (record { script = n; name = name; since = k; replies = p.replies.list; outcome = Outcome.NoMemory 0 }) ∷ []) now in
       subst (λ (k : CoreState). LeavesDesk n turns.Ended d (ended_at d ends (slice_set d.progress n w) k) (slice_set names n taken) room changes changes base) (sym same)
       (ended_unbegun ends (slice_set d.progress n w) names (slice_set names n taken) taken capacity room
-      (end_as d.ends ends n (length d.ends) (Outcome.NoMemory 0) name (name_at d.scripts n) p.replies (replies_of d n) at_now called replies) (ap (slice_set d.progress n) over) r refl long)
+      (end_as d.ends ends n (length d.ends) (Outcome.NoMemory 0) name (name_at d.scripts n) p.replies.list (replies_of d n) at_now called replies) (ap (slice_set d.progress n) over) r refl long)
 
 -- ---- the same of the desk that contracts see
 
-module _ {d seen : DeskState} {changes shown : List Change} {base : Option CityValue} {n stamp : ℕ} (run : d ≡ seen) (listed : changes ≡ shown) (s : IsSerial d changes base)
+module _ {d seen : DeskState} {changes listing : List Change} {base : Option CityValue} {n stamp : ℕ} (run : d ≡ seen) (listed : changes ≡ listing) (s : IsSerial d changes base)
     (its : stamp_for seen (phase_of seen n) ≡ Some stamp) (there : n < length seen.scripts) {names : List (List ℕ)} {capacity : ℕ} (r : HasRoom d names capacity) where
   its_here : stamp_for d (phase_of d n) ≡ Some stamp
   its_here = subst (λ (x : DeskState). stamp_for x (phase_of x n) ≡ Some stamp) (sym run) its
@@ -245,14 +251,14 @@ module _ {d seen : DeskState} {changes shown : List Change} {base : Option CityV
   place_for_end = place_unbegun d changes base n stamp s its_here there_here names capacity r
 
   module _ {p : Progress} {since : ℕ} {core : CoreState} (read : p ≡ slice_index_or d.progress n p) (now : since ≡ length d.ends) where
-    pub turn_begins : {begun : ℕ} → begun ≡ begun_after seen.begun (phase_of seen n) → KeepsOthers stamp d.core core → core.city ≡ d.core.city → is_open core stamp ≡ true → Stands core stamp []
+    pub turn_begins : {begun : ℕ} → begun ≡ begun_after seen.begun (phase_of seen n) → KeepsOthers stamp d.core core → core.city ≡ d.core.city → is_open core stamp ≡ true → StandsUnderLocks core stamp []
         → LeavesDesk n turns.Began seen (now_at d (slice_set d.progress n (record { phase = Open stamp since; replies = p.replies })) begun core) names capacity shown changes base
     turn_begins {begun} more keeps objects opened stands = left_of run listed
         (begins d changes base n stamp s its_here there_here p since begun core names capacity read now
         (subst (λ (x : DeskState). begun ≡ begun_after x.begun (phase_of x n)) (sym run) more) keeps objects opened stands r)
 
-    pub turn_unbegun : {w : Progress} {ends : List End} {name : List ℕ} (taken : List ℕ) {room : ℕ} → core ≡ d.core → w ≡ record { phase = Ended; replies = [] }
-        → ends ≡ d.ends ++ (record { script = n; name = name; since = since; replies = p.replies; outcome = Outcome.NoMemory 0 }) ∷ [] → name ≡ slice_index_or names n name
+    pub turn_unbegun : {w : Progress} {ends : List End} {name : List ℕ} (taken : List ℕ) {room : ℕ} → core ≡ d.core → w ≡ nowhere
+        → ends ≡ d.ends ++ (record { script = n; name = name; since = since; replies = p.replies.list; outcome = Outcome.NoMemory 0 }) ∷ [] → name ≡ slice_index_or names n name
         → room ≡ capacity → LeavesDesk n turns.Ended seen (ended_at d ends (slice_set d.progress n w) core) (slice_set names n taken) room shown changes base
     turn_unbegun {w} {ends} {name} taken {room} same over more named long = left_of run listed
         (ends_unbegun d changes base n stamp s its_here there_here p w since core ends names name taken capacity room read now same over more named r long)

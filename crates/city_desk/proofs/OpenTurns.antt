@@ -10,28 +10,29 @@ use Rattle.city_model.specs.declared.command.Command.TheVariants.{Commit}
 use Rattle.city_model.specs.declared.command.Reply.{Reply}
 use Rattle.city_model.specs.declared.end.End.{End}
 use Rattle.city_model.specs.declared.end.Outcome.{Outcome}
-use Rattle.city_model.specs.CityMap.{CityMap, at, CityValue}
+use Rattle.city_model.specs.CityMap.{CityMap, object_at, CityValue}
 use Rattle.city_model.specs.Marks.{View, unmarked}
 use Rattle.city_model.specs.Meaning.{is_refusal}
-use Rattle.city_model.specs.Runs.{Scripted, EndsAt, HasResult, IsEndOf, map_left, commands_of, model_after, Change, with_change, shown}
+use Rattle.city_model.specs.Runs.{Scripted, EndsAt, IsScriptResult, IsEndOf, map_left, left_by, left_by_found}
+use Rattle.city_model.specs.Runs.{model_after, Change, after_change, after_changes}
 use Rattle.city_model.specs.Scripts.{is_end, ends_once}
 use Rattle.city_model.specs.SerialEnds.{is_commit}
-use Rattle.city_model.specs.Standing.{Answered, answered, Follows}
+use Rattle.city_model.specs.Standing.{Answered, answered, IsTraceUnderLocks}
+use Rattle.city_model.proofs.Effects.{committed_at}
 use Rattle.city_model.proofs.Fitting.{model_more}
 use Rattle.city_model.proofs.Replied.{goes_on, ends_later, answered_more, result_from, committed_from}
 use Rattle.city_txn.specs.CoreState as txn
-use Rattle.city_txn.specs.CoreState.{CoreState, committed, view, is_open, held, Stands, KeepsOthers}
-use Rattle.city_txn.specs.Acting.{reply_in}
+use Rattle.city_txn.specs.CoreState.{CoreState, committed, view, is_open, held, StandsUnderLocks, KeepsOthers}
 use Rattle.city_desk.specs.declared.progress.Progress.{Progress}
 use Rattle.city_desk.specs.declared.progress.Phase.{Phase}
 use Rattle.city_desk.specs.declared.progress.Phase.TheVariants.{Idle, Open, Ended}
 use Rattle.city_desk.specs.declared.turn.Turn.{Turn}
 use Rattle.city_desk.specs.declared.turn.Turn.TheVariants as turns
-use Rattle.city_desk.specs.Attempt.{IsReplied, IsToWait, Publishes, AttemptEnded, HasGoneOn, HasStepped}
-use Rattle.city_desk.specs.DeskState.{DeskState, nowhere, phase_of, replies_of, commands_at, name_at, name_in, is_ended, is_open_phase, stamp_of}
-use Rattle.city_desk.specs.Room.{is_not_begun, HasRoom}
+use Rattle.city_desk.specs.inside.Attempt.{IsReplied, IsToWait, Publishes, AttemptEnded, HasGoneOn, HasStepped}
+use Rattle.city_desk.specs.DeskState.{DeskState, progress_to, nowhere, phase_of, replies_of, room_of, commands_of, commands_at, name_at, name_in, is_ended, is_open_phase, stamp_of}
+use Rattle.city_desk.specs.inside.Room.{is_not_begun, HasRoom}
 use Rattle.city_desk.specs.Serial.{IsAttempt, StandsAs, AreChangesOf, IsSerial}
-use Rattle.city_desk.specs.Turning.{IsNext, IsOpenAt, IsDue, end_of, Turned, TurnedSo, GainsCommits}
+use Rattle.city_desk.specs.Turning.{IsNext, IsOpenAt, IsDue, end_of, IsTurn, IsTurnAs, GainsCommits}
 use Rattle.city_desk.proofs.AttemptsKept.{IsTurnOf}
 use Rattle.city_desk.proofs.ScriptReads.{once_of, commands_read, progress_at, next_at, name_there, end_as}
 use Rattle.city_desk.proofs.RoomKept.{one_if, place_left, room_now, room_ended}
@@ -43,7 +44,7 @@ use Rattle.city_desk.proofs.Shelved.{shows_all, changes_kept, changes_more, if_s
 pub record LeavesDesk (n : ℕ) (turn : Turn) (d e : DeskState) (names : List (List ℕ)) (room : ℕ) (before after : List Change) (base : Option CityValue) : Type 0 where
   pub serial : IsSerial e after base
   pub room_left : HasRoom e names room
-  pub turned : Turned n turn d e
+  pub turned : IsTurn n turn d e
   pub changes : GainsCommits d.ends e.ends before after
 
 -- where both histories are serial the commits count the changes that were gained
@@ -88,10 +89,17 @@ left_same m cs (Outcome.Refused i cause) h = refl
 left_same m cs (Outcome.NoMemory i) h = refl
 
 commits : (v : View) (c : Command) (i : ℕ) (o : Outcome) → is_commit o ≡ true → EndsAt v c i o → (o ≡ Outcome.Committed) × (c ≡ Commit)
-commits v c i Outcome.Committed h e = (refl, e.0)
+commits v c i Outcome.Committed h e = (refl, (committed_at v c v e).0)
 commits v c i Outcome.Aborted h e = absurd (false≢true h)
 commits v c i (Outcome.Refused j cause) h e = absurd (false≢true h)
 commits v c i (Outcome.NoMemory j) h e = absurd (false≢true h)
+
+-- what the script of an end leaves, where it is there
+found_left : (m : CityMap) (s : Option Scripted) (x : Scripted) (o : Outcome) → s ≡ Some x
+    → left_by_found m s o ≡ map_left m (commands_of s) o
+found_left m s x o is =
+    ap (λ (f : Option Scripted). left_by_found m f o) is
+    ∙ sym (ap (λ (f : Option Scripted). map_left m (commands_of f) o) is)
 
 gained_by : (b : Bool) (stamp : ℕ) (v w : CoreState) (before after : List Change) → Publishes b stamp v w before after → (gained : List Change) × (after ≡ before ++ gained)
 gained_by true stamp v w before after p = (p.1.0 ∷ [], p.1.1)
@@ -100,9 +108,9 @@ gained_by false stamp v w before after p = ([], p.1 ∙ sym (append-nil before))
 -- ---- a script with an open transaction
 
 -- the shelf shows the committed city
-pub shows_core : (d : DeskState) (changes : List Change) (base : Option CityValue) → IsSerial d changes base → IfSome base (λ city. shown (at city.1) changes ≡ committed d.core)
-shows_core d changes base s = if_some_to base (λ city. city ≡ d.start) (λ city. shown (at city.1) changes ≡ committed d.core)
-    (λ city same. ap (λ (x : CityValue). shown (at x.1) changes) same ∙ (shows_all d.scripts (at d.start.1) d.ends changes s.shelf ∙ sym s.city))
+pub shows_core : (d : DeskState) (changes : List Change) (base : Option CityValue) → IsSerial d changes base → IfSome base (λ city. after_changes (object_at city.1) changes ≡ committed d.core)
+shows_core d changes base s = if_some_to base (λ city. city ≡ d.start) (λ city. after_changes (object_at city.1) changes ≡ committed d.core)
+    (λ city same. ap (λ (x : CityValue). after_changes (object_at x.1) changes) same ∙ (shows_all d.scripts (object_at d.start.1) d.ends changes s.shelf ∙ sym s.city))
     s.based
 
 stamp_same : (a b : ℕ) → Some a ≡ Some b → b ≡ a
@@ -129,19 +137,29 @@ module _ (d : DeskState) (changes : List Change) (base : Option CityValue) (n st
       let places = r.places in
       omega arith
 
-  pub unfinished_at : (x : Scripted) (cs : List Command) (p : Progress) → x ≡ slice_index_or d.scripts n x → cs ≡ x.1 → p ≡ slice_index_or d.progress n p → length p.replies < length cs
+  pub unfinished_at : (x : Scripted) (cs : List Command) (p : Progress) → x ≡ slice_index_or d.scripts n x → cs ≡ x.1 → p ≡ slice_index_or d.progress n p → length p.replies.list < length cs
   unfinished_at x cs p script list read =
       let all : commands_at d.scripts n ≡ cs = commands_read d.scripts n x there script ∙ sym list in
-      let heard : length (replies_of d n) ≡ length p.replies = ap (λ (q : Progress). length q.replies) (progress_at d.progress n p within read) in
+      let heard : length (replies_of d n) ≡ length p.replies.list = ap (λ (q : Progress). length q.replies.list) (progress_at d.progress n p within read) in
       let less = attempt.unfinished in
       let long : length (commands_at d.scripts n) ≡ length cs = ap length all in
       omega arith
 
-  turn_of : (e : DeskState) (phase : Phase) (replies : List Reply)
-      → e.scripts ≡ d.scripts → e.progress ≡ slice_set d.progress n (record { phase = phase; replies = replies }) → d.begun ≤ e.begun → length d.ends ≤ length e.ends
-      → KeepsOthers stamp d.core e.core → is_open e.core stamp ≡ is_open_phase phase → ((t : ℕ) → stamp_of phase ≡ Some t → t ≡ stamp)
-      → StandsAs e (commands_at d.scripts n) phase replies → IsTurnOf d e n stamp phase replies
-  turn_of e phase replies scripts progress begun ends k own becomes stands = record {
+  -- there is room for the reply to its next command
+  pub reply_place : (p : Progress) (names : List (List ℕ)) (capacity : ℕ) → p ≡ slice_index_or d.progress n p → HasRoom d names capacity → length p.replies.list < p.replies.room
+  reply_place p names capacity read r =
+      let same = progress_at d.progress n p within read in
+      let heard : length (replies_of d n) ≡ length p.replies.list = ap (λ (q : Progress). length q.replies.list) same in
+      let room : room_of d n ≡ p.replies.room = ap (λ (q : Progress). q.replies.room) same in
+      let wanted = r.replies n there going in
+      let less = attempt.unfinished in
+      omega arith
+
+  turn_of : (e : DeskState) (q : Progress)
+      → e.scripts ≡ d.scripts → e.progress ≡ slice_set d.progress n q → d.begun ≤ e.begun → length d.ends ≤ length e.ends
+      → KeepsOthers stamp d.core e.core → is_open e.core stamp ≡ is_open_phase q.phase → ((t : ℕ) → stamp_of q.phase ≡ Some t → t ≡ stamp)
+      → StandsAs e (commands_at d.scripts n) q.phase q.replies.list → IsTurnOf d e n stamp q
+  turn_of e q scripts progress begun ends k own becomes stands = record {
     there = within;
     scripts = scripts;
     progress = progress;
@@ -168,35 +186,36 @@ module _ (d : DeskState) (changes : List Change) (base : Option CityValue) (n st
 
     -- ---- its script goes on
 
-    leaves : (turn : Turn) (progress : List Progress) (phase : Phase) (replies : List Reply) (names : List (List ℕ)) (capacity : ℕ) → progress ≡ slice_set d.progress n (record { phase = phase; replies = replies }) → KeepsOthers stamp d.core core → committed core ≡ committed d.core → after ≡ changes
-        → is_open core stamp ≡ is_open_phase phase → ((t : ℕ) → stamp_of phase ≡ Some t → t ≡ stamp) → StandsAs (now progress) (commands_at d.scripts n) phase replies → is_ended phase ≡ false → is_not_begun phase ≡ false
-        → HasRoom d names capacity → TurnedSo d (now progress) n turn → LeavesDesk n turn d (now progress) names capacity changes after base
-    leaves turn progress phase replies names capacity moves k city same own becomes stands on begun r so =
-        let made = turn_of (now progress) phase replies refl moves (omega arith) (omega arith) k own becomes stands in
+    leaves : (turn : Turn) (progress : List Progress) (q : Progress) (names : List (List ℕ)) (capacity : ℕ) → progress ≡ slice_set d.progress n q → q.replies.room ≡ room_of d n → KeepsOthers stamp d.core core → committed core ≡ committed d.core → after ≡ changes
+        → is_open core stamp ≡ is_open_phase q.phase → ((t : ℕ) → stamp_of q.phase ≡ Some t → t ≡ stamp) → StandsAs (now progress) (commands_at d.scripts n) q.phase q.replies.list → is_ended q.phase ≡ false → is_not_begun q.phase ≡ false
+        → HasRoom d names capacity → IsTurnAs d (now progress) n turn → LeavesDesk n turn d (now progress) names capacity changes after base
+    leaves turn progress q names capacity moves kept k city same own becomes stands on begun r so =
+        let made = turn_of (now progress) q refl moves (omega arith) (omega arith) k own becomes stands in
         let serial : IsSerial (now progress) after base = subst (λ cs. IsSerial (now progress) cs base) (sym same)
-        (kept_serial d changes base progress d.begun core n stamp phase replies s k.frame city made (on ∙ sym going)) in
-        let none : one_if (is_not_begun phase) ≡ 0 = ap one_if begun in
+        (kept_serial d changes base progress d.begun core n stamp q s k.frame city made (on ∙ sym going)) in
+        let none : one_if (is_not_begun q.phase) ≡ 0 = ap one_if begun in
         record {
           serial = serial;
-          room_left = room_now d names capacity progress d.begun core n phase replies r within moves (on ∙ sym going) (omega arith);
+          room_left = room_now d names capacity progress d.begun core n q r within moves kept (on ∙ sym going) (omega arith);
           turned = record { keeps = record { start = refl; scripts = refl; taken = refl }; so = so };
           changes = counted d (now progress) changes after [] base s serial (same ∙ sym (append-nil changes));
         }
 
-    abbrev heard : Progress
-    heard = record { phase = Open stamp since; replies = replies_of d n ++ reply_in d.core stamp command ∷ [] }
+    abbrev heard : Reply → Progress
+    heard reply = progress_to (Open stamp since) (replies_of d n ++ reply ∷ []) (room_of d n)
 
-    replied_stands : (p q : Progress) (progress : List Progress) → IsReplied stamp command p q d.core core → IsAttempt (now progress) (commands_at d.scripts n) stamp since heard.replies
+    replied_stands : (p q : Progress) (progress : List Progress) → (h : IsReplied stamp command p q d.core core)
+        → IsAttempt (now progress) (commands_at d.scripts n) stamp since (heard h.reply).replies.list
     replied_stands p q progress h =
-        let more : length heard.replies ≡ length (replies_of d n) + 1 = length-append (replies_of d n) (reply_in d.core stamp command ∷ []) in
+        let more : length (heard h.reply).replies.list ≡ length (replies_of d n) + 1 = length-append (replies_of d n) (h.reply ∷ []) in
         let last = not_last (commands_at d.scripts n) (length (replies_of d n)) command once next h.goes_on in
         record {
           opened = h.opened;
           begun = attempt.begun;
           since = attempt.since;
           unfinished = omega arith;
-          unrefused = any_more (replies_of d n) (reply_in d.core stamp command) attempt.unrefused h.unrefused;
-          stands = subst (λ (l : List Answered). Stands core stamp l) (sym (answered_more (commands_at d.scripts n) (replies_of d n) command (reply_in d.core stamp command) next)) (h.stands (answered (commands_at d.scripts n) (replies_of d n)) attempt.stands);
+          unrefused = any_more (replies_of d n) h.reply attempt.unrefused h.unrefused;
+          stands = subst (λ (l : List Answered). StandsUnderLocks core stamp l) (sym (answered_more (commands_at d.scripts n) (replies_of d n) command h.reply next)) (h.stands (answered (commands_at d.scripts n) (replies_of d n)) attempt.stands);
         }
 
     waiting_stands : (p q : Progress) (progress : List Progress) → IsToWait stamp command p q d.core core → IsAttempt (now progress) (commands_at d.scripts n) stamp since (replies_of d n)
@@ -209,30 +228,41 @@ module _ (d : DeskState) (changes : List Change) (base : Option CityValue) (n st
       stands = h.stands (answered (commands_at d.scripts n) (replies_of d n)) attempt.stands;
     }
 
-    as_read : (p q : Progress) → q ≡ p → slice_index_or d.progress n nowhere ≡ p → q ≡ record { phase = Open stamp since; replies = replies_of d n }
-    as_read p q same read = same ∙ (sym read ∙ ap (λ (f : Phase). record { phase = f; replies = replies_of d n }) is)
+    abbrev still : Progress
+    still = progress_to (Open stamp since) (replies_of d n) (room_of d n)
+
+    as_read : (p q : Progress) → q ≡ p → slice_index_or d.progress n nowhere ≡ p → q ≡ still
+    as_read p q same read = same ∙ (sym read ∙ ap (λ (f : Phase). progress_to f (replies_of d n) (room_of d n)) is)
+
+    abbrev dead : Progress
+    dead = progress_to (Idle stamp) [] (room_of d n)
 
     pub went_on : (turn : Turn) (p q : Progress) (names : List (List ℕ)) (capacity : ℕ) → slice_index_or d.progress n nowhere ≡ p → HasGoneOn stamp command turn p q d.core core changes after
         → HasRoom d names capacity → LeavesDesk n turn d (now (slice_set d.progress n q)) names capacity changes after base
     went_on turns.Began p q names capacity read h r = absurd h.so
     went_on turns.Replied p q names capacity read h r =
         let phase : p.phase ≡ Open stamp since = sym (ap (λ (x : Progress). x.phase) read) ∙ is in
-        let made : q ≡ heard = h.so.heard ∙ (ap (λ f. record { phase = f; replies = p.replies ++ reply_in d.core stamp command ∷ [] }) phase ∙ ap (λ (x : Progress). record { phase = Open stamp since; replies = x.replies ++ reply_in d.core stamp command ∷ [] }) (sym read)) in
-        let moves : slice_set d.progress n q ≡ slice_set d.progress n heard = ap (slice_set d.progress n) made in
-        leaves turns.Replied (slice_set d.progress n q) (Open stamp since) heard.replies names capacity moves h.keeps h.city h.changes h.so.opened (λ t e. stamp_same stamp t e)
+        let last = heard h.so.reply in
+        let made : q ≡ last = h.so.heard ∙ (ap (λ f. progress_to f (p.replies.list ++ h.so.reply ∷ []) p.replies.room) phase
+        ∙ ap (λ (x : Progress). progress_to (Open stamp since) (x.replies.list ++ h.so.reply ∷ []) x.replies.room) (sym read)) in
+        let moves : slice_set d.progress n q ≡ slice_set d.progress n last = ap (slice_set d.progress n) made in
+        leaves turns.Replied (slice_set d.progress n q) last names capacity moves refl h.keeps h.city h.changes h.so.opened (λ t e. stamp_same stamp t e)
         (replied_stands p q (slice_set d.progress n q) h.so) refl refl r (record {
           stamp = stamp;
           since = since;
           is = record { command = command; next = is_next; goes_on = h.so.goes_on; answered = h.so.granted };
+          reply = h.so.reply;
+          after = h.so.after;
+          does = h.so.does;
           unrefused = h.so.unrefused;
           moves = moves;
           begun = refl;
           ends = refl;
         })
     went_on turns.Waits p q names capacity read h r =
-        let moves : slice_set d.progress n q ≡ slice_set d.progress n (record { phase = Open stamp since; replies = replies_of d n }) = ap (slice_set d.progress n) (as_read p q h.so.same read) in
+        let moves : slice_set d.progress n q ≡ slice_set d.progress n still = ap (slice_set d.progress n) (as_read p q h.so.same read) in
         let same : slice_set d.progress n q ≡ d.progress = ap (slice_set d.progress n) (h.so.same ∙ sym read) ∙ set-get_or d.progress n nowhere in
-        leaves turns.Waits (slice_set d.progress n q) (Open stamp since) (replies_of d n) names capacity moves h.keeps h.city h.changes h.so.opened (λ t e. stamp_same stamp t e)
+        leaves turns.Waits (slice_set d.progress n q) still names capacity moves refl h.keeps h.city h.changes h.so.opened (λ t e. stamp_same stamp t e)
         (waiting_stands p q (slice_set d.progress n q) h.so) refl refl r (record {
           waits = record {
             stamp = stamp;
@@ -247,8 +277,9 @@ module _ (d : DeskState) (changes : List Change) (base : Option CityValue) (n st
           ends = refl;
         })
     went_on turns.Died p q names capacity read h r =
-        let moves : slice_set d.progress n q ≡ slice_set d.progress n (record { phase = Idle stamp; replies = [] }) = ap (slice_set d.progress n) h.so.idle in
-        leaves turns.Died (slice_set d.progress n q) (Idle stamp) [] names capacity moves h.keeps h.city h.changes h.so.closed (λ t e. stamp_same stamp t e) (refl, attempt.begun) refl refl r (record {
+        let moves : slice_set d.progress n q ≡ slice_set d.progress n dead =
+        ap (slice_set d.progress n) (h.so.idle ∙ ap (λ (x : Progress). progress_to (Idle stamp) [] x.replies.room) (sym read)) in
+        leaves turns.Died (slice_set d.progress n q) dead names capacity moves refl h.keeps h.city h.changes h.so.closed (λ t e. stamp_same stamp t e) (refl, attempt.begun) refl refl r (record {
           stamp = stamp;
           since = since;
           is = record { command = command; next = is_next; goes_on = h.so.goes_on; answered = h.so.dies };
@@ -268,54 +299,60 @@ module _ (d : DeskState) (changes : List Change) (base : Option CityValue) (n st
     script_there = slice_get-get_or d.scripts n ([], []) there
 
     abbrev model : CityMap
-    model = model_after d.scripts (at d.start.1) d.ends
+    model = model_after d.scripts (object_at d.start.1) d.ends
 
-    stands_on_model : Follows (held d.core stamp) (unmarked model) (answered (commands_at d.scripts n) (replies_of d n)) (txn.seen d.core stamp)
-    stands_on_model = subst (λ (m : CityMap). Follows (held d.core stamp) (unmarked m) (answered (commands_at d.scripts n) (replies_of d n)) (txn.seen d.core stamp)) s.city attempt.stands
+    stands_on_model : IsTraceUnderLocks (held d.core stamp) (unmarked model) (answered (commands_at d.scripts n) (replies_of d n)) (txn.snapshot d.core stamp)
+    stands_on_model = subst (λ (m : CityMap). IsTraceUnderLocks (held d.core stamp) (unmarked m) (answered (commands_at d.scripts n) (replies_of d n)) (txn.snapshot d.core stamp)) s.city attempt.stands
 
-    result : (outcome : Outcome) → EndsAt (txn.seen d.core stamp) command (length (replies_of d n)) outcome → HasResult model (commands_at d.scripts n) (replies_of d n) outcome
+    result : (outcome : Outcome) → EndsAt (txn.snapshot d.core stamp) command (length (replies_of d n)) outcome → IsScriptResult model (commands_at d.scripts n) (replies_of d n) outcome
     result outcome e =
         let number : length (replies_of d n) ≡ 0 + length (replies_of d n) = omega arith in
-        result_from (held d.core stamp) (unmarked model) (txn.seen d.core stamp) 0 (commands_at d.scripts n) (replies_of d n) command outcome
-        stands_on_model attempt.unrefused once next (subst (λ i. EndsAt (txn.seen d.core stamp) command i outcome) number e)
+        result_from (held d.core stamp) (unmarked model) (txn.snapshot d.core stamp) 0 (commands_at d.scripts n) (replies_of d n) command outcome
+        stands_on_model attempt.unrefused next (subst (λ i. EndsAt (txn.snapshot d.core stamp) command i outcome) number e)
 
-    fits_here : (outcome : Outcome) → EndsAt (txn.seen d.core stamp) command (length (replies_of d n)) outcome → IsEndOf d.scripts model (length d.ends) (end_of d n since outcome)
+    fits_here : (outcome : Outcome) → EndsAt (txn.snapshot d.core stamp) command (length (replies_of d n)) outcome → IsEndOf d.scripts model (length d.ends) (end_of d n since outcome)
     fits_here outcome e = record {
       script = slice_index_or d.scripts n ([], []);
       is_there = script_there;
       named = ap name_in script_there;
       since = attempt.since;
-      result = subst (λ (cs : List Command). HasResult model cs (replies_of d n) outcome) (ap commands_of script_there) (result outcome e);
+      result = subst (λ (cs : List Command). IsScriptResult model cs (replies_of d n) outcome) (ap commands_of script_there) (result outcome e);
     }
 
-    published : (outcome : Outcome) (b : Bool) → is_commit outcome ≡ b → EndsAt (txn.seen d.core stamp) command (length (replies_of d n)) outcome → Publishes b stamp d.core core changes after
-        → (committed core ≡ map_left model (commands_at d.scripts n) outcome) × AreChangesOf d.scripts (at d.start.1) (d.ends ++ end_of d n since outcome ∷ []) after
+    left_here : (outcome : Outcome)
+        → left_by d.scripts model (end_of d n since outcome) ≡ map_left model (commands_at d.scripts n) outcome
+    left_here outcome =
+        found_left model (slice_get d.scripts n) (slice_index_or d.scripts n ([], [])) outcome script_there
+
+    published : (outcome : Outcome) (b : Bool) → is_commit outcome ≡ b → EndsAt (txn.snapshot d.core stamp) command (length (replies_of d n)) outcome → Publishes b stamp d.core core changes after
+        → (committed core ≡ left_by d.scripts model (end_of d n since outcome)) × AreChangesOf d.scripts (object_at d.start.1) (d.ends ++ end_of d n since outcome ∷ []) after
     published outcome true one e p =
-        let by = commits (txn.seen d.core stamp) command (length (replies_of d n)) outcome one e in
+        let by = commits (txn.snapshot d.core stamp) command (length (replies_of d n)) outcome one e in
         let last : slice_get (commands_at d.scripts n) (length (replies_of d n)) ≡ Some Commit = next ∙ ap Some by.1 in
-        let left : map_left model (commands_at d.scripts n) outcome ≡ view d.core stamp =
-        ap (map_left model (commands_at d.scripts n)) by.0
-        ∙ ap (λ (x : View). x.map) (committed_from (held d.core stamp) (unmarked model) (txn.seen d.core stamp) (commands_at d.scripts n) (replies_of d n) stands_on_model once last) in
-        let made : model_after d.scripts (at d.start.1) (d.ends ++ end_of d n since outcome ∷ []) ≡ with_change model p.1.0 =
-        model_more d.scripts d.ends (end_of d n since outcome) (at d.start.1) ∙ (left ∙ (sym p.1.2 ∙ ap (λ m. with_change m p.1.0) s.city)) in (
+        let left : left_by d.scripts model (end_of d n since outcome) ≡ view d.core stamp =
+        left_here outcome ∙ ap (map_left model (commands_at d.scripts n)) by.0
+        ∙ ap (λ (x : View). x.map) (committed_from (held d.core stamp) (unmarked model) (txn.snapshot d.core stamp) (commands_at d.scripts n) (replies_of d n) stands_on_model attempt.unrefused last) in
+        let made : model_after d.scripts (object_at d.start.1) (d.ends ++ end_of d n since outcome ∷ []) ≡ after_change model p.1.0 =
+        model_more d.scripts d.ends (end_of d n since outcome) (object_at d.start.1) ∙ (left ∙ (sym p.1.2 ∙ ap (λ m. after_change m p.1.0) s.city)) in (
           p.0 ∙ sym left,
-          subst (λ cs. AreChangesOf d.scripts (at d.start.1) (d.ends ++ end_of d n since outcome ∷ []) cs) (sym p.1.1)
-              (changes_more d.scripts (at d.start.1) d.ends changes s.shelf (end_of d n since outcome) p.1.0 one made),
+          subst (λ cs. AreChangesOf d.scripts (object_at d.start.1) (d.ends ++ end_of d n since outcome ∷ []) cs) (sym p.1.1)
+              (changes_more d.scripts (object_at d.start.1) d.ends changes s.shelf (end_of d n since outcome) p.1.0 one made),
         )
     published outcome false one e p =
-        let left : map_left model (commands_at d.scripts n) outcome ≡ model = left_same model (commands_at d.scripts n) outcome one in (
+        let left : left_by d.scripts model (end_of d n since outcome) ≡ model =
+        left_here outcome ∙ left_same model (commands_at d.scripts n) outcome one in (
           p.0 ∙ (s.city ∙ sym left),
-          subst (λ cs. AreChangesOf d.scripts (at d.start.1) (d.ends ++ end_of d n since outcome ∷ []) cs) (sym p.1)
-              (changes_kept d.scripts (at d.start.1) d.ends changes s.shelf (end_of d n since outcome) one (model_more d.scripts d.ends (end_of d n since outcome) (at d.start.1) ∙ left)),
+          subst (λ cs. AreChangesOf d.scripts (object_at d.start.1) (d.ends ++ end_of d n since outcome ∷ []) cs) (sym p.1)
+              (changes_kept d.scripts (object_at d.start.1) d.ends changes s.shelf (end_of d n since outcome) one (model_more d.scripts d.ends (end_of d n since outcome) (object_at d.start.1) ∙ left)),
         )
 
     pub ended : (outcome : Outcome) (ends : List End) (progress : List Progress) (names left : List (List ℕ)) (name : List ℕ) (capacity room : ℕ)
-        → AttemptEnded stamp command (length (replies_of d n)) outcome d.core core changes after → ends ≡ d.ends ++ end_of d n since outcome ∷ [] → progress ≡ slice_set d.progress n (record { phase = Ended; replies = [] })
+        → AttemptEnded stamp command (length (replies_of d n)) outcome d.core core changes after → ends ≡ d.ends ++ end_of d n since outcome ∷ [] → progress ≡ slice_set d.progress n nowhere
         → HasRoom d names capacity → left ≡ slice_set names n name → room ≡ capacity → LeavesDesk n turns.Ended d (ended_at d ends progress core) left room changes after base
     ended outcome ends progress names left name capacity room h more moves r taken same =
         let e : DeskState = ended_at d ends progress core in
         let long : length ends ≡ length d.ends + 1 = ap length more ∙ length-append d.ends (end_of d n since outcome ∷ []) in
-        let turn = turn_of e Ended [] refl moves (omega arith) (omega (arith, long)) h.keeps h.closed (λ j k. absurd (cc)) refl in
+        let turn = turn_of e nowhere refl moves (omega arith) (omega (arith, long)) h.keeps h.closed (λ j k. absurd (cc)) refl in
         let both = published outcome (is_commit outcome) refl h.ends h.publishes in
         let serial : IsSerial e after base = ended_serial d changes after base ends progress core n stamp (end_of d n since outcome) s h.keeps.frame turn more refl there going (fits_here outcome h.ends) both.0 both.1 in
         let gained = gained_by (is_commit outcome) stamp d.core core changes after h.publishes in
@@ -339,17 +376,17 @@ module _ (d : DeskState) (changes : List Change) (base : Option CityValue) (n st
   -- ---- as the code reads the script and its progress, and writes its end
 
   module _ (p : Progress) (x : Scripted) (cs : List Command) (number : ℕ) (command : Command) (read : p ≡ slice_index_or d.progress n p) (script : x ≡ slice_index_or d.scripts n x) (list : cs ≡ x.1)
-      (count : number ≡ length p.replies) (at_number : command ≡ slice_index_or cs number command) where
+      (count : number ≡ length p.replies.list) (at_number : command ≡ slice_index_or cs number command) where
     reads : slice_index_or d.progress n nowhere ≡ p
     reads = progress_at d.progress n p within read
 
-    heard_so_far : replies_of d n ≡ p.replies
-    heard_so_far = ap (λ (q : Progress). q.replies) reads
+    heard_so_far : replies_of d n ≡ p.replies.list
+    heard_so_far = ap (λ (q : Progress). q.replies.list) reads
 
     next_read : slice_get (commands_at d.scripts n) (length (replies_of d n)) ≡ Some command
     next_read =
         let here : command ≡ slice_index_or cs (length (replies_of d n)) command = subst (λ k. command ≡ slice_index_or cs k command) (count ∙ sym (ap length heard_so_far)) at_number in
-        let few : length (replies_of d n) ≡ length p.replies = ap length heard_so_far in
+        let few : length (replies_of d n) ≡ length p.replies.list = ap length heard_so_far in
         let less = unfinished_at x cs p script list read in
         next_at d.scripts n x cs (length (replies_of d n)) command there script list (omega arith) here
 
@@ -358,25 +395,25 @@ module _ (d : DeskState) (changes : List Change) (base : Option CityValue) (n st
     goes_on_from turn q core after names capacity h r = went_on command next_read core after turn p q names capacity reads h r
 
     ends_from : (outcome : Outcome) (q w : Progress) (core : CoreState) (after : List Change) (ends : List End) (names : List (List ℕ)) (name taken : List ℕ) (capacity room : ℕ) → HasStepped stamp command (Err outcome) p q d.core core changes after
-        → w ≡ record { phase = Ended; replies = [] } → ends ≡ d.ends ++ (record { script = n; name = name; since = since; replies = q.replies; outcome = outcome }) ∷ [] → name ≡ slice_index_or names n name
+        → w ≡ nowhere → ends ≡ d.ends ++ (record { script = n; name = name; since = since; replies = q.replies.list; outcome = outcome }) ∷ [] → name ≡ slice_index_or names n name
         → HasRoom d names capacity → room ≡ capacity → LeavesDesk n turns.Ended d (ended_at d ends (slice_set d.progress n w) core) (slice_set names n taken) room changes after base
     ends_from outcome q w core after ends names name taken capacity room h over more named r same =
         let called : name ≡ name_at d.scripts n = sym (name_there names n name (subst (λ k. n < k) (sym r.names_long) there) named) ∙ r.named n there going in
-        let replies : q.replies ≡ replies_of d n = ap (λ (y : Progress). y.replies) h.0 ∙ sym heard_so_far in
+        let replies : q.replies.list ≡ replies_of d n = ap (λ (y : Progress). y.replies.list) h.0 ∙ sym heard_so_far in
         let step : AttemptEnded stamp command (length (replies_of d n)) outcome d.core core changes after = subst (λ (rs : List Reply). AttemptEnded stamp command (length rs) outcome d.core core changes after) (sym heard_so_far) h.1 in
         ended command next_read core after outcome ends (slice_set d.progress n w) names (slice_set names n taken) taken capacity room step
-        (end_as d.ends ends n since outcome name (name_at d.scripts n) q.replies (replies_of d n) more called replies) (ap (slice_set d.progress n) over) r refl same
+        (end_as d.ends ends n since outcome name (name_at d.scripts n) q.replies.list (replies_of d n) more called replies) (ap (slice_set d.progress n) over) r refl same
 
 -- ---- the same of the desk that contracts see
 
 -- what is left of a desk is left of its equal
-pub left_of : {n : ℕ} {turn : Turn} {d seen e : DeskState} {names : List (List ℕ)} {room : ℕ} {before shown after : List Change} {base : Option CityValue} → d ≡ seen → before ≡ shown
-    → LeavesDesk n turn d e names room before after base → LeavesDesk n turn seen e names room shown after base
-left_of {n} {turn} {d} {seen} {e} {names} {room} {before} {shown} {after} {base} run listed h =
-    subst (λ (x : DeskState). LeavesDesk n turn x e names room shown after base) run
+pub left_of : {n : ℕ} {turn : Turn} {d seen e : DeskState} {names : List (List ℕ)} {room : ℕ} {before listing after : List Change} {base : Option CityValue} → d ≡ seen → before ≡ listing
+    → LeavesDesk n turn d e names room before after base → LeavesDesk n turn seen e names room listing after base
+left_of {n} {turn} {d} {seen} {e} {names} {room} {before} {listing} {after} {base} run listed h =
+    subst (λ (x : DeskState). LeavesDesk n turn x e names room listing after base) run
     (subst (λ (l : List Change). LeavesDesk n turn d e names room l after base) listed h)
 
-module _ {d seen : DeskState} {changes shown : List Change} {base : Option CityValue} {n stamp since : ℕ} (run : d ≡ seen) (listed : changes ≡ shown) (s : IsSerial d changes base)
+module _ {d seen : DeskState} {changes listing : List Change} {base : Option CityValue} {n stamp since : ℕ} (run : d ≡ seen) (listed : changes ≡ listing) (s : IsSerial d changes base)
     (opened : phase_of seen n ≡ Open stamp since) (there : n < length seen.scripts) {names : List (List ℕ)} {capacity : ℕ} (r : HasRoom d names capacity) where
   is_here : phase_of d n ≡ Open stamp since
   is_here = subst (λ (x : DeskState). phase_of x n ≡ Open stamp since) (sym run) opened
@@ -387,15 +424,18 @@ module _ {d seen : DeskState} {changes shown : List Change} {base : Option CityV
   pub place_for_end : length d.ends < capacity
   place_for_end = place_open d changes base n stamp since s is_here there_here names capacity r
 
+  pub place_for_reply : {p : Progress} → p ≡ slice_index_or d.progress n p → length p.replies.list < p.replies.room
+  place_for_reply {p} read = reply_place d changes base n stamp since s is_here there_here p names capacity read r
+
   module _ {p : Progress} {x : Scripted} {cs : List Command} {number : ℕ} {command : Command} (read : p ≡ slice_index_or d.progress n p) (script : x ≡ slice_index_or d.scripts n x) (list : cs ≡ x.1)
-      (count : number ≡ length p.replies) (at_number : command ≡ slice_index_or cs number command) {q : Progress} {core : CoreState} {after : List Change} where
+      (count : number ≡ length p.replies.list) (at_number : command ≡ slice_index_or cs number command) {q : Progress} {core : CoreState} {after : List Change} where
     pub turn_goes_on : {turn : Turn} → HasStepped stamp command (Ok turn) p q d.core core changes after
-        → LeavesDesk n turn seen (now_at d (slice_set d.progress n q) d.begun core) names capacity shown after base
+        → LeavesDesk n turn seen (now_at d (slice_set d.progress n q) d.begun core) names capacity listing after base
     turn_goes_on {turn} h = left_of run listed
         (goes_on_from d changes base n stamp since s is_here there_here p x cs number command read script list count at_number turn q core after names capacity h r)
 
     pub turn_ends : {outcome : Outcome} {w : Progress} {ends : List End} {name : List ℕ} (taken : List ℕ) {room : ℕ} → HasStepped stamp command (Err outcome) p q d.core core changes after
-        → w ≡ record { phase = Ended; replies = [] } → ends ≡ d.ends ++ (record { script = n; name = name; since = since; replies = q.replies; outcome = outcome }) ∷ [] → name ≡ slice_index_or names n name
-        → room ≡ capacity → LeavesDesk n turns.Ended seen (ended_at d ends (slice_set d.progress n w) core) (slice_set names n taken) room shown after base
+        → w ≡ nowhere → ends ≡ d.ends ++ (record { script = n; name = name; since = since; replies = q.replies.list; outcome = outcome }) ∷ [] → name ≡ slice_index_or names n name
+        → room ≡ capacity → LeavesDesk n turns.Ended seen (ended_at d ends (slice_set d.progress n w) core) (slice_set names n taken) room listing after base
     turn_ends {outcome} {w} {ends} {name} taken {room} h over more named same = left_of run listed
         (ends_from d changes base n stamp since s is_here there_here p x cs number command read script list count at_number outcome q w core after ends names name taken capacity room h over more named r same)

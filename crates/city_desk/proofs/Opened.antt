@@ -4,31 +4,31 @@ use Rattle.std.specs.Prelude.{slice_index_or, IfSome}
 use Rattle.std.proofs.lemmas.Bool.{false≢true}
 use Rattle.std.proofs.lemmas.List.{length-map}
 use Rattle.std.proofs.lemmas.List.Sums.{sum_by-append, count_by-le-length}
-use Rattle.city_model.specs.CityMap.{CityMap, at, CityValue}
+use Rattle.city_model.specs.CityMap.{CityMap, object_at, CityValue}
 use Rattle.city_model.specs.Relations.{IsLawful}
-use Rattle.city_model.specs.Runs.{Scripted, Change, shown, model_after, has_end}
+use Rattle.city_model.specs.Runs.{Scripted, Change, after_changes, model_after, has_end}
 use Rattle.city_model.proofs.IdLists.{bool_cases}
 use Rattle.city_model.specs.declared.end.End.{End}
 use Rattle.city_txn.specs.CoreState.{CoreState}
 use Rattle.city_model.specs.Scripts.{AreScripts}
 use Rattle.city_desk.specs.declared.progress.Progress.{Progress}
 use Rattle.city_desk.specs.declared.progress.Phase.TheVariants.{NotBegun}
-use Rattle.city_desk.specs.DeskState.{DeskState, nowhere, phase_in, phase_of, replies_of, commands_at, name_at, is_ended, is_open_phase, stamp_of}
-use Rattle.city_desk.specs.Opening.{unbegun, unbegun_each, names_of, opened}
+use Rattle.city_desk.specs.DeskState.{DeskState, progress_to, nowhere, phase_in, phase_of, replies_of, commands_at, name_at, is_ended, is_open_phase, stamp_of}
+use Rattle.city_desk.specs.Opening.{unbegun, unbegun_each, opened}
 use Rattle.city_model.specs.SerialEnds.{commits_in}
-use Rattle.city_desk.specs.Room.{is_not_begun, ended_in, HasRoom}
+use Rattle.city_desk.specs.inside.Room.{names_of, is_not_begun, ended_in, HasRoom}
 use Rattle.city_desk.specs.Serial.{StandsAs, AreChangesOf, IsSerial}
 use Rattle.city_desk.proofs.Shelved.{none_of_none}
 use Rattle.city_desk.proofs.RoomKept.{one_if, place_left}
 
 -- ---- at its opening
 
-each_unbegun : (scripts : List Scripted) (n : ℕ) → (slice_index_or (unbegun_each scripts) n nowhere ≡ unbegun) ⊎ (slice_index_or (unbegun_each scripts) n nowhere ≡ nowhere)
+each_unbegun : (scripts : List Scripted) (n : ℕ) → ((s : Scripted) × (slice_index_or (unbegun_each scripts) n nowhere ≡ unbegun s)) ⊎ (slice_index_or (unbegun_each scripts) n nowhere ≡ nowhere)
 each_unbegun [] n = inr refl
-each_unbegun (s ∷ ss) zero = inl refl
+each_unbegun (s ∷ ss) zero = inl (s, refl)
 each_unbegun (s ∷ ss) (suc n) = each_unbegun ss n
 
-unbegun_within : (scripts : List Scripted) (n : ℕ) → n < length scripts → slice_index_or (unbegun_each scripts) n nowhere ≡ unbegun
+unbegun_within : (scripts : List Scripted) (n : ℕ) → n < length scripts → slice_index_or (unbegun_each scripts) n nowhere ≡ progress_to NotBegun [] (length (commands_at scripts n))
 unbegun_within [] n lt = absurd (omega arith)
 unbegun_within (s ∷ ss) zero lt = refl
 unbegun_within (s ∷ ss) (suc n) lt = unbegun_within ss n (omega arith)
@@ -40,23 +40,23 @@ name_within (s ∷ ss) (suc n) lt = name_within ss n (omega arith)
 
 stands_unbegun : (city : CityValue) (scripts : List Scripted) (n : ℕ) → StandsAs (opened city scripts) (commands_at scripts n) (phase_of (opened city scripts) n) (replies_of (opened city scripts) n)
 stands_unbegun city scripts n = elim (each_unbegun scripts n) [
-  | inl e ↦ subst (λ (p : Progress). StandsAs (opened city scripts) (commands_at scripts n) p.phase p.replies) (sym e) refl
-  | inr e ↦ subst (λ (p : Progress). StandsAs (opened city scripts) (commands_at scripts n) p.phase p.replies) (sym e) refl
+  | inl e ↦ subst (λ (p : Progress). StandsAs (opened city scripts) (commands_at scripts n) p.phase p.replies.list) (sym e.1) refl
+  | inr e ↦ subst (λ (p : Progress). StandsAs (opened city scripts) (commands_at scripts n) p.phase p.replies.list) (sym e) refl
 ]
 
 no_stamp : (city : CityValue) (scripts : List Scripted) (n stamp : ℕ) → stamp_of (phase_of (opened city scripts) n) ≡ Some stamp → ⊥
 no_stamp city scripts n stamp h = elim (each_unbegun scripts n) [
-  | inl e ↦ let k : None ≡ Some stamp = sym (ap (λ (p : Progress). stamp_of p.phase) e) ∙ h in cc
+  | inl e ↦ let k : None ≡ Some stamp = sym (ap (λ (p : Progress). stamp_of p.phase) e.1) ∙ h in cc
   | inr e ↦ let k : None ≡ Some stamp = sym (ap (λ (p : Progress). stamp_of p.phase) e) ∙ h in cc
 ]
 
 nothing_shown : (scripts : List Scripted) (start : CityMap) → AreChangesOf scripts start [] []
 nothing_shown scripts start = record {
   one_each = refl;
-  shows = λ n. subst (λ es. shown start (take (commits_in es) []) ≡ model_after scripts start es) (sym (none_of_none n)) refl;
+  shows = λ n. subst (λ es. after_changes start (take (commits_in es) []) ≡ model_after scripts start es) (sym (none_of_none n)) refl;
 }
 
-pub opened_serial : (city : CityValue) (scripts : List Scripted) (list : List Change) (base : Option CityValue) → IsLawful (at city.1) → AreScripts scripts → list ≡ [] → IfSome base (λ b. b ≡ city) → IsSerial (opened city scripts) list base
+pub opened_serial : (city : CityValue) (scripts : List Scripted) (list : List Change) (base : Option CityValue) → IsLawful (object_at city.1) → AreScripts scripts → list ≡ [] → IfSome base (λ b. b ≡ city) → IsSerial (opened city scripts) list base
 opened_serial city scripts list base lawful scripted empty based = record {
   lawful = lawful;
   scripted = scripted;
@@ -69,8 +69,8 @@ opened_serial city scripts list base lawful scripted empty based = record {
     apart = λ n k stamp h j. absurd (no_stamp city scripts n stamp h);
   };
   ended = λ n lt. sym (ap (λ (p : Progress). is_ended p.phase) (unbegun_within scripts n lt));
-  of_each = length-map scripts (λ (s : Scripted). unbegun);
-  shelf = subst (λ (cs : List Change). AreChangesOf scripts (at city.1) [] cs) (sym empty) (nothing_shown scripts (at city.1));
+  of_each = length-map scripts unbegun;
+  shelf = subst (λ (cs : List Change). AreChangesOf scripts (object_at city.1) [] cs) (sym empty) (nothing_shown scripts (object_at city.1));
   based = based;
 }
 
@@ -85,14 +85,15 @@ ended_more p ps = let both = sum_by-append (λ (q : Progress). cond (is_ended q.
 
 none_ended : (scripts : List Scripted) → ended_in (unbegun_each scripts) ≡ 0
 none_ended [] = refl
-none_ended (s ∷ ss) = let one = ended_more unbegun (unbegun_each ss) in let rest = none_ended ss in omega arith
+none_ended (s ∷ ss) = let one = ended_more (unbegun s) (unbegun_each ss) in let rest = none_ended ss in omega arith
 
 pub opened_room : (city : CityValue) (scripts : List Scripted) (names : List (List ℕ)) (capacity : ℕ) → names ≡ names_of scripts → length scripts ≤ capacity → HasRoom (opened city scripts) names capacity
 opened_room city scripts names capacity is room =
     let most = count_by-le-length (λ (p : Progress). is_not_begun p.phase) (unbegun_each scripts) in
-    let long : length (unbegun_each scripts) ≡ length scripts = length-map scripts (λ (s : Scripted). unbegun) in
+    let long : length (unbegun_each scripts) ≡ length scripts = length-map scripts unbegun in
     record {
       named = λ n lt h. ap (λ ns. slice_index_or ns n []) is ∙ name_within scripts n lt;
+      replies = λ n lt h. ap (λ (p : Progress). p.replies.room) (unbegun_within scripts n lt);
       names_long = ap length is ∙ length-map scripts (λ (s : Scripted). s.0);
       each_once = sym (none_ended scripts);
       stamps = omega arith;
@@ -126,6 +127,6 @@ opened_unbegun city scripts k lt = ap (λ (p : Progress). p.phase) (unbegun_with
 
 pub opened_alone : (city : CityValue) (scripts : List Scripted) (k : ℕ) → is_open_phase (phase_of (opened city scripts) k) ≡ false
 opened_alone city scripts k = elim (each_unbegun scripts k) [
-  | inl e ↦ ap (λ (p : Progress). is_open_phase p.phase) e
+  | inl e ↦ ap (λ (p : Progress). is_open_phase p.phase) e.1
   | inr e ↦ ap (λ (p : Progress). is_open_phase p.phase) e
 ]

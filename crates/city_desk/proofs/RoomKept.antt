@@ -4,14 +4,13 @@ use Rattle.std.specs.Prelude.{slice_set, slice_index_or}
 use Rattle.std.proofs.lemmas.Bool.{false≢true, cases_eq}
 use Rattle.std.proofs.lemmas.List.{get_or-set_same, get_or-set_other}
 use Rattle.std.proofs.lemmas.List.Sums.{sum_by-set, count_by-le-length}
-use Rattle.city_model.specs.declared.command.Reply.{Reply}
 use Rattle.city_model.specs.declared.end.End.{End}
 use Rattle.city_txn.specs.CoreState.{CoreState}
 use Rattle.city_desk.specs.declared.progress.Progress.{Progress}
 use Rattle.city_desk.specs.declared.progress.Phase.{Phase}
-use Rattle.city_desk.specs.declared.progress.Phase.TheVariants.{NotBegun, Open, Ended}
-use Rattle.city_desk.specs.DeskState.{DeskState, nowhere, phase_in, phase_of, is_ended}
-use Rattle.city_desk.specs.Room.{is_not_begun, ended_in, not_begun_in, HasRoom}
+use Rattle.city_desk.specs.declared.progress.Phase.TheVariants.{NotBegun, Open}
+use Rattle.city_desk.specs.DeskState.{DeskState, nowhere, phase_in, phase_of, room_in, room_of, is_ended}
+use Rattle.city_desk.specs.inside.Room.{is_not_begun, ended_in, not_begun_in, HasRoom}
 use Rattle.city_desk.proofs.SerialKept.{now_at, ended_at}
 
 abbrev pub one_if : Bool → ℕ
@@ -29,17 +28,22 @@ phase_set ps n j p ne = ap (λ (q : Progress). q.phase) (get_or-set_other ps n j
 phase_set_here : (ps : List Progress) (n : ℕ) (p : Progress) → n < length ps → phase_in (slice_set ps n p) n ≡ p.phase
 phase_set_here ps n p there = ap (λ (q : Progress). q.phase) (get_or-set_same ps n p nowhere there)
 
+room_set : (ps : List Progress) (n j : ℕ) (p : Progress) → j ≢ n → room_in (slice_set ps n p) j ≡ room_in ps j
+room_set ps n j p ne = ap (λ (q : Progress). q.replies.room) (get_or-set_other ps n j p nowhere ne)
+
+room_set_here : (ps : List Progress) (n : ℕ) (p : Progress) → n < length ps → room_in (slice_set ps n p) n ≡ p.replies.room
+room_set_here ps n p there = ap (λ (q : Progress). q.replies.room) (get_or-set_same ps n p nowhere there)
+
 -- the script goes on
-pub room_now : (d : DeskState) (names : List (List ℕ)) (capacity : ℕ) (progress : List Progress) (begun : ℕ) (core : CoreState) (n : ℕ) (phase : Phase) (replies : List Reply)
-    → HasRoom d names capacity → n < length d.progress → progress ≡ slice_set d.progress n (record { phase = phase; replies = replies })
-    → is_ended phase ≡ is_ended (phase_of d n) → begun + one_if (is_not_begun phase) ≤ d.begun + one_if (is_not_begun (phase_of d n)) → HasRoom (now_at d progress begun core) names capacity
-room_now d names capacity progress begun core n phase replies r there moves same stamps =
-    let p : Progress = record { phase = phase; replies = replies } in
+pub room_now : (d : DeskState) (names : List (List ℕ)) (capacity : ℕ) (progress : List Progress) (begun : ℕ) (core : CoreState) (n : ℕ) (p : Progress)
+    → HasRoom d names capacity → n < length d.progress → progress ≡ slice_set d.progress n p → p.replies.room ≡ room_of d n
+    → is_ended p.phase ≡ is_ended (phase_of d n) → begun + one_if (is_not_begun p.phase) ≤ d.begun + one_if (is_not_begun (phase_of d n)) → HasRoom (now_at d progress begun core) names capacity
+room_now d names capacity progress begun core n p r there moves kept same stamps =
     let ended = ended_set d.progress n p there in
     let started = not_begun_set d.progress n p there in
     let count : ended_in progress ≡ ended_in (slice_set d.progress n p) = ap ended_in moves in
     let counted : not_begun_in progress ≡ not_begun_in (slice_set d.progress n p) = ap not_begun_in moves in
-    let one : one_if (is_ended phase) ≡ one_if (is_ended (phase_of d n)) = ap one_if same in
+    let one : one_if (is_ended p.phase) ≡ one_if (is_ended (phase_of d n)) = ap one_if same in
     let each = r.each_once in
     let old = r.stamps in
     record {
@@ -47,6 +51,13 @@ room_now d names capacity progress begun core n phase replies r there moves same
         | inl here ↦ ap (λ i. is_ended (phase_in d.progress i)) here ∙ (sym same ∙ (sym (ap is_ended (phase_set_here d.progress n p there)) ∙ (sym (ap (λ ps. is_ended (phase_in ps n)) moves) ∙ (ap (λ i. is_ended (phase_in progress i)) (sym here) ∙ h))))
         | inr ne ↦ sym (ap is_ended (phase_set d.progress n j p ne)) ∙ (sym (ap (λ ps. is_ended (phase_in ps j)) moves) ∙ h)
       ]);
+      replies = λ j lt h. elim (cases_eq j n) [
+        | inl here ↦
+            let going : is_ended (phase_of d j) ≡ false =
+            ap (λ i. is_ended (phase_in d.progress i)) here ∙ (sym same ∙ (sym (ap is_ended (phase_set_here d.progress n p there)) ∙ (sym (ap (λ ps. is_ended (phase_in ps n)) moves) ∙ (ap (λ i. is_ended (phase_in progress i)) (sym here) ∙ h)))) in
+            ap (λ i. room_in progress i) here ∙ (ap (λ ps. room_in ps n) moves ∙ (room_set_here d.progress n p there ∙ (kept ∙ (ap (λ i. room_of d i) (sym here) ∙ r.replies j lt going))))
+        | inr ne ↦ ap (λ ps. room_in ps j) moves ∙ (room_set d.progress n j p ne ∙ r.replies j lt (sym (ap is_ended (phase_set d.progress n j p ne)) ∙ (sym (ap (λ ps. is_ended (phase_in ps j)) moves) ∙ h)))
+      ];
       names_long = r.names_long;
       each_once = omega arith;
       stamps = omega arith;
@@ -55,10 +66,10 @@ room_now d names capacity progress begun core n phase replies r there moves same
 
 -- the script ends
 pub room_ended : (d : DeskState) (names left : List (List ℕ)) (capacity room : ℕ) (ends : List End) (progress : List Progress) (core : CoreState) (n : ℕ) (e : End) (name : List ℕ)
-    → HasRoom d names capacity → n < length d.progress → progress ≡ slice_set d.progress n (record { phase = Ended; replies = [] }) → ends ≡ d.ends ++ e ∷ []
+    → HasRoom d names capacity → n < length d.progress → progress ≡ slice_set d.progress n nowhere → ends ≡ d.ends ++ e ∷ []
     → is_ended (phase_of d n) ≡ false → left ≡ slice_set names n name → room ≡ capacity → HasRoom (ended_at d ends progress core) left room
 room_ended d names left capacity room ends progress core n e name r there moves more going taken same =
-    let p : Progress = record { phase = Ended; replies = [] } in
+    let p : Progress = nowhere in
     let ended = ended_set d.progress n p there in
     let started = not_begun_set d.progress n p there in
     let count : ended_in progress ≡ ended_in (slice_set d.progress n p) = ap ended_in moves in
@@ -71,6 +82,10 @@ room_ended d names left capacity room ends progress core n e name r there moves 
       named = λ j lt h. elim (cases_eq j n) [
         | inl here ↦ absurd (false≢true (sym h ∙ (ap (λ i. is_ended (phase_in progress i)) here ∙ (ap (λ ps. is_ended (phase_in ps n)) moves ∙ ap is_ended (phase_set_here d.progress n p there)))))
         | inr ne ↦ ap (λ ns. slice_index_or ns j []) taken ∙ (get_or-set_other names n j name [] ne ∙ r.named j lt (sym (ap is_ended (phase_set d.progress n j p ne)) ∙ (sym (ap (λ ps. is_ended (phase_in ps j)) moves) ∙ h)))
+      ];
+      replies = λ j lt h. elim (cases_eq j n) [
+        | inl here ↦ absurd (false≢true (sym h ∙ (ap (λ i. is_ended (phase_in progress i)) here ∙ (ap (λ ps. is_ended (phase_in ps n)) moves ∙ ap is_ended (phase_set_here d.progress n p there)))))
+        | inr ne ↦ ap (λ ps. room_in ps j) moves ∙ (room_set d.progress n j p ne ∙ r.replies j lt (sym (ap is_ended (phase_set d.progress n j p ne)) ∙ (sym (ap (λ ps. is_ended (phase_in ps j)) moves) ∙ h)))
       ];
       names_long = ap length taken ∙ (length-set names n name ∙ r.names_long);
       each_once = omega arith;

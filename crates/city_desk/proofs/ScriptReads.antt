@@ -7,10 +7,10 @@ use Rattle.city_model.specs.declared.command.Command.{Command}
 use Rattle.city_model.specs.declared.command.Reply.{Reply}
 use Rattle.city_model.specs.declared.end.End.{End}
 use Rattle.city_model.specs.declared.end.Outcome.{Outcome}
-use Rattle.city_model.specs.Runs.{Scripted, commands_of}
+use Rattle.city_model.specs.Runs.{Scripted}
 use Rattle.city_model.specs.Scripts.{ends_once, AreScripts}
 use Rattle.city_desk.specs.declared.progress.Progress.{Progress}
-use Rattle.city_desk.specs.DeskState.{nowhere, commands_at}
+use Rattle.city_desk.specs.DeskState.{nowhere, commands_of, commands_at}
 
 pub script_there : (scripts : List Scripted) (n : ℕ) (x : Scripted) → n < length scripts → x ≡ slice_index_or scripts n x → slice_get scripts n ≡ Some x
 script_there scripts n x lt is = slice_get_read scripts (length scripts) n x refl lt is

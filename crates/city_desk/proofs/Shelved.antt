@@ -6,7 +6,7 @@ use Rattle.std.proofs.lemmas.List.{take-append-le, take-append-drop}
 use Rattle.std.proofs.lemmas.List.Sums.{sum_by-append}
 use Rattle.city_model.specs.declared.end.End.{End}
 use Rattle.city_model.specs.CityMap.{CityMap}
-use Rattle.city_model.specs.Runs.{Scripted, model_after, Change, with_change, shown}
+use Rattle.city_model.specs.Runs.{Scripted, model_after, Change, after_change, after_changes}
 use Rattle.city_model.specs.SerialEnds.{is_commit, commits_in}
 use Rattle.city_model.proofs.Writing.{shown_more}
 use Rattle.city_desk.specs.Serial.{AreChangesOf}
@@ -37,11 +37,11 @@ commits_first es n =
 
 module _ (scripts : List Scripted) (start : CityMap) (es : List End) (cs : List Change) (k : AreChangesOf scripts start es cs) where
   -- all changes show the map after all ends
-  pub shows_all : shown start cs ≡ model_after scripts start es
+  pub shows_all : after_changes start cs ≡ model_after scripts start es
   shows_all =
       let ends : take (length es) es ≡ es = take-length es in
       let all : take (commits_in es) cs ≡ cs = ap (λ n. take n cs) (sym k.one_each) ∙ take-length cs in
-      ap (shown start) (sym all) ∙ (ap (λ xs. shown start (take (commits_in xs) cs)) (sym ends) ∙ (k.shows (length es) ∙ ap (model_after scripts start) ends))
+      ap (after_changes start) (sym all) ∙ (ap (λ xs. after_changes start (take (commits_in xs) cs)) (sym ends) ∙ (k.shows (length es) ∙ ap (model_after scripts start) ends))
 
   -- an end that is no commit
   pub changes_kept : (e : End) → is_commit e.outcome ≡ false → model_after scripts start (es ++ e ∷ []) ≡ model_after scripts start es → AreChangesOf scripts start (es ++ e ∷ []) cs
@@ -50,21 +50,21 @@ module _ (scripts : List Scripted) (start : CityMap) (es : List End) (cs : List 
       let all : take (commits_in (es ++ e ∷ [])) cs ≡ cs = ap (λ n. take n cs) (count ∙ sym k.one_each) ∙ take-length cs in
       record {
         one_each = k.one_each ∙ sym count;
-        shows = first_more (λ xs. shown start (take (commits_in xs) cs) ≡ model_after scripts start xs) es e k.shows
-            (ap (shown start) all ∙ (shows_all ∙ sym same));
+        shows = first_more (λ xs. after_changes start (take (commits_in xs) cs) ≡ model_after scripts start xs) es e k.shows
+            (ap (after_changes start) all ∙ (shows_all ∙ sym same));
       }
 
   -- a commit, with its change
-  pub changes_more : (e : End) (c : Change) → is_commit e.outcome ≡ true → model_after scripts start (es ++ e ∷ []) ≡ with_change (model_after scripts start es) c → AreChangesOf scripts start (es ++ e ∷ []) (cs ++ c ∷ [])
+  pub changes_more : (e : End) (c : Change) → is_commit e.outcome ≡ true → model_after scripts start (es ++ e ∷ []) ≡ after_change (model_after scripts start es) c → AreChangesOf scripts start (es ++ e ∷ []) (cs ++ c ∷ [])
   changes_more e c one made =
       let count : commits_in (es ++ e ∷ []) ≡ commits_in es + 1 = commits_more es e ∙ ap (λ b. commits_in es + cond b 1 0) one in
       let long : length (cs ++ c ∷ []) ≡ length cs + 1 = length-append cs (c ∷ []) in
       let each : length (cs ++ c ∷ []) ≡ commits_in (es ++ e ∷ []) = long ∙ (ap (λ n. n + 1) k.one_each ∙ sym count) in
       let all : take (commits_in (es ++ e ∷ [])) (cs ++ c ∷ []) ≡ cs ++ c ∷ [] = ap (λ n. take n (cs ++ c ∷ [])) (sym each) ∙ take-length (cs ++ c ∷ []) in
-      let before : (n : ℕ) → shown start (take (commits_in (take n es)) (cs ++ c ∷ [])) ≡ model_after scripts start (take n es) =
-      λ n. ap (shown start) (take-append-le (commits_in (take n es)) cs (c ∷ []) (subst (λ j. commits_in (take n es) ≤ j) (sym k.one_each) (commits_first es n))) ∙ k.shows n in
+      let before : (n : ℕ) → after_changes start (take (commits_in (take n es)) (cs ++ c ∷ [])) ≡ model_after scripts start (take n es) =
+      λ n. ap (after_changes start) (take-append-le (commits_in (take n es)) cs (c ∷ []) (subst (λ j. commits_in (take n es) ≤ j) (sym k.one_each) (commits_first es n))) ∙ k.shows n in
       record {
         one_each = each;
-        shows = first_more (λ xs. shown start (take (commits_in xs) (cs ++ c ∷ [])) ≡ model_after scripts start xs) es e before
-            (ap (shown start) all ∙ (shown_more start cs c ∙ (ap (λ m. with_change m c) shows_all ∙ sym made)));
+        shows = first_more (λ xs. after_changes start (take (commits_in xs) (cs ++ c ∷ [])) ≡ model_after scripts start xs) es e before
+            (ap (after_changes start) all ∙ (shown_more start cs c ∙ (ap (λ m. after_change m c) shows_all ∙ sym made)));
       }

@@ -7,7 +7,7 @@ use Rattle.city_desk.specs.declared.progress.Progress.{Progress}
 use Rattle.city_desk.specs.declared.progress.Phase.{Phase}
 use Rattle.city_desk.specs.declared.progress.Phase.TheVariants.{NotBegun, Idle, Open, Ended}
 use Rattle.city_desk.specs.DeskState.{DeskState, nowhere, phase_in, phase_of, is_ended, is_open_phase}
-use Rattle.city_desk.specs.Ready.{is_unopened, IsYoungestBelow, IsYoungest}
+use Rattle.city_desk.specs.inside.Ready.{is_unopened, IsYoungestBelow, IsYoungest}
 use Rattle.city_desk.specs.Turning.{IsWaiting}
 
 past : (ps : List Progress) (k : ℕ) → length ps ≤ k → phase_in ps k ≡ Ended

@@ -4,7 +4,7 @@ use Rattle.std.specs.Prelude.{ℕ, Bool, true, false, List, [], Option, None, So
 use Rattle.city_model.specs.declared.command.Command.{Command}
 use Rattle.city_model.specs.declared.command.Reply.{Reply}
 use Rattle.city_model.specs.declared.end.End.{End}
-use Rattle.city_model.specs.Runs.{Scripted, commands_of}
+use Rattle.city_model.specs.Runs.{Scripted}
 use Rattle.city_txn.specs.CoreState.{CoreState}
 use Rattle.city_model.specs.CityMap.{CityValue}
 use Rattle.city_desk.specs.declared.progress.Progress.{Progress}
@@ -25,15 +25,22 @@ pub record DeskState : Type 0 where
   pub progress : List Progress
   pub core : CoreState
 
--- the progress of a script that isn't there
+-- a script that has come so far, with these replies and room for so many
+abbrev pub progress_to : Phase → List Reply → ℕ → Progress
+progress_to phase replies room = record { phase = phase; replies = record { list = replies; room = room } }
+
+-- the progress of a script that has ended, or isn't there
 abbrev pub nowhere : Progress
-nowhere = record { phase = Ended; replies = [] }
+nowhere = progress_to Ended [] 0
 
 abbrev pub phase_in : List Progress → ℕ → Phase
 phase_in progress n = (slice_index_or progress n nowhere).phase
 
 abbrev pub replies_in : List Progress → ℕ → List Reply
-replies_in progress n = (slice_index_or progress n nowhere).replies
+replies_in progress n = (slice_index_or progress n nowhere).replies.list
+
+abbrev pub room_in : List Progress → ℕ → ℕ
+room_in progress n = (slice_index_or progress n nowhere).replies.room
 
 abbrev pub phase_of : DeskState → ℕ → Phase
 phase_of d n = phase_in d.progress n
@@ -41,6 +48,14 @@ phase_of d n = phase_in d.progress n
 -- the replies of the script's open transaction
 abbrev pub replies_of : DeskState → ℕ → List Reply
 replies_of d n = replies_in d.progress n
+
+-- how many replies the script has room for
+abbrev pub room_of : DeskState → ℕ → ℕ
+room_of d n = room_in d.progress n
+
+abbrev pub commands_of : Option Scripted → List Command
+commands_of None = []
+commands_of (Some s) = s.1
 
 abbrev pub commands_at : List Scripted → ℕ → List Command
 commands_at scripts n = commands_of (slice_get scripts n)

@@ -1,13 +1,10 @@
-pub mod Attempt
-pub mod Closing
 pub mod DeskState
 pub mod InTurn
-pub mod NoCity
 pub mod Opening
-pub mod Ready
-pub mod Room
+pub mod RepliesValue
 pub mod RunFaults
 pub mod Serial
 pub mod SerialRuns
 pub mod TextRuns
 pub mod Turning
+pub mod inside

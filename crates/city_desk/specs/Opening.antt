@@ -1,19 +1,17 @@
 -- A desk as it is opened.
-use Rattle.std.specs.Prelude.{ℕ, List, [], map}
+use Rattle.std.specs.Prelude.{ℕ, List, [], length, map}
 use Rattle.city_model.specs.Runs.{Scripted}
 use Rattle.city_model.specs.CityMap.{CityValue}
 use Rattle.city_desk.specs.declared.progress.Progress.{Progress}
 use Rattle.city_desk.specs.declared.progress.Phase.TheVariants.{NotBegun}
-use Rattle.city_desk.specs.DeskState.{DeskState}
+use Rattle.city_desk.specs.DeskState.{DeskState, progress_to}
 
-abbrev pub unbegun : Progress
-unbegun = record { phase = NotBegun; replies = [] }
+-- with room for a reply to each of its commands
+abbrev pub unbegun : Scripted → Progress
+unbegun script = progress_to NotBegun [] (length script.1)
 
 abbrev pub unbegun_each : List Scripted → List Progress
-unbegun_each scripts = map (λ script. unbegun) scripts
-
-abbrev pub names_of : List Scripted → List (List ℕ)
-names_of scripts = map (λ script. script.0) scripts
+unbegun_each scripts = map unbegun scripts
 
 -- over this city, with these scripts, none of them begun or handed out
 abbrev pub opened : CityValue → List Scripted → DeskState

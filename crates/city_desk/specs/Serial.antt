@@ -4,14 +4,14 @@ use Rattle.std.specs.List.{list_any}
 use Rattle.city_model.specs.declared.command.Command.{Command}
 use Rattle.city_model.specs.declared.command.Reply.{Reply}
 use Rattle.city_model.specs.declared.end.End.{End}
-use Rattle.city_model.specs.CityMap.{CityMap, at, CityValue}
+use Rattle.city_model.specs.CityMap.{CityMap, object_at, CityValue}
 use Rattle.city_model.specs.Relations.{IsLawful}
-use Rattle.city_model.specs.Runs.{Scripted, Fits, model_after, has_end, Change, shown}
+use Rattle.city_model.specs.Runs.{Scripted, IsSerialHistory, model_after, has_end, Change, after_changes}
 use Rattle.city_model.specs.Meaning.{is_refusal}
 use Rattle.city_model.specs.Scripts.{AreScripts}
 use Rattle.city_model.specs.SerialEnds.{commits_in}
 use Rattle.city_model.specs.Standing.{answered}
-use Rattle.city_txn.specs.CoreState.{committed, is_open, Stands}
+use Rattle.city_txn.specs.CoreState.{committed, is_open, StandsUnderLocks}
 use Rattle.city_desk.specs.declared.progress.Phase.{Phase}
 use Rattle.city_desk.specs.declared.progress.Phase.TheVariants.{NotBegun, Idle, Open, Ended}
 use Rattle.city_desk.specs.DeskState.{DeskState, phase_of, replies_of, commands_at, is_ended, stamp_of}
@@ -27,7 +27,7 @@ pub record IsAttempt (d : DeskState) (commands : List Command) (stamp start : �
   pub since : start ≤ length d.ends
   pub unfinished : length replies < length commands
   pub unrefused : list_any is_refusal replies ≡ false
-  pub stands : Stands d.core stamp (answered commands replies)
+  pub stands : StandsUnderLocks d.core stamp (answered commands replies)
 
 -- how a script stands that has come this far
 abbrev pub StandsAs : DeskState → List Command → Phase → List Reply → Type 0
@@ -51,18 +51,18 @@ pub record AreChangesOf (scripts : List Scripted) (start : CityMap) (ends : List
     : Type 0 where
   pub one_each : length changes ≡ commits_in ends
   pub shows : (n : ℕ)
-      → shown start (take (commits_in (take n ends)) changes) ≡ model_after scripts start (take n ends)
+      → after_changes start (take (commits_in (take n ends)) changes) ≡ model_after scripts start (take n ends)
 
 -- The ends are those of scripts run one at a time, each once; the committed city is what they leave;
 -- the open transactions stand on it; and the shelf shows the city after each commit.
 pub record IsSerial (d : DeskState) (changes : List Change) (base : Option CityValue) : Type 0 where
-  pub lawful : IsLawful (at d.start.1)
+  pub lawful : IsLawful (object_at d.start.1)
   pub scripted : AreScripts d.scripts
-  pub fits : Fits d.scripts (at d.start.1) d.ends
+  pub fits : IsSerialHistory d.scripts (object_at d.start.1) d.ends
   pub frame : d.core.frame ≡ d.start.0
-  pub city : committed d.core ≡ model_after d.scripts (at d.start.1) d.ends
+  pub city : committed d.core ≡ model_after d.scripts (object_at d.start.1) d.ends
   pub standing : AreStanding d
   pub ended : (n : ℕ) → n < length d.scripts → has_end n d.ends ≡ is_ended (phase_of d n)
   pub of_each : length d.progress ≡ length d.scripts
-  pub shelf : AreChangesOf d.scripts (at d.start.1) d.ends changes
+  pub shelf : AreChangesOf d.scripts (object_at d.start.1) d.ends changes
   pub based : IfSome base (λ city. city ≡ d.start)

@@ -5,18 +5,20 @@ use Rattle.city_model.specs.declared.command.Command.{Command}
 use Rattle.city_model.specs.declared.command.Reply.{Reply}
 use Rattle.city_model.specs.declared.end.Outcome.{Outcome}
 use Rattle.city_model.specs.declared.end.End.{End}
-use Rattle.city_model.specs.Meaning.{is_refusal}
+use Rattle.city_model.specs.Marks.{View}
+use Rattle.city_model.specs.Meaning.{Answers, effect, is_refusal}
 use Rattle.city_model.specs.Runs.{Change}
 use Rattle.city_model.specs.Scripts.{is_end}
 use Rattle.city_model.specs.SerialEnds.{is_no_memory, commits_in}
 use Rattle.city_locks.specs.declared.answer.Answer.{Answer}
 use Rattle.city_locks.specs.declared.answer.Answer.TheVariants.{Granted, Wait, Die}
-use Rattle.city_txn.specs.Acting.{reply_in, answer_in, EndsIn}
+use Rattle.city_txn.specs.Acting.{answer_in, EndsIn}
+use Rattle.city_txn.specs.CoreState.{snapshot}
 use Rattle.city_desk.specs.declared.progress.Phase.{Phase}
 use Rattle.city_desk.specs.declared.progress.Phase.TheVariants.{NotBegun, Idle, Open, Ended}
 use Rattle.city_desk.specs.declared.turn.Turn.{Turn}
 use Rattle.city_desk.specs.declared.turn.Turn.TheVariants as turns
-use Rattle.city_desk.specs.DeskState.{DeskState, phase_of, replies_of, commands_at, name_at}
+use Rattle.city_desk.specs.DeskState.{DeskState, progress_to, nowhere, phase_of, replies_of, room_of, commands_at, name_at}
 
 -- a transaction of the script is open, and this command is its next
 pub record IsNext (d : DeskState) (n stamp since : ℕ) (command : Command) : Type 0 where
@@ -29,9 +31,9 @@ pub record Keeps (d e : DeskState) : Type 0 where
   pub scripts : e.scripts ≡ d.scripts
   pub taken : e.taken ≡ d.taken
 
--- how far script n is; all others are as they were
+-- how far script n is, with the room that it had; all others are as they were
 abbrev pub Moves : DeskState → DeskState → ℕ → Phase → List Reply → Type 0
-Moves d e n phase replies = e.progress ≡ slice_set d.progress n (record { phase = phase; replies = replies })
+Moves d e n phase replies = e.progress ≡ slice_set d.progress n (progress_to phase replies (room_of d n))
 
 -- ---- begun
 
@@ -74,8 +76,11 @@ pub record HasReplied (d e : DeskState) (n : ℕ) : Type 0 where
   pub stamp : ℕ
   pub since : ℕ
   pub is : IsAnswered d n stamp since Granted
-  pub unrefused : is_refusal (reply_in d.core stamp is.command) ≡ false
-  pub moves : Moves d e n (Open stamp since) (replies_of d n ++ reply_in d.core stamp is.command ∷ [])
+  pub reply : Reply
+  pub after : View
+  pub does : effect (snapshot d.core stamp) is.command ≡ Answers reply after
+  pub unrefused : is_refusal reply ≡ false
+  pub moves : Moves d e n (Open stamp since) (replies_of d n ++ reply ∷ [])
   pub begun : e.begun ≡ d.begun
   pub ends : e.ends ≡ d.ends
 
@@ -139,24 +144,24 @@ pub record HasEnded (d e : DeskState) (n : ℕ) : Type 0 where
   pub outcome : Outcome
   pub due : IsDue d n (phase_of d n) since outcome
   pub ends : e.ends ≡ d.ends ++ end_of d n since outcome ∷ []
-  pub moves : Moves d e n Ended []
+  pub moves : e.progress ≡ slice_set d.progress n nowhere
   pub begun : e.begun ≡ d.begun
 
 -- ---- any turn
 
 -- what the turn did, by its answer
-abbrev pub TurnedSo : DeskState → DeskState → ℕ → Turn → Type 0
-TurnedSo d e n turns.Began = HasBegun d e n
-TurnedSo d e n turns.Replied = HasReplied d e n
-TurnedSo d e n turns.Waits = HasWaited d e n
-TurnedSo d e n turns.Died = HasDied d e n
-TurnedSo d e n turns.Ended = HasEnded d e n
-TurnedSo d e n turns.AlreadyEnded = (phase_of d n ≡ Ended) × (e ≡ d)
+abbrev pub IsTurnAs : DeskState → DeskState → ℕ → Turn → Type 0
+IsTurnAs d e n turns.Began = HasBegun d e n
+IsTurnAs d e n turns.Replied = HasReplied d e n
+IsTurnAs d e n turns.Waits = HasWaited d e n
+IsTurnAs d e n turns.Died = HasDied d e n
+IsTurnAs d e n turns.Ended = HasEnded d e n
+IsTurnAs d e n turns.AlreadyEnded = (phase_of d n ≡ Ended) × (e ≡ d)
 
 -- A turn of script n: what it answers, and what becomes of the desk.
-pub record Turned (n : ℕ) (turn : Turn) (d e : DeskState) : Type 0 where
+pub record IsTurn (n : ℕ) (turn : Turn) (d e : DeskState) : Type 0 where
   pub keeps : Keeps d e
-  pub so : TurnedSo d e n turn
+  pub so : IsTurnAs d e n turn
 
 -- the shelf's changes stay, and gain one for each commit of the turn
 abbrev pub GainsCommits : List End → List End → List Change → List Change → Type 0

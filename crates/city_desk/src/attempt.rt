@@ -2,12 +2,12 @@
 ghost use Rattle.std.specs.Prelude.{◌≡◌, ◌+◌, ◌<◌, ◌^◌, List, length, true, false, IfSome, IfOk, IfErr};
 ghost use Rattle.city_model.specs.declared.command.Command.{Command};
 ghost use Rattle.city_model.specs.declared.command.Reply.{Reply};
-ghost use Rattle.city_model.specs.CityMap.{at};
+ghost use Rattle.city_model.specs.CityMap.{object_at};
 ghost use Rattle.city_model.specs.Meaning.{is_refusal};
-ghost use Rattle.city_model.specs.Runs.{Change, shown};
+ghost use Rattle.city_model.specs.Runs.{Change, after_changes};
 ghost use Rattle.city_model.specs.Scripts.{is_end};
 ghost use Rattle.city_txn.specs.CoreState.{committed, is_open};
-ghost use Rattle.city_desk.specs.Attempt.{AttemptEnded, HasStepped};
+ghost use Rattle.city_desk.specs.inside.Attempt.{AttemptEnded, HasStepped};
 
 use crate::progress::Progress;
 use crate::shelf::Shelf;
@@ -15,7 +15,6 @@ use crate::turn::Turn;
 use city_model::command::{Cause, Command, Reply};
 use city_model::end::Outcome;
 use city_txn::{Core, Step};
-use std::alloc::Global;
 
 /// The reply, or the cause where it is a refusal.
 fn unless_refused(reply: Reply) -> Result<Reply, Cause>
@@ -30,12 +29,12 @@ fn unless_refused(reply: Reply) -> Result<Reply, Cause>
 
 /// Runs a command that doesn't end its script.
 fn run_command(
-    alloc: Global,
     core: &mut Core,
     progress: &mut Progress,
     stamp: u64,
     command: &Command,
 ) -> Result<Turn, Outcome>
+    requires place { length progress.old.replies.list < progress.old.replies.room }
     requires opened { is_open core.old stamp ≡ true }
     requires goes_on { is_end command.now ≡ false }
     ensures { (changes : List Change) → HasStepped stamp command.now result progress.old progress.new core.old core.new changes changes }
@@ -44,10 +43,7 @@ fn run_command(
     match core.act(stamp, command) {
         Ok(Step::Done(reply)) => match unless_refused(reply) {
             Ok(reply) => {
-                let Ok(()) = progress.hear(reply) else {
-                    core.roll_back(stamp);
-                    return Err(Outcome::NoMemory(number));
-                };
+                progress.replies.add(reply);
                 Ok(Turn::Replied)
             }
             Err(cause) => {
@@ -58,7 +54,7 @@ fn run_command(
         Ok(Step::Wait) => Ok(Turn::Waits),
         Ok(Step::Die) => {
             core.roll_back(stamp);
-            progress.die(alloc, stamp);
+            progress.die(stamp);
             Ok(Turn::Died)
         }
         Err(_) => {
@@ -73,10 +69,11 @@ fn run_command(
 fn commit<S: Shelf>(core: &mut Core, shelf: &mut S, stamp: u64, number: usize) -> Outcome
     requires opened { is_open core.old stamp ≡ true }
     requires room { length (S.list shelf.old) + 1 < 2 ^ 64 }
-    requires shows { IfSome (S.base shelf.old) (λ city. shown (at city.1) (S.list shelf.old) ≡ committed core.old) }
+    requires shows { IfSome (S.base shelf.old) (λ city. after_changes (object_at city.1) (S.list shelf.old) ≡ committed core.old) }
     ensures ended { AttemptEnded stamp Command.Commit number result core.old core.new (S.list shelf.old) (S.list shelf.new) }
     ensures base { S.base shelf.new ≡ S.base shelf.old }
     ensures name { S.name shelf.new ≡ S.name shelf.old }
+    ensures published { S.published shelf.new ≡ S.published shelf.old }
 {
     match core.refusal(stamp) {
         Ok(None) => {
@@ -105,19 +102,20 @@ fn commit<S: Shelf>(core: &mut Core, shelf: &mut S, stamp: u64, number: usize) -
 /// transaction is over and has left nothing but what it committed. The replies of an attempt
 /// that died are dropped.
 pub fn step<S: Shelf>(
-    alloc: Global,
     core: &mut Core,
     shelf: &mut S,
     progress: &mut Progress,
     stamp: u64,
     command: &Command,
 ) -> Result<Turn, Outcome>
+    requires place { length progress.old.replies.list < progress.old.replies.room }
     requires opened { is_open core.old stamp ≡ true }
     requires room { length (S.list shelf.old) + 1 < 2 ^ 64 }
-    requires shows { IfSome (S.base shelf.old) (λ city. shown (at city.1) (S.list shelf.old) ≡ committed core.old) }
+    requires shows { IfSome (S.base shelf.old) (λ city. after_changes (object_at city.1) (S.list shelf.old) ≡ committed core.old) }
     ensures stepped { HasStepped stamp command.now result progress.old progress.new core.old core.new (S.list shelf.old) (S.list shelf.new) }
     ensures base { S.base shelf.new ≡ S.base shelf.old }
     ensures name { S.name shelf.new ≡ S.name shelf.old }
+    ensures published { S.published shelf.new ≡ S.published shelf.old }
 {
     match command {
         Command::Commit => Err(commit(core, shelf, stamp, progress.replies.len())),
@@ -125,6 +123,6 @@ pub fn step<S: Shelf>(
             core.roll_back(stamp);
             Err(Outcome::Aborted)
         }
-        _ => run_command(alloc, core, progress, stamp, command),
+        _ => run_command(core, progress, stamp, command),
     }
 }

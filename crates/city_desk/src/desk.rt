@@ -1,13 +1,13 @@
 //! The desk.
-ghost use Rattle.std.specs.Prelude.{◌≡◌, ◌<◌, ◌+◌, ◌↔◌, ℕ, List, [], length, map, true, false, None, Some, IfSome, IsOk, IfOk, IfErr, if◌then◌else◌, nat_lt};
-ghost use Rattle.city_model.specs.CityMap.{at};
+ghost use Rattle.std.specs.Prelude.{◌≡◌, ◌<◌, ◌+◌, ◌↔◌, ℕ, List, [], length, map, true, false, None, Some, option_map, IfSome, IsOk, IfOk, IfErr, OnOk, OnErr, if◌then◌else◌, nat_lt};
+ghost use Rattle.city_model.specs.CityMap.{object_at};
 ghost use Rattle.city_model.specs.Relations.{IsLawful};
 ghost use Rattle.city_model.specs.Runs.{model_after, has_end};
 ghost use Rattle.city_desk.specs.declared.progress.Phase.{Phase};
 ghost use Rattle.city_desk.specs.DeskState.{phase_of};
 ghost use Rattle.city_desk.specs.Opening.{opened};
 ghost use Rattle.city_desk.specs.Serial.{IsSerial};
-ghost use Rattle.city_desk.specs.Turning.{Turned, GainsCommits, IsWaiting, stamp_for, begun_after};
+ghost use Rattle.city_desk.specs.Turning.{IsTurn, GainsCommits, IsWaiting, stamp_for, begun_after};
 
 use crate::attempt::step;
 use crate::closing::roll_back_all;
@@ -65,14 +65,14 @@ impl<S: Shelf> Model for Desk<S> {
     ghost Value = { DeskState × S };
 
     ghost use Rattle.std.specs.Coded.{codes};
-    ghost use Rattle.city_model.specs.DataCode.{coded_members};
-    ghost use Rattle.city_txn.specs.Codes.{coded_objects};
+    ghost use Rattle.city_model.specs.inside.DataCode.{coded_members};
+    ghost use Rattle.city_txn.specs.inside.Codes.{coded_objects};
 
     ghost coded = { Prim.hlevel (codes, coded_members, coded_objects) };
 
     ghost use Rattle.std.specs.Prelude.{vec_capacity};
     ghost use Rattle.city_desk.specs.Serial.{IsSerial};
-    ghost use Rattle.city_desk.specs.Room.{HasRoom};
+    ghost use Rattle.city_desk.specs.inside.Room.{HasRoom};
 
     ghost view = { λ d. (record { start = d.start; scripts = d.scripts.items; ends = d.ends.items; taken = d.taken; begun = d.begun; progress = d.progress.items; core = d.core }, d.shelf) };
 
@@ -89,7 +89,7 @@ impl<S: Shelf> Desk<S> {
         scripts: Sequence<Script>,
         shelf: S,
     ) -> Result<Desk<S>, OutOfMemory>
-        requires lawful { IsLawful (at city.1) }
+        requires lawful { IsLawful (object_at city.1) }
         requires empty { S.list shelf ≡ [] }
         requires based { IfSome (S.base shelf) (λ base. base ≡ city) }
         ensures desk { IfOk result (λ desk. desk.0 ≡ opened city scripts) }
@@ -158,12 +158,15 @@ impl<S: Shelf> Desk<S> {
         }
     }
 
-    /// Shows the shelf as it is; the desk is otherwise unchanged.
+    /// Shows the shelf as it is; the desk is otherwise unchanged. If memory runs out, viewers see what
+    /// they saw.
     pub fn show<R: Wait>(&mut self, rt: &R) -> Result<S::Note, OutOfMemory>
         ensures desk { self.new.0 ≡ self.old.0 }
         ensures list { S.list self.new.1 ≡ S.list self.old.1 }
         ensures base { S.base self.new.1 ≡ S.base self.old.1 }
         ensures name { S.name self.new.1 ≡ S.name self.old.1 }
+        ensures published { OnOk result (S.published self.new.1 ≡ option_map (λ seen. S.list self.old.1) (S.published self.old.1)) }
+        ensures err { OnErr result (S.published self.new.1 ≡ S.published self.old.1) }
         ensures note { IfOk result (λ note. S.tells self.new.1 note) }
     {
         self.shelf.show(rt)
@@ -176,10 +179,11 @@ impl<S: Shelf> Desk<S> {
     /// script's progress changes. The shelf's list stays, and gains the change of a commit.
     pub fn turn(&mut self, n: usize) -> Turn
         requires { n < length self.old.0.scripts }
-        ensures turned { Turned n result self.old.0 self.new.0 }
+        ensures turned { IsTurn n result self.old.0 self.new.0 }
         ensures changes { GainsCommits self.old.0.ends self.new.0.ends (S.list self.old.1) (S.list self.new.1) }
         ensures base { S.base self.new.1 ≡ S.base self.old.1 }
         ensures name { S.name self.new.1 ≡ S.name self.old.1 }
+        ensures published { S.published self.new.1 ≡ S.published self.old.1 }
     {
         match self.progress[n].phase {
             Phase::NotBegun => self.begin(n, self.begun, self.begun + 1),
@@ -195,10 +199,11 @@ impl<S: Shelf> Desk<S> {
         requires there { n < length self.old.0.scripts }
         requires its { stamp_for self.old.0 (phase_of self.old.0 n) ≡ Some stamp }
         requires begun { begun ≡ begun_after self.old.0.begun (phase_of self.old.0 n) }
-        ensures turned { Turned n result self.old.0 self.new.0 }
+        ensures turned { IsTurn n result self.old.0 self.new.0 }
         ensures changes { GainsCommits self.old.0.ends self.new.0.ends (S.list self.old.1) (S.list self.new.1) }
         ensures base { S.base self.new.1 ≡ S.base self.old.1 }
         ensures name { S.name self.new.1 ≡ S.name self.old.1 }
+        ensures published { S.published self.new.1 ≡ S.published self.old.1 }
     {
         let since = self.ends.len();
         let progress = &mut self.progress[n];
@@ -223,22 +228,16 @@ impl<S: Shelf> Desk<S> {
     fn go_on(&mut self, n: usize, stamp: u64, since: usize) -> Turn
         requires there { n < length self.old.0.scripts }
         requires opened { phase_of self.old.0 n ≡ Phase.Open stamp since }
-        ensures turned { Turned n result self.old.0 self.new.0 }
+        ensures turned { IsTurn n result self.old.0 self.new.0 }
         ensures changes { GainsCommits self.old.0.ends self.new.0.ends (S.list self.old.1) (S.list self.new.1) }
         ensures base { S.base self.new.1 ≡ S.base self.old.1 }
         ensures name { S.name self.new.1 ≡ S.name self.old.1 }
+        ensures published { S.published self.new.1 ≡ S.published self.old.1 }
     {
         let progress = &mut self.progress[n];
         let number = progress.replies.len();
         let command = &self.scripts[n].commands()[number];
-        match step(
-            self.alloc,
-            &mut self.core,
-            &mut self.shelf,
-            progress,
-            stamp,
-            command,
-        ) {
+        match step(&mut self.core, &mut self.shelf, progress, stamp, command) {
             Ok(turn) => turn,
             Err(outcome) => {
                 record_end(
@@ -261,7 +260,7 @@ impl<S: Shelf> Desk<S> {
         ensures ended { IsOk result ↔ ((n : ℕ) → n < length self.0.scripts → has_end n self.0.ends ≡ true) }
         ensures each_once { IfOk result (λ f. length f.ends ≡ length self.0.scripts) }
         ensures frame { IfOk result (λ f. f.city.0 ≡ self.0.start.0) }
-        ensures city { IfOk result (λ f. at f.city.1 ≡ model_after self.0.scripts (at self.0.start.1) self.0.ends) }
+        ensures city { IfOk result (λ f. object_at f.city.1 ≡ model_after self.0.scripts (object_at self.0.start.1) self.0.ends) }
         ensures ends { IfOk result (λ f. f.ends ≡ self.0.ends) }
         ensures shelf { IfOk result (λ f. f.shelf ≡ self.1) }
         ensures serial { IsSerial self.0 (S.list self.1) (S.base self.1) }
@@ -278,7 +277,7 @@ impl<S: Shelf> Desk<S> {
     /// rolled back. Doesn't allocate.
     pub fn close(self) -> (City, Sequence<End>, S)
         ensures frame { result.0.0 ≡ self.0.start.0 }
-        ensures city { at result.0.1 ≡ model_after self.0.scripts (at self.0.start.1) self.0.ends }
+        ensures city { object_at result.0.1 ≡ model_after self.0.scripts (object_at self.0.start.1) self.0.ends }
         ensures ends { result.1 ≡ self.0.ends }
         ensures shelf { result.2 ≡ self.1 }
         ensures serial { IsSerial self.0 (S.list self.1) (S.base self.1) }

@@ -4,7 +4,7 @@
 //! - `opening`, `attempt`, `ready`, `closing`: what it makes at its opening, the next command of a script, whose turn
 //!   doesn't wait, what is rolled back at the close
 //! - `opening_city`: the city that it was opened over, for contracts only
-//! - `progress`: how far a script is
+//! - `progress`, `replies`: how far a script is, and its replies so far
 //! - `shelf`, `null_shelf`: where the changes of commits go, and a shelf that keeps none
 //! - `taken_changes`, `no_rule`: the changes that a shelf has taken, and records of what was, for contracts only
 //! - `texts`, `in_turn`, `serial_run`: the two texts of a run read, and the run of one worker
@@ -23,6 +23,7 @@ mod opening_city;
 mod output;
 mod progress;
 mod ready;
+mod replies;
 mod serial_run;
 mod shelf;
 mod taken_changes;

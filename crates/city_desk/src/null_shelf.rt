@@ -1,5 +1,7 @@
 //! A shelf that keeps no change, for a run that nobody looks at.
-ghost use Rattle.std.specs.Prelude.{◌≡◌, [], None};
+ghost use Rattle.std.specs.Prelude.{◌≡◌, ◌++◌, ◌∷◌, [], None, IsOk, OnOk};
+ghost use Rattle.city_model.specs.Runs.{Change};
+ghost use Rattle.city_txn.specs.Changing.{IsChangeOf, change_in};
 
 use crate::shelf::Shelf;
 use crate::taken_changes::TakenChanges;
@@ -19,7 +21,7 @@ impl Model for NullShelf {
     ghost use Rattle.city_model.specs.Runs.{Change};
     ghost use Rattle.std.specs.Prelude.{List};
     ghost use Rattle.std.specs.Coded.{codes};
-    ghost use Rattle.city_model.specs.DataCode.{coded_members};
+    ghost use Rattle.city_model.specs.inside.DataCode.{coded_members};
 
     ghost Value = { List Change };
 
@@ -48,6 +50,8 @@ impl Shelf for NullShelf {
 
     ghost name = { λ shelf. [] };
 
+    ghost published = { λ shelf. None };
+
     ghost tells = { λ shelf note. Unit {0} };
 
     /// Doesn't allocate, and answers Ok.
@@ -57,7 +61,11 @@ impl Shelf for NullShelf {
     }
 
     /// Doesn't allocate, and answers Ok. No change is made.
-    fn take_from(&mut self, core: &Core, stamp: u64) -> Result<(), OutOfMemory> {
+    fn take_from(&mut self, core: &Core, stamp: u64) -> Result<(), OutOfMemory>
+        requires allowed { IsChangeOf core.now stamp (change_in core.now.writes stamp) }
+        ensures always { IsOk result }
+        ensures ok { OnOk result ((change : Change) × IsChangeOf core.now stamp change × (self.new ≡ self.old ++ change ∷ [])) }
+    {
         self.taken = self.taken.with_writes(core, stamp);
         Ok(())
     }

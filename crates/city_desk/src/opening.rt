@@ -1,13 +1,14 @@
 //! What a desk makes when it is opened.
 ghost use Rattle.std.specs.Prelude.{◌≡◌, IfOk, OnOk};
 ghost use Rattle.city_model.specs.Scripts.{AreScripts};
-ghost use Rattle.city_desk.specs.Opening.{names_of, unbegun_each};
+ghost use Rattle.city_desk.specs.Opening.{unbegun_each};
+ghost use Rattle.city_desk.specs.inside.Room.{names_of};
 
 use crate::progress::{Phase, Progress};
+use crate::replies::Replies;
 use city_model::OutOfMemory;
 use city_model::copied::Copied;
 use city_model::script::Script;
-use city_model::sequence::Sequence;
 use city_model::text::Text;
 use std::alloc::Global;
 
@@ -29,10 +30,10 @@ pub fn unbegun_each(alloc: Global, scripts: &[Script]) -> Result<Vec<Progress>, 
 {
     let mut progress = Vec::with_capacity(alloc, scripts.len())?;
     for script in scripts {
-        let replies = Vec::with_capacity(alloc, script.commands().len())?;
+        let replies = Replies::with_room(alloc, script.commands().len())?;
         progress.push(Progress {
             phase: Phase::NotBegun,
-            replies: Sequence::from_vec(replies),
+            replies,
         })?;
     }
     Ok(progress)

@@ -24,10 +24,10 @@ pub struct OpeningCity {
 impl Model for OpeningCity {
     ghost use Rattle.std.specs.Prelude.{slice_index_or};
     ghost use Rattle.std.specs.Coded.{codes};
-    ghost use Rattle.city_model.specs.DataCode.{coded_members};
-    ghost use Rattle.city_txn.specs.Codes.{coded_objects};
+    ghost use Rattle.city_model.specs.inside.DataCode.{coded_members};
+    ghost use Rattle.city_txn.specs.inside.Codes.{coded_objects};
     ghost use Rattle.city_model.specs.CityMap.{CityValue};
-    ghost use Rattle.city_desk.specs.NoCity.{no_city};
+    ghost use Rattle.city_desk.specs.inside.NoCity.{no_city};
 
     ghost Value = { CityValue };
 

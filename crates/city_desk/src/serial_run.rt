@@ -1,6 +1,6 @@
 //! Runs the scripts of a text on the city of a document, one after the other.
 ghost use Rattle.std.specs.Prelude.{◌≡◌, ◌++◌, ◌∷◌, [], ℕ, List, IfOk, IfErr};
-ghost use Rattle.city_model.specs.CityMap.{at};
+ghost use Rattle.city_model.specs.CityMap.{object_at};
 ghost use Rattle.city_model.specs.Relations.{IsLawful};
 ghost use Rattle.city_doc.specs.document.Canonical.{city_text};
 ghost use Rattle.city_doc.specs.report.Reports.{report_text};
@@ -60,7 +60,7 @@ pub fn run_read(
     scripts: Sequence<Script>,
     room: usize,
 ) -> Result<(Output, City), OutOfMemory>
-    requires { IsLawful (at city.1) }
+    requires { IsLawful (object_at city.1) }
     ensures ran { IfOk result (λ r. (document text : List ℕ) → IsReadFrom document text city scripts
         → IsRun document text r.0.ends r.0.bytes.items) }
     ensures in_turn { IfOk result (λ r. AreInTurn 0 r.0.ends) }

@@ -1,8 +1,8 @@
 //! Where a desk puts the changes of its commits.
-ghost use Rattle.std.specs.Prelude.{◌≡◌, ◌+◌, ◌<◌, ◌^◌, ℕ, List, [], ◌∷◌, ◌++◌, length, Option, None, IfSome, IfOk, IsOk, OnOk, OnErr};
-ghost use Rattle.city_model.specs.CityMap.{at, CityValue};
+ghost use Rattle.std.specs.Prelude.{◌≡◌, ◌+◌, ◌<◌, ◌^◌, ℕ, List, [], ◌∷◌, ◌++◌, length, Option, None, option_map, IfSome, IfOk, IsOk, OnOk, OnErr};
+ghost use Rattle.city_model.specs.CityMap.{object_at, CityValue};
 ghost use Rattle.city_model.specs.Relations.{IsLawful};
-ghost use Rattle.city_model.specs.Runs.{Change, shown};
+ghost use Rattle.city_model.specs.Runs.{Change, after_changes};
 ghost use Rattle.city_txn.specs.Changing.{IsChangeOf, change_in};
 ghost use Rattle.city_txn.specs.CoreState.{committed};
 
@@ -28,17 +28,20 @@ pub trait Shelf: Drop {
     ghost base: { Self → Option CityValue };
 
     ghost name: { Self → List ℕ };
+    /// The changes that viewers see, if it has viewers.
+    ghost published: { Self → Option (List Change) };
     /// The note stands for the list.
     ghost tells: { Self → Self.Note → Type 0 };
 
-    /// Takes a change. If memory runs out, the list stays.
+    /// Takes a change, which no viewer sees yet. If memory runs out, the list stays.
     fn take(&mut self, change: Change) -> Result<(), OutOfMemory>
         requires room { length (list self.old) + 1 < 2 ^ 64 }
-        requires lawful { IfSome (base self.old) (λ city. IsLawful (shown (at city.1) (list self.old ++ change ∷ []))) }
+        requires lawful { IfSome (base self.old) (λ city. IsLawful (after_changes (object_at city.1) (list self.old ++ change ∷ []))) }
         ensures ok { OnOk result (list self.new ≡ list self.old ++ change ∷ []) }
         ensures err { OnErr result (list self.new ≡ list self.old) }
         ensures base { base self.new ≡ base self.old }
-        ensures name { name self.new ≡ name self.old };
+        ensures name { name self.new ≡ name self.old }
+        ensures published { published self.new ≡ published self.old };
 
     /// Takes the change of an open transaction that may commit. If memory runs out, the list stays.
     ///
@@ -47,11 +50,12 @@ pub trait Shelf: Drop {
     fn take_from(&mut self, core: &Core, stamp: u64) -> Result<(), OutOfMemory>
         requires room { length (list self.old) + 1 < 2 ^ 64 }
         requires allowed { IsChangeOf core.now stamp (change_in core.now.writes stamp) }
-        requires shows { IfSome (base self.old) (λ city. shown (at city.1) (list self.old) ≡ committed core.now) }
+        requires shows { IfSome (base self.old) (λ city. after_changes (object_at city.1) (list self.old) ≡ committed core.now) }
         ensures ok { OnOk result ((change : Change) × IsChangeOf core.now stamp change × (list self.new ≡ list self.old ++ change ∷ [])) }
         ensures err { OnErr result (list self.new ≡ list self.old) }
         ensures base { base self.new ≡ base self.old }
         ensures name { name self.new ≡ name self.old }
+        ensures published { published self.new ≡ published self.old }
     {
         match core.prepare(stamp) {
             Ok(Prepared::Ready(change)) => self.take(change),
@@ -59,11 +63,13 @@ pub trait Shelf: Drop {
         }
     }
 
-    /// Shows the list as it is; the list stays.
+    /// Shows the list as it is; the list stays. If memory runs out, viewers see what they saw.
     fn show<R: Wait>(&mut self, rt: &R) -> Result<Self::Note, OutOfMemory>
         ensures list { list self.new ≡ list self.old }
         ensures base { base self.new ≡ base self.old }
         ensures name { name self.new ≡ name self.old }
+        ensures published { OnOk result (published self.new ≡ option_map (λ seen. list self.old) (published self.old)) }
+        ensures err { OnErr result (published self.new ≡ published self.old) }
         ensures note { IfOk result (λ note. tells self.new note) };
 }
 
@@ -80,7 +86,7 @@ impl Model for ListShelf {
     ghost Value = { List Change };
 
     ghost use Rattle.std.specs.Coded.{codes};
-    ghost use Rattle.city_model.specs.DataCode.{coded_members};
+    ghost use Rattle.city_model.specs.inside.DataCode.{coded_members};
 
     ghost coded = { Prim.hlevel (codes, coded_members) };
 
@@ -113,6 +119,8 @@ impl Shelf for ListShelf {
     ghost base = { λ shelf. None };
 
     ghost name = { λ shelf. [] };
+
+    ghost published = { λ shelf. None };
 
     ghost tells = { λ shelf note. Unit {0} };
 

@@ -1,6 +1,6 @@
 //! The two texts of a run.
 ghost use Rattle.std.specs.Prelude.{IfOk, IfErr};
-ghost use Rattle.city_model.specs.CityMap.{at};
+ghost use Rattle.city_model.specs.CityMap.{object_at};
 ghost use Rattle.city_model.specs.Relations.{IsLawful};
 ghost use Rattle.city_desk.specs.RunFaults.{IsSerialFault};
 ghost use Rattle.city_desk.specs.TextRuns.{IsReadFrom};
@@ -20,7 +20,7 @@ pub fn read_texts(
     scripts: &[u8],
 ) -> Result<(City, Sequence<Script>), RunFault>
     ensures read { IfOk result (λ r. IsReadFrom document.now scripts.now r.0 r.1) }
-    ensures lawful { IfOk result (λ r. IsLawful (at r.0.1)) }
+    ensures lawful { IfOk result (λ r. IsLawful (object_at r.0.1)) }
     ensures fault { IfErr result (λ f. IsSerialFault document.now scripts.now f) }
 {
     let city = read_city(alloc, document)?;

@@ -4,7 +4,7 @@ use Rattle.serde_json.specs.Data.{Data}
 use Rattle.city_model.specs.Runs.{Scripted}
 use Rattle.city_model.specs.CityMap.{CityValue}
 use Rattle.city_doc.specs.document.Cities.{city_of, StandsForCity}
-use Rattle.city_doc.specs.script.Scripts.{StandsForScripts, scripts_of}
+use Rattle.city_doc.specs.script.Scripts.{scripts_of}
 use Rattle.city_doc.specs.tree.Texts.{IsText}
 
 pub one_tree : (text : List ℕ) (d e : Data) → IsText text d → IsText text e → d ≡ e
@@ -15,7 +15,8 @@ one_city text a b h k =
     let both : Some a ≡ Some b = sym h.2 ∙ ap city_of (one_tree text h.0 k.0 h.1 k.1) ∙ k.2 in
     cc
 
-pub one_list : (text : List ℕ) (a b : List Scripted) → StandsForScripts text a → StandsForScripts text b → a ≡ b
+pub one_list : (text : List ℕ) (a b : List Scripted) → (d : Data) × IsText text d × (scripts_of d ≡ Some a)
+    → (d : Data) × IsText text d × (scripts_of d ≡ Some b) → a ≡ b
 one_list text a b h k =
     let both : Some a ≡ Some b = sym h.2 ∙ ap scripts_of (one_tree text h.0 k.0 h.1 k.1) ∙ k.2 in
     cc

@@ -7,6 +7,7 @@ pub mod Conversions
 mod Digits
 pub mod FaultlessObjects
 mod GeometryMembers
+mod Keys
 mod ListedObjects
 pub mod Members
 mod ObjectMembers

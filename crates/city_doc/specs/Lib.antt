@@ -1,9 +1,9 @@
 pub mod Outputs
 pub mod Pool
 pub mod document
+pub mod inside
 pub mod object
 pub mod report
 pub mod script
 pub mod shape
-pub mod stream
 pub mod tree

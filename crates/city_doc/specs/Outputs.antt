@@ -1,7 +1,7 @@
 -- What a run writes: the report of its ends, then the model that they leave.
 use Rattle.std.specs.Prelude.{◌≡◌, ◌++◌, ◌∷◌, [], ℕ, List}
 use Rattle.city_model.specs.declared.end.End.{End}
-use Rattle.city_model.specs.CityMap.{Objects, CityValue, at}
+use Rattle.city_model.specs.CityMap.{Objects, CityValue, object_at}
 use Rattle.city_model.specs.Runs.{Scripted, model_after}
 use Rattle.city_doc.specs.document.Canonical.{city_text}
 use Rattle.city_doc.specs.report.Reports.{report_text}
@@ -10,5 +10,5 @@ use Rattle.city_doc.specs.report.Reports.{report_text}
 pub record IsOutput (city : CityValue) (scripts : List Scripted) (ends : List End)
     (bytes : List ℕ) : Type 0 where
   pub model : Objects
-  pub left : at model ≡ model_after scripts (at city.1) ends
+  pub left : object_at model ≡ model_after scripts (object_at city.1) ends
   pub text : bytes ≡ report_text ends ++ city_text (city.0, model) ++ 10 ∷ []

@@ -47,8 +47,3 @@ number_of pool p = position_or_len (same_point p) pool
 -- the pool with a point, which goes last where no equal one is there
 abbrev pub with_point : List Point → Point → List Point
 with_point pool p = if list_any (same_point p) pool then pool else pool ++ p ∷ []
-
--- the pool after more points are met
-abbrev pub with_points : List Point → List Point → List Point
-with_points pool [] = pool
-with_points pool (p ∷ ps) = with_points (with_point pool p) ps

@@ -3,6 +3,4 @@ pub mod CommandFaults
 pub mod CommandForms
 pub mod Commands
 pub mod Faults
-pub mod Forms
 pub mod Scripts
-pub mod Searches

@@ -1,8 +1,7 @@
 -- Definitions of JSON trees and their parts.
-pub mod Between
 pub mod Lists
 pub mod Members
-pub mod TextFaults
+pub mod Steps
 pub mod Texts
 pub mod Tokens
 pub mod Triples

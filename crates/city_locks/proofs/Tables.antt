@@ -9,7 +9,7 @@ use Rattle.city_locks.specs.Mode.{stronger}
 use Rattle.city_locks.specs.Holders.{answer_among, mode_among, with_holder, without, Once}
 use Rattle.city_model.specs.CityMap.{same_id, has_id}
 use Rattle.city_locks.specs.Locks.{Locks, holders_of, answer_of, mode_of, Lawful}
-use Rattle.city_locks.specs.Listing.{ids_of, IsListed}
+use Rattle.city_locks.specs.inside.Listing.{ids_of, IsListed}
 use Rattle.city_locks.proofs.Among.{mode_with, mode_without, without_absent, without_twice, lawful_with, lawful_without, own_answers, none_from}
 use Rattle.city_locks.proofs.Once.{once_with, once_without}
 use Rattle.city_model.proofs.IdLists.{bool_cases, more_has, more_has_last}

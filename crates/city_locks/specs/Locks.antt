@@ -8,7 +8,7 @@ use Rattle.city_locks.specs.declared.mode.Mode.{Mode}
 use Rattle.city_locks.specs.declared.mode.Mode.TheVariants.{Exclusive}
 use Rattle.city_locks.specs.declared.answer.Answer.{Answer}
 use Rattle.city_locks.specs.declared.holder.Holder.{Holder}
-use Rattle.city_locks.specs.Holders.{answer_among, mode_among}
+use Rattle.city_locks.specs.Holders.{answer_among, mode_among, Once}
 
 abbrev pub Locks : Type 0
 Locks = List (List ℕ × List Holder)
@@ -29,3 +29,7 @@ mode_of locks stamp id = mode_among (holders_of locks id) stamp
 abbrev pub Lawful : Locks → Type 0
 Lawful locks = (s t : ℕ) (id : List ℕ) → s ≢ t
     → mode_of locks s id ≡ Some Exclusive → mode_of locks t id ≡ None
+
+-- each stamp has at most one entry at an id
+abbrev pub HoldOnce : Locks → Type 0
+HoldOnce locks = (id : List ℕ) → Once (holders_of locks id)

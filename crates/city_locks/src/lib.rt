@@ -4,9 +4,11 @@
 //! - `mode`, `answer`: what is asked for, and what is answered
 //! - `holder`, `holders`, `held`: one holder of an id, those of one id, those of every id
 //! - `listing`: the ids that each stamp has locked
+//! - `by_stamp`: lists by stamps
 #![tactic(auto)]
 
 mod answer;
+pub mod by_stamp;
 mod held;
 mod holder;
 mod holders;

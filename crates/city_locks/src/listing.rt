@@ -1,9 +1,10 @@
 //! The ids that each stamp has locked, in the order in which it locked them.
-ghost use Rattle.std.specs.Prelude.{◌≡◌, ℕ, ◌==◌, cond, OnOk, OnErr, None, Some, [], ◌∷◌, ◌++◌, true, is_some};
+ghost use Rattle.std.specs.Prelude.{◌≡◌, ℕ, ◌==◌, cond, OnOk, OnErr, None, Some, [], ◌∷◌, ◌++◌};
 ghost use Rattle.std.specs.Ordering.{nat_cmp};
 ghost use Rattle.std.specs.BTreeMap.{get, is_at};
-ghost use Rattle.city_locks.specs.Listing.{ids_of};
+ghost use Rattle.city_locks.specs.inside.Listing.{ids_of};
 
+use crate::by_stamp::push_at;
 use city_model::copied::Copied;
 use city_model::sequence::Sequence;
 use city_model::text::Id;
@@ -23,26 +24,11 @@ pub fn list(
 {
     let copy = id.copy(alloc)?;
     if locked.contains_key(&stamp) {
-        list_more(locked, stamp, copy)?;
+        push_at(locked, stamp, copy)?;
     } else {
         list_first(locked, alloc, stamp, copy)?;
     }
     Ok(())
-}
-
-/// Lists the id at a stamp that has a list.
-fn list_more(locked: &mut BTreeMap<u64, Sequence<Id>>, stamp: u64, id: Id) -> Result<(), AllocError>
-    requires { is_some (get nat_cmp locked.old stamp) ≡ true }
-    ensures ok { OnOk result ((t : ℕ) → get nat_cmp locked.new t ≡ cond (is_at (nat_cmp stamp) t) (Some (ids_of locked.old stamp ++ id ∷ [])) (get nat_cmp locked.old t)) }
-    ensures err { OnErr result (locked.new.entries ≡ locked.old.entries) }
-{
-    match locked.get_mut(&stamp) {
-        Some(ids) => {
-            ids.push(id)?;
-            Ok(())
-        }
-        None => unreachable!(),
-    }
 }
 
 /// Begins the list of a stamp that has none.

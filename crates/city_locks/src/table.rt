@@ -7,8 +7,8 @@ ghost use Rattle.city_locks.specs.declared.mode.Mode.{Mode};
 ghost use Rattle.city_locks.specs.Mode.{stronger};
 ghost use Rattle.city_locks.specs.Holders.{with_holder, without};
 ghost use Rattle.city_model.specs.CityMap.{same_id, has_id};
-ghost use Rattle.city_locks.specs.Locks.{holders_of, answer_of, mode_of, Lawful};
-ghost use Rattle.city_locks.specs.Listing.{ids_of, IsListed};
+ghost use Rattle.city_locks.specs.Locks.{holders_of, answer_of, mode_of, Lawful, HoldOnce};
+ghost use Rattle.city_locks.specs.inside.Listing.{ids_of, IsListed};
 ghost use Rattle.city_locks.specs.WaitDie.{IsWaitDie, IsInConflict};
 
 use crate::answer::Answer;
@@ -41,7 +41,7 @@ impl Model for LockTable {
 
     ghost Value = { Locks };
 
-    ghost use Rattle.city_locks.specs.Table.{IsTable};
+    ghost use Rattle.city_locks.specs.inside.Table.{IsTable};
 
     ghost view = { λ a. a.holders.entries };
 
@@ -79,6 +79,7 @@ impl LockTable {
         ensures err { OnErr result (self.new ≡ self.old) }
         ensures memory { OnErr result ((answer_of self.old stamp id.now mode ≡ Answer.Granted) × (mode_of self.old stamp id.now ≡ None)) }
         ensures lawful { Lawful self.new }
+        ensures once { HoldOnce self.new }
     {
         let there = held::standing_at(&self.holders, stamp, id, mode);
         if let Answer::Granted = there.answer {
@@ -101,6 +102,7 @@ impl LockTable {
         ensures modes { (t : ℕ) (q : List ℕ) → mode_of self.new t q ≡ cond (stamp == t) None (mode_of self.old t q) }
         ensures holders { (q : List ℕ) → holders_of self.new q ≡ without (holders_of self.old q) stamp }
         ensures lawful { Lawful self.new }
+        ensures once { HoldOnce self.new }
     {
         give_back(&mut self.holders, &mut self.locked, stamp);
     }
@@ -109,6 +111,7 @@ impl LockTable {
     pub fn mode(&self, stamp: u64, id: &Id) -> Option<Mode>
         ensures value { result ≡ mode_of self.now stamp id.now }
         ensures lawful { Lawful self.now }
+        ensures once { HoldOnce self.now }
     {
         held::mode_at(&self.holders, stamp, id)
     }
@@ -118,6 +121,7 @@ impl LockTable {
         ensures answer { result ≡ answer_of self.now stamp id.now mode }
         ensures wait_die { IsWaitDie (IsInConflict self.now stamp id.now mode) stamp result }
         ensures lawful { Lawful self.now }
+        ensures once { HoldOnce self.now }
     {
         held::answer_at(&self.holders, stamp, id, mode)
     }

@@ -2,17 +2,23 @@
 use Rattle.std.proofs.Common.{◌≡◌, ℕ, List, [], ◌∷◌, true, false, refl, ap, sym, subst, ◌∙◌}
 use Rattle.std.specs.Prelude.{is_some, if◌then◌else◌}
 use Rattle.city_model.specs.declared.command.Command.{Command}
+use Rattle.city_model.specs.declared.command.Reply.{Reply}
 use Rattle.city_model.specs.CityMap.{CityMap, same_id}
-use Rattle.city_model.specs.Meaning.{after, done_reply, refused_or, locks_of}
-use Rattle.city_model.specs.Marks.{Marked, View, unmarked, Marking, Leaves, Marks, GoesBack, marking, marks_from, back_to, back_cause, refusal_as, step_as, refusal, step, answer, IsSoundView}
+use Rattle.city_model.specs.Meaning.{Answers, effect, locks_of}
+use Rattle.city_model.specs.inside.CommandParts.{seen_next, after, done_reply, refused_or, Marking, Leaves, Marks}
+use Rattle.city_model.specs.inside.CommandParts.{GoesBack, marking, back_to, back_cause, refusal_as, step_as, refusal}
+use Rattle.city_model.specs.inside.CommandParts.{answer}
+use Rattle.city_model.specs.Marks.{Marked, View, unmarked, marks_from, IsSoundView}
 use Rattle.city_model.specs.Relations.{IsSound}
-use Rattle.city_model.specs.Standing.{Held, covers, AllHeld, Answered, Follows, names_exclusively}
+use Rattle.city_model.specs.Standing.{Held, covers, AllHeld, Answered, IsTraceUnderLocks, locks_id_exclusively}
 use Rattle.city_model.specs.FrameLaw.{AgreeOn}
 use Rattle.city_model.specs.TraceLaw.{carried_map, carried_marks, carried}
 use Rattle.city_model.proofs.IdLists.{bool_cases}
 use Rattle.city_model.proofs.FrameLaw.{frame, same_cause, same_done, same_locks, same_after}
-use Rattle.city_model.proofs.MarksKept.{from_mapped, sound_step}
-use Rattle.city_model.proofs.History.{covered, held_named, not_named}
+use Rattle.city_model.proofs.Effects.{goes_on_case, goes_on_at, effect_is, answered_no_end, answered_reply}
+use Rattle.city_model.proofs.Effects.{answered_next}
+use Rattle.city_model.proofs.MarksKept.{from_mapped, sound_effect}
+use Rattle.city_model.proofs.History.{Next, covered, held_named, not_named}
 
 module _ (held : Held) (other : CityMap) where
   -- what is held is carried as it is
@@ -64,15 +70,15 @@ module _ (held : Held) (other : CityMap) where
     same : locks_of v.map c ≡ locks_of (carried_map held other v.map) c
     same = same_locks v.map (carried_map held other v.map) c on
 
-    apart : (q : List ℕ) → names_exclusively (locks_of v.map c) q ≡ false → after (carried_map held other v.map) c q ≡ carried_map held other v.map q
-    apart q e = frame (carried_map held other v.map) c q t.0 (sym (ap (λ ls. names_exclusively ls q) same) ∙ e)
+    apart : (q : List ℕ) → locks_id_exclusively (locks_of v.map c) q ≡ false → after (carried_map held other v.map) c q ≡ carried_map held other v.map q
+    apart q e = frame (carried_map held other v.map) c q t.0 (sym (ap (λ ls. locks_id_exclusively ls q) same) ∙ e)
 
     still : (q : List ℕ) → covers (held q) true ≡ false → after v.map c q ≡ v.map q
     still q e = frame v.map c q s.0 (not_named held (locks_of v.map c) q all e)
 
     after_carried_at : (q : List ℕ) → after (carried_map held other v.map) c q ≡ carried_map held other (after v.map c) q
     after_carried_at q = bool_cases (covers (held q) true)
-        (λ e. bool_cases (names_exclusively (locks_of v.map c) q)
+        (λ e. bool_cases (locks_id_exclusively (locks_of v.map c) q)
         (λ f. sym (same_after v.map (carried_map held other v.map) c q on f))
         (λ f. apart q f ∙ carried_held v.map q e ∙ sym (frame v.map c q s.0 f)) ∙ sym (carried_held (after v.map c) q e))
         (λ e. apart q (not_named held (locks_of v.map c) q all e) ∙ carried_apart v.map q e ∙ sym (carried_apart (after v.map c) q e))
@@ -90,7 +96,7 @@ module _ (held : Held) (other : CityMap) where
     step_carried_as (Marks name) = refl
     step_carried_as (GoesBack name) = ap (back_to (carried held other v)) (from_carried name v.marks) ∙ back_carried v (marks_from name v.marks)
 
-    step_carried : step (carried held other v) c ≡ carried held other (step v c)
+    step_carried : seen_next (carried held other v) c ≡ carried held other (seen_next v c)
     step_carried = step_carried_as (marking c)
 
     refusal_carried_as : (k : Marking) → refusal_as k v c ≡ refusal_as k (carried held other v) c
@@ -107,34 +113,44 @@ module _ (held : Held) (other : CityMap) where
     is_step_as (Marks name) = (is.0, (is.0, is.1))
     is_step_as (GoesBack name) = is_back v (marks_from name v.marks) is (are_from name v.marks is.1)
 
-    is_step : IsCarriedView (step v c)
-    is_step = is_step_as (marking c)
+    module _ (reply : Reply) (u : View) (answers : effect v c ≡ Answers reply u) where
+      effect_carried : effect (carried held other v) c ≡ Answers reply (carried held other u)
+      effect_carried =
+          effect_is (carried held other v) c (answered_no_end v c reply u answers)
+          ∙ ap (λ (r : Reply). Answers r (seen_next (carried held other v) c))
+          (sym (answered_reply v c reply u answers ∙ answer_carried))
+          ∙ ap (Answers reply) (step_carried ∙ ap (carried held other) (sym (answered_next v c reply u answers)))
 
-    sound_carried_step : IsSoundView (carried held other (step v c))
-    sound_carried_step = subst IsSoundView step_carried (sound_step (carried held other v) c t)
+      is_carried_next : IsCarriedView u
+      is_carried_next = subst IsCarriedView (sym (answered_next v c reply u answers)) (is_step_as (marking c))
 
   -- a history under locks holds from the view that is carried, and leads to the carried one
   pub history_carried : (v : View) (ds : List Answered) (w : View) → IsSoundView v → IsSoundView (carried held other v) → IsCarriedView v
-      → Follows held v ds w → Follows held (carried held other v) ds (carried held other w)
+      → IsTraceUnderLocks held v ds w → IsTraceUnderLocks held (carried held other v) ds (carried held other w)
   history_carried v [] w s t is f = ap (carried held other) f
   history_carried v (d ∷ ds) w s t is f = (
     subst (AllHeld held) (same v d.0 s t is f.0) f.0,
-    sym (answer_carried v d.0 s t is f.0) ∙ f.1,
-    subst (λ (k : View). Follows held k ds (carried held other w)) (sym (step_carried v d.0 s t is f.0))
-        (history_carried (step v d.0) ds w (sound_step v d.0 s) (sound_carried_step v d.0 s t is f.0)
-        (is_step v d.0 s t is f.0) f.2),
+    goes_on_case (Next held d.1 ds w) (effect v d.0) (λ reply u answers g.
+        let moved = effect_carried v d.0 s t is f.0 reply u answers in
+        goes_on_at (Next held d.1 ds (carried held other w)) (effect (carried held other v) d.0) reply
+        (carried held other u) moved (
+          g.0,
+          history_carried u ds w (sound_effect v d.0 reply u answers s)
+              (sound_effect (carried held other v) d.0 reply (carried held other u) moved t)
+              (is_carried_next v d.0 s t is f.0 reply u answers) g.1,
+        )) f.1,
   )
 
 -- with its locks held, a history that begins without marks holds from each other sound map that agrees where
 -- anything is held
 pub history_kept : (held : Held) (m other : CityMap) (ds : List Answered) (w : View) → IsSound m → IsSound other
     → ((q : List ℕ) → is_some (held q) ≡ true → m q ≡ other q)
-    → Follows held (unmarked m) ds w → Follows held (unmarked other) ds (carried held other w)
+    → IsTraceUnderLocks held (unmarked m) ds w → IsTraceUnderLocks held (unmarked other) ds (carried held other w)
 history_kept held m other ds w s t agree f =
     let at : (q : List ℕ) → carried_map held other m q ≡ other q =
     λ q. bool_cases (covers (held q) true)
     (λ e. carried_held held other m q e ∙ agree q (covered (held q) true e))
     (λ e. carried_apart held other m q e) in
     let same : carried_map held other m ≡ other = λ i q. at q i in
-    subst (λ (k : CityMap). Follows held (unmarked k) ds (carried held other w)) same
+    subst (λ (k : CityMap). IsTraceUnderLocks held (unmarked k) ds (carried held other w)) same
     (history_carried held other (unmarked m) ds w (s, tt) (subst IsSound (sym same) t, tt) (λ q h. agree q h ∙ sym (at q), tt) f)

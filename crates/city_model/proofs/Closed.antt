@@ -11,7 +11,8 @@ use Rattle.std.proofs.lemmas.Bool.{and_from, and_parts, eq-eqb, eqb-true, falseâ
 use Rattle.std.proofs.lemmas.Bool.Decides.{Decides-and, Decides-int_eq}
 use Rattle.std.proofs.lemmas.Cmp.{int_cmp_total, on_total, then_total}
 use Rattle.city_model.specs.declared.object.Point.{Point}
-use Rattle.city_model.specs.Shells.{Edge, same_point, same_edge, flipped, times, occurs_once, runs_both_ways, rises, rising}
+use Rattle.city_model.specs.Shells.{Edge, same_point, same_edge, flipped, times, occurs_once, runs_both_ways}
+use Rattle.city_model.specs.inside.RisingEdges.{rises, rising}
 use Rattle.city_model.proofs.Counts.{all_counted, counted_all, times-filter_kept, times-filter_left}
 use Rattle.city_model.proofs.IdLists.{bool_cases}
 use Rattle.city_model.proofs.SortedEdges.{times_permutation, sorted_same}

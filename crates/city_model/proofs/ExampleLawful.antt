@@ -1,5 +1,5 @@
 -- Cities that are lawful, and cities whose relations break a rule.
-use Rattle.std.proofs.Common.{◌≡◌, refl, sym}
+use Rattle.std.proofs.Common.{◌≡◌, inl, refl, sym}
 use Rattle.std.specs.Prelude.{ℕ, List, [], ◌∷◌, false, Some, codes}
 use Rattle.std.proofs.lemmas.Bool.{false≢true}
 use Rattle.city_model.specs.declared.object_type.ObjectType.TheVariants.{Building, BuildingPart, BuildingRoom, Bridge}
@@ -10,7 +10,7 @@ use Rattle.city_model.specs.declared.end.Outcome.{Outcome}
 use Rattle.city_model.specs.CityMap.{Entries, CityMap, found_in, changed}
 use Rattle.city_model.specs.Meaning.{attached}
 use Rattle.city_model.specs.Relations.{is_orphan_there, IsSound, IsLawful}
-use Rattle.city_model.specs.Runs.{HasResult, map_left}
+use Rattle.city_model.specs.Runs.{IsScriptResult, map_left}
 use Rattle.city_model.proofs.ExampleCities.{one_id, bare, object, alone}
 use Rattle.city_model.proofs.Lawful.{lawful_when_committed}
 use Rattle.city_model.proofs.NoOrphan.{no_orphan, orphan_apart, no_orphan_attached, no_orphan_put}
@@ -57,12 +57,17 @@ integral_no_orphan : (q : List ℕ) → is_orphan_there (whole q) ≡ false
 integral_no_orphan q = no_orphan_attached with_room (codes "r") (codes "p") q refl refl
     (λ apart. orphan_apart with_child (codes "r") (Some (alone BuildingRoom)) q apart (with_child_no_orphan q))
 
-builds_commits : HasResult (found_in no_objects) builds (Added ∷ Added ∷ Attached ∷ Added ∷ Attached ∷ []) Outcome.Committed
-builds_commits = ((refl, refl, refl), ((refl, refl, refl), ((refl, refl, refl), ((refl, refl, refl), ((refl, refl, refl), (refl, no_orphan whole integral_no_orphan))))))
+builds_commits : IsScriptResult (found_in no_objects) builds (Added ∷ Added ∷ Attached ∷ Added ∷ Attached ∷ []) Outcome.Committed
+builds_commits = (
+  refl,
+  refl,
+  (refl, refl, (refl, refl, (refl, refl, (refl, refl, (inl (refl, no_orphan whole integral_no_orphan), refl))))),
+)
 
 pub building_with_part_and_room_is_lawful : IsLawful (map_left (found_in no_objects) builds Outcome.Committed)
 building_with_part_and_room_is_lawful =
-    lawful_when_committed (found_in no_objects) builds (Added ∷ Added ∷ Attached ∷ Added ∷ Attached ∷ []) refl empty_city_is_lawful.0 builds_commits
+    lawful_when_committed (found_in no_objects) builds
+    (Added ∷ Added ∷ Attached ∷ Added ∷ Attached ∷ []) empty_city_is_lawful.0 builds_commits
 
 pub part_has_a_parent_and_a_child : map_left (found_in no_objects) builds Outcome.Committed (codes "p") ≡ Some (object BuildingPart (one_id (codes "b")) (one_id (codes "r")))
 part_has_a_parent_and_a_child = refl

@@ -1,5 +1,5 @@
 -- Scripts that mark and go back over a small city: what they reply, and what they leave.
-use Rattle.std.proofs.Common.{◌≡◌, refl, arith}
+use Rattle.std.proofs.Common.{◌≡◌, inl, refl, arith}
 use Rattle.std.specs.Prelude.{ℕ, List, [], ◌∷◌, Some, codes}
 use Rattle.city_model.specs.declared.object.Object.{Object}
 use Rattle.city_model.specs.declared.object_type.ObjectType.TheVariants.{LandUse, Road}
@@ -7,11 +7,14 @@ use Rattle.city_model.specs.declared.command.Command.{Command}
 use Rattle.city_model.specs.declared.command.Command.TheVariants.{Read, Put, Delete, Mark, Back, Commit, Abort}
 use Rattle.city_model.specs.declared.command.Cause.TheVariants.{NoMark}
 use Rattle.city_model.specs.declared.command.Reply.TheVariants.{Found, Added, Replaced, Deleted, Marked, WentBack}
+use Rattle.city_model.specs.declared.command.Reply.TheVariants.{Refused}
 use Rattle.city_model.specs.declared.end.End.{End}
 use Rattle.city_model.specs.declared.end.Outcome.{Outcome}
 use Rattle.city_model.specs.CityMap.{Entries, CityMap, found_in, changed}
-use Rattle.city_model.specs.Marks.{unmarked, refusal, step}
-use Rattle.city_model.specs.Runs.{Scripted, HasResult, view_after, map_left, Fits}
+use Rattle.city_model.specs.Marks.{unmarked}
+use Rattle.city_model.specs.Meaning.{Does}
+use Rattle.city_model.specs.Relations.{HasNoOrphan}
+use Rattle.city_model.specs.Runs.{Scripted, Trace, IsScriptResult, map_left, IsSerialHistory}
 use Rattle.city_model.proofs.ExampleCities.{bare, alone, numbered}
 use Rattle.city_model.proofs.NoOrphan.{no_orphan, no_orphan_at, no_orphan_put}
 
@@ -30,8 +33,12 @@ put_number n = Put (codes "x") (numbered n)
 abbrev goes_back : List Command
 goes_back = Mark (codes "m") ∷ put_number 1 ∷ Back (codes "m") ∷ Commit ∷ []
 
-pub back_takes_the_put_back : HasResult (found_in meadow) goes_back (Marked ∷ Replaced ∷ WentBack ∷ []) Outcome.Committed
-back_takes_the_put_back = ((refl, refl, refl), ((refl, refl, refl), ((refl, refl, refl), (refl, no_orphan (found_in meadow) (λ q. no_orphan_at meadow q refl)))))
+pub back_takes_the_put_back : IsScriptResult (found_in meadow) goes_back (Marked ∷ Replaced ∷ WentBack ∷ []) Outcome.Committed
+back_takes_the_put_back = (
+  refl,
+  refl,
+  (refl, refl, (refl, refl, (inl (refl, no_orphan (found_in meadow) (λ q. no_orphan_at meadow q refl)), refl))),
+)
 
 pub back_leaves_the_marked_map : map_left (found_in meadow) goes_back Outcome.Committed ≡ found_in meadow
 back_leaves_the_marked_map = refl
@@ -45,31 +52,23 @@ marks_twice =
 abbrev second_number : CityMap
 second_number = changed (changed (found_in meadow) (codes "x") (Some (with_number 1))) (codes "x") (Some (with_number 2))
 
-pub newest_mark_counts : HasResult (found_in meadow) marks_twice (Replaced ∷ Marked ∷ Replaced ∷ Marked ∷ Replaced ∷ WentBack ∷ WentBack ∷ []) Outcome.Committed
+second_number_no_orphan : HasNoOrphan second_number
+second_number_no_orphan = no_orphan second_number (λ q.
+    no_orphan_put (changed (found_in meadow) (codes "x") (Some (with_number 1))) (codes "x")
+    (Some (with_number 2)) q refl
+    (no_orphan_put (found_in meadow) (codes "x") (Some (with_number 1)) q refl (no_orphan_at meadow q refl)))
+
+pub newest_mark_counts : IsScriptResult (found_in meadow) marks_twice (Replaced ∷ Marked ∷ Replaced ∷ Marked ∷ Replaced ∷ WentBack ∷ WentBack ∷ []) Outcome.Committed
 newest_mark_counts = (
-  (refl, refl, refl),
+  refl,
+  refl,
   (
-    (refl, refl, refl),
+    refl,
+    refl,
     (
-      (refl, refl, refl),
-      (
-        (refl, refl, refl),
-        (
-          (refl, refl, refl),
-          (
-            (refl, refl, refl),
-            (
-              (refl, refl, refl),
-              (
-                refl,
-                no_orphan second_number (λ q.
-                    no_orphan_put (changed (found_in meadow) (codes "x") (Some (with_number 1))) (codes "x") (Some (with_number 2)) q refl
-                    (no_orphan_put (found_in meadow) (codes "x") (Some (with_number 1)) q refl (no_orphan_at meadow q refl))),
-              ),
-            ),
-          ),
-        ),
-      ),
+      refl,
+      refl,
+      (refl, refl, (refl, refl, (refl, refl, (refl, refl, (inl (refl, second_number_no_orphan), refl))))),
     ),
   ),
 )
@@ -82,28 +81,30 @@ newest_mark_is_left = refl
 abbrev goes_behind : List Command
 goes_behind = Mark (codes "a") ∷ Put (codes "g") (bare Road) ∷ Mark (codes "b") ∷ Back (codes "a") ∷ Back (codes "b") ∷ Commit ∷ []
 
-pub newer_mark_is_gone : HasResult (found_in meadow) goes_behind (Marked ∷ Added ∷ Marked ∷ WentBack ∷ []) (Outcome.Refused 4 (NoMark (codes "b")))
-newer_mark_is_gone = ((refl, refl, refl), ((refl, refl, refl), ((refl, refl, refl), ((refl, refl, refl), (refl, refl)))))
+pub newer_mark_is_gone : IsScriptResult (found_in meadow) goes_behind (Marked ∷ Added ∷ Marked ∷ WentBack ∷ []) (Outcome.Refused 4 (NoMark (codes "b")))
+newer_mark_is_gone = (refl, refl, (refl, refl, (refl, refl, (refl, refl, (refl, (refl, refl))))))
 
 pub refused_back_leaves_the_map : map_left (found_in meadow) goes_behind (Outcome.Refused 4 (NoMark (codes "b"))) ≡ found_in meadow
 refused_back_leaves_the_map = refl
 
 -- a mark inside another: both are there, and going back to the inner one leaves the outer one
-pub inner_mark_is_found : view_after (unmarked (found_in meadow)) (Mark (codes "a") ∷ Mark (codes "b") ∷ put_number 1 ∷ Back (codes "b") ∷ [])
-    ≡ record { map = found_in meadow; marks = (codes "b", found_in meadow) ∷ (codes "a", found_in meadow) ∷ [] }
-inner_mark_is_found = refl
+pub inner_mark_is_found : Trace (unmarked (found_in meadow))
+    (Mark (codes "a") ∷ Mark (codes "b") ∷ put_number 1 ∷ Back (codes "b") ∷ [])
+    (Marked ∷ Marked ∷ Replaced ∷ WentBack ∷ [])
+    (record { map = found_in meadow; marks = (codes "b", found_in meadow) ∷ (codes "a", found_in meadow) ∷ [] })
+inner_mark_is_found = (refl, (refl, (refl, (refl, refl))))
 
-pub outer_mark_is_left : view_after (unmarked (found_in meadow)) (Mark (codes "a") ∷ Mark (codes "b") ∷ put_number 1 ∷ Back (codes "a") ∷ [])
-    ≡ record { map = found_in meadow; marks = (codes "a", found_in meadow) ∷ [] }
-outer_mark_is_left = refl
+pub outer_mark_is_left : Trace (unmarked (found_in meadow))
+    (Mark (codes "a") ∷ Mark (codes "b") ∷ put_number 1 ∷ Back (codes "a") ∷ [])
+    (Marked ∷ Marked ∷ Replaced ∷ WentBack ∷ [])
+    (record { map = found_in meadow; marks = (codes "a", found_in meadow) ∷ [] })
+outer_mark_is_left = (refl, (refl, (refl, (refl, refl))))
 
 -- ---- without its mark
 
-pub no_mark_is_a_refusal : (m : CityMap) → refusal (unmarked m) (Back (codes "m")) ≡ Some (NoMark (codes "m"))
-no_mark_is_a_refusal m = refl
-
-pub no_mark_leaves_the_view : (m : CityMap) → step (unmarked m) (Back (codes "m")) ≡ unmarked m
-no_mark_leaves_the_view m = refl
+pub no_mark_is_a_refusal : (m : CityMap)
+    → Does (unmarked m) (Back (codes "m")) (Refused (NoMark (codes "m"))) (unmarked m)
+no_mark_is_a_refusal m = (refl, refl)
 
 -- ---- an object that was deleted and put again is the first one after going back
 
@@ -111,8 +112,8 @@ abbrev puts_again : List Command
 puts_again =
     Mark (codes "m") ∷ Delete (codes "x") ∷ Put (codes "x") (bare Road) ∷ Back (codes "m") ∷ Read (codes "x") ∷ Abort ∷ []
 
-pub deleted_object_is_back : HasResult (found_in meadow) puts_again (Marked ∷ Deleted ∷ Added ∷ WentBack ∷ Found (alone LandUse) ∷ []) Outcome.Aborted
-deleted_object_is_back = ((refl, refl, refl), ((refl, refl, refl), ((refl, refl, refl), ((refl, refl, refl), ((refl, refl, refl), refl)))))
+pub deleted_object_is_back : IsScriptResult (found_in meadow) puts_again (Marked ∷ Deleted ∷ Added ∷ WentBack ∷ Found (alone LandUse) ∷ []) Outcome.Aborted
+deleted_object_is_back = (refl, refl, (refl, refl, (refl, refl, (refl, refl, (refl, refl, (refl, refl))))))
 
 -- ---- marks end with the script
 
@@ -131,18 +132,24 @@ mark_then_back =
     ∷ record { script = 1; name = codes "b"; since = 1; replies = []; outcome = Outcome.Refused 0 (NoMark (codes "m")) }
     ∷ []
 
-pub marks_end_with_the_script : Fits two_scripts (found_in meadow) mark_then_back
+pub marks_end_with_the_script : IsSerialHistory two_scripts (found_in meadow) mark_then_back
 marks_end_with_the_script = (
   record {
     script = (codes "a", marks_and_ends);
     is_there = refl;
     named = refl;
     since = omega arith;
-    result = ((refl, refl, refl), (refl, no_orphan (found_in meadow) (λ q. no_orphan_at meadow q refl)));
+    result = (refl, refl, (inl (refl, no_orphan (found_in meadow) (λ q. no_orphan_at meadow q refl)), refl));
   },
   (λ same. omega arith, tt),
   (
-    record { script = (codes "b", goes_back_at_once); is_there = refl; named = refl; since = omega arith; result = (refl, refl) },
+    record {
+      script = (codes "b", goes_back_at_once);
+      is_there = refl;
+      named = refl;
+      since = omega arith;
+      result = (refl, (refl, refl));
+    },
     tt,
     tt,
   ),

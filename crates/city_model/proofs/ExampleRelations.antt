@@ -1,5 +1,5 @@
 -- A part with two parents, detached from one of them and then deleted, by three scripts one after another.
-use Rattle.std.proofs.Common.{◌≡◌, refl, arith}
+use Rattle.std.proofs.Common.{◌≡◌, inl, refl, arith}
 use Rattle.std.specs.Prelude.{ℕ, List, [], ◌∷◌, false, Some, None, codes}
 use Rattle.city_model.specs.declared.object_type.ObjectType.TheVariants.{Building, BuildingPart}
 use Rattle.city_model.specs.declared.command.Command.{Command}
@@ -9,7 +9,7 @@ use Rattle.city_model.specs.declared.end.End.{End}
 use Rattle.city_model.specs.declared.end.Outcome.{Outcome}
 use Rattle.city_model.specs.CityMap.{Entries, CityMap, found_in, changed}
 use Rattle.city_model.specs.Meaning.{attached, detached, deleted}
-use Rattle.city_model.specs.Runs.{Scripted, HasResult, model_after, Fits}
+use Rattle.city_model.specs.Runs.{Scripted, IsScriptResult, model_after, IsSerialHistory}
 use Rattle.city_model.proofs.ExampleCities.{one_id, bare, object, alone}
 use Rattle.city_model.specs.Relations.{is_orphan_there}
 use Rattle.city_model.proofs.NoOrphan.{no_orphan, orphan_apart, no_orphan_at, no_orphan_attached, no_orphan_detached, no_orphan_deleted}
@@ -60,16 +60,28 @@ two_parents_no_orphan q = no_orphan_attached one_parent (codes "p") (codes "r") 
 other_parent_no_orphan : (q : List ℕ) → is_orphan_there (other_parent q) ≡ false
 other_parent_no_orphan q = no_orphan_detached two_parents (codes "p") (codes "b") q refl refl (two_parents_no_orphan q)
 
-attaches_commits : HasResult (found_in buildings) attaches (Added ∷ Attached ∷ Attached ∷ []) Outcome.Committed
-attaches_commits = ((refl, refl, refl), ((refl, refl, refl), ((refl, refl, refl), (refl, no_orphan two_parents two_parents_no_orphan))))
+attaches_commits : IsScriptResult (found_in buildings) attaches (Added ∷ Attached ∷ Attached ∷ []) Outcome.Committed
+attaches_commits =
+    (refl, refl, (refl, refl, (refl, refl, (inl (refl, no_orphan two_parents two_parents_no_orphan), refl))))
 
-detaches_commits : HasResult two_parents detaches (Detached ∷ []) Outcome.Committed
-detaches_commits = ((refl, refl, refl), (refl, no_orphan other_parent other_parent_no_orphan))
+detaches_commits : IsScriptResult two_parents detaches (Detached ∷ []) Outcome.Committed
+detaches_commits = (refl, refl, (inl (refl, no_orphan other_parent other_parent_no_orphan), refl))
 
-deletes_commits : HasResult other_parent deletes (Deleted ∷ []) Outcome.Committed
-deletes_commits = ((refl, refl, refl), (refl, no_orphan (deleted other_parent (codes "p")) (λ q. no_orphan_deleted other_parent (codes "p") q (other_parent_no_orphan q))))
+deletes_commits : IsScriptResult other_parent deletes (Deleted ∷ []) Outcome.Committed
+deletes_commits = (
+  refl,
+  refl,
+  (
+    inl (
+      refl,
+      no_orphan (deleted other_parent (codes "p"))
+          (λ q. no_orphan_deleted other_parent (codes "p") q (other_parent_no_orphan q)),
+    ),
+    refl,
+  ),
+)
 
-pub three_scripts_in_turn_fit : Fits scripts (found_in buildings) (attaches_ends ∷ detaches_ends ∷ deletes_ends ∷ [])
+pub three_scripts_in_turn_fit : IsSerialHistory scripts (found_in buildings) (attaches_ends ∷ detaches_ends ∷ deletes_ends ∷ [])
 three_scripts_in_turn_fit = (
   record { script = (codes "a", attaches); is_there = refl; named = refl; since = omega arith; result = attaches_commits },
   (λ same. omega arith, (λ same. omega arith, tt)),

@@ -1,5 +1,5 @@
 -- Scripts run one after another over small cities: what they reply, and what they leave.
-use Rattle.std.proofs.Common.{◌≡◌, refl, ap, ◌∙◌, arith}
+use Rattle.std.proofs.Common.{◌≡◌, inl, refl, ap, ◌∙◌, arith}
 use Rattle.std.specs.Prelude.{option_map, ℕ, List, [], ◌∷◌, false, Some, None, codes}
 use Rattle.std.proofs.lemmas.Bool.{or_parts}
 use Rattle.std.proofs.lemmas.Map.{update_other}
@@ -11,7 +11,7 @@ use Rattle.city_model.specs.declared.end.End.{End}
 use Rattle.city_model.specs.declared.end.Outcome.{Outcome}
 use Rattle.city_model.specs.CityMap.{same_id, has_id, Entries, CityMap, found_in, changed}
 use Rattle.city_model.specs.Meaning.{without_child, attached, deleted}
-use Rattle.city_model.specs.Runs.{Scripted, HasResult, model_after, Fits}
+use Rattle.city_model.specs.Runs.{Scripted, IsScriptResult, model_after, IsSerialHistory}
 use Rattle.city_model.proofs.Changed.{at_absent, attached_apart, deleted_apart}
 use Rattle.city_model.proofs.ExampleCities.{one_id, bare, object, alone}
 use Rattle.city_model.proofs.Ids.{same_id_back}
@@ -53,14 +53,25 @@ both_parts_no_orphan : (q : List ℕ) → is_orphan_there (both_parts q) ≡ fal
 both_parts_no_orphan q = no_orphan_attached with_part (codes "q") (codes "b2") q refl refl
     (λ apart. orphan_apart (found_in two_buildings) (codes "q") (Some (alone BuildingPart)) q apart (no_orphan_at two_buildings q refl))
 
-attaches_commits : HasResult (found_in two_buildings) attaches (Added ∷ Attached ∷ []) Outcome.Committed
-attaches_commits = ((refl, refl, refl), ((refl, refl, refl), (refl, no_orphan both_parts both_parts_no_orphan)))
+attaches_commits : IsScriptResult (found_in two_buildings) attaches (Added ∷ Attached ∷ []) Outcome.Committed
+attaches_commits = (refl, refl, (refl, refl, (inl (refl, no_orphan both_parts both_parts_no_orphan), refl)))
 
-deletes_commits : HasResult both_parts deletes (Deleted ∷ []) Outcome.Committed
-deletes_commits = ((refl, refl, refl), (refl, no_orphan (deleted both_parts (codes "p")) (λ q. no_orphan_deleted both_parts (codes "p") q (both_parts_no_orphan q))))
+deletes_commits : IsScriptResult both_parts deletes (Deleted ∷ []) Outcome.Committed
+deletes_commits = (
+  refl,
+  refl,
+  (
+    inl (
+      refl,
+      no_orphan (deleted both_parts (codes "p"))
+          (λ q. no_orphan_deleted both_parts (codes "p") q (both_parts_no_orphan q)),
+    ),
+    refl,
+  ),
+)
 
 -- these ends are those of the scripts, run one at a time
-pub attach_then_delete_fits : Fits delete_and_attach (found_in two_buildings) attach_then_delete
+pub attach_then_delete_fits : IsSerialHistory delete_and_attach (found_in two_buildings) attach_then_delete
 attach_then_delete_fits = (
   record { script = (codes "b", attaches); is_there = refl; named = refl; since = omega arith; result = attaches_commits },
   (λ same. omega arith, tt),
@@ -119,13 +130,24 @@ read_then_put =
     ∷ record { script = 1; name = codes "b"; since = 1; replies = Added ∷ []; outcome = Outcome.Committed }
     ∷ []
 
-reads_commits : HasResult (found_in no_objects) reads_twice (Absent ∷ Absent ∷ []) Outcome.Committed
-reads_commits = ((refl, refl, refl), ((refl, refl, refl), (refl, no_orphan (found_in no_objects) (λ q. refl))))
+reads_commits : IsScriptResult (found_in no_objects) reads_twice (Absent ∷ Absent ∷ []) Outcome.Committed
+reads_commits = (refl, refl, (refl, refl, (inl (refl, no_orphan (found_in no_objects) (λ q. refl)), refl)))
 
-puts_commits : HasResult (found_in no_objects) puts_road (Added ∷ []) Outcome.Committed
-puts_commits = ((refl, refl, refl), (refl, no_orphan (changed (found_in no_objects) (codes "h") (Some (alone Road))) (λ q. no_orphan_put (found_in no_objects) (codes "h") (Some (alone Road)) q refl refl)))
+puts_commits : IsScriptResult (found_in no_objects) puts_road (Added ∷ []) Outcome.Committed
+puts_commits = (
+  refl,
+  refl,
+  (
+    inl (
+      refl,
+      no_orphan (changed (found_in no_objects) (codes "h") (Some (alone Road)))
+          (λ q. no_orphan_put (found_in no_objects) (codes "h") (Some (alone Road)) q refl refl),
+    ),
+    refl,
+  ),
+)
 
-pub read_then_put_fits : Fits read_and_put (found_in no_objects) read_then_put
+pub read_then_put_fits : IsSerialHistory read_and_put (found_in no_objects) read_then_put
 read_then_put_fits = (
   record { script = (codes "a", reads_twice); is_there = refl; named = refl; since = omega arith; result = reads_commits },
   (λ same. omega arith, tt),

@@ -6,12 +6,13 @@ use Rattle.std.specs.List.Sorted.{IsStrictlySortedBy}
 use Rattle.std.specs.Cmp.Lexicographic.{slice_cmp}
 use Rattle.std.specs.FinMap.{entries}
 use Rattle.std.specs.Map.{keys_of}
-use Rattle.std.proofs.lemmas.Bool.{and_parts, and_from}
+use Rattle.std.proofs.lemmas.Bool.{and_parts, and_from, false≢true}
 use Rattle.std.proofs.lemmas.Cmp.{nat_list_cmp_total, tied_itself}
 use Rattle.std.proofs.lemmas.Map.{lookup-none}
 use Rattle.std.proofs.lemmas.Map.Entries.{none_below_head}
 use Rattle.city_model.specs.declared.object.Object.{Object}
-use Rattle.city_model.specs.CityMap.{Objects, Entries, CityMap, at, found_in, same_id}
+use Rattle.city_model.specs.CityMap.{Objects, Entries, CityMap, object_at, found_in, same_id}
+use Rattle.city_model.specs.Least.{IsLeast}
 use Rattle.city_model.proofs.Ids.{same_id_true}
 use Rattle.city_model.proofs.Objects.{at_entries, entries_ascend}
 
@@ -22,10 +23,9 @@ abbrev pub first_that : Test → Entries → Option (List ℕ)
 first_that test [] = None
 first_that test (e ∷ es) = cond (test e.0 e.1) (Some e.0) (first_that test es)
 
--- the entry of this id passes the test, and none of a smaller id does
-abbrev pub IsLeastThat : Test → CityMap → List ℕ → Type 0
-IsLeastThat test m id =
-    ((o : Object) × (m id ≡ Some o) × (test id o ≡ true)) × ((q : List ℕ) (o : Object) → slice_cmp nat_cmp q id ≡ Less → m q ≡ Some o → test q o ≡ false)
+-- the object of this id passes the test
+abbrev pub Passes : Test → CityMap → List ℕ → Type 0
+Passes test m id = (o : Object) × (m id ≡ Some o) × (test id o ≡ true)
 
 pub here_there : (e : List ℕ × Object) (es : Entries) (id : List ℕ) → e.0 ≡ id → found_in (e ∷ es) id ≡ Some e.1
 here_there e es id same = ap (λ b. cond b (Some e.1) (found_in es id)) (ap is_eq (ap (slice_cmp nat_cmp id) same ∙ tied_itself nat_list_cmp_total id))
@@ -68,22 +68,25 @@ found_above test (e ∷ es) first id above is = first_step test e es id (test e.
     (λ _ same. ap (slice_cmp nat_cmp first) (sym same) ∙ above.0)
     (λ _ further. found_above test es first id above.1 further)
 
-least_here : (test : Test) (e : List ℕ × Object) (es : Entries) (id : List ℕ) → IsStrictlySortedBy (slice_cmp nat_cmp) (keys_of (e ∷ es)) → test e.0 e.1 ≡ true → e.0 ≡ id → IsLeastThat test (found_in (e ∷ es)) id
+least_here : (test : Test) (e : List ℕ × Object) (es : Entries) (id : List ℕ) → IsStrictlySortedBy (slice_cmp nat_cmp) (keys_of (e ∷ es)) → test e.0 e.1 ≡ true → e.0 ≡ id → IsLeast (Passes test (found_in (e ∷ es))) id
 least_here test e es id sorted is same = (
   (e.1, here_there e es id same, ap (λ k. test k e.1) (sym same) ∙ is),
-  λ q o less there.
+  λ q less other.
       let below : slice_cmp nat_cmp q e.0 ≡ Less = ap (slice_cmp nat_cmp q) same ∙ less in
       let none : found_in (e ∷ es) q ≡ None = lookup-none _ (e ∷ es) (none_below_head nat_list_cmp_total q e es sorted below) in
+      let there : found_in (e ∷ es) q ≡ Some other.0 = other.1 in
       absurd (cc),
 )
 
-least_further : (test : Test) (e : List ℕ × Object) (es : Entries) (id : List ℕ) → slice_cmp nat_cmp e.0 id ≡ Less → test e.0 e.1 ≡ false → IsLeastThat test (found_in es) id → IsLeastThat test (found_in (e ∷ es)) id
+least_further : (test : Test) (e : List ℕ × Object) (es : Entries) (id : List ℕ) → slice_cmp nat_cmp e.0 id ≡ Less → test e.0 e.1 ≡ false → IsLeast (Passes test (found_in es)) id → IsLeast (Passes test (found_in (e ∷ es))) id
 least_further test e es id less is rest = (
   (rest.0.0, further_there e es id less ∙ rest.0.1, rest.0.2),
-  λ q o below there. at_cases e es q o (same_id q e.0) refl there (λ same like. same_test test e q o false same like is) (rest.1 q o below),
+  λ q below other. at_cases e es q other.0 (same_id q e.0) refl other.1
+      (λ same like. false≢true (sym (same_test test e q other.0 false same like is) ∙ other.2))
+      (λ there. rest.1 q below (other.0, there, other.2)),
 )
 
-pub least_that : (test : Test) (es : Entries) (id : List ℕ) → IsStrictlySortedBy (slice_cmp nat_cmp) (keys_of es) → first_that test es ≡ Some id → IsLeastThat test (found_in es) id
+pub least_that : (test : Test) (es : Entries) (id : List ℕ) → IsStrictlySortedBy (slice_cmp nat_cmp) (keys_of es) → first_that test es ≡ Some id → IsLeast (Passes test (found_in es)) id
 unfolding IsStrictlySortedBy
 least_that test [] id sorted there = absurd (cc)
 least_that test (e ∷ es) id sorted there = first_step test e es id (test e.0 e.1) refl there
@@ -112,15 +115,15 @@ at_all test (e ∷ es) sorted f =
 
 -- ---- of the objects of a city
 
-pub least_in : (test : Test) (objects : Objects) (id : List ℕ) → first_that test (entries objects) ≡ Some id → IsLeastThat test (at objects) id
-least_in test objects id there = subst (λ (m : CityMap). IsLeastThat test m id) (sym (at_entries objects)) (least_that test (entries objects) id (entries_ascend objects) there)
+pub least_in : (test : Test) (objects : Objects) (id : List ℕ) → first_that test (entries objects) ≡ Some id → IsLeast (Passes test (object_at objects)) id
+least_in test objects id there = subst (λ (m : CityMap). IsLeast (Passes test m) id) (sym (at_entries objects)) (least_that test (entries objects) id (entries_ascend objects) there)
 
-pub none_in : (test : Test) (objects : Objects) (q : List ℕ) (o : Object) → first_that test (entries objects) ≡ None → at objects q ≡ Some o → test q o ≡ false
+pub none_in : (test : Test) (objects : Objects) (q : List ℕ) (o : Object) → first_that test (entries objects) ≡ None → object_at objects q ≡ Some o → test q o ≡ false
 none_in test objects q o none there = none_that test (entries objects) q o none (ap (λ (m : CityMap). m q) (sym (at_entries objects)) ∙ there)
 
-pub all_in : (test : Object → Bool) (objects : Objects) (q : List ℕ) (o : Object) → list_all (λ (e : List ℕ × Object). test e.1) (entries objects) ≡ true → at objects q ≡ Some o → test o ≡ true
+pub all_in : (test : Object → Bool) (objects : Objects) (q : List ℕ) (o : Object) → list_all (λ (e : List ℕ × Object). test e.1) (entries objects) ≡ true → object_at objects q ≡ Some o → test o ≡ true
 all_in test objects q o all there = all_at test (entries objects) q o all (ap (λ (m : CityMap). m q) (sym (at_entries objects)) ∙ there)
 
-pub in_all : (test : Object → Bool) (objects : Objects) → ((q : List ℕ) (o : Object) → at objects q ≡ Some o → test o ≡ true)
+pub in_all : (test : Object → Bool) (objects : Objects) → ((q : List ℕ) (o : Object) → object_at objects q ≡ Some o → test o ≡ true)
     → list_all (λ (e : List ℕ × Object). test e.1) (entries objects) ≡ true
 in_all test objects f = at_all test (entries objects) (entries_ascend objects) (λ q o there. f q o (ap (λ (m : CityMap). m q) (at_entries objects) ∙ there))

@@ -5,7 +5,7 @@ use Rattle.std.proofs.Math.Bool.{or-false, or_assoc}
 use Rattle.std.proofs.lemmas.Bool.{eqb-false, or_parts}
 use Rattle.city_model.specs.declared.end.End.{End}
 use Rattle.city_model.specs.CityMap.{CityMap}
-use Rattle.city_model.specs.Runs.{Scripted, left_by, model_after, IsEndOf, NoEndOf, has_end, FitsFrom}
+use Rattle.city_model.specs.Runs.{Scripted, left_by, model_after, IsEndOf, NoEndOf, has_end, IsSerialHistoryFrom}
 
 pub model_more : (scripts : List Scripted) (es : List End) (e : End) (m : CityMap) → model_after scripts m (es ++ e ∷ []) ≡ left_by scripts (model_after scripts m es) e
 model_more scripts [] e m = refl
@@ -19,8 +19,8 @@ place_moved : (scripts : List Scripted) (m : CityMap) (p q : ℕ) (e : End) → 
 place_moved scripts m p q e same is = subst (λ k. IsEndOf scripts m k e) same is
 
 -- an end of a script that hasn't ended yet goes last
-pub fits_more : (scripts : List Scripted) (es : List End) (e : End) (m : CityMap) (p : ℕ) → FitsFrom scripts m p es → has_end e.script es ≡ false
-    → IsEndOf scripts (model_after scripts m es) (p + length es) e → FitsFrom scripts m p (es ++ e ∷ [])
+pub fits_more : (scripts : List Scripted) (es : List End) (e : End) (m : CityMap) (p : ℕ) → IsSerialHistoryFrom scripts m p es → has_end e.script es ≡ false
+    → IsEndOf scripts (model_after scripts m es) (p + length es) e → IsSerialHistoryFrom scripts m p (es ++ e ∷ [])
 fits_more scripts [] e m p fits none is = (place_moved scripts m (p + 0) p e (omega arith) is, tt, tt)
 fits_more scripts (f ∷ fs) e m p fits none is =
     let parts = or_parts (f.script == e.script) (has_end e.script fs) none in (

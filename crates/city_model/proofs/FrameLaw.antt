@@ -8,24 +8,33 @@ use Rattle.city_model.specs.declared.command.Cause.{Cause}
 use Rattle.city_model.specs.declared.command.Cause.TheVariants.{HasChildren}
 use Rattle.city_model.specs.declared.command.Command.{Command}
 use Rattle.city_model.specs.declared.command.Command.TheVariants.{Read, Put, Delete, Attach, Detach, Mark, Back, Commit, Abort}
+use Rattle.city_model.specs.declared.command.Reply.{Reply}
 use Rattle.city_model.specs.CityMap.{CityMap, same_id, has_id, changed, parents_of, children_of}
-use Rattle.city_model.specs.Meaning.{read_reply, with_body, put_cause, put_done, delete_cause, attach_cause, detach_cause, without_child, without_parent, with_child, with_parent, deleted, cause_of, effect_of, done_reply, map_unless, refused_or, after, reply_to, exclusively, delete_locks, locks_of}
+use Rattle.city_model.specs.Meaning.{Answers, read_reply, with_body, put_cause, put_done, delete_cause, attach_cause}
+use Rattle.city_model.specs.Meaning.{detach_cause, without_child, without_parent, with_child, with_parent, deleted}
+use Rattle.city_model.specs.Meaning.{exclusively, delete_locks, locks_of}
+use Rattle.city_model.specs.inside.CommandParts.{cause_of, effect_of, done_reply, map_unless, refused_or, after}
+use Rattle.city_model.specs.inside.CommandParts.{Marking, Leaves, Marks, GoesBack, marking, refusal_as, refusal}
+use Rattle.city_model.specs.inside.CommandParts.{seen_next, answer}
 use Rattle.city_model.specs.Shells.{body_fault}
 use Rattle.city_model.specs.Relations.{IsSound}
-use Rattle.city_model.specs.Standing.{Lock, exclusive_ids, names, names_exclusively}
+use Rattle.city_model.specs.Marks.{unmarked}
+use Rattle.city_model.specs.Scripts.{is_end}
+use Rattle.city_model.specs.Standing.{Lock, exclusive_ids, locks_id, locks_id_exclusively}
 use Rattle.city_model.specs.FrameLaw.{AgreeOn, FrameLaw}
+use Rattle.city_model.proofs.Effects.{effect_is}
 use Rattle.city_model.proofs.Changed.{attached_apart, detached_apart, deleted_apart}
 use Rattle.city_model.proofs.Ids.{same_id_itself, same_id_back}
 use Rattle.city_model.proofs.IdLists.{bool_cases, not_both, without_absent}
 
-pub exclusive_is_named : (ls : List Lock) (id : List ℕ) → names_exclusively ls id ≡ true → names ls id ≡ true
+pub exclusive_is_named : (ls : List Lock) (id : List ℕ) → locks_id_exclusively ls id ≡ true → locks_id ls id ≡ true
 exclusive_is_named [] id h = h
 exclusive_is_named (l ∷ ls) id h = bool_cases l.1
-    (λ e. let k : (same_id id l.0 || names_exclusively ls id) ≡ true = sym (ap (λ b. has_id (if b then l.0 ∷ exclusive_ids ls else exclusive_ids ls) id) e) ∙ h in
+    (λ e. let k : (same_id id l.0 || locks_id_exclusively ls id) ≡ true = sym (ap (λ b. has_id (if b then l.0 ∷ exclusive_ids ls else exclusive_ids ls) id) e) ∙ h in
     bool_cases (same_id id l.0)
-    (λ f. or_left (same_id id l.0) (names ls id) f)
-    (λ f. or_right (same_id id l.0) (names ls id) (exclusive_is_named ls id (sym (ap (λ b. b || names_exclusively ls id) f) ∙ k))))
-    (λ e. or_right (same_id id l.0) (names ls id)
+    (λ f. or_left (same_id id l.0) (locks_id ls id) f)
+    (λ f. or_right (same_id id l.0) (locks_id ls id) (exclusive_is_named ls id (sym (ap (λ b. b || locks_id_exclusively ls id) f) ∙ k))))
+    (λ e. or_right (same_id id l.0) (locks_id ls id)
     (exclusive_is_named ls id (sym (ap (λ b. has_id (if b then l.0 ∷ exclusive_ids ls else exclusive_ids ls) id) e) ∙ h)))
 
 exclusive_ids_of : (ids : List (List ℕ)) → exclusive_ids (exclusively ids) ≡ ids
@@ -51,25 +60,25 @@ has_no_children id o e = bool_cases (length o.children == 0)
     (λ h. h)
     (λ h. let k : Some (HasChildren id) ≡ None = sym (ap (λ b. if b then None else Some (HasChildren id)) h) ∙ e in cc)
 
-frame_delete : (m : CityMap) (id q : List ℕ) (w : Option Object) → m id ≡ w → IsSound m → names_exclusively ((id, true) ∷ delete_locks w) q ≡ false
+frame_delete : (m : CityMap) (id q : List ℕ) (w : Option Object) → m id ≡ w → IsSound m → locks_id_exclusively ((id, true) ∷ delete_locks w) q ≡ false
     → delete_cause id w ≡ None → deleted m id q ≡ m q
 frame_delete m id q None is s h e = cc
 frame_delete m id q (Some o) is s h e =
     let empty : (length o.children == 0) ≡ true = has_no_children id o e in
-    let parts = or_parts (same_id q id) (names_exclusively (delete_locks (Some o)) q) h in
+    let parts = or_parts (same_id q id) (locks_id_exclusively (delete_locks (Some o)) q) h in
     let no_parent : has_id o.parents q ≡ false =
     sym (ap (λ ids. has_id ids q) (ap (λ b. exclusive_ids (if b then exclusively o.parents else [])) empty ∙ exclusive_ids_of o.parents)) ∙ parts.1 in
     let no_child : has_id (children_of (m q)) id ≡ false = false_from_ne_true (has_id (children_of (m q)) id)
     (λ t. not_both (has_id o.parents q) (sym (ap (λ x. has_id (parents_of x) q) is) ∙ parents_known m id q (m q) refl s t) no_parent) in
     deleted_apart m id q (same_id_back id q ∙ parts.0) ∙ childless id (m q) no_child
 
-two_apart : (child parent q : List ℕ) → names_exclusively ((child, true) ∷ (parent, true) ∷ []) q ≡ false → (same_id child q ≡ false) × (same_id parent q ≡ false)
+two_apart : (child parent q : List ℕ) → locks_id_exclusively ((child, true) ∷ (parent, true) ∷ []) q ≡ false → (same_id child q ≡ false) × (same_id parent q ≡ false)
 two_apart child parent q h =
     let first = or_parts (same_id q child) (has_id (parent ∷ []) q) h in
     let second = or_parts (same_id q parent) false first.1 in
     (same_id_back child q ∙ first.0, same_id_back parent q ∙ second.0)
 
-pub frame : (m : CityMap) (c : Command) (q : List ℕ) → IsSound m → names_exclusively (locks_of m c) q ≡ false → after m c q ≡ m q
+pub frame : (m : CityMap) (c : Command) (q : List ℕ) → IsSound m → locks_id_exclusively (locks_of m c) q ≡ false → after m c q ≡ m q
 frame m (Read id) q s h = refl
 frame m (Put id body) q s h = unless_same (cause_of m (Put id body)) m (effect_of m (Put id body)) q
     (λ e. update_other same_id m id (Some (with_body body (m id))) q (same_id_back id q ∙ (or_parts (same_id q id) false h).0))
@@ -87,11 +96,11 @@ frame m Abort q s h = refl
 
 -- ---- two maps that agree where the first one's locks name an id
 
-first_is_named : (id : List ℕ) (b : Bool) (ls : List Lock) → names ((id, b) ∷ ls) id ≡ true
-first_is_named id b ls = or_left (same_id id id) (names ls id) (same_id_itself id)
+first_is_named : (id : List ℕ) (b : Bool) (ls : List Lock) → locks_id ((id, b) ∷ ls) id ≡ true
+first_is_named id b ls = or_left (same_id id id) (locks_id ls id) (same_id_itself id)
 
-second_is_named : (id other : List ℕ) (b k : Bool) (ls : List Lock) → names ((id, b) ∷ (other, k) ∷ ls) other ≡ true
-second_is_named id other b k ls = or_right (same_id other id) (names ((other, k) ∷ ls) other) (first_is_named other k ls)
+second_is_named : (id other : List ℕ) (b k : Bool) (ls : List Lock) → locks_id ((id, b) ∷ (other, k) ∷ ls) other ≡ true
+second_is_named id other b k ls = or_right (same_id other id) (locks_id ((other, k) ∷ ls) other) (first_is_named other k ls)
 
 both_agree : (m n : CityMap) (child parent : List ℕ) → AgreeOn ((child, true) ∷ (parent, true) ∷ []) m n → (m child ≡ n child) × (m parent ≡ n parent)
 both_agree m n child parent a = (a child (first_is_named child true ((parent, true) ∷ [])), a parent (second_is_named child parent true true []))
@@ -121,9 +130,6 @@ same_done m n (Mark name) a = refl
 same_done m n (Back name) a = refl
 same_done m n Commit a = refl
 same_done m n Abort a = refl
-
-pub same_reply : (m n : CityMap) (c : Command) → AgreeOn (locks_of m c) m n → reply_to m c ≡ reply_to n c
-same_reply m n c a = ap (λ x. refused_or x (done_reply m c)) (same_cause m n c a) ∙ ap (refused_or (cause_of n c)) (same_done m n c a)
 
 pub same_locks : (m n : CityMap) (c : Command) → AgreeOn (locks_of m c) m n → locks_of m c ≡ locks_of n c
 same_locks m n (Read id) a = refl
@@ -169,16 +175,56 @@ same_where_agreed m n c q a e =
     ∙ unless_both (cause_of n c) m (effect_of m c) n (effect_of n c) q e (same_effect m n c q a e)
 
 -- what is locked exclusively becomes the same
-pub same_after : (m n : CityMap) (c : Command) (q : List ℕ) → AgreeOn (locks_of m c) m n → names_exclusively (locks_of m c) q ≡ true → after m c q ≡ after n c q
+pub same_after : (m n : CityMap) (c : Command) (q : List ℕ) → AgreeOn (locks_of m c) m n → locks_id_exclusively (locks_of m c) q ≡ true → after m c q ≡ after n c q
 same_after m n c q a h = same_where_agreed m n c q a (a q (exclusive_is_named (locks_of m c) q h))
 
-pub frame_law : (m : CityMap) (c : Command) → IsSound m → FrameLaw m c
-frame_law m c s n t a = record {
-  cause = same_cause m n c a;
-  reply = same_reply m n c a;
+-- ---- without marks
+
+same_refusal : (m n : CityMap) (c : Command) (k : Marking) → AgreeOn (locks_of m c) m n
+    → refusal_as k (unmarked m) c ≡ refusal_as k (unmarked n) c
+same_refusal m n c Leaves a = same_cause m n c a
+same_refusal m n c (Marks name) a = refl
+same_refusal m n c (GoesBack name) a = refl
+
+same_answer : (m n : CityMap) (c : Command) → AgreeOn (locks_of m c) m n → answer (unmarked m) c ≡ answer (unmarked n) c
+same_answer m n c a =
+    ap (λ x. refused_or x (done_reply m c)) (same_refusal m n c (marking c) a)
+    ∙ ap (refused_or (refusal (unmarked n) c)) (same_done m n c a)
+
+map_after : (m : CityMap) (c : Command) → (seen_next (unmarked m) c).map ≡ after m c
+map_after m (Read id) = refl
+map_after m (Put id body) = refl
+map_after m (Delete id) = refl
+map_after m (Attach child parent) = refl
+map_after m (Detach child parent) = refl
+map_after m (Mark name) = refl
+map_after m (Back name) = refl
+map_after m Commit = refl
+map_after m Abort = refl
+
+at_after : (m : CityMap) (c : Command) (q : List ℕ) → (seen_next (unmarked m) c).map q ≡ after m c q
+at_after m c q = ap (λ (n : CityMap). n q) (map_after m c)
+
+pub frame_law : (m : CityMap) (c : Command) → IsSound m → is_end c ≡ false → FrameLaw m c
+frame_law m c s on n t a = record {
+  reply = answer (unmarked m) c;
+  left = seen_next (unmarked m) c;
+  left_there = seen_next (unmarked n) c;
+  here = effect_is (unmarked m) c on;
+  there =
+      effect_is (unmarked n) c on ∙ ap (λ (r : Reply). Answers r (seen_next (unmarked n) c))
+      (sym (same_answer m n c a));
   locks = same_locks m n c a;
-  written = λ id h. (a id (exclusive_is_named (locks_of m c) id h), same_after m n c id a h);
-  kept = λ id h. (frame m c id s h, frame n c id t (sym (ap (λ ls. names_exclusively ls id) (same_locks m n c a)) ∙ h));
+  written =
+      λ id h. (
+        a id (exclusive_is_named (locks_of m c) id h),
+        at_after m c id ∙ same_after m n c id a h
+            ∙ sym (at_after n c id),
+      );
+  kept = λ id h. (
+    at_after m c id ∙ frame m c id s h,
+    at_after n c id ∙ frame n c id t (sym (ap (λ ls. locks_id_exclusively ls id) (same_locks m n c a)) ∙ h),
+  );
 }
 
 -- a delete changes its id and the object's parents alone

@@ -8,7 +8,7 @@ use Rattle.std.proofs.lemmas.Bool.{false≢true, and_parts, and_from, or_from, n
 use Rattle.std.proofs.lemmas.Cmp.{nat_list_cmp_total}
 use Rattle.std.proofs.lemmas.List.Folds.{list_any_at}
 use Rattle.city_model.specs.CityMap.{same_id, has_id}
-use Rattle.city_model.specs.RelationTests.{are_distinct, are_increasing, are_increasing_from}
+use Rattle.city_model.specs.inside.RelationTests.{are_distinct, are_increasing, are_increasing_from}
 use Rattle.city_model.proofs.Ids.{same_id_back}
 
 is_less : (o : Ordering) → is_lt o ≡ true → o ≡ Less

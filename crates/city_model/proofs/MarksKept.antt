@@ -3,11 +3,17 @@ use Rattle.std.proofs.Common.{◌≡◌, ℕ, List, [], ◌∷◌, ◌++◌, fal
 use Rattle.std.specs.Prelude.{if◌then◌else◌}
 use Rattle.std.proofs.lemmas.Bool.{false≢true}
 use Rattle.city_model.specs.declared.command.Command.{Command}
+use Rattle.city_model.specs.declared.command.Reply.{Reply}
 use Rattle.city_model.specs.declared.command.Command.TheVariants.{Read, Put, Delete, Attach, Detach, Mark, Back, Commit, Abort}
+use Rattle.city_model.specs.declared.command.Cause.TheVariants.{NoMark}
+use Rattle.city_model.specs.declared.command.Reply.TheVariants.{WentBack, Refused}
 use Rattle.city_model.specs.CityMap.{CityMap, same_id}
-use Rattle.city_model.specs.Meaning.{after, done_reply, refused_or, reply_to}
-use Rattle.city_model.specs.Marks.{Marked, View, Marking, Leaves, Marks, GoesBack, marking, marks_from, back_to, refusal_as, step_as, step, answer, AreSound, IsSoundView}
+use Rattle.city_model.specs.inside.CommandParts.{after, done_reply, refused_or, reply_to, Marking, Leaves, Marks}
+use Rattle.city_model.specs.inside.CommandParts.{GoesBack, marking, back_to, refusal_as, step_as, answer, seen_next}
+use Rattle.city_model.specs.Marks.{Marked, View, marks_from, AreSound, IsSoundView}
+use Rattle.city_model.specs.Meaning.{Answers, back, effect, step}
 use Rattle.city_model.specs.Scripts.{is_mark}
+use Rattle.city_model.proofs.Effects.{answered_next}
 use Rattle.city_model.proofs.Ids.{same_id_itself}
 use Rattle.city_model.proofs.IdLists.{bool_cases}
 use Rattle.city_model.proofs.SoundAfter.{sound_after}
@@ -29,9 +35,13 @@ sound_step_as Leaves v c s = (sound_after v.map c s.0, s.1)
 sound_step_as (Marks name) v c s = (s.0, (s.0, s.1))
 sound_step_as (GoesBack name) v c s = sound_back v (marks_from name v.marks) s (sound_from name v.marks s.1)
 
--- each command keeps the map and every mark's map sound
-pub sound_step : (v : View) (c : Command) → IsSoundView v → IsSoundView (step v c)
-sound_step v c s = sound_step_as (marking c) v c s
+pub sound_next : (v : View) (c : Command) → IsSoundView v → IsSoundView (seen_next v c)
+sound_next v c s = sound_step_as (marking c) v c s
+
+-- each command that is answered keeps the map and every mark's map sound
+pub sound_effect : (v : View) (c : Command) (reply : Reply) (u : View) → effect v c ≡ Answers reply u → IsSoundView v
+    → IsSoundView u
+sound_effect v c reply u is s = subst IsSoundView (sym (answered_next v c reply u is)) (sound_next v c s)
 
 -- ---- going back
 
@@ -59,20 +69,22 @@ newer_dropped name (k ∷ ks) m older h =
 
 -- going back gives the mark's map, and keeps the mark and those before it
 pub went_back : (v : View) (name : List ℕ) (newer : List Marked) (m : CityMap) (older : List Marked) → HasNone name newer → v.marks ≡ newer ++ (name, m) ∷ older
-    → step v (Back name) ≡ record { map = m; marks = (name, m) ∷ older }
-went_back v name newer m older h e = ap (back_to v) (ap (marks_from name) e ∙ newer_dropped name newer m older h)
+    → effect v (Back name) ≡ Answers WentBack (record { map = m; marks = (name, m) ∷ older })
+went_back v name newer m older h e = ap (back name v) (ap (marks_from name) e ∙ newer_dropped name newer m older h)
 
 -- going back at once changes nothing
-pub back_at_once : (v : View) (name : List ℕ) → step (step v (Mark name)) (Back name) ≡ step v (Mark name)
+pub back_at_once : (v : View) (name : List ℕ)
+    → effect (step v (Mark name)) (Back name) ≡ Answers WentBack (step v (Mark name))
 back_at_once v name = went_back (step v (Mark name)) name [] v.map v.marks tt refl
 
 none_from : (name : List ℕ) (ks : List Marked) → HasNone name ks → marks_from name ks ≡ []
 none_from name [] h = refl
 none_from name (k ∷ ks) h = ap (λ b. if b then k ∷ ks else marks_from name ks) h.0 ∙ none_from name ks h.1
 
--- where there is no mark of the name, going back changes nothing
-pub not_gone_back : (v : View) (name : List ℕ) → HasNone name v.marks → step v (Back name) ≡ v
-not_gone_back v name h = ap (back_to v) (none_from name v.marks h)
+-- where there is no mark of the name, going back is refused
+pub not_gone_back : (v : View) (name : List ℕ) → HasNone name v.marks
+    → effect v (Back name) ≡ Answers (Refused (NoMark name)) v
+not_gone_back v name h = ap (back name v) (none_from name v.marks h)
 
 -- ---- all other commands leave the marks
 
@@ -87,7 +99,8 @@ plain (Back name) h = absurd (false≢true (sym h))
 plain Commit h = refl
 plain Abort h = refl
 
-pub plain_step : (v : View) (c : Command) → is_mark c ≡ false → step v c ≡ record { map = after v.map c; marks = v.marks }
+pub plain_step : (v : View) (c : Command) → is_mark c ≡ false
+    → seen_next v c ≡ record { map = after v.map c; marks = v.marks }
 plain_step v c h = ap (λ k. step_as k v c) (plain c h)
 
 pub plain_answer : (v : View) (c : Command) → is_mark c ≡ false → answer v c ≡ reply_to v.map c

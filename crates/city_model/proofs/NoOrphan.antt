@@ -14,7 +14,7 @@ pub no_orphan : (m : CityMap) → ((q : List ℕ) → is_orphan_there (m q) ≡ 
 no_orphan m f id o e = sym (ap is_orphan_there e) ∙ f id
 
 pub least_orphan : (m : CityMap) (id : List ℕ) → IsOrphanAt m id → ((q : List ℕ) → slice_cmp nat_cmp q id ≡ Less → is_orphan_there (m q) ≡ false) → IsLeastOrphan m id
-least_orphan m id found f = (found, λ q o below e. sym (ap is_orphan_there e) ∙ f q below)
+least_orphan m id found f = (found, λ q below h. false≢true (sym (f q below) ∙ ap is_orphan_there h.1 ∙ h.2))
 
 pub neither_orphan : (b : Bool) (x y : Option Object) → is_orphan_there x ≡ false → is_orphan_there y ≡ false → is_orphan_there (if b then x else y) ≡ false
 neither_orphan true x y h k = h

@@ -4,7 +4,8 @@ use Rattle.std.specs.List.{zip}
 use Rattle.std.proofs.lemmas.List.{map-append}
 use Rattle.std.proofs.lemmas.List.Elements.{filter-append}
 use Rattle.city_model.specs.declared.object.Point.{Point}
-use Rattle.city_model.specs.Shells.{Edge, rises, rising, flipped}
+use Rattle.city_model.specs.Shells.{Edge, flipped}
+use Rattle.city_model.specs.inside.RisingEdges.{rises, rising}
 
 -- the lists become what they were with the edges es, once those that are left are noted after what is there now
 pub record Noted (up-was down-was es up down left : List Edge) : Type 0 where

@@ -11,7 +11,7 @@ use Rattle.std.specs.FinMap.{entries, len, insert, remove, empty, from_sorted, f
 use Rattle.std.specs.FinMap.Entries.{below_all}
 use Rattle.std.proofs.lemmas.Cmp.{nat_list_cmp_total}
 use Rattle.city_model.specs.declared.object.Object.{Object}
-use Rattle.city_model.specs.CityMap.{Objects, CityMap, Entries, at, found_in, changed, same_id}
+use Rattle.city_model.specs.CityMap.{Objects, CityMap, Entries, object_at, found_in, changed, same_id}
 use Rattle.city_model.proofs.Ids.{same_id_back}
 
 -- ---- two forms of one order, and of one look-up
@@ -54,7 +54,7 @@ module _ {K X : Type 0} (R : K → K → Ordering) where
 
 -- ---- the entries
 
-pub at_entries : (objects : Objects) → at objects ≡ found_in (entries objects)
+pub at_entries : (objects : Objects) → object_at objects ≡ found_in (entries objects)
 at_entries objects = λ i q. (get-entries objects q ∙ find_is_lookup (slice_cmp nat_cmp) q (entries objects)) i
 
 pub entries_ascend : (objects : Objects) → IsStrictlySortedBy (slice_cmp nat_cmp) (keys_of (entries objects))
@@ -63,7 +63,7 @@ entries_ascend objects = ascending (slice_cmp nat_cmp) (entries objects) (entrie
 pub entries_of : (es : Entries) → IsStrictlySortedBy (slice_cmp nat_cmp) (keys_of es) → entries (from_sorted {R = slice_cmp nat_cmp} es) ≡ es
 entries_of es ascend = entries-from_sorted (slice_cmp nat_cmp) es (in_order (slice_cmp nat_cmp) es ascend)
 
-pub at_sorted : (es : Entries) → IsStrictlySortedBy (slice_cmp nat_cmp) (keys_of es) → at (from_sorted es) ≡ found_in es
+pub at_sorted : (es : Entries) → IsStrictlySortedBy (slice_cmp nat_cmp) (keys_of es) → object_at (from_sorted es) ≡ found_in es
 at_sorted es ascend = at_entries (from_sorted es) ∙ ap found_in (entries_of es ascend)
 
 pub len_of : (es : Entries) → IsStrictlySortedBy (slice_cmp nat_cmp) (keys_of es) → len (from_sorted {R = slice_cmp nat_cmp} es) ≡ length es
@@ -75,25 +75,25 @@ of_nothing es nothing = ap (λ (xs : Entries). from_sorted xs) nothing ∙ empty
 -- ---- answers
 
 -- objects that answer alike are the same
-pub same_objects : (m n : Objects) → at m ≡ at n → m ≡ n
+pub same_objects : (m n : Objects) → object_at m ≡ object_at n → m ≡ n
 same_objects m n same = same_map nat_list_cmp_total (slice_cmp-IsAntisymmetric nat_cmp-IsAntisymmetric) m n (λ q. ap (λ f. f q) same)
 
-pub at_empty : at empty ≡ (λ q. None)
+pub at_empty : object_at empty ≡ (λ q. None)
 at_empty = λ i q. get-empty {X = Object} (slice_cmp nat_cmp) q i
 
 turned : (m : CityMap) (id : List ℕ) (w : Option Object) (q : List ℕ) → cond (same_id q id) w (m q) ≡ changed m id w q
 turned m id w q = ap (λ b. cond b w (m q)) (same_id_back q id)
 
-pub at_insert : (objects : Objects) (id : List ℕ) (o : Object) → at (insert objects id o) ≡ changed (at objects) id (Some o)
-at_insert objects id o = λ i q. (get-insert nat_list_cmp_total objects id o q ∙ turned (at objects) id (Some o) q) i
+pub at_insert : (objects : Objects) (id : List ℕ) (o : Object) → object_at (insert objects id o) ≡ changed (object_at objects) id (Some o)
+at_insert objects id o = λ i q. (get-insert nat_list_cmp_total objects id o q ∙ turned (object_at objects) id (Some o) q) i
 
-pub at_remove : (objects : Objects) (id : List ℕ) → at (remove objects id) ≡ changed (at objects) id None
-at_remove objects id = λ i q. (get-remove nat_list_cmp_total objects id q ∙ turned (at objects) id None q) i
+pub at_remove : (objects : Objects) (id : List ℕ) → object_at (remove objects id) ≡ changed (object_at objects) id None
+at_remove objects id = λ i q. (get-remove nat_list_cmp_total objects id q ∙ turned (object_at objects) id None q) i
 
 -- ---- entries of which one is set or taken out
 
 pub at_changed : (es fs : Entries) (id : List ℕ) (w : Option Object) → IsStrictlySortedBy (slice_cmp nat_cmp) (keys_of es) → IsStrictlySortedBy (slice_cmp nat_cmp) (keys_of fs)
-    → ((q : List ℕ) → found_in fs q ≡ changed (found_in es) id w q) → at (from_sorted fs) ≡ changed (at (from_sorted es)) id w
+    → ((q : List ℕ) → found_in fs q ≡ changed (found_in es) id w q) → object_at (from_sorted fs) ≡ changed (object_at (from_sorted es)) id w
 at_changed es fs id w ascend still is =
     at_sorted fs still ∙ (λ i q. is q i) ∙ ap (λ (m : CityMap). changed m id w) (sym (at_sorted es ascend))
 
@@ -109,12 +109,12 @@ removed es fs id ascend still is =
 
 -- ---- an object edited where it stands
 
-pub found_at : (es : Entries) → IsStrictlySortedBy (slice_cmp nat_cmp) (keys_of es) → (objects : Objects) → from_sorted es ≡ objects → (id : List ℕ) → found_in es id ≡ at objects id
-found_at es ascend objects seen id = ap (λ (m : CityMap). m id) (sym (at_sorted es ascend)) ∙ ap (λ (x : Objects). at x id) seen
+pub found_at : (es : Entries) → IsStrictlySortedBy (slice_cmp nat_cmp) (keys_of es) → (objects : Objects) → from_sorted es ≡ objects → (id : List ℕ) → found_in es id ≡ object_at objects id
+found_at es ascend objects seen id = ap (λ (m : CityMap). m id) (sym (at_sorted es ascend)) ∙ ap (λ (x : Objects). object_at x id) seen
 
 pub edited : (es fs : Entries) (id : List ℕ) (f : Object → Object) (o p : Object) → IsStrictlySortedBy (slice_cmp nat_cmp) (keys_of es) → IsStrictlySortedBy (slice_cmp nat_cmp) (keys_of fs)
     → found_in es id ≡ Some o → p ≡ f o → ((q : List ℕ) → found_in fs q ≡ changed (found_in es) id (Some p) q)
-    → at (from_sorted fs) ≡ changed (at (from_sorted es)) id (option_map f (at (from_sorted es) id))
+    → object_at (from_sorted fs) ≡ changed (object_at (from_sorted es)) id (option_map f (object_at (from_sorted es) id))
 edited es fs id f o p ascend still there made is =
     at_changed es fs id (Some p) ascend still is
-    ∙ ap (λ x. changed (at (from_sorted es)) id x) (ap Some made ∙ ap (option_map f) (sym there ∙ found_at es ascend (from_sorted es) refl id))
+    ∙ ap (λ x. changed (object_at (from_sorted es)) id x) (ap Some made ∙ ap (option_map f) (sym there ∙ found_at es ascend (from_sorted es) refl id))

@@ -12,14 +12,17 @@ use Rattle.city_model.specs.declared.command.Command.TheVariants.{Put, Delete, A
 use Rattle.city_model.specs.declared.command.Reply.{Reply}
 use Rattle.city_model.specs.declared.command.Reply.TheVariants.{Deleted, Attached, Detached}
 use Rattle.city_model.specs.CityMap.{CityMap, same_id, has_id, changed}
-use Rattle.city_model.specs.Meaning.{with_body, put_cause, put_done, delete_cause, delete_locks, deleted, without_child, without_parent, with_child, with_parent, is_wrong_family, attach_cause, detach_cause, exclusively, effect_of, map_unless, after}
+use Rattle.city_model.specs.Meaning.{with_body, put_cause, put_done, delete_cause, delete_locks, deleted, without_child}
+use Rattle.city_model.specs.Meaning.{without_parent, with_child, with_parent, is_wrong_family, attach_cause}
+use Rattle.city_model.specs.Meaning.{detach_cause, exclusively}
+use Rattle.city_model.specs.inside.CommandParts.{effect_of, map_unless, after}
 use Rattle.city_model.specs.Relations.{is_second_level, same_family, IsSound}
 use Rattle.city_model.specs.Shells.{body_fault}
 use Rattle.city_model.proofs.Ids.{same_id_itself, same_id_back, same_id_true}
 use Rattle.city_model.proofs.IdLists.{bool_cases, or_first}
-use Rattle.city_model.specs.Standing.{names_exclusively}
-use Rattle.city_model.specs.Runs.{Change, with_change}
-use Rattle.city_model.specs.Plans.{AreOf, AreWritesOf, only, only_parent, unlinked}
+use Rattle.city_model.specs.Standing.{locks_id_exclusively}
+use Rattle.city_model.specs.Runs.{Change, after_change}
+use Rattle.city_model.specs.inside.Plans.{AreOf, AreWritesOf, only, only_parent, unlinked}
 use Rattle.city_model.proofs.FrameLaw.{frame}
 
 -- ---- a put, where x stands at the id
@@ -49,7 +52,7 @@ unlinked_are m id (p ∷ ps) apart = (
   unlinked_are m id ps (λ r h. apart r (or_right (same_id r p) (has_id ps r) h)),
 )
 
-unlinked_ids : (m : CityMap) (id : List ℕ) (ps : List (List ℕ)) (q : List ℕ) → has_id (keys_of (map (unlinked m id) ps)) q ≡ names_exclusively (exclusively ps) q
+unlinked_ids : (m : CityMap) (id : List ℕ) (ps : List (List ℕ)) (q : List ℕ) → has_id (keys_of (map (unlinked m id) ps)) q ≡ locks_id_exclusively (exclusively ps) q
 unlinked_ids m id [] q = refl
 unlinked_ids m id (p ∷ ps) q = ap (λ b. same_id q p || b) (unlinked_ids m id ps q)
 
@@ -62,7 +65,7 @@ delete_writes m id o ws s is childless items = subst (AreWritesOf m (Delete id) 
     sym (ap (λ b. if b then None else option_map (without_child id) (m id)) (same_id_itself id)),
     unlinked_are m id o.parents (λ p h. same_id_back id p ∙ ((s id o is).0.parents_know_it p h).0),
   );
-  ids = λ q. ap (λ b. same_id q id || b) (unlinked_ids m id o.parents q ∙ ap (λ ls. names_exclusively ls q) (sym (parents_locked m id o is childless)));
+  ids = λ q. ap (λ b. same_id q id || b) (unlinked_ids m id o.parents q ∙ ap (λ ls. locks_id_exclusively ls q) (sym (parents_locked m id o is childless)));
 })
 
 only_is : (ps : List (List ℕ)) (p : List ℕ) → only ps ≡ Some p → p ∷ [] ≡ ps
@@ -126,13 +129,13 @@ module _ (m : CityMap) (child parent : List ℕ) (c p below : Object) (is_child 
 
 -- ---- the map with the change
 
-at_unwritten : (m : CityMap) (ws : Change) (q : List ℕ) → has_id (keys_of ws) q ≡ false → with_change m ws q ≡ m q
+at_unwritten : (m : CityMap) (ws : Change) (q : List ℕ) → has_id (keys_of ws) q ≡ false → after_change m ws q ≡ m q
 at_unwritten m [] q h = refl
 at_unwritten m (w ∷ ws) q h =
     let parts = or_parts (same_id q w.0) (has_id (keys_of ws) q) h in
     at_unwritten (changed m w.0 w.1) ws q parts.1 ∙ update_other same_id m w.0 w.1 q (same_id_back w.0 q ∙ parts.0)
 
-at_written : (m n : CityMap) (ws : Change) (q : List ℕ) → AreOf n ws → has_id (keys_of ws) q ≡ true → with_change m ws q ≡ n q
+at_written : (m n : CityMap) (ws : Change) (q : List ℕ) → AreOf n ws → has_id (keys_of ws) q ≡ true → after_change m ws q ≡ n q
 at_written m n [] q is h = absurd (false≢true h)
 at_written m n (w ∷ ws) q is h = bool_cases (has_id (keys_of ws) q)
     (λ e. at_written (changed m w.0 w.1) n ws q is.1 e)
@@ -141,10 +144,10 @@ at_written m n (w ∷ ws) q is h = bool_cases (has_id (keys_of ws) q)
     at_unwritten (changed m w.0 w.1) ws q e ∙ update_same same_id m w.0 w.1 q (same_id_back w.0 q ∙ here) ∙ is.0 ∙ ap n (sym (same_id_true q w.0 here)))
 
 -- what is planned makes of a sound map what the command makes of it
-pub plan_makes : (m : CityMap) (c : Command) (r : Reply) (ws : Change) → IsSound m → AreWritesOf m c r ws → with_change m ws ≡ effect_of m c
+pub plan_makes : (m : CityMap) (c : Command) (r : Reply) (ws : Change) → IsSound m → AreWritesOf m c r ws → after_change m ws ≡ effect_of m c
 plan_makes m c r ws s is =
     let done : after m c ≡ effect_of m c = ap (λ x. map_unless x m (effect_of m c)) is.allowed in
-    let at : (q : List ℕ) → with_change m ws q ≡ effect_of m c q =
+    let at : (q : List ℕ) → after_change m ws q ≡ effect_of m c q =
     λ q. bool_cases (has_id (keys_of ws) q)
     (λ e. at_written m (effect_of m c) ws q is.objects e)
     (λ e. at_unwritten m ws q e ∙ sym (frame m c q s (sym (is.ids q) ∙ e)) ∙ ap (λ (n : CityMap). n q) done) in

@@ -7,8 +7,11 @@ use Rattle.city_model.specs.declared.command.Command.TheVariants.{Read, Put, Del
 use Rattle.city_model.specs.declared.command.Reply.{Reply}
 use Rattle.city_model.specs.declared.command.Cause.{Cause}
 use Rattle.city_model.specs.CityMap.{CityMap}
-use Rattle.city_model.specs.Meaning.{read_reply, put_done, cause_of, effect_of, done_reply, map_unless, refused_or, is_refusal}
-use Rattle.city_model.specs.Marks.{Marked, View, Marking, Leaves, Marks, GoesBack, marking, marks_from, back_to, back_cause, refusal_as, step_as, step, answer}
+use Rattle.city_model.specs.Meaning.{read_reply, put_done, is_refusal}
+use Rattle.city_model.specs.inside.CommandParts.{seen_next, cause_of, effect_of, done_reply, map_unless, refused_or}
+use Rattle.city_model.specs.inside.CommandParts.{Marking, Leaves, Marks, GoesBack, marking, back_to, back_cause}
+use Rattle.city_model.specs.inside.CommandParts.{refusal_as, step_as, answer}
+use Rattle.city_model.specs.Marks.{Marked, View, marks_from}
 
 read_unrefused : (o : Option Object) → is_refusal (read_reply o) ≡ false
 read_unrefused None = refl
@@ -48,5 +51,5 @@ stays_as (Marks name) v c h = absurd (none_refused (done_reply v.map c) (done_un
 stays_as (GoesBack name) v c h = back_refused v name (marks_from name v.marks) (done_reply v.map c) (done_unrefused v.map c) h
 
 -- a refused command changes nothing
-pub refused_stays : (v : View) (c : Command) → is_refusal (answer v c) ≡ true → step v c ≡ v
+pub refused_stays : (v : View) (c : Command) → is_refusal (answer v c) ≡ true → seen_next v c ≡ v
 refused_stays v c h = stays_as (marking c) v c h

@@ -6,7 +6,8 @@ use Rattle.std.proofs.lemmas.Bool.{false≢true, and_parts, and_from, or_parts, 
 use Rattle.city_model.specs.declared.object.Object.{Object}
 use Rattle.city_model.specs.CityMap.{CityMap, same_id, has_id, parents_of, children_of}
 use Rattle.city_model.specs.Relations.{AreDistinct, IsInOrder, is_second_level, same_family, is_orphan}
-use Rattle.city_model.specs.RelationTests.{are_distinct, relatives_once, level_fits, parent_fits, parents_fit, children_fit, is_in_order, is_misrelated}
+use Rattle.city_model.specs.inside.RelationTests.{are_distinct, relatives_once, level_fits, parent_fits, parents_fit}
+use Rattle.city_model.specs.inside.RelationTests.{children_fit, is_in_order, is_misrelated}
 use Rattle.city_model.proofs.Ids.{same_id_itself, by_id}
 use Rattle.city_model.proofs.IdLists.{bool_cases, not_both, or_first}
 

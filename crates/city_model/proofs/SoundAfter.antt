@@ -9,7 +9,10 @@ use Rattle.city_model.specs.declared.command.Cause.TheVariants.{TypeFixed, HasCh
 use Rattle.city_model.specs.declared.command.Command.{Command}
 use Rattle.city_model.specs.declared.command.Command.TheVariants.{Read, Put, Delete, Attach, Detach, Mark, Back, Commit, Abort}
 use Rattle.city_model.specs.CityMap.{CityMap, same_id, has_id, changed, parents_of, children_of}
-use Rattle.city_model.specs.Meaning.{with_body, put_cause, delete_cause, attach_cause, detach_cause, is_wrong_family, without_id, without_child, without_parent, with_child, with_parent, deleted, attached, detached, cause_of, effect_of, map_unless, after}
+use Rattle.city_model.specs.Meaning.{with_body, put_cause, delete_cause, attach_cause, detach_cause, is_wrong_family}
+use Rattle.city_model.specs.Meaning.{without_id, without_child, without_parent, with_child, with_parent, deleted}
+use Rattle.city_model.specs.Meaning.{attached, detached}
+use Rattle.city_model.specs.inside.CommandParts.{cause_of, effect_of, map_unless, after}
 use Rattle.city_model.specs.Shells.{body_fault}
 use Rattle.city_model.specs.Relations.{is_second_level, same_type, same_family, IsSound}
 use Rattle.city_model.proofs.Ids.{same_id_itself, same_id_back, by_id}

@@ -1,19 +1,24 @@
 -- Commands run from two maps that agree on what their locks name do the same.
-use Rattle.std.proofs.Common.{◌≡◌, ℕ, List, [], ◌∷◌, Bool, true, false, Option, Some, None, refl, ap, sym, ◌∙◌}
+use Rattle.std.proofs.Common.{◌≡◌, ℕ, suc, List, [], ◌∷◌, length, Bool, true, false, Option, Some, None, refl, ap}
+use Rattle.std.proofs.Common.{subst, ◌∙◌, arith}
 use Rattle.std.specs.Prelude.{is_some, if◌then◌else◌}
 use Rattle.std.proofs.lemmas.Bool.{false≢true, or_left, or_right}
 use Rattle.city_model.specs.declared.command.Command.{Command}
+use Rattle.city_model.specs.declared.command.Reply.{Reply}
 use Rattle.city_model.specs.CityMap.{CityMap, same_id, has_id}
-use Rattle.city_model.specs.Meaning.{locks_of}
-use Rattle.city_model.specs.Marks.{View, unmarked, step, answer}
+use Rattle.city_model.specs.Meaning.{effect, step, locks_of}
+use Rattle.city_model.specs.Marks.{View, unmarked}
 use Rattle.city_model.specs.Relations.{IsSound}
-use Rattle.city_model.specs.Runs.{view_after}
-use Rattle.city_model.specs.Standing.{Held, Lock, covers, AllHeld, Answered, Follows, names, names_exclusively, exclusive_ids}
-use Rattle.city_model.specs.TraceLaw.{as_named, stronger_of, named_by, replies_to, carried, TraceLaw}
+use Rattle.city_model.specs.Runs.{Trace}
+use Rattle.city_model.specs.Standing.{Held, Lock, covers, AllHeld, answered, IsTraceUnderLocks, locks_id, locks_id_exclusively}
+use Rattle.city_model.specs.Standing.{exclusive_ids}
+use Rattle.city_model.specs.TraceLaw.{as_named, stronger_of, named_by, carried, TraceLaw}
 use Rattle.city_model.proofs.Ids.{same_id_itself}
 use Rattle.city_model.proofs.IdLists.{bool_cases}
-use Rattle.city_model.proofs.History.{more_held, follows_held}
+use Rattle.city_model.proofs.Effects.{goes_on_case, goes_on_map, goes_on_at, answered_step}
+use Rattle.city_model.proofs.History.{HoldsMore, Next, more_held, follows_held}
 use Rattle.city_model.proofs.Carried.{history_kept}
+use Rattle.city_model.proofs.Lawful.{Further}
 
 -- ---- the stronger of two modes
 
@@ -51,52 +56,65 @@ one_held : (o : Option Bool) (b : Bool) → is_some o ≡ true → (b ≡ true �
 one_held o true s x = x refl
 one_held o false s x = some_shared o s
 
-all_held : (held : Held) (ls : List Lock) → ((q : List ℕ) → names ls q ≡ true → is_some (held q) ≡ true)
-    → ((q : List ℕ) → names_exclusively ls q ≡ true → covers (held q) true ≡ true) → AllHeld held ls
+all_held : (held : Held) (ls : List Lock) → ((q : List ℕ) → locks_id ls q ≡ true → is_some (held q) ≡ true)
+    → ((q : List ℕ) → locks_id_exclusively ls q ≡ true → covers (held q) true ≡ true) → AllHeld held ls
 all_held held [] s x = tt
 all_held held (l ∷ ls) s x = (
-  one_held (held l.0) l.1 (s l.0 (or_left (same_id l.0 l.0) (names ls l.0) (same_id_itself l.0)))
+  one_held (held l.0) l.1 (s l.0 (or_left (same_id l.0 l.0) (locks_id ls l.0) (same_id_itself l.0)))
       (λ e. x l.0 (ap (λ b. has_id (if b then l.0 ∷ exclusive_ids ls else exclusive_ids ls) l.0) e
-      ∙ or_left (same_id l.0 l.0) (names_exclusively ls l.0) (same_id_itself l.0))),
-  all_held held ls (λ q h. s q (or_right (same_id q l.0) (names ls q) h))
+      ∙ or_left (same_id l.0 l.0) (locks_id_exclusively ls l.0) (same_id_itself l.0))),
+  all_held held ls (λ q h. s q (or_right (same_id q l.0) (locks_id ls q) h))
       (λ q h. x q (bool_cases l.1
-      (λ e. ap (λ b. has_id (if b then l.0 ∷ exclusive_ids ls else exclusive_ids ls) q) e ∙ or_right (same_id q l.0) (names_exclusively ls q) h)
+      (λ e. ap (λ b. has_id (if b then l.0 ∷ exclusive_ids ls else exclusive_ids ls) q) e ∙ or_right (same_id q l.0) (locks_id_exclusively ls q) h)
       (λ e. ap (λ b. has_id (if b then l.0 ∷ exclusive_ids ls else exclusive_ids ls) q) e ∙ h))),
 )
 
 abbrev named_in : List Lock → Held
-named_in ls q = as_named (names_exclusively ls q) (names ls q)
+named_in ls q = as_named (locks_id_exclusively ls q) (locks_id ls q)
 
 named_held : (ls : List Lock) → AllHeld (named_in ls) ls
 named_held ls = all_held (named_in ls) ls
-    (λ q h. named_some (names_exclusively ls q) (names ls q) h) (λ q h. named_exclusive (names_exclusively ls q) (names ls q) h)
+    (λ q h. named_some (locks_id_exclusively ls q) (locks_id ls q) h) (λ q h. named_exclusive (locks_id_exclusively ls q) (locks_id ls q) h)
 
 -- ---- the commands with what they are answered
 
-abbrev traced : View → List Command → List Answered
-traced v [] = []
-traced v (c ∷ cs) = (c, answer v c) ∷ traced (step v c) cs
+trace_long : (v : View) (cs : List Command) (rs : List Reply) (w : View) → Trace v cs rs w → length cs ≡ length rs
+trace_long v [] [] w f = refl
+trace_long v [] (r ∷ rs) w f = absurd f
+trace_long v (c ∷ cs) [] w f = absurd f
+trace_long v (c ∷ cs) (r ∷ rs) w f =
+    goes_on_case (Further r cs rs w) (effect v c) (λ reply u is g. ap suc (trace_long u cs rs w g.1)) f
 
-trace_follows : (v : View) (cs : List Command) → Follows (named_by v cs) v (traced v cs) (view_after v cs)
-trace_follows v [] = refl
-trace_follows v (c ∷ cs) = (
+trace_follows : (v : View) (cs : List Command) (rs : List Reply) (w : View) → Trace v cs rs w
+    → IsTraceUnderLocks (named_by v cs) v (answered cs rs) w
+trace_follows v [] [] w f = f
+trace_follows v [] (r ∷ rs) w f = absurd f
+trace_follows v (c ∷ cs) [] w f = absurd f
+trace_follows v (c ∷ cs) (r ∷ rs) w f = (
   more_held (named_in (locks_of v.map c)) (named_by v (c ∷ cs)) (locks_of v.map c)
       (λ q b h. covers_left (named_in (locks_of v.map c) q) (named_by (step v c) cs q) b h) (named_held (locks_of v.map c)),
-  refl,
-  follows_held (named_by (step v c) cs) (named_by v (c ∷ cs)) (step v c) (traced (step v c) cs) (view_after (step v c) cs)
-      (λ q b h. covers_right (named_in (locks_of v.map c) q) (named_by (step v c) cs q) b h) (trace_follows (step v c) cs),
+  goes_on_case (Further r cs rs w) (effect v c) (λ reply u is g.
+      let more : HoldsMore (named_by u cs) (named_by v (c ∷ cs)) =
+      subst (λ (k : View). HoldsMore (named_by k cs) (named_by v (c ∷ cs))) (answered_step v c reply u is)
+      (λ q b h. covers_right (named_in (locks_of v.map c) q) (named_by (step v c) cs q) b h) in
+      goes_on_at (Next (named_by v (c ∷ cs)) r (answered cs rs) w) (effect v c) reply u is (
+        g.0,
+        follows_held (named_by u cs) (named_by v (c ∷ cs)) u (answered cs rs) w more
+            (trace_follows u cs rs w g.1),
+      )) f,
 )
 
-read_off : (held : Held) (w v : View) (cs : List Command) (x : View) → Follows held w (traced v cs) x
-    → (replies_to w cs ≡ replies_to v cs) × (x ≡ view_after w cs)
-read_off held w v [] x f = (refl, f)
-read_off held w v (c ∷ cs) x f =
-    let rest = read_off held (step w c) (step v c) cs x f.2 in
-    (ap (λ r. r ∷ replies_to (step w c) cs) f.1 ∙ ap (λ rs. answer v c ∷ rs) rest.0, rest.1)
+read_off : (held : Held) (v : View) (cs : List Command) (rs : List Reply) (w : View) → length cs ≡ length rs
+    → IsTraceUnderLocks held v (answered cs rs) w → Trace v cs rs w
+read_off held v [] [] w e f = f
+read_off held v [] (r ∷ rs) w e f = absurd (omega arith)
+read_off held v (c ∷ cs) [] w e f = absurd (omega arith)
+read_off held v (c ∷ cs) (r ∷ rs) w e f =
+    goes_on_map (Next held r (answered cs rs) w) (Further r cs rs w) (effect v c)
+    (λ reply u g. (g.0, read_off held u cs rs w (omega arith) g.1)) f.1
 
 pub trace_law : (m : CityMap) (cs : List Command) → IsSound m → TraceLaw m cs
-trace_law m cs s n t agree =
-    let held : Held = named_by (unmarked m) cs in
-    let both = read_off held (unmarked n) (unmarked m) cs (carried held n (view_after (unmarked m) cs))
-    (history_kept held m n (traced (unmarked m) cs) (view_after (unmarked m) cs) s t agree (trace_follows (unmarked m) cs)) in
-    record { replies = both.0; view = sym both.1 }
+trace_law m cs s rs w f n t agree =
+    read_off (named_by (unmarked m) cs) (unmarked n) cs rs (carried (named_by (unmarked m) cs) n w)
+    (trace_long (unmarked m) cs rs w f)
+    (history_kept (named_by (unmarked m) cs) m n (answered cs rs) w s t agree (trace_follows (unmarked m) cs rs w f))

@@ -1,8 +1,8 @@
 -- What a city's objects answer after a change is written into them, and what is shown after one change more.
 use Rattle.std.proofs.Common.{◌≡◌, ℕ, List, [], ◌∷◌, ◌++◌, Option, Some, None, refl, ap, ◌∙◌}
 use Rattle.city_model.specs.declared.object.Object.{Object}
-use Rattle.city_model.specs.CityMap.{Objects, CityMap, at, changed}
-use Rattle.city_model.specs.Runs.{Change, with_change, shown}
+use Rattle.city_model.specs.CityMap.{Objects, CityMap, object_at, changed}
+use Rattle.city_model.specs.Runs.{Change, after_change, after_changes}
 use Rattle.city_model.specs.Writing.{objects_with, objects_after}
 use Rattle.city_model.proofs.Objects.{at_insert, at_remove}
 
@@ -10,15 +10,15 @@ use Rattle.city_model.proofs.Objects.{at_insert, at_remove}
 pub same_map : (m n : CityMap) → ((q : List ℕ) → m q ≡ n q) → m ≡ n
 same_map m n alike = λ i q. alike q i
 
-pub at_with : (objects : Objects) (id : List ℕ) (w : Option Object) → at (objects_with objects id w) ≡ changed (at objects) id w
+pub at_with : (objects : Objects) (id : List ℕ) (w : Option Object) → object_at (objects_with objects id w) ≡ changed (object_at objects) id w
 at_with objects id None = at_remove objects id
 at_with objects id (Some o) = at_insert objects id o
 
-pub at_after : (objects : Objects) (change : Change) → at (objects_after objects change) ≡ with_change (at objects) change
+pub at_after : (objects : Objects) (change : Change) → object_at (objects_after objects change) ≡ after_change (object_at objects) change
 at_after objects [] = refl
 at_after objects (w ∷ ws) =
-    at_after (objects_with objects w.0 w.1) ws ∙ ap (λ (m : CityMap). with_change m ws) (at_with objects w.0 w.1)
+    at_after (objects_with objects w.0 w.1) ws ∙ ap (λ (m : CityMap). after_change m ws) (at_with objects w.0 w.1)
 
-pub shown_more : (m : CityMap) (cs : List Change) (c : Change) → shown m (cs ++ c ∷ []) ≡ with_change (shown m cs) c
+pub shown_more : (m : CityMap) (cs : List Change) (c : Change) → after_changes m (cs ++ c ∷ []) ≡ after_change (after_changes m cs) c
 shown_more m [] c = refl
-shown_more m (d ∷ cs) c = shown_more (with_change m d) cs c
+shown_more m (d ∷ cs) c = shown_more (after_change m d) cs c

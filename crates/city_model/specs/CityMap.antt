@@ -21,8 +21,8 @@ CityValue = Frame × Objects
 abbrev pub CityMap : Type 0
 CityMap = List ℕ → Option Object
 
-abbrev pub at : Objects → CityMap
-at objects id = get objects id
+abbrev pub object_at : Objects → CityMap
+object_at objects id = get objects id
 
 -- ids and objects as a text lists them, in any order
 abbrev pub Entries : Type 0

@@ -1,26 +1,30 @@
 -- A command reads and writes only what it locks: at another map that agrees there it does the same.
 use Rattle.std.specs.Prelude.{◌≡◌, ℕ, List, true, false}
 use Rattle.city_model.specs.declared.command.Command.{Command}
+use Rattle.city_model.specs.declared.command.Reply.{Reply}
 use Rattle.city_model.specs.CityMap.{CityMap}
-use Rattle.city_model.specs.Meaning.{cause_of, reply_to, after, locks_of}
+use Rattle.city_model.specs.Marks.{View, unmarked}
+use Rattle.city_model.specs.Meaning.{Answers, effect, locks_of}
 use Rattle.city_model.specs.Relations.{IsSound}
-use Rattle.city_model.specs.Standing.{Lock, names, names_exclusively}
+use Rattle.city_model.specs.Standing.{Lock, locks_id, locks_id_exclusively}
 
 -- two maps have the same at each id that the locks name
 abbrev pub AgreeOn : List Lock → CityMap → CityMap → Type 0
-AgreeOn ls m n = (id : List ℕ) → names ls id ≡ true → m id ≡ n id
+AgreeOn ls m n = (id : List ℕ) → locks_id ls id ≡ true → m id ≡ n id
 
--- one command at two maps: the cause, the reply and the locks are the same; at each id that it
--- locks exclusively the two maps have the same object before, and the same one after; each other
--- id keeps its object
+-- one command, which doesn't end its script, at two maps: the reply and the locks are the same; at each id that it
+-- locks exclusively the two maps have the same object before, and the same one after; each other id keeps its object
 pub record IsFramed (m n : CityMap) (c : Command) : Type 0 where
-  pub cause : cause_of m c ≡ cause_of n c
-  pub reply : reply_to m c ≡ reply_to n c
+  pub reply : Reply
+  pub left : View
+  pub left_there : View
+  pub here : effect (unmarked m) c ≡ Answers reply left
+  pub there : effect (unmarked n) c ≡ Answers reply left_there
   pub locks : locks_of m c ≡ locks_of n c
-  pub written : (id : List ℕ) → names_exclusively (locks_of m c) id ≡ true
-      → (m id ≡ n id) × (after m c id ≡ after n c id)
-  pub kept : (id : List ℕ) → names_exclusively (locks_of m c) id ≡ false
-      → (after m c id ≡ m id) × (after n c id ≡ n id)
+  pub written : (id : List ℕ) → locks_id_exclusively (locks_of m c) id ≡ true
+      → (m id ≡ n id) × (left.map id ≡ left_there.map id)
+  pub kept : (id : List ℕ) → locks_id_exclusively (locks_of m c) id ≡ false
+      → (left.map id ≡ m id) × (left_there.map id ≡ n id)
 
 -- the command does the same at each other sound map that agrees with this one on the ids that it locks here
 abbrev pub FrameLaw : CityMap → Command → Type 0

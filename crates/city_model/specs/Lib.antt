@@ -1,15 +1,12 @@
 pub mod CityMap
-pub mod DataCode
-pub mod Faultless
 pub mod FrameLaw
 pub mod Integral
 pub mod Kept
+pub mod Least
 pub mod Marks
 pub mod Meaning
 pub mod Members
 pub mod Misrelated
-pub mod Plans
-pub mod RelationTests
 pub mod Relations
 pub mod Runs
 pub mod Scripts
@@ -19,3 +16,4 @@ pub mod Standing
 pub mod TraceLaw
 pub mod Types
 pub mod Writing
+pub mod inside

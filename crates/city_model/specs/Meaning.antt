@@ -1,5 +1,5 @@
--- What each command means, on the whole map.
-use Rattle.std.specs.Prelude.{◌==◌, ◌||◌, not, ℕ, List, [], ◌∷◌, ◌++◌, length, filter, map, Bool, true, false}
+-- What each command means, on the whole map and its marks.
+use Rattle.std.specs.Prelude.{◌≡◌, ◌⊎◌, ◌==◌, ◌||◌, not, ℕ, List, [], ◌∷◌, ◌++◌, length, filter, map, Bool, true, false}
 use Rattle.std.specs.Prelude.{Option, Some, None, option_map, if◌then◌else◌}
 use Rattle.city_model.specs.declared.object.Object.{Object}
 use Rattle.city_model.specs.declared.object.Body.{Body}
@@ -8,13 +8,15 @@ use Rattle.city_model.specs.declared.command.Command.TheVariants.{Read, Put, Del
 use Rattle.city_model.specs.declared.command.Command.TheVariants.{Mark, Back, Commit, Abort}
 use Rattle.city_model.specs.declared.command.Cause.{Cause}
 use Rattle.city_model.specs.declared.command.Cause.TheVariants.{NoObject, TypeFixed, HasChildren, WrongFamily}
-use Rattle.city_model.specs.declared.command.Cause.TheVariants.{AlreadyAttached, NotAttached}
+use Rattle.city_model.specs.declared.command.Cause.TheVariants.{AlreadyAttached, NotAttached, NoMark, Orphan}
 use Rattle.city_model.specs.declared.command.Reply.{Reply}
 use Rattle.city_model.specs.declared.command.Reply.TheVariants.{Found, Absent, Added, Replaced, Deleted}
 use Rattle.city_model.specs.declared.command.Reply.TheVariants.{Attached, Detached, Marked, WentBack}
 use Rattle.city_model.specs.declared.command.Reply.TheVariants.{Committed, Aborted, Refused}
 use Rattle.city_model.specs.CityMap.{CityMap, same_id, has_id, changed}
-use Rattle.city_model.specs.Relations.{is_second_level, same_type, same_family}
+use Rattle.city_model.specs.Marks as views
+use Rattle.city_model.specs.Marks.{View, with_map, marks_from}
+use Rattle.city_model.specs.Relations.{is_second_level, same_type, same_family, HasNoOrphan, IsLeastOrphan}
 use Rattle.city_model.specs.Shells.{body_fault}
 
 -- ---- Read
@@ -98,72 +100,70 @@ detached m child parent =
 
 -- ---- every command
 
--- why the command is refused, judged from left to right; `Refuses` says when a Commit is, and `refusal`
--- when a Back is
-abbrev pub cause_of : CityMap → Command → Option Cause
-cause_of m (Read id) = None
-cause_of m (Put id body) = put_cause id body (m id) (body_fault body)
-cause_of m (Delete id) = delete_cause id (m id)
-cause_of m (Attach child parent) = attach_cause child (m child) parent (m parent)
-cause_of m (Detach child parent) = detach_cause child (m child) parent (m parent)
-cause_of m (Mark name) = None
-cause_of m (Back name) = None
-cause_of m Commit = None
-cause_of m Abort = None
+-- what a command does: it is answered and leaves this to be seen, or it ends its script
+pub data Effect : Type 0 where
+  Answers : Reply → View → Effect
+  Commits : Effect
+  Aborts : Effect
 
--- what the command does where it isn't refused
-abbrev pub effect_of : CityMap → Command → CityMap
-effect_of m (Read id) = m
-effect_of m (Put id body) = changed m id (Some (with_body body (m id)))
-effect_of m (Delete id) = deleted m id
-effect_of m (Attach child parent) = attached m child parent
-effect_of m (Detach child parent) = detached m child parent
-effect_of m (Mark name) = m
-effect_of m (Back name) = m
-effect_of m Commit = m
-effect_of m Abort = m
+-- a refusal leaves what is seen
+abbrev pub unless : Option Cause → View → Effect → Effect
+unless (Some cause) v done = Answers (Refused cause) v
+unless None v done = done
 
--- the reply where it isn't refused
-abbrev pub done_reply : CityMap → Command → Reply
-done_reply m (Read id) = read_reply (m id)
-done_reply m (Put id body) = put_done (m id)
-done_reply m (Delete id) = Deleted
-done_reply m (Attach child parent) = Attached
-done_reply m (Detach child parent) = Detached
-done_reply m (Mark name) = Marked
-done_reply m (Back name) = WentBack
-done_reply m Commit = Committed
-done_reply m Abort = Aborted
+-- back to the first of the marks, which stays; without one it is refused
+abbrev pub back : List ℕ → View → List views.Marked → Effect
+back name v [] = Answers (Refused (NoMark name)) v
+back name v (k ∷ ks) = Answers WentBack (record { map = k.1; marks = k ∷ ks })
 
-abbrev pub map_unless : Option Cause → CityMap → CityMap → CityMap
-map_unless (Some cause) m n = m
-map_unless None m n = n
+abbrev pub effect : View → Command → Effect
+effect v (Read id) = Answers (read_reply (v.map id)) v
+effect v (Put id body) = unless (put_cause id body (v.map id) (body_fault body)) v
+    (Answers (put_done (v.map id)) (with_map v (changed v.map id (Some (with_body body (v.map id))))))
+effect v (Delete id) = unless (delete_cause id (v.map id)) v (Answers Deleted (with_map v (deleted v.map id)))
+effect v (Attach child parent) = unless (attach_cause child (v.map child) parent (v.map parent)) v
+    (Answers Attached (with_map v (attached v.map child parent)))
+effect v (Detach child parent) = unless (detach_cause child (v.map child) parent (v.map parent)) v
+    (Answers Detached (with_map v (detached v.map child parent)))
+effect v (Mark name) = Answers Marked (record { map = v.map; marks = (name, v.map) ∷ v.marks })
+effect v (Back name) = back name v (marks_from name v.marks)
+effect v Commit = Commits
+effect v Abort = Aborts
 
-abbrev pub refused_or : Option Cause → Reply → Reply
-refused_or (Some cause) reply = Refused cause
-refused_or None reply = reply
+-- the reply to a Commit: an orphan refuses it, the least one
+abbrev pub IsCommitReply : CityMap → Reply → Type 0
+IsCommitReply m reply =
+    ((reply ≡ Committed) × HasNoOrphan m)
+    ⊎ ((id : List ℕ) × (reply ≡ Refused (Orphan id)) × IsLeastOrphan m id)
+
+-- the reply to a command of this effect at the view
+abbrev pub IsReply : View → Effect → Reply → Type 0
+IsReply v (Answers r u) reply = reply ≡ r
+IsReply v Commits reply = IsCommitReply v.map reply
+IsReply v Aborts reply = reply ≡ Aborted
+
+-- what is seen after it: to end a script leaves it
+abbrev pub left : View → Effect → View
+left v (Answers reply u) = u
+left v Commits = v
+left v Aborts = v
+
+abbrev pub step : View → Command → View
+step v c = left v (effect v c)
+
+-- at the view v the command gets this reply, and w is seen after it
+abbrev pub Does : View → Command → Reply → View → Type 0
+Does v c reply w = IsReply v (effect v c) reply × (w ≡ step v c)
+
+-- the command doesn't end its script, and this holds of its reply and of what is seen after it
+abbrev pub GoesOn : Effect → (Reply → View → Type 0) → Type 0
+GoesOn (Answers reply u) P = P reply u
+GoesOn Commits P = ⊥
+GoesOn Aborts P = ⊥
 
 abbrev pub is_refusal : Reply → Bool
 is_refusal (Refused cause) = true
-is_refusal (Found object) = false
-is_refusal Absent = false
-is_refusal Added = false
-is_refusal Replaced = false
-is_refusal Deleted = false
-is_refusal Attached = false
-is_refusal Detached = false
-is_refusal Marked = false
-is_refusal WentBack = false
-is_refusal Committed = false
-is_refusal Aborted = false
-
--- the map after the command; a refusal leaves it
-abbrev pub after : CityMap → Command → CityMap
-after m c = map_unless (cause_of m c) m (effect_of m c)
-
--- the reply to a command; to a Commit, the one that it gets where there is no orphan
-abbrev pub reply_to : CityMap → Command → Reply
-reply_to m c = refused_or (cause_of m c) (done_reply m c)
+is_refusal reply = false
 
 -- ---- the locks of a command: ids, and whether the lock is exclusive, in the order of asking
 
@@ -180,7 +180,4 @@ locks_of m (Put id body) = (id, true) ∷ []
 locks_of m (Delete id) = (id, true) ∷ delete_locks (m id)
 locks_of m (Attach child parent) = (child, true) ∷ (parent, true) ∷ []
 locks_of m (Detach child parent) = (child, true) ∷ (parent, true) ∷ []
-locks_of m (Mark name) = []
-locks_of m (Back name) = []
-locks_of m Commit = []
-locks_of m Abort = []
+locks_of m command = []

@@ -2,13 +2,11 @@
 use Rattle.std.specs.Prelude.{◌≡◌, ◌==◌, ◌&&◌, ℕ, List, [], ◌∷◌, length, Bool, true, false, Option, Some}
 use Rattle.std.specs.Prelude.{None}
 use Rattle.std.specs.Str.{bytes_eq}
-use Rattle.std.specs.declared.cmp.Ordering.TheVariants.{Less}
-use Rattle.std.specs.Ordering.{nat_cmp}
-use Rattle.std.specs.Cmp.Lexicographic.{slice_cmp}
 use Rattle.city_model.specs.declared.object.Object.{Object}
 use Rattle.city_model.specs.declared.object_type.ObjectType.{ObjectType}
 use Rattle.city_model.specs.Types.{family_of, level_of, name_of}
 use Rattle.city_model.specs.CityMap.{CityMap, same_id, has_id, parents_of, children_of}
+use Rattle.city_model.specs.Least.{IsLeast}
 use Rattle.city_model.specs.Shells.{body_fault}
 
 abbrev pub is_second_level : ObjectType → Bool
@@ -61,8 +59,5 @@ IsLawful m = IsSound m × HasNoOrphan m
 abbrev pub IsOrphanAt : CityMap → List ℕ → Type 0
 IsOrphanAt m id = (o : Object) × (m id ≡ Some o) × (is_orphan o ≡ true)
 
--- the least id of an orphan, in byte order
 abbrev pub IsLeastOrphan : CityMap → List ℕ → Type 0
-IsLeastOrphan m id =
-    IsOrphanAt m id
-    × ((q : List ℕ) (o : Object) → slice_cmp nat_cmp q id ≡ Less → m q ≡ Some o → is_orphan o ≡ false)
+IsLeastOrphan m id = IsLeast (IsOrphanAt m) id

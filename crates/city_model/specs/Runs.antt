@@ -1,74 +1,72 @@
 -- Scripts run one after another, each as a whole.
 use Rattle.std.specs.Prelude.{◌≡◌, ◌≤◌, ◌==◌, ◌+◌, ℕ, List, [], ◌∷◌, Bool, false, Option, Some, None}
-use Rattle.std.specs.Prelude.{slice_get}
+use Rattle.std.specs.Prelude.{slice_get, if◌then◌else◌}
 use Rattle.std.specs.List.{list_any}
 use Rattle.city_model.specs.declared.object.Object.{Object}
 use Rattle.city_model.specs.declared.command.Command.{Command}
-use Rattle.city_model.specs.declared.command.Command.TheVariants.{Commit, Abort}
-use Rattle.city_model.specs.declared.command.Cause.{Cause}
-use Rattle.city_model.specs.declared.command.Cause.TheVariants.{Orphan}
 use Rattle.city_model.specs.declared.command.Reply.{Reply}
 use Rattle.city_model.specs.declared.end.End.{End}
 use Rattle.city_model.specs.declared.end.Outcome.{Outcome}
 use Rattle.city_model.specs.CityMap.{CityMap, changed}
-use Rattle.city_model.specs.Relations.{HasNoOrphan, IsLeastOrphan}
-use Rattle.city_model.specs.Marks.{View, unmarked, refusal, step, answer}
-use Rattle.city_model.specs.Scripts.{is_end}
+use Rattle.city_model.specs.Marks.{View, unmarked}
+use Rattle.city_model.specs.Meaning.{Effect, Answers, Commits, Aborts, effect, is_refusal, Does, GoesOn}
 
 -- a script: its name and its commands
 abbrev pub Scripted : Type 0
 Scripted = List ℕ × List Command
 
--- what is seen after commands, each at what the one before left
-abbrev pub view_after : View → List Command → View
-view_after v [] = v
-view_after v (c ∷ cs) = view_after (step v c) cs
-
--- the map after commands that begin without marks
-abbrev pub map_after : CityMap → List Command → CityMap
-map_after m cs = (view_after (unmarked m) cs).map
-
--- the command is refused by this cause
-abbrev pub Refuses : View → Command → Cause → Type 0
-Refuses v Commit cause = (id : List ℕ) × (cause ≡ Orphan id) × IsLeastOrphan v.map id
-Refuses v c cause = refusal v c ≡ Some cause
+-- the commands, none of which ends a script, get these replies one after another, and lead to the second view
+abbrev pub Trace : View → List Command → List Reply → View → Type 0
+Trace v [] [] w = w ≡ v
+Trace v [] (r ∷ rs) w = ⊥
+Trace v (c ∷ cs) [] w = ⊥
+Trace v (c ∷ cs) (r ∷ rs) w = GoesOn (effect v c) (λ reply u. (reply ≡ r) × Trace u cs rs w)
 
 -- the command, which is number i, ends its script with this outcome at the view v
 abbrev pub EndsAt : View → Command → ℕ → Outcome → Type 0
-EndsAt v c i Outcome.Committed = (c ≡ Commit) × HasNoOrphan v.map
-EndsAt v c i Outcome.Aborted = c ≡ Abort
-EndsAt v c i (Outcome.Refused j cause) = (j ≡ i) × Refuses v c cause
+EndsAt v c i Outcome.Committed = Does v c Reply.Committed v
+EndsAt v c i Outcome.Aborted = Does v c Reply.Aborted v
+EndsAt v c i (Outcome.Refused j cause) = (j ≡ i) × Does v c (Reply.Refused cause) v
 EndsAt v c i (Outcome.NoMemory j) = j ≡ i
 
--- the command, which doesn't end its script, gets this reply
-abbrev pub Continues : View → Command → Reply → Type 0
-Continues v c reply = (is_end c ≡ false) × (refusal v c ≡ None) × (answer v c ≡ reply)
-
--- the commands from number i on, run at m: these replies, none of them a refusal, and then this outcome
+-- the commands from number i on, run at v: these replies, none of them a refusal, and then this outcome
 abbrev pub EndsFrom : View → ℕ → List Command → List Reply → Outcome → Type 0
 EndsFrom v i [] replies outcome = ⊥
 EndsFrom v i (c ∷ cs) [] outcome = EndsAt v c i outcome
-EndsFrom v i (c ∷ cs) (r ∷ rs) outcome = Continues v c r × EndsFrom (step v c) (i + 1) cs rs outcome
+EndsFrom v i (c ∷ cs) (r ∷ rs) outcome = GoesOn (effect v c)
+    (λ reply u. (reply ≡ r) × (is_refusal reply ≡ false) × EndsFrom u (i + 1) cs rs outcome)
 
 -- what a script gives at the map m: the replies before its ending command, and how it ends; it may run out
 -- of memory at any command
-abbrev pub HasResult : CityMap → List Command → List Reply → Outcome → Type 0
-HasResult m commands replies outcome = EndsFrom (unmarked m) 0 commands replies outcome
+abbrev pub IsScriptResult : CityMap → List Command → List Reply → Outcome → Type 0
+IsScriptResult m commands replies outcome = EndsFrom (unmarked m) 0 commands replies outcome
+
+-- what is seen where the first of the commands has this effect, and the others lead from a view to another one
+abbrev pub goes_to : View → Effect → (View → View) → View
+goes_to v (Answers reply u) others = if is_refusal reply then v else others u
+goes_to v Commits others = v
+goes_to v Aborts others = v
+
+-- what is seen at the first command that is refused, or is Commit or Abort
+abbrev pub view_at_end : View → List Command → View
+view_at_end v [] = v
+view_at_end v (c ∷ cs) = goes_to v (effect v c) (λ u. view_at_end u cs)
 
 -- the map that a script leaves: what its commands made, where it commits, and else what was there
 abbrev pub map_left : CityMap → List Command → Outcome → CityMap
-map_left m commands Outcome.Committed = map_after m commands
+map_left m commands Outcome.Committed = (view_at_end (unmarked m) commands).map
 map_left m commands Outcome.Aborted = m
 map_left m commands (Outcome.Refused i cause) = m
 map_left m commands (Outcome.NoMemory i) = m
 
-abbrev pub commands_of : Option Scripted → List Command
-commands_of None = []
-commands_of (Some s) = s.1
+-- the same of a script that is looked for
+abbrev pub left_by_found : CityMap → Option Scripted → Outcome → CityMap
+left_by_found m None outcome = m
+left_by_found m (Some s) outcome = map_left m s.1 outcome
 
--- the map that the script of an end leaves
+-- the map that the script of an end leaves; `IsEndOf` says that there is one
 abbrev pub left_by : List Scripted → CityMap → End → CityMap
-left_by scripts m e = map_left m (commands_of (slice_get scripts e.script)) e.outcome
+left_by scripts m e = left_by_found m (slice_get scripts e.script) e.outcome
 
 -- the map after the scripts of these ends, one at a time, in this order
 abbrev pub model_after : List Scripted → CityMap → List End → CityMap
@@ -81,7 +79,7 @@ pub record IsEndOf (scripts : List Scripted) (m : CityMap) (place : ℕ) (e : En
   pub is_there : slice_get scripts e.script ≡ Some script
   pub named : e.name ≡ script.0
   pub since : e.since ≤ place
-  pub result : HasResult m script.1 e.replies e.outcome
+  pub result : IsScriptResult m script.1 e.replies e.outcome
 
 -- no end of the list is of this script
 abbrev pub NoEndOf : ℕ → List End → Type 0
@@ -93,13 +91,13 @@ abbrev pub has_end : ℕ → List End → Bool
 has_end script ends = list_any (λ e. e.script == script) ends
 
 -- the ends from this place on are those of scripts run one at a time from the map m, no script twice
-abbrev pub FitsFrom : List Scripted → CityMap → ℕ → List End → Type 0
-FitsFrom scripts m place [] = Unit {0}
-FitsFrom scripts m place (e ∷ es) =
-    IsEndOf scripts m place e × NoEndOf e.script es × FitsFrom scripts (left_by scripts m e) (place + 1) es
+abbrev pub IsSerialHistoryFrom : List Scripted → CityMap → ℕ → List End → Type 0
+IsSerialHistoryFrom scripts m place [] = Unit {0}
+IsSerialHistoryFrom scripts m place (e ∷ es) =
+    IsEndOf scripts m place e × NoEndOf e.script es × IsSerialHistoryFrom scripts (left_by scripts m e) (place + 1) es
 
-abbrev pub Fits : List Scripted → CityMap → List End → Type 0
-Fits scripts m ends = FitsFrom scripts m 0 ends
+abbrev pub IsSerialHistory : List Scripted → CityMap → List End → Type 0
+IsSerialHistory scripts m ends = IsSerialHistoryFrom scripts m 0 ends
 
 -- ---- changes
 
@@ -107,11 +105,11 @@ Fits scripts m ends = FitsFrom scripts m 0 ends
 abbrev pub Change : Type 0
 Change = List (List ℕ × Option Object)
 
-abbrev pub with_change : CityMap → Change → CityMap
-with_change m [] = m
-with_change m (w ∷ ws) = with_change (changed m w.0 w.1) ws
+abbrev pub after_change : CityMap → Change → CityMap
+after_change m [] = m
+after_change m (w ∷ ws) = after_change (changed m w.0 w.1) ws
 
 -- the map after changes, one after another
-abbrev pub shown : CityMap → List Change → CityMap
-shown m [] = m
-shown m (c ∷ cs) = shown (with_change m c) cs
+abbrev pub after_changes : CityMap → List Change → CityMap
+after_changes m [] = m
+after_changes m (c ∷ cs) = after_changes (after_change m c) cs

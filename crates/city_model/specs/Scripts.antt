@@ -1,31 +1,18 @@
 -- Which lists of commands are scripts.
 use Rattle.std.specs.Prelude.{◌≡◌, ℕ, List, [], ◌∷◌, Bool, true, false, Some, slice_get, if◌then◌else◌}
 use Rattle.city_model.specs.declared.command.Command.{Command}
-use Rattle.city_model.specs.declared.command.Command.TheVariants.{Read, Put, Delete, Attach, Detach}
 use Rattle.city_model.specs.declared.command.Command.TheVariants.{Mark, Back, Commit, Abort}
 
 abbrev pub is_end : Command → Bool
-is_end (Read id) = false
-is_end (Put id body) = false
-is_end (Delete id) = false
-is_end (Attach child parent) = false
-is_end (Detach child parent) = false
-is_end (Mark name) = false
-is_end (Back name) = false
 is_end Commit = true
 is_end Abort = true
+is_end command = false
 
 -- the command is about marks
 abbrev pub is_mark : Command → Bool
-is_mark (Read id) = false
-is_mark (Put id body) = false
-is_mark (Delete id) = false
-is_mark (Attach child parent) = false
-is_mark (Detach child parent) = false
 is_mark (Mark name) = true
 is_mark (Back name) = true
-is_mark Commit = false
-is_mark Abort = false
+is_mark command = false
 
 abbrev pub is_empty_list : List Command → Bool
 is_empty_list [] = true

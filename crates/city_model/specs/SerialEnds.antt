@@ -5,16 +5,12 @@ use Rattle.city_model.specs.declared.end.Outcome.{Outcome}
 
 -- the script ended out of memory
 abbrev pub is_no_memory : Outcome → Bool
-is_no_memory Outcome.Committed = false
-is_no_memory Outcome.Aborted = false
-is_no_memory (Outcome.Refused i cause) = false
 is_no_memory (Outcome.NoMemory i) = true
+is_no_memory outcome = false
 
 abbrev pub is_commit : Outcome → Bool
 is_commit Outcome.Committed = true
-is_commit Outcome.Aborted = false
-is_commit (Outcome.Refused i cause) = false
-is_commit (Outcome.NoMemory i) = false
+is_commit outcome = false
 
 -- how many of the ends are commits
 abbrev pub commits_in : List End → ℕ

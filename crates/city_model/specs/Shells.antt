@@ -1,11 +1,10 @@
 -- Rings, surfaces and closed shells, over points (CityJSON 2.0, section 3.2).
 use Rattle.std.specs.Prelude.{ℕ, ◌+◌, ◌==◌, ◌&&◌, ◌||◌, not, nat_lt, List, [], ◌∷◌, ◌++◌, Bool, length, take}
 use Rattle.std.specs.Prelude.{drop, Option, Some, None, if◌then◌else◌}
-use Rattle.std.specs.Ordering.{int_eq, int_cmp, ordering_then, is_le}
-use Rattle.std.specs.List.{list_any, list_all, zip, filter}
+use Rattle.std.specs.Ordering.{int_eq}
+use Rattle.std.specs.List.{list_any, list_all, zip}
 use Rattle.city_model.specs.declared.object.Point.{Point}
 use Rattle.city_model.specs.declared.object.Shape.{Shape}
-use Rattle.city_model.specs.declared.shape.Bounds.{Bounds}
 use Rattle.city_model.specs.declared.object.Body.{Body}
 use Rattle.city_model.specs.declared.command.Cause.{Cause}
 use Rattle.city_model.specs.declared.command.Cause.TheVariants.{ShortRing, SameTwice, OpenShell}
@@ -59,13 +58,6 @@ occurs_once same xs x = times same x xs == 1
 abbrev pub runs_both_ways : List Edge → Edge → Bool
 runs_both_ways es e = occurs_once same_edge es e && occurs_once same_edge es (flipped e)
 
--- its first point isn't above its second one: by x, then y, then z
-abbrev pub rises : Edge → Bool
-rises e = is_le (ordering_then (int_cmp e.0.x e.1.x) (ordering_then (int_cmp e.0.y e.1.y) (int_cmp e.0.z e.1.z)))
-
-abbrev pub rising : List Edge → List Edge
-rising es = filter rises es
-
 -- each edge is run once each way
 abbrev pub is_closed : Shell → Bool
 is_closed shell = list_all (runs_both_ways (edges_of shell)) (edges_of shell)
@@ -84,12 +76,6 @@ boundaries_of (Shape.CompositeSurface surfaces) = Surfaces surfaces
 boundaries_of (Shape.Solid shells) = Shells shells
 boundaries_of (Shape.MultiSolid solids) = Solids solids
 boundaries_of (Shape.CompositeSolid solids) = Solids solids
-
--- boundaries as the code borrows them
-abbrev pub bounds_view : Bounds → Boundaries
-bounds_view (Bounds.Surfaces surfaces) = Surfaces surfaces.now
-bounds_view (Bounds.Shells shells) = Shells shells.now
-bounds_view (Bounds.Solids solids) = Solids solids.now
 
 -- the lists one after another
 abbrev pub joined : {T : Type 0} → List (List T) → List T

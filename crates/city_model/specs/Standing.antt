@@ -5,8 +5,8 @@ use Rattle.std.specs.Prelude.{if◌then◌else◌}
 use Rattle.city_model.specs.declared.command.Command.{Command}
 use Rattle.city_model.specs.declared.command.Reply.{Reply}
 use Rattle.city_model.specs.CityMap.{has_id}
-use Rattle.city_model.specs.Meaning.{locks_of}
-use Rattle.city_model.specs.Marks.{View, step, answer}
+use Rattle.city_model.specs.Marks.{View}
+use Rattle.city_model.specs.Meaning.{effect, GoesOn, locks_of}
 
 -- how a transaction holds each id: not, shared (false) or exclusively (true)
 abbrev pub Held : Type 0
@@ -30,17 +30,18 @@ AllHeld held (l ∷ ls) = (covers (held l.0) l.1 ≡ true) × AllHeld held ls
 abbrev pub Answered : Type 0
 Answered = Command × Reply
 
--- the first of the commands, each with its reply
+-- the first of the commands, as many as there are replies, each with its reply
 abbrev pub answered : List Command → List Reply → List Answered
 answered cs [] = []
 answered [] (r ∷ rs) = []
 answered (c ∷ cs) (r ∷ rs) = (c, r) ∷ answered cs rs
 
--- from the first view the commands get these replies, each with its locks held, and lead to the second
-abbrev pub Follows : Held → View → List Answered → View → Type 0
-Follows held v [] w = w ≡ v
-Follows held v (d ∷ ds) w =
-    AllHeld held (locks_of v.map d.0) × (answer v d.0 ≡ d.1) × Follows held (step v d.0) ds w
+-- from the first view the commands, none of which ends a script, get these replies, each with its locks held,
+-- and lead to the second
+abbrev pub IsTraceUnderLocks : Held → View → List Answered → View → Type 0
+IsTraceUnderLocks held v [] w = w ≡ v
+IsTraceUnderLocks held v (d ∷ ds) w =
+    AllHeld held (locks_of v.map d.0) × GoesOn (effect v d.0) (λ reply u. (reply ≡ d.1) × IsTraceUnderLocks held u ds w)
 
 -- ---- what locks name
 
@@ -53,9 +54,9 @@ exclusive_ids [] = []
 exclusive_ids (l ∷ ls) = if l.1 then l.0 ∷ exclusive_ids ls else exclusive_ids ls
 
 -- whether the locks name the id
-abbrev pub names : List Lock → List ℕ → Bool
-names ls id = has_id (locked_ids ls) id
+abbrev pub locks_id : List Lock → List ℕ → Bool
+locks_id ls id = has_id (locked_ids ls) id
 
 -- whether they name it exclusively
-abbrev pub names_exclusively : List Lock → List ℕ → Bool
-names_exclusively ls id = has_id (exclusive_ids ls) id
+abbrev pub locks_id_exclusively : List Lock → List ℕ → Bool
+locks_id_exclusively ls id = has_id (exclusive_ids ls) id

@@ -4,11 +4,11 @@ use Rattle.std.specs.Prelude.{◌≡◌, ℕ, List, [], ◌∷◌, Bool, true, f
 use Rattle.city_model.specs.declared.command.Command.{Command}
 use Rattle.city_model.specs.declared.command.Reply.{Reply}
 use Rattle.city_model.specs.CityMap.{CityMap}
-use Rattle.city_model.specs.Marks.{Marked, View, unmarked, step, answer}
-use Rattle.city_model.specs.Meaning.{locks_of}
+use Rattle.city_model.specs.Marks.{Marked, View, unmarked}
+use Rattle.city_model.specs.Meaning.{step, locks_of}
 use Rattle.city_model.specs.Relations.{IsSound}
-use Rattle.city_model.specs.Runs.{view_after}
-use Rattle.city_model.specs.Standing.{Held, covers, names, names_exclusively}
+use Rattle.city_model.specs.Runs.{Trace}
+use Rattle.city_model.specs.Standing.{Held, covers, locks_id, locks_id_exclusively}
 
 -- how locks name an id: not, shared (false) or exclusively (true)
 abbrev pub as_named : Bool → Bool → Option Bool
@@ -26,12 +26,7 @@ stronger_of (Some false) (Some b) = Some b
 abbrev pub named_by : View → List Command → Held
 named_by v [] q = None
 named_by v (c ∷ cs) q =
-    stronger_of (as_named (names_exclusively (locks_of v.map c) q) (names (locks_of v.map c) q)) (named_by (step v c) cs q)
-
--- the replies to the commands
-abbrev pub replies_to : View → List Command → List Reply
-replies_to v [] = []
-replies_to v (c ∷ cs) = answer v c ∷ replies_to (step v c) cs
+    stronger_of (as_named (locks_id_exclusively (locks_of v.map c) q) (locks_id (locks_of v.map c) q)) (named_by (step v c) cs q)
 
 -- this map at each id that is held exclusively, and the other one elsewhere
 abbrev pub carried_map : Held → CityMap → CityMap → CityMap
@@ -45,14 +40,11 @@ abbrev pub carried : Held → CityMap → View → View
 carried held other v =
     record { map = carried_map held other v.map; marks = carried_marks held other v.marks }
 
--- the same commands at two maps: the replies are the same; at an id that they lock exclusively the map and each mark
--- are the same for both, and at any other id each is as at its own start
-pub record IsTraceFramed (m n : CityMap) (cs : List Command) : Type 0 where
-  pub replies : replies_to (unmarked n) cs ≡ replies_to (unmarked m) cs
-  pub view : view_after (unmarked n) cs
-      ≡ carried (named_by (unmarked m) cs) n (view_after (unmarked m) cs)
-
--- the commands do the same at each other sound map that agrees with this one on the ids that their locks name
+-- what the commands are answered here, and what they lead to, they are and do at each other sound map that agrees
+-- with this one on the ids that their locks name: what is seen is then the same at each id that they lock
+-- exclusively, in the map and in each mark, and at any other id each is as at its own start
 abbrev pub TraceLaw : CityMap → List Command → Type 0
-TraceLaw m cs = (n : CityMap) → IsSound n
-    → ((id : List ℕ) → is_some (named_by (unmarked m) cs id) ≡ true → m id ≡ n id) → IsTraceFramed m n cs
+TraceLaw m cs = (replies : List Reply) (w : View) → Trace (unmarked m) cs replies w
+    → (n : CityMap) → IsSound n
+    → ((id : List ℕ) → is_some (named_by (unmarked m) cs id) ≡ true → m id ≡ n id)
+    → Trace (unmarked n) cs replies (carried (named_by (unmarked m) cs) n w)

@@ -2,66 +2,53 @@
 use Rattle.std.specs.Prelude.{ℕ, List, [], ◌∷◌, Option, Some, None, codes, if◌then◌else◌}
 use Rattle.std.specs.Str.{bytes_eq}
 use Rattle.city_model.specs.declared.object_type.ObjectType.{ObjectType}
-use Rattle.city_model.specs.declared.object_type.ObjectType.TheVariants.{Building, Bridge, Tunnel}
-use Rattle.city_model.specs.declared.object_type.ObjectType.TheVariants.{CityFurniture, LandUse}
-use Rattle.city_model.specs.declared.object_type.ObjectType.TheVariants.{OtherConstruction, PlantCover}
-use Rattle.city_model.specs.declared.object_type.ObjectType.TheVariants.{SolitaryVegetationObject, TINRelief}
-use Rattle.city_model.specs.declared.object_type.ObjectType.TheVariants.{Road, Railway, Waterway}
-use Rattle.city_model.specs.declared.object_type.ObjectType.TheVariants.{TransportSquare, WaterBody}
-use Rattle.city_model.specs.declared.object_type.ObjectType.TheVariants.{GenericCityObject, BuildingPart}
-use Rattle.city_model.specs.declared.object_type.ObjectType.TheVariants.{BuildingInstallation}
-use Rattle.city_model.specs.declared.object_type.ObjectType.TheVariants.{BuildingConstructiveElement}
-use Rattle.city_model.specs.declared.object_type.ObjectType.TheVariants.{BuildingFurniture, BuildingStorey}
-use Rattle.city_model.specs.declared.object_type.ObjectType.TheVariants.{BuildingRoom, BuildingUnit}
-use Rattle.city_model.specs.declared.object_type.ObjectType.TheVariants.{BridgePart, BridgeInstallation}
-use Rattle.city_model.specs.declared.object_type.ObjectType.TheVariants.{BridgeConstructiveElement}
-use Rattle.city_model.specs.declared.object_type.ObjectType.TheVariants.{BridgeRoom, BridgeFurniture}
-use Rattle.city_model.specs.declared.object_type.ObjectType.TheVariants.{TunnelPart, TunnelInstallation}
-use Rattle.city_model.specs.declared.object_type.ObjectType.TheVariants.{TunnelConstructiveElement}
-use Rattle.city_model.specs.declared.object_type.ObjectType.TheVariants.{TunnelHollowSpace, TunnelFurniture}
 
 abbrev pub name_of : ObjectType → List ℕ
-name_of Building = codes "Building"
-name_of Bridge = codes "Bridge"
-name_of Tunnel = codes "Tunnel"
-name_of CityFurniture = codes "CityFurniture"
-name_of LandUse = codes "LandUse"
-name_of OtherConstruction = codes "OtherConstruction"
-name_of PlantCover = codes "PlantCover"
-name_of SolitaryVegetationObject = codes "SolitaryVegetationObject"
-name_of TINRelief = codes "TINRelief"
-name_of Road = codes "Road"
-name_of Railway = codes "Railway"
-name_of Waterway = codes "Waterway"
-name_of TransportSquare = codes "TransportSquare"
-name_of WaterBody = codes "WaterBody"
-name_of GenericCityObject = codes "GenericCityObject"
-name_of BuildingPart = codes "BuildingPart"
-name_of BuildingInstallation = codes "BuildingInstallation"
-name_of BuildingConstructiveElement = codes "BuildingConstructiveElement"
-name_of BuildingFurniture = codes "BuildingFurniture"
-name_of BuildingStorey = codes "BuildingStorey"
-name_of BuildingRoom = codes "BuildingRoom"
-name_of BuildingUnit = codes "BuildingUnit"
-name_of BridgePart = codes "BridgePart"
-name_of BridgeInstallation = codes "BridgeInstallation"
-name_of BridgeConstructiveElement = codes "BridgeConstructiveElement"
-name_of BridgeRoom = codes "BridgeRoom"
-name_of BridgeFurniture = codes "BridgeFurniture"
-name_of TunnelPart = codes "TunnelPart"
-name_of TunnelInstallation = codes "TunnelInstallation"
-name_of TunnelConstructiveElement = codes "TunnelConstructiveElement"
-name_of TunnelHollowSpace = codes "TunnelHollowSpace"
-name_of TunnelFurniture = codes "TunnelFurniture"
+name_of ObjectType.Building = codes "Building"
+name_of ObjectType.Bridge = codes "Bridge"
+name_of ObjectType.Tunnel = codes "Tunnel"
+name_of ObjectType.CityFurniture = codes "CityFurniture"
+name_of ObjectType.LandUse = codes "LandUse"
+name_of ObjectType.OtherConstruction = codes "OtherConstruction"
+name_of ObjectType.PlantCover = codes "PlantCover"
+name_of ObjectType.SolitaryVegetationObject = codes "SolitaryVegetationObject"
+name_of ObjectType.TINRelief = codes "TINRelief"
+name_of ObjectType.Road = codes "Road"
+name_of ObjectType.Railway = codes "Railway"
+name_of ObjectType.Waterway = codes "Waterway"
+name_of ObjectType.TransportSquare = codes "TransportSquare"
+name_of ObjectType.WaterBody = codes "WaterBody"
+name_of ObjectType.GenericCityObject = codes "GenericCityObject"
+name_of ObjectType.BuildingPart = codes "BuildingPart"
+name_of ObjectType.BuildingInstallation = codes "BuildingInstallation"
+name_of ObjectType.BuildingConstructiveElement = codes "BuildingConstructiveElement"
+name_of ObjectType.BuildingFurniture = codes "BuildingFurniture"
+name_of ObjectType.BuildingStorey = codes "BuildingStorey"
+name_of ObjectType.BuildingRoom = codes "BuildingRoom"
+name_of ObjectType.BuildingUnit = codes "BuildingUnit"
+name_of ObjectType.BridgePart = codes "BridgePart"
+name_of ObjectType.BridgeInstallation = codes "BridgeInstallation"
+name_of ObjectType.BridgeConstructiveElement = codes "BridgeConstructiveElement"
+name_of ObjectType.BridgeRoom = codes "BridgeRoom"
+name_of ObjectType.BridgeFurniture = codes "BridgeFurniture"
+name_of ObjectType.TunnelPart = codes "TunnelPart"
+name_of ObjectType.TunnelInstallation = codes "TunnelInstallation"
+name_of ObjectType.TunnelConstructiveElement = codes "TunnelConstructiveElement"
+name_of ObjectType.TunnelHollowSpace = codes "TunnelHollowSpace"
+name_of ObjectType.TunnelFurniture = codes "TunnelFurniture"
 
 abbrev pub all_types : List ObjectType
 all_types =
-    Building ∷ Bridge ∷ Tunnel ∷ CityFurniture ∷ LandUse ∷ OtherConstruction ∷ PlantCover
-    ∷ SolitaryVegetationObject ∷ TINRelief ∷ Road ∷ Railway ∷ Waterway ∷ TransportSquare ∷ WaterBody
-    ∷ GenericCityObject ∷ BuildingPart ∷ BuildingInstallation ∷ BuildingConstructiveElement
-    ∷ BuildingFurniture ∷ BuildingStorey ∷ BuildingRoom ∷ BuildingUnit ∷ BridgePart ∷ BridgeInstallation
-    ∷ BridgeConstructiveElement ∷ BridgeRoom ∷ BridgeFurniture ∷ TunnelPart ∷ TunnelInstallation
-    ∷ TunnelConstructiveElement ∷ TunnelHollowSpace ∷ TunnelFurniture ∷ []
+    ObjectType.Building ∷ ObjectType.Bridge ∷ ObjectType.Tunnel ∷ ObjectType.CityFurniture ∷ ObjectType.LandUse
+    ∷ ObjectType.OtherConstruction ∷ ObjectType.PlantCover ∷ ObjectType.SolitaryVegetationObject
+    ∷ ObjectType.TINRelief ∷ ObjectType.Road ∷ ObjectType.Railway ∷ ObjectType.Waterway
+    ∷ ObjectType.TransportSquare ∷ ObjectType.WaterBody ∷ ObjectType.GenericCityObject
+    ∷ ObjectType.BuildingPart ∷ ObjectType.BuildingInstallation ∷ ObjectType.BuildingConstructiveElement
+    ∷ ObjectType.BuildingFurniture ∷ ObjectType.BuildingStorey ∷ ObjectType.BuildingRoom
+    ∷ ObjectType.BuildingUnit ∷ ObjectType.BridgePart ∷ ObjectType.BridgeInstallation
+    ∷ ObjectType.BridgeConstructiveElement ∷ ObjectType.BridgeRoom ∷ ObjectType.BridgeFurniture
+    ∷ ObjectType.TunnelPart ∷ ObjectType.TunnelInstallation ∷ ObjectType.TunnelConstructiveElement
+    ∷ ObjectType.TunnelHollowSpace ∷ ObjectType.TunnelFurniture ∷ []
 
 -- the first of the types whose name is s
 abbrev pub first_named : List ℕ → List ObjectType → Option ObjectType
@@ -71,71 +58,27 @@ first_named s (t ∷ ts) = if bytes_eq s (name_of t) then Some t else first_name
 unfoldable pub type_named : List ℕ → Option ObjectType
 type_named s = first_named s all_types
 
--- the first-level type of the family
+-- the first-level type of the family; of a first-level type itself
 abbrev pub family_of : ObjectType → ObjectType
-family_of BuildingPart = Building
-family_of BuildingInstallation = Building
-family_of BuildingConstructiveElement = Building
-family_of BuildingFurniture = Building
-family_of BuildingStorey = Building
-family_of BuildingRoom = Building
-family_of BuildingUnit = Building
-family_of BridgePart = Bridge
-family_of BridgeInstallation = Bridge
-family_of BridgeConstructiveElement = Bridge
-family_of BridgeRoom = Bridge
-family_of BridgeFurniture = Bridge
-family_of TunnelPart = Tunnel
-family_of TunnelInstallation = Tunnel
-family_of TunnelConstructiveElement = Tunnel
-family_of TunnelHollowSpace = Tunnel
-family_of TunnelFurniture = Tunnel
-family_of Building = Building
-family_of Bridge = Bridge
-family_of Tunnel = Tunnel
-family_of CityFurniture = CityFurniture
-family_of LandUse = LandUse
-family_of OtherConstruction = OtherConstruction
-family_of PlantCover = PlantCover
-family_of SolitaryVegetationObject = SolitaryVegetationObject
-family_of TINRelief = TINRelief
-family_of Road = Road
-family_of Railway = Railway
-family_of Waterway = Waterway
-family_of TransportSquare = TransportSquare
-family_of WaterBody = WaterBody
-family_of GenericCityObject = GenericCityObject
+family_of ObjectType.BuildingPart = ObjectType.Building
+family_of ObjectType.BuildingInstallation = ObjectType.Building
+family_of ObjectType.BuildingConstructiveElement = ObjectType.Building
+family_of ObjectType.BuildingFurniture = ObjectType.Building
+family_of ObjectType.BuildingStorey = ObjectType.Building
+family_of ObjectType.BuildingRoom = ObjectType.Building
+family_of ObjectType.BuildingUnit = ObjectType.Building
+family_of ObjectType.BridgePart = ObjectType.Bridge
+family_of ObjectType.BridgeInstallation = ObjectType.Bridge
+family_of ObjectType.BridgeConstructiveElement = ObjectType.Bridge
+family_of ObjectType.BridgeRoom = ObjectType.Bridge
+family_of ObjectType.BridgeFurniture = ObjectType.Bridge
+family_of ObjectType.TunnelPart = ObjectType.Tunnel
+family_of ObjectType.TunnelInstallation = ObjectType.Tunnel
+family_of ObjectType.TunnelConstructiveElement = ObjectType.Tunnel
+family_of ObjectType.TunnelHollowSpace = ObjectType.Tunnel
+family_of ObjectType.TunnelFurniture = ObjectType.Tunnel
+family_of kind = kind
 
+-- first-level, or second-level
 abbrev pub level_of : ObjectType → ℕ
-level_of BuildingPart = 2
-level_of BuildingInstallation = 2
-level_of BuildingConstructiveElement = 2
-level_of BuildingFurniture = 2
-level_of BuildingStorey = 2
-level_of BuildingRoom = 2
-level_of BuildingUnit = 2
-level_of BridgePart = 2
-level_of BridgeInstallation = 2
-level_of BridgeConstructiveElement = 2
-level_of BridgeRoom = 2
-level_of BridgeFurniture = 2
-level_of TunnelPart = 2
-level_of TunnelInstallation = 2
-level_of TunnelConstructiveElement = 2
-level_of TunnelHollowSpace = 2
-level_of TunnelFurniture = 2
-level_of Building = 1
-level_of Bridge = 1
-level_of Tunnel = 1
-level_of CityFurniture = 1
-level_of LandUse = 1
-level_of OtherConstruction = 1
-level_of PlantCover = 1
-level_of SolitaryVegetationObject = 1
-level_of TINRelief = 1
-level_of Road = 1
-level_of Railway = 1
-level_of Waterway = 1
-level_of TransportSquare = 1
-level_of WaterBody = 1
-level_of GenericCityObject = 1
+level_of kind = if bytes_eq (name_of (family_of kind)) (name_of kind) then 1 else 2

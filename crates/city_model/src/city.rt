@@ -1,7 +1,7 @@
 //! The city: a frame and a map from ids to objects.
 ghost use Rattle.std.specs.Prelude.{◌≡◌, ◌==◌, true, Some, None, IfOk, IsOk, IsSome, OnOk, OnErr, is_some, option_copied, option_map};
 ghost use Rattle.std.specs.FinMap.{empty, entries, insert, len, remove};
-ghost use Rattle.city_model.specs.CityMap.{at, changed};
+ghost use Rattle.city_model.specs.CityMap.{object_at, changed};
 ghost use Rattle.city_model.specs.Meaning.{with_child, without_child};
 
 use crate::OutOfMemory;
@@ -28,7 +28,7 @@ impl Model for City {
 
     ghost use Rattle.std.specs.Coded.{codes, coded×, coded_list, coded_ℕ};
     ghost use Rattle.std.specs.FinMap.{code, from_sorted};
-    ghost use Rattle.city_model.specs.DataCode.{coded_members};
+    ghost use Rattle.city_model.specs.inside.DataCode.{coded_members};
 
     ghost coded = { coded× (Prim.hlevel (codes, coded_members)) (code (coded_list coded_ℕ) (Prim.hlevel (codes, coded_members))) };
 
@@ -85,7 +85,7 @@ impl City {
 
     /// The object of an id. Doesn't allocate.
     pub fn get(&self, id: &Id) -> Option<&Object>
-        ensures { option_copied result ≡ at self.now.1 id.now }
+        ensures { option_copied result ≡ object_at self.now.1 id.now }
     {
         self.objects.get(id)
     }
@@ -102,10 +102,10 @@ impl City {
     /// If memory runs out, the city is unchanged. For an id that has an object
     /// already it doesn't allocate.
     pub fn set(&mut self, id: Id, object: Object) -> Result<Option<Object>, OutOfMemory>
-        ensures old { IfOk result (λ old. old ≡ at self.old.1 id) }
+        ensures old { IfOk result (λ old. old ≡ object_at self.old.1 id) }
         ensures objects { OnOk result (self.new ≡ (self.old.0, insert self.old.1 id object)) }
-        ensures map { OnOk result (at self.new.1 ≡ changed (at self.old.1) id (Some object)) }
-        ensures present { IsSome (at self.old.1 id) → IsOk result }
+        ensures map { OnOk result (object_at self.new.1 ≡ changed (object_at self.old.1) id (Some object)) }
+        ensures present { IsSome (object_at self.old.1 id) → IsOk result }
         ensures unchanged { OnErr result (self.new ≡ self.old) }
     {
         Ok(self.objects.insert(id, object)?)
@@ -113,9 +113,9 @@ impl City {
 
     /// Removes the object of an id, and returns it. Doesn't allocate.
     pub fn remove(&mut self, id: &Id) -> Option<Object>
-        ensures old { result ≡ at self.old.1 id.now }
+        ensures old { result ≡ object_at self.old.1 id.now }
         ensures objects { self.new ≡ (self.old.0, remove self.old.1 id.now) }
-        ensures map { at self.new.1 ≡ changed (at self.old.1) id.now None }
+        ensures map { object_at self.new.1 ≡ changed (object_at self.old.1) id.now None }
     {
         self.objects.remove(id)
     }
@@ -123,9 +123,9 @@ impl City {
     /// Adds a child to the object of an id, which must have one. If memory runs out,
     /// the city is unchanged.
     pub fn push_child(&mut self, id: &Id, child: Id) -> Result<(), OutOfMemory>
-        requires { is_some (at self.old.1 id.now) ≡ true }
+        requires { is_some (object_at self.old.1 id.now) ≡ true }
         ensures frame { self.new.0 ≡ self.old.0 }
-        ensures map { OnOk result (at self.new.1 ≡ changed (at self.old.1) id.now (option_map (with_child child) (at self.old.1 id.now))) }
+        ensures map { OnOk result (object_at self.new.1 ≡ changed (object_at self.old.1) id.now (option_map (with_child child) (object_at self.old.1 id.now))) }
         ensures unchanged { OnErr result (self.new ≡ self.old) }
     {
         match self.objects.get_mut(id) {
@@ -139,9 +139,9 @@ impl City {
 
     /// Removes a child from the object of an id, which must have one. Doesn't allocate.
     pub fn remove_child(&mut self, id: &Id, child: &Id)
-        requires { is_some (at self.old.1 id.now) ≡ true }
+        requires { is_some (object_at self.old.1 id.now) ≡ true }
         ensures frame { self.new.0 ≡ self.old.0 }
-        ensures map { at self.new.1 ≡ changed (at self.old.1) id.now (option_map (without_child child.now) (at self.old.1 id.now)) }
+        ensures map { object_at self.new.1 ≡ changed (object_at self.old.1) id.now (option_map (without_child child.now) (object_at self.old.1 id.now)) }
     {
         match self.objects.get_mut(id) {
             Some(object) => object.children.retain(|other| !is_same_id(child, other)),

@@ -3,7 +3,7 @@ ghost use Rattle.std.specs.Prelude.{◌≡◌, IfOk};
 
 use crate::frame::Frame;
 use crate::kept::extra::Extra;
-use crate::kept::place::Place;
+use crate::kept::site::Site;
 use crate::object::{Body, Geometry, Object, Point, Shape};
 use crate::sequence::Sequence;
 use crate::text::Text;
@@ -39,7 +39,7 @@ impl<T: Copied + Drop> Copied for Sequence<T> {
     }
 }
 
-impl<P: Place> Copied for Extra<P> {
+impl<P: Site> Copied for Extra<P> {
     fn copy(&self, _alloc: Global) -> Result<Extra<P>, AllocError> {
         self.copy_members()
     }

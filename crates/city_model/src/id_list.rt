@@ -1,7 +1,7 @@
 //! Lists of ids, searched and compared in place.
 ghost use Rattle.std.specs.Prelude.{◌≡◌, IsTrue};
 ghost use Rattle.city_model.specs.CityMap.{same_id, has_id};
-ghost use Rattle.city_model.specs.RelationTests.{are_distinct, are_increasing};
+ghost use Rattle.city_model.specs.inside.RelationTests.{are_distinct, are_increasing};
 
 use crate::text::Id;
 

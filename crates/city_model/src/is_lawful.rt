@@ -1,7 +1,7 @@
 //! Whether a city is lawful.
 ghost use Rattle.std.specs.Prelude.{◌≡◌, IsTrue, IfOk, OnErr, is_some};
-ghost use Rattle.city_model.specs.CityMap.{at};
-ghost use Rattle.city_model.specs.Faultless.{IsFaultless};
+ghost use Rattle.city_model.specs.CityMap.{object_at};
+ghost use Rattle.city_model.specs.inside.Faultless.{IsFaultless};
 ghost use Rattle.city_model.specs.Relations.{IsLawful, IsRelated};
 ghost use Rattle.city_model.specs.Shells.{body_fault};
 
@@ -15,9 +15,9 @@ use std::alloc::Global;
 /// Whether every object is in order, none is an orphan, and no body has a fault. It fails only when
 /// out of memory, and only if no relation is at fault: judging relations doesn't allocate.
 pub fn is_lawful(alloc: Global, city: &City) -> Result<bool, OutOfMemory>
-    ensures lawful { IfOk result (λ b. IsTrue b → IsLawful (at city.now.1)) }
-    ensures only_then { IfOk result (λ b. IsLawful (at city.now.1) → IsTrue b) }
-    ensures related { OnErr result (IsRelated (at city.now.1)) }
+    ensures lawful { IfOk result (λ b. IsTrue b → IsLawful (object_at city.now.1)) }
+    ensures only_then { IfOk result (λ b. IsLawful (object_at city.now.1) → IsTrue b) }
+    ensures related { OnErr result (IsRelated (object_at city.now.1)) }
 {
     match relations_fault(city) {
         Some(_) => Ok(false),
@@ -30,8 +30,8 @@ pub fn is_lawful(alloc: Global, city: &City) -> Result<bool, OutOfMemory>
 
 /// Whether no body of the city has a fault. It fails only when out of memory.
 fn is_faultless(alloc: Global, city: &City) -> Result<bool, OutOfMemory>
-    ensures faultless { IfOk result (λ b. IsTrue b → IsFaultless (at city.now.1)) }
-    ensures only_then { IfOk result (λ b. IsFaultless (at city.now.1) → IsTrue b) }
+    ensures faultless { IfOk result (λ b. IsTrue b → IsFaultless (object_at city.now.1)) }
+    ensures only_then { IfOk result (λ b. IsFaultless (object_at city.now.1) → IsTrue b) }
 {
     for (_, object) in city.iter() {
         let faulty = has_fault(alloc, &object.body)?;

@@ -2,7 +2,7 @@
 ghost use Rattle.std.specs.Prelude.{◌≡◌};
 
 use crate::kept::extra::Extra;
-use crate::kept::place::{AtGeometry, AtObject};
+use crate::kept::site::{AtGeometry, AtObject};
 use crate::object_type::ObjectType;
 use crate::sequence::Sequence;
 use crate::text::{Id, Text};

@@ -1,6 +1,6 @@
 //! Objects that lack the parent that their type asks for.
 ghost use Rattle.std.specs.Prelude.{◌≡◌, IfSome, IfNone};
-ghost use Rattle.city_model.specs.CityMap.{at};
+ghost use Rattle.city_model.specs.CityMap.{object_at};
 ghost use Rattle.city_model.specs.Relations.{is_orphan, HasNoOrphan, IsLeastOrphan};
 
 use crate::city::City;
@@ -17,8 +17,8 @@ pub fn is_orphan(object: &Object) -> bool
 
 /// The least id of an orphan, in byte order; none where no object is one. Doesn't allocate.
 pub fn least_orphan(city: &City) -> Option<&Id>
-    ensures least { IfSome result (λ id. IsLeastOrphan (at city.now.1) id.now) }
-    ensures none { IfNone result (HasNoOrphan (at city.now.1)) }
+    ensures least { IfSome result (λ id. IsLeastOrphan (object_at city.now.1) id.now) }
+    ensures none { IfNone result (HasNoOrphan (object_at city.now.1)) }
 {
     for (id, object) in city.iter() {
         if is_orphan(object) {

@@ -1,7 +1,7 @@
 //! The plan of a command: its reply, and what it writes.
 ghost use Rattle.std.specs.Prelude.{◌≡◌, false, IfOk};
 ghost use Rattle.city_model.specs.FrameLaw.{FrameLaw};
-ghost use Rattle.city_model.specs.Plans.{IsPlan};
+ghost use Rattle.city_model.specs.inside.Plans.{IsPlan};
 ghost use Rattle.city_model.specs.Relations.{IsSound};
 ghost use Rattle.city_model.specs.Scripts.{is_end, is_mark};
 

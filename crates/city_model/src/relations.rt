@@ -1,9 +1,10 @@
 //! Whether parents and children agree (CityJSON 2.0, section 2).
 ghost use Rattle.std.specs.Prelude.{◌≡◌, IfSome, IfNone};
-ghost use Rattle.city_model.specs.CityMap.{at, has_id, parents_of};
+ghost use Rattle.city_model.specs.CityMap.{object_at, has_id, parents_of};
 ghost use Rattle.city_model.specs.Meaning.{is_wrong_family};
 ghost use Rattle.city_model.specs.Misrelated.{IsLeastMisrelated};
-ghost use Rattle.city_model.specs.RelationTests.{relatives_once, level_fits, parent_fits, parents_fit, children_fit, is_in_order, is_misrelated};
+ghost use Rattle.city_model.specs.inside.RelationTests.{relatives_once, level_fits, parent_fits, parents_fit};
+ghost use Rattle.city_model.specs.inside.RelationTests.{children_fit, is_in_order, is_misrelated};
 ghost use Rattle.city_model.specs.Relations.{IsRelated, same_family};
 
 use crate::city::City;
@@ -20,8 +21,8 @@ use crate::text::Id;
 /// order is read once for repeats, and gets a binary search; any other list of n ids takes up to
 /// n² / 2 comparisons.
 pub fn relations_fault(city: &City) -> Option<&Id>
-    ensures fault { IfSome result (λ id. IsLeastMisrelated (at city.now.1) id.now) }
-    ensures none { IfNone result (IsRelated (at city.now.1)) }
+    ensures fault { IfSome result (λ id. IsLeastMisrelated (object_at city.now.1) id.now) }
+    ensures none { IfNone result (IsRelated (object_at city.now.1)) }
 {
     for (id, object) in city.iter() {
         if is_misrelated(city, id, object) {
@@ -48,14 +49,14 @@ pub fn is_wrong_family(
 
 /// Whether the object isn't in order, or is an orphan.
 fn is_misrelated(city: &City, id: &Id, object: &Object) -> bool
-    ensures { result ≡ is_misrelated (at city.now.1) id.now object.now }
+    ensures { result ≡ is_misrelated (object_at city.now.1) id.now object.now }
 {
     is_orphan(object) || !is_in_order(city, id, object)
 }
 
 /// Whether the object and its parents and children agree.
 fn is_in_order(city: &City, id: &Id, object: &Object) -> bool
-    ensures { result ≡ is_in_order (at city.now.1) id.now object.now }
+    ensures { result ≡ is_in_order (object_at city.now.1) id.now object.now }
 {
     relatives_once(object)
         && level_fits(object)
@@ -79,7 +80,7 @@ fn level_fits(object: &Object) -> bool
 
 /// Whether each parent is there, is another object, has this one as a child and is of its family.
 fn parents_fit(city: &City, id: &Id, object: &Object) -> bool
-    ensures { result ≡ parents_fit (at city.now.1) id.now object.now }
+    ensures { result ≡ parents_fit (object_at city.now.1) id.now object.now }
 {
     let parents = object.parents.as_slice();
     parents
@@ -88,7 +89,7 @@ fn parents_fit(city: &City, id: &Id, object: &Object) -> bool
 }
 
 fn parent_fits(city: &City, id: &Id, object: &Object, parent: &Id) -> bool
-    ensures { result ≡ parent_fits id.now object.now parent.now (at city.now.1 parent.now) }
+    ensures { result ≡ parent_fits id.now object.now parent.now (object_at city.now.1 parent.now) }
 {
     match city.get(parent) {
         None => false,
@@ -102,14 +103,14 @@ fn parent_fits(city: &City, id: &Id, object: &Object, parent: &Id) -> bool
 
 /// Whether each child has the object as a parent.
 fn children_fit(city: &City, id: &Id, object: &Object) -> bool
-    ensures { result ≡ children_fit (at city.now.1) id.now object.now }
+    ensures { result ≡ children_fit (object_at city.now.1) id.now object.now }
 {
     let children = object.children.as_slice();
     children.iter().all(|child| child_fits(city, id, child))
 }
 
 fn child_fits(city: &City, id: &Id, child: &Id) -> bool
-    ensures { result ≡ has_id (parents_of (at city.now.1 child.now)) id.now }
+    ensures { result ≡ has_id (parents_of (object_at city.now.1 child.now)) id.now }
 {
     match city.get(child) {
         None => false,

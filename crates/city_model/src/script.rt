@@ -1,11 +1,12 @@
 //! A script: a list of commands that is run as one transaction.
-ghost use Rattle.std.specs.Prelude.{◌≡◌, true, IfOk, IfErr, is_ok, take, ℕ};
+ghost use Rattle.std.specs.Prelude.{◌≡◌, ◌<◌, true, IfOk, IfErr, is_ok, length, take, List, ℕ};
 ghost use Rattle.city_model.specs.CityMap.{CityMap};
-ghost use Rattle.city_model.specs.Marks.{unmarked, IsSoundView};
+ghost use Rattle.city_model.specs.Marks.{View, unmarked, IsSoundView};
 ghost use Rattle.city_model.specs.Relations.{IsSound};
-ghost use Rattle.city_model.specs.Runs.{view_after};
+ghost use Rattle.city_model.specs.Runs.{Trace};
 ghost use Rattle.city_model.specs.Scripts.{is_end, ends_once};
 ghost use Rattle.city_model.specs.TraceLaw.{TraceLaw};
+ghost use Rattle.city_model.specs.declared.command.Reply.{Reply};
 
 use crate::command::Command;
 use crate::sequence::Sequence;
@@ -26,7 +27,7 @@ impl Model for Script {
     ghost Value = { List ℕ × List Command };
 
     ghost use Rattle.std.specs.Coded.{codes};
-    ghost use Rattle.city_model.specs.DataCode.{coded_members};
+    ghost use Rattle.city_model.specs.inside.DataCode.{coded_members};
 
     ghost coded = { Prim.hlevel (codes, coded_members) };
 
@@ -61,12 +62,16 @@ impl Script {
 
     /// The script's commands, the last of which ends it. Doesn't allocate.
     ///
-    /// On a sound city the first n commands leave a sound city, whatever n is, and the city at each
-    /// mark is sound. The commands read and write only what they lock.
+    /// All but the last are answered, whatever the city is. On a sound city they leave a sound city, and
+    /// the city at each mark is sound; and so do the first n of them. They read and write only what they
+    /// lock.
     pub fn commands(&self) -> &[Command]
         ensures commands { result.now ≡ self.now.1 }
         ensures ends { ends_once self.now.1 ≡ true }
-        ensures sound { (m : CityMap) (k : ℕ) → IsSound m → IsSoundView (view_after (unmarked m) (take k self.now.1)) }
+        ensures goes_on { (v : View) (k : ℕ) → k < length self.now.1
+            → (replies : List Reply) × (w : View) × Trace v (take k self.now.1) replies w }
+        ensures sound { (m : CityMap) (k : ℕ) (replies : List Reply) (w : View) → IsSound m
+            → Trace (unmarked m) (take k self.now.1) replies w → IsSoundView w }
         ensures frame { (m : CityMap) (k : ℕ) → IsSound m → TraceLaw m (take k self.now.1) }
     {
         self.commands.as_slice()

@@ -1,6 +1,6 @@
 //! The verb `board`: viewers of a board whose poster is a desk's shelf.
 ghost use Rattle.std.specs.Prelude.{◌≡◌, ◌≤◌, [], All, IfOk, IfSome};
-ghost use Rattle.city_model.specs.CityMap.{at};
+ghost use Rattle.city_model.specs.CityMap.{object_at};
 ghost use Rattle.city_model.specs.Relations.{IsLawful};
 
 use crate::document::add_city;
@@ -42,7 +42,7 @@ fn play_over<R: Wait>(
     lines: &str,
     answer: &mut Vec<u8>,
 ) -> Result<(), AllocError>
-    requires lawful { IsLawful (at city.1) }
+    requires lawful { IsLawful (object_at city.1) }
     requires places { places ≤ 4 }
 {
     match opened(rt, alloc, scripts, city, places) {
@@ -58,7 +58,7 @@ fn board_over<'r, R: Wait>(
     city: &City,
     places: usize,
 ) -> Option<(Poster<&'r R>, Vec<Viewer>)>
-    requires lawful { IsLawful (at city.now.1) }
+    requires lawful { IsLawful (object_at city.now.1) }
     requires places { places ≤ 4 }
     ensures opening { IfSome result (λ r. r.0.opening ≡ city.now) }
     ensures taken { IfSome result (λ r. r.0.taken ≡ []) }
@@ -76,7 +76,7 @@ fn desk_over<'r, R: Wait>(
     city: City,
     poster: Poster<&'r R>,
 ) -> Option<Desk<Poster<&'r R>>>
-    requires lawful { IsLawful (at city.1) }
+    requires lawful { IsLawful (object_at city.1) }
     requires opening { poster.opening ≡ city }
     requires taken { poster.taken ≡ [] }
 {
@@ -92,7 +92,7 @@ fn opened<'r, R: Wait>(
     city: City,
     places: usize,
 ) -> Option<(Desk<Poster<&'r R>>, Vec<Viewer>)>
-    requires lawful { IsLawful (at city.1) }
+    requires lawful { IsLawful (object_at city.1) }
     requires places { places ≤ 4 }
 {
     let (poster, viewers) = board_over(rt, alloc, &city, places)?;
@@ -110,7 +110,8 @@ fn play_at<R: Wait + Drop, Q: Wait>(
     answer: &mut Vec<u8>,
 ) -> Result<(), AllocError> {
     let mut desk = desk;
-    let taken = take_steps(rt, alloc, &mut desk, viewers, lines, answer);
+    let mut viewers = viewers;
+    let taken = take_steps(rt, alloc, &mut desk, &mut viewers, lines, answer);
     let left = add_left(desk, alloc, answer);
     taken?;
     left
@@ -130,42 +131,35 @@ fn take_steps<R: Wait + Drop, Q: Wait>(
     rt: &Q,
     alloc: Global,
     desk: &mut Desk<Poster<R>>,
-    viewers: Vec<Viewer>,
+    viewers: &mut Vec<Viewer>,
     lines: &str,
     answer: &mut Vec<u8>,
 ) -> Result<(), AllocError> {
-    let mut viewers = viewers;
     for line in lines.lines() {
         if let Some(step) = step_of(line) {
-            let mut said = String::new(alloc);
-            viewers = take_step(rt, alloc, desk, viewers, step, &mut said)?;
-            add_step(answer, step, said.as_str())?;
+            take_step(rt, alloc, desk, viewers, step, answer)?;
         }
     }
     Ok(())
 }
 
-/// Takes a step, and writes down what it is answered.
+/// Takes a step, and adds what it is answered.
 fn take_step<R: Wait + Drop, Q: Wait>(
     rt: &Q,
     alloc: Global,
     desk: &mut Desk<Poster<R>>,
-    viewers: Vec<Viewer>,
+    viewers: &mut Vec<Viewer>,
     step: &str,
-    said: &mut String,
-) -> Result<Vec<Viewer>, AllocError> {
-    if let Some(place) = step.strip_prefix("look ") {
-        return look_at(alloc, viewers, place.parse::<usize>().unwrap_or(9), said);
-    }
+    answer: &mut Vec<u8>,
+) -> Result<(), AllocError> {
     match step {
-        "commit" => said.push_str(end_next(desk))?,
+        "commit" => add_step(answer, step, end_next(desk)),
         "show" => {
             let _note = desk.show(rt)?;
-            said.push_str("done")?;
+            add_step(answer, step, "done")
         }
-        _ => said.push_str("no such step")?,
+        _ => look_at(alloc, viewers, step, answer),
     }
-    Ok(viewers)
 }
 
 /// The most turns that a script is given.
@@ -184,23 +178,27 @@ fn end_next<S: Shelf>(desk: &mut Desk<S>) -> &'static str {
     "no end"
 }
 
-/// Has the viewer of a place look, and writes down what it sees.
+/// The place of the viewer that looks in a step.
+fn place_of(step: &str) -> Option<usize> {
+    step.strip_prefix("look ")?.parse::<usize>().ok()
+}
+
+/// Has the viewer of a step's place look, and adds what it sees.
 fn look_at(
     alloc: Global,
-    viewers: Vec<Viewer>,
-    place: usize,
-    said: &mut String,
-) -> Result<Vec<Viewer>, AllocError> {
-    let mut again = Vec::new(alloc);
-    for (number, viewer) in viewers.into_iter().enumerate() {
-        let viewer = if number == place {
-            looked(alloc, viewer, said)?
-        } else {
-            viewer
-        };
-        again.push(viewer)?;
+    viewers: &mut Vec<Viewer>,
+    step: &str,
+    answer: &mut Vec<u8>,
+) -> Result<(), AllocError> {
+    match place_of(step) {
+        Some(place) if place < viewers.len() => {
+            let mut said = String::new(alloc);
+            let viewer = looked(alloc, viewers.remove(place), &mut said)?;
+            viewers.insert(place, viewer)?;
+            add_step(answer, step, said.as_str())
+        }
+        _ => add_step(answer, step, "no such step"),
     }
-    Ok(again)
 }
 
 /// Writes down how many edits a viewer sees, and which objects.

@@ -14,29 +14,42 @@ pub fn play_words(alloc: Global, lines: &str, answer: &mut Vec<u8>) -> Result<()
     Ok(())
 }
 
-/// What a command line asks for: a word and the names, or the first line of the text that is shown.
+/// What a command line asks for.
 fn told(alloc: Global, line: &str) -> Result<String, AllocError> {
     let mut words = Vec::new(alloc);
     for word in line.split_whitespace() {
         words.push(word.to_string(alloc)?)?;
     }
-    match asked_by(alloc, words.as_slice()) {
-        Ok(Asked::Input(options)) => format!(in alloc; "input {}", with_options(alloc, options)?),
-        Ok(Asked::Files(options, model, scripts)) => {
-            format!(in alloc; "files {model} {scripts} {}", with_options(alloc, options)?)
-        }
-        Ok(Asked::Text(text)) => format!(in alloc; "text {}", first_line(text.as_str())),
-        Err(LineFault::Refused(text)) => format!(in alloc; "2 {}", first_line(text.as_str())),
+    told_of(alloc, words.as_slice())
+}
+
+/// What words ask for: a word and the names, or the first line of the text that is shown.
+fn told_of(alloc: Global, words: &[String]) -> Result<String, AllocError> {
+    match asked_by(alloc, words) {
+        Ok(Asked::Input(options)) => with_options(alloc, "input", options),
+        Ok(Asked::Files(options, model, scripts)) => with_files(alloc, model, scripts, options),
+        Ok(Asked::Text(text)) => with_first_line(alloc, "text", text.as_str()),
+        Err(LineFault::Refused(text)) => with_first_line(alloc, "2", text.as_str()),
         Err(LineFault::OutOfMemory) => Err(AllocError),
     }
 }
 
-/// How many workers and viewers there are, and a word where numbers of any form are taken.
-fn with_options(alloc: Global, options: Options) -> Result<String, AllocError> {
+/// Words, how many workers and viewers there are, and a word where numbers of any form are taken.
+fn with_options(alloc: Global, words: &str, options: Options) -> Result<String, AllocError> {
     let decimals = if options.decimals { " decimals" } else { "" };
-    format!(in alloc; "{} {}{decimals}", options.workers, options.viewers)
+    format!(in alloc; "{words} {} {}{decimals}", options.workers, options.viewers)
 }
 
-fn first_line(text: &str) -> &str {
-    text.lines().next().unwrap_or("")
+fn with_files(
+    alloc: Global,
+    model: &str,
+    scripts: &str,
+    options: Options,
+) -> Result<String, AllocError> {
+    let words = format!(in alloc; "files {model} {scripts}")?;
+    with_options(alloc, words.as_str(), options)
+}
+
+fn with_first_line(alloc: Global, word: &str, text: &str) -> Result<String, AllocError> {
+    format!(in alloc; "{word} {}", text.lines().next().unwrap_or(""))
 }

@@ -1,6 +1,6 @@
 //! The verb `core`: transactions driven by hand.
 ghost use Rattle.std.specs.Prelude.{◌≡◌, false};
-ghost use Rattle.city_model.specs.CityMap.{at};
+ghost use Rattle.city_model.specs.CityMap.{object_at};
 ghost use Rattle.city_model.specs.Relations.{IsLawful};
 ghost use Rattle.city_model.specs.Scripts.{is_end};
 
@@ -31,7 +31,7 @@ pub fn play_core(
 }
 
 fn play_over(alloc: Global, city: City, lines: &str, answer: &mut Vec<u8>) -> Result<(), AllocError>
-    requires { IsLawful (at city.1) }
+    requires { IsLawful (object_at city.1) }
 {
     let mut core = Core::open(alloc, city);
     let taken = take_steps(&mut core, alloc, lines, answer);

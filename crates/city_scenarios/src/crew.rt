@@ -1,7 +1,7 @@
 //! The verbs `crew`, `replay`, `model` and `texts`: runs by so many workers before so many viewers.
 ghost use Rattle.std.specs.Prelude.{◌≤◌};
 
-use crate::line::{add_bytes, add_fault, add_line, add_run_fault};
+use crate::line::{add_bytes, add_fault, add_line, add_run_fault, add_unlike};
 use crate::replay::replay;
 use city_crew::{OpenGate, run_crew};
 use city_desk::Output;
@@ -38,17 +38,24 @@ pub fn play_crews<T: Threads + Wait + Sync>(
 ) -> Result<(), AllocError> {
     let mut last = Vec::new(alloc);
     for crew in crews.split_whitespace() {
-        let mut one = Vec::new(alloc);
-        play_crew(rt, alloc, told, crew, document, scripts, &mut one)?;
-        if one.as_slice() != last.as_slice() {
-            if !last.is_empty() {
-                add_line(answer, crew)?;
-            }
-            answer.extend_from_slice(one.as_slice())?;
-            last = one;
-        }
+        let mut now = Vec::new(alloc);
+        play_crew(rt, alloc, told, crew, document, scripts, &mut now)?;
+        add_told(answer, &mut last, crew, now)?;
     }
     Ok(())
+}
+
+/// Adds what is reported of a crew's run where it isn't what was reported last, after the crew where it isn't the first.
+fn add_told(
+    answer: &mut Vec<u8>,
+    last: &mut Vec<u8>,
+    crew: &str,
+    now: Vec<u8>,
+) -> Result<(), AllocError> {
+    if !last.is_empty() && now.as_slice() != last.as_slice() {
+        add_line(answer, crew)?;
+    }
+    add_unlike(answer, last, now)
 }
 
 /// Runs the scripts by one crew, and answers what is reported of the run.
@@ -87,9 +94,15 @@ fn run_texts<T: Threads + Wait + Sync>(
     requires viewers { viewers ≤ 4 }
 {
     let mut written = Vec::new(alloc);
-    let mut writer = Device::new(&mut written);
-    let served = serve_texts(rt, alloc, document, scripts, &mut writer, workers, viewers);
-    drop(writer);
+    let served = serve_texts(
+        rt,
+        alloc,
+        document,
+        scripts,
+        &mut Device::new(&mut written),
+        workers,
+        viewers,
+    );
     match served {
         Ok(seen) if seen.len() == viewers => add_bytes(answer, written.as_slice()),
         Ok(_) => add_line(answer, "viewers are missing"),
@@ -115,13 +128,16 @@ fn add_output(
     if matches!(told, Told::Bytes) {
         return add_bytes(answer, bytes);
     }
-    match replay(alloc, document, scripts, ends) {
-        Some(again) if again.as_slice() == bytes => add_history(alloc, told, ends, bytes, answer),
-        _ => {
-            add_line(answer, "no serial history")?;
-            add_bytes(answer, bytes)
-        }
+    if is_replayed(alloc, document, scripts, ends, bytes) {
+        return add_history(alloc, told, ends, bytes, answer);
     }
+    add_line(answer, "no serial history")?;
+    add_bytes(answer, bytes)
+}
+
+/// Whether the scripts of these ends give the same when they are played one at a time.
+fn is_replayed(alloc: Global, document: &[u8], scripts: &[u8], ends: &[End], bytes: &[u8]) -> bool {
+    replay(alloc, document, scripts, ends).is_some_and(|again| again.as_slice() == bytes)
 }
 
 /// Adds how many ends a history has, or the model that it leaves.

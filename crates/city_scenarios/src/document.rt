@@ -1,5 +1,5 @@
 //! The verbs `document` and `prefixes`: a document read.
-use crate::line::{add_line, add_run_fault};
+use crate::line::{add_line, add_run_fault, add_unlike};
 use city_desk::RunFault;
 use city_doc::{ReadFault, read_city, write_city};
 use city_model::city::City;
@@ -54,12 +54,19 @@ pub fn play_prefixes(
 ) -> Result<(), AllocError> {
     let mut last = Vec::new(alloc);
     for length in 0..document.len() {
-        let mut line = Vec::new(alloc);
-        play_document(alloc, &document[..length], &mut line)?;
-        if line.as_slice() != last.as_slice() {
-            answer.extend_from_slice(line.as_slice())?;
-        }
-        last = line;
+        play_prefix(alloc, &document[..length], &mut last, answer)?;
     }
     Ok(())
+}
+
+/// Answers what a prefix is answered, where that isn't what was answered last.
+fn play_prefix(
+    alloc: Global,
+    document: &[u8],
+    last: &mut Vec<u8>,
+    answer: &mut Vec<u8>,
+) -> Result<(), AllocError> {
+    let mut now = Vec::new(alloc);
+    play_document(alloc, document, &mut now)?;
+    add_unlike(answer, last, now)
 }

@@ -20,6 +20,19 @@ pub fn add_bytes(answer: &mut Vec<u8>, bytes: &[u8]) -> Result<(), AllocError> {
     Ok(())
 }
 
+/// Adds what is answered now, where it isn't what was answered last.
+pub fn add_unlike(
+    answer: &mut Vec<u8>,
+    last: &mut Vec<u8>,
+    now: Vec<u8>,
+) -> Result<(), AllocError> {
+    if now.as_slice() != last.as_slice() {
+        answer.extend_from_slice(now.as_slice())?;
+        *last = now;
+    }
+    Ok(())
+}
+
 /// Adds the line that reports a fault.
 pub fn add_fault(alloc: Global, answer: &mut Vec<u8>, fault: ServeFault) -> Result<(), AllocError> {
     add_line(answer, fault_line(alloc, &fault)?.as_str())

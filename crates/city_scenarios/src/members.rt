@@ -1,7 +1,7 @@
 //! The verb `members`: members kept at a place.
 use crate::line::add_line;
 use city_model::kept::extra::Extra;
-use city_model::kept::place::{AtGeometry, AtObject, AtTop, AtTransform, Place};
+use city_model::kept::site::{AtGeometry, AtObject, AtTop, AtTransform, Site};
 use serde_json::{Map, Value};
 use std::alloc::{AllocError, Global};
 
@@ -28,7 +28,7 @@ fn kept_at(place: &str, members: Map<String, Value>) -> &'static str {
     }
 }
 
-fn kept<P: Place>(members: Map<String, Value>) -> &'static str {
+fn kept<P: Site>(members: Map<String, Value>) -> &'static str {
     match Extra::<P>::new(members) {
         Ok(_) => "kept",
         Err(_) => "refused",

@@ -4,9 +4,9 @@
 //! script commits. A script that goes back is played as one that never had the commands since the
 //! mark: the others are done anew. No lock, no transaction and no desk has a part in it.
 ghost use Rattle.std.specs.Prelude.{◌≡◌, false, IfOk, OnOk};
-ghost use Rattle.city_model.specs.CityMap.{at};
+ghost use Rattle.city_model.specs.CityMap.{object_at};
 ghost use Rattle.city_model.specs.Relations.{IsSound};
-ghost use Rattle.city_model.specs.Runs.{with_change};
+ghost use Rattle.city_model.specs.Runs.{after_change};
 ghost use Rattle.city_model.specs.Scripts.{is_end, is_mark};
 
 use city_desk::{output_bytes, read_texts};
@@ -25,7 +25,7 @@ use std::alloc::Global;
 
 /// Writes a change into the city.
 fn write(city: &mut City, change: Change) -> Result<(), OutOfMemory>
-    ensures { OnOk result (at city.new.1 ≡ with_change (at city.old.1) change) }
+    ensures { OnOk result (object_at city.new.1 ≡ after_change (object_at city.old.1) change) }
 {
     for (id, object) in change.into_vec() {
         match object {
@@ -41,8 +41,8 @@ fn write(city: &mut City, change: Change) -> Result<(), OutOfMemory>
 fn perform(alloc: Global, city: &mut City, command: &Command) -> Result<Reply, OutOfMemory>
     requires no_end { is_end command.now ≡ false }
     requires no_mark { is_mark command.now ≡ false }
-    requires sound { IsSound (at city.old.1) }
-    ensures { OnOk result (IsSound (at city.new.1)) }
+    requires sound { IsSound (object_at city.old.1) }
+    ensures { OnOk result (IsSound (object_at city.new.1)) }
 {
     match plan_of(alloc, city, command)? {
         Plan::Refused(cause) => Ok(Reply::Refused(cause)),
@@ -55,8 +55,8 @@ fn perform(alloc: Global, city: &mut City, command: &Command) -> Result<Reply, O
 
 /// Does a command anew that was done before; marks and ways back do nothing to the city.
 fn redo(alloc: Global, city: &mut City, command: &Command) -> Result<(), OutOfMemory>
-    requires { IsSound (at city.old.1) }
-    ensures { OnOk result (IsSound (at city.new.1)) }
+    requires { IsSound (object_at city.old.1) }
+    ensures { OnOk result (IsSound (object_at city.new.1)) }
 {
     match command {
         Command::Mark(_) | Command::Back(_) | Command::Commit | Command::Abort => {}
@@ -67,8 +67,8 @@ fn redo(alloc: Global, city: &mut City, command: &Command) -> Result<(), OutOfMe
 
 /// The city after these commands.
 fn redone(alloc: Global, opening: &City, commands: &[&Command]) -> Result<City, OutOfMemory>
-    requires { IsSound (at opening.now.1) }
-    ensures { IfOk result (λ city. IsSound (at city.1)) }
+    requires { IsSound (object_at opening.now.1) }
+    ensures { IfOk result (λ city. IsSound (object_at city.1)) }
 {
     let mut city = opening.copy(alloc)?;
     for command in commands {
@@ -104,9 +104,9 @@ fn go_back(
     counted: &mut Vec<&Command>,
     name: &Text,
 ) -> Result<Reply, OutOfMemory>
-    requires opening { IsSound (at opening.now.1) }
-    requires sound { IsSound (at city.old.1) }
-    ensures { OnOk result (IsSound (at city.new.1)) }
+    requires opening { IsSound (object_at opening.now.1) }
+    requires sound { IsSound (object_at city.old.1) }
+    ensures { OnOk result (IsSound (object_at city.new.1)) }
 {
     let Some(place) = newest_mark(counted.as_slice(), name) else {
         return Ok(Reply::Refused(Cause::NoMark(name.copy(alloc)?)));
@@ -125,9 +125,9 @@ fn reply_to(
     command: &Command,
 ) -> Result<Reply, OutOfMemory>
     requires no_end { is_end command.now ≡ false }
-    requires opening { IsSound (at opening.now.1) }
-    requires sound { IsSound (at city.old.1) }
-    ensures { OnOk result (IsSound (at city.new.1)) }
+    requires opening { IsSound (object_at opening.now.1) }
+    requires sound { IsSound (object_at city.old.1) }
+    ensures { OnOk result (IsSound (object_at city.new.1)) }
 {
     match command {
         Command::Mark(_) => Ok(Reply::Marked),
@@ -161,9 +161,9 @@ fn play(
     commands: &[Command],
     replies: &mut Sequence<Reply>,
 ) -> Result<Outcome, OutOfMemory>
-    requires opening { IsSound (at opening.now.1) }
-    requires sound { IsSound (at city.old.1) }
-    ensures { OnOk result (IsSound (at city.new.1)) }
+    requires opening { IsSound (object_at opening.now.1) }
+    requires sound { IsSound (object_at city.old.1) }
+    ensures { OnOk result (IsSound (object_at city.new.1)) }
 {
     let mut counted = Vec::new(alloc);
     for (number, command) in commands.iter().enumerate() {
@@ -196,8 +196,8 @@ fn play_on_copy(
     commands: &[Command],
     replies: &mut Sequence<Reply>,
 ) -> Result<Outcome, OutOfMemory>
-    requires { IsSound (at city.old.1) }
-    ensures { IsSound (at city.new.1) }
+    requires { IsSound (object_at city.old.1) }
+    ensures { IsSound (object_at city.new.1) }
 {
     let mut copy = city.copy(alloc)?;
     match play(alloc, city, &mut copy, commands, replies) {
@@ -212,8 +212,8 @@ fn play_on_copy(
 /// The end of the script of this end when it is played on the city, which changes where the script
 /// commits; none if there is no such script, or memory runs out.
 fn end_again(alloc: Global, city: &mut City, scripts: &[Script], end: &End) -> Option<End>
-    requires { IsSound (at city.old.1) }
-    ensures { IsSound (at city.new.1) }
+    requires { IsSound (object_at city.old.1) }
+    ensures { IsSound (object_at city.new.1) }
 {
     let script = scripts.get(end.script)?;
     let name = script.name().copy(alloc).ok()?;
@@ -231,7 +231,7 @@ fn end_again(alloc: Global, city: &mut City, scripts: &[Script], end: &End) -> O
 
 /// The ends of the scripts of these ends, when they are played one after the other on the city.
 fn ends_again(alloc: Global, city: &mut City, scripts: &[Script], ends: &[End]) -> Option<Vec<End>>
-    requires { IsSound (at city.old.1) }
+    requires { IsSound (object_at city.old.1) }
 {
     let mut again = Vec::new(alloc);
     for end in ends {
@@ -247,7 +247,7 @@ fn replay_scripts(
     scripts: &[Script],
     ends: &[End],
 ) -> Option<Vec<u8>>
-    requires { IsSound (at city.old.1) }
+    requires { IsSound (object_at city.old.1) }
 {
     let again = ends_again(alloc, city, scripts, ends)?;
     output_bytes(alloc, city, again.as_slice(), 0).ok()

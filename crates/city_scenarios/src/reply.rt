@@ -8,11 +8,18 @@ use std::alloc::{AllocError, Global};
 
 /// A reply, as it stands in a report: a refusal as `cause_text`.
 pub fn reply_text(alloc: Global, reply: Reply) -> Result<String, AllocError> {
-    let mut replies = Sequence::new(alloc);
     match reply {
-        Reply::Refused(cause) => return cause_text(alloc, cause),
-        other => replies.push(other)?,
+        Reply::Refused(cause) => cause_text(alloc, cause),
+        other => {
+            let mut replies = Sequence::new(alloc);
+            replies.push(other)?;
+            replies_text(alloc, replies)
+        }
     }
+}
+
+/// Replies, as they stand in a report.
+fn replies_text(alloc: Global, replies: Sequence<Reply>) -> Result<String, AllocError> {
     let text = line_of(alloc, replies, Outcome::Committed)?;
     between(alloc, text.as_str(), "\"replies\":[", "],\"script\":")
 }

@@ -1,5 +1,5 @@
 //! The verb `scripts`: a text of scripts read.
-use crate::line::{add_line, add_run_fault};
+use crate::line::{add_line, add_run_fault, add_unlike};
 use city_desk::RunFault;
 use city_doc::read_scripts;
 use city_model::script::Script;
@@ -30,12 +30,19 @@ pub fn play_script_prefixes(
 ) -> Result<(), AllocError> {
     let mut last = Vec::new(alloc);
     for length in 0..text.len() {
-        let mut line = Vec::new(alloc);
-        play_scripts(alloc, &text[..length], &mut line)?;
-        if line.as_slice() != last.as_slice() {
-            answer.extend_from_slice(line.as_slice())?;
-        }
-        last = line;
+        play_script_prefix(alloc, &text[..length], &mut last, answer)?;
     }
     Ok(())
+}
+
+/// Answers what a prefix is answered, where that isn't what was answered last.
+fn play_script_prefix(
+    alloc: Global,
+    text: &[u8],
+    last: &mut Vec<u8>,
+    answer: &mut Vec<u8>,
+) -> Result<(), AllocError> {
+    let mut now = Vec::new(alloc);
+    play_scripts(alloc, text, &mut now)?;
+    add_unlike(answer, last, now)
 }

@@ -1,9 +1,8 @@
 //! The verb `serve`: from a reader to a writer.
-use crate::line::{add_bytes, add_line};
+use crate::line::{add_bytes, add_fault, add_line, add_unlike};
 use crate::reader::{Giving, Reads};
 use crate::writer::{Taking, Writes};
 use city_serve::Device;
-use city_serve::fault_line::fault_line;
 use city_serve::serve::serve;
 use std::alloc::{AllocError, Global};
 use std::sync::Wait;
@@ -28,7 +27,7 @@ pub fn play_serve<T: Threads + Wait + Sync>(
     if !written.is_empty() {
         add_bytes(answer, written.as_slice())?;
     }
-    answer.extend_from_slice(line.as_bytes())
+    answer.extend_from_slice(line.as_slice())
 }
 
 /// The texts with a newline between two.
@@ -50,18 +49,28 @@ fn served<T: Threads + Wait + Sync>(
     reads: Reads,
     writes: Writes,
     input: &[u8],
-) -> Result<(Vec<u8>, String), AllocError> {
+) -> Result<(Vec<u8>, Vec<u8>), AllocError> {
     let mut taking = Taking::new(alloc, writes);
-    let mut reader = Device::new(Giving::new(reads, input));
-    let mut writer = Device::new(&mut taking);
-    let served = serve(rt, alloc, &mut reader, &mut writer, 1, 0);
-    drop(writer);
-    let mut line = String::new(alloc);
-    if let Err(fault) = served {
-        line.push_str(fault_line(alloc, &fault)?.as_str())?;
-        line.push_str("\n")?;
-    }
+    let mut line = Vec::new(alloc);
+    serve_to(rt, alloc, reads, &mut taking, input, &mut line)?;
     Ok((taking.into_written(), line))
+}
+
+/// Serves the input to a writer, and adds the line that says why the rest wasn't served.
+fn serve_to<T: Threads + Wait + Sync>(
+    rt: &T,
+    alloc: Global,
+    reads: Reads,
+    taking: &mut Taking,
+    input: &[u8],
+    line: &mut Vec<u8>,
+) -> Result<(), AllocError> {
+    let mut reader = Device::new(Giving::new(reads, input));
+    let mut writer = Device::new(taking);
+    match serve(rt, alloc, &mut reader, &mut writer, 1, 0) {
+        Ok(_) => Ok(()),
+        Err(fault) => add_fault(alloc, line, fault),
+    }
 }
 
 /// Serves to a writer that has room for each number of bytes below those of the output, and answers why the rest wasn't
@@ -75,16 +84,36 @@ fn serve_each<T: Threads + Wait + Sync>(
     answer: &mut Vec<u8>,
 ) -> Result<(), AllocError> {
     let (whole, _) = served(rt, alloc, reads, writes.with_room(usize::MAX), input)?;
-    let mut last = String::new(alloc);
+    let mut last = Vec::new(alloc);
     for room in 0..whole.len() {
-        let (written, line) = served(rt, alloc, reads, writes.with_room(room), input)?;
-        if written.as_slice() != &whole.as_slice()[..room] {
-            return add_line(answer, format!(in alloc; "other bytes at {room}")?.as_str());
-        }
-        if line.as_str() != last.as_str() {
-            answer.extend_from_slice(line.as_bytes())?;
-            last = line;
-        }
+        let wanted = &whole.as_slice()[..room];
+        let writes = writes.with_room(room);
+        serve_one(rt, alloc, reads, writes, input, wanted, &mut last, answer)?;
     }
     Ok(())
+}
+
+/// Serves to a writer, and answers why the rest wasn't served where that isn't what was answered last, or that it has
+/// other bytes than those.
+fn serve_one<T: Threads + Wait + Sync>(
+    rt: &T,
+    alloc: Global,
+    reads: Reads,
+    writes: Writes,
+    input: &[u8],
+    wanted: &[u8],
+    last: &mut Vec<u8>,
+    answer: &mut Vec<u8>,
+) -> Result<(), AllocError> {
+    let (written, line) = served(rt, alloc, reads, writes, input)?;
+    if written.as_slice() == wanted {
+        add_unlike(answer, last, line)
+    } else {
+        add_other_bytes(alloc, wanted.len(), answer)
+    }
+}
+
+/// Adds that a writer that had room for so many bytes has others.
+fn add_other_bytes(alloc: Global, room: usize, answer: &mut Vec<u8>) -> Result<(), AllocError> {
+    add_line(answer, format!(in alloc; "other bytes at {room}")?.as_str())
 }

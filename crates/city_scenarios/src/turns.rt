@@ -1,5 +1,5 @@
 //! The verb `turns`: scripts that take turns at a desk.
-ghost use Rattle.city_model.specs.CityMap.{at};
+ghost use Rattle.city_model.specs.CityMap.{object_at};
 ghost use Rattle.city_model.specs.Relations.{IsLawful};
 
 use crate::change::change_text;
@@ -33,7 +33,7 @@ fn play_over(
     lines: &str,
     answer: &mut Vec<u8>,
 ) -> Result<(), AllocError>
-    requires { IsLawful (at city.1) }
+    requires { IsLawful (object_at city.1) }
 {
     let mut desk = Desk::open(alloc, city, scripts, ListShelf::new(alloc))?;
     let taken = take_steps(&mut desk, alloc, lines, answer);

@@ -16,6 +16,8 @@ pub struct Writes {
     stuck: bool,
     /// Whether it holds what it takes until it is flushed.
     holds: bool,
+    /// How many flushes are interrupted at first.
+    unready: usize,
     /// Whether its flush fails.
     unflushed: bool,
 }
@@ -35,6 +37,7 @@ impl Writes {
             room: full.or(stuck).unwrap_or(usize::MAX),
             stuck: words.contains("stuck"),
             holds: words.contains("holds"),
+            unready: number_after(words, "unready ").unwrap_or(0),
             unflushed: words.contains("unflushed"),
         }
     }
@@ -98,6 +101,10 @@ impl Write for Taking {
     }
 
     fn flush(&mut self) -> io::Result<()> {
+        if self.habits.unready > 0 {
+            self.habits.unready = self.habits.unready.saturating_sub(1);
+            return Err(io::Error::from(ErrorKind::Interrupted));
+        }
         if self.habits.unflushed {
             return Err(io::Error::other("full"));
         }

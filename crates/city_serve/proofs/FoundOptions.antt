@@ -12,7 +12,8 @@ use Rattle.clap.specs.Faults.{built_fault, check_fault, defaults_fault, entered_
 use Rattle.clap.specs.declared.builder.value_parser.Reading.TheVariants.{AsWritten}
 use Rattle.clap.specs.declared.error.kind.ErrorKind.TheVariants.{UnknownArgument}
 use Rattle.clap.specs.declared.parser.matches.ValueSource.TheVariants.{DefaultValue}
-use Rattle.city_serve.specs.CommandLines.{IsLineOf, cityed_command, ends, flag_rule, gives_decimals, gives_name}
+use Rattle.city_serve.specs.CommandLines.{IsLineOf, ends, gives_decimals, gives_name}
+use Rattle.city_serve.specs.inside.CommandShape.{cityed_command, flag_rule}
 use Rattle.city_serve.specs.CommandLines.{gives_watch, gives_workers}
 use Rattle.city_serve.proofs.GivenOptions.{Ends, Place, flag_row, is_over, line_goes, model_next, none_next, rows_in}
 use Rattle.city_serve.proofs.GivenOptions.{rules, scripts_next, stands, text_row, top}

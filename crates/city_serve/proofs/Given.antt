@@ -26,7 +26,8 @@ use Rattle.city_serve.specs.ServedTexts.{IsFaultOfRun}
 use Rattle.city_desk.specs.TextRuns.{IsRun}
 use Rattle.city_decimals.specs.Lines.{AreDecodedLines}
 use Rattle.city_model.specs.declared.end.End.{End}
-use Rattle.city_serve.specs.Decimals.{IsGiven, IsReadEncoded, IsRefusedText, HasWholeNumbers, IsOfWholeNumbers}
+use Rattle.city_serve.specs.Decimals.{IsGiven, IsReadEncoded, IsRefusedText, IsOfWholeNumbers}
+use Rattle.city_serve.specs.inside.WholeTexts.{HasWholeNumbers}
 use Rattle.city_serve.specs.Decimals.{IsDecimalsRun, IsFaultOfDecimalsRun}
 
 -- a text that is read has a value
@@ -129,8 +130,8 @@ module _ (model commands given_model given_commands : List ℕ) (first : IsGiven
     encoded_document = given_model;
     encoded_scripts = given_commands;
     output = output;
-    document_is = given_is_encoded model given_model ran.admitted.0 first ran.admitted.1;
-    scripts_are = given_is_encoded commands given_commands ran.read_as.0 second ran.read_as.1;
+    document_is = given_is_encoded model given_model ran.read.admitted.0 first ran.read.admitted.1;
+    scripts_are = given_is_encoded commands given_commands ran.read.read_as.0 second ran.read.read_as.1;
     ran = ran;
     decoded = decoded;
   }

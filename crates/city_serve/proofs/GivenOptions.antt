@@ -17,7 +17,8 @@ use Rattle.clap.specs.Faults.{bundle_fault, flag_word_fault, settle_fault, step_
 use Rattle.clap.specs.declared.builder.value_parser.Reading.TheVariants.{AsWritten}
 use Rattle.clap.specs.declared.error.kind.ErrorKind.TheVariants.{ArgumentConflict, UnknownArgument}
 use Rattle.clap.specs.declared.parser.matches.ValueSource.TheVariants.{CommandLine}
-use Rattle.city_serve.specs.CommandLines.{IsLineOf, IsName, cityed_command, ends, gives_decimals, gives_name}
+use Rattle.city_serve.specs.CommandLines.{IsLineOf, IsName, ends, gives_decimals, gives_name}
+use Rattle.city_serve.specs.inside.CommandShape.{cityed_command}
 use Rattle.city_serve.specs.CommandLines.{gives_watch, gives_workers}
 use Rattle.city_serve.proofs.Rows.{AreFresh, behind, not_both, row_by, untrue, used_fresh}
 

@@ -9,7 +9,8 @@ use Rattle.clap.specs.Walk.{Text, first_of, one_of}
 use Rattle.clap.specs.Kinds.{IsAmong, Kinds}
 use Rattle.clap.specs.declared.error.kind.ErrorKind.TheVariants.{OutOfMemory, UnknownArgument}
 use Rattle.clap.specs.declared.error.kind.ErrorKind.{ErrorKind}
-use Rattle.city_serve.specs.CommandLines.{AnswersNames, AnswersOptions, AnswersPlaces, AreOptionsOf, AreWithin}
+use Rattle.city_serve.specs.CommandLines.{AnswersNames, AnswersOptions, AreOptionsOf, AreWithin}
+use Rattle.city_serve.specs.inside.CommandShape.{AnswersPlaces}
 use Rattle.city_serve.specs.CommandLines.{HasOptions, IsCount, IsLineOf, IsName, IsWantOfMemory, ends, gives_name}
 use Rattle.city_serve.specs.CommandLines.{plain_options}
 use Rattle.city_serve.specs.declared.command_line.Asked.{Asked}

@@ -1,14 +1,12 @@
 -- What is written for two texts whose numbers are of any form: they are encoded, and the output of a run is decoded.
-use Rattle.std.specs.Prelude.{◌≡◌, ◌≢◌, ◌⊎◌, ℕ, Bool, true, List, Option, Some, None}
+use Rattle.std.specs.Prelude.{◌≡◌, ◌≢◌, ◌⊎◌, ℕ, Bool, List, Option, None}
 use Rattle.std.specs.Global.{Vec}
 use Rattle.std.specs.Str.{IsUtf8}
 use Rattle.json.specs.Json.{document}
-use Rattle.serde_json.specs.Data.{Data}
 use Rattle.city_model.specs.declared.end.End.{End}
 use Rattle.city_doc.specs.declared.fault.ReadFault.{ReadFault}
 use Rattle.city_doc.specs.declared.fault.ScriptFault.{ScriptFault}
-use Rattle.city_model.specs.Integral.{is_integral}
-use Rattle.city_doc.specs.tree.Texts.{IsTooLong, IsReadable, HasTree}
+use Rattle.city_doc.specs.tree.Texts.{IsTooLong, IsReadable}
 use Rattle.city_decimals.specs.Texts.{IsEncoded}
 use Rattle.city_decimals.specs.Lines.{AreDecodedLines}
 use Rattle.city_desk.specs.declared.fault.RunFault.{RunFault}
@@ -30,10 +28,6 @@ IsReadEncoded text encoded = IsReadable text × IsEncoded text encoded
 -- the run is given the encoded text, and a text that is refused as it stands
 abbrev pub IsGiven : List ℕ → List ℕ → Type 0
 IsGiven text given = IsReadEncoded text given ⊎ (IsRefusedText text × (given ≡ text))
-
--- each tree that the editor may read from the text has only whole numbers
-abbrev pub HasWholeNumbers : List ℕ → Type 0
-HasWholeNumbers text = (d : Data) → HasTree text d → is_integral d ≡ true
 
 -- ---- what it answers
 

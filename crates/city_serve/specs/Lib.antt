@@ -4,3 +4,4 @@ pub mod FaultTexts
 pub mod SeenTexts
 pub mod Served
 pub mod ServedTexts
+pub mod inside

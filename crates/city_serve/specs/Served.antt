@@ -19,29 +19,29 @@ read_of input = take max_input input
 abbrev pub is_newline : ℕ → Bool
 is_newline byte = byte == 10
 
-abbrev pub document_of : List ℕ → List ℕ
-document_of bytes = before_first is_newline bytes
+abbrev pub document_part : List ℕ → List ℕ
+document_part bytes = before_first is_newline bytes
 
-abbrev pub scripts_of : List ℕ → List ℕ
-scripts_of bytes = after_first is_newline bytes
+abbrev pub scripts_part : List ℕ → List ℕ
+scripts_part bytes = after_first is_newline bytes
 
 -- the writer has got the bytes that are written of the two texts of the input, and no others
 abbrev pub IsServedBy : Written → List ℕ → ℕ → ℕ → List (Vec ℕ) → Option (List ℕ) → Option (List ℕ) → Type 0
 IsServedBy ran input workers viewers seen old new =
-    AreServedBy ran (document_of (read_of input)) (scripts_of (read_of input)) workers viewers seen old new
+    AreServedBy ran (document_part (read_of input)) (scripts_part (read_of input)) workers viewers seen old new
 
 -- the writer has got the first of the bytes that are written of the two texts of the input, and no others
 abbrev pub IsCutShortBy : Written → List ℕ → ℕ → ℕ → Option (List ℕ) → Option (List ℕ) → Type 0
 IsCutShortBy ran input workers viewers old new =
-    AreCutShortBy ran (document_of (read_of input)) (scripts_of (read_of input)) workers viewers old new
+    AreCutShortBy ran (document_part (read_of input)) (scripts_part (read_of input)) workers viewers old new
 
 -- the same of a run on the two texts
 abbrev pub IsServed : List ℕ → ℕ → ℕ → List (Vec ℕ) → Option (List ℕ) → Option (List ℕ) → Type 0
 IsServed = IsServedBy IsRun
 
 -- the reader has failed, or ran out of memory
-abbrev pub IsReadFault : Bool → ServeFault → Type 0
-IsReadFault failed f = ((f ≡ ServeFault.Read) × (failed ≡ true)) ⊎ (f ≡ ServeFault.Run RunFault.OutOfMemory)
+abbrev pub IsDeviceFault : Bool → ServeFault → Type 0
+IsDeviceFault failed f = ((f ≡ ServeFault.Read) × (failed ≡ true)) ⊎ (f ≡ ServeFault.Run RunFault.OutOfMemory)
 
 -- Read comes only where the reader has failed, and Write only where the writer has. Where the reader or
 -- the run is at fault, the writer has got nothing
@@ -51,7 +51,7 @@ IsServeFaultBy ran faults input workers viewers reader_failed old new writer_fai
     Keeps old new × (reader_failed ≡ true)
 IsServeFaultBy ran faults input workers viewers reader_failed old new writer_failed (ServeFault.Run f) =
     Keeps old new × IfSome input (λ all.
-    faults (document_of (read_of all)) (scripts_of (read_of all)) workers viewers f)
+    faults (document_part (read_of all)) (scripts_part (read_of all)) workers viewers f)
 IsServeFaultBy ran faults input workers viewers reader_failed old new writer_failed ServeFault.Write =
     IfSome input (λ all. IsCutShortBy ran all workers viewers old new) × (writer_failed ≡ true)
 

@@ -2,10 +2,11 @@
 ghost use Rattle.std.specs.Prelude.{◌≡◌, ◌≢◌, ◌⊎◌, ◌≤◌, ◌∷◌, ℕ, Bool, false, List, Option, Some, None, Ok, Err};
 ghost use Rattle.std.specs.Prelude.{All, drop, map, option_map, string_bytes, IfOk, IsErr, MatchOption, MatchResult};
 ghost use Rattle.clap.specs.Words.{app_of, kind_of, rule_of};
-ghost use Rattle.city_serve.specs.CommandLines.{cityed_command, files_command, flag_rule, option_rule, plain_options};
-ghost use Rattle.city_serve.specs.CommandLines.{IsName, IsLineOf, AnswersNames, AnswersOptions, AnswersPlaces};
+ghost use Rattle.city_serve.specs.CommandLines.{plain_options, IsName, IsLineOf, AnswersNames, AnswersOptions};
 ghost use Rattle.city_serve.specs.CommandLines.{AreOptionsOf, AsksForText, HasOptions, IsCount, IsShown};
 ghost use Rattle.city_serve.specs.CommandLines.{MeetsUnknownOption};
+ghost use Rattle.city_serve.specs.inside.CommandShape.{cityed_command, files_command, flag_rule, option_rule};
+ghost use Rattle.city_serve.specs.inside.CommandShape.{AnswersPlaces};
 
 use clap::error::ErrorKind;
 use clap::{Arg, ArgAction, Command, Error};

@@ -1,7 +1,7 @@
 //! A reader or a writer that keeps whether it has failed.
 ghost use Rattle.std.specs.Prelude.{◌≡◌, ◌<◌, ◌≤◌, true, false, length, take, IfOk, IfErr, IfSome, IsSome, IsNone, OnOk, OnErr};
 ghost use Rattle.std.specs.Io.KnownBytes.{Appends, Consumes, IsAtEnd, Keeps};
-ghost use Rattle.city_serve.specs.Served.{IsReadFault};
+ghost use Rattle.city_serve.specs.Served.{IsDeviceFault};
 
 use crate::fault::ServeFault;
 use city_desk::RunFault;
@@ -51,7 +51,7 @@ impl<R: Read> Device<R> {
         ensures end { IfOk result (λ n. n ≡ 0 → IsAtEnd (R.remaining self.new.0)) }
         ensures unfailed { OnOk result (self.new.1 ≡ self.old.1) }
         ensures kept { OnErr result (Keeps (R.remaining self.old.0) (R.remaining self.new.0)) }
-        ensures fault { IfErr result (IsReadFault self.new.1) }
+        ensures fault { IfErr result (IsDeviceFault self.new.1) }
     {
         for _ in 0..u64::MAX {
             match self.inner.read(chunk) {
@@ -95,18 +95,23 @@ impl<W: Write> Device<W> {
         None
     }
 
-    /// Flushes the writer, and says whether that succeeded.
+    /// Flushes the writer, again where that was interrupted, and says whether it succeeded.
     pub fn flush(&mut self) -> bool
         ensures kept { Keeps (W.contents self.old.0) (W.contents self.new.0) }
         ensures unfailed { result ≡ true → self.new.1 ≡ self.old.1 }
         ensures failed { result ≡ false → self.new.1 ≡ true }
     {
-        match self.inner.flush() {
-            Ok(()) => true,
-            Err(_) => {
-                self.failed = true;
-                false
+        for _ in 0..u64::MAX {
+            match self.inner.flush() {
+                Ok(()) => return true,
+                Err(error) => {
+                    if error.kind() != ErrorKind::Interrupted {
+                        break;
+                    }
+                }
             }
         }
+        self.failed = true;
+        false
     }
 }

@@ -27,3 +27,14 @@ impl From<AllocError> for ServeFault {
         ServeFault::Run(RunFault::OutOfMemory)
     }
 }
+
+impl From<RunFault> for ServeFault {
+    ghost use Rattle.std.specs.Prelude.{◌≡◌};
+    ghost use Rattle.city_serve.specs.declared.fault.ServeFault.{ServeFault};
+
+    ghost from_gives = { λ f s. s ≡ ServeFault.Run f };
+
+    fn from(fault: RunFault) -> ServeFault {
+        ServeFault::Run(fault)
+    }
+}

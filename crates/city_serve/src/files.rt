@@ -1,8 +1,8 @@
 //! Reads a text from a file.
 ghost use Rattle.std.specs.Prelude.{◌≡◌, ◌+◌, true, take, IfOk, IfErr, IfSome, OnOk};
 ghost use Rattle.city_doc.specs.tree.Texts.{max_text};
-ghost use Rattle.city_serve.specs.Served.{IsReadFault};
-ghost use Rattle.city_serve.specs.ServedTexts.{IsEnoughOf};
+ghost use Rattle.city_serve.specs.Served.{IsDeviceFault};
+ghost use Rattle.city_serve.specs.ServedTexts.{IsEnoughOf, LosesAtMost};
 
 use crate::device::Device;
 use crate::fault::ServeFault;
@@ -22,7 +22,7 @@ const MOST: usize = MAX_TEXT + 1;
 ///
 /// A file that can't be opened or read is the fault Read.
 pub fn read_file<R: Files + AllocGlobal>(rt: &R, path: &str) -> Result<Vec<u8>, ServeFault>
-    ensures { IfErr result (IsReadFault true) }
+    ensures { IfErr result (IsDeviceFault true) }
 {
     match fs::open(rt, path) {
         Ok(file) => read_text(rt.alloc(), &mut Device::new(file)),
@@ -32,7 +32,7 @@ pub fn read_file<R: Files + AllocGlobal>(rt: &R, path: &str) -> Result<Vec<u8>, 
 
 /// The fault that an error of this kind in opening a file is.
 fn open_fault(kind: ErrorKind) -> ServeFault
-    ensures { IsReadFault true result }
+    ensures { IsDeviceFault true result }
 {
     match kind {
         ErrorKind::OutOfMemory => ServeFault::Run(RunFault::OutOfMemory),
@@ -40,14 +40,15 @@ fn open_fault(kind: ErrorKind) -> ServeFault
     }
 }
 
-/// The text that a reader gives, or where it is too long its first `MAX_TEXT` + 1 bytes.
+/// The text that a reader gives, or where it is too long its first `MAX_TEXT` + 1 bytes; no more are taken from it.
 pub fn read_text<R: Read>(alloc: Global, reader: &mut Device<R>) -> Result<Vec<u8>, ServeFault>
     ensures read { IfOk result (λ v. IfSome (R.remaining reader.old.0)
         (λ all. v.items ≡ take (max_text + 1) all)) }
     ensures enough { IfOk result (λ v. IfSome (R.remaining reader.old.0)
         (λ all. IsEnoughOf all v.items)) }
+    ensures taken { LosesAtMost (max_text + 1) (R.remaining reader.old.0) (R.remaining reader.new.0) }
     ensures unfailed { OnOk result (reader.new.1 ≡ reader.old.1) }
-    ensures fault { IfErr result (IsReadFault reader.new.1) }
+    ensures fault { IfErr result (IsDeviceFault reader.new.1) }
 {
     read_at_most(alloc, reader, MOST)
 }

@@ -1,7 +1,7 @@
 //! Serves a document and its scripts from a reader to a writer.
 ghost use Rattle.std.specs.Prelude.{◌≡◌, ◌≤◌, true, false, IfOk, IfErr, IfSome, OnOk, position, take};
 ghost use Rattle.std.specs.Io.KnownBytes.{Appends};
-ghost use Rattle.city_serve.specs.Served.{is_newline, max_input, document_of, scripts_of, IsServed, IsReadFault, IsServeFault};
+ghost use Rattle.city_serve.specs.Served.{is_newline, max_input, document_part, scripts_part, IsServed, IsDeviceFault, IsServeFault};
 ghost use Rattle.city_serve.specs.ServedTexts.{LosesAtMost, AppendsSome};
 
 use crate::device::Device;
@@ -60,7 +60,7 @@ pub(crate) fn read_at_most<R: Read>(
         (λ all. v.items ≡ take most all)) }
     ensures taken { LosesAtMost most (R.remaining reader.old.0) (R.remaining reader.new.0) }
     ensures unfailed { OnOk result (reader.new.1 ≡ reader.old.1) }
-    ensures fault { IfErr result (IsReadFault reader.new.1) }
+    ensures fault { IfErr result (IsDeviceFault reader.new.1) }
 {
     let mut input = Vec::new(alloc);
     let mut chunk = [0; PIECE];
@@ -77,8 +77,8 @@ pub(crate) fn read_at_most<R: Read>(
 
 /// The document and the scripts of an input, each on its own.
 pub(crate) fn split(alloc: Global, input: Vec<u8>) -> Result<(Vec<u8>, Vec<u8>), AllocError>
-    ensures document { IfOk result (λ r. r.0.items ≡ document_of input.items) }
-    ensures scripts { IfOk result (λ r. r.1.items ≡ scripts_of input.items) }
+    ensures document { IfOk result (λ r. r.0.items ≡ document_part input.items) }
+    ensures scripts { IfOk result (λ r. r.1.items ≡ scripts_part input.items) }
 {
     let (document, scripts) = cut(input.as_slice());
     let scripts = scripts.to_vec(alloc)?;
@@ -90,8 +90,8 @@ pub(crate) fn split(alloc: Global, input: Vec<u8>) -> Result<(Vec<u8>, Vec<u8>),
 
 /// The document and the scripts of an input.
 fn cut(input: &[u8]) -> (&[u8], &[u8])
-    ensures document { result.0.now ≡ document_of input.now }
-    ensures scripts { result.1.now ≡ scripts_of input.now }
+    ensures document { result.0.now ≡ document_part input.now }
+    ensures scripts { result.1.now ≡ scripts_part input.now }
 {
     match first_newline(input) {
         Some(at) => (&input[..at], &input[at + 1..]),

@@ -5,13 +5,15 @@ ghost use Rattle.city_crew.specs.Seen.{AreSeen};
 ghost use Rattle.city_desk.specs.InTurn.{AreInTurn};
 ghost use Rattle.city_serve.specs.Served.{max_input};
 ghost use Rattle.city_serve.specs.ServedTexts.{LosesAtMost, WhereAlone};
-ghost use Rattle.city_serve.specs.Decimals.{IsGiven, HasWholeNumbers, IsDecimalsRun, IsFaultOfDecimalsRun};
+ghost use Rattle.city_serve.specs.Decimals.{IsGiven, IsDecimalsRun, IsFaultOfDecimalsRun};
 ghost use Rattle.city_serve.specs.Decimals.{AreServedDecimals, IsDecimalsTextsFault, IsServedDecimals, IsServeDecimalsFault};
+ghost use Rattle.city_serve.specs.inside.WholeTexts.{HasWholeNumbers};
 
 use crate::device::Device;
 use crate::fault::ServeFault;
 use crate::run::run_owned;
-use crate::serve::{MOST, read_at_most, split, write_output};
+use crate::serve::{MOST, read_at_most, split};
+use crate::serve_texts::write_run;
 use city_decimals::{DecimalsFault, decode_lines, encode};
 use city_desk::{Output, RunFault};
 use city_doc::MAX_TEXT;
@@ -68,14 +70,8 @@ pub fn serve_decimals_texts<R: Threads + Wait + Sync, W: Write>(
     ensures fault { IfErr result (IsDecimalsTextsFault document.items scripts.items workers viewers
         (W.contents writer.old.0) (W.contents writer.new.0) writer.new.1) }
 {
-    let output = match run_decimals(rt, alloc, document, scripts, workers, viewers) {
-        Ok(output) => output,
-        Err(fault) => return Err(ServeFault::Run(fault)),
-    };
-    if !write_output(writer, output.bytes.as_slice()) {
-        return Err(ServeFault::Write);
-    }
-    Ok(output.seen)
+    let output = run_decimals(rt, alloc, document, scripts, workers, viewers)?;
+    write_run(writer, output)
 }
 
 /// Runs the scripts on the document's city, both encoded, and decodes the output.

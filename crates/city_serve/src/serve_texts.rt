@@ -1,12 +1,15 @@
 //! Serves a document and its scripts from two texts to a writer.
-ghost use Rattle.std.specs.Prelude.{◌≡◌, ◌≤◌, IfOk, IfErr, OnOk};
-ghost use Rattle.city_serve.specs.ServedTexts.{AreServed, IsTextsFault};
+ghost use Rattle.std.specs.Prelude.{◌≡◌, ◌≤◌, true, IfOk, IfErr, OnOk};
+ghost use Rattle.std.specs.Io.KnownBytes.{Appends};
+ghost use Rattle.city_serve.specs.declared.fault.ServeFault.{ServeFault};
+ghost use Rattle.city_serve.specs.ServedTexts.{AppendsSome, AreServed, IsTextsFault};
 
 use crate::device::Device;
 use crate::fault::ServeFault;
 use crate::run::{run, run_owned};
 use crate::serve::write_output;
 use city_crew::{Gate, OpenGate};
+use city_desk::Output;
 use std::alloc::Global;
 use std::io::Write;
 use std::sync::Wait;
@@ -59,14 +62,8 @@ pub fn serve_texts_through<R: Threads + Wait + Sync, G: Gate + Sync, W: Write>(
     ensures fault { IfErr result (IsTextsFault document.now scripts.now workers viewers
         (W.contents writer.old.0) (W.contents writer.new.0) writer.new.1) }
 {
-    let output = match run(rt, alloc, gate, document, scripts, workers, viewers) {
-        Ok(output) => output,
-        Err(fault) => return Err(ServeFault::Run(fault)),
-    };
-    if !write_output(writer, output.bytes.as_slice()) {
-        return Err(ServeFault::Write);
-    }
-    Ok(output.seen)
+    let output = run(rt, alloc, gate, document, scripts, workers, viewers)?;
+    write_run(writer, output)
 }
 
 /// As `serve_texts`, with texts of its own, which one worker without viewers lets go once they are read.
@@ -87,10 +84,21 @@ pub fn serve_owned_texts<R: Threads + Wait + Sync, W: Write>(
     ensures fault { IfErr result (IsTextsFault document.items scripts.items workers viewers
         (W.contents writer.old.0) (W.contents writer.new.0) writer.new.1) }
 {
-    let output = match run_owned(rt, alloc, document, scripts, workers, viewers) {
-        Ok(output) => output,
-        Err(fault) => return Err(ServeFault::Run(fault)),
-    };
+    let output = run_owned(rt, alloc, document, scripts, workers, viewers)?;
+    write_run(writer, output)
+}
+
+/// Writes the bytes of a run's output, and gives what its viewers saw.
+pub(crate) fn write_run<W: Write>(
+    writer: &mut Device<W>,
+    output: Output,
+) -> Result<Vec<Vec<u64>>, ServeFault>
+    ensures written { IfOk result (λ seen.
+        (seen ≡ output.seen) × Appends (W.contents writer.old.0) (W.contents writer.new.0) output.bytes.items) }
+    ensures unfailed { OnOk result (writer.new.1 ≡ writer.old.1) }
+    ensures fault { IfErr result (λ f. (f ≡ ServeFault.Write) × (writer.new.1 ≡ true)
+        × AppendsSome (W.contents writer.old.0) (W.contents writer.new.0) output.bytes.items) }
+{
     if !write_output(writer, output.bytes.as_slice()) {
         return Err(ServeFault::Write);
     }

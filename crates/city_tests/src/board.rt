@@ -1,6 +1,6 @@
 //! A viewer of a board whose poster is a desk's shelf, on a thread of its own.
 ghost use Rattle.std.specs.Prelude.{◌≡◌, [], All, IfSome};
-ghost use Rattle.city_model.specs.CityMap.{at};
+ghost use Rattle.city_model.specs.CityMap.{object_at};
 ghost use Rattle.city_model.specs.Relations.{IsLawful};
 
 use crate::runs::{city_of, scripts_of};
@@ -22,7 +22,7 @@ fn board_over<'r, R: Wait>(
     alloc: Global,
     city: &City,
 ) -> Option<(Poster<&'r R>, Vec<Viewer>)>
-    requires lawful { IsLawful (at city.now.1) }
+    requires lawful { IsLawful (object_at city.now.1) }
     ensures names { IfSome result (λ r. All (λ v. v.name ≡ r.0.name) r.1.items) }
     ensures opening { IfSome result (λ r. r.0.opening ≡ city.now) }
     ensures taken { IfSome result (λ r. r.0.taken ≡ []) }
@@ -39,7 +39,7 @@ fn board_for_one<'r, R: Wait>(
     alloc: Global,
     city: &City,
 ) -> Option<(Poster<&'r R>, Viewer)>
-    requires { IsLawful (at city.now.1) }
+    requires { IsLawful (object_at city.now.1) }
     ensures name { IfSome result (λ r. r.1.name ≡ r.0.name) }
     ensures opening { IfSome result (λ r. r.0.opening ≡ city.now) }
     ensures taken { IfSome result (λ r. r.0.taken ≡ []) }
@@ -56,7 +56,7 @@ fn desk_over<'r, R: Wait>(
     city: City,
     poster: Poster<&'r R>,
 ) -> Option<Desk<Poster<&'r R>>>
-    requires lawful { IsLawful (at city.1) }
+    requires lawful { IsLawful (object_at city.1) }
     requires opening { poster.opening ≡ city }
     requires taken { poster.taken ≡ [] }
     ensures { IfSome result (λ desk. desk.1.name ≡ poster.entry.name) }

@@ -1,5 +1,5 @@
 //! Calls of a transaction core: each that ran out of memory is made again, and answers then.
-ghost use Rattle.city_model.specs.CityMap.{at};
+ghost use Rattle.city_model.specs.CityMap.{object_at};
 ghost use Rattle.city_model.specs.Relations.{IsLawful};
 
 use crate::runs::{city_of, scripts_of};
@@ -86,7 +86,7 @@ fn is_done_or_absent(core: &mut Core, commands: &[Command]) -> bool {
 /// Whether a core over a city does commands, which change so many objects, and leaves the city of this text: where they
 /// change none, the first may be done alone, or not at all.
 fn is_left(alloc: Global, city: City, commands: &[Command], count: usize, wanted: &str) -> bool
-    requires { IsLawful (at city.1) }
+    requires { IsLawful (object_at city.1) }
 {
     let mut core = Core::open(alloc, city);
     let done = if count == 0 {

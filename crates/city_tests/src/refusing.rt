@@ -39,6 +39,8 @@ impl Shelf for Refusing {
 
     ghost name = { λ shelf. [] };
 
+    ghost published = { λ shelf. None };
+
     ghost tells = { λ shelf note. Unit {0} };
 
     fn take(&mut self, change: Change) -> Result<(), OutOfMemory> {

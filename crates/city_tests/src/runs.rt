@@ -1,6 +1,6 @@
 //! Runs that growths are refused in.
 ghost use Rattle.std.specs.Prelude.{IfSome};
-ghost use Rattle.city_model.specs.CityMap.{at};
+ghost use Rattle.city_model.specs.CityMap.{object_at};
 ghost use Rattle.city_model.specs.Relations.{IsLawful};
 
 use city_desk::{Desk, ListShelf};
@@ -19,7 +19,7 @@ pub struct Run {
 
 /// The city of a document.
 pub fn city_of(alloc: Global, document: &str) -> Option<City>
-    ensures { IfSome result (λ city. IsLawful (at city.1)) }
+    ensures { IfSome result (λ city. IsLawful (object_at city.1)) }
 {
     match read_city(alloc, document.as_bytes()) {
         Ok(city) => Some(city),

@@ -8,8 +8,10 @@ use Rattle.city_model.specs.declared.command.Command.{Command}
 use Rattle.city_model.specs.declared.command.Command.TheVariants.{Read, Put, Delete, Attach, Detach, Mark, Back, Commit, Abort}
 use Rattle.city_model.specs.declared.command.Reply.{Reply}
 use Rattle.city_model.specs.CityMap.{CityMap}
-use Rattle.city_model.specs.Marks.{Marked, marking, step, answer}
-use Rattle.city_model.specs.Meaning.{cause_of, after, is_refusal, locks_of}
+use Rattle.city_model.specs.Marks.{Marked}
+use Rattle.city_model.specs.Meaning.{is_refusal, locks_of}
+use Rattle.city_model.specs.Scripts.{is_end}
+use Rattle.city_model.proofs.Effects.{effect_is}
 use Rattle.city_model.proofs.IdLists.{bool_cases}
 use Rattle.city_model.proofs.History as history
 use Rattle.city_locks.specs.declared.answer.Answer.{Answer}
@@ -22,22 +24,27 @@ use Rattle.city_txn.specs.declared.step.Step.{Step}
 use Rattle.city_txn.specs.declared.step.Step.TheVariants as steps
 use Rattle.city_txn.specs.declared.step.TxnFault.{TxnFault}
 use Rattle.city_txn.specs.declared.step.TxnFault.TheVariants.{NotOpen, OutOfMemory}
-use Rattle.city_txn.specs.State.{State, Write, write_of, own_write, unless_by, is_reserved}
-use Rattle.city_txn.specs.UndoLog.{Logs, Written, log_of, has_before, written_as}
-use Rattle.city_model.specs.Standing.{Lock, Answered, AllHeld, covers, names, names_exclusively}
-use Rattle.city_txn.specs.CoreState.{CoreState, view, own, written, seen, is_open, held, held_in, Stands, IsConsistent}
-use Rattle.city_txn.specs.Core.{core_state, IsCore}
-use Rattle.city_txn.specs.Locking.{granted_before, GainsFirst, HoldsLock, IsBlocked, Asked}
-use Rattle.city_txn.specs.Acting.{writes_id, own_after, seen_after, reply_in, answer_in, granted_in, step_of, finds_as, finds_mark, is_done, with_step, Acted}
-use Rattle.city_txn.specs.Performing.{AreNoted, Performed}
+use Rattle.city_txn.specs.inside.State.{State, is_reserved}
+use Rattle.city_txn.specs.Writes.{Write, write_of, own_write, unless_by}
+use Rattle.city_txn.specs.UndoLog.{Logs, Written, log_of, has_before, written_after}
+use Rattle.city_model.specs.Standing.{Lock, Answered, AllHeld, covers, locks_id, locks_id_exclusively}
+use Rattle.city_model.specs.inside.CommandParts.{marking, seen_next, answer, cause_of, after}
+use Rattle.city_txn.specs.CoreState.{CoreState, view, own, written, snapshot, is_open, held, held_in, StandsUnderLocks}
+use Rattle.city_txn.specs.inside.Core.{core_state, IsCore, IsConsistent}
+use Rattle.city_txn.specs.Locking.{granted_before, GainsFirst, IsBlocked}
+use Rattle.city_txn.specs.inside.Asking.{HoldsLock, Asked}
+use Rattle.city_txn.specs.Acting.{own_after, answer_in, granted_in, step_of, is_done, with_step, IsAct}
+use Rattle.city_txn.specs.inside.Done.{writes_id, own_done, seen_after, reply_in, finds_as, finds_mark}
+use Rattle.city_txn.specs.inside.Performing.{AreNoted, IsPerform}
 use Rattle.city_txn.specs.declared.txn_core.Core.TheInside.{Inside}
 use Rattle.city_txn.proofs.Ended.{held_exclusively, sound_view}
-use Rattle.city_txn.proofs.SeenWrites.{seen_same, written_same, step_seen, IsCovered, covered_as, own_covered, marks_covered, own_same, write_same, others_write}
+use Rattle.city_txn.proofs.SeenWrites.{seen_same, written_same, step_seen, IsCovered, covered_after, own_covered, marks_covered, own_same, write_same, others_write}
 use Rattle.city_txn.proofs.CoreFields.{open_is}
 use Rattle.city_txn.proofs.LocksGained.{LocksGained, seen_gained, view_gained, stands_gained, keeps_gained, exclusive_kept, gained_consistent, all_granted, no_more_locks}
 use Rattle.city_txn.proofs.LocksAsked.{gains_nothing, blocked_weaker}
 use Rattle.city_txn.proofs.CommandDone.{CommandDone, stands_done, stands_refused, keeps_done, done_consistent}
 use Rattle.city_txn.proofs.PlanWritten.{or_cases}
+use Rattle.city_txn.proofs.Answering.{went_back, written_alike}
 
 -- ---- no command done
 
@@ -48,33 +55,36 @@ no_step (Ok steps.Die) c done h = refl
 no_step (Err e) c done h = refl
 
 -- locks may have been gained
-not_done : (s : ℕ) (c : Command) (result : Result Step TxnFault) (v w : CoreState) (ls : List Lock) → LocksGained s ls v w → is_done result ≡ false →
+not_done : (s : ℕ) (c : Command) (result : Result Step TxnFault) (v w : CoreState) (ls : List Lock) → is_end c ≡ false → LocksGained s ls v w → is_done result ≡ false →
     IfOk result (λ step. step ≡ step_of (answer_in v s c) (reply_in v s c)) →
     IfErr result (λ e. e ≡ (if is_open v s then OutOfMemory else NotOpen s)) →
     (is_open v s ≡ false → IsErr result) →
     (is_open v s ≡ true → answer_in v s c ≢ Granted → AllHeld (held v s) (granted_in v s c) → IsOk result) →
-    (is_open v s ≡ true → finds_mark (seen v s) c ≡ true → IsOk result) →
+    (is_open v s ≡ true → finds_mark (snapshot v s) c ≡ true → IsOk result) →
     OnOk result (IsBlocked (λ t. is_open v t ≡ true) s (answer_in v s c)) →
     GainsFirst s (granted_in v s c) v.locks w.locks →
     OnOk result (AllHeld (held w s) (granted_in v s c)) →
-    Acted s c result v w
-not_done s c result v w ls k idle step fault shut answered found blocked gains granted = record {
+    IsAct s c result v w
+not_done s c result v w ls no_end k idle step fault shut answered found blocked gains granted = record {
+  reply = reply_in v s c;
+  after = seen_after v s c;
+  does = effect_is (snapshot v s) c no_end;
   step = step;
   fault = fault;
   not_open = shut;
   answered = answered;
-  found = found;
+  found = λ e h. found e (went_back (snapshot v s) c h);
   blocked = blocked;
-  sees = seen_gained s ls v w k s ∙ sym (ap (λ b. if b then seen_after v s c else seen v s) idle);
+  sees = seen_gained s ls v w k s ∙ sym (ap (λ b. if b then seen_after v s c else snapshot v s) idle);
   city = k.city;
   views = λ t ne. seen_gained s ls v w k t;
   opened = k.opened s;
   locks = gains;
   granted = granted;
-  writes = k.written s ∙ sym (ap (λ b. if b then written_as (marking c) (own_after (view v s) (own v s) c) (written v s) else written v s) idle);
+  writes = k.written s ∙ sym (ap (λ b. if b then written_after c (own_after (own v s) (locks_of (view v s) c) (reply_in v s c) (seen_after v s c).map) (written v s) else written v s) idle);
   unwritten = λ q. ap (unless_by s) (k.writes q);
   others = λ t ne. k.written t;
-  own = λ done f. subst (λ ds. Stands w s ds) (sym (no_step result c done idle)) (stands_gained s ls v w k s done f);
+  own = λ done f. subst (λ ds. StandsUnderLocks w s ds) (sym (no_step result c done idle)) (stands_gained s ls v w k s done f);
   refused = λ h done f. stands_gained s ls v w k s done f;
   keeps = keeps_gained s ls v w k;
 }
@@ -108,32 +118,36 @@ nothing_gained s ls v c = record {
 -- ---- a command done
 
 acted_done : (s : ℕ) (c : Command) (r : Reply) (v u w : CoreState) (ls : List Lock) → is_open v s ≡ true → LocksGained s ls v u → CommandDone s c r u w →
-    GainsFirst s (granted_in v s c) v.locks u.locks → answer_in v s c ≡ Granted → Acted s c (Ok (steps.Done r)) v w
+    GainsFirst s (granted_in v s c) v.locks u.locks → answer_in v s c ≡ Granted → IsAct s c (Ok (steps.Done r)) v w
 acted_done s c r v u w ls o k d gains granted =
-    let same : seen u s ≡ seen v s = seen_gained s ls v u k s in
+    let same : snapshot u s ≡ snapshot v s = seen_gained s ls v u k s in
     let map_same : view u s ≡ view v s = view_gained s ls v u k s in
-    let reply : r ≡ reply_in v s c = sym d.reply ∙ ap (λ x. answer x c) same in
+    let got : r ≡ reply_in v s c = sym d.reply ∙ ap (λ x. answer x c) same in
     let kept = keeps_gained s ls v u k in
     let done = keeps_done s c r u w d in
     record {
-      step = ap steps.Done reply ∙ ap (λ a. step_of a (reply_in v s c)) (sym granted);
+      reply = reply_in v s c;
+      after = seen_after v s c;
+      does = effect_is (snapshot v s) c d.no_end;
+      step = ap steps.Done got ∙ ap (λ a. step_of a (reply_in v s c)) (sym granted);
       fault = tt;
       not_open = λ e. absurd (false≢true (sym e ∙ o));
       answered = λ e n h. refl;
       found = λ e h. refl;
       blocked = subst (IsBlocked (λ t. is_open v t ≡ true) s) (sym granted) tt;
-      sees = d.sees ∙ ap (λ x. step x c) same;
+      sees = d.sees ∙ ap (λ x. seen_next x c) same;
       city = d.city ∙ k.city;
       views = λ t ne. seen_same u w t d.city (d.others t ne) ∙ seen_gained s ls v u k t;
       opened = d.opened s ∙ k.opened s;
       locks = subst (GainsFirst s (granted_in v s c) v.locks) (sym d.locks) gains;
       granted = subst (AllHeld (held w s)) (sym (all_granted v.locks s (locks_of (view v s) c) granted)) (subst (λ m. AllHeld (held w s) (locks_of m c)) map_same d.all_held);
-      writes = d.writes ∙ ap (λ m. written_as (marking c) (own_after m (own u s) c) (written u s)) map_same
-          ∙ ap (λ (x : Written). written_as (marking c) (own_after (view v s) x.0 c) x) (k.written s);
+      writes = d.writes ∙ ap (λ m. written_after c (own_done m (own u s) c) (written u s)) map_same
+          ∙ ap (λ (x : Written). written_after c (own_done (view v s) x.0 c) x) (k.written s)
+          ∙ written_alike (snapshot v s) c (own v s) (written v s);
       unwritten = λ q. d.unwritten q ∙ ap (unless_by s) (k.writes q);
       others = λ t ne. d.others t ne ∙ k.written t;
       own = λ ds f. stands_done s c r u w d ds (stands_gained s ls v u k s ds f);
-      refused = λ h ds f. stands_refused s c r u w d (ap is_refusal reply ∙ h) ds (stands_gained s ls v u k s ds f);
+      refused = λ h ds f. stands_refused s c r u w d (ap is_refusal got ∙ h) ds (stands_gained s ls v u k s ds f);
       keeps = record {
         frame = done.frame ∙ kept.frame;
         opened = λ t ne. done.opened t ne ∙ kept.opened t ne;
@@ -153,7 +167,7 @@ some_mode (Some m) h = refl
 
 -- ---- a call, of a core that is seen as v: its locks are asked for, and ks are the locks then
 
-module _ (a : Inside) (k : IsCore a) {v : CoreState} (known : core_state a ≡ v) (s : ℕ) (c : Command) (here : is_open v s ≡ true) (ks : Locks) where
+module _ (a : Inside) (k : IsCore a) {v : CoreState} (known : core_state a ≡ v) (s : ℕ) (c : Command) (here : is_open v s ≡ true) (no_end : is_end c ≡ false) (ks : Locks) where
   abbrev m : CityMap
   m = view (core_state a) s
 
@@ -191,22 +205,22 @@ module _ (a : Inside) (k : IsCore a) {v : CoreState} (known : core_state a ≡ v
         IfOk result (λ step. step ≡ step_of (answer_in (core_state a) s c) (reply_in (core_state a) s c)) →
         IfErr result (λ e. e ≡ OutOfMemory) →
         (answer_in (core_state a) s c ≢ Granted → AllHeld (held (core_state a) s) (granted_in (core_state a) s c) → IsOk result) →
-        (finds_mark (seen (core_state a) s) c ≡ true → IsOk result) →
+        (finds_mark (snapshot (core_state a) s) c ≡ true → IsOk result) →
         OnOk result (IsBlocked (HoldsLock a.locks) s (answer_in (core_state a) s c)) →
         GainsFirst s (granted_in (core_state a) s c) a.locks w.locks →
-        OnOk result (AllHeld (held w s) (granted_in (core_state a) s c)) → Acted s c result v w
-    stopped result w g idle step fault answered found blocked gains held = subst (λ u. Acted s c result u w) known (not_done s c result (core_state a) w ask.gains.gained g idle step
+        OnOk result (AllHeld (held w s) (granted_in (core_state a) s c)) → IsAct s c result v w
+    stopped result w g idle step fault answered found blocked gains held = subst (λ u. IsAct s c result u w) known (not_done s c result (core_state a) w ask.gains.gained no_end g idle step
         (subst (λ f. IfErr result (λ e. e ≡ f)) (sym (ap (λ b. if b then OutOfMemory else NotOpen s) o)) fault) (λ f. absurd (false≢true (sym f ∙ o))) (λ e. answered) (λ e. found)
         (on_ok_weaker result (blocked_weaker (HoldsLock a.locks) (λ t. is_open (core_state a) t ≡ true) s (λ t ne h. k.state.open_only t h.0 h.1) (answer_in (core_state a) s c)) blocked)
         gains held)
 
-  pub asked_failed : {E : Type 0} (e : E) → Asked s (locks_of m c) (Err e) a.locks ks → Acted s c (Err OutOfMemory) v (core_state locked)
+  pub asked_failed : {E : Type 0} (e : E) → Asked s (locks_of m c) (Err e) a.locks ks → IsAct s c (Err OutOfMemory) v (core_state locked)
   asked_failed {E} e ask = stopped ask (Err OutOfMemory) (core_state locked) (gained ask) refl tt refl (λ n. ask.answered)
-      (λ h. ask.answered (subst (λ ls. AllHeld (held_in a.locks s) (granted_before a.locks s ls)) (sym (unlocked m c (seen (core_state a) s).marks h)) tt)) tt ask.gains tt
+      (λ h. ask.answered (subst (λ ls. AllHeld (held_in a.locks s) (granted_before a.locks s ls)) (sym (unlocked m c (snapshot (core_state a) s).marks h)) tt)) tt ask.gains tt
 
   module _ {E : Type 0} {x : Answer} (ask : Asked {E = E} s (locks_of m c) (Ok x) a.locks ks) where
     -- a lock isn't granted
-    pub asked_refused : (step : Step) → is_done (Ok step) ≡ false → step ≡ step_of x (reply_in (core_state a) s c) → Acted s c (Ok step) v (core_state locked)
+    pub asked_refused : (step : Step) → is_done (Ok step) ≡ false → step ≡ step_of x (reply_in (core_state a) s c) → IsAct s c (Ok step) v (core_state locked)
     asked_refused step idle is = stopped ask (Ok step) (core_state locked) (gained ask) idle (is ∙ ap (λ b. step_of b (reply_in (core_state a) s c)) ask.answer) tt
         (λ n h. refl) (λ h. refl) (subst (IsBlocked (HoldsLock a.locks) s) ask.answer ask.blocked) ask.gains ask.held
 
@@ -218,11 +232,11 @@ module _ (a : Inside) (k : IsCore a) {v : CoreState} (known : core_state a ≡ v
       all : AllHeld (held_in ks s) (locks_of m c)
       all = subst (AllHeld (held_in ks s)) (all_granted a.locks s (locks_of m c) granted) ask.held
 
-      mine : (q : List ℕ) → names_exclusively (locks_of m c) q ≡ true → mode_of ks s q ≡ Some Exclusive
+      mine : (q : List ℕ) → locks_id_exclusively (locks_of m c) q ≡ true → mode_of ks s q ≡ Some Exclusive
       mine q h = held_exclusively (mode_of ks s q) (history.held_exclusively (held_in ks s) (locks_of m c) q all h)
 
       -- no other than s has reserved an id that the locks name
-      pub alone_named : (q : List ℕ) → names (locks_of m c) q ≡ true → (t : ℕ) → is_reserved a.store t q ≡ true → t ≡ s
+      pub alone_named : (q : List ℕ) → locks_id (locks_of m c) q ≡ true → (t : ℕ) → is_reserved a.store t q ≡ true → t ≡ s
       alone_named q h t r = elim (cases_eq t s) [
         | inl e ↦ e
         | inr e ↦ absurd (false≢true (ap is_some (sym (ask.gains.locks.lawful k.state.lawful t s q e (kept_mode ask t q (k.reserved t q r))))
@@ -230,14 +244,14 @@ module _ (a : Inside) (k : IsCore a) {v : CoreState} (known : core_state a ≡ v
       ]
 
       -- the store and the logs afterwards are st and ls
-      module _ {F : Type 0} {r : Result Reply F} (st : State) (ls : Logs) (p : Performed s c r a.store a.logs st ls) where
+      module _ {F : Type 0} {r : Result Reply F} (st : State) (ls : Logs) (p : IsPerform s c r a.store a.logs st ls) where
         abbrev after_it : Inside
         after_it = record a { store = st; logs = ls; locks = ks }
 
         reserved_held : (t : ℕ) (q : List ℕ) → is_reserved st t q ≡ true → mode_of ks t q ≡ Some Exclusive
-        reserved_held t q h = or_cases (is_reserved a.store t q) ((s == t) && names_exclusively (locks_of m c) q) (p.reserved t q h)
+        reserved_held t q h = or_cases (is_reserved a.store t q) ((s == t) && locks_id_exclusively (locks_of m c) q) (p.reserved t q h)
             (λ e. kept_mode ask t q (k.reserved t q e))
-            (λ e. let both = and_parts (s == t) (names_exclusively (locks_of m c) q) e in
+            (λ e. let both = and_parts (s == t) (locks_id_exclusively (locks_of m c) q) e in
             ap (λ u. mode_of ks u q) (sym (eqb-true s t both.0)) ∙ mine q both.1)
 
         opened_still : (t : ℕ) → is_open (core_state after_it) t ≡ is_open (core_state a) t
@@ -265,7 +279,7 @@ module _ (a : Inside) (k : IsCore a) {v : CoreState} (known : core_state a ≡ v
         core_still : IsConsistent (core_state after_it) → IsCore after_it
         core_still state = record { state = state; reserved = reserved_held; noted = noted_still }
 
-      module _ {F : Type 0} (e : F) (st : State) (ls : Logs) (p : Performed s c (Err e) a.store a.logs st ls) where
+      module _ {F : Type 0} (e : F) (st : State) (ls : Logs) (p : IsPerform s c (Err e) a.store a.logs st ls) where
         written_still : (t : ℕ) → written (core_state (after_it st ls p)) t ≡ written (core_state a) t
         written_still t = elim (cases_eq s t) [
           | inl e ↦ subst (λ u. written (core_state (after_it st ls p)) u ≡ written (core_state a) u) e p.written
@@ -288,19 +302,19 @@ module _ (a : Inside) (k : IsCore a) {v : CoreState} (known : core_state a ≡ v
         pub failed_core : IsCore (record a { store = st; logs = ls; locks = ks })
         failed_core = core_still st ls p (gained_consistent s ask.gains.gained (core_state a) (core_state (after_it st ls p)) k.state o failed)
 
-        pub failed_acted : Acted s c (Err OutOfMemory) v (core_state (record a { store = st; logs = ls; locks = ks }))
+        pub failed_acted : IsAct s c (Err OutOfMemory) v (core_state (record a { store = st; logs = ls; locks = ks }))
         failed_acted = stopped ask (Err OutOfMemory) (core_state (after_it st ls p)) failed refl tt refl (λ n h. absurd (n granted)) (λ h. p.found h) tt ask.gains tt
 
-      module _ {F : Type 0} (r : Reply) (st : State) (ls : Logs) (p : Performed {E = F} s c (Ok r) a.store a.logs st ls) where
-        written_mine : IsCovered (held_in ks s) (own_after m (own (core_state a) s) c)
+      module _ {F : Type 0} (r : Reply) (st : State) (ls : Logs) (p : IsPerform {E = F} s c (Ok r) a.store a.logs st ls) where
+        written_mine : IsCovered (held_in ks s) (own_done m (own (core_state a) s) c)
         written_mine q h = bool_cases (writes_id m c q)
-            (λ e. ap (λ o. covers (option_map is_exclusive o) true) (mine q (writes_is_named (cause_of m c) (names_exclusively (locks_of m c) q) e)))
+            (λ e. ap (λ o. covers (option_map is_exclusive o) true) (mine q (writes_is_named (cause_of m c) (locks_id_exclusively (locks_of m c) q) e)))
             (λ e. own_covered (core_state locked) s (consistent ask) q (sym (ap (λ b. is_some (if b then Some (after m c q) else own (core_state a) s q)) e) ∙ h))
 
         -- what s wrote by now it holds exclusively
         covered_now : IsCovered (held_in ks s) (own (core_state (after_it st ls p)) s)
         covered_now = subst (λ (x : Written). IsCovered (held_in ks s) x.0) (sym p.written)
-            (covered_as (held_in ks s) (marking c) (own_after m (own (core_state a) s) c) (written (core_state a) s)
+            (covered_after (held_in ks s) c (own_done m (own (core_state a) s) c) (written (core_state a) s)
             written_mine (own_covered (core_state locked) s (consistent ask)) (marks_covered (core_state locked) s (consistent ask)))
 
         locked_still : (q : List ℕ) (y : Write) → write_of st.writes q ≡ Some y → mode_of ks y.0 q ≡ Some Exclusive
@@ -324,13 +338,14 @@ module _ (a : Inside) (k : IsCore a) {v : CoreState} (known : core_state a ≡ v
           marks_open = marks_open_still st ls p;
           all_held = all;
           reply = sym p.reply;
+          no_end = no_end;
         }
 
         pub performed_core : IsCore (record a { store = st; logs = ls; locks = ks })
         performed_core = core_still st ls p (done_consistent s c r (core_state locked) (core_state (after_it st ls p)) performed (consistent ask))
 
-        pub performed_acted : Acted s c (Ok (steps.Done r)) v (core_state (record a { store = st; logs = ls; locks = ks }))
-        performed_acted = subst (λ u. Acted s c (Ok (steps.Done r)) u (core_state (after_it st ls p))) known
+        pub performed_acted : IsAct s c (Ok (steps.Done r)) v (core_state (record a { store = st; logs = ls; locks = ks }))
+        performed_acted = subst (λ u. IsAct s c (Ok (steps.Done r)) u (core_state (after_it st ls p))) known
             (acted_done s c r (core_state a) (core_state locked) (core_state (after_it st ls p)) ask.gains.gained o (gained ask) performed ask.gains granted)
 
 -- what perform asks of the logs
@@ -338,7 +353,7 @@ pub noted_for : (a : Inside) → IsCore a → (s : ℕ) → AreNoted a.store a.l
 noted_for a k s = k.noted s
 
 -- a stamp that isn't open
-pub not_open_acted : (a : Inside) (k : IsCore a) {v : CoreState} (known : core_state a ≡ v) (s : ℕ) (c : Command) → is_open v s ≡ false → Acted s c (Err (NotOpen s)) v v
-not_open_acted a k {v} known s c shut =
-    not_done s c (Err (NotOpen s)) v v [] (nothing_gained s [] v (subst IsConsistent known k.state)) refl tt
+pub not_open_acted : (a : Inside) (k : IsCore a) {v : CoreState} (known : core_state a ≡ v) (s : ℕ) (c : Command) → is_end c ≡ false → is_open v s ≡ false → IsAct s c (Err (NotOpen s)) v v
+not_open_acted a k {v} known s c no_end shut =
+    not_done s c (Err (NotOpen s)) v v [] no_end (nothing_gained s [] v (subst IsConsistent known k.state)) refl tt
     (sym (ap (λ b. if b then OutOfMemory else NotOpen s) shut)) (λ f. refl) (λ f. absurd (false≢true (sym shut ∙ f))) (λ f. absurd (false≢true (sym shut ∙ f))) tt (gains_nothing s (granted_in v s c) v.locks) tt

@@ -15,17 +15,17 @@ use Rattle.std.proofs.lemmas.Map.{lookup-none}
 use Rattle.std.proofs.lemmas.Map.Keys.{IsDistinct-from_sorted, sorted_tail}
 use Rattle.std.proofs.lemmas.Map.Entries.{none_past_head}
 use Rattle.city_model.specs.declared.object.Object.{Object}
-use Rattle.city_model.specs.CityMap.{Entries, Objects, at, has_id, same_id}
+use Rattle.city_model.specs.CityMap.{Entries, Objects, object_at, has_id, same_id}
 use Rattle.city_model.proofs.Objects.{at_entries, entries_ascend, at_sorted, same_objects}
 use Rattle.city_model.proofs.Ids.{same_id_of_equal, by_id}
 use Rattle.city_model.proofs.IdLists.{bool_cases}
-use Rattle.city_txn.specs.declared.image.Image.{Image}
+use Rattle.city_txn.specs.declared.image.UndoImage.{UndoImage}
 use Rattle.city_txn.specs.declared.store.Store.TheInside.{Inside}
-use Rattle.city_txn.specs.Images.{seen_under, seen_by, committed_at, write_at, writer_of}
-use Rattle.city_txn.specs.State.{write_of, own_or, committed, view}
-use Rattle.city_txn.specs.Changing.{or_else}
-use Rattle.city_txn.specs.InPlace.{with_some, made_by, state_of, is_writer, IsInPlace}
-use Rattle.city_txn.specs.UndoState.{Images, image_at, reservations_of}
+use Rattle.city_txn.specs.inside.Images.{seen_under, seen_by, committed_at, write_at, writer_of, or_else}
+use Rattle.city_txn.specs.Writes.{write_of, own_or, with_some, made_by}
+use Rattle.city_txn.specs.inside.State.{committed, view}
+use Rattle.city_txn.specs.inside.InPlace.{state_of, is_writer, IsInPlace}
+use Rattle.city_txn.specs.inside.UndoState.{Images, image_at, reservations_of}
 use Rattle.city_txn.proofs.ImagesHeld.{images_ascend, image_listed}
 
 -- the test of a map's keys is that of numbers
@@ -87,18 +87,18 @@ sorted_made f (e ∷ es) s = sorted_step e.0 (f e.0 e.1) (made_by f es) (above_m
 
 -- ---- the value at an id
 
-committed_point : (x : Option Object) (i : Option Image) → (is_some i ≡ true → is_some x ≡ true) → through (λ o. committed_at (Some o) i) x ≡ committed_at x i
+committed_point : (x : Option Object) (i : Option UndoImage) → (is_some i ≡ true → is_some x ≡ true) → through (λ o. committed_at (Some o) i) x ≡ committed_at x i
 committed_point (Some o) i h = refl
 committed_point None None h = refl
 committed_point None (Some i) h = absurd (false≢true (h refl))
 
-write_point : (x : Option Object) (i : Option Image) → through (λ j. write_at x (Some j)) i ≡ write_at x i
+write_point : (x : Option Object) (i : Option UndoImage) → through (λ j. write_at x (Some j)) i ≡ write_at x i
 write_point x None = refl
 write_point x (Some i) = refl
 
 -- what the one city has
 abbrev pub here : Inside → List ℕ → Option Object
-here a q = at a.city.1 q
+here a q = object_at a.city.1 q
 
 module _ (a : Inside) (k : IsInPlace a) (q : List ℕ) where
   pub city_is : committed (state_of a) q ≡ committed_at (here a q) (image_at a.undo q)
@@ -117,14 +117,14 @@ module _ (a : Inside) (k : IsInPlace a) (q : List ℕ) where
 
 -- ---- what a transaction sees, from its image
 
-pub own_seen : (s : ℕ) (x : Option Object) (i : Image) → (i.by == s) ≡ true → own_or s (write_at x (Some i)) (committed_at x (Some i)) ≡ seen_under x i
+pub own_seen : (s : ℕ) (x : Option Object) (i : UndoImage) → (i.by == s) ≡ true → own_or s (write_at x (Some i)) (committed_at x (Some i)) ≡ seen_under x i
 own_seen s x i e = bool_cases i.unwritten (λ f. rw f refl) (λ f. rw (f, e) refl)
 
 -- the write of another
-pub own_committed : (s : ℕ) (x o : Option Object) (i : Image) → (i.by == s) ≡ false → own_or s (write_at x (Some i)) o ≡ o
+pub own_committed : (s : ℕ) (x o : Option Object) (i : UndoImage) → (i.by == s) ≡ false → own_or s (write_at x (Some i)) o ≡ o
 own_committed s x o i e = bool_cases i.unwritten (λ f. rw f refl) (λ f. rw (f, e) refl)
 
-pub seen_point : (s : ℕ) (x : Option Object) (i : Image) → own_or s (write_at x (Some i)) (committed_at x (Some i)) ≡ seen_by s x i
+pub seen_point : (s : ℕ) (x : Option Object) (i : UndoImage) → own_or s (write_at x (Some i)) (committed_at x (Some i)) ≡ seen_by s x i
 seen_point s x i = bool_cases (i.by == s)
     (λ e. bool_cases i.unwritten (λ f. rw (f, e) refl) (λ f. rw (f, e) refl))
     (λ e. bool_cases i.unwritten (λ f. rw (f, e) refl) (λ f. rw (f, e) refl))
@@ -147,7 +147,7 @@ pub new_state : (a : Inside) → entries a.undo.images ≡ [] → a.undo.reserva
 new_state a none shut i = record {
   frame = a.city.0;
   city = ((λ j. from_sorted (made_by (λ r o. committed_at (Some o) (no_image_listed a.undo.images none r j)) (entries a.city.1))) ∙ all_there a.city.1) i;
-  writes = ap (λ (is : List (List ℕ × Image)). made_by (λ r j. write_at (here a r) (Some j)) is) none i;
+  writes = ap (λ (is : List (List ℕ × UndoImage)). made_by (λ r j. write_at (here a r) (Some j)) is) none i;
   opened = shut i;
 }
 

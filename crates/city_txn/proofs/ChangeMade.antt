@@ -18,19 +18,20 @@ use Rattle.std.proofs.lemmas.Map.Entries.{none_past_head}
 use Rattle.city_model.specs.declared.object.Object.{Object}
 use Rattle.city_model.specs.CityMap.{CityMap, found_in, same_id, has_id, changed}
 use Rattle.city_model.specs.Relations.{is_orphan, is_orphan_there, HasNoOrphan, IsLeastOrphan, IsSound, IsLawful}
-use Rattle.city_model.specs.Runs.{Change, with_change}
+use Rattle.city_model.specs.Runs.{Change, after_change}
 use Rattle.city_model.proofs.Ids.{same_id_true, same_id_back}
 use Rattle.city_model.proofs.IdLists.{bool_cases}
 use Rattle.city_model.proofs.FirstOrphan.{first_orphan, is_least_orphan, has_no_orphan}
 use Rattle.city_model.proofs.Objects.{entries_of, at_sorted}
-use Rattle.city_txn.specs.declared.image.Image.{Image}
+use Rattle.city_txn.specs.declared.image.UndoImage.{UndoImage}
 use Rattle.city_txn.specs.declared.store.Store.TheInside.{Inside}
-use Rattle.city_txn.specs.Images.{written_at, write_at, writer_of}
-use Rattle.city_txn.specs.State.{Write, write_of, own_or, own_write, is_by}
+use Rattle.city_txn.specs.inside.Images.{written_at, write_at, writer_of, or_else}
+use Rattle.city_txn.specs.Writes.{Write, write_of, own_or, own_write, is_by, with_some}
 use Rattle.city_txn.specs.CoreState.{CoreState, committed, view}
-use Rattle.city_txn.specs.InPlace.{with_some, state_of, is_writer, IsInPlace}
-use Rattle.city_txn.specs.UndoState.{image_at, reservations_of}
-use Rattle.city_txn.specs.Changing.{or_else, objects_in, change_in, is_orphan_written, IsChangeOf}
+use Rattle.city_txn.specs.inside.InPlace.{state_of, is_writer, IsInPlace}
+use Rattle.city_txn.specs.inside.UndoState.{image_at, reservations_of}
+use Rattle.city_txn.specs.inside.Orphans.{objects_in, is_orphan_written}
+use Rattle.city_txn.specs.Changing.{change_in, IsChangeOf}
 use Rattle.city_txn.proofs.AtOneId.{through, at_made, sorted_made, here, writes_is}
 use Rattle.city_txn.proofs.ImagesHeld.{images_ascend}
 
@@ -63,7 +64,7 @@ either_none : {Y : Type 0} (b : Bool) → ◌≡◌ {A = Option Y} (if b then No
 either_none true = refl
 either_none false = refl
 
-own_point : (s : ℕ) (x : Option Object) (i : Option Image) → (if is_writer s (writer_of i) then written_at x i else None) ≡ own_write s (write_at x i)
+own_point : (s : ℕ) (x : Option Object) (i : Option UndoImage) → (if is_writer s (writer_of i) then written_at x i else None) ≡ own_write s (write_at x i)
 own_point s x None = refl
 own_point s x (Some i) = bool_cases i.unwritten (λ e. rw e (either_none (i.by == s))) (λ e. rw e refl)
 
@@ -137,7 +138,7 @@ abbrev over : Option (Option Object) → Option Object → Option Object
 over None o = o
 over (Some w) o = w
 
-changed_by : (c : Change) (m : CityMap) (q : List ℕ) → IsStrictlySortedBy (slice_cmp nat_cmp) (keys_of c) → with_change m c q ≡ over (lookup (is_at (slice_cmp nat_cmp q)) c) (m q)
+changed_by : (c : Change) (m : CityMap) (q : List ℕ) → IsStrictlySortedBy (slice_cmp nat_cmp) (keys_of c) → after_change m c q ≡ over (lookup (is_at (slice_cmp nat_cmp q)) c) (m q)
 changed_by [] m q s = refl
 changed_by (w ∷ ws) m q s =
     let rest = lookup (is_at (slice_cmp nat_cmp q)) ws in
@@ -188,7 +189,8 @@ module _ (v : CoreState) (s : ℕ) (c : Change) (lists : (q : List ℕ) → look
   pub least_of_view : (id : List ℕ) → IsLeastOrphan (found_in (objects_in c)) id → IsLeastOrphan (view v s) id
   least_of_view id l = (
     (l.0.0, view_over id ∙ over_written (lookup (is_at (slice_cmp nat_cmp id)) c) (committed v id) l.0.0 (sym (objects_at id) ∙ l.0.1), l.0.2),
-    λ q o less is. not_orphan q o is (l.1 q o less),
+    λ q less h. over_cases (lookup (is_at (slice_cmp nat_cmp q)) c) (committed v q) h.0 (sym (view_over q) ∙ h.1)
+        (λ t. l.1 q less (h.0, objects_at q ∙ t, h.2)) (λ t. false≢true (sym (none q h.0 t) ∙ h.2)),
   )
 
   pub no_orphan_listed : ((q : List ℕ) → is_orphan_written (own_write s (write_of v.writes q)) ≡ false) → HasNoOrphan (found_in (objects_in c))

@@ -8,20 +8,21 @@ use Rattle.std.specs.BTreeMap.{is_at}
 use Rattle.std.proofs.lemmas.Option.{none-some}
 use Rattle.std.proofs.lemmas.Bool.{false≢true, eqb-true, eq-eqb, or_parts, or_right}
 use Rattle.city_model.specs.declared.frame.Frame.{Frame}
-use Rattle.city_model.specs.CityMap.{Objects, at}
+use Rattle.city_model.specs.CityMap.{Objects, object_at}
 use Rattle.city_model.specs.Relations.{IsLawful, HasNoOrphan}
 use Rattle.city_model.proofs.IdLists.{bool_cases}
 use Rattle.city_model.proofs.History.{follows_same}
 use Rattle.city_locks.proofs.Among.{none_from}
 use Rattle.city_locks.specs.declared.mode.Mode.TheVariants.{Exclusive}
 use Rattle.city_locks.specs.Locks.{Locks, mode_of, Lawful}
-use Rattle.city_txn.specs.State as store
-use Rattle.city_txn.specs.State.{State, Write, write_of, own_or, own_write, is_reserved, is_by, Begins, Forgets}
+use Rattle.city_txn.specs.inside.State as store
+use Rattle.city_txn.specs.inside.State.{State, is_reserved, Begins, Forgets}
+use Rattle.city_txn.specs.Writes.{Write, write_of, own_or, own_write, is_by}
 use Rattle.city_txn.specs.UndoLog.{Logs, log_of, marked, has_before, marks_with}
 use Rattle.city_model.specs.Marks.{unmarked}
 use Rattle.city_model.specs.Standing.{Answered, covers}
-use Rattle.city_txn.specs.CoreState.{CoreState, committed, view, own, written, seen, is_open, held, held_in, Stands, IsConsistent, KeepsOthers, IsOver, IsUndone}
-use Rattle.city_txn.specs.Core.{core_state, IsCore}
+use Rattle.city_txn.specs.CoreState.{CoreState, committed, view, own, written, snapshot, is_open, held, held_in, StandsUnderLocks, KeepsOthers, IsTransactionEnd, IsRolledBack}
+use Rattle.city_txn.specs.inside.Core.{core_state, IsCore, IsConsistent}
 use Rattle.city_txn.specs.declared.txn_core.Core.TheInside.{Inside}
 use Rattle.city_txn.proofs.AtOneId.{tied}
 use Rattle.city_txn.proofs.Ended.{Ended, own_not, is_over, stands_committed, committed_consistent, seen_undone, stands_aborted, aborted_consistent}
@@ -43,14 +44,14 @@ pub open_is : (a : Inside) (s : ℕ) → is_open (core_state a) s ≡ store.is_o
 open_is a s = listed_open a.store.opened s
 
 pub open_stored : (a : Inside) {v : CoreState} → core_state a ≡ v → (s : ℕ) → store.is_open a.store s ≡ is_open v s
-open_stored a seen s = sym (open_is a s) ∙ ap (λ u. is_open u s) seen
+open_stored a snapshot s = sym (open_is a s) ∙ ap (λ u. is_open u s) snapshot
 
 -- ---- opened
 
 none_some_write : {A : Type 0} {w : Write} → None ≡ Some w → A
 none_some_write e = absurd (cc)
 
-fresh_core : (a : Inside) (frame : Frame) (city : Objects) → IsLawful (at city) → IsCore (record a { store = record { frame = frame; city = city; writes = []; opened = [] }; logs = []; locks = [] })
+fresh_core : (a : Inside) (frame : Frame) (city : Objects) → IsLawful (object_at city) → IsCore (record a { store = record { frame = frame; city = city; writes = []; opened = [] }; logs = []; locks = [] })
 fresh_core a frame city l = record {
   state = record {
     lawful = λ s t id ne e. refl;
@@ -65,7 +66,7 @@ fresh_core a frame city l = record {
   noted = λ t q h. absurd (false≢true h);
 }
 
-pub opened_core : (a : Inside) (frame : Frame) (city : Objects) → a.store ≡ record { frame = frame; city = city; writes = []; opened = [] } → a.logs ≡ [] → a.locks ≡ [] → IsLawful (at city) → IsCore a
+pub opened_core : (a : Inside) (frame : Frame) (city : Objects) → a.store ≡ record { frame = frame; city = city; writes = []; opened = [] } → a.logs ≡ [] → a.locks ≡ [] → IsLawful (object_at city) → IsCore a
 opened_core a frame city e d f l =
     subst (λ (x : State). IsCore (record a { store = x })) (sym e)
     (subst (λ (x : Logs). IsCore (record a { store = record { frame = frame; city = city; writes = []; opened = [] }; logs = x })) (sym d)
@@ -104,22 +105,22 @@ module _ (a b : Inside) (k : IsCore a) {v : CoreState} (known : core_state a ≡
   begun_unmarked = ap (λ ls. log_of ls s) logs ∙ k.state.marks_open s was_shut
 
   -- the new one did nothing, so it sees the committed map
-  pub begun_own : Stands (core_state b) s []
+  pub begun_own : StandsUnderLocks (core_state b) s []
   begun_own =
-      let none : (q : List ℕ) → own_or s (write_of b.store.writes q) (at b.store.city q) ≡ at b.store.city q =
-      λ q. own_not s (write_of b.store.writes q) (at b.store.city q)
+      let none : (q : List ℕ) → own_or s (write_of b.store.writes q) (object_at b.store.city q) ≡ object_at b.store.city q =
+      λ q. own_not s (write_of b.store.writes q) (object_at b.store.city q)
       (λ w e. shut_writer (core_state a) s q k.state was_shut w (ap (λ ws. write_of ws q) (sym begins.writes) ∙ e)) in
-      λ i. record { map = λ q. none q i; marks = marks_with (at b.store.city) (marked (begun_unmarked i) (own (core_state b) s)) }
+      λ i. record { map = λ q. none q i; marks = marks_with (object_at b.store.city) (marked (begun_unmarked i) (own (core_state b) s)) }
 
   begun_written : (t : ℕ) → written (core_state b) t ≡ written (core_state a) t
   begun_written t = written_same (core_state a) (core_state b) t
       (λ q. ap (λ ws. own_write t (write_of ws q)) begins.writes) (ap (λ ls. log_of ls t) logs)
 
-  begun_stands : (t : ℕ) (done : List Answered) → Stands (core_state a) t done → Stands (core_state b) t done
+  begun_stands : (t : ℕ) (done : List Answered) → StandsUnderLocks (core_state a) t done → StandsUnderLocks (core_state b) t done
   begun_stands t done f = follows_same (held (core_state a) t) (held (core_state b) t) (unmarked (committed (core_state a))) (unmarked (committed (core_state b))) done
-      (seen (core_state a) t) (seen (core_state b) t)
+      (snapshot (core_state a) t) (snapshot (core_state b) t)
       (λ q c h. ap (λ hs. covers (held_in hs t q) c) locks ∙ h)
-      (λ i. unmarked (at (sym begins.city i))) (sym (seen_same (core_state a) (core_state b) t (ap at begins.city) (begun_written t))) f
+      (λ i. unmarked (object_at (sym begins.city i))) (sym (seen_same (core_state a) (core_state b) t (ap object_at begins.city) (begun_written t))) f
 
   pub begun_keeps : KeepsOthers s v (core_state b)
   begun_keeps = subst (λ u. KeepsOthers s u (core_state b)) known (record {
@@ -136,7 +137,7 @@ module _ (a b : Inside) (k : IsCore a) {v : CoreState} (known : core_state a ≡
       marks_locked = λ t q h. ap (λ hs. mode_of hs t q) locks ∙ k.state.marks_locked t q (ap (λ ls. has_before (log_of ls t) q) (sym logs) ∙ h);
       open_only = λ t q h. begun_open t ∙ or_right (s == t) (is_open (core_state a) t) (k.state.open_only t q (ap (λ hs. is_some (mode_of hs t q)) (sym locks) ∙ h));
       marks_open = λ t h. ap (λ ls. log_of ls t) logs ∙ k.state.marks_open t (or_parts (s == t) (is_open (core_state a) t) (sym (begun_open t) ∙ h)).1;
-      city = subst (λ es. IsLawful (at es)) (sym begins.city) k.state.city;
+      city = subst (λ es. IsLawful (object_at es)) (sym begins.city) k.state.city;
       history = λ t. ((k.state.history t).0, begun_stands t (k.state.history t).0 (k.state.history t).1);
     };
     reserved = λ t q h. ap (λ hs. mode_of hs t q) locks ∙ k.reserved t q (sym (begins.reserved t q) ∙ h);
@@ -173,14 +174,14 @@ module _ (a b : Inside) (k : IsCore a) (s : ℕ) (f : Forgets s a.store b.store)
       ∙ k.noted t q (sym (ap (λ es. has_before es q) (logs t ∙ ap (λ c. if c then [] else log_of a.logs t) e)) ∙ h))
 
   module _ (city : store.committed b.store ≡ store.view a.store s) where
-    pub committed_over : IsOver s (core_state a) (core_state b)
+    pub committed_over : IsTransactionEnd s (core_state a) (core_state b)
     committed_over = is_over s (core_state a) (core_state b) ended f.frame (λ t done ne g. stands_committed s t (core_state a) (core_state b) done k.state ended city ne g)
 
     pub committed_core : HasNoOrphan (view (core_state a) s) → IsCore b
     committed_core orphans = record { state = committed_consistent s (core_state a) (core_state b) k.state ended city orphans; reserved = reserved_left; noted = noted_left }
 
   module _ (city : store.committed b.store ≡ store.committed a.store) where
-    pub undone : IsUndone s (core_state a) (core_state b)
+    pub undone : IsRolledBack s (core_state a) (core_state b)
     undone = record {
       city = city;
       views = λ t ne. seen_undone s t (core_state a) (core_state b) ended city ne;

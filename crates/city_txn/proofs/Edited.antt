@@ -3,24 +3,25 @@ use Rattle.std.proofs.Common.{◌≡◌, ◌==◌, ◌&&◌, ℕ, List, true, Op
 use Rattle.std.specs.Prelude.{if◌then◌else◌, option_map, not}
 use Rattle.std.proofs.lemmas.Bool.{false≢true}
 use Rattle.city_model.specs.declared.object.Object.{Object}
-use Rattle.city_model.specs.CityMap.{CityValue, at, changed, same_id}
+use Rattle.city_model.specs.CityMap.{CityValue, object_at, changed, same_id}
 use Rattle.city_model.proofs.Ids.{same_id_itself}
 use Rattle.city_model.proofs.IdLists.{bool_cases}
-use Rattle.city_txn.specs.declared.image.Image.{Image}
+use Rattle.city_txn.specs.declared.image.UndoImage.{UndoImage}
 use Rattle.city_txn.specs.declared.store.Store.TheInside.{Inside}
-use Rattle.city_txn.specs.Images.{seen_under, committed_at, write_at}
-use Rattle.city_txn.specs.InPlace.{state_of, IsInPlace}
-use Rattle.city_txn.specs.State.{Write, write_of, rewritten, is_by, committed}
-use Rattle.city_txn.specs.UndoState.{image_at}
+use Rattle.city_txn.specs.inside.Images.{seen_under, committed_at, write_at}
+use Rattle.city_txn.specs.inside.InPlace.{state_of, IsInPlace}
+use Rattle.city_txn.specs.Writes.{Write, write_of, is_by}
+use Rattle.city_txn.specs.inside.State.{rewritten, committed}
+use Rattle.city_txn.specs.inside.UndoState.{image_at}
 use Rattle.city_txn.proofs.AtOneId.{here, writes_is}
 use Rattle.city_txn.proofs.OneIdChanged.{at_each, slots_kept, committed_kept, write_changed}
 
 -- ---- at one id, where x stands in the city
 
-pub by_image : (s : ℕ) (x : Option Object) (i : Image) → (not i.unwritten && (i.by == s)) ≡ is_by s (write_at x (Some i))
+pub by_image : (s : ℕ) (x : Option Object) (i : UndoImage) → (not i.unwritten && (i.by == s)) ≡ is_by s (write_at x (Some i))
 by_image s x i = bool_cases i.unwritten (λ e. rw e refl) (λ e. rw e refl)
 
-has_image : (x : Option Object) (i : Option Image) → is_some (write_at x i) ≡ true → is_some i ≡ true
+has_image : (x : Option Object) (i : Option UndoImage) → is_some (write_at x i) ≡ true → is_some i ≡ true
 has_image x None h = h
 has_image x (Some i) h = refl
 
@@ -28,13 +29,13 @@ still_there : (f : Object → Object) (x : Option Object) → is_some (option_ma
 still_there f None = refl
 still_there f (Some o) = refl
 
-committed_beneath : (x y : Option Object) (i : Option Image) → is_some (write_at x i) ≡ true → committed_at y i ≡ committed_at x i
+committed_beneath : (x y : Option Object) (i : Option UndoImage) → is_some (write_at x i) ≡ true → committed_at y i ≡ committed_at x i
 committed_beneath x y None h = absurd (false≢true h)
 committed_beneath x y (Some i) h = bool_cases i.unwritten
     (λ e. absurd (false≢true (sym (ap (λ b. is_some {T = Write} (if b then None else Some (i.by, seen_under x i))) e) ∙ h)))
     (λ e. rw e refl)
 
-write_edited : (f : Object → Object) (x : Option Object) (i : Option Image) → write_at (option_map f x) i ≡ option_map (rewritten f) (write_at x i)
+write_edited : (f : Object → Object) (x : Option Object) (i : Option UndoImage) → write_at (option_map f x) i ≡ option_map (rewritten f) (write_at x i)
 write_edited f x None = refl
 write_edited f x (Some i) = bool_cases i.unwritten
     (λ e. rw e refl)
@@ -49,7 +50,7 @@ module _ (a : Inside) (k : IsInPlace a) (id : List ℕ) (written : is_some (writ
   pub written_there : is_some (here a id) ≡ true
   written_there = k.has_slot id (has_image (here a id) (image_at a.undo id) write)
 
-  module _ (n : CityValue) (f : Object → Object) (city : at n.1 ≡ changed (at a.city.1) id (option_map f (at a.city.1 id))) where
+  module _ (n : CityValue) (f : Object → Object) (city : object_at n.1 ≡ changed (object_at a.city.1) id (option_map f (object_at a.city.1 id))) where
     abbrev b : Inside
     b = record { city = n; undo = a.undo }
 

@@ -4,7 +4,7 @@ use Rattle.std.specs.Prelude.{if◌then◌else◌, option_map, unwrap_or, cond}
 use Rattle.std.proofs.lemmas.Option.{none-some}
 use Rattle.std.proofs.lemmas.Bool.{false≢true, eqb-true, eqb-false, eq-eqb, ne_eqb, cases_eq}
 use Rattle.city_model.specs.declared.object.Object.{Object}
-use Rattle.city_model.specs.CityMap.{CityMap, at}
+use Rattle.city_model.specs.CityMap.{CityMap, object_at}
 use Rattle.city_model.specs.Marks.{View, unmarked, IsSoundView}
 use Rattle.city_model.specs.Relations.{IsSound, HasNoOrphan, IsLawful}
 use Rattle.city_model.specs.TraceLaw.{carried}
@@ -15,10 +15,12 @@ use Rattle.city_locks.specs.declared.mode.Mode.{Mode}
 use Rattle.city_locks.specs.declared.mode.Mode.TheVariants.{Shared, Exclusive}
 use Rattle.city_locks.specs.Mode.{is_exclusive}
 use Rattle.city_locks.specs.Locks.{mode_of, Lawful}
-use Rattle.city_txn.specs.State.{Write, write_of, own_or, unless_by}
-use Rattle.city_txn.specs.UndoLog.{log_of, marked, has_before, map_with, view_with}
-use Rattle.city_model.specs.Standing.{Held, Answered, Follows, covers}
-use Rattle.city_txn.specs.CoreState.{CoreState, committed, view, own, written, seen, is_open, held, Stands, IsConsistent, IsOver}
+use Rattle.city_txn.specs.Writes.{Write, write_of, own_or, unless_by}
+use Rattle.city_txn.specs.UndoLog.{log_of, marked, has_before, map_with}
+use Rattle.city_txn.specs.inside.LogTests.{view_with}
+use Rattle.city_model.specs.Standing.{Held, Answered, IsTraceUnderLocks, covers}
+use Rattle.city_txn.specs.CoreState.{CoreState, committed, view, own, written, snapshot, is_open, held, StandsUnderLocks, IsTransactionEnd}
+use Rattle.city_txn.specs.inside.Core.{IsConsistent}
 use Rattle.city_txn.proofs.SeenWrites.{seen_with, seen_same, written_same, own_covered, marks_covered, view_carried, own_left, own_gone}
 
 pub held_exclusively : (o : Option Mode) → covers (option_map is_exclusive o) true ≡ true → o ≡ Some Exclusive
@@ -27,8 +29,8 @@ held_exclusively (Some Shared) h = absurd (false≢true h)
 held_exclusively (Some Exclusive) h = refl
 
 -- everything that is seen is sound
-pub sound_seen : (v : CoreState) (s : ℕ) → IsConsistent v → IsSoundView (seen v s)
-sound_seen v s c = follows_sound (held v s) (unmarked (committed v)) (c.history s).0 (seen v s) (c.city.0, tt) (c.history s).1
+pub sound_seen : (v : CoreState) (s : ℕ) → IsConsistent v → IsSoundView (snapshot v s)
+sound_seen v s c = follows_sound (held v s) (unmarked (committed v)) (c.history s).0 (snapshot v s) (c.city.0, tt) (c.history s).1
 
 pub sound_view : (v : CoreState) (s : ℕ) → IsConsistent v → IsSound (view v s)
 sound_view v s c = (sound_seen v s c).0
@@ -94,7 +96,7 @@ unwritten v s t q c ne h w e = bool_cases (w.0 == s)
     (λ f. f)
 
 -- s itself sees what is committed
-nothing_done : (s : ℕ) (v w : CoreState) → Ended s v w → Stands w s []
+nothing_done : (s : ℕ) (v w : CoreState) → Ended s v w → StandsUnderLocks w s []
 nothing_done s v w k =
     let none : (q : List ℕ) → own w s q ≡ None = λ q. own_gone s (write_of w.writes q) (write_of v.writes q) (k.writes q) in
     let at_one : (q : List ℕ) → map_with (committed w) (own w s) q ≡ committed w q = λ q. ap (λ o. unwrap_or o (committed w q)) (none q) in
@@ -108,7 +110,7 @@ others_written s t v w k ne = written_same v w t
     (λ q. own_left s t (write_of w.writes q) (write_of v.writes q) ne (k.writes q))
     (k.marks t ∙ ap (λ b. if b then [] else log_of v.logs t) ne)
 
-pub is_over : (s : ℕ) (v w : CoreState) → Ended s v w → w.frame ≡ v.frame → ((t : ℕ) (done : List Answered) → (s == t) ≡ false → Stands v t done → Stands w t done) → IsOver s v w
+pub is_over : (s : ℕ) (v w : CoreState) → Ended s v w → w.frame ≡ v.frame → ((t : ℕ) (done : List Answered) → (s == t) ≡ false → StandsUnderLocks v t done → StandsUnderLocks w t done) → IsTransactionEnd s v w
 is_over s v w k frame stands = record {
   writes = k.writes;
   marks = k.marks;
@@ -120,19 +122,19 @@ is_over s v w k frame stands = record {
 -- ---- a commit
 
 pub stands_committed : (s t : ℕ) (v w : CoreState) (done : List Answered) → IsConsistent v → Ended s v w → committed w ≡ view v s →
-    (s == t) ≡ false → Stands v t done → Stands w t done
+    (s == t) ≡ false → StandsUnderLocks v t done → StandsUnderLocks w t done
 stands_committed s t v w done c k city ne f =
     let agree : (q : List ℕ) → is_some (held v t q) ≡ true → committed v q ≡ committed w q =
-    λ q h. sym (ap (λ (m : CityMap). m q) city ∙ own_not s (write_of v.writes q) (at v.city q) (unwritten v s t q c ne h)) in
-    let same : carried (held v t) (committed w) (seen v t) ≡ seen w t =
+    λ q h. sym (ap (λ (m : CityMap). m q) city ∙ own_not s (write_of v.writes q) (object_at v.city q) (unwritten v s t q c ne h)) in
+    let same : carried (held v t) (committed w) (snapshot v t) ≡ snapshot w t =
     ap (carried (held v t) (committed w)) (seen_with v t)
     ∙ view_carried (held v t) (committed v) (committed w)
     (λ q e. agree q (ap (λ o. is_some (option_map is_exclusive o)) (held_exclusively (mode_of v.locks t q) e)))
     (written v t) (own_covered v t c) (marks_covered v t c)
     ∙ ap (view_with (committed w)) (sym (others_written s t v w k ne)) ∙ sym (seen_with w t) in
-    subst (λ (h : Held). Follows h (unmarked (committed w)) done (seen w t)) (same_held s t v w k ne)
-    (subst (λ (x : View). Follows (held v t) (unmarked (committed w)) done x) same
-    (history_kept (held v t) (committed v) (committed w) done (seen v t) c.city.0 (subst IsSound (sym city) (sound_view v s c)) agree f))
+    subst (λ (h : Held). IsTraceUnderLocks h (unmarked (committed w)) done (snapshot w t)) (same_held s t v w k ne)
+    (subst (λ (x : View). IsTraceUnderLocks (held v t) (unmarked (committed w)) done x) same
+    (history_kept (held v t) (committed v) (committed w) done (snapshot v t) c.city.0 (subst IsSound (sym city) (sound_view v s c)) agree f))
 
 pub committed_consistent : (s : ℕ) (v w : CoreState) → IsConsistent v → Ended s v w → committed w ≡ view v s → HasNoOrphan (view v s) → IsConsistent w
 committed_consistent s v w c k city orphans = record {
@@ -143,20 +145,20 @@ committed_consistent s v w c k city orphans = record {
   marks_open = ended_marks_open s v w c k;
   city = subst IsLawful (sym city) (sound_view v s c, orphans);
   history = λ t. elim (cases_eq s t) [
-    | inl e ↦ ([], subst (λ r. Stands w r []) e (nothing_done s v w k))
+    | inl e ↦ ([], subst (λ r. StandsUnderLocks w r []) e (nothing_done s v w k))
     | inr e ↦ ((c.history t).0, stands_committed s t v w (c.history t).0 c k city (ne_eqb s t e) (c.history t).1)
   ];
 }
 
 -- ---- an abort
 
-pub seen_undone : (s t : ℕ) (v w : CoreState) → Ended s v w → committed w ≡ committed v → (s == t) ≡ false → seen w t ≡ seen v t
+pub seen_undone : (s t : ℕ) (v w : CoreState) → Ended s v w → committed w ≡ committed v → (s == t) ≡ false → snapshot w t ≡ snapshot v t
 seen_undone s t v w k city ne = seen_same v w t city (others_written s t v w k ne)
 
 pub stands_aborted : (s t : ℕ) (v w : CoreState) (done : List Answered) → Ended s v w → committed w ≡ committed v →
-    (s == t) ≡ false → Stands v t done → Stands w t done
+    (s == t) ≡ false → StandsUnderLocks v t done → StandsUnderLocks w t done
 stands_aborted s t v w done k city ne f =
-    follows_same (held v t) (held w t) (unmarked (committed v)) (unmarked (committed w)) done (seen v t) (seen w t)
+    follows_same (held v t) (held w t) (unmarked (committed v)) (unmarked (committed w)) done (snapshot v t) (snapshot w t)
     (λ q b h. ap (λ (g : Held). covers (g q) b) (sym (same_held s t v w k ne)) ∙ h)
     (ap (λ (m : CityMap). unmarked m) (sym city)) (sym (seen_undone s t v w k city ne)) f
 
@@ -169,7 +171,7 @@ aborted_consistent s v w c k city = record {
   marks_open = ended_marks_open s v w c k;
   city = subst IsLawful (sym city) c.city;
   history = λ t. elim (cases_eq s t) [
-    | inl e ↦ ([], subst (λ r. Stands w r []) e (nothing_done s v w k))
+    | inl e ↦ ([], subst (λ r. StandsUnderLocks w r []) e (nothing_done s v w k))
     | inr e ↦ ((c.history t).0, stands_aborted s t v w (c.history t).0 k city (ne_eqb s t e) (c.history t).1)
   ];
 }

@@ -5,14 +5,15 @@ use Rattle.std.specs.List.{list_any}
 use Rattle.std.specs.FinMap.{entries, from_sorted}
 use Rattle.std.proofs.lemmas.Bool.{false≢true, eq-eqb}
 use Rattle.city_model.specs.CityMap.{has_id}
-use Rattle.city_txn.specs.declared.image.Image.{Image}
+use Rattle.city_txn.specs.declared.image.UndoImage.{UndoImage}
 use Rattle.city_txn.specs.declared.store.Store.TheInside.{Inside}
-use Rattle.city_txn.specs.Images.{committed_at, writer_of}
-use Rattle.city_txn.specs.UndoState.{image_at, reservations_of}
-use Rattle.city_txn.specs.InPlace.{made_by, state_of, is_writer, IsInPlace}
+use Rattle.city_txn.specs.inside.Images.{committed_at, writer_of}
+use Rattle.city_txn.specs.inside.UndoState.{image_at, reservations_of}
+use Rattle.city_txn.specs.Writes.{made_by}
+use Rattle.city_txn.specs.inside.InPlace.{state_of, is_writer, IsInPlace}
 use Rattle.city_txn.proofs.AtOneId.{all_there}
 
-unwritten : (i : Option Image) → ((s : ℕ) → is_writer s (writer_of i) ≡ false) → i ≡ None
+unwritten : (i : Option UndoImage) → ((s : ℕ) → is_writer s (writer_of i) ≡ false) → i ≡ None
 unwritten None h = refl
 unwritten (Some i) h = absurd (false≢true (sym (h i.by) ∙ eq-eqb i.by i.by refl))
 
@@ -23,7 +24,7 @@ pub idle_city : (a : Inside) → IsInPlace a → a.undo.reservations ≡ [] → 
 idle_city a k shut =
     let none : image_at a.undo ≡ (λ id. None) = λ i id. no_image a k shut id i in
     let same : (state_of a).city ≡ a.city.1 =
-    ap (λ (images : List ℕ → Option Image). from_sorted (made_by (λ id o. committed_at (Some o) (images id)) (entries a.city.1))) none ∙ all_there a.city.1 in
+    ap (λ (images : List ℕ → Option UndoImage). from_sorted (made_by (λ id o. committed_at (Some o) (images id)) (entries a.city.1))) none ∙ all_there a.city.1 in
     λ i. (a.city.0, sym same i)
 
 -- where no stamp is open there is none

@@ -1,4 +1,5 @@
 pub mod ActDone
+pub mod Answering
 pub mod AtOneId
 pub mod ChangeMade
 pub mod CommandDone

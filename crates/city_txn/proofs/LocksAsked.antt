@@ -15,7 +15,8 @@ use Rattle.city_locks.specs.Locks.{Locks, answer_of, mode_of, Lawful}
 use Rattle.city_locks.specs.WaitDie.{IsInConflict, IsWaitDie}
 use Rattle.city_model.specs.Standing.{AllHeld, Lock, covers}
 use Rattle.city_txn.specs.CoreState.{held_in}
-use Rattle.city_txn.specs.Locking.{mode_for, go_on, first_answer, first_if, granted_before, GainsFirst, HoldsLock, IsBlocked, Asked}
+use Rattle.city_txn.specs.Locking.{mode_for, go_on, first_answer, first_if, granted_before, GainsFirst, IsBlocked}
+use Rattle.city_txn.specs.inside.Asking.{HoldsLock, Asked}
 use Rattle.city_txn.proofs.LocksGained.{Adds, no_more_locks, mode_of_another, still_held, asked_held, one_and_more}
 
 -- ---- locks that give a stamp the same answers

@@ -15,10 +15,11 @@ use Rattle.city_locks.specs.Mode.{is_exclusive, stronger}
 use Rattle.city_locks.specs.Locks.{Locks, mode_of, answer_of, Lawful}
 use Rattle.city_model.specs.CityMap.{CityMap}
 use Rattle.city_model.specs.Marks.{View, unmarked}
-use Rattle.city_txn.specs.State.{write_of}
+use Rattle.city_txn.specs.Writes.{write_of}
 use Rattle.city_txn.specs.UndoLog.{log_of, has_before}
-use Rattle.city_model.specs.Standing.{Lock, Answered, covers, names, names_exclusively}
-use Rattle.city_txn.specs.CoreState.{CoreState, committed, view, written, seen, is_open, held, held_in, Stands, IsConsistent, KeepsOthers}
+use Rattle.city_model.specs.Standing.{Lock, Answered, covers, locks_id, locks_id_exclusively}
+use Rattle.city_txn.specs.CoreState.{CoreState, committed, view, written, snapshot, is_open, held, held_in, StandsUnderLocks, KeepsOthers}
+use Rattle.city_txn.specs.inside.Core.{IsConsistent}
 use Rattle.city_txn.specs.Locking.{go_on, first_answer, first_if, granted_before, mode_for, MoreLocks}
 use Rattle.city_txn.proofs.Ended.{held_exclusively}
 use Rattle.city_txn.proofs.SeenWrites.{seen_same}
@@ -45,14 +46,14 @@ pub exclusive_kept : (s : ℕ) (ls : List Lock) (hs ks : Locks) → MoreLocks s 
 exclusive_kept s ls hs ks k t q x = held_exclusively (mode_of ks t q) (more_for s ls hs ks k t q true (ap (λ m. covers (option_map is_exclusive m) true) x))
 
 module _ (s : ℕ) (ls : List Lock) (v w : CoreState) (k : LocksGained s ls v w) where
-  pub seen_gained : (t : ℕ) → seen w t ≡ seen v t
+  pub seen_gained : (t : ℕ) → snapshot w t ≡ snapshot v t
   seen_gained t = seen_same v w t k.city (k.written t)
 
   pub view_gained : (t : ℕ) → view w t ≡ view v t
   view_gained t = ap (λ (x : View). x.map) (seen_gained t)
 
-  pub stands_gained : (t : ℕ) (done : List Answered) → Stands v t done → Stands w t done
-  stands_gained t done f = follows_same (held v t) (held w t) (unmarked (committed v)) (unmarked (committed w)) done (seen v t) (seen w t)
+  pub stands_gained : (t : ℕ) (done : List Answered) → StandsUnderLocks v t done → StandsUnderLocks w t done
+  stands_gained t done f = follows_same (held v t) (held w t) (unmarked (committed v)) (unmarked (committed w)) done (snapshot v t) (snapshot w t)
       (more_for s ls v.locks w.locks k.locks t) (ap (λ (m : CityMap). unmarked m) (sym k.city)) (sym (seen_gained t)) f
 
   pub keeps_gained : KeepsOthers s v w
@@ -102,11 +103,11 @@ Adds s id m hs ks = (t : ℕ) (q : List ℕ) → mode_of ks t q ≡ cond ((s == 
 pub no_more_locks : (s : ℕ) (ls : List Lock) (hs : Locks) → MoreLocks s ls hs hs
 no_more_locks s ls hs = record { others = λ t q e. refl; more = λ q b h. h; only = λ q h. refl; modes = λ q h. inl h; lawful = λ l. l; answers = λ q n. refl }
 
-first_named : (l : Lock) (ls : List Lock) (q : List ℕ) → same_id q l.0 ≡ true → l.1 ≡ true → names_exclusively (l ∷ ls) q ≡ true
+first_named : (l : Lock) (ls : List Lock) (q : List ℕ) → same_id q l.0 ≡ true → l.1 ≡ true → locks_id_exclusively (l ∷ ls) q ≡ true
 first_named l ls q e x = rw (x, e) refl
 
-later_named : (l : Lock) (ls : List Lock) (q : List ℕ) → names_exclusively ls q ≡ true → names_exclusively (l ∷ ls) q ≡ true
-later_named (id, true) ls q h = or_right (same_id q id) (names_exclusively ls q) h
+later_named : (l : Lock) (ls : List Lock) (q : List ℕ) → locks_id_exclusively ls q ≡ true → locks_id_exclusively (l ∷ ls) q ≡ true
+later_named (id, true) ls q h = or_right (same_id q id) (locks_id_exclusively ls q) h
 later_named (id, false) ls q h = h
 
 module _ (s : ℕ) (id : List ℕ) (m : Mode) (hs ks : Locks) (h : Adds s id m hs ks) where
@@ -137,7 +138,7 @@ module _ (s : ℕ) (id : List ℕ) (m : Mode) (hs ks : Locks) (h : Adds s id m h
       (λ apart g. ap (λ o. covers (option_map is_exclusive o) b) (mode_beside q apart) ∙ g)
 
   held_or_asked : (ls : List Lock) (q : List ℕ) → covers (held_in ks s q) true ≡ true →
-      (covers (held_in hs s q) true ≡ true) ⊎ (names_exclusively ((id, is_exclusive m) ∷ ls) q ≡ true)
+      (covers (held_in hs s q) true ≡ true) ⊎ (locks_id_exclusively ((id, is_exclusive m) ∷ ls) q ≡ true)
   held_or_asked ls q g = by_id id q
       (λ is. either
       (λ x. inl (subst (λ r. covers (held_in hs s r) true ≡ true) is x))
@@ -151,7 +152,7 @@ module _ (s : ℕ) (id : List ℕ) (m : Mode) (hs ks : Locks) (h : Adds s id m h
   one_and_more ls us lawful own g = record {
     others = λ t q e. g.others t q e ∙ mode_of_another t q e;
     more = λ q b x. g.more q b (still_held q b x);
-    only = λ q e. let n = or_parts (same_id q id) (names ls q) e in g.only q n.1 ∙ mode_beside q (same_id_back id q ∙ n.0);
+    only = λ q e. let n = or_parts (same_id q id) (locks_id ls q) e in g.only q n.1 ∙ mode_beside q (same_id_back id q ∙ n.0);
     modes = λ q e. either (held_or_asked ls q) (λ y. inr (later_named (id, is_exclusive m) ls q y)) (g.modes q e);
     lawful = λ x. g.lawful lawful;
     answers = λ q n. g.answers q n ∙ own q n;

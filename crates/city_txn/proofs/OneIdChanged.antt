@@ -3,14 +3,15 @@ use Rattle.std.proofs.Common.{◌≡◌, ℕ, List, true, false, Option, is_some
 use Rattle.std.specs.Prelude.{if◌then◌else◌}
 use Rattle.std.proofs.lemmas.Map.{update_same, update_other}
 use Rattle.city_model.specs.declared.object.Object.{Object}
-use Rattle.city_model.specs.CityMap.{at, changed, same_id}
+use Rattle.city_model.specs.CityMap.{object_at, changed, same_id}
 use Rattle.city_model.proofs.Ids.{same_id_itself, by_id}
-use Rattle.city_txn.specs.declared.image.Image.{Image}
+use Rattle.city_txn.specs.declared.image.UndoImage.{UndoImage}
 use Rattle.city_txn.specs.declared.store.Store.TheInside.{Inside}
-use Rattle.city_txn.specs.Images.{committed_at, write_at}
-use Rattle.city_txn.specs.InPlace.{state_of, IsInPlace}
-use Rattle.city_txn.specs.State.{write_of, committed}
-use Rattle.city_txn.specs.UndoState.{image_at}
+use Rattle.city_txn.specs.inside.Images.{committed_at, write_at}
+use Rattle.city_txn.specs.inside.InPlace.{state_of, IsInPlace}
+use Rattle.city_txn.specs.Writes.{write_of}
+use Rattle.city_txn.specs.inside.State.{committed}
+use Rattle.city_txn.specs.inside.UndoState.{image_at}
 use Rattle.city_txn.proofs.AtOneId.{here, city_is, writes_is}
 
 -- what holds of the id, and of each other one, holds of all
@@ -18,13 +19,13 @@ pub at_each : {P : List ℕ → Type 0} (id : List ℕ) → P id → ((q : List 
 at_each {P} id there beside q = by_id id q (λ e. subst P e there) (λ e. beside q e)
 
 -- x stands at the id now, and the image i
-module _ (a b : Inside) (k : IsInPlace a) (id : List ℕ) (x : Option Object) (i : Option Image) (city : at b.city.1 ≡ changed (at a.city.1) id x)
+module _ (a b : Inside) (k : IsInPlace a) (id : List ℕ) (x : Option Object) (i : Option UndoImage) (city : object_at b.city.1 ≡ changed (object_at a.city.1) id x)
     (images : (q : List ℕ) → image_at b.undo q ≡ (if same_id id q then i else image_at a.undo q)) where
   here_there : here b id ≡ x
-  here_there = ap (λ m. m id) city ∙ update_same same_id (at a.city.1) id x id (same_id_itself id)
+  here_there = ap (λ m. m id) city ∙ update_same same_id (object_at a.city.1) id x id (same_id_itself id)
 
   here_beside : (q : List ℕ) → same_id id q ≡ false → here b q ≡ here a q
-  here_beside q e = ap (λ m. m q) city ∙ update_other same_id (at a.city.1) id x q e
+  here_beside q e = ap (λ m. m q) city ∙ update_other same_id (object_at a.city.1) id x q e
 
   pub image_there : image_at b.undo id ≡ i
   image_there = images id ∙ rw (same_id_itself id) refl

@@ -9,10 +9,11 @@ use Rattle.std.proofs.Math.Bool.{or-false}
 use Rattle.city_model.specs.CityMap.{CityMap, same_id, has_id}
 use Rattle.city_model.proofs.Ids.{same_id_true, same_id_itself, same_id_back}
 use Rattle.city_model.proofs.IdLists.{not_both}
-use Rattle.city_txn.specs.UndoState.{reservations_of}
-use Rattle.city_txn.specs.State.{State, Write, own, own_write, is_reserved, SeesSame}
-use Rattle.city_txn.specs.Performing.{plans}
-use Rattle.city_model.specs.Plans.{AreOf}
+use Rattle.city_txn.specs.inside.UndoState.{reservations_of}
+use Rattle.city_txn.specs.inside.State.{State, own, is_reserved, SeesSame}
+use Rattle.city_txn.specs.Writes.{Write, own_write}
+use Rattle.city_txn.specs.inside.Performing.{plans}
+use Rattle.city_model.specs.inside.Plans.{AreOf}
 use Rattle.city_model.specs.Runs.{Change}
 
 pub or_cases : (a b : Bool) {A : Type 0} → (a || b) ≡ true → (a ≡ true → A) → (b ≡ true → A) → A

@@ -6,16 +6,17 @@ use Rattle.city_model.specs.declared.object.Object.{Object}
 use Rattle.city_model.specs.declared.command.Command.{Command}
 use Rattle.city_model.specs.declared.command.Reply.{Reply}
 use Rattle.city_model.specs.CityMap.{CityMap, same_id}
-use Rattle.city_model.specs.Plans.{AreOf, AreWritesOf}
+use Rattle.city_model.specs.inside.Plans.{AreOf, AreWritesOf}
 use Rattle.city_model.specs.Runs.{Change}
 use Rattle.city_model.specs.Scripts.{is_mark}
 use Rattle.city_model.proofs.Ids.{same_id_itself, same_id_back}
 use Rattle.city_model.proofs.IdLists.{not_both}
 use Rattle.city_model.proofs.Planned.{related}
-use Rattle.city_txn.specs.State.{State, Write, write_of, rewritten, is_by, own_or, own, unless_by, is_reserved, committed, view, SeesSame}
-use Rattle.city_txn.specs.UndoState.{listed_by}
+use Rattle.city_txn.specs.inside.State.{State, rewritten, own, is_reserved, committed, view, SeesSame}
+use Rattle.city_txn.specs.Writes.{Write, write_of, is_by, own_or, unless_by}
+use Rattle.city_txn.specs.inside.UndoState.{listed_by}
 use Rattle.city_txn.specs.UndoLog.{Logs, log_of, marked}
-use Rattle.city_txn.specs.Performing.{plans, AreNoted, Performed}
+use Rattle.city_txn.specs.inside.Performing.{plans, AreNoted, IsPerform}
 use Rattle.city_txn.proofs.OneIdChanged.{at_each}
 use Rattle.city_txn.proofs.PerformDone.{unwritten_performed, written_performed}
 use Rattle.city_txn.proofs.PlanWritten.{or_cases, reserved_by}
@@ -56,7 +57,7 @@ module _ (s : ℕ) (c : Command) (r : Reply) (child parent : List ℕ) (below : 
   unmarked : (w : State) → marked (log_of ls s) (own w s) ≡ marked (log_of ls s) (own v s)
   unmarked w = marked_same (log_of ls s) (own w s) (own v s) (λ q h. absurd (not_both _ (noted_if_empty (log_of ls s) q none) h))
 
-  pub related_unwritten : {E : Type 0} (result : Result Reply E) → IsErr result → Performed s c result v ls u ls
+  pub related_unwritten : {E : Type 0} (result : Result Reply E) → IsErr result → IsPerform s c result v ls u ls
   related_unwritten result failed = unwritten_performed s c r change v u ls ls plain_one is same.frame same.city same.opened
       (λ q. ap (unless_by s) (same.writes q)) more kept (unmarked u) (λ q h. kept s q (noted q h)) (λ t ne. refl) result failed same.writes
 
@@ -90,7 +91,7 @@ module _ (s : ℕ) (c : Command) (r : Reply) (child parent : List ℕ) (below : 
         ∙ edited_write s f (write_of v.writes parent) (committed v parent) by ∙ ap (λ o. Some (s, o)) of.1.0))
         (λ q e. rw (same_id_back q parent ∙ e) (beside q e)) q))
 
-    pub related_performed : {E : Type 0} → Performed {E = E} s c (Ok r) v ls w ls
+    pub related_performed : {E : Type 0} → IsPerform {E = E} s c (Ok r) v ls w ls
     related_performed = written_performed s c r change v w ls ls plain_one is (frame_w ∙ frame_x ∙ same.frame) (city_w ∙ city_x ∙ same.city)
         (λ t. ap (λ o. is_some (listed_by o t)) (opened_w ∙ opened_x) ∙ same.opened t)
         others (λ t q h. more t q (sym (reserved_by u w t q (opened_w ∙ opened_x)) ∙ h)) (λ t q h. reserved_by u w t q (opened_w ∙ opened_x) ∙ kept t q h)

@@ -7,21 +7,23 @@ use Rattle.std.proofs.lemmas.Bool.{false≢true, eqb-true, eq-eqb, ne_eqb, cases
 use Rattle.std.proofs.lemmas.List.Folds.{list_any-append}
 use Rattle.std.proofs.Math.Bool.{and-true, and-false, or-false, or_comm}
 use Rattle.city_model.specs.declared.object.Object.{Object}
-use Rattle.city_model.specs.CityMap.{CityValue, at, has_id, same_id}
+use Rattle.city_model.specs.CityMap.{CityValue, object_at, has_id, same_id}
 use Rattle.city_model.proofs.Ids.{same_id_true, same_id_back, same_id_itself}
 use Rattle.city_model.proofs.Objects.{same_objects}
-use Rattle.city_txn.specs.declared.image.Image.{Image}
+use Rattle.city_txn.specs.declared.image.UndoImage.{UndoImage}
 use Rattle.city_txn.specs.declared.store.Store.TheInside.{Inside}
-use Rattle.city_txn.specs.Images.{committed_at, write_at, writer_of, unwritten_image}
-use Rattle.city_txn.specs.State.{write_of, is_open, is_reserved, SeesSame}
-use Rattle.city_txn.specs.InPlace.{state_of, is_writer, IsInPlace}
-use Rattle.city_txn.specs.UndoState.{image_at, listed_by, reservations_of}
-use Rattle.city_txn.specs.Slots.{placeholder, with_slot}
+use Rattle.city_txn.specs.inside.Images.{committed_at, write_at, writer_of, unwritten_image}
+use Rattle.city_txn.specs.Writes.{write_of}
+use Rattle.city_txn.specs.inside.State.{is_open, is_reserved, SeesSame}
+use Rattle.city_txn.specs.inside.InPlace.{state_of, is_writer, IsInPlace}
+use Rattle.city_txn.specs.inside.UndoState.{image_at, listed_by, reservations_of}
+use Rattle.city_txn.specs.Placeholder.{placeholder}
+use Rattle.city_txn.specs.inside.Slots.{with_slot}
 use Rattle.city_txn.proofs.AtOneId.{tied, here, writes_is}
 use Rattle.city_txn.proofs.OneIdChanged.{at_each, image_there, image_beside, slots_kept, committed_kept, write_changed}
 
 -- cities with one frame that answer alike are the same
-pub same_city : (z x : CityValue) → z.0 ≡ x.0 → at z.1 ≡ at x.1 → z ≡ x
+pub same_city : (z x : CityValue) → z.0 ≡ x.0 → object_at z.1 ≡ object_at x.1 → z ≡ x
 same_city z x frame objects = λ i. (frame i, same_objects z.1 x.1 objects i)
 
 -- ---- reserved
@@ -32,13 +34,13 @@ unwritten_committed s (Some o) = refl
 
 module _ (a b : Inside) (k : IsInPlace a) (s : ℕ) (id : List ℕ) (deleted : Bool) (is : deleted ≡ not (is_some (here a id)))
     (is_opened : is_open (state_of a) s ≡ true) (absent : image_at a.undo id ≡ None) (frame : b.city.0 ≡ a.city.0)
-    (city : at b.city.1 ≡ with_slot (at a.city.1) id)
+    (city : object_at b.city.1 ≡ with_slot (object_at a.city.1) id)
     (images : (q : List ℕ) → image_at b.undo q ≡ (if same_id id q then Some (unwritten_image s deleted) else image_at a.undo q))
     (reservations : (t : ℕ) → listed_by b.undo.reservations t ≡ (if is_at (nat_cmp s) t then Some (reservations_of a.undo.reservations s ++ id ∷ []) else listed_by a.undo.reservations t)) where
   abbrev object : Option Object
   object = Some (unwrap_or (here a id) placeholder)
 
-  abbrev image : Option Image
+  abbrev image : Option UndoImage
   image = Some (unwritten_image s deleted)
 
   listed_there : listed_by b.undo.reservations s ≡ Some (reservations_of a.undo.reservations s ++ id ∷ [])
@@ -86,7 +88,7 @@ module _ (a b : Inside) (k : IsInPlace a) (s : ℕ) (id : List ℕ) (deleted : B
 
 -- ---- reserved already
 
-only_writer : (s : ℕ) (i : Option Image) → is_some i ≡ true → ((t : ℕ) → is_writer t (writer_of i) ≡ true → t ≡ s) → is_writer s (writer_of i) ≡ true
+only_writer : (s : ℕ) (i : Option UndoImage) → is_some i ≡ true → ((t : ℕ) → is_writer t (writer_of i) ≡ true → t ≡ s) → is_writer s (writer_of i) ≡ true
 only_writer s None h f = absurd (false≢true h)
 only_writer s (Some i) h f = eq-eqb i.by s (f i.by (eq-eqb i.by i.by refl))
 

@@ -7,12 +7,15 @@ use Rattle.std.proofs.lemmas.Map.{update_other}
 use Rattle.city_model.specs.declared.object.Object.{Object}
 use Rattle.city_model.specs.declared.command.Cause.{Cause}
 use Rattle.city_model.specs.declared.command.Command.{Command}
-use Rattle.city_model.specs.CityMap.{CityMap, at, same_id}
-use Rattle.city_model.specs.Marks.{View, Marking, Leaves, Marks, GoesBack, marking, marks_from, back_to, step_as, step}
-use Rattle.city_model.specs.Meaning.{cause_of, effect_of, map_unless, after, locks_of}
+use Rattle.city_model.specs.declared.command.Command.TheVariants as commands
+use Rattle.city_model.specs.declared.command.Command.TheVariants.{Read, Put, Delete, Attach, Detach, Back, Commit, Abort}
+use Rattle.city_model.specs.CityMap.{CityMap, object_at, same_id}
+use Rattle.city_model.specs.Marks.{View, marks_from}
+use Rattle.city_model.specs.Meaning.{locks_of}
 use Rattle.city_model.specs.Relations.{IsSound}
-use Rattle.city_model.specs.Standing.{Held, covers, names_exclusively}
+use Rattle.city_model.specs.Standing.{Held, covers, locks_id_exclusively}
 use Rattle.city_model.specs.TraceLaw.{carried_map, carried_marks, carried}
+use Rattle.city_model.specs.inside.CommandParts.{back_to, seen_next, cause_of, effect_of, map_unless, after}
 use Rattle.city_model.proofs.FrameLaw.{frame}
 use Rattle.city_model.proofs.Ids.{same_id_itself}
 use Rattle.city_model.proofs.IdLists.{bool_cases, not_both}
@@ -21,11 +24,13 @@ use Rattle.city_locks.specs.Mode.{is_exclusive}
 use Rattle.city_locks.specs.declared.mode.Mode.TheVariants.{Exclusive}
 use Rattle.city_locks.specs.Locks.{mode_of}
 use Rattle.city_txn.specs.declared.undo_log.Entry.{Entry}
-use Rattle.city_txn.specs.declared.undo_log.Entry.TheVariants.{Mark, Before}
-use Rattle.city_txn.specs.State.{Write, write_of, own_or, own_write, unless_by}
-use Rattle.city_txn.specs.UndoLog.{OwnWrites, Written, log_of, marked, has_before, written_back, written_as, map_with, marks_with, view_with}
-use Rattle.city_txn.specs.CoreState.{CoreState, committed, view, own, written, seen, held, IsConsistent}
-use Rattle.city_txn.specs.Acting.{writes_id, own_after}
+use Rattle.city_txn.specs.declared.undo_log.Entry.TheVariants.{Mark, BeforeImage}
+use Rattle.city_txn.specs.Writes.{Write, write_of, own_or, own_write, unless_by}
+use Rattle.city_txn.specs.UndoLog.{OwnWrites, Written, log_of, marked, has_before, written_at_mark, written_after, map_with, marks_with}
+use Rattle.city_txn.specs.inside.LogTests.{view_with}
+use Rattle.city_txn.specs.CoreState.{CoreState, committed, view, own, written, snapshot, held}
+use Rattle.city_txn.specs.inside.Core.{IsConsistent}
+use Rattle.city_txn.specs.inside.Done.{writes_id, own_done}
 use Rattle.city_txn.proofs.OneIdChanged.{at_each}
 use Rattle.city_txn.proofs.Slots.{absent_from}
 
@@ -33,10 +38,10 @@ own_or_is : (s : ℕ) (x : Option Write) (o : Option Object) → own_or s x o �
 own_or_is s None o = refl
 own_or_is s (Some w) o = bool_cases (w.0 == s) (λ e. rw e refl) (λ e. rw e refl)
 
-pub seen_with : (v : CoreState) (t : ℕ) → seen v t ≡ view_with (committed v) (written v t)
-seen_with v t = λ i. record { map = λ q. own_or_is t (write_of v.writes q) (at v.city q) i; marks = marks_with (committed v) (written v t).1 }
+pub seen_with : (v : CoreState) (t : ℕ) → snapshot v t ≡ view_with (committed v) (written v t)
+seen_with v t = λ i. record { map = λ q. own_or_is t (write_of v.writes q) (object_at v.city q) i; marks = marks_with (committed v) (written v t).1 }
 
-pub seen_same : (v w : CoreState) (t : ℕ) → committed w ≡ committed v → written w t ≡ written v t → seen w t ≡ seen v t
+pub seen_same : (v w : CoreState) (t : ℕ) → committed w ≡ committed v → written w t ≡ written v t → snapshot w t ≡ snapshot v t
 seen_same v w t city e =
     seen_with w t ∙ ap (λ (m : CityMap). view_with m (written w t)) city ∙ ap (view_with (committed v)) e ∙ sym (seen_with v t)
 
@@ -52,40 +57,46 @@ not_named None b h e = h
 not_named (Some cause) b h e = cc
 
 by_cause : (m : CityMap) (c : Command) (q : List ℕ) → IsSound m → writes_id m c q ≡ false → (x : Option Cause) → x ≡ cause_of m c → after m c q ≡ m q
-by_cause m c q s h None e = frame m c q s (not_named (cause_of m c) (names_exclusively (locks_of m c) q) h (sym e))
+by_cause m c q s h None e = frame m c q s (not_named (cause_of m c) (locks_id_exclusively (locks_of m c) q) h (sym e))
 by_cause m c q s h (Some cause) e = ap (λ x. map_unless x m (effect_of m c) q) (sym e)
 
 -- what the command doesn't write stays
 after_unwritten : (m : CityMap) (c : Command) (q : List ℕ) → IsSound m → writes_id m c q ≡ false → after m c q ≡ m q
 after_unwritten m c q s h = by_cause m c q s h (cause_of m c) refl
 
-own_after_with : (m : CityMap) (f : OwnWrites) (c : Command) → IsSound (map_with m f) → map_with m (own_after (map_with m f) f c) ≡ after (map_with m f) c
+own_after_with : (m : CityMap) (f : OwnWrites) (c : Command) → IsSound (map_with m f) → map_with m (own_done (map_with m f) f c) ≡ after (map_with m f) c
 own_after_with m f c s =
-    let at_one : (q : List ℕ) → map_with m (own_after (map_with m f) f c) q ≡ after (map_with m f) c q =
+    let at_one : (q : List ℕ) → map_with m (own_done (map_with m f) f c) q ≡ after (map_with m f) c q =
     λ q. bool_cases (writes_id (map_with m f) c q)
     (λ e. ap (λ b. unwrap_or (if b then Some (after (map_with m f) c q) else f q) (m q)) e)
     (λ e. ap (λ b. unwrap_or (if b then Some (after (map_with m f) c q) else f q) (m q)) e ∙ sym (after_unwritten (map_with m f) c q s e)) in
     λ i q. at_one q i
 
-back_with : (m : CityMap) (w : Written) (ks : List (List ℕ × OwnWrites)) → view_with m (written_back w ks) ≡ back_to (view_with m w) (marks_with m ks)
+back_with : (m : CityMap) (w : Written) (ks : List (List ℕ × OwnWrites)) → view_with m (written_at_mark w ks) ≡ back_to (view_with m w) (marks_with m ks)
 back_with m w [] = refl
 back_with m w (k ∷ ks) = refl
 
-step_with : (k : Marking) (m : CityMap) (g : OwnWrites) (w : Written) (c : Command) → map_with m g ≡ after (map_with m w.0) c → view_with m (written_as k g w) ≡ step_as k (view_with m w) c
-step_with Leaves m g w c e = ap (λ (n : CityMap). record { map = n; marks = marks_with m w.1 }) e
-step_with (Marks name) m g w c e = refl
-step_with (GoesBack name) m g w c e = back_with m w (marks_from name w.1) ∙ ap (back_to (view_with m w)) (sym (from_mapped (map_with m) name w.1))
+step_with : (c : Command) (m : CityMap) (g : OwnWrites) (w : Written) → map_with m g ≡ after (map_with m w.0) c → view_with m (written_after c g w) ≡ seen_next (view_with m w) c
+step_with (Read id) m g w e = ap (λ (n : CityMap). record { map = n; marks = marks_with m w.1 }) e
+step_with (Put id body) m g w e = ap (λ (n : CityMap). record { map = n; marks = marks_with m w.1 }) e
+step_with (Delete id) m g w e = ap (λ (n : CityMap). record { map = n; marks = marks_with m w.1 }) e
+step_with (Attach child parent) m g w e = ap (λ (n : CityMap). record { map = n; marks = marks_with m w.1 }) e
+step_with (Detach child parent) m g w e = ap (λ (n : CityMap). record { map = n; marks = marks_with m w.1 }) e
+step_with (commands.Mark name) m g w e = refl
+step_with (Back name) m g w e = back_with m w (marks_from name w.1) ∙ ap (back_to (view_with m w)) (sym (from_mapped (map_with m) name w.1))
+step_with Commit m g w e = ap (λ (n : CityMap). record { map = n; marks = marks_with m w.1 }) e
+step_with Abort m g w e = ap (λ (n : CityMap). record { map = n; marks = marks_with m w.1 }) e
 
 -- what was written by the command gives what is seen after it
 pub step_seen : (v w : CoreState) (s : ℕ) (c : Command) → IsSound (view v s) → committed w ≡ committed v
-    → written w s ≡ written_as (marking c) (own_after (view v s) (own v s) c) (written v s) → seen w s ≡ step (seen v s) c
+    → written w s ≡ written_after c (own_done (view v s) (own v s) c) (written v s) → snapshot w s ≡ seen_next (snapshot v s) c
 step_seen v w s c sound city e =
     let same : view v s ≡ map_with (committed v) (own v s) = ap (λ (x : View). x.map) (seen_with v s) in
-    let done : map_with (committed v) (own_after (view v s) (own v s) c) ≡ after (map_with (committed v) (own v s)) c =
-    subst (λ (n : CityMap). map_with (committed v) (own_after n (own v s) c) ≡ after (map_with (committed v) (own v s)) c) (sym same)
+    let done : map_with (committed v) (own_done (view v s) (own v s) c) ≡ after (map_with (committed v) (own v s)) c =
+    subst (λ (n : CityMap). map_with (committed v) (own_done n (own v s) c) ≡ after (map_with (committed v) (own v s)) c) (sym same)
     (own_after_with (committed v) (own v s) c (subst IsSound same sound)) in
     seen_with w s ∙ ap (λ (m : CityMap). view_with m (written w s)) city ∙ ap (view_with (committed v)) e
-    ∙ step_with (marking c) (committed v) (own_after (view v s) (own v s) c) (written v s) c done ∙ ap (λ (x : View). step x c) (sym (seen_with v s))
+    ∙ step_with c (committed v) (own_done (view v s) (own v s) c) (written v s) done ∙ ap (λ (x : View). seen_next x c) (sym (seen_with v s))
 
 -- ---- what is written is held exclusively
 
@@ -99,7 +110,7 @@ AreCovered held (k ∷ ks) = IsCovered held k.1 × AreCovered held ks
 are_covered : (held : Held) (es : List Entry) (f : OwnWrites) → IsCovered held f → ((q : List ℕ) → has_before es q ≡ true → covers (held q) true ≡ true) → AreCovered held (marked es f)
 are_covered held [] f is h = tt
 are_covered held (Mark name ∷ es) f is h = (is, are_covered held es f is h)
-are_covered held (Before id o ∷ es) f is h = are_covered held es (update same_id f id o)
+are_covered held (BeforeImage id o ∷ es) f is h = are_covered held es (update same_id f id o)
     (at_each {P = λ r. is_some (update same_id f id o r) ≡ true → covers (held r) true ≡ true} id
     (λ k. h id (or_left (same_id id id) (has_before es id) (same_id_itself id)))
     (λ r e k. is r (sym (ap is_some (update_other same_id f id o r e)) ∙ k)))
@@ -111,14 +122,20 @@ covered_from held name (k ∷ ks) a = bool_cases (same_id name k.0)
     (λ e. subst (λ b. AreCovered held (if b then k ∷ ks else marks_from name ks)) (sym e) a)
     (λ e. subst (λ b. AreCovered held (if b then k ∷ ks else marks_from name ks)) (sym e) (covered_from held name ks a.1))
 
-covered_back : (held : Held) (w : Written) (ks : List (List ℕ × OwnWrites)) → IsCovered held w.0 → AreCovered held ks → IsCovered held (written_back w ks).0
+covered_back : (held : Held) (w : Written) (ks : List (List ℕ × OwnWrites)) → IsCovered held w.0 → AreCovered held ks → IsCovered held (written_at_mark w ks).0
 covered_back held w [] is a = is
 covered_back held w (k ∷ ks) is a = a.0
 
-pub covered_as : (held : Held) (k : Marking) (g : OwnWrites) (w : Written) → IsCovered held g → IsCovered held w.0 → AreCovered held w.1 → IsCovered held (written_as k g w).0
-covered_as held Leaves g w now is a = now
-covered_as held (Marks name) g w now is a = is
-covered_as held (GoesBack name) g w now is a = covered_back held w (marks_from name w.1) is (covered_from held name w.1 a)
+pub covered_after : (held : Held) (c : Command) (g : OwnWrites) (w : Written) → IsCovered held g → IsCovered held w.0 → AreCovered held w.1 → IsCovered held (written_after c g w).0
+covered_after held (Read id) g w now is a = now
+covered_after held (Put id body) g w now is a = now
+covered_after held (Delete id) g w now is a = now
+covered_after held (Attach child parent) g w now is a = now
+covered_after held (Detach child parent) g w now is a = now
+covered_after held (commands.Mark name) g w now is a = is
+covered_after held (Back name) g w now is a = covered_back held w (marks_from name w.1) is (covered_from held name w.1 a)
+covered_after held Commit g w now is a = now
+covered_after held Abort g w now is a = now
 
 own_locked : (v : CoreState) (t : ℕ) (q : List ℕ) → IsConsistent v → (x : Option Write) → write_of v.writes q ≡ x → is_some (own_write t x) ≡ true → mode_of v.locks t q ≡ Some Exclusive
 own_locked v t q c None e h = absurd (false≢true h)

@@ -6,7 +6,8 @@ use Rattle.std.proofs.lemmas.Map.{update_same, update_other}
 use Rattle.city_model.specs.CityMap.{CityMap, changed, same_id}
 use Rattle.city_model.specs.declared.object.Object.{Object}
 use Rattle.city_model.proofs.Ids.{same_id_itself}
-use Rattle.city_txn.specs.Slots.{placeholder, with_slot}
+use Rattle.city_txn.specs.Placeholder.{placeholder}
+use Rattle.city_txn.specs.inside.Slots.{with_slot}
 use Rattle.city_txn.proofs.OneIdChanged.{at_each}
 
 -- what stands at an id, set there again

@@ -10,8 +10,9 @@ use Rattle.city_model.specs.Marks.{marks_from}
 use Rattle.city_model.proofs.Ids.{same_id_itself}
 use Rattle.city_model.proofs.IdLists.{bool_cases}
 use Rattle.city_txn.specs.declared.undo_log.Entry.{Entry}
-use Rattle.city_txn.specs.declared.undo_log.Entry.TheVariants.{Mark, Before}
-use Rattle.city_txn.specs.UndoLog.{OwnWrites, Written, marked, is_before, has_before, is_noted, has_mark, is_at_mark, newest_undone, written_back}
+use Rattle.city_txn.specs.declared.undo_log.Entry.TheVariants.{Mark, BeforeImage}
+use Rattle.city_txn.specs.UndoLog.{OwnWrites, Written, marked, is_before, has_before, written_at_mark}
+use Rattle.city_txn.specs.inside.LogTests.{is_noted, has_mark, is_at_mark, newest_undone}
 use Rattle.city_txn.proofs.OneIdChanged.{at_each}
 
 -- ---- marks over other writes
@@ -25,22 +26,22 @@ marked_same [] f g same = refl
 marked_same (Mark name ∷ es) f g same =
     let e : f ≡ g = λ i q. same q refl i in
     ap (λ (h : OwnWrites). (name, h) ∷ marked es h) e
-marked_same (Before id own ∷ es) f g same = marked_same es (update same_id f id own) (update same_id g id own)
+marked_same (BeforeImage id own ∷ es) f g same = marked_same es (update same_id f id own) (update same_id g id own)
     (λ q h. at_each {P = λ r. is_noted es r ≡ false → update same_id f id own r ≡ update same_id g id own r} id
     (λ n. update_same same_id f id own id (same_id_itself id) ∙ sym (update_same same_id g id own id (same_id_itself id)))
     (λ r e n. update_other same_id f id own r e ∙ same r (apart_noted id r (is_noted es r) e n) ∙ sym (update_other same_id g id own r e)) q h)
 
 -- what is there, noted: marks stay
-pub noted_marked : (es : List Entry) (f : OwnWrites) (id : List ℕ) (own : Option (Option Object)) → own ≡ f id → marked (Before id own ∷ es) f ≡ marked es f
+pub noted_marked : (es : List Entry) (f : OwnWrites) (id : List ℕ) (own : Option (Option Object)) → own ≡ f id → marked (BeforeImage id own ∷ es) f ≡ marked es f
 noted_marked es f id own is = marked_same es (update same_id f id own) f
     (λ q h. at_each {P = λ r. update same_id f id own r ≡ f r} id
     (update_same same_id f id own id (same_id_itself id) ∙ is)
     (λ r e. update_other same_id f id own r e) q)
 
-pub noted_there : (es : List Entry) (id : List ℕ) (own : Option (Option Object)) → is_noted (Before id own ∷ es) id ≡ true
+pub noted_there : (es : List Entry) (id : List ℕ) (own : Option (Option Object)) → is_noted (BeforeImage id own ∷ es) id ≡ true
 noted_there es id own = or_left (same_id id id) (is_noted es id) (same_id_itself id)
 
-pub noted_still : (es : List Entry) (id q : List ℕ) (own : Option (Option Object)) → is_noted es q ≡ true → is_noted (Before id own ∷ es) q ≡ true
+pub noted_still : (es : List Entry) (id q : List ℕ) (own : Option (Option Object)) → is_noted es q ≡ true → is_noted (BeforeImage id own ∷ es) q ≡ true
 noted_still es id q own h = or_right (same_id id q) (is_noted es q) h
 
 -- a log without entries notes all
@@ -54,7 +55,7 @@ pub undone_marks : (es : List Entry) (f : OwnWrites) (name : List ℕ) → is_at
     marks_from name (marked (drop 1 es) (newest_undone es f)) ≡ marks_from name (marked es f)
 undone_marks [] f name h = refl
 undone_marks (Mark n ∷ es) f name h = sym (ap (λ b. if b then (n, f) ∷ marked es f else marks_from name (marked es f)) h)
-undone_marks (Before id own ∷ es) f name h = refl
+undone_marks (BeforeImage id own ∷ es) f name h = refl
 
 pub undone_has : (es : List Entry) (name : List ℕ) → is_at_mark es name ≡ false → has_mark es name ≡ true → has_mark (drop 1 es) name ≡ true
 undone_has [] name h k = absurd (false≢true k)
@@ -69,10 +70,10 @@ undone_shorter [] name h = absurd (false≢true h)
 undone_shorter (e ∷ es) name h = omega arith
 
 -- at the mark: what is written now is what was written then, and the newer marks are gone
-pub at_mark : (es : List Entry) (f : OwnWrites) (name : List ℕ) (w : Written) → is_at_mark es name ≡ true → written_back w (marks_from name (marked es f)) ≡ (f, marked es f)
+pub at_mark : (es : List Entry) (f : OwnWrites) (name : List ℕ) (w : Written) → is_at_mark es name ≡ true → written_at_mark w (marks_from name (marked es f)) ≡ (f, marked es f)
 at_mark [] f name w h = absurd (false≢true h)
-at_mark (Mark n ∷ es) f name w h = ap (λ b. written_back w (if b then (n, f) ∷ marked es f else marks_from name (marked es f))) h
-at_mark (Before id own ∷ es) f name w h = absurd (false≢true h)
+at_mark (Mark n ∷ es) f name w h = ap (λ b. written_at_mark w (if b then (n, f) ∷ marked es f else marks_from name (marked es f))) h
+at_mark (BeforeImage id own ∷ es) f name w h = absurd (false≢true h)
 
 -- without a mark of the name there is none to go back to
 pub no_mark_from : (es : List Entry) (f : OwnWrites) (name : List ℕ) → has_mark es name ≡ false → marks_from name (marked es f) ≡ []
@@ -80,7 +81,7 @@ no_mark_from [] f name h = refl
 no_mark_from (Mark n ∷ es) f name h =
     let parts = or_parts (same_id name n) (has_mark es name) h in
     ap (λ b. if b then (n, f) ∷ marked es f else marks_from name (marked es f)) parts.0 ∙ no_mark_from es f name parts.1
-no_mark_from (Before id own ∷ es) f name h = no_mark_from es (update same_id f id own) name h
+no_mark_from (BeforeImage id own ∷ es) f name h = no_mark_from es (update same_id f id own) name h
 
 -- and with one there is
 pub mark_is_there : (es : List Entry) (f : OwnWrites) (name : List ℕ) → has_mark es name ≡ true →
@@ -91,4 +92,4 @@ mark_is_there (Mark n ∷ es) f name h = bool_cases (same_id name n)
     (λ e.
     let rest = mark_is_there es f name (sym (ap (λ b. b || has_mark es name) e) ∙ h) in
     (rest.0, rest.1, ap (λ b. if b then (n, f) ∷ marked es f else marks_from name (marked es f)) e ∙ rest.2))
-mark_is_there (Before id own ∷ es) f name h = mark_is_there es (update same_id f id own) name h
+mark_is_there (BeforeImage id own ∷ es) f name h = mark_is_there es (update same_id f id own) name h

@@ -3,16 +3,16 @@ use Rattle.std.proofs.Common.{◌≡◌, ℕ, List, Bool, true, false, Option, N
 use Rattle.std.specs.Prelude.{if◌then◌else◌, option_map}
 use Rattle.std.proofs.lemmas.Bool.{false≢true}
 use Rattle.city_model.specs.declared.object.Object.{Object}
-use Rattle.city_model.specs.CityMap.{at, same_id, has_id, changed}
+use Rattle.city_model.specs.CityMap.{object_at, same_id, has_id, changed}
 use Rattle.city_model.proofs.Ids.{same_id_itself}
 use Rattle.city_model.proofs.IdLists.{bool_cases}
-use Rattle.city_txn.specs.declared.image.Image.{Image}
+use Rattle.city_txn.specs.declared.image.UndoImage.{UndoImage}
 use Rattle.city_txn.specs.declared.store.Store.TheInside.{Inside}
-use Rattle.city_txn.specs.Changing.{or_else}
-use Rattle.city_txn.specs.Images.{committed_at, write_at, written_at, writer_of, written_back, put_back, put_back_at}
-use Rattle.city_txn.specs.State.{Write, write_of, own_write, unless_by, own, is_reserved, committed}
-use Rattle.city_txn.specs.InPlace.{state_of, is_writer, IsInPlace}
-use Rattle.city_txn.specs.UndoState.{image_at, reservations_of}
+use Rattle.city_txn.specs.inside.Images.{or_else, committed_at, write_at, written_at, writer_of, image_unwritten, put_back, put_back_at}
+use Rattle.city_txn.specs.Writes.{Write, write_of, own_write, unless_by}
+use Rattle.city_txn.specs.inside.State.{own, is_reserved, committed}
+use Rattle.city_txn.specs.inside.InPlace.{state_of, is_writer, IsInPlace}
+use Rattle.city_txn.specs.inside.UndoState.{image_at, reservations_of}
 use Rattle.city_txn.proofs.AtOneId.{here, writes_is}
 use Rattle.city_txn.proofs.Forgotten.{own_write_gone}
 use Rattle.city_txn.proofs.OneIdChanged.{at_each, image_there, image_beside, slots_kept, committed_kept, write_changed}
@@ -21,32 +21,32 @@ use Rattle.city_txn.proofs.Written.{some_writer}
 -- ---- at one id, where x stood in the city
 
 -- an image by its fields
-abbrev image_of : ℕ → Bool → Bool → Option Object → Image
+abbrev image_of : ℕ → Bool → Bool → Option Object → UndoImage
 image_of t unwritten deleted before = record { by = t; unwritten = unwritten; deleted = deleted; before = before }
 
 still_committed : (t : ℕ) (u d : Bool) (b x : Option Object) →
-    committed_at (or_else (put_back (image_of t u d b)) x) (Some (written_back (image_of t u d b))) ≡ committed_at x (Some (image_of t u d b))
+    committed_at (or_else (put_back (image_of t u d b)) x) (Some (image_unwritten (image_of t u d b))) ≡ committed_at x (Some (image_of t u d b))
 still_committed t true d b x = refl
 still_committed t false d None x = refl
 still_committed t false d (Some o) x = refl
 
-not_written : (t : ℕ) (u d : Bool) (b y : Option Object) → write_at y (Some (written_back (image_of t u d b))) ≡ None
+not_written : (t : ℕ) (u d : Bool) (b y : Option Object) → write_at y (Some (image_unwritten (image_of t u d b))) ≡ None
 not_written t true d b y = refl
 not_written t false d b y = refl
 
-same_writer : (t : ℕ) (u d : Bool) (b : Option Object) → writer_of (Some (written_back (image_of t u d b))) ≡ Some t
+same_writer : (t : ℕ) (u d : Bool) (b : Option Object) → writer_of (Some (image_unwritten (image_of t u d b))) ≡ Some t
 same_writer t true d b = refl
 same_writer t false d b = refl
 
-committed_unwritten : (x : Option Object) (i : Option Image) → committed_at (or_else (put_back_at i) x) (option_map written_back i) ≡ committed_at x i
+committed_unwritten : (x : Option Object) (i : Option UndoImage) → committed_at (or_else (put_back_at i) x) (option_map image_unwritten i) ≡ committed_at x i
 committed_unwritten x None = refl
 committed_unwritten x (Some i) = still_committed i.by i.unwritten i.deleted i.before x
 
-write_unwritten : (y : Option Object) (i : Option Image) → write_at y (option_map written_back i) ≡ None
+write_unwritten : (y : Option Object) (i : Option UndoImage) → write_at y (option_map image_unwritten i) ≡ None
 write_unwritten y None = refl
 write_unwritten y (Some i) = not_written i.by i.unwritten i.deleted i.before y
 
-writer_unwritten : (i : Option Image) → writer_of (option_map written_back i) ≡ writer_of i
+writer_unwritten : (i : Option UndoImage) → writer_of (option_map image_unwritten i) ≡ writer_of i
 writer_unwritten None = refl
 writer_unwritten (Some i) = same_writer i.by i.unwritten i.deleted i.before
 
@@ -55,11 +55,11 @@ still_some None x h = h
 still_some (Some o) x h = refl
 
 -- what its transaction wrote at an id
-own_is : (s : ℕ) (x : Option Object) (i : Option Image) → is_writer s (writer_of i) ≡ true → written_at x i ≡ own_write s (write_at x i)
+own_is : (s : ℕ) (x : Option Object) (i : Option UndoImage) → is_writer s (writer_of i) ≡ true → written_at x i ≡ own_write s (write_at x i)
 own_is s x None h = absurd (false≢true h)
 own_is s x (Some i) h = bool_cases i.unwritten (λ f. rw f refl) (λ f. rw (f, h) refl)
 
-none_by_others : (s : ℕ) (x : Option Object) (i : Option Image) → is_writer s (writer_of i) ≡ true → unless_by s (write_at x i) ≡ None
+none_by_others : (s : ℕ) (x : Option Object) (i : Option UndoImage) → is_writer s (writer_of i) ≡ true → unless_by s (write_at x i) ≡ None
 none_by_others s x None h = refl
 none_by_others s x (Some i) h = own_write_gone s x i h
 
@@ -80,14 +80,14 @@ module _ (a : Inside) (k : IsInPlace a) (s : ℕ) (id : List ℕ) (reserved : is
       ∙ sym (ap (unless_by s) (writes_is a k id) ∙ none_by_others s (here a id) (image_at a.undo id) writer))
       (λ q e. ap (unless_by s) (step q ∙ ap (λ b. if b then w else write_of (state_of a).writes q) e))
 
-  module _ (b : Inside) (city : at b.city.1 ≡ changed (at a.city.1) id (or_else (put_back_at (image_at a.undo id)) (here a id)))
-      (images : (q : List ℕ) → image_at b.undo q ≡ (if same_id id q then option_map written_back (image_at a.undo id) else image_at a.undo q))
+  module _ (b : Inside) (city : object_at b.city.1 ≡ changed (object_at a.city.1) id (or_else (put_back_at (image_at a.undo id)) (here a id)))
+      (images : (q : List ℕ) → image_at b.undo q ≡ (if same_id id q then option_map image_unwritten (image_at a.undo id) else image_at a.undo q))
       (reservations : b.undo.reservations ≡ a.undo.reservations) where
     abbrev object : Option Object
     object = or_else (put_back_at (image_at a.undo id)) (here a id)
 
-    abbrev image : Option Image
-    image = option_map written_back (image_at a.undo id)
+    abbrev image : Option UndoImage
+    image = option_map image_unwritten (image_at a.undo id)
 
     same_writers : (q : List ℕ) → writer_of (image_at b.undo q) ≡ writer_of (image_at a.undo q)
     same_writers = at_each id

@@ -3,33 +3,34 @@ use Rattle.std.proofs.Common.{◌≡◌, ℕ, List, Bool, true, false, not, Opti
 use Rattle.std.specs.Prelude.{if◌then◌else◌, option_map, unwrap_or}
 use Rattle.std.proofs.lemmas.Bool.{false≢true, eqb-true}
 use Rattle.city_model.specs.declared.object.Object.{Object}
-use Rattle.city_model.specs.CityMap.{at, same_id, has_id, changed}
-use Rattle.city_txn.specs.declared.image.Image.{Image}
+use Rattle.city_model.specs.CityMap.{object_at, same_id, has_id, changed}
+use Rattle.city_txn.specs.declared.image.UndoImage.{UndoImage}
 use Rattle.city_txn.specs.declared.store.Store.TheInside.{Inside}
-use Rattle.city_txn.specs.Images.{committed_at, write_at, writer_of, written_over}
-use Rattle.city_txn.specs.State.{write_of, is_reserved, committed}
-use Rattle.city_txn.specs.InPlace.{state_of, is_writer, IsInPlace}
-use Rattle.city_txn.specs.UndoState.{image_at, reservations_of}
-use Rattle.city_txn.specs.Slots.{placeholder}
+use Rattle.city_txn.specs.inside.Images.{committed_at, write_at, writer_of, written_over}
+use Rattle.city_txn.specs.Writes.{write_of}
+use Rattle.city_txn.specs.inside.State.{is_reserved, committed}
+use Rattle.city_txn.specs.inside.InPlace.{state_of, is_writer, IsInPlace}
+use Rattle.city_txn.specs.inside.UndoState.{image_at, reservations_of}
+use Rattle.city_txn.specs.Placeholder.{placeholder}
 use Rattle.city_txn.proofs.AtOneId.{here}
 use Rattle.city_txn.proofs.OneIdChanged.{at_each, image_there, image_beside, slots_kept, committed_kept, write_changed}
 
 -- ---- at one id, where x stood in the city and y stands now
 
-pub some_writer : (s : ℕ) (i : Option Image) → is_writer s (writer_of i) ≡ true → is_some i ≡ true
+pub some_writer : (s : ℕ) (i : Option UndoImage) → is_writer s (writer_of i) ≡ true → is_some i ≡ true
 some_writer s None h = absurd (false≢true h)
 some_writer s (Some i) h = refl
 
-committed_written : (x y : Option Object) (deleted : Bool) (i : Option Image) → is_some i ≡ true → committed_at y (option_map (written_over x deleted) i) ≡ committed_at x i
+committed_written : (x y : Option Object) (deleted : Bool) (i : Option UndoImage) → is_some i ≡ true → committed_at y (option_map (written_over x deleted) i) ≡ committed_at x i
 committed_written x y deleted None h = absurd (false≢true h)
 committed_written x y deleted (Some i) h = refl
 
-write_written : (x y w : Option Object) (deleted : Bool) (s : ℕ) (i : Option Image) → is_writer s (writer_of i) ≡ true → (if deleted then None else y) ≡ w →
+write_written : (x y w : Option Object) (deleted : Bool) (s : ℕ) (i : Option UndoImage) → is_writer s (writer_of i) ≡ true → (if deleted then None else y) ≡ w →
     write_at y (option_map (written_over x deleted) i) ≡ Some (s, w)
 write_written x y w deleted s None h g = absurd (false≢true h)
 write_written x y w deleted s (Some i) h g = ap (λ t. Some (t, if deleted then None else y)) (eqb-true i.by s h) ∙ ap (λ z. Some (s, z)) g
 
-writer_written : (x : Option Object) (deleted : Bool) (i : Option Image) → writer_of (option_map (written_over x deleted) i) ≡ writer_of i
+writer_written : (x : Option Object) (deleted : Bool) (i : Option UndoImage) → writer_of (option_map (written_over x deleted) i) ≡ writer_of i
 writer_written x deleted None = refl
 writer_written x deleted (Some i) = refl
 
@@ -44,10 +45,10 @@ not_deleted (Some o) false e = refl
 
 module _ (a b : Inside) (k : IsInPlace a) (s : ℕ) (id : List ℕ) (reserved : is_reserved (state_of a) s id ≡ true) (deleted : Bool) (y : Object) (w : Option Object)
     (is : (if deleted then None else Some y) ≡ w)
-    (city : at b.city.1 ≡ changed (at a.city.1) id (Some y))
+    (city : object_at b.city.1 ≡ changed (object_at a.city.1) id (Some y))
     (images : (q : List ℕ) → image_at b.undo q ≡ (if same_id id q then option_map (written_over (here a id) deleted) (image_at a.undo id) else image_at a.undo q))
     (reservations : b.undo.reservations ≡ a.undo.reservations) where
-  abbrev image : Option Image
+  abbrev image : Option UndoImage
   image = option_map (written_over (here a id) deleted) (image_at a.undo id)
 
   writer : is_writer s (writer_of (image_at a.undo id)) ≡ true

@@ -1,42 +1,33 @@
 -- What a command does to a core.
-use Rattle.std.specs.Prelude.{◌≡◌, ◌≢◌, ◌==◌, ◌&&◌, ℕ, Bool, true, false, List, [], ◌∷◌, ◌++◌, Some, is_none}
+use Rattle.std.specs.Prelude.{◌≡◌, ◌≢◌, ◌==◌, ◌&&◌, not, ℕ, Bool, true, false, List, [], ◌∷◌, ◌++◌, Some}
 use Rattle.std.specs.Prelude.{if◌then◌else◌}
 use Rattle.std.specs.Prelude.{Result, Ok, Err, IfOk, IfErr, OnOk, IsOk, IsErr}
 use Rattle.city_model.specs.declared.command.Command.{Command}
+use Rattle.city_model.specs.declared.command.Command.TheVariants.{Commit}
+use Rattle.city_model.specs.declared.command.Cause.{Cause}
 use Rattle.city_model.specs.declared.command.Reply.{Reply}
+use Rattle.city_model.specs.declared.command.Reply.TheVariants.{WentBack, Refused}
 use Rattle.city_model.specs.CityMap.{CityMap}
 use Rattle.city_model.specs.Runs.{EndsAt}
 use Rattle.city_model.specs.declared.end.Outcome.{Outcome}
-use Rattle.city_model.specs.Marks.{View, Marked, Marking, Leaves, Marks, GoesBack, marking, marks_from, back_cause, step, answer}
-use Rattle.city_model.specs.Meaning.{cause_of, after, is_refusal, locks_of}
+use Rattle.city_model.specs.Marks.{View}
+use Rattle.city_model.specs.Meaning.{Answers, effect, Does, is_refusal, locks_of}
 use Rattle.city_locks.specs.declared.answer.Answer.{Answer}
 use Rattle.city_locks.specs.declared.answer.Answer.TheVariants.{Granted, Wait, Die}
 use Rattle.city_txn.specs.declared.step.Step.{Step}
 use Rattle.city_txn.specs.declared.step.Step.TheVariants as steps
 use Rattle.city_txn.specs.declared.step.TxnFault.{TxnFault}
 use Rattle.city_txn.specs.declared.step.TxnFault.TheVariants.{NotOpen, OutOfMemory}
-use Rattle.city_txn.specs.State.{write_of, unless_by}
-use Rattle.city_txn.specs.UndoLog.{OwnWrites, written_as}
-use Rattle.city_model.specs.Standing.{Lock, Answered, AllHeld, names_exclusively}
-use Rattle.city_txn.specs.CoreState.{CoreState, committed, view, own, written, seen, is_open, held, Stands, KeepsOthers}
+use Rattle.city_txn.specs.Writes.{write_of, unless_by}
+use Rattle.city_txn.specs.UndoLog.{OwnWrites, written_after}
+use Rattle.city_model.specs.Standing.{Lock, Answered, AllHeld, locks_id_exclusively}
+use Rattle.city_txn.specs.CoreState.{CoreState, committed, view, own, written, snapshot, is_open, held, StandsUnderLocks, KeepsOthers}
 use Rattle.city_txn.specs.Locking.{first_answer, granted_before, GainsFirst, IsBlocked}
 
--- whether the command, done at this map, writes the id: not where it is refused, and else each id that it
--- locks exclusively
-abbrev pub writes_id : CityMap → Command → List ℕ → Bool
-writes_id m command id = is_none (cause_of m command) && names_exclusively (locks_of m command) id
-
--- what the transaction with these writes at this map has written after the command, marks aside
-abbrev pub own_after : CityMap → OwnWrites → Command → OwnWrites
-own_after m f command id = if writes_id m command id then Some (after m command id) else f id
-
--- the reply that the transaction would get to the command
-abbrev pub reply_in : CoreState → ℕ → Command → Reply
-reply_in v stamp command = answer (seen v stamp) command
-
--- what it would see after the command
-abbrev pub seen_after : CoreState → ℕ → Command → View
-seen_after v stamp command = step (seen v stamp) command
+-- what is written after a command that asked for these locks, got this reply and left this map, marks aside: where it
+-- isn't refused, at each id that it locks exclusively, what stands there then
+abbrev pub own_after : OwnWrites → List Lock → Reply → CityMap → OwnWrites
+own_after f ls reply m id = if not (is_refusal reply) && locks_id_exclusively ls id then Some (m id) else f id
 
 -- the answer to its locks: that of the first that isn't granted, or Granted
 abbrev pub answer_in : CoreState → ℕ → Command → Answer
@@ -48,22 +39,17 @@ granted_in v stamp command = granted_before v.locks stamp (locks_of (view v stam
 
 -- the transaction ends with this outcome at the command, which is number `number` of its script
 abbrev pub EndsIn : CoreState → ℕ → Command → ℕ → Outcome → Type 0
-EndsIn v stamp command number outcome = EndsAt (seen v stamp) command number outcome
+EndsIn v stamp command number outcome = EndsAt (snapshot v stamp) command number outcome
+
+-- a commit of the transaction is refused by this cause
+abbrev pub RefusesCommit : CoreState → ℕ → Cause → Type 0
+RefusesCommit v stamp cause = Does (snapshot v stamp) Commit (Refused cause) (snapshot v stamp)
 
 -- the step that an answer of the locks and a reply give
 abbrev pub step_of : Answer → Reply → Step
 step_of Granted reply = steps.Done reply
 step_of Wait reply = steps.Wait
 step_of Die reply = steps.Die
-
-abbrev pub finds_as : Marking → List Marked → Bool
-finds_as Leaves ks = false
-finds_as (Marks name) ks = false
-finds_as (GoesBack name) ks = is_none (back_cause name (marks_from name ks))
-
--- whether the command goes back to a mark that is there
-abbrev pub finds_mark : View → Command → Bool
-finds_mark v command = finds_as (marking command) v.marks
 
 abbrev pub is_done : Result Step TxnFault → Bool
 is_done (Ok (steps.Done reply)) = true
@@ -79,23 +65,27 @@ with_step (Ok steps.Die) command done = done
 with_step (Err fault) command done = done
 
 -- A call by the stamp to do the command: what it answers, and what becomes of the core.
-pub record Acted (stamp : ℕ) (command : Command) (result : Result Step TxnFault)
+pub record IsAct (stamp : ℕ) (command : Command) (result : Result Step TxnFault)
     (old new : CoreState) : Type 0 where
+  -- what the command is answered at what the transaction sees, and what is seen after it
+  pub reply : Reply
+  pub after : View
+  pub does : effect (snapshot old stamp) command ≡ Answers reply after
   -- done where each lock is granted, and else the answer of the first that isn't
-  pub step : IfOk result (λ step. step ≡ step_of (answer_in old stamp command) (reply_in old stamp command))
+  pub step : IfOk result (λ step. step ≡ step_of (answer_in old stamp command) reply)
   pub fault : IfErr result (λ fault. fault ≡ (if is_open old stamp then OutOfMemory else NotOpen stamp))
   pub not_open : is_open old stamp ≡ false → IsErr result
   -- being out of memory hides no Wait and no Die, if it holds the locks before
   pub answered : is_open old stamp ≡ true → answer_in old stamp command ≢ Granted
       → AllHeld (held old stamp) (granted_in old stamp command) → IsOk result
   -- nor keeps it from going back to a mark that is there
-  pub found : is_open old stamp ≡ true → finds_mark (seen old stamp) command ≡ true → IsOk result
+  pub found : is_open old stamp ≡ true → reply ≡ WentBack → IsOk result
   -- told to wait, it is older than another open one; told to die, it is younger than one
   pub blocked : OnOk result (IsBlocked (λ t. is_open old t ≡ true) stamp (answer_in old stamp command))
   -- it sees what is seen after the command, where that is done; all else that is seen stays
-  pub sees : seen new stamp ≡ (if is_done result then seen_after old stamp command else seen old stamp)
+  pub sees : snapshot new stamp ≡ (if is_done result then after else snapshot old stamp)
   pub city : committed new ≡ committed old
-  pub views : (t : ℕ) → (stamp == t) ≡ false → seen new t ≡ seen old t
+  pub views : (t : ℕ) → (stamp == t) ≡ false → snapshot new t ≡ snapshot old t
   pub opened : is_open new stamp ≡ is_open old stamp
   -- of the locks before the first that isn't granted it gains the first few, in their order, and no others;
   -- unless memory runs out, all of them. It loses none; the others keep theirs
@@ -104,12 +94,13 @@ pub record Acted (stamp : ℕ) (command : Command) (result : Result Step TxnFaul
   -- its writes gain just the ids that the command writes, a new mark has the writes of now, and going back makes them
   -- those of the mark; the others' writes and marks stay
   pub writes : written new stamp ≡ (if is_done result
-      then written_as (marking command) (own_after (view old stamp) (own old stamp) command) (written old stamp)
+      then written_after command
+      (own_after (own old stamp) (locks_of (view old stamp) command) reply after.map) (written old stamp)
       else written old stamp)
   pub unwritten : (id : List ℕ) → unless_by stamp (write_of new.writes id) ≡ unless_by stamp (write_of old.writes id)
   pub others : (t : ℕ) → (stamp == t) ≡ false → written new t ≡ written old t
   -- all commands that stood stand, and this one with them; without it too, where it is refused
-  pub own : (done : List Answered) → Stands old stamp done → Stands new stamp (with_step result command done)
-  pub refused : is_refusal (reply_in old stamp command) ≡ true
-      → (done : List Answered) → Stands old stamp done → Stands new stamp done
+  pub own : (done : List Answered) → StandsUnderLocks old stamp done → StandsUnderLocks new stamp (with_step result command done)
+  pub refused : is_refusal reply ≡ true
+      → (done : List Answered) → StandsUnderLocks old stamp done → StandsUnderLocks new stamp done
   pub keeps : KeepsOthers stamp old new

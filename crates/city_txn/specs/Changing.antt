@@ -1,50 +1,31 @@
 -- What a transaction wrote, as a change.
-use Rattle.std.specs.Prelude.{◌≡◌, ℕ, List, Bool, false, Option, None, Some}
+use Rattle.std.specs.Prelude.{◌≡◌, ℕ, List, Some}
 use Rattle.std.specs.Map.{keys_of}
 use Rattle.std.specs.Ordering.{nat_cmp}
 use Rattle.std.specs.Cmp.Lexicographic.{slice_cmp}
 use Rattle.std.specs.List.Sorted.{IsStrictlySortedBy}
-use Rattle.city_model.specs.declared.command.Command.TheVariants.{Commit}
-use Rattle.city_model.specs.CityMap.{Entries, has_id}
-use Rattle.city_model.specs.Relations.{IsLawful, is_orphan_there}
-use Rattle.city_model.specs.Runs.{Change, with_change}
-use Rattle.city_model.specs.declared.end.Outcome.TheVariants as Outcome
+use Rattle.city_model.specs.CityMap.{has_id}
+use Rattle.city_model.specs.Relations.{IsLawful}
+use Rattle.city_model.specs.Runs.{Change, after_change}
 use Rattle.city_txn.specs.declared.step.Prepared.{Prepared}
 use Rattle.city_txn.specs.declared.step.Prepared.TheVariants.{Ready, Refused}
-use Rattle.city_model.specs.declared.object.Object.{Object}
-use Rattle.city_txn.specs.State.{Write, write_of, is_by, own_write}
-use Rattle.city_txn.specs.InPlace.{made_by}
+use Rattle.city_txn.specs.Writes.{Write, write_of, is_by, own_write, made_by}
 use Rattle.city_txn.specs.CoreState.{CoreState, committed, view}
-use Rattle.city_txn.specs.Acting.{EndsIn}
-
--- the first, or where there is none the second
-abbrev pub or_else : {Y : Type 0} → Option Y → Option Y → Option Y
-or_else None y = y
-or_else (Some x) y = Some x
-
--- the objects that the change sets
-abbrev pub objects_in : Change → Entries
-objects_in change = made_by (λ id object. object) change
+use Rattle.city_txn.specs.Acting.{RefusesCommit}
 
 -- what the transaction wrote of these writes, in their order
 abbrev pub change_in : List (List ℕ × Write) → ℕ → Change
 change_in writes stamp = made_by (λ id w. own_write stamp (Some w)) writes
 
--- an orphan was written there
-abbrev pub is_orphan_written : Option (Option Object) → Bool
-is_orphan_written None = false
-is_orphan_written (Some object) = is_orphan_there object
-
 -- The change turns the committed map into the transaction's view, which is lawful; its ids are those that the
 -- transaction wrote, in byte order, each once.
 pub record IsChangeOf (v : CoreState) (stamp : ℕ) (change : Change) : Type 0 where
-  pub makes_view : with_change (committed v) change ≡ view v stamp
+  pub makes_view : after_change (committed v) change ≡ view v stamp
   pub ids : (id : List ℕ) → has_id (keys_of change) id ≡ is_by stamp (write_of v.writes id)
   pub in_byte_order : IsStrictlySortedBy (slice_cmp nat_cmp) (keys_of change)
   pub lawful : IsLawful (view v stamp)
 
--- ready with its change, or refused as a commit is: by the least orphan of its view
+-- ready with its change, or refused as a commit is
 abbrev pub IsPrepared : CoreState → ℕ → Prepared → Type 0
 IsPrepared v stamp (Ready change) = IsChangeOf v stamp change
-IsPrepared v stamp (Refused cause) =
-    (number : ℕ) → EndsIn v stamp Commit number (Outcome.Refused number cause)
+IsPrepared v stamp (Refused cause) = RefusesCommit v stamp cause

@@ -1,18 +1,16 @@
 -- What contracts see of a core: its committed city, and the writes, the marks and the locks of its open
 -- transactions.
-use Rattle.std.specs.Prelude.{◌≡◌, ◌==◌, ℕ, Bool, true, false, List, [], None, Some, is_some, option_map}
+use Rattle.std.specs.Prelude.{◌≡◌, ◌==◌, ℕ, Bool, false, List, [], None, option_map}
 use Rattle.std.specs.Prelude.{if◌then◌else◌}
 use Rattle.std.specs.List.{list_any}
 use Rattle.city_model.specs.declared.frame.Frame.{Frame}
-use Rattle.city_model.specs.CityMap.{Objects, CityMap, at}
-use Rattle.city_model.specs.Relations.{IsLawful}
-use Rattle.city_locks.specs.declared.mode.Mode.TheVariants.{Exclusive}
+use Rattle.city_model.specs.CityMap.{Objects, CityMap, object_at}
 use Rattle.city_locks.specs.Mode.{is_exclusive}
-use Rattle.city_locks.specs.Locks.{Locks, mode_of, Lawful}
-use Rattle.city_txn.specs.State.{Write, write_of, own_or, own_write, unless_by}
-use Rattle.city_txn.specs.UndoLog.{Logs, OwnWrites, Written, log_of, marked, has_before, marks_with}
+use Rattle.city_locks.specs.Locks.{Locks, mode_of}
+use Rattle.city_txn.specs.Writes.{Write, write_of, own_or, own_write, unless_by}
+use Rattle.city_txn.specs.UndoLog.{Logs, OwnWrites, Written, log_of, marked, marks_with}
 use Rattle.city_model.specs.Marks.{View, unmarked}
-use Rattle.city_model.specs.Standing.{Held, Answered, Follows}
+use Rattle.city_model.specs.Standing.{Held, Answered, IsTraceUnderLocks}
 
 pub record CoreState : Type 0 where
   -- the committed city
@@ -27,11 +25,11 @@ pub record CoreState : Type 0 where
   pub locks : Locks
 
 abbrev pub committed : CoreState → CityMap
-committed v id = at v.city id
+committed v id = object_at v.city id
 
 -- the map that the transaction sees: the committed one with its own writes
 abbrev pub view : CoreState → ℕ → CityMap
-view v stamp id = own_or stamp (write_of v.writes id) (at v.city id)
+view v stamp id = own_or stamp (write_of v.writes id) (object_at v.city id)
 
 -- what the transaction wrote at each id, by now and at each of its marks
 abbrev pub own : CoreState → ℕ → OwnWrites
@@ -41,8 +39,8 @@ abbrev pub written : CoreState → ℕ → Written
 written v stamp = (own v stamp, marked (log_of v.logs stamp) (own v stamp))
 
 -- what the transaction sees: that map, and for each mark the committed one with the writes that it had then
-abbrev pub seen : CoreState → ℕ → View
-seen v stamp = record { map = view v stamp; marks = marks_with (committed v) (written v stamp).1 }
+abbrev pub snapshot : CoreState → ℕ → View
+snapshot v stamp = record { map = view v stamp; marks = marks_with (committed v) (written v stamp).1 }
 
 abbrev pub is_open : CoreState → ℕ → Bool
 is_open v stamp = list_any (λ t. stamp == t) v.opened
@@ -56,32 +54,18 @@ held v stamp = held_in v.locks stamp
 
 -- the commands of the transaction stand: from the committed map they get these replies, with their locks
 -- held, and lead to what it sees, marks too
-abbrev pub Stands : CoreState → ℕ → List Answered → Type 0
-Stands v stamp done = Follows (held v stamp) (unmarked (committed v)) done (seen v stamp)
-
--- writes stand under exclusive locks, those of marks too, only open transactions hold locks and have marks,
--- the committed city is lawful, and what each sees comes of commands that stand
-pub record IsConsistent (v : CoreState) : Type 0 where
-  pub lawful : Lawful v.locks
-  pub locked : (id : List ℕ) (w : Write) → write_of v.writes id ≡ Some w
-      → mode_of v.locks w.0 id ≡ Some Exclusive
-  pub marks_locked : (stamp : ℕ) (id : List ℕ) → has_before (log_of v.logs stamp) id ≡ true
-      → mode_of v.locks stamp id ≡ Some Exclusive
-  pub open_only : (stamp : ℕ) (id : List ℕ)
-      → is_some (mode_of v.locks stamp id) ≡ true → is_open v stamp ≡ true
-  pub marks_open : (stamp : ℕ) → is_open v stamp ≡ false → log_of v.logs stamp ≡ []
-  pub city : IsLawful (committed v)
-  pub history : (stamp : ℕ) → (done : List Answered) × Stands v stamp done
+abbrev pub StandsUnderLocks : CoreState → ℕ → List Answered → Type 0
+StandsUnderLocks v stamp done = IsTraceUnderLocks (held v stamp) (unmarked (committed v)) done (snapshot v stamp)
 
 -- each other transaction stays open or not, and its commands stand as they stood
 pub record KeepsOthers (stamp : ℕ) (old new : CoreState) : Type 0 where
   pub frame : new.frame ≡ old.frame
   pub opened : (t : ℕ) → (stamp == t) ≡ false → is_open new t ≡ is_open old t
-  pub others : (t : ℕ) (done : List Answered) → (stamp == t) ≡ false → Stands old t done → Stands new t done
+  pub others : (t : ℕ) (done : List Answered) → (stamp == t) ≡ false → StandsUnderLocks old t done → StandsUnderLocks new t done
 
 -- the transaction of the stamp is over: its writes, its marks and its locks are gone, and it is no longer
 -- open; the others' stay
-pub record IsOver (stamp : ℕ) (old new : CoreState) : Type 0 where
+pub record IsTransactionEnd (stamp : ℕ) (old new : CoreState) : Type 0 where
   pub writes : (id : List ℕ) → write_of new.writes id ≡ unless_by stamp (write_of old.writes id)
   pub marks : (t : ℕ) → log_of new.logs t ≡ (if stamp == t then [] else log_of old.logs t)
   pub locks : (t : ℕ) (id : List ℕ)
@@ -90,7 +74,7 @@ pub record IsOver (stamp : ℕ) (old new : CoreState) : Type 0 where
   pub keeps : KeepsOthers stamp old new
 
 -- it is over, and what it wrote is undone: all else that is seen stays
-pub record IsUndone (stamp : ℕ) (old new : CoreState) : Type 0 where
+pub record IsRolledBack (stamp : ℕ) (old new : CoreState) : Type 0 where
   pub city : committed new ≡ committed old
-  pub views : (t : ℕ) → (stamp == t) ≡ false → seen new t ≡ seen old t
-  pub over : IsOver stamp old new
+  pub views : (t : ℕ) → (stamp == t) ≡ false → snapshot new t ≡ snapshot old t
+  pub over : IsTransactionEnd stamp old new

@@ -1,14 +1,8 @@
 pub mod Acting
 pub mod Changing
-pub mod Codes
-pub mod Core
 pub mod CoreState
-pub mod Ending
-pub mod Images
-pub mod InPlace
 pub mod Locking
-pub mod Performing
-pub mod Slots
-pub mod State
+pub mod Placeholder
 pub mod UndoLog
-pub mod UndoState
+pub mod Writes
+pub mod inside

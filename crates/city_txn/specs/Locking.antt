@@ -1,12 +1,12 @@
 -- Locks asked for in turn, up to the first that isn't granted.
-use Rattle.std.specs.Prelude.{◌≡◌, ◌⊎◌, ◌==◌, ◌<◌, ℕ, List, [], ◌∷◌, ◌++◌, Bool, true, false, is_some}
-use Rattle.std.specs.Prelude.{Result, IfOk, IsOk, OnOk, if◌then◌else◌}
+use Rattle.std.specs.Prelude.{◌≡◌, ◌⊎◌, ◌==◌, ◌<◌, ℕ, List, [], ◌∷◌, ◌++◌, Bool, true, false}
+use Rattle.std.specs.Prelude.{if◌then◌else◌}
 use Rattle.city_locks.specs.declared.mode.Mode.{Mode}
 use Rattle.city_locks.specs.declared.mode.Mode.TheVariants.{Shared, Exclusive}
 use Rattle.city_locks.specs.declared.answer.Answer.{Answer}
 use Rattle.city_locks.specs.declared.answer.Answer.TheVariants.{Granted, Wait, Die}
 use Rattle.city_locks.specs.Locks.{Locks, answer_of, mode_of, Lawful}
-use Rattle.city_model.specs.Standing.{Lock, AllHeld, covers, names, names_exclusively}
+use Rattle.city_model.specs.Standing.{Lock, AllHeld, covers, locks_id, locks_id_exclusively}
 use Rattle.city_txn.specs.CoreState.{held_in}
 
 abbrev pub mode_for : Bool → Mode
@@ -45,9 +45,9 @@ pub record MoreLocks (stamp : ℕ) (ls : List Lock) (old new : Locks) : Type 0 w
   pub others : (t : ℕ) (id : List ℕ) → (stamp == t) ≡ false → mode_of new t id ≡ mode_of old t id
   pub more : (id : List ℕ) (exclusive : Bool) → covers (held_in old stamp id) exclusive ≡ true
       → covers (held_in new stamp id) exclusive ≡ true
-  pub only : (id : List ℕ) → names ls id ≡ false → mode_of new stamp id ≡ mode_of old stamp id
+  pub only : (id : List ℕ) → locks_id ls id ≡ false → mode_of new stamp id ≡ mode_of old stamp id
   pub modes : (id : List ℕ) → covers (held_in new stamp id) true ≡ true
-      → (covers (held_in old stamp id) true ≡ true) ⊎ (names_exclusively ls id ≡ true)
+      → (covers (held_in old stamp id) true ≡ true) ⊎ (locks_id_exclusively ls id ≡ true)
   pub lawful : Lawful old → Lawful new
   pub answers : (id : List ℕ) (mode : Mode) → answer_of new stamp id mode ≡ answer_of old stamp id mode
 
@@ -59,22 +59,8 @@ pub record GainsFirst (stamp : ℕ) (ls : List Lock) (old new : Locks) : Type 0 
   pub held : AllHeld (held_in new stamp) gained
   pub locks : MoreLocks stamp gained old new
 
-abbrev pub HoldsLock : Locks → ℕ → Type 0
-HoldsLock locks stamp = (id : List ℕ) × (is_some (mode_of locks stamp id) ≡ true)
-
 -- told to wait, the stamp is older than another of which P holds; told to die, it is younger than one
 abbrev pub IsBlocked : (ℕ → Type 0) → ℕ → Answer → Type 0
 IsBlocked P stamp Granted = Unit {0}
 IsBlocked P stamp Wait = (t : ℕ) × (stamp < t) × P t
 IsBlocked P stamp Die = (t : ℕ) × (t < stamp) × P t
-
--- The locks asked for in turn: the answer is that of the first that isn't granted, and those before it are
--- gained; if memory runs out, the first few of them.
-pub record Asked {E : Type 0} (stamp : ℕ) (ls : List Lock) (result : Result Answer E)
-    (old new : Locks) : Type 0 where
-  pub answer : IfOk result (λ a. a ≡ first_answer old stamp ls)
-  pub gains : GainsFirst stamp (granted_before old stamp ls) old new
-  pub held : OnOk result (AllHeld (held_in new stamp) (granted_before old stamp ls))
-  pub blocked : IfOk result (IsBlocked (HoldsLock old) stamp)
-  -- it allocates only for a lock that the stamp didn't hold
-  pub answered : AllHeld (held_in old stamp) (granted_before old stamp ls) → IsOk result

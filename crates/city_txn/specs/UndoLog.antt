@@ -1,15 +1,19 @@
 -- The undo logs of open transactions: their marks, and what each had written where it wrote again.
-use Rattle.std.specs.Prelude.{◌||◌, ℕ, Bool, true, false, List, [], ◌∷◌, Option, map, reverse}
+use Rattle.std.specs.Prelude.{ℕ, Bool, false, List, [], ◌∷◌, Option, map, reverse}
 use Rattle.std.specs.Prelude.{unwrap_or}
 use Rattle.std.specs.List.{list_any}
 use Rattle.std.specs.Map.{lookup, update}
 use Rattle.std.specs.Ordering.{nat_cmp}
 use Rattle.std.specs.BTreeMap.{is_at}
 use Rattle.city_model.specs.declared.object.Object.{Object}
+use Rattle.city_model.specs.declared.command.Command.{Command}
+use Rattle.city_model.specs.declared.command.Command.TheVariants as commands
+use Rattle.city_model.specs.declared.command.Command.TheVariants.{Read, Put, Delete, Attach, Detach}
+use Rattle.city_model.specs.declared.command.Command.TheVariants.{Back, Commit, Abort}
 use Rattle.city_model.specs.CityMap.{CityMap, same_id}
-use Rattle.city_model.specs.Marks.{View, Marked, Marking, Leaves, Marks, GoesBack, marks_from}
+use Rattle.city_model.specs.Marks.{Marked, marks_from}
 use Rattle.city_txn.specs.declared.undo_log.Entry.{Entry}
-use Rattle.city_txn.specs.declared.undo_log.Entry.TheVariants.{Mark, Before}
+use Rattle.city_txn.specs.declared.undo_log.Entry.TheVariants.{Mark, BeforeImage}
 
 -- the logs by stamps, the entries of each newest last
 abbrev pub Logs : Type 0
@@ -27,44 +31,15 @@ OwnWrites = List ℕ → Option (Option Object)
 abbrev pub marked : List Entry → OwnWrites → List (List ℕ × OwnWrites)
 marked [] f = []
 marked (Mark name ∷ es) f = (name, f) ∷ marked es f
-marked (Before id own ∷ es) f = marked es (update same_id f id own)
+marked (BeforeImage id own ∷ es) f = marked es (update same_id f id own)
 
 -- whether an entry says what was written at the id
 abbrev pub is_before : List ℕ → Entry → Bool
 is_before id (Mark name) = false
-is_before id (Before q own) = same_id q id
+is_before id (BeforeImage q own) = same_id q id
 
 abbrev pub has_before : List Entry → List ℕ → Bool
 has_before es id = list_any (is_before id) es
-
--- whether one that is newer than each mark does, so that a write of the id changes no mark
-abbrev pub is_noted : List Entry → List ℕ → Bool
-is_noted [] id = true
-is_noted (Mark name ∷ es) id = false
-is_noted (Before q own ∷ es) id = same_id q id || is_noted es id
-
--- whether an entry is a mark of the name
-abbrev pub is_mark : List ℕ → Entry → Bool
-is_mark name (Mark n) = same_id name n
-is_mark name (Before id own) = false
-
-abbrev pub has_mark : List Entry → List ℕ → Bool
-has_mark es name = list_any (is_mark name) es
-
--- whether the newest entry is one
-abbrev pub is_at_mark : List Entry → List ℕ → Bool
-is_at_mark [] name = false
-is_at_mark (e ∷ es) name = is_mark name e
-
--- what was written before an entry
-abbrev pub undone : Entry → OwnWrites → OwnWrites
-undone (Mark name) f = f
-undone (Before id own) f = update same_id f id own
-
--- and before the newest one
-abbrev pub newest_undone : List Entry → OwnWrites → OwnWrites
-newest_undone [] f = f
-newest_undone (e ∷ es) f = undone e f
 
 -- ---- what a transaction wrote, with its marks
 
@@ -72,16 +47,22 @@ newest_undone (e ∷ es) f = undone e f
 abbrev pub Written : Type 0
 Written = OwnWrites × List (List ℕ × OwnWrites)
 
-abbrev pub written_back : Written → List (List ℕ × OwnWrites) → Written
-written_back w [] = w
-written_back w (k ∷ ks) = (k.1, k ∷ ks)
+abbrev pub written_at_mark : Written → List (List ℕ × OwnWrites) → Written
+written_at_mark w [] = w
+written_at_mark w (k ∷ ks) = (k.1, k ∷ ks)
 
--- the same after a command: where it leaves marks f is what is written then, and going back makes the writes
+-- the same after a command, where f is what is written then: a mark has the writes of now, and going back makes them
 -- those of the mark
-abbrev pub written_as : Marking → OwnWrites → Written → Written
-written_as Leaves f w = (f, w.1)
-written_as (Marks name) f w = (w.0, (name, w.0) ∷ w.1)
-written_as (GoesBack name) f w = written_back w (marks_from name w.1)
+abbrev pub written_after : Command → OwnWrites → Written → Written
+written_after (Read id) f w = (f, w.1)
+written_after (Put id body) f w = (f, w.1)
+written_after (Delete id) f w = (f, w.1)
+written_after (Attach child parent) f w = (f, w.1)
+written_after (Detach child parent) f w = (f, w.1)
+written_after (commands.Mark name) f w = (w.0, (name, w.0) ∷ w.1)
+written_after (Back name) f w = written_at_mark w (marks_from name w.1)
+written_after Commit f w = (f, w.1)
+written_after Abort f w = (f, w.1)
 
 -- the map with what was written
 abbrev pub map_with : CityMap → OwnWrites → CityMap
@@ -89,7 +70,3 @@ map_with m f = λ id. unwrap_or (f id) (m id)
 
 abbrev pub marks_with : CityMap → List (List ℕ × OwnWrites) → List Marked
 marks_with m ks = map (λ k. (k.0, map_with m k.1)) ks
-
--- what is seen of the map with what was written
-abbrev pub view_with : CityMap → Written → View
-view_with m w = record { map = map_with m w.0; marks = marks_with m w.1 }

@@ -6,11 +6,11 @@ ghost use Rattle.std.specs.Cmp.Lexicographic.{slice_cmp};
 ghost use Rattle.std.specs.BTreeMap.{get, is_at, IsOrdered};
 ghost use Rattle.std.specs.List.{list_any};
 ghost use Rattle.std.specs.List.Sorted.{IsStrictlySortedBy};
-ghost use Rattle.city_model.specs.CityMap.{at, found_in, has_id, same_id};
+ghost use Rattle.city_model.specs.CityMap.{object_at, found_in, has_id, same_id};
 ghost use Rattle.city_model.specs.Relations.{is_orphan_there, HasNoOrphan, IsLeastOrphan};
-ghost use Rattle.city_txn.specs.Images.{written_at};
-ghost use Rattle.city_txn.specs.Changing.{or_else, objects_in, is_orphan_written};
-ghost use Rattle.city_txn.specs.UndoState.{image_at};
+ghost use Rattle.city_txn.specs.inside.Images.{written_at, or_else};
+ghost use Rattle.city_txn.specs.inside.Orphans.{objects_in, is_orphan_written};
+ghost use Rattle.city_txn.specs.inside.UndoState.{image_at};
 
 use crate::undo::Undo;
 use crate::undo_log::OwnWrite;
@@ -31,7 +31,7 @@ type Writes = BTreeMap<Id, Option<Object>>;
 /// What was written at the ids, in byte order. It copies the objects.
 pub fn change_of(city: &City, undo: &Undo, alloc: Global, ids: &[Id]) -> Result<Change, OutOfMemory>
     ensures lists { IfOk result (λ change. (q : List ℕ) → lookup (is_at (slice_cmp nat_cmp q)) change
-        ≡ (if has_id ids.now q then written_at (at city.now.1 q) (image_at undo.now q) else None)) }
+        ≡ (if has_id ids.now q then written_at (object_at city.now.1 q) (image_at undo.now q) else None)) }
     ensures ordered { IfOk result (λ change. IsStrictlySortedBy (slice_cmp nat_cmp) (keys_of change)) }
 {
     let writes = note_each(city, undo, alloc, ids)?;
@@ -41,7 +41,7 @@ pub fn change_of(city: &City, undo: &Undo, alloc: Global, ids: &[Id]) -> Result<
 /// Notes what was written at the ids.
 fn note_each(city: &City, undo: &Undo, alloc: Global, ids: &[Id]) -> Result<Writes, OutOfMemory>
     ensures lists { IfOk result (λ writes. (q : List ℕ) → get (slice_cmp nat_cmp) writes q
-        ≡ (if has_id ids.now q then written_at (at city.now.1 q) (image_at undo.now q) else None)) }
+        ≡ (if has_id ids.now q then written_at (object_at city.now.1 q) (image_at undo.now q) else None)) }
     ensures ordered { IfOk result (IsOrdered (slice_cmp nat_cmp)) }
 {
     let mut writes = BTreeMap::new(alloc);
@@ -60,7 +60,7 @@ fn note(
     id: &Id,
 ) -> Result<(), OutOfMemory>
     ensures noted { OnOk result ((q : List ℕ) → get (slice_cmp nat_cmp) writes.new q
-        ≡ (if same_id id.now q then or_else (written_at (at city.now.1 id.now) (image_at undo.now id.now)) (get (slice_cmp nat_cmp) writes.old q) else get (slice_cmp nat_cmp) writes.old q)) }
+        ≡ (if same_id id.now q then or_else (written_at (object_at city.now.1 id.now) (image_at undo.now id.now)) (get (slice_cmp nat_cmp) writes.old q) else get (slice_cmp nat_cmp) writes.old q)) }
     ensures ordered { IsOrdered (slice_cmp nat_cmp) writes.old → IsOrdered (slice_cmp nat_cmp) writes.new }
 {
     if let Some(object) = written_copy(city, undo, alloc, id)? {
@@ -76,7 +76,7 @@ pub fn written_copy(
     alloc: Global,
     id: &Id,
 ) -> Result<OwnWrite, OutOfMemory>
-    ensures { IfOk result (λ write. write ≡ written_at (at city.now.1 id.now) (image_at undo.now id.now)) }
+    ensures { IfOk result (λ write. write ≡ written_at (object_at city.now.1 id.now) (image_at undo.now id.now)) }
 {
     let Some(image) = undo.image(id) else {
         return Ok(None);
@@ -92,7 +92,7 @@ pub fn written_copy(
 
 /// A copy of the object at the id, if there is one.
 fn copy_at(city: &City, alloc: Global, id: &Id) -> Result<Option<Object>, OutOfMemory>
-    ensures { IfOk result (λ object. object ≡ at city.now.1 id.now) }
+    ensures { IfOk result (λ object. object ≡ object_at city.now.1 id.now) }
 {
     match city.get(id) {
         Some(object) => Ok(Some(object.copy(alloc)?)),
@@ -129,7 +129,7 @@ pub fn orphan_in(change: &[(Id, Option<Object>)]) -> Option<&Id>
 
 /// Whether an object that was written at one of the ids is an orphan. Doesn't allocate.
 pub fn has_orphan(city: &City, undo: &Undo, ids: &[Id]) -> bool
-    ensures { result ≡ list_any (λ id. is_orphan_written (written_at (at city.now.1 id) (image_at undo.now id))) ids.now }
+    ensures { result ≡ list_any (λ id. is_orphan_written (written_at (object_at city.now.1 id) (image_at undo.now id))) ids.now }
 {
     for id in ids {
         if is_orphan_written(city, undo, id) {
@@ -141,7 +141,7 @@ pub fn has_orphan(city: &City, undo: &Undo, ids: &[Id]) -> bool
 
 /// Whether what was written at the id, if anything was, is an orphan.
 fn is_orphan_written(city: &City, undo: &Undo, id: &Id) -> bool
-    ensures { result ≡ is_orphan_written (written_at (at city.now.1 id.now) (image_at undo.now id.now)) }
+    ensures { result ≡ is_orphan_written (written_at (object_at city.now.1 id.now) (image_at undo.now id.now)) }
 {
     if !is_orphan_at(city, id) {
         return false;
@@ -154,7 +154,7 @@ fn is_orphan_written(city: &City, undo: &Undo, id: &Id) -> bool
 
 /// Whether the city has an orphan at the id.
 fn is_orphan_at(city: &City, id: &Id) -> bool
-    ensures { result ≡ is_orphan_there (at city.now.1 id.now) }
+    ensures { result ≡ is_orphan_there (object_at city.now.1 id.now) }
 {
     match city.get(id) {
         Some(object) => is_orphan(object),

@@ -3,7 +3,7 @@ ghost use Rattle.std.specs.Prelude.{◌≡◌, [], ◌∷◌, IfSome, IfNone, dr
 ghost use Rattle.city_model.specs.CityMap.{CityMap};
 ghost use Rattle.city_model.specs.Meaning.{delete_locks, exclusively, locks_of};
 ghost use Rattle.city_locks.specs.Mode.{is_exclusive};
-ghost use Rattle.city_txn.specs.State.{view};
+ghost use Rattle.city_txn.specs.inside.State.{view};
 
 use crate::store::Store;
 use city_locks::Mode;

@@ -1,10 +1,10 @@
 //! The end of a transaction, at the ids that it has reserved.
 ghost use Rattle.std.specs.Prelude.{◌≡◌, ℕ, List, Some, is_some, true};
-ghost use Rattle.city_model.specs.CityMap.{at, changed, has_id, same_id};
-ghost use Rattle.city_txn.specs.Ending.{left_by, AreEnded};
-ghost use Rattle.city_txn.specs.UndoState.{image_at};
+ghost use Rattle.city_model.specs.CityMap.{object_at, changed, has_id, same_id};
+ghost use Rattle.city_txn.specs.inside.Ending.{left_at_end, AreEnded};
+ghost use Rattle.city_txn.specs.inside.UndoState.{image_at};
 
-use crate::image::Image;
+use crate::image::UndoImage;
 use crate::slot;
 use crate::undo::Undo;
 use city_model::city::City;
@@ -21,7 +21,7 @@ pub enum End {
 
 /// Ends the transaction at the ids, one after another. Doesn't allocate.
 pub fn end_each(city: &mut City, undo: &mut Undo, end: End, ids: &[Id])
-    requires { (q : List ℕ) → is_some (image_at undo.old q) ≡ true → is_some (at city.old.1 q) ≡ true }
+    requires { (q : List ℕ) → is_some (image_at undo.old q) ≡ true → is_some (object_at city.old.1 q) ≡ true }
     ensures { AreEnded end (has_id ids.now) city.old undo.old city.new undo.new }
 {
     for id in ids {
@@ -31,7 +31,7 @@ pub fn end_each(city: &mut City, undo: &mut Undo, end: End, ids: &[Id])
 
 /// Ends the transaction at the id, and removes the id's image, if there is one.
 fn end_one(city: &mut City, undo: &mut Undo, end: End, id: &Id)
-    requires { is_some (image_at undo.old id.now) ≡ true → is_some (at city.old.1 id.now) ≡ true }
+    requires { is_some (image_at undo.old id.now) ≡ true → is_some (object_at city.old.1 id.now) ≡ true }
     ensures { AreEnded end (same_id id.now) city.old undo.old city.new undo.new }
 {
     if let Some((key, image)) = undo.take(id) {
@@ -40,9 +40,9 @@ fn end_one(city: &mut City, undo: &mut Undo, end: End, id: &Id)
 }
 
 /// Gives the id of the image the object that it has from now on.
-fn settle(city: &mut City, end: End, id: Id, image: Image)
-    requires { is_some (at city.old.1 id) ≡ true }
-    ensures after { at city.new.1 ≡ changed (at city.old.1) id (left_by end (at city.old.1 id) (Some image)) }
+fn settle(city: &mut City, end: End, id: Id, image: UndoImage)
+    requires { is_some (object_at city.old.1 id) ≡ true }
+    ensures after { object_at city.new.1 ≡ changed (object_at city.old.1) id (left_at_end end (object_at city.old.1 id) (Some image)) }
     ensures frame { city.new.0 ≡ city.old.0 }
 {
     match end {

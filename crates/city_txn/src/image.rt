@@ -1,12 +1,12 @@
 //! Undo images: what stood at an id before a transaction wrote it.
 ghost use Rattle.std.specs.Prelude.{◌≡◌, Some, option_copied};
-ghost use Rattle.city_txn.specs.Images.{seen_by, written_over, unwritten_image, written_back, put_back};
+ghost use Rattle.city_txn.specs.inside.Images.{seen_by, written_over, unwritten_image, image_unwritten, put_back};
 
 use city_model::object::Object;
 
 /// What stood at an id before a transaction wrote it.
 #[derive(Drop)]
-pub struct Image {
+pub struct UndoImage {
     /// The stamp of the transaction.
     pub by: u64,
     /// Nothing was written yet: the city has what stood there.
@@ -17,12 +17,12 @@ pub struct Image {
     pub before: Option<Object>,
 }
 
-impl Image {
+impl UndoImage {
     /// The image of an id that nobody has written. Doesn't allocate.
     pub fn unwritten(stamp: u64, deleted: bool) -> Self
         ensures { result ≡ unwritten_image stamp deleted }
     {
-        Image {
+        UndoImage {
             by: stamp,
             unwritten: true,
             deleted,
@@ -54,7 +54,7 @@ impl Image {
     /// Undoes the write, and returns the object that has to go back into the city: None if nothing
     /// was written, or if no object stood there.
     pub fn unwrite(&mut self) -> Option<Object>
-        ensures image { self.new ≡ written_back self.old }
+        ensures image { self.new ≡ image_unwritten self.old }
         ensures object { result ≡ put_back self.old }
     {
         if !self.unwritten {

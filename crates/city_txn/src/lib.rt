@@ -12,12 +12,12 @@
 mod changing;
 mod command_locks;
 mod ending;
-mod going_back;
 mod image;
 mod lock;
 mod perform;
 pub mod placeholder;
 mod relating;
+mod rollback_to_mark;
 mod seen;
 mod slot;
 mod step;

@@ -1,7 +1,7 @@
 //! The locks of a command, asked for.
 ghost use Rattle.city_model.specs.Meaning.{exclusively, locks_of};
-ghost use Rattle.city_txn.specs.State.{view};
-ghost use Rattle.city_txn.specs.Locking.{Asked};
+ghost use Rattle.city_txn.specs.inside.State.{view};
+ghost use Rattle.city_txn.specs.inside.Asking.{Asked};
 
 use crate::command_locks::{first_lock, further_locks};
 use crate::store::Store;

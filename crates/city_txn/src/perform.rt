@@ -3,13 +3,13 @@ ghost use Rattle.std.specs.Prelude.{◌≡◌, ℕ, List, true, false};
 ghost use Rattle.city_model.specs.Meaning.{locks_of};
 ghost use Rattle.city_model.specs.Relations.{IsSound};
 ghost use Rattle.city_model.specs.Scripts.{is_end, is_mark};
-ghost use Rattle.city_model.specs.Standing.{names};
+ghost use Rattle.city_model.specs.Standing.{locks_id};
 ghost use Rattle.city_model.specs.declared.command.Command.{Command};
-ghost use Rattle.city_txn.specs.State.{is_reserved, is_open, view};
-ghost use Rattle.city_txn.specs.Performing.{AreNoted, Performed};
+ghost use Rattle.city_txn.specs.inside.State.{is_reserved, is_open, view};
+ghost use Rattle.city_txn.specs.inside.Performing.{AreNoted, IsPerform};
 
-use crate::going_back::go_back;
 use crate::relating::{self, attach, detach, is_in_place};
+use crate::rollback_to_mark::go_back;
 use crate::seen::{Seen, plan_in};
 use crate::store::Store;
 use crate::undo_log::{Entry, UndoLogs};
@@ -32,9 +32,9 @@ pub fn perform(
     requires no_end { is_end command.now ≡ false }
     requires sound { IsSound (view store.old stamp) }
     requires opened { is_open store.old stamp ≡ true }
-    requires alone { (id : List ℕ) → names (locks_of (view store.old stamp) command.now) id ≡ true → (t : ℕ) → is_reserved store.old t id ≡ true → t ≡ stamp }
+    requires alone { (id : List ℕ) → locks_id (locks_of (view store.old stamp) command.now) id ≡ true → (t : ℕ) → is_reserved store.old t id ≡ true → t ≡ stamp }
     requires noted { AreNoted store.old logs.old stamp }
-    ensures { Performed stamp command.now result store.old logs.old store.new logs.new }
+    ensures { IsPerform stamp command.now result store.old logs.old store.new logs.new }
 {
     match command {
         Command::Mark(name) => mark(store, logs, alloc, stamp, name),
@@ -59,7 +59,7 @@ fn mark(
     name: &Text,
 ) -> Result<Reply, OutOfMemory>
     requires { AreNoted store.now logs.old stamp }
-    ensures { Performed stamp (Command.Mark name.now) result store.now logs.old store.now logs.new }
+    ensures { IsPerform stamp (Command.Mark name.now) result store.now logs.old store.now logs.new }
 {
     let _ = store;
     let entry = Entry::Mark(name.copy(alloc)?);
@@ -76,7 +76,7 @@ fn back(
     name: &Text,
 ) -> Result<Reply, OutOfMemory>
     requires { AreNoted store.old logs.old stamp }
-    ensures { Performed stamp (Command.Back name.now) result store.old logs.old store.new logs.new }
+    ensures { IsPerform stamp (Command.Back name.now) result store.old logs.old store.new logs.new }
 {
     if !logs.has_mark(stamp, name) {
         return Ok(Reply::Refused(Cause::NoMark(name.copy(alloc)?)));
@@ -97,9 +97,9 @@ fn delete(
     requires is_delete { command.now ≡ Command.Delete id.now }
     requires sound { IsSound (view store.old stamp) }
     requires opened { is_open store.old stamp ≡ true }
-    requires alone { (q : List ℕ) → names (locks_of (view store.old stamp) command.now) q ≡ true → (t : ℕ) → is_reserved store.old t q ≡ true → t ≡ stamp }
+    requires alone { (q : List ℕ) → locks_id (locks_of (view store.old stamp) command.now) q ≡ true → (t : ℕ) → is_reserved store.old t q ≡ true → t ≡ stamp }
     requires noted { AreNoted store.old logs.old stamp }
-    ensures { Performed stamp command.now result store.old logs.old store.new logs.new }
+    ensures { IsPerform stamp command.now result store.old logs.old store.new logs.new }
 {
     match only_parent(&Seen { store, stamp }, id) {
         Some(parent) if is_in_place(store, logs, stamp, parent) => {
@@ -122,9 +122,9 @@ fn carry_out(
     requires no_mark { is_mark command.now ≡ false }
     requires sound { IsSound (view store.old stamp) }
     requires opened { is_open store.old stamp ≡ true }
-    requires alone { (id : List ℕ) → names (locks_of (view store.old stamp) command.now) id ≡ true → (t : ℕ) → is_reserved store.old t id ≡ true → t ≡ stamp }
+    requires alone { (id : List ℕ) → locks_id (locks_of (view store.old stamp) command.now) id ≡ true → (t : ℕ) → is_reserved store.old t id ≡ true → t ≡ stamp }
     requires noted { AreNoted store.old logs.old stamp }
-    ensures { Performed stamp command.now result store.old logs.old store.new logs.new }
+    ensures { IsPerform stamp command.now result store.old logs.old store.new logs.new }
 {
     match plan_in(store, alloc, stamp, command)? {
         Plan::Refused(cause) => Ok(Reply::Refused(cause)),

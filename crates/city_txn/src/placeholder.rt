@@ -1,6 +1,6 @@
 //! An object that holds a slot.
 ghost use Rattle.std.specs.Prelude.{◌≡◌};
-ghost use Rattle.city_txn.specs.Slots.{placeholder};
+ghost use Rattle.city_txn.specs.Placeholder.{placeholder};
 
 use city_model::kept::extra::Extra;
 use city_model::object::{Body, Object};

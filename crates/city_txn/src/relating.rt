@@ -1,12 +1,13 @@
 //! An attach, a detach and a delete in place: no copy of the parent, which may have many children.
 ghost use Rattle.std.specs.Prelude.{◌≡◌, ◌==◌, ◌&&◌, ℕ, List, length, Some, true};
 ghost use Rattle.city_model.specs.Meaning.{locks_of};
-ghost use Rattle.city_model.specs.Plans.{only_parent};
+ghost use Rattle.city_model.specs.inside.Plans.{only_parent};
 ghost use Rattle.city_model.specs.Relations.{IsSound};
-ghost use Rattle.city_model.specs.Standing.{names};
+ghost use Rattle.city_model.specs.Standing.{locks_id};
 ghost use Rattle.city_model.specs.declared.command.Command.{Command};
-ghost use Rattle.city_txn.specs.Performing.{AreNoted, Performed};
-ghost use Rattle.city_txn.specs.State.{write_of, is_by, is_reserved, is_open, view};
+ghost use Rattle.city_txn.specs.inside.Performing.{AreNoted, IsPerform};
+ghost use Rattle.city_txn.specs.Writes.{write_of, is_by};
+ghost use Rattle.city_txn.specs.inside.State.{is_reserved, is_open, view};
 ghost use Rattle.city_txn.specs.UndoLog.{log_of};
 
 use crate::seen::Seen;
@@ -38,9 +39,9 @@ pub fn attach(
 ) -> Result<Reply, OutOfMemory>
     requires in_place { (is_by stamp (write_of store.old.writes parent.now) && (length (log_of logs.now stamp) == 0)) ≡ true }
     requires opened { is_open store.old stamp ≡ true }
-    requires alone { (id : List ℕ) → names (locks_of (view store.old stamp) (Command.Attach child.now parent.now)) id ≡ true → (t : ℕ) → is_reserved store.old t id ≡ true → t ≡ stamp }
+    requires alone { (id : List ℕ) → locks_id (locks_of (view store.old stamp) (Command.Attach child.now parent.now)) id ≡ true → (t : ℕ) → is_reserved store.old t id ≡ true → t ≡ stamp }
     requires noted { AreNoted store.old logs.now stamp }
-    ensures { Performed stamp (Command.Attach child.now parent.now) result store.old logs.now store.new logs.now }
+    ensures { IsPerform stamp (Command.Attach child.now parent.now) result store.old logs.now store.new logs.now }
 {
     let _ = logs;
     let below = match attached_child(alloc, &Seen { store, stamp }, child, parent)? {
@@ -67,9 +68,9 @@ pub fn detach(
     requires in_place { (is_by stamp (write_of store.old.writes parent.now) && (length (log_of logs.now stamp) == 0)) ≡ true }
     requires sound { IsSound (view store.old stamp) }
     requires opened { is_open store.old stamp ≡ true }
-    requires alone { (id : List ℕ) → names (locks_of (view store.old stamp) (Command.Detach child.now parent.now)) id ≡ true → (t : ℕ) → is_reserved store.old t id ≡ true → t ≡ stamp }
+    requires alone { (id : List ℕ) → locks_id (locks_of (view store.old stamp) (Command.Detach child.now parent.now)) id ≡ true → (t : ℕ) → is_reserved store.old t id ≡ true → t ≡ stamp }
     requires noted { AreNoted store.old logs.now stamp }
-    ensures { Performed stamp (Command.Detach child.now parent.now) result store.old logs.now store.new logs.now }
+    ensures { IsPerform stamp (Command.Detach child.now parent.now) result store.old logs.now store.new logs.now }
 {
     let _ = logs;
     let below = match detached_child(alloc, &Seen { store, stamp }, child, parent)? {
@@ -97,9 +98,9 @@ pub fn delete(
     requires in_place { (is_by stamp (write_of store.old.writes parent.now) && (length (log_of logs.now stamp) == 0)) ≡ true }
     requires sound { IsSound (view store.old stamp) }
     requires opened { is_open store.old stamp ≡ true }
-    requires alone { (q : List ℕ) → names (locks_of (view store.old stamp) (Command.Delete id.now)) q ≡ true → (t : ℕ) → is_reserved store.old t q ≡ true → t ≡ stamp }
+    requires alone { (q : List ℕ) → locks_id (locks_of (view store.old stamp) (Command.Delete id.now)) q ≡ true → (t : ℕ) → is_reserved store.old t q ≡ true → t ≡ stamp }
     requires noted { AreNoted store.old logs.now stamp }
-    ensures { Performed stamp (Command.Delete id.now) result store.old logs.now store.new logs.now }
+    ensures { IsPerform stamp (Command.Delete id.now) result store.old logs.now store.new logs.now }
 {
     let _ = logs;
     let key = id.copy(alloc)?;

@@ -1,9 +1,9 @@
 //! What a transaction sees.
 ghost use Rattle.std.specs.Prelude.{◌≡◌, false, IfOk};
-ghost use Rattle.city_model.specs.Plans.{IsPlan};
+ghost use Rattle.city_model.specs.inside.Plans.{IsPlan};
 ghost use Rattle.city_model.specs.Relations.{IsSound};
 ghost use Rattle.city_model.specs.Scripts.{is_end, is_mark};
-ghost use Rattle.city_txn.specs.State.{view};
+ghost use Rattle.city_txn.specs.inside.State.{view};
 
 use crate::store::Store;
 use city_model::OutOfMemory;

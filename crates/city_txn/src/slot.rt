@@ -1,11 +1,11 @@
 //! Slots of the city: placeholders, and objects put back.
 ghost use Rattle.std.specs.Prelude.{◌≡◌, None, Some, unwrap_or, IfOk, OnOk, OnErr, is_some, not, true, if◌then◌else◌};
-ghost use Rattle.city_model.specs.CityMap.{at, changed};
-ghost use Rattle.city_txn.specs.Changing.{or_else};
-ghost use Rattle.city_txn.specs.Images.{before_image};
-ghost use Rattle.city_txn.specs.Slots.{placeholder, with_slot};
+ghost use Rattle.city_model.specs.CityMap.{object_at, changed};
+ghost use Rattle.city_txn.specs.inside.Images.{or_else, before_image};
+ghost use Rattle.city_txn.specs.Placeholder.{placeholder};
+ghost use Rattle.city_txn.specs.inside.Slots.{with_slot};
 
-use crate::image::Image;
+use crate::image::UndoImage;
 use crate::placeholder::placeholder;
 use city_model::OutOfMemory;
 use city_model::city::City;
@@ -17,8 +17,8 @@ use std::alloc::Global;
 /// Gives the id a slot, and says whether it made a placeholder, as it does if no object is there.
 /// If memory runs out, the city is unchanged.
 pub fn make(city: &mut City, alloc: Global, id: &Id) -> Result<bool, OutOfMemory>
-    ensures made { IfOk result (λ made. made ≡ not (is_some (at city.old.1 id.now))) }
-    ensures after { OnOk result (at city.new.1 ≡ with_slot (at city.old.1) id.now) }
+    ensures made { IfOk result (λ made. made ≡ not (is_some (object_at city.old.1 id.now))) }
+    ensures after { OnOk result (object_at city.new.1 ≡ with_slot (object_at city.old.1) id.now) }
     ensures frame { city.new.0 ≡ city.old.0 }
     ensures err { OnErr result (city.new ≡ city.old) }
 {
@@ -32,7 +32,7 @@ pub fn make(city: &mut City, alloc: Global, id: &Id) -> Result<bool, OutOfMemory
 
 /// Removes the placeholder, if one is there.
 pub fn clear(city: &mut City, id: &Id, deleted: bool)
-    ensures after { at city.new.1 ≡ (if deleted then changed (at city.old.1) id.now None else at city.old.1) }
+    ensures after { object_at city.new.1 ≡ (if deleted then changed (object_at city.old.1) id.now None else object_at city.old.1) }
     ensures frame { city.new.0 ≡ city.old.0 }
 {
     if deleted {
@@ -42,9 +42,9 @@ pub fn clear(city: &mut City, id: &Id, deleted: bool)
 
 /// Sets the object of an id that has a slot, and returns the one that stood there.
 pub fn swap(city: &mut City, id: Id, object: Object) -> Object
-    requires { is_some (at city.old.1 id) ≡ true }
-    ensures old { at city.old.1 id ≡ Some result }
-    ensures after { at city.new.1 ≡ changed (at city.old.1) id (Some object) }
+    requires { is_some (object_at city.old.1 id) ≡ true }
+    ensures old { object_at city.old.1 id ≡ Some result }
+    ensures after { object_at city.new.1 ≡ changed (object_at city.old.1) id (Some object) }
     ensures frame { city.new.0 ≡ city.old.0 }
 {
     match city.set(id, object) {
@@ -66,8 +66,8 @@ pub fn standing(alloc: Global, object: Option<Object>) -> Object
 
 /// Sets the object, if there is one, at an id that has a slot.
 pub fn refill(city: &mut City, id: Id, object: Option<Object>)
-    requires { is_some (at city.old.1 id) ≡ true }
-    ensures after { at city.new.1 ≡ changed (at city.old.1) id (or_else object (at city.old.1 id)) }
+    requires { is_some (object_at city.old.1 id) ≡ true }
+    ensures after { object_at city.new.1 ≡ changed (object_at city.old.1) id (or_else object (object_at city.old.1 id)) }
     ensures frame { city.new.0 ≡ city.old.0 }
 {
     match object {
@@ -79,12 +79,12 @@ pub fn refill(city: &mut City, id: Id, object: Option<Object>)
 }
 
 /// Puts back what the image says stood at the id.
-pub fn give_back(city: &mut City, id: Id, image: Image)
-    requires { is_some (at city.old.1 id) ≡ true }
-    ensures after { at city.new.1 ≡ changed (at city.old.1) id (before_image (at city.old.1 id) image) }
+pub fn give_back(city: &mut City, id: Id, image: UndoImage)
+    requires { is_some (object_at city.old.1 id) ≡ true }
+    ensures after { object_at city.new.1 ≡ changed (object_at city.old.1) id (before_image (object_at city.old.1 id) image) }
     ensures frame { city.new.0 ≡ city.old.0 }
 {
-    let Image {
+    let UndoImage {
         by: _,
         unwritten,
         deleted,
@@ -99,8 +99,8 @@ pub fn give_back(city: &mut City, id: Id, image: Image)
 
 /// Sets the object of an id that has a slot, or removes it.
 fn put(city: &mut City, id: Id, object: Option<Object>)
-    requires { is_some (at city.old.1 id) ≡ true }
-    ensures after { at city.new.1 ≡ changed (at city.old.1) id object }
+    requires { is_some (object_at city.old.1 id) ≡ true }
+    ensures after { object_at city.new.1 ≡ changed (object_at city.old.1) id object }
     ensures frame { city.new.0 ≡ city.old.0 }
 {
     match object {

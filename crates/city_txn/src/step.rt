@@ -1,6 +1,7 @@
 //! What a transaction core answers.
 use city_model::change::Change;
 use city_model::command::{Cause, Reply};
+use thiserror::Error;
 
 /// What came of a command.
 #[derive(Drop)]
@@ -23,12 +24,15 @@ pub enum Prepared {
 }
 
 /// Why a call wasn't carried out; causes are judged in this order.
-#[derive(Clone, Copy, Debug, PartialEq, Eq)]
+#[derive(Clone, Copy, Debug, PartialEq, Eq, Error)]
 pub enum TxnFault {
     /// No transaction of this stamp is open.
+    #[error("no transaction of the stamp {0} is open")]
     NotOpen(u64),
     /// A transaction of this stamp is open already.
+    #[error("a transaction of the stamp {0} is open already")]
     StampOpen(u64),
     /// Memory ran out.
+    #[error("out of memory")]
     OutOfMemory,
 }

@@ -7,9 +7,11 @@ ghost use Rattle.std.specs.List.Sorted.{IsStrictlySortedBy};
 ghost use Rattle.std.specs.BTreeMap.{is_at};
 ghost use Rattle.city_model.specs.CityMap.{same_id};
 ghost use Rattle.city_model.specs.Meaning.{with_child, without_child};
-ghost use Rattle.city_txn.specs.Changing.{change_in, is_orphan_written};
-ghost use Rattle.city_txn.specs.Ending.{city_after};
-ghost use Rattle.city_txn.specs.State.{State, write_of, rewritten, is_by, is_reserved, is_open, committed, view, own, own_write, unless_by, SeesSame, Begins, Forgets};
+ghost use Rattle.city_txn.specs.Changing.{change_in};
+ghost use Rattle.city_txn.specs.inside.Orphans.{is_orphan_written};
+ghost use Rattle.city_txn.specs.inside.Ending.{map_at_end};
+ghost use Rattle.city_txn.specs.inside.State.{State, rewritten, is_reserved, is_open, committed, view, own, SeesSame, Begins, Forgets};
+ghost use Rattle.city_txn.specs.Writes.{write_of, is_by, own_write, unless_by};
 
 use crate::changing::{change_of, has_orphan, written_copy};
 use crate::ending::{End, end_each};
@@ -36,17 +38,17 @@ pub struct Store {
 }
 
 impl Model for Store {
-    ghost use Rattle.city_txn.specs.State.{State};
+    ghost use Rattle.city_txn.specs.inside.State.{State};
 
     ghost Value = { State };
 
     ghost use Rattle.std.specs.Coded.{codes};
-    ghost use Rattle.city_model.specs.DataCode.{coded_members};
-    ghost use Rattle.city_txn.specs.Codes.{coded_objects};
+    ghost use Rattle.city_model.specs.inside.DataCode.{coded_members};
+    ghost use Rattle.city_txn.specs.inside.Codes.{coded_objects};
 
     ghost coded = { Prim.hlevel (codes, coded_members, coded_objects) };
 
-    ghost use Rattle.city_txn.specs.InPlace.{state_of, IsInPlace};
+    ghost use Rattle.city_txn.specs.inside.InPlace.{state_of, IsInPlace};
 
     ghost view = { state_of };
 
@@ -252,7 +254,7 @@ impl Store {
     /// Ends the transaction at each id that the stamp has reserved, and closes
     /// the stamp. Doesn't allocate.
     fn end(&mut self, stamp: u64, end: End)
-        ensures city { committed self.new ≡ city_after end self.old stamp }
+        ensures city { committed self.new ≡ map_at_end end self.old stamp }
         ensures forgets { Forgets stamp self.old self.new }
     {
         let ids = self.undo.close(stamp);

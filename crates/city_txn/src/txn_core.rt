@@ -1,17 +1,15 @@
 //! The transaction core: strict two-phase locking over one city.
 ghost use Rattle.std.specs.Prelude.{◌≡◌, ◌&&◌, ℕ, List, [], None, true, false, Some, is_some, OnOk, OnErr, IfOk, IfErr, IfSome, IfNone, IsErr, IsOk, ◌↔◌, if◌then◌else◌};
-ghost use Rattle.city_model.specs.CityMap.{at};
+ghost use Rattle.city_model.specs.CityMap.{object_at};
 ghost use Rattle.city_model.specs.Scripts.{is_end};
 ghost use Rattle.city_model.specs.Marks.{AreSound};
 ghost use Rattle.city_model.specs.Relations.{IsLawful, HasNoOrphan, IsSound};
 ghost use Rattle.city_locks.specs.declared.mode.Mode.{Mode};
 ghost use Rattle.city_locks.specs.Locks.{mode_of};
-ghost use Rattle.city_txn.specs.State.{write_of, is_by};
-ghost use Rattle.city_txn.specs.CoreState.{committed, view, seen, is_open, Stands, KeepsOthers, IsOver, IsUndone};
+ghost use Rattle.city_txn.specs.Writes.{write_of, is_by};
+ghost use Rattle.city_txn.specs.CoreState.{committed, view, snapshot, is_open, StandsUnderLocks, KeepsOthers, IsTransactionEnd, IsRolledBack};
 ghost use Rattle.city_txn.specs.UndoLog.{log_of, has_before};
-ghost use Rattle.city_model.specs.declared.command.Command.{Command};
-ghost use Rattle.city_model.specs.declared.end.Outcome.{Outcome};
-ghost use Rattle.city_txn.specs.Acting.{answer_in, Acted, EndsIn};
+ghost use Rattle.city_txn.specs.Acting.{answer_in, IsAct, RefusesCommit};
 ghost use Rattle.city_txn.specs.Changing.{IsPrepared, IsChangeOf, change_in};
 ghost use Rattle.city_txn.specs.Locking.{is_wait};
 
@@ -48,12 +46,12 @@ impl Model for Core {
     ghost Value = { CoreState };
 
     ghost use Rattle.std.specs.Coded.{codes};
-    ghost use Rattle.city_model.specs.DataCode.{coded_members};
-    ghost use Rattle.city_txn.specs.Codes.{coded_objects};
+    ghost use Rattle.city_model.specs.inside.DataCode.{coded_members};
+    ghost use Rattle.city_txn.specs.inside.Codes.{coded_objects};
 
     ghost coded = { Prim.hlevel (codes, coded_members, coded_objects) };
 
-    ghost use Rattle.city_txn.specs.Core.{core_state, IsCore};
+    ghost use Rattle.city_txn.specs.inside.Core.{core_state, IsCore};
 
     ghost view = { core_state };
 
@@ -63,7 +61,7 @@ impl Model for Core {
 impl Core {
     /// A core over this city, with no transaction open. Doesn't allocate.
     pub fn open(alloc: Global, city: City) -> Self
-        requires { IsLawful (at city.1) }
+        requires { IsLawful (object_at city.1) }
         ensures { result ≡ record { frame = city.0; city = city.1; writes = []; opened = []; logs = []; locks = [] } }
     {
         Core {
@@ -84,7 +82,7 @@ impl Core {
         ensures logs { self.new.logs ≡ self.old.logs }
         ensures locks { self.new.locks ≡ self.old.locks }
         ensures opened { OnOk result (is_open self.new stamp ≡ true) }
-        ensures own { OnOk result (Stands self.new stamp []) }
+        ensures own { OnOk result (StandsUnderLocks self.new stamp []) }
         ensures keeps { OnOk result (KeepsOthers stamp self.old self.new) }
         ensures unlocked { OnOk result ((id : List ℕ) → mode_of self.new.locks stamp id ≡ None) }
         ensures unwritten { OnOk result ((id : List ℕ) → is_by stamp (write_of self.new.writes id) ≡ false) }
@@ -112,7 +110,7 @@ impl Core {
     /// doesn't allocate if the mark is there.
     pub fn act(&mut self, stamp: u64, command: &Command) -> Result<Step, TxnFault>
         requires { is_end command.now ≡ false }
-        ensures { Acted stamp command.now result self.old self.new }
+        ensures { IsAct stamp command.now result self.old self.new }
     {
         if !self.is_open(stamp) {
             return Err(TxnFault::NotOpen(stamp));
@@ -177,7 +175,7 @@ impl Core {
     /// exactly where the stamp isn't open.
     pub fn refusal(&self, stamp: u64) -> Result<Option<Cause>, TxnFault>
         ensures allowed { IfOk result (λ cause. IfNone cause (IsChangeOf self.now stamp (change_in self.now.writes stamp))) }
-        ensures refused { IfOk result (λ cause. IfSome cause (λ cause. (number : ℕ) → EndsIn self.now stamp Command.Commit number (Outcome.Refused number cause))) }
+        ensures refused { IfOk result (λ cause. IfSome cause (RefusesCommit self.now stamp)) }
         ensures fault { IfErr result (λ fault. fault ≡ (if is_open self.now stamp then TxnFault.OutOfMemory else TxnFault.NotOpen stamp)) }
         ensures not_open { is_open self.now stamp ≡ false → IsErr result }
     {
@@ -199,7 +197,7 @@ impl Core {
         requires opened { is_open self.old stamp ≡ true }
         requires no_orphan { HasNoOrphan (view self.old stamp) }
         ensures city { committed self.new ≡ view self.old stamp }
-        ensures over { IsOver stamp self.old self.new }
+        ensures over { IsTransactionEnd stamp self.old self.new }
         ensures lawful { IsLawful (committed self.new) }
     {
         self.store.commit(stamp);
@@ -211,7 +209,7 @@ impl Core {
     /// locks back. Doesn't allocate.
     pub fn roll_back(&mut self, stamp: u64)
         requires { is_open self.old stamp ≡ true }
-        ensures { IsUndone stamp self.old self.new }
+        ensures { IsRolledBack stamp self.old self.new }
     {
         self.store.roll_back(stamp);
         self.logs.close(stamp);
@@ -223,7 +221,7 @@ impl Core {
     /// It is `roll_back` for a stamp that need not be open: `NotOpen` comes exactly where the stamp isn't open,
     /// and then nothing changes.
     pub fn abort(&mut self, stamp: u64) -> Result<(), TxnFault>
-        ensures undone { OnOk result (IsUndone stamp self.old self.new) }
+        ensures undone { OnOk result (IsRolledBack stamp self.old self.new) }
         ensures err { OnErr result (self.new ≡ self.old) }
         ensures fault { IfErr result (λ fault. fault ≡ TxnFault.NotOpen stamp) }
         ensures opened { is_open self.old stamp ≡ true → IsOk result }
@@ -254,7 +252,7 @@ impl Core {
         ensures opened { result ≡ is_open self.now stamp }
         ensures committed { IsLawful (committed self.now) }
         ensures views { (t : ℕ) → IsSound (view self.now t) }
-        ensures marks { (t : ℕ) → AreSound (seen self.now t).marks }
+        ensures marks { (t : ℕ) → AreSound (snapshot self.now t).marks }
         ensures locked { (t : ℕ) (id : List ℕ) → is_by t (write_of self.now.writes id) ≡ true → mode_of self.now.locks t id ≡ Some Mode.Exclusive }
         ensures marks_locked { (t : ℕ) (id : List ℕ) → has_before (log_of self.now.logs t) id ≡ true → mode_of self.now.locks t id ≡ Some Mode.Exclusive }
         ensures open_only { (t : ℕ) (id : List ℕ) → is_some (mode_of self.now.locks t id) ≡ true → is_open self.now t ≡ true }

@@ -4,13 +4,13 @@ ghost use Rattle.std.specs.Ordering.{nat_cmp};
 ghost use Rattle.std.specs.Cmp.Lexicographic.{slice_cmp};
 ghost use Rattle.std.specs.BTreeMap.{get, is_at, IsOrdered};
 ghost use Rattle.std.specs.FinMap.{entries};
-ghost use Rattle.city_model.specs.CityMap.{at, changed, same_id};
-ghost use Rattle.city_txn.specs.Images.{unwritten_image, written_over, written_back, put_back_at};
-ghost use Rattle.city_txn.specs.Changing.{or_else};
-ghost use Rattle.city_txn.specs.UndoState.{image_at, listed_by, reservations_of};
+ghost use Rattle.city_model.specs.CityMap.{object_at, changed, same_id};
+ghost use Rattle.city_txn.specs.inside.Images.{unwritten_image, written_over, image_unwritten, put_back_at, or_else};
+ghost use Rattle.city_txn.specs.inside.UndoState.{image_at, listed_by, reservations_of};
 
-use crate::image::Image;
+use crate::image::UndoImage;
 use crate::slot;
+use city_locks::by_stamp::push_at;
 use city_model::OutOfMemory;
 use city_model::city::City;
 use city_model::copied::Copied;
@@ -28,17 +28,17 @@ use std::marker::Model;
 #[derive(Drop)]
 pub struct Undo {
     alloc: Global,
-    images: BTreeMap<Id, Image>,
+    images: BTreeMap<Id, UndoImage>,
     reservations: BTreeMap<u64, Sequence<Id>>,
 }
 
 impl Model for Undo {
-    ghost use Rattle.city_txn.specs.UndoState.{UndoState};
+    ghost use Rattle.city_txn.specs.inside.UndoState.{UndoState};
 
     ghost Value = { UndoState };
 
     ghost use Rattle.std.specs.Coded.{codes};
-    ghost use Rattle.city_txn.specs.Codes.{coded_images};
+    ghost use Rattle.city_txn.specs.inside.Codes.{coded_images};
 
     ghost coded = { Prim.hlevel (codes, coded_images) };
 
@@ -88,7 +88,7 @@ impl Undo {
     }
 
     /// The image of the id, if it is reserved. Doesn't allocate.
-    pub fn image(&self, id: &Id) -> Option<&Image>
+    pub fn image(&self, id: &Id) -> Option<&UndoImage>
         ensures { option_copied result ≡ image_at self.now id.now }
     {
         self.images.get(id)
@@ -127,7 +127,7 @@ impl Undo {
         ensures err { OnErr result (self.new ≡ self.old) }
     {
         let key = id.copy(self.alloc)?;
-        let image = Image::unwritten(stamp, deleted);
+        let image = UndoImage::unwritten(stamp, deleted);
         self.images.insert(key, image)?;
         let Ok(()) = list(&mut self.reservations, self.alloc, stamp, id) else {
             let _ = self.images.remove(id);
@@ -139,12 +139,12 @@ impl Undo {
     /// Puts the object at a reserved id of the city, and what stood there into
     /// its image. Doesn't allocate.
     pub fn write(&mut self, city: &mut City, id: Id, object: Object, deleted: bool)
-        requires has_slot { is_some (at city.old.1 id) ≡ true }
+        requires has_slot { is_some (object_at city.old.1 id) ≡ true }
         requires there { is_some (image_at self.old id) ≡ true }
         ensures frame { city.new.0 ≡ city.old.0 }
-        ensures city { at city.new.1 ≡ changed (at city.old.1) id (Some object) }
+        ensures city { object_at city.new.1 ≡ changed (object_at city.old.1) id (Some object) }
         ensures images { (q : List ℕ) → image_at self.new q
-            ≡ (if same_id id q then option_map (written_over (at city.old.1 id) deleted) (image_at self.old id) else image_at self.old q) }
+            ≡ (if same_id id q then option_map (written_over (object_at city.old.1 id) deleted) (image_at self.old id) else image_at self.old q) }
         ensures reservations { self.new.reservations ≡ self.old.reservations }
     {
         match self.images.get_mut(&id) {
@@ -159,12 +159,12 @@ impl Undo {
     /// Undoes the write of a reserved id, if it was written: what stood there goes back into
     /// the city. Doesn't allocate.
     pub fn unwrite(&mut self, city: &mut City, id: Id)
-        requires has_slot { is_some (at city.old.1 id) ≡ true }
+        requires has_slot { is_some (object_at city.old.1 id) ≡ true }
         requires there { is_some (image_at self.old id) ≡ true }
         ensures frame { city.new.0 ≡ city.old.0 }
-        ensures city { at city.new.1 ≡ changed (at city.old.1) id (or_else (put_back_at (image_at self.old id)) (at city.old.1 id)) }
+        ensures city { object_at city.new.1 ≡ changed (object_at city.old.1) id (or_else (put_back_at (image_at self.old id)) (object_at city.old.1 id)) }
         ensures images { (q : List ℕ) → image_at self.new q
-            ≡ (if same_id id q then option_map written_back (image_at self.old id) else image_at self.old q) }
+            ≡ (if same_id id q then option_map image_unwritten (image_at self.old id) else image_at self.old q) }
         ensures reservations { self.new.reservations ≡ self.old.reservations }
     {
         match self.images.get_mut(&id) {
@@ -177,7 +177,7 @@ impl Undo {
     }
 
     /// Removes the image of the id, and returns it with the id. Doesn't allocate.
-    pub fn take(&mut self, id: &Id) -> Option<(Id, Image)>
+    pub fn take(&mut self, id: &Id) -> Option<(Id, UndoImage)>
         ensures key { IfSome result (λ taken. taken.0 ≡ id.now) }
         ensures image { option_map (λ taken. taken.1) result ≡ image_at self.old id.now }
         ensures images { (q : List ℕ) → image_at self.new q ≡ (if same_id id.now q then None else image_at self.old q) }
@@ -214,11 +214,6 @@ fn list(
     ensures err { OnErr result (reservations.new.entries ≡ reservations.old.entries) }
 {
     let copy = id.copy(alloc)?;
-    match reservations.get_mut(&stamp) {
-        Some(ids) => {
-            ids.push(copy)?;
-            Ok(())
-        }
-        None => unreachable!(),
-    }
+    push_at(reservations, stamp, copy)?;
+    Ok(())
 }

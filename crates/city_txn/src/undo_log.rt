@@ -1,10 +1,10 @@
 //! Undo logs: what takes an open transaction back to its marks.
-ghost use Rattle.std.specs.Prelude.{◌≡◌, ◌==◌, ℕ, [], ◌∷◌, ◌++◌, length, reverse, true, Some, is_some, unwrap_or, OnOk, OnErr, option_to_list, IfNone, if◌then◌else◌};
-ghost use Rattle.std.specs.Ordering.{nat_cmp};
-ghost use Rattle.std.specs.BTreeMap.{get, is_at};
+ghost use Rattle.std.specs.Prelude.{◌≡◌, ◌==◌, ℕ, [], ◌∷◌, ◌++◌, length, reverse, OnOk, OnErr, option_to_list, IfNone, if◌then◌else◌};
 ghost use Rattle.std.specs.List.{list_any};
-ghost use Rattle.city_txn.specs.UndoLog.{log_of, has_mark, is_at_mark, is_mark};
+ghost use Rattle.city_txn.specs.UndoLog.{log_of};
+ghost use Rattle.city_txn.specs.inside.LogTests.{has_mark, is_at_mark, is_mark};
 
+use city_locks::by_stamp::push_at;
 use city_model::OutOfMemory;
 use city_model::id_list::is_same_id;
 use city_model::object::Object;
@@ -23,7 +23,7 @@ pub enum Entry {
     /// A mark of this name was made.
     Mark(Text),
     /// The id was written, and this is what the transaction had written there before.
-    Before(Id, OwnWrite),
+    BeforeImage(Id, OwnWrite),
 }
 
 /// The undo logs of the transactions that have marks, by their stamps.
@@ -41,7 +41,7 @@ impl Model for UndoLogs {
     ghost Value = { Logs };
 
     ghost use Rattle.std.specs.Coded.{codes};
-    ghost use Rattle.city_txn.specs.Codes.{coded_entries};
+    ghost use Rattle.city_txn.specs.inside.Codes.{coded_entries};
 
     ghost coded = { Prim.hlevel (codes, coded_entries) };
 
@@ -91,7 +91,8 @@ impl UndoLogs {
         if !self.by_stamp.contains_key(&stamp) {
             self.by_stamp.insert(stamp, Sequence::new(self.alloc))?;
         }
-        add(&mut self.by_stamp, stamp, entry)
+        push_at(&mut self.by_stamp, stamp, entry)?;
+        Ok(())
     }
 
     /// Removes the newest entry of the transaction's log, if there is one, and
@@ -124,26 +125,6 @@ impl UndoLogs {
     }
 }
 
-/// Adds an entry to a log that is there. If memory runs out, nothing changes.
-fn add(
-    by_stamp: &mut BTreeMap<u64, Sequence<Entry>>,
-    stamp: u64,
-    entry: Entry,
-) -> Result<(), OutOfMemory>
-    requires { is_some (get nat_cmp by_stamp.old stamp) ≡ true }
-    ensures ok { OnOk result ((t : ℕ) → get nat_cmp by_stamp.new t
-        ≡ (if is_at (nat_cmp stamp) t then Some (unwrap_or (get nat_cmp by_stamp.old stamp) [] ++ entry ∷ []) else get nat_cmp by_stamp.old t)) }
-    ensures err { OnErr result (by_stamp.new.entries ≡ by_stamp.old.entries) }
-{
-    match by_stamp.get_mut(&stamp) {
-        Some(entries) => {
-            entries.push(entry)?;
-            Ok(())
-        }
-        None => unreachable!(),
-    }
-}
-
 /// Whether an entry is a mark of the name.
 fn any_is_mark(entries: &[Entry], name: &Text) -> bool
     ensures { result ≡ list_any (is_mark name.now) entries.now }
@@ -157,6 +138,6 @@ fn is_mark(entry: &Entry, name: &Text) -> bool
 {
     match entry {
         Entry::Mark(there) => is_same_id(name, there),
-        Entry::Before(_, _) => false,
+        Entry::BeforeImage(_, _) => false,
     }
 }

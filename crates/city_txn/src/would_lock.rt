@@ -1,7 +1,7 @@
 //! What the answer to asking for a command's locks would be.
 ghost use Rattle.std.specs.Prelude.{◌≡◌};
 ghost use Rattle.city_model.specs.Meaning.{exclusively, locks_of};
-ghost use Rattle.city_txn.specs.State.{view};
+ghost use Rattle.city_txn.specs.inside.State.{view};
 ghost use Rattle.city_txn.specs.Locking.{first_answer};
 
 use crate::command_locks::{first_lock, further_locks};

@@ -1,10 +1,12 @@
 //! Writes of a command: first all its ids are reserved and noted, then all are written.
 ghost use Rattle.std.specs.Prelude.{◌≡◌, ◌==◌, ◌&&◌, ◌||◌, ℕ, List, Some, true, false, OnOk, OnErr, if◌then◌else◌};
 ghost use Rattle.city_model.specs.CityMap.{CityMap};
-ghost use Rattle.city_txn.specs.State.{write_of, unless_by, own, is_reserved, is_open, committed, SeesSame};
-ghost use Rattle.city_txn.specs.UndoLog.{log_of, marked, is_noted};
-ghost use Rattle.city_model.specs.Plans.{AreOf};
-ghost use Rattle.city_txn.specs.Performing.{plans, AreNoted};
+ghost use Rattle.city_txn.specs.Writes.{write_of, unless_by};
+ghost use Rattle.city_txn.specs.inside.State.{own, is_reserved, is_open, committed, SeesSame};
+ghost use Rattle.city_txn.specs.UndoLog.{log_of, marked};
+ghost use Rattle.city_txn.specs.inside.LogTests.{is_noted};
+ghost use Rattle.city_model.specs.inside.Plans.{AreOf};
+ghost use Rattle.city_txn.specs.inside.Performing.{plans, AreNoted};
 
 use crate::store::Store;
 use crate::undo_log::{Entry, UndoLogs};
@@ -107,7 +109,7 @@ fn note(
         return Ok(());
     }
     let write = store.written(alloc, stamp, id)?;
-    let entry = Entry::Before(id.copy(alloc)?, write);
+    let entry = Entry::BeforeImage(id.copy(alloc)?, write);
     logs.push(stamp, entry)?;
     Ok(())
 }

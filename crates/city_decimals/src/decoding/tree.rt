@@ -1,10 +1,13 @@
 //! A tree, decoded.
-ghost use Rattle.std.specs.Prelude.{◌≡◌, ◌++◌, false, OnOk, option_map, IfSome};
+ghost use Rattle.std.specs.Prelude.{◌≡◌, ◌∷◌, ◌++◌, false, OnOk, option_map, IfSome};
+ghost use Rattle.json.specs.Token.{begin_object, key};
+ghost use Rattle.json.specs.Json.{no_members, member};
 ghost use Rattle.json.specs.Print.{IsNumber};
 ghost use Rattle.json.specs.Tree.{json_tokens, items_tokens, members_tokens, HasNumbers, ItemsHaveNumbers};
 ghost use Rattle.json.specs.Tree.{MembersHaveNumbers};
 ghost use Rattle.json.specs.Value.{value_view, items_view, members_view};
-ghost use Rattle.city_decimals.specs.Decoded.{number_in, number_under, decoded, decoded_items, decoded_object};
+ghost use Rattle.city_decimals.specs.Decoded.{number_in, number_under, decoded, decoded_items, out_of_form};
+ghost use Rattle.city_decimals.specs.inside.Objects.{decoded_object};
 
 use super::inner::inner;
 use crate::numbers::is_number;
@@ -66,6 +69,42 @@ fn decode_tree_object<'a>(
         out.key(member.0)?;
         decode_tree(inner(false, member.0, &member.1), out)?;
     }
+    out.end_object()
+}
+
+/// Writes the brace of an object and its first member, decoded and out of its form.
+pub(super) fn decode_first(
+    top: bool,
+    name: &str,
+    value: &Value<'_>,
+    out: &mut Writer,
+) -> Result<(), AllocError>
+    requires numbers { HasNumbers (value_view value.now) }
+    ensures before { OnOk result (out.new.before ≡ out.old.before) }
+    ensures tokens { OnOk result (out.new.tokens ≡ out.old.tokens ++ begin_object ∷ key name.now
+        ∷ json_tokens (out_of_form top name.now (value_view value.now) (decoded (value_view value.now)))) }
+{
+    out.begin_object()?;
+    out.key(name)?;
+    decode_tree(inner(top, name, value), out)
+}
+
+/// Writes what a member alone is decoded as: an object, or the number that it encodes.
+pub(super) fn decode_alone(
+    top: bool,
+    name: &str,
+    value: &Value<'_>,
+    out: &mut Writer,
+) -> Result<(), AllocError>
+    requires numbers { HasNumbers (value_view value.now) }
+    ensures before { OnOk result (out.new.before ≡ out.old.before) }
+    ensures tokens { OnOk result (out.new.tokens ≡ out.old.tokens
+        ++ json_tokens (decoded_object top (member name.now (value_view value.now) no_members))) }
+{
+    if let Some(text) = number_under(name, value) {
+        return out.number(text);
+    }
+    decode_first(top, name, value, out)?;
     out.end_object()
 }
 

@@ -12,7 +12,7 @@ use std::alloc::AllocError;
 
 /// Writes an encoded number.
 #[inline(always)]
-pub(super) fn encode_number(text: &str, out: &mut Writer) -> Result<(), AllocError>
+pub(crate) fn encode_number(text: &str, out: &mut Writer) -> Result<(), AllocError>
     requires number { IsNumber text.now }
     ensures before { OnOk result (out.new.before ≡ out.old.before) }
     ensures tokens { OnOk result (out.new.tokens

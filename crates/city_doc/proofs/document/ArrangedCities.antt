@@ -9,13 +9,13 @@ use Rattle.std.proofs.lemmas.Bool.{or_from, or_parts}
 use Rattle.std.proofs.lemmas.List.Sorted.{IsPermutation-sym, list_any-IsPermutation, length_permutation}
 use Rattle.std.proofs.lemmas.Map.Keys.{IsDistinct-IsPermutation}
 use Rattle.city_model.specs.declared.object.Object.{Object}
-use Rattle.city_model.specs.CityMap.{CityMap, Entries, Objects, at, found_in, same_id, has_id, parents_of, children_of}
+use Rattle.city_model.specs.CityMap.{CityMap, Entries, Objects, object_at, found_in, same_id, has_id, parents_of, children_of}
 use Rattle.city_model.specs.Misrelated.{IsMisrelatedAt}
 use Rattle.city_model.specs.Relations.{AreDistinct, IsInOrder, IsRelated, is_orphan, is_second_level, same_family}
 use Rattle.city_model.proofs.Ids.{same_id_back}
 use Rattle.city_model.proofs.Objects.{at_entries}
-use Rattle.city_doc.specs.document.Arranged.{IsArranged, AreArranged}
-use Rattle.city_doc.specs.document.Searches.{IsLeastId}
+use Rattle.city_doc.specs.inside.document.Arranged.{IsArranged, AreArranged}
+use Rattle.city_model.specs.Least.{IsLeast}
 
 -- ---- lists
 
@@ -124,7 +124,7 @@ still_misrelated : (m n : CityMap) (id : List ℕ) → AreArrangedMaps m n → I
 still_misrelated m n id maps h = there (n id) (m id) h.0 h.1 (there_back (m id) (n id) (maps id)) (λ p is alike.
     (p, is, still_wrong m n id h.0 p maps (arranged_back p h.0 alike) h.2))
 
-pub least_of_arranged : (m n : CityMap) (id : List ℕ) → AreArrangedMaps m n → IsLeastId (IsMisrelatedAt n) id → IsLeastId (IsMisrelatedAt m) id
+pub least_of_arranged : (m n : CityMap) (id : List ℕ) → AreArrangedMaps m n → IsLeast (IsMisrelatedAt n) id → IsLeast (IsMisrelatedAt m) id
 least_of_arranged m n id maps h = (still_misrelated n m id (maps_back m n maps) h.0, λ q below wrong. h.1 q below (still_misrelated m n q maps wrong))
 
 pub related_of_arranged : (m n : CityMap) → AreArrangedMaps m n → IsRelated n → IsRelated m
@@ -145,9 +145,9 @@ found_arranged (e ∷ es) (f ∷ fs) q h =
     subst (λ k. IsArrangedThere (found_in (e ∷ es) q) (cond (same_id q k) (Some f.1) (found_in fs q))) h.0
     (found_step (same_id q e.0) e.1 f.1 (found_in es q) (found_in fs q) h.1 (found_arranged es fs q h.2))
 
-pub arranged_maps : (m n : Objects) → AreArranged (entries m) (entries n) → AreArrangedMaps (at m) (at n)
+pub arranged_maps : (m n : Objects) → AreArranged (entries m) (entries n) → AreArrangedMaps (object_at m) (object_at n)
 arranged_maps m n h q =
-    subst (λ (f : CityMap). IsArrangedThere (f q) (at n q)) (sym (at_entries m))
+    subst (λ (f : CityMap). IsArrangedThere (f q) (object_at n q)) (sym (at_entries m))
     (subst (λ (f : CityMap). IsArrangedThere (found_in (entries m) q) (f q)) (sym (at_entries n)) (found_arranged (entries m) (entries n) q h))
 
 -- ---- a loop that arranges one entry after another

@@ -14,7 +14,7 @@ use Rattle.city_model.specs.declared.object.Object.{Object}
 use Rattle.city_model.specs.declared.object.Point.{Point}
 use Rattle.city_doc.specs.document.Cities.{entries_of}
 use Rattle.city_doc.specs.object.Canonical.{object_data, with_objects}
-use Rattle.city_doc.specs.document.KeptMembers.{is_kept_object, are_kept_objects}
+use Rattle.city_doc.specs.inside.document.KeptMembers.{is_kept_object, are_kept_objects}
 use Rattle.city_doc.specs.Pool.{object_points}
 use Rattle.city_doc.proofs.pool.NumberedPoints.{is_in, are_in}
 use Rattle.city_doc.proofs.document.Objects.{middle, keys_of_push}

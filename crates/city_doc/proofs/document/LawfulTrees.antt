@@ -133,10 +133,10 @@ right d c h =
 
 -- ---- no fault
 
-lawful_list : (d : Data) (c : CityValue) (s : StandsFor d c) → IsLawful (city.at c.1) → IsLawful (city.found_in s.list)
-lawful_list d c s lawful = subst IsLawful (ap city.at s.made ∙ at_listed s.list) lawful
+lawful_list : (d : Data) (c : CityValue) (s : StandsFor d c) → IsLawful (city.object_at c.1) → IsLawful (city.found_in s.list)
+lawful_list d c s lawful = subst IsLawful (ap city.object_at s.made ∙ at_listed s.list) lawful
 
-stands_not : (d : Data) (c : CityValue) (f : ReadFault) → is_integral d ≡ true → StandsFor d c → IsLawful (city.at c.1) → StandsIn d f → ⊥
+stands_not : (d : Data) (c : CityValue) (f : ReadFault) → is_integral d ≡ true → StandsFor d c → IsLawful (city.object_at c.1) → StandsIn d f → ⊥
 stands_not d c OutOfMemory integral s lawful h = h
 stands_not d c TooLong integral s lawful h = h
 stands_not d c NotJson integral s lawful h = h

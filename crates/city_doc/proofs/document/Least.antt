@@ -9,16 +9,18 @@ use mathlib.Core.Path.{fun_ext}
 use Rattle.serde_json.specs.Data.{Members}
 use Rattle.city_model.specs.declared.object.Object.{Object}
 use Rattle.city_model.specs.declared.object.Point.{Point}
-use Rattle.city_model.specs.CityMap.{CityMap, Objects, at}
+use Rattle.city_model.specs.CityMap.{CityMap, Objects, object_at}
 use Rattle.city_model.specs.Misrelated.{IsMisrelatedAt}
 use Rattle.city_model.specs.Relations.{IsInOrder, IsRelated, is_orphan}
 use Rattle.city_model.specs.Members.{AreOrdered}
 use Rattle.city_model.proofs.Ids.{same_id_true}
 use Rattle.city_model.proofs.Objects.{at_entries}
 use Rattle.city_doc.specs.document.CityFaults.{lenient_map_of, IsBadlyRelatedAt}
-use Rattle.city_doc.specs.document.LenientCities.{lesser, IsReadOf}
+use Rattle.city_doc.specs.inside.document.LenientCities.{lesser, IsReadOf}
 use Rattle.city_doc.specs.object.Faults.{has_bad_list}
-use Rattle.city_doc.specs.document.Searches.{Has, IsLeastId, first_with}
+use Rattle.city_doc.specs.document.Least.{Has}
+use Rattle.city_model.specs.Least.{IsLeast}
+use Rattle.city_doc.specs.inside.document.Searches.{first_with}
 use Rattle.city_doc.proofs.document.LenientEntries.{found-lenient}
 use Rattle.city_doc.proofs.document.Searches.{first_is_least, none_is_none}
 
@@ -26,7 +28,7 @@ use Rattle.city_doc.proofs.document.Searches.{first_is_least, none_is_none}
 
 -- the least id that has it, or none has it
 abbrev pub IsLeastIfAny : (List ℕ → Type 0) → Option (List ℕ) → Type 0
-IsLeastIfAny P o = MatchOption o ((id : List ℕ) → P id → ⊥) (λ id. IsLeastId P id)
+IsLeastIfAny P o = MatchOption o ((id : List ℕ) → P id → ⊥) (λ id. IsLeast P id)
 
 module _ (P Q : List ℕ → Type 0) where
   abbrev Either : List ℕ → Type 0
@@ -46,7 +48,7 @@ module _ (P Q : List ℕ → Type 0) where
   below_both a b Equal is out = absurd (true≢false (sym out))
   below_both a b Greater is out = absurd (true≢false (sym out))
 
-  of_two : (a b : List ℕ) (t : Bool) → is_lt (slice_cmp nat_cmp b a) ≡ t → IsLeastId P a → IsLeastId Q b → IsLeastIfAny Either (if t then Some b else Some a)
+  of_two : (a b : List ℕ) (t : Bool) → is_lt (slice_cmp nat_cmp b a) ≡ t → IsLeast P a → IsLeast Q b → IsLeastIfAny Either (if t then Some b else Some a)
   of_two a b true is p q =
       let lt = below_both a b (slice_cmp nat_cmp b a) refl is in
       (inr q.0, λ j less. neither j (p.1 j (nat_list_cmp_total.trans j b a less lt)) (q.1 j less))
@@ -72,11 +74,11 @@ in_order m id o order parented (inr orphan) = true≢false (sym orphan ∙ paren
 pub none_misrelated : (m : CityMap) → IsRelated m → (id : List ℕ) → IsMisrelatedAt m id → ⊥
 none_misrelated m related id h = let r = related id h.0 h.1 in in_order m id h.0 r.0 r.1 h.2
 
-pub same_map : (points : List Point) (objects : Members) (city : Objects) (bad : Option (List ℕ)) → IsReadOf points objects (entries city) bad → at city ≡ lenient_map_of points objects
+pub same_map : (points : List Point) (objects : Members) (city : Objects) (bad : Option (List ℕ)) → IsReadOf points objects (entries city) bad → object_at city ≡ lenient_map_of points objects
 same_map points objects city bad h = at_entries city ∙ fun_ext (found-lenient points objects (entries city) h.read)
 
 -- the least of both searches is the least badly related object
-pub least_badly_related : (points : List Point) (objects : Members) (city : Objects) (bad found : Option (List ℕ)) → IsReadOf points objects (entries city) bad → IsLeastIfAny (IsMisrelatedAt (at city)) found
+pub least_badly_related : (points : List Point) (objects : Members) (city : Objects) (bad found : Option (List ℕ)) → IsReadOf points objects (entries city) bad → IsLeastIfAny (IsMisrelatedAt (object_at city)) found
     → IsLeastIfAny (IsBadlyRelatedAt points objects) (lesser bad found)
 least_badly_related points objects city bad found h least =
     lesser_least (Has has_bad_list objects) (IsMisrelatedAt (lenient_map_of points objects)) bad found (least_list objects bad h.ordered h.lists)
@@ -85,11 +87,11 @@ least_badly_related points objects city bad found h least =
 -- ---- of what searches answer
 
 module _ {R : Type 0} (id_of : R → List ℕ) where
-  pub any_of : (P : List ℕ → Type 0) (o : Option R) → IfSome o (λ r. IsLeastId P (id_of r)) → IfNone o ((id : List ℕ) → P id → ⊥) → IsLeastIfAny P (option_map id_of o)
+  pub any_of : (P : List ℕ → Type 0) (o : Option R) → IfSome o (λ r. IsLeast P (id_of r)) → IfNone o ((id : List ℕ) → P id → ⊥) → IsLeastIfAny P (option_map id_of o)
   any_of P None least none = none
   any_of P (Some r) least none = least
 
-  pub of_any : (P : List ℕ → Type 0) (o : Option R) (a : Option (List ℕ)) → option_map id_of o ≡ a → IsLeastIfAny P a → IfSome o (λ r. IsLeastId P (id_of r))
+  pub of_any : (P : List ℕ → Type 0) (o : Option R) (a : Option (List ℕ)) → option_map id_of o ≡ a → IsLeastIfAny P a → IfSome o (λ r. IsLeast P (id_of r))
   of_any P None a is h = tt
   of_any P (Some r) a is h = subst (IsLeastIfAny P) (sym is) h
 
@@ -120,6 +122,6 @@ lesser-none (Some a) None h = absurd (let no : ⊥ = cc in no)
 lesser-none (Some a) (Some b) h = absurd (some_choice (is_lt (slice_cmp nat_cmp b a)) a b h)
 
 -- where the relations of the objects agree, and there is no bad list, no object is badly related
-pub none_badly_related : (points : List Point) (objects : Members) (city : Objects) (bad : Option (List ℕ)) → IsReadOf points objects (entries city) bad → bad ≡ None → IsRelated (at city) → (id : List ℕ) → IsBadlyRelatedAt points objects id → ⊥
+pub none_badly_related : (points : List Point) (objects : Members) (city : Objects) (bad : Option (List ℕ)) → IsReadOf points objects (entries city) bad → bad ≡ None → IsRelated (object_at city) → (id : List ℕ) → IsBadlyRelatedAt points objects id → ⊥
 none_badly_related points objects city bad h none related id (inl list) = none_is_none has_bad_list objects id h.ordered (sym h.lists ∙ none) list
 none_badly_related points objects city bad h none related id (inr wrong) = none_misrelated (lenient_map_of points objects) (subst IsRelated (same_map points objects city bad h) related) id wrong

@@ -6,12 +6,12 @@ use Rattle.std.specs.FinMap.Entries.{by_order}
 use Rattle.std.specs.List.{AllByRecursion}
 use Rattle.std.proofs.lemmas.Cmp.{nat_list_cmp_total}
 use Rattle.city_model.specs.declared.object.Object.{Object}
-use Rattle.city_model.specs.CityMap.{Objects, CityMap, Entries, at, found_in, changed}
+use Rattle.city_model.specs.CityMap.{Objects, CityMap, Entries, object_at, found_in, changed}
 use Rattle.city_model.proofs.Ids.{same_id_back}
 use Rattle.city_model.proofs.Objects.{at_empty, at_insert, at_entries, same_objects}
 use Rattle.city_doc.specs.document.Cities.{objects_of}
 
-pub at_listed : (es : Entries) → at (objects_of es) ≡ found_in es
+pub at_listed : (es : Entries) → object_at (objects_of es) ≡ found_in es
 at_listed [] = at_empty
 at_listed (e ∷ es) =
     at_insert (objects_of es) e.0 e.1

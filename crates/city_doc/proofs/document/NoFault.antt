@@ -17,9 +17,9 @@ use Rattle.city_model.specs.Shells.{body_fault, some_shape, has_short_ring, has_
 use Rattle.city_doc.specs.object.Bodies.{body_of, ids_at, object_of}
 use Rattle.city_doc.specs.document.CityFaults as faults
 use Rattle.city_doc.specs.document.Cities.{entries_of}
-use Rattle.city_doc.specs.document.LenientCities.{lenient_entries_of}
+use Rattle.city_doc.specs.inside.document.LenientCities.{lenient_entries_of}
 use Rattle.city_doc.specs.object.Faults.{has_bad_list}
-use Rattle.city_doc.specs.document.Searches.{Has}
+use Rattle.city_doc.specs.document.Least.{Has}
 use Rattle.city_doc.proofs.document.Least.{none_misrelated}
 use Rattle.city_doc.proofs.document.LenientEntries.{found-lenient}
 use Rattle.city_doc.proofs.Options.{and_then_some, map_some}

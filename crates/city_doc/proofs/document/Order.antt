@@ -10,15 +10,16 @@ use Rattle.city_doc.specs.declared.fault.ReadFault.{ReadFault}
 use Rattle.city_doc.specs.declared.fault.ReadFault.TheVariants.{OutOfMemory, TooLong, NotJson, NotWhole, NotCityJson, UnknownType, Unsupported, BadGeometry, BadVertex, BadRing, Relations, OpenShell}
 use Rattle.city_doc.specs.document.CityFaults.{has_bad_ring, has_open_shell, IsBadlyRelatedAt, IsLeastBadlyRelated}
 use Rattle.city_doc.specs.document.Faults.{StandsAmong, StandsIn, IsFirst, rank_of, objects_in, vertices_in, is_unsupported, unsupported_at}
-use Rattle.city_doc.specs.document.Forms.{AreReadable, HasForm}
+use Rattle.city_doc.specs.inside.document.Forms.{AreReadable, HasForm}
 use Rattle.city_doc.specs.document.Top.{wrong_member}
 use Rattle.city_doc.specs.object.Faults.{is_unknown_type, unsupported_name, is_bad_geometry, has_bad_vertex}
-use Rattle.city_doc.specs.document.Searches.{IsLeast, first_with}
+use Rattle.city_doc.specs.document.Least.{IsLeastWith}
+use Rattle.city_doc.specs.inside.document.Searches.{first_with}
 use Rattle.city_doc.proofs.document.Searches.{first_is_least, none_is_none}
 
 -- ---- among the objects
 
-none_least : (test : Data → Bool) (ms : Members) (id : List ℕ) → AreOrdered ms → first_with test ms ≡ None → IsLeast test ms id → ⊥
+none_least : (test : Data → Bool) (ms : Members) (id : List ℕ) → AreOrdered ms → first_with test ms ≡ None → IsLeastWith test ms id → ⊥
 none_least test ms id o none least = none_is_none test ms id o none least.0
 
 missing_name : (o : Option (List ℕ)) → is_some o ≡ true → o ≡ None → ⊥

@@ -15,7 +15,7 @@ use Rattle.city_doc.specs.document.Canonical.{transform_data, vertices_data, num
 use Rattle.city_doc.specs.shape.Canonical.{boundaries_data, geometry_data}
 use Rattle.city_doc.specs.tree.Lists.{put_list}
 use Rattle.city_doc.specs.object.Canonical.{object_data, objects_data}
-use Rattle.city_doc.specs.tree.Tokens.{listed}
+use Rattle.city_doc.specs.inside.tree.PartTokens.{listed}
 use Rattle.city_doc.proofs.tree.Among.{puts, put_if}
 use Rattle.city_doc.proofs.tree.Puts.{put-swap}
 

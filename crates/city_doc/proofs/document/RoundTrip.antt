@@ -11,7 +11,7 @@ use Rattle.city_doc.specs.document.Cities.{is_city_json, points_in, entries_of, 
 use Rattle.city_doc.specs.document.Top.{frame_of, frame_of_rest}
 use Rattle.city_doc.specs.document.Canonical.{vertices_data, frame_members, tree_of}
 use Rattle.city_doc.specs.object.Canonical.{objects_data}
-use Rattle.city_doc.specs.document.KeptMembers.{IsKeptCity}
+use Rattle.city_doc.specs.inside.document.KeptMembers.{IsKeptCity}
 use Rattle.city_doc.specs.Pool.{city_points, pool_of}
 use Rattle.city_doc.specs.document.Ranges.{IsInRange}
 use Rattle.city_doc.specs.tree.Triples.{points_of}

@@ -8,7 +8,8 @@ use Rattle.serde_json.specs.Data.{Data, Members, no_members, member}
 use Rattle.serde_json.specs.Find.{get_member}
 use Rattle.city_model.specs.Members.{AreOrdered, AllAbove}
 use Rattle.city_model.proofs.Ids.{same_id_true}
-use Rattle.city_doc.specs.document.Searches.{Has, IsLeast, first_with}
+use Rattle.city_doc.specs.document.Least.{Has, IsLeastWith}
+use Rattle.city_doc.specs.inside.document.Searches.{first_with}
 
 -- a look-up passes a key that is above
 below : (o : Ordering) (a b : Option Data) → o ≡ Less → match_ordering o a b a ≡ a
@@ -65,16 +66,16 @@ module _ (test : Data → Bool) where
       absurd (true≢false (sym clash ∙ out))
   later_at Greater k j d ms is out h has = (has.0, sym (above _ _ _ is) ∙ has.1, has.2)
 
-  least_at : (b : Bool) (k : List ℕ) (d : Data) (ms : Members) (id : List ℕ) → test d ≡ b → AllAbove k ms → (first_with test ms ≡ Some id → IsLeast test ms id)
-      → (if b then Some k else first_with test ms) ≡ Some id → IsLeast test (member k d ms) id
+  least_at : (b : Bool) (k : List ℕ) (d : Data) (ms : Members) (id : List ℕ) → test d ≡ b → AllAbove k ms → (first_with test ms ≡ Some id → IsLeastWith test ms id)
+      → (if b then Some k else first_with test ms) ≡ Some id → IsLeastWith test (member k d ms) id
   least_at true k d ms id is h rest found =
       let same : k ≡ id = cc in
-      subst (IsLeast test (member k d ms)) same ((d, here k d ms, is), λ j lt has. none_below k j d has.0 ms h lt has.1)
+      subst (IsLeastWith test (member k d ms)) same ((d, here k d ms, is), λ j lt has. none_below k j d has.0 ms h lt has.1)
   least_at false k d ms id is h rest found =
       let r = rest found in
       ((r.0.0, there k id d r.0.0 ms h r.0.1, r.0.2), λ j lt has. r.1 j lt (later_at _ k j d ms refl is h has))
 
-  pub first_is_least : (ms : Members) (id : List ℕ) → AreOrdered ms → first_with test ms ≡ Some id → IsLeast test ms id
+  pub first_is_least : (ms : Members) (id : List ℕ) → AreOrdered ms → first_with test ms ≡ Some id → IsLeastWith test ms id
   first_is_least no_members id o found = cc
   first_is_least (member k d ms) id o found = least_at (test d) k d ms id refl o.0 (first_is_least ms id o.1) found
 

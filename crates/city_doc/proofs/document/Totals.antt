@@ -9,7 +9,7 @@ use Rattle.city_model.specs.declared.frame.Frame.{Frame}
 use Rattle.city_model.specs.declared.object.Body.{Body}
 use Rattle.city_model.specs.declared.object.Object.{Object}
 use Rattle.city_model.specs.declared.object.Point.{Point}
-use Rattle.city_model.specs.CityMap.{Entries, at, CityValue}
+use Rattle.city_model.specs.CityMap.{Entries, object_at, CityValue}
 use Rattle.city_model.specs.Kept.{kept_at_top, kept_at_transform, is_empty_object_or_absent}
 use Rattle.city_model.specs.Members.{without, AreOrdered}
 use Rattle.city_model.specs.Relations.{IsLawful}
@@ -21,11 +21,11 @@ use Rattle.city_doc.specs.object.Bodies.{body_of, ids_at}
 use Rattle.city_doc.specs.document.CityFaults.{or_empty}
 use Rattle.city_doc.specs.document.Cities.{city_of, objects_of, points_in}
 use Rattle.city_doc.specs.document.Faults.{objects_in, vertices_in, is_unsupported, StandsAmong, StandsIn, IsFirst}
-use Rattle.city_doc.specs.document.Forms.{AreReadable, HasForm}
+use Rattle.city_doc.specs.inside.document.Forms.{AreReadable, HasForm}
 use Rattle.city_doc.specs.document.Top.{triple_at, has_triple, wrong_member, more_of, frame_with, frame_of_rest, is_transform, all_objects, are_all_objects, are_objects, without_transform_members, without_top_members}
-use Rattle.city_doc.specs.document.LenientCities.{listed, lenient_entries_of, lenient_city_of, IsReadOf}
+use Rattle.city_doc.specs.inside.document.LenientCities.{listed, lenient_entries_of, lenient_city_of, IsReadOf}
 use Rattle.city_doc.specs.object.Faults.{is_unknown_type, is_bad_geometry, has_bad_vertex, has_bad_list}
-use Rattle.city_doc.specs.document.Searches.{first_with}
+use Rattle.city_doc.specs.inside.document.Searches.{first_with}
 use Rattle.city_doc.proofs.document.BuiltObjects.{IsBuilt, is_built, has_form}
 use Rattle.city_doc.proofs.document.Cities.{get-object, objects_at, city_joined}
 use Rattle.city_doc.proofs.document.KeptMembers.{kept_all, transform_admitted, top_admitted}
@@ -190,16 +190,16 @@ is_read_of d c bad right ordered lists b =
     record { ordered = ordered; readable = (has_form d (listed c) right b).objects; read = ap (lenient_entries_of (vertices_in d)) (objects_at d b.top b.is_top b.objects b.are_objects) ∙ b.entries; lists = lists }
 
 judged_as : (d : Data) (c : CityValue) (bad : Option (List ℕ)) (fault : Option ReadFault) → wrong_member d ≡ None → bad ≡ first_with has_bad_list (objects_in d) → IsBuilt (vertices_in d) d (listed c)
-    → MatchOption fault (IsLawful (at c.1) × (bad ≡ None)) (λ f. IsFirst (StandsAmong (vertices_in d) (objects_in d)) f)
-    → MatchOption fault ((city_of d ≡ Some c) × IsLawful (at c.1)) (λ f. is_integral d ≡ true → IsFirst (StandsIn d) f)
+    → MatchOption fault (IsLawful (object_at c.1) × (bad ≡ None)) (λ f. IsFirst (StandsAmong (vertices_in d) (objects_in d)) f)
+    → MatchOption fault ((city_of d ≡ Some c) × IsLawful (object_at c.1)) (λ f. is_integral d ≡ true → IsFirst (StandsIn d) f)
 judged_as d c bad None right lists b h = (built_city d (listed c) right b (sym lists ∙ h.1) ∙ ap (λ objects. Some (c.0, objects)) (listed_again c.1), h.0)
 judged_as d c bad (Some f) right lists b h = λ integral. first_in d f integral right h
 
 -- what is found of a city that was read of a tree is what stands in the tree
 pub judged : (d : Data) (points : List Point) (c : CityValue) (bad : Option (List ℕ)) (fault : Option ReadFault) → wrong_member d ≡ None → points ≡ vertices_in d
     → lenient_city_of points d ≡ Some (listed c) → AreOrdered (objects_in d) → bad ≡ first_with has_bad_list (objects_in d)
-    → ((ps : List Point) (ms : Members) → IsReadOf ps ms (entries c.1) bad → MatchOption fault (IsLawful (at c.1) × (bad ≡ None)) (λ f. IsFirst (StandsAmong ps ms) f))
-    → MatchOption fault ((city_of d ≡ Some c) × IsLawful (at c.1)) (λ f. is_integral d ≡ true → IsFirst (StandsIn d) f)
+    → ((ps : List Point) (ms : Members) → IsReadOf ps ms (entries c.1) bad → MatchOption fault (IsLawful (object_at c.1) × (bad ≡ None)) (λ f. IsFirst (StandsAmong ps ms) f))
+    → MatchOption fault ((city_of d ≡ Some c) × IsLawful (object_at c.1)) (λ f. is_integral d ≡ true → IsFirst (StandsIn d) f)
 judged d points c bad fault right same built ordered lists found =
     let b = is_built (vertices_in d) d (listed c) (ap (λ ps. lenient_city_of ps d) (sym same) ∙ built) in
     judged_as d c bad fault right lists b (found (vertices_in d) (objects_in d) (is_read_of d c bad right ordered lists b))

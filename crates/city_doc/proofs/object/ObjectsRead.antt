@@ -22,7 +22,7 @@ use Rattle.city_doc.specs.Pool.{geometry_points, object_points}
 use Rattle.city_doc.specs.shape.Canonical.{boundaries_data, geometry_data}
 use Rattle.city_doc.specs.object.Canonical.{object_data}
 use Rattle.city_doc.specs.shape.Nesting.{shape_name}
-use Rattle.city_doc.specs.document.KeptMembers.{is_kept_geometry, is_kept_object}
+use Rattle.city_doc.specs.inside.document.KeptMembers.{is_kept_geometry, is_kept_object}
 use Rattle.city_doc.proofs.document.KeptMembers.{kept_all}
 use Rattle.city_doc.proofs.tree.ListsRead.{put_list_read, all_pass}
 use Rattle.city_doc.proofs.pool.NumberedPoints.{are_in, parts_in, shape_read}

@@ -10,8 +10,10 @@ use Rattle.city_model.specs.Members.{AllAbove, AreOrdered}
 use Rattle.city_model.specs.declared.object.Object.{Object}
 use Rattle.city_model.specs.declared.object.Point.{Point}
 use Rattle.city_doc.specs.object.Canonical.{object_data}
-use Rattle.city_doc.specs.Pool.{object_points, with_points}
-use Rattle.city_doc.specs.tree.Tokens.{tokens_of, closing_members}
+use Rattle.city_doc.specs.Pool.{object_points}
+use Rattle.city_doc.specs.inside.Pool.{with_points}
+use Rattle.city_doc.specs.tree.Tokens.{tokens_of}
+use Rattle.city_doc.specs.inside.tree.PartTokens.{closing_members}
 use Rattle.city_doc.proofs.document.EntriesRead.{in_turn}
 use Rattle.city_doc.proofs.pool.Walks.{with_points-append}
 

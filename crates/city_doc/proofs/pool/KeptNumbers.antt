@@ -6,7 +6,8 @@ use Rattle.std.proofs.lemmas.Bool.Decides.{Decides-int_eq}
 use Rattle.std.proofs.lemmas.List.Sums.{prefix_len-le-length}
 use Rattle.city_model.specs.declared.object.Point.{Point}
 use Rattle.city_model.specs.Shells.{same_point}
-use Rattle.city_doc.specs.Pool.{number_of, with_point, without_repeats, with_points}
+use Rattle.city_doc.specs.Pool.{number_of, with_point, without_repeats}
+use Rattle.city_doc.specs.inside.Pool.{with_points}
 use Rattle.city_doc.proofs.pool.Repeats.{is_new, with_points-is}
 
 module _ (test : Point → Bool) where
@@ -26,7 +27,7 @@ module _ (test : Point → Bool) where
         | false ↦ λ e. ap (λ n. 1 + n) (place_last p is xs ys e)
       ] h
 
-same_itself : (p : Point) → same_point p p ≡ true
+pub same_itself : (p : Point) → same_point p p ≡ true
 same_itself p = rw ((Decides-int_eq p.x p.x).1 refl, (Decides-int_eq p.y p.y).1 refl, (Decides-int_eq p.z p.z).1 refl) refl
 
 pub number_kept : (pool : List Point) (p : Point) (later : List Point) → number_of (with_points (with_point pool p) later) p ≡ number_of pool p

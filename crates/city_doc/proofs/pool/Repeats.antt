@@ -6,7 +6,8 @@ use Rattle.std.proofs.lemmas.List.Folds.{list_any-append}
 use Rattle.std.proofs.Math.Bool.{or-false}
 use Rattle.city_model.specs.declared.object.Point.{Point}
 use Rattle.city_model.specs.Shells.{same_point}
-use Rattle.city_doc.specs.Pool.{without_repeats, with_points}
+use Rattle.city_doc.specs.Pool.{without_repeats}
+use Rattle.city_doc.specs.inside.Pool.{with_points}
 use Rattle.city_doc.proofs.shape.Points.{same_point-symm, same_point-alike}
 
 abbrev pub is_new : List Point → Point → Bool

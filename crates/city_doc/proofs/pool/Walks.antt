@@ -2,7 +2,8 @@
 use Rattle.std.proofs.Common.{◌≡◌, ℕ, suc, ◌+◌, ◌<◌, List, [], ◌∷◌, ◌++◌, length, get_or, drop, drop-cons, add-one, refl, sym, ap, ◌∙◌}
 use Rattle.std.specs.Prelude.{flat_map}
 use Rattle.city_model.specs.declared.object.Point.{Point}
-use Rattle.city_doc.specs.Pool.{with_points, with_point}
+use Rattle.city_doc.specs.inside.Pool.{with_points}
+use Rattle.city_doc.specs.Pool.{with_point}
 
 pub with_points-append : (pool xs ys : List Point) → with_points pool (xs ++ ys) ≡ with_points (with_points pool xs) ys
 with_points-append pool [] ys = refl

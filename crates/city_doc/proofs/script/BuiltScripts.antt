@@ -5,7 +5,7 @@ use Rattle.std.specs.List.{list_any}
 use Rattle.std.proofs.lemmas.List.{length-map}
 use Rattle.serde_json.specs.Data.{Data}
 use Rattle.city_model.specs.Runs.{Scripted}
-use Rattle.city_doc.specs.script.Forms.{has_too_many_commands, fit_script_of, script_of_item}
+use Rattle.city_doc.specs.inside.script.Forms.{has_too_many_commands, fit_script_of, script_of_item}
 use Rattle.city_doc.specs.script.Scripts.{ScriptParts, parts_of, script_of, max_scripts, scripts_of_parts, scripts_of}
 use Rattle.city_doc.specs.tree.Lists.{all_read, array_of}
 use Rattle.city_doc.proofs.tree.AllRead.{all_read-length}

@@ -2,7 +2,7 @@
 use Rattle.std.proofs.Common.{◌≡◌, ℕ, zero, suc, ◌+◌, ◌<◌, ◌≤◌, List, [], ◌∷◌, length, map, drop, get_or, Option, Some, None, refl, sym, ap, subst, ◌∙◌, arith, add-one, drop-cons, drop_of_length-le}
 use Rattle.std.specs.Prelude.{slice_get}
 use Rattle.std.specs.Option.{option_or}
-use Rattle.city_doc.specs.script.Searches.{first_at}
+use Rattle.city_doc.specs.inside.script.Searches.{first_at}
 
 -- the item at this index has f, and no item before it has anything
 pub record IsFirst {A B : Type 0} (find : ℕ → A → Option B) (n : ℕ) (xs : List A) (f : B) : Type 0 where

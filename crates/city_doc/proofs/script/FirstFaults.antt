@@ -7,7 +7,7 @@ use Rattle.city_doc.specs.declared.fault.ScriptFault.TheVariants.{OutOfMemory, B
 use Rattle.city_doc.specs.script.CommandFaults.{is_bad_command, names_bad_vertex}
 use Rattle.city_doc.specs.script.Scripts.{ScriptParts, vertex_count, parts_of, are_too_many}
 use Rattle.city_doc.specs.script.Faults.{HasAt, IsBefore, IsFirstAt, PartsFault, ItemsFault}
-use Rattle.city_doc.specs.script.Searches.{first_at, unless, bad_script, index_if, first_in, index_in, first_command}
+use Rattle.city_doc.specs.inside.script.Searches.{first_at, unless, bad_script, index_if, first_in, index_in, first_command}
 use Rattle.city_doc.proofs.script.FirstAt.{first_at-is, first_at-none}
 
 unless_some : {A B : Type 0} (o : Option A) (y z : B) → unless o y ≡ Some z → (o ≡ None) × (z ≡ y)

@@ -14,7 +14,7 @@ use Rattle.city_doc.specs.tree.Triples.{point_of}
 use Rattle.city_doc.specs.script.CommandFaults.{is_bad_command, names_bad_vertex}
 use Rattle.city_doc.specs.script.CommandForms.{text_in}
 use Rattle.city_doc.specs.script.Commands.{command_of}
-use Rattle.city_doc.specs.script.Faults.{AreFaultlessParts}
+use Rattle.city_doc.specs.inside.script.Faultless.{AreFaultlessParts}
 use Rattle.city_doc.specs.script.Scripts.{ScriptParts, ended, word_ends, are_vertices, commands_in, has_script_members, parts_in, parts_if, parts_of, vertex_points, count_of, vertex_count, script_of, scripts_of_parts}
 use Rattle.city_doc.proofs.tree.AllRead.{in_all, all_read-all, all_read-some}
 use Rattle.city_doc.proofs.script.CommandMeanings.{command_of-some}

@@ -2,7 +2,7 @@
 use Rattle.std.proofs.Common.{◌≡◌, ℕ, List, Bool, true, false, Some, None, codes, refl, ap, ◌∙◌}
 use Rattle.std.specs.Bool.{MatchBool}
 use Rattle.json.specs.Token.{Token}
-use Rattle.serde_json.specs.Data.{Data, Members, object, put}
+use Rattle.serde_json.specs.Data.{Data, Members, put}
 use Rattle.serde_json.specs.Find.{get_member}
 use Rattle.city_model.specs.declared.object.Body.{Body}
 use Rattle.city_model.specs.declared.object.Geometry.{Geometry}
@@ -11,11 +11,11 @@ use Rattle.city_model.proofs.Ids.{same_id_back}
 use Rattle.city_doc.specs.declared.stream.object.ObjectParts.{ObjectParts}
 use Rattle.city_doc.specs.object.Bodies.{body_of}
 use Rattle.city_doc.specs.shape.Geometries.{geometry_of}
-use Rattle.city_doc.specs.stream.Commands.{IsBody, IsBodySoFar}
-use Rattle.city_doc.specs.stream.Geometries.{IsGeometry}
-use Rattle.city_doc.specs.stream.Objects.{IsObjectSoFar}
-use Rattle.city_doc.specs.stream.Positions.{IsPlaced}
-use Rattle.city_doc.specs.stream.Standing.{IsArrayOf, IsTaken, IsPassed}
+use Rattle.city_doc.specs.inside.stream.Commands.{IsBody, IsBodySoFar}
+use Rattle.city_doc.specs.inside.stream.Geometries.{IsGeometry}
+use Rattle.city_doc.specs.inside.stream.Objects.{IsObjectSoFar}
+use Rattle.city_doc.specs.inside.stream.Positions.{IsPlaced}
+use Rattle.city_doc.specs.inside.stream.Standing.{IsArrayOf, IsTaken, IsPassed}
 use Rattle.city_doc.specs.tree.Lists.{list_of}
 use Rattle.city_doc.proofs.stream.PlacedParts.{slot_placed}
 use Rattle.city_doc.proofs.stream.Members.{other_name}

@@ -14,8 +14,8 @@ use Rattle.city_model.proofs.MemberLaws.{get_member-without}
 use Rattle.city_doc.specs.declared.stream.vertices.Vertex.{Vertex}
 use Rattle.city_doc.specs.document.Cities.{city_of, entries_of, objects_of}
 use Rattle.city_doc.specs.document.Top.{is_text, frame_with, frame_of_rest, without_top_members}
-use Rattle.city_doc.specs.stream.Positions.{IsVertex, points_of}
-use Rattle.city_doc.specs.stream.Standing.{Pairs, IsArrayOf}
+use Rattle.city_doc.specs.inside.stream.Positions.{IsVertex, points_of}
+use Rattle.city_doc.specs.inside.stream.Standing.{Pairs, IsArrayOf}
 use Rattle.city_doc.specs.tree.Lists.{read_items}
 use Rattle.city_doc.specs.tree.Members.{kept_if}
 use Rattle.city_doc.specs.tree.Triples as triples

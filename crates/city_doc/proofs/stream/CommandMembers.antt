@@ -7,7 +7,7 @@ use Rattle.city_doc.specs.declared.stream.command.Other.{Other}
 use Rattle.city_doc.specs.declared.stream.command.Other.TheVariants.{Object, Parent}
 use Rattle.city_doc.specs.declared.stream.command.Verb.{Verb}
 use Rattle.city_doc.specs.declared.stream.command.Verb.TheVariants.{Read, Put, Delete, Attach, Detach, Mark, Back}
-use Rattle.city_doc.specs.stream.Commands.{verb_name, with_verb, IsOther, AreOthers, IsCommandSoFar}
+use Rattle.city_doc.specs.inside.stream.Commands.{verb_name, with_verb, IsOther, AreOthers, IsCommandSoFar}
 
 unread : {A : Type 0} (o : Option A) → is_some o ≡ false → o ≡ None
 unread None h = refl

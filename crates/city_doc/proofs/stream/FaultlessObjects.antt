@@ -5,12 +5,12 @@ use Rattle.std.specs.Cmp.Lexicographic.{slice_cmp}
 use Rattle.std.specs.FinMap.{entries}
 use Rattle.std.specs.Ordering.{match_ordering}
 use Rattle.city_model.specs.declared.object.Object.{Object}
-use Rattle.city_model.specs.CityMap.{Entries, Objects, at, found_in}
-use Rattle.city_model.specs.Faultless.{IsFaultless}
+use Rattle.city_model.specs.CityMap.{Entries, Objects, object_at, found_in}
+use Rattle.city_model.specs.inside.Faultless.{IsFaultless}
 use Rattle.city_model.specs.Relations.{IsRelated, IsLawful}
 use Rattle.city_model.specs.Shells.{body_fault}
 use Rattle.city_model.proofs.Objects.{at_entries}
-use Rattle.city_doc.specs.stream.Faultless.{AreFaultless}
+use Rattle.city_doc.specs.inside.stream.Faultless.{AreFaultless}
 
 put_at : (r : Ordering) (id : List ℕ) (o : Object) (e : List ℕ × Object) (es rest : Entries) → body_fault o.body ≡ None → AreFaultless (e ∷ es) → AreFaultless rest
     → AreFaultless (match_ordering r ((id, o) ∷ e ∷ es) ((e.0, o) ∷ es) (e ∷ rest))
@@ -34,9 +34,9 @@ faultless_found [] h id o is = absurd (let no : None ≡ Some o = is in cc)
 faultless_found (e ∷ es) h id o is = found_first (is_eq (slice_cmp nat_cmp id e.0)) e.1 o (found_in es id) h.0 (faultless_found es h.1 id o) is
 
 -- a city of such entries
-pub faultless_city : (objects : Objects) (es : Entries) → entries objects ≡ es → AreFaultless es → IsFaultless (at objects)
+pub faultless_city : (objects : Objects) (es : Entries) → entries objects ≡ es → AreFaultless es → IsFaultless (object_at objects)
 faultless_city objects es are h = subst IsFaultless (sym (at_entries objects ∙ ap found_in are)) (faultless_found es h)
 
 -- what is left to be judged are the relations
-pub lawful : (objects : Objects) → IsFaultless (at objects) → IsRelated (at objects) → IsLawful (at objects)
+pub lawful : (objects : Objects) → IsFaultless (object_at objects) → IsRelated (object_at objects) → IsLawful (object_at objects)
 lawful objects faultless related = (λ id o is. ((related id o is).0, faultless id o is), λ id o is. (related id o is).1)

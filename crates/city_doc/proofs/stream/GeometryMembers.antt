@@ -6,8 +6,8 @@ use Rattle.city_model.proofs.Ids.{same_id_back}
 use Rattle.city_doc.specs.declared.stream.boundaries.Boundaries.{Boundaries}
 use Rattle.city_doc.specs.declared.stream.geometry.Kind.{Kind}
 use Rattle.city_doc.specs.declared.stream.geometry.GeometryParts.{GeometryParts}
-use Rattle.city_doc.specs.stream.Geometries.{IsKind, AreBoundaries, IsGeometrySoFar}
-use Rattle.city_doc.specs.stream.Standing.{IsString}
+use Rattle.city_doc.specs.inside.stream.Geometries.{IsKind, AreBoundaries, IsGeometrySoFar}
+use Rattle.city_doc.specs.inside.stream.Standing.{IsString}
 use Rattle.city_doc.proofs.tree.Puts.{ordered_put}
 use Rattle.city_doc.proofs.stream.Members.{put_own, put_kept, other_name, slot_here, slot_other}
 

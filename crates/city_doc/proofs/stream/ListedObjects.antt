@@ -13,8 +13,8 @@ use Rattle.city_model.specs.declared.object.Object.{Object}
 use Rattle.city_model.specs.declared.object.Point.{Point}
 use Rattle.city_doc.specs.document.Cities.{entries_of}
 use Rattle.city_doc.specs.object.Bodies.{object_of}
-use Rattle.city_doc.specs.stream.Objects.{IsObject, IsNamedObject, IsListing, put_all}
-use Rattle.city_doc.specs.stream.Standing.{Pairs}
+use Rattle.city_doc.specs.inside.stream.Objects.{IsObject, IsNamedObject, IsListing, put_all}
+use Rattle.city_doc.specs.inside.stream.Standing.{Pairs}
 use Rattle.city_doc.proofs.Options.{and_then_some, map_some}
 use Rattle.city_doc.proofs.stream.Pairing.{pairs_push}
 

@@ -11,7 +11,7 @@ use Rattle.serde_json.proofs.Views.{get_member-put}
 use Rattle.city_model.specs.CityMap.{same_id, has_id}
 use Rattle.city_model.specs.Members.{without, AllAbove, AreOrdered}
 use Rattle.city_model.proofs.Ids.{by_id, same_id_back, same_id_itself}
-use Rattle.city_doc.specs.stream.Standing.{IsSlot, IsListSlot, IsArrayOf}
+use Rattle.city_doc.specs.inside.stream.Standing.{IsSlot, IsListSlot, IsArrayOf}
 use Rattle.city_doc.proofs.tree.PutMembers.{get_member-put_apart}
 use Rattle.city_doc.proofs.tree.Puts.{all_above_lower, put_first}
 

@@ -6,9 +6,9 @@ use Rattle.city_model.specs.declared.object.Geometry.{Geometry}
 use Rattle.city_model.specs.declared.object_type.ObjectType.{ObjectType}
 use Rattle.city_model.proofs.Ids.{same_id_back}
 use Rattle.city_doc.specs.declared.stream.object.ObjectParts.{ObjectParts}
-use Rattle.city_doc.specs.stream.Geometries.{IsGeometry}
-use Rattle.city_doc.specs.stream.Objects.{IsType, IsObjectSoFar}
-use Rattle.city_doc.specs.stream.Standing.{IsString, IsArrayOf}
+use Rattle.city_doc.specs.inside.stream.Geometries.{IsGeometry}
+use Rattle.city_doc.specs.inside.stream.Objects.{IsType, IsObjectSoFar}
+use Rattle.city_doc.specs.inside.stream.Standing.{IsString, IsArrayOf}
 use Rattle.city_doc.proofs.tree.Puts.{ordered_put}
 use Rattle.city_doc.proofs.stream.Members.{put_own, put_kept, other_name, slot_here, slot_other, list_here, list_other}
 

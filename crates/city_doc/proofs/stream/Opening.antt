@@ -2,8 +2,8 @@
 use Rattle.std.proofs.Common.{◌≡◌, ℕ, zero, suc, ◌+◌, List, ◌∷◌, refl, sym, ap, ◌∙◌, subst, arith}
 use Rattle.json.specs.Token.{Token, begin_array}
 use Rattle.serde_json.specs.Data.{Data}
-use Rattle.city_doc.specs.stream.Positions.{opened}
-use Rattle.city_doc.specs.stream.Standing.{IsReadAs}
+use Rattle.city_doc.specs.inside.stream.Positions.{opened}
+use Rattle.city_doc.specs.inside.stream.Standing.{IsReadAs}
 
 opened_within : (n : ℕ) (ts : List Token) → opened n (begin_array ∷ ts) ≡ begin_array ∷ opened n ts
 opened_within zero ts = refl

@@ -8,10 +8,10 @@ use Rattle.city_model.specs.declared.object.Geometry.{Geometry}
 use Rattle.city_model.specs.declared.object.Point.{Point}
 use Rattle.city_doc.specs.script.Commands.{command_of_form, command_of}
 use Rattle.city_doc.specs.shape.Geometries.{geometry_of}
-use Rattle.city_doc.specs.stream.Commands.{IsCommand}
-use Rattle.city_doc.specs.stream.Geometries.{IsGeometry}
-use Rattle.city_doc.specs.stream.Positions.{IsPlaced}
-use Rattle.city_doc.specs.stream.Standing.{IsArrayOf}
+use Rattle.city_doc.specs.inside.stream.Commands.{IsCommand}
+use Rattle.city_doc.specs.inside.stream.Geometries.{IsGeometry}
+use Rattle.city_doc.specs.inside.stream.Positions.{IsPlaced}
+use Rattle.city_doc.specs.inside.stream.Standing.{IsArrayOf}
 use Rattle.city_doc.specs.tree.Lists.{list_of}
 use Rattle.city_doc.proofs.stream.Bodies.{body_placed}
 

@@ -9,10 +9,10 @@ use Rattle.city_model.specs.declared.object.Object.{Object}
 use Rattle.city_model.specs.declared.object.Point.{Point}
 use Rattle.city_doc.specs.object.Bodies.{object_of}
 use Rattle.city_doc.specs.shape.Geometries.{geometry_of}
-use Rattle.city_doc.specs.stream.Geometries.{IsGeometry}
-use Rattle.city_doc.specs.stream.Objects.{IsObject}
-use Rattle.city_doc.specs.stream.Positions.{IsPlaced}
-use Rattle.city_doc.specs.stream.Standing.{Pairs, IsArrayOf, IsListSlot, IsString}
+use Rattle.city_doc.specs.inside.stream.Geometries.{IsGeometry}
+use Rattle.city_doc.specs.inside.stream.Objects.{IsObject}
+use Rattle.city_doc.specs.inside.stream.Positions.{IsPlaced}
+use Rattle.city_doc.specs.inside.stream.Standing.{Pairs, IsArrayOf, IsListSlot, IsString}
 use Rattle.city_doc.specs.tree.Lists.{read_items, list_of, list_or_absent}
 
 module _ {A : Type 0} (R : A → Data → Type 0) (reads : Data → Option A) where

@@ -4,10 +4,10 @@ use Rattle.std.specs.Prelude.{option_and_then}
 use Rattle.serde_json.specs.Data.{Data}
 use Rattle.serde_json.specs.View.{items_of}
 use Rattle.city_model.specs.Runs.{Scripted}
-use Rattle.city_doc.specs.script.Forms.{script_of_item}
+use Rattle.city_doc.specs.inside.script.Forms.{script_of_item}
 use Rattle.city_doc.specs.script.Scripts.{parts_of, scripts_of_parts, scripts_of, max_scripts}
-use Rattle.city_doc.specs.stream.Standing.{Pairs, IsArrayOf}
-use Rattle.city_doc.specs.stream.Scripts.{IsScript}
+use Rattle.city_doc.specs.inside.stream.Standing.{Pairs, IsArrayOf}
+use Rattle.city_doc.specs.inside.stream.Scripts.{IsScript}
 use Rattle.city_doc.specs.tree.Lists.{read_items, all_read}
 use Rattle.city_doc.proofs.script.BuiltScripts.{few_built}
 use Rattle.city_doc.proofs.tree.AllRead.{all_read-length}

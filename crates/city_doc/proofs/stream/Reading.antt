@@ -13,7 +13,7 @@ use Rattle.serde_json.specs.declared.value.Value.{Value}
 use Rattle.city_doc.proofs.stream.Conversions.{converted_some, converted-array, converted-object, item_read, items_over, member_read, members_over}
 use Rattle.city_model.specs.Integral.{is_integral, items_integral, members_integral}
 use Rattle.city_doc.proofs.tree.IntegralParts.{put-integral}
-use Rattle.city_doc.specs.stream.Taken.{IsValue, IsRestOfArray, IsRestOfObject}
+use Rattle.city_doc.specs.inside.stream.Taken.{IsValue, IsRestOfArray, IsRestOfObject}
 use Rattle.city_doc.specs.tree.Triples.{point_of}
 
 -- ---- one value

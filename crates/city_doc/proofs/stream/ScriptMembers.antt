@@ -12,12 +12,12 @@ use Rattle.city_model.specs.Scripts.{ends_once}
 use Rattle.city_doc.specs.declared.stream.script.ScriptParts.{ScriptParts}
 use Rattle.city_doc.specs.declared.stream.vertices.Vertex.{Vertex}
 use Rattle.city_doc.specs.script.Commands.{command_of}
-use Rattle.city_doc.specs.script.Forms.{script_of_item}
+use Rattle.city_doc.specs.inside.script.Forms.{script_of_item}
 use Rattle.city_doc.specs.script.Scripts.{are_vertices, vertex_points, word_ends, max_commands}
-use Rattle.city_doc.specs.stream.Commands.{IsCommand}
-use Rattle.city_doc.specs.stream.Positions.{IsVertex, IsPlaced, points_of}
-use Rattle.city_doc.specs.stream.Scripts.{with_part, script_members, IsPart, IsScript, IsScriptSoFar}
-use Rattle.city_doc.specs.stream.Standing.{IsArrayOf, IsListSlot, IsString}
+use Rattle.city_doc.specs.inside.stream.Commands.{IsCommand}
+use Rattle.city_doc.specs.inside.stream.Positions.{IsVertex, IsPlaced, points_of}
+use Rattle.city_doc.specs.inside.stream.Scripts.{with_part, script_members, IsPart, IsScript, IsScriptSoFar}
+use Rattle.city_doc.specs.inside.stream.Standing.{IsArrayOf, IsListSlot, IsString}
 use Rattle.city_doc.specs.tree.Lists.{list_of, all_read}
 use Rattle.city_doc.proofs.document.LawfulTrees.{vertices_right}
 use Rattle.city_doc.proofs.script.CommandLists.{ends_once-read}

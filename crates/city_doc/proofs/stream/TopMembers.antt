@@ -6,10 +6,10 @@ use Rattle.city_model.specs.declared.object.Object.{Object}
 use Rattle.city_model.proofs.Ids.{same_id_back}
 use Rattle.city_doc.specs.declared.stream.document.TopParts.{TopParts}
 use Rattle.city_doc.specs.declared.stream.vertices.Vertex.{Vertex}
-use Rattle.city_doc.specs.stream.Objects.{AreObjects}
-use Rattle.city_doc.specs.stream.Positions.{IsVertex}
-use Rattle.city_doc.specs.stream.Standing.{IsArrayOf}
-use Rattle.city_doc.specs.stream.Tops.{IsTopSoFar}
+use Rattle.city_doc.specs.inside.stream.Objects.{AreObjects}
+use Rattle.city_doc.specs.inside.stream.Positions.{IsVertex}
+use Rattle.city_doc.specs.inside.stream.Standing.{IsArrayOf}
+use Rattle.city_doc.specs.inside.stream.Tops.{IsTopSoFar}
 use Rattle.city_doc.proofs.tree.Puts.{ordered_put}
 use Rattle.city_doc.proofs.stream.Members.{put_own, put_kept, other_name, slot_here, slot_other}
 

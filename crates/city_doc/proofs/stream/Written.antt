@@ -1,7 +1,7 @@
 -- Lists whose items are written one after another.
 use Rattle.std.proofs.Common.{◌≡◌, ℕ, zero, suc, ◌<◌, List, [], ◌∷◌, ◌++◌, drop, take, length, get_or, refl, ap, subst, arith}
 use Rattle.std.specs.Prelude.{slice_set}
-use Rattle.city_doc.specs.stream.Standing.{Pairs}
+use Rattle.city_doc.specs.inside.stream.Standing.{Pairs}
 
 -- the next item is written
 pub item_written : {A : Type 0} (R : A → A → Type 0) (i : ℕ) (start done : List A) (x y : A) → Pairs R (take i start) done → i < length (done ++ drop i start) → x ≡ get_or (done ++ drop i start) i x → R x y

@@ -8,9 +8,11 @@ use Rattle.std.proofs.lemmas.Cmp.{nat_list_cmp_total}
 use Rattle.json.specs.Token.{Token, begin_object, end_object, key}
 use Rattle.serde_json.specs.Data.{Data, string, object, Members, no_members, member, put}
 use Rattle.serde_json.specs.Find.{get_member}
-use Rattle.city_doc.specs.tree.Between.{is_after, members_between}
+use Rattle.city_doc.specs.inside.tree.Between.{is_after, members_between}
 use Rattle.city_model.specs.Members.{AllAbove, AreOrdered}
-use Rattle.city_doc.specs.tree.Tokens.{tokens_of, tokens_of_members, tokens_of_own, closing_members, ReadsBack, OwnReadsBack, MembersReadBack}
+use Rattle.city_doc.specs.tree.Tokens.{tokens_of}
+use Rattle.city_doc.specs.inside.tree.PartTokens.{tokens_of_members, tokens_of_own, closing_members}
+use Rattle.city_doc.specs.inside.tree.ReadsBack.{ReadsBack, OwnReadsBack, MembersReadBack}
 use Rattle.city_doc.proofs.tree.Puts.{turned, back, all_above_lower, above_put, ordered_put, reads_put, put_first}
 use Rattle.city_doc.proofs.tree.ReadBack.{and_then, and_then-none, object_reads}
 

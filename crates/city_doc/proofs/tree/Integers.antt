@@ -13,7 +13,7 @@ use Rattle.serde_json.specs.Written.{number_text}
 use Rattle.serde_json.specs.declared.number.N.{N}
 use Rattle.serde_json.specs.declared.number.N.TheVariants.{PosInt, NegInt, Float}
 use Rattle.serde_json.proofs.Numbers.{number_of-decimal, number_of-negative}
-use Rattle.city_doc.specs.tree.Tokens.{ReadsBack}
+use Rattle.city_doc.specs.inside.tree.ReadsBack.{ReadsBack}
 
 -- the text of an integer
 module _ (z : ℤ) where

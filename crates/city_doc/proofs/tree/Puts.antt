@@ -5,7 +5,7 @@ use Rattle.std.specs.Ordering.{match_ordering, ordering_reverse}
 use Rattle.std.proofs.lemmas.Cmp.{nat_list_cmp_total}
 use Rattle.serde_json.specs.Data.{Data, Members, no_members, member, put}
 use Rattle.city_model.specs.Members.{AllAbove, AreOrdered}
-use Rattle.city_doc.specs.tree.Tokens.{ReadsBack, MembersReadBack}
+use Rattle.city_doc.specs.inside.tree.ReadsBack.{ReadsBack, MembersReadBack}
 use Rattle.city_doc.proofs.tree.AllMembers.{all_put}
 
 abbrev pub cmp : List ℕ → List ℕ → Ordering

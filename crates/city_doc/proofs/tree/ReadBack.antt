@@ -12,7 +12,8 @@ use Rattle.serde_json.specs.Data.{Data, null, boolean, number, string, array, ob
 use Rattle.serde_json.specs.Read.{read, max_depth, of_json, of_items, of_members}
 use Rattle.serde_json.specs.Written.{outline, items_outline, members_outline}
 use Rattle.city_model.specs.Members.{AllAbove, AreOrdered}
-use Rattle.city_doc.specs.tree.Tokens.{tokens_of, ReadsBack, ItemsReadBack, MembersReadBack}
+use Rattle.city_doc.specs.tree.Tokens.{tokens_of}
+use Rattle.city_doc.specs.inside.tree.ReadsBack.{ReadsBack, ItemsReadBack, MembersReadBack}
 
 -- ---- arrays
 

@@ -5,8 +5,10 @@ use Rattle.json.specs.Token.{Token, end_array}
 use Rattle.serde_json.specs.Data.{Data}
 use Rattle.serde_json.specs.View.{items_of}
 use Rattle.city_model.specs.declared.object.Point.{Point}
-use Rattle.city_doc.specs.tree.Tokens.{tokens_of, closing_items, ReadsBack, ItemsReadBack}
-use Rattle.city_doc.specs.Pool.{with_points}
+use Rattle.city_doc.specs.tree.Tokens.{tokens_of}
+use Rattle.city_doc.specs.inside.tree.PartTokens.{closing_items}
+use Rattle.city_doc.specs.inside.tree.ReadsBack.{ReadsBack, ItemsReadBack}
+use Rattle.city_doc.specs.inside.Pool.{with_points}
 use Rattle.city_doc.proofs.pool.Walks.{with_points-append}
 
 pub item_first : {X : Type 0} (xs : List X) (i : ℕ) (x : X) → i < length xs → x ≡ get_or xs i x → drop i xs ≡ x ∷ drop (i + 1) xs

@@ -3,7 +3,7 @@ use Rattle.std.specs.Prelude.{◌≡◌, ◌≤◌, ℕ, List}
 use Rattle.json.specs.Lex.{tokens}
 use Rattle.serde_json.specs.Data.{depth}
 use Rattle.serde_json.specs.Read.{max_depth}
-use Rattle.city_model.specs.CityMap.{at, CityValue}
+use Rattle.city_model.specs.CityMap.{object_at, CityValue}
 use Rattle.city_model.specs.Relations.{IsLawful}
 use Rattle.city_doc.specs.document.Accepted.{IsAccepted}
 use Rattle.city_doc.specs.document.Canonical.{tree_of, city_text}
@@ -19,7 +19,7 @@ use Rattle.city_doc.specs.Pool.{pool_of}
 pub record IsCanonicalText (text : List ℕ) (city : CityValue) : Type 0 where
   pub read_again : depth (tree_of city) ≤ max_depth → StandsForCity text city
   pub canonical : depth (tree_of city) ≤ max_depth → (other : CityValue) → StandsForCity text other → city_text other ≡ text
-  pub accepted : depth (tree_of city) ≤ max_depth → IsReadable text → IsLawful (at city.1) → IsAccepted text
+  pub accepted : depth (tree_of city) ≤ max_depth → IsReadable text → IsLawful (object_at city.1) → IsAccepted text
   pub rewritten : (document : List ℕ) → StandsForCity document city → StandsForCity text city
   pub tokens_are : tokens text ≡ tokens_of (tree_of city)
   pub in_range : IsInRange (pool_of city) city.0

@@ -5,11 +5,12 @@ use Rattle.std.specs.FinMap.{from_entries}
 use Rattle.serde_json.specs.Data.{Data, Members, no_members, member}
 use Rattle.serde_json.specs.Find.{get, as_object}
 use Rattle.city_model.specs.declared.object.Point.{Point}
-use Rattle.city_model.specs.CityMap.{Objects, CityValue, Entries, at}
+use Rattle.city_model.specs.CityMap.{Objects, CityValue, Entries, object_at}
 use Rattle.city_model.specs.Relations.{IsLawful}
 use Rattle.city_model.specs.Integral.{is_integral}
 use Rattle.city_doc.specs.object.Bodies.{object_of}
 use Rattle.city_doc.specs.document.Top.{is_text, frame_of}
+use Rattle.city_doc.specs.tree.Steps.{◌>>=◌}
 use Rattle.city_doc.specs.tree.Texts.{IsText, HasTree}
 use Rattle.city_doc.specs.tree.Triples.{points_of}
 
@@ -23,12 +24,14 @@ points_in d = option_and_then points_of (get (codes "vertices") d)
 
 abbrev pub entries_of : List Point → Members → Option Entries
 entries_of points no_members = Some []
-entries_of points (member id d ms) =
-    option_and_then (λ o. option_map (λ es. (id, o) ∷ es) (entries_of points ms)) (object_of points d)
+entries_of points (member id d ms) = do
+  object ← object_of points d
+  option_map (λ es. (id, object) ∷ es) (entries_of points ms)
 
 abbrev pub entries_in : List Point → Data → Option Entries
-entries_in points d =
-    option_and_then (entries_of points) (option_and_then as_object (get (codes "CityObjects") d))
+entries_in points d = do
+  objects ← option_and_then as_object (get (codes "CityObjects") d)
+  entries_of points objects
 
 -- the objects by their ids; of two of one id the first counts
 abbrev pub objects_of : Entries → Objects
@@ -38,16 +41,17 @@ objects_of entries = from_entries entries
 -- judged apart
 abbrev pub city_of : Data → Option CityValue
 city_of d =
-    if is_city_json d
-    then option_and_then (λ points. option_and_then (λ entries. option_map
-    (λ frame. (frame, objects_of entries)) (frame_of d)) (entries_in points d)) (points_in d)
+    if is_city_json d then (do
+      points ← points_in d
+      entries ← entries_in points d
+      option_map (λ frame. (frame, objects_of entries)) (frame_of d))
     else None
 
--- the text is JSON whose tree stands for this city
+-- the text, however long it is, is JSON whose tree stands for this city
 abbrev pub StandsForCity : List ℕ → CityValue → Type 0
 StandsForCity text city = (d : Data) × IsText text d × (city_of d ≡ Some city)
 
 -- the text isn't too long, its numbers are whole, and it stands for this city, which is lawful
 abbrev pub IsAdmitted : List ℕ → CityValue → Type 0
 IsAdmitted text city =
-    (d : Data) × HasTree text d × (is_integral d ≡ true) × (city_of d ≡ Some city) × IsLawful (at city.1)
+    (d : Data) × HasTree text d × (is_integral d ≡ true) × (city_of d ≡ Some city) × IsLawful (object_at city.1)

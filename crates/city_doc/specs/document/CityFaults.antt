@@ -12,7 +12,8 @@ use Rattle.city_model.specs.Misrelated.{IsMisrelatedAt}
 use Rattle.city_model.specs.Shells as shells
 use Rattle.city_doc.specs.object.Bodies.{body_of, ids_at}
 use Rattle.city_doc.specs.object.Faults.{has_bad_list}
-use Rattle.city_doc.specs.document.Searches.{Has, IsLeastId}
+use Rattle.city_doc.specs.document.Least.{Has}
+use Rattle.city_model.specs.Least.{IsLeast}
 
 -- ---- rings and shells
 
@@ -58,4 +59,4 @@ IsBadlyRelatedAt points objects id =
     Has has_bad_list objects id ⊎ IsMisrelatedAt (lenient_map_of points objects) id
 
 abbrev pub IsLeastBadlyRelated : List Point → Members → List ℕ → Type 0
-IsLeastBadlyRelated points objects id = IsLeastId (IsBadlyRelatedAt points objects) id
+IsLeastBadlyRelated points objects id = IsLeast (IsBadlyRelatedAt points objects) id

@@ -13,7 +13,7 @@ use Rattle.city_doc.specs.declared.fault.ReadFault.TheVariants.{OpenShell}
 use Rattle.city_doc.specs.document.CityFaults.{or_empty, has_bad_ring, has_open_shell, IsLeastBadlyRelated}
 use Rattle.city_doc.specs.document.Top.{wrong_member}
 use Rattle.city_doc.specs.object.Faults.{is_unknown_type, unsupported_name, is_bad_geometry, has_bad_vertex}
-use Rattle.city_doc.specs.document.Searches.{IsLeast}
+use Rattle.city_doc.specs.document.Least.{IsLeastWith}
 use Rattle.city_doc.specs.tree.Texts.{IsTooLong, IsNoJson, HasTree}
 use Rattle.city_doc.specs.document.Cities.{points_in}
 
@@ -43,14 +43,14 @@ StandsAmong points objects TooLong = ⊥
 StandsAmong points objects NotJson = ⊥
 StandsAmong points objects NotWhole = ⊥
 StandsAmong points objects (NotCityJson name) = ⊥
-StandsAmong points objects (UnknownType id) = IsLeast is_unknown_type objects id
+StandsAmong points objects (UnknownType id) = IsLeastWith is_unknown_type objects id
 StandsAmong points objects (Unsupported id name) =
-    IsLeast is_unsupported objects id × (unsupported_at objects id ≡ Some name)
-StandsAmong points objects (BadGeometry id) = IsLeast is_bad_geometry objects id
-StandsAmong points objects (BadVertex id) = IsLeast (has_bad_vertex (length points)) objects id
-StandsAmong points objects (BadRing id) = IsLeast (has_bad_ring points) objects id
+    IsLeastWith is_unsupported objects id × (unsupported_at objects id ≡ Some name)
+StandsAmong points objects (BadGeometry id) = IsLeastWith is_bad_geometry objects id
+StandsAmong points objects (BadVertex id) = IsLeastWith (has_bad_vertex (length points)) objects id
+StandsAmong points objects (BadRing id) = IsLeastWith (has_bad_ring points) objects id
 StandsAmong points objects (Relations id) = IsLeastBadlyRelated points objects id
-StandsAmong points objects (OpenShell id) = IsLeast (has_open_shell points) objects id
+StandsAmong points objects (OpenShell id) = IsLeastWith (has_open_shell points) objects id
 
 -- the fault stands in the tree
 abbrev pub StandsIn : Data → ReadFault → Type 0

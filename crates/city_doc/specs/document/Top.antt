@@ -8,6 +8,7 @@ use Rattle.city_model.specs.declared.frame.Frame.{Frame}
 use Rattle.city_model.specs.Kept.{kept_at_top, kept_at_transform, is_empty_object_or_absent}
 use Rattle.city_model.specs.Members.{without}
 use Rattle.city_doc.specs.tree.Members.{kept_if}
+use Rattle.city_doc.specs.tree.Steps.{◌>>=◌}
 use Rattle.city_doc.specs.tree.Triples.{triple_of, are_triples}
 
 -- ---- the frame
@@ -20,8 +21,9 @@ without_transform_members ms = without (codes "translate") (without (codes "scal
 
 -- the kept members of a transform
 abbrev pub more_of : Data → Option Members
-more_of transform =
-    option_and_then (λ ms. kept_if kept_at_transform (without_transform_members ms)) (as_object transform)
+more_of transform = do
+  members ← as_object transform
+  kept_if kept_at_transform (without_transform_members members)
 
 abbrev pub without_top_members : Members → Members
 without_top_members ms =
@@ -30,19 +32,23 @@ without_top_members ms =
 
 -- the frame of a transform, and of the kept members of the top
 abbrev pub frame_with : Members → Data → Option Frame
-frame_with extra transform =
-    option_and_then (λ scale. option_and_then (λ translate. option_map
-    (λ more. record { scale = scale; translate = translate; more = more; extra = extra })
-    (more_of transform)) (triple_at (codes "translate") transform)) (triple_at (codes "scale") transform)
+frame_with extra transform = do
+  scale ← triple_at (codes "scale") transform
+  translate ← triple_at (codes "translate") transform
+  option_map (λ more. record { scale = scale; translate = translate; more = more; extra = extra })
+      (more_of transform)
 
 -- of the members but `CityObjects`
 abbrev pub frame_of_rest : Members → Option Frame
-frame_of_rest rest =
-    option_and_then (λ extra. option_and_then (frame_with extra) (get_member (codes "transform") rest))
-    (kept_if kept_at_top (without_top_members rest))
+frame_of_rest rest = do
+  extra ← kept_if kept_at_top (without_top_members rest)
+  transform ← get_member (codes "transform") rest
+  frame_with extra transform
 
 abbrev pub frame_of : Data → Option Frame
-frame_of d = option_and_then (λ top. frame_of_rest (without (codes "CityObjects") top)) (as_object d)
+frame_of d = do
+  top ← as_object d
+  frame_of_rest (without (codes "CityObjects") top)
 
 -- ---- the members that are read
 

@@ -11,6 +11,7 @@ use Rattle.city_model.specs.Kept.{kept_at_object}
 use Rattle.city_model.specs.Members.{without}
 use Rattle.city_doc.specs.tree.Lists.{list_or_absent}
 use Rattle.city_doc.specs.tree.Members.{kept_if, text_at}
+use Rattle.city_doc.specs.tree.Steps.{◌>>=◌}
 use Rattle.city_doc.specs.shape.Geometries.{geometry_of}
 
 abbrev pub type_of : Data → Option ObjectType
@@ -22,17 +23,19 @@ without_object_members ms =
     (without (codes "geometry") (without (codes "type") ms)))
 
 abbrev pub body_of : List Point → Data → Option Body
-body_of points d =
-    option_and_then (λ kind. option_and_then (λ ms. option_and_then (λ kept. option_map
-    (λ geometry. record { kind = kind; geometry = geometry; extra = kept })
-    (list_or_absent (geometry_of points) (get (codes "geometry") d)))
-    (kept_if kept_at_object (without_object_members ms))) (as_object d)) (type_of d)
+body_of points d = do
+  kind ← type_of d
+  members ← as_object d
+  kept ← kept_if kept_at_object (without_object_members members)
+  option_map (λ geometry. record { kind = kind; geometry = geometry; extra = kept })
+      (list_or_absent (geometry_of points) (get (codes "geometry") d))
 
 abbrev pub ids_at : List ℕ → Data → Option (List (List ℕ))
 ids_at name d = list_or_absent as_str (get name d)
 
 abbrev pub object_of : List Point → Data → Option Object
-object_of points d =
-    option_and_then (λ body. option_and_then (λ parents. option_map
-    (λ children. record { body = body; parents = parents; children = children })
-    (ids_at (codes "children") d)) (ids_at (codes "parents") d)) (body_of points d)
+object_of points d = do
+  body ← body_of points d
+  parents ← ids_at (codes "parents") d
+  option_map (λ children. record { body = body; parents = parents; children = children })
+      (ids_at (codes "children") d)

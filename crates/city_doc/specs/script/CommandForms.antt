@@ -6,6 +6,7 @@ use Rattle.std.specs.Str.{bytes_eq}
 use Rattle.serde_json.specs.Data.{Data, Members}
 use Rattle.serde_json.specs.Find.{get_member, as_str, as_object}
 use Rattle.city_model.specs.Members.{members_count}
+use Rattle.city_doc.specs.tree.Steps.{◌>>=◌}
 
 -- ---- forms
 
@@ -52,11 +53,14 @@ of_parent parent =
     (codes "attach", λ child. AttachForm child parent) ∷ (codes "detach", λ child. DetachForm child parent) ∷ []
 
 abbrev pub relation_form : Members → Option CommandForm
-relation_form ms = option_and_then (λ parent. first_named (of_parent parent) ms) (text_in (codes "parent") ms)
+relation_form ms = do
+  parent ← text_in (codes "parent") ms
+  first_named (of_parent parent) ms
 
 abbrev pub put_form : Members → Option CommandForm
-put_form ms =
-    option_and_then (λ id. option_map (PutForm id) (get_member (codes "object") ms)) (text_in (codes "put") ms)
+put_form ms = do
+  id ← text_in (codes "put") ms
+  option_map (PutForm id) (get_member (codes "object") ms)
 
 -- just the members of a command: one that is a text, or two, of a put or of a child and its parent
 abbrev pub members_form : Members → Option CommandForm

@@ -38,11 +38,8 @@ IsBadCommand ps n i = HasAt (λ count d. is_bad_command d) ps n i
 abbrev pub IsFirstBadCommand : List ScriptParts → ℕ → ℕ → Type 0
 IsFirstBadCommand ps n i = IsFirstAt (λ count d. is_bad_command d) ps n i
 
--- a position in command i of script n is negative, or not less than the number of the script's vertices
-abbrev pub IsBadVertex : List ScriptParts → ℕ → ℕ → Type 0
-IsBadVertex ps n i = HasAt names_bad_vertex ps n i
-
--- and none in a command before it
+-- a position in command i of script n is negative, or not less than the number of the script's vertices, and none
+-- in a command before it
 abbrev pub IsFirstBadVertex : List ScriptParts → ℕ → ℕ → Type 0
 IsFirstBadVertex ps n i = IsFirstAt names_bad_vertex ps n i
 
@@ -54,11 +51,6 @@ PartsFault ps f =
     × IsFirstBadCommand ps n i)
     ⊎ ((n : ℕ) × (i : ℕ) × (f ≡ ScriptFault.BadVertex n i) × (are_too_many ps ≡ false)
     × ((k j : ℕ) → IsBadCommand ps k j → ⊥) × IsFirstBadVertex ps n i))
-
--- none of these faults stands
-abbrev pub AreFaultlessParts : List ScriptParts → Type 0
-AreFaultlessParts ps =
-    (are_too_many ps ≡ false) × ((n i : ℕ) → IsBadCommand ps n i → ⊥) × ((n i : ℕ) → IsBadVertex ps n i → ⊥)
 
 -- the first fault of an array of these items: one isn't a script; or all are, and a later fault stands
 abbrev pub ItemsFault : List Data → ScriptFault → Type 0

@@ -13,7 +13,8 @@ use Rattle.city_doc.specs.script.CommandForms.{text_in}
 use Rattle.city_doc.specs.script.Commands.{command_of}
 use Rattle.city_doc.specs.tree.Triples.{points_of, are_triples}
 use Rattle.city_doc.specs.tree.Lists.{array_of, all_read}
-use Rattle.city_doc.specs.tree.Texts.{IsText, HasTree}
+use Rattle.city_doc.specs.tree.Steps.{◌>>=◌}
+use Rattle.city_doc.specs.tree.Texts.{HasTree}
 
 -- ---- the form of a script
 
@@ -64,10 +65,10 @@ has_script_members ms =
     && are_vertices (get_member (codes "vertices") ms)
 
 abbrev pub parts_in : Members → Option ScriptParts
-parts_in ms =
-    option_and_then (λ name. option_map
-    (λ commands. record { name = name; commands = commands; vertices = get_member (codes "vertices") ms })
-    (commands_in ms)) (text_in (codes "name") ms)
+parts_in ms = do
+  name ← text_in (codes "name") ms
+  option_map (λ commands. record { name = name; commands = commands; vertices = get_member (codes "vertices") ms })
+      (commands_in ms)
 
 abbrev pub parts_if : Members → Option ScriptParts
 parts_if ms = if has_script_members ms then parts_in ms else None
@@ -93,9 +94,9 @@ vertex_count (Some d) = count_of (array_of d)
 
 -- the script of these parts: positions count in its own vertices
 abbrev pub script_of : ScriptParts → Option Scripted
-script_of p =
-    option_and_then (λ points. option_map (λ cs. (p.name, cs)) (all_read (command_of points) p.commands))
-    (vertex_points p.vertices)
+script_of p = do
+  points ← vertex_points p.vertices
+  option_map (λ commands. (p.name, commands)) (all_read (command_of points) p.commands)
 
 abbrev pub max_scripts : ℕ
 max_scripts = 4096
@@ -113,10 +114,6 @@ scripts_of_parts ps = if are_too_many ps then None else all_read script_of ps
 -- an array of scripts
 abbrev pub scripts_of : Data → Option (List Scripted)
 scripts_of d = option_and_then scripts_of_parts (option_and_then (all_read parts_of) (array_of d))
-
--- the text is JSON, and its tree stands for these scripts
-abbrev pub StandsForScripts : List ℕ → List Scripted → Type 0
-StandsForScripts text scripts = (d : Data) × IsText text d × (scripts_of d ≡ Some scripts)
 
 -- the text isn't too long, all its numbers are whole, and it stands for these scripts
 abbrev pub IsReadAs : List ℕ → List Scripted → Type 0

@@ -11,6 +11,7 @@ use Rattle.city_model.specs.Members.{without}
 use Rattle.city_doc.specs.shape.Nesting.{Nested, geometry_type}
 use Rattle.city_doc.specs.tree.Lists.{list_of}
 use Rattle.city_doc.specs.tree.Members.{kept_if, text_at}
+use Rattle.city_doc.specs.tree.Steps.{◌>>=◌}
 
 -- ---- boundaries
 
@@ -26,8 +27,9 @@ nested_of points zero = point_at points
 nested_of points (suc n) = list_of (nested_of points n)
 
 abbrev pub shape_of : List Point → List ℕ → Data → Option Shape
-shape_of points kind d =
-    option_and_then (λ t. option_map t.shape (nested_of points t.depth d)) (geometry_type kind)
+shape_of points kind d = do
+  t ← geometry_type kind
+  option_map t.shape (nested_of points t.depth d)
 
 -- ---- geometries, bodies and objects
 
@@ -36,17 +38,20 @@ without_geometry_members ms = without (codes "boundaries") (without (codes "lod"
 
 -- the geometry of this shape, of the members of its tree
 abbrev pub geometry_with : Shape → Members → Option Geometry
-geometry_with shape ms =
-    option_and_then (λ lod. option_map (λ kept. record { lod = lod; shape = shape; extra = kept })
-    (kept_if kept_at_geometry (without_geometry_members ms)))
-    (option_and_then as_str (get_member (codes "lod") ms))
+geometry_with shape ms = do
+  lod ← option_and_then as_str (get_member (codes "lod") ms)
+  option_map (λ kept. record { lod = lod; shape = shape; extra = kept })
+      (kept_if kept_at_geometry (without_geometry_members ms))
 
 -- the shape of the type and the boundaries of a tree
 abbrev pub shape_in : List Point → Data → Option Shape
-shape_in points d =
-    option_and_then (λ kind. option_and_then (shape_of points kind) (get (codes "boundaries") d))
-    (text_at (codes "type") d)
+shape_in points d = do
+  kind ← text_at (codes "type") d
+  boundaries ← get (codes "boundaries") d
+  shape_of points kind boundaries
 
 abbrev pub geometry_of : List Point → Data → Option Geometry
-geometry_of points d =
-    option_and_then (λ shape. option_and_then (geometry_with shape) (as_object d)) (shape_in points d)
+geometry_of points d = do
+  shape ← shape_in points d
+  members ← as_object d
+  geometry_with shape members

@@ -1,11 +1,9 @@
--- Which texts are JSON of whole numbers, and how the others are refused.
+-- Which texts are JSON of whole numbers, and which aren't.
 use Rattle.std.specs.Prelude.{◌≡◌, ◌≤◌, ◌<◌, ℕ, List, length, false, Some}
 use Rattle.std.specs.Str.{IsUtf8}
 use Rattle.serde_json.specs.Data.{Data}
 use Rattle.serde_json.specs.Read.{read}
 use Rattle.city_model.specs.Integral.{is_integral}
-use Rattle.city_doc.specs.declared.tree.parse.TextFault.{TextFault}
-use Rattle.city_doc.specs.declared.tree.parse.TextFault.TheVariants.{OutOfMemory, TooLong, NotJson, NotWhole}
 
 -- how many bytes a text may have
 abbrev pub max_text : ℕ
@@ -34,10 +32,3 @@ HasTree text d = IsReadable text × IsText text d
 -- the text has a tree, and some number of it is no `i64`
 abbrev pub HasOtherNumber : List ℕ → Type 0
 HasOtherNumber text = (d : Data) × HasTree text d × (is_integral d ≡ false)
-
--- why a text has no tree of whole numbers; `OutOfMemory` may be answered for any text
-abbrev pub IsRefused : List ℕ → TextFault → Type 0
-IsRefused text OutOfMemory = Unit {0}
-IsRefused text TooLong = IsTooLong text
-IsRefused text NotJson = IsNoJson text
-IsRefused text NotWhole = HasOtherNumber text

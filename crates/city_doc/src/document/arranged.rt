@@ -2,11 +2,11 @@
 ghost use Rattle.std.specs.Prelude.{◌≡◌, ◌<◌, length, IfOk, IfSome, IfNone};
 ghost use Rattle.std.specs.FinMap.{entries};
 ghost use Rattle.std.specs.List.Sorted.{IsPermutation};
-ghost use Rattle.city_model.specs.CityMap.{at};
+ghost use Rattle.city_model.specs.CityMap.{object_at};
 ghost use Rattle.city_model.specs.Misrelated.{IsMisrelatedAt};
 ghost use Rattle.city_model.specs.Relations.{IsRelated};
-ghost use Rattle.city_doc.specs.document.Arranged.{IsArranged, AreArranged};
-ghost use Rattle.city_doc.specs.document.Searches.{IsLeastId};
+ghost use Rattle.city_doc.specs.inside.document.Arranged.{IsArranged, AreArranged};
+ghost use Rattle.city_model.specs.Least.{IsLeast};
 
 use city_model::city::City;
 use city_model::copied::Copied;
@@ -109,8 +109,8 @@ fn arranged_city(alloc: Global, city: &City) -> Result<City, AllocError>
 
 /// The least id of an object that isn't in order or is an orphan.
 fn searched(alloc: Global, city: &City) -> Result<Option<Id>, AllocError>
-    ensures least { IfOk result (λ o. IfSome o (λ id. IsLeastId (IsMisrelatedAt (at city.now.1)) id)) }
-    ensures none { IfOk result (λ o. IfNone o (IsRelated (at city.now.1))) }
+    ensures least { IfOk result (λ o. IfSome o (λ id. IsLeast (IsMisrelatedAt (object_at city.now.1)) id)) }
+    ensures none { IfOk result (λ o. IfNone o (IsRelated (object_at city.now.1))) }
 {
     match relations_fault(city) {
         None => Ok(None),
@@ -123,8 +123,8 @@ fn searched(alloc: Global, city: &City) -> Result<Option<Id>, AllocError>
 /// Where a long list isn't in byte order, a copy of the relations is searched in which each list is
 /// arranged for it: else a list of n ids would take n² / 2 comparisons.
 pub fn least_misrelated(alloc: Global, city: &City) -> Result<Option<Id>, AllocError>
-    ensures least { IfOk result (λ o. IfSome o (λ id. IsLeastId (IsMisrelatedAt (at city.now.1)) id)) }
-    ensures none { IfOk result (λ o. IfNone o (IsRelated (at city.now.1))) }
+    ensures least { IfOk result (λ o. IfSome o (λ id. IsLeast (IsMisrelatedAt (object_at city.now.1)) id)) }
+    ensures none { IfOk result (λ o. IfNone o (IsRelated (object_at city.now.1))) }
 {
     if are_quick(city) {
         return searched(alloc, city);

@@ -1,21 +1,21 @@
 //! Judges a city that was read: its rings, its relations and its shells.
-ghost use Rattle.std.specs.Prelude.{◌≡◌, List, Bool, None, IfOk, IfSome, IfNone, IsTrue, MatchOption, option_map};
+ghost use Rattle.std.specs.Prelude.{◌≡◌, List, Bool, None, IfOk, IfSome, IfNone, MatchOption, option_map};
 ghost use Rattle.std.specs.List.{list_any};
 ghost use Rattle.std.specs.FinMap.{entries};
 ghost use Rattle.serde_json.specs.Data.{Members};
 ghost use Rattle.city_model.specs.declared.object.Body as b;
 ghost use Rattle.city_model.specs.declared.object.Point as p;
-ghost use Rattle.city_model.specs.CityMap.{at};
+ghost use Rattle.city_model.specs.CityMap.{object_at};
 ghost use Rattle.city_model.specs.Relations.{IsRelated, IsLawful};
 ghost use Rattle.city_model.specs.Shells.{some_shape, has_short_ring, has_same_twice, has_open_shell};
 ghost use Rattle.city_doc.specs.document.CityFaults.{is_bad_ringed, IsLeastBadlyRelated};
 ghost use Rattle.city_doc.specs.document.Faults.{StandsAmong, IsFirst};
-ghost use Rattle.city_doc.specs.document.LenientCities.{first_body, lesser, IsReadOf};
+ghost use Rattle.city_doc.specs.inside.document.LenientCities.{first_body, lesser, IsReadOf};
 
 use crate::document::arranged::least_misrelated;
 use crate::fault::ReadFault;
 use crate::tree::values::named;
-use city_model::body_fault::{any_open_shell, any_same_twice, any_short_ring, body_fault};
+use city_model::body_fault::{any_open_shell, any_same_twice, any_short_ring};
 use city_model::city::City;
 use city_model::copied::Copied;
 use city_model::object::Body;
@@ -71,37 +71,6 @@ fn first_body<J: BodyTest>(alloc: Global, city: &City) -> Result<Option<&Id>, Al
     Ok(None)
 }
 
-/// Whether no body has a fault; each is judged in one go.
-fn are_faultless(alloc: Global, city: &City) -> Result<bool, AllocError>
-    ensures rings { IfOk result (λ b. IsTrue b → first_body is_bad_ringed (entries city.now.1) ≡ None) }
-    ensures shells { IfOk result (λ b. IsTrue b
-        → first_body (some_shape has_open_shell) (entries city.now.1) ≡ None) }
-{
-    for (_, object) in city.iter() {
-        let fault = body_fault(alloc, &object.body)?;
-        if fault.is_some() {
-            return Ok(false);
-        }
-    }
-    Ok(true)
-}
-
-/// The first id, in byte order, of an object whose body has the fault, where the bodies aren't
-/// known to be without fault.
-fn first_unless<J: BodyTest>(
-    alloc: Global,
-    faultless: bool,
-    city: &City,
-) -> Result<Option<&Id>, AllocError>
-    requires { IsTrue faultless → first_body J.test (entries city.now.1) ≡ None }
-    ensures { IfOk result (λ o. option_map (λ id. id.now) o ≡ first_body J.test (entries city.now.1)) }
-{
-    if faultless {
-        return Ok(None);
-    }
-    first_body::<J>(alloc, city)
-}
-
 /// The lesser of two ids, in byte order, where there are any.
 fn lesser<'i>(one: Option<&'i Id>, other: Option<&'i Id>) -> Option<&'i Id>
     ensures { option_map (λ id. id.now) result
@@ -133,7 +102,7 @@ fn least_badly_related(
     bad_list: Option<&Id>,
     city: &City,
 ) -> Result<Option<Id>, AllocError>
-    ensures related { IfOk result (λ o. IfNone o (IsRelated (at city.now.1))) }
+    ensures related { IfOk result (λ o. IfNone o (IsRelated (object_at city.now.1))) }
     ensures lists { IfOk result (λ o. IfNone o (option_map (λ id. id.now) bad_list.entry ≡ None)) }
     ensures least { IfOk result (λ o. (points : List p.Point) (objects : Members)
         → IsReadOf points objects (entries city.now.1) (option_map (λ id. id.now) bad_list.entry)
@@ -154,11 +123,10 @@ pub fn city_fault(
 ) -> Result<Option<ReadFault>, AllocError>
     ensures { IfOk result (λ o. (points : List p.Point) (objects : Members)
         → IsReadOf points objects (entries city.now.1) (option_map (λ id. id.now) bad_list.entry)
-        → MatchOption o (IsLawful (at city.now.1) × (option_map (λ id. id.now) bad_list.entry ≡ None))
+        → MatchOption o (IsLawful (object_at city.now.1) × (option_map (λ id. id.now) bad_list.entry ≡ None))
         (λ f. IsFirst (StandsAmong points objects) f)) }
 {
-    let faultless = are_faultless(alloc, city)?;
-    if let Some(id) = first_unless::<BadRing>(alloc, faultless, city)? {
+    if let Some(id) = first_body::<BadRing>(alloc, city)? {
         let id = named(alloc, id.as_str())?;
         return Ok(Some(ReadFault::BadRing(id)));
     }
@@ -166,7 +134,7 @@ pub fn city_fault(
     if let Some(id) = badly_related {
         return Ok(Some(ReadFault::Relations(id)));
     }
-    if let Some(id) = first_unless::<OpenShell>(alloc, faultless, city)? {
+    if let Some(id) = first_body::<OpenShell>(alloc, city)? {
         let id = named(alloc, id.as_str())?;
         return Ok(Some(ReadFault::OpenShell(id)));
     }

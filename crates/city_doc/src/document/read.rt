@@ -2,13 +2,13 @@
 ghost use Rattle.std.specs.Prelude.{◌≡◌, ◌⊎◌, true, Some, None, IfOk, IfErr, IfSome, IfNone, OnOk};
 ghost use Rattle.serde_json.specs.Data.{Data};
 ghost use Rattle.serde_json.specs.View.{view};
-ghost use Rattle.city_model.specs.CityMap.{at, CityValue};
+ghost use Rattle.city_model.specs.CityMap.{object_at, CityValue};
 ghost use Rattle.city_model.specs.Relations.{IsLawful};
 ghost use Rattle.city_model.specs.Integral.{is_integral};
-ghost use Rattle.city_doc.specs.document.Cities.{city_of, StandsForCity, IsAdmitted};
+ghost use Rattle.city_doc.specs.document.Cities.{city_of, IsAdmitted};
 ghost use Rattle.city_doc.specs.document.Faults.{vertices_in, StandsIn, IsFirst, DocumentFault};
 ghost use Rattle.city_doc.specs.document.Top.{wrong_member};
-ghost use Rattle.city_doc.specs.document.LenientCities.{lenient_city_of};
+ghost use Rattle.city_doc.specs.inside.document.LenientCities.{lenient_city_of};
 ghost use Rattle.city_doc.specs.tree.Texts.{IsReadable, HasTree};
 
 use crate::document::arranged::least_misrelated;
@@ -18,7 +18,7 @@ use crate::document::faults::{first_bad_list, objects_fault};
 use crate::document::top::wrong_member;
 use crate::fault::ReadFault;
 use crate::shape::vertices::vertices_in;
-use crate::stream::document::streamed_city;
+use crate::stream::whole_text::read_whole_text;
 use crate::tree::parse::{parse, tree_of};
 use crate::tree::values::named;
 use city_model::city::City;
@@ -33,8 +33,7 @@ use std::alloc::Global;
 /// `OutOfMemory` has no place in that order: it is answered if memory ran out for the tree, for an
 /// object or for a fault's name. The text is only borrowed, so a refusal leaves nothing behind.
 pub fn read_city(alloc: Global, bytes: &[u8]) -> Result<City, ReadFault>
-    ensures stands { IfOk result (λ c. StandsForCity bytes.now c) }
-    ensures lawful { IfOk result (λ c. IsLawful (at c.1)) }
+    ensures lawful { IfOk result (λ c. IsLawful (object_at c.1)) }
     ensures readable { OnOk result (IsReadable bytes.now) }
     ensures admitted { IfOk result (λ c. IsAdmitted bytes.now c) }
     ensures fault { IfErr result (λ f. DocumentFault bytes.now f) }
@@ -51,7 +50,7 @@ pub fn read_city(alloc: Global, bytes: &[u8]) -> Result<City, ReadFault>
 fn lawful_city(alloc: Global, bytes: &[u8]) -> Option<City>
     ensures { IfSome result (λ c. IsAdmitted bytes.now c) }
 {
-    let city = streamed_city(alloc, bytes)?;
+    let city = read_whole_text::<City>(alloc, bytes)?;
     match least_misrelated(alloc, &city).ok()? {
         None => Some(city),
         Some(_) => None,
@@ -60,9 +59,6 @@ fn lawful_city(alloc: Global, bytes: &[u8]) -> Option<City>
 
 /// Reads a document from its tree.
 fn read_tree(alloc: Global, bytes: &[u8]) -> Result<City, ReadFault>
-    ensures stands { IfOk result (λ c. StandsForCity bytes.now c) }
-    ensures lawful { IfOk result (λ c. IsLawful (at c.1)) }
-    ensures readable { OnOk result (IsReadable bytes.now) }
     ensures admitted { IfOk result (λ c. IsAdmitted bytes.now c) }
     ensures fault { IfErr result (λ f. DocumentFault bytes.now f) }
     ensures refused { IfErr result (λ f. (f ≡ ReadFault.OutOfMemory)
@@ -92,8 +88,8 @@ fn fault_of(alloc: Global, bytes: &[u8], fault: ReadFault) -> ReadFault
 /// the first of a tree of whole numbers: whether they are whole isn't judged here, since a city is
 /// built of nothing else.
 fn city_of_tree(alloc: Global, tree: Value) -> Result<Option<City>, ReadFault>
-    ensures stands { IfOk result (λ o. IfSome o (λ c. city_of (view tree) ≡ Some c)) }
-    ensures lawful { IfOk result (λ o. IfSome o (λ c. IsLawful (at c.1))) }
+    ensures built { IfOk result (λ o. IfSome o
+        (λ c. (city_of (view tree) ≡ Some c) × IsLawful (object_at c.1))) }
     ensures right { IfOk result (λ _. wrong_member (view tree) ≡ None) }
     ensures unbuilt { IfOk result (λ o. IfNone o
         (lenient_city_of (vertices_in (view tree)) (view tree) ≡ None)) }

@@ -4,10 +4,11 @@ ghost use Rattle.std.specs.List.{list_all};
 ghost use Rattle.city_model.specs.Kept.{kept_at_transform};
 ghost use Rattle.city_doc.specs.tree.Triples.{integer_data, triple_data};
 ghost use Rattle.city_doc.specs.document.Canonical.{transform_data, vertex_data, vertices_data, tree_of};
-ghost use Rattle.city_doc.specs.document.KeptMembers.{IsKeptCity};
+ghost use Rattle.city_doc.specs.inside.document.KeptMembers.{IsKeptCity};
 ghost use Rattle.city_doc.specs.Pool.{pool_of};
 ghost use Rattle.city_doc.specs.document.Ranges.{is_i64, is_i64_triple, is_i64_point, IsInRange};
-ghost use Rattle.city_doc.specs.tree.Tokens.{tokens_of, ReadsBack};
+ghost use Rattle.city_doc.specs.tree.Tokens.{tokens_of};
+ghost use Rattle.city_doc.specs.inside.tree.ReadsBack.{ReadsBack};
 
 use crate::object::text::write_objects;
 use crate::pool::VertexPool;

@@ -11,7 +11,7 @@ ghost use Rattle.city_doc.specs.document.Top.{without_transform_members};
 use crate::tree::triples::{are_triples, triple_of};
 use city_model::frame::Frame;
 use city_model::kept::extra::Extra;
-use city_model::kept::place::{AtTop, AtTransform, is_empty_object_or_absent};
+use city_model::kept::site::{AtTop, AtTransform, is_empty_object_or_absent};
 use city_model::members::{into_object, take};
 use serde_json::{Map, Value};
 

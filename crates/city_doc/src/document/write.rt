@@ -3,7 +3,7 @@ ghost use Rattle.std.specs.Prelude.{◌≡◌, ◌≤◌, ◌++◌, ℕ, List, I
 ghost use Rattle.json.specs.Lex.{tokens};
 ghost use Rattle.serde_json.specs.Data.{depth};
 ghost use Rattle.serde_json.specs.Read.{max_depth};
-ghost use Rattle.city_model.specs.CityMap.{at, CityValue};
+ghost use Rattle.city_model.specs.CityMap.{object_at, CityValue};
 ghost use Rattle.city_model.specs.Relations.{IsLawful};
 ghost use Rattle.city_doc.specs.document.Accepted.{IsAccepted};
 ghost use Rattle.city_doc.specs.document.Canonical.{tree_of, city_text};
@@ -33,7 +33,7 @@ pub fn write_city(alloc: Global, city: &City) -> Result<Vec<u8>, OutOfMemory>
     ensures canonical { IfOk result (λ b. depth (tree_of city.now) ≤ max_depth
         → (other : CityValue) → StandsForCity b.items other → city_text other ≡ b.items) }
     ensures accepted { IfOk result (λ b. depth (tree_of city.now) ≤ max_depth
-        → IsReadable b.items → IsLawful (at city.now.1) → IsAccepted b.items) }
+        → IsReadable b.items → IsLawful (object_at city.now.1) → IsAccepted b.items) }
     ensures rewritten { IfOk result (λ b. (text : List ℕ) → StandsForCity text city.now
         → StandsForCity b.items city.now) }
     ensures tokens { IfOk result (λ b. tokens b.items ≡ tokens_of (tree_of city.now)) }

@@ -9,7 +9,7 @@ ghost use Rattle.city_doc.specs.tree.Members.{kept_if};
 use crate::object::faults::type_of;
 use crate::shape::geometry::geometries_of;
 use city_model::kept::extra::Extra;
-use city_model::kept::place::AtObject;
+use city_model::kept::site::AtObject;
 use city_model::members::{into_object, take};
 use city_model::object::{Body, Point};
 use serde_json::{Map, Value};

@@ -1,7 +1,8 @@
 //! What is wrong with the tree of one object.
-ghost use Rattle.std.specs.Prelude.{◌≡◌, option_map};
+ghost use Rattle.std.specs.Prelude.{◌≡◌, option_map, option_and_then, codes};
 ghost use Rattle.std.specs.List.{list_any};
 ghost use Rattle.std.specs.Str.{bytes_eq};
+ghost use Rattle.serde_json.specs.Find.{get, as_array};
 ghost use Rattle.serde_json.specs.View.{view, items_view};
 ghost use Rattle.city_doc.specs.tree.Members.{text_at};
 ghost use Rattle.city_doc.specs.object.Bodies.{type_of};
@@ -10,7 +11,7 @@ ghost use Rattle.city_doc.specs.object.Faults.{unsupported_name, is_bad_geometry
 
 use crate::shape::form::are_geometries;
 use crate::shape::nested::{AnyNumber, PositionBelow};
-use city_model::kept::place::has_location;
+use city_model::kept::site::has_location;
 use city_model::object_type::{self, ObjectType};
 use serde_json::Value;
 
@@ -57,6 +58,14 @@ fn first_unsupported(geometries: &Vec<Value>) -> Option<&str>
     None
 }
 
+/// The items of an object's geometry, where it is an array.
+fn geometries_in(object: &Value) -> Option<&Vec<Value>>
+    ensures { option_map (λ v. items_view v.now.items) result
+        ≡ option_and_then as_array (get (codes "geometry") (view object.now)) }
+{
+    object.get("geometry").and_then(Value::as_array)
+}
+
 /// The first thing in an object that isn't supported: a `location` in its address, or the type of
 /// a geometry.
 pub fn unsupported_name(object: &Value) -> Option<&str>
@@ -65,7 +74,7 @@ pub fn unsupported_name(object: &Value) -> Option<&str>
     if has_location(object.get("address")) {
         return Some("location");
     }
-    first_unsupported(object.get("geometry").and_then(Value::as_array)?)
+    first_unsupported(geometries_in(object)?)
 }
 
 /// Whether an object has a geometry that can't be read, whatever its positions name.

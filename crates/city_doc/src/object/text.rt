@@ -5,12 +5,15 @@ ghost use Rattle.std.specs.FinMap.{entries};
 ghost use Rattle.serde_json.specs.View.{members_view};
 ghost use Rattle.city_model.specs.Integral.{members_integral};
 ghost use Rattle.city_model.specs.declared.object.Point as p;
-ghost use Rattle.city_doc.specs.tree.Between.{members_between};
+ghost use Rattle.city_doc.specs.inside.tree.Between.{members_between};
 ghost use Rattle.city_doc.specs.object.Canonical.{object_data, objects_data};
-ghost use Rattle.city_doc.specs.document.KeptMembers.{is_kept_object, are_kept_objects};
-ghost use Rattle.city_doc.specs.Pool.{object_points, city_points, with_points};
-ghost use Rattle.city_doc.specs.tree.Tokens.{tokens_of, tokens_of_members, tokens_of_own, listed, OwnReadsBack};
-ghost use Rattle.city_doc.specs.tree.Tokens.{ReadsBackNumbered, MembersReadBack};
+ghost use Rattle.city_doc.specs.inside.document.KeptMembers.{is_kept_object, are_kept_objects};
+ghost use Rattle.city_doc.specs.Pool.{object_points, city_points};
+ghost use Rattle.city_doc.specs.inside.Pool.{with_points};
+ghost use Rattle.city_doc.specs.tree.Tokens.{tokens_of};
+ghost use Rattle.city_doc.specs.inside.tree.PartTokens.{tokens_of_members, tokens_of_own, listed};
+ghost use Rattle.city_doc.specs.inside.tree.ReadsBack.{OwnReadsBack};
+ghost use Rattle.city_doc.specs.inside.tree.ReadsBack.{ReadsBackNumbered, MembersReadBack};
 
 use crate::pool::VertexPool;
 use crate::shape::text::Written;
@@ -56,7 +59,7 @@ fn write_list<T: Written>(
 
 /// Writes an object, each point as its number. Points that the pool doesn't have are added
 /// as they are met.
-#[tactic(auto, unfolding(crate::specs::document::KeptMembers::is_kept_object))]
+#[tactic(auto, unfolding(crate::specs::inside::document::KeptMembers::is_kept_object))]
 pub fn write_object(
     object: &Object,
     pool: &mut VertexPool,

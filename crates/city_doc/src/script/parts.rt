@@ -6,8 +6,8 @@ ghost use Rattle.city_doc.specs.script.CommandForms.{text_in};
 ghost use Rattle.city_doc.specs.tree.Lists.{all_read};
 ghost use Rattle.city_doc.specs.script.Scripts.{is_end_text, is_end_word, word_ends, are_vertices, has_script_members};
 ghost use Rattle.city_doc.specs.script.Scripts.{commands_in, parts_of, parts_in, are_too_many};
-ghost use Rattle.city_doc.specs.script.Forms.{parts_view, parts_views, has_too_many_commands};
-ghost use Rattle.city_doc.specs.script.Searches.{first_at, bad_script};
+ghost use Rattle.city_doc.specs.inside.script.Forms.{parts_view, parts_views, has_too_many_commands};
+ghost use Rattle.city_doc.specs.inside.script.Searches.{first_at, bad_script};
 
 use crate::fault::ScriptFault;
 use crate::script::form::ScriptForm;

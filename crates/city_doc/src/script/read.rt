@@ -3,11 +3,11 @@ ghost use Rattle.std.specs.Prelude.{◌≡◌, ◌⊎◌, List, map, IfOk, IfErr
 ghost use Rattle.serde_json.specs.View.{view};
 ghost use Rattle.city_model.specs.Runs.{Scripted};
 ghost use Rattle.city_doc.specs.tree.Texts.{IsReadable};
-ghost use Rattle.city_doc.specs.script.Scripts.{StandsForScripts, IsReadAs, vertex_points, script_of, scripts_of};
+ghost use Rattle.city_doc.specs.script.Scripts.{IsReadAs, vertex_points, script_of, scripts_of};
 ghost use Rattle.city_doc.specs.script.Faults.{ScriptTextFault};
 ghost use Rattle.city_doc.specs.script.Commands.{command_of};
 ghost use Rattle.city_doc.specs.tree.Lists.{all_read};
-ghost use Rattle.city_doc.specs.script.Forms.{parts_view, script_of_item};
+ghost use Rattle.city_doc.specs.inside.script.Forms.{parts_view, script_of_item};
 
 use crate::fault::ScriptFault;
 use crate::script::command::command_of;
@@ -32,7 +32,6 @@ use std::alloc::{AllocError, Global};
 /// out, the answer is `Ok` exactly where the text isn't too long, its numbers are whole, and
 /// it stands for scripts.
 pub fn read_scripts(alloc: Global, bytes: &[u8]) -> Result<Sequence<Script>, ScriptFault>
-    ensures stands { IfOk result (λ ss. StandsForScripts bytes.now ss) }
     ensures readable { OnOk result (IsReadable bytes.now) }
     ensures fault { IfErr result (λ f. ScriptTextFault bytes.now f) }
     ensures read { IfOk result (λ ss. IsReadAs bytes.now ss) }
@@ -47,7 +46,6 @@ pub fn read_scripts(alloc: Global, bytes: &[u8]) -> Result<Sequence<Script>, Scr
 
 /// Reads a text of scripts from its tree.
 fn read_tree(alloc: Global, bytes: &[u8]) -> Result<Sequence<Script>, ScriptFault>
-    ensures stands { IfOk result (λ ss. StandsForScripts bytes.now ss) }
     ensures readable { OnOk result (IsReadable bytes.now) }
     ensures fault { IfErr result (λ f. ScriptTextFault bytes.now f) }
     ensures read { IfOk result (λ ss. IsReadAs bytes.now ss) }

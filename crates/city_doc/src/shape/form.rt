@@ -1,12 +1,11 @@
 //! Recognises the trees that have the form of geometries (CityJSON 2.0, section 3).
 ghost use Rattle.std.specs.Prelude.{◌≡◌, option_map};
-ghost use Rattle.serde_json.specs.View.{view, items_view};
-ghost use Rattle.city_doc.specs.shape.Forms.{all_items, are_items, is_boundaries, are_boundaries_of, is_geometry};
-ghost use Rattle.city_doc.specs.shape.Forms.{are_geometries};
+ghost use Rattle.serde_json.specs.View.{view};
+ghost use Rattle.city_doc.specs.shape.Forms.{is_boundaries, are_boundaries_of, is_geometry, are_geometries};
 
 use crate::object::faults::text_at;
-use crate::shape::nested::{Leaf, Nested};
-use city_model::object::{Shell, Solid, Surface};
+use crate::shape::nested::{Formed, Leaf};
+use city_model::object::{Geometry, Shell, Solid, Surface};
 use city_model::sequence::Sequence;
 use serde_json::Value;
 
@@ -35,31 +34,12 @@ fn are_boundaries_of<L: Leaf>(leaf: &L, kind: Option<&str>, value: Option<&Value
     }
 }
 
-fn is_geometry<L: Leaf>(leaf: &L, value: &Value) -> bool
-    ensures { result ≡ is_geometry (L.test leaf.now) (view value.now) }
-{
-    text_at(value, "lod").is_some()
-        && are_boundaries_of(leaf, text_at(value, "type"), value.get("boundaries"))
-}
+impl Formed for Geometry {
+    ghost has_form = { is_geometry };
 
-fn all_geometries<L: Leaf>(leaf: &L, items: &Vec<Value>) -> bool
-    ensures { result ≡ all_items (is_geometry (L.test leaf.now)) (items_view items.now.items) }
-{
-    for item in items {
-        if !is_geometry(leaf, item) {
-            return false;
-        }
-    }
-    true
-}
-
-fn are_all_geometries<L: Leaf>(leaf: &L, items: Option<&Vec<Value>>) -> bool
-    ensures { result ≡ are_items (is_geometry (L.test leaf.now))
-        (option_map (λ v. items_view v.now.items) items.entry) }
-{
-    match items {
-        None => false,
-        Some(items) => all_geometries(leaf, items),
+    fn has_form<L: Leaf>(leaf: &L, value: &Value) -> bool {
+        text_at(value, "lod").is_some()
+            && are_boundaries_of(leaf, text_at(value, "type"), value.get("boundaries"))
     }
 }
 
@@ -69,6 +49,6 @@ pub fn are_geometries<L: Leaf>(leaf: &L, member: Option<&Value>) -> bool
 {
     match member {
         None => true,
-        Some(value) => are_all_geometries(leaf, value.as_array()),
+        Some(value) => Sequence::<Geometry>::has_form(leaf, value),
     }
 }

@@ -12,7 +12,7 @@ use crate::object::faults::text_at;
 use crate::shape::nested::Nested;
 use crate::tree::values::{into_array, into_text};
 use city_model::kept::extra::Extra;
-use city_model::kept::place::AtGeometry;
+use city_model::kept::site::AtGeometry;
 use city_model::members::{into_object, take};
 use city_model::object::{Geometry, Point, Shape};
 use city_model::sequence::Sequence;

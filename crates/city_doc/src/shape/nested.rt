@@ -1,4 +1,4 @@
-//! Lists within lists down to positions, as boundaries have them: their form, and the points that
+//! Lists within lists, down to positions where they are boundaries: their form, and the points that
 //! they stand for.
 ghost use Rattle.std.specs.Prelude.{◌≡◌, Bool, List, Option, IfOk};
 ghost use Rattle.serde_json.specs.Data.{Data};
@@ -60,15 +60,48 @@ impl Leaf for PositionBelow {
     }
 }
 
-/// A list of lists down to points, or a point.
-pub trait Nested: Sized {
+/// What the trees of a type look like.
+pub trait Formed {
     ghost has_form: { (Data → Bool) → Data → Bool };
 
-    ghost reads: { List p.Point → Data → Option Self };
-
-    /// Whether a value is nested like this, down to values that the leaf admits.
+    /// Whether a value has the form, down to values in rings that the leaf admits.
     fn has_form<L: Leaf>(leaf: &L, value: &Value) -> bool
         ensures { result ≡ has_form (L.test leaf.now) (view value.now) };
+}
+
+impl Formed for Point {
+    ghost has_form = { λ leaf. leaf };
+
+    fn has_form<L: Leaf>(leaf: &L, value: &Value) -> bool {
+        leaf.admits(value)
+    }
+}
+
+impl<T: Formed> Formed for Sequence<T> {
+    ghost has_form = { λ leaf. is_list_of (T.has_form leaf) };
+
+    fn has_form<L: Leaf>(leaf: &L, value: &Value) -> bool {
+        match value.as_array() {
+            None => false,
+            Some(items) => all_have_form::<T, L>(leaf, items),
+        }
+    }
+}
+
+fn all_have_form<T: Formed, L: Leaf>(leaf: &L, items: &Vec<Value>) -> bool
+    ensures { result ≡ all_items (T.has_form (L.test leaf.now)) (items_view items.now.items) }
+{
+    for item in items {
+        if !T::has_form(leaf, item) {
+            return false;
+        }
+    }
+    true
+}
+
+/// A list of lists down to points, or a point.
+pub trait Nested: Sized {
+    ghost reads: { List p.Point → Data → Option Self };
 
     /// What a value stands for where each position names one of the points; None if it isn't nested
     /// like this, or if a position names no point.
@@ -77,13 +110,7 @@ pub trait Nested: Sized {
 }
 
 impl Nested for Point {
-    ghost has_form = { λ leaf. leaf };
-
     ghost reads = { point_at };
-
-    fn has_form<L: Leaf>(leaf: &L, value: &Value) -> bool {
-        leaf.admits(value)
-    }
 
     fn read(_alloc: Global, points: &[Point], value: &Value) -> Result<Option<Point>, AllocError> {
         let Some(position) = position_of(value) else {
@@ -94,16 +121,7 @@ impl Nested for Point {
 }
 
 impl<T: Nested + Drop> Nested for Sequence<T> {
-    ghost has_form = { λ leaf. is_list_of (T.has_form leaf) };
-
     ghost reads = { λ points. list_of (T.reads points) };
-
-    fn has_form<L: Leaf>(leaf: &L, value: &Value) -> bool {
-        match value.as_array() {
-            None => false,
-            Some(items) => all_have_form::<T, L>(leaf, items),
-        }
-    }
 
     fn read(
         alloc: Global,
@@ -115,17 +133,6 @@ impl<T: Nested + Drop> Nested for Sequence<T> {
             Some(items) => read_items(alloc, points, items),
         }
     }
-}
-
-fn all_have_form<T: Nested, L: Leaf>(leaf: &L, items: &Vec<Value>) -> bool
-    ensures { result ≡ all_items (T.has_form (L.test leaf.now)) (items_view items.now.items) }
-{
-    for item in items {
-        if !T::has_form(leaf, item) {
-            return false;
-        }
-    }
-    true
 }
 
 fn read_items<T: Nested + Drop>(

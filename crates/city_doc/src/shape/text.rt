@@ -5,10 +5,12 @@ ghost use Rattle.serde_json.specs.Data.{Data, string};
 ghost use Rattle.city_model.specs.declared.object.Point as p;
 ghost use Rattle.city_doc.specs.tree.Lists.{list_data};
 ghost use Rattle.city_doc.specs.shape.Canonical.{point_data, boundaries_data, geometry_data};
-ghost use Rattle.city_doc.specs.document.KeptMembers.{is_kept_geometry};
+ghost use Rattle.city_doc.specs.inside.document.KeptMembers.{is_kept_geometry};
 ghost use Rattle.city_doc.specs.shape.Nesting.{shape_name};
-ghost use Rattle.city_doc.specs.Pool.{shape_points, geometry_points, with_points};
-ghost use Rattle.city_doc.specs.tree.Tokens.{tokens_of, ReadsBackNumbered};
+ghost use Rattle.city_doc.specs.Pool.{shape_points, geometry_points};
+ghost use Rattle.city_doc.specs.inside.Pool.{with_points};
+ghost use Rattle.city_doc.specs.tree.Tokens.{tokens_of};
+ghost use Rattle.city_doc.specs.inside.tree.ReadsBack.{ReadsBackNumbered};
 
 use crate::pool::VertexPool;
 use crate::tree::kept_members::{write_last, write_name};
@@ -115,7 +117,7 @@ impl Written for Geometry {
 
     ghost is_kept = { is_kept_geometry };
 
-    #[tactic(auto, unfolding(crate::specs::document::KeptMembers::is_kept_geometry))]
+    #[tactic(auto, unfolding(crate::specs::inside::document::KeptMembers::is_kept_geometry))]
     fn write(&self, pool: &mut VertexPool, out: &mut Writer) -> Result<(), AllocError> {
         let kept = self.extra.map();
         out.begin_object()?;

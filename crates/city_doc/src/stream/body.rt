@@ -1,7 +1,7 @@
 //! Reads the bodies that are put: objects that name no relations.
 ghost use Rattle.std.specs.Prelude.{IfSome};
-ghost use Rattle.city_doc.specs.stream.Commands.{IsBody, IsBodySoFar};
-ghost use Rattle.city_doc.specs.stream.Standing.{IsReadAs};
+ghost use Rattle.city_doc.specs.inside.stream.Commands.{IsBody, IsBodySoFar};
+ghost use Rattle.city_doc.specs.inside.stream.Standing.{IsReadAs};
 
 use crate::stream::object::{ObjectParts, object_of};
 use crate::stream::own::{Own, read_object};

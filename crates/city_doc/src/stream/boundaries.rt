@@ -1,9 +1,9 @@
 //! Reads boundaries, whose type may come after them.
 ghost use Rattle.std.specs.Prelude.{◌≡◌, ◌+◌, ◌∷◌, ℕ, List, IfSome};
 ghost use Rattle.json.specs.Token.{Token as SpecToken, begin_array};
-ghost use Rattle.city_doc.specs.stream.Geometries.{AreBoundaries};
-ghost use Rattle.city_doc.specs.stream.Positions.{IsPosition, opened};
-ghost use Rattle.city_doc.specs.stream.Standing.{IsArrayOf, IsReadAs};
+ghost use Rattle.city_doc.specs.inside.stream.Geometries.{AreBoundaries};
+ghost use Rattle.city_doc.specs.inside.stream.Positions.{IsPosition, opened};
+ghost use Rattle.city_doc.specs.inside.stream.Standing.{IsArrayOf, IsReadAs};
 
 use crate::stream::list::{FromTokens, read_rest};
 use crate::stream::number::whole_of;

@@ -2,7 +2,7 @@
 ghost use Rattle.std.specs.Prelude.{◌≡◌, Some, None, IfSome};
 ghost use Rattle.serde_json.specs.Data.{Members, object, string};
 ghost use Rattle.city_doc.specs.script.Commands.{command_of};
-ghost use Rattle.city_doc.specs.stream.Commands.{verb_name, with_verb, AreOthers, IsCommand, IsCommandSoFar};
+ghost use Rattle.city_doc.specs.inside.stream.Commands.{verb_name, with_verb, AreOthers, IsCommand, IsCommandSoFar};
 
 use crate::stream::body::read_body;
 use crate::stream::list::FromTokens;

@@ -2,7 +2,8 @@
 ghost use Rattle.std.specs.Prelude.{◌≡◌, ℕ, Some, IfSome};
 ghost use Rattle.serde_json.specs.Data.{Data, Members, object};
 ghost use Rattle.serde_json.specs.View.{members_view};
-ghost use Rattle.city_doc.specs.stream.Geometries.{kind_name, AreBoundaries, IsShape, IsGeometry, IsGeometrySoFar};
+ghost use Rattle.city_doc.specs.inside.stream.Geometries.{kind_name, AreBoundaries, IsShape, IsGeometry};
+ghost use Rattle.city_doc.specs.inside.stream.Geometries.{IsGeometrySoFar};
 
 use crate::stream::boundaries::{Boundaries, read_boundaries};
 use crate::stream::list::FromTokens;

@@ -2,8 +2,8 @@
 ghost use Rattle.std.specs.Prelude.{◌≡◌, ◌++◌, ◌∷◌, List, IfSome};
 ghost use Rattle.serde_json.specs.Data.{Data, item, array};
 ghost use Rattle.serde_json.specs.View.{items_of};
-ghost use Rattle.city_doc.specs.stream.Standing.{Pairs, IsArrayOf, IsReadAs};
-ghost use Rattle.city_doc.specs.stream.Taken.{IsRestOfArray};
+ghost use Rattle.city_doc.specs.inside.stream.Standing.{Pairs, IsArrayOf, IsReadAs};
+ghost use Rattle.city_doc.specs.inside.stream.Taken.{IsRestOfArray};
 
 use city_model::sequence::Sequence;
 use json::{Reader, Token};

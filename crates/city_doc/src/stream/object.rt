@@ -2,8 +2,8 @@
 ghost use Rattle.std.specs.Prelude.{◌≡◌, ℕ, Some, IfSome};
 ghost use Rattle.serde_json.specs.Data.{Members, object};
 ghost use Rattle.serde_json.specs.View.{members_view};
-ghost use Rattle.city_doc.specs.stream.Objects.{IsObject, IsObjectSoFar};
-ghost use Rattle.city_doc.specs.stream.Standing.{IsReadAs};
+ghost use Rattle.city_doc.specs.inside.stream.Objects.{IsObject, IsObjectSoFar};
+ghost use Rattle.city_doc.specs.inside.stream.Standing.{IsReadAs};
 
 use crate::stream::list::FromTokens;
 use crate::stream::own::{Own, read_object as read_members};
@@ -87,6 +87,7 @@ pub fn read_object(alloc: Global, reader: &mut Reader<'_>, depth: usize) -> Opti
         parents: Sequence::new(alloc),
         children: Sequence::new(alloc),
     };
-    let (parts, kept) = read_members(alloc, reader, depth, start)?;
-    object_of(parts, kept)
+    let read = read_members(alloc, reader, depth, start)?;
+    let object = object_of(read.0, read.1)?;
+    Some(object)
 }

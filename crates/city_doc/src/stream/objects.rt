@@ -1,7 +1,7 @@
 //! Reads the objects of a document by their ids.
 ghost use Rattle.std.specs.Prelude.{◌≡◌, IfSome};
-ghost use Rattle.city_doc.specs.stream.Objects.{AreObjects, IsListingSoFar};
-ghost use Rattle.city_doc.specs.stream.Standing.{IsReadAs};
+ghost use Rattle.city_doc.specs.inside.stream.Objects.{AreObjects, IsListingSoFar};
+ghost use Rattle.city_doc.specs.inside.stream.Standing.{IsReadAs};
 
 use crate::stream::object::read_object;
 use crate::stream::own::{Own, read_object as read_members};

@@ -4,8 +4,8 @@ ghost use Rattle.std.specs.Bool.{MatchBool};
 ghost use Rattle.json.specs.Token.{begin_object};
 ghost use Rattle.serde_json.specs.Data.{Members, no_members, object};
 ghost use Rattle.serde_json.specs.View.{members_view};
-ghost use Rattle.city_doc.specs.stream.Standing.{IsTaken, IsPassed};
-ghost use Rattle.city_doc.specs.stream.Taken.{IsValue, IsRestOfObject};
+ghost use Rattle.city_doc.specs.inside.stream.Standing.{IsTaken, IsPassed};
+ghost use Rattle.city_doc.specs.inside.stream.Taken.{IsValue, IsRestOfObject};
 
 use crate::stream::value::read_value;
 use json::{Reader, Token};

@@ -6,11 +6,11 @@ ghost use Rattle.city_model.specs.Shells.{body_fault};
 ghost use Rattle.city_doc.specs.document.Cities.{entries_of};
 ghost use Rattle.city_doc.specs.object.Bodies.{object_of};
 ghost use Rattle.city_doc.specs.shape.Geometries.{point_at, shape_of, geometry_of};
-ghost use Rattle.city_doc.specs.stream.Faultless.{AreFaultless};
-ghost use Rattle.city_doc.specs.stream.Geometries.{IsShape, IsGeometry};
-ghost use Rattle.city_doc.specs.stream.Objects.{IsObject, IsListing};
-ghost use Rattle.city_doc.specs.stream.Positions.{IsPlaced, IsPosition, points_of};
-ghost use Rattle.city_doc.specs.stream.Standing.{Pairs, IsArrayOf};
+ghost use Rattle.city_doc.specs.inside.stream.Faultless.{AreFaultless};
+ghost use Rattle.city_doc.specs.inside.stream.Geometries.{IsShape, IsGeometry};
+ghost use Rattle.city_doc.specs.inside.stream.Objects.{IsObject, IsListing};
+ghost use Rattle.city_doc.specs.inside.stream.Positions.{IsPlaced, IsPosition, points_of};
+ghost use Rattle.city_doc.specs.inside.stream.Standing.{Pairs, IsArrayOf};
 ghost use Rattle.city_doc.specs.tree.Lists.{list_of};
 
 use crate::stream::vertices::Vertex;

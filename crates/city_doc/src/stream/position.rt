@@ -1,5 +1,5 @@
 //! Reads positions, whose points may not be known yet.
-ghost use Rattle.city_doc.specs.stream.Positions.{IsPosition};
+ghost use Rattle.city_doc.specs.inside.stream.Positions.{IsPosition};
 
 use crate::stream::list::FromTokens;
 use crate::stream::vertices::read_whole;

@@ -1,7 +1,7 @@
 //! Reads scripts.
 ghost use Rattle.std.specs.Prelude.{Some, IfSome};
 ghost use Rattle.serde_json.specs.Data.{Members, object};
-ghost use Rattle.city_doc.specs.stream.Scripts.{IsScript, IsScriptSoFar};
+ghost use Rattle.city_doc.specs.inside.stream.Scripts.{IsScript, IsScriptSoFar};
 
 use crate::script::parts::MAX_COMMANDS;
 use crate::stream::list::FromTokens;
@@ -77,7 +77,8 @@ impl FromTokens for Script {
             commands: None,
             vertices: Sequence::new(alloc),
         };
-        let (parts, _kept) = read_object(alloc, reader, depth, start)?;
-        script_of(alloc, parts)
+        let read = read_object(alloc, reader, depth, start)?;
+        let script = script_of(alloc, read.0)?;
+        Some(script)
     }
 }

@@ -1,8 +1,8 @@
 //! Reads texts.
 ghost use Rattle.std.specs.Prelude.{◌≡◌, ℕ, IfSome};
 ghost use Rattle.serde_json.specs.Data.{string};
-ghost use Rattle.city_doc.specs.stream.Standing.{IsString};
-ghost use Rattle.city_doc.specs.stream.Taken.{IsValue};
+ghost use Rattle.city_doc.specs.inside.stream.Standing.{IsString};
+ghost use Rattle.city_doc.specs.inside.stream.Taken.{IsValue};
 
 use crate::stream::list::FromTokens;
 use city_model::text::{Id, Text};

@@ -1,7 +1,7 @@
 //! Reads the JSON values that are kept.
 ghost use Rattle.std.specs.Prelude.{◌≡◌, IfSome};
 ghost use Rattle.serde_json.specs.View.{view, items_view, members_view};
-ghost use Rattle.city_doc.specs.stream.Taken.{IsValue, IsRestOfArray, IsRestOfObject};
+ghost use Rattle.city_doc.specs.inside.stream.Taken.{IsValue, IsRestOfArray, IsRestOfObject};
 
 use crate::stream::number::whole_of;
 use json::{Reader, Token};

@@ -2,8 +2,8 @@
 ghost use Rattle.std.specs.Prelude.{◌≡◌, ℕ, Some, IfSome};
 ghost use Rattle.serde_json.specs.Data.{number};
 ghost use Rattle.serde_json.specs.Find.{of_integer, as_i64};
-ghost use Rattle.city_doc.specs.stream.Positions.{IsVertex};
-ghost use Rattle.city_doc.specs.stream.Taken.{IsValue};
+ghost use Rattle.city_doc.specs.inside.stream.Positions.{IsVertex};
+ghost use Rattle.city_doc.specs.inside.stream.Taken.{IsValue};
 
 use crate::stream::list::FromTokens;
 use crate::stream::number::whole_of;

@@ -2,7 +2,7 @@
 ghost use Rattle.std.specs.Prelude.{◌≡◌, [], true, IfSome};
 ghost use Rattle.serde_json.specs.Data.{Data};
 ghost use Rattle.city_model.specs.Integral.{is_integral};
-ghost use Rattle.city_doc.specs.stream.Standing.{IsReadAs};
+ghost use Rattle.city_doc.specs.inside.stream.Standing.{IsReadAs};
 ghost use Rattle.city_doc.specs.tree.Texts.{HasTree};
 
 use crate::stream::list::FromTokens;

@@ -1,10 +1,11 @@
 //! Writes the kept members of an object among those of its own.
-ghost use Rattle.std.specs.Prelude.{◌≡◌, ◌++◌, ◌∷◌, [], OnOk, true, None, Some, option_copied};
+ghost use Rattle.std.specs.Prelude.{◌≡◌, ◌&&◌, ◌++◌, ◌∷◌, [], OnOk, true, None, Some, option_copied};
 ghost use Rattle.json.specs.Token.{key, end_object};
 ghost use Rattle.serde_json.specs.View.{members_view};
 ghost use Rattle.city_model.specs.Integral.{members_integral};
-ghost use Rattle.city_doc.specs.tree.Between.{is_after, is_before, members_between};
-ghost use Rattle.city_doc.specs.tree.Tokens.{tokens_of_members, MembersReadBack};
+ghost use Rattle.city_doc.specs.inside.tree.Between.{is_after, is_before, members_between};
+ghost use Rattle.city_doc.specs.inside.tree.PartTokens.{tokens_of_members};
+ghost use Rattle.city_doc.specs.inside.tree.ReadsBack.{MembersReadBack};
 
 use crate::tree::text::write_value;
 use json::Writer;
@@ -31,6 +32,14 @@ fn is_before(name: &str, other: Option<&str>) -> bool
     }
 }
 
+/// Whether a name lies between two names in byte order, each where there is one.
+fn is_between(name: &str, low: Option<&str>, high: Option<&str>) -> bool
+    ensures { result
+        ≡ (is_after (option_copied low.entry) name.now && is_before (option_copied high.entry) name.now) }
+{
+    is_after(name, low) && is_before(name, high)
+}
+
 /// Writes the members whose names lie between two names, each where there is one.
 pub fn write_between(
     members: &Map<String, Value>,
@@ -48,7 +57,7 @@ pub fn write_between(
         (members_view members.now.entries))) }
 {
     for (name, member) in members.iter() {
-        if is_after(name.as_str(), low) && is_before(name.as_str(), high) {
+        if is_between(name.as_str(), low, high) {
             out.key(name.as_str())?;
             write_value(member, out)?;
         }

@@ -2,7 +2,8 @@
 ghost use Rattle.std.specs.Prelude.{◌≡◌, true, IfOk, IfErr};
 ghost use Rattle.serde_json.specs.View.{view};
 ghost use Rattle.city_model.specs.Integral.{is_integral};
-ghost use Rattle.city_doc.specs.tree.Texts.{HasTree, IsRefused};
+ghost use Rattle.city_doc.specs.tree.Texts.{HasTree};
+ghost use Rattle.city_doc.specs.inside.tree.TextFaults.{IsRefused};
 
 use crate::fault::{ReadFault, ScriptFault};
 use city_model::integral::is_integral;
@@ -63,7 +64,7 @@ pub fn parse(alloc: Global, bytes: &[u8]) -> Result<Value, TextFault>
 
 impl From<TextFault> for ReadFault {
     ghost use Rattle.std.specs.Prelude.{◌≡◌};
-    ghost use Rattle.city_doc.specs.tree.TextFaults.{read_fault};
+    ghost use Rattle.city_doc.specs.inside.tree.TextFaults.{read_fault};
 
     ghost from_gives = { λ t f. f ≡ read_fault t };
 
@@ -79,7 +80,7 @@ impl From<TextFault> for ReadFault {
 
 impl From<TextFault> for ScriptFault {
     ghost use Rattle.std.specs.Prelude.{◌≡◌};
-    ghost use Rattle.city_doc.specs.tree.TextFaults.{script_fault};
+    ghost use Rattle.city_doc.specs.inside.tree.TextFaults.{script_fault};
 
     ghost from_gives = { λ t f. f ≡ script_fault t };
 

@@ -4,8 +4,10 @@ ghost use Rattle.serde_json.specs.Data.{number};
 ghost use Rattle.serde_json.specs.View.{view, number_view, items_view, members_view};
 ghost use Rattle.city_model.specs.Integral.{is_integral, items_integral, members_integral};
 ghost use Rattle.city_model.specs.Members.{AreOrdered};
-ghost use Rattle.city_doc.specs.tree.Tokens.{tokens_of, closing_items, closing_members, ReadsBack, ItemsReadBack};
-ghost use Rattle.city_doc.specs.tree.Tokens.{MembersReadBack};
+ghost use Rattle.city_doc.specs.tree.Tokens.{tokens_of};
+ghost use Rattle.city_doc.specs.inside.tree.PartTokens.{closing_items, closing_members};
+ghost use Rattle.city_doc.specs.inside.tree.ReadsBack.{ReadsBack, ItemsReadBack};
+ghost use Rattle.city_doc.specs.inside.tree.ReadsBack.{MembersReadBack};
 
 use json::Writer;
 use serde_json::{Map, Number, Value};

@@ -1,30 +1,30 @@
-//! The kept members of a place.
+//! The kept members of a site.
 ghost use Rattle.std.specs.Prelude.{◌≡◌, true, false, IfOk, IfErr, IsTrue, is_ok};
 
-use crate::kept::place::Place;
+use crate::kept::site::Site;
 use crate::members::members_count;
 use serde_json::{Map, Value};
 use std::alloc::AllocError;
 use std::marker::{Model, PhantomData};
 
-/// The members that are kept at the place `P`, as JSON, value for value.
+/// The members that are kept at the site `P`, as JSON, value for value.
 ///
-/// Their names ascend, so none is there twice. None of them is a member that is read at the place,
+/// Their names ascend, so none is there twice. None of them is a member that is read at the site,
 /// and each number in them is an `i64`. An object keeps no `address` with a `location`, and the top
 /// no `extensions` but an empty one.
 #[derive(Drop)]
-pub struct Extra<P: Place> {
+pub struct Extra<P: Site> {
     map: Map<String, Value>,
-    place: PhantomData<P>,
+    site: PhantomData<P>,
 }
 
-impl<P: Place> Model for Extra<P> {
+impl<P: Site> Model for Extra<P> {
     ghost use Rattle.std.specs.Prelude.{◌≡◌, true};
     ghost use Rattle.serde_json.specs.Data.{Members};
 
     ghost Value = { Members };
 
-    ghost use Rattle.city_model.specs.DataCode.{coded_members};
+    ghost use Rattle.city_model.specs.inside.DataCode.{coded_members};
 
     ghost coded = { coded_members };
 
@@ -37,11 +37,11 @@ impl<P: Place> Model for Extra<P> {
     ghost invariant = { λ a. (P.keeps (members_view a.map.entries) ≡ true) × AreOrdered (members_view a.map.entries) };
 }
 
-impl<P: Place> Extra<P> {
+impl<P: Site> Extra<P> {
     ghost use Rattle.serde_json.specs.View.{members_view};
     ghost use Rattle.city_model.specs.Members.{AreOrdered};
 
-    /// The members as those of the place, or the map back if the place doesn't
+    /// The members as those of the site, or the map back if the site doesn't
     /// admit it. Doesn't allocate.
     pub fn new(map: Map<String, Value>) -> Result<Self, Map<String, Value>>
         ensures admitted { is_ok result ≡ P.keeps (members_view map.entries) }
@@ -53,7 +53,7 @@ impl<P: Place> Extra<P> {
         if P::admits(&map) {
             Ok(Extra {
                 map,
-                place: PhantomData,
+                site: PhantomData,
             })
         } else {
             Err(map)
@@ -85,7 +85,7 @@ impl<P: Place> Extra<P> {
     {
         Ok(Extra {
             map: self.to_map()?,
-            place: PhantomData,
+            site: PhantomData,
         })
     }
 }

@@ -1,6 +1,6 @@
 //! The plan of a delete.
 ghost use Rattle.std.specs.Prelude.{◌≡◌, ◌++◌, map, option_copied, IfOk, OnOk};
-ghost use Rattle.city_model.specs.Plans.{IsPlan, only_parent, unlinked};
+ghost use Rattle.city_model.specs.inside.Plans.{IsPlan, only_parent, unlinked};
 ghost use Rattle.city_model.specs.Relations.{IsSound};
 ghost use Rattle.city_model.specs.declared.command.Command.{Command};
 
@@ -75,9 +75,12 @@ fn unlink<V: View>(
 ) -> Result<(Id, Option<Object>), OutOfMemory>
     ensures { IfOk result (λ write. write ≡ unlinked (V.map view.now) child.now parent.now) }
 {
-    let object = match view.look(parent) {
-        None => None,
-        Some(object) => Some(without_child(alloc, child, object)?),
-    };
-    Ok((parent.copy(alloc)?, object))
+    let id = parent.copy(alloc)?;
+    match view.look(parent) {
+        None => Ok((id, None)),
+        Some(object) => {
+            let left = without_child(alloc, child, object)?;
+            Ok((id, Some(left)))
+        },
+    }
 }

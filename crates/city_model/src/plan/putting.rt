@@ -1,6 +1,6 @@
 //! The plans of a read and of a put.
 ghost use Rattle.std.specs.Prelude.{IfOk};
-ghost use Rattle.city_model.specs.Plans.{IsPlan};
+ghost use Rattle.city_model.specs.inside.Plans.{IsPlan};
 ghost use Rattle.city_model.specs.declared.command.Command.{Command};
 
 use crate::OutOfMemory;
@@ -38,14 +38,16 @@ pub fn plan_put<V: View>(alloc: Global, view: &V, id: &Id, body: &Body) -> Resul
     match view.look(id) {
         None => {
             let object = new_object(alloc, body)?;
-            Ok(Plan::Writes(Reply::Added, one(alloc, id, object)?))
+            let change = one(alloc, id, object)?;
+            Ok(Plan::Writes(Reply::Added, change))
         }
         Some(there) => {
             if !is_same(there.body.kind, body.kind) {
                 return Ok(Plan::Refused(Cause::TypeFixed(id.copy(alloc)?)));
             }
             let object = with_body(alloc, there, body)?;
-            Ok(Plan::Writes(Reply::Replaced, one(alloc, id, object)?))
+            let change = one(alloc, id, object)?;
+            Ok(Plan::Writes(Reply::Replaced, change))
         }
     }
 }

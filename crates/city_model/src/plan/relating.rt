@@ -1,10 +1,11 @@
 //! The plans of an attach and of a detach.
 ghost use Rattle.std.specs.Prelude.{◌≡◌, [], ◌∷◌, Some, IfOk, IfErr, option_map};
-ghost use Rattle.city_model.specs.Meaning.{cause_of, with_child, without_child};
-ghost use Rattle.city_model.specs.Plans.{IsPlan, AreWritesOf};
+ghost use Rattle.city_model.specs.Meaning.{with_child, without_child};
+ghost use Rattle.city_model.specs.inside.Plans.{IsPlan, AreWritesOf};
 ghost use Rattle.city_model.specs.Relations.{IsSound};
 ghost use Rattle.city_model.specs.declared.command.Command.{Command};
 ghost use Rattle.city_model.specs.declared.command.Reply.{Reply};
+ghost use Rattle.city_model.specs.inside.CommandParts.{cause_of};
 
 use crate::OutOfMemory;
 use crate::command::{Cause, Reply};

@@ -1,6 +1,6 @@
 //! A city in which objects can be looked up.
 ghost use Rattle.std.specs.Prelude.{◌≡◌, option_copied};
-ghost use Rattle.city_model.specs.CityMap.{CityMap, at};
+ghost use Rattle.city_model.specs.CityMap.{CityMap, object_at};
 
 use crate::city::City;
 use crate::object::Object;
@@ -17,7 +17,7 @@ pub trait View {
 }
 
 impl View for City {
-    ghost map = { λ city. at city.1 };
+    ghost map = { λ city. object_at city.1 };
 
     fn look(&self, id: &Id) -> Option<&Object> {
         self.get(id)

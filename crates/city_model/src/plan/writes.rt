@@ -23,8 +23,9 @@ pub fn no_object(alloc: Global, id: &Id) -> Result<Plan, OutOfMemory>
 pub fn one(alloc: Global, id: &Id, object: Object) -> Result<Change, OutOfMemory>
     ensures { IfOk result (λ change. change ≡ (id.now, Some object) ∷ []) }
 {
+    let copy = id.copy(alloc)?;
     let mut change = Change::new(alloc);
-    change.push((id.copy(alloc)?, Some(object)))?;
+    change.push((copy, Some(object)))?;
     Ok(change)
 }
 

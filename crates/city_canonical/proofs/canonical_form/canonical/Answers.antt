@@ -9,7 +9,8 @@ use Rattle.city_canonical.proofs.canonical_form.canonical.Goals as goal
 pub returns-clause-same : goal.returns-clause-same
 returns-clause-same c =
     let city = c.in_ok-city.city in
-    let read = subst (λ t. StandsForCity t city) c.as_slice.ensures.value c.in_ok-city.ensures.stands in
+    let admitted = c.in_ok-city.ensures.admitted in
+    let read = subst (λ t. StandsForCity t city) c.as_slice.ensures.value (admitted.0, admitted.1.1, admitted.3) in
     let decoded = subst (λ t. IsDecoded t c.in_ok-out.out.items) c.as_slice-2.ensures.value c.in_ok-out.ensures.decoded in
     same_text c.args.bytes.now c.in_ok-encoded.encoded.items c.in_ok-written.written.items c.in_ok-out.out.items city c.in_ok-encoded.ensures.encoded read c.in_ok-written.ensures.tokens c.in_ok-written.ensures.in_range decoded
     c.in_ok-out.ensures.utf8
@@ -17,7 +18,8 @@ returns-clause-same c =
 pub returns-clause-canonical : goal.returns-clause-canonical
 returns-clause-canonical c =
     let city = c.in_ok-city.city in
-    let read = subst (λ t. StandsForCity t city) c.as_slice.ensures.value c.in_ok-city.ensures.stands in
+    let admitted = c.in_ok-city.ensures.admitted in
+    let read = subst (λ t. StandsForCity t city) c.as_slice.ensures.value (admitted.0, admitted.1.1, admitted.3) in
     let decoded = subst (λ t. IsDecoded t c.in_ok-out.out.items) c.as_slice-2.ensures.value c.in_ok-out.ensures.decoded in
     (c.in_ok-encoded.encoded.items, city, c.in_ok-encoded.ensures.encoded, read, subst (λ t. IsDecoded t c.in_ok-out.out.items) c.in_ok-written.ensures.text decoded)
 
@@ -34,5 +36,6 @@ returns-in_err-out-clause-fault c =
     let city = c.in_ok-city.city in
     let f = c.in_err-out.field-0.0 in
     let written = c.in_ok-written.written.items in
-    let stands = c.in_ok-written.ensures.rewritten c.as_slice.result.now c.in_ok-city.ensures.stands in
+    let admitted = c.in_ok-city.ensures.admitted in
+    let stands = c.in_ok-written.ensures.rewritten c.as_slice.result.now (admitted.0, admitted.1.1, admitted.3) in
     rw (p.1, p.2) (decode_fault c.args.bytes.now written city f stands c.in_ok-written.ensures.tokens (subst (λ t. IsDecimalsFault t f) c.as_slice-2.ensures.value c.in_err-out.ensures.fault))

@@ -1,8 +1,8 @@
 use Rattle.std.proofs.Common.{◌≡◌, sym, ap, ◌∙◌, subst, [], drop, List, fold}
 use Rattle.left_right.specs.Sides.{view}
-use Rattle.city_crew.specs.BoardRule.{known_from}
+use Rattle.city_crew.specs.inside.BoardRule.{known_from}
 use Rattle.city_crew.specs.HistoryValue.{HistoryValue}
-use Rattle.city_crew.specs.Versions.{IsFaithful, edited}
+use Rattle.city_crew.specs.inside.Versions.{IsFaithful, edited}
 use Rattle.city_crew.specs.declared.version.Edit.{Edit}
 use Rattle.city_crew.specs.declared.version.Version.{Version}
 use Rattle.city_crew.proofs.HeldEdits.{holds_none}

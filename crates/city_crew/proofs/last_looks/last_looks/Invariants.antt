@@ -1,4 +1,4 @@
-use Rattle.std.proofs.Common.{◌≤◌, All}
+use Rattle.std.proofs.Common.{◌≤◌, ◌<◌, length, All}
 use Rattle.city_crew.specs.Rising.{Rises, last_of}
 use Rattle.city_crew.proofs.last_looks.last_looks.Given as goal
 
@@ -6,5 +6,6 @@ abbrev pub invariant-loop-watcher : goal.invariant-loop-watcher
 invariant-loop-watcher l =
     (goal.iterator-loop-watcher).can_next l.watcher-iterator
     × (goal.iterator-loop-watcher).is_finite l.watcher-iterator
+    × All (λ s. 0 < length s.items) l.seen.items
     × All (λ s. Rises s.items) l.seen.items
     × All (λ s. l.commits ≤ last_of s.items) l.seen.items

@@ -1,6 +1,6 @@
 use Rattle.std.proofs.Common.{◌<◌, length, arith, take, None, sym, ap, ◌∙◌}
 use Rattle.std.specs.Prelude.{if◌then◌else◌}
-use Rattle.city_model.specs.CityMap.{CityMap, CityValue, at, has_id, same_id}
+use Rattle.city_model.specs.CityMap.{CityMap, CityValue, object_at, has_id, same_id}
 use Rattle.city_txn.proofs.EachId.{has_more}
 use Rattle.city_crew.proofs.Placed.{cleared_more}
 use Rattle.city_crew.proofs.places.clear.Goals as goal
@@ -14,6 +14,6 @@ loop-id-preserved c =
     record {
       frame = ap (λ (d : CityValue). d.0) c.remove.ensures.objects ∙ c.loop-id.invariant.frame;
       objects = λ q.
-          cleared_more (at c.args.city.now.1 q) (at c.loop-id.city.1 q) (at c.remove.new.self.1 q) (has_id (take n ids) q) (same_id id q) (c.loop-id.invariant.objects q) (ap (λ (m : CityMap). m q) c.remove.ensures.map)
-          ∙ ap (λ b. if b then None else at c.args.city.now.1 q) (sym (has_more ids n id q lt c.id-item.is));
+          cleared_more (object_at c.args.city.now.1 q) (object_at c.loop-id.city.1 q) (object_at c.remove.new.self.1 q) (has_id (take n ids) q) (same_id id q) (c.loop-id.invariant.objects q) (ap (λ (m : CityMap). m q) c.remove.ensures.map)
+          ∙ ap (λ b. if b then None else object_at c.args.city.now.1 q) (sym (has_more ids n id q lt c.id-item.is));
     }

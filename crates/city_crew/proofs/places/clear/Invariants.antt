@@ -1,10 +1,10 @@
 use Rattle.std.proofs.Common.{◌≡◌, ℕ, List, None, take}
 use Rattle.std.specs.Prelude.{if◌then◌else◌}
-use Rattle.city_model.specs.CityMap.{at, has_id}
+use Rattle.city_model.specs.CityMap.{object_at, has_id}
 use Rattle.city_crew.proofs.places.clear.Given as goal
 
 abbrev pub invariant-loop-id : goal.invariant-loop-id
 invariant-loop-id l = record {
   frame : l.city.0 ≡ l.initial.city.0;
-  objects : (q : List ℕ) → at l.city.1 q ≡ (if has_id (take l.id-index l.ids) q then None else at l.initial.city.1 q);
+  objects : (q : List ℕ) → object_at l.city.1 q ≡ (if has_id (take l.id-index l.ids) q then None else object_at l.initial.city.1 q);
 }

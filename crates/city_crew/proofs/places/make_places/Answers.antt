@@ -1,7 +1,7 @@
 use Rattle.std.proofs.Common.{rules, ◌≡◌, ◌∙◌, ap, None}
 use Rattle.std.specs.Prelude.{if◌then◌else◌}
 use Rattle.std.specs.Map.{keys_of}
-use Rattle.city_model.specs.CityMap.{at, has_id}
+use Rattle.city_model.specs.CityMap.{object_at, has_id}
 use Rattle.city_model.proofs.Writing.{same_map}
 use Rattle.city_crew.proofs.Applied.{same_city}
 use Rattle.city_crew.proofs.Placed.{put_back}
@@ -14,6 +14,6 @@ returns-then-is_err-clause-err c =
     let filled : c.deref.result.now ≡ ids = search rules in
     let cleared : c.deref-then-is_err.result.now ≡ ids = search rules in
     same_city old c.clear.new.city (c.clear.ensures.frame ∙ c.fill.ensures.frame) (same_map _ _
-    (λ q. put_back (at old.1 q) (at c.fill.new.city.1 q) (at c.clear.new.city.1 q) (has_id ids q) (has_id (keys_of c.args.writes.now.entries) q) (c.in_ok-ids.ensures q)
+    (λ q. put_back (object_at old.1 q) (object_at c.fill.new.city.1 q) (object_at c.clear.new.city.1 q) (has_id ids q) (has_id (keys_of c.args.writes.now.entries) q) (c.in_ok-ids.ensures q)
     (λ none. c.fill.ensures.others q (ap (λ xs. has_id xs q) filled ∙ none))
-    (c.clear.ensures.objects q ∙ ap (λ xs. if has_id xs q then None else at c.fill.new.city.1 q) cleared)))
+    (c.clear.ensures.objects q ∙ ap (λ xs. if has_id xs q then None else object_at c.fill.new.city.1 q) cleared)))

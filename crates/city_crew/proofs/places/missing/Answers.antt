@@ -1,12 +1,12 @@
 use Rattle.std.proofs.Common.{rules, ◌≡◌, ◌∷◌, [], ◌++◌, ◌&&◌, ◌||◌, not, is_some, true, false, subst}
 use Rattle.std.specs.Map.{keys_of}
-use Rattle.city_model.specs.CityMap.{at, has_id}
+use Rattle.city_model.specs.CityMap.{object_at, has_id}
 use Rattle.city_crew.proofs.Placed.{missing_more, missing_same}
 use Rattle.city_crew.proofs.places.missing.Goals as goal
 
 pub loop-id-preserved-in_ok-push : goal.loop-id-preserved-in_ok-push
 loop-id-preserved-in_ok-push c q =
-    let m = at c.args.city.now.1 in
+    let m = object_at c.args.city.now.1 in
     let id = c.in-Some.id.now in
     let absent : is_some (m id) ≡ false = search rules in
     let items : c.push.new.self.items ≡ c.loop-id.ids.items ++ id ∷ [] = search rules in
@@ -16,7 +16,7 @@ loop-id-preserved-in_ok-push c q =
 
 pub loop-id-preserved : goal.loop-id-preserved
 loop-id-preserved c q =
-    let m = at c.args.city.now.1 in
+    let m = object_at c.args.city.now.1 in
     let id = c.in-Some.id.now in
     let there : is_some (m id) ≡ true = search rules in
     let all = has_id (keys_of c.args.writes.now.entries) q && not (is_some (m q)) in

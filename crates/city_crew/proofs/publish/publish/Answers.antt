@@ -1,5 +1,5 @@
 use Rattle.std.proofs.Common.{sym, subst}
-use Rattle.city_crew.specs.BoardRule.{IsLater}
+use Rattle.city_crew.specs.inside.BoardRule.{IsLater}
 use Rattle.city_crew.specs.declared.version.Version.{Version}
 use Rattle.city_crew.proofs.KeptRule.{publishes}
 use Rattle.city_crew.proofs.publish.publish.Goals as goal

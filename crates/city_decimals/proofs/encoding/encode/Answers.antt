@@ -1,70 +1,49 @@
-use Rattle.std.proofs.Common.{ap, ◌∙◌, ◌++◌, ◌≡◌, List, [], Some, arith, rules}
-use Rattle.json.specs.Token.{Token}
-use Rattle.json.specs.Json.{Json, value, max_depth}
-use Rattle.json.specs.Lex.{tokens}
-use Rattle.json.specs.Print.{print}
-use Rattle.json.specs.Tree.{json_tokens}
-use Rattle.city_decimals.specs.Encoded.{encoded_top}
-use Rattle.city_decimals.specs.Streams.{written}
-use Rattle.city_decimals.proofs.CompactTexts.{top_encoded}
-use Rattle.city_decimals.proofs.Streams.{whole_read}
+use Rattle.std.proofs.Common.{◌≡◌, ◌≤◌, ℕ, List, Some, true}
+use Rattle.std.specs.Str.{IsUtf8}
+use Rattle.std.proofs.lemmas.Result.{IfOk-weaker}
+use Rattle.json.specs.Json.{Json, document}
+use Rattle.json.specs.Tree.{depth}
+use Rattle.serde_json.specs.Data.{Data}
+use Rattle.serde_json.specs.Read.{read, max_depth}
+use Rattle.city_decimals.specs.Texts.{IsEncoded, IsDecoded}
+use Rattle.city_decimals.specs.Whole.{is_integral}
+use Rattle.city_decimals.specs.declared.way.Way.TheVariants.{Encode}
+use Rattle.city_decimals.proofs.Changes.{IsBehind, alone, changed_encoded}
 use Rattle.city_decimals.proofs.Texts.{lossless, whole_text, text_read}
 use Rattle.city_decimals.proofs.encoding.encode.Goals as goal
 
+pub returns-clause-encoded : goal.returns-clause-encoded
+returns-clause-encoded c =
+    IfOk-weaker c.change_onto.result (λ v. IsBehind Encode c.args.bytes.now c.in_ok-out.out.items v.items)
+    (λ v. IsEncoded c.args.bytes.now v.items)
+    (λ v h. let made = alone Encode c.args.bytes.now c.in_ok-out.out.items v.items c.in_ok-out.ensures.items h in
+    changed_encoded c.args.bytes.now v.items made.0) c.change_onto.ensures.changed
+
 pub returns-clause-lossless : goal.returns-clause-lossless
 returns-clause-lossless c =
-    let f : Json → List Token = λ j. json_tokens (encoded_top j) in
-    let over : c.encode_top.new.reader ≡ [] = grind arith in
-    let read : written f [] (value max_depth (tokens c.args.bytes.now))
-    ≡ Some (c.encode_top.new.out.tokens, c.encode_top.new.reader) = search rules in
-    let w = whole_read f c.args.bytes.now _ _ over read in
-    let text : c.into_inner.result.items ≡ print (json_tokens (encoded_top w.j)) = search (rules, w.now_is) in
-    lossless c.args.bytes.now w.j w.is w.numbers w.shallow c.into_inner.result.items text
+    IfOk-weaker c.change_onto.result (λ v. IsBehind Encode c.args.bytes.now c.in_ok-out.out.items v.items)
+    (λ v. (back : List ℕ) → IsDecoded v.items back → document back ≡ document c.args.bytes.now)
+    (λ v h. let made = alone Encode c.args.bytes.now c.in_ok-out.out.items v.items c.in_ok-out.ensures.items h in
+    lossless c.args.bytes.now made.0.j made.0.value.1 made.0.numbers made.0.shallow v.items made.0.out_is)
+    c.change_onto.ensures.changed
 
 pub returns-clause-whole : goal.returns-clause-whole
 returns-clause-whole c =
-    let f : Json → List Token = λ j. json_tokens (encoded_top j) in
-    let over : c.encode_top.new.reader ≡ [] = grind arith in
-    let read : written f [] (value max_depth (tokens c.args.bytes.now))
-    ≡ Some (c.encode_top.new.out.tokens, c.encode_top.new.reader) = search rules in
-    let w = whole_read f c.args.bytes.now _ _ over read in
-    let text : c.into_inner.result.items ≡ print (json_tokens (encoded_top w.j)) = search (rules, w.now_is) in
-    whole_text w.j w.numbers c.into_inner.result.items text
+    IfOk-weaker c.change_onto.result (λ v. IsBehind Encode c.args.bytes.now c.in_ok-out.out.items v.items)
+    (λ v. (d : Data) → read v.items ≡ Some d → is_integral d ≡ true)
+    (λ v h. let made = alone Encode c.args.bytes.now c.in_ok-out.out.items v.items c.in_ok-out.ensures.items h in
+    whole_text made.0.j made.0.numbers v.items made.0.out_is) c.change_onto.ensures.changed
 
 pub returns-clause-read : goal.returns-clause-read
 returns-clause-read c =
-    let f : Json → List Token = λ j. json_tokens (encoded_top j) in
-    let over : c.encode_top.new.reader ≡ [] = grind arith in
-    let read : written f [] (value max_depth (tokens c.args.bytes.now))
-    ≡ Some (c.encode_top.new.out.tokens, c.encode_top.new.reader) = search rules in
-    let w = whole_read f c.args.bytes.now _ _ over read in
-    let text : c.into_inner.result.items ≡ print (json_tokens (encoded_top w.j)) = search (rules, w.now_is) in
-    text_read w.j w.numbers c.into_inner.result.items text
+    IfOk-weaker c.change_onto.result (λ v. IsBehind Encode c.args.bytes.now c.in_ok-out.out.items v.items)
+    (λ v. (k : Json) → document v.items ≡ Some k → depth k ≤ max_depth → (d : Data) × (read v.items ≡ Some d))
+    (λ v h. let made = alone Encode c.args.bytes.now c.in_ok-out.out.items v.items c.in_ok-out.ensures.items h in
+    text_read made.0.j made.0.numbers v.items made.0.out_is) c.change_onto.ensures.changed
 
-pub returns-in-Ok-clause-encoded : goal.returns-in-Ok-clause-encoded
-returns-in-Ok-clause-encoded c =
-    let made = c.in-Ok.ensures.ok in
-    let top = top_encoded c.args.bytes.now made.0 made.1 in
-    let out = made.3 ∙ ap (λ o. o ++ made.0) c.in_ok-with_capacity.ensures.items in
-    (top.j, (c.in_ok-text.ensures.ok.1, top.is), out ∙ top.out_is)
-
-pub returns-in-Ok-clause-lossless : goal.returns-in-Ok-clause-lossless
-returns-in-Ok-clause-lossless c =
-    let made = c.in-Ok.ensures.ok in
-    let top = top_encoded c.args.bytes.now made.0 made.1 in
-    let out = made.3 ∙ ap (λ o. o ++ made.0) c.in_ok-with_capacity.ensures.items in
-    lossless c.args.bytes.now top.j top.is top.numbers top.shallow c.in-Ok.encoded.items (out ∙ top.out_is)
-
-pub returns-in-Ok-clause-whole : goal.returns-in-Ok-clause-whole
-returns-in-Ok-clause-whole c =
-    let made = c.in-Ok.ensures.ok in
-    let top = top_encoded c.args.bytes.now made.0 made.1 in
-    let out = made.3 ∙ ap (λ o. o ++ made.0) c.in_ok-with_capacity.ensures.items in
-    whole_text top.j top.numbers c.in-Ok.encoded.items (out ∙ top.out_is)
-
-pub returns-in-Ok-clause-read : goal.returns-in-Ok-clause-read
-returns-in-Ok-clause-read c =
-    let made = c.in-Ok.ensures.ok in
-    let top = top_encoded c.args.bytes.now made.0 made.1 in
-    let out = made.3 ∙ ap (λ o. o ++ made.0) c.in_ok-with_capacity.ensures.items in
-    text_read top.j top.numbers c.in-Ok.encoded.items (out ∙ top.out_is)
+pub returns-clause-utf8 : goal.returns-clause-utf8
+returns-clause-utf8 c =
+    IfOk-weaker c.change_onto.result (λ v. IsBehind Encode c.args.bytes.now c.in_ok-out.out.items v.items)
+    (λ v. IsUtf8 v.items)
+    (λ v h. let made = alone Encode c.args.bytes.now c.in_ok-out.out.items v.items c.in_ok-out.ensures.items h in
+    made.1) c.change_onto.ensures.changed

@@ -5,6 +5,7 @@ use Rattle.std.specs.Result.{IsErrAnd}
 use Rattle.city_decimals.specs.Lines.{AreDecodedLines, IsLinesFault}
 use Rattle.city_decimals.specs.Texts.{IsDecimalsFault}
 use Rattle.city_decimals.specs.declared.fault.DecimalsFault.{DecimalsFault}
+use Rattle.city_decimals.proofs.Changes.{changed_decoded}
 use Rattle.city_decimals.proofs.OneLine.{rest_of, one_line, line_fault, done_with}
 use Rattle.city_decimals.proofs.lines.decode_lines.Goals as goal
 
@@ -14,7 +15,7 @@ loop-at-preserved c =
     let all = l.rest.now in
     let n = c.in-Some.at in
     let line = take n all in
-    let d = c.in_ok-out-2.ensures.decoded in
+    let d = c.in_ok-out-2.ensures.changed in
     let made = d.0 in
     let after = take (length all - (n + 1)) (drop (n + 1) all) in
     let found = c.in-Some.ensures in
@@ -31,7 +32,7 @@ loop-at-preserved c =
       );
       ready = λ more h.
           let one = subst (λ r. AreDecodedLines r (made
-          ++ 10 ∷ more)) (sym all_is) (one_line line made after more found.2 d.1 h) in
+          ++ 10 ∷ more)) (sym all_is) (one_line line made after more found.2 (changed_decoded line made d.1) h) in
           subst (AreDecodedLines c.args.bytes.now) (done_with l.out.items made more
           ∙ ap (λ t. t ++ more) (sym written)) (l.invariant.ready (made ++ 10 ∷ more) one);
     }

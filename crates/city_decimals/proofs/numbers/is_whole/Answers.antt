@@ -1,7 +1,8 @@
 use Rattle.std.proofs.Common.{◌≡◌, drop, get_or, true, false, ◌==◌, sym, ap, ◌∙◌, arith, take_all, length-drop, subst}
 use Rattle.fast_float.specs.Text.{scan}
 use Rattle.serde_json.specs.Read.{number_of, number_from}
-use Rattle.city_decimals.specs.Numbers.{IsPlain, is_written_so}
+use Rattle.city_decimals.specs.Numbers.{is_written_so}
+use Rattle.city_decimals.specs.inside.PlainNumbers.{IsPlain}
 use Rattle.city_decimals.proofs.PlainNumbers.{plain_is_whole}
 use Rattle.city_decimals.proofs.numbers.is_whole.Goals as goal
 

@@ -2,4 +2,4 @@ use Rattle.std.proofs.Common.{refl}
 use Rattle.city_desk.proofs.attempt.step.Goals as goal
 
 pub returns-in_default : goal.returns-in_default
-returns-in_default g c = record { stepped = c.run_command.ensures (g.S.Shelf.list c.args.shelf.now); base = refl; name = refl }
+returns-in_default g c = record { stepped = c.run_command.ensures (g.S.Shelf.list c.args.shelf.now); base = refl; name = refl; published = refl }

@@ -1,4 +1,4 @@
-use Rattle.city_desk.specs.Closing.{KeepsCity, AreOpenFrom}
+use Rattle.city_desk.specs.inside.Closing.{KeepsCity, AreOpenFrom}
 use Rattle.city_desk.proofs.closing.roll_back_all.Given as goal
 
 abbrev pub invariant-loop-script : goal.invariant-loop-script

@@ -12,13 +12,8 @@ returns-clause-ran c document text read =
     record {
       city = c.args.city;
       list = c.args.scripts;
-      stands_for_city = read.stands_for_city;
-      stands_for_scripts = read.stands_for_scripts;
-      admitted = read.admitted;
-      read_as = read.read_as;
-      each_once = run.each_once;
-      fits = run.fits;
-      lawful = run.lawful;
+      read = read;
+      ran = record { each_once = run.each_once; fits = run.fits; lawful = run.lawful };
       output = record {
         model = left.1;
         left = run.model;

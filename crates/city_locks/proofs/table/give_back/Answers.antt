@@ -2,7 +2,7 @@ use Rattle.std.proofs.Common.{ap, sym, ◌∙◌, ◌≡◌, unwrap_or, cond, No
 use Rattle.city_locks.specs.Holders.{without}
 use Rattle.city_model.specs.CityMap.{has_id}
 use Rattle.city_locks.specs.Locks.{holders_of}
-use Rattle.city_locks.specs.Listing.{ids_of}
+use Rattle.city_locks.specs.inside.Listing.{ids_of}
 use Rattle.std.specs.Ordering.{nat_cmp}
 use Rattle.std.specs.BTreeMap.{get}
 use Rattle.city_locks.proofs.Ids.{stamp_apart}

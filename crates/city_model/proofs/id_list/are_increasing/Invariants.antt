@@ -1,5 +1,5 @@
 use Rattle.std.proofs.Common.{◌≡◌, drop}
-use Rattle.city_model.specs.RelationTests.{are_increasing, are_increasing_from}
+use Rattle.city_model.specs.inside.RelationTests.{are_increasing, are_increasing_from}
 use Rattle.city_model.proofs.id_list.are_increasing.Given as goal
 
 -- the answer is that of the ids that are left

@@ -1,5 +1,5 @@
 use Rattle.std.proofs.Common.{◌≡◌, length}
-use Rattle.city_model.specs.RelationTests.{are_distinct}
+use Rattle.city_model.specs.inside.RelationTests.{are_distinct}
 use Rattle.city_model.proofs.id_list.none_recurs.Given as goal
 
 abbrev pub invariant-loop-left : goal.invariant-loop-left

@@ -1,6 +1,7 @@
 use Rattle.std.proofs.Common.{◌∙◌, sym, ap}
 use Rattle.std.specs.List.{list_any}
-use Rattle.city_model.specs.Shells.{has_same_neighbours, bounds_view}
+use Rattle.city_model.specs.Shells.{has_same_neighbours}
+use Rattle.city_model.specs.inside.BorrowedBounds.{bounds_view}
 use Rattle.city_model.proofs.Joined.{surface_of_shells, surface_of_solids}
 use Rattle.city_model.proofs.rings.has_same_twice.Goals as goal
 

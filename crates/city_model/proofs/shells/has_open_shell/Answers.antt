@@ -1,6 +1,7 @@
 use Rattle.std.proofs.Common.{◌≡◌, IfOk, ◌∙◌, sym, ap, subst}
 use Rattle.std.specs.List.{list_any}
-use Rattle.city_model.specs.Shells.{is_open, bounds_view}
+use Rattle.city_model.specs.Shells.{is_open}
+use Rattle.city_model.specs.inside.BorrowedBounds.{bounds_view}
 use Rattle.city_model.proofs.Joined.{shell_of_solids}
 use Rattle.city_model.proofs.shells.has_open_shell.Goals as goal
 

@@ -1,7 +1,8 @@
 use Rattle.std.proofs.Common.{◌≡◌, List, not, map, sym, ap, subst, ◌∙◌}
 use Rattle.std.specs.List.Sorted.{IsPermutation, IsSorted}
 use Rattle.std.proofs.lemmas.Slice.Eq.{slice_eq-Decides}
-use Rattle.city_model.specs.Shells.{Edge, edges_of, rising, flipped}
+use Rattle.city_model.specs.Shells.{Edge, edges_of, flipped}
+use Rattle.city_model.specs.inside.RisingEdges.{rising}
 use Rattle.city_model.proofs.Closed.{closed_where_same, open_where_repeated, pair_decides, edge_order}
 use Rattle.city_model.proofs.shells.shell_closed.Goals as goal
 use Rattle.city_model.proofs.shells.shell_closed.Goals.{then-not-has_repeats, else-not-has_repeats}

@@ -1,4 +1,4 @@
-use Rattle.city_serve.specs.Served.{is_newline, document_of}
+use Rattle.city_serve.specs.Served.{is_newline, document_part}
 use Rattle.std.proofs.Common.{take, length, ap, ◌∙◌}
 use Rattle.std.specs.List.{position_or_len}
 use Rattle.std.proofs.lemmas.List.{length-take, take_min}
@@ -9,6 +9,6 @@ returns-clause-document c =
     let all = c.args.input.items in
     let at = position_or_len is_newline all in
     c.truncate.ensures.items
-    ∙ ap (λ xs. take (length xs) all) (c.cut.ensures.document ∙ ap document_of c.as_slice.ensures.value)
+    ∙ ap (λ xs. take (length xs) all) (c.cut.ensures.document ∙ ap document_part c.as_slice.ensures.value)
     ∙ ap (λ n. take n all) (length-take at all)
     ∙ take_min at all

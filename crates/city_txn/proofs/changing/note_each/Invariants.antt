@@ -3,14 +3,14 @@ use Rattle.std.specs.Prelude.{if◌then◌else◌}
 use Rattle.std.specs.Ordering.{nat_cmp}
 use Rattle.std.specs.Cmp.Lexicographic.{slice_cmp}
 use Rattle.std.specs.BTreeMap.{get, IsOrdered}
-use Rattle.city_model.specs.CityMap.{at, has_id}
-use Rattle.city_txn.specs.Images.{written_at}
-use Rattle.city_txn.specs.UndoState.{image_at}
+use Rattle.city_model.specs.CityMap.{object_at, has_id}
+use Rattle.city_txn.specs.inside.Images.{written_at}
+use Rattle.city_txn.specs.inside.UndoState.{image_at}
 use Rattle.city_txn.proofs.changing.note_each.Given as goal
 
 abbrev pub invariant-loop-id : goal.invariant-loop-id
 invariant-loop-id l = record {
   lists : (q : List ℕ) → get (slice_cmp nat_cmp) l.writes q
-      ≡ (if has_id (take l.id-index l.ids) q then written_at (at l.city.1 q) (image_at l.undo q) else None);
+      ≡ (if has_id (take l.id-index l.ids) q then written_at (object_at l.city.1 q) (image_at l.undo q) else None);
   ordered : IsOrdered (slice_cmp nat_cmp) l.writes;
 }

@@ -1,6 +1,6 @@
 use Rattle.std.proofs.Common.{◌≡◌, length}
 use Rattle.city_model.proofs.FirstOrphan.{first_orphan}
-use Rattle.city_txn.specs.Changing.{objects_in}
+use Rattle.city_txn.specs.inside.Orphans.{objects_in}
 use Rattle.city_txn.proofs.changing.orphan_in.Given as goal
 
 abbrev pub invariant-loop-left : goal.invariant-loop-left

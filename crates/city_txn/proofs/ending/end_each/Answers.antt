@@ -1,9 +1,9 @@
 use Rattle.std.proofs.Common.{take, length, ◌<◌, arith, subst}
 use Rattle.std.specs.Prelude.{List, ℕ}
 use Rattle.std.proofs.lemmas.List.{take_all}
-use Rattle.city_model.specs.CityMap.{at, has_id}
-use Rattle.city_txn.specs.Ending.{left_by, AreEnded}
-use Rattle.city_txn.specs.UndoState.{image_at}
+use Rattle.city_model.specs.CityMap.{object_at, has_id}
+use Rattle.city_txn.specs.inside.Ending.{left_at_end, AreEnded}
+use Rattle.city_txn.specs.inside.UndoState.{image_at}
 use Rattle.city_txn.proofs.EachId.{none_ended, one_more_ended, still_has_slot}
 use Rattle.city_txn.proofs.ending.end_each.Goals as goal
 
@@ -13,7 +13,7 @@ loop-id-init c = none_ended c.args.end c.args.city.now c.args.undo.now
 pub end_one-requires : goal.end_one-requires
 end_one-requires c =
     let id = c.id-item.result in
-    still_has_slot (left_by c.args.end) (at c.args.city.now.1 id) (at c.loop-id.city.1 id) (image_at c.args.undo.now id) (image_at c.loop-id.undo id)
+    still_has_slot (left_at_end c.args.end) (object_at c.args.city.now.1 id) (object_at c.loop-id.city.1 id) (image_at c.args.undo.now id) (image_at c.loop-id.undo id)
     (has_id (take c.loop-id.id-index c.args.ids.now) id) (c.requires id) (c.loop-id.invariant.city id) (c.loop-id.invariant.images id)
 
 pub loop-id-preserved : goal.loop-id-preserved

@@ -1,8 +1,8 @@
 use Rattle.std.proofs.Common.{◌≢◌, ◌∙◌, sym, rules, drop, subst}
 use Rattle.city_model.specs.Meaning.{locks_of}
 use Rattle.city_locks.specs.declared.answer.Answer.TheVariants.{Granted}
-use Rattle.city_txn.specs.State.{view}
-use Rattle.city_txn.specs.Locking.{Asked}
+use Rattle.city_txn.specs.inside.State.{view}
+use Rattle.city_txn.specs.inside.Asking.{Asked}
 use Rattle.city_txn.proofs.LocksAsked.{asked_granted, asked_refused, asked_failed}
 use Rattle.city_txn.proofs.lock.lock.Goals as goal
 

@@ -3,7 +3,7 @@ use Rattle.std.specs.declared.alloc.AllocError.{AllocError}
 use Rattle.city_model.specs.Meaning.{exclusively}
 use Rattle.city_locks.specs.declared.answer.Answer.{Answer}
 use Rattle.city_locks.specs.Locks.{Locks}
-use Rattle.city_txn.specs.Locking.{Asked}
+use Rattle.city_txn.specs.inside.Asking.{Asked}
 use Rattle.city_txn.proofs.lock.lock_each.Given as goal
 
 -- what comes of the ids that are left is what comes of all

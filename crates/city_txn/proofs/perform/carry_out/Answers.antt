@@ -1,8 +1,8 @@
 use Rattle.std.proofs.Common.{◌∙◌, sym, subst}
 use Rattle.city_model.specs.Meaning.{locks_of}
 use Rattle.city_model.proofs.FrameLaw.{exclusive_is_named}
-use Rattle.city_txn.specs.State.{view}
-use Rattle.city_model.specs.Plans.{IsPlan, AreWritesOf}
+use Rattle.city_txn.specs.inside.State.{view}
+use Rattle.city_model.specs.inside.Plans.{IsPlan, AreWritesOf}
 use Rattle.city_txn.proofs.PerformDone.{refused_performed, unwritten_performed, written_performed}
 use Rattle.city_txn.proofs.perform.carry_out.Goals as goal
 

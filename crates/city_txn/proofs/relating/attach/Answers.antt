@@ -3,7 +3,7 @@ use Rattle.std.specs.Prelude.{if◌then◌else◌, option_map, IfOk}
 use Rattle.std.proofs.lemmas.Bool.{and_parts, or_left}
 use Rattle.city_model.specs.CityMap.{same_id}
 use Rattle.city_model.specs.Meaning.{with_child}
-use Rattle.city_model.specs.Plans.{AreWritesOf}
+use Rattle.city_model.specs.inside.Plans.{AreWritesOf}
 use Rattle.city_model.specs.declared.object.Object.{Object}
 use Rattle.city_model.specs.declared.command.Cause.{Cause}
 use Rattle.city_model.specs.declared.command.Command.{Command}
@@ -11,9 +11,10 @@ use Rattle.city_model.specs.declared.command.Command.TheVariants.{Attach}
 use Rattle.city_model.specs.declared.command.Reply.TheVariants.{Attached}
 use Rattle.city_model.proofs.Ids.{same_id_itself}
 use Rattle.city_model.proofs.Planned.{related}
-use Rattle.city_txn.specs.State.{State, write_of, rewritten, is_by, is_reserved, view}
+use Rattle.city_txn.specs.inside.State.{State, rewritten, is_reserved, view}
+use Rattle.city_txn.specs.Writes.{write_of, is_by}
 use Rattle.city_txn.specs.UndoLog.{log_of}
-use Rattle.city_txn.specs.Performing.{Performed}
+use Rattle.city_txn.specs.inside.Performing.{IsPerform}
 use Rattle.city_txn.proofs.PlanWritten.{reserved_by}
 use Rattle.city_txn.proofs.RelatedInPlace.{child_reserved, related_unwritten, related_performed}
 use Rattle.city_txn.proofs.relating.attach.Goals as goal
@@ -35,7 +36,7 @@ returns-in_err-push_child c =
     subst (λ (x : Result Object Cause). IfOk x (λ o. AreWritesOf m command Attached (related m c.args.child.now (Some o) c.args.parent.now (with_child c.args.child.now)))) c.in-Ok.is c.in_ok-below.ensures.writes in
     let in_place = and_parts (is_by c.args.stamp (write_of c.args.store.now.writes c.args.parent.now)) (length (log_of c.args.logs.now c.args.stamp) == 0) c.requires.in_place in
     let e = c.in_err-push_child.ensures in
-    subst (λ (w : State). Performed c.args.stamp command c.from_residual-in_err-push_child.result c.args.store.now c.args.logs.now w c.args.logs.now) (sym e.err)
+    subst (λ (w : State). IsPerform c.args.stamp command c.from_residual-in_err-push_child.result c.args.store.now c.args.logs.now w c.args.logs.now) (sym e.err)
     (related_unwritten c.args.stamp command Attached c.args.child.now c.args.parent.now (Some c.in-Ok.below) (with_child c.args.child.now) c.args.store.now c.reserve.new.self c.args.logs.now
     refl is in_place.1 c.requires.noted c.in_ok-reserve.ensures.same c.in_ok-reserve.ensures.ok
     c.from_residual-in_err-push_child.result c.from_residual-in_err-push_child.ensures.0)

@@ -7,7 +7,8 @@ use Rattle.city_model.specs.declared.command.Command.TheVariants.{Delete}
 use Rattle.city_model.specs.declared.command.Reply.TheVariants.{Deleted}
 use Rattle.city_model.proofs.Ids.{same_id_itself}
 use Rattle.city_model.proofs.Planned.{only_parent_writes}
-use Rattle.city_txn.specs.State.{write_of, is_by, is_reserved, view}
+use Rattle.city_txn.specs.Writes.{write_of, is_by}
+use Rattle.city_txn.specs.inside.State.{is_reserved, view}
 use Rattle.city_txn.specs.UndoLog.{log_of}
 use Rattle.city_txn.proofs.PlanWritten.{reserved_by}
 use Rattle.city_txn.proofs.RelatedInPlace.{child_reserved, related_performed}

@@ -3,7 +3,7 @@ use Rattle.std.specs.Prelude.{if◌then◌else◌, IfOk}
 use Rattle.std.proofs.lemmas.Bool.{and_parts, or_left}
 use Rattle.city_model.specs.CityMap.{same_id}
 use Rattle.city_model.specs.Meaning.{without_child}
-use Rattle.city_model.specs.Plans.{AreWritesOf}
+use Rattle.city_model.specs.inside.Plans.{AreWritesOf}
 use Rattle.city_model.specs.declared.object.Object.{Object}
 use Rattle.city_model.specs.declared.command.Cause.{Cause}
 use Rattle.city_model.specs.declared.command.Command.{Command}
@@ -11,7 +11,8 @@ use Rattle.city_model.specs.declared.command.Command.TheVariants.{Detach}
 use Rattle.city_model.specs.declared.command.Reply.TheVariants.{Detached}
 use Rattle.city_model.proofs.Ids.{same_id_itself}
 use Rattle.city_model.proofs.Planned.{related}
-use Rattle.city_txn.specs.State.{write_of, is_by, is_reserved, view}
+use Rattle.city_txn.specs.Writes.{write_of, is_by}
+use Rattle.city_txn.specs.inside.State.{is_reserved, view}
 use Rattle.city_txn.specs.UndoLog.{log_of}
 use Rattle.city_txn.proofs.PlanWritten.{reserved_by}
 use Rattle.city_txn.proofs.RelatedInPlace.{child_reserved, related_performed}

@@ -1,8 +1,9 @@
 use Rattle.std.proofs.Common.{◌∙◌, ◌<◌, length, take, ap, sym, arith}
 use Rattle.city_model.specs.CityMap.{same_id}
 use Rattle.city_model.proofs.Ids.{same_id_true}
-use Rattle.city_txn.specs.UndoLog.{log_of, is_noted}
-use Rattle.city_txn.specs.Performing.{plans}
+use Rattle.city_txn.specs.UndoLog.{log_of}
+use Rattle.city_txn.specs.inside.LogTests.{is_noted}
+use Rattle.city_txn.specs.inside.Performing.{plans}
 use Rattle.city_txn.proofs.PlanWritten.{or_cases, plans_got, plans_more}
 use Rattle.city_txn.proofs.writing.note_all.Goals as goal
 

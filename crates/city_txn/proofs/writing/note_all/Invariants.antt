@@ -1,7 +1,8 @@
 use Rattle.std.proofs.Common.{◌≡◌, ◌==◌, ℕ, List, true, false, take}
-use Rattle.city_txn.specs.State.{own}
-use Rattle.city_txn.specs.UndoLog.{log_of, marked, is_noted}
-use Rattle.city_txn.specs.Performing.{plans, AreNoted}
+use Rattle.city_txn.specs.inside.State.{own}
+use Rattle.city_txn.specs.UndoLog.{log_of, marked}
+use Rattle.city_txn.specs.inside.LogTests.{is_noted}
+use Rattle.city_txn.specs.inside.Performing.{plans, AreNoted}
 use Rattle.city_txn.proofs.writing.note_all.Given as goal
 
 abbrev pub invariant-loop-write : goal.invariant-loop-write

@@ -1,7 +1,7 @@
 use Rattle.std.proofs.Common.{◌==◌, ◌&&◌, ◌∙◌, length, ◌<◌, arith}
 use Rattle.std.proofs.lemmas.Bool.{or_right}
 use Rattle.city_model.specs.CityMap.{same_id}
-use Rattle.city_txn.specs.State.{is_reserved}
+use Rattle.city_txn.specs.inside.State.{is_reserved}
 use Rattle.city_txn.proofs.PlanWritten.{still_alone, reserved_more, done_more, sees_on, sees_unchanged}
 use Rattle.city_txn.proofs.writing.reserve_all.Goals as goal
 

@@ -1,6 +1,6 @@
 use Rattle.std.proofs.Common.{◌≡◌, ◌==◌, ◌&&◌, ◌||◌, ℕ, List, true, take}
-use Rattle.city_txn.specs.State.{is_reserved, SeesSame}
-use Rattle.city_txn.specs.Performing.{plans}
+use Rattle.city_txn.specs.inside.State.{is_reserved, SeesSame}
+use Rattle.city_txn.specs.inside.Performing.{plans}
 use Rattle.city_txn.proofs.writing.reserve_all.Given as goal
 
 abbrev pub invariant-loop-write : goal.invariant-loop-write

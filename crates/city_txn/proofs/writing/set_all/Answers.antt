@@ -2,8 +2,8 @@ use Rattle.std.proofs.Common.{◌≡◌, ◌∙◌, ◌∷◌, ◌++◌, [], Som
 use Rattle.std.specs.Prelude.{if◌then◌else◌}
 use Rattle.std.proofs.lemmas.Bool.{false_from_ne_true}
 use Rattle.city_model.proofs.IdLists.{not_both}
-use Rattle.city_txn.specs.Performing.{plans}
-use Rattle.city_txn.specs.State.{write_of}
+use Rattle.city_txn.specs.inside.Performing.{plans}
+use Rattle.city_txn.specs.Writes.{write_of}
 use Rattle.city_txn.proofs.PlanWritten.{plans_this, plans_before, plans_apart, of_before, written_last, reserved_by}
 use Rattle.city_txn.proofs.writing.set_all.Goals as goal
 

@@ -1,9 +1,10 @@
 use Rattle.std.proofs.Common.{◌≡◌, ℕ, List, Some, true, false, vec_len}
 use Rattle.std.specs.Prelude.{if◌then◌else◌}
 use Rattle.city_model.specs.CityMap.{CityMap}
-use Rattle.city_txn.specs.State.{write_of, unless_by, is_reserved, committed}
-use Rattle.city_model.specs.Plans.{AreOf}
-use Rattle.city_txn.specs.Performing.{plans}
+use Rattle.city_txn.specs.Writes.{write_of, unless_by}
+use Rattle.city_txn.specs.inside.State.{is_reserved, committed}
+use Rattle.city_model.specs.inside.Plans.{AreOf}
+use Rattle.city_txn.specs.inside.Performing.{plans}
 use Rattle.city_txn.proofs.writing.set_all.Given as goal
 
 abbrev pub invariant-loop-write : goal.invariant-loop-write

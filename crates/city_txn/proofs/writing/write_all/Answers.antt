@@ -2,9 +2,11 @@ use Rattle.std.proofs.Common.{◌≡◌, ◌∙◌, ap, rules, ℕ, List, false}
 use Rattle.std.proofs.lemmas.Bool.{false_from_ne_true}
 use Rattle.city_model.proofs.IdLists.{not_both}
 use Rattle.city_model.specs.Runs.{Change}
-use Rattle.city_txn.specs.State.{State, own, own_write}
-use Rattle.city_txn.specs.UndoLog.{log_of, marked, is_noted}
-use Rattle.city_txn.specs.Performing.{plans}
+use Rattle.city_txn.specs.inside.State.{State, own}
+use Rattle.city_txn.specs.Writes.{own_write}
+use Rattle.city_txn.specs.UndoLog.{log_of, marked}
+use Rattle.city_txn.specs.inside.LogTests.{is_noted}
+use Rattle.city_txn.specs.inside.Performing.{plans}
 use Rattle.city_txn.proofs.PlanWritten.{own_reserved}
 use Rattle.city_txn.proofs.UndoLogs.{marked_same}
 use Rattle.city_txn.proofs.writing.write_all.Goals as goal

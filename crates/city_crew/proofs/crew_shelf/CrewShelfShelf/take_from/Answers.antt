@@ -1,7 +1,7 @@
 use Rattle.std.proofs.Common.{◌≡◌, [], ◌∷◌, ◌++◌, OnOk, sym, subst}
 use Rattle.city_model.specs.Runs.{Change}
 use Rattle.city_txn.specs.Changing.{IsChangeOf}
-use Rattle.city_crew.specs.CrewShelves.{taken_by}
+use Rattle.city_crew.specs.inside.CrewShelves.{taken_by}
 use Rattle.city_crew.proofs.crew_shelf.CrewShelfShelf.take_from.Goals as goal
 
 pub returns-in-Unseen-clause-ok : goal.returns-in-Unseen-clause-ok

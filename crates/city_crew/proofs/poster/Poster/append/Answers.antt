@@ -1,8 +1,8 @@
 use Rattle.std.proofs.Common.{rules, ◌≡◌, ◌∷◌, ◌++◌, [], drop, ap, sym, ◌∙◌, subst}
 use Rattle.left_right.specs.Sides.{view}
-use Rattle.city_model.specs.CityMap.{at}
+use Rattle.city_model.specs.CityMap.{object_at}
 use Rattle.city_model.specs.Relations.{IsLawful}
-use Rattle.city_model.specs.Runs.{shown}
+use Rattle.city_model.specs.Runs.{after_changes}
 use Rattle.city_desk.proofs.Shelved.{if_some_to}
 use Rattle.city_crew.specs.BoardValues.{PosterValue}
 use Rattle.city_crew.specs.HistoryValue.{HistoryValue, history_of}
@@ -18,8 +18,8 @@ invariant_of-self-2 g c =
     let history : c.in-Some.history ≡ history_of p.taken.name (p.taken.changes ++ c.args.change ∷ []) = c.in-Some.ensures ∙ c.with-addition.ensures in
     let again : c.again.result ≡ c.in-Some.history = c.again.ensures in
     let items : c.push_back_reserved.new.self.items ≡ p.waiting.items ++ e ∷ [] = search rules in
-    let lawful : IsLawful (shown (at p.opening.1) (p.taken.changes ++ c.args.change ∷ [])) =
-    subst (λ (b : PosterValue). IsLawful (shown (at b.opening.1) (b.taken ++ c.args.change ∷ []))) (sym c.self.view_is) c.requires.lawful in
+    let lawful : IsLawful (after_changes (object_at p.opening.1) (p.taken.changes ++ c.args.change ∷ [])) =
+    subst (λ (b : PosterValue). IsLawful (after_changes (object_at b.opening.1) (b.taken ++ c.args.change ∷ []))) (sym c.self.view_is) c.requires.lawful in
     rw (again, items) (
       c.self.invariant.0,
       ap (λ (q : HistoryValue). q.name) history ∙ c.self.invariant.1,

@@ -1,7 +1,7 @@
 use Rattle.std.proofs.Common.{rules, Some, ◌≡◌, ◌++◌, [], List, drop, ap, sym, ◌∙◌, subst, refl}
 use Rattle.std.proofs.lemmas.List.{append-nil}
 use Rattle.left_right.specs.Sides.{view}
-use Rattle.city_crew.specs.BoardRule.{HoldsEdits}
+use Rattle.city_crew.specs.inside.BoardRule.{HoldsEdits}
 use Rattle.city_crew.specs.declared.version.Edit.{Edit}
 use Rattle.city_crew.proofs.HeldEdits.{holds_published}
 use Rattle.city_crew.proofs.LaterVersions.{all_later}

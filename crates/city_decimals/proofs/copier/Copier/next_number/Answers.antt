@@ -1,6 +1,6 @@
 use Rattle.std.proofs.Common.{◌<◌, take, sym, subst, arith}
 use Rattle.std.proofs.lemmas.List.{get_or-take, length-take}
-use Rattle.city_decimals.specs.Copies.{IsPlainByte}
+use Rattle.city_decimals.specs.inside.Copies.{IsPlainByte}
 use Rattle.city_decimals.proofs.Copies.{plain_text}
 use Rattle.city_decimals.proofs.copier.Copier.next_number.Goals as goal
 

@@ -1,7 +1,7 @@
 use Rattle.std.proofs.Common.{◌<◌, take, get_or, sym, subst, arith}
 use Rattle.std.proofs.lemmas.List.{get_or-take, length-take}
 use Rattle.json.specs.Print.{IsNumber}
-use Rattle.city_decimals.specs.Copies.{IsPlainByte}
+use Rattle.city_decimals.specs.inside.Copies.{IsPlainByte}
 use Rattle.city_decimals.proofs.Copies.{plain_text}
 use Rattle.city_decimals.proofs.copier.Copier.pass_other_number.Goals as goal
 

@@ -4,7 +4,7 @@ use Rattle.json.specs.Token.{key}
 use Rattle.json.specs.Tree.{json_tokens, items_tokens, members_tokens, HasNumbers, ItemsHaveNumbers, MembersHaveNumbers}
 use Rattle.json.specs.Value.{value_view, items_view, members_view}
 use Rattle.json.proofs.Trees.{item_smaller, member_smaller}
-use Rattle.city_decimals.specs.Inner.{inner}
+use Rattle.city_decimals.specs.inside.Inner.{inner}
 use Rattle.city_decimals.specs.Decoded.{decoded, decoded_members}
 use Rattle.city_decimals.proofs.Insides.{inner_decoded, inner_smaller, inner_numbers}
 use Rattle.city_decimals.proofs.Forms.{in_two}

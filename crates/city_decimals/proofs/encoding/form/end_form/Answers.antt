@@ -5,7 +5,7 @@ use Rattle.std.proofs.lemmas.Fmt.{decimal_digit}
 use Rattle.json.specs.Token.{Token, end_object, key}
 use Rattle.json.specs.Tree.{json_tokens}
 use Rattle.city_decimals.specs.Shapes.{three}
-use Rattle.city_decimals.specs.Forms.{tokens_after}
+use Rattle.city_decimals.specs.inside.Forms.{tokens_after}
 use Rattle.city_decimals.proofs.encoding.form.end_form.Goals as goal
 
 flat : (a t u : List Token) (k l e : Token)

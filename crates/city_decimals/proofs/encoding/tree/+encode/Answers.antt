@@ -5,7 +5,7 @@ use Rattle.json.specs.Tree.{json_tokens, members_tokens, MembersHaveNumbers}
 use Rattle.json.specs.Value.{value_view, members_view}
 use Rattle.city_decimals.specs.Shapes.{in_form}
 use Rattle.city_decimals.specs.Encoded.{encoded, encoded_members}
-use Rattle.city_decimals.specs.Forms.{tokens_before, tokens_after}
+use Rattle.city_decimals.specs.inside.Forms.{tokens_before, tokens_after}
 use Rattle.city_decimals.proofs.Forms.{around, in_pieces}
 use Rattle.city_decimals.proofs.encoding.tree.+encode.Goals as goal
 

@@ -1,10 +1,14 @@
 use Rattle.std.proofs.Common.{ap, sym, subst, arith}
 use Rattle.city_desk.specs.Serial.{IsSerial}
-use Rattle.city_desk.proofs.OpenTurns.{shows_core, place_for_end, turn_goes_on, turn_ends}
+use Rattle.city_desk.proofs.OpenTurns.{shows_core, place_for_end, place_for_reply, turn_goes_on, turn_ends}
 use Rattle.city_desk.proofs.desk.Desk.go_on.Goals as goal
 
 pub step-requires-clause-shows : goal.step-requires-clause-shows
 step-requires-clause-shows g c κs within = shows_core _ _ _ c.self.invariant.0
+
+pub step-requires-clause-place : goal.step-requires-clause-place
+step-requires-clause-place g c κs within =
+    place_for_reply (ap (λ v. v.0) c.self.view_is) (ap (λ v. g.S.Shelf.list v.1) c.self.view_is) c.self.invariant.0 c.requires.opened c.requires.there c.self.invariant.1 c.index_mut-progress.ensures.value
 
 pub record_end-requires : goal.record_end-requires
 record_end-requires g c =

@@ -1,10 +1,10 @@
 use Rattle.std.proofs.Common.{◌≡◌, ◌≤◌, length, ap, ◌∙◌, subst, arith}
 use Rattle.std.specs.Prelude.{vec_capacity}
 use Rattle.city_model.specs.Scripts.{AreScripts}
-use Rattle.city_desk.specs.Opening.{opened, names_of, unbegun_each}
+use Rattle.city_desk.specs.Opening.{opened, unbegun_each}
 use Rattle.city_desk.specs.DeskState.{DeskState}
 use Rattle.city_desk.specs.Serial.{IsSerial}
-use Rattle.city_desk.specs.Room.{HasRoom}
+use Rattle.city_desk.specs.inside.Room.{names_of, HasRoom}
 use Rattle.city_desk.proofs.Opened.{opened_as, opened_serial, opened_room}
 use Rattle.city_desk.proofs.desk.Desk.open.Goals as goal
 

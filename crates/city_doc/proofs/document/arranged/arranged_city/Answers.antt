@@ -6,7 +6,7 @@ use Rattle.std.specs.Ordering.{nat_cmp}
 use Rattle.std.specs.Map.{keys_of}
 use Rattle.std.proofs.lemmas.Cmp.{nat_list_cmp_total}
 use Rattle.city_model.proofs.Objects.{entries_ascend}
-use Rattle.city_doc.specs.document.Arranged.{AreArranged}
+use Rattle.city_doc.specs.inside.document.Arranged.{AreArranged}
 use Rattle.city_doc.proofs.document.ArrangedCities.{IsArranging, keys_arranging, arranging_more, all_arranged}
 use Rattle.city_doc.proofs.document.Objects.{insert_last}
 use Rattle.city_doc.proofs.document.arranged.arranged_city.Goals as goal

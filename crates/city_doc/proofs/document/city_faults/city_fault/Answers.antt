@@ -1,7 +1,7 @@
 use Rattle.std.proofs.Common.{option_map, None, ◌≡◌, sym, ap, subst, ◌∙◌}
 use Rattle.std.specs.Prelude.{IfSome, IfNone}
 use Rattle.std.specs.FinMap.{entries}
-use Rattle.city_model.specs.CityMap.{at}
+use Rattle.city_model.specs.CityMap.{object_at}
 use Rattle.city_model.specs.Relations.{IsRelated}
 use Rattle.city_model.specs.Shells.{some_shape, has_open_shell}
 use Rattle.city_doc.specs.declared.fault.ReadFault.TheVariants.{BadRing, OpenShell}
@@ -33,7 +33,7 @@ returns-in-Some-2 c = λ points objects h.
     let ringed = sym (first_body-with is_bad_ringed points objects es h.read) ∙ rings in
     let none = c.in_default-badly_related.is in
     let lists = subst (λ o. IfNone o (option_map (λ id. id.now) c.args.bad_list ≡ None)) none c.in_ok-badly_related.ensures.lists in
-    let agree = subst (λ o. IfNone o (IsRelated (at c.args.city.now.1))) none c.in_ok-badly_related.ensures.related in
+    let agree = subst (λ o. IfNone o (IsRelated (object_at c.args.city.now.1))) none c.in_ok-badly_related.ensures.related in
     let related = none_badly_related points objects c.args.city.now.1 _ h lists agree in
     let found = sym c.in_ok-id-3.ensures ∙ ap (option_map (λ id. id.now)) c.in-Some-2.is in
     subst (λ i. IsFirst (StandsAmong points objects) (OpenShell i)) (sym (c.in_ok-id-4.ensures ∙ c.as_str-in-Some-2.ensures))
@@ -45,5 +45,5 @@ returns c = λ points objects h.
     let shells = sym c.in_ok-id-3.ensures ∙ ap (option_map (λ id. id.now)) c.in_default-2.is in
     let none = c.in_default-badly_related.is in
     let lists = subst (λ o. IfNone o (option_map (λ id. id.now) c.args.bad_list ≡ None)) none c.in_ok-badly_related.ensures.lists in
-    let agree = subst (λ o. IfNone o (IsRelated (at c.args.city.now.1))) none c.in_ok-badly_related.ensures.related in
+    let agree = subst (λ o. IfNone o (IsRelated (object_at c.args.city.now.1))) none c.in_ok-badly_related.ensures.related in
     (lawful c.args.city.now.1 agree rings shells, lists)

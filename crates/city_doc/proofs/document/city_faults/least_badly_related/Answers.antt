@@ -1,10 +1,10 @@
 use Rattle.std.proofs.Common.{sym, ap, ◌∙◌}
 use Rattle.std.specs.Prelude.{option_map}
 use Rattle.std.proofs.lemmas.Iterator.Adapters.{option_map_id}
-use Rattle.city_model.specs.CityMap.{at}
+use Rattle.city_model.specs.CityMap.{object_at}
 use Rattle.city_model.specs.Misrelated.{IsMisrelatedAt}
 use Rattle.city_doc.specs.document.CityFaults.{IsBadlyRelatedAt}
-use Rattle.city_doc.specs.document.LenientCities.{lesser}
+use Rattle.city_doc.specs.inside.document.LenientCities.{lesser}
 use Rattle.city_doc.proofs.document.Least.{none_misrelated, least_badly_related, any_of, of_any, if_none, from_none, mapped, lesser-none}
 use Rattle.city_doc.proofs.document.city_faults.least_badly_related.Goals as goal
 
@@ -22,7 +22,7 @@ returns-clause-lists c =
 
 pub returns-clause-least : goal.returns-clause-least
 returns-clause-least c = λ points objects h.
-    let m = at c.args.city.now.1 in
+    let m = object_at c.args.city.now.1 in
     let least = c.in_ok-least.least in
     let found = c.in_ok-misrelated.misrelated in
     let first = any_of (λ id. id) (IsMisrelatedAt m) found c.in_ok-misrelated.ensures.least (mapped (λ id. id) found (none_misrelated m) c.in_ok-misrelated.ensures.none) in

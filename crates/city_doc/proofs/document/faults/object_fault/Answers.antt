@@ -45,3 +45,11 @@ returns-in-Some-first_with-3 c =
     let found = sym c.first_with-4.ensures.first ∙ ap (option_map (λ s. s.now)) c.in-Some-first_with-3.is in
     subst (λ i. IsFirst (StandsAmong c.args.points.now ms) (BadVertex i)) (sym c.in_ok-id-4.ensures)
     (first_bad_vertex c.args.points.now ms c.first_with.ensures.ordered known supported _ formed found)
+
+pub returns : goal.returns
+returns c =
+    let known = sym c.first_with.ensures.first ∙ ap (option_map (λ s. s.now)) c.in_default.is in
+    let supported = sym c.first_with-2.ensures.first ∙ ap (option_map (λ s. s.now)) c.in_default-first_with.is in
+    let formed = sym c.first_with-3.ensures.first ∙ ap (option_map (λ s. s.now)) c.in_default-first_with-2.is in
+    let placed = sym c.first_with-4.ensures.first ∙ ap (option_map (λ s. s.now)) c.in_default-first_with-3.is in
+    record { known = known; supported = supported; formed = formed; placed = placed }

@@ -1,7 +1,7 @@
 use Rattle.std.proofs.Common.{subst, ◌∙◌}
 use Rattle.std.specs.Prelude.{MatchOption}
 use Rattle.serde_json.specs.View.{view}
-use Rattle.city_doc.specs.document.Forms.{HasForm}
+use Rattle.city_doc.specs.inside.document.Forms.{HasForm}
 use Rattle.city_doc.specs.document.Faults.{IsFirst, StandsIn}
 use Rattle.city_doc.proofs.document.Totals.{no_city}
 use Rattle.city_doc.proofs.document.faults.tree_fault.Goals as goal

@@ -11,9 +11,8 @@ returns-in_err-tree-clause-refused c = let fault : IfErr c.from_residual.result 
 pub returns-in-Ok-Some-clause-admitted : goal.returns-in-Ok-Some-clause-admitted
 returns-in-Ok-Some-clause-admitted c =
     let d = view c.in_ok-tree.tree in
-    let stands = rw c.in-Ok-Some.field-0-is at c.in-Ok-Some.ensures.stands in
-    let lawful = rw c.in-Ok-Some.field-0-is at c.in-Ok-Some.ensures.lawful in
-    (d, c.in_ok-tree.ensures.tree, text_is_whole c.args.bytes.now d c.in-Ok-Some.city c.in_ok-tree.ensures.tree.1 stands, stands, lawful)
+    let built = rw c.in-Ok-Some.field-0-is at c.in-Ok-Some.ensures.built in
+    (d, c.in_ok-tree.ensures.tree, text_is_whole c.args.bytes.now d c.in-Ok-Some.city c.in_ok-tree.ensures.tree.1 built.0, built.0, built.1)
 
 pub returns-in-Ok-None-clause-refused : goal.returns-in-Ok-None-clause-refused
 returns-in-Ok-None-clause-refused c = refused c.args.bytes.now c.objects_fault.result c.objects_fault.ensures

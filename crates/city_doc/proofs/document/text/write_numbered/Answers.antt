@@ -6,9 +6,11 @@ use Rattle.city_model.specs.CityMap.{CityValue}
 use Rattle.city_model.specs.Members.{AreOrdered}
 use Rattle.city_model.specs.declared.object.Point.{Point}
 use Rattle.city_doc.specs.document.Canonical.{transform_data, numbered_tree}
-use Rattle.city_doc.specs.Pool.{city_points, pool_of, with_points}
+use Rattle.city_doc.specs.Pool.{city_points, pool_of}
+use Rattle.city_doc.specs.inside.Pool.{with_points}
 use Rattle.city_doc.specs.document.Ranges.{IsInRange}
-use Rattle.city_doc.specs.tree.Tokens.{tokens_of, ReadsBack}
+use Rattle.city_doc.specs.tree.Tokens.{tokens_of}
+use Rattle.city_doc.specs.inside.tree.ReadsBack.{ReadsBack}
 use Rattle.city_doc.proofs.tree.Among.{puts, begun, value_written, end_written, reads_parts, reads_all, own_read, string_reads}
 use Rattle.city_doc.proofs.document.FramesRead.{LacksTopMembers, top_members_lacking}
 use Rattle.city_doc.proofs.pool.Repeats.{pool_is_without_repeats}

@@ -3,7 +3,8 @@ use Rattle.std.proofs.lemmas.Result.{on_ok_weaker}
 use Rattle.serde_json.specs.Data.{object}
 use Rattle.serde_json.specs.View.{members_view}
 use Rattle.city_model.specs.Members.{AreOrdered}
-use Rattle.city_doc.specs.tree.Tokens.{tokens_of, ReadsBack}
+use Rattle.city_doc.specs.tree.Tokens.{tokens_of}
+use Rattle.city_doc.specs.inside.tree.ReadsBack.{ReadsBack}
 use Rattle.city_doc.proofs.tree.Among.{puts, begun, value_written, end_written, reads_parts, reads_all, own_read}
 use Rattle.city_doc.proofs.document.FramesRead.{LacksTransformMembers, transform_members_lacking}
 use Rattle.city_doc.proofs.document.OwnMembers.{transform_own, transform_puts}

@@ -2,7 +2,7 @@ use Rattle.std.proofs.Common.{map, subst, ◌∙◌}
 use Rattle.std.proofs.lemmas.Result.{on_ok_weaker}
 use Rattle.serde_json.specs.View.{items_of}
 use Rattle.city_doc.specs.document.Canonical.{vertex_data, vertices_data}
-use Rattle.city_doc.specs.tree.Tokens.{ReadsBack}
+use Rattle.city_doc.specs.inside.tree.ReadsBack.{ReadsBack}
 use Rattle.city_doc.proofs.tree.ReadBack.{array_reads}
 use Rattle.city_doc.proofs.tree.WrittenItems.{all_read}
 use Rattle.city_doc.proofs.document.text.write_vertices.Goals as goal

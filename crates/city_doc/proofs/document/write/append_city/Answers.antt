@@ -13,7 +13,8 @@ use Rattle.city_doc.specs.document.Canonical.{tree_of, city_text}
 use Rattle.city_doc.specs.document.CanonicalTexts.{IsCanonicalText}
 use Rattle.city_doc.specs.document.Cities.{StandsForCity}
 use Rattle.city_doc.specs.tree.Texts.{IsText}
-use Rattle.city_doc.specs.tree.Tokens.{tokens_of, ReadsBack}
+use Rattle.city_doc.specs.tree.Tokens.{tokens_of}
+use Rattle.city_doc.specs.inside.tree.ReadsBack.{ReadsBack}
 use Rattle.city_doc.proofs.document.CityNests.{written_within}
 use Rattle.city_doc.proofs.document.LawfulTrees.{not_refused}
 use Rattle.city_doc.proofs.OneValue.{one_city}

@@ -3,10 +3,11 @@ use Rattle.std.proofs.lemmas.Result.{on_ok_weaker}
 use Rattle.json.specs.Token.{key}
 use Rattle.serde_json.specs.Data.{Data}
 use Rattle.serde_json.specs.View.{members_view}
-use Rattle.city_doc.specs.tree.Between.{members_between}
+use Rattle.city_doc.specs.inside.tree.Between.{members_between}
 use Rattle.city_doc.specs.tree.Lists.{list_data}
-use Rattle.city_doc.specs.tree.Tokens.{tokens_of, tokens_of_members, tokens_of_own, listed}
-use Rattle.city_doc.specs.Pool.{with_points}
+use Rattle.city_doc.specs.tree.Tokens.{tokens_of}
+use Rattle.city_doc.specs.inside.tree.PartTokens.{tokens_of_members, tokens_of_own, listed}
+use Rattle.city_doc.specs.inside.Pool.{with_points}
 use Rattle.city_doc.proofs.object.text.write_list.Goals as goal
 
 listed_some : {A : Type 0} (f : A → Data) (xs : List A) → (length xs ≡ 0 → ⊥) → listed f xs ≡ Some (list_data f xs)

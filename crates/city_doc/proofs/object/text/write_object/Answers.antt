@@ -4,10 +4,13 @@ use Rattle.serde_json.specs.Data.{object}
 use Rattle.serde_json.specs.View.{members_view}
 use Rattle.city_model.specs.Members.{AreOrdered}
 use Rattle.city_model.specs.Types.{name_of}
-use Rattle.city_doc.specs.tree.Between.{members_between}
+use Rattle.city_doc.specs.inside.tree.Between.{members_between}
 use Rattle.city_doc.specs.shape.Canonical.{geometry_data}
-use Rattle.city_doc.specs.Pool.{object_points, with_points}
-use Rattle.city_doc.specs.tree.Tokens.{tokens_of, tokens_of_members, tokens_of_own, listed, ReadsBack}
+use Rattle.city_doc.specs.Pool.{object_points}
+use Rattle.city_doc.specs.inside.Pool.{with_points}
+use Rattle.city_doc.specs.tree.Tokens.{tokens_of}
+use Rattle.city_doc.specs.inside.tree.PartTokens.{tokens_of_members, tokens_of_own, listed}
+use Rattle.city_doc.specs.inside.tree.ReadsBack.{ReadsBack}
 use Rattle.city_doc.proofs.tree.Among.{puts, begun, own_written, value_written, end_written, reads_parts, reads_all, own_read, string_reads, text_written}
 use Rattle.city_doc.proofs.object.ObjectsRead.{LacksObjectMembers, object_members_lacking}
 use Rattle.city_doc.proofs.pool.Walks.{no_points}

@@ -4,9 +4,12 @@ use Rattle.std.proofs.lemmas.Result.{on_ok_weaker}
 use Rattle.json.specs.Token.{begin_object, key}
 use Rattle.serde_json.specs.Data.{Members, object}
 use Rattle.city_model.proofs.Objects.{entries_ascend}
-use Rattle.city_doc.specs.document.KeptMembers.{are_kept_objects}
-use Rattle.city_doc.specs.Pool.{object_points, with_points}
-use Rattle.city_doc.specs.tree.Tokens.{tokens_of, closing_members, ReadsBack, MembersReadBack}
+use Rattle.city_doc.specs.inside.document.KeptMembers.{are_kept_objects}
+use Rattle.city_doc.specs.Pool.{object_points}
+use Rattle.city_doc.specs.inside.Pool.{with_points}
+use Rattle.city_doc.specs.tree.Tokens.{tokens_of}
+use Rattle.city_doc.specs.inside.tree.PartTokens.{closing_members}
+use Rattle.city_doc.specs.inside.tree.ReadsBack.{ReadsBack, MembersReadBack}
 use Rattle.city_doc.proofs.document.EntriesRead.{in_turn, written_in_turn}
 use Rattle.city_doc.proofs.tree.ReadBack.{object_reads}
 use Rattle.city_doc.proofs.pool.Walks.{walk_first}

@@ -8,7 +8,8 @@ use Rattle.city_model.specs.declared.end.Outcome.{Outcome}
 use Rattle.city_doc.specs.tree.Lists.{list_data}
 use Rattle.city_doc.specs.report.Ends.{count_data, outcome_name, put_refusal, put_ending}
 use Rattle.city_doc.specs.report.Replies.{reply_data}
-use Rattle.city_doc.specs.tree.Tokens.{tokens_of, tokens_of_members, closing_members}
+use Rattle.city_doc.specs.tree.Tokens.{tokens_of}
+use Rattle.city_doc.specs.inside.tree.PartTokens.{tokens_of_members, closing_members}
 use Rattle.city_doc.proofs.tree.Among.{IsLeft, puts, value_written, end_written, text_written}
 use Rattle.city_doc.proofs.document.OwnMembers.{Own}
 use Rattle.city_doc.proofs.report.end.write_end.Goals as goal

@@ -3,7 +3,8 @@ use Rattle.std.proofs.lemmas.Result.{on_ok_weaker}
 use Rattle.serde_json.specs.Data.{no_members}
 use Rattle.city_doc.specs.object.Canonical.{object_data}
 use Rattle.city_doc.specs.document.Canonical.{vertices_data}
-use Rattle.city_doc.specs.Pool.{object_points, without_repeats, with_points}
+use Rattle.city_doc.specs.Pool.{object_points, without_repeats}
+use Rattle.city_doc.specs.inside.Pool.{with_points}
 use Rattle.city_doc.specs.report.Replies.{numbered_object}
 use Rattle.city_doc.specs.tree.Tokens.{tokens_of}
 use Rattle.city_doc.proofs.tree.Among.{begun, value_written, end_written}

@@ -1,7 +1,7 @@
 use Rattle.std.proofs.Common.{Some, option_map, ap, sym, ◌∙◌}
 use Rattle.std.proofs.lemmas.Result.{IfOk-weaker}
 use Rattle.serde_json.specs.View.{view}
-use Rattle.city_doc.specs.script.Forms.{form_view}
+use Rattle.city_doc.specs.inside.script.Forms.{form_view}
 use Rattle.city_doc.proofs.script.CommandMeanings.{put_read}
 use Rattle.city_doc.proofs.script.command.command_of.Goals as goal
 

@@ -1,6 +1,6 @@
 use Rattle.std.proofs.Common.{◌∙◌, sym, refl}
 use Rattle.serde_json.specs.View.{view}
-use Rattle.city_doc.specs.script.Searches.{index_if}
+use Rattle.city_doc.specs.inside.script.Searches.{index_if}
 use Rattle.city_doc.proofs.script.FirstAt.{first_at-drop, first_at-found, first_at-end}
 use Rattle.city_doc.proofs.script.faults.first_in.Goals as goal
 

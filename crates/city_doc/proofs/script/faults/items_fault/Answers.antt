@@ -1,7 +1,7 @@
 use Rattle.std.proofs.Common.{subst, map}
 use Rattle.serde_json.specs.View.{view}
-use Rattle.city_doc.specs.script.Forms.{parts_views}
-use Rattle.city_doc.specs.script.Faults.{AreFaultlessParts}
+use Rattle.city_doc.specs.inside.script.Forms.{parts_views}
+use Rattle.city_doc.specs.inside.script.Faultless.{AreFaultlessParts}
 use Rattle.city_doc.proofs.script.FirstFaults.{script_fault_or}
 use Rattle.city_doc.proofs.script.Meanings.{scripts-there}
 use Rattle.city_doc.proofs.script.faults.items_fault.Goals as goal

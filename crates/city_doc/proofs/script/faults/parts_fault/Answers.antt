@@ -1,6 +1,6 @@
 use Rattle.std.proofs.Common.{◌∙◌, sym}
 use Rattle.city_doc.specs.script.CommandFaults.{is_bad_command, names_bad_vertex}
-use Rattle.city_doc.specs.script.Forms.{parts_views}
+use Rattle.city_doc.specs.inside.script.Forms.{parts_views}
 use Rattle.city_doc.proofs.script.FirstFaults.{bad_command-fault, bad_vertex-fault, first_command-none}
 use Rattle.city_doc.proofs.script.faults.parts_fault.Goals as goal
 

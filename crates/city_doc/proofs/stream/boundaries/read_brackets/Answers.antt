@@ -4,7 +4,7 @@ use Rattle.json.specs.Token.{Token}
 use Rattle.json.specs.Reads.{token_of}
 use Rattle.serde_json.specs.Data.{number}
 use Rattle.serde_json.specs.Find.{of_integer}
-use Rattle.city_doc.specs.stream.Positions.{opened}
+use Rattle.city_doc.specs.inside.stream.Positions.{opened}
 use Rattle.city_doc.proofs.stream.Opening.{opened_more}
 use Rattle.city_doc.proofs.stream.Reading.{seen_value, whole_value}
 use Rattle.city_doc.proofs.stream.boundaries.read_brackets.Goals as goal

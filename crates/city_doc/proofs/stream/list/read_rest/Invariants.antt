@@ -1,6 +1,6 @@
 use Rattle.std.proofs.Common.{◌≡◌, ◌++◌, List, length}
 use Rattle.serde_json.specs.Data.{Data}
-use Rattle.city_doc.specs.stream.Standing.{Pairs}
+use Rattle.city_doc.specs.inside.stream.Standing.{Pairs}
 use Rattle.city_doc.proofs.stream.Reading.{AreRead}
 use Rattle.city_doc.proofs.stream.list.read_rest.Given as goal
 

@@ -4,7 +4,8 @@ use Rattle.json.proofs.Grammar.{read_key-shorter}
 use Rattle.serde_json.specs.Data.{no_members, put}
 use Rattle.serde_json.specs.View.{view, members_view}
 use Rattle.serde_json.proofs.Views.{members_view-insert_entry}
-use Rattle.city_doc.specs.stream.Standing.{IsTaken, IsPassed}
+use Rattle.city_doc.specs.inside.stream.Standing.{IsTaken, IsPassed}
+use Rattle.city_doc.proofs.stream.Keys.{key_read}
 use Rattle.city_doc.proofs.stream.Reading.{value_shorter, seen_value, members_begin, members_next, members_end}
 use Rattle.city_doc.proofs.stream.own.read_rest.Goals as goal
 
@@ -18,7 +19,9 @@ members-init g c = (
 pub members-smaller-then-not-taken : goal.members-smaller-then-not-taken
 members-smaller-then-not-taken g c =
     let k = c.in-Some.name.now in
-    let named : read_key c.members.reader ≡ Some (Some k, c.next_key.new.self) = grind arith in
+    let named : read_key c.members.reader ≡ Some (Some k, c.next_key.new.self) =
+    key_read c.next_key.result c.ok.result _ (Some c.in-Some.name) (λ s. s.now) c.members.reader c.next_key.new.self
+    c.ok.ensures.value c.in_ok-name.was c.in-Some.is c.next_key.ensures.value in
     let off : c.in_ok-taken.taken ≡ false = grind arith in
     let passed : IsPassed g.O.Own.stands c.members.own c.take.new.self k c.next_key.new.self c.take.new.reader = rw off at c.in_ok-taken.ensures in
     let less = value_shorter c.args.depth c.next_key.new.self c.read_value.new.reader (view c.in_ok-value.value) (seen_value (sym passed.0) refl c.in_ok-value.ensures) in
@@ -31,7 +34,9 @@ members-preserved-then-not-taken g c =
     let k = c.in-Some.name.now in
     let v = c.in_ok-value.value in
     let old = members_view l.kept.entries in
-    let named : read_key l.reader ≡ Some (Some k, c.next_key.new.self) = grind arith in
+    let named : read_key l.reader ≡ Some (Some k, c.next_key.new.self) =
+    key_read c.next_key.result c.ok.result _ (Some c.in-Some.name) (λ s. s.now) l.reader c.next_key.new.self
+    c.ok.ensures.value c.in_ok-name.was c.in-Some.is c.next_key.ensures.value in
     let off : c.in_ok-taken.taken ≡ false = grind arith in
     let passed : IsPassed g.O.Own.stands l.own c.take.new.self k c.next_key.new.self c.take.new.reader = rw off at c.in_ok-taken.ensures in
     let copied : string_bytes c.in_ok-key.key ≡ k = search rules in
@@ -45,7 +50,9 @@ members-preserved-then-not-taken g c =
 pub members-smaller : goal.members-smaller
 members-smaller g c =
     let k = c.in-Some.name.now in
-    let named : read_key c.members.reader ≡ Some (Some k, c.next_key.new.self) = grind arith in
+    let named : read_key c.members.reader ≡ Some (Some k, c.next_key.new.self) =
+    key_read c.next_key.result c.ok.result _ (Some c.in-Some.name) (λ s. s.now) c.members.reader c.next_key.new.self
+    c.ok.ensures.value c.in_ok-name.was c.in-Some.is c.next_key.ensures.value in
     let on : c.in_ok-taken.taken ≡ true = grind arith in
     let taken : IsTaken g.O.Own.stands c.members.own c.take.new.self k c.args.depth c.next_key.new.self c.take.new.reader = rw on at c.in_ok-taken.ensures in
     let less = value_shorter c.args.depth c.next_key.new.self c.take.new.reader taken.0 taken.1 in
@@ -56,7 +63,9 @@ pub members-preserved : goal.members-preserved
 members-preserved g c =
     let l = c.members in
     let k = c.in-Some.name.now in
-    let named : read_key l.reader ≡ Some (Some k, c.next_key.new.self) = grind arith in
+    let named : read_key l.reader ≡ Some (Some k, c.next_key.new.self) =
+    key_read c.next_key.result c.ok.result _ (Some c.in-Some.name) (λ s. s.now) l.reader c.next_key.new.self
+    c.ok.ensures.value c.in_ok-name.was c.in-Some.is c.next_key.ensures.value in
     let on : c.in_ok-taken.taken ≡ true = grind arith in
     let taken : IsTaken g.O.Own.stands l.own c.take.new.self k c.args.depth c.next_key.new.self c.take.new.reader = rw on at c.in_ok-taken.ensures in (
       put k taken.0 l.invariant.0,

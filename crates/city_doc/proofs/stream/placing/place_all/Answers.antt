@@ -1,7 +1,7 @@
 use Rattle.std.proofs.Common.{◌≡◌, suc, ◌+◌, ◌<◌, ◌∷◌, ◌++◌, [], drop, take, length, get_or, sym, ap, ◌∙◌, subst, arith}
 use Rattle.std.specs.Prelude.{slice_set}
-use Rattle.city_doc.specs.stream.Positions.{IsPlaced, points_of}
-use Rattle.city_doc.specs.stream.Standing.{Pairs}
+use Rattle.city_doc.specs.inside.stream.Positions.{IsPlaced, points_of}
+use Rattle.city_doc.specs.inside.stream.Standing.{Pairs}
 use Rattle.city_doc.proofs.stream.Written.{item_written}
 use Rattle.city_doc.proofs.stream.placing.place_all.Goals as goal
 

@@ -1,6 +1,6 @@
 use Rattle.std.proofs.Common.{◌≡◌, ◌++◌, List, drop, take}
-use Rattle.city_doc.specs.stream.Positions.{IsPlaced, points_of}
-use Rattle.city_doc.specs.stream.Standing.{Pairs}
+use Rattle.city_doc.specs.inside.stream.Positions.{IsPlaced, points_of}
+use Rattle.city_doc.specs.inside.stream.Standing.{Pairs}
 use Rattle.city_doc.proofs.stream.placing.place_all.Given as goal
 
 abbrev pub invariant-loop-item : goal.invariant-loop-item

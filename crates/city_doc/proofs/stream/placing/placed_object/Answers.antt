@@ -1,4 +1,4 @@
-use Rattle.city_doc.specs.stream.Positions.{points_of}
+use Rattle.city_doc.specs.inside.stream.Positions.{points_of}
 use Rattle.city_doc.proofs.stream.PlacedParts.{object_placed}
 use Rattle.city_doc.proofs.stream.placing.placed_object.Goals as goal
 

@@ -1,7 +1,7 @@
 use Rattle.std.proofs.Common.{[], sym, subst, ◌∙◌}
 use Rattle.std.specs.Vec.Iter.{into_iter_items}
-use Rattle.city_doc.specs.stream.Faultless.{AreFaultless}
-use Rattle.city_doc.specs.stream.Positions.{points_of}
+use Rattle.city_doc.specs.inside.stream.Faultless.{AreFaultless}
+use Rattle.city_doc.specs.inside.stream.Positions.{points_of}
 use Rattle.city_doc.proofs.stream.FaultlessObjects.{faultless_put}
 use Rattle.city_doc.proofs.stream.ListedObjects.{IsPlacing, given, begins, goes_on}
 use Rattle.city_doc.proofs.stream.placing.placed_objects.Goals as goal

@@ -1,6 +1,6 @@
 use Rattle.std.specs.Vec.Iter.{into_iter_items}
-use Rattle.city_doc.specs.stream.Faultless.{AreFaultless}
-use Rattle.city_doc.specs.stream.Positions.{points_of}
+use Rattle.city_doc.specs.inside.stream.Faultless.{AreFaultless}
+use Rattle.city_doc.specs.inside.stream.Positions.{points_of}
 use Rattle.city_doc.proofs.stream.ListedObjects.{IsPlacing}
 use Rattle.city_doc.proofs.stream.placing.placed_objects.Given as goal
 

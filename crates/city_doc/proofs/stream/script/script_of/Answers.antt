@@ -4,10 +4,10 @@ use Rattle.serde_json.specs.Data.{object}
 use Rattle.city_model.specs.Scripts.{ends_once}
 use Rattle.city_doc.specs.script.Commands.{command_of}
 use Rattle.city_doc.specs.script.Scripts.{max_commands}
-use Rattle.city_doc.specs.stream.Commands.{IsCommand}
-use Rattle.city_doc.specs.stream.Positions.{IsPlaced, points_of}
-use Rattle.city_doc.specs.stream.Scripts.{IsScript}
-use Rattle.city_doc.specs.stream.Standing.{IsArrayOf}
+use Rattle.city_doc.specs.inside.stream.Commands.{IsCommand}
+use Rattle.city_doc.specs.inside.stream.Positions.{IsPlaced, points_of}
+use Rattle.city_doc.specs.inside.stream.Scripts.{IsScript}
+use Rattle.city_doc.specs.inside.stream.Standing.{IsArrayOf}
 use Rattle.city_doc.specs.tree.Lists.{list_of}
 use Rattle.city_doc.proofs.Options.{ok_holds}
 use Rattle.city_doc.proofs.stream.ScriptMembers.{script_made}

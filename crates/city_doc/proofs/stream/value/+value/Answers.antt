@@ -8,7 +8,8 @@ use Rattle.serde_json.specs.Find.{of_integer}
 use Rattle.serde_json.specs.View.{view, items_of, members_view}
 use Rattle.serde_json.specs.declared.value.Value.{String, Bool, Null, the_lemmas}
 use Rattle.serde_json.proofs.Views.{view-Array, view-Object, members_view-insert_entry}
-use Rattle.city_doc.specs.stream.Taken.{IsRestOfArray}
+use Rattle.city_doc.specs.inside.stream.Taken.{IsRestOfArray}
+use Rattle.city_doc.proofs.stream.Keys.{key_read}
 use Rattle.city_doc.proofs.stream.Reading.{AreRead, AreFound, value_shorter, seen_value, null_value, boolean_value, string_value, whole_value, array_value, object_value}
 use Rattle.city_doc.proofs.stream.Reading.{items_begin, items_next, items_end, views_push, members_next, members_end}
 use Rattle.city_doc.proofs.stream.value.+value.Goals as goal
@@ -35,7 +36,9 @@ read_items-returns t c =
 pub read_members-members-smaller : goal.read_members-members-smaller
 read_members-members-smaller t c =
     let k = c.in-Some.name.now in
-    let named : read_key c.members.reader ≡ Some (Some k, c.next_key.new.self) = grind arith in
+    let named : read_key c.members.reader ≡ Some (Some k, c.next_key.new.self) =
+    key_read c.next_key.result c.ok.result _ (Some c.in-Some.name) (λ s. s.now) c.members.reader c.next_key.new.self
+    c.ok.ensures.value c.in_ok-name.was c.in-Some.is c.next_key.ensures.value in
     let less = value_shorter c.args.depth c.next_key.new.self c.read_value.new.reader (view c.in_ok-member.member) c.in_ok-member.ensures in
     let lesser = read_key-shorter c.members.reader (Some k) c.next_key.new.self named in
     omega (arith, less, lesser)
@@ -45,7 +48,9 @@ read_members-members-preserved t c =
     let k = c.in-Some.name.now in
     let v = c.in_ok-member.member in
     let old = members_view c.members.found.entries in
-    let named : read_key c.members.reader ≡ Some (Some k, c.next_key.new.self) = grind arith in
+    let named : read_key c.members.reader ≡ Some (Some k, c.next_key.new.self) =
+    key_read c.next_key.result c.ok.result _ (Some c.in-Some.name) (λ s. s.now) c.members.reader c.next_key.new.self
+    c.ok.ensures.value c.in_ok-name.was c.in-Some.is c.next_key.ensures.value in
     let copied : string_bytes c.in_ok-key.key ≡ k = search rules in
     let inserted : members_view c.insert.new.self.entries ≡ put k (view v) old =
     ap members_view (grind arith) ∙ members_view-insert_entry c.members.found.entries c.in_ok-key.key v ∙ ap (λ name. put name (view v) old) copied in

@@ -1,5 +1,5 @@
 use Rattle.std.proofs.Common.{◌≡◌, [], subst, rules}
-use Rattle.city_doc.specs.stream.Standing.{IsReadAs}
+use Rattle.city_doc.specs.inside.stream.Standing.{IsReadAs}
 use Rattle.city_doc.proofs.stream.whole_text.read_tokens.Goals as goal
 
 pub returns : goal.returns

@@ -1,7 +1,7 @@
 use Rattle.std.proofs.Common.{◌≤◌, [], length, ap, ◌∙◌, subst, arith}
 use Rattle.json.specs.Lex.{tokens}
 use Rattle.json.specs.Json.{value}
-use Rattle.city_doc.specs.stream.Taken.{IsValue}
+use Rattle.city_doc.specs.inside.stream.Taken.{IsValue}
 use Rattle.city_doc.specs.tree.Texts.{max_text}
 use Rattle.city_doc.proofs.stream.Conversions.{whole_read}
 use Rattle.city_doc.proofs.stream.whole_text.read_whole_text.Goals as goal

@@ -2,8 +2,9 @@ use Rattle.std.proofs.Common.{◌≡◌, ◌++◌}
 use Rattle.std.specs.Prelude.{option_copied}
 use Rattle.serde_json.specs.View.{members_view}
 use Rattle.city_model.specs.Integral.{members_integral}
-use Rattle.city_doc.specs.tree.Between.{members_between}
-use Rattle.city_doc.specs.tree.Tokens.{tokens_of_members, MembersReadBack}
+use Rattle.city_doc.specs.inside.tree.Between.{members_between}
+use Rattle.city_doc.specs.inside.tree.PartTokens.{tokens_of_members}
+use Rattle.city_doc.specs.inside.tree.ReadsBack.{MembersReadBack}
 use Rattle.city_doc.proofs.tree.kept_members.write_between.Given as goal
 
 abbrev pub invariant-loop-name : goal.invariant-loop-name

@@ -3,7 +3,9 @@ use Rattle.std.proofs.lemmas.Result.{on_ok_weaker}
 use Rattle.json.specs.Token.{begin_object}
 use Rattle.serde_json.specs.View.{view, items_view, members_view}
 use Rattle.serde_json.proofs.Views.{view-Array, view-Object}
-use Rattle.city_doc.specs.tree.Tokens.{tokens_of, closing_members, ReadsBack}
+use Rattle.city_doc.specs.tree.Tokens.{tokens_of}
+use Rattle.city_doc.specs.inside.tree.PartTokens.{closing_members}
+use Rattle.city_doc.specs.inside.tree.ReadsBack.{ReadsBack}
 use Rattle.city_model.proofs.MemberLaws.{ordered_members}
 use Rattle.city_doc.proofs.tree.ReadBack.{array_reads, object_reads}
 use Rattle.city_doc.proofs.tree.text.+write.Goals as goal

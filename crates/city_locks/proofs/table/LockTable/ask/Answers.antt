@@ -56,3 +56,10 @@ returns-in_default-clause-granted c h t q = absurd (not_granted c h)
 
 pub returns-in_default-clause-holders : goal.returns-in_default-clause-holders
 returns-in_default-clause-holders c h q = absurd (not_granted c h)
+
+pub returns-in_ok-take-clause-once : goal.returns-in_ok-take-clause-once
+returns-in_ok-take-clause-once c =
+    let v = c.self.inside.holders.entries in
+    let w = c.take.new.holders.entries in
+    let adds : Adds v w c.args.stamp c.args.id.now c.args.mode = record { holders = c.in_ok-take.ensures.ok } in
+    once_added v w c.args.stamp c.args.id.now c.args.mode adds c.self.invariant.once

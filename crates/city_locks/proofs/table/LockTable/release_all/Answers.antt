@@ -22,3 +22,8 @@ pub returns-clause-lawful : goal.returns-clause-lawful
 returns-clause-lawful c =
     let frees : Frees c.self.inside.holders.entries c.give_back.new.holders.entries c.args.stamp = record { holders = c.give_back.ensures.holders } in
     lawful_freed c.self.inside.holders.entries c.give_back.new.holders.entries c.args.stamp frees c.self.invariant.lawful
+
+pub returns-clause-once : goal.returns-clause-once
+returns-clause-once c =
+    let frees : Frees c.self.inside.holders.entries c.give_back.new.holders.entries c.args.stamp = record { holders = c.give_back.ensures.holders } in
+    once_freed c.self.inside.holders.entries c.give_back.new.holders.entries c.args.stamp frees c.self.invariant.once

@@ -6,7 +6,7 @@ use Rattle.std.specs.Cmp.Lexicographic.{slice_cmp}
 use Rattle.std.specs.FinMap.{from_sorted}
 use Rattle.std.specs.Ordering.{nat_cmp}
 use Rattle.std.specs.Prelude.{option_map}
-use Rattle.city_model.specs.CityMap.{CityValue, Entries, at, changed, found_in}
+use Rattle.city_model.specs.CityMap.{CityValue, Entries, object_at, changed, found_in}
 use Rattle.city_model.specs.Meaning.{with_child}
 use Rattle.city_model.specs.declared.object.Object.{Object}
 use Rattle.city_model.proofs.Objects.{edited, found_at}
@@ -37,4 +37,4 @@ returns-clause-map c =
     let step : (q : List ℕ) → found_in n.entries q ≡ changed (found_in a.objects.entries) c.args.id.now (Some o) q = search rules in
     edited a.objects.entries n.entries c.args.id.now (with_child c.args.child) c.in-Some.object.now o c.self.invariant still (sym c.in-Some.ensures.value)
     (λ i. record { body = c.in-Some.object.now.body; parents = c.in-Some.object.now.parents; children = c.in_ok-push-in-Some.ensures.ok i }) step
-    ∙ ap (λ (v : CityValue). changed (at v.1) c.args.id.now (option_map (with_child c.args.child) (at v.1 c.args.id.now))) c.self.view_is
+    ∙ ap (λ (v : CityValue). changed (object_at v.1) c.args.id.now (option_map (with_child c.args.child) (object_at v.1 c.args.id.now))) c.self.view_is

@@ -5,7 +5,7 @@ use Rattle.std.specs.BTreeMap.{IsOrdered}
 use Rattle.std.specs.Cmp.Lexicographic.{slice_cmp}
 use Rattle.std.specs.Ordering.{nat_cmp}
 use Rattle.std.specs.Prelude.{option_map}
-use Rattle.city_model.specs.CityMap.{CityValue, at, changed, found_in}
+use Rattle.city_model.specs.CityMap.{CityValue, object_at, changed, found_in}
 use Rattle.city_model.specs.Meaning.{without_child, without_id}
 use Rattle.city_model.specs.declared.object.Object.{Object}
 use Rattle.city_model.proofs.Objects.{edited, found_at}
@@ -26,4 +26,4 @@ returns-clause-map c =
     let less : c.retain.new.self ≡ without_id c.args.child.now c.in-Some.object.now.children = filter_same _ _ _ (λ x b f' k. search rules) _ _ c.retain.ensures in
     edited a.objects.entries n.entries c.args.id.now (without_child c.args.child.now) c.in-Some.object.now o c.self.invariant still (sym c.in-Some.ensures.value)
     (λ i. record { body = c.in-Some.object.now.body; parents = c.in-Some.object.now.parents; children = less i }) step
-    ∙ ap (λ (v : CityValue). changed (at v.1) c.args.id.now (option_map (without_child c.args.child.now) (at v.1 c.args.id.now))) c.self.view_is
+    ∙ ap (λ (v : CityValue). changed (object_at v.1) c.args.id.now (option_map (without_child c.args.child.now) (object_at v.1 c.args.id.now))) c.self.view_is

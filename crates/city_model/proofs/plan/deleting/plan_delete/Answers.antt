@@ -1,7 +1,7 @@
 use Rattle.std.proofs.Common.{◌≡◌, ◌∙◌, ◌==◌, ◌++◌, List, ℕ, Option, [], ◌∷◌, None, sym, ap, map, length, true, rules}
 use Rattle.city_model.specs.declared.object.Object.{Object}
 use Rattle.city_model.specs.Runs.{Change}
-use Rattle.city_model.specs.Plans.{unlinked}
+use Rattle.city_model.specs.inside.Plans.{unlinked}
 use Rattle.city_model.proofs.Planned.{delete_writes}
 use Rattle.city_model.proofs.plan.deleting.plan_delete.Goals as goal
 

@@ -1,5 +1,5 @@
 use Rattle.std.proofs.Common.{◌≡◌, ◌++◌, take, map}
-use Rattle.city_model.specs.Plans.{unlinked}
+use Rattle.city_model.specs.inside.Plans.{unlinked}
 use Rattle.city_model.proofs.plan.deleting.unlink_each.Given as goal
 
 abbrev pub invariant-loop-parent : goal.invariant-loop-parent

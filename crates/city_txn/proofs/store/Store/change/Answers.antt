@@ -1,9 +1,10 @@
 use Rattle.std.proofs.Common.{◌∙◌, None, ap}
 use Rattle.std.specs.Prelude.{if◌then◌else◌}
 use Rattle.city_model.specs.CityMap.{has_id}
-use Rattle.city_txn.specs.Images.{written_at}
-use Rattle.city_txn.specs.State.{State, write_of, own_write}
-use Rattle.city_txn.specs.UndoState.{image_at}
+use Rattle.city_txn.specs.inside.Images.{written_at}
+use Rattle.city_txn.specs.inside.State.{State}
+use Rattle.city_txn.specs.Writes.{write_of, own_write}
+use Rattle.city_txn.specs.inside.UndoState.{image_at}
 use Rattle.city_txn.proofs.AtOneId.{here}
 use Rattle.city_txn.proofs.ChangeMade.{own_written, if_ok}
 use Rattle.city_txn.proofs.store.Store.change.Goals as goal

@@ -6,10 +6,11 @@ use Rattle.std.specs.Map.{keys_of}
 use Rattle.std.specs.List.Sorted.{IsStrictlySortedBy}
 use Rattle.city_model.specs.declared.object.Object.{Object}
 use Rattle.city_model.specs.CityMap.{has_id}
-use Rattle.city_txn.specs.Changing.{is_orphan_written}
-use Rattle.city_txn.specs.Images.{written_at}
-use Rattle.city_txn.specs.State.{State, write_of, own_write}
-use Rattle.city_txn.specs.UndoState.{image_at}
+use Rattle.city_txn.specs.inside.Orphans.{is_orphan_written}
+use Rattle.city_txn.specs.inside.Images.{written_at}
+use Rattle.city_txn.specs.inside.State.{State}
+use Rattle.city_txn.specs.Writes.{write_of, own_write}
+use Rattle.city_txn.specs.inside.UndoState.{image_at}
 use Rattle.city_txn.proofs.AtOneId.{here}
 use Rattle.city_txn.proofs.ChangeMade.{own_written, writes_ascend, own_listed, own_ascend, no_orphan_at}
 use Rattle.city_txn.proofs.store.Store.has_orphan.Goals as goal

@@ -1,7 +1,8 @@
 use Rattle.std.proofs.Common.{◌==◌, ◌&&◌, ◌∙◌, sym, ap}
 use Rattle.std.specs.Prelude.{not}
-use Rattle.city_txn.specs.Images.{write_at}
-use Rattle.city_txn.specs.State.{State, is_by, write_of}
+use Rattle.city_txn.specs.inside.Images.{write_at}
+use Rattle.city_txn.specs.inside.State.{State}
+use Rattle.city_txn.specs.Writes.{is_by, write_of}
 use Rattle.city_txn.proofs.AtOneId.{here, writes_is}
 use Rattle.city_txn.proofs.Edited.{by_image}
 use Rattle.city_txn.proofs.store.Store.has_written.Goals as goal

@@ -1,6 +1,7 @@
 use Rattle.std.proofs.Common.{◌∙◌, sym, ap}
-use Rattle.city_txn.specs.Images.{seen_by, committed_at, write_at}
-use Rattle.city_txn.specs.State.{State, own_or, view}
+use Rattle.city_txn.specs.inside.Images.{seen_by, committed_at, write_at}
+use Rattle.city_txn.specs.inside.State.{State, view}
+use Rattle.city_txn.specs.Writes.{own_or}
 use Rattle.city_txn.proofs.AtOneId.{here, seen_point, view_is}
 use Rattle.city_txn.proofs.store.Store.read.Goals as goal
 

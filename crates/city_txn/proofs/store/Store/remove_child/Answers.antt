@@ -2,8 +2,9 @@ use Rattle.std.proofs.Common.{◌≡◌, ◌∙◌, ap, is_some, true}
 use Rattle.std.specs.Prelude.{if◌then◌else◌, option_map}
 use Rattle.city_model.specs.CityMap.{same_id}
 use Rattle.city_model.specs.Meaning.{without_child}
-use Rattle.city_txn.specs.InPlace.{state_of}
-use Rattle.city_txn.specs.State.{State, write_of, rewritten, committed}
+use Rattle.city_txn.specs.inside.InPlace.{state_of}
+use Rattle.city_txn.specs.inside.State.{State, rewritten, committed}
+use Rattle.city_txn.specs.Writes.{write_of}
 use Rattle.city_txn.proofs.Edited.{written_there, edited_in_place, edited_city, edited_writes}
 use Rattle.city_txn.proofs.store.Store.remove_child.Goals as goal
 

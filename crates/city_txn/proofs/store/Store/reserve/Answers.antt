@@ -1,9 +1,9 @@
 use Rattle.std.proofs.Common.{◌≡◌, ◌∙◌, sym, ap, subst, None, ℕ, true, is_some, ◌==◌, ◌&&◌, ◌||◌}
 use Rattle.std.specs.Prelude.{if◌then◌else◌}
-use Rattle.city_model.specs.CityMap.{at, changed, same_id}
-use Rattle.city_txn.specs.State.{State, is_reserved, is_open, SeesSame}
-use Rattle.city_txn.specs.InPlace.{state_of, IsInPlace}
-use Rattle.city_txn.specs.UndoState.{image_at}
+use Rattle.city_model.specs.CityMap.{object_at, changed, same_id}
+use Rattle.city_txn.specs.inside.State.{State, is_reserved, is_open, SeesSame}
+use Rattle.city_txn.specs.inside.InPlace.{state_of, IsInPlace}
+use Rattle.city_txn.specs.inside.UndoState.{image_at}
 use Rattle.city_txn.specs.declared.store.Store.TheInside.{Inside}
 use Rattle.city_txn.proofs.Slots.{slot_cleared, absent_from}
 use Rattle.city_txn.proofs.ReservationMade.{same_city, more_reserved, reserved_in_place, reserved_seen, reserved_already}
@@ -23,7 +23,7 @@ invariant_of-self-in_default c =
     let a = c.self.inside in
     let made = c.in_ok-deleted in
     let city = same_city c.clear.new.city a.city (c.clear.ensures.frame ∙ c.make.ensures.frame)
-    (c.clear.ensures.after ∙ ap (λ m. if made.deleted then changed m c.args.id.now None else m) made.ensures.after ∙ slot_cleared (at a.city.1) c.args.id.now made.deleted made.ensures.made) in
+    (c.clear.ensures.after ∙ ap (λ m. if made.deleted then changed m c.args.id.now None else m) made.ensures.after ∙ slot_cleared (object_at a.city.1) c.args.id.now made.deleted made.ensures.made) in
     subst IsInPlace (λ i. record { city = sym city i; undo = sym c.in_default.ensures.err i }) c.self.invariant
 
 pub returns-in_default-clause-err : goal.returns-in_default-clause-err
@@ -31,7 +31,7 @@ returns-in_default-clause-err c =
     let a = c.self.inside in
     let made = c.in_ok-deleted in
     let city = same_city c.clear.new.city a.city (c.clear.ensures.frame ∙ c.make.ensures.frame)
-    (c.clear.ensures.after ∙ ap (λ m. if made.deleted then changed m c.args.id.now None else m) made.ensures.after ∙ slot_cleared (at a.city.1) c.args.id.now made.deleted made.ensures.made) in
+    (c.clear.ensures.after ∙ ap (λ m. if made.deleted then changed m c.args.id.now None else m) made.ensures.after ∙ slot_cleared (object_at a.city.1) c.args.id.now made.deleted made.ensures.made) in
     (λ i. state_of (record { city = city i; undo = c.in_default.ensures.err i })) ∙ c.self.view_is
 
 pub invariant_of-self-in-Ok : goal.invariant_of-self-in-Ok

@@ -1,8 +1,9 @@
 use Rattle.std.proofs.Common.{None, ◌≡◌, ◌∙◌, ap, refl, Some, true}
 use Rattle.std.specs.Prelude.{if◌then◌else◌}
 use Rattle.city_model.specs.CityMap.{same_id}
-use Rattle.city_txn.specs.State.{State, write_of, unless_by, is_reserved, committed}
-use Rattle.city_txn.specs.InPlace.{state_of}
+use Rattle.city_txn.specs.inside.State.{State, is_reserved, committed}
+use Rattle.city_txn.specs.Writes.{write_of, unless_by}
+use Rattle.city_txn.specs.inside.InPlace.{state_of}
 use Rattle.city_txn.specs.declared.store.Store.TheInside.{Inside}
 use Rattle.std.proofs.lemmas.Bool.{eq-eqb}
 use Rattle.city_txn.proofs.Unwritten.{others_stay}

@@ -1,7 +1,7 @@
 use Rattle.std.proofs.Common.{◌∙◌, sym, ap, refl}
-use Rattle.city_txn.specs.State.{is_by, write_of}
+use Rattle.city_txn.specs.Writes.{is_by, write_of}
 use Rattle.city_txn.specs.CoreState.{CoreState, is_open}
-use Rattle.city_txn.specs.Core.{core_state}
+use Rattle.city_txn.specs.inside.Core.{core_state}
 use Rattle.city_txn.specs.declared.txn_core.Core.TheInside.{Inside}
 use Rattle.city_txn.proofs.CoreFields.{begun_core, begun_opened, begun_unmarked, begun_own, begun_keeps, open_stored, shut_unlocked, shut_unwritten}
 use Rattle.city_txn.proofs.txn_core.Core.begin.Goals as goal

@@ -1,7 +1,7 @@
 use Rattle.std.proofs.Common.{◌∙◌, ap, subst, sym}
 use Rattle.city_model.specs.Relations.{HasNoOrphan}
-use Rattle.city_txn.specs.CoreState.{CoreState, view, IsOver}
-use Rattle.city_txn.specs.Core.{core_state}
+use Rattle.city_txn.specs.CoreState.{CoreState, view, IsTransactionEnd}
+use Rattle.city_txn.specs.inside.Core.{core_state}
 use Rattle.city_txn.specs.declared.txn_core.Core.TheInside.{Inside}
 use Rattle.city_txn.proofs.CoreFields.{committed_core, committed_over}
 use Rattle.city_txn.proofs.txn_core.Core.commit.Goals as goal
@@ -20,7 +20,7 @@ pub returns-clause-over : goal.returns-clause-over
 returns-clause-over c =
     let a = c.self.inside in
     let b : Inside = record { alloc = a.alloc; store = c.commit.new.self; logs = c.close.new.self; locks = c.release_all.new.self } in
-    subst (λ (v : CoreState). IsOver c.args.stamp v (core_state b)) c.self.view_is
+    subst (λ (v : CoreState). IsTransactionEnd c.args.stamp v (core_state b)) c.self.view_is
     (committed_over a b c.self.invariant c.args.stamp c.commit.ensures.forgets c.close.ensures c.release_all.ensures.modes c.release_all.ensures.lawful c.commit.ensures.city)
 
 pub returns-clause-lawful : goal.returns-clause-lawful

@@ -1,8 +1,8 @@
 use Rattle.std.proofs.Common.{◌∙◌, sym, ap, subst}
 use Rattle.city_model.specs.Marks.{AreSound}
 use Rattle.city_model.specs.Relations.{IsLawful, IsSound}
-use Rattle.city_txn.specs.CoreState.{CoreState, committed, view, seen, is_open}
-use Rattle.city_txn.specs.Core.{core_state}
+use Rattle.city_txn.specs.CoreState.{CoreState, committed, view, snapshot, is_open}
+use Rattle.city_txn.specs.inside.Core.{core_state}
 use Rattle.city_txn.proofs.CoreFields.{open_is}
 use Rattle.city_txn.proofs.Ended.{sound_view, sound_seen}
 use Rattle.city_txn.proofs.txn_core.Core.is_open.Goals as goal
@@ -17,4 +17,4 @@ pub returns-clause-views : goal.returns-clause-views
 returns-clause-views c t = subst (λ (v : CoreState). IsSound (view v t)) c.self.view_is (sound_view (core_state c.self.inside) t c.self.invariant.state)
 
 pub returns-clause-marks : goal.returns-clause-marks
-returns-clause-marks c t = subst (λ (v : CoreState). AreSound (seen v t).marks) c.self.view_is (sound_seen (core_state c.self.inside) t c.self.invariant.state).1
+returns-clause-marks c t = subst (λ (v : CoreState). AreSound (snapshot v t).marks) c.self.view_is (sound_seen (core_state c.self.inside) t c.self.invariant.state).1

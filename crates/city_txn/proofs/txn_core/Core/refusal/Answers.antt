@@ -1,6 +1,6 @@
 use Rattle.std.proofs.Common.{sym, subst}
 use Rattle.city_txn.specs.CoreState.{CoreState}
-use Rattle.city_txn.specs.Core.{core_state}
+use Rattle.city_txn.specs.inside.Core.{core_state}
 use Rattle.city_txn.specs.Changing.{change_in, IsChangeOf, IsPrepared}
 use Rattle.city_txn.specs.declared.step.Prepared.{Prepared}
 use Rattle.city_txn.proofs.ChangeMade.{is_change_of, is_change_to, no_orphan_listed}

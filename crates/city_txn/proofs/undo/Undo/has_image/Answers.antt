@@ -1,5 +1,5 @@
 use Rattle.std.proofs.Common.{◌∙◌, ap, is_some}
-use Rattle.city_txn.specs.UndoState.{UndoState}
+use Rattle.city_txn.specs.inside.UndoState.{UndoState}
 use Rattle.city_txn.proofs.ImagesHeld.{held_at}
 use Rattle.city_txn.proofs.undo.Undo.has_image.Goals as goal
 

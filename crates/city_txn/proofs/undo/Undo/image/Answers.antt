@@ -1,5 +1,5 @@
 use Rattle.std.proofs.Common.{◌∙◌, ap}
-use Rattle.city_txn.specs.UndoState.{UndoState}
+use Rattle.city_txn.specs.inside.UndoState.{UndoState}
 use Rattle.city_txn.proofs.ImagesHeld.{held_at}
 use Rattle.city_txn.proofs.undo.Undo.image.Goals as goal
 

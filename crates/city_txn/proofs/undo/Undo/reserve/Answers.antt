@@ -7,8 +7,8 @@ use Rattle.std.specs.FinMap.{from_sorted}
 use Rattle.std.proofs.lemmas.Cmp.{nat_list_cmp_total}
 use Rattle.std.proofs.lemmas.Map.Lookups.{btree_map_from_get, exact_bytes}
 use Rattle.city_model.specs.CityMap.{same_id}
-use Rattle.city_txn.specs.Images.{unwritten_image}
-use Rattle.city_txn.specs.UndoState.{UndoState}
+use Rattle.city_txn.specs.inside.Images.{unwritten_image}
+use Rattle.city_txn.specs.inside.UndoState.{UndoState}
 use Rattle.city_txn.proofs.EachId.{added_and_forgotten}
 use Rattle.city_txn.proofs.ImagesHeld.{held_at, one_changed}
 use Rattle.city_txn.proofs.undo.Undo.reserve.Goals as goal

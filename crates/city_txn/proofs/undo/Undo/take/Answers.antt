@@ -1,5 +1,5 @@
 use Rattle.std.proofs.Common.{◌∙◌, ap, None}
-use Rattle.city_txn.specs.UndoState.{UndoState}
+use Rattle.city_txn.specs.inside.UndoState.{UndoState}
 use Rattle.city_txn.proofs.ImagesHeld.{held_at, one_changed, key_is}
 use Rattle.city_txn.proofs.undo.Undo.take.Goals as goal
 

@@ -3,10 +3,9 @@ use Rattle.std.specs.Prelude.{if◌then◌else◌, option_map}
 use Rattle.std.specs.Ordering.{nat_cmp}
 use Rattle.std.specs.Cmp.Lexicographic.{slice_cmp}
 use Rattle.std.specs.BTreeMap.{get, IsOrdered}
-use Rattle.city_model.specs.CityMap.{at, changed, same_id}
-use Rattle.city_txn.specs.Changing.{or_else}
-use Rattle.city_txn.specs.Images.{written_back, put_back_at}
-use Rattle.city_txn.specs.UndoState.{UndoState, image_at}
+use Rattle.city_model.specs.CityMap.{object_at, changed, same_id}
+use Rattle.city_txn.specs.inside.Images.{or_else, image_unwritten, put_back_at}
+use Rattle.city_txn.specs.inside.UndoState.{UndoState, image_at}
 use Rattle.city_txn.proofs.ImagesHeld.{held_at, one_changed}
 use Rattle.city_txn.proofs.undo.Undo.unwrite.Goals as goal
 
@@ -23,7 +22,7 @@ returns-clause-city c =
     let was = held_at a.images c.self.invariant c.args.self.now seen c.args.id in
     let object : c.unwrite-before.result ≡ put_back_at (get (slice_cmp nat_cmp) a.images c.args.id) = search rules in
     c.refill.ensures.after
-    ∙ ap (λ o. changed (at c.args.city.now.1) c.args.id (or_else o (at c.args.city.now.1 c.args.id))) (object ∙ ap put_back_at was)
+    ∙ ap (λ o. changed (object_at c.args.city.now.1) c.args.id (or_else o (object_at c.args.city.now.1 c.args.id))) (object ∙ ap put_back_at was)
 
 pub returns-clause-images : goal.returns-clause-images
 returns-clause-images c =
@@ -31,8 +30,8 @@ returns-clause-images c =
     let seen = ap (λ (u : UndoState). u.images) c.self.view_is in
     let was = held_at a.images c.self.invariant c.args.self.now seen c.args.id in
     let step : (q : List ℕ) → get (slice_cmp nat_cmp) (c.get_mut.follows.lender c.unwrite-before.new.self) q
-    ≡ (if same_id c.args.id q then option_map written_back (get (slice_cmp nat_cmp) a.images c.args.id) else get (slice_cmp nat_cmp) a.images q) = search rules in
+    ≡ (if same_id c.args.id q then option_map image_unwritten (get (slice_cmp nat_cmp) a.images c.args.id) else get (slice_cmp nat_cmp) a.images q) = search rules in
     let still : IsOrdered (slice_cmp nat_cmp) (c.get_mut.follows.lender c.unwrite-before.new.self) = search rules in
     one_changed a.images c.self.invariant c.args.self.now seen (c.get_mut.follows.lender c.unwrite-before.new.self) still c.args.id
-    (option_map written_back (image_at c.args.self.now c.args.id))
-    (λ q. step q ∙ ap (λ i. if same_id c.args.id q then option_map written_back i else get (slice_cmp nat_cmp) a.images q) was)
+    (option_map image_unwritten (image_at c.args.self.now c.args.id))
+    (λ q. step q ∙ ap (λ i. if same_id c.args.id q then option_map image_unwritten i else get (slice_cmp nat_cmp) a.images q) was)

@@ -1,6 +1,6 @@
 use Rattle.std.proofs.Common.{◌∙◌, ap, reverse}
 use Rattle.std.proofs.lemmas.List.Sorted.{list_any-IsPermutation, IsPermutation-reverse}
-use Rattle.city_txn.specs.UndoLog.{has_mark, is_mark}
+use Rattle.city_txn.specs.inside.LogTests.{has_mark, is_mark}
 use Rattle.city_txn.proofs.undo_log.UndoLogs.has_mark.Goals as goal
 
 pub returns : goal.returns

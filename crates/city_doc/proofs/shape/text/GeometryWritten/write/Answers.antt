@@ -4,8 +4,9 @@ use Rattle.serde_json.specs.Data.{object}
 use Rattle.serde_json.specs.View.{members_view}
 use Rattle.city_model.specs.Members.{AreOrdered}
 use Rattle.city_doc.specs.shape.Nesting.{shape_name}
-use Rattle.city_doc.specs.tree.Tokens.{tokens_of, ReadsBack}
-use Rattle.city_doc.specs.Pool.{with_points}
+use Rattle.city_doc.specs.tree.Tokens.{tokens_of}
+use Rattle.city_doc.specs.inside.tree.ReadsBack.{ReadsBack}
+use Rattle.city_doc.specs.inside.Pool.{with_points}
 use Rattle.city_doc.proofs.tree.Among.{puts, begun, value_written, end_written, reads_parts, reads_all, own_read, string_reads, text_written}
 use Rattle.city_doc.proofs.object.ObjectsRead.{LacksGeometryMembers, geometry_members_lacking}
 use Rattle.city_doc.proofs.document.OwnMembers.{geometry_own}

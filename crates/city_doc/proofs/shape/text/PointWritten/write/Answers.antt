@@ -1,7 +1,8 @@
 use Rattle.std.proofs.Common.{◌++◌, ◌∷◌, [], decimal, sym, ap, ◌∙◌}
 use Rattle.std.proofs.lemmas.Result.{on_ok_weaker}
 use Rattle.json.specs.Token.{number}
-use Rattle.city_doc.specs.Pool.{number_of, with_points}
+use Rattle.city_doc.specs.Pool.{number_of}
+use Rattle.city_doc.specs.inside.Pool.{with_points}
 use Rattle.city_doc.proofs.tree.Integers.{unsigned_reads}
 use Rattle.city_doc.proofs.pool.KeptNumbers.{number_kept, number_within}
 use Rattle.city_doc.proofs.shape.text.PointWritten.write.Goals as goal

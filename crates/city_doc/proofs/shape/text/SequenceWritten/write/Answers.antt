@@ -7,8 +7,8 @@ use Rattle.json.specs.Token.{begin_array}
 use Rattle.serde_json.specs.View.{items_of}
 use Rattle.city_model.specs.declared.object.Point.{Point}
 use Rattle.city_doc.specs.tree.Lists.{list_data}
-use Rattle.city_doc.specs.tree.Tokens.{ReadsBack}
-use Rattle.city_doc.specs.Pool.{with_points}
+use Rattle.city_doc.specs.inside.tree.ReadsBack.{ReadsBack}
+use Rattle.city_doc.specs.inside.Pool.{with_points}
 use Rattle.city_doc.proofs.tree.ReadBack.{array_reads}
 use Rattle.city_doc.proofs.pool.Walks.{walk_item}
 use Rattle.city_doc.proofs.tree.WrittenItems.{item_first, closing, all_written, one_reads, all_read, numbered_written}

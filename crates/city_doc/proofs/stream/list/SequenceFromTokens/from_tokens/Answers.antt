@@ -3,7 +3,7 @@ use Rattle.json.specs.Token.{Token}
 use Rattle.json.specs.Reads.{token_of}
 use Rattle.serde_json.specs.Data.{array}
 use Rattle.serde_json.specs.View.{items_of}
-use Rattle.city_doc.specs.stream.Standing.{Pairs}
+use Rattle.city_doc.specs.inside.stream.Standing.{Pairs}
 use Rattle.city_doc.proofs.stream.Reading.{seen_value, array_value}
 use Rattle.city_doc.proofs.stream.list.SequenceFromTokens.from_tokens.Goals as goal
 

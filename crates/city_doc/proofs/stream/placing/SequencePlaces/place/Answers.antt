@@ -1,6 +1,6 @@
 use Rattle.std.proofs.Common.{◌≡◌, sym, subst, arith}
-use Rattle.city_doc.specs.stream.Positions.{IsPlaced, points_of}
-use Rattle.city_doc.specs.stream.Standing.{IsArrayOf}
+use Rattle.city_doc.specs.inside.stream.Positions.{IsPlaced, points_of}
+use Rattle.city_doc.specs.inside.stream.Standing.{IsArrayOf}
 use Rattle.city_doc.specs.tree.Lists.{list_of}
 use Rattle.city_doc.proofs.stream.PlacedParts.{array_placed}
 use Rattle.city_doc.proofs.stream.placing.SequencePlaces.place.Goals as goal

@@ -1,0 +1,397 @@
+use Rattle.std.proofs.Common.{◌≡◌, ℕ, ◌-◌, List, [], ◌∷◌, ◌++◌, length, false, Some, None, refl, sym, ap, ap₂, ◌∙◌}
+use Rattle.std.proofs.Common.{subst, arith, append_assoc}
+use Rattle.std.specs.Prelude.{option_map}
+use Rattle.std.proofs.lemmas.Result.{on_ok_weaker}
+use Rattle.json.specs.Token.{Token}
+use Rattle.json.specs.Json.{Json, array, object, Items, Members, member}
+use Rattle.json.specs.Json.{parse_map, after_end_array, read_key, items, members, value}
+use Rattle.json.specs.Reads.{token_of}
+use Rattle.json.specs.Tree.{json_tokens, items_tokens, members_tokens}
+use Rattle.json.proofs.Grammar.{value_is, value-begin_array, value-begin_object, read_key-shorter, read_key_is}
+use Rattle.json.proofs.Grammar.{items_fail, members_end, members_more, members_fail, members_no_key}
+use Rattle.city_decimals.specs.Decoded.{decoded, decoded_members, out_of_form}
+use Rattle.city_decimals.specs.inside.Objects.{decoded_object, IsFirstWritten}
+use Rattle.city_decimals.specs.inside.Streams.{written}
+use Rattle.city_decimals.specs.inside.Ways.{changed, items_changed, members_changed, member_changed, object_made}
+use Rattle.city_decimals.proofs.Copied.{formless}
+use Rattle.city_decimals.proofs.Objects.{object_written, object_put, first_is_no_number, two_are_no_number, other_name}
+use Rattle.city_decimals.proofs.Streams.{none_written, written_as, written_with, token_first, value_shorter}
+use Rattle.city_decimals.proofs.Streams.{item_written, items_over, member_written, members_over}
+use Rattle.city_decimals.proofs.Ways.{string_changed, boolean_changed, null_changed, array_changed, item_tokens}
+use Rattle.city_decimals.proofs.Ways.{no_items_changed, member_tokens, no_members_changed, plain_member}
+use Rattle.city_decimals.proofs.Ways.{object_is_made, no_object, decode_here, untagged_here}
+use Rattle.city_decimals.proofs.change.value.+change.Goals as goal
+
+pub change_value-returns-in_err-token-clause-err : goal.change_value-returns-in_err-token-clause-err
+change_value-returns-in_err-token-clause-err t c refused =
+    let empty : c.args.reader.now ≡ [] = grind arith in
+    ap (value c.args.depth) empty ∙ value_is c.args.depth []
+
+pub change_from-returns-then-depth-eq0-clause-err : goal.change_from-returns-then-depth-eq0-clause-err
+unfolding value
+change_from-returns-then-depth-eq0-clause-err t c never =
+    let none : c.args.depth ≡ 0 = omega arith in
+    ap₂ value none (ap (λ k. token_of k ∷ c.args.reader.now) c.in-BeginArray.is)
+
+pub change_from-returns-then-depth-eq0-2-clause-err : goal.change_from-returns-then-depth-eq0-2-clause-err
+unfolding value
+change_from-returns-then-depth-eq0-2-clause-err t c never =
+    let none : c.args.depth ≡ 0 = omega arith in
+    ap₂ value none (ap (λ k. token_of k ∷ c.args.reader.now) c.in-BeginObject.is)
+
+pub change_from-returns-in_ok-string-in-String-clause-ok : goal.change_from-returns-in_ok-string-in-String-clause-ok
+change_from-returns-in_ok-string-in-String-clause-ok t c =
+    let f : Json → List Token = λ j. json_tokens (changed c.args.way j) in
+    let ts = c.args.reader.now in
+    ap (λ k. written f c.args.out.now.tokens (value c.args.depth (token_of k ∷ ts))) c.in-String.is
+    ∙ ap (written f c.args.out.now.tokens) (value_is c.args.depth _)
+    ∙ ap (λ us. Some (us, ts)) (ap (λ i. c.args.out.now.tokens ++ json_tokens i)
+    (string_changed c.args.way c.in-String.text.now) ∙ sym c.in_ok-string-in-String.ensures.ok)
+
+pub change_from-returns-in_ok-boolean-in-Bool-clause-ok : goal.change_from-returns-in_ok-boolean-in-Bool-clause-ok
+change_from-returns-in_ok-boolean-in-Bool-clause-ok t c =
+    let f : Json → List Token = λ j. json_tokens (changed c.args.way j) in
+    let ts = c.args.reader.now in
+    ap (λ k. written f c.args.out.now.tokens (value c.args.depth (token_of k ∷ ts))) c.in-Bool.is
+    ∙ ap (written f c.args.out.now.tokens) (value_is c.args.depth _)
+    ∙ ap (λ us. Some (us, ts)) (ap (λ i. c.args.out.now.tokens ++ json_tokens i)
+    (boolean_changed c.args.way c.in-Bool.b) ∙ sym c.in_ok-boolean-in-Bool.ensures.ok)
+
+pub change_from-returns-in_ok-null-in-Null-clause-ok : goal.change_from-returns-in_ok-null-in-Null-clause-ok
+change_from-returns-in_ok-null-in-Null-clause-ok t c =
+    let f : Json → List Token = λ j. json_tokens (changed c.args.way j) in
+    let ts = c.args.reader.now in
+    ap (λ k. written f c.args.out.now.tokens (value c.args.depth (token_of k ∷ ts))) c.in-Null.is
+    ∙ ap (written f c.args.out.now.tokens) (value_is c.args.depth _)
+    ∙ ap (λ us. Some (us, ts)) (ap (λ i. c.args.out.now.tokens ++ json_tokens i)
+    (null_changed c.args.way) ∙ sym c.in_ok-null-in-Null.ensures.ok)
+
+pub change_member-returns-else-can_have_form-clause-ok : goal.change_member-returns-else-can_have_form-clause-ok
+change_member-returns-else-can_have_form-clause-ok t c =
+    let top = c.args.top in
+    let k = c.args.name.now in
+    let f : Json → List Token = λ j. json_tokens (changed c.args.way j) in
+    let g : Json → List Token = λ j. json_tokens (member_changed c.args.way top k j) in
+    on_ok_weaker c.change_value.result (λ e. written_as f g c.args.out.now.tokens c.change_value.new.out.tokens
+    (value c.args.depth c.args.reader.now) c.change_value.new.reader e
+    (λ j is. let n = formless top k j (sym c.if-can_have_form.ensures) in
+    ap json_tokens (plain_member c.args.way top k j n.0 n.1))) c.change_value.ensures.ok
+
+pub change_from-returns-in_ok-write_number-in-Number-clause-ok :
+    goal.change_from-returns-in_ok-write_number-in-Number-clause-ok
+change_from-returns-in_ok-write_number-in-Number-clause-ok t c =
+    let f : Json → List Token = λ j. json_tokens (changed c.args.way j) in
+    let ts = c.args.reader.now in
+    ap (λ k. written f c.args.out.now.tokens (value c.args.depth (token_of k ∷ ts))) c.in-Number.is
+    ∙ ap (written f c.args.out.now.tokens) (value_is c.args.depth _)
+    ∙ ap (λ us. Some (us, ts)) (sym c.in_ok-write_number-in-Number.ensures.tokens)
+
+pub change_from-returns-in_ok-begin_array-in-BeginArray-clause-ok :
+    goal.change_from-returns-in_ok-begin_array-in-BeginArray-clause-ok
+change_from-returns-in_ok-begin_array-in-BeginArray-clause-ok t c =
+    let f : Json → List Token = λ j. json_tokens (changed c.args.way j) in
+    let g : Items → List Token = λ js. items_tokens (items_changed c.args.way js) in
+    let out = c.args.out.now.tokens in
+    let ts = c.args.reader.now in
+    let read = items (value (c.args.depth - 1)) (length ts) ts in
+    let opened = ap (λ k. value c.args.depth (token_of k ∷ ts)) c.in-BeginArray.is
+    ∙ value-begin_array c.args.depth ts (omega arith) in
+    on_ok_weaker c.change_items.result (λ e. ap (written f out) opened
+    ∙ token_first g array f Token.begin_array (λ js. ap json_tokens (array_changed c.args.way js)) out read
+    ∙ ap (λ us. written g us read) (sym c.in_ok-begin_array-in-BeginArray.ensures.ok)
+    ∙ e (length ts) (omega arith)) c.change_items.ensures.ok
+
+pub change_from-returns-in_ok-begin_array-in-BeginArray-clause-err :
+    goal.change_from-returns-in_ok-begin_array-in-BeginArray-clause-err
+change_from-returns-in_ok-begin_array-in-BeginArray-clause-err t c refused =
+    let ts = c.args.reader.now in
+    ap (λ k. value c.args.depth (token_of k ∷ ts)) c.in-BeginArray.is ∙ value-begin_array c.args.depth ts (omega arith)
+    ∙ ap (parse_map array) (c.change_items.ensures.err (grind arith) (length ts) (omega arith))
+
+pub change_from-returns-else-depth-eq0-2-clause-ok : goal.change_from-returns-else-depth-eq0-2-clause-ok
+change_from-returns-else-depth-eq0-2-clause-ok t c =
+    let g : Members → List Token = λ ms. json_tokens (object_made c.args.way false ms) in
+    let f : Json → List Token = λ j. json_tokens (changed c.args.way j) in
+    let out = c.args.out.now.tokens in
+    let ts = c.args.reader.now in
+    let read = members (value (c.args.depth - 1)) (length ts) ts in
+    let opened = ap (λ k. value c.args.depth (token_of k ∷ ts)) c.in-BeginObject.is
+    ∙ value-begin_object c.args.depth ts (omega arith) in
+    on_ok_weaker c.change_object.result (λ e. ap (written f out) opened ∙ written_with object f g
+    (λ ms. ap json_tokens (object_is_made c.args.way ms)) out read
+    ∙ e) c.change_object.ensures.ok
+
+pub change_from-returns-else-depth-eq0-2-clause-err : goal.change_from-returns-else-depth-eq0-2-clause-err
+change_from-returns-else-depth-eq0-2-clause-err t c refused =
+    let ts = c.args.reader.now in
+    ap (λ k. value c.args.depth (token_of k ∷ ts)) c.in-BeginObject.is
+    ∙ value-begin_object c.args.depth ts (omega arith)
+    ∙ ap (parse_map object) (c.change_object.ensures.err (grind arith))
+
+pub change_from-returns-in-EndObject-clause-err : goal.change_from-returns-in-EndObject-clause-err
+change_from-returns-in-EndObject-clause-err t c refused = value_is c.args.depth _ ∙ grind arith
+
+pub change_items-items-smaller : goal.change_items-items-smaller
+change_items-items-smaller t c =
+    let going : c.take_end_array.new.self ≡ c.items.reader = grind arith in
+    let r = c.change_value.new.reader in
+    let f : Json → List Token = λ j. json_tokens (changed c.args.way j) in
+    let less = value_shorter f c.args.depth _ _ _ r c.in_ok-change_value.ensures.ok in
+    omega (arith, ap length going)
+
+pub change_items-items-preserved : goal.change_items-items-preserved
+change_items-items-preserved t c =
+    let f : Json → List Token = λ j. json_tokens (changed c.args.way j) in
+    let g : Items → List Token = λ js. items_tokens (items_changed c.args.way js) in
+    let p = value c.args.depth in
+    let l = c.items in
+    let r = c.change_value.new.reader in
+    let going : (after_end_array l.reader ≡ None) × (c.take_end_array.new.self ≡ l.reader) = grind arith in
+    let done : written f l.out.tokens (p l.reader)
+    ≡ Some (c.change_value.new.out.tokens, r) = rw (← going.1) c.in_ok-change_value.ensures.ok in
+    let less = value_shorter f c.args.depth l.out.tokens c.change_value.new.out.tokens l.reader r done in (
+      c.in_ok-change_value.ensures.before ∙ l.invariant.0,
+      λ a enough. let i = l.invariant.1 a enough in (
+        i.0 - 1,
+        omega (arith, i.1),
+        i.2 ∙ item_written p f g (item_tokens c.args.way) i.0 l.out.tokens c.change_value.new.out.tokens l.reader r
+            (omega (arith, i.1)) going.0 done,
+      ),
+    )
+
+pub change_items-returns-in_err-change_value-clause-err : goal.change_items-returns-in_err-change_value-clause-err
+change_items-returns-in_err-change_value-clause-err t c refused a enough =
+    let g : Items → List Token = λ js. items_tokens (items_changed c.args.way js) in
+    let l = c.items in
+    let i = l.invariant.1 a enough in
+    let going : (after_end_array l.reader ≡ None) × (c.take_end_array.new.self ≡ l.reader) = grind arith in
+    none_written g _ l.out.tokens _ _ i.2 (items_fail (value c.args.depth) i.0 l.reader going.0 (rw (← going.1)
+    (c.change_value.ensures.err (grind arith))))
+
+pub change_items-returns-clause-ok : goal.change_items-returns-clause-ok
+change_items-returns-clause-ok t c =
+    let f : Json → List Token = λ j. json_tokens (changed c.args.way j) in
+    let g : Items → List Token = λ js. items_tokens (items_changed c.args.way js) in
+    let l = c.items in
+    let r = c.take_end_array.new.self in
+    let over : after_end_array l.reader ≡ Some r = grind arith in
+    λ a enough. let i = l.invariant.1 a enough in
+    i.2 ∙ items_over (value c.args.depth) f g (item_tokens c.args.way) i.0 l.out.tokens l.reader r i.1 over
+    ∙ ap (λ us. Some (us, r)) (ap (λ js. l.out.tokens ++ items_tokens js) (no_items_changed c.args.way)
+    ∙ sym c.in_ok-end_array.ensures.ok)
+
+pub change_more-members-smaller : goal.change_more-members-smaller
+change_more-members-smaller t c =
+    let l = c.members in
+    let k = c.in-Some.name.now in
+    let s = c.next_key.new.self in
+    let named : read_key l.reader ≡ Some (Some k, s) = grind arith in
+    let less = read_key-shorter l.reader (Some k) s named in
+    let lesser = value_shorter (λ j. json_tokens (member_changed c.args.way c.args.top k j)) c.args.depth _ _ _
+    c.change_member.new.reader c.in_ok-change_member.ensures.ok in
+    omega arith
+
+pub change_more-members-preserved : goal.change_more-members-preserved
+change_more-members-preserved t c =
+    let f : List ℕ → Json → List Token = λ k j. json_tokens (member_changed c.args.way c.args.top k j) in
+    let g : Members → List Token = λ ms. members_tokens (members_changed c.args.way c.args.top ms) in
+    let p = value c.args.depth in
+    let l = c.members in
+    let k = c.in-Some.name.now in
+    let s = c.next_key.new.self in
+    let r = c.change_member.new.reader in
+    let named : read_key l.reader ≡ Some (Some k, s) = grind arith in
+    let less = read_key-shorter l.reader (Some k) s named in
+    let done : written (f k) (l.out.tokens ++ Token.key k ∷ []) (p s)
+    ≡ Some (c.change_member.new.out.tokens, r) = rw (← c.in_ok-key.ensures.ok) c.in_ok-change_member.ensures.ok in
+    let lesser = value_shorter (f k) c.args.depth (l.out.tokens
+    ++ Token.key k ∷ []) c.change_member.new.out.tokens s r done in (
+      c.in_ok-change_member.ensures.before ∙ c.in_ok-key.ensures.room.0 ∙ l.invariant.0,
+      λ a enough. let i = l.invariant.1 a enough in (
+        i.0 - 1,
+        omega (arith, i.1),
+        i.2 ∙ member_written p f g (member_tokens c.args.way c.args.top) i.0 k l.out.tokens
+            c.change_member.new.out.tokens l.reader s r (omega (arith, i.1)) named done,
+      ),
+    )
+
+pub change_more-returns-in_err-name-clause-err : goal.change_more-returns-in_err-name-clause-err
+change_more-returns-in_err-name-clause-err t c refused a enough =
+    let g : Members → List Token = λ ms. members_tokens (members_changed c.args.way c.args.top ms) in
+    let l = c.members in
+    let i = l.invariant.1 a enough in
+    none_written g _ l.out.tokens _ _ i.2 (members_no_key (value c.args.depth) i.0 l.reader c.in_err-name.ensures.value)
+
+pub change_more-returns-in_err-change_member-clause-err : goal.change_more-returns-in_err-change_member-clause-err
+change_more-returns-in_err-change_member-clause-err t c refused a enough =
+    let g : Members → List Token = λ ms. members_tokens (members_changed c.args.way c.args.top ms) in
+    let l = c.members in
+    let i = l.invariant.1 a enough in
+    let k = c.in-Some.name.now in
+    let s = c.next_key.new.self in
+    let named : read_key l.reader ≡ Some (Some k, s) = grind arith in
+    none_written g _ l.out.tokens _ _ i.2 (members_fail (value c.args.depth) i.0 k l.reader s named
+    (c.change_member.ensures.err (grind arith)))
+
+pub change_more-returns-clause-ok : goal.change_more-returns-clause-ok
+change_more-returns-clause-ok t c =
+    let f : List ℕ → Json → List Token = λ k j. json_tokens (member_changed c.args.way c.args.top k j) in
+    let g : Members → List Token = λ ms. members_tokens (members_changed c.args.way c.args.top ms) in
+    let l = c.members in
+    let r = c.next_key.new.self in
+    let over : read_key l.reader ≡ Some (None, r) = grind arith in
+    λ a enough. let i = l.invariant.1 a enough in
+    i.2 ∙ members_over (value c.args.depth) f g (member_tokens c.args.way c.args.top) i.0 l.out.tokens l.reader r i.1
+    over ∙ ap (λ us. Some (us, r)) (ap (λ ms. l.out.tokens ++ members_tokens ms)
+    (no_members_changed c.args.way c.args.top) ∙ sym c.in_ok-end_object.ensures.ok)
+
+pub change_members-returns-in_err-change_member-clause-err : goal.change_members-returns-in_err-change_member-clause-err
+change_members-returns-in_err-change_member-clause-err t c refused n enough =
+    let k = c.args.name.now in
+    let s = c.args.reader.now in
+    members_fail (value c.args.depth) n k (Token.key k ∷ s) s refl (c.change_member.ensures.err (grind arith))
+
+pub change_members-returns-clause-ok : goal.change_members-returns-clause-ok
+change_members-returns-clause-ok t c =
+    let f : List ℕ → Json → List Token = λ k j. json_tokens (member_changed c.args.way c.args.top k j) in
+    let g : Members → List Token = λ ms. members_tokens (members_changed c.args.way c.args.top ms) in
+    let p = value c.args.depth in
+    let out = c.args.out.now.tokens in
+    let k = c.args.name.now in
+    let s = c.args.reader.now in
+    let now = c.change_member.new.out.tokens in
+    let r = c.change_member.new.reader in
+    let done : written (f k) (out ++ Token.key k ∷ []) (p s)
+    ≡ Some (now, r) = rw (← c.in_ok-key.ensures.ok) c.in_ok-change_member.ensures.ok in
+    let less = value_shorter (f k) c.args.depth (out ++ Token.key k ∷ []) now s r done in
+    on_ok_weaker c.change_more.result (λ e n enough. member_written p f g (member_tokens c.args.way c.args.top) n k out
+    now (Token.key k ∷ s) s r (omega (arith, enough)) refl done
+    ∙ e (n - 1) (omega (arith, enough, less))) c.change_more.ensures.ok
+
+pub change_members-returns-clause-err : goal.change_members-returns-clause-err
+change_members-returns-clause-err t c refused n enough =
+    let f : List ℕ → Json → List Token = λ k j. json_tokens (member_changed c.args.way c.args.top k j) in
+    let g : Members → List Token = λ ms. members_tokens (members_changed c.args.way c.args.top ms) in
+    let p = value c.args.depth in
+    let out = c.args.out.now.tokens in
+    let k = c.args.name.now in
+    let s = c.args.reader.now in
+    let now = c.change_member.new.out.tokens in
+    let r = c.change_member.new.reader in
+    let done : written (f k) (out ++ Token.key k ∷ []) (p s)
+    ≡ Some (now, r) = rw (← c.in_ok-key.ensures.ok) c.in_ok-change_member.ensures.ok in
+    let less = value_shorter (f k) c.args.depth (out ++ Token.key k ∷ []) now s r done in
+    let none : members p (n - 1) r ≡ None = c.change_more.ensures.err (grind arith) (n - 1) (omega
+    (arith, enough, less)) in
+    none_written g out now (members p n (Token.key k ∷ s)) (members p (n - 1) r) (member_written p f g
+    (member_tokens c.args.way c.args.top) n k out now (Token.key k ∷ s) s r (omega (arith, enough)) refl done) none
+
+pub change_object-returns-in_err-name-clause-err : goal.change_object-returns-in_err-name-clause-err
+change_object-returns-in_err-name-clause-err t c refused = members_no_key (value c.args.depth)
+    (length c.args.reader.now) c.args.reader.now c.in_err-name.ensures.value
+
+pub change_object-returns-then-is_decoded_tag-clause-ok : goal.change_object-returns-then-is_decoded_tag-clause-ok
+change_object-returns-then-is_decoded_tag-clause-ok t c =
+    let p = value c.args.depth in
+    let top = c.args.top in
+    let out = c.args.out.now.tokens in
+    let ts = c.args.reader.now in
+    let k = c.in-Some.name.now in
+    let s = c.next_key.new.self in
+    let named : read_key ts ≡ Some (Some k, s) = grind arith in
+    let less = read_key-shorter ts (Some k) s named in
+    let n = length ts in
+    let way = decode_here c.args.way k (sym c.if-is_decoded_tag.ensures) in
+    on_ok_weaker c.decode_tagged.result (λ e. subst (λ w. written (λ ms. json_tokens (object_made w top ms)) out
+    (members p n ts) ≡ Some (c.decode_tagged.new.out.tokens, c.decode_tagged.new.reader)) (sym way)
+    (ap (λ us. written (λ ms. json_tokens (decoded_object top ms)) out (members p n us))
+    (read_key_is ts (Some k) s named) ∙ e n (omega (arith, less)))) c.decode_tagged.ensures.ok
+
+pub change_object-returns-in_ok-begin_object-in-Some-clause-ok :
+    goal.change_object-returns-in_ok-begin_object-in-Some-clause-ok
+change_object-returns-in_ok-begin_object-in-Some-clause-ok t c =
+    let g : Members → List Token = λ ms. members_tokens (members_changed c.args.way c.args.top ms) in
+    let p = value c.args.depth in
+    let out = c.args.out.now.tokens in
+    let ts = c.args.reader.now in
+    let k = c.in-Some.name.now in
+    let s = c.next_key.new.self in
+    let named : read_key ts ≡ Some (Some k, s) = grind arith in
+    let other = untagged_here c.args.way k (sym c.if-is_decoded_tag.ensures) in
+    let taken = read_key_is ts (Some k) s named in
+    let less = read_key-shorter ts (Some k) s named in
+    let begun = out ++ Token.begin_object ∷ [] in
+    on_ok_weaker c.change_members.result (λ e. object_put c.args.way c.args.top out (members p (length ts) ts)
+    (λ at. first_is_no_number p (length ts) k ts s named (λ j r is. other_name k j (other at)))
+    ∙ ap (λ us. written g begun (members p (length ts) us)) taken
+    ∙ ap (λ us. written g us (members p (length ts) (Token.key k ∷ s)))
+    (sym c.in_ok-begin_object-in-Some.ensures.ok) ∙ e (length ts) (omega (arith, less))) c.change_members.ensures.ok
+
+pub change_object-returns-in_ok-end_object-in-None-clause-ok :
+    goal.change_object-returns-in_ok-end_object-in-None-clause-ok
+change_object-returns-in_ok-end_object-in-None-clause-ok t c =
+    let f : Members → List Token = λ ms. json_tokens (object_made c.args.way c.args.top ms) in
+    let out = c.args.out.now.tokens in
+    let ts = c.args.reader.now in
+    let r = c.next_key.new.self in
+    let over : read_key ts ≡ Some (None, r) = grind arith in
+    let tokens = c.in_ok-end_object-in-None.ensures.ok
+    ∙ ap (λ us. us ++ Token.end_object ∷ []) c.in_ok-begin_object-in-None.ensures.ok
+    ∙ append_assoc out (Token.begin_object ∷ []) (Token.end_object ∷ []) in
+    ap (written f out) (members_end (value c.args.depth) (length ts) ts r (omega arith) over)
+    ∙ ap (λ us. Some (out ++ us, r)) (no_object c.args.way c.args.top) ∙ ap (λ us. Some (us, r)) (sym tokens)
+
+pub decode_tagged-returns-in-Some-clause-err : goal.decode_tagged-returns-in-Some-clause-err
+decode_tagged-returns-in-Some-clause-err t c refused n enough =
+    let p = value c.args.depth in
+    let k = c.args.name.now in
+    let s = c.args.reader.now in
+    let l = c.in-Some.next.now in
+    let v = c.decode_first_member.new.reader in
+    let w = subst (λ o. IsFirstWritten c.args.top c.args.depth k s c.args.out.now.tokens (option_map (λ x. x.now) o) v
+    c.decode_first_member.new.out.tokens) c.in-Some.is c.in_ok-next.ensures.written in
+    let lesser = read_key-shorter w.left (Some l) v w.named in
+    members_more p n k (Token.key k ∷ s) s w.left w.j (omega (arith, enough)) refl w.read
+    ∙ ap (parse_map (member k w.j)) (ap (members p (n - 1)) (read_key_is w.left (Some l) v w.named)
+    ∙ c.change_members.ensures.err refused (n - 1) (omega (arith, enough, w.shorter, lesser)))
+
+pub decode_tagged-returns-in-Some-clause-ok : goal.decode_tagged-returns-in-Some-clause-ok
+decode_tagged-returns-in-Some-clause-ok t c =
+    let f : List ℕ → Json → List Token = λ k j. json_tokens (out_of_form c.args.top k j (decoded j)) in
+    let g : Members → List Token = λ ms. members_tokens (decoded_members c.args.top ms) in
+    let p = value c.args.depth in
+    let out = c.args.out.now.tokens in
+    let k = c.args.name.now in
+    let s = c.args.reader.now in
+    let all = Token.key k ∷ s in
+    let l = c.in-Some.next.now in
+    let v = c.decode_first_member.new.reader in
+    let w = subst (λ o. IsFirstWritten c.args.top c.args.depth k s out (option_map (λ x. x.now) o) v
+    c.decode_first_member.new.out.tokens) c.in-Some.is c.in_ok-next.ensures.written in
+    let lesser = read_key-shorter w.left (Some l) v w.named in
+    let begun = out ++ Token.begin_object ∷ [] in
+    let now = (begun ++ Token.key k ∷ []) ++ f k w.j in
+    let wrote = w.now_is ∙ sym (append_assoc out (Token.begin_object ∷ []) (Token.key k ∷ f k w.j))
+    ∙ sym (append_assoc begun (Token.key k ∷ []) (f k w.j)) in
+    let done : written (f k) (begun ++ Token.key k ∷ []) (p s)
+    ≡ Some (now, w.left) = ap (written (f k) (begun ++ Token.key k ∷ [])) w.read in
+    on_ok_weaker c.change_members.result (λ e n enough. object_written c.args.top out (members p n all)
+    (two_are_no_number p n k l all s w.left v w.j refl w.read w.named)
+    ∙ member_written p f g (λ k j ms. refl) n k begun now all s w.left (omega (arith, enough)) refl done
+    ∙ ap (λ us. written g now (members p (n - 1) us)) (read_key_is w.left (Some l) v w.named)
+    ∙ ap (λ us. written g us (members p (n - 1) (Token.key l ∷ v))) (sym wrote)
+    ∙ e (n - 1) (omega (arith, enough, w.shorter, lesser))) c.change_members.ensures.ok
+
+pub decode_tagged-returns-in-None-clause-ok : goal.decode_tagged-returns-in-None-clause-ok
+decode_tagged-returns-in-None-clause-ok t c =
+    let f : Members → List Token = λ ms. json_tokens (decoded_object c.args.top ms) in
+    let p = value c.args.depth in
+    let out = c.args.out.now.tokens in
+    let k = c.args.name.now in
+    let s = c.args.reader.now in
+    let r = c.decode_first_member.new.reader in
+    let w = subst (λ o. IsFirstWritten c.args.top c.args.depth k s out (option_map (λ x. x.now) o) r
+    c.decode_first_member.new.out.tokens) c.in-None.is c.in_ok-next.ensures.written in
+    λ n enough. ap (written f out) (members_more p n k (Token.key k ∷ s) s w.left w.j (omega (arith, enough)) refl
+    w.read ∙ ap (parse_map (member k w.j)) (members_end p (n - 1) w.left r (omega (arith, enough, w.shorter)) w.named))
+    ∙ ap (λ us. Some (us, r)) (sym w.now_is)

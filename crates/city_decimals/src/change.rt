@@ -1,0 +1,41 @@
+//! Whole texts, encoded or decoded.
+ghost use Rattle.std.specs.Prelude.{◌≡◌, ◌++◌, IfOk, IfErr, ℕ, List};
+ghost use Rattle.std.specs.Str.{IsUtf8};
+ghost use Rattle.city_decimals.specs.Texts.{IsDecimalsFault};
+ghost use Rattle.city_decimals.specs.inside.Changes.{IsChanged};
+
+mod value;
+
+use crate::compact::copy_compact;
+use crate::fault::DecimalsFault;
+use crate::text::text_of;
+use crate::way::Way;
+use json::{Reader, Scratch, Writer};
+use std::alloc::Global;
+use value::change_top;
+
+/// The buffer, with the changed text behind what it holds.
+pub(crate) fn change_onto(
+    alloc: Global,
+    way: Way,
+    bytes: &[u8],
+    scratch: &mut Scratch,
+    out: Vec<u8>,
+) -> Result<Vec<u8>, DecimalsFault>
+    ensures changed { IfOk result (λ v. (text : List ℕ)
+        × IsChanged way bytes.now text × IsUtf8 text × (v.items ≡ out.items ++ text)) }
+    ensures fault { IfErr result (λ f. IsDecimalsFault bytes.now f) }
+{
+    let text = text_of(bytes)?;
+    let out = match copy_compact(way, bytes, out) {
+        Ok(changed) => return Ok(changed),
+        Err(out) => out,
+    };
+    let mut reader = Reader::new(text, scratch)?;
+    let mut writer = Writer::new(out);
+    change_top(alloc, way, &mut reader, &mut writer)?;
+    if reader.next().is_some() {
+        return Err(DecimalsFault::NotJson);
+    }
+    Ok(writer.into_inner())
+}

@@ -1,0 +1,304 @@
+//! Values, token by token.
+ghost use Rattle.std.specs.Prelude.{◌≡◌, ◌≢◌, ◌∷◌, ◌++◌, ◌<◌, ◌≤◌, ◌&&◌, OnOk, Some, None, Err, ℕ, length};
+ghost use Rattle.json.specs.Token.{key};
+ghost use Rattle.json.specs.Json.{number, value, items, members};
+ghost use Rattle.json.specs.Print.{IsNumber, IsPrintable};
+ghost use Rattle.json.specs.Reads.{token_of};
+ghost use Rattle.json.specs.Tree.{json_tokens, items_tokens, members_tokens};
+ghost use Rattle.city_decimals.specs.Shapes.{is_tag};
+ghost use Rattle.city_decimals.specs.inside.Changes.{top_changed};
+ghost use Rattle.city_decimals.specs.inside.Objects.{decoded_object};
+ghost use Rattle.city_decimals.specs.inside.Streams.{written};
+ghost use Rattle.city_decimals.specs.inside.Ways.{changed, items_changed, members_changed, member_changed};
+ghost use Rattle.city_decimals.specs.inside.Ways.{object_made, is_decode};
+ghost use Rattle.city_decimals.specs.declared.fault.DecimalsFault.TheVariants.{NotJson};
+
+use crate::decoding::{decode_first_member, decode_member_tree};
+use crate::encoding::{encode_member_tree, encode_number};
+use crate::fault::DecimalsFault;
+use crate::shapes::{can_have_form, is_tag};
+use crate::way::Way;
+use json::{MAX_DEPTH, Reader, Token, Writer};
+use std::alloc::{AllocError, Global};
+
+/// Writes the value of a whole text, changed.
+pub(crate) fn change_top(
+    alloc: Global,
+    way: Way,
+    reader: &mut Reader<'_>,
+    out: &mut Writer,
+) -> Result<(), DecimalsFault>
+    ensures before { OnOk result (out.new.before ≡ out.old.before) }
+    ensures ok { OnOk result (written (λ j. json_tokens (top_changed way j)) out.old.tokens (value 128 reader.old)
+        ≡ Some (out.new.tokens, reader.new)) }
+    ensures err { result ≡ Err NotJson → value 128 reader.old ≡ None }
+{
+    let token = reader.next().ok_or(DecimalsFault::NotJson)?;
+    match token {
+        Token::BeginObject => change_object(alloc, way, reader, MAX_DEPTH - 1, true, out),
+        _ => change_from(alloc, way, token, reader, MAX_DEPTH, out),
+    }
+}
+
+/// Writes the next value, changed. Arrays and objects may nest `depth` deep.
+#[cycle(change)]
+#[inline(always)]
+fn change_value(
+    alloc: Global,
+    way: Way,
+    reader: &mut Reader<'_>,
+    depth: usize,
+    out: &mut Writer,
+) -> Result<(), DecimalsFault>
+    ensures before { OnOk result (out.new.before ≡ out.old.before) }
+    ensures ok { OnOk result (written (λ j. json_tokens (changed way j)) out.old.tokens (value depth reader.old)
+        ≡ Some (out.new.tokens, reader.new)) }
+    ensures err { result ≡ Err NotJson → value depth reader.old ≡ None }
+{
+    let token = reader.next().ok_or(DecimalsFault::NotJson)?;
+    change_from(alloc, way, token, reader, depth, out)
+}
+
+/// Writes the value that begins with the token, changed.
+#[cycle(change)]
+#[inline(always)]
+fn change_from(
+    alloc: Global,
+    way: Way,
+    token: Token<'_>,
+    reader: &mut Reader<'_>,
+    depth: usize,
+    out: &mut Writer,
+) -> Result<(), DecimalsFault>
+    requires printable { token ≢ Token.Bad → IsPrintable (token_of token) }
+    ensures before { OnOk result (out.new.before ≡ out.old.before) }
+    ensures ok { OnOk result (written (λ j. json_tokens (changed way j)) out.old.tokens
+        (value depth (token_of token.entry ∷ reader.old)) ≡ Some (out.new.tokens, reader.new)) }
+    ensures err { result ≡ Err NotJson → value depth (token_of token.entry ∷ reader.old) ≡ None }
+{
+    match token {
+        Token::Number(text) => Ok(write_number(way, text, out)?),
+        Token::String(text) => Ok(out.string(text)?),
+        Token::Bool(b) => Ok(out.boolean(b)?),
+        Token::Null => Ok(out.null()?),
+        Token::BeginArray => {
+            if depth == 0 {
+                return Err(DecimalsFault::NotJson);
+            }
+            out.begin_array()?;
+            change_items(alloc, way, reader, depth - 1, out)
+        }
+        Token::BeginObject => {
+            if depth == 0 {
+                return Err(DecimalsFault::NotJson);
+            }
+            change_object(alloc, way, reader, depth - 1, false, out)
+        }
+        Token::EndObject | Token::EndArray | Token::Key(_) | Token::Bad => {
+            Err(DecimalsFault::NotJson)
+        }
+    }
+}
+
+/// Writes the items that are left, changed, and the bracket that closes them.
+#[cycle(change)]
+#[inline(never)]
+fn change_items(
+    alloc: Global,
+    way: Way,
+    reader: &mut Reader<'_>,
+    depth: usize,
+    out: &mut Writer,
+) -> Result<(), DecimalsFault>
+    ensures before { OnOk result (out.new.before ≡ out.old.before) }
+    ensures ok { OnOk result ((n : ℕ) → length reader.old ≤ n
+        → written (λ js. items_tokens (items_changed way js)) out.old.tokens (items (value depth) n reader.old)
+        ≡ Some (out.new.tokens, reader.new)) }
+    ensures err { result ≡ Err NotJson
+        → (n : ℕ) → length reader.old ≤ n → items (value depth) n reader.old ≡ None }
+{
+    'items: while !reader.take_end_array() {
+        change_value(alloc, way, reader, depth, out)?;
+    }
+    out.end_array()?;
+    Ok(())
+}
+
+/// Writes what the members that are left are changed to: an object, or the number that they encode.
+#[cycle(change)]
+#[inline(never)]
+fn change_object(
+    alloc: Global,
+    way: Way,
+    reader: &mut Reader<'_>,
+    depth: usize,
+    top: bool,
+    out: &mut Writer,
+) -> Result<(), DecimalsFault>
+    ensures before { OnOk result (out.new.before ≡ out.old.before) }
+    ensures ok { OnOk result (written (λ ms. json_tokens (object_made way top ms)) out.old.tokens
+        (members (value depth) (length reader.old) reader.old)
+        ≡ Some (out.new.tokens, reader.new)) }
+    ensures err { result ≡ Err NotJson
+        → members (value depth) (length reader.old) reader.old ≡ None }
+{
+    match reader.next_key()? {
+        Some(name) => if is_decoded_tag(way, name) {
+            decode_tagged(alloc, name, reader, depth, top, out)
+        } else {
+            out.begin_object()?;
+            change_members(alloc, way, name, reader, depth, top, out)
+        },
+        None => {
+            out.begin_object()?;
+            out.end_object()?;
+            Ok(())
+        }
+    }
+}
+
+/// Writes what the members are decoded as, of which the first has this name: a tree is made of its value.
+#[cycle(change)]
+#[inline(always)]
+fn decode_tagged(
+    alloc: Global,
+    name: &str,
+    reader: &mut Reader<'_>,
+    depth: usize,
+    top: bool,
+    out: &mut Writer,
+) -> Result<(), DecimalsFault>
+    ensures before { OnOk result (out.new.before ≡ out.old.before) }
+    ensures ok { OnOk result ((n : ℕ) → length reader.old < n
+        → written (λ ms. json_tokens (decoded_object top ms)) out.old.tokens
+        (members (value depth) n (key name.now ∷ reader.old)) ≡ Some (out.new.tokens, reader.new)) }
+    ensures err { result ≡ Err NotJson
+        → (n : ℕ) → length reader.old < n → members (value depth) n (key name.now ∷ reader.old) ≡ None }
+{
+    let next = decode_first_member(alloc, name, reader, depth, top, out)?;
+    match next {
+        Some(next) => change_members(alloc, Way::Decode, next, reader, depth, top, out),
+        None => Ok(()),
+    }
+}
+
+/// Writes the members, changed, of which the first has this name, and the brace that closes them.
+#[cycle(change)]
+#[inline(always)]
+fn change_members(
+    alloc: Global,
+    way: Way,
+    name: &str,
+    reader: &mut Reader<'_>,
+    depth: usize,
+    top: bool,
+    out: &mut Writer,
+) -> Result<(), DecimalsFault>
+    ensures before { OnOk result (out.new.before ≡ out.old.before) }
+    ensures ok { OnOk result ((n : ℕ) → length reader.old < n
+        → written (λ ms. members_tokens (members_changed way top ms)) out.old.tokens
+        (members (value depth) n (key name.now ∷ reader.old)) ≡ Some (out.new.tokens, reader.new)) }
+    ensures err { result ≡ Err NotJson
+        → (n : ℕ) → length reader.old < n → members (value depth) n (key name.now ∷ reader.old) ≡ None }
+{
+    out.key(name)?;
+    change_member(alloc, way, name, reader, depth, top, out)?;
+    change_more(alloc, way, reader, depth, top, out)
+}
+
+/// Writes the members that are left, changed, and the brace that closes them.
+#[cycle(change)]
+#[inline(always)]
+fn change_more(
+    alloc: Global,
+    way: Way,
+    reader: &mut Reader<'_>,
+    depth: usize,
+    top: bool,
+    out: &mut Writer,
+) -> Result<(), DecimalsFault>
+    ensures before { OnOk result (out.new.before ≡ out.old.before) }
+    ensures ok { OnOk result ((n : ℕ) → length reader.old ≤ n
+        → written (λ ms. members_tokens (members_changed way top ms)) out.old.tokens
+        (members (value depth) n reader.old) ≡ Some (out.new.tokens, reader.new)) }
+    ensures err { result ≡ Err NotJson
+        → (n : ℕ) → length reader.old ≤ n → members (value depth) n reader.old ≡ None }
+{
+    'members: while let Some(name) = reader.next_key()? {
+        out.key(name)?;
+        change_member(alloc, way, name, reader, depth, top, out)?;
+    }
+    out.end_object()?;
+    Ok(())
+}
+
+/// Writes the next value, that of a member of this name, changed and out of its form.
+#[cycle(change)]
+#[inline(always)]
+fn change_member(
+    alloc: Global,
+    way: Way,
+    name: &str,
+    reader: &mut Reader<'_>,
+    depth: usize,
+    top: bool,
+    out: &mut Writer,
+) -> Result<(), DecimalsFault>
+    ensures before { OnOk result (out.new.before ≡ out.old.before) }
+    ensures ok { OnOk result (written (λ j. json_tokens (member_changed way top name.now j))
+        out.old.tokens (value depth reader.old) ≡ Some (out.new.tokens, reader.new)) }
+    ensures err { result ≡ Err NotJson → value depth reader.old ≡ None }
+{
+    if can_have_form(top, name) {
+        change_member_tree(alloc, way, name, reader, depth, top, out)
+    } else {
+        change_value(alloc, way, reader, depth, out)
+    }
+}
+
+/// Writes the next value, that of a member of this name, changed and into or out of its form.
+#[inline(always)]
+fn change_member_tree(
+    alloc: Global,
+    way: Way,
+    name: &str,
+    reader: &mut Reader<'_>,
+    depth: usize,
+    top: bool,
+    out: &mut Writer,
+) -> Result<(), DecimalsFault>
+    ensures before { OnOk result (out.new.before ≡ out.old.before) }
+    ensures ok { OnOk result (written (λ j. json_tokens (member_changed way top name.now j))
+        out.old.tokens (value depth reader.old) ≡ Some (out.new.tokens, reader.new)) }
+    ensures err { result ≡ Err NotJson → value depth reader.old ≡ None }
+{
+    match way {
+        Way::Encode => encode_member_tree(alloc, name, reader, depth, top, out),
+        Way::Decode => decode_member_tree(alloc, name, reader, depth, top, out),
+    }
+}
+
+/// Writes a number, changed.
+#[inline(always)]
+fn write_number(way: Way, text: &str, out: &mut Writer) -> Result<(), AllocError>
+    requires number { IsNumber text.now }
+    ensures before { OnOk result (out.new.before ≡ out.old.before) }
+    ensures tokens { OnOk result (out.new.tokens
+        ≡ out.old.tokens ++ json_tokens (changed way (number text.now))) }
+{
+    match way {
+        Way::Encode => encode_number(text, out),
+        Way::Decode => out.number(text),
+    }
+}
+
+/// Whether this is the tag, where encoded numbers are decoded.
+#[inline(always)]
+fn is_decoded_tag(way: Way, name: &str) -> bool
+    ensures { result ≡ (is_decode way && is_tag name.now) }
+{
+    match way {
+        Way::Encode => false,
+        Way::Decode => is_tag(name),
+    }
+}

@@ -1,0 +1,34 @@
+//! What is decoded of a compact text: encoded numbers.
+ghost use Rattle.std.specs.Prelude.{◌≡◌, true, IfSome};
+ghost use Rattle.city_decimals.specs.Decoded.{decoded};
+ghost use Rattle.city_decimals.specs.inside.Compact.{IsCopied};
+ghost use Rattle.city_decimals.specs.declared.way.Way.TheVariants.{Decode};
+
+use super::{NUMBER_BEGIN, NUMBER_END};
+use crate::copier::Copier;
+use crate::way::Way;
+
+/// Whether the object that is next encodes a number, and is decoded.
+#[inline(always)]
+pub(super) fn is_encoded_number(way: Way, text: &[u8]) -> bool
+    ensures { result ≡ true → way ≡ Decode }
+{
+    match way {
+        Way::Encode => false,
+        Way::Decode => text.starts_with(NUMBER_BEGIN),
+    }
+}
+
+/// Copies the number that an object encodes.
+#[inline(never)]
+pub(super) fn copy_encoded_number(copier: &mut Copier<'_>, depth: usize) -> Option<()>
+    ensures before { copier.new.0 ≡ copier.old.0 }
+    ensures copied { IfSome result (λ _. IsCopied decoded depth copier.old copier.new) }
+{
+    if depth == 0 {
+        return None;
+    }
+    copier.skip(NUMBER_BEGIN)?;
+    copier.pass_number()?;
+    copier.skip(NUMBER_END)
+}

@@ -1,0 +1,75 @@
+//! What is encoded of a compact text: numbers, and the transform.
+ghost use Rattle.std.specs.Prelude.{◌≡◌, IfSome};
+ghost use Rattle.city_decimals.specs.inside.Compact.{IsNumberCopied, IsTripleCopied, IsFrameCopied};
+ghost use Rattle.city_decimals.specs.inside.Ways.{frame_changed};
+ghost use Rattle.city_decimals.specs.declared.way.Way.TheVariants.{Encode};
+
+use super::{FRAME_BEGIN, FRAME_END, NUMBER_BEGIN, NUMBER_END};
+use crate::copier::Copier;
+use crate::numbers::{is_number, is_whole};
+use crate::text::text_of;
+
+/// Copies a number, encoded.
+#[inline(always)]
+pub(super) fn encode_number(copier: &mut Copier<'_>) -> Option<()>
+    ensures before { copier.new.0 ≡ copier.old.0 }
+    ensures number { IfSome result (λ _. IsNumberCopied copier.old copier.new) }
+{
+    if copier.take_plain(false) {
+        return Some(());
+    }
+    encode_other_number(copier)
+}
+
+/// Copies a number, encoded, of any form.
+#[inline(never)]
+fn encode_other_number(copier: &mut Copier<'_>) -> Option<()>
+    ensures before { copier.new.0 ≡ copier.old.0 }
+    ensures number { IfSome result (λ _. IsNumberCopied copier.old copier.new) }
+{
+    let number = copier.next_number();
+    let text = text_of(number).ok()?;
+    if !is_number(text) {
+        return None;
+    }
+    if is_whole(text) {
+        copier.advance(number.len());
+        Some(())
+    } else {
+        copier.insert(NUMBER_BEGIN)?;
+        copier.advance(number.len());
+        copier.insert(NUMBER_END)
+    }
+}
+
+/// Copies an array of three numbers, encoded.
+fn encode_triple(copier: &mut Copier<'_>) -> Option<()>
+    ensures before { copier.new.0 ≡ copier.old.0 }
+    ensures triple { IfSome result (λ _. IsTripleCopied copier.old copier.new) }
+{
+    copier.pass(b"[")?;
+    encode_number(copier)?;
+    copier.pass(b",")?;
+    encode_number(copier)?;
+    copier.pass(b",")?;
+    encode_number(copier)?;
+    copier.pass(b"]")
+}
+
+/// Copies a transform, encoded, into its frame.
+#[inline(never)]
+pub(super) fn copy_into_frame(copier: &mut Copier<'_>, depth: usize) -> Option<()>
+    ensures before { copier.new.0 ≡ copier.old.0 }
+    ensures copied { IfSome result (λ _. IsFrameCopied (frame_changed Encode) depth copier.old copier.new) }
+{
+    if depth < 2 {
+        return None;
+    }
+    copier.insert(FRAME_BEGIN)?;
+    copier.pass(b"{\"scale\":")?;
+    encode_triple(copier)?;
+    copier.pass(b",\"translate\":")?;
+    encode_triple(copier)?;
+    copier.pass(b"}")?;
+    copier.insert(FRAME_END)
+}

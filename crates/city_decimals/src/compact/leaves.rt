@@ -1,0 +1,49 @@
+//! Values of compact texts that are copied as they are, and the names of members.
+ghost use Rattle.std.specs.Prelude.{◌≡◌, ◌∷◌, [], ◌&&◌, codes, IfSome};
+ghost use Rattle.std.specs.Str.{bytes_eq};
+ghost use Rattle.city_decimals.specs.inside.Compact.{IsCopied};
+ghost use Rattle.city_decimals.specs.inside.Ways.{changed};
+
+use crate::copier::Copier;
+use crate::way::Way;
+
+/// Copies a string.
+#[inline(always)]
+pub(super) fn copy_string(copier: &mut Copier<'_>, depth: usize, way: Way) -> Option<()>
+    ensures before { copier.new.0 ≡ copier.old.0 }
+    ensures copied { IfSome result (λ _. IsCopied (changed way) depth copier.old copier.new) }
+{
+    if !copier.take(b'"') {
+        return None;
+    }
+    let _inside = copier.pass_inside()?;
+    Some(())
+}
+
+/// Copies `true`, `false` or `null`.
+pub(super) fn copy_name(copier: &mut Copier<'_>, depth: usize, way: Way) -> Option<()>
+    ensures before { copier.new.0 ≡ copier.old.0 }
+    ensures copied { IfSome result (λ _. IsCopied (changed way) depth copier.old copier.new) }
+{
+    match copier.peek() {
+        b't' => copier.pass(b"true"),
+        b'f' => copier.pass(b"false"),
+        _ => copier.pass(b"null"),
+    }
+}
+
+/// Whether this is the tag, as it stands in a text.
+#[inline(always)]
+pub(super) fn is_tag(key: &[u8]) -> bool
+    ensures { result ≡ bytes_eq key.now (35 ∷ []) }
+{
+    key == b"#".as_slice()
+}
+
+/// Whether a frame stands under this name, as it stands in a text.
+#[inline(always)]
+pub(super) fn is_framed(top: bool, key: &[u8]) -> bool
+    ensures { result ≡ (top && bytes_eq key.now (codes "transform")) }
+{
+    top && key == b"transform".as_slice()
+}

@@ -1,0 +1,7 @@
+-- Definitions that only private clauses and proofs use.
+pub mod Attempt
+pub mod Closing
+pub mod NoCity
+pub mod Ready
+pub mod Room
+pub mod RunInTurn

@@ -1,0 +1,6 @@
+-- What only private clauses and proofs use: nothing here has to be believed.
+pub mod Pool
+pub mod document
+pub mod script
+pub mod stream
+pub mod tree

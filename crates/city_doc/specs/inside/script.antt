@@ -1,0 +1,4 @@
+-- Words for how texts of scripts are read and judged.
+pub mod Faultless
+pub mod Forms
+pub mod Searches

@@ -1,0 +1,8 @@
+-- Words of proofs and of private contracts. No public definition stands on them.
+pub mod BorrowedBounds
+pub mod CommandParts
+pub mod DataCode
+pub mod Faultless
+pub mod Plans
+pub mod RelationTests
+pub mod RisingEdges

@@ -1,0 +1,154 @@
+//! The sites of a document at which members are kept.
+ghost use Rattle.std.specs.Prelude.{◌≡◌, Bool, codes};
+ghost use Rattle.serde_json.specs.Data.{Members};
+ghost use Rattle.serde_json.specs.View.{view, members_view};
+ghost use Rattle.city_model.specs.Kept.{lacks, lacks_both, kept_at_top, kept_at_transform, kept_at_object, kept_at_geometry, is_empty_object_or_absent, has_location, is_located, any_located, any_located_in, has_no_member};
+
+use crate::integral::have_integral;
+use crate::members::member;
+use serde_json::{Map, Value};
+
+/// A site of a document that keeps the members which aren't read there.
+pub trait Site {
+    ghost keeps: { Members → Bool };
+
+    /// Whether these members may be kept at the site.
+    fn admits(members: &Map<String, Value>) -> bool
+        ensures { result ≡ keeps (members_view members.now.entries) };
+}
+
+/// The top of a document.
+#[derive(Clone, Copy, Debug)]
+pub struct AtTop;
+
+/// The member `transform` of a document.
+#[derive(Clone, Copy, Debug)]
+pub struct AtTransform;
+
+/// A city object.
+#[derive(Clone, Copy, Debug)]
+pub struct AtObject;
+
+/// A geometry of a city object.
+#[derive(Clone, Copy, Debug)]
+pub struct AtGeometry;
+
+/// Whether no member has this name.
+fn lacks(members: &Map<String, Value>, name: &str) -> bool
+    ensures { result ≡ lacks name.now (members_view members.now.entries) }
+{
+    match member(members, name) {
+        None => true,
+        Some(_) => false,
+    }
+}
+
+fn lacks_both(members: &Map<String, Value>, name: &str, other: &str) -> bool
+    ensures { result ≡ lacks_both name.now other.now (members_view members.now.entries) }
+{
+    lacks(members, name) && lacks(members, other)
+}
+
+impl Site for AtTransform {
+    ghost keeps = { kept_at_transform };
+
+    fn admits(members: &Map<String, Value>) -> bool {
+        have_integral(members) && lacks_both(members, "scale", "translate")
+    }
+}
+
+impl Site for AtGeometry {
+    ghost keeps = { kept_at_geometry };
+
+    fn admits(members: &Map<String, Value>) -> bool {
+        have_integral(members) && lacks_both(members, "type", "lod") && lacks(members, "boundaries")
+    }
+}
+
+impl Site for AtObject {
+    ghost keeps = { kept_at_object };
+
+    fn admits(members: &Map<String, Value>) -> bool {
+        have_integral(members)
+            && lacks_both(members, "type", "geometry")
+            && lacks_both(members, "parents", "children")
+            && !has_location(member(members, "address"))
+    }
+}
+
+impl Site for AtTop {
+    ghost keeps = { kept_at_top };
+
+    fn admits(members: &Map<String, Value>) -> bool {
+        have_integral(members)
+            && lacks_both(members, "type", "version")
+            && lacks_both(members, "transform", "CityObjects")
+            && lacks(members, "vertices")
+            && is_empty_object_or_absent(member(members, "extensions"))
+    }
+}
+
+ghost use Rattle.std.specs.Prelude.{option_map};
+ghost use Rattle.serde_json.specs.View.{items_view};
+ghost use Rattle.city_model.specs.Kept.{is_empty_object};
+
+/// Whether a member is absent, or is an empty object.
+pub fn is_empty_object_or_absent(member: Option<&Value>) -> bool
+    ensures { result ≡ is_empty_object_or_absent (option_map (λ v. view v.now) member.entry) }
+{
+    match member {
+        None => true,
+        Some(value) => is_empty_object(value),
+    }
+}
+
+fn has_no_member(members: &Map<String, Value>) -> bool
+    ensures { result ≡ has_no_member (members_view members.now.entries) }
+{
+    members.iter().next().is_none()
+}
+
+fn is_empty_object(value: &Value) -> bool
+    ensures { result ≡ is_empty_object (view value.now) }
+{
+    match value.as_object() {
+        None => false,
+        Some(members) => has_no_member(members),
+    }
+}
+
+/// Whether an `address` has a `location`, itself or in one of its items.
+pub fn has_location(address: Option<&Value>) -> bool
+    ensures { result ≡ has_location (option_map (λ v. view v.now) address.entry) }
+{
+    match address {
+        None => false,
+        Some(value) => is_located(value) || any_located_in(value.as_array()),
+    }
+}
+
+fn is_located(value: &Value) -> bool
+    ensures { result ≡ is_located (view value.now) }
+{
+    value.get("location").is_some()
+}
+
+fn any_located_in(items: Option<&Vec<Value>>) -> bool
+    ensures { result ≡ any_located_in (option_map (λ v. items_view v.now.items) items.entry) }
+{
+    match items {
+        None => false,
+        Some(items) => any_located(items),
+    }
+}
+
+fn any_located(items: &Vec<Value>) -> bool
+    ensures { result ≡ any_located (items_view items.now.items) }
+{
+    for item in items {
+        if is_located(item) {
+            return true;
+        }
+    }
+    false
+}

@@ -1,0 +1,36 @@
+-- The command line as clap is told of it, and what its names ask for.
+use Rattle.std.specs.Prelude.{◌≡◌, ℕ, true, List, [], codes, Option, Some, None, Result, Ok, IsErr}
+use Rattle.std.specs.Result.{IsOkAnd}
+use Rattle.clap.specs.Words.{App, Rule, new_rule, with_rule}
+use Rattle.clap.specs.Simple.{new_shape}
+use Rattle.clap.specs.declared.builder.action.ArgAction.TheVariants.{SetTrue}
+use Rattle.city_serve.specs.declared.command_line.Asked.{Asked}
+use Rattle.city_serve.specs.declared.command_line.LineFault.{LineFault}
+use Rattle.city_serve.specs.declared.command_line.Options.{Options}
+use Rattle.city_serve.specs.CommandLines.{files_of}
+
+-- the command as clap is told of it, without its options: two names of files, and beside help a version
+abbrev pub files_command : App
+files_command = with_rule (with_rule
+    (record { top = record (new_shape (codes "cityed")) { has_version = true }; subs = [] })
+    (new_rule (codes "MODEL"))) (new_rule (codes "SCRIPTS"))
+
+-- an option with a value, which help shows by a name
+abbrev pub option_rule : List ℕ → Rule
+option_rule name = record (new_rule name) { long = Some name; value_names = 1 }
+
+-- an option without a value
+abbrev pub flag_rule : List ℕ → Rule
+flag_rule name = record (new_rule name) { long = Some name; action = Some SetTrue }
+
+-- the command with its options
+abbrev pub cityed_command : App
+cityed_command =
+    with_rule (with_rule (with_rule files_command (flag_rule (codes "decimals"))) (option_rule (codes "workers")))
+    (option_rule (codes "watch"))
+
+-- the files that names in their two places ask for
+abbrev pub AnswersPlaces : Options → Option (List ℕ) → Option (List ℕ) → Result Asked LineFault → Type 0
+AnswersPlaces options (Some model) (Some scripts) r = IsOkAnd r (λ a. files_of a ≡ Some (options, model, scripts))
+AnswersPlaces options (Some model) None r = IsErr r
+AnswersPlaces options None scripts r = r ≡ Ok (Asked.Input options)

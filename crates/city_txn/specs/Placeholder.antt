@@ -1,0 +1,13 @@
+-- The object that stands where none is.
+use Rattle.std.specs.Prelude.{[]}
+use Rattle.serde_json.specs.Data.{no_members}
+use Rattle.city_model.specs.declared.object.Object.{Object}
+use Rattle.city_model.specs.declared.object_type.ObjectType.TheVariants.{GenericCityObject}
+
+-- the object that holds the slot of one that isn't there
+abbrev pub placeholder : Object
+placeholder = record {
+  body = record { kind = GenericCityObject; geometry = []; extra = no_members };
+  parents = [];
+  children = [];
+}

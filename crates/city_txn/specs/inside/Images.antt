@@ -1,0 +1,66 @@
+-- What an undo image says of its id, where x is what the city has there.
+use Rattle.std.specs.Prelude.{◌==◌, ◌&&◌, not, ℕ, Bool, true, false, Option, None, Some, is_none}
+use Rattle.std.specs.Prelude.{if◌then◌else◌}
+use Rattle.city_model.specs.declared.object.Object.{Object}
+use Rattle.city_txn.specs.declared.image.UndoImage.{UndoImage}
+
+-- the first, or where there is none the second
+abbrev pub or_else : {Y : Type 0} → Option Y → Option Y → Option Y
+or_else None y = y
+or_else (Some x) y = Some x
+
+-- what its transaction sees: nothing where a placeholder holds the slot
+abbrev pub seen_under : Option Object → UndoImage → Option Object
+seen_under x i = if i.deleted then None else x
+
+-- what stood there before: until the first write, what is there now
+abbrev pub before_image : Option Object → UndoImage → Option Object
+before_image x i = if i.unwritten then seen_under x i else i.before
+
+-- what a stamp sees: what the image's transaction does, or once that has written, what stood there before
+abbrev pub seen_by : ℕ → Option Object → UndoImage → Option Object
+seen_by stamp x i = if not (i.by == stamp) && not i.unwritten then i.before else seen_under x i
+
+-- the same where there may be no image
+abbrev pub seen_at : Option Object → Option UndoImage → Option Object
+seen_at x None = x
+seen_at x (Some i) = seen_under x i
+
+abbrev pub committed_at : Option Object → Option UndoImage → Option Object
+committed_at x None = x
+committed_at x (Some i) = before_image x i
+
+-- the write that the image stands for: its transaction, and what stands there for it
+abbrev pub write_at : Option Object → Option UndoImage → Option (ℕ × Option Object)
+write_at x None = None
+write_at x (Some i) = if i.unwritten then None else Some (i.by, seen_under x i)
+
+-- what stands there for the transaction, where it wrote the id
+abbrev pub written_at : Option Object → Option UndoImage → Option (Option Object)
+written_at x None = None
+written_at x (Some i) = if i.unwritten then None else Some (seen_under x i)
+
+abbrev pub writer_of : Option UndoImage → Option ℕ
+writer_of None = None
+writer_of (Some i) = Some i.by
+
+-- the image after a write over x
+abbrev pub written_over : Option Object → Bool → UndoImage → UndoImage
+written_over x deleted i =
+    record { by = i.by; unwritten = false; deleted = deleted; before = before_image x i }
+
+abbrev pub unwritten_image : ℕ → Bool → UndoImage
+unwritten_image stamp deleted = record { by = stamp; unwritten = true; deleted = deleted; before = None }
+
+-- the object that goes back into the city if the write is undone
+abbrev pub put_back : UndoImage → Option Object
+put_back i = if i.unwritten then None else i.before
+
+-- the image then: nothing is written, and a placeholder holds the slot where no object stood there
+abbrev pub image_unwritten : UndoImage → UndoImage
+image_unwritten i = if i.unwritten then i
+    else record { by = i.by; unwritten = true; deleted = is_none i.before; before = None }
+
+abbrev pub put_back_at : Option UndoImage → Option Object
+put_back_at None = None
+put_back_at (Some i) = put_back i

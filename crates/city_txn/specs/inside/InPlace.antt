@@ -1,0 +1,30 @@
+-- One city as the open transactions have written it, with an undo image of each written id.
+use Rattle.std.specs.Prelude.{◌≡◌, ◌==◌, ℕ, Bool, true, false, List, Option, None, Some, is_some}
+use Rattle.std.specs.FinMap.{entries, from_sorted}
+use Rattle.city_model.specs.CityMap.{object_at, has_id}
+use Rattle.city_txn.specs.declared.store.Store.TheInside.{Inside}
+use Rattle.city_txn.specs.Writes.{made_by}
+use Rattle.city_txn.specs.inside.State.{State}
+use Rattle.city_txn.specs.inside.UndoState.{image_at, reservations_of}
+use Rattle.city_txn.specs.inside.Images.{committed_at, write_at, writer_of}
+
+-- the committed city is the one city with all images put back
+abbrev pub state_of : Inside → State
+state_of a = record {
+  frame = a.city.0;
+  city = from_sorted (made_by (λ id o. committed_at (Some o) (image_at a.undo id)) (entries a.city.1));
+  writes = made_by (λ id i. write_at (object_at a.city.1 id) (Some i)) (entries a.undo.images);
+  opened = a.undo.reservations;
+}
+
+abbrev pub is_writer : ℕ → Option ℕ → Bool
+is_writer stamp None = false
+is_writer stamp (Some t) = t == stamp
+
+-- each image is of an id that is in the city, if only by a placeholder, and of one that its
+-- transaction, and no other, has reserved
+pub record IsInPlace (a : Inside) : Type 0 where
+  pub has_slot : (id : List ℕ) → is_some (image_at a.undo id) ≡ true → is_some (object_at a.city.1 id) ≡ true
+  pub listed : (stamp : ℕ) (id : List ℕ)
+      → has_id (reservations_of a.undo.reservations stamp) id
+      ≡ is_writer stamp (writer_of (image_at a.undo id))

@@ -1,0 +1,63 @@
+-- What contracts see of the store: the committed city, and for each open transaction what it wrote.
+use Rattle.std.specs.Prelude.{◌≡◌, ◌==◌, ◌||◌, ℕ, Bool, false, List, is_some, option_map}
+use Rattle.std.specs.Prelude.{if◌then◌else◌}
+use Rattle.city_model.specs.declared.frame.Frame.{Frame}
+use Rattle.city_model.specs.declared.object.Object.{Object}
+use Rattle.city_model.specs.CityMap.{Objects, CityMap, object_at, has_id}
+use Rattle.city_txn.specs.inside.UndoState.{Reservations, listed_by, reservations_of}
+use Rattle.city_txn.specs.UndoLog.{OwnWrites}
+use Rattle.city_txn.specs.Writes.{Write, write_of, own_or, own_write, unless_by}
+
+pub record State : Type 0 where
+  -- the committed city
+  pub frame : Frame
+  pub city : Objects
+  -- the written ids, in byte order
+  pub writes : List (List ℕ × Write)
+  -- the open transactions by their stamps, each with the ids that it has reserved
+  pub opened : Reservations
+
+abbrev pub is_open : State → ℕ → Bool
+is_open v stamp = is_some (listed_by v.opened stamp)
+
+-- whether the transaction has reserved the id
+abbrev pub is_reserved : State → ℕ → List ℕ → Bool
+is_reserved v stamp id = has_id (reservations_of v.opened stamp) id
+
+-- the write with another object in place of one that it leaves
+abbrev pub rewritten : (Object → Object) → Write → Write
+rewritten f w = (w.0, option_map f w.1)
+
+-- what the transaction wrote at each id
+abbrev pub own : State → ℕ → OwnWrites
+own v stamp id = own_write stamp (write_of v.writes id)
+
+abbrev pub committed : State → CityMap
+committed v id = object_at v.city id
+
+-- what the transaction sees: the committed map with its own writes
+abbrev pub view : State → ℕ → CityMap
+view v stamp id = own_or stamp (write_of v.writes id) (object_at v.city id)
+
+-- what anyone sees is the same
+pub record SeesSame (v w : State) : Type 0 where
+  pub frame : w.frame ≡ v.frame
+  pub city : committed w ≡ committed v
+  pub writes : (id : List ℕ) → write_of w.writes id ≡ write_of v.writes id
+  pub opened : (stamp : ℕ) → is_open w stamp ≡ is_open v stamp
+
+-- the transaction is open, with nothing reserved; all else stays
+pub record Begins (stamp : ℕ) (v w : State) : Type 0 where
+  pub frame : w.frame ≡ v.frame
+  pub city : w.city ≡ v.city
+  pub writes : w.writes ≡ v.writes
+  pub opened : (t : ℕ) → is_open w t ≡ ((stamp == t) || is_open v t)
+  pub reserved : (t : ℕ) (id : List ℕ) → is_reserved w t id ≡ is_reserved v t id
+
+-- the transaction is no longer open, and its writes and its reservations are gone; the others' stay
+pub record Forgets (stamp : ℕ) (v w : State) : Type 0 where
+  pub frame : w.frame ≡ v.frame
+  pub writes : (id : List ℕ) → write_of w.writes id ≡ unless_by stamp (write_of v.writes id)
+  pub opened : (t : ℕ) → is_open w t ≡ (if stamp == t then false else is_open v t)
+  pub reserved : (t : ℕ) (id : List ℕ)
+      → is_reserved w t id ≡ (if stamp == t then false else is_reserved v t id)
