@@ -11,7 +11,7 @@ use Rattle.city_model.specs.declared.end.Outcome.{Outcome}
 use Rattle.city_model.specs.CityMap.{object_at, CityValue}
 use Rattle.city_model.specs.Relations.{IsLawful}
 use Rattle.city_model.specs.Meaning.{Answers, is_refusal}
-use Rattle.city_model.proofs.Effects.{refused_does}
+use Rattle.city_model.proofs.Effects.{refused_does, aborts}
 use Rattle.city_model.specs.Runs.{Change, after_change, after_changes}
 use Rattle.city_model.specs.Scripts.{is_end}
 use Rattle.city_locks.specs.declared.answer.Answer.{Answer}
@@ -177,3 +177,16 @@ commit_refused v w stamp number cause changes ends undone = record {
   keeps = undone.over.keeps;
   publishes = (undone.city, refl);
 }
+
+-- ---- an abort
+
+pub aborted : (v w : CoreState) (stamp number : ℕ) (command : Command) (changes : List Change) → command ≡ Abort
+    → IsRolledBack stamp v w → AttemptEnded stamp command number Outcome.Aborted v w changes changes
+aborted v w stamp number command changes is undone =
+    subst (λ (c : Command). AttemptEnded stamp c number Outcome.Aborted v w changes changes) (sym is) (record {
+      ends = aborts (snapshot v stamp);
+      granted = λ e _. absurd (false≢true (sym e));
+      closed = undone.over.closed;
+      keeps = undone.over.keeps;
+      publishes = (undone.city, refl);
+    })

@@ -8,7 +8,7 @@ use Rattle.city_model.specs.declared.command.Reply.{Reply}
 use Rattle.city_model.specs.declared.end.End.{End}
 use Rattle.city_model.specs.declared.end.Outcome.{Outcome}
 use Rattle.city_model.specs.CityMap.{CityMap, object_at, CityValue}
-use Rattle.city_model.specs.Runs.{IsScriptResult, IsEndOf, model_after, Change}
+use Rattle.city_model.specs.Runs.{Scripted, IsScriptResult, IsEndOf, left_by, left_by_found, model_after, Change}
 use Rattle.city_model.specs.Scripts.{ends_once}
 use Rattle.city_model.proofs.Fitting.{model_more}
 use Rattle.city_txn.specs.CoreState.{CoreState, committed, is_open, StandsUnderLocks, KeepsOthers}
@@ -101,6 +101,11 @@ begun_room d n stamp begun Ended its is = omega (arith, is)
 false_by : (b : Bool) → (b ≡ true → ⊥) → b ≡ false
 false_by true h = absurd (h refl)
 false_by false h = refl
+
+-- a script that ran out of memory leaves all as it was
+leaves_all : (m : CityMap) (s : Option Scripted) (i : ℕ) → left_by_found m s (Outcome.NoMemory i) ≡ m
+leaves_all m None i = refl
+leaves_all m (Some x) i = refl
 
 module _ (d : DeskState) (changes : List Change) (base : Option CityValue) (n stamp : ℕ)
     (s : IsSerial d changes base) (its : stamp_for d (phase_of d n) ≡ Some stamp) (there : n < length d.scripts) where
@@ -199,6 +204,8 @@ module _ (d : DeskState) (changes : List Change) (base : Option CityValue) (n st
       let last : End = end_of d n (length d.ends) (Outcome.NoMemory 0) in
       let e : DeskState = ended_at d ends progress d.core in
       let long : length ends ≡ length d.ends + 1 = ap length more ∙ length-append d.ends (last ∷ []) in
+      let unmoved : left_by d.scripts (model_after d.scripts (object_at d.start.1) d.ends) last ≡ model_after d.scripts (object_at d.start.1) d.ends =
+      leaves_all (model_after d.scripts (object_at d.start.1) d.ends) (slice_get d.scripts n) 0 in
       let turn : IsTurnOf d e n stamp nowhere = record {
         there = within;
         scripts = refl;
@@ -213,8 +220,8 @@ module _ (d : DeskState) (changes : List Change) (base : Option CityValue) (n st
         alone = is_fresh.alone;
         stands = refl;
       } in
-      let serial : IsSerial e changes base = ended_serial d changes changes base ends progress d.core n stamp last s refl turn more refl there is_fresh.unended fits_unbegun s.city
-      (changes_kept d.scripts (object_at d.start.1) d.ends changes s.shelf last refl (model_more d.scripts d.ends last (object_at d.start.1))) in
+      let serial : IsSerial e changes base = ended_serial d changes changes base ends progress d.core n stamp last s refl turn more refl there is_fresh.unended fits_unbegun (s.city ∙ sym unmoved)
+      (changes_kept d.scripts (object_at d.start.1) d.ends changes s.shelf last refl (model_more d.scripts d.ends last (object_at d.start.1) ∙ unmoved)) in
       record {
         serial = serial;
         room_left = room_ended d names left capacity room ends progress d.core n last name r within moves more is_fresh.unended taken same;
@@ -252,13 +259,13 @@ module _ {d seen : DeskState} {changes listing : List Change} {base : Option Cit
 
   module _ {p : Progress} {since : ℕ} {core : CoreState} (read : p ≡ slice_index_or d.progress n p) (now : since ≡ length d.ends) where
     pub turn_begins : {begun : ℕ} → begun ≡ begun_after seen.begun (phase_of seen n) → KeepsOthers stamp d.core core → core.city ≡ d.core.city → is_open core stamp ≡ true → StandsUnderLocks core stamp []
-        → LeavesDesk n turns.Began seen (now_at d (slice_set d.progress n (record { phase = Open stamp since; replies = p.replies })) begun core) names capacity shown changes base
+        → LeavesDesk n turns.Began seen (now_at d (slice_set d.progress n (record { phase = Open stamp since; replies = p.replies })) begun core) names capacity listing changes base
     turn_begins {begun} more keeps objects opened stands = left_of run listed
         (begins d changes base n stamp s its_here there_here p since begun core names capacity read now
         (subst (λ (x : DeskState). begun ≡ begun_after x.begun (phase_of x n)) (sym run) more) keeps objects opened stands r)
 
     pub turn_unbegun : {w : Progress} {ends : List End} {name : List ℕ} (taken : List ℕ) {room : ℕ} → core ≡ d.core → w ≡ nowhere
         → ends ≡ d.ends ++ (record { script = n; name = name; since = since; replies = p.replies.list; outcome = Outcome.NoMemory 0 }) ∷ [] → name ≡ slice_index_or names n name
-        → room ≡ capacity → LeavesDesk n turns.Ended seen (ended_at d ends (slice_set d.progress n w) core) (slice_set names n taken) room shown changes base
+        → room ≡ capacity → LeavesDesk n turns.Ended seen (ended_at d ends (slice_set d.progress n w) core) (slice_set names n taken) room listing changes base
     turn_unbegun {w} {ends} {name} taken {room} same over more named long = left_of run listed
         (ends_unbegun d changes base n stamp s its_here there_here p w since core ends names name taken capacity room read now same over more named r long)

@@ -3,10 +3,10 @@ use Rattle.std.proofs.Common.{◌≡◌, ◌<◌, ◌||◌, ℕ, Bool, true, fal
 use Rattle.std.proofs.lemmas.Bool.{cases_eq, ne_eqb, eq-eqb}
 use Rattle.city_model.specs.declared.end.End.{End}
 use Rattle.city_model.specs.CityMap.{object_at, CityValue}
-use Rattle.city_model.specs.Runs.{IsSerialHistoryFrom, IsEndOf, map_left, model_after, Change, has_end}
+use Rattle.city_model.specs.Runs.{IsSerialHistoryFrom, IsEndOf, left_by, model_after, Change, has_end}
 use Rattle.city_txn.specs.CoreState.{CoreState, committed}
 use Rattle.city_desk.specs.declared.progress.Progress.{Progress}
-use Rattle.city_desk.specs.DeskState.{DeskState, nowhere, phase_of, commands_at, is_ended}
+use Rattle.city_desk.specs.DeskState.{DeskState, nowhere, phase_of, is_ended}
 use Rattle.city_desk.specs.Serial.{AreChangesOf, IsSerial}
 use Rattle.city_model.proofs.Fitting.{fits_more, has_end_more, model_more}
 use Rattle.city_desk.proofs.AttemptsKept.{IsTurnOf, attempts_kept, phase_here, phase_beside}
@@ -50,7 +50,7 @@ kept_serial d changes base progress begun core n stamp q s frame city k same = r
 pub ended_serial : (d : DeskState) (changes after : List Change) (base : Option CityValue) (ends : List End) (progress : List Progress) (core : CoreState) (n stamp : ℕ) (e : End)
     → IsSerial d changes base → core.frame ≡ d.core.frame → IsTurnOf d (ended_at d ends progress core) n stamp nowhere → ends ≡ d.ends ++ e ∷ [] → e.script ≡ n → n < length d.scripts
     → is_ended (phase_of d n) ≡ false → IsEndOf d.scripts (model_after d.scripts (object_at d.start.1) d.ends) (length d.ends) e
-    → committed core ≡ map_left (model_after d.scripts (object_at d.start.1) d.ends) (commands_at d.scripts n) e.outcome
+    → committed core ≡ left_by d.scripts (model_after d.scripts (object_at d.start.1) d.ends) e
     → AreChangesOf d.scripts (object_at d.start.1) (d.ends ++ e ∷ []) after → IsSerial (ended_at d ends progress core) after base
 ended_serial d changes after base ends progress core n stamp e s frame k more script there going is city shelf =
     let none : has_end e.script d.ends ≡ false = ap (λ i. has_end i d.ends) script ∙ (s.ended n there ∙ going) in
@@ -59,7 +59,7 @@ ended_serial d changes after base ends progress core n stamp e s frame k more sc
       scripted = s.scripted;
       fits = subst (λ es. IsSerialHistoryFrom d.scripts (object_at d.start.1) 0 es) (sym more) (fits_more d.scripts d.ends e (object_at d.start.1) 0 s.fits none (subst (λ p. IsEndOf d.scripts (model_after d.scripts (object_at d.start.1) d.ends) p e) (omega arith) is));
       frame = frame ∙ s.frame;
-      city = city ∙ (ap (λ i. map_left (model_after d.scripts (object_at d.start.1) d.ends) (commands_at d.scripts i) e.outcome) (sym script) ∙ (sym (model_more d.scripts d.ends e (object_at d.start.1)) ∙ ap (model_after d.scripts (object_at d.start.1)) (sym more)));
+      city = city ∙ (sym (model_more d.scripts d.ends e (object_at d.start.1)) ∙ ap (model_after d.scripts (object_at d.start.1)) (sym more));
       standing = attempts_kept d (ended_at d ends progress core) n stamp nowhere k s.standing;
       ended = λ j lt. ap (has_end j) more ∙ (has_end_more j d.ends e ∙ elim (cases_eq j n) [
         | inl one ↦ ap (λ b. has_end j d.ends || b) (eq-eqb e.script j (script ∙ sym one)) ∙ (or_true (has_end j d.ends) ∙ (sym (ap is_ended (phase_here d (ended_at d ends progress core) n stamp nowhere k)) ∙ ap (λ i. is_ended (phase_of (ended_at d ends progress core) i)) (sym one)))
