@@ -144,7 +144,7 @@ def main():
     folder = Path(sys.argv[1]) if len(sys.argv) > 1 else ROOT / "docs" / "pictures"
     page = (ROOT / "bench" / "README.md").read_text(encoding="utf-8")
     for file, heading, title, points_of in (
-        ("jq.svg", "Beside jq", "Processor time beside jq", by_program),
+        ("jq.svg", "Beside jq", "Processor time beside jq and a plain reader", by_program),
         ("growth.svg", "How time grows", "Processor time as the text grows", by_kind),
     ):
         tables = [it for it in tables_under(page, heading) if any(quantity(cell, TIMES) for cell in it[1])]
