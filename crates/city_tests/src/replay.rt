@@ -5,12 +5,9 @@ use city_desk::{Desk, ListShelf, Turn, output_bytes};
 use city_model::end::{End, Outcome};
 use std::alloc::Global;
 
-/// The most turns that a script of a run here takes.
-const TURNS: usize = 16;
-
-/// Runs a script to its end.
+/// Runs a script to its end, which takes at most 16 turns in the runs here.
 fn end(desk: &mut Desk<ListShelf>, script: usize) {
-    for _ in 0..TURNS {
+    for _ in 0..16 {
         if turn(desk, script) == Some(Turn::Ended) {
             return;
         }
@@ -26,11 +23,16 @@ fn end_each(desk: &mut Desk<ListShelf>, ends: &[End]) {
     }
 }
 
-/// What is written if the scripts of these ends are played in this way.
+/// What is written if the scripts of these ends are played in this way; none if memory ran out.
 fn written_again(alloc: Global, run: &Run, ends: &[End]) -> Option<Vec<u8>> {
     let mut desk = opened(alloc, run)?;
     end_each(&mut desk, ends);
     let (city, ends, _shelf) = desk.close();
+    for one in ends.as_slice() {
+        if matches!(one.outcome, Outcome::NoMemory(_)) {
+            return None;
+        }
+    }
     output_bytes(alloc, &city, ends.as_slice(), 0).ok()
 }
 
