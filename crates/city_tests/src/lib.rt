@@ -9,8 +9,7 @@ macro_rules! model {
         concat!(
             "{\"CityObjects\":",
             $objects,
-            ",\"transform\":{\"scale\":[1,1,1],\"translate\":[0,0,0]}",
-            ",\"type\":\"CityJSON\",\"version\":\"2.0\",\"vertices\":",
+            r#","transform":{"scale":[1,1,1],"translate":[0,0,0]},"type":"CityJSON","version":"2.0","vertices":"#,
             $vertices,
             "}"
         )

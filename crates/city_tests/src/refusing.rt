@@ -66,12 +66,10 @@ fn written(alloc: Global, run: &Run) -> Option<Vec<u8>> {
     output_bytes(alloc, &city, ends.as_slice(), 0).ok()
 }
 
-const REPORT: &str = concat!(
-    r#"{"at":1,"cause":"Orphan","id":"p","name":"a","outcome":"refused","replies":["added"],"script":0,"since":0}"#,
-    "\n",
-    r#"{"at":2,"name":"b","outcome":"nomemory","replies":["added","attached"],"script":1,"since":1}"#,
-    "\n"
-);
+const REPORT: &str =
+    r#"{"at":1,"cause":"Orphan","id":"p","name":"a","outcome":"refused","replies":["added"],"script":0,"since":0}
+{"at":2,"name":"b","outcome":"nomemory","replies":["added","attached"],"script":1,"since":1}
+"#;
 
 #[test]
 fn a_change_that_its_shelf_refuses_is_undone(rt: HostRuntime) -> Result<(), Fail> {
