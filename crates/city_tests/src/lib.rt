@@ -1,5 +1,4 @@
-//! Tests of the libraries that need threads, devices of the system or refused allocations, a file for each subject:
-//! they call what is public, and nothing else. All other cases are data, which the program city_scenarios plays.
+//! Tests that need threads, devices or refused allocations, by public calls; city_scenarios plays all other cases.
 #![tactic(auto)]
 
 /// The text of a document of whole units, of these objects and vertices.
