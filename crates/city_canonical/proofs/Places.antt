@@ -15,7 +15,7 @@ use Rattle.serde_json.specs.Written.{outline, items_outline}
 use Rattle.serde_json.proofs.Numbers.{number_of-decimal}
 use Rattle.city_model.specs.declared.object.Point.{Point}
 use Rattle.city_model.specs.declared.object.Shape.{Shape}
-use Rattle.city_model.specs.Shells.{boundaries_of, same_point}
+use Rattle.city_model.specs.Shells.{same_point}
 use Rattle.city_decimals.proofs.Wholes.{mapped, bound}
 use Rattle.city_doc.specs.Pool.{nested_points, shape_points, number_of}
 use Rattle.city_doc.specs.document.Canonical.{vertex_data}
@@ -68,7 +68,7 @@ shown zero = shown_point
 shown (suc n) = λ xs. json.array (shown_list (shown n) xs)
 
 abbrev pub shown_shape : Shape → json.Json
-shown_shape s = let b = nested (boundaries_of s) in shown b.0 b.1
+shown_shape s = let b = nested s in shown b.0 b.1
 
 module _ (vs : json.Items) where
   -- what is read as x is placed as what is shown for x
@@ -156,7 +156,7 @@ module _ (pool : List Point) (small : length pool < 2 ^ 63) where
   nested_written vs show n x h = nested_placed vs pool show n (outline (nested_data pool n x)) (nested_data pool n x) x (nested_back n x) (nested_read pool small n x h)
 
   pub shape_written : (vs : json.Items) → Show vs pool → (shape : Shape) → are_in pool (shape_points shape) ≡ true → placed vs (outline (boundaries_data pool shape)) ≡ shown_shape shape
-  shape_written vs show shape h = let b = nested (boundaries_of shape) in nested_written vs show b.0 b.1 h
+  shape_written vs show shape h = let b = nested shape in nested_written vs show b.0 b.1 h
 
   pub boundaries_plain : (shape : Shape) → are_in pool (shape_points shape) ≡ true → IsPlain (boundaries_data pool shape)
-  boundaries_plain shape h = let b = nested (boundaries_of shape) in nested_plain pool b.0 (nested_data pool b.0 b.1) b.1 (nested_read pool small b.0 b.1 h)
+  boundaries_plain shape h = let b = nested shape in nested_plain pool b.0 (nested_data pool b.0 b.1) b.1 (nested_read pool small b.0 b.1 h)

@@ -15,7 +15,7 @@ use Rattle.city_model.specs.declared.object.Geometry.{Geometry}
 use Rattle.city_model.specs.declared.object.Object.{Object}
 use Rattle.city_model.specs.declared.object.Point.{Point}
 use Rattle.city_model.specs.declared.object.Shape.{Shape}
-use Rattle.city_model.specs.Shells.{boundaries_of, same_point}
+use Rattle.city_model.specs.Shells.{same_point}
 use Rattle.city_doc.specs.Pool.{nested_points, shape_points, without_repeats}
 use Rattle.city_doc.specs.shape.Nesting.{Nested, nested}
 use Rattle.city_canonical.specs.Same.{IsPart, IsPartOfOne}
@@ -77,7 +77,7 @@ nested_part (suc n) xs m p h =
     inr (part_list (shown_point p) (shown n) xs x.1.0 x.0 x.1.1 (nested_part n x.0 x.2.0 p x.2.1))
 
 pub shape_part : (shape : Shape) (m : ℕ) (p : Point) → slice_get (shape_points shape) m ≡ Some p → IsPart (shown_point p) (shown_shape shape)
-shape_part shape m p h = let b = nested (boundaries_of shape) in nested_part b.0 b.1 m p h
+shape_part shape m p h = let b = nested shape in nested_part b.0 b.1 m p h
 
 -- the geometry that shows the shape
 pub shown_at : (ws hs : json.Items) (gs : List Geometry) (n : ℕ) (g : Geometry) → AreShown ws hs gs → slice_get gs n ≡ Some g → (h : json.Json) × (look.get_item n hs ≡ Some h) × IsShown ws h g

@@ -1,4 +1,5 @@
 -- What the proofs of several functions of src/shape/ use.
+pub mod Bounded
 pub mod Points
 pub mod ReadForms
 pub mod Readable

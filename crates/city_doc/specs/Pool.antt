@@ -7,7 +7,7 @@ use Rattle.city_model.specs.declared.object.Point.{Point}
 use Rattle.city_model.specs.declared.object.Shape.{Shape}
 use Rattle.city_model.specs.declared.object.Geometry.{Geometry}
 use Rattle.city_model.specs.declared.object.Object.{Object}
-use Rattle.city_model.specs.Shells.{boundaries_of, same_point}
+use Rattle.city_model.specs.Shells.{same_point}
 use Rattle.city_model.specs.CityMap.{CityValue}
 use Rattle.city_doc.specs.shape.Nesting.{Nested, nested}
 
@@ -18,7 +18,7 @@ nested_points zero = λ p. p ∷ []
 nested_points (suc n) = flat_map (nested_points n)
 
 abbrev pub shape_points : Shape → List Point
-shape_points shape = let b = nested (boundaries_of shape) in nested_points b.0 b.1
+shape_points shape = let b = nested shape in nested_points b.0 b.1
 
 abbrev pub geometry_points : Geometry → List Point
 geometry_points g = shape_points g.shape

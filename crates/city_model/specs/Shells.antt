@@ -64,42 +64,27 @@ is_closed shell = list_all (runs_both_ways (edges_of shell)) (edges_of shell)
 
 -- ---- what bounds a geometry
 
--- surfaces that needn't close, the shells of one solid, or solids
-pub data Boundaries : Type 0 where
-  Surfaces : List Surface → Boundaries
-  Shells : List Shell → Boundaries
-  Solids : List Solid → Boundaries
-
-abbrev pub boundaries_of : Shape → Boundaries
-boundaries_of (Shape.MultiSurface surfaces) = Surfaces surfaces
-boundaries_of (Shape.CompositeSurface surfaces) = Surfaces surfaces
-boundaries_of (Shape.Solid shells) = Shells shells
-boundaries_of (Shape.MultiSolid solids) = Solids solids
-boundaries_of (Shape.CompositeSolid solids) = Solids solids
-
 -- the lists one after another
 abbrev pub joined : {T : Type 0} → List (List T) → List T
 joined [] = []
 joined (xs ∷ xss) = xs ++ joined xss
 
-abbrev pub surfaces_in : Boundaries → List Surface
-surfaces_in (Surfaces surfaces) = surfaces
-surfaces_in (Shells shells) = joined shells
-surfaces_in (Solids solids) = joined (joined solids)
+-- surfaces that needn't close, or those of the shells of its solids
+abbrev pub surfaces_of : Shape → List Surface
+surfaces_of (Shape.MultiSurface surfaces) = surfaces
+surfaces_of (Shape.CompositeSurface surfaces) = surfaces
+surfaces_of (Shape.Solid shells) = joined shells
+surfaces_of (Shape.MultiSolid solids) = joined (joined solids)
+surfaces_of (Shape.CompositeSolid solids) = joined (joined solids)
 
-abbrev pub shells_in : Boundaries → List Shell
-shells_in (Surfaces surfaces) = []
-shells_in (Shells shells) = shells
-shells_in (Solids solids) = joined solids
+abbrev pub solids_of : Shape → List Solid
+solids_of (Shape.MultiSurface surfaces) = []
+solids_of (Shape.CompositeSurface surfaces) = []
+solids_of (Shape.Solid shells) = shells ∷ []
+solids_of (Shape.MultiSolid solids) = solids
+solids_of (Shape.CompositeSolid solids) = solids
 
 -- ---- the rules of one geometry
-
-abbrev pub surfaces_of : Shape → List Surface
-surfaces_of shape = surfaces_in (boundaries_of shape)
-
--- the shells that have to be closed, each by itself
-abbrev pub shells_of : Shape → List Shell
-shells_of shape = shells_in (boundaries_of shape)
 
 abbrev pub is_short_ring : Ring → Bool
 is_short_ring r = nat_lt (length r) 3
@@ -124,8 +109,9 @@ has_same_twice shape = list_any (list_any has_same_neighbours) (surfaces_of shap
 abbrev pub is_open : Shell → Bool
 is_open shell = not (is_closed shell)
 
+-- each shell of each solid is judged by itself
 abbrev pub has_open_shell : Shape → Bool
-has_open_shell shape = list_any is_open (shells_of shape)
+has_open_shell shape = list_any (list_any is_open) (solids_of shape)
 
 -- ---- the rules of a body
 

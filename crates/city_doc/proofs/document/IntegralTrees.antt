@@ -15,7 +15,7 @@ use Rattle.city_model.specs.declared.object.Object.{Object}
 use Rattle.city_model.specs.declared.object.Point.{Point}
 use Rattle.city_model.specs.declared.object.Shape.{Shape}
 use Rattle.city_model.specs.Kept.{lacks, lacks_both, has_location, is_empty_object_or_absent, kept_at_top, kept_at_transform, kept_at_object, kept_at_geometry}
-use Rattle.city_model.specs.Shells.{boundaries_of, same_point}
+use Rattle.city_model.specs.Shells.{same_point}
 use Rattle.city_model.specs.Types.{name_of}
 use Rattle.city_model.specs.Integral.{is_integral, items_integral, members_integral}
 use Rattle.city_doc.specs.tree.Lists.{list_data, put_list}
@@ -84,7 +84,7 @@ module _ (pool : List Point) (fewer : length pool < 2 ^ 63) where
   nested_integral (suc n) xs = every_integral (nested_data pool n) (nested_integral n) xs
 
   boundaries_integral : (s : Shape) → is_integral (boundaries_data pool s) ≡ true
-  boundaries_integral s = let b = nested (boundaries_of s) in nested_integral b.0 b.1
+  boundaries_integral s = let b = nested s in nested_integral b.0 b.1
 
   geometry_integral : (g : Geometry) → is_kept_geometry g ≡ true → is_integral (geometry_data pool g) ≡ true
   unfolding is_kept_geometry

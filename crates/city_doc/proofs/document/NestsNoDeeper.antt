@@ -12,10 +12,10 @@ use Rattle.city_model.specs.declared.object.Geometry.{Geometry}
 use Rattle.city_model.specs.declared.object.Object.{Object}
 use Rattle.city_model.specs.declared.object.Point.{Point}
 use Rattle.city_model.specs.declared.object.Shape.{Shape}
+use Rattle.city_model.specs.declared.object.Shape.TheVariants.{MultiSurface, CompositeSurface, Solid, MultiSolid, CompositeSolid}
 use Rattle.city_model.specs.Kept.{kept_at_object, kept_at_geometry}
 use Rattle.city_model.specs.declared.object_type.ObjectType.{ObjectType}
 use Rattle.city_model.specs.Members.{without}
-use Rattle.city_model.specs.Shells.{Boundaries, Surfaces, Shells, Solids, boundaries_of}
 use Rattle.city_model.specs.Types.{name_of}
 use Rattle.city_doc.specs.tree.Lists.{read_items, list_of, list_or_absent, list_data, put_list}
 use Rattle.city_doc.specs.tree.Members.{kept_if}
@@ -138,13 +138,15 @@ module _ (pool : List Point) where
   nested_depth zero p = omega arith
   nested_depth (suc n) xs = omega (arith, list_depth (nested_data pool n) n (nested_depth n) xs)
 
-  nested_within : (b : Boundaries) → (nested b).0 ≤ 5
-  nested_within (Surfaces surfaces) = omega arith
-  nested_within (Shells shells) = omega arith
-  nested_within (Solids solids) = omega arith
+  nested_within : (s : Shape) → (nested s).0 ≤ 5
+  nested_within (MultiSurface surfaces) = omega arith
+  nested_within (CompositeSurface surfaces) = omega arith
+  nested_within (Solid shells) = omega arith
+  nested_within (MultiSolid solids) = omega arith
+  nested_within (CompositeSolid solids) = omega arith
 
   boundaries_depth : (s : Shape) → depth (boundaries_data pool s) ≤ 5
-  boundaries_depth s = let b = nested (boundaries_of s) in omega (arith, nested_depth b.0 b.1, nested_within (boundaries_of s))
+  boundaries_depth s = let b = nested s in omega (arith, nested_depth b.0 b.1, nested_within s)
 
   geometry_data_depth : (g : Geometry) (n : ℕ) → 5 ≤ n → members_depth g.extra ≤ n → depth (geometry_data pool g) ≤ suc n
   geometry_data_depth g n deep h =

@@ -4,7 +4,6 @@ use Rattle.serde_json.specs.Data.{Data, number, unsigned, string, object, put}
 use Rattle.city_model.specs.declared.object.Point.{Point}
 use Rattle.city_model.specs.declared.object.Shape.{Shape}
 use Rattle.city_model.specs.declared.object.Geometry.{Geometry}
-use Rattle.city_model.specs.Shells.{boundaries_of}
 use Rattle.city_doc.specs.shape.Nesting.{Nested, nested, shape_name}
 use Rattle.city_doc.specs.Pool.{number_of}
 use Rattle.city_doc.specs.tree.Lists.{list_data}
@@ -18,7 +17,7 @@ nested_data pool zero = point_data pool
 nested_data pool (suc n) = list_data (nested_data pool n)
 
 abbrev pub boundaries_data : List Point → Shape → Data
-boundaries_data pool shape = let b = nested (boundaries_of shape) in nested_data pool b.0 b.1
+boundaries_data pool shape = let b = nested shape in nested_data pool b.0 b.1
 
 abbrev pub geometry_data : List Point → Geometry → Data
 geometry_data pool g =

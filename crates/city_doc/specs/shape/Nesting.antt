@@ -4,7 +4,6 @@ use Rattle.std.specs.Str.{bytes_eq}
 use Rattle.city_model.specs.declared.object.Point.{Point}
 use Rattle.city_model.specs.declared.object.Shape.{Shape}
 use Rattle.city_model.specs.declared.object.Shape.TheVariants.{MultiSurface, CompositeSurface, Solid, MultiSolid, CompositeSolid}
-use Rattle.city_model.specs.Shells.{Boundaries, Surfaces, Shells, Solids}
 
 -- points within so many lists: a ring has 1, a surface 2, a shell 3, a solid 4
 abbrev pub Nested : ℕ → Type 0
@@ -37,8 +36,10 @@ shape_name (Solid shells) = codes "Solid"
 shape_name (MultiSolid solids) = codes "MultiSolid"
 shape_name (CompositeSolid solids) = codes "CompositeSolid"
 
--- boundaries, with how many lists their points are within
-abbrev pub nested : Boundaries → (n : ℕ) × Nested n
-nested (Surfaces surfaces) = (3, surfaces)
-nested (Shells shells) = (4, shells)
-nested (Solids solids) = (5, solids)
+-- the boundaries of a shape, with how many lists their points are within
+abbrev pub nested : Shape → (n : ℕ) × Nested n
+nested (MultiSurface surfaces) = (3, surfaces)
+nested (CompositeSurface surfaces) = (3, surfaces)
+nested (Solid shells) = (4, shells)
+nested (MultiSolid solids) = (5, solids)
+nested (CompositeSolid solids) = (5, solids)
