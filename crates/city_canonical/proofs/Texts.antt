@@ -28,7 +28,7 @@ use Rattle.city_decimals.proofs.Texts.{top_numbers, one_value}
 use Rattle.city_doc.specs.Pool.{pool_of}
 use Rattle.city_doc.specs.document.Canonical.{tree_of}
 use Rattle.city_doc.specs.document.Ranges.{IsInRange}
-use Rattle.city_doc.specs.document.Cities.{StandsForCity}
+use Rattle.city_doc.specs.document.Cities.{IsTextOfCity}
 use Rattle.city_doc.specs.tree.Tokens.{tokens_of}
 use Rattle.city_doc.proofs.Options.{and_then_some}
 use Rattle.city_canonical.specs.Faults.{fault_of, read_fault_of}
@@ -60,7 +60,7 @@ value_nests text j e =
     let found = and_then_some (λ p. if_last p.0 p.1) (value max_depth (tokens text)) j e in
     subst (λ i. depth i ≤ max_depth) (last_is (found.0).0 (found.0).1 j found.2) (value-depth max_depth (tokens text) (found.0).1 (found.0).0 found.1)
 
-pub same_text : (text encoded written out : List ℕ) (c : CityValue) → IsEncoded text encoded → StandsForCity encoded c → tokens written ≡ tokens_of (tree_of c) → IsInRange (pool_of c) c.0 → IsDecoded written out → IsUtf8 out → IsSameText text out
+pub same_text : (text encoded written out : List ℕ) (c : CityValue) → IsEncoded text encoded → IsTextOfCity encoded c → tokens written ≡ tokens_of (tree_of c) → IsInRange (pool_of c) c.0 → IsDecoded written out → IsUtf8 out → IsSameText text out
 same_text text encoded written out c e stands same range d utf8 =
     let j = e.0 in
     let k = decoded_top (outline (tree_of c)) in
@@ -84,7 +84,7 @@ read_fault text encoded doc.OutOfMemory e h = tt
 read_fault text encoded f e h = (encoded, e, h)
 
 -- what was written is JSON
-written_read : (written : List ℕ) (c : CityValue) → StandsForCity written c → tokens written ≡ tokens_of (tree_of c) → document written ≡ Some (outline (tree_of c))
+written_read : (written : List ℕ) (c : CityValue) → IsTextOfCity written c → tokens written ≡ tokens_of (tree_of c) → document written ≡ Some (outline (tree_of c))
 written_read written c stands same =
     let i = outline (tree_of c) in
     let parsed = and_then_some of_json (option_and_then (λ p. if_last p.0 p.1) (value serde.max_depth (tokens written))) stands.0 stands.1.1 in
@@ -97,6 +97,6 @@ written_read written c stands same =
     let shallow : depth i ≤ max_depth = omega (arith, nests) in
     ap (λ ts. option_and_then (λ p. if_last p.0 p.1) (value max_depth ts)) (same ∙ sym (append-nil (json_tokens i))) ∙ ap (option_and_then (λ p. if_last p.0 p.1)) (value-json_tokens i max_depth [] shallow)
 
-pub decode_fault : (text written : List ℕ) (c : CityValue) (f : DecimalsFault) → StandsForCity written c → tokens written ≡ tokens_of (tree_of c) → IsDecimalsFault written f → IsCanonicalFault text (fault_of f)
+pub decode_fault : (text written : List ℕ) (c : CityValue) (f : DecimalsFault) → IsTextOfCity written c → tokens written ≡ tokens_of (tree_of c) → IsDecimalsFault written f → IsCanonicalFault text (fault_of f)
 decode_fault text written c decimals.OutOfMemory stands same h = tt
 decode_fault text written c decimals.NotJson stands same h = not_found (outline (tree_of c)) (sym (h stands.1.0) ∙ written_read written c stands same)

@@ -7,7 +7,7 @@ use Rattle.json.specs.Tree.{json_tokens}
 use Rattle.city_model.specs.CityMap.{CityValue}
 use Rattle.city_decimals.specs.Texts.{IsValueOf, IsEncoded, IsDecoded}
 use Rattle.city_doc.specs.document.Canonical.{city_text}
-use Rattle.city_doc.specs.document.Cities.{StandsForCity}
+use Rattle.city_doc.specs.document.Cities.{IsTextOfCity}
 use Rattle.city_doc.specs.document.Faults.{DocumentFault}
 use Rattle.city_canonical.specs.Same.{IsSameModel}
 use Rattle.city_canonical.specs.declared.fault.CanonicalFault.{CanonicalFault}
@@ -21,7 +21,7 @@ IsSameText text out =
 -- out is decoded from the canonical text of the city that the encoded text stands for
 abbrev pub IsCanonicalOf : List ℕ → List ℕ → Type 0
 IsCanonicalOf text out =
-    (encoded : List ℕ) × (c : CityValue) × IsEncoded text encoded × StandsForCity encoded c
+    (encoded : List ℕ) × (c : CityValue) × IsEncoded text encoded × IsTextOfCity encoded c
     × IsDecoded (city_text c) out
 
 -- `OutOfMemory` may be answered for any text

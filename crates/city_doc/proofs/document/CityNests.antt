@@ -16,7 +16,7 @@ use Rattle.city_doc.specs.tree.Members.{kept_if}
 use Rattle.city_doc.specs.tree.Triples.{integer_data, triple_data}
 use Rattle.city_doc.specs.object.Canonical.{object_data, with_objects, objects_data}
 use Rattle.city_doc.specs.document.Canonical.{transform_data, vertex_data, vertices_data, frame_members, numbered_tree, tree_of}
-use Rattle.city_doc.specs.document.Cities.{is_city_json, points_in, entries_in, objects_of, city_of, StandsForCity}
+use Rattle.city_doc.specs.document.Cities.{is_city_json, points_in, entries_in, objects_of, city_of, IsTextOfCity}
 use Rattle.city_doc.specs.document.Top.{triple_at, without_transform_members, without_top_members, more_of, frame_with, frame_of_rest, frame_of}
 use Rattle.city_doc.specs.Pool.{pool_of}
 use Rattle.city_doc.proofs.document.NestsNoDeeper.{Holds, holds_then, holds_map, put_depth, without_depth, kept_depth, member_depth, object_members_depth, list_depth, objects_within}
@@ -113,6 +113,6 @@ held : {A : Type 0} (P : A → Type 0) (o : Option A) (x : A) → o ≡ Some x �
 held P o x e h = subst (Holds P) e h
 
 -- the canonical tree of a city that was read may be read
-pub written_within : (text : List ℕ) (c : CityValue) → StandsForCity text c → depth (tree_of c) ≤ max_depth
+pub written_within : (text : List ℕ) (c : CityValue) → IsTextOfCity text c → depth (tree_of c) ≤ max_depth
 written_within text c (d, (utf, is), stands) =
     held (λ other. depth (numbered_tree (pool_of c) other) ≤ 127) (city_of d) c stands (city_within 122 (omega arith) (pool_of c) d (depth-read text d is))

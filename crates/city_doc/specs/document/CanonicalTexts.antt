@@ -8,7 +8,7 @@ use Rattle.city_model.specs.Relations.{IsLawful}
 use Rattle.city_doc.specs.document.Accepted.{IsAccepted}
 use Rattle.city_doc.specs.document.Canonical.{tree_of, city_text}
 use Rattle.city_doc.specs.document.Ranges.{IsInRange}
-use Rattle.city_doc.specs.document.Cities.{StandsForCity}
+use Rattle.city_doc.specs.document.Cities.{IsTextOfCity}
 use Rattle.city_doc.specs.tree.Texts.{IsReadable}
 use Rattle.city_doc.specs.tree.Tokens.{tokens_of}
 use Rattle.city_doc.specs.Pool.{pool_of}
@@ -17,9 +17,9 @@ use Rattle.city_doc.specs.Pool.{pool_of}
 -- text isn't too long, the text is accepted; where some text stands for the city, this one does; its tokens
 -- are those of the city's tree, and the tree's numbers are in range
 pub record IsCanonicalText (text : List ℕ) (city : CityValue) : Type 0 where
-  pub read_again : depth (tree_of city) ≤ max_depth → StandsForCity text city
-  pub canonical : depth (tree_of city) ≤ max_depth → (other : CityValue) → StandsForCity text other → city_text other ≡ text
+  pub read_again : depth (tree_of city) ≤ max_depth → IsTextOfCity text city
+  pub canonical : depth (tree_of city) ≤ max_depth → (other : CityValue) → IsTextOfCity text other → city_text other ≡ text
   pub accepted : depth (tree_of city) ≤ max_depth → IsReadable text → IsLawful (object_at city.1) → IsAccepted text
-  pub rewritten : (document : List ℕ) → StandsForCity document city → StandsForCity text city
+  pub rewritten : (document : List ℕ) → IsTextOfCity document city → IsTextOfCity text city
   pub tokens_are : tokens text ≡ tokens_of (tree_of city)
   pub in_range : IsInRange (pool_of city) city.0

@@ -47,9 +47,9 @@ city_of d =
       option_map (λ frame. (frame, objects_of entries)) (frame_of d))
     else None
 
--- the text, however long it is, is JSON whose tree stands for this city
-abbrev pub StandsForCity : List ℕ → CityValue → Type 0
-StandsForCity text city = (d : Data) × IsText text d × (city_of d ≡ Some city)
+-- the text, however long it is, is JSON whose tree stands for this city; `IsAdmitted` judges its length too
+abbrev pub IsTextOfCity : List ℕ → CityValue → Type 0
+IsTextOfCity text city = (d : Data) × IsText text d × (city_of d ≡ Some city)
 
 -- the text isn't too long, its numbers are whole, and it stands for this city, which is lawful
 abbrev pub IsAdmitted : List ℕ → CityValue → Type 0

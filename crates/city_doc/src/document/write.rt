@@ -8,7 +8,7 @@ ghost use Rattle.city_model.specs.Relations.{IsLawful};
 ghost use Rattle.city_doc.specs.document.Accepted.{IsAccepted};
 ghost use Rattle.city_doc.specs.document.Canonical.{tree_of, city_text};
 ghost use Rattle.city_doc.specs.document.CanonicalTexts.{IsCanonicalText};
-ghost use Rattle.city_doc.specs.document.Cities.{StandsForCity};
+ghost use Rattle.city_doc.specs.document.Cities.{IsTextOfCity};
 ghost use Rattle.city_doc.specs.document.Ranges.{IsInRange};
 ghost use Rattle.city_doc.specs.tree.Texts.{IsReadable};
 ghost use Rattle.city_doc.specs.tree.Tokens.{tokens_of};
@@ -29,13 +29,13 @@ use std::alloc::Global;
 pub fn write_city(alloc: Global, city: &City) -> Result<Vec<u8>, OutOfMemory>
     ensures text { IfOk result (λ b. b.items ≡ city_text city.now) }
     ensures read_again { IfOk result (λ b. depth (tree_of city.now) ≤ max_depth
-        → StandsForCity b.items city.now) }
+        → IsTextOfCity b.items city.now) }
     ensures canonical { IfOk result (λ b. depth (tree_of city.now) ≤ max_depth
-        → (other : CityValue) → StandsForCity b.items other → city_text other ≡ b.items) }
+        → (other : CityValue) → IsTextOfCity b.items other → city_text other ≡ b.items) }
     ensures accepted { IfOk result (λ b. depth (tree_of city.now) ≤ max_depth
         → IsReadable b.items → IsLawful (object_at city.now.1) → IsAccepted b.items) }
-    ensures rewritten { IfOk result (λ b. (text : List ℕ) → StandsForCity text city.now
-        → StandsForCity b.items city.now) }
+    ensures rewritten { IfOk result (λ b. (text : List ℕ) → IsTextOfCity text city.now
+        → IsTextOfCity b.items city.now) }
     ensures tokens { IfOk result (λ b. tokens b.items ≡ tokens_of (tree_of city.now)) }
     ensures in_range { IfOk result (λ _. IsInRange (pool_of city.now) city.now.0) }
 {

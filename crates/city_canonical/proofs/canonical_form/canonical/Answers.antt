@@ -1,7 +1,7 @@
 use Rattle.std.proofs.Common.{subst}
 use Rattle.std.proofs.lemmas.Result.{err_from_is_err_and}
 use Rattle.city_doc.specs.document.Faults.{DocumentFault}
-use Rattle.city_doc.specs.document.Cities.{StandsForCity}
+use Rattle.city_doc.specs.document.Cities.{IsTextOfCity}
 use Rattle.city_decimals.specs.Texts.{IsDecoded, IsDecimalsFault}
 use Rattle.city_canonical.proofs.Texts.{same_text, read_fault, decode_fault}
 use Rattle.city_canonical.proofs.canonical_form.canonical.Goals as goal
@@ -10,7 +10,7 @@ pub returns-clause-same : goal.returns-clause-same
 returns-clause-same c =
     let city = c.in_ok-city.city in
     let admitted = c.in_ok-city.ensures.admitted in
-    let read = subst (λ t. StandsForCity t city) c.as_slice.ensures.value (admitted.0, admitted.1.1, admitted.3) in
+    let read = subst (λ t. IsTextOfCity t city) c.as_slice.ensures.value (admitted.0, admitted.1.1, admitted.3) in
     let decoded = subst (λ t. IsDecoded t c.in_ok-out.out.items) c.as_slice-2.ensures.value c.in_ok-out.ensures.decoded in
     same_text c.args.bytes.now c.in_ok-encoded.encoded.items c.in_ok-written.written.items c.in_ok-out.out.items city c.in_ok-encoded.ensures.encoded read c.in_ok-written.ensures.tokens c.in_ok-written.ensures.in_range decoded
     c.in_ok-out.ensures.utf8
@@ -19,7 +19,7 @@ pub returns-clause-canonical : goal.returns-clause-canonical
 returns-clause-canonical c =
     let city = c.in_ok-city.city in
     let admitted = c.in_ok-city.ensures.admitted in
-    let read = subst (λ t. StandsForCity t city) c.as_slice.ensures.value (admitted.0, admitted.1.1, admitted.3) in
+    let read = subst (λ t. IsTextOfCity t city) c.as_slice.ensures.value (admitted.0, admitted.1.1, admitted.3) in
     let decoded = subst (λ t. IsDecoded t c.in_ok-out.out.items) c.as_slice-2.ensures.value c.in_ok-out.ensures.decoded in
     (c.in_ok-encoded.encoded.items, city, c.in_ok-encoded.ensures.encoded, read, subst (λ t. IsDecoded t c.in_ok-out.out.items) c.in_ok-written.ensures.text decoded)
 

@@ -11,7 +11,7 @@ use Rattle.city_model.specs.CityMap.{CityValue}
 use Rattle.city_doc.specs.Pool.{pool_of}
 use Rattle.city_doc.specs.document.Canonical.{tree_of, city_text}
 use Rattle.city_doc.specs.document.CanonicalTexts.{IsCanonicalText}
-use Rattle.city_doc.specs.document.Cities.{StandsForCity}
+use Rattle.city_doc.specs.document.Cities.{IsTextOfCity}
 use Rattle.city_doc.specs.tree.Texts.{IsText}
 use Rattle.city_doc.specs.tree.Tokens.{tokens_of}
 use Rattle.city_doc.specs.inside.tree.ReadsBack.{ReadsBack}
@@ -53,7 +53,7 @@ returns c =
     let same = done.tokens ∙ ap (λ ts. ts ++ tokens_of (tree_of city)) c.new-out.ensures.tokens in
     let read = read_whole city (one_tree _ (tree_of city) same items.reads_back items.utf8 done.reads) in
     let standing = city_read city done.kept done.in_range in
-    let again : depth (tree_of city) ≤ max_depth → StandsForCity (city_text city) city = λ shallow. (tree_of city, read shallow, standing) in
+    let again : depth (tree_of city) ≤ max_depth → IsTextOfCity (city_text city) city = λ shallow. (tree_of city, read shallow, standing) in
     let canonical : IsCanonicalText (city_text city) city = record {
       read_again = again;
       canonical = λ shallow other other_stands. ap city_text (one_city _ other city other_stands (again shallow));
