@@ -76,19 +76,19 @@ object_parts ps d o h =
     let parts = read_as ps d o h in
     let kind = and_then_some _ (type_of d) o.body parts.body in
     let ms = and_then_some _ (as_object d) o.body kind.2 in
-    let kept = and_then_some _ (kept_if kept_at_object (without_object_members ms.0)) o.body ms.2 in
-    let geometry = map_some _ (list_or_absent (geometry_of ps) (get (codes "geometry") d)) o.body kept.2 in
+    let geometry = and_then_some _ (list_or_absent (geometry_of ps) (get (codes "geometry") d)) o.body ms.2 in
+    let kept = map_some _ (kept_if kept_at_object (without_object_members ms.0)) o.body geometry.2 in
     let text = and_then_some type_named (text_at (codes "type") d) kind.0 kind.1 in
     let type = and_then_some as_str (get (codes "type") d) text.0 text.1 in
     let is = object_is d ms.0 ms.1 in
     record {
       ms = ms.0;
       is = is;
-      type = ap (get (codes "type")) (sym is) ∙ type.1 ∙ ap Some (string_is type.0 text.0 type.2) ∙ ap (λ s. Some (string s)) (sym (name_is text.0 kind.0 text.2)) ∙ ap (λ b. Some (string (name_of b.kind))) (sym geometry.2);
-      geometry = ap (λ x. list_or_absent (geometry_of ps) (get (codes "geometry") x)) (sym is) ∙ geometry.1 ∙ ap (λ b. Some b.geometry) (sym geometry.2);
+      type = ap (get (codes "type")) (sym is) ∙ type.1 ∙ ap Some (string_is type.0 text.0 type.2) ∙ ap (λ s. Some (string s)) (sym (name_is text.0 kind.0 text.2)) ∙ ap (λ b. Some (string (name_of b.kind))) (sym kept.2);
+      geometry = ap (λ x. list_or_absent (geometry_of ps) (get (codes "geometry") x)) (sym is) ∙ geometry.1 ∙ ap (λ b. Some b.geometry) (sym kept.2);
       parents = ap (λ x. list_or_absent as_str (get (codes "parents") x)) (sym is) ∙ parts.parents;
       children = ap (λ x. list_or_absent as_str (get (codes "children") x)) (sym is) ∙ parts.children;
-      extra = ap (λ b. b.extra) geometry.2 ∙ kept_is kept_at_object (without_object_members ms.0) kept.0 kept.1;
+      extra = ap (λ b. b.extra) kept.2 ∙ kept_is kept_at_object (without_object_members ms.0) kept.0 kept.1;
     }
 
 -- ---- what is written for it

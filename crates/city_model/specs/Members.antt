@@ -1,5 +1,5 @@
 -- The members of a JSON object, whose names ascend.
-use Rattle.std.specs.Prelude.{◌≡◌, ◌+◌, ℕ, List, if◌then◌else◌}
+use Rattle.std.specs.Prelude.{◌≡◌, ◌+◌, ℕ, List, [], ◌∷◌, if◌then◌else◌}
 use Rattle.std.specs.declared.cmp.Ordering.TheVariants.{Less}
 use Rattle.std.specs.Ordering.{nat_cmp}
 use Rattle.std.specs.Cmp.Lexicographic.{slice_cmp}
@@ -14,6 +14,11 @@ members_count (member k d ms) = 1 + members_count ms
 abbrev pub without : List ℕ → Members → Members
 without name no_members = no_members
 without name (member k d ms) = if same_id name k then without name ms else member k d (without name ms)
+
+-- the members but those of these names
+abbrev pub without_each : List (List ℕ) → Members → Members
+without_each [] ms = ms
+without_each (name ∷ names) ms = without_each names (without name ms)
 
 abbrev pub AllAbove : List ℕ → Members → Type 0
 AllAbove k no_members = Unit {0}

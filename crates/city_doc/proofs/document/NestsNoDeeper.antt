@@ -184,12 +184,12 @@ module _ (pool points : List Point) where
 body_parts : (n : ℕ) (R : List Geometry → Type 0) (Q : Body → Type 0) (keep : Members → Option Members) (kind : Option ObjectType) (ms : Option Members) (gs : Option (List Geometry))
     → ((k : ObjectType) (g : List Geometry) (kept : Members) → members_depth kept ≤ n → R g → Q (record { kind = k; geometry = g; extra = kept }))
     → Holds (λ ms. Holds (λ kept. members_depth kept ≤ n) (keep ms)) ms → Holds R gs
-    → Holds Q (option_and_then (λ kind. option_and_then (λ ms. option_and_then (λ kept. option_map (λ geometry. record { kind = kind; geometry = geometry; extra = kept }) gs) (keep ms)) ms) kind)
+    → Holds Q (option_and_then (λ kind. option_and_then (λ ms. option_and_then (λ geometry. option_map (λ kept. record { kind = kind; geometry = geometry; extra = kept }) (keep ms)) gs) ms) kind)
 body_parts n R Q keep None ms gs each h g = tt
 body_parts n R Q keep (Some k) None gs each h g = tt
 body_parts n R Q keep (Some k) (Some ms) gs each h g =
-    holds_then (λ kept. members_depth kept ≤ n) Q (λ kept. option_map (λ geometry. record { kind = k; geometry = geometry; extra = kept }) gs)
-    (λ kept within. holds_map R Q (λ geometry. record { kind = k; geometry = geometry; extra = kept }) (λ geometry r. each k geometry kept within r) gs g) (keep ms) h
+    holds_then R Q (λ geometry. option_map (λ kept. record { kind = k; geometry = geometry; extra = kept }) (keep ms))
+    (λ geometry r. holds_map (λ kept. members_depth kept ≤ n) Q (λ kept. record { kind = k; geometry = geometry; extra = kept }) (λ kept within. each k geometry kept within r) (keep ms) h) gs g
 
 object_parts : (P : Body → Type 0) (Q : Object → Type 0) (body : Option Body) (parents children : Option (List (List ℕ)))
     → ((b : Body) (p c : List (List ℕ)) → P b → Q (record { body = b; parents = p; children = c })) → Holds P body

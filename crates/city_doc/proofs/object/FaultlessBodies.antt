@@ -32,14 +32,14 @@ pub body_parts : (points : List Point) (d : Data) (b : Body) → body_of points 
 body_parts points d b h =
     let kind = and_then_some _ (type_of d) b h in
     let ms = and_then_some _ (as_object d) b kind.2 in
-    let kept = and_then_some _ (kept_if kept_at_object (without_object_members ms.0)) b ms.2 in
-    let gs = map_some _ (list_or_absent (geometry_of points) (get (codes "geometry") d)) b kept.2 in
+    let gs = and_then_some _ (list_or_absent (geometry_of points) (get (codes "geometry") d)) b ms.2 in
+    let kept = map_some _ (kept_if kept_at_object (without_object_members ms.0)) b gs.2 in
     record {
-      kind = kind.1 ∙ ap (λ x. Some x.kind) (sym gs.2);
+      kind = kind.1 ∙ ap (λ x. Some x.kind) (sym kept.2);
       members = ms.0;
       is_object = ms.1;
       kept = kept_passes kept_at_object (without_object_members ms.0) kept.0 kept.1;
-      geometry = gs.1 ∙ ap (λ x. Some x.geometry) (sym gs.2);
+      geometry = gs.1 ∙ ap (λ x. Some x.geometry) (sym kept.2);
     }
 
 address_stays : (ms : Members) → get_member (codes "address") (without_object_members ms) ≡ get_member (codes "address") ms

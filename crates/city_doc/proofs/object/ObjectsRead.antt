@@ -161,7 +161,7 @@ module _ (pool : List Point) (o : Object) where
           (codes "geometry") o.body.geometry typed geometries no_geometry_typed
 
       parts_read : kept_at_object o.body.extra ≡ true → object_of pool (object above) ≡ Some o
-      parts_read keeps = rw (type_read, object_left, kept_all kept_at_object o.body.extra keeps, geometries_read, parents_read, children_read) refl
+      parts_read keeps = rw (type_read, geometries_read, object_left, kept_all kept_at_object o.body.extra keeps, parents_read, children_read) refl
 
 both_all : {X : Type 0} (f g : X → Bool) (xs : List X) → list_all f xs ≡ true → list_all g xs ≡ true → list_all (λ x. f x && g x) xs ≡ true
 both_all f g [] h k = refl

@@ -1,6 +1,6 @@
 -- The body of a tree, from its parts.
 use Rattle.std.proofs.Common.{◌≡◌, ℕ, List, Bool, true, false, true≢false, Option, Some, None, refl, sym, ap, ◌∙◌}
-use Rattle.std.specs.Prelude.{length, option_and_then, option_map, codes, is_some, is_none, if◌then◌else◌}
+use Rattle.std.specs.Prelude.{length, codes, is_some, is_none, if◌then◌else◌}
 use Rattle.std.proofs.lemmas.Bool.{not-false}
 use Rattle.serde_json.specs.Data.{Data, Members}
 use Rattle.serde_json.specs.Find.{get, get_member, as_object}
@@ -30,12 +30,8 @@ geometry_stays d ms left found is_object is_left is_found =
     get-object (codes "geometry") d ms is_object ∙ sym (get_member-without (codes "geometry") (codes "type") ms refl) ∙ ap (get_member (codes "geometry")) (sym is_left) ∙ sym is_found
 
 module _ (points : List Point) (d : Data) (kind : ObjectType) (ms : Members) (has_type : type_of d ≡ Some kind) (is_object : as_object d ≡ Some ms) where
-  no_geometry : (k : Option Members) → None ≡ option_and_then {T = Members} {U = Body} (λ kept. option_map {T = List Geometry} (λ geometry. record { kind = kind; geometry = geometry; extra = kept }) None) k
-  no_geometry None = refl
-  no_geometry (Some kept) = refl
-
   pub body_missing : list_or_absent (geometry_of points) (get (codes "geometry") d) ≡ None → None ≡ body_of points d
-  body_missing none = rw (has_type, is_object, none) (no_geometry (kept_if kept_at_object (without_object_members ms)))
+  body_missing none = rw (has_type, is_object, none) refl
 
   pub body_read : (geometry : List Geometry) (kept : Members) → list_or_absent (geometry_of points) (get (codes "geometry") d) ≡ Some geometry
       → kept_if kept_at_object (without_object_members ms) ≡ Some kept → body_of points d ≡ Some (record { kind = kind; geometry = geometry; extra = kept })

@@ -45,4 +45,4 @@ pub body_placed : (points : List Point) (b : Body) (geometry : List Geometry) �
 body_placed points b geometry placed d h =
     let o = h.2 in
     let shaped = slot_placed IsGeometry (geometry_of points) b.geometry geometry (get_member (codes "geometry") o.found) placed o.geometry in
-    ap (body_of points) o.is ∙ rw (o.kind, o.extra, shaped) refl
+    ap (body_of points) o.is ∙ rw (o.kind, shaped, o.extra) refl

@@ -47,4 +47,4 @@ object_placed points o geometry placed d h =
     let shaped = slot_placed IsGeometry (geometry_of points) o.body.geometry geometry (get_member (codes "geometry") h.found) placed h.geometry in
     let parents = strings_read o.parents (get_member (codes "parents") h.found) h.parents in
     let children = strings_read o.children (get_member (codes "children") h.found) h.children in
-    ap (object_of points) h.is ∙ rw (h.kind, h.extra, shaped, parents, children) refl
+    ap (object_of points) h.is ∙ rw (h.kind, shaped, h.extra, parents, children) refl

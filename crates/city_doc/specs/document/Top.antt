@@ -6,7 +6,7 @@ use Rattle.serde_json.specs.Data.{Data, Members, no_members, member}
 use Rattle.serde_json.specs.Find.{get, get_member, as_str, as_object}
 use Rattle.city_model.specs.declared.frame.Frame.{Frame}
 use Rattle.city_model.specs.Kept.{kept_at_top, kept_at_transform, is_empty_object_or_absent}
-use Rattle.city_model.specs.Members.{without}
+use Rattle.city_model.specs.Members.{without, without_each}
 use Rattle.city_doc.specs.tree.Members.{kept_if}
 use Rattle.city_doc.specs.tree.Steps.{◌>>=◌}
 use Rattle.city_doc.specs.tree.Triples.{triple_of, are_triples}
@@ -16,8 +16,12 @@ use Rattle.city_doc.specs.tree.Triples.{triple_of, are_triples}
 abbrev pub triple_at : List ℕ → Data → Option (List ℤ)
 triple_at name d = option_and_then triple_of (get name d)
 
+-- the members that are read of a transform; all others are kept
+abbrev pub transform_members : List (List ℕ)
+transform_members = codes "scale" ∷ codes "translate" ∷ []
+
 abbrev pub without_transform_members : Members → Members
-without_transform_members ms = without (codes "translate") (without (codes "scale") ms)
+without_transform_members ms = without_each transform_members ms
 
 -- the kept members of a transform
 abbrev pub more_of : Data → Option Members
@@ -25,10 +29,12 @@ more_of transform = do
   members ← as_object transform
   kept_if kept_at_transform (without_transform_members members)
 
+-- the members that are read at the top beside `CityObjects`; all others are kept
+abbrev pub top_members : List (List ℕ)
+top_members = codes "transform" ∷ codes "type" ∷ codes "version" ∷ codes "vertices" ∷ []
+
 abbrev pub without_top_members : Members → Members
-without_top_members ms =
-    without (codes "vertices") (without (codes "version")
-    (without (codes "type") (without (codes "transform") ms)))
+without_top_members ms = without_each top_members ms
 
 -- the frame of a transform, and of the kept members of the top
 abbrev pub frame_with : Members → Data → Option Frame

@@ -1,5 +1,5 @@
 -- The geometry that a tree stands for, its positions replaced by points (CityJSON 2.0, section 3).
-use Rattle.std.specs.Prelude.{ℕ, zero, suc, ℤ, pos, negsuc, List, Option, None, option_map, option_and_then}
+use Rattle.std.specs.Prelude.{ℕ, zero, suc, ℤ, pos, negsuc, List, [], ◌∷◌, Option, None, option_map, option_and_then}
 use Rattle.std.specs.Prelude.{slice_get, codes}
 use Rattle.serde_json.specs.Data.{Data, Members}
 use Rattle.serde_json.specs.Find.{get, get_member, as_str, as_object, as_number, as_i64}
@@ -7,7 +7,7 @@ use Rattle.city_model.specs.declared.object.Point.{Point}
 use Rattle.city_model.specs.declared.object.Shape.{Shape}
 use Rattle.city_model.specs.declared.object.Geometry.{Geometry}
 use Rattle.city_model.specs.Kept.{kept_at_geometry}
-use Rattle.city_model.specs.Members.{without}
+use Rattle.city_model.specs.Members.{without_each}
 use Rattle.city_doc.specs.shape.Nesting.{Nested, geometry_type}
 use Rattle.city_doc.specs.tree.Lists.{list_of}
 use Rattle.city_doc.specs.tree.Members.{kept_if, text_at}
@@ -33,8 +33,12 @@ shape_of points kind d = do
 
 -- ---- geometries, bodies and objects
 
+-- the members that are read of a geometry; all others are kept
+abbrev pub geometry_members : List (List ℕ)
+geometry_members = codes "type" ∷ codes "lod" ∷ codes "boundaries" ∷ []
+
 abbrev pub without_geometry_members : Members → Members
-without_geometry_members ms = without (codes "boundaries") (without (codes "lod") (without (codes "type") ms))
+without_geometry_members ms = without_each geometry_members ms
 
 -- the geometry of this shape, of the members of its tree
 abbrev pub geometry_with : Shape → Members → Option Geometry
