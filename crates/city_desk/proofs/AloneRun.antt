@@ -11,11 +11,13 @@ use Rattle.city_model.specs.Runs.{Scripted, has_end}
 use Rattle.city_desk.specs.declared.progress.Progress.{Progress}
 use Rattle.city_desk.specs.declared.progress.Phase.{Phase}
 use Rattle.city_desk.specs.declared.progress.Phase.TheVariants.{NotBegun, Idle, Open, Ended}
-use Rattle.city_desk.specs.DeskState.{DeskState, progress_to, nowhere, replies_in, phase_of, replies_of, room_of, commands_at, name_at, is_ended, is_open_phase}
+use Rattle.city_desk.specs.DeskState.{DeskState, progress_to, ended_progress, replies_in, phase_of, replies_of, room_of, is_ended, is_open_phase}
+use Rattle.city_desk.specs.inside.ScriptParts.{commands_at}
 use Rattle.city_desk.specs.Turning.{Keeps, Moves, stamp_for, HasBegun, HasReplied, HasWaited, HasDied, IsDue, HasEnded, IsOpenAt}
 use Rattle.city_desk.specs.InTurn.{AreInTurn}
 use Rattle.city_desk.specs.inside.RunInTurn.{HasRun, HaveRun}
 use Rattle.city_model.proofs.Fitting.{has_end_more}
+use Rattle.city_desk.proofs.ScriptReads.{command_as}
 use Rattle.city_desk.proofs.SerialKept.{or_true}
 use Rattle.city_desk.proofs.Youngest.{open_within}
 
@@ -51,13 +53,13 @@ unended since Ended h = absurd h
 
 module _ (d e : DeskState) (n : ℕ) (q : Progress) (within : n < length d.progress) (moves : e.progress ≡ slice_set d.progress n q) where
   pub phase_moved : phase_of e n ≡ q.phase
-  phase_moved = ap (λ ps. (slice_index_or ps n nowhere).phase) moves ∙ ap (λ (p : Progress). p.phase) (get_or-set_same d.progress n q nowhere within)
+  phase_moved = ap (λ ps. (slice_index_or ps n ended_progress).phase) moves ∙ ap (λ (p : Progress). p.phase) (get_or-set_same d.progress n q ended_progress within)
 
   pub replies_moved : replies_of e n ≡ q.replies.list
-  replies_moved = ap (λ ps. replies_in ps n) moves ∙ ap (λ (p : Progress). p.replies.list) (get_or-set_same d.progress n q nowhere within)
+  replies_moved = ap (λ ps. replies_in ps n) moves ∙ ap (λ (p : Progress). p.replies.list) (get_or-set_same d.progress n q ended_progress within)
 
   pub phase_unmoved : (k : ℕ) → k ≢ n → phase_of e k ≡ phase_of d k
-  phase_unmoved k ne = ap (λ ps. (slice_index_or ps k nowhere).phase) moves ∙ ap (λ (p : Progress). p.phase) (get_or-set_other d.progress n k q nowhere ne)
+  phase_unmoved k ne = ap (λ ps. (slice_index_or ps k ended_progress).phase) moves ∙ ap (λ (p : Progress). p.phase) (get_or-set_other d.progress n k q ended_progress ne)
 
 module _ (n : ℕ) (start d e : DeskState) (r : IsRunning n start d) (keeps : Keeps d e) where
   within : n < length d.progress
@@ -110,15 +112,15 @@ module _ (n : ℕ) (start d e : DeskState) (r : IsRunning n start d) (keeps : Ke
 
   pub ended : HasEnded d e n → HasRun n start e
   ended h =
-      let last : End = record { script = n; name = name_at d.scripts n; since = h.since; replies = replies_of d n; outcome = h.outcome } in
+      let last : End = record { script = n; name = h.script.0; since = h.since; replies = replies_of d n; outcome = h.outcome } in
       record {
         keeps = keeps_both start d e r.keeps keeps;
         last = last;
         script = refl;
         since = since_of (phase_of d n) h.since h.outcome r.going h.due;
         ends = h.ends ∙ ap (λ es. es ++ last ∷ []) r.ends;
-        over = phase_moved d e n nowhere within h.moves;
-        beside = λ k ne. phase_unmoved d e n nowhere within h.moves k ne ∙ r.beside k ne;
+        over = phase_moved d e n ended_progress within h.moves;
+        beside = λ k ne. phase_unmoved d e n ended_progress within h.moves k ne ∙ r.beside k ne;
       }
 
   -- ---- fewer turns are left
@@ -143,7 +145,7 @@ module _ (n : ℕ) (start d e : DeskState) (r : IsRunning n start d) (keeps : Ke
       let rs : List Reply = replies_of d n ++ h.reply ∷ [] in
       let now = left_as (Open h.stamp h.since) rs (phase_moved d e n (at_now (Open h.stamp h.since) rs) within h.moves) (replies_moved d e n (at_now (Open h.stamp h.since) rs) within h.moves) in
       let long : length rs ≡ length (replies_of d n) + 1 = length-append (replies_of d n) (h.reply ∷ []) in
-      let lt = slice_get_within (commands_at d.scripts n) (length (replies_of d n)) h.is.command h.is.next.next in
+      let lt = slice_get_within (commands_at d.scripts n) (length (replies_of d n)) h.is.command (sym (command_as d.scripts n (length (replies_of d n))) ∙ h.is.next.next) in
       let before : turns_left d.scripts n (phase_of d n) (replies_of d n) ≡ length (commands_at d.scripts n) - length (replies_of d n) = ap (λ p. turns_left d.scripts n p (replies_of d n)) h.is.next.phase in
       omega arith
 

@@ -16,24 +16,25 @@ use Rattle.city_desk.specs.declared.progress.Progress.{Progress}
 use Rattle.city_desk.specs.declared.progress.Phase.{Phase}
 use Rattle.city_desk.specs.declared.progress.Phase.TheVariants.{NotBegun, Idle, Open, Ended}
 use Rattle.city_desk.specs.declared.turn.Turn.TheVariants as turns
-use Rattle.city_desk.specs.DeskState.{DeskState, progress_to, nowhere, phase_of, replies_of, room_of, commands_of, commands_at, name_at, name_in, is_ended, is_open_phase, stamp_of}
+use Rattle.city_desk.specs.DeskState.{DeskState, progress_to, ended_progress, phase_of, replies_of, room_of, is_ended, is_open_phase, stamp_of}
+use Rattle.city_desk.specs.inside.ScriptParts.{commands_of, commands_at, name_at, name_in}
 use Rattle.city_desk.specs.inside.Room.{is_not_begun, HasRoom}
 use Rattle.city_desk.specs.Serial.{IsAttempt, StandsAs, AreStanding, IsSerial}
 use Rattle.city_desk.specs.Turning.{stamp_for, begun_after, IsDue, end_of}
 use Rattle.city_desk.proofs.AttemptsKept.{IsTurnOf}
 use Rattle.city_desk.proofs.OpenTurns.{LeavesDesk, counted, some_there, left_of}
-use Rattle.city_desk.proofs.ScriptReads.{once_of, progress_at, name_there, end_as}
+use Rattle.city_desk.proofs.ScriptReads.{own_end, once_of, progress_at, name_there, end_as}
 use Rattle.city_desk.proofs.RoomKept.{one_if, place_left, room_now, room_ended}
 use Rattle.city_desk.proofs.SerialKept.{now_at, ended_at, kept_serial, ended_serial}
 use Rattle.city_desk.proofs.Shelved.{changes_kept}
 
 -- ---- the stamp
 
-below_begun : (d : DeskState) (k s : ℕ) (p : Phase) (cs : List Command) (rs : List Reply) → StandsAs d cs p rs → stamp_of p ≡ Some s → s < d.begun
-below_begun d k s NotBegun cs rs h e = absurd (cc)
-below_begun d k s (Idle t) cs rs h e = let same : t ≡ s = cc in let b = h.1 in subst (λ x. x < d.begun) same b
-below_begun d k s (Open t since) cs rs h e = let same : t ≡ s = cc in subst (λ x. x < d.begun) same h.begun
-below_begun d k s Ended cs rs h e = absurd (cc)
+below_begun : (d : DeskState) (k s : ℕ) (p : Phase) (rs : List Reply) → StandsAs d k p rs → stamp_of p ≡ Some s → s < d.begun
+below_begun d k s NotBegun rs h e = absurd (cc)
+below_begun d k s (Idle t) rs h e = let same : t ≡ s = cc in let b = h.1 in subst (λ x. x < d.begun) same b
+below_begun d k s (Open t since) rs h e = let same : t ≡ s = cc in subst (λ x. x < d.begun) same h.begun
+below_begun d k s Ended rs h e = absurd (cc)
 
 none_some : (s : ℕ) → None ≡ Some s → ⊥
 none_some s e = cc
@@ -61,19 +62,19 @@ fresh d n stamp NotBegun st is its =
     let next : begun_after d.begun (phase_of d n) ≡ d.begun + 1 = ap (begun_after d.begun) is in
     record {
       closed = λ h. let owner = st.owner stamp h in
-          let less = below_begun d owner.0 stamp (phase_of d owner.0) (commands_at d.scripts owner.0) (replies_of d owner.0) (st.each owner.0) (ap stamp_of owner.2) in
+          let less = below_begun d owner.0 stamp (phase_of d owner.0) (replies_of d owner.0) (st.each owner.0) (ap stamp_of owner.2) in
           absurd (omega (arith, less, same));
       was = λ s h. absurd (none_some s (sym (ap stamp_of is) ∙ h));
-      alone = λ k h. let less = below_begun d k stamp (phase_of d k) (commands_at d.scripts k) (replies_of d k) (st.each k) h in absurd (omega (arith, less, same));
+      alone = λ k h. let less = below_begun d k stamp (phase_of d k) (replies_of d k) (st.each k) h in absurd (omega (arith, less, same));
       below = omega (arith, next, same);
       more = omega (arith, next);
       unended = ap is_ended is;
-      unheard = subst (λ p. StandsAs d (commands_at d.scripts n) p (replies_of d n)) is (st.each n);
+      unheard = subst (λ p. StandsAs d n p (replies_of d n)) is (st.each n);
     }
 fresh d n stamp (Idle t) st is its =
     let same : t ≡ stamp = cc in
     let own : stamp_of (phase_of d n) ≡ Some stamp = ap stamp_of is ∙ its in
-    let stands : StandsAs d (commands_at d.scripts n) (Idle t) (replies_of d n) = subst (λ p. StandsAs d (commands_at d.scripts n) p (replies_of d n)) is (st.each n) in
+    let stands : StandsAs d n (Idle t) (replies_of d n) = subst (λ p. StandsAs d n p (replies_of d n)) is (st.each n) in
     let next : begun_after d.begun (phase_of d n) ≡ d.begun = ap (begun_after d.begun) is in
     let less : t < d.begun = stands.1 in
     record {
@@ -115,6 +116,12 @@ module _ (d : DeskState) (changes : List Change) (base : Option CityValue) (n st
   within : n < length d.progress
   within = subst (λ k. n < k) (sym s.of_each) there
 
+  abbrev script : Scripted
+  script = slice_index_or d.scripts n ([], [])
+
+  script_is : slice_get d.scripts n ≡ Some script
+  script_is = slice_get-get_or d.scripts n ([], []) there
+
   once : ends_once (commands_at d.scripts n) ≡ true
   once = once_of d.scripts n s.scripted there
 
@@ -145,11 +152,13 @@ module _ (d : DeskState) (changes : List Change) (base : Option CityValue) (n st
       let city : committed core ≡ committed d.core = λ i id. object_at (objects i) id in
       let below = is_fresh.below in
       let grown = is_fresh.more in
-      let attempt : IsAttempt e (commands_at d.scripts n) stamp (length d.ends) [] = record {
+      let attempt : IsAttempt e n stamp (length d.ends) [] = record {
+        script = script;
+        is_there = script_is;
         opened = opened;
         begun = omega arith;
         since = omega arith;
-        unfinished = some_there (commands_at d.scripts n) once;
+        unfinished = some_there script.1 (subst (λ (cs : List Command). ends_once cs ≡ true) (ap commands_of script_is) once);
         unrefused = refl;
         stands = stands;
       } in
@@ -184,29 +193,28 @@ module _ (d : DeskState) (changes : List Change) (base : Option CityValue) (n st
   due_unbegun (Open t since) e = absurd (cc)
   due_unbegun Ended e = absurd (cc)
 
-  fits_unbegun : IsEndOf d.scripts (model_after d.scripts (object_at d.start.1) d.ends) (length d.ends) (end_of d n (length d.ends) (Outcome.NoMemory 0))
+  fits_unbegun : IsEndOf d.scripts (model_after d.scripts (object_at d.start.1) d.ends) (length d.ends) (own_end d n (length d.ends) (Outcome.NoMemory 0))
   fits_unbegun =
-      let script : slice_get d.scripts n ≡ Some (slice_index_or d.scripts n ([], [])) = slice_get-get_or d.scripts n ([], []) there in
       let m : CityMap = model_after d.scripts (object_at d.start.1) d.ends in
       let nothing : IsScriptResult m (commands_at d.scripts n) [] (Outcome.NoMemory 0) = no_room m (commands_at d.scripts n) once in
       let heard : IsScriptResult m (commands_at d.scripts n) (replies_of d n) (Outcome.NoMemory 0) = subst (λ (rs : List Reply). IsScriptResult m (commands_at d.scripts n) rs (Outcome.NoMemory 0)) (sym is_fresh.unheard) nothing in
       record {
-        script = slice_index_or d.scripts n ([], []);
-        is_there = script;
-        named = ap name_in script;
+        script = script;
+        is_there = script_is;
+        named = ap name_in script_is;
         since = omega arith;
-        result = subst (λ (cs : List Command). IsScriptResult m cs (replies_of d n) (Outcome.NoMemory 0)) (ap commands_of script) heard;
+        result = subst (λ (cs : List Command). IsScriptResult m cs (replies_of d n) (Outcome.NoMemory 0)) (ap commands_of script_is) heard;
       }
 
-  ended_unbegun : (ends : List End) (progress : List Progress) (names left : List (List ℕ)) (name : List ℕ) (capacity room : ℕ) → ends ≡ d.ends ++ end_of d n (length d.ends) (Outcome.NoMemory 0) ∷ []
-      → progress ≡ slice_set d.progress n nowhere → HasRoom d names capacity → left ≡ slice_set names n name → room ≡ capacity → LeavesDesk n turns.Ended d (ended_at d ends progress d.core) left room changes changes base
+  ended_unbegun : (ends : List End) (progress : List Progress) (names left : List (List ℕ)) (name : List ℕ) (capacity room : ℕ) → ends ≡ d.ends ++ own_end d n (length d.ends) (Outcome.NoMemory 0) ∷ []
+      → progress ≡ slice_set d.progress n ended_progress → HasRoom d names capacity → left ≡ slice_set names n name → room ≡ capacity → LeavesDesk n turns.Ended d (ended_at d ends progress d.core) left room changes changes base
   ended_unbegun ends progress names left name capacity room more moves r taken same =
-      let last : End = end_of d n (length d.ends) (Outcome.NoMemory 0) in
+      let last : End = own_end d n (length d.ends) (Outcome.NoMemory 0) in
       let e : DeskState = ended_at d ends progress d.core in
       let long : length ends ≡ length d.ends + 1 = ap length more ∙ length-append d.ends (last ∷ []) in
       let unmoved : left_by d.scripts (model_after d.scripts (object_at d.start.1) d.ends) last ≡ model_after d.scripts (object_at d.start.1) d.ends =
       leaves_all (model_after d.scripts (object_at d.start.1) d.ends) (slice_get d.scripts n) 0 in
-      let turn : IsTurnOf d e n stamp nowhere = record {
+      let turn : IsTurnOf d e n stamp ended_progress = record {
         there = within;
         scripts = refl;
         progress = moves;
@@ -227,13 +235,22 @@ module _ (d : DeskState) (changes : List Change) (base : Option CityValue) (n st
         room_left = room_ended d names left capacity room ends progress d.core n last name r within moves more is_fresh.unended taken same;
         turned = record {
           keeps = record { start = refl; scripts = refl; taken = refl };
-          so = record { since = length d.ends; outcome = Outcome.NoMemory 0; due = due_unbegun (phase_of d n) its; ends = more; moves = moves; begun = refl };
+          so = record {
+            script = script;
+            is_there = script_is;
+            since = length d.ends;
+            outcome = Outcome.NoMemory 0;
+            due = due_unbegun (phase_of d n) its;
+            ends = more ∙ ap (λ (name : List ℕ). d.ends ++ end_of d n name (length d.ends) (Outcome.NoMemory 0) ∷ []) (ap name_in script_is);
+            moves = moves;
+            begun = refl;
+          };
         };
         changes = counted d e changes changes [] base s serial (sym (append-nil changes));
       }
 
   ends_unbegun : (p w : Progress) (since : ℕ) (core : CoreState) (ends : List End) (names : List (List ℕ)) (name taken : List ℕ) (capacity room : ℕ) → p ≡ slice_index_or d.progress n p → since ≡ length d.ends → core ≡ d.core
-      → w ≡ nowhere → ends ≡ d.ends ++ (record { script = n; name = name; since = since; replies = p.replies.list; outcome = Outcome.NoMemory 0 }) ∷ [] → name ≡ slice_index_or names n name
+      → w ≡ ended_progress → ends ≡ d.ends ++ (record { script = n; name = name; since = since; replies = p.replies.list; outcome = Outcome.NoMemory 0 }) ∷ [] → name ≡ slice_index_or names n name
       → HasRoom d names capacity → room ≡ capacity → LeavesDesk n turns.Ended d (ended_at d ends (slice_set d.progress n w) core) (slice_set names n taken) room changes changes base
   ends_unbegun p w since core ends names name taken capacity room read now same over more named r long =
       let called : name ≡ name_at d.scripts n = sym (name_there names n name (subst (λ k. n < k) (sym r.names_long) there) named) ∙ r.named n there is_fresh.unended in
@@ -264,7 +281,7 @@ module _ {d seen : DeskState} {changes listing : List Change} {base : Option Cit
         (begins d changes base n stamp s its_here there_here p since begun core names capacity read now
         (subst (λ (x : DeskState). begun ≡ begun_after x.begun (phase_of x n)) (sym run) more) keeps objects opened stands r)
 
-    pub turn_unbegun : {w : Progress} {ends : List End} {name : List ℕ} (taken : List ℕ) {room : ℕ} → core ≡ d.core → w ≡ nowhere
+    pub turn_unbegun : {w : Progress} {ends : List End} {name : List ℕ} (taken : List ℕ) {room : ℕ} → core ≡ d.core → w ≡ ended_progress
         → ends ≡ d.ends ++ (record { script = n; name = name; since = since; replies = p.replies.list; outcome = Outcome.NoMemory 0 }) ∷ [] → name ≡ slice_index_or names n name
         → room ≡ capacity → LeavesDesk n turns.Ended seen (ended_at d ends (slice_set d.progress n w) core) (slice_set names n taken) room listing changes base
     turn_unbegun {w} {ends} {name} taken {room} same over more named long = left_of run listed

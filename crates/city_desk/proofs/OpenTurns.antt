@@ -29,12 +29,13 @@ use Rattle.city_desk.specs.declared.progress.Phase.TheVariants.{Idle, Open, Ende
 use Rattle.city_desk.specs.declared.turn.Turn.{Turn}
 use Rattle.city_desk.specs.declared.turn.Turn.TheVariants as turns
 use Rattle.city_desk.specs.inside.Attempt.{IsReplied, IsToWait, Publishes, AttemptEnded, HasGoneOn, HasStepped}
-use Rattle.city_desk.specs.DeskState.{DeskState, progress_to, nowhere, phase_of, replies_of, room_of, commands_of, commands_at, name_at, name_in, is_ended, is_open_phase, stamp_of}
+use Rattle.city_desk.specs.DeskState.{DeskState, progress_to, ended_progress, phase_of, replies_of, room_of, is_ended, is_open_phase, stamp_of}
+use Rattle.city_desk.specs.inside.ScriptParts.{commands_of, commands_at, name_at, name_in}
 use Rattle.city_desk.specs.inside.Room.{is_not_begun, HasRoom}
 use Rattle.city_desk.specs.Serial.{IsAttempt, StandsAs, AreChangesOf, IsSerial}
 use Rattle.city_desk.specs.Turning.{IsNext, IsOpenAt, IsDue, end_of, IsTurn, IsTurnAs, GainsCommits}
 use Rattle.city_desk.proofs.AttemptsKept.{IsTurnOf}
-use Rattle.city_desk.proofs.ScriptReads.{once_of, commands_read, progress_at, next_at, name_there, end_as}
+use Rattle.city_desk.proofs.ScriptReads.{command_as, own_end, once_of, commands_read, progress_at, next_at, name_there, end_as}
 use Rattle.city_desk.proofs.RoomKept.{one_if, place_left, room_now, room_ended}
 use Rattle.city_desk.proofs.SerialKept.{now_at, ended_at, kept_serial, ended_serial}
 use Rattle.city_desk.proofs.Shelved.{shows_all, changes_kept, changes_more, if_some_to}
@@ -118,8 +119,17 @@ stamp_same a b e = cc
 
 module _ (d : DeskState) (changes : List Change) (base : Option CityValue) (n stamp since : ℕ) (s : IsSerial d changes base)
     (is : phase_of d n ≡ Open stamp since) (there : n < length d.scripts) where
-  pub attempt : IsAttempt d (commands_at d.scripts n) stamp since (replies_of d n)
-  attempt = subst (λ p. StandsAs d (commands_at d.scripts n) p (replies_of d n)) is (s.standing.each n)
+  pub attempt : IsAttempt d n stamp since (replies_of d n)
+  attempt = subst (λ p. StandsAs d n p (replies_of d n)) is (s.standing.each n)
+
+  commands_are : commands_at d.scripts n ≡ attempt.script.1
+  commands_are = ap commands_of attempt.is_there
+
+  unfinished : length (replies_of d n) < length (commands_at d.scripts n)
+  unfinished = subst (λ (cs : List Command). length (replies_of d n) < length cs) (sym commands_are) attempt.unfinished
+
+  stood : StandsUnderLocks d.core stamp (answered (commands_at d.scripts n) (replies_of d n))
+  stood = subst (λ (cs : List Command). StandsUnderLocks d.core stamp (answered cs (replies_of d n))) (sym commands_are) attempt.stands
 
   within : n < length d.progress
   within = subst (λ k. n < k) (sym s.of_each) there
@@ -141,7 +151,7 @@ module _ (d : DeskState) (changes : List Change) (base : Option CityValue) (n st
   unfinished_at x cs p script list read =
       let all : commands_at d.scripts n ≡ cs = commands_read d.scripts n x there script ∙ sym list in
       let heard : length (replies_of d n) ≡ length p.replies.list = ap (λ (q : Progress). length q.replies.list) (progress_at d.progress n p within read) in
-      let less = attempt.unfinished in
+      let less = unfinished in
       let long : length (commands_at d.scripts n) ≡ length cs = ap length all in
       omega arith
 
@@ -152,13 +162,13 @@ module _ (d : DeskState) (changes : List Change) (base : Option CityValue) (n st
       let heard : length (replies_of d n) ≡ length p.replies.list = ap (λ (q : Progress). length q.replies.list) same in
       let room : room_of d n ≡ p.replies.room = ap (λ (q : Progress). q.replies.room) same in
       let wanted = r.replies n there going in
-      let less = attempt.unfinished in
+      let less = unfinished in
       omega arith
 
   turn_of : (e : DeskState) (q : Progress)
       → e.scripts ≡ d.scripts → e.progress ≡ slice_set d.progress n q → d.begun ≤ e.begun → length d.ends ≤ length e.ends
       → KeepsOthers stamp d.core e.core → is_open e.core stamp ≡ is_open_phase q.phase → ((t : ℕ) → stamp_of q.phase ≡ Some t → t ≡ stamp)
-      → StandsAs e (commands_at d.scripts n) q.phase q.replies.list → IsTurnOf d e n stamp q
+      → StandsAs e n q.phase q.replies.list → IsTurnOf d e n stamp q
   turn_of e q scripts progress begun ends k own becomes stands = record {
     there = within;
     scripts = scripts;
@@ -179,7 +189,7 @@ module _ (d : DeskState) (changes : List Change) (base : Option CityValue) (n st
 
   module _ (command : Command) (next : slice_get (commands_at d.scripts n) (length (replies_of d n)) ≡ Some command) (core : CoreState) (after : List Change) where
     is_next : IsNext d n stamp since command
-    is_next = record { phase = is; next = next }
+    is_next = record { phase = is; next = command_as d.scripts n (length (replies_of d n)) ∙ next }
 
     abbrev now : List Progress → DeskState
     now progress = now_at d progress d.begun core
@@ -187,7 +197,7 @@ module _ (d : DeskState) (changes : List Change) (base : Option CityValue) (n st
     -- ---- its script goes on
 
     leaves : (turn : Turn) (progress : List Progress) (q : Progress) (names : List (List ℕ)) (capacity : ℕ) → progress ≡ slice_set d.progress n q → q.replies.room ≡ room_of d n → KeepsOthers stamp d.core core → committed core ≡ committed d.core → after ≡ changes
-        → is_open core stamp ≡ is_open_phase q.phase → ((t : ℕ) → stamp_of q.phase ≡ Some t → t ≡ stamp) → StandsAs (now progress) (commands_at d.scripts n) q.phase q.replies.list → is_ended q.phase ≡ false → is_not_begun q.phase ≡ false
+        → is_open core stamp ≡ is_open_phase q.phase → ((t : ℕ) → stamp_of q.phase ≡ Some t → t ≡ stamp) → StandsAs (now progress) n q.phase q.replies.list → is_ended q.phase ≡ false → is_not_begun q.phase ≡ false
         → HasRoom d names capacity → IsTurnAs d (now progress) n turn → LeavesDesk n turn d (now progress) names capacity changes after base
     leaves turn progress q names capacity moves kept k city same own becomes stands on begun r so =
         let made = turn_of (now progress) q refl moves (omega arith) (omega arith) k own becomes stands in
@@ -205,39 +215,45 @@ module _ (d : DeskState) (changes : List Change) (base : Option CityValue) (n st
     heard reply = progress_to (Open stamp since) (replies_of d n ++ reply ∷ []) (room_of d n)
 
     replied_stands : (p q : Progress) (progress : List Progress) → (h : IsReplied stamp command p q d.core core)
-        → IsAttempt (now progress) (commands_at d.scripts n) stamp since (heard h.reply).replies.list
+        → IsAttempt (now progress) n stamp since (heard h.reply).replies.list
     replied_stands p q progress h =
         let more : length (heard h.reply).replies.list ≡ length (replies_of d n) + 1 = length-append (replies_of d n) (h.reply ∷ []) in
         let last = not_last (commands_at d.scripts n) (length (replies_of d n)) command once next h.goes_on in
+        let long : length (commands_at d.scripts n) ≡ length attempt.script.1 = ap length commands_are in
         record {
+          script = attempt.script;
+          is_there = attempt.is_there;
           opened = h.opened;
           begun = attempt.begun;
           since = attempt.since;
           unfinished = omega arith;
           unrefused = any_more (replies_of d n) h.reply attempt.unrefused h.unrefused;
-          stands = subst (λ (l : List Answered). StandsUnderLocks core stamp l) (sym (answered_more (commands_at d.scripts n) (replies_of d n) command h.reply next)) (h.stands (answered (commands_at d.scripts n) (replies_of d n)) attempt.stands);
+          stands = subst (λ (cs : List Command). StandsUnderLocks core stamp (answered cs (replies_of d n ++ h.reply ∷ []))) commands_are
+              (subst (λ (l : List Answered). StandsUnderLocks core stamp l) (sym (answered_more (commands_at d.scripts n) (replies_of d n) command h.reply next)) (h.stands (answered (commands_at d.scripts n) (replies_of d n)) stood));
         }
 
-    waiting_stands : (p q : Progress) (progress : List Progress) → IsToWait stamp command p q d.core core → IsAttempt (now progress) (commands_at d.scripts n) stamp since (replies_of d n)
+    waiting_stands : (p q : Progress) (progress : List Progress) → IsToWait stamp command p q d.core core → IsAttempt (now progress) n stamp since (replies_of d n)
     waiting_stands p q progress h = record {
+      script = attempt.script;
+      is_there = attempt.is_there;
       opened = h.opened;
       begun = attempt.begun;
       since = attempt.since;
       unfinished = attempt.unfinished;
       unrefused = attempt.unrefused;
-      stands = h.stands (answered (commands_at d.scripts n) (replies_of d n)) attempt.stands;
+      stands = h.stands (answered attempt.script.1 (replies_of d n)) attempt.stands;
     }
 
     abbrev still : Progress
     still = progress_to (Open stamp since) (replies_of d n) (room_of d n)
 
-    as_read : (p q : Progress) → q ≡ p → slice_index_or d.progress n nowhere ≡ p → q ≡ still
+    as_read : (p q : Progress) → q ≡ p → slice_index_or d.progress n ended_progress ≡ p → q ≡ still
     as_read p q same read = same ∙ (sym read ∙ ap (λ (f : Phase). progress_to f (replies_of d n) (room_of d n)) is)
 
     abbrev dead : Progress
     dead = progress_to (Idle stamp) [] (room_of d n)
 
-    pub went_on : (turn : Turn) (p q : Progress) (names : List (List ℕ)) (capacity : ℕ) → slice_index_or d.progress n nowhere ≡ p → HasGoneOn stamp command turn p q d.core core changes after
+    pub went_on : (turn : Turn) (p q : Progress) (names : List (List ℕ)) (capacity : ℕ) → slice_index_or d.progress n ended_progress ≡ p → HasGoneOn stamp command turn p q d.core core changes after
         → HasRoom d names capacity → LeavesDesk n turn d (now (slice_set d.progress n q)) names capacity changes after base
     went_on turns.Began p q names capacity read h r = absurd h.so
     went_on turns.Replied p q names capacity read h r =
@@ -261,7 +277,7 @@ module _ (d : DeskState) (changes : List Change) (base : Option CityValue) (n st
         })
     went_on turns.Waits p q names capacity read h r =
         let moves : slice_set d.progress n q ≡ slice_set d.progress n still = ap (slice_set d.progress n) (as_read p q h.so.same read) in
-        let same : slice_set d.progress n q ≡ d.progress = ap (slice_set d.progress n) (h.so.same ∙ sym read) ∙ set-get_or d.progress n nowhere in
+        let same : slice_set d.progress n q ≡ d.progress = ap (slice_set d.progress n) (h.so.same ∙ sym read) ∙ set-get_or d.progress n ended_progress in
         leaves turns.Waits (slice_set d.progress n q) still names capacity moves refl h.keeps h.city h.changes h.so.opened (λ t e. stamp_same stamp t e)
         (waiting_stands p q (slice_set d.progress n q) h.so) refl refl r (record {
           waits = record {
@@ -302,7 +318,7 @@ module _ (d : DeskState) (changes : List Change) (base : Option CityValue) (n st
     model = model_after d.scripts (object_at d.start.1) d.ends
 
     stands_on_model : IsTraceUnderLocks (held d.core stamp) (unmarked model) (answered (commands_at d.scripts n) (replies_of d n)) (txn.snapshot d.core stamp)
-    stands_on_model = subst (λ (m : CityMap). IsTraceUnderLocks (held d.core stamp) (unmarked m) (answered (commands_at d.scripts n) (replies_of d n)) (txn.snapshot d.core stamp)) s.city attempt.stands
+    stands_on_model = subst (λ (m : CityMap). IsTraceUnderLocks (held d.core stamp) (unmarked m) (answered (commands_at d.scripts n) (replies_of d n)) (txn.snapshot d.core stamp)) s.city stood
 
     result : (outcome : Outcome) → EndsAt (txn.snapshot d.core stamp) command (length (replies_of d n)) outcome → IsScriptResult model (commands_at d.scripts n) (replies_of d n) outcome
     result outcome e =
@@ -310,7 +326,7 @@ module _ (d : DeskState) (changes : List Change) (base : Option CityValue) (n st
         result_from (held d.core stamp) (unmarked model) (txn.snapshot d.core stamp) 0 (commands_at d.scripts n) (replies_of d n) command outcome
         stands_on_model attempt.unrefused next (subst (λ i. EndsAt (txn.snapshot d.core stamp) command i outcome) number e)
 
-    fits_here : (outcome : Outcome) → EndsAt (txn.snapshot d.core stamp) command (length (replies_of d n)) outcome → IsEndOf d.scripts model (length d.ends) (end_of d n since outcome)
+    fits_here : (outcome : Outcome) → EndsAt (txn.snapshot d.core stamp) command (length (replies_of d n)) outcome → IsEndOf d.scripts model (length d.ends) (own_end d n since outcome)
     fits_here outcome e = record {
       script = slice_index_or d.scripts n ([], []);
       is_there = script_there;
@@ -320,52 +336,54 @@ module _ (d : DeskState) (changes : List Change) (base : Option CityValue) (n st
     }
 
     left_here : (outcome : Outcome)
-        → left_by d.scripts model (end_of d n since outcome) ≡ map_left model (commands_at d.scripts n) outcome
+        → left_by d.scripts model (own_end d n since outcome) ≡ map_left model (commands_at d.scripts n) outcome
     left_here outcome =
         found_left model (slice_get d.scripts n) (slice_index_or d.scripts n ([], [])) outcome script_there
 
     published : (outcome : Outcome) (b : Bool) → is_commit outcome ≡ b → EndsAt (txn.snapshot d.core stamp) command (length (replies_of d n)) outcome → Publishes b stamp d.core core changes after
-        → (committed core ≡ left_by d.scripts model (end_of d n since outcome)) × AreChangesOf d.scripts (object_at d.start.1) (d.ends ++ end_of d n since outcome ∷ []) after
+        → (committed core ≡ left_by d.scripts model (own_end d n since outcome)) × AreChangesOf d.scripts (object_at d.start.1) (d.ends ++ own_end d n since outcome ∷ []) after
     published outcome true one e p =
         let by = commits (txn.snapshot d.core stamp) command (length (replies_of d n)) outcome one e in
         let last : slice_get (commands_at d.scripts n) (length (replies_of d n)) ≡ Some Commit = next ∙ ap Some by.1 in
-        let left : left_by d.scripts model (end_of d n since outcome) ≡ view d.core stamp =
+        let left : left_by d.scripts model (own_end d n since outcome) ≡ view d.core stamp =
         left_here outcome ∙ ap (map_left model (commands_at d.scripts n)) by.0
         ∙ ap (λ (x : View). x.map) (committed_from (held d.core stamp) (unmarked model) (txn.snapshot d.core stamp) (commands_at d.scripts n) (replies_of d n) stands_on_model attempt.unrefused last) in
-        let made : model_after d.scripts (object_at d.start.1) (d.ends ++ end_of d n since outcome ∷ []) ≡ after_change model p.1.0 =
-        model_more d.scripts d.ends (end_of d n since outcome) (object_at d.start.1) ∙ (left ∙ (sym p.1.2 ∙ ap (λ m. after_change m p.1.0) s.city)) in (
+        let made : model_after d.scripts (object_at d.start.1) (d.ends ++ own_end d n since outcome ∷ []) ≡ after_change model p.1.0 =
+        model_more d.scripts d.ends (own_end d n since outcome) (object_at d.start.1) ∙ (left ∙ (sym p.1.2 ∙ ap (λ m. after_change m p.1.0) s.city)) in (
           p.0 ∙ sym left,
-          subst (λ cs. AreChangesOf d.scripts (object_at d.start.1) (d.ends ++ end_of d n since outcome ∷ []) cs) (sym p.1.1)
-              (changes_more d.scripts (object_at d.start.1) d.ends changes s.shelf (end_of d n since outcome) p.1.0 one made),
+          subst (λ cs. AreChangesOf d.scripts (object_at d.start.1) (d.ends ++ own_end d n since outcome ∷ []) cs) (sym p.1.1)
+              (changes_more d.scripts (object_at d.start.1) d.ends changes s.shelf (own_end d n since outcome) p.1.0 one made),
         )
     published outcome false one e p =
-        let left : left_by d.scripts model (end_of d n since outcome) ≡ model =
+        let left : left_by d.scripts model (own_end d n since outcome) ≡ model =
         left_here outcome ∙ left_same model (commands_at d.scripts n) outcome one in (
           p.0 ∙ (s.city ∙ sym left),
-          subst (λ cs. AreChangesOf d.scripts (object_at d.start.1) (d.ends ++ end_of d n since outcome ∷ []) cs) (sym p.1)
-              (changes_kept d.scripts (object_at d.start.1) d.ends changes s.shelf (end_of d n since outcome) one (model_more d.scripts d.ends (end_of d n since outcome) (object_at d.start.1) ∙ left)),
+          subst (λ cs. AreChangesOf d.scripts (object_at d.start.1) (d.ends ++ own_end d n since outcome ∷ []) cs) (sym p.1)
+              (changes_kept d.scripts (object_at d.start.1) d.ends changes s.shelf (own_end d n since outcome) one (model_more d.scripts d.ends (own_end d n since outcome) (object_at d.start.1) ∙ left)),
         )
 
     pub ended : (outcome : Outcome) (ends : List End) (progress : List Progress) (names left : List (List ℕ)) (name : List ℕ) (capacity room : ℕ)
-        → AttemptEnded stamp command (length (replies_of d n)) outcome d.core core changes after → ends ≡ d.ends ++ end_of d n since outcome ∷ [] → progress ≡ slice_set d.progress n nowhere
+        → AttemptEnded stamp command (length (replies_of d n)) outcome d.core core changes after → ends ≡ d.ends ++ own_end d n since outcome ∷ [] → progress ≡ slice_set d.progress n ended_progress
         → HasRoom d names capacity → left ≡ slice_set names n name → room ≡ capacity → LeavesDesk n turns.Ended d (ended_at d ends progress core) left room changes after base
     ended outcome ends progress names left name capacity room h more moves r taken same =
         let e : DeskState = ended_at d ends progress core in
-        let long : length ends ≡ length d.ends + 1 = ap length more ∙ length-append d.ends (end_of d n since outcome ∷ []) in
-        let turn = turn_of e nowhere refl moves (omega arith) (omega (arith, long)) h.keeps h.closed (λ j k. absurd (cc)) refl in
+        let long : length ends ≡ length d.ends + 1 = ap length more ∙ length-append d.ends (own_end d n since outcome ∷ []) in
+        let turn = turn_of e ended_progress refl moves (omega arith) (omega (arith, long)) h.keeps h.closed (λ j k. absurd (cc)) refl in
         let both = published outcome (is_commit outcome) refl h.ends h.publishes in
-        let serial : IsSerial e after base = ended_serial d changes after base ends progress core n stamp (end_of d n since outcome) s h.keeps.frame turn more refl there going (fits_here outcome h.ends) both.0 both.1 in
+        let serial : IsSerial e after base = ended_serial d changes after base ends progress core n stamp (own_end d n since outcome) s h.keeps.frame turn more refl there going (fits_here outcome h.ends) both.0 both.1 in
         let gained = gained_by (is_commit outcome) stamp d.core core changes after h.publishes in
         record {
           serial = serial;
-          room_left = room_ended d names left capacity room ends progress core n (end_of d n since outcome) name r within moves more going taken same;
+          room_left = room_ended d names left capacity room ends progress core n (own_end d n since outcome) name r within moves more going taken same;
           turned = record {
             keeps = record { start = refl; scripts = refl; taken = refl };
             so = record {
+              script = slice_index_or d.scripts n ([], []);
+              is_there = script_there;
               since = since;
               outcome = outcome;
               due = subst (λ p. IsDue d n p since outcome) (sym is) (refl, record { command = command; next = is_next; ends = h.ends; granted = h.granted });
-              ends = more;
+              ends = more ∙ ap (λ (name : List ℕ). d.ends ++ end_of d n name since outcome ∷ []) (ap name_in script_there);
               moves = moves;
               begun = refl;
             };
@@ -377,7 +395,7 @@ module _ (d : DeskState) (changes : List Change) (base : Option CityValue) (n st
 
   module _ (p : Progress) (x : Scripted) (cs : List Command) (number : ℕ) (command : Command) (read : p ≡ slice_index_or d.progress n p) (script : x ≡ slice_index_or d.scripts n x) (list : cs ≡ x.1)
       (count : number ≡ length p.replies.list) (at_number : command ≡ slice_index_or cs number command) where
-    reads : slice_index_or d.progress n nowhere ≡ p
+    reads : slice_index_or d.progress n ended_progress ≡ p
     reads = progress_at d.progress n p within read
 
     heard_so_far : replies_of d n ≡ p.replies.list
@@ -395,7 +413,7 @@ module _ (d : DeskState) (changes : List Change) (base : Option CityValue) (n st
     goes_on_from turn q core after names capacity h r = went_on command next_read core after turn p q names capacity reads h r
 
     ends_from : (outcome : Outcome) (q w : Progress) (core : CoreState) (after : List Change) (ends : List End) (names : List (List ℕ)) (name taken : List ℕ) (capacity room : ℕ) → HasStepped stamp command (Err outcome) p q d.core core changes after
-        → w ≡ nowhere → ends ≡ d.ends ++ (record { script = n; name = name; since = since; replies = q.replies.list; outcome = outcome }) ∷ [] → name ≡ slice_index_or names n name
+        → w ≡ ended_progress → ends ≡ d.ends ++ (record { script = n; name = name; since = since; replies = q.replies.list; outcome = outcome }) ∷ [] → name ≡ slice_index_or names n name
         → HasRoom d names capacity → room ≡ capacity → LeavesDesk n turns.Ended d (ended_at d ends (slice_set d.progress n w) core) (slice_set names n taken) room changes after base
     ends_from outcome q w core after ends names name taken capacity room h over more named r same =
         let called : name ≡ name_at d.scripts n = sym (name_there names n name (subst (λ k. n < k) (sym r.names_long) there) named) ∙ r.named n there going in
@@ -435,7 +453,7 @@ module _ {d seen : DeskState} {changes listing : List Change} {base : Option Cit
         (goes_on_from d changes base n stamp since s is_here there_here p x cs number command read script list count at_number turn q core after names capacity h r)
 
     pub turn_ends : {outcome : Outcome} {w : Progress} {ends : List End} {name : List ℕ} (taken : List ℕ) {room : ℕ} → HasStepped stamp command (Err outcome) p q d.core core changes after
-        → w ≡ nowhere → ends ≡ d.ends ++ (record { script = n; name = name; since = since; replies = q.replies.list; outcome = outcome }) ∷ [] → name ≡ slice_index_or names n name
+        → w ≡ ended_progress → ends ≡ d.ends ++ (record { script = n; name = name; since = since; replies = q.replies.list; outcome = outcome }) ∷ [] → name ≡ slice_index_or names n name
         → room ≡ capacity → LeavesDesk n turns.Ended seen (ended_at d ends (slice_set d.progress n w) core) (slice_set names n taken) room listing after base
     turn_ends {outcome} {w} {ends} {name} taken {room} h over more named same = left_of run listed
         (ends_from d changes base n stamp since s is_here there_here p x cs number command read script list count at_number outcome q w core after ends names name taken capacity room h over more named r same)

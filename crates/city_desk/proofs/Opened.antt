@@ -13,7 +13,8 @@ use Rattle.city_txn.specs.CoreState.{CoreState}
 use Rattle.city_model.specs.Scripts.{AreScripts}
 use Rattle.city_desk.specs.declared.progress.Progress.{Progress}
 use Rattle.city_desk.specs.declared.progress.Phase.TheVariants.{NotBegun}
-use Rattle.city_desk.specs.DeskState.{DeskState, progress_to, nowhere, phase_in, phase_of, replies_of, commands_at, name_at, is_ended, is_open_phase, stamp_of}
+use Rattle.city_desk.specs.DeskState.{DeskState, progress_to, ended_progress, phase_in, phase_of, replies_of, is_ended, is_open_phase, stamp_of}
+use Rattle.city_desk.specs.inside.ScriptParts.{commands_at, name_at}
 use Rattle.city_desk.specs.Opening.{unbegun, unbegun_each, opened}
 use Rattle.city_model.specs.SerialEnds.{commits_in}
 use Rattle.city_desk.specs.inside.Room.{names_of, is_not_begun, ended_in, HasRoom}
@@ -23,12 +24,12 @@ use Rattle.city_desk.proofs.RoomKept.{one_if, place_left}
 
 -- ---- at its opening
 
-each_unbegun : (scripts : List Scripted) (n : ℕ) → ((s : Scripted) × (slice_index_or (unbegun_each scripts) n nowhere ≡ unbegun s)) ⊎ (slice_index_or (unbegun_each scripts) n nowhere ≡ nowhere)
+each_unbegun : (scripts : List Scripted) (n : ℕ) → ((s : Scripted) × (slice_index_or (unbegun_each scripts) n ended_progress ≡ unbegun s)) ⊎ (slice_index_or (unbegun_each scripts) n ended_progress ≡ ended_progress)
 each_unbegun [] n = inr refl
 each_unbegun (s ∷ ss) zero = inl (s, refl)
 each_unbegun (s ∷ ss) (suc n) = each_unbegun ss n
 
-unbegun_within : (scripts : List Scripted) (n : ℕ) → n < length scripts → slice_index_or (unbegun_each scripts) n nowhere ≡ progress_to NotBegun [] (length (commands_at scripts n))
+unbegun_within : (scripts : List Scripted) (n : ℕ) → n < length scripts → slice_index_or (unbegun_each scripts) n ended_progress ≡ progress_to NotBegun [] (length (commands_at scripts n))
 unbegun_within [] n lt = absurd (omega arith)
 unbegun_within (s ∷ ss) zero lt = refl
 unbegun_within (s ∷ ss) (suc n) lt = unbegun_within ss n (omega arith)
@@ -38,10 +39,10 @@ name_within [] n lt = absurd (omega arith)
 name_within (s ∷ ss) zero lt = refl
 name_within (s ∷ ss) (suc n) lt = name_within ss n (omega arith)
 
-stands_unbegun : (city : CityValue) (scripts : List Scripted) (n : ℕ) → StandsAs (opened city scripts) (commands_at scripts n) (phase_of (opened city scripts) n) (replies_of (opened city scripts) n)
+stands_unbegun : (city : CityValue) (scripts : List Scripted) (n : ℕ) → StandsAs (opened city scripts) n (phase_of (opened city scripts) n) (replies_of (opened city scripts) n)
 stands_unbegun city scripts n = elim (each_unbegun scripts n) [
-  | inl e ↦ subst (λ (p : Progress). StandsAs (opened city scripts) (commands_at scripts n) p.phase p.replies.list) (sym e.1) refl
-  | inr e ↦ subst (λ (p : Progress). StandsAs (opened city scripts) (commands_at scripts n) p.phase p.replies.list) (sym e) refl
+  | inl e ↦ subst (λ (p : Progress). StandsAs (opened city scripts) n p.phase p.replies.list) (sym e.1) refl
+  | inr e ↦ subst (λ (p : Progress). StandsAs (opened city scripts) n p.phase p.replies.list) (sym e) refl
 ]
 
 no_stamp : (city : CityValue) (scripts : List Scripted) (n stamp : ℕ) → stamp_of (phase_of (opened city scripts) n) ≡ Some stamp → ⊥

@@ -9,7 +9,7 @@ use Rattle.city_txn.specs.CoreState.{CoreState}
 use Rattle.city_desk.specs.declared.progress.Progress.{Progress}
 use Rattle.city_desk.specs.declared.progress.Phase.{Phase}
 use Rattle.city_desk.specs.declared.progress.Phase.TheVariants.{NotBegun, Open}
-use Rattle.city_desk.specs.DeskState.{DeskState, nowhere, phase_in, phase_of, room_in, room_of, is_ended}
+use Rattle.city_desk.specs.DeskState.{DeskState, ended_progress, phase_in, phase_of, room_in, room_of, is_ended}
 use Rattle.city_desk.specs.inside.Room.{is_not_begun, ended_in, not_begun_in, HasRoom}
 use Rattle.city_desk.proofs.SerialKept.{now_at, ended_at}
 
@@ -17,22 +17,22 @@ abbrev pub one_if : Bool → ℕ
 one_if b = cond b 1 0
 
 ended_set : (ps : List Progress) (n : ℕ) (p : Progress) → n < length ps → ended_in (slice_set ps n p) + one_if (is_ended (phase_in ps n)) ≡ ended_in ps + one_if (is_ended p.phase)
-ended_set ps n p there = sum_by-set (λ (q : Progress). cond (is_ended q.phase) 1 0) ps n p nowhere there
+ended_set ps n p there = sum_by-set (λ (q : Progress). cond (is_ended q.phase) 1 0) ps n p ended_progress there
 
 not_begun_set : (ps : List Progress) (n : ℕ) (p : Progress) → n < length ps → not_begun_in (slice_set ps n p) + one_if (is_not_begun (phase_in ps n)) ≡ not_begun_in ps + one_if (is_not_begun p.phase)
-not_begun_set ps n p there = sum_by-set (λ (q : Progress). cond (is_not_begun q.phase) 1 0) ps n p nowhere there
+not_begun_set ps n p there = sum_by-set (λ (q : Progress). cond (is_not_begun q.phase) 1 0) ps n p ended_progress there
 
 phase_set : (ps : List Progress) (n j : ℕ) (p : Progress) → j ≢ n → phase_in (slice_set ps n p) j ≡ phase_in ps j
-phase_set ps n j p ne = ap (λ (q : Progress). q.phase) (get_or-set_other ps n j p nowhere ne)
+phase_set ps n j p ne = ap (λ (q : Progress). q.phase) (get_or-set_other ps n j p ended_progress ne)
 
 phase_set_here : (ps : List Progress) (n : ℕ) (p : Progress) → n < length ps → phase_in (slice_set ps n p) n ≡ p.phase
-phase_set_here ps n p there = ap (λ (q : Progress). q.phase) (get_or-set_same ps n p nowhere there)
+phase_set_here ps n p there = ap (λ (q : Progress). q.phase) (get_or-set_same ps n p ended_progress there)
 
 room_set : (ps : List Progress) (n j : ℕ) (p : Progress) → j ≢ n → room_in (slice_set ps n p) j ≡ room_in ps j
-room_set ps n j p ne = ap (λ (q : Progress). q.replies.room) (get_or-set_other ps n j p nowhere ne)
+room_set ps n j p ne = ap (λ (q : Progress). q.replies.room) (get_or-set_other ps n j p ended_progress ne)
 
 room_set_here : (ps : List Progress) (n : ℕ) (p : Progress) → n < length ps → room_in (slice_set ps n p) n ≡ p.replies.room
-room_set_here ps n p there = ap (λ (q : Progress). q.replies.room) (get_or-set_same ps n p nowhere there)
+room_set_here ps n p there = ap (λ (q : Progress). q.replies.room) (get_or-set_same ps n p ended_progress there)
 
 -- the script goes on
 pub room_now : (d : DeskState) (names : List (List ℕ)) (capacity : ℕ) (progress : List Progress) (begun : ℕ) (core : CoreState) (n : ℕ) (p : Progress)
@@ -66,10 +66,10 @@ room_now d names capacity progress begun core n p r there moves kept same stamps
 
 -- the script ends
 pub room_ended : (d : DeskState) (names left : List (List ℕ)) (capacity room : ℕ) (ends : List End) (progress : List Progress) (core : CoreState) (n : ℕ) (e : End) (name : List ℕ)
-    → HasRoom d names capacity → n < length d.progress → progress ≡ slice_set d.progress n nowhere → ends ≡ d.ends ++ e ∷ []
+    → HasRoom d names capacity → n < length d.progress → progress ≡ slice_set d.progress n ended_progress → ends ≡ d.ends ++ e ∷ []
     → is_ended (phase_of d n) ≡ false → left ≡ slice_set names n name → room ≡ capacity → HasRoom (ended_at d ends progress core) left room
 room_ended d names left capacity room ends progress core n e name r there moves more going taken same =
-    let p : Progress = nowhere in
+    let p : Progress = ended_progress in
     let ended = ended_set d.progress n p there in
     let started = not_begun_set d.progress n p there in
     let count : ended_in progress ≡ ended_in (slice_set d.progress n p) = ap ended_in moves in
@@ -96,9 +96,9 @@ room_ended d names left capacity room ends progress core n e name r there moves 
 -- while a script hasn't ended there is a place for its end
 pub place_left : (d : DeskState) (names : List (List ℕ)) (capacity n : ℕ) → HasRoom d names capacity → length d.progress ≡ length d.scripts → n < length d.progress → is_ended (phase_of d n) ≡ false → length d.ends < length d.scripts
 place_left d names capacity n r same there going =
-    let ended = ended_set d.progress n nowhere there in
-    let most = count_by-le-length (λ (q : Progress). is_ended q.phase) (slice_set d.progress n nowhere) in
-    let long = length-set d.progress n nowhere in
+    let ended = ended_set d.progress n ended_progress there in
+    let most = count_by-le-length (λ (q : Progress). is_ended q.phase) (slice_set d.progress n ended_progress) in
+    let long = length-set d.progress n ended_progress in
     let none : one_if (is_ended (phase_of d n)) ≡ 0 = ap one_if going in
     let each = r.each_once in
     omega arith
@@ -106,7 +106,7 @@ place_left d names capacity n r same there going =
 -- while a script hasn't begun there is a stamp for it
 pub stamp_left : (d : DeskState) (names : List (List ℕ)) (capacity n : ℕ) → HasRoom d names capacity → n < length d.progress → phase_of d n ≡ NotBegun → d.begun + 1 ≤ length d.scripts
 stamp_left d names capacity n r there is =
-    let started = not_begun_set d.progress n nowhere there in
+    let started = not_begun_set d.progress n ended_progress there in
     let one : one_if (is_not_begun (phase_of d n)) ≡ 1 = ap (λ p. one_if (is_not_begun p)) is in
     let old = r.stamps in
     omega arith

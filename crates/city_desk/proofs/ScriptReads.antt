@@ -1,6 +1,6 @@
 -- What the desk's fields say of one script.
 use Rattle.std.proofs.Common.{◌≡◌, ◌<◌, ℕ, true, List, [], ◌∷◌, ◌++◌, length, Some, refl, ap, sym, ◌∙◌}
-use Rattle.std.specs.Prelude.{slice_get, slice_index_or}
+use Rattle.std.specs.Prelude.{Option, None, option_and_then, slice_get, slice_index_or}
 use Rattle.std.proofs.lemmas.Option.{slice_get_read, slice_get-get_or}
 use Rattle.std.proofs.lemmas.List.{get_or_default}
 use Rattle.city_model.specs.declared.command.Command.{Command}
@@ -10,13 +10,26 @@ use Rattle.city_model.specs.declared.end.Outcome.{Outcome}
 use Rattle.city_model.specs.Runs.{Scripted}
 use Rattle.city_model.specs.Scripts.{ends_once, AreScripts}
 use Rattle.city_desk.specs.declared.progress.Progress.{Progress}
-use Rattle.city_desk.specs.DeskState.{nowhere, commands_of, commands_at}
+use Rattle.city_desk.specs.DeskState.{DeskState, ended_progress, command_at}
+use Rattle.city_desk.specs.Turning.{end_of}
+use Rattle.city_desk.specs.inside.ScriptParts.{commands_of, commands_at, name_at}
 
 pub script_there : (scripts : List Scripted) (n : ℕ) (x : Scripted) → n < length scripts → x ≡ slice_index_or scripts n x → slice_get scripts n ≡ Some x
 script_there scripts n x lt is = slice_get_read scripts (length scripts) n x refl lt is
 
 pub commands_read : (scripts : List Scripted) (n : ℕ) (x : Scripted) → n < length scripts → x ≡ slice_index_or scripts n x → commands_at scripts n ≡ x.1
 commands_read scripts n x lt is = ap commands_of (script_there scripts n x lt is)
+
+command_found : (script : Option Scripted) (k : ℕ) → option_and_then (λ s. slice_get s.1 k) script ≡ slice_get (commands_of script) k
+command_found None k = refl
+command_found (Some s) k = refl
+
+pub command_as : (scripts : List Scripted) (n k : ℕ) → command_at scripts n k ≡ slice_get (commands_at scripts n) k
+command_as scripts n k = command_found (slice_get scripts n) k
+
+-- its end, by the name that it has
+abbrev pub own_end : DeskState → ℕ → ℕ → Outcome → End
+own_end d n since outcome = end_of d n (name_at d.scripts n) since outcome
 
 pub once_of : (scripts : List Scripted) (n : ℕ) → AreScripts scripts → n < length scripts → ends_once (commands_at scripts n) ≡ true
 once_of scripts n all lt =
@@ -28,8 +41,8 @@ pub next_at : (scripts : List Scripted) (n : ℕ) (x : Scripted) (cs : List Comm
 next_at scripts n x cs k c lt is same within at =
     ap (λ o. slice_get (commands_of o) k) (script_there scripts n x lt is) ∙ (ap (λ l. slice_get l k) (sym same) ∙ slice_get_read cs (length cs) k c refl within at)
 
-pub progress_at : (ps : List Progress) (n : ℕ) (x : Progress) → n < length ps → x ≡ slice_index_or ps n x → slice_index_or ps n nowhere ≡ x
-progress_at ps n x lt is = sym (is ∙ get_or_default ps n x nowhere lt)
+pub progress_at : (ps : List Progress) (n : ℕ) (x : Progress) → n < length ps → x ≡ slice_index_or ps n x → slice_index_or ps n ended_progress ≡ x
+progress_at ps n x lt is = sym (is ∙ get_or_default ps n x ended_progress lt)
 
 pub name_there : (names : List (List ℕ)) (n : ℕ) (x : List ℕ) → n < length names → x ≡ slice_index_or names n x → slice_index_or names n [] ≡ x
 name_there names n x lt is = sym (is ∙ get_or_default names n x [] lt)

@@ -6,12 +6,12 @@ use Rattle.std.proofs.lemmas.List.{get_or_past}
 use Rattle.city_desk.specs.declared.progress.Progress.{Progress}
 use Rattle.city_desk.specs.declared.progress.Phase.{Phase}
 use Rattle.city_desk.specs.declared.progress.Phase.TheVariants.{NotBegun, Idle, Open, Ended}
-use Rattle.city_desk.specs.DeskState.{DeskState, nowhere, phase_in, phase_of, is_ended, is_open_phase}
+use Rattle.city_desk.specs.DeskState.{DeskState, ended_progress, phase_in, phase_of, is_ended, is_open_phase}
 use Rattle.city_desk.specs.inside.Ready.{is_unopened, IsYoungestBelow, IsYoungest}
 use Rattle.city_desk.specs.Turning.{IsWaiting}
 
 past : (ps : List Progress) (k : ℕ) → length ps ≤ k → phase_in ps k ≡ Ended
-past ps k le = ap (λ (p : Progress). p.phase) (get_or_past ps k nowhere le)
+past ps k le = ap (λ (p : Progress). p.phase) (get_or_past ps k ended_progress le)
 
 pub open_within : (ps : List Progress) (k : ℕ) → is_ended (phase_in ps k) ≡ false → k < length ps
 open_within ps k h = ⊎_elim (λ lt. lt) (λ le. absurd (false≢true (sym h ∙ ap is_ended (past ps k le)))) (cases_lt k (length ps))

@@ -1,6 +1,7 @@
 -- What contracts see of a desk: its opening city and scripts, the ends so far, how far each script is, and
 -- its core.
 use Rattle.std.specs.Prelude.{ℕ, Bool, true, false, List, [], Option, None, Some, slice_get, slice_index_or}
+use Rattle.std.specs.Prelude.{option_and_then}
 use Rattle.city_model.specs.declared.command.Command.{Command}
 use Rattle.city_model.specs.declared.command.Reply.{Reply}
 use Rattle.city_model.specs.declared.end.End.{End}
@@ -29,18 +30,19 @@ pub record DeskState : Type 0 where
 abbrev pub progress_to : Phase → List Reply → ℕ → Progress
 progress_to phase replies room = record { phase = phase; replies = record { list = replies; room = room } }
 
--- the progress of a script that has ended, or isn't there
-abbrev pub nowhere : Progress
-nowhere = progress_to Ended [] 0
+-- the progress of a script that has ended
+abbrev pub ended_progress : Progress
+ended_progress = progress_to Ended [] 0
 
+-- how far script n is; where there is none, as one that has ended
 abbrev pub phase_in : List Progress → ℕ → Phase
-phase_in progress n = (slice_index_or progress n nowhere).phase
+phase_in progress n = (slice_index_or progress n ended_progress).phase
 
 abbrev pub replies_in : List Progress → ℕ → List Reply
-replies_in progress n = (slice_index_or progress n nowhere).replies.list
+replies_in progress n = (slice_index_or progress n ended_progress).replies.list
 
 abbrev pub room_in : List Progress → ℕ → ℕ
-room_in progress n = (slice_index_or progress n nowhere).replies.room
+room_in progress n = (slice_index_or progress n ended_progress).replies.room
 
 abbrev pub phase_of : DeskState → ℕ → Phase
 phase_of d n = phase_in d.progress n
@@ -53,19 +55,9 @@ replies_of d n = replies_in d.progress n
 abbrev pub room_of : DeskState → ℕ → ℕ
 room_of d n = room_in d.progress n
 
-abbrev pub commands_of : Option Scripted → List Command
-commands_of None = []
-commands_of (Some s) = s.1
-
-abbrev pub commands_at : List Scripted → ℕ → List Command
-commands_at scripts n = commands_of (slice_get scripts n)
-
-abbrev pub name_in : Option Scripted → List ℕ
-name_in None = []
-name_in (Some s) = s.0
-
-abbrev pub name_at : List Scripted → ℕ → List ℕ
-name_at scripts n = name_in (slice_get scripts n)
+-- command k of script n, where there are both
+abbrev pub command_at : List Scripted → ℕ → ℕ → Option Command
+command_at scripts n k = option_and_then (λ s. slice_get s.1 k) (slice_get scripts n)
 
 abbrev pub is_ended : Phase → Bool
 is_ended NotBegun = false

@@ -1,7 +1,7 @@
 -- A desk's ends are a serial history, and its open transactions stand on what that history leaves.
 use Rattle.std.specs.Prelude.{◌≡◌, ◌<◌, ◌≤◌, ℕ, true, false, List, [], length, take, Option, Some, IfSome}
+use Rattle.std.specs.Prelude.{slice_get}
 use Rattle.std.specs.List.{list_any}
-use Rattle.city_model.specs.declared.command.Command.{Command}
 use Rattle.city_model.specs.declared.command.Reply.{Reply}
 use Rattle.city_model.specs.declared.end.End.{End}
 use Rattle.city_model.specs.CityMap.{CityMap, object_at, CityValue}
@@ -14,31 +14,32 @@ use Rattle.city_model.specs.Standing.{answered}
 use Rattle.city_txn.specs.CoreState.{committed, is_open, StandsUnderLocks}
 use Rattle.city_desk.specs.declared.progress.Phase.{Phase}
 use Rattle.city_desk.specs.declared.progress.Phase.TheVariants.{NotBegun, Idle, Open, Ended}
-use Rattle.city_desk.specs.DeskState.{DeskState, phase_of, replies_of, commands_at, is_ended, stamp_of}
+use Rattle.city_desk.specs.DeskState.{DeskState, phase_of, replies_of, is_ended, stamp_of}
 
 -- ---- the open transactions
 
--- a transaction of the script is open: its first commands, as many as there are replies, stand with these
+-- a transaction of script n is open: its first commands, as many as there are replies, stand with these
 -- replies, none of them a refusal
-pub record IsAttempt (d : DeskState) (commands : List Command) (stamp start : ℕ) (replies : List Reply)
-    : Type 0 where
+pub record IsAttempt (d : DeskState) (n stamp start : ℕ) (replies : List Reply) : Type 0 where
+  pub script : Scripted
+  pub is_there : slice_get d.scripts n ≡ Some script
   pub opened : is_open d.core stamp ≡ true
   pub begun : stamp < d.begun
   pub since : start ≤ length d.ends
-  pub unfinished : length replies < length commands
+  pub unfinished : length replies < length script.1
   pub unrefused : list_any is_refusal replies ≡ false
-  pub stands : StandsUnderLocks d.core stamp (answered commands replies)
+  pub stands : StandsUnderLocks d.core stamp (answered script.1 replies)
 
--- how a script stands that has come this far
-abbrev pub StandsAs : DeskState → List Command → Phase → List Reply → Type 0
-StandsAs d commands NotBegun replies = replies ≡ []
-StandsAs d commands (Idle stamp) replies = (replies ≡ []) × (stamp < d.begun)
-StandsAs d commands (Open stamp since) replies = IsAttempt d commands stamp since replies
-StandsAs d commands Ended replies = replies ≡ []
+-- how script n stands that has come this far
+abbrev pub StandsAs : DeskState → ℕ → Phase → List Reply → Type 0
+StandsAs d n NotBegun replies = replies ≡ []
+StandsAs d n (Idle stamp) replies = (replies ≡ []) × (stamp < d.begun)
+StandsAs d n (Open stamp since) replies = IsAttempt d n stamp since replies
+StandsAs d n Ended replies = replies ≡ []
 
 -- each script stands, each open transaction is an attempt of one script, and no two scripts have one stamp
 pub record AreStanding (d : DeskState) : Type 0 where
-  pub each : (n : ℕ) → StandsAs d (commands_at d.scripts n) (phase_of d n) (replies_of d n)
+  pub each : (n : ℕ) → StandsAs d n (phase_of d n) (replies_of d n)
   pub owner : (stamp : ℕ) → is_open d.core stamp ≡ true
       → (n : ℕ) × (since : ℕ) × (phase_of d n ≡ Open stamp since)
   pub apart : (n k stamp : ℕ) → stamp_of (phase_of d n) ≡ Some stamp

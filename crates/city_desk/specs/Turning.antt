@@ -7,7 +7,7 @@ use Rattle.city_model.specs.declared.end.Outcome.{Outcome}
 use Rattle.city_model.specs.declared.end.End.{End}
 use Rattle.city_model.specs.Marks.{View}
 use Rattle.city_model.specs.Meaning.{Answers, effect, is_refusal}
-use Rattle.city_model.specs.Runs.{Change}
+use Rattle.city_model.specs.Runs.{Scripted, Change}
 use Rattle.city_model.specs.Scripts.{is_end}
 use Rattle.city_model.specs.SerialEnds.{is_no_memory, commits_in}
 use Rattle.city_locks.specs.declared.answer.Answer.{Answer}
@@ -18,12 +18,13 @@ use Rattle.city_desk.specs.declared.progress.Phase.{Phase}
 use Rattle.city_desk.specs.declared.progress.Phase.TheVariants.{NotBegun, Idle, Open, Ended}
 use Rattle.city_desk.specs.declared.turn.Turn.{Turn}
 use Rattle.city_desk.specs.declared.turn.Turn.TheVariants as turns
-use Rattle.city_desk.specs.DeskState.{DeskState, progress_to, nowhere, phase_of, replies_of, room_of, commands_at, name_at}
+use Rattle.city_desk.specs.DeskState.{DeskState, progress_to, ended_progress, phase_of, replies_of}
+use Rattle.city_desk.specs.DeskState.{room_of, command_at}
 
 -- a transaction of the script is open, and this command is its next
 pub record IsNext (d : DeskState) (n stamp since : ℕ) (command : Command) : Type 0 where
   pub phase : phase_of d n ≡ Open stamp since
-  pub next : slice_get (commands_at d.scripts n) (length (replies_of d n)) ≡ Some command
+  pub next : command_at d.scripts n (length (replies_of d n)) ≡ Some command
 
 -- the opening city, the scripts and what was handed out stay
 pub record Keeps (d e : DeskState) : Type 0 where
@@ -129,22 +130,24 @@ IsDue d n (Idle stamp) since outcome = (since ≡ length d.ends) × (outcome ≡
 IsDue d n (Open stamp began) since outcome = (since ≡ began) × EndsOpen d n stamp began outcome
 IsDue d n Ended since outcome = ⊥
 
--- the end of script n with this outcome, and with the replies that it has
-abbrev pub end_of : DeskState → ℕ → ℕ → Outcome → End
-end_of d n since outcome = record {
+-- the end of script n, which has this name, with this outcome and the replies that it has
+abbrev pub end_of : DeskState → ℕ → List ℕ → ℕ → Outcome → End
+end_of d n name since outcome = record {
   script = n;
-  name = name_at d.scripts n;
+  name = name;
   since = since;
   replies = replies_of d n;
   outcome = outcome;
 }
 
 pub record HasEnded (d e : DeskState) (n : ℕ) : Type 0 where
+  pub script : Scripted
+  pub is_there : slice_get d.scripts n ≡ Some script
   pub since : ℕ
   pub outcome : Outcome
   pub due : IsDue d n (phase_of d n) since outcome
-  pub ends : e.ends ≡ d.ends ++ end_of d n since outcome ∷ []
-  pub moves : e.progress ≡ slice_set d.progress n nowhere
+  pub ends : e.ends ≡ d.ends ++ end_of d n script.0 since outcome ∷ []
+  pub moves : e.progress ≡ slice_set d.progress n ended_progress
   pub begun : e.begun ≡ d.begun
 
 -- ---- any turn

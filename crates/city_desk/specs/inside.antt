@@ -5,3 +5,4 @@ pub mod NoCity
 pub mod Ready
 pub mod Room
 pub mod RunInTurn
+pub mod ScriptParts

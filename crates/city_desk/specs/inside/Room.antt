@@ -5,7 +5,8 @@ use Rattle.city_model.specs.Runs.{Scripted}
 use Rattle.city_desk.specs.declared.progress.Progress.{Progress}
 use Rattle.city_desk.specs.declared.progress.Phase.{Phase}
 use Rattle.city_desk.specs.declared.progress.Phase.TheVariants.{NotBegun, Idle, Open, Ended}
-use Rattle.city_desk.specs.DeskState.{DeskState, phase_in, room_in, commands_at, name_at, is_ended}
+use Rattle.city_desk.specs.DeskState.{DeskState, phase_in, room_in, is_ended}
+use Rattle.city_desk.specs.inside.ScriptParts.{commands_at, name_at}
 
 abbrev pub names_of : List Scripted → List (List ℕ)
 names_of scripts = map (λ script. script.0) scripts
