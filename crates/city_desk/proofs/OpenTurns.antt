@@ -25,7 +25,7 @@ use Rattle.city_txn.specs.CoreState as txn
 use Rattle.city_txn.specs.CoreState.{CoreState, committed, view, is_open, held, StandsUnderLocks, KeepsOthers}
 use Rattle.city_desk.specs.declared.progress.Progress.{Progress}
 use Rattle.city_desk.specs.declared.progress.Phase.{Phase}
-use Rattle.city_desk.specs.declared.progress.Phase.TheVariants.{Idle, Open, Ended}
+use Rattle.city_desk.specs.declared.progress.Phase.TheVariants.{Idle, Open}
 use Rattle.city_desk.specs.declared.turn.Turn.{Turn}
 use Rattle.city_desk.specs.declared.turn.Turn.TheVariants as turns
 use Rattle.city_desk.specs.inside.Attempt.{IsReplied, IsToWait, Publishes, AttemptEnded, HasGoneOn, HasStepped}

@@ -7,7 +7,6 @@ use Rattle.std.proofs.lemmas.List.Sums.{sum_by-set, count_by-le-length}
 use Rattle.city_model.specs.declared.end.End.{End}
 use Rattle.city_txn.specs.CoreState.{CoreState}
 use Rattle.city_desk.specs.declared.progress.Progress.{Progress}
-use Rattle.city_desk.specs.declared.progress.Phase.{Phase}
 use Rattle.city_desk.specs.declared.progress.Phase.TheVariants.{NotBegun, Open}
 use Rattle.city_desk.specs.DeskState.{DeskState, ended_progress, phase_in, phase_of, room_in, room_of, is_ended}
 use Rattle.city_desk.specs.inside.Room.{is_not_begun, ended_in, not_begun_in, HasRoom}
