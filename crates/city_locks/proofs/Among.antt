@@ -3,11 +3,12 @@ use Rattle.std.proofs.Common.{◌≡◌, ◌≢◌, ℕ, ◌==◌, ◌&&◌, ◌
 use Rattle.std.specs.List.{list_any, list_all}
 use Rattle.std.proofs.lemmas.Bool.{false≢true, eqb-true, eqb-false, eq-eqb, ne_eqb, or_parts, or_right}
 use Rattle.city_model.proofs.IdLists.{bool_cases}
-use Rattle.city_locks.specs.declared.mode.Mode.{Mode}
-use Rattle.city_locks.specs.declared.mode.Mode.TheVariants.{Shared, Exclusive}
+use Rattle.city_model.specs.declared.mode.Mode.{Mode}
+use Rattle.city_model.specs.declared.mode.Mode.TheVariants.{Shared, Exclusive}
 use Rattle.city_locks.specs.declared.answer.Answer.TheVariants.{Granted, Wait, Die}
 use Rattle.city_locks.specs.declared.holder.Holder.{Holder}
-use Rattle.city_locks.specs.Mode.{is_exclusive, stronger}
+use Rattle.city_model.specs.Mode.{is_exclusive}
+use Rattle.city_locks.specs.Mode.{stronger}
 use Rattle.city_locks.specs.Holders.{in_conflict, gives_way, answer_among, mode_among, with_holder, without}
 
 pub none_cond : (b : Bool) → None ≡ cond {A = Option Mode} b None None

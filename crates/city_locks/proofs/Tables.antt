@@ -2,7 +2,7 @@
 use Rattle.std.proofs.Common.{◌≡◌, ℕ, ◌==◌, ◌&&◌, ◌||◌, cond, Bool, true, false, List, [], ◌∷◌, ◌++◌, None, Some, is_some, refl, ap, sym, subst, ◌∙◌, ◌+◌, ◌<◌, length, take, get_or}
 use Rattle.std.specs.BTreeMap.{BTreeMap}
 use Rattle.std.proofs.lemmas.Bool.{false≢true, eqb-true, eq-eqb, and_parts}
-use Rattle.city_locks.specs.declared.mode.Mode.{Mode}
+use Rattle.city_model.specs.declared.mode.Mode.{Mode}
 use Rattle.city_locks.specs.declared.answer.Answer.TheVariants.{Granted}
 use Rattle.city_locks.specs.declared.holder.Holder.{Holder}
 use Rattle.city_locks.specs.Mode.{stronger}

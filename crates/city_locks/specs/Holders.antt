@@ -2,11 +2,12 @@
 use Rattle.std.specs.Prelude.{◌≡◌, ℕ, ◌==◌, nat_lt, Bool, ◌&&◌, ◌||◌, not, cond, Option, None, Some}
 use Rattle.std.specs.Prelude.{List, [], ◌∷◌, filter}
 use Rattle.std.specs.List.{list_any, list_all}
-use Rattle.city_locks.specs.declared.mode.Mode.{Mode}
+use Rattle.city_model.specs.declared.mode.Mode.{Mode}
 use Rattle.city_locks.specs.declared.answer.Answer.{Answer}
 use Rattle.city_locks.specs.declared.answer.Answer.TheVariants.{Granted, Wait, Die}
 use Rattle.city_locks.specs.declared.holder.Holder.{Holder}
-use Rattle.city_locks.specs.Mode.{is_exclusive, stronger}
+use Rattle.city_model.specs.Mode.{is_exclusive}
+use Rattle.city_locks.specs.Mode.{stronger}
 
 -- whether it is another holder than the asker, and one of the two modes is exclusive
 abbrev pub in_conflict : ℕ → Mode → Holder → Bool

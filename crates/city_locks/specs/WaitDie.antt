@@ -1,9 +1,9 @@
 -- The wait-die rule, in terms of the stamps that are in conflict with an asker.
 use Rattle.std.specs.Prelude.{◌≡◌, ◌≢◌, ℕ, ◌<◌, ◌↔◌, ◌||◌, true, List, Some}
-use Rattle.city_locks.specs.declared.mode.Mode.{Mode}
+use Rattle.city_model.specs.declared.mode.Mode.{Mode}
 use Rattle.city_locks.specs.declared.answer.Answer.{Answer}
 use Rattle.city_locks.specs.declared.answer.Answer.TheVariants.{Granted, Wait, Die}
-use Rattle.city_locks.specs.Mode.{is_exclusive}
+use Rattle.city_model.specs.Mode.{is_exclusive}
 use Rattle.city_locks.specs.Locks.{Locks, mode_of}
 
 -- t is another holder of the id than the asker, and the mode asked for or the one held is exclusive

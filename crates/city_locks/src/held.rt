@@ -9,8 +9,8 @@ ghost use Rattle.city_locks.specs.Locks.{holders_of, answer_of, mode_of};
 
 use crate::answer::Answer;
 use crate::holders::Holders;
-use crate::mode::Mode;
 use city_model::copied::Copied;
+use city_model::mode::Mode;
 use city_model::text::Id;
 use std::alloc::{AllocError, Global};
 use std::collections::BTreeMap;

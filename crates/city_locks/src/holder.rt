@@ -2,7 +2,7 @@
 ghost use Rattle.std.specs.Prelude.{◌≡◌};
 ghost use Rattle.city_locks.specs.Holders.{in_conflict, gives_way};
 
-use crate::mode::Mode;
+use city_model::mode::Mode;
 
 /// A stamp that holds an id, and its mode.
 #[derive(Clone, Copy, Debug, PartialEq, Eq)]

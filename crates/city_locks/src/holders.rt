@@ -5,7 +5,8 @@ ghost use Rattle.city_locks.specs.Holders.{in_conflict, gives_way, answer_among,
 
 use crate::answer::Answer;
 use crate::holder::Holder;
-use crate::mode::Mode;
+use crate::mode::stronger;
+use city_model::mode::Mode;
 use std::alloc::{AllocError, Global};
 use std::marker::Model;
 
@@ -113,7 +114,7 @@ fn add(list: &mut Vec<Holder>, stamp: u64, mode: Mode) -> Result<(), AllocError>
     for i in 0..list.len() {
         let holder = list[i];
         if holder.stamp == stamp {
-            let mode = mode.stronger(holder.mode);
+            let mode = stronger(mode, holder.mode);
             list[i] = Holder { stamp, mode };
             return Ok(());
         }

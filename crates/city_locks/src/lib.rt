@@ -1,7 +1,7 @@
 //! The lock table: who holds which id, in which mode, and the wait-die answer to each asker.
 //!
 //! - `table`: the lock table
-//! - `mode`, `answer`: what is asked for, and what is answered
+//! - `answer`, `mode`: what is answered, and the stronger of two modes
 //! - `holder`, `holders`, `held`: one holder of an id, those of one id, those of every id
 //! - `listing`: the ids that each stamp has locked
 //! - `by_stamp`: lists by stamps
@@ -17,5 +17,5 @@ mod mode;
 mod table;
 
 pub use answer::Answer;
-pub use mode::Mode;
+pub use city_model::mode::Mode;
 pub use table::LockTable;

@@ -3,6 +3,7 @@ use Rattle.std.proofs.Common.{◌≡◌, ℕ, List, [], ◌∷◌, true, false, 
 use Rattle.std.specs.Prelude.{is_some, if◌then◌else◌}
 use Rattle.city_model.specs.declared.command.Command.{Command}
 use Rattle.city_model.specs.declared.command.Reply.{Reply}
+use Rattle.city_model.specs.declared.mode.Mode.TheVariants.{Exclusive}
 use Rattle.city_model.specs.CityMap.{CityMap, same_id}
 use Rattle.city_model.specs.Meaning.{Answers, effect, locks_of}
 use Rattle.city_model.specs.inside.CommandParts.{seen_next, after, done_reply, refused_or, Marking, Leaves, Marks}
@@ -32,10 +33,10 @@ module _ (held : Held) (other : CityMap) where
   abbrev pub IsCarriedView : View → Type 0
   IsCarriedView v = IsCarried v.map × AreCarried v.marks
 
-  carried_held : (m : CityMap) (q : List ℕ) → covers (held q) true ≡ true → carried_map held other m q ≡ m q
+  carried_held : (m : CityMap) (q : List ℕ) → covers (held q) Exclusive ≡ true → carried_map held other m q ≡ m q
   carried_held m q e = ap (λ b. if b then m q else other q) e
 
-  carried_apart : (m : CityMap) (q : List ℕ) → covers (held q) true ≡ false → carried_map held other m q ≡ other q
+  carried_apart : (m : CityMap) (q : List ℕ) → covers (held q) Exclusive ≡ false → carried_map held other m q ≡ other q
   carried_apart m q e = ap (λ b. if b then m q else other q) e
 
   -- ---- going back
@@ -73,11 +74,11 @@ module _ (held : Held) (other : CityMap) where
     apart : (q : List ℕ) → locks_id_exclusively (locks_of v.map c) q ≡ false → after (carried_map held other v.map) c q ≡ carried_map held other v.map q
     apart q e = frame (carried_map held other v.map) c q t.0 (sym (ap (λ ls. locks_id_exclusively ls q) same) ∙ e)
 
-    still : (q : List ℕ) → covers (held q) true ≡ false → after v.map c q ≡ v.map q
+    still : (q : List ℕ) → covers (held q) Exclusive ≡ false → after v.map c q ≡ v.map q
     still q e = frame v.map c q s.0 (not_named held (locks_of v.map c) q all e)
 
     after_carried_at : (q : List ℕ) → after (carried_map held other v.map) c q ≡ carried_map held other (after v.map c) q
-    after_carried_at q = bool_cases (covers (held q) true)
+    after_carried_at q = bool_cases (covers (held q) Exclusive)
         (λ e. bool_cases (locks_id_exclusively (locks_of v.map c) q)
         (λ f. sym (same_after v.map (carried_map held other v.map) c q on f))
         (λ f. apart q f ∙ carried_held v.map q e ∙ sym (frame v.map c q s.0 f)) ∙ sym (carried_held (after v.map c) q e))
@@ -87,7 +88,7 @@ module _ (held : Held) (other : CityMap) where
     after_carried = λ i q. after_carried_at q i
 
     is_carried_after : IsCarried (after v.map c)
-    is_carried_after = λ q h. bool_cases (covers (held q) true)
+    is_carried_after = λ q h. bool_cases (covers (held q) Exclusive)
         (λ e. sym (carried_held (after v.map c) q e))
         (λ e. still q e ∙ is.0 q h ∙ carried_apart v.map q e ∙ sym (carried_apart (after v.map c) q e))
 
@@ -148,8 +149,8 @@ pub history_kept : (held : Held) (m other : CityMap) (ds : List Answered) (w : V
     → IsTraceUnderLocks held (unmarked m) ds w → IsTraceUnderLocks held (unmarked other) ds (carried held other w)
 history_kept held m other ds w s t agree f =
     let at : (q : List ℕ) → carried_map held other m q ≡ other q =
-    λ q. bool_cases (covers (held q) true)
-    (λ e. carried_held held other m q e ∙ agree q (covered (held q) true e))
+    λ q. bool_cases (covers (held q) Exclusive)
+    (λ e. carried_held held other m q e ∙ agree q (covered (held q) Exclusive e))
     (λ e. carried_apart held other m q e) in
     let same : carried_map held other m ≡ other = λ i q. at q i in
     subst (λ (k : CityMap). IsTraceUnderLocks held (unmarked k) ds (carried held other w)) same

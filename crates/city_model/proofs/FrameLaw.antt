@@ -9,6 +9,8 @@ use Rattle.city_model.specs.declared.command.Cause.TheVariants.{HasChildren}
 use Rattle.city_model.specs.declared.command.Command.{Command}
 use Rattle.city_model.specs.declared.command.Command.TheVariants.{Read, Put, Delete, Attach, Detach, Mark, Back, Commit, Abort}
 use Rattle.city_model.specs.declared.command.Reply.{Reply}
+use Rattle.city_model.specs.declared.mode.Mode.{Mode}
+use Rattle.city_model.specs.declared.mode.Mode.TheVariants.{Shared, Exclusive}
 use Rattle.city_model.specs.CityMap.{CityMap, same_id, has_id, changed, parents_of, children_of}
 use Rattle.city_model.specs.Meaning.{Answers, read_reply, with_body, put_cause, put_done, delete_cause, attach_cause}
 use Rattle.city_model.specs.Meaning.{detach_cause, without_child, without_parent, with_child, with_parent, deleted}
@@ -20,6 +22,7 @@ use Rattle.city_model.specs.Shells.{body_fault}
 use Rattle.city_model.specs.Relations.{IsSound}
 use Rattle.city_model.specs.Marks.{unmarked}
 use Rattle.city_model.specs.Scripts.{is_end}
+use Rattle.city_model.specs.Mode.{is_exclusive}
 use Rattle.city_model.specs.Standing.{Lock, exclusive_ids, locks_id, locks_id_exclusively}
 use Rattle.city_model.specs.FrameLaw.{AgreeOn, FrameLaw}
 use Rattle.city_model.proofs.Effects.{effect_is}
@@ -29,7 +32,7 @@ use Rattle.city_model.proofs.IdLists.{bool_cases, not_both, without_absent}
 
 pub exclusive_is_named : (ls : List Lock) (id : List ℕ) → locks_id_exclusively ls id ≡ true → locks_id ls id ≡ true
 exclusive_is_named [] id h = h
-exclusive_is_named (l ∷ ls) id h = bool_cases l.1
+exclusive_is_named (l ∷ ls) id h = bool_cases (is_exclusive l.1)
     (λ e. let k : (same_id id l.0 || locks_id_exclusively ls id) ≡ true = sym (ap (λ b. has_id (if b then l.0 ∷ exclusive_ids ls else exclusive_ids ls) id) e) ∙ h in
     bool_cases (same_id id l.0)
     (λ f. or_left (same_id id l.0) (locks_id ls id) f)
@@ -60,7 +63,7 @@ has_no_children id o e = bool_cases (length o.children == 0)
     (λ h. h)
     (λ h. let k : Some (HasChildren id) ≡ None = sym (ap (λ b. if b then None else Some (HasChildren id)) h) ∙ e in cc)
 
-frame_delete : (m : CityMap) (id q : List ℕ) (w : Option Object) → m id ≡ w → IsSound m → locks_id_exclusively ((id, true) ∷ delete_locks w) q ≡ false
+frame_delete : (m : CityMap) (id q : List ℕ) (w : Option Object) → m id ≡ w → IsSound m → locks_id_exclusively ((id, Exclusive) ∷ delete_locks w) q ≡ false
     → delete_cause id w ≡ None → deleted m id q ≡ m q
 frame_delete m id q None is s h e = cc
 frame_delete m id q (Some o) is s h e =
@@ -72,7 +75,7 @@ frame_delete m id q (Some o) is s h e =
     (λ t. not_both (has_id o.parents q) (sym (ap (λ x. has_id (parents_of x) q) is) ∙ parents_known m id q (m q) refl s t) no_parent) in
     deleted_apart m id q (same_id_back id q ∙ parts.0) ∙ childless id (m q) no_child
 
-two_apart : (child parent q : List ℕ) → locks_id_exclusively ((child, true) ∷ (parent, true) ∷ []) q ≡ false → (same_id child q ≡ false) × (same_id parent q ≡ false)
+two_apart : (child parent q : List ℕ) → locks_id_exclusively ((child, Exclusive) ∷ (parent, Exclusive) ∷ []) q ≡ false → (same_id child q ≡ false) × (same_id parent q ≡ false)
 two_apart child parent q h =
     let first = or_parts (same_id q child) (has_id (parent ∷ []) q) h in
     let second = or_parts (same_id q parent) false first.1 in
@@ -96,19 +99,19 @@ frame m Abort q s h = refl
 
 -- ---- two maps that agree where the first one's locks name an id
 
-first_is_named : (id : List ℕ) (b : Bool) (ls : List Lock) → locks_id ((id, b) ∷ ls) id ≡ true
+first_is_named : (id : List ℕ) (b : Mode) (ls : List Lock) → locks_id ((id, b) ∷ ls) id ≡ true
 first_is_named id b ls = or_left (same_id id id) (locks_id ls id) (same_id_itself id)
 
-second_is_named : (id other : List ℕ) (b k : Bool) (ls : List Lock) → locks_id ((id, b) ∷ (other, k) ∷ ls) other ≡ true
+second_is_named : (id other : List ℕ) (b k : Mode) (ls : List Lock) → locks_id ((id, b) ∷ (other, k) ∷ ls) other ≡ true
 second_is_named id other b k ls = or_right (same_id other id) (locks_id ((other, k) ∷ ls) other) (first_is_named other k ls)
 
-both_agree : (m n : CityMap) (child parent : List ℕ) → AgreeOn ((child, true) ∷ (parent, true) ∷ []) m n → (m child ≡ n child) × (m parent ≡ n parent)
-both_agree m n child parent a = (a child (first_is_named child true ((parent, true) ∷ [])), a parent (second_is_named child parent true true []))
+both_agree : (m n : CityMap) (child parent : List ℕ) → AgreeOn ((child, Exclusive) ∷ (parent, Exclusive) ∷ []) m n → (m child ≡ n child) × (m parent ≡ n parent)
+both_agree m n child parent a = (a child (first_is_named child Exclusive ((parent, Exclusive) ∷ [])), a parent (second_is_named child parent Exclusive Exclusive []))
 
 pub same_cause : (m n : CityMap) (c : Command) → AgreeOn (locks_of m c) m n → cause_of m c ≡ cause_of n c
 same_cause m n (Read id) a = refl
-same_cause m n (Put id body) a = ap (λ x. put_cause id body x (body_fault body)) (a id (first_is_named id true []))
-same_cause m n (Delete id) a = ap (delete_cause id) (a id (first_is_named id true (delete_locks (m id))))
+same_cause m n (Put id body) a = ap (λ x. put_cause id body x (body_fault body)) (a id (first_is_named id Exclusive []))
+same_cause m n (Delete id) a = ap (delete_cause id) (a id (first_is_named id Exclusive (delete_locks (m id))))
 same_cause m n (Attach child parent) a =
     let both = both_agree m n child parent a in
     ap (λ x. attach_cause child x parent (m parent)) both.0 ∙ ap (attach_cause child (n child) parent) both.1
@@ -121,8 +124,8 @@ same_cause m n Commit a = refl
 same_cause m n Abort a = refl
 
 pub same_done : (m n : CityMap) (c : Command) → AgreeOn (locks_of m c) m n → done_reply m c ≡ done_reply n c
-same_done m n (Read id) a = ap read_reply (a id (first_is_named id false []))
-same_done m n (Put id body) a = ap put_done (a id (first_is_named id true []))
+same_done m n (Read id) a = ap read_reply (a id (first_is_named id Shared []))
+same_done m n (Put id body) a = ap put_done (a id (first_is_named id Exclusive []))
 same_done m n (Delete id) a = refl
 same_done m n (Attach child parent) a = refl
 same_done m n (Detach child parent) a = refl
@@ -134,7 +137,7 @@ same_done m n Abort a = refl
 pub same_locks : (m n : CityMap) (c : Command) → AgreeOn (locks_of m c) m n → locks_of m c ≡ locks_of n c
 same_locks m n (Read id) a = refl
 same_locks m n (Put id body) a = refl
-same_locks m n (Delete id) a = ap (λ x. (id, true) ∷ delete_locks x) (a id (first_is_named id true (delete_locks (m id))))
+same_locks m n (Delete id) a = ap (λ x. (id, Exclusive) ∷ delete_locks x) (a id (first_is_named id Exclusive (delete_locks (m id))))
 same_locks m n (Attach child parent) a = refl
 same_locks m n (Detach child parent) a = refl
 same_locks m n (Mark name) a = refl
@@ -152,7 +155,7 @@ same_at_two m n child parent q f g a b e =
 same_effect : (m n : CityMap) (c : Command) (q : List ℕ) → AgreeOn (locks_of m c) m n → m q ≡ n q → effect_of m c q ≡ effect_of n c q
 same_effect m n (Read id) q a e = e
 same_effect m n (Put id body) q a e =
-    ap (λ x. changed m id (Some (with_body body x)) q) (a id (first_is_named id true []))
+    ap (λ x. changed m id (Some (with_body body x)) q) (a id (first_is_named id Exclusive []))
     ∙ ap (λ x. if same_id id q then Some (with_body body (n id)) else x) e
 same_effect m n (Delete id) q a e = ap (λ x. if same_id id q then None else option_map (without_child id) x) e
 same_effect m n (Attach child parent) q a e =

@@ -4,18 +4,25 @@ use Rattle.std.specs.Prelude.{is_some}
 use Rattle.std.proofs.lemmas.Bool.{false≢true, false_from_ne_true}
 use Rattle.city_model.specs.declared.command.Command.{Command}
 use Rattle.city_model.specs.declared.command.Reply.{Reply}
+use Rattle.city_model.specs.declared.mode.Mode.{Mode}
+use Rattle.city_model.specs.declared.mode.Mode.TheVariants.{Shared, Exclusive}
 use Rattle.city_model.specs.CityMap.{same_id}
 use Rattle.city_model.specs.Meaning.{Answers, effect, locks_of}
 use Rattle.city_model.specs.Marks.{View, IsSoundView}
+use Rattle.city_model.specs.Mode.{is_exclusive}
 use Rattle.city_model.specs.Standing.{Held, Lock, covers, AllHeld, Answered, IsTraceUnderLocks, locks_id, locks_id_exclusively}
 use Rattle.city_model.proofs.Ids.{same_id_true}
 use Rattle.city_model.proofs.IdLists.{bool_cases, not_both}
 use Rattle.city_model.proofs.Effects.{goes_on_case, goes_on_map, goes_on_at}
 use Rattle.city_model.proofs.MarksKept.{sound_effect}
 
-pub covered : (o : Option Bool) (b : Bool) → covers o b ≡ true → is_some o ≡ true
+pub covered : (o : Option Mode) (b : Mode) → covers o b ≡ true → is_some o ≡ true
 covered None b h = absurd (false≢true h)
 covered (Some x) b h = refl
+
+exclusive_mode : (mode : Mode) → is_exclusive mode ≡ true → mode ≡ Exclusive
+exclusive_mode Shared h = absurd (false≢true h)
+exclusive_mode Exclusive h = refl
 
 -- what is named is held
 pub held_named : (held : Held) (ls : List Lock) (q : List ℕ) → AllHeld held ls → locks_id ls q ≡ true → is_some (held q) ≡ true
@@ -25,23 +32,23 @@ held_named held (l ∷ ls) q a h = bool_cases (same_id q l.0)
     (λ e. held_named held ls q a.1 (sym (ap (λ b. b || locks_id ls q) e) ∙ h))
 
 -- what is named exclusively is held so
-pub held_exclusively : (held : Held) (ls : List Lock) (q : List ℕ) → AllHeld held ls → locks_id_exclusively ls q ≡ true → covers (held q) true ≡ true
+pub held_exclusively : (held : Held) (ls : List Lock) (q : List ℕ) → AllHeld held ls → locks_id_exclusively ls q ≡ true → covers (held q) Exclusive ≡ true
 held_exclusively held [] q a h = absurd (false≢true h)
-held_exclusively held (l ∷ ls) q a h = bool_cases l.1
+held_exclusively held (l ∷ ls) q a h = bool_cases (is_exclusive l.1)
     (λ e.
     let k : (same_id q l.0 || locks_id_exclusively ls q) ≡ true = rw e at h in
     bool_cases (same_id q l.0)
-    (λ f. ap (covers (held q)) (sym e) ∙ ap (λ k. covers (held k) l.1) (same_id_true q l.0 f) ∙ a.0)
+    (λ f. ap (covers (held q)) (sym (exclusive_mode l.1 e)) ∙ ap (λ k. covers (held k) l.1) (same_id_true q l.0 f) ∙ a.0)
     (λ f. held_exclusively held ls q a.1 (sym (ap (λ b. b || locks_id_exclusively ls q) f) ∙ k)))
     (λ e. held_exclusively held ls q a.1 (rw e at h))
 
-pub not_named : (held : Held) (ls : List Lock) (q : List ℕ) → AllHeld held ls → covers (held q) true ≡ false → locks_id_exclusively ls q ≡ false
-not_named held ls q a h = false_from_ne_true (locks_id_exclusively ls q) (λ e. not_both (covers (held q) true) (held_exclusively held ls q a e) h)
+pub not_named : (held : Held) (ls : List Lock) (q : List ℕ) → AllHeld held ls → covers (held q) Exclusive ≡ false → locks_id_exclusively ls q ≡ false
+not_named held ls q a h = false_from_ne_true (locks_id_exclusively ls q) (λ e. not_both (covers (held q) Exclusive) (held_exclusively held ls q a e) h)
 
 -- ---- one more command, and more locks
 
 abbrev pub HoldsMore : Held → Held → Type 0
-HoldsMore held more = (q : List ℕ) (b : Bool) → covers (held q) b ≡ true → covers (more q) b ≡ true
+HoldsMore held more = (q : List ℕ) (b : Mode) → covers (held q) b ≡ true → covers (more q) b ≡ true
 
 pub more_held : (held more : Held) (ls : List Lock) → HoldsMore held more → AllHeld held ls → AllHeld more ls
 more_held held more [] h a = tt

@@ -5,11 +5,14 @@ use Rattle.std.specs.Prelude.{is_some, if◌then◌else◌}
 use Rattle.std.proofs.lemmas.Bool.{false≢true, or_left, or_right}
 use Rattle.city_model.specs.declared.command.Command.{Command}
 use Rattle.city_model.specs.declared.command.Reply.{Reply}
+use Rattle.city_model.specs.declared.mode.Mode.{Mode}
+use Rattle.city_model.specs.declared.mode.Mode.TheVariants.{Shared, Exclusive}
 use Rattle.city_model.specs.CityMap.{CityMap, same_id, has_id}
 use Rattle.city_model.specs.Meaning.{effect, step, locks_of}
 use Rattle.city_model.specs.Marks.{View, unmarked}
 use Rattle.city_model.specs.Relations.{IsSound}
 use Rattle.city_model.specs.Runs.{Trace}
+use Rattle.city_model.specs.Mode.{is_exclusive}
 use Rattle.city_model.specs.Standing.{Held, Lock, covers, AllHeld, answered, IsTraceUnderLocks, locks_id, locks_id_exclusively}
 use Rattle.city_model.specs.Standing.{exclusive_ids}
 use Rattle.city_model.specs.TraceLaw.{as_named, stronger_of, named_by, carried, TraceLaw}
@@ -22,49 +25,49 @@ use Rattle.city_model.proofs.Lawful.{Further}
 
 -- ---- the stronger of two modes
 
-covers_left : (x y : Option Bool) (b : Bool) → covers x b ≡ true → covers (stronger_of x y) b ≡ true
+covers_left : (x y : Option Mode) (b : Mode) → covers x b ≡ true → covers (stronger_of x y) b ≡ true
 covers_left None y b h = absurd (false≢true h)
-covers_left (Some true) y b h = h
-covers_left (Some false) None b h = h
-covers_left (Some false) (Some true) b h = refl
-covers_left (Some false) (Some false) b h = h
+covers_left (Some Exclusive) y b h = h
+covers_left (Some Shared) None b h = h
+covers_left (Some Shared) (Some Exclusive) b h = refl
+covers_left (Some Shared) (Some Shared) b h = h
 
-covers_right : (x y : Option Bool) (b : Bool) → covers y b ≡ true → covers (stronger_of x y) b ≡ true
+covers_right : (x y : Option Mode) (b : Mode) → covers y b ≡ true → covers (stronger_of x y) b ≡ true
 covers_right None y b h = h
-covers_right (Some true) y true h = refl
-covers_right (Some true) y false h = refl
-covers_right (Some false) None b h = absurd (false≢true h)
-covers_right (Some false) (Some k) b h = h
+covers_right (Some Exclusive) y Exclusive h = refl
+covers_right (Some Exclusive) y Shared h = refl
+covers_right (Some Shared) None b h = absurd (false≢true h)
+covers_right (Some Shared) (Some k) b h = h
 
 -- ---- what locks name, taken as held, holds them
 
-some_shared : (x : Option Bool) → is_some x ≡ true → covers x false ≡ true
+some_shared : (x : Option Mode) → is_some x ≡ true → covers x Shared ≡ true
 some_shared None h = absurd (false≢true h)
-some_shared (Some true) h = refl
-some_shared (Some false) h = refl
+some_shared (Some Exclusive) h = refl
+some_shared (Some Shared) h = refl
 
 named_some : (a b : Bool) → b ≡ true → is_some (as_named a b) ≡ true
 named_some true b h = refl
 named_some false true h = refl
 named_some false false h = h
 
-named_exclusive : (a b : Bool) → a ≡ true → covers (as_named a b) true ≡ true
+named_exclusive : (a b : Bool) → a ≡ true → covers (as_named a b) Exclusive ≡ true
 named_exclusive true b h = refl
 named_exclusive false b h = absurd (false≢true h)
 
-one_held : (o : Option Bool) (b : Bool) → is_some o ≡ true → (b ≡ true → covers o true ≡ true) → covers o b ≡ true
-one_held o true s x = x refl
-one_held o false s x = some_shared o s
+one_held : (o : Option Mode) (b : Mode) → is_some o ≡ true → (is_exclusive b ≡ true → covers o Exclusive ≡ true) → covers o b ≡ true
+one_held o Exclusive s x = x refl
+one_held o Shared s x = some_shared o s
 
 all_held : (held : Held) (ls : List Lock) → ((q : List ℕ) → locks_id ls q ≡ true → is_some (held q) ≡ true)
-    → ((q : List ℕ) → locks_id_exclusively ls q ≡ true → covers (held q) true ≡ true) → AllHeld held ls
+    → ((q : List ℕ) → locks_id_exclusively ls q ≡ true → covers (held q) Exclusive ≡ true) → AllHeld held ls
 all_held held [] s x = tt
 all_held held (l ∷ ls) s x = (
   one_held (held l.0) l.1 (s l.0 (or_left (same_id l.0 l.0) (locks_id ls l.0) (same_id_itself l.0)))
       (λ e. x l.0 (ap (λ b. has_id (if b then l.0 ∷ exclusive_ids ls else exclusive_ids ls) l.0) e
       ∙ or_left (same_id l.0 l.0) (locks_id_exclusively ls l.0) (same_id_itself l.0))),
   all_held held ls (λ q h. s q (or_right (same_id q l.0) (locks_id ls q) h))
-      (λ q h. x q (bool_cases l.1
+      (λ q h. x q (bool_cases (is_exclusive l.1)
       (λ e. ap (λ b. has_id (if b then l.0 ∷ exclusive_ids ls else exclusive_ids ls) q) e ∙ or_right (same_id q l.0) (locks_id_exclusively ls q) h)
       (λ e. ap (λ b. has_id (if b then l.0 ∷ exclusive_ids ls else exclusive_ids ls) q) e ∙ h))),
 )

@@ -7,6 +7,7 @@ pub mod Marks
 pub mod Meaning
 pub mod Members
 pub mod Misrelated
+pub mod Mode
 pub mod Relations
 pub mod Runs
 pub mod Scripts

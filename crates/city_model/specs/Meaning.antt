@@ -13,6 +13,8 @@ use Rattle.city_model.specs.declared.command.Reply.{Reply}
 use Rattle.city_model.specs.declared.command.Reply.TheVariants.{Found, Absent, Added, Replaced, Deleted}
 use Rattle.city_model.specs.declared.command.Reply.TheVariants.{Attached, Detached, Marked, WentBack}
 use Rattle.city_model.specs.declared.command.Reply.TheVariants.{Committed, Aborted, Refused}
+use Rattle.city_model.specs.declared.mode.Mode.{Mode}
+use Rattle.city_model.specs.declared.mode.Mode.TheVariants.{Shared, Exclusive}
 use Rattle.city_model.specs.CityMap.{CityMap, same_id, has_id, changed}
 use Rattle.city_model.specs.Marks as views
 use Rattle.city_model.specs.Marks.{View, with_map, marks_from}
@@ -165,19 +167,19 @@ abbrev pub is_refusal : Reply → Bool
 is_refusal (Refused cause) = true
 is_refusal reply = false
 
--- ---- the locks of a command: ids, and whether the lock is exclusive, in the order of asking
+-- ---- the locks of a command: ids, each with its mode, in the order of asking
 
-abbrev pub exclusively : List (List ℕ) → List (List ℕ × Bool)
-exclusively ids = map (λ id. (id, true)) ids
+abbrev pub exclusively : List (List ℕ) → List (List ℕ × Mode)
+exclusively ids = map (λ id. (id, Exclusive)) ids
 
-abbrev pub delete_locks : Option Object → List (List ℕ × Bool)
+abbrev pub delete_locks : Option Object → List (List ℕ × Mode)
 delete_locks None = []
 delete_locks (Some o) = if length o.children == 0 then exclusively o.parents else []
 
-abbrev pub locks_of : CityMap → Command → List (List ℕ × Bool)
-locks_of m (Read id) = (id, false) ∷ []
-locks_of m (Put id body) = (id, true) ∷ []
-locks_of m (Delete id) = (id, true) ∷ delete_locks (m id)
-locks_of m (Attach child parent) = (child, true) ∷ (parent, true) ∷ []
-locks_of m (Detach child parent) = (child, true) ∷ (parent, true) ∷ []
+abbrev pub locks_of : CityMap → Command → List (List ℕ × Mode)
+locks_of m (Read id) = (id, Shared) ∷ []
+locks_of m (Put id body) = (id, Exclusive) ∷ []
+locks_of m (Delete id) = (id, Exclusive) ∷ delete_locks (m id)
+locks_of m (Attach child parent) = (child, Exclusive) ∷ (parent, Exclusive) ∷ []
+locks_of m (Detach child parent) = (child, Exclusive) ∷ (parent, Exclusive) ∷ []
 locks_of m command = []

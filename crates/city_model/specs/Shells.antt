@@ -106,12 +106,12 @@ has_short_ring shape = list_any is_short_surface (surfaces_of shape)
 abbrev pub has_same_twice : Shape → Bool
 has_same_twice shape = list_any (list_any has_same_neighbours) (surfaces_of shape)
 
-abbrev pub is_open : Shell → Bool
-is_open shell = not (is_closed shell)
+abbrev pub is_open_shell : Shell → Bool
+is_open_shell shell = not (is_closed shell)
 
 -- each shell of each solid is judged by itself
 abbrev pub has_open_shell : Shape → Bool
-has_open_shell shape = list_any (list_any is_open) (solids_of shape)
+has_open_shell shape = list_any (list_any is_open_shell) (solids_of shape)
 
 -- ---- the rules of a body
 

@@ -4,23 +4,25 @@ use Rattle.std.specs.Prelude.{◌≡◌, ℕ, List, [], ◌∷◌, Bool, true, f
 use Rattle.std.specs.Prelude.{if◌then◌else◌}
 use Rattle.city_model.specs.declared.command.Command.{Command}
 use Rattle.city_model.specs.declared.command.Reply.{Reply}
+use Rattle.city_model.specs.declared.mode.Mode.{Mode}
+use Rattle.city_model.specs.declared.mode.Mode.TheVariants.{Shared, Exclusive}
 use Rattle.city_model.specs.CityMap.{has_id}
+use Rattle.city_model.specs.Mode.{is_exclusive}
 use Rattle.city_model.specs.Marks.{View}
 use Rattle.city_model.specs.Meaning.{effect, GoesOn, locks_of}
 
--- how a transaction holds each id: not, shared (false) or exclusively (true)
+-- in which mode a transaction holds each id, if at all
 abbrev pub Held : Type 0
-Held = List ℕ → Option Bool
+Held = List ℕ → Option Mode
 
--- an id, and whether it is locked exclusively
 abbrev pub Lock : Type 0
-Lock = List ℕ × Bool
+Lock = List ℕ × Mode
 
 -- the lock is held, in that mode or a stronger one
-abbrev pub covers : Option Bool → Bool → Bool
-covers None exclusive = false
-covers (Some true) exclusive = true
-covers (Some false) exclusive = not exclusive
+abbrev pub covers : Option Mode → Mode → Bool
+covers None mode = false
+covers (Some Exclusive) mode = true
+covers (Some Shared) mode = not (is_exclusive mode)
 
 abbrev pub AllHeld : Held → List Lock → Type 0
 AllHeld held [] = Unit {0}
@@ -30,7 +32,7 @@ AllHeld held (l ∷ ls) = (covers (held l.0) l.1 ≡ true) × AllHeld held ls
 abbrev pub Answered : Type 0
 Answered = Command × Reply
 
--- the first of the commands, as many as there are replies, each with its reply
+-- the first of the commands, as many as there are replies, each with its reply; there are no more replies than commands
 abbrev pub answered : List Command → List Reply → List Answered
 answered cs [] = []
 answered [] (r ∷ rs) = []
@@ -51,7 +53,7 @@ locked_ids ls = map (λ l. l.0) ls
 -- the ids that are locked exclusively
 abbrev pub exclusive_ids : List Lock → List (List ℕ)
 exclusive_ids [] = []
-exclusive_ids (l ∷ ls) = if l.1 then l.0 ∷ exclusive_ids ls else exclusive_ids ls
+exclusive_ids (l ∷ ls) = if is_exclusive l.1 then l.0 ∷ exclusive_ids ls else exclusive_ids ls
 
 -- whether the locks name the id
 abbrev pub locks_id : List Lock → List ℕ → Bool

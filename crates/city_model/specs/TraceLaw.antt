@@ -3,6 +3,8 @@
 use Rattle.std.specs.Prelude.{◌≡◌, ℕ, List, [], ◌∷◌, Bool, true, false, Option, None, Some, is_some, map, if◌then◌else◌}
 use Rattle.city_model.specs.declared.command.Command.{Command}
 use Rattle.city_model.specs.declared.command.Reply.{Reply}
+use Rattle.city_model.specs.declared.mode.Mode.{Mode}
+use Rattle.city_model.specs.declared.mode.Mode.TheVariants.{Shared, Exclusive}
 use Rattle.city_model.specs.CityMap.{CityMap}
 use Rattle.city_model.specs.Marks.{Marked, View, unmarked}
 use Rattle.city_model.specs.Meaning.{step, locks_of}
@@ -10,17 +12,17 @@ use Rattle.city_model.specs.Relations.{IsSound}
 use Rattle.city_model.specs.Runs.{Trace}
 use Rattle.city_model.specs.Standing.{Held, covers, locks_id, locks_id_exclusively}
 
--- how locks name an id: not, shared (false) or exclusively (true)
-abbrev pub as_named : Bool → Bool → Option Bool
-as_named true named = Some true
-as_named false true = Some false
+-- in which mode locks name an id, by whether they name it exclusively, and at all
+abbrev pub as_named : Bool → Bool → Option Mode
+as_named true named = Some Exclusive
+as_named false true = Some Shared
 as_named false false = None
 
-abbrev pub stronger_of : Option Bool → Option Bool → Option Bool
+abbrev pub stronger_of : Option Mode → Option Mode → Option Mode
 stronger_of None y = y
-stronger_of (Some true) y = Some true
-stronger_of (Some false) None = Some false
-stronger_of (Some false) (Some b) = Some b
+stronger_of (Some Exclusive) y = Some Exclusive
+stronger_of (Some Shared) None = Some Shared
+stronger_of (Some Shared) (Some mode) = Some mode
 
 -- how the locks of the commands name each id, the locks of each at the map that it meets
 abbrev pub named_by : View → List Command → Held
@@ -30,7 +32,7 @@ named_by v (c ∷ cs) q =
 
 -- this map at each id that is held exclusively, and the other one elsewhere
 abbrev pub carried_map : Held → CityMap → CityMap → CityMap
-carried_map held other m = λ q. if covers (held q) true then m q else other q
+carried_map held other m = λ q. if covers (held q) Exclusive then m q else other q
 
 abbrev pub carried_marks : Held → CityMap → List Marked → List Marked
 carried_marks held other ks = map (λ k. (k.0, carried_map held other k.1)) ks

@@ -23,6 +23,7 @@ pub mod integral;
 pub mod is_lawful;
 pub mod kept;
 pub mod members;
+pub mod mode;
 pub mod object;
 pub mod object_type;
 pub mod orphans;

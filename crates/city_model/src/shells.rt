@@ -3,7 +3,7 @@ ghost use Rattle.std.specs.Prelude.{◌≡◌, not, IfOk};
 ghost use Rattle.std.specs.List.{list_all, list_any};
 ghost use Rattle.std.specs.List.Sorted.{IsSorted};
 ghost use Rattle.std.specs.Ordering.{eq_by_cmp};
-ghost use Rattle.city_model.specs.Shells.{occurs_once, is_closed, is_open, has_open_shell};
+ghost use Rattle.city_model.specs.Shells.{occurs_once, is_closed, is_open_shell, has_open_shell};
 
 use crate::edges::edges_of;
 use crate::object::{Shape, Shell, Solid};
@@ -47,7 +47,7 @@ pub fn has_open_shell(alloc: Global, shape: &Shape) -> Result<bool, AllocError>
 }
 
 fn any_open_in(alloc: Global, solids: &[Solid]) -> Result<bool, AllocError>
-    ensures { IfOk result (λ b. b ≡ list_any (list_any is_open) solids.now) }
+    ensures { IfOk result (λ b. b ≡ list_any (list_any is_open_shell) solids.now) }
 {
     for solid in solids {
         if any_open(alloc, solid.as_slice())? {
@@ -58,7 +58,7 @@ fn any_open_in(alloc: Global, solids: &[Solid]) -> Result<bool, AllocError>
 }
 
 fn any_open(alloc: Global, shells: &[Shell]) -> Result<bool, AllocError>
-    ensures { IfOk result (λ b. b ≡ list_any is_open shells.now) }
+    ensures { IfOk result (λ b. b ≡ list_any is_open_shell shells.now) }
 {
     for shell in shells {
         if !shell_closed(alloc, shell)? {

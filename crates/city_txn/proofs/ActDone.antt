@@ -16,9 +16,8 @@ use Rattle.city_model.proofs.IdLists.{bool_cases}
 use Rattle.city_model.proofs.History as history
 use Rattle.city_locks.specs.declared.answer.Answer.{Answer}
 use Rattle.city_locks.specs.declared.answer.Answer.TheVariants.{Granted}
-use Rattle.city_locks.specs.declared.mode.Mode.{Mode}
-use Rattle.city_locks.specs.declared.mode.Mode.TheVariants.{Exclusive}
-use Rattle.city_locks.specs.Mode.{is_exclusive}
+use Rattle.city_model.specs.declared.mode.Mode.{Mode}
+use Rattle.city_model.specs.declared.mode.Mode.TheVariants.{Exclusive}
 use Rattle.city_locks.specs.Locks.{Locks, mode_of}
 use Rattle.city_txn.specs.declared.step.Step.{Step}
 use Rattle.city_txn.specs.declared.step.Step.TheVariants as steps
@@ -161,10 +160,6 @@ writes_is_named : (x : Option Cause) (b : Bool) → (is_none x && b) ≡ true �
 writes_is_named None b h = h
 writes_is_named (Some cause) b h = absurd (false≢true h)
 
-some_mode : (o : Option Mode) → is_some (option_map is_exclusive o) ≡ true → is_some o ≡ true
-some_mode None h = h
-some_mode (Some m) h = refl
-
 -- ---- a call, of a core that is seen as v: its locks are asked for, and ks are the locks then
 
 module _ (a : Inside) (k : IsCore a) {v : CoreState} (known : core_state a ≡ v) (s : ℕ) (c : Command) (here : is_open v s ≡ true) (no_end : is_end c ≡ false) (ks : Locks) where
@@ -240,7 +235,7 @@ module _ (a : Inside) (k : IsCore a) {v : CoreState} (known : core_state a ≡ v
       alone_named q h t r = elim (cases_eq t s) [
         | inl e ↦ e
         | inr e ↦ absurd (false≢true (ap is_some (sym (ask.gains.locks.lawful k.state.lawful t s q e (kept_mode ask t q (k.reserved t q r))))
-            ∙ some_mode (mode_of ks s q) (history.held_named (held_in ks s) (locks_of m c) q all h)))
+            ∙ history.held_named (held_in ks s) (locks_of m c) q all h))
       ]
 
       -- the store and the logs afterwards are st and ls
@@ -308,7 +303,7 @@ module _ (a : Inside) (k : IsCore a) {v : CoreState} (known : core_state a ≡ v
       module _ {F : Type 0} (r : Reply) (st : State) (ls : Logs) (p : IsPerform {E = F} s c (Ok r) a.store a.logs st ls) where
         written_mine : IsCovered (held_in ks s) (own_done m (own (core_state a) s) c)
         written_mine q h = bool_cases (writes_id m c q)
-            (λ e. ap (λ o. covers (option_map is_exclusive o) true) (mine q (writes_is_named (cause_of m c) (locks_id_exclusively (locks_of m c) q) e)))
+            (λ e. ap (λ o. covers o Exclusive) (mine q (writes_is_named (cause_of m c) (locks_id_exclusively (locks_of m c) q) e)))
             (λ e. own_covered (core_state locked) s (consistent ask) q (sym (ap (λ b. is_some (if b then Some (after m c q) else own (core_state a) s q)) e) ∙ h))
 
         -- what s wrote by now it holds exclusively

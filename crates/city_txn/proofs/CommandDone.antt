@@ -11,7 +11,7 @@ use Rattle.city_model.specs.Scripts.{is_end}
 use Rattle.city_model.proofs.Effects.{effect_is}
 use Rattle.city_model.proofs.Refused.{refused_stays}
 use Rattle.city_model.proofs.History.{follows_more, follows_same}
-use Rattle.city_locks.specs.declared.mode.Mode.TheVariants.{Exclusive}
+use Rattle.city_model.specs.declared.mode.Mode.TheVariants.{Exclusive}
 use Rattle.city_locks.specs.Locks.{mode_of, Lawful}
 use Rattle.city_txn.specs.Writes.{Write, write_of, unless_by}
 use Rattle.city_txn.specs.UndoLog.{log_of, has_before, written_after}

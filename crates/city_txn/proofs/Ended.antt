@@ -11,9 +11,8 @@ use Rattle.city_model.specs.TraceLaw.{carried}
 use Rattle.city_model.proofs.IdLists.{bool_cases}
 use Rattle.city_model.proofs.Carried.{history_kept}
 use Rattle.city_model.proofs.History.{follows_same, follows_sound}
-use Rattle.city_locks.specs.declared.mode.Mode.{Mode}
-use Rattle.city_locks.specs.declared.mode.Mode.TheVariants.{Shared, Exclusive}
-use Rattle.city_locks.specs.Mode.{is_exclusive}
+use Rattle.city_model.specs.declared.mode.Mode.{Mode}
+use Rattle.city_model.specs.declared.mode.Mode.TheVariants.{Shared, Exclusive}
 use Rattle.city_locks.specs.Locks.{mode_of, Lawful}
 use Rattle.city_txn.specs.Writes.{Write, write_of, own_or, unless_by}
 use Rattle.city_txn.specs.UndoLog.{log_of, marked, has_before, map_with}
@@ -23,7 +22,7 @@ use Rattle.city_txn.specs.CoreState.{CoreState, committed, view, own, written, s
 use Rattle.city_txn.specs.inside.Core.{IsConsistent}
 use Rattle.city_txn.proofs.SeenWrites.{seen_with, seen_same, written_same, own_covered, marks_covered, view_carried, own_left, own_gone}
 
-pub held_exclusively : (o : Option Mode) → covers (option_map is_exclusive o) true ≡ true → o ≡ Some Exclusive
+pub held_exclusively : (o : Option Mode) → covers o Exclusive ≡ true → o ≡ Some Exclusive
 held_exclusively None h = absurd (false≢true h)
 held_exclusively (Some Shared) h = absurd (false≢true h)
 held_exclusively (Some Exclusive) h = refl
@@ -64,7 +63,7 @@ pub record Ended (s : ℕ) (v w : CoreState) : Type 0 where
   pub lawful : Lawful w.locks
 
 same_held : (s t : ℕ) (v w : CoreState) → Ended s v w → (s == t) ≡ false → held v t ≡ held w t
-same_held s t v w k ne = λ i q. option_map is_exclusive (sym (k.locks t q ∙ ap (λ b. cond b None (mode_of v.locks t q)) ne) i)
+same_held s t v w k ne = λ i q. sym (k.locks t q ∙ ap (λ b. cond b None (mode_of v.locks t q)) ne) i
 
 ended_locked : (s : ℕ) (v w : CoreState) → IsConsistent v → Ended s v w → (q : List ℕ) (x : Write) → write_of w.writes q ≡ Some x → mode_of w.locks x.0 q ≡ Some Exclusive
 ended_locked s v w c k q x e =
@@ -92,7 +91,7 @@ unwritten : (v : CoreState) (s t : ℕ) (q : List ℕ) → IsConsistent v → (s
 unwritten v s t q c ne h w e = bool_cases (w.0 == s)
     (λ f. let x : mode_of v.locks s q ≡ Some Exclusive = ap (λ k. mode_of v.locks k q) (sym (eqb-true w.0 s f)) ∙ c.locked q w e in
     let none : mode_of v.locks t q ≡ None = c.lawful s t q (eqb-false s t ne) x in
-    absurd (false≢true (ap (λ o. is_some (option_map is_exclusive o)) (sym none) ∙ h)))
+    absurd (false≢true (ap (λ o. is_some o) (sym none) ∙ h)))
     (λ f. f)
 
 -- s itself sees what is committed
@@ -129,7 +128,7 @@ stands_committed s t v w done c k city ne f =
     let same : carried (held v t) (committed w) (snapshot v t) ≡ snapshot w t =
     ap (carried (held v t) (committed w)) (seen_with v t)
     ∙ view_carried (held v t) (committed v) (committed w)
-    (λ q e. agree q (ap (λ o. is_some (option_map is_exclusive o)) (held_exclusively (mode_of v.locks t q) e)))
+    (λ q e. agree q (ap (λ o. is_some o) (held_exclusively (mode_of v.locks t q) e)))
     (written v t) (own_covered v t c) (marks_covered v t c)
     ∙ ap (view_with (committed w)) (sym (others_written s t v w k ne)) ∙ sym (seen_with w t) in
     subst (λ (h : Held). IsTraceUnderLocks h (unmarked (committed w)) done (snapshot w t)) (same_held s t v w k ne)

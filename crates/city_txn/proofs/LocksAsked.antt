@@ -6,16 +6,15 @@ use Rattle.std.proofs.lemmas.Result.{on_ok_weaker, IfOk-weaker}
 use Rattle.std.proofs.Common.{add-one, drop-cons}
 use Rattle.std.proofs.lemmas.Bool.{false≢true, ne_eqb}
 use Rattle.city_model.specs.Meaning.{exclusively}
-use Rattle.city_locks.specs.declared.mode.Mode.{Mode}
-use Rattle.city_locks.specs.declared.mode.Mode.TheVariants.{Shared, Exclusive}
+use Rattle.city_model.specs.declared.mode.Mode.{Mode}
+use Rattle.city_model.specs.declared.mode.Mode.TheVariants.{Shared, Exclusive}
 use Rattle.city_locks.specs.declared.answer.Answer.{Answer}
 use Rattle.city_locks.specs.declared.answer.Answer.TheVariants.{Granted, Wait, Die}
-use Rattle.city_locks.specs.Mode.{is_exclusive}
 use Rattle.city_locks.specs.Locks.{Locks, answer_of, mode_of, Lawful}
 use Rattle.city_locks.specs.WaitDie.{IsInConflict, IsWaitDie}
 use Rattle.city_model.specs.Standing.{AllHeld, Lock, covers}
 use Rattle.city_txn.specs.CoreState.{held_in}
-use Rattle.city_txn.specs.Locking.{mode_for, go_on, first_answer, first_if, granted_before, GainsFirst, IsBlocked}
+use Rattle.city_txn.specs.Locking.{go_on, first_answer, first_if, granted_before, GainsFirst, IsBlocked}
 use Rattle.city_txn.specs.inside.Asking.{HoldsLock, Asked}
 use Rattle.city_txn.proofs.LocksGained.{Adds, no_more_locks, mode_of_another, still_held, asked_held, one_and_more}
 
@@ -23,11 +22,11 @@ use Rattle.city_txn.proofs.LocksGained.{Adds, no_more_locks, mode_of_another, st
 
 same_first : (s : ℕ) (hs ks : Locks) (ls : List Lock) → ((q : List ℕ) (n : Mode) → answer_of ks s q n ≡ answer_of hs s q n) → first_answer ks s ls ≡ first_answer hs s ls
 same_first s hs ks [] e = refl
-same_first s hs ks (l ∷ ls) e = ap (λ a. go_on a (first_answer ks s ls)) (e l.0 (mode_for l.1)) ∙ ap (go_on (answer_of hs s l.0 (mode_for l.1))) (same_first s hs ks ls e)
+same_first s hs ks (l ∷ ls) e = ap (λ a. go_on a (first_answer ks s ls)) (e l.0 l.1) ∙ ap (go_on (answer_of hs s l.0 l.1)) (same_first s hs ks ls e)
 
 same_before : (s : ℕ) (hs ks : Locks) (ls : List Lock) → ((q : List ℕ) (n : Mode) → answer_of ks s q n ≡ answer_of hs s q n) → granted_before ks s ls ≡ granted_before hs s ls
 same_before s hs ks [] e = refl
-same_before s hs ks (l ∷ ls) e = ap (λ a. first_if a l (granted_before ks s ls)) (e l.0 (mode_for l.1)) ∙ ap (first_if (answer_of hs s l.0 (mode_for l.1)) l) (same_before s hs ks ls e)
+same_before s hs ks (l ∷ ls) e = ap (λ a. first_if a l (granted_before ks s ls)) (e l.0 l.1) ∙ ap (first_if (answer_of hs s l.0 l.1) l) (same_before s hs ks ls e)
 
 -- ---- who holds a lock that the stamp is refused
 
@@ -55,10 +54,6 @@ wait_die_blocked hs s id m Die w =
 
 -- ---- one lock asked for, of which the lock table tells, and then others
 
-mode_is : (m : Mode) → mode_for (is_exclusive m) ≡ m
-mode_is Shared = refl
-mode_is Exclusive = refl
-
 -- nothing is gained
 pub gains_nothing : (s : ℕ) (ls : List Lock) (hs : Locks) → GainsFirst s ls hs hs
 gains_nothing s ls hs = record { gained = []; left = ls; parts = refl; held = tt; locks = no_more_locks s [] hs }
@@ -75,23 +70,23 @@ none_before Die l ls n = refl
 
 module _ (s : ℕ) (id : List ℕ) (m : Mode) (hs ks : Locks) (ls : List Lock) where
   abbrev all : List Lock
-  all = (id, is_exclusive m) ∷ ls
+  all = (id, m) ∷ ls
 
   -- it is granted, and the others are asked for
   pub asked_granted : {E : Type 0} (r : Result Answer E) (us : Locks) → answer_of hs s id m ≡ Granted → Adds s id m hs ks → Lawful ks →
       ((q : List ℕ) (n : Mode) → answer_of ks s q n ≡ answer_of hs s q n) → Asked s ls r ks us → Asked s all r hs us
   asked_granted {E} r us granted adds lawful own a =
-      let here : answer_of hs s id (mode_for (is_exclusive m)) ≡ Granted = ap (answer_of hs s id) (mode_is m) ∙ granted in
+      let here : answer_of hs s id (m) ≡ Granted = granted in
       let first : first_answer ks s ls ≡ first_answer hs s all = same_first s hs ks ls own ∙ sym (ap (λ x. go_on x (first_answer hs s ls)) here) in
-      let before : granted_before hs s all ≡ (id, is_exclusive m) ∷ granted_before ks s ls =
-      ap (λ x. first_if x (id, is_exclusive m) (granted_before hs s ls)) here ∙ ap (λ bs. (id, is_exclusive m) ∷ bs) (sym (same_before s hs ks ls own)) in
-      let held : covers (held_in us s id) (is_exclusive m) ≡ true = a.gains.locks.more id (is_exclusive m) (asked_held s id m hs ks adds) in
+      let before : granted_before hs s all ≡ (id, m) ∷ granted_before ks s ls =
+      ap (λ x. first_if x (id, m) (granted_before hs s ls)) here ∙ ap (λ bs. (id, m) ∷ bs) (sym (same_before s hs ks ls own)) in
+      let held : covers (held_in us s id) m ≡ true = a.gains.locks.more id m (asked_held s id m hs ks adds) in
       record {
         answer = subst (λ x. IfOk r (λ y. y ≡ x)) first a.answer;
         gains = record {
-          gained = (id, is_exclusive m) ∷ a.gains.gained;
+          gained = (id, m) ∷ a.gains.gained;
           left = a.gains.left;
-          parts = before ∙ ap (λ bs. (id, is_exclusive m) ∷ bs) a.gains.parts;
+          parts = before ∙ ap (λ bs. (id, m) ∷ bs) a.gains.parts;
           held = (held, a.gains.held);
           locks = one_and_more s id m hs ks adds a.gains.gained us lawful own a.gains.locks;
         };
@@ -105,8 +100,8 @@ module _ (s : ℕ) (id : List ℕ) (m : Mode) (hs ks : Locks) (ls : List Lock) w
   pub asked_refused : {E : Type 0} (a : Answer) → a ≡ answer_of hs s id m → a ≢ Granted → (answer_of hs s id m ≢ Granted → ks ≡ hs) →
       IsWaitDie (IsInConflict hs s id m) s a → Asked {E = E} s all (Ok a) hs ks
   asked_refused {E} a is refused same w =
-      let here : answer_of hs s id (mode_for (is_exclusive m)) ≡ a = ap (answer_of hs s id) (mode_is m) ∙ sym is in
-      let none : granted_before hs s all ≡ [] = ap (λ x. first_if x (id, is_exclusive m) (granted_before hs s ls)) here ∙ none_before a (id, is_exclusive m) (granted_before hs s ls) refused in
+      let here : answer_of hs s id (m) ≡ a = sym is in
+      let none : granted_before hs s all ≡ [] = ap (λ x. first_if x (id, m) (granted_before hs s ls)) here ∙ none_before a (id, m) (granted_before hs s ls) refused in
       record {
         answer = sym (ap (λ x. go_on x (first_answer hs s ls)) here ∙ refused_first a (first_answer hs s ls) refused);
         gains = subst (GainsFirst s (granted_before hs s all) hs) (sym (same (λ e. refused (is ∙ e)))) (gains_nothing s (granted_before hs s all) hs);
@@ -124,9 +119,9 @@ module _ (s : ℕ) (id : List ℕ) (m : Mode) (hs ks : Locks) (ls : List Lock) w
     held = tt;
     blocked = tt;
     answered = λ h.
-        let here : answer_of hs s id (mode_for (is_exclusive m)) ≡ Granted = ap (answer_of hs s id) (mode_is m) ∙ granted in
-        let held = subst (AllHeld (held_in hs s)) (ap (λ x. first_if x (id, is_exclusive m) (granted_before hs s ls)) here) h in
-        absurd (false≢true (sym (ap (λ o. covers (option_map is_exclusive o) (is_exclusive m)) unheld) ∙ held.0));
+        let here : answer_of hs s id (m) ≡ Granted = granted in
+        let held = subst (AllHeld (held_in hs s)) (ap (λ x. first_if x (id, m) (granted_before hs s ls)) here) h in
+        absurd (false≢true (sym (ap (λ o. covers o m) unheld) ∙ held.0));
   }
 
 -- no lock asked for
@@ -135,5 +130,5 @@ asked_none {E} s hs = record { answer = refl; gains = gains_nothing s [] hs; hel
 
 -- the ids that are left at an index
 pub exclusive_left : (ids : List (List ℕ)) (i : ℕ) (id : List ℕ) → i < length ids → id ≡ get_or ids i id →
-    exclusively (drop i ids) ≡ (id, true) ∷ exclusively (drop (i + 1) ids)
+    exclusively (drop i ids) ≡ (id, Exclusive) ∷ exclusively (drop (i + 1) ids)
 exclusive_left ids i id lt e = rw (add-one, drop-cons ids i id lt, ← e) refl

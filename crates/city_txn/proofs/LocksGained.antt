@@ -7,11 +7,11 @@ use Rattle.city_model.specs.Relations.{IsLawful}
 use Rattle.city_model.proofs.Ids.{same_id_itself, same_id_back, same_id_of_equal, by_id}
 use Rattle.city_model.proofs.IdLists.{bool_cases}
 use Rattle.city_model.proofs.History.{follows_same}
-use Rattle.city_locks.specs.declared.mode.Mode.{Mode}
-use Rattle.city_locks.specs.declared.mode.Mode.TheVariants.{Shared, Exclusive}
+use Rattle.city_model.specs.declared.mode.Mode.{Mode}
+use Rattle.city_model.specs.declared.mode.Mode.TheVariants.{Shared, Exclusive}
 use Rattle.city_locks.specs.declared.answer.Answer.{Answer}
 use Rattle.city_locks.specs.declared.answer.Answer.TheVariants.{Granted, Wait, Die}
-use Rattle.city_locks.specs.Mode.{is_exclusive, stronger}
+use Rattle.city_locks.specs.Mode.{stronger}
 use Rattle.city_locks.specs.Locks.{Locks, mode_of, answer_of, Lawful}
 use Rattle.city_model.specs.CityMap.{CityMap}
 use Rattle.city_model.specs.Marks.{View, unmarked}
@@ -20,7 +20,7 @@ use Rattle.city_txn.specs.UndoLog.{log_of, has_before}
 use Rattle.city_model.specs.Standing.{Lock, Answered, covers, locks_id, locks_id_exclusively}
 use Rattle.city_txn.specs.CoreState.{CoreState, committed, view, written, snapshot, is_open, held, held_in, StandsUnderLocks, KeepsOthers}
 use Rattle.city_txn.specs.inside.Core.{IsConsistent}
-use Rattle.city_txn.specs.Locking.{go_on, first_answer, first_if, granted_before, mode_for, MoreLocks}
+use Rattle.city_txn.specs.Locking.{go_on, first_answer, first_if, granted_before, MoreLocks}
 use Rattle.city_txn.proofs.Ended.{held_exclusively}
 use Rattle.city_txn.proofs.SeenWrites.{seen_same}
 
@@ -36,14 +36,14 @@ pub record LocksGained (s : ℕ) (ls : List Lock) (v w : CoreState) : Type 0 whe
   pub locks : MoreLocks s ls v.locks w.locks
   pub lawful : Lawful w.locks
 
-more_for : (s : ℕ) (ls : List Lock) (hs ks : Locks) → MoreLocks s ls hs ks → (t : ℕ) (q : List ℕ) (b : Bool) → covers (held_in hs t q) b ≡ true → covers (held_in ks t q) b ≡ true
+more_for : (s : ℕ) (ls : List Lock) (hs ks : Locks) → MoreLocks s ls hs ks → (t : ℕ) (q : List ℕ) (b : Mode) → covers (held_in hs t q) b ≡ true → covers (held_in ks t q) b ≡ true
 more_for s ls hs ks k t q b h = bool_cases (s == t)
     (λ e. let p : s ≡ t = eqb-true s t e in ap (λ r. covers (held_in ks r q) b) (sym p) ∙ k.more q b (ap (λ r. covers (held_in hs r q) b) p ∙ h))
-    (λ e. ap (λ o. covers (option_map is_exclusive o) b) (k.others t q e) ∙ h)
+    (λ e. ap (λ o. covers o b) (k.others t q e) ∙ h)
 
 -- what was held exclusively still is
 pub exclusive_kept : (s : ℕ) (ls : List Lock) (hs ks : Locks) → MoreLocks s ls hs ks → (t : ℕ) (q : List ℕ) → mode_of hs t q ≡ Some Exclusive → mode_of ks t q ≡ Some Exclusive
-exclusive_kept s ls hs ks k t q x = held_exclusively (mode_of ks t q) (more_for s ls hs ks k t q true (ap (λ m. covers (option_map is_exclusive m) true) x))
+exclusive_kept s ls hs ks k t q x = held_exclusively (mode_of ks t q) (more_for s ls hs ks k t q Exclusive (ap (λ m. covers m Exclusive) x))
 
 module _ (s : ℕ) (ls : List Lock) (v w : CoreState) (k : LocksGained s ls v w) where
   pub seen_gained : (t : ℕ) → snapshot w t ≡ snapshot v t
@@ -74,19 +74,19 @@ gained_consistent s ls v w c o k = record {
 
 -- ---- one lock granted
 
-stronger_covers : (m : Mode) (o : Option Mode) (b : Bool) → covers (option_map is_exclusive o) b ≡ true → covers (Some (is_exclusive (stronger m o))) b ≡ true
+stronger_covers : (m : Mode) (o : Option Mode) (b : Mode) → covers o b ≡ true → covers (Some (stronger m o)) b ≡ true
 stronger_covers m None b h = absurd (false≢true h)
 stronger_covers Exclusive (Some n) b h = refl
 stronger_covers Shared (Some n) b h = h
 
-stronger_asked : (m : Mode) (o : Option Mode) → covers (Some (is_exclusive (stronger m o))) (is_exclusive m) ≡ true
+stronger_asked : (m : Mode) (o : Option Mode) → covers (Some (stronger m o)) m ≡ true
 stronger_asked Shared None = refl
 stronger_asked Exclusive None = refl
 stronger_asked Exclusive (Some n) = refl
 stronger_asked Shared (Some Shared) = refl
 stronger_asked Shared (Some Exclusive) = refl
 
-stronger_parts : (m : Mode) (o : Option Mode) → covers (Some (is_exclusive (stronger m o))) true ≡ true → (covers (option_map is_exclusive o) true ≡ true) ⊎ (is_exclusive m ≡ true)
+stronger_parts : (m : Mode) (o : Option Mode) → covers (Some (stronger m o)) Exclusive ≡ true → (covers o Exclusive ≡ true) ⊎ (m ≡ Exclusive)
 stronger_parts Exclusive o h = inr refl
 stronger_parts Shared None h = absurd (false≢true h)
 stronger_parts Shared (Some n) h = inl h
@@ -103,12 +103,12 @@ Adds s id m hs ks = (t : ℕ) (q : List ℕ) → mode_of ks t q ≡ cond ((s == 
 pub no_more_locks : (s : ℕ) (ls : List Lock) (hs : Locks) → MoreLocks s ls hs hs
 no_more_locks s ls hs = record { others = λ t q e. refl; more = λ q b h. h; only = λ q h. refl; modes = λ q h. inl h; lawful = λ l. l; answers = λ q n. refl }
 
-first_named : (l : Lock) (ls : List Lock) (q : List ℕ) → same_id q l.0 ≡ true → l.1 ≡ true → locks_id_exclusively (l ∷ ls) q ≡ true
+first_named : (l : Lock) (ls : List Lock) (q : List ℕ) → same_id q l.0 ≡ true → l.1 ≡ Exclusive → locks_id_exclusively (l ∷ ls) q ≡ true
 first_named l ls q e x = rw (x, e) refl
 
 later_named : (l : Lock) (ls : List Lock) (q : List ℕ) → locks_id_exclusively ls q ≡ true → locks_id_exclusively (l ∷ ls) q ≡ true
-later_named (id, true) ls q h = or_right (same_id q id) (locks_id_exclusively ls q) h
-later_named (id, false) ls q h = h
+later_named (id, Exclusive) ls q h = or_right (same_id q id) (locks_id_exclusively ls q) h
+later_named (id, Shared) ls q h = h
 
 module _ (s : ℕ) (id : List ℕ) (m : Mode) (hs ks : Locks) (h : Adds s id m hs ks) where
   abbrev granted : Option Mode
@@ -126,34 +126,34 @@ module _ (s : ℕ) (id : List ℕ) (m : Mode) (hs ks : Locks) (h : Adds s id m h
   pub mode_of_another : (t : ℕ) (q : List ℕ) → (s == t) ≡ false → mode_of ks t q ≡ mode_of hs t q
   mode_of_another t q e = h t q ∙ ap (λ b. cond (b && same_id id q) granted (mode_of hs t q)) e
 
-  pub asked_held : covers (held_in ks s id) (is_exclusive m) ≡ true
-  asked_held = ap (λ o. covers (option_map is_exclusive o) (is_exclusive m)) mode_there ∙ stronger_asked m (mode_of hs s id)
+  pub asked_held : covers (held_in ks s id) m ≡ true
+  asked_held = ap (λ o. covers o m) mode_there ∙ stronger_asked m (mode_of hs s id)
 
-  held_there : (b : Bool) → covers (held_in hs s id) b ≡ true → covers (held_in ks s id) b ≡ true
-  held_there b g = ap (λ o. covers (option_map is_exclusive o) b) mode_there ∙ stronger_covers m (mode_of hs s id) b g
+  held_there : (b : Mode) → covers (held_in hs s id) b ≡ true → covers (held_in ks s id) b ≡ true
+  held_there b g = ap (λ o. covers o b) mode_there ∙ stronger_covers m (mode_of hs s id) b g
 
-  pub still_held : (q : List ℕ) (b : Bool) → covers (held_in hs s q) b ≡ true → covers (held_in ks s q) b ≡ true
+  pub still_held : (q : List ℕ) (b : Mode) → covers (held_in hs s q) b ≡ true → covers (held_in ks s q) b ≡ true
   still_held q b = by_id id q
       (λ is. subst (λ r. covers (held_in hs s r) b ≡ true → covers (held_in ks s r) b ≡ true) is (held_there b))
-      (λ apart g. ap (λ o. covers (option_map is_exclusive o) b) (mode_beside q apart) ∙ g)
+      (λ apart g. ap (λ o. covers o b) (mode_beside q apart) ∙ g)
 
-  held_or_asked : (ls : List Lock) (q : List ℕ) → covers (held_in ks s q) true ≡ true →
-      (covers (held_in hs s q) true ≡ true) ⊎ (locks_id_exclusively ((id, is_exclusive m) ∷ ls) q ≡ true)
+  held_or_asked : (ls : List Lock) (q : List ℕ) → covers (held_in ks s q) Exclusive ≡ true →
+      (covers (held_in hs s q) Exclusive ≡ true) ⊎ (locks_id_exclusively ((id, m) ∷ ls) q ≡ true)
   held_or_asked ls q g = by_id id q
       (λ is. either
-      (λ x. inl (subst (λ r. covers (held_in hs s r) true ≡ true) is x))
-      (λ y. inr (first_named (id, is_exclusive m) ls q (same_id_of_equal q id (sym is)) y))
-      (stronger_parts m (mode_of hs s id) (sym (ap (λ o. covers (option_map is_exclusive o) true) mode_there) ∙ subst (λ r. covers (held_in ks s r) true ≡ true) (sym is) g)))
-      (λ apart. inl (sym (ap (λ o. covers (option_map is_exclusive o) true) (mode_beside q apart)) ∙ g))
+      (λ x. inl (subst (λ r. covers (held_in hs s r) Exclusive ≡ true) is x))
+      (λ y. inr (first_named (id, m) ls q (same_id_of_equal q id (sym is)) y))
+      (stronger_parts m (mode_of hs s id) (sym (ap (λ o. covers o Exclusive) mode_there) ∙ subst (λ r. covers (held_in ks s r) Exclusive ≡ true) (sym is) g)))
+      (λ apart. inl (sym (ap (λ o. covers o Exclusive) (mode_beside q apart)) ∙ g))
 
   -- one lock gained, and then more
   pub one_and_more : (ls : List Lock) (us : Locks) → Lawful ks → ((q : List ℕ) (n : Mode) → answer_of ks s q n ≡ answer_of hs s q n) → MoreLocks s ls ks us →
-      MoreLocks s ((id, is_exclusive m) ∷ ls) hs us
+      MoreLocks s ((id, m) ∷ ls) hs us
   one_and_more ls us lawful own g = record {
     others = λ t q e. g.others t q e ∙ mode_of_another t q e;
     more = λ q b x. g.more q b (still_held q b x);
     only = λ q e. let n = or_parts (same_id q id) (locks_id ls q) e in g.only q n.1 ∙ mode_beside q (same_id_back id q ∙ n.0);
-    modes = λ q e. either (held_or_asked ls q) (λ y. inr (later_named (id, is_exclusive m) ls q y)) (g.modes q e);
+    modes = λ q e. either (held_or_asked ls q) (λ y. inr (later_named (id, m) ls q y)) (g.modes q e);
     lawful = λ x. g.lawful lawful;
     answers = λ q n. g.answers q n ∙ own q n;
   }
@@ -168,4 +168,4 @@ granted_too Die l ls b before f e = cc
 -- where all are granted, all are before the first that isn't
 pub all_granted : (hs : Locks) (s : ℕ) (ls : List Lock) → first_answer hs s ls ≡ Granted → granted_before hs s ls ≡ ls
 all_granted hs s [] e = refl
-all_granted hs s (l ∷ ls) e = granted_too (answer_of hs s l.0 (mode_for l.1)) l ls (first_answer hs s ls) (granted_before hs s ls) (λ f. all_granted hs s ls f) e
+all_granted hs s (l ∷ ls) e = granted_too (answer_of hs s l.0 l.1) l ls (first_answer hs s ls) (granted_before hs s ls) (λ f. all_granted hs s ls f) e

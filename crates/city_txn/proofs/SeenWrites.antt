@@ -20,8 +20,7 @@ use Rattle.city_model.proofs.FrameLaw.{frame}
 use Rattle.city_model.proofs.Ids.{same_id_itself}
 use Rattle.city_model.proofs.IdLists.{bool_cases, not_both}
 use Rattle.city_model.proofs.MarksKept.{from_mapped}
-use Rattle.city_locks.specs.Mode.{is_exclusive}
-use Rattle.city_locks.specs.declared.mode.Mode.TheVariants.{Exclusive}
+use Rattle.city_model.specs.declared.mode.Mode.TheVariants.{Exclusive}
 use Rattle.city_locks.specs.Locks.{mode_of}
 use Rattle.city_txn.specs.declared.undo_log.Entry.{Entry}
 use Rattle.city_txn.specs.declared.undo_log.Entry.TheVariants.{Mark, BeforeImage}
@@ -101,17 +100,17 @@ step_seen v w s c sound city e =
 -- ---- what is written is held exclusively
 
 abbrev pub IsCovered : Held → OwnWrites → Type 0
-IsCovered held f = (q : List ℕ) → is_some (f q) ≡ true → covers (held q) true ≡ true
+IsCovered held f = (q : List ℕ) → is_some (f q) ≡ true → covers (held q) Exclusive ≡ true
 
 abbrev pub AreCovered : Held → List (List ℕ × OwnWrites) → Type 0
 AreCovered held [] = Unit {0}
 AreCovered held (k ∷ ks) = IsCovered held k.1 × AreCovered held ks
 
-are_covered : (held : Held) (es : List Entry) (f : OwnWrites) → IsCovered held f → ((q : List ℕ) → has_before es q ≡ true → covers (held q) true ≡ true) → AreCovered held (marked es f)
+are_covered : (held : Held) (es : List Entry) (f : OwnWrites) → IsCovered held f → ((q : List ℕ) → has_before es q ≡ true → covers (held q) Exclusive ≡ true) → AreCovered held (marked es f)
 are_covered held [] f is h = tt
 are_covered held (Mark name ∷ es) f is h = (is, are_covered held es f is h)
 are_covered held (BeforeImage id o ∷ es) f is h = are_covered held es (update same_id f id o)
-    (at_each {P = λ r. is_some (update same_id f id o r) ≡ true → covers (held r) true ≡ true} id
+    (at_each {P = λ r. is_some (update same_id f id o r) ≡ true → covers (held r) Exclusive ≡ true} id
     (λ k. h id (or_left (same_id id id) (has_before es id) (same_id_itself id)))
     (λ r e k. is r (sym (ap is_some (update_other same_id f id o r e)) ∙ k)))
     (λ q k. h q (or_right (same_id id q) (has_before es q) k))
@@ -144,21 +143,21 @@ own_locked v t q c (Some w) e h = bool_cases (w.0 == t)
     (λ f. absurd (false≢true (sym (ap (λ b. is_some (if b then Some w.1 else None)) f) ∙ h)))
 
 pub own_covered : (v : CoreState) (t : ℕ) → IsConsistent v → IsCovered (held v t) (own v t)
-own_covered v t c q h = ap (λ o. covers (option_map is_exclusive o) true) (own_locked v t q c (write_of v.writes q) refl h)
+own_covered v t c q h = ap (λ o. covers o Exclusive) (own_locked v t q c (write_of v.writes q) refl h)
 
 pub marks_covered : (v : CoreState) (t : ℕ) → IsConsistent v → AreCovered (held v t) (written v t).1
 marks_covered v t c = are_covered (held v t) (log_of v.logs t) (own v t) (own_covered v t c)
-    (λ q h. ap (λ o. covers (option_map is_exclusive o) true) (c.marks_locked t q h))
+    (λ q h. ap (λ o. covers o Exclusive) (c.marks_locked t q h))
 
 -- ---- what is seen, carried to another committed map that agrees where something is held exclusively
 
-module _ (held : Held) (m n : CityMap) (agree : (q : List ℕ) → covers (held q) true ≡ true → m q ≡ n q) where
+module _ (held : Held) (m n : CityMap) (agree : (q : List ℕ) → covers (held q) Exclusive ≡ true → m q ≡ n q) where
   map_carried : (f : OwnWrites) → IsCovered held f → carried_map held n (map_with m f) ≡ map_with n f
   map_carried f is =
-      let none : (q : List ℕ) → covers (held q) true ≡ false → f q ≡ None =
-      λ q e. absent_from (f q) (false_from_ne_true (is_some (f q)) (λ h. not_both (covers (held q) true) (is q h) e)) in
+      let none : (q : List ℕ) → covers (held q) Exclusive ≡ false → f q ≡ None =
+      λ q e. absent_from (f q) (false_from_ne_true (is_some (f q)) (λ h. not_both (covers (held q) Exclusive) (is q h) e)) in
       let at_one : (q : List ℕ) → carried_map held n (map_with m f) q ≡ map_with n f q =
-      λ q. bool_cases (covers (held q) true)
+      λ q. bool_cases (covers (held q) Exclusive)
       (λ e. ap (λ b. if b then map_with m f q else n q) e ∙ ap (unwrap_or (f q)) (agree q e))
       (λ e. ap (λ b. if b then map_with m f q else n q) e ∙ sym (ap (λ o. unwrap_or o (n q)) (none q e))) in
       λ i q. at_one q i

@@ -1,16 +1,13 @@
 -- Locks asked for in turn, up to the first that isn't granted.
 use Rattle.std.specs.Prelude.{◌≡◌, ◌⊎◌, ◌==◌, ◌<◌, ℕ, List, [], ◌∷◌, ◌++◌, Bool, true, false}
 use Rattle.std.specs.Prelude.{if◌then◌else◌}
-use Rattle.city_locks.specs.declared.mode.Mode.{Mode}
-use Rattle.city_locks.specs.declared.mode.Mode.TheVariants.{Shared, Exclusive}
+use Rattle.city_model.specs.declared.mode.Mode.{Mode}
+use Rattle.city_model.specs.declared.mode.Mode.TheVariants.{Exclusive}
 use Rattle.city_locks.specs.declared.answer.Answer.{Answer}
 use Rattle.city_locks.specs.declared.answer.Answer.TheVariants.{Granted, Wait, Die}
 use Rattle.city_locks.specs.Locks.{Locks, answer_of, mode_of, Lawful}
 use Rattle.city_model.specs.Standing.{Lock, AllHeld, covers, locks_id, locks_id_exclusively}
 use Rattle.city_txn.specs.CoreState.{held_in}
-
-abbrev pub mode_for : Bool → Mode
-mode_for exclusive = if exclusive then Exclusive else Shared
 
 abbrev pub go_on : Answer → Answer → Answer
 go_on Granted next = next
@@ -21,7 +18,7 @@ go_on Die next = Die
 abbrev pub first_answer : Locks → ℕ → List Lock → Answer
 first_answer locks stamp [] = Granted
 first_answer locks stamp (l ∷ ls) =
-    go_on (answer_of locks stamp l.0 (mode_for l.1)) (first_answer locks stamp ls)
+    go_on (answer_of locks stamp l.0 l.1) (first_answer locks stamp ls)
 
 abbrev pub first_if : Answer → Lock → List Lock → List Lock
 first_if Granted l ls = l ∷ ls
@@ -32,7 +29,7 @@ first_if Die l ls = []
 abbrev pub granted_before : Locks → ℕ → List Lock → List Lock
 granted_before locks stamp [] = []
 granted_before locks stamp (l ∷ ls) =
-    first_if (answer_of locks stamp l.0 (mode_for l.1)) l (granted_before locks stamp ls)
+    first_if (answer_of locks stamp l.0 l.1) l (granted_before locks stamp ls)
 
 abbrev pub is_wait : Answer → Bool
 is_wait Granted = false
@@ -43,11 +40,11 @@ is_wait Die = false
 -- what the stamp would be answered stays
 pub record MoreLocks (stamp : ℕ) (ls : List Lock) (old new : Locks) : Type 0 where
   pub others : (t : ℕ) (id : List ℕ) → (stamp == t) ≡ false → mode_of new t id ≡ mode_of old t id
-  pub more : (id : List ℕ) (exclusive : Bool) → covers (held_in old stamp id) exclusive ≡ true
-      → covers (held_in new stamp id) exclusive ≡ true
+  pub more : (id : List ℕ) (mode : Mode) → covers (held_in old stamp id) mode ≡ true
+      → covers (held_in new stamp id) mode ≡ true
   pub only : (id : List ℕ) → locks_id ls id ≡ false → mode_of new stamp id ≡ mode_of old stamp id
-  pub modes : (id : List ℕ) → covers (held_in new stamp id) true ≡ true
-      → (covers (held_in old stamp id) true ≡ true) ⊎ (locks_id_exclusively ls id ≡ true)
+  pub modes : (id : List ℕ) → covers (held_in new stamp id) Exclusive ≡ true
+      → (covers (held_in old stamp id) Exclusive ≡ true) ⊎ (locks_id_exclusively ls id ≡ true)
   pub lawful : Lawful old → Lawful new
   pub answers : (id : List ℕ) (mode : Mode) → answer_of new stamp id mode ≡ answer_of old stamp id mode
 

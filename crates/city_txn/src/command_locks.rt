@@ -2,7 +2,6 @@
 ghost use Rattle.std.specs.Prelude.{◌≡◌, [], ◌∷◌, IfSome, IfNone, drop};
 ghost use Rattle.city_model.specs.CityMap.{CityMap};
 ghost use Rattle.city_model.specs.Meaning.{delete_locks, exclusively, locks_of};
-ghost use Rattle.city_locks.specs.Mode.{is_exclusive};
 ghost use Rattle.city_txn.specs.inside.State.{view};
 
 use crate::store::Store;
@@ -13,7 +12,7 @@ use std::slice;
 
 /// The id that a command locks first, and the mode; none where it locks nothing.
 pub fn first_lock(command: &Command) -> Option<(&Id, Mode)>
-    ensures first { IfSome result (λ lock. (m : CityMap) → locks_of m command.now ≡ (lock.0.now, is_exclusive lock.1) ∷ drop 1 (locks_of m command.now)) }
+    ensures first { IfSome result (λ lock. (m : CityMap) → locks_of m command.now ≡ (lock.0.now, lock.1) ∷ drop 1 (locks_of m command.now)) }
     ensures none { IfNone result ((m : CityMap) → locks_of m command.now ≡ []) }
 {
     match command {

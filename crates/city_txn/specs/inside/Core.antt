@@ -1,7 +1,7 @@
 -- How a core's fields make its value, and what holds of them.
 use Rattle.std.specs.Prelude.{◌≡◌, ℕ, List, [], true, false, Some, is_some}
 use Rattle.std.specs.Map.{keys_of}
-use Rattle.city_locks.specs.declared.mode.Mode.TheVariants.{Exclusive}
+use Rattle.city_model.specs.declared.mode.Mode.TheVariants.{Exclusive}
 use Rattle.city_locks.specs.Locks.{mode_of, Lawful}
 use Rattle.city_model.specs.Relations.{IsLawful}
 use Rattle.city_model.specs.Standing.{Answered}

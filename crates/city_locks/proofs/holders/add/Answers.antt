@@ -2,7 +2,7 @@ use Rattle.std.proofs.Common.{◌≡◌, ◌==◌, ◌∙◌, sym, ap, ◌∷◌
 use Rattle.std.proofs.Math.Seq.{drop-cons}
 use Rattle.std.proofs.Math.ListN.{set}
 use Rattle.std.proofs.lemmas.List.{set_split}
-use Rattle.city_locks.specs.declared.mode.Mode.{Mode}
+use Rattle.city_model.specs.declared.mode.Mode.{Mode}
 use Rattle.city_locks.specs.declared.holder.Holder.{Holder}
 use Rattle.city_locks.specs.Mode.{stronger}
 use Rattle.city_locks.specs.Holders.{with_holder}

@@ -1,7 +1,7 @@
 use Rattle.std.proofs.Common.{◌≡◌, drop}
 use Rattle.std.specs.List.{list_any}
-use Rattle.city_model.specs.Shells.{is_open}
+use Rattle.city_model.specs.Shells.{is_open_shell}
 use Rattle.city_model.proofs.shells.any_open.Given as goal
 
 abbrev pub invariant-loop-shell : goal.invariant-loop-shell
-invariant-loop-shell l = list_any is_open l.shells ≡ list_any is_open (drop l.shell-index l.shells)
+invariant-loop-shell l = list_any is_open_shell l.shells ≡ list_any is_open_shell (drop l.shell-index l.shells)

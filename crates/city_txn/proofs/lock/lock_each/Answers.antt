@@ -2,7 +2,7 @@ use Rattle.std.proofs.Common.{◌≢◌, ◌∙◌, ◌+◌, ◌<◌, sym, rules
 use Rattle.std.proofs.lemmas.List.{drop_all}
 use Rattle.city_model.specs.Meaning.{exclusively}
 use Rattle.city_locks.specs.declared.answer.Answer.TheVariants.{Granted}
-use Rattle.city_locks.specs.declared.mode.Mode.TheVariants.{Exclusive}
+use Rattle.city_model.specs.declared.mode.Mode.TheVariants.{Exclusive}
 use Rattle.city_txn.proofs.LocksAsked.{asked_granted, asked_refused, asked_failed, asked_none, exclusive_left}
 use Rattle.city_txn.proofs.lock.lock_each.Goals as goal
 
