@@ -1,5 +1,5 @@
 -- A command reads and writes only what it locks.
-use Rattle.std.proofs.Common.{◌≡◌, ℕ, List, [], ◌∷◌, length, Bool, true, false, ◌||◌, Option, Some, None, refl, ap, sym, ◌∙◌}
+use Rattle.std.proofs.Common.{◌≡◌, ℕ, List, [], ◌∷◌, length, true, false, ◌||◌, Option, Some, None, refl, ap, sym, ◌∙◌}
 use Rattle.std.specs.Prelude.{◌==◌, if◌then◌else◌, option_map}
 use Rattle.std.proofs.lemmas.Bool.{false≢true, false_from_ne_true, or_parts, or_left, or_right}
 use Rattle.std.proofs.lemmas.Map.{update_other}

@@ -1,6 +1,6 @@
 -- A call of the core: its locks gained, and its command done on the store.
 use Rattle.std.proofs.Common.{◌≡◌, ◌≢◌, ◌==◌, ◌&&◌, ℕ, List, [], Bool, true, false, Option, None, Some, is_some, Result, Ok, Err, refl, ap, sym, ◌∙◌, subst, inl, inr}
-use Rattle.std.specs.Prelude.{if◌then◌else◌, option_map, is_none, IfOk, IfErr, OnOk, IsOk, IsErr}
+use Rattle.std.specs.Prelude.{if◌then◌else◌, is_none, IfOk, IfErr, OnOk, IsOk, IsErr}
 use Rattle.std.proofs.lemmas.Result.{on_ok_weaker}
 use Rattle.std.proofs.lemmas.Bool.{false≢true, eqb-true, ne_eqb, cases_eq, and_parts}
 use Rattle.city_model.specs.declared.command.Cause.{Cause}
@@ -16,7 +16,6 @@ use Rattle.city_model.proofs.IdLists.{bool_cases}
 use Rattle.city_model.proofs.History as history
 use Rattle.city_locks.specs.declared.answer.Answer.{Answer}
 use Rattle.city_locks.specs.declared.answer.Answer.TheVariants.{Granted}
-use Rattle.city_model.specs.declared.mode.Mode.{Mode}
 use Rattle.city_model.specs.declared.mode.Mode.TheVariants.{Exclusive}
 use Rattle.city_locks.specs.Locks.{Locks, mode_of}
 use Rattle.city_txn.specs.declared.step.Step.{Step}

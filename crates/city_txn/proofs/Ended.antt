@@ -1,6 +1,6 @@
 -- What the end of a transaction leaves: a commit and an abort keep what the others' commands stand on.
 use Rattle.std.proofs.Common.{◌≡◌, ◌==◌, ℕ, List, [], true, false, Option, None, Some, is_some, refl, ap, sym, ◌∙◌, subst, inl, inr}
-use Rattle.std.specs.Prelude.{if◌then◌else◌, option_map, unwrap_or, cond}
+use Rattle.std.specs.Prelude.{if◌then◌else◌, unwrap_or, cond}
 use Rattle.std.proofs.lemmas.Option.{none-some}
 use Rattle.std.proofs.lemmas.Bool.{false≢true, eqb-true, eqb-false, eq-eqb, ne_eqb, cases_eq}
 use Rattle.city_model.specs.declared.object.Object.{Object}

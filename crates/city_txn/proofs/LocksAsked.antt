@@ -1,13 +1,13 @@
 -- Locks asked for in turn: one, and those after it.
 use Rattle.std.proofs.Common.{◌≡◌, ◌≢◌, ℕ, ◌+◌, ◌<◌, List, [], ◌∷◌, length, drop, get_or, true, None, is_some, Result, Ok, Err, refl, ap, sym, ◌∙◌, subst}
-use Rattle.std.specs.Prelude.{IfOk, IsErr, option_map}
+use Rattle.std.specs.Prelude.{IfOk, IsErr}
 use Rattle.std.proofs.Math.Nat.{ne_of_lt, ne_of_gt}
 use Rattle.std.proofs.lemmas.Result.{on_ok_weaker, IfOk-weaker}
 use Rattle.std.proofs.Common.{add-one, drop-cons}
 use Rattle.std.proofs.lemmas.Bool.{false≢true, ne_eqb}
 use Rattle.city_model.specs.Meaning.{exclusively}
 use Rattle.city_model.specs.declared.mode.Mode.{Mode}
-use Rattle.city_model.specs.declared.mode.Mode.TheVariants.{Shared, Exclusive}
+use Rattle.city_model.specs.declared.mode.Mode.TheVariants.{Exclusive}
 use Rattle.city_locks.specs.declared.answer.Answer.{Answer}
 use Rattle.city_locks.specs.declared.answer.Answer.TheVariants.{Granted, Wait, Die}
 use Rattle.city_locks.specs.Locks.{Locks, answer_of, mode_of, Lawful}

@@ -1,6 +1,6 @@
 -- Locks gained: the commands of every open transaction stand as before.
-use Rattle.std.proofs.Common.{◌≡◌, ◌⊎◌, inl, inr, ◌==◌, ◌&&◌, ℕ, List, [], ◌∷◌, Bool, true, false, Option, None, Some, is_some, refl, ap, sym, ◌∙◌, subst}
-use Rattle.std.specs.Prelude.{option_map, cond}
+use Rattle.std.proofs.Common.{◌≡◌, ◌⊎◌, inl, inr, ◌==◌, ◌&&◌, ℕ, List, [], ◌∷◌, true, false, Option, None, Some, is_some, refl, ap, sym, ◌∙◌, subst}
+use Rattle.std.specs.Prelude.{cond}
 use Rattle.std.proofs.lemmas.Bool.{false≢true, eqb-true, eq-eqb, or_parts, or_right}
 use Rattle.city_model.specs.CityMap.{same_id}
 use Rattle.city_model.specs.Relations.{IsLawful}

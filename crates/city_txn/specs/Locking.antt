@@ -1,6 +1,5 @@
 -- Locks asked for in turn, up to the first that isn't granted.
 use Rattle.std.specs.Prelude.{◌≡◌, ◌⊎◌, ◌==◌, ◌<◌, ℕ, List, [], ◌∷◌, ◌++◌, Bool, true, false}
-use Rattle.std.specs.Prelude.{if◌then◌else◌}
 use Rattle.city_model.specs.declared.mode.Mode.{Mode}
 use Rattle.city_model.specs.declared.mode.Mode.TheVariants.{Exclusive}
 use Rattle.city_locks.specs.declared.answer.Answer.{Answer}
