@@ -145,7 +145,8 @@ module _ (n : ℕ) (start d e : DeskState) (r : IsRunning n start d) (keeps : Ke
       let rs : List Reply = replies_of d n ++ h.reply ∷ [] in
       let now = left_as (Open h.stamp h.since) rs (phase_moved d e n (at_now (Open h.stamp h.since) rs) within h.moves) (replies_moved d e n (at_now (Open h.stamp h.since) rs) within h.moves) in
       let long : length rs ≡ length (replies_of d n) + 1 = length-append (replies_of d n) (h.reply ∷ []) in
-      let lt = slice_get_within (commands_at d.scripts n) (length (replies_of d n)) h.is.command (sym (command_as d.scripts n (length (replies_of d n))) ∙ h.is.next.next) in
+      let next = sym (command_as d.scripts n (length (replies_of d n))) ∙ h.is.next.next in
+      let lt = slice_get_within (commands_at d.scripts n) (length (replies_of d n)) h.is.command next in
       let before : turns_left d.scripts n (phase_of d n) (replies_of d n) ≡ length (commands_at d.scripts n) - length (replies_of d n) = ap (λ p. turns_left d.scripts n p (replies_of d n)) h.is.next.phase in
       omega arith
 

@@ -158,7 +158,8 @@ module _ (d : DeskState) (changes : List Change) (base : Option CityValue) (n st
         opened = opened;
         begun = omega arith;
         since = omega arith;
-        unfinished = some_there script.1 (subst (λ (cs : List Command). ends_once cs ≡ true) (ap commands_of script_is) once);
+        unfinished = some_there script.1
+            (subst (λ (cs : List Command). ends_once cs ≡ true) (ap commands_of script_is) once);
         unrefused = refl;
         stands = stands;
       } in
@@ -241,7 +242,10 @@ module _ (d : DeskState) (changes : List Change) (base : Option CityValue) (n st
             since = length d.ends;
             outcome = Outcome.NoMemory 0;
             due = due_unbegun (phase_of d n) its;
-            ends = more ∙ ap (λ (name : List ℕ). d.ends ++ end_of d n name (length d.ends) (Outcome.NoMemory 0) ∷ []) (ap name_in script_is);
+            ends =
+                more
+                ∙ ap (λ (name : List ℕ). d.ends ++ end_of d n name (length d.ends) (Outcome.NoMemory 0) ∷ [])
+                (ap name_in script_is);
             moves = moves;
             begun = refl;
           };

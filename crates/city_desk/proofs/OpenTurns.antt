@@ -129,7 +129,9 @@ module _ (d : DeskState) (changes : List Change) (base : Option CityValue) (n st
   unfinished = subst (λ (cs : List Command). length (replies_of d n) < length cs) (sym commands_are) attempt.unfinished
 
   stood : StandsUnderLocks d.core stamp (answered (commands_at d.scripts n) (replies_of d n))
-  stood = subst (λ (cs : List Command). StandsUnderLocks d.core stamp (answered cs (replies_of d n))) (sym commands_are) attempt.stands
+  stood =
+      subst (λ (cs : List Command). StandsUnderLocks d.core stamp (answered cs (replies_of d n))) (sym commands_are)
+      attempt.stands
 
   within : n < length d.progress
   within = subst (λ k. n < k) (sym s.of_each) there
@@ -228,8 +230,12 @@ module _ (d : DeskState) (changes : List Change) (base : Option CityValue) (n st
           since = attempt.since;
           unfinished = omega arith;
           unrefused = any_more (replies_of d n) h.reply attempt.unrefused h.unrefused;
-          stands = subst (λ (cs : List Command). StandsUnderLocks core stamp (answered cs (replies_of d n ++ h.reply ∷ []))) commands_are
-              (subst (λ (l : List Answered). StandsUnderLocks core stamp l) (sym (answered_more (commands_at d.scripts n) (replies_of d n) command h.reply next)) (h.stands (answered (commands_at d.scripts n) (replies_of d n)) stood));
+          stands =
+              subst (λ (cs : List Command). StandsUnderLocks core stamp (answered cs (replies_of d n ++ h.reply ∷ [])))
+              commands_are
+              (subst (λ (l : List Answered). StandsUnderLocks core stamp l)
+              (sym (answered_more (commands_at d.scripts n) (replies_of d n) command h.reply next))
+              (h.stands (answered (commands_at d.scripts n) (replies_of d n)) stood));
         }
 
     waiting_stands : (p q : Progress) (progress : List Progress) → IsToWait stamp command p q d.core core → IsAttempt (now progress) n stamp since (replies_of d n)
@@ -383,7 +389,9 @@ module _ (d : DeskState) (changes : List Change) (base : Option CityValue) (n st
               since = since;
               outcome = outcome;
               due = subst (λ p. IsDue d n p since outcome) (sym is) (refl, record { command = command; next = is_next; ends = h.ends; granted = h.granted });
-              ends = more ∙ ap (λ (name : List ℕ). d.ends ++ end_of d n name since outcome ∷ []) (ap name_in script_there);
+              ends =
+                  more
+                  ∙ ap (λ (name : List ℕ). d.ends ++ end_of d n name since outcome ∷ []) (ap name_in script_there);
               moves = moves;
               begun = refl;
             };

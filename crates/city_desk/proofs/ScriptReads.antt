@@ -20,7 +20,8 @@ script_there scripts n x lt is = slice_get_read scripts (length scripts) n x ref
 pub commands_read : (scripts : List Scripted) (n : ℕ) (x : Scripted) → n < length scripts → x ≡ slice_index_or scripts n x → commands_at scripts n ≡ x.1
 commands_read scripts n x lt is = ap commands_of (script_there scripts n x lt is)
 
-command_found : (script : Option Scripted) (k : ℕ) → option_and_then (λ s. slice_get s.1 k) script ≡ slice_get (commands_of script) k
+command_found : (script : Option Scripted) (k : ℕ)
+    → option_and_then (λ s. slice_get s.1 k) script ≡ slice_get (commands_of script) k
 command_found None k = refl
 command_found (Some s) k = refl
 

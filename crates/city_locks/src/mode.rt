@@ -5,7 +5,7 @@ ghost use Rattle.city_locks.specs.Mode.{stronger};
 use city_model::mode::Mode;
 
 /// The stronger of a mode that is asked for and one that is held already.
-pub fn stronger(mode: Mode, held: Mode) -> Mode
+pub(crate) fn stronger(mode: Mode, held: Mode) -> Mode
     ensures { result ≡ stronger mode (Some held) }
 {
     match mode {

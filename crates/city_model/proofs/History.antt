@@ -38,7 +38,8 @@ held_exclusively held (l ∷ ls) q a h = bool_cases (is_exclusive l.1)
     (λ e.
     let k : (same_id q l.0 || locks_id_exclusively ls q) ≡ true = rw e at h in
     bool_cases (same_id q l.0)
-    (λ f. ap (covers (held q)) (sym (exclusive_mode l.1 e)) ∙ ap (λ k. covers (held k) l.1) (same_id_true q l.0 f) ∙ a.0)
+    (λ f.
+    ap (covers (held q)) (sym (exclusive_mode l.1 e)) ∙ ap (λ k. covers (held k) l.1) (same_id_true q l.0 f) ∙ a.0)
     (λ f. held_exclusively held ls q a.1 (sym (ap (λ b. b || locks_id_exclusively ls q) f) ∙ k)))
     (λ e. held_exclusively held ls q a.1 (rw e at h))
 

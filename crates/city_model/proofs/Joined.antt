@@ -26,12 +26,16 @@ module _ (p : Surface → Bool) where
   of_solids : (solids : List Solid) → list_any (list_any (list_any p)) solids ≡ list_any p (joined (joined solids))
   of_solids solids = sym (list_any-joined p (joined solids) ∙ list_any-joined (list_any p) solids)
 
-  pub some_surface_of : (shape : Shape) → some_surface (boundaries_of shape) ≡ list_any p (surfaces_of shape)
+  some_surface_of : (shape : Shape) → some_surface (boundaries_of shape) ≡ list_any p (surfaces_of shape)
   some_surface_of (Shape.MultiSurface surfaces) = refl
   some_surface_of (Shape.CompositeSurface surfaces) = refl
   some_surface_of (Shape.Solid shells) = sym (list_any-joined p shells)
   some_surface_of (Shape.MultiSolid solids) = of_solids solids
   some_surface_of (Shape.CompositeSolid solids) = of_solids solids
+
+  pub some_surface_by : (shape : Shape) (b : Boundaries) → b ≡ boundaries_of shape
+      → some_surface b ≡ list_any p (surfaces_of shape)
+  some_surface_by shape b is = ap some_surface is ∙ some_surface_of shape
 
 module _ (p : Shell → Bool) where
   abbrev pub some_shell : Boundaries → Bool
@@ -39,9 +43,13 @@ module _ (p : Shell → Bool) where
   some_shell (Shells shells) = list_any p shells
   some_shell (Solids solids) = list_any (list_any p) solids
 
-  pub some_shell_of : (shape : Shape) → some_shell (boundaries_of shape) ≡ list_any (list_any p) (solids_of shape)
+  some_shell_of : (shape : Shape) → some_shell (boundaries_of shape) ≡ list_any (list_any p) (solids_of shape)
   some_shell_of (Shape.MultiSurface surfaces) = refl
   some_shell_of (Shape.CompositeSurface surfaces) = refl
   some_shell_of (Shape.Solid shells) = sym (or_false (list_any p shells))
   some_shell_of (Shape.MultiSolid solids) = refl
   some_shell_of (Shape.CompositeSolid solids) = refl
+
+  pub some_shell_by : (shape : Shape) (b : Boundaries) → b ≡ boundaries_of shape
+      → some_shell b ≡ list_any (list_any p) (solids_of shape)
+  some_shell_by shape b is = ap some_shell is ∙ some_shell_of shape

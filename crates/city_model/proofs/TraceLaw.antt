@@ -55,7 +55,8 @@ named_exclusive : (a b : Bool) → a ≡ true → covers (as_named a b) Exclusiv
 named_exclusive true b h = refl
 named_exclusive false b h = absurd (false≢true h)
 
-one_held : (o : Option Mode) (b : Mode) → is_some o ≡ true → (is_exclusive b ≡ true → covers o Exclusive ≡ true) → covers o b ≡ true
+one_held : (o : Option Mode) (b : Mode) → is_some o ≡ true
+    → (is_exclusive b ≡ true → covers o Exclusive ≡ true) → covers o b ≡ true
 one_held o Exclusive s x = x refl
 one_held o Shared s x = some_shared o s
 

@@ -12,7 +12,8 @@ use std::slice;
 
 /// The id that a command locks first, and the mode; none where it locks nothing.
 pub fn first_lock(command: &Command) -> Option<(&Id, Mode)>
-    ensures first { IfSome result (λ lock. (m : CityMap) → locks_of m command.now ≡ (lock.0.now, lock.1) ∷ drop 1 (locks_of m command.now)) }
+    ensures first { IfSome result (λ lock. (m : CityMap)
+        → locks_of m command.now ≡ (lock.0.now, lock.1) ∷ drop 1 (locks_of m command.now)) }
     ensures none { IfNone result ((m : CityMap) → locks_of m command.now ≡ []) }
 {
     match command {

@@ -1,7 +1,8 @@
 -- The boundaries of a shape are nested as what bounds it is.
 use Rattle.std.proofs.Common.{◌≡◌, ℕ, refl}
 use Rattle.city_model.specs.declared.object.Shape.{Shape}
-use Rattle.city_model.specs.declared.object.Shape.TheVariants.{MultiSurface, CompositeSurface, Solid, MultiSolid, CompositeSolid}
+use Rattle.city_model.specs.declared.object.Shape.TheVariants.{MultiSurface, CompositeSurface, Solid}
+use Rattle.city_model.specs.declared.object.Shape.TheVariants.{MultiSolid, CompositeSolid}
 use Rattle.city_model.specs.inside.BorrowedBounds.{Boundaries, Surfaces, Shells, Solids, boundaries_of}
 use Rattle.city_doc.specs.shape.Nesting.{Nested, nested}
 

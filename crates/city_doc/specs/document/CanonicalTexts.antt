@@ -18,7 +18,8 @@ use Rattle.city_doc.specs.Pool.{pool_of}
 -- are those of the city's tree, and the tree's numbers are in range
 pub record IsCanonicalText (text : List ℕ) (city : CityValue) : Type 0 where
   pub read_again : depth (tree_of city) ≤ max_depth → IsTextOfCity text city
-  pub canonical : depth (tree_of city) ≤ max_depth → (other : CityValue) → IsTextOfCity text other → city_text other ≡ text
+  pub canonical : depth (tree_of city) ≤ max_depth
+      → (other : CityValue) → IsTextOfCity text other → city_text other ≡ text
   pub accepted : depth (tree_of city) ≤ max_depth → IsReadable text → IsLawful (object_at city.1) → IsAccepted text
   pub rewritten : (document : List ℕ) → IsTextOfCity document city → IsTextOfCity text city
   pub tokens_are : tokens text ≡ tokens_of (tree_of city)
