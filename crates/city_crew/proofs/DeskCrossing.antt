@@ -47,9 +47,6 @@ replies_send = search (reply_sends, values.crosses, sendable) depth 60 fits 2000
 progress_sends : IsSend Progress.the_row
 progress_sends = search (replies_send, reply_sends, values.crosses, sendable) depth 60 fits 20000
 
-store_sends : IsSend Store.the_field.row
-store_sends = search (text_sends, object_sends, city_field_sends, maps.crosses, values.crosses, sendable) depth 60 fits 20000
-
 locks_send : IsSend LockTable.the_field.row
 locks_send = search (text_sends, maps.crosses, values.crosses, sendable) depth 60 fits 20000
 
@@ -59,8 +56,11 @@ entry_sends = search (text_sends, object_sends, values.crosses, sendable) depth 
 logs_send : IsSend UndoLogs.the_field.row
 logs_send = search (entry_sends, maps.crosses, values.crosses, sendable) depth 60 fits 20000
 
+store_sends : IsSend Store.the_field.row
+store_sends = search (logs_send, text_sends, object_sends, city_field_sends, maps.crosses, values.crosses, sendable) depth 60 fits 20000
+
 core_sends : IsSend Core.the_field.row
-core_sends = search (store_sends, logs_send, locks_send, values.crosses, sendable) depth 60 fits 20000
+core_sends = search (store_sends, locks_send, values.crosses, sendable) depth 60 fits 20000
 
 desk_inside_sends : (S N : RattleType) (G : Ghosts S.Denot N.Denot) → IsSend S → IsSend (DeskInside.the_field S N G).row
 desk_inside_sends S N G s =

@@ -22,6 +22,7 @@ use Rattle.city_model.proofs.IdLists.{bool_cases}
 use Rattle.city_txn.specs.declared.image.UndoImage.{UndoImage}
 use Rattle.city_txn.specs.declared.store.Store.TheInside.{Inside}
 use Rattle.city_txn.specs.inside.Images.{seen_under, seen_by, committed_at, write_at, writer_of, or_else}
+use Rattle.city_txn.specs.UndoLog.{log_of, has_before}
 use Rattle.city_txn.specs.Writes.{write_of, own_or, with_some, made_by}
 use Rattle.city_txn.specs.inside.State.{committed, view}
 use Rattle.city_txn.specs.inside.InPlace.{state_of, is_writer, IsInPlace}
@@ -143,16 +144,19 @@ all_there objects = ap (λ (es : Entries). from_sorted es) (all_made (entries ob
 no_image_listed : (images : Images) → entries images ≡ [] → (q : List ℕ) → get images q ≡ None
 no_image_listed images none q = image_listed images q ∙ ap (λ is. lookup (is_at (slice_cmp nat_cmp q)) is) none
 
-pub new_state : (a : Inside) → entries a.undo.images ≡ [] → a.undo.reservations ≡ [] → state_of a ≡ record { frame = a.city.0; city = a.city.1; writes = []; opened = [] }
-new_state a none shut i = record {
+pub new_state : (a : Inside) → entries a.undo.images ≡ [] → a.undo.reservations ≡ [] → a.logs ≡ []
+    → state_of a ≡ record { frame = a.city.0; city = a.city.1; writes = []; opened = []; logs = [] }
+new_state a none shut unlogged i = record {
   frame = a.city.0;
   city = ((λ j. from_sorted (made_by (λ r o. committed_at (Some o) (no_image_listed a.undo.images none r j)) (entries a.city.1))) ∙ all_there a.city.1) i;
   writes = ap (λ (is : List (List ℕ × UndoImage)). made_by (λ r j. write_at (here a r) (Some j)) is) none i;
   opened = shut i;
+  logs = unlogged i;
 }
 
-pub new_in_place : (a : Inside) → entries a.undo.images ≡ [] → a.undo.reservations ≡ [] → IsInPlace a
-new_in_place a none shut = record {
+pub new_in_place : (a : Inside) → entries a.undo.images ≡ [] → a.undo.reservations ≡ [] → a.logs ≡ [] → IsInPlace a
+new_in_place a none shut unlogged = record {
   has_slot = λ id h. absurd (false≢true (sym (ap is_some (no_image_listed a.undo.images none id)) ∙ h));
   listed = λ s id. ap (λ r. has_id (reservations_of r s) id) shut ∙ sym (ap (λ i. is_writer s (writer_of i)) (no_image_listed a.undo.images none id));
+  noted = λ s id h. absurd (false≢true (sym (ap (λ ls. has_before (log_of ls s) id) unlogged) ∙ h));
 }

@@ -14,11 +14,11 @@ use Rattle.city_model.proofs.IdLists.{bool_cases}
 use Rattle.city_model.proofs.History.{follows_same}
 use Rattle.city_locks.proofs.Among.{none_from}
 use Rattle.city_model.specs.declared.mode.Mode.TheVariants.{Exclusive}
-use Rattle.city_locks.specs.Locks.{Locks, mode_of, Lawful}
+use Rattle.city_locks.specs.Locks.{mode_of, Lawful}
 use Rattle.city_txn.specs.inside.State as store
 use Rattle.city_txn.specs.inside.State.{State, is_reserved, Begins, Forgets}
 use Rattle.city_txn.specs.Writes.{Write, write_of, own_or, own_write, is_by}
-use Rattle.city_txn.specs.UndoLog.{Logs, log_of, marked, has_before, marks_with}
+use Rattle.city_txn.specs.UndoLog.{log_of, marked, has_before, marks_with}
 use Rattle.city_model.specs.Marks.{unmarked}
 use Rattle.city_model.specs.Standing.{Answered, covers}
 use Rattle.city_txn.specs.CoreState.{CoreState, committed, view, own, written, snapshot, is_open, held, held_in, StandsUnderLocks, KeepsOthers, IsTransactionEnd, IsRolledBack}
@@ -51,26 +51,21 @@ open_stored a snapshot s = sym (open_is a s) ∙ ap (λ u. is_open u s) snapshot
 none_some_write : {A : Type 0} {w : Write} → None ≡ Some w → A
 none_some_write e = absurd (cc)
 
-fresh_core : (a : Inside) (frame : Frame) (city : Objects) → IsLawful (object_at city) → IsCore (record a { store = record { frame = frame; city = city; writes = []; opened = [] }; logs = []; locks = [] })
-fresh_core a frame city l = record {
-  state = record {
-    lawful = λ s t id ne e. refl;
-    locked = λ q w e. none_some_write e;
-    marks_locked = λ s q h. absurd (false≢true h);
-    open_only = λ s q h. absurd (false≢true h);
-    marks_open = λ s h. refl;
-    city = l;
-    history = λ s. ([], refl);
-  };
-  reserved = λ t q h. absurd (false≢true h);
-  noted = λ t q h. absurd (false≢true h);
-}
-
-pub opened_core : (a : Inside) (frame : Frame) (city : Objects) → a.store ≡ record { frame = frame; city = city; writes = []; opened = [] } → a.logs ≡ [] → a.locks ≡ [] → IsLawful (object_at city) → IsCore a
-opened_core a frame city e d f l =
-    subst (λ (x : State). IsCore (record a { store = x })) (sym e)
-    (subst (λ (x : Logs). IsCore (record a { store = record { frame = frame; city = city; writes = []; opened = [] }; logs = x })) (sym d)
-    (subst (λ (x : Locks). IsCore (record a { store = record { frame = frame; city = city; writes = []; opened = [] }; logs = []; locks = x })) (sym f) (fresh_core a frame city l)))
+pub opened_core : (a : Inside) (frame : Frame) (city : Objects) → a.store ≡ record { frame = frame; city = city; writes = []; opened = []; logs = [] }
+    → a.locks ≡ [] → IsLawful (object_at city) → IsCore a
+opened_core a frame city e f l =
+    subst IsCore (λ i. record { store = sym e i; locks = sym f i }) (record {
+      state = record {
+        lawful = λ s t id ne e. refl;
+        locked = λ q w e. none_some_write e;
+        marks_locked = λ s q h. absurd (false≢true h);
+        open_only = λ s q h. absurd (false≢true h);
+        marks_open = λ s h. refl;
+        city = l;
+        history = λ s. ([], refl);
+      };
+      reserved = λ t q h. absurd (false≢true h);
+    })
 
 -- ---- begun
 
@@ -90,7 +85,7 @@ shut_writer v s q c h w e = bool_cases (w.0 == s)
 pub shut_unwritten : (v : CoreState) (s : ℕ) (q : List ℕ) → IsConsistent v → is_open v s ≡ false → is_by s (write_of v.writes q) ≡ false
 shut_unwritten v s q c h = not_by s (write_of v.writes q) (shut_writer v s q c h)
 
-module _ (a b : Inside) (k : IsCore a) {v : CoreState} (known : core_state a ≡ v) (s : ℕ) (shut : is_open v s ≡ false) (begins : Begins s a.store b.store) (logs : b.logs ≡ a.logs) (locks : b.locks ≡ a.locks) where
+module _ (a b : Inside) (k : IsCore a) {v : CoreState} (known : core_state a ≡ v) (s : ℕ) (shut : is_open v s ≡ false) (begins : Begins s a.store b.store) (locks : b.locks ≡ a.locks) where
   begun_open : (t : ℕ) → is_open (core_state b) t ≡ ((s == t) || is_open (core_state a) t)
   begun_open t = open_is b t ∙ begins.opened t ∙ ap (λ c. (s == t) || c) (sym (open_is a t))
 
@@ -101,8 +96,8 @@ module _ (a b : Inside) (k : IsCore a) {v : CoreState} (known : core_state a ≡
   was_shut = ap (λ u. is_open u s) known ∙ shut
 
   -- it has no marks
-  pub begun_unmarked : log_of b.logs s ≡ []
-  begun_unmarked = ap (λ ls. log_of ls s) logs ∙ k.state.marks_open s was_shut
+  pub begun_unmarked : log_of b.store.logs s ≡ []
+  begun_unmarked = ap (λ ls. log_of ls s) begins.logs ∙ k.state.marks_open s was_shut
 
   -- the new one did nothing, so it sees the committed map
   pub begun_own : StandsUnderLocks (core_state b) s []
@@ -114,7 +109,7 @@ module _ (a b : Inside) (k : IsCore a) {v : CoreState} (known : core_state a ≡
 
   begun_written : (t : ℕ) → written (core_state b) t ≡ written (core_state a) t
   begun_written t = written_same (core_state a) (core_state b) t
-      (λ q. ap (λ ws. own_write t (write_of ws q)) begins.writes) (ap (λ ls. log_of ls t) logs)
+      (λ q. ap (λ ws. own_write t (write_of ws q)) begins.writes) (ap (λ ls. log_of ls t) begins.logs)
 
   begun_stands : (t : ℕ) (done : List Answered) → StandsUnderLocks (core_state a) t done → StandsUnderLocks (core_state b) t done
   begun_stands t done f = follows_same (held (core_state a) t) (held (core_state b) t) (unmarked (committed (core_state a))) (unmarked (committed (core_state b))) done
@@ -134,14 +129,13 @@ module _ (a b : Inside) (k : IsCore a) {v : CoreState} (known : core_state a ≡
     state = record {
       lawful = subst Lawful (sym locks) k.state.lawful;
       locked = λ q w e. ap (λ hs. mode_of hs w.0 q) locks ∙ k.state.locked q w (ap (λ ws. write_of ws q) (sym begins.writes) ∙ e);
-      marks_locked = λ t q h. ap (λ hs. mode_of hs t q) locks ∙ k.state.marks_locked t q (ap (λ ls. has_before (log_of ls t) q) (sym logs) ∙ h);
+      marks_locked = λ t q h. ap (λ hs. mode_of hs t q) locks ∙ k.state.marks_locked t q (ap (λ ls. has_before (log_of ls t) q) (sym begins.logs) ∙ h);
       open_only = λ t q h. begun_open t ∙ or_right (s == t) (is_open (core_state a) t) (k.state.open_only t q (ap (λ hs. is_some (mode_of hs t q)) (sym locks) ∙ h));
-      marks_open = λ t h. ap (λ ls. log_of ls t) logs ∙ k.state.marks_open t (or_parts (s == t) (is_open (core_state a) t) (sym (begun_open t) ∙ h)).1;
+      marks_open = λ t h. ap (λ ls. log_of ls t) begins.logs ∙ k.state.marks_open t (or_parts (s == t) (is_open (core_state a) t) (sym (begun_open t) ∙ h)).1;
       city = subst (λ es. IsLawful (object_at es)) (sym begins.city) k.state.city;
       history = λ t. ((k.state.history t).0, begun_stands t (k.state.history t).0 (k.state.history t).1);
     };
     reserved = λ t q h. ap (λ hs. mode_of hs t q) locks ∙ k.reserved t q (sym (begins.reserved t q) ∙ h);
-    noted = λ t q h. begins.reserved t q ∙ k.noted t q (ap (λ ls. has_before (log_of ls t) q) (sym logs) ∙ h);
   }
 
 -- ---- over
@@ -151,12 +145,11 @@ none_left true c h = absurd (false≢true h)
 none_left false c h = (refl, h)
 
 module _ (a b : Inside) (k : IsCore a) (s : ℕ) (f : Forgets s a.store b.store)
-    (logs : (t : ℕ) → log_of b.logs t ≡ (if s == t then [] else log_of a.logs t))
     (modes : (t : ℕ) (q : List ℕ) → mode_of b.locks t q ≡ cond (s == t) None (mode_of a.locks t q)) (lawful : Lawful b.locks) where
   ended : Ended s (core_state a) (core_state b)
   ended = record {
     writes = f.writes;
-    marks = logs;
+    marks = f.logs;
     locks = modes;
     opened = λ t. open_is b t ∙ f.opened t ∙ ap (λ c. if s == t then false else c) (sym (open_is a t));
     lawful = lawful;
@@ -167,18 +160,12 @@ module _ (a b : Inside) (k : IsCore a) (s : ℕ) (f : Forgets s a.store b.store)
       let left = none_left (s == t) (is_reserved a.store t q) (sym (f.reserved t q) ∙ h) in
       modes t q ∙ ap (λ c. cond c None (mode_of a.locks t q)) left.0 ∙ k.reserved t q left.1
 
-  noted_left : (t : ℕ) (q : List ℕ) → has_before (log_of b.logs t) q ≡ true → is_reserved b.store t q ≡ true
-  noted_left t q h = bool_cases (s == t)
-      (λ e. absurd (false≢true (sym (ap (λ es. has_before es q) (logs t ∙ ap (λ c. if c then [] else log_of a.logs t) e)) ∙ h)))
-      (λ e. f.reserved t q ∙ ap (λ c. if c then false else is_reserved a.store t q) e
-      ∙ k.noted t q (sym (ap (λ es. has_before es q) (logs t ∙ ap (λ c. if c then [] else log_of a.logs t) e)) ∙ h))
-
   module _ (city : store.committed b.store ≡ store.view a.store s) where
     pub committed_over : IsTransactionEnd s (core_state a) (core_state b)
     committed_over = is_over s (core_state a) (core_state b) ended f.frame (λ t done ne g. stands_committed s t (core_state a) (core_state b) done k.state ended city ne g)
 
     pub committed_core : HasNoOrphan (view (core_state a) s) → IsCore b
-    committed_core orphans = record { state = committed_consistent s (core_state a) (core_state b) k.state ended city orphans; reserved = reserved_left; noted = noted_left }
+    committed_core orphans = record { state = committed_consistent s (core_state a) (core_state b) k.state ended city orphans; reserved = reserved_left }
 
   module _ (city : store.committed b.store ≡ store.committed a.store) where
     pub undone : IsRolledBack s (core_state a) (core_state b)
@@ -189,4 +176,4 @@ module _ (a b : Inside) (k : IsCore a) (s : ℕ) (f : Forgets s a.store b.store)
     }
 
     pub undone_core : IsCore b
-    undone_core = record { state = aborted_consistent s (core_state a) (core_state b) k.state ended city; reserved = reserved_left; noted = noted_left }
+    undone_core = record { state = aborted_consistent s (core_state a) (core_state b) k.state ended city; reserved = reserved_left }

@@ -11,10 +11,10 @@ use Rattle.city_txn.specs.declared.store.Store.TheInside.{Inside}
 use Rattle.city_txn.specs.inside.Images.{seen_under, committed_at, write_at}
 use Rattle.city_txn.specs.inside.InPlace.{state_of, IsInPlace}
 use Rattle.city_txn.specs.Writes.{Write, write_of, is_by}
-use Rattle.city_txn.specs.inside.State.{rewritten, committed}
+use Rattle.city_txn.specs.inside.State.{rewritten}
 use Rattle.city_txn.specs.inside.UndoState.{image_at}
 use Rattle.city_txn.proofs.AtOneId.{here, writes_is}
-use Rattle.city_txn.proofs.OneIdChanged.{at_each, slots_kept, committed_kept, write_changed}
+use Rattle.city_txn.proofs.OneIdChanged.{at_each, OneWritten, one_written}
 
 -- ---- at one id, where x stands in the city
 
@@ -50,24 +50,13 @@ module _ (a : Inside) (k : IsInPlace a) (id : List ℕ) (written : is_some (writ
   pub written_there : is_some (here a id) ≡ true
   written_there = k.has_slot id (has_image (here a id) (image_at a.undo id) write)
 
-  module _ (n : CityValue) (f : Object → Object) (city : object_at n.1 ≡ changed (object_at a.city.1) id (option_map f (object_at a.city.1 id))) where
-    abbrev b : Inside
-    b = record { city = n; undo = a.undo }
-
-    images : (q : List ℕ) → image_at b.undo q ≡ (if same_id id q then image_at a.undo id else image_at a.undo q)
-    images = at_each {P = λ q. image_at a.undo q ≡ (if same_id id q then image_at a.undo id else image_at a.undo q)} id (rw (same_id_itself id) refl) (λ q e. rw e refl)
-
-    pub edited_in_place : IsInPlace b
-    edited_in_place = record {
-      has_slot = slots_kept a b k id (option_map f (here a id)) (image_at a.undo id) city images (still_there f (here a id) ∙ written_there);
-      listed = k.listed;
-    }
-
-    pub edited_city : committed (state_of b) ≡ committed (state_of a)
-    edited_city = committed_kept a b k id (option_map f (here a id)) (image_at a.undo id) city images edited_in_place
-        (committed_beneath (here a id) (option_map f (here a id)) (image_at a.undo id) write)
-
-    pub edited_writes : (q : List ℕ) → write_of (state_of b).writes q ≡ (if same_id id q then option_map (rewritten f) (write_of (state_of a).writes id) else write_of (state_of a).writes q)
-    edited_writes q = write_changed a b k id (option_map f (here a id)) (image_at a.undo id) city images edited_in_place q
-        ∙ ap (λ z. if same_id id q then z else write_of (state_of a).writes q)
-        (write_edited f (here a id) (image_at a.undo id) ∙ ap (option_map (rewritten f)) (sym (writes_is a k id)))
+  pub edited : (n : CityValue) (f : Object → Object) → n.0 ≡ a.city.0
+      → object_at n.1 ≡ changed (object_at a.city.1) id (option_map f (object_at a.city.1 id))
+      → OneWritten a (record a { city = n }) id (option_map (rewritten f) (write_of (state_of a).writes id))
+  edited n f frame city =
+      let i = image_at a.undo id in
+      one_written a (record a { city = n }) k id (option_map f (here a id)) i frame city
+      (at_each {P = λ q. image_at a.undo q ≡ (if same_id id q then i else image_at a.undo q)} id (rw (same_id_itself id) refl) (λ q e. rw e refl))
+      refl refl (still_there f (here a id) ∙ written_there) refl (option_map (rewritten f) (write_of (state_of a).writes id))
+      (write_edited f (here a id) i ∙ ap (option_map (rewritten f)) (sym (writes_is a k id)))
+      (committed_beneath (here a id) (option_map f (here a id)) i write)

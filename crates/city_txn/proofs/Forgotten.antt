@@ -4,7 +4,7 @@ use Rattle.std.specs.Prelude.{if◌then◌else◌, unwrap_or}
 use Rattle.std.specs.Ordering.{nat_cmp}
 use Rattle.std.specs.BTreeMap.{is_at}
 use Rattle.std.specs.FinMap.{get}
-use Rattle.std.proofs.lemmas.Bool.{eqb-true}
+use Rattle.std.proofs.lemmas.Bool.{false≢true, eqb-true}
 use Rattle.city_model.specs.declared.object.Object.{Object}
 use Rattle.city_model.specs.CityMap.{has_id}
 use Rattle.city_model.proofs.IdLists.{bool_cases}
@@ -15,6 +15,7 @@ use Rattle.city_txn.specs.declared.ending.End.TheVariants.{Commit, RollBack}
 use Rattle.city_txn.specs.inside.Ending.{left_at_end, map_at_end, AreEnded}
 use Rattle.city_txn.specs.inside.Images.{committed_at, write_at, writer_of}
 use Rattle.city_txn.specs.inside.State.{is_open, is_reserved, committed, Forgets}
+use Rattle.city_txn.specs.UndoLog.{log_of, has_before}
 use Rattle.city_txn.specs.Writes.{own_or, unless_by}
 use Rattle.city_txn.specs.inside.InPlace.{state_of, is_writer, IsInPlace}
 use Rattle.city_txn.specs.inside.UndoState.{UndoState, image_at, listed_by, reservations_of}
@@ -74,10 +75,16 @@ others_stay s t (Some i) = bool_cases (i.by == s)
 
 -- ---- the whole
 
+pub record Ending (s : ℕ) (end : End) (a b : Inside) : Type 0 where
+  pub in_place : IsInPlace b
+  pub forgets : Forgets s (state_of a) (state_of b)
+  pub city : committed (state_of b) ≡ map_at_end end (state_of a) s
+
 -- the stamp s is closed, and then each of its ids is ended
 module _ (a b : Inside) (k : IsInPlace a) (s : ℕ) (ids : List (List ℕ)) (are : ids ≡ reservations_of a.undo.reservations s) (u : UndoState) (images : u.images ≡ a.undo.images)
     (closed : (t : ℕ) → listed_by u.reservations t ≡ (if is_at (nat_cmp s) t then None else listed_by a.undo.reservations t))
-    (end : End) (ended : AreEnded end (has_id ids) a.city u b.city b.undo) where
+    (end : End) (ended : AreEnded end (has_id ids) a.city u b.city b.undo)
+    (logs : (t : ℕ) → log_of b.logs t ≡ (if s == t then [] else log_of a.logs t)) where
   mine : (q : List ℕ) → has_id ids q ≡ is_writer s (writer_of (image_at a.undo q))
   mine q = ap (λ xs. has_id xs q) are ∙ k.listed s q
 
@@ -97,14 +104,18 @@ module _ (a b : Inside) (k : IsInPlace a) (s : ℕ) (ids : List (List ℕ)) (are
   open_left : (t : ℕ) → is_open (state_of b) t ≡ (if s == t then false else is_open (state_of a) t)
   open_left t = ap is_some (reservations t) ∙ bool_cases (s == t) (λ e. rw (tied s t ∙ e, e) refl) (λ e. rw (tied s t ∙ e, e) refl)
 
-  pub forgotten_in_place : IsInPlace b
+  forgotten_in_place : IsInPlace b
   forgotten_in_place = record {
     has_slot = λ q. still_has_slot (left_at_end end) (here a q) (here b q) (image_at a.undo q) (image_at b.undo q) (is_writer s (writer_of (image_at a.undo q))) (k.has_slot q) (city_at q) (images_at q);
     listed = λ t q. reserved_left t q ∙ ap (λ c. if s == t then false else c) (k.listed t q) ∙ others_stay s t (image_at a.undo q)
         ∙ sym (ap (λ i. is_writer t (writer_of i)) (images_at q));
+    noted = λ t q h. bool_cases (s == t)
+        (λ e. absurd (false≢true (sym (ap (λ es. has_before es q) (logs t ∙ ap (λ c. if c then [] else log_of a.logs t) e)) ∙ h)))
+        (λ e. reserved_left t q ∙ ap (λ c. if c then false else is_reserved (state_of a) t q) e
+        ∙ k.noted t q (sym (ap (λ es. has_before es q) (logs t ∙ ap (λ c. if c then [] else log_of a.logs t) e)) ∙ h));
   }
 
-  pub forgets : Forgets s (state_of a) (state_of b)
+  forgets : Forgets s (state_of a) (state_of b)
   forgets = record {
     frame = ended.frame;
     writes = λ q. writes_is b forgotten_in_place q ∙ ap (λ x. write_at x (image_at b.undo q)) (city_at q)
@@ -112,6 +123,7 @@ module _ (a b : Inside) (k : IsInPlace a) (s : ℕ) (ids : List (List ℕ)) (are
         ∙ dropped_point s (here a q) (left_at_end end (here a q) (image_at a.undo q)) (image_at a.undo q) ∙ sym (ap (unless_by s) (writes_is a k q));
     opened = open_left;
     reserved = reserved_left;
+    logs = logs;
   }
 
   ended_at : (q : List ℕ) → committed (state_of b) q ≡ map_at_end end (state_of a) s q
@@ -119,5 +131,5 @@ module _ (a b : Inside) (k : IsInPlace a) (s : ℕ) (ids : List (List ℕ)) (are
       ∙ ap (committed_at (if is_writer s (writer_of (image_at a.undo q)) then left_at_end end (here a q) (image_at a.undo q) else here a q)) (images_at q)
       ∙ ended_point end s (here a q) (image_at a.undo q) ∙ sym (city_after_is end a k s q)
 
-  pub ended_city : committed (state_of b) ≡ map_at_end end (state_of a) s
-  ended_city = λ j q. ended_at q j
+  pub ending : Ending s end a b
+  ending = record { in_place = forgotten_in_place; forgets = forgets; city = λ j q. ended_at q j }

@@ -2,7 +2,6 @@ pub mod ActDone
 pub mod Answering
 pub mod AtOneId
 pub mod ChangeMade
-pub mod CommandDone
 pub mod CoreFields
 pub mod EachId
 pub mod Edited
@@ -13,12 +12,14 @@ pub mod ImagesHeld
 pub mod LocksAsked
 pub mod LocksGained
 pub mod OneIdChanged
+pub mod OthersLeft
 pub mod PerformDone
 pub mod PlanWritten
 pub mod RelatedInPlace
 pub mod ReservationMade
 pub mod SeenWrites
 pub mod Slots
+pub mod Touched
 pub mod UndoLogs
 pub mod Unwritten
 pub mod Written

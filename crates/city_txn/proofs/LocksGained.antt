@@ -1,76 +1,18 @@
--- Locks gained: the commands of every open transaction stand as before.
-use Rattle.std.proofs.Common.{◌≡◌, ◌⊎◌, inl, inr, ◌==◌, ◌&&◌, ℕ, List, [], ◌∷◌, true, false, Option, None, Some, is_some, refl, ap, sym, ◌∙◌, subst}
+-- One lock granted, and then more.
+use Rattle.std.proofs.Common.{◌≡◌, ◌⊎◌, inl, inr, ◌==◌, ◌&&◌, ℕ, List, [], ◌∷◌, true, false, Option, None, Some, refl, ap, sym, ◌∙◌, subst}
 use Rattle.std.specs.Prelude.{cond}
-use Rattle.std.proofs.lemmas.Bool.{false≢true, eqb-true, eq-eqb, or_parts, or_right}
+use Rattle.std.proofs.lemmas.Bool.{false≢true, eq-eqb, or_parts, or_right}
 use Rattle.city_model.specs.CityMap.{same_id}
-use Rattle.city_model.specs.Relations.{IsLawful}
 use Rattle.city_model.proofs.Ids.{same_id_itself, same_id_back, same_id_of_equal, by_id}
-use Rattle.city_model.proofs.IdLists.{bool_cases}
-use Rattle.city_model.proofs.History.{follows_same}
 use Rattle.city_model.specs.declared.mode.Mode.{Mode}
 use Rattle.city_model.specs.declared.mode.Mode.TheVariants.{Shared, Exclusive}
 use Rattle.city_locks.specs.declared.answer.Answer.{Answer}
 use Rattle.city_locks.specs.declared.answer.Answer.TheVariants.{Granted, Wait, Die}
 use Rattle.city_locks.specs.Mode.{stronger}
 use Rattle.city_locks.specs.Locks.{Locks, mode_of, answer_of, Lawful}
-use Rattle.city_model.specs.CityMap.{CityMap}
-use Rattle.city_model.specs.Marks.{View, unmarked}
-use Rattle.city_txn.specs.Writes.{write_of}
-use Rattle.city_txn.specs.UndoLog.{log_of, has_before}
-use Rattle.city_model.specs.Standing.{Lock, Answered, covers, locks_id, locks_id_exclusively}
-use Rattle.city_txn.specs.CoreState.{CoreState, committed, view, written, snapshot, is_open, held, held_in, StandsUnderLocks, KeepsOthers}
-use Rattle.city_txn.specs.inside.Core.{IsConsistent}
+use Rattle.city_model.specs.Standing.{Lock, covers, locks_id, locks_id_exclusively}
+use Rattle.city_txn.specs.CoreState.{held_in}
 use Rattle.city_txn.specs.Locking.{go_on, first_answer, first_if, granted_before, MoreLocks}
-use Rattle.city_txn.proofs.Ended.{held_exclusively}
-use Rattle.city_txn.proofs.SeenWrites.{seen_same}
-
--- s gained locks that ls names; else nobody sees a difference
-pub record LocksGained (s : ℕ) (ls : List Lock) (v w : CoreState) : Type 0 where
-  pub frame : w.frame ≡ v.frame
-  pub city : committed w ≡ committed v
-  pub writes : (q : List ℕ) → write_of w.writes q ≡ write_of v.writes q
-  pub written : (t : ℕ) → written w t ≡ written v t
-  pub marks_locked : (t : ℕ) (q : List ℕ) → has_before (log_of w.logs t) q ≡ true → mode_of w.locks t q ≡ Some Exclusive
-  pub opened : (t : ℕ) → is_open w t ≡ is_open v t
-  pub marks_open : (t : ℕ) → is_open w t ≡ false → log_of w.logs t ≡ []
-  pub locks : MoreLocks s ls v.locks w.locks
-  pub lawful : Lawful w.locks
-
-more_for : (s : ℕ) (ls : List Lock) (hs ks : Locks) → MoreLocks s ls hs ks → (t : ℕ) (q : List ℕ) (b : Mode) → covers (held_in hs t q) b ≡ true → covers (held_in ks t q) b ≡ true
-more_for s ls hs ks k t q b h = bool_cases (s == t)
-    (λ e. let p : s ≡ t = eqb-true s t e in ap (λ r. covers (held_in ks r q) b) (sym p) ∙ k.more q b (ap (λ r. covers (held_in hs r q) b) p ∙ h))
-    (λ e. ap (λ o. covers o b) (k.others t q e) ∙ h)
-
--- what was held exclusively still is
-pub exclusive_kept : (s : ℕ) (ls : List Lock) (hs ks : Locks) → MoreLocks s ls hs ks → (t : ℕ) (q : List ℕ) → mode_of hs t q ≡ Some Exclusive → mode_of ks t q ≡ Some Exclusive
-exclusive_kept s ls hs ks k t q x = held_exclusively (mode_of ks t q) (more_for s ls hs ks k t q Exclusive (ap (λ m. covers m Exclusive) x))
-
-module _ (s : ℕ) (ls : List Lock) (v w : CoreState) (k : LocksGained s ls v w) where
-  pub seen_gained : (t : ℕ) → snapshot w t ≡ snapshot v t
-  seen_gained t = seen_same v w t k.city (k.written t)
-
-  pub view_gained : (t : ℕ) → view w t ≡ view v t
-  view_gained t = ap (λ (x : View). x.map) (seen_gained t)
-
-  pub stands_gained : (t : ℕ) (done : List Answered) → StandsUnderLocks v t done → StandsUnderLocks w t done
-  stands_gained t done f = follows_same (held v t) (held w t) (unmarked (committed v)) (unmarked (committed w)) done (snapshot v t) (snapshot w t)
-      (more_for s ls v.locks w.locks k.locks t) (ap (λ (m : CityMap). unmarked m) (sym k.city)) (sym (seen_gained t)) f
-
-  pub keeps_gained : KeepsOthers s v w
-  keeps_gained = record { frame = k.frame; opened = λ t ne. k.opened t; others = λ t done ne f. stands_gained t done f }
-
-pub gained_consistent : (s : ℕ) (ls : List Lock) (v w : CoreState) → IsConsistent v → is_open v s ≡ true → LocksGained s ls v w → IsConsistent w
-gained_consistent s ls v w c o k = record {
-  lawful = k.lawful;
-  locked = λ q x e. exclusive_kept s ls v.locks w.locks k.locks x.0 q (c.locked q x (sym (k.writes q) ∙ e));
-  marks_locked = k.marks_locked;
-  open_only = λ t q h. bool_cases (s == t)
-      (λ e. k.opened t ∙ ap (is_open v) (sym (eqb-true s t e)) ∙ o)
-      (λ e. k.opened t ∙ c.open_only t q (ap is_some (sym (k.locks.others t q e)) ∙ h));
-  marks_open = k.marks_open;
-  city = subst IsLawful (sym k.city) c.city;
-  history = λ t. ((c.history t).0, stands_gained s ls v w k t (c.history t).0 (c.history t).1);
-}
 
 -- ---- one lock granted
 

@@ -3,15 +3,16 @@ use Rattle.std.proofs.Common.{◌≡◌, ℕ, List, true, false, Option, is_some
 use Rattle.std.specs.Prelude.{if◌then◌else◌}
 use Rattle.std.proofs.lemmas.Map.{update_same, update_other}
 use Rattle.city_model.specs.declared.object.Object.{Object}
-use Rattle.city_model.specs.CityMap.{object_at, changed, same_id}
+use Rattle.city_model.specs.CityMap.{object_at, changed, has_id, same_id}
 use Rattle.city_model.proofs.Ids.{same_id_itself, by_id}
 use Rattle.city_txn.specs.declared.image.UndoImage.{UndoImage}
 use Rattle.city_txn.specs.declared.store.Store.TheInside.{Inside}
-use Rattle.city_txn.specs.inside.Images.{committed_at, write_at}
-use Rattle.city_txn.specs.inside.InPlace.{state_of, IsInPlace}
-use Rattle.city_txn.specs.Writes.{write_of}
-use Rattle.city_txn.specs.inside.State.{committed}
-use Rattle.city_txn.specs.inside.UndoState.{image_at}
+use Rattle.city_txn.specs.inside.Images.{committed_at, write_at, writer_of}
+use Rattle.city_txn.specs.inside.InPlace.{state_of, is_writer, IsInPlace}
+use Rattle.city_txn.specs.UndoLog.{log_of, has_before}
+use Rattle.city_txn.specs.Writes.{Write, write_of}
+use Rattle.city_txn.specs.inside.State.{committed, ChangesWrites}
+use Rattle.city_txn.specs.inside.UndoState.{image_at, reservations_of}
 use Rattle.city_txn.proofs.AtOneId.{here, city_is, writes_is}
 
 -- what holds of the id, and of each other one, holds of all
@@ -45,3 +46,33 @@ module _ (a b : Inside) (k : IsInPlace a) (id : List ℕ) (x : Option Object) (i
   write_changed l q = writes_is b l q ∙ at_each {P = λ r. write_at (here b r) (image_at b.undo r) ≡ (if same_id id r then write_at x i else write_of (state_of a).writes r)} id
       (rw (same_id_itself id) (λ h. write_at (here_there h) (image_there h)))
       (λ r e. rw e ((λ h. write_at (here_beside r e h) (image_beside r e h)) ∙ sym (writes_is a k r))) q
+
+-- what is left of the store where no more than the write of one id has changed
+pub record OneWritten (a b : Inside) (id : List ℕ) (w : Option Write) : Type 0 where
+  pub in_place : IsInPlace b
+  pub only : ChangesWrites (state_of a) (state_of b)
+  pub writes : (q : List ℕ) → write_of (state_of b).writes q ≡ (if same_id id q then w else write_of (state_of a).writes q)
+
+-- the image's transaction stays the same, and what is committed beneath it
+module _ (a b : Inside) (k : IsInPlace a) (id : List ℕ) (x : Option Object) (i : Option UndoImage)
+    (frame : b.city.0 ≡ a.city.0) (city : object_at b.city.1 ≡ changed (object_at a.city.1) id x)
+    (images : (q : List ℕ) → image_at b.undo q ≡ (if same_id id q then i else image_at a.undo q))
+    (reservations : b.undo.reservations ≡ a.undo.reservations) (logs : b.logs ≡ a.logs)
+    (has_slot : is_some x ≡ true) (writer : writer_of i ≡ writer_of (image_at a.undo id)) where
+  same_writers : (q : List ℕ) → writer_of (image_at b.undo q) ≡ writer_of (image_at a.undo q)
+  same_writers = at_each id (ap writer_of (image_there a b k id x i city images) ∙ writer)
+      (λ q e. ap writer_of (image_beside a b k id x i city images q e))
+
+  still_in_place : IsInPlace b
+  still_in_place = record {
+    has_slot = slots_kept a b k id x i city images has_slot;
+    listed = λ t q. ap (λ r. has_id (reservations_of r t) q) reservations ∙ k.listed t q ∙ ap (is_writer t) (sym (same_writers q));
+    noted = λ t q h. ap (λ r. has_id (reservations_of r t) q) reservations ∙ k.noted t q (ap (λ ls. has_before (log_of ls t) q) (sym logs) ∙ h);
+  }
+
+  pub one_written : (w : Option Write) → write_at x i ≡ w → committed_at x i ≡ committed_at (here a id) (image_at a.undo id) → OneWritten a b id w
+  one_written w is same = record {
+    in_place = still_in_place;
+    only = record { frame = frame; city = committed_kept a b k id x i city images still_in_place same; opened = reservations; logs = logs };
+    writes = λ q. write_changed a b k id x i city images still_in_place q ∙ ap (λ z. if same_id id q then z else write_of (state_of a).writes q) is;
+  }

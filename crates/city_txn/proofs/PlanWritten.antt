@@ -6,19 +6,15 @@ use Rattle.city_model.specs.declared.object.Object.{Object}
 use Rattle.std.proofs.lemmas.Bool.{eqb-true, eq-eqb, or_left, and_parts, and_from, or_right, false_from_ne_true}
 use Rattle.std.proofs.lemmas.List.Folds.{list_any_more, list_any_at, list_any-append}
 use Rattle.std.proofs.Math.Bool.{or-false}
-use Rattle.city_model.specs.CityMap.{CityMap, same_id, has_id}
+use Rattle.city_model.specs.CityMap.{CityMap, same_id}
 use Rattle.city_model.proofs.Ids.{same_id_true, same_id_itself, same_id_back}
 use Rattle.city_model.proofs.IdLists.{not_both}
-use Rattle.city_txn.specs.inside.UndoState.{reservations_of}
-use Rattle.city_txn.specs.inside.State.{State, own, is_reserved, SeesSame}
-use Rattle.city_txn.specs.Writes.{Write, own_write}
+use Rattle.city_txn.specs.inside.State.{State, is_reserved, MayReserve, ReservesAmong, SeesSame}
+use Rattle.city_txn.specs.Writes.{Write}
 use Rattle.city_txn.specs.inside.Performing.{plans}
 use Rattle.city_model.specs.inside.Plans.{AreOf}
 use Rattle.city_model.specs.Runs.{Change}
-
-pub or_cases : (a b : Bool) {A : Type 0} → (a || b) ≡ true → (a ≡ true → A) → (b ≡ true → A) → A
-or_cases true b h f g = f refl
-or_cases false b h f g = g h
+use Rattle.city_txn.proofs.Touched.{or_cases}
 
 listed : (ws : Change) (q : List ℕ) → plans ws q ≡ list_any (λ w. same_id q w.0) ws
 listed [] q = refl
@@ -35,41 +31,29 @@ plans_got ws n w lt is = listed ws w.0 ∙ list_any_at (λ x. same_id w.0 x.0) w
 
 -- v is the store at the start, u where the first n were reserved, and w with one more reserved
 module _ (v u w : State) (s : ℕ) (ws : Change) (n : ℕ) (p : List ℕ × Option Object) (lt : n < length ws) (is : p ≡ get_or ws n p)
-    (alone : (q : List ℕ) → plans ws q ≡ true → (t : ℕ) → is_reserved v t q ≡ true → t ≡ s)
-    (reserved : (t : ℕ) (q : List ℕ) → is_reserved u t q ≡ true → (is_reserved v t q || ((s == t) && plans ws q)) ≡ true) where
-  pub still_alone : (t : ℕ) → is_reserved u t p.0 ≡ true → t ≡ s
-  still_alone t h = or_cases (is_reserved v t p.0) ((s == t) && plans ws p.0) (reserved t p.0 h)
-      (λ e. alone p.0 (plans_got ws n p lt is) t e)
-      (λ e. sym (eqb-true s t (and_parts (s == t) (plans ws p.0) e).0))
+    (may : MayReserve v s (plans ws)) (reserved : ReservesAmong (plans ws) s v u) where
+  planned : (q : List ℕ) → same_id p.0 q ≡ true → plans ws q ≡ true
+  planned q e = ap (plans ws) (sym (same_id_true p.0 q e)) ∙ plans_got ws n p lt is
+
+  pub may_reserve_next : SeesSame v u → MayReserve u s (same_id p.0)
+  may_reserve_next same = record {
+    opened = same.opened s ∙ may.opened;
+    alone = λ q e t h. or_cases (is_reserved v t q) ((s == t) && plans ws q) (reserved t q h)
+        (may.alone q (planned q e) t)
+        (λ f. sym (eqb-true s t (and_parts (s == t) (plans ws q) f).0));
+  }
 
   module _ (more : (t : ℕ) (q : List ℕ) → is_reserved w t q ≡ (((s == t) && same_id p.0 q) || is_reserved u t q)) where
-    pub reserved_more : (t : ℕ) (q : List ℕ) → is_reserved w t q ≡ true → (is_reserved v t q || ((s == t) && plans ws q)) ≡ true
+    pub reserved_more : ReservesAmong (plans ws) s v w
     reserved_more t q h = or_cases ((s == t) && same_id p.0 q) (is_reserved u t q) (sym (more t q) ∙ h)
         (λ e. let parts = and_parts (s == t) (same_id p.0 q) e in
-        or_right (is_reserved v t q) ((s == t) && plans ws q)
-        (and_from (s == t) (plans ws q) parts.0 (ap (plans ws) (sym (same_id_true p.0 q parts.1)) ∙ plans_got ws n p lt is)))
+        or_right (is_reserved v t q) ((s == t) && plans ws q) (and_from (s == t) (plans ws q) parts.0 (planned q parts.1)))
         (λ e. reserved t q e)
 
     pub done_more : ((q : List ℕ) → plans (take n ws) q ≡ true → is_reserved u s q ≡ true) → (q : List ℕ) → plans (take (n + 1) ws) q ≡ true → is_reserved w s q ≡ true
     done_more done q h = more s q ∙ or_cases (plans (take n ws) q) (same_id q p.0) (sym (plans_more ws n p q lt is) ∙ h)
         (λ e. or_right ((s == s) && same_id p.0 q) (is_reserved u s q) (done q e))
         (λ e. or_left ((s == s) && same_id p.0 q) (is_reserved u s q) (and_from (s == s) (same_id p.0 q) (eq-eqb s s refl) (same_id_back p.0 q ∙ e)))
-
--- where nothing was reserved for want of memory
-pub sees_unchanged : (v u w : State) → SeesSame v u → w ≡ u → SeesSame v w
-sees_unchanged v u w a e = subst (SeesSame v) (sym e) a
-
-pub sees_on : (v u w : State) → SeesSame v u → SeesSame u w → SeesSame v w
-sees_on v u w a b = record {
-  frame = b.frame ∙ a.frame;
-  city = b.city ∙ a.city;
-  writes = λ q. b.writes q ∙ a.writes q;
-  opened = λ t. b.opened t ∙ a.opened t;
-}
-
--- and what it wrote stays
-pub own_reserved : (v w : State) (s : ℕ) → SeesSame v w → own w s ≡ own v s
-own_reserved v w s a = λ i q. own_write s (a.writes q i)
 
 -- ---- writes, from the last to the first
 
@@ -107,6 +91,3 @@ written_last f all ws p s x y q e of is =
     ∙ written_point (plans ws q) (same_id q p.0) (Some (s, f q)) (Some (s, p.1)) x
     (λ t. ap (λ o. Some (s, o)) (here ∙ ap f (sym (same_id_true q p.0 t))))
     ∙ ap (λ b. if b then Some (s, f q) else x) (sym (ap (λ xs. plans xs q) e ∙ plans_last ws p q))
-
-pub reserved_by : (v w : State) (s : ℕ) (q : List ℕ) → w.opened ≡ v.opened → is_reserved w s q ≡ is_reserved v s q
-reserved_by v w s q e = ap (λ o. has_id (reservations_of o s) q) e

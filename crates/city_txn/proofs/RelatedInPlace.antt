@@ -1,6 +1,6 @@
 -- An attach, a detach and a delete in place: what was written at the parent is edited, and the child is written.
 use Rattle.std.proofs.Common.{◌≡◌, ◌==◌, ◌&&◌, ◌||◌, ℕ, List, length, true, false, Option, None, Some, Result, Ok, refl, ap, sym, ◌∙◌}
-use Rattle.std.specs.Prelude.{if◌then◌else◌, option_map, is_some, IsErr}
+use Rattle.std.specs.Prelude.{if◌then◌else◌, option_map, IsErr}
 use Rattle.std.proofs.lemmas.Bool.{false≢true, eqb-true, eq-eqb, or_left, or_right, and_parts, and_from}
 use Rattle.city_model.specs.declared.object.Object.{Object}
 use Rattle.city_model.specs.declared.command.Command.{Command}
@@ -12,14 +12,14 @@ use Rattle.city_model.specs.Scripts.{is_mark}
 use Rattle.city_model.proofs.Ids.{same_id_itself, same_id_back}
 use Rattle.city_model.proofs.IdLists.{not_both}
 use Rattle.city_model.proofs.Planned.{related}
-use Rattle.city_txn.specs.inside.State.{State, rewritten, own, is_reserved, committed, view, SeesSame}
+use Rattle.city_txn.specs.inside.State.{State, rewritten, own, is_reserved, committed, view}
+use Rattle.city_txn.specs.inside.State.{ReservesAmong, SeesSame, ChangesWrites, Touches}
 use Rattle.city_txn.specs.Writes.{Write, write_of, is_by, own_or, unless_by}
-use Rattle.city_txn.specs.inside.UndoState.{listed_by}
-use Rattle.city_txn.specs.UndoLog.{Logs, log_of, marked}
-use Rattle.city_txn.specs.inside.Performing.{plans, AreNoted, IsPerform}
+use Rattle.city_txn.specs.UndoLog.{log_of, marked}
+use Rattle.city_txn.specs.inside.Performing.{plans, edits_in_place, IsPerform}
 use Rattle.city_txn.proofs.OneIdChanged.{at_each}
 use Rattle.city_txn.proofs.PerformDone.{unwritten_performed, written_performed}
-use Rattle.city_txn.proofs.PlanWritten.{or_cases, reserved_by}
+use Rattle.city_txn.proofs.Touched.{or_cases, reserved_by, reserves_more, touches_on, touches_seen, touches_writes}
 use Rattle.city_txn.proofs.UndoLogs.{marked_same, noted_if_empty}
 
 -- ---- the write of the parent, edited
@@ -32,67 +32,73 @@ edited_unless : (s : ℕ) (f : Object → Object) (y : Option Write) → is_by s
 edited_unless s f None h = refl
 edited_unless s f (Some w) h = ap (λ b. if b then None else Some (w.0, option_map f w.1)) h ∙ sym (ap (λ b. if b then None else Some w) h)
 
-pub child_reserved : (s : ℕ) (child : List ℕ) (v u : State) → ((t : ℕ) (q : List ℕ) → is_reserved u t q ≡ (((s == t) && same_id child q) || is_reserved v t q)) → is_reserved u s child ≡ true
-child_reserved s child v u made = made s child ∙ or_left ((s == s) && same_id child child) (is_reserved v s child) (and_from (s == s) (same_id child child) (eq-eqb s s refl) (same_id_itself child))
-
 -- ---- the whole: v is the store, and u has the child reserved
 
-module _ (s : ℕ) (c : Command) (r : Reply) (child parent : List ℕ) (below : Option Object) (f : Object → Object) (v u : State) (ls : Logs) (plain_one : is_mark c ≡ false)
-    (is : AreWritesOf (view v s) c r (related (view v s) child below parent f)) (none : (length (log_of ls s) == 0) ≡ true) (noted : AreNoted v ls s)
-    (same : SeesSame v u) (made : (t : ℕ) (q : List ℕ) → is_reserved u t q ≡ (((s == t) && same_id child q) || is_reserved v t q)) where
+module _ (s : ℕ) (c : Command) (r : Reply) (child parent : List ℕ) (below : Option Object) (f : Object → Object) (v u : State)
+    (plain_one : is_mark c ≡ false) (is : AreWritesOf (view v s) c r (related (view v s) child below parent f))
+    (in_place : edits_in_place v s parent ≡ true) (same : SeesSame v u)
+    (made : (t : ℕ) (q : List ℕ) → is_reserved u t q ≡ (((s == t) && same_id child q) || is_reserved v t q)) where
   abbrev change : Change
   change = related (view v s) child below parent f
 
-  more : (t : ℕ) (q : List ℕ) → is_reserved u t q ≡ true → (is_reserved v t q || ((s == t) && plans change q)) ≡ true
-  more t q h = or_cases ((s == t) && same_id child q) (is_reserved v t q) (sym (made t q) ∙ h)
-      (λ e. let parts = and_parts (s == t) (same_id child q) e in
-      or_right (is_reserved v t q) ((s == t) && plans change q)
-      (and_from (s == t) (plans change q) parts.0 (or_left (same_id q child) (same_id q parent || false) (same_id_back q child ∙ parts.1))))
-      (λ e. or_left (is_reserved v t q) ((s == t) && plans change q) e)
+  among : ReservesAmong (plans change) s v u
+  among = reserves_more s (same_id child) (plans change) v u
+      (λ q e. or_left (same_id q child) (same_id q parent || false) (same_id_back q child ∙ e))
+      (λ t q h. or_cases ((s == t) && same_id child q) (is_reserved v t q) (sym (made t q) ∙ h)
+      (or_right (is_reserved v t q) ((s == t) && same_id child q)) (or_left (is_reserved v t q) ((s == t) && same_id child q)))
 
-  kept : (t : ℕ) (q : List ℕ) → is_reserved v t q ≡ true → is_reserved u t q ≡ true
-  kept t q h = made t q ∙ or_right ((s == t) && same_id child q) (is_reserved v t q) h
+  reserved : Touches s (plans change) v u
+  reserved = touches_seen s (plans change) v u same among
+
+  both : (is_by s (write_of v.writes parent) ≡ true) × ((length (log_of v.logs s) == 0) ≡ true)
+  both = and_parts (is_by s (write_of v.writes parent)) (length (log_of v.logs s) == 0) in_place
 
   -- there are no marks to change
-  unmarked : (w : State) → marked (log_of ls s) (own w s) ≡ marked (log_of ls s) (own v s)
-  unmarked w = marked_same (log_of ls s) (own w s) (own v s) (λ q h. absurd (not_both _ (noted_if_empty (log_of ls s) q none) h))
+  unmarked : (w : State) → w.logs ≡ v.logs → marked (log_of w.logs s) (own w s) ≡ marked (log_of v.logs s) (own v s)
+  unmarked w e = ap (λ ls. marked (log_of ls s) (own w s)) e
+      ∙ marked_same (log_of v.logs s) (own w s) (own v s) (λ q h. absurd (not_both _ (noted_if_empty (log_of v.logs s) q both.1) h))
 
-  pub related_unwritten : {E : Type 0} (result : Result Reply E) → IsErr result → IsPerform s c result v ls u ls
-  related_unwritten result failed = unwritten_performed s c r change v u ls ls plain_one is same.frame same.city same.opened
-      (λ q. ap (unless_by s) (same.writes q)) more kept (unmarked u) (λ q h. kept s q (noted q h)) (λ t ne. refl) result failed same.writes
+  pub related_unwritten : {E : Type 0} (result : Result Reply E) → IsErr result → IsPerform s c result v u
+  related_unwritten result failed =
+      unwritten_performed s c r change v u plain_one is reserved (unmarked u same.logs) result failed same.writes
 
-  -- x has the parent edited, and w the child written
-  module _ (x w : State) (by : is_by s (write_of v.writes parent) ≡ true)
-      (frame_x : x.frame ≡ u.frame) (city_x : committed x ≡ committed u) (opened_x : x.opened ≡ u.opened)
-      (writes_x : (q : List ℕ) → write_of x.writes q ≡ (if same_id parent q then option_map (rewritten f) (write_of u.writes parent) else write_of u.writes q))
-      (frame_w : w.frame ≡ x.frame) (city_w : committed w ≡ committed x) (opened_w : w.opened ≡ x.opened)
-      (writes_w : (q : List ℕ) → write_of w.writes q ≡ (if same_id child q then Some (s, below) else write_of x.writes q))
-      (others_w : (q : List ℕ) → unless_by s (write_of w.writes q) ≡ unless_by s (write_of x.writes q)) where
-    by_now : is_by s (write_of u.writes parent) ≡ true
-    by_now = ap (is_by s) (same.writes parent) ∙ by
+  -- x has the parent edited, and w the child written, whose id was copied
+  module _ (x : State) (copy : List ℕ) (copied : copy ≡ child) (edits : ChangesWrites u x)
+      (writes_x : (q : List ℕ) → write_of x.writes q ≡ (if same_id parent q then option_map (rewritten f) (write_of u.writes parent) else write_of u.writes q)) where
+    pub copy_reserved : is_reserved x s copy ≡ true
+    copy_reserved = ap (is_reserved x s) copied ∙ reserved_by u x s child edits.opened ∙ made s child
+        ∙ or_left ((s == s) && same_id child child) (is_reserved v s child)
+        (and_from (s == s) (same_id child child) (eq-eqb s s refl) (same_id_itself child))
 
-    at_parent : write_of x.writes parent ≡ option_map (rewritten f) (write_of u.writes parent)
-    at_parent = writes_x parent ∙ rw (same_id_itself parent) refl
+    module _ (w : State) (sets : ChangesWrites x w)
+        (writes : (q : List ℕ) → write_of w.writes q ≡ (if same_id copy q then Some (s, below) else write_of x.writes q))
+        (others_w : (q : List ℕ) → unless_by s (write_of w.writes q) ≡ unless_by s (write_of x.writes q)) where
+      writes_w : (q : List ℕ) → write_of w.writes q ≡ (if same_id child q then Some (s, below) else write_of x.writes q)
+      writes_w q = writes q ∙ ap (λ k. if same_id k q then Some (s, below) else write_of x.writes q) copied
 
-    beside : (q : List ℕ) → same_id parent q ≡ false → write_of x.writes q ≡ write_of v.writes q
-    beside q e = writes_x q ∙ rw e (same.writes q)
+      at_parent : write_of x.writes parent ≡ option_map (rewritten f) (write_of u.writes parent)
+      at_parent = writes_x parent ∙ rw (same_id_itself parent) refl
 
-    others : (q : List ℕ) → unless_by s (write_of w.writes q) ≡ unless_by s (write_of v.writes q)
-    others q = others_w q ∙ at_each {P = λ q. unless_by s (write_of x.writes q) ≡ unless_by s (write_of v.writes q)} parent
-        (ap (unless_by s) at_parent ∙ edited_unless s f (write_of u.writes parent) by_now ∙ ap (unless_by s) (same.writes parent))
-        (λ q e. ap (unless_by s) (beside q e)) q
+      beside : (q : List ℕ) → same_id parent q ≡ false → write_of x.writes q ≡ write_of v.writes q
+      beside q e = writes_x q ∙ rw e (same.writes q)
 
-    written : (g : CityMap) → AreOf g change → (q : List ℕ) → write_of w.writes q ≡ (if plans change q then Some (s, g q) else write_of v.writes q)
-    written g of = at_each {P = λ q. write_of w.writes q ≡ (if plans change q then Some (s, g q) else write_of v.writes q)} child
-        (writes_w child ∙ rw (same_id_itself child) (ap (λ o. Some (s, o)) of.0))
-        (λ q a. writes_w q ∙ rw (a, same_id_back q child ∙ a)
-        (at_each {P = λ q. write_of x.writes q ≡ (if same_id q parent || false then Some (s, g q) else write_of v.writes q)} parent
-        (rw (same_id_itself parent) (at_parent ∙ ap (option_map (rewritten f)) (same.writes parent)
-        ∙ edited_write s f (write_of v.writes parent) (committed v parent) by ∙ ap (λ o. Some (s, o)) of.1.0))
-        (λ q e. rw (same_id_back q parent ∙ e) (beside q e)) q))
+      others_x : (q : List ℕ) → unless_by s (write_of x.writes q) ≡ unless_by s (write_of u.writes q)
+      others_x = at_each parent
+          (ap (unless_by s) at_parent ∙ edited_unless s f (write_of u.writes parent) (ap (is_by s) (same.writes parent) ∙ both.0))
+          (λ q e. ap (unless_by s) (beside q e ∙ sym (same.writes q)))
 
-    pub related_performed : {E : Type 0} → IsPerform {E = E} s c (Ok r) v ls w ls
-    related_performed = written_performed s c r change v w ls ls plain_one is (frame_w ∙ frame_x ∙ same.frame) (city_w ∙ city_x ∙ same.city)
-        (λ t. ap (λ o. is_some (listed_by o t)) (opened_w ∙ opened_x) ∙ same.opened t)
-        others (λ t q h. more t q (sym (reserved_by u w t q (opened_w ∙ opened_x)) ∙ h)) (λ t q h. reserved_by u w t q (opened_w ∙ opened_x) ∙ kept t q h)
-        (unmarked w) (λ q h. reserved_by u w s q (opened_w ∙ opened_x) ∙ kept s q (noted q h)) (λ t ne. refl) written
+      written : (g : CityMap) → AreOf g change → (q : List ℕ) → write_of w.writes q ≡ (if plans change q then Some (s, g q) else write_of v.writes q)
+      written g of = at_each {P = λ q. write_of w.writes q ≡ (if plans change q then Some (s, g q) else write_of v.writes q)} child
+          (writes_w child ∙ rw (same_id_itself child) (ap (λ o. Some (s, o)) of.0))
+          (λ q a. writes_w q ∙ rw (a, same_id_back q child ∙ a)
+          (at_each {P = λ q. write_of x.writes q ≡ (if same_id q parent || false then Some (s, g q) else write_of v.writes q)} parent
+          (rw (same_id_itself parent) (at_parent ∙ ap (option_map (rewritten f)) (same.writes parent)
+          ∙ edited_write s f (write_of v.writes parent) (committed v parent) both.0 ∙ ap (λ o. Some (s, o)) of.1.0))
+          (λ q e. rw (same_id_back q parent ∙ e) (beside q e)) q))
+
+      pub related_performed : {E : Type 0} → IsPerform {E = E} s c (Ok r) v w
+      related_performed = written_performed s c r change v w plain_one is
+          (touches_on s (plans change) v x w
+          (touches_on s (plans change) v u x reserved (touches_writes s (plans change) u x edits others_x))
+          (touches_writes s (plans change) x w sets others_w))
+          (unmarked w (sets.logs ∙ edits.logs ∙ same.logs)) written

@@ -3,24 +3,28 @@ use Rattle.std.proofs.Common.{◌≡◌, ◌==◌, ℕ, List, [], ◌∷◌, ◌
 use Rattle.std.specs.Prelude.{if◌then◌else◌, unwrap_or}
 use Rattle.std.specs.Ordering.{nat_cmp}
 use Rattle.std.specs.BTreeMap.{is_at}
-use Rattle.std.proofs.lemmas.Bool.{false≢true, eqb-true, eq-eqb, ne_eqb, cases_eq}
+use Rattle.std.specs.FinMap.{get}
+use Rattle.std.proofs.lemmas.Bool.{false≢true, eqb-true, eq-eqb, ne_eqb, cases_eq, or_right}
 use Rattle.std.proofs.lemmas.List.Folds.{list_any-append}
 use Rattle.std.proofs.Math.Bool.{and-true, and-false, or-false, or_comm}
 use Rattle.city_model.specs.declared.object.Object.{Object}
 use Rattle.city_model.specs.CityMap.{CityValue, object_at, has_id, same_id}
 use Rattle.city_model.proofs.Ids.{same_id_true, same_id_back, same_id_itself}
+use Rattle.city_model.proofs.IdLists.{bool_cases}
 use Rattle.city_model.proofs.Objects.{same_objects}
 use Rattle.city_txn.specs.declared.image.UndoImage.{UndoImage}
 use Rattle.city_txn.specs.declared.store.Store.TheInside.{Inside}
 use Rattle.city_txn.specs.inside.Images.{committed_at, write_at, writer_of, unwritten_image}
+use Rattle.city_txn.specs.UndoLog.{log_of, has_before}
 use Rattle.city_txn.specs.Writes.{write_of}
-use Rattle.city_txn.specs.inside.State.{is_open, is_reserved, SeesSame}
+use Rattle.city_txn.specs.inside.State.{is_open, is_reserved, MayReserve, SeesSame}
 use Rattle.city_txn.specs.inside.InPlace.{state_of, is_writer, IsInPlace}
-use Rattle.city_txn.specs.inside.UndoState.{image_at, listed_by, reservations_of}
+use Rattle.city_txn.specs.inside.UndoState.{UndoState, image_at, listed_by, reservations_of}
 use Rattle.city_txn.specs.Placeholder.{placeholder}
 use Rattle.city_txn.specs.inside.Slots.{with_slot}
 use Rattle.city_txn.proofs.AtOneId.{tied, here, writes_is}
 use Rattle.city_txn.proofs.OneIdChanged.{at_each, image_there, image_beside, slots_kept, committed_kept, write_changed}
+use Rattle.city_txn.proofs.Slots.{absent_from}
 
 -- cities with one frame that answer alike are the same
 pub same_city : (z x : CityValue) → z.0 ≡ x.0 → object_at z.1 ≡ object_at x.1 → z ≡ x
@@ -36,7 +40,8 @@ module _ (a b : Inside) (k : IsInPlace a) (s : ℕ) (id : List ℕ) (deleted : B
     (is_opened : is_open (state_of a) s ≡ true) (absent : image_at a.undo id ≡ None) (frame : b.city.0 ≡ a.city.0)
     (city : object_at b.city.1 ≡ with_slot (object_at a.city.1) id)
     (images : (q : List ℕ) → image_at b.undo q ≡ (if same_id id q then Some (unwritten_image s deleted) else image_at a.undo q))
-    (reservations : (t : ℕ) → listed_by b.undo.reservations t ≡ (if is_at (nat_cmp s) t then Some (reservations_of a.undo.reservations s ++ id ∷ []) else listed_by a.undo.reservations t)) where
+    (reservations : (t : ℕ) → listed_by b.undo.reservations t ≡ (if is_at (nat_cmp s) t then Some (reservations_of a.undo.reservations s ++ id ∷ []) else listed_by a.undo.reservations t))
+    (logs : b.logs ≡ a.logs) where
   abbrev object : Option Object
   object = Some (unwrap_or (here a id) placeholder)
 
@@ -73,6 +78,8 @@ module _ (a b : Inside) (k : IsInPlace a) (s : ℕ) (id : List ℕ) (deleted : B
         (rw (same_id_itself id, and-true (s == t)) (ap (λ c. (s == t) || c) (k.listed t id ∙ ap (λ i. is_writer t (writer_of i)) absent) ∙ or-false (s == t)
         ∙ sym (ap (λ i. is_writer t (writer_of i)) (image_there a b k id object image city images))))
         (λ r e. rw (e, and-false (s == t)) (k.listed t r ∙ sym (ap (λ i. is_writer t (writer_of i)) (image_beside a b k id object image city images r e)))) q;
+    noted = λ t q h. more_reserved t q ∙ or_right ((s == t) && same_id id q) (is_reserved (state_of a) t q)
+        (k.noted t q (ap (λ ls. has_before (log_of ls t) q) (sym logs) ∙ h));
   }
 
   pub reserved_seen : SeesSame (state_of a) (state_of b)
@@ -84,6 +91,24 @@ module _ (a b : Inside) (k : IsInPlace a) (s : ℕ) (id : List ℕ) (deleted : B
         (rw (same_id_itself id) (sym (writes_is a k id ∙ ap (write_at (here a id)) absent)))
         (λ r e. rw e refl) q;
     opened = still_open;
+    logs = logs;
+  }
+
+-- ---- a stamp opened, which wasn't open
+
+module _ (a : Inside) (k : IsInPlace a) (s : ℕ) (shut : is_open (state_of a) s ≡ false) (u : UndoState) (images : u.images ≡ a.undo.images)
+    (opened : (t : ℕ) → listed_by u.reservations t ≡ (if is_at (nat_cmp s) t then Some [] else listed_by a.undo.reservations t)) where
+  reserved_still : (t : ℕ) (q : List ℕ) → has_id (reservations_of u.reservations t) q ≡ has_id (reservations_of a.undo.reservations t) q
+  reserved_still t q = ap (λ o. has_id (unwrap_or o []) q) (opened t) ∙ bool_cases (s == t)
+      (λ e. rw (tied s t ∙ e) (sym (ap (λ o. has_id (unwrap_or o []) q)
+      (absent_from (listed_by a.undo.reservations t) (ap (is_open (state_of a)) (sym (eqb-true s t e)) ∙ shut)))))
+      (λ e. rw (tied s t ∙ e) refl)
+
+  pub opened_in_place : IsInPlace (record a { undo = u })
+  opened_in_place = record {
+    has_slot = λ q h. k.has_slot q (ap (λ m. is_some (get m q)) (sym images) ∙ h);
+    listed = λ t q. reserved_still t q ∙ k.listed t q ∙ ap (λ m. is_writer t (writer_of (get m q))) (sym images);
+    noted = λ t q h. reserved_still t q ∙ k.noted t q h;
   }
 
 -- ---- reserved already
@@ -97,8 +122,8 @@ already true true c f = f refl refl
 already true false c f = refl
 already false b c f = refl
 
-pub reserved_already : (a : Inside) (s : ℕ) (id : List ℕ) → IsInPlace a → ((t : ℕ) → is_reserved (state_of a) t id ≡ true → t ≡ s) → is_some (image_at a.undo id) ≡ true →
+pub reserved_already : (a : Inside) (s : ℕ) (id : List ℕ) → IsInPlace a → MayReserve (state_of a) s (same_id id) → is_some (image_at a.undo id) ≡ true →
     (t : ℕ) (q : List ℕ) → is_reserved (state_of a) t q ≡ (((s == t) && same_id id q) || is_reserved (state_of a) t q)
-reserved_already a s id k f h t q = already (s == t) (same_id id q) (is_reserved (state_of a) t q)
+reserved_already a s id k may h t q = already (s == t) (same_id id q) (is_reserved (state_of a) t q)
     (λ e d. ap (λ r. is_reserved (state_of a) r q) (sym (eqb-true s t e)) ∙ ap (is_reserved (state_of a) s) (sym (same_id_true id q d))
-    ∙ k.listed s id ∙ only_writer s (image_at a.undo id) h (λ r g. f r (k.listed r id ∙ g)))
+    ∙ k.listed s id ∙ only_writer s (image_at a.undo id) h (λ r g. may.alone id (same_id_itself id) r (k.listed r id ∙ g)))

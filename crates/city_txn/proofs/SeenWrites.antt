@@ -106,7 +106,7 @@ abbrev pub AreCovered : Held → List (List ℕ × OwnWrites) → Type 0
 AreCovered held [] = Unit {0}
 AreCovered held (k ∷ ks) = IsCovered held k.1 × AreCovered held ks
 
-are_covered : (held : Held) (es : List Entry) (f : OwnWrites) → IsCovered held f → ((q : List ℕ) → has_before es q ≡ true → covers (held q) Exclusive ≡ true) → AreCovered held (marked es f)
+pub are_covered : (held : Held) (es : List Entry) (f : OwnWrites) → IsCovered held f → ((q : List ℕ) → has_before es q ≡ true → covers (held q) Exclusive ≡ true) → AreCovered held (marked es f)
 are_covered held [] f is h = tt
 are_covered held (Mark name ∷ es) f is h = (is, are_covered held es f is h)
 are_covered held (BeforeImage id o ∷ es) f is h = are_covered held es (update same_id f id o)
@@ -185,20 +185,6 @@ own_left s t x y ne e = ap (own_write t) e ∙ own_other s t y ne
 pub own_gone : (s : ℕ) (x y : Option Write) → x ≡ unless_by s y → own_write s x ≡ None
 own_gone s x None e = ap (own_write s) e
 own_gone s x (Some w) e = ap (own_write s) e ∙ bool_cases (w.0 == s) (λ f. rw f refl) (λ f. rw (f, f) refl)
-
--- a write is made of what s wrote and what others did
-abbrev rebuilt : ℕ → Option (Option Object) → Option Write → Option Write
-rebuilt s None others = others
-rebuilt s (Some o) others = Some (s, o)
-
-rebuilds : (s : ℕ) (x : Option Write) → rebuilt s (own_write s x) (unless_by s x) ≡ x
-rebuilds s None = refl
-rebuilds s (Some w) = bool_cases (w.0 == s)
-    (λ e. rw e (ap (λ t. Some (t, w.1)) (sym (eqb-true w.0 s e))))
-    (λ e. rw e refl)
-
-pub write_same : (s : ℕ) (x y : Option Write) → own_write s x ≡ own_write s y → unless_by s x ≡ unless_by s y → x ≡ y
-write_same s x y o u = sym (rebuilds s x) ∙ ap (λ w. rebuilt s w (unless_by s x)) o ∙ ap (rebuilt s (own_write s y)) u ∙ rebuilds s y
 
 -- where others wrote it, it is as it was
 pub others_write : (s : ℕ) (x y : Option Write) (w : Write) → unless_by s x ≡ unless_by s y → x ≡ Some w → (w.0 == s) ≡ false → y ≡ Some w

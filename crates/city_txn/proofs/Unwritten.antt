@@ -3,19 +3,19 @@ use Rattle.std.proofs.Common.{◌≡◌, ℕ, List, Bool, true, false, Option, N
 use Rattle.std.specs.Prelude.{if◌then◌else◌, option_map}
 use Rattle.std.proofs.lemmas.Bool.{false≢true}
 use Rattle.city_model.specs.declared.object.Object.{Object}
-use Rattle.city_model.specs.CityMap.{object_at, same_id, has_id, changed}
+use Rattle.city_model.specs.CityMap.{object_at, same_id, changed}
 use Rattle.city_model.proofs.Ids.{same_id_itself}
 use Rattle.city_model.proofs.IdLists.{bool_cases}
 use Rattle.city_txn.specs.declared.image.UndoImage.{UndoImage}
 use Rattle.city_txn.specs.declared.store.Store.TheInside.{Inside}
 use Rattle.city_txn.specs.inside.Images.{or_else, committed_at, write_at, written_at, writer_of, image_unwritten, put_back, put_back_at}
 use Rattle.city_txn.specs.Writes.{Write, write_of, own_write, unless_by}
-use Rattle.city_txn.specs.inside.State.{own, is_reserved, committed}
+use Rattle.city_txn.specs.inside.State.{own, is_reserved}
 use Rattle.city_txn.specs.inside.InPlace.{state_of, is_writer, IsInPlace}
-use Rattle.city_txn.specs.inside.UndoState.{image_at, reservations_of}
+use Rattle.city_txn.specs.inside.UndoState.{image_at}
 use Rattle.city_txn.proofs.AtOneId.{here, writes_is}
 use Rattle.city_txn.proofs.Forgotten.{own_write_gone}
-use Rattle.city_txn.proofs.OneIdChanged.{at_each, image_there, image_beside, slots_kept, committed_kept, write_changed}
+use Rattle.city_txn.proofs.OneIdChanged.{at_each, OneWritten, one_written}
 use Rattle.city_txn.proofs.Written.{some_writer}
 
 -- ---- at one id, where x stood in the city
@@ -65,47 +65,28 @@ none_by_others s x (Some i) h = own_write_gone s x i h
 
 -- ---- an id that s has reserved
 
-module _ (a : Inside) (k : IsInPlace a) (s : ℕ) (id : List ℕ) (reserved : is_reserved (state_of a) s id ≡ true) where
+module _ (a : Inside) (k_a : IsInPlace a) (s : ℕ) (id : List ℕ) (reserved : is_reserved (state_of a) s id ≡ true) where
   writer : is_writer s (writer_of (image_at a.undo id)) ≡ true
-  writer = sym (k.listed s id) ∙ reserved
+  writer = sym (k_a.listed s id) ∙ reserved
 
   pub own_there : written_at (here a id) (image_at a.undo id) ≡ own (state_of a) s id
-  own_there = own_is s (here a id) (image_at a.undo id) writer ∙ ap (own_write s) (sym (writes_is a k id))
+  own_there = own_is s (here a id) (image_at a.undo id) writer ∙ ap (own_write s) (sym (writes_is a k_a id))
 
   -- no other has written it, so whatever s makes of its own write, the others' writes stay
-  pub others_stay : (w : Option Write) (ws : List ℕ → Option Write) → unless_by s w ≡ None → ((q : List ℕ) → ws q ≡ (if same_id id q then w else write_of (state_of a).writes q))
-      → (q : List ℕ) → unless_by s (ws q) ≡ unless_by s (write_of (state_of a).writes q)
-  others_stay w ws none step = at_each id
-      (ap (unless_by s) (step id ∙ ap (λ b. if b then w else write_of (state_of a).writes id) (same_id_itself id)) ∙ none
-      ∙ sym (ap (unless_by s) (writes_is a k id) ∙ none_by_others s (here a id) (image_at a.undo id) writer))
-      (λ q e. ap (unless_by s) (step q ∙ ap (λ b. if b then w else write_of (state_of a).writes q) e))
+  pub others_stay : (b : Inside) (w : Option Write) → unless_by s w ≡ None → OneWritten a b id w
+      → (q : List ℕ) → unless_by s (write_of (state_of b).writes q) ≡ unless_by s (write_of (state_of a).writes q)
+  others_stay b w none k = at_each id
+      (ap (unless_by s) (k.writes id ∙ ap (λ b. if b then w else write_of (state_of a).writes id) (same_id_itself id)) ∙ none
+      ∙ sym (ap (unless_by s) (writes_is a k_a id) ∙ none_by_others s (here a id) (image_at a.undo id) writer))
+      (λ q e. ap (unless_by s) (k.writes q ∙ ap (λ b. if b then w else write_of (state_of a).writes q) e))
 
-  module _ (b : Inside) (city : object_at b.city.1 ≡ changed (object_at a.city.1) id (or_else (put_back_at (image_at a.undo id)) (here a id)))
-      (images : (q : List ℕ) → image_at b.undo q ≡ (if same_id id q then option_map image_unwritten (image_at a.undo id) else image_at a.undo q))
-      (reservations : b.undo.reservations ≡ a.undo.reservations) where
-    abbrev object : Option Object
-    object = or_else (put_back_at (image_at a.undo id)) (here a id)
-
-    abbrev image : Option UndoImage
-    image = option_map image_unwritten (image_at a.undo id)
-
-    same_writers : (q : List ℕ) → writer_of (image_at b.undo q) ≡ writer_of (image_at a.undo q)
-    same_writers = at_each id
-        (ap writer_of (image_there a b k id object image city images) ∙ writer_unwritten (image_at a.undo id))
-        (λ q e. ap writer_of (image_beside a b k id object image city images q e))
-
-    has_object : is_some object ≡ true
-    has_object = still_some (put_back_at (image_at a.undo id)) (here a id) (k.has_slot id (some_writer s (image_at a.undo id) writer))
-
-    pub unwritten_in_place : IsInPlace b
-    unwritten_in_place = record {
-      has_slot = slots_kept a b k id object image city images has_object;
-      listed = λ t q. ap (λ r. has_id (reservations_of r t) q) reservations ∙ k.listed t q ∙ ap (is_writer t) (sym (same_writers q));
-    }
-
-    pub unwritten_city : committed (state_of b) ≡ committed (state_of a)
-    unwritten_city = committed_kept a b k id object image city images unwritten_in_place (committed_unwritten (here a id) (image_at a.undo id))
-
-    pub unwritten_writes : (q : List ℕ) → write_of (state_of b).writes q ≡ (if same_id id q then None else write_of (state_of a).writes q)
-    unwritten_writes q = write_changed a b k id object image city images unwritten_in_place q
-        ∙ ap (λ z. if same_id id q then z else write_of (state_of a).writes q) (write_unwritten object (image_at a.undo id))
+  pub unset_written : (b : Inside) → b.city.0 ≡ a.city.0
+      → object_at b.city.1 ≡ changed (object_at a.city.1) id (or_else (put_back_at (image_at a.undo id)) (here a id))
+      → ((q : List ℕ) → image_at b.undo q ≡ (if same_id id q then option_map image_unwritten (image_at a.undo id) else image_at a.undo q))
+      → b.undo.reservations ≡ a.undo.reservations → b.logs ≡ a.logs → OneWritten a b id None
+  unset_written b frame city images reservations logs =
+      let i = image_at a.undo id in
+      let object = or_else (put_back_at i) (here a id) in
+      one_written a b k_a id object (option_map image_unwritten i) frame city images reservations logs
+      (still_some (put_back_at i) (here a id) (k_a.has_slot id (some_writer s i writer))) (writer_unwritten i)
+      None (write_unwritten object i) (committed_unwritten (here a id) i)

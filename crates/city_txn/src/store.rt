@@ -10,14 +10,14 @@ ghost use Rattle.city_model.specs.Meaning.{with_child, without_child};
 ghost use Rattle.city_txn.specs.Changing.{change_in};
 ghost use Rattle.city_txn.specs.inside.Orphans.{is_orphan_written};
 ghost use Rattle.city_txn.specs.inside.Ending.{map_at_end};
-ghost use Rattle.city_txn.specs.inside.State.{State, rewritten, is_reserved, is_open, committed, view, own, SeesSame, Begins, Forgets};
+ghost use Rattle.city_txn.specs.inside.State.{State, rewritten, is_reserved, is_open, committed, view, own, MayReserve, SeesSame, ChangesWrites, Begins, Forgets};
 ghost use Rattle.city_txn.specs.Writes.{write_of, is_by, own_write, unless_by};
 
 use crate::changing::{change_of, has_orphan, written_copy};
 use crate::ending::{End, end_each};
 use crate::slot;
 use crate::undo::Undo;
-use crate::undo_log::OwnWrite;
+use crate::undo_log::{OwnWrite, UndoLogs};
 use city_model::OutOfMemory;
 use city_model::change::Change;
 use city_model::city::City;
@@ -29,12 +29,14 @@ use std::marker::Model;
 /// One city as the open transactions have written it, with an undo image of each written id.
 ///
 /// Contracts see the committed city, which is that city with all images put back, the writes of
-/// the open transactions, and the ids that each of them has reserved. An id is reserved by one
-/// transaction at most.
+/// the open transactions, the ids that each of them has reserved, and their undo logs. An id is
+/// reserved by one transaction at most, and what a log takes back is reserved.
 #[derive(Drop)]
 pub struct Store {
+    alloc: Global,
     city: City,
     undo: Undo,
+    pub(crate) logs: UndoLogs,
 }
 
 impl Model for Store {
@@ -58,12 +60,26 @@ impl Model for Store {
 impl Store {
     /// A store of this city, with no transaction open. Doesn't allocate.
     pub fn new(alloc: Global, city: City) -> Self
-        ensures { result ≡ record { frame = city.0; city = city.1; writes = []; opened = [] } }
+        ensures { result ≡ record { frame = city.0; city = city.1; writes = []; opened = []; logs = [] } }
     {
         Store {
+            alloc,
             city,
             undo: Undo::new(alloc),
+            logs: UndoLogs::new(alloc),
         }
+    }
+
+    /// The allocator of what the store keeps.
+    pub fn alloc(&self) -> Global {
+        self.alloc
+    }
+
+    /// The undo logs.
+    pub fn logs(&self) -> &UndoLogs
+        ensures { result.now ≡ self.now.logs }
+    {
+        &self.logs
     }
 
     /// Whether the stamp is open. Doesn't allocate.
@@ -106,9 +122,8 @@ impl Store {
 
     /// Reserves for the stamp, which is open, an id that no other has reserved. No transaction sees
     /// a difference. If memory runs out, the store is unchanged.
-    pub fn reserve(&mut self, alloc: Global, stamp: u64, id: &Id) -> Result<(), OutOfMemory>
-        requires opened { is_open self.old stamp ≡ true }
-        requires alone { (t : ℕ) → is_reserved self.old t id.now ≡ true → t ≡ stamp }
+    pub fn reserve(&mut self, stamp: u64, id: &Id) -> Result<(), OutOfMemory>
+        requires { MayReserve self.old stamp (same_id id.now) }
         ensures same { OnOk result (SeesSame self.old self.new) }
         ensures ok { OnOk result ((t : ℕ) (q : List ℕ) → is_reserved self.new t q ≡ (((stamp == t) && same_id id.now q) || is_reserved self.old t q)) }
         ensures err { OnErr result (self.new ≡ self.old) }
@@ -116,7 +131,7 @@ impl Store {
         if self.undo.has_image(id) {
             return Ok(());
         }
-        let deleted = slot::make(&mut self.city, alloc, id)?;
+        let deleted = slot::make(&mut self.city, self.alloc, id)?;
         let Ok(()) = self.undo.reserve(stamp, id, deleted) else {
             slot::clear(&mut self.city, id, deleted);
             return Err(OutOfMemory);
@@ -126,16 +141,14 @@ impl Store {
 
     /// Writes an id that the stamp has reserved: an object, or that none is
     /// there. Doesn't allocate.
-    pub fn set(&mut self, alloc: Global, stamp: u64, id: Id, object: Option<Object>)
+    pub fn set(&mut self, stamp: u64, id: Id, object: Option<Object>)
         requires { is_reserved self.old stamp id ≡ true }
-        ensures frame { self.new.frame ≡ self.old.frame }
-        ensures city { committed self.new ≡ committed self.old }
+        ensures only { ChangesWrites self.old self.new }
         ensures writes { (q : List ℕ) → write_of self.new.writes q ≡ (if same_id id q then Some (stamp, object) else write_of self.old.writes q) }
         ensures others { (q : List ℕ) → unless_by stamp (write_of self.new.writes q) ≡ unless_by stamp (write_of self.old.writes q) }
-        ensures opened { self.new.opened ≡ self.old.opened }
     {
         let deleted = object.is_none();
-        let standing = slot::standing(alloc, object);
+        let standing = slot::standing(self.alloc, object);
         self.undo.write(&mut self.city, id, standing, deleted);
     }
 
@@ -143,10 +156,8 @@ impl Store {
     /// the store is unchanged.
     pub fn push_child(&mut self, id: &Id, child: Id) -> Result<(), OutOfMemory>
         requires { is_some (write_of self.old.writes id.now) ≡ true }
-        ensures frame { self.new.frame ≡ self.old.frame }
-        ensures city { committed self.new ≡ committed self.old }
+        ensures only { ChangesWrites self.old self.new }
         ensures writes { OnOk result ((q : List ℕ) → write_of self.new.writes q ≡ (if same_id id.now q then option_map (rewritten (with_child child)) (write_of self.old.writes id.now) else write_of self.old.writes q)) }
-        ensures opened { self.new.opened ≡ self.old.opened }
         ensures err { OnErr result (self.new ≡ self.old) }
     {
         self.city.push_child(id, child)?;
@@ -156,35 +167,31 @@ impl Store {
     /// Removes a child from the object that was written at an id. Doesn't allocate.
     pub fn remove_child(&mut self, id: &Id, child: &Id)
         requires { is_some (write_of self.old.writes id.now) ≡ true }
-        ensures frame { self.new.frame ≡ self.old.frame }
-        ensures city { committed self.new ≡ committed self.old }
+        ensures only { ChangesWrites self.old self.new }
         ensures writes { (q : List ℕ) → write_of self.new.writes q ≡ (if same_id id.now q then option_map (rewritten (without_child child.now)) (write_of self.old.writes id.now) else write_of self.old.writes q) }
-        ensures opened { self.new.opened ≡ self.old.opened }
     {
         self.city.remove_child(id, child);
     }
 
     /// What the stamp wrote at an id that it has reserved. It copies the object.
-    pub fn written(&self, alloc: Global, stamp: u64, id: &Id) -> Result<OwnWrite, OutOfMemory>
+    pub fn written(&self, stamp: u64, id: &Id) -> Result<OwnWrite, OutOfMemory>
         requires { is_reserved self.now stamp id.now ≡ true }
         ensures { IfOk result (λ write. write ≡ own self.now stamp id.now) }
     {
-        let write = written_copy(&self.city, &self.undo, alloc, id)?;
+        let write = written_copy(&self.city, &self.undo, self.alloc, id)?;
         Ok(write)
     }
 
     /// Sets what the stamp wrote at an id that it has reserved: an object, or that none is there,
     /// or nothing. Doesn't allocate.
-    pub fn restore(&mut self, alloc: Global, stamp: u64, id: Id, write: OwnWrite)
+    pub fn restore(&mut self, stamp: u64, id: Id, write: OwnWrite)
         requires { is_reserved self.old stamp id ≡ true }
-        ensures frame { self.new.frame ≡ self.old.frame }
-        ensures city { committed self.new ≡ committed self.old }
+        ensures only { ChangesWrites self.old self.new }
         ensures writes { (q : List ℕ) → write_of self.new.writes q ≡ (if same_id id q then option_map (λ o. (stamp, o)) write else write_of self.old.writes q) }
         ensures others { (q : List ℕ) → unless_by stamp (write_of self.new.writes q) ≡ unless_by stamp (write_of self.old.writes q) }
-        ensures opened { self.new.opened ≡ self.old.opened }
     {
         match write {
-            Some(object) => self.set(alloc, stamp, id, object),
+            Some(object) => self.set(stamp, id, object),
             None => self.unset(stamp, id),
         }
     }
@@ -192,21 +199,20 @@ impl Store {
     /// Undoes the stamp's write of an id that it has reserved, if it wrote it. Doesn't allocate.
     fn unset(&mut self, stamp: u64, id: Id)
         requires { is_reserved self.old stamp id ≡ true }
-        ensures frame { self.new.frame ≡ self.old.frame }
-        ensures city { committed self.new ≡ committed self.old }
+        ensures only { ChangesWrites self.old self.new }
         ensures writes { (q : List ℕ) → write_of self.new.writes q ≡ (if same_id id q then None else write_of self.old.writes q) }
         ensures others { (q : List ℕ) → unless_by stamp (write_of self.new.writes q) ≡ unless_by stamp (write_of self.old.writes q) }
-        ensures opened { self.new.opened ≡ self.old.opened }
     {
         self.undo.unwrite(&mut self.city, id);
     }
 
     /// What the stamp wrote, ids in byte order. It copies the objects.
-    pub fn change(&self, alloc: Global, stamp: u64) -> Result<Change, OutOfMemory>
+    pub fn change(&self, stamp: u64) -> Result<Change, OutOfMemory>
         ensures lists { IfOk result (λ change. (q : List ℕ) → lookup (is_at (slice_cmp nat_cmp q)) change ≡ own_write stamp (write_of self.now.writes q)) }
         ensures ordered { IfOk result (λ change. IsStrictlySortedBy (slice_cmp nat_cmp) (keys_of change)) }
     {
-        change_of(&self.city, &self.undo, alloc, self.undo.reserved(stamp))
+        let ids = self.undo.reserved(stamp);
+        change_of(&self.city, &self.undo, self.alloc, ids)
     }
 
     /// Whether an object that the stamp wrote is an orphan. Doesn't allocate.
@@ -257,6 +263,7 @@ impl Store {
         ensures city { committed self.new ≡ map_at_end end self.old stamp }
         ensures forgets { Forgets stamp self.old self.new }
     {
+        self.logs.close(stamp);
         let ids = self.undo.close(stamp);
         end_each(&mut self.city, &mut self.undo, end, ids.as_slice());
     }

@@ -15,10 +15,8 @@ ghost use Rattle.city_txn.specs.Locking.{is_wait};
 
 use crate::changing::orphan_in;
 use crate::lock::lock;
-use crate::perform::perform;
 use crate::step::{Prepared, Step, TxnFault};
 use crate::store::Store;
-use crate::undo_log::UndoLogs;
 use crate::would_lock::would_lock;
 use city_locks::{Answer, LockTable};
 use city_model::city::City;
@@ -34,9 +32,7 @@ use std::marker::Model;
 /// is that city with the writes that it had then.
 #[derive(Drop)]
 pub struct Core {
-    alloc: Global,
     store: Store,
-    logs: UndoLogs,
     locks: LockTable,
 }
 
@@ -65,9 +61,7 @@ impl Core {
         ensures { result ≡ record { frame = city.0; city = city.1; writes = []; opened = []; logs = []; locks = [] } }
     {
         Core {
-            alloc,
             store: Store::new(alloc, city),
-            logs: UndoLogs::new(alloc),
             locks: LockTable::new(alloc),
         }
     }
@@ -123,7 +117,7 @@ impl Core {
             Answer::Die => return Ok(Step::Die),
             Answer::Granted => {}
         }
-        let Ok(reply) = perform(&mut self.store, &mut self.logs, self.alloc, stamp, command) else {
+        let Ok(reply) = self.store.perform(stamp, command) else {
             return Err(TxnFault::OutOfMemory);
         };
         Ok(Step::Done(reply))
@@ -157,11 +151,11 @@ impl Core {
         if !self.is_open(stamp) {
             return Err(TxnFault::NotOpen(stamp));
         }
-        let Ok(change) = self.store.change(self.alloc, stamp) else {
+        let Ok(change) = self.store.change(stamp) else {
             return Err(TxnFault::OutOfMemory);
         };
         if let Some(id) = orphan_in(change.as_slice()) {
-            let Ok(id) = id.copy(self.alloc) else {
+            let Ok(id) = id.copy(self.store.alloc()) else {
                 return Err(TxnFault::OutOfMemory);
             };
             return Ok(Prepared::Refused(Cause::Orphan(id)));
@@ -201,7 +195,6 @@ impl Core {
         ensures lawful { IsLawful (committed self.new) }
     {
         self.store.commit(stamp);
-        self.logs.close(stamp);
         self.locks.release_all(stamp);
     }
 
@@ -212,7 +205,6 @@ impl Core {
         ensures { IsRolledBack stamp self.old self.new }
     {
         self.store.roll_back(stamp);
-        self.logs.close(stamp);
         self.locks.release_all(stamp);
     }
 

@@ -31,14 +31,12 @@ core_state a = record {
   city = a.store.city;
   writes = a.store.writes;
   opened = keys_of a.store.opened;
-  logs = a.logs;
+  logs = a.store.logs;
   locks = a.locks;
 }
 
--- an id is reserved only under an exclusive lock, and what a mark has written is reserved
+-- an id is reserved only under an exclusive lock
 pub record IsCore (a : Inside) : Type 0 where
   pub state : IsConsistent (core_state a)
   pub reserved : (t : ℕ) (id : List ℕ)
       → is_reserved a.store t id ≡ true → mode_of a.locks t id ≡ Some Exclusive
-  pub noted : (t : ℕ) (id : List ℕ)
-      → has_before (log_of a.logs t) id ≡ true → is_reserved a.store t id ≡ true

@@ -3,6 +3,7 @@ use Rattle.std.specs.Prelude.{◌≡◌, ◌==◌, ℕ, Bool, true, false, List,
 use Rattle.std.specs.FinMap.{entries, from_sorted}
 use Rattle.city_model.specs.CityMap.{object_at, has_id}
 use Rattle.city_txn.specs.declared.store.Store.TheInside.{Inside}
+use Rattle.city_txn.specs.UndoLog.{log_of, has_before}
 use Rattle.city_txn.specs.Writes.{made_by}
 use Rattle.city_txn.specs.inside.State.{State}
 use Rattle.city_txn.specs.inside.UndoState.{image_at, reservations_of}
@@ -15,6 +16,7 @@ state_of a = record {
   city = from_sorted (made_by (λ id o. committed_at (Some o) (image_at a.undo id)) (entries a.city.1));
   writes = made_by (λ id i. write_at (object_at a.city.1 id) (Some i)) (entries a.undo.images);
   opened = a.undo.reservations;
+  logs = a.logs;
 }
 
 abbrev pub is_writer : ℕ → Option ℕ → Bool
@@ -22,9 +24,11 @@ is_writer stamp None = false
 is_writer stamp (Some t) = t == stamp
 
 -- each image is of an id that is in the city, if only by a placeholder, and of one that its
--- transaction, and no other, has reserved
+-- transaction, and no other, has reserved; and what a log takes back is reserved by its transaction
 pub record IsInPlace (a : Inside) : Type 0 where
   pub has_slot : (id : List ℕ) → is_some (image_at a.undo id) ≡ true → is_some (object_at a.city.1 id) ≡ true
   pub listed : (stamp : ℕ) (id : List ℕ)
       → has_id (reservations_of a.undo.reservations stamp) id
       ≡ is_writer stamp (writer_of (image_at a.undo id))
+  pub noted : (stamp : ℕ) (id : List ℕ) → has_before (log_of a.logs stamp) id ≡ true
+      → has_id (reservations_of a.undo.reservations stamp) id ≡ true

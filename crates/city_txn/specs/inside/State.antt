@@ -1,11 +1,11 @@
--- What contracts see of the store: the committed city, and for each open transaction what it wrote.
-use Rattle.std.specs.Prelude.{◌≡◌, ◌==◌, ◌||◌, ℕ, Bool, false, List, is_some, option_map}
+-- What contracts see of the store: the committed city, and for each open transaction what it wrote and its undo log.
+use Rattle.std.specs.Prelude.{◌≡◌, ◌==◌, ◌&&◌, ◌||◌, ℕ, Bool, true, false, List, [], is_some, option_map}
 use Rattle.std.specs.Prelude.{if◌then◌else◌}
 use Rattle.city_model.specs.declared.frame.Frame.{Frame}
 use Rattle.city_model.specs.declared.object.Object.{Object}
 use Rattle.city_model.specs.CityMap.{Objects, CityMap, object_at, has_id}
 use Rattle.city_txn.specs.inside.UndoState.{Reservations, listed_by, reservations_of}
-use Rattle.city_txn.specs.UndoLog.{OwnWrites}
+use Rattle.city_txn.specs.UndoLog.{OwnWrites, Written, Logs, log_of, marked, has_before}
 use Rattle.city_txn.specs.Writes.{Write, write_of, own_or, own_write, unless_by}
 
 pub record State : Type 0 where
@@ -16,6 +16,8 @@ pub record State : Type 0 where
   pub writes : List (List ℕ × Write)
   -- the open transactions by their stamps, each with the ids that it has reserved
   pub opened : Reservations
+  -- their undo logs
+  pub logs : Logs
 
 abbrev pub is_open : State → ℕ → Bool
 is_open v stamp = is_some (listed_by v.opened stamp)
@@ -32,6 +34,10 @@ rewritten f w = (w.0, option_map f w.1)
 abbrev pub own : State → ℕ → OwnWrites
 own v stamp id = own_write stamp (write_of v.writes id)
 
+-- and at each of its marks
+abbrev pub written : State → ℕ → Written
+written v stamp = (own v stamp, marked (log_of v.logs stamp) (own v stamp))
+
 abbrev pub committed : State → CityMap
 committed v id = object_at v.city id
 
@@ -39,12 +45,42 @@ committed v id = object_at v.city id
 abbrev pub view : State → ℕ → CityMap
 view v stamp id = own_or stamp (write_of v.writes id) (object_at v.city id)
 
+-- the transaction is open, and no other has reserved one of these ids
+pub record MayReserve (v : State) (stamp : ℕ) (ids : List ℕ → Bool) : Type 0 where
+  pub opened : is_open v stamp ≡ true
+  pub alone : (id : List ℕ) → ids id ≡ true → (t : ℕ) → is_reserved v t id ≡ true → t ≡ stamp
+
+-- the transaction has newly reserved none but these ids, and no other has reserved any
+abbrev pub ReservesAmong : (List ℕ → Bool) → ℕ → State → State → Type 0
+ReservesAmong ids stamp v w = (t : ℕ) (id : List ℕ) → is_reserved w t id ≡ true
+    → (is_reserved v t id || ((stamp == t) && ids id)) ≡ true
+
 -- what anyone sees is the same
 pub record SeesSame (v w : State) : Type 0 where
   pub frame : w.frame ≡ v.frame
   pub city : committed w ≡ committed v
   pub writes : (id : List ℕ) → write_of w.writes id ≡ write_of v.writes id
   pub opened : (stamp : ℕ) → is_open w stamp ≡ is_open v stamp
+  pub logs : w.logs ≡ v.logs
+
+-- nothing but writes has changed
+pub record ChangesWrites (v w : State) : Type 0 where
+  pub frame : w.frame ≡ v.frame
+  pub city : committed w ≡ committed v
+  pub opened : w.opened ≡ v.opened
+  pub logs : w.logs ≡ v.logs
+
+-- the transaction has changed nothing but its own writes, its log and its reservations; the last two gained these
+-- ids at most
+pub record Touches (stamp : ℕ) (ids : List ℕ → Bool) (v w : State) : Type 0 where
+  pub frame : w.frame ≡ v.frame
+  pub city : committed w ≡ committed v
+  pub opened : (t : ℕ) → is_open w t ≡ is_open v t
+  pub writes : (id : List ℕ) → unless_by stamp (write_of w.writes id) ≡ unless_by stamp (write_of v.writes id)
+  pub logs : (t : ℕ) → (stamp == t) ≡ false → log_of w.logs t ≡ log_of v.logs t
+  pub reserved : ReservesAmong ids stamp v w
+  pub noted : (id : List ℕ) → has_before (log_of w.logs stamp) id ≡ true
+      → (has_before (log_of v.logs stamp) id || ids id) ≡ true
 
 -- the transaction is open, with nothing reserved; all else stays
 pub record Begins (stamp : ℕ) (v w : State) : Type 0 where
@@ -53,11 +89,13 @@ pub record Begins (stamp : ℕ) (v w : State) : Type 0 where
   pub writes : w.writes ≡ v.writes
   pub opened : (t : ℕ) → is_open w t ≡ ((stamp == t) || is_open v t)
   pub reserved : (t : ℕ) (id : List ℕ) → is_reserved w t id ≡ is_reserved v t id
+  pub logs : w.logs ≡ v.logs
 
--- the transaction is no longer open, and its writes and its reservations are gone; the others' stay
+-- the transaction is no longer open, and its writes, its reservations and its log are gone; the others' stay
 pub record Forgets (stamp : ℕ) (v w : State) : Type 0 where
   pub frame : w.frame ≡ v.frame
   pub writes : (id : List ℕ) → write_of w.writes id ≡ unless_by stamp (write_of v.writes id)
   pub opened : (t : ℕ) → is_open w t ≡ (if stamp == t then false else is_open v t)
   pub reserved : (t : ℕ) (id : List ℕ)
       → is_reserved w t id ≡ (if stamp == t then false else is_reserved v t id)
+  pub logs : (t : ℕ) → log_of w.logs t ≡ (if stamp == t then [] else log_of v.logs t)

@@ -12,22 +12,22 @@ begin-requires c = open_stored c.self.inside c.self.view_is c.args.stamp ∙ sym
 pub invariant_of-self-2 : goal.invariant_of-self-2
 invariant_of-self-2 c =
     let b : Inside = record c.self.inside { store = c.begin.new.self } in
-    begun_core c.self.inside b c.self.invariant c.self.view_is c.args.stamp (sym c.is_open.ensures.opened ∙ c.if-is_open.false) c.in-Ok.ensures.begins refl refl
+    begun_core c.self.inside b c.self.invariant c.self.view_is c.args.stamp (sym c.is_open.ensures.opened ∙ c.if-is_open.false) c.in-Ok.ensures.begins refl
 
 pub returns-clause-opened : goal.returns-clause-opened
 returns-clause-opened c =
     let b : Inside = record c.self.inside { store = c.begin.new.self } in
-    begun_opened c.self.inside b c.self.invariant c.self.view_is c.args.stamp (sym c.is_open.ensures.opened ∙ c.if-is_open.false) c.in-Ok.ensures.begins refl refl
+    begun_opened c.self.inside b c.self.invariant c.self.view_is c.args.stamp (sym c.is_open.ensures.opened ∙ c.if-is_open.false) c.in-Ok.ensures.begins refl
 
 pub returns-clause-own : goal.returns-clause-own
 returns-clause-own c =
     let b : Inside = record c.self.inside { store = c.begin.new.self } in
-    begun_own c.self.inside b c.self.invariant c.self.view_is c.args.stamp (sym c.is_open.ensures.opened ∙ c.if-is_open.false) c.in-Ok.ensures.begins refl refl
+    begun_own c.self.inside b c.self.invariant c.self.view_is c.args.stamp (sym c.is_open.ensures.opened ∙ c.if-is_open.false) c.in-Ok.ensures.begins refl
 
 pub returns-clause-keeps : goal.returns-clause-keeps
 returns-clause-keeps c =
     let b : Inside = record c.self.inside { store = c.begin.new.self } in
-    begun_keeps c.self.inside b c.self.invariant c.self.view_is c.args.stamp (sym c.is_open.ensures.opened ∙ c.if-is_open.false) c.in-Ok.ensures.begins refl refl
+    begun_keeps c.self.inside b c.self.invariant c.self.view_is c.args.stamp (sym c.is_open.ensures.opened ∙ c.if-is_open.false) c.in-Ok.ensures.begins refl
 
 pub returns-clause-unlocked : goal.returns-clause-unlocked
 returns-clause-unlocked c q =
@@ -41,4 +41,4 @@ returns-clause-unwritten c q =
 pub returns-clause-unmarked : goal.returns-clause-unmarked
 returns-clause-unmarked c =
     let b : Inside = record c.self.inside { store = c.begin.new.self } in
-    begun_unmarked c.self.inside b c.self.invariant c.self.view_is c.args.stamp (sym c.is_open.ensures.opened ∙ c.if-is_open.false) c.in-Ok.ensures.begins refl refl
+    begun_unmarked c.self.inside b c.self.invariant c.self.view_is c.args.stamp (sym c.is_open.ensures.opened ∙ c.if-is_open.false) c.in-Ok.ensures.begins refl
