@@ -57,7 +57,8 @@ logs_send : IsSend UndoLogs.the_field.row
 logs_send = search (entry_sends, maps.crosses, values.crosses, sendable) depth 60 fits 20000
 
 store_sends : IsSend Store.the_field.row
-store_sends = search (logs_send, text_sends, object_sends, city_field_sends, maps.crosses, values.crosses, sendable) depth 60 fits 20000
+store_sends = search (logs_send, text_sends, object_sends, city_field_sends, maps.crosses, values.crosses, sendable)
+    depth 60 fits 20000
 
 core_sends : IsSend Core.the_field.row
 core_sends = search (store_sends, locks_send, values.crosses, sendable) depth 60 fits 20000

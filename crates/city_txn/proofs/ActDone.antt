@@ -1,5 +1,6 @@
 -- A call of the core: its locks gained, and its command done on the store.
-use Rattle.std.proofs.Common.{◌≡◌, ◌≢◌, ◌==◌, ◌&&◌, ℕ, List, [], ◌∷◌, ◌++◌, Bool, true, false, Option, None, Some, is_some, Result, Ok, Err, refl, ap, sym, ◌∙◌, subst, inl, inr}
+use Rattle.std.proofs.Common.{◌≡◌, ◌≢◌, ◌==◌, ◌&&◌, ℕ, List, [], ◌∷◌, ◌++◌, Bool, true, false, Option, None, Some}
+use Rattle.std.proofs.Common.{is_some, Result, Ok, Err, refl, ap, sym, ◌∙◌, subst, inl, inr}
 use Rattle.std.specs.Prelude.{if◌then◌else◌, is_none, IfOk, IfErr, OnOk, IsOk, IsErr}
 use Rattle.std.proofs.lemmas.Result.{on_ok_weaker}
 use Rattle.std.proofs.lemmas.Bool.{false≢true, eqb-true, cases_eq, and_parts}
@@ -28,7 +29,8 @@ use Rattle.city_txn.specs.inside.State.{State, is_reserved, Touches}
 use Rattle.city_txn.specs.UndoLog.{Written, log_of, has_before, written_after}
 use Rattle.city_model.specs.Standing.{Lock, Answered, AllHeld, IsTraceUnderLocks, covers, locks_id_exclusively}
 use Rattle.city_model.specs.inside.CommandParts.{marking, cause_of, after}
-use Rattle.city_txn.specs.CoreState.{CoreState, committed, view, own, written, snapshot, is_open, held, held_in, StandsUnderLocks}
+use Rattle.city_txn.specs.CoreState.{CoreState, committed, view, own, written, snapshot, is_open, held, held_in}
+use Rattle.city_txn.specs.CoreState.{StandsUnderLocks}
 use Rattle.city_txn.specs.inside.Core.{core_state, IsCore}
 use Rattle.city_txn.specs.Locking.{granted_before, MoreLocks, GainsFirst, IsBlocked}
 use Rattle.city_txn.specs.inside.Asking.{HoldsLock, Asked}
@@ -39,9 +41,9 @@ use Rattle.city_txn.specs.declared.txn_core.Core.TheInside.{Inside}
 use Rattle.city_txn.proofs.Ended.{held_exclusively, sound_view}
 use Rattle.city_txn.proofs.SeenWrites.{seen_same, step_seen, IsCovered, are_covered, covered_after, own_covered}
 use Rattle.city_txn.proofs.CoreFields.{open_is}
-use Rattle.city_txn.proofs.LocksGained.{all_granted}
-use Rattle.city_txn.proofs.LocksAsked.{gains_nothing, blocked_weaker}
-use Rattle.city_txn.proofs.OthersLeft.{LeavesOthers, nothing_left, still_exclusive, written_beside, seen_beside, covered, stands_still, keeps, consistent}
+use Rattle.city_txn.proofs.LocksAsked.{all_granted, gains_nothing, blocked_weaker}
+use Rattle.city_txn.proofs.OthersLeft.{LeavesOthers, nothing_left, still_exclusive, written_beside, seen_beside}
+use Rattle.city_txn.proofs.OthersLeft.{covered, stands_still, keeps, consistent}
 use Rattle.city_txn.proofs.Touched.{or_cases, touches_itself}
 use Rattle.city_txn.proofs.Answering.{went_back, written_alike}
 
@@ -67,7 +69,9 @@ not_done : (s : ℕ) (c : Command) (result : Result Step TxnFault) (v w : CoreSt
     IsAct s c result v w
 not_done s c result v w ls no_end k same idle step fault shut answered found blocked gains granted =
     let seen : snapshot w s ≡ snapshot v s = seen_same v w s k.city same in
-    let done : Written = written_after c (own_after (own v s) (locks_of (view v s) c) (reply_in v s c) (seen_after v s c).map) (written v s) in
+    let done : Written =
+    written_after c (own_after (own v s) (locks_of (view v s) c) (reply_in v s c) (seen_after v s c).map)
+    (written v s) in
     record {
       reply = reply_in v s c;
       after = seen_after v s c;
@@ -87,7 +91,8 @@ not_done s c result v w ls no_end k same idle step fault shut answered found blo
       writes = same ∙ sym (ap (λ b. if b then done else written v s) idle);
       unwritten = k.unwritten;
       others = written_beside s ls v w k;
-      own = λ ds f. subst (λ es. StandsUnderLocks w s es) (sym (no_step result c ds idle)) (stands_still s ls v w k s ds seen f);
+      own = λ ds f. subst (λ es. StandsUnderLocks w s es) (sym (no_step result c ds idle))
+          (stands_still s ls v w k s ds seen f);
       refused = λ h ds f. stands_still s ls v w k s ds seen f;
       keeps = keeps s ls v w k;
     }
@@ -106,7 +111,8 @@ unlocked m Abort ks h = absurd (false≢true h)
 
 -- ---- a command done
 
-module _ (s : ℕ) (c : Command) (r : Reply) (v w : CoreState) (ls : List Lock) (k : LeavesOthers s ls v w) (no_end : is_end c ≡ false)
+module _ (s : ℕ) (c : Command) (r : Reply) (v w : CoreState) (ls : List Lock) (k : LeavesOthers s ls v w)
+    (no_end : is_end c ≡ false)
     (sound : IsSound (view v s)) (reply : r ≡ reply_in v s c)
     (writes : written w s ≡ written_after c (own_done (view v s) (own v s) c) (written v s))
     (all_held : AllHeld (held w s) (locks_of (view v s) c)) where
@@ -114,14 +120,18 @@ module _ (s : ℕ) (c : Command) (r : Reply) (v w : CoreState) (ls : List Lock) 
   sees = step_seen v w s c sound k.city writes
 
   does : effect (snapshot v s) c ≡ Answers r (snapshot w s)
-  does = effect_is (snapshot v s) c no_end ∙ ap (λ x. Answers x (seen_after v s c)) (sym reply) ∙ ap (λ (x : View). Answers r x) (sym sees)
+  does = effect_is (snapshot v s) c no_end ∙ ap (λ x. Answers x (seen_after v s c)) (sym reply)
+      ∙ ap (λ (x : View). Answers r x) (sym sees)
 
   stands_done : (done : List Answered) → StandsUnderLocks v s done → StandsUnderLocks w s (done ++ (c, r) ∷ [])
   stands_done done f =
-      subst (λ (m : CityMap). IsTraceUnderLocks (held w s) (unmarked m) (done ++ (c, r) ∷ []) (snapshot w s)) (sym k.city)
-      (history.follows_more (held v s) (held w s) (unmarked (committed v)) done (snapshot v s) c r (snapshot w s) (covered s ls v w k s) f all_held does)
+      subst (λ (m : CityMap). IsTraceUnderLocks (held w s) (unmarked m) (done ++ (c, r) ∷ []) (snapshot w s))
+      (sym k.city)
+      (history.follows_more (held v s) (held w s) (unmarked (committed v)) done (snapshot v s) c r (snapshot w s)
+      (covered s ls v w k s) f all_held does)
 
-  acted_done : is_open v s ≡ true → GainsFirst s (granted_in v s c) v.locks w.locks → answer_in v s c ≡ Granted → IsAct s c (Ok (steps.Done r)) v w
+  acted_done : is_open v s ≡ true → GainsFirst s (granted_in v s c) v.locks w.locks → answer_in v s c ≡ Granted
+      → IsAct s c (Ok (steps.Done r)) v w
   acted_done o gains granted = record {
     reply = reply_in v s c;
     after = seen_after v s c;
@@ -158,14 +168,18 @@ pub record Acted (s : ℕ) (c : Command) (result : Result Step TxnFault) (v : Co
   pub acted : IsAct s c result v (core_state b)
 
 -- a stamp that isn't open
-pub not_open_acted : (a : Inside) (k : IsCore a) {v : CoreState} (known : core_state a ≡ v) (s : ℕ) (c : Command) → is_end c ≡ false → is_open v s ≡ false → IsAct s c (Err (NotOpen s)) v v
+pub not_open_acted : (a : Inside) (k : IsCore a) {v : CoreState} (known : core_state a ≡ v) (s : ℕ) (c : Command)
+    → is_end c ≡ false → is_open v s ≡ false → IsAct s c (Err (NotOpen s)) v v
 not_open_acted a k {v} known s c no_end shut =
     not_done s c (Err (NotOpen s)) v v [] no_end (nothing_left s v) refl refl tt
-    (sym (ap (λ b. if b then OutOfMemory else NotOpen s) shut)) (λ f. refl) (λ f. absurd (false≢true (sym shut ∙ f))) (λ f. absurd (false≢true (sym shut ∙ f))) tt (gains_nothing s (granted_in v s c) v.locks) tt
+    (sym (ap (λ b. if b then OutOfMemory else NotOpen s) shut)) (λ f. refl) (λ f. absurd (false≢true (sym shut ∙ f)))
+    (λ f. absurd (false≢true (sym shut ∙ f))) tt (gains_nothing s (granted_in v s c) v.locks) tt
 
 -- the store is st and the locks are ks then: the transaction touched what it holds exclusively
-module _ (a : Inside) (k : IsCore a) (s : ℕ) (o : is_open (core_state a) s ≡ true) (ks : Locks) (ls : List Lock) (more : MoreLocks s ls a.locks ks)
-    (ids : List ℕ → Bool) (mine : (q : List ℕ) → ids q ≡ true → mode_of ks s q ≡ Some Exclusive) (st : State) (t : Touches s ids a.store st) where
+module _ (a : Inside) (k : IsCore a) (s : ℕ) (o : is_open (core_state a) s ≡ true) (ks : Locks) (ls : List Lock)
+    (more : MoreLocks s ls a.locks ks)
+    (ids : List ℕ → Bool) (mine : (q : List ℕ) → ids q ≡ true → mode_of ks s q ≡ Some Exclusive) (st : State)
+    (t : Touches s ids a.store st) where
   abbrev b : Inside
   b = record { store = st; locks = ks }
 
@@ -182,21 +196,25 @@ module _ (a : Inside) (k : IsCore a) (s : ℕ) (o : is_open (core_state a) s ≡
   reserved_held : (u : ℕ) (q : List ℕ) → is_reserved st u q ≡ true → mode_of ks u q ≡ Some Exclusive
   reserved_held u q h = or_cases (is_reserved a.store u q) ((s == u) && ids q) (t.reserved u q h)
       (λ e. still_exclusive s ls a.locks ks more u q (k.reserved u q e))
-      (λ e. let both = and_parts (s == u) (ids q) e in ap (λ x. mode_of ks x q) (sym (eqb-true s u both.0)) ∙ mine q both.1)
+      (λ e. let both = and_parts (s == u) (ids q) e in ap (λ x. mode_of ks x q) (sym (eqb-true s u both.0))
+      ∙ mine q both.1)
 
   marks_held : (q : List ℕ) → has_before (log_of st.logs s) q ≡ true → mode_of ks s q ≡ Some Exclusive
   marks_held q h = or_cases (has_before (log_of a.store.logs s) q) (ids q) (t.noted q h)
       (λ e. still_exclusive s ls a.locks ks more s q (k.state.marks_locked s q e)) (mine q)
 
-  core_still : IsCovered (held_in ks s) (own (core_state b) s) → (done : List Answered) × StandsUnderLocks (core_state b) s done → IsCore b
+  core_still : IsCovered (held_in ks s) (own (core_state b) s) → (done : List Answered)
+      × StandsUnderLocks (core_state b) s done → IsCore b
   core_still covers history = record {
-    state = consistent s ls (core_state a) (core_state b) left k.state o (λ q h. held_exclusively (mode_of ks s q) (covers q h)) marks_held history;
+    state = consistent s ls (core_state a) (core_state b) left k.state o
+        (λ q h. held_exclusively (mode_of ks s q) (covers q h)) marks_held history;
     reserved = reserved_held;
   }
 
   -- what it held of its own writes it holds still
   kept_covered : IsCovered (held_in ks s) (own (core_state a) s)
-  kept_covered q h = covered s ls (core_state a) (core_state b) left s q Exclusive (own_covered (core_state a) s k.state q h)
+  kept_covered q h = covered s ls (core_state a) (core_state b) left s q Exclusive
+      (own_covered (core_state a) s k.state q h)
 
   idle_core : written (core_state b) s ≡ written (core_state a) s → IsCore b
   idle_core same = core_still (subst (λ (x : Written). IsCovered (held_in ks s) x.0) (sym same) kept_covered) (
@@ -216,14 +234,17 @@ module _ (a : Inside) (k : IsCore a) {v : CoreState} (known : core_state a ≡ v
 
   -- no command is done: it failed or isn't granted
   module _ {E : Type 0} {r : Result Answer E} (ask : Asked s (locks_of m c) r a.locks ks) (ids : List ℕ → Bool)
-      (mine : (q : List ℕ) → ids q ≡ true → mode_of ks s q ≡ Some Exclusive) (st : State) (t : Touches s ids a.store st) where
-    stopped : (result : Result Step TxnFault) → written (core_state (record { store = st; locks = ks })) s ≡ written (core_state a) s → is_done result ≡ false →
+      (mine : (q : List ℕ) → ids q ≡ true → mode_of ks s q ≡ Some Exclusive) (st : State)
+      (t : Touches s ids a.store st) where
+    stopped : (result : Result Step TxnFault) → written (core_state (record { store = st; locks = ks })) s
+        ≡ written (core_state a) s → is_done result ≡ false →
         IfOk result (λ step. step ≡ step_of (answer_in (core_state a) s c) (reply_in (core_state a) s c)) →
         IfErr result (λ e. e ≡ OutOfMemory) →
         (answer_in (core_state a) s c ≢ Granted → AllHeld (held (core_state a) s) (granted_in (core_state a) s c) → IsOk result) →
         (finds_mark (snapshot (core_state a) s) c ≡ true → IsOk result) →
         OnOk result (IsBlocked (HoldsLock a.locks) s (answer_in (core_state a) s c)) →
-        OnOk result (AllHeld (held_in ks s) (granted_in (core_state a) s c)) → Acted s c result v (record { store = st; locks = ks })
+        OnOk result (AllHeld (held_in ks s) (granted_in (core_state a) s c))
+        → Acted s c result v (record { store = st; locks = ks })
     stopped result same idle step fault answered found blocked granted =
         let w = core_state (record { store = st; locks = ks }) in
         let more = ask.gains.locks in
@@ -243,14 +264,20 @@ module _ (a : Inside) (k : IsCore a) {v : CoreState} (known : core_state a ≡ v
   abbrev none : List ℕ → Bool
   none q = false
 
-  pub asked_failed : {E : Type 0} (e : E) → Asked s (locks_of m c) (Err e) a.locks ks → Acted s c (Err OutOfMemory) v (record { store = a.store; locks = ks })
-  asked_failed {E} e ask = stopped ask none (λ q h. absurd (false≢true h)) a.store (touches_itself s none a.store) (Err OutOfMemory) refl refl tt refl (λ n. ask.answered)
-      (λ h. ask.answered (subst (λ ls. AllHeld (held_in a.locks s) (granted_before a.locks s ls)) (sym (unlocked m c (snapshot (core_state a) s).marks h)) tt)) tt tt
+  pub asked_failed : {E : Type 0} (e : E) → Asked s (locks_of m c) (Err e) a.locks ks
+      → Acted s c (Err OutOfMemory) v (record { store = a.store; locks = ks })
+  asked_failed {E} e ask =
+      stopped ask none (λ q h. absurd (false≢true h)) a.store (touches_itself s none a.store) (Err OutOfMemory) refl
+      refl tt refl (λ n. ask.answered)
+      (λ h. ask.answered (subst (λ ls. AllHeld (held_in a.locks s) (granted_before a.locks s ls))
+      (sym (unlocked m c (snapshot (core_state a) s).marks h)) tt)) tt tt
 
   module _ {E : Type 0} {x : Answer} (ask : Asked {E = E} s (locks_of m c) (Ok x) a.locks ks) where
     -- a lock isn't granted
-    pub asked_refused : (step : Step) → is_done (Ok step) ≡ false → step ≡ step_of x (reply_in (core_state a) s c) → Acted s c (Ok step) v (record { store = a.store; locks = ks })
-    asked_refused step idle is = stopped ask none (λ q h. absurd (false≢true h)) a.store (touches_itself s none a.store) (Ok step) refl idle
+    pub asked_refused : (step : Step) → is_done (Ok step) ≡ false → step ≡ step_of x (reply_in (core_state a) s c)
+        → Acted s c (Ok step) v (record { store = a.store; locks = ks })
+    asked_refused step idle is =
+        stopped ask none (λ q h. absurd (false≢true h)) a.store (touches_itself s none a.store) (Ok step) refl idle
         (is ∙ ap (λ b. step_of b (reply_in (core_state a) s c)) ask.answer) tt
         (λ n h. refl) (λ h. refl) (subst (IsBlocked (HoldsLock a.locks) s) ask.answer ask.blocked) ask.held
 
@@ -280,24 +307,30 @@ module _ (a : Inside) (k : IsCore a) {v : CoreState} (known : core_state a ≡ v
         };
       }
 
-      pub perform_failed : {F : Type 0} (e : F) (st : State) → IsPerform s c (Err e) a.store st → Acted s c (Err OutOfMemory) v (record { store = st; locks = ks })
-      perform_failed {F} e st p = stopped ask (locks_id_exclusively (locks_of m c)) mine st p.touches (Err OutOfMemory) p.written refl tt refl
+      pub perform_failed : {F : Type 0} (e : F) (st : State) → IsPerform s c (Err e) a.store st
+          → Acted s c (Err OutOfMemory) v (record { store = st; locks = ks })
+      perform_failed {F} e st p =
+          stopped ask (locks_id_exclusively (locks_of m c)) mine st p.touches (Err OutOfMemory) p.written refl tt refl
           (λ n h. absurd (n granted)) p.found tt tt
 
       -- what it wrote by now it holds exclusively
-      covered_now : {F : Type 0} (r : Reply) (st : State) → IsPerform {E = F} s c (Ok r) a.store st → IsCovered (held_in ks s) (own (core_state (record { store = st; locks = ks })) s)
+      covered_now : {F : Type 0} (r : Reply) (st : State) → IsPerform {E = F} s c (Ok r) a.store st
+          → IsCovered (held_in ks s) (own (core_state (record { store = st; locks = ks })) s)
       covered_now {F} r st p =
-          let kept = kept_covered a k s o ks ask.gains.gained ask.gains.locks (locks_id_exclusively (locks_of m c)) mine st p.touches in
+          let kept = kept_covered a k s o ks ask.gains.gained ask.gains.locks (locks_id_exclusively (locks_of m c))
+          mine st p.touches in
           subst (λ (x : Written). IsCovered (held_in ks s) x.0) (sym p.written)
           (covered_after (held_in ks s) c (own_done m (own (core_state a) s) c) (written (core_state a) s)
           (λ q h. bool_cases (writes_id m c q)
-          (λ e. ap (λ o. covers o Exclusive) (mine q (writes_is_named (cause_of m c) (locks_id_exclusively (locks_of m c) q) e)))
+          (λ e. ap (λ o. covers o Exclusive)
+          (mine q (writes_is_named (cause_of m c) (locks_id_exclusively (locks_of m c) q) e)))
           (λ e. kept q (sym (ap (λ b. is_some (if b then Some (after m c q) else own (core_state a) s q)) e) ∙ h)))
           kept (are_covered (held_in ks s) (log_of a.store.logs s) (own (core_state a) s) kept
           (λ q h. ap (λ o. covers o Exclusive)
           (still_exclusive s ask.gains.gained a.locks ks ask.gains.locks s q (k.state.marks_locked s q h)))))
 
-      pub performed : {F : Type 0} (r : Reply) (st : State) → IsPerform {E = F} s c (Ok r) a.store st → Acted s c (Ok (steps.Done r)) v (record { store = st; locks = ks })
+      pub performed : {F : Type 0} (r : Reply) (st : State) → IsPerform {E = F} s c (Ok r) a.store st
+          → Acted s c (Ok (steps.Done r)) v (record { store = st; locks = ks })
       performed {F} r st p =
           let w = core_state (record { store = st; locks = ks }) in
           let gained = ask.gains.gained in
@@ -305,8 +338,12 @@ module _ (a : Inside) (k : IsCore a) {v : CoreState} (known : core_state a ≡ v
           let k_left = left a k s o ks gained ask.gains.locks ids mine st p.touches in
           let sound = sound_view (core_state a) s k.state in
           record {
-            core = core_still a k s o ks gained ask.gains.locks ids mine st p.touches (covered_now r st p)
-                ((k.state.history s).0 ++ (c, r) ∷ [], stands_done s c r (core_state a) w gained k_left no_end sound p.reply p.written all (k.state.history s).0 (k.state.history s).1);
+            core = core_still a k s o ks gained ask.gains.locks ids mine st p.touches (covered_now r st p) (
+              (k.state.history s).0 ++ (c, r) ∷ [],
+              stands_done s c r (core_state a) w gained k_left no_end sound
+                  p.reply p.written all (k.state.history s).0 (k.state.history s).1,
+            );
             acted = subst (λ u. IsAct s c (Ok (steps.Done r)) u w) known
-                (acted_done s c r (core_state a) w gained k_left no_end sound p.reply p.written all o ask.gains granted);
+                (acted_done s c r (core_state a) w gained k_left no_end sound p.reply p.written all o ask.gains
+                granted);
           }

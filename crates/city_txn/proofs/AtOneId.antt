@@ -1,5 +1,6 @@
--- What a store's value has at an id, from what its city and its images have there.
-use Rattle.std.proofs.Common.{◌≡◌, ◌==◌, ℕ, List, [], ◌∷◌, Bool, true, false, Option, None, Some, is_some, Less, refl, ap, sym, ◌∙◌}
+-- What a store's value has at an id, from what its city and its images have there; a new store, and one at rest.
+use Rattle.std.proofs.Common.{◌≡◌, ◌==◌, ℕ, List, [], ◌∷◌, Bool, true, false, Option, None, Some, is_some, Less, refl}
+use Rattle.std.proofs.Common.{ap, sym, ◌∙◌, ◌||◌}
 use Rattle.std.specs.Prelude.{if◌then◌else◌}
 use Rattle.std.specs.Map.{lookup, keys_of}
 use Rattle.std.specs.Cmp.{unsigned_tied, eq_by_cmp_equiv}
@@ -7,9 +8,9 @@ use Rattle.std.specs.Ordering.{nat_cmp, eq_by_cmp}
 use Rattle.std.specs.Cmp.Lexicographic.{slice_cmp}
 use Rattle.std.specs.BTreeMap.{is_at}
 use Rattle.std.specs.FinMap.{entries, get, from_sorted}
-use Rattle.std.specs.List.{AllByRecursion}
+use Rattle.std.specs.List.{AllByRecursion, list_any}
 use Rattle.std.specs.List.Sorted.{IsStrictlySortedBy}
-use Rattle.std.proofs.lemmas.Bool.{false≢true}
+use Rattle.std.proofs.lemmas.Bool.{false≢true, eq-eqb}
 use Rattle.std.proofs.lemmas.Cmp.{nat_list_cmp_total}
 use Rattle.std.proofs.lemmas.Map.{lookup-none}
 use Rattle.std.proofs.lemmas.Map.Keys.{IsDistinct-from_sorted, sorted_tail}
@@ -160,3 +161,26 @@ new_in_place a none shut unlogged = record {
   listed = λ s id. ap (λ r. has_id (reservations_of r s) id) shut ∙ sym (ap (λ i. is_writer s (writer_of i)) (no_image_listed a.undo.images none id));
   noted = λ s id h. absurd (false≢true (sym (ap (λ ls. has_before (log_of ls s) id) unlogged) ∙ h));
 }
+
+unwritten : (i : Option UndoImage) → ((s : ℕ) → is_writer s (writer_of i) ≡ false) → i ≡ None
+unwritten None h = refl
+unwritten (Some i) h = absurd (false≢true (sym (h i.by) ∙ eq-eqb i.by i.by refl))
+
+no_image : (a : Inside) → IsInPlace a → a.undo.reservations ≡ [] → (id : List ℕ) → image_at a.undo id ≡ None
+no_image a k shut id =
+    unwritten (image_at a.undo id)
+    (λ s. sym (k.listed s id) ∙ ap (λ reservations. has_id (reservations_of reservations s) id) shut)
+
+pub idle_city : (a : Inside) → IsInPlace a → a.undo.reservations ≡ [] → a.city ≡ ((state_of a).frame, (state_of a).city)
+idle_city a k shut =
+    let none : image_at a.undo ≡ (λ id. None) = λ i id. no_image a k shut id i in
+    let same : (state_of a).city ≡ a.city.1 =
+    ap (λ (images : List ℕ → Option UndoImage).
+    from_sorted (made_by (λ id o. committed_at (Some o) (images id)) (entries a.city.1))) none ∙ all_there a.city.1 in
+    λ i. (a.city.0, sym same i)
+
+-- where no stamp is open there is none
+pub none_open : {X : Type 0} (es : List (ℕ × X)) → ((t : ℕ) → list_any (λ s. t == s) (keys_of es) ≡ false) → es ≡ []
+none_open [] h = refl
+none_open (e ∷ es) h =
+    absurd (false≢true (sym (h e.0) ∙ ap (λ b. b || list_any (λ s. e.0 == s) (keys_of es)) (eq-eqb e.0 e.0 refl)))

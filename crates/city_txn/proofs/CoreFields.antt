@@ -51,7 +51,8 @@ open_stored a snapshot s = sym (open_is a s) ∙ ap (λ u. is_open u s) snapshot
 none_some_write : {A : Type 0} {w : Write} → None ≡ Some w → A
 none_some_write e = absurd (cc)
 
-pub opened_core : (a : Inside) (frame : Frame) (city : Objects) → a.store ≡ record { frame = frame; city = city; writes = []; opened = []; logs = [] }
+pub opened_core : (a : Inside) (frame : Frame) (city : Objects) → a.store
+    ≡ record { frame = frame; city = city; writes = []; opened = []; logs = [] }
     → a.locks ≡ [] → IsLawful (object_at city) → IsCore a
 opened_core a frame city e f l =
     subst IsCore (λ i. record { store = sym e i; locks = sym f i }) (record {
@@ -85,22 +86,30 @@ shut_writer v s q c h w e = bool_cases (w.0 == s)
 pub shut_unwritten : (v : CoreState) (s : ℕ) (q : List ℕ) → IsConsistent v → is_open v s ≡ false → is_by s (write_of v.writes q) ≡ false
 shut_unwritten v s q c h = not_by s (write_of v.writes q) (shut_writer v s q c h)
 
-module _ (a b : Inside) (k : IsCore a) {v : CoreState} (known : core_state a ≡ v) (s : ℕ) (shut : is_open v s ≡ false) (begins : Begins s a.store b.store) (locks : b.locks ≡ a.locks) where
+pub record Begun (s : ℕ) (v : CoreState) (b : Inside) : Type 0 where
+  pub core : IsCore b
+  pub opened : is_open (core_state b) s ≡ true
+  pub unmarked : log_of b.store.logs s ≡ []
+  pub own : StandsUnderLocks (core_state b) s []
+  pub keeps : KeepsOthers s v (core_state b)
+
+module _ (a b : Inside) (k : IsCore a) {v : CoreState} (known : core_state a ≡ v) (s : ℕ) (shut : is_open v s ≡ false)
+    (begins : Begins s a.store b.store) (locks : b.locks ≡ a.locks) where
   begun_open : (t : ℕ) → is_open (core_state b) t ≡ ((s == t) || is_open (core_state a) t)
   begun_open t = open_is b t ∙ begins.opened t ∙ ap (λ c. (s == t) || c) (sym (open_is a t))
 
-  pub begun_opened : is_open (core_state b) s ≡ true
+  begun_opened : is_open (core_state b) s ≡ true
   begun_opened = begun_open s ∙ rw (eq-eqb s s refl) refl
 
   was_shut : is_open (core_state a) s ≡ false
   was_shut = ap (λ u. is_open u s) known ∙ shut
 
   -- it has no marks
-  pub begun_unmarked : log_of b.store.logs s ≡ []
+  begun_unmarked : log_of b.store.logs s ≡ []
   begun_unmarked = ap (λ ls. log_of ls s) begins.logs ∙ k.state.marks_open s was_shut
 
   -- the new one did nothing, so it sees the committed map
-  pub begun_own : StandsUnderLocks (core_state b) s []
+  begun_own : StandsUnderLocks (core_state b) s []
   begun_own =
       let none : (q : List ℕ) → own_or s (write_of b.store.writes q) (object_at b.store.city q) ≡ object_at b.store.city q =
       λ q. own_not s (write_of b.store.writes q) (object_at b.store.city q)
@@ -117,25 +126,37 @@ module _ (a b : Inside) (k : IsCore a) {v : CoreState} (known : core_state a ≡
       (λ q c h. ap (λ hs. covers (held_in hs t q) c) locks ∙ h)
       (λ i. unmarked (object_at (sym begins.city i))) (sym (seen_same (core_state a) (core_state b) t (ap object_at begins.city) (begun_written t))) f
 
-  pub begun_keeps : KeepsOthers s v (core_state b)
+  begun_keeps : KeepsOthers s v (core_state b)
   begun_keeps = subst (λ u. KeepsOthers s u (core_state b)) known (record {
     frame = begins.frame;
     opened = λ t ne. begun_open t ∙ ap (λ c. c || is_open (core_state a) t) ne;
     others = λ t done ne f. begun_stands t done f;
   })
 
-  pub begun_core : IsCore b
+  begun_core : IsCore b
   begun_core = record {
     state = record {
       lawful = subst Lawful (sym locks) k.state.lawful;
       locked = λ q w e. ap (λ hs. mode_of hs w.0 q) locks ∙ k.state.locked q w (ap (λ ws. write_of ws q) (sym begins.writes) ∙ e);
-      marks_locked = λ t q h. ap (λ hs. mode_of hs t q) locks ∙ k.state.marks_locked t q (ap (λ ls. has_before (log_of ls t) q) (sym begins.logs) ∙ h);
+      marks_locked = λ t q h. ap (λ hs. mode_of hs t q) locks
+          ∙ k.state.marks_locked t q (ap (λ ls. has_before (log_of ls t) q) (sym begins.logs) ∙ h);
       open_only = λ t q h. begun_open t ∙ or_right (s == t) (is_open (core_state a) t) (k.state.open_only t q (ap (λ hs. is_some (mode_of hs t q)) (sym locks) ∙ h));
-      marks_open = λ t h. ap (λ ls. log_of ls t) begins.logs ∙ k.state.marks_open t (or_parts (s == t) (is_open (core_state a) t) (sym (begun_open t) ∙ h)).1;
+      marks_open = λ t h. ap (λ ls. log_of ls t) begins.logs
+          ∙ k.state.marks_open t (or_parts (s == t) (is_open (core_state a) t) (sym (begun_open t) ∙ h)).1;
       city = subst (λ es. IsLawful (object_at es)) (sym begins.city) k.state.city;
       history = λ t. ((k.state.history t).0, begun_stands t (k.state.history t).0 (k.state.history t).1);
     };
     reserved = λ t q h. ap (λ hs. mode_of hs t q) locks ∙ k.reserved t q (sym (begins.reserved t q) ∙ h);
+  }
+
+  pub begun : Begun s v b
+  begun = record {
+    core = begun_core;
+    opened = begun_opened;
+    unmarked = begun_unmarked;
+    own = begun_own;
+    keeps =
+        begun_keeps;
   }
 
 -- ---- over
@@ -165,7 +186,12 @@ module _ (a b : Inside) (k : IsCore a) (s : ℕ) (f : Forgets s a.store b.store)
     committed_over = is_over s (core_state a) (core_state b) ended f.frame (λ t done ne g. stands_committed s t (core_state a) (core_state b) done k.state ended city ne g)
 
     pub committed_core : HasNoOrphan (view (core_state a) s) → IsCore b
-    committed_core orphans = record { state = committed_consistent s (core_state a) (core_state b) k.state ended city orphans; reserved = reserved_left }
+    committed_core orphans =
+        record {
+          state = committed_consistent s (core_state a) (core_state b) k.state ended city orphans;
+          reserved =
+              reserved_left;
+        }
 
   module _ (city : store.committed b.store ≡ store.committed a.store) where
     pub undone : IsRolledBack s (core_state a) (core_state b)
@@ -176,4 +202,8 @@ module _ (a b : Inside) (k : IsCore a) (s : ℕ) (f : Forgets s a.store b.store)
     }
 
     pub undone_core : IsCore b
-    undone_core = record { state = aborted_consistent s (core_state a) (core_state b) k.state ended city; reserved = reserved_left }
+    undone_core = record {
+      state = aborted_consistent s (core_state a) (core_state b) k.state ended city;
+      reserved =
+          reserved_left;
+    }

@@ -110,7 +110,8 @@ module _ (a b : Inside) (k : IsInPlace a) (s : ℕ) (ids : List (List ℕ)) (are
     listed = λ t q. reserved_left t q ∙ ap (λ c. if s == t then false else c) (k.listed t q) ∙ others_stay s t (image_at a.undo q)
         ∙ sym (ap (λ i. is_writer t (writer_of i)) (images_at q));
     noted = λ t q h. bool_cases (s == t)
-        (λ e. absurd (false≢true (sym (ap (λ es. has_before es q) (logs t ∙ ap (λ c. if c then [] else log_of a.logs t) e)) ∙ h)))
+        (λ e. absurd (false≢true
+        (sym (ap (λ es. has_before es q) (logs t ∙ ap (λ c. if c then [] else log_of a.logs t) e)) ∙ h)))
         (λ e. reserved_left t q ∙ ap (λ c. if c then false else is_reserved (state_of a) t q) e
         ∙ k.noted t q (sym (ap (λ es. has_before es q) (logs t ∙ ap (λ c. if c then [] else log_of a.logs t) e)) ∙ h));
   }

@@ -4,14 +4,12 @@ pub mod AtOneId
 pub mod ChangeMade
 pub mod CoreFields
 pub mod EachId
-pub mod Edited
 pub mod Ended
 pub mod Forgotten
-pub mod Idle
 pub mod ImagesHeld
 pub mod LocksAsked
-pub mod LocksGained
 pub mod OneIdChanged
+pub mod OneIdWritten
 pub mod OthersLeft
 pub mod PerformDone
 pub mod PlanWritten
@@ -21,5 +19,3 @@ pub mod SeenWrites
 pub mod Slots
 pub mod Touched
 pub mod UndoLogs
-pub mod Unwritten
-pub mod Written

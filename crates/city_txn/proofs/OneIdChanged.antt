@@ -51,7 +51,8 @@ module _ (a b : Inside) (k : IsInPlace a) (id : List ℕ) (x : Option Object) (i
 pub record OneWritten (a b : Inside) (id : List ℕ) (w : Option Write) : Type 0 where
   pub in_place : IsInPlace b
   pub only : ChangesWrites (state_of a) (state_of b)
-  pub writes : (q : List ℕ) → write_of (state_of b).writes q ≡ (if same_id id q then w else write_of (state_of a).writes q)
+  pub writes : (q : List ℕ) → write_of (state_of b).writes q
+      ≡ (if same_id id q then w else write_of (state_of a).writes q)
 
 -- the image's transaction stays the same, and what is committed beneath it
 module _ (a b : Inside) (k : IsInPlace a) (id : List ℕ) (x : Option Object) (i : Option UndoImage)
@@ -66,13 +67,23 @@ module _ (a b : Inside) (k : IsInPlace a) (id : List ℕ) (x : Option Object) (i
   still_in_place : IsInPlace b
   still_in_place = record {
     has_slot = slots_kept a b k id x i city images has_slot;
-    listed = λ t q. ap (λ r. has_id (reservations_of r t) q) reservations ∙ k.listed t q ∙ ap (is_writer t) (sym (same_writers q));
-    noted = λ t q h. ap (λ r. has_id (reservations_of r t) q) reservations ∙ k.noted t q (ap (λ ls. has_before (log_of ls t) q) (sym logs) ∙ h);
+    listed = λ t q. ap (λ r. has_id (reservations_of r t) q) reservations ∙ k.listed t q
+        ∙ ap (is_writer t) (sym (same_writers q));
+    noted = λ t q h. ap (λ r. has_id (reservations_of r t) q) reservations
+        ∙ k.noted t q (ap (λ ls. has_before (log_of ls t) q) (sym logs) ∙ h);
   }
 
-  pub one_written : (w : Option Write) → write_at x i ≡ w → committed_at x i ≡ committed_at (here a id) (image_at a.undo id) → OneWritten a b id w
+  pub one_written : (w : Option Write) → write_at x i ≡ w → committed_at x i
+      ≡ committed_at (here a id) (image_at a.undo id) → OneWritten a b id w
   one_written w is same = record {
     in_place = still_in_place;
-    only = record { frame = frame; city = committed_kept a b k id x i city images still_in_place same; opened = reservations; logs = logs };
-    writes = λ q. write_changed a b k id x i city images still_in_place q ∙ ap (λ z. if same_id id q then z else write_of (state_of a).writes q) is;
+    only = record {
+      frame = frame;
+      city = committed_kept a b k id x i city images still_in_place same;
+      opened =
+          reservations;
+      logs = logs;
+    };
+    writes = λ q. write_changed a b k id x i city images still_in_place q
+        ∙ ap (λ z. if same_id id q then z else write_of (state_of a).writes q) is;
   }

@@ -1,5 +1,6 @@
 -- A transaction that gained locks and may have written: nobody else sees a difference.
-use Rattle.std.proofs.Common.{◌≡◌, ◌==◌, ℕ, List, [], true, false, None, Some, is_some, refl, ap, sym, ◌∙◌, subst, inl, inr}
+use Rattle.std.proofs.Common.{◌≡◌, ◌==◌, ℕ, List, [], true, false, None, Some, is_some, refl, ap, sym, ◌∙◌, subst}
+use Rattle.std.proofs.Common.{inl, inr}
 use Rattle.std.specs.Prelude.{if◌then◌else◌}
 use Rattle.std.proofs.lemmas.Bool.{false≢true, eqb-true, ne_eqb, cases_eq}
 use Rattle.city_model.specs.CityMap.{CityMap}
@@ -18,7 +19,7 @@ use Rattle.city_txn.specs.CoreState.{CoreState, committed, own, written, snapsho
 use Rattle.city_txn.specs.CoreState.{StandsUnderLocks, KeepsOthers}
 use Rattle.city_txn.specs.inside.Core.{IsConsistent}
 use Rattle.city_txn.proofs.Ended.{held_exclusively}
-use Rattle.city_txn.proofs.LocksGained.{no_more_locks}
+use Rattle.city_txn.proofs.LocksAsked.{no_more_locks}
 use Rattle.city_txn.proofs.SeenWrites.{seen_same, written_same, own_same, others_write}
 
 -- s gained locks that ls names; the committed city, who is open, and what the others wrote and marked stay
@@ -65,7 +66,8 @@ module _ (s : ℕ) (ls : List Lock) (v w : CoreState) (k : LeavesOthers s ls v w
   covered = still_covered s ls v.locks w.locks k.locks
 
   -- who sees what he saw stands as he stood
-  pub stands_still : (t : ℕ) (done : List Answered) → snapshot w t ≡ snapshot v t → StandsUnderLocks v t done → StandsUnderLocks w t done
+  pub stands_still : (t : ℕ) (done : List Answered) → snapshot w t ≡ snapshot v t → StandsUnderLocks v t done
+      → StandsUnderLocks w t done
   stands_still t done same f = follows_same (held v t) (held w t) (unmarked (committed v)) (unmarked (committed w)) done
       (snapshot v t) (snapshot w t) (covered t) (ap (λ (m : CityMap). unmarked m) (sym k.city)) (sym same) f
 

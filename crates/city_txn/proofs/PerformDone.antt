@@ -1,5 +1,6 @@
 -- A command done on the store, by its kind.
-use Rattle.std.proofs.Common.{◌≡◌, ◌&&◌, ℕ, List, [], Bool, true, false, Option, None, Some, Result, Ok, Err, refl, ap, sym, ◌∙◌, subst}
+use Rattle.std.proofs.Common.{◌≡◌, ◌&&◌, ℕ, List, [], Bool, true, false, Option, None, Some, Result, Ok, Err, refl, ap}
+use Rattle.std.proofs.Common.{sym, ◌∙◌, subst}
 use Rattle.std.specs.Prelude.{if◌then◌else◌, is_none, IsErr}
 use Rattle.std.proofs.lemmas.Bool.{false≢true, eq-eqb}
 use Rattle.city_model.specs.declared.object.Object.{Object}
@@ -20,7 +21,8 @@ use Rattle.city_model.specs.inside.CommandParts.{back_cause, cause_of, effect_of
 use Rattle.city_model.proofs.MarksKept.{from_mapped, plain, plain_answer}
 use Rattle.city_txn.specs.inside.State.{State, own, written, committed, view, Touches}
 use Rattle.city_txn.specs.Writes.{Write, write_of, own_write}
-use Rattle.city_txn.specs.UndoLog.{OwnWrites, Written, log_of, marked, written_at_mark, written_after, map_with, marks_with}
+use Rattle.city_txn.specs.UndoLog.{OwnWrites, Written, log_of, marked, written_at_mark, written_after, map_with}
+use Rattle.city_txn.specs.UndoLog.{marks_with}
 use Rattle.city_txn.specs.inside.LogTests.{has_mark}
 use Rattle.city_txn.specs.inside.Done.{writes_id, own_done, finds_as, finds_mark}
 use Rattle.city_txn.specs.inside.Performing.{plans, seen, IsPerform}
@@ -49,10 +51,12 @@ back_failed s name v missing (Err e) failed = record {
   touches = touches_itself s (λ id. false) v;
 }
 
-pub back_refused : {E : Type 0} (s : ℕ) (name copy : List ℕ) (v : State) → has_mark (log_of v.logs s) name ≡ false → copy ≡ name
+pub back_refused : {E : Type 0} (s : ℕ) (name copy : List ℕ) (v : State) → has_mark (log_of v.logs s) name ≡ false
+    → copy ≡ name
     → IsPerform {E = E} s (commands.Back name) (Ok (Refused (NoMark copy))) v v
 back_refused s name copy v missing is =
-    let none : marks_from name (marked (log_of v.logs s) (own v s)) ≡ [] = no_mark_from (log_of v.logs s) (own v s) name missing in
+    let none : marks_from name (marked (log_of v.logs s) (own v s))
+    ≡ [] = no_mark_from (log_of v.logs s) (own v s) name missing in
     record {
       reply = ap (λ n. Refused (NoMark n)) is
           ∙ sym (ap (λ ks. refused_or (back_cause name ks) WentBack)
@@ -112,9 +116,11 @@ own_written s false x y = refl
 
 -- v was the store, and w is the store with the plan written, or for want of memory without it
 module _ (s : ℕ) (c : Command) (r : Reply) (change : Change) (v w : State) (plain_one : is_mark c ≡ false)
-    (is : AreWritesOf (view v s) c r change) (planned : Touches s (plans change) v w) (marks : (written w s).1 ≡ (written v s).1) where
+    (is : AreWritesOf (view v s) c r change) (planned : Touches s (plans change) v w)
+    (marks : (written w s).1 ≡ (written v s).1) where
   touched : Touches s (locks_id_exclusively (locks_of (view v s) c)) v w
-  touched = touches_more s (plans change) (locks_id_exclusively (locks_of (view v s) c)) v w (λ q h. sym (is.ids q) ∙ h) planned
+  touched = touches_more s (plans change) (locks_id_exclusively (locks_of (view v s) c)) v w
+      (λ q h. sym (is.ids q) ∙ h) planned
 
   pub unwritten_performed : {E : Type 0} (result : Result Reply E) → IsErr result
       → ((q : List ℕ) → write_of w.writes q ≡ write_of v.writes q) → IsPerform s c result v w
@@ -137,7 +143,8 @@ module _ (s : ℕ) (c : Command) (r : Reply) (change : Change) (v w : State) (pl
       λ q. ap (own_write s) (done (after m c) all q) ∙ own_written s (plans change q) (after m c q) (write_of v.writes q)
       ∙ ap (λ b. if b then Some (after m c q) else own v s q) (writes q) in
       record {
-        reply = sym is.reply ∙ sym (plain_answer (seen v s) c plain_one ∙ ap (λ x. refused_or x (done_reply m c)) is.allowed);
+        reply = sym is.reply
+            ∙ sym (plain_answer (seen v s) c plain_one ∙ ap (λ x. refused_or x (done_reply m c)) is.allowed);
         found = λ h. refl;
         written = (λ i. (λ q. at_one q i, marks i)) ∙ sym (leaves c (own_done m (own v s) c) (written v s) plain_one);
         touches = touched;

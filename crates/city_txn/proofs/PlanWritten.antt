@@ -47,7 +47,8 @@ module _ (v u w : State) (s : ℕ) (ws : Change) (n : ℕ) (p : List ℕ × Opti
     pub reserved_more : ReservesAmong (plans ws) s v w
     reserved_more t q h = or_cases ((s == t) && same_id p.0 q) (is_reserved u t q) (sym (more t q) ∙ h)
         (λ e. let parts = and_parts (s == t) (same_id p.0 q) e in
-        or_right (is_reserved v t q) ((s == t) && plans ws q) (and_from (s == t) (plans ws q) parts.0 (planned q parts.1)))
+        or_right (is_reserved v t q) ((s == t) && plans ws q)
+        (and_from (s == t) (plans ws q) parts.0 (planned q parts.1)))
         (λ e. reserved t q e)
 
     pub done_more : ((q : List ℕ) → plans (take n ws) q ≡ true → is_reserved u s q ≡ true) → (q : List ℕ) → plans (take (n + 1) ws) q ≡ true → is_reserved w s q ≡ true

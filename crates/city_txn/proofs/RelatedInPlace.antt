@@ -34,7 +34,8 @@ edited_unless s f (Some w) h = ap (λ b. if b then None else Some (w.0, option_m
 
 -- ---- the whole: v is the store, and u has the child reserved
 
-module _ (s : ℕ) (c : Command) (r : Reply) (child parent : List ℕ) (below : Option Object) (f : Object → Object) (v u : State)
+module _ (s : ℕ) (c : Command) (r : Reply) (child parent : List ℕ) (below : Option Object) (f : Object → Object)
+    (v u : State)
     (plain_one : is_mark c ≡ false) (is : AreWritesOf (view v s) c r (related (view v s) child below parent f))
     (in_place : edits_in_place v s parent ≡ true) (same : SeesSame v u)
     (made : (t : ℕ) (q : List ℕ) → is_reserved u t q ≡ (((s == t) && same_id child q) || is_reserved v t q)) where
@@ -45,7 +46,8 @@ module _ (s : ℕ) (c : Command) (r : Reply) (child parent : List ℕ) (below : 
   among = reserves_more s (same_id child) (plans change) v u
       (λ q e. or_left (same_id q child) (same_id q parent || false) (same_id_back q child ∙ e))
       (λ t q h. or_cases ((s == t) && same_id child q) (is_reserved v t q) (sym (made t q) ∙ h)
-      (or_right (is_reserved v t q) ((s == t) && same_id child q)) (or_left (is_reserved v t q) ((s == t) && same_id child q)))
+      (or_right (is_reserved v t q) ((s == t) && same_id child q))
+      (or_left (is_reserved v t q) ((s == t) && same_id child q)))
 
   reserved : Touches s (plans change) v u
   reserved = touches_seen s (plans change) v u same among
@@ -56,7 +58,8 @@ module _ (s : ℕ) (c : Command) (r : Reply) (child parent : List ℕ) (below : 
   -- there are no marks to change
   unmarked : (w : State) → w.logs ≡ v.logs → marked (log_of w.logs s) (own w s) ≡ marked (log_of v.logs s) (own v s)
   unmarked w e = ap (λ ls. marked (log_of ls s) (own w s)) e
-      ∙ marked_same (log_of v.logs s) (own w s) (own v s) (λ q h. absurd (not_both _ (noted_if_empty (log_of v.logs s) q both.1) h))
+      ∙ marked_same (log_of v.logs s) (own w s) (own v s)
+      (λ q h. absurd (not_both _ (noted_if_empty (log_of v.logs s) q both.1) h))
 
   pub related_unwritten : {E : Type 0} (result : Result Reply E) → IsErr result → IsPerform s c result v u
   related_unwritten result failed =
@@ -64,14 +67,16 @@ module _ (s : ℕ) (c : Command) (r : Reply) (child parent : List ℕ) (below : 
 
   -- x has the parent edited, and w the child written, whose id was copied
   module _ (x : State) (copy : List ℕ) (copied : copy ≡ child) (edits : ChangesWrites u x)
-      (writes_x : (q : List ℕ) → write_of x.writes q ≡ (if same_id parent q then option_map (rewritten f) (write_of u.writes parent) else write_of u.writes q)) where
+      (writes_x : (q : List ℕ) → write_of x.writes q
+      ≡ (if same_id parent q then option_map (rewritten f) (write_of u.writes parent) else write_of u.writes q)) where
     pub copy_reserved : is_reserved x s copy ≡ true
     copy_reserved = ap (is_reserved x s) copied ∙ reserved_by u x s child edits.opened ∙ made s child
         ∙ or_left ((s == s) && same_id child child) (is_reserved v s child)
         (and_from (s == s) (same_id child child) (eq-eqb s s refl) (same_id_itself child))
 
     module _ (w : State) (sets : ChangesWrites x w)
-        (writes : (q : List ℕ) → write_of w.writes q ≡ (if same_id copy q then Some (s, below) else write_of x.writes q))
+        (writes : (q : List ℕ) → write_of w.writes q
+        ≡ (if same_id copy q then Some (s, below) else write_of x.writes q))
         (others_w : (q : List ℕ) → unless_by s (write_of w.writes q) ≡ unless_by s (write_of x.writes q)) where
       writes_w : (q : List ℕ) → write_of w.writes q ≡ (if same_id child q then Some (s, below) else write_of x.writes q)
       writes_w q = writes q ∙ ap (λ k. if same_id k q then Some (s, below) else write_of x.writes q) copied
@@ -84,14 +89,18 @@ module _ (s : ℕ) (c : Command) (r : Reply) (child parent : List ℕ) (below : 
 
       others_x : (q : List ℕ) → unless_by s (write_of x.writes q) ≡ unless_by s (write_of u.writes q)
       others_x = at_each parent
-          (ap (unless_by s) at_parent ∙ edited_unless s f (write_of u.writes parent) (ap (is_by s) (same.writes parent) ∙ both.0))
+          (ap (unless_by s) at_parent
+          ∙ edited_unless s f (write_of u.writes parent) (ap (is_by s) (same.writes parent) ∙ both.0))
           (λ q e. ap (unless_by s) (beside q e ∙ sym (same.writes q)))
 
-      written : (g : CityMap) → AreOf g change → (q : List ℕ) → write_of w.writes q ≡ (if plans change q then Some (s, g q) else write_of v.writes q)
-      written g of = at_each {P = λ q. write_of w.writes q ≡ (if plans change q then Some (s, g q) else write_of v.writes q)} child
+      written : (g : CityMap) → AreOf g change → (q : List ℕ) → write_of w.writes q
+          ≡ (if plans change q then Some (s, g q) else write_of v.writes q)
+      written g of = at_each
+          {P = λ q. write_of w.writes q ≡ (if plans change q then Some (s, g q) else write_of v.writes q)} child
           (writes_w child ∙ rw (same_id_itself child) (ap (λ o. Some (s, o)) of.0))
           (λ q a. writes_w q ∙ rw (a, same_id_back q child ∙ a)
-          (at_each {P = λ q. write_of x.writes q ≡ (if same_id q parent || false then Some (s, g q) else write_of v.writes q)} parent
+          (at_each {P = λ q. write_of x.writes q
+          ≡ (if same_id q parent || false then Some (s, g q) else write_of v.writes q)} parent
           (rw (same_id_itself parent) (at_parent ∙ ap (option_map (rewritten f)) (same.writes parent)
           ∙ edited_write s f (write_of v.writes parent) (committed v parent) both.0 ∙ ap (λ o. Some (s, o)) of.1.0))
           (λ q e. rw (same_id_back q parent ∙ e) (beside q e)) q))

@@ -40,7 +40,9 @@ module _ (a b : Inside) (k : IsInPlace a) (s : ℕ) (id : List ℕ) (deleted : B
     (is_opened : is_open (state_of a) s ≡ true) (absent : image_at a.undo id ≡ None) (frame : b.city.0 ≡ a.city.0)
     (city : object_at b.city.1 ≡ with_slot (object_at a.city.1) id)
     (images : (q : List ℕ) → image_at b.undo q ≡ (if same_id id q then Some (unwritten_image s deleted) else image_at a.undo q))
-    (reservations : (t : ℕ) → listed_by b.undo.reservations t ≡ (if is_at (nat_cmp s) t then Some (reservations_of a.undo.reservations s ++ id ∷ []) else listed_by a.undo.reservations t))
+    (reservations : (t : ℕ) → listed_by b.undo.reservations t
+    ≡ (if is_at (nat_cmp s) t then Some (reservations_of a.undo.reservations s ++ id ∷ [])
+    else listed_by a.undo.reservations t))
     (logs : b.logs ≡ a.logs) where
   abbrev object : Option Object
   object = Some (unwrap_or (here a id) placeholder)
@@ -96,9 +98,12 @@ module _ (a b : Inside) (k : IsInPlace a) (s : ℕ) (id : List ℕ) (deleted : B
 
 -- ---- a stamp opened, which wasn't open
 
-module _ (a : Inside) (k : IsInPlace a) (s : ℕ) (shut : is_open (state_of a) s ≡ false) (u : UndoState) (images : u.images ≡ a.undo.images)
-    (opened : (t : ℕ) → listed_by u.reservations t ≡ (if is_at (nat_cmp s) t then Some [] else listed_by a.undo.reservations t)) where
-  reserved_still : (t : ℕ) (q : List ℕ) → has_id (reservations_of u.reservations t) q ≡ has_id (reservations_of a.undo.reservations t) q
+module _ (a : Inside) (k : IsInPlace a) (s : ℕ) (shut : is_open (state_of a) s ≡ false) (u : UndoState)
+    (images : u.images ≡ a.undo.images)
+    (opened : (t : ℕ) → listed_by u.reservations t
+    ≡ (if is_at (nat_cmp s) t then Some [] else listed_by a.undo.reservations t)) where
+  reserved_still : (t : ℕ) (q : List ℕ) → has_id (reservations_of u.reservations t) q
+      ≡ has_id (reservations_of a.undo.reservations t) q
   reserved_still t q = ap (λ o. has_id (unwrap_or o []) q) (opened t) ∙ bool_cases (s == t)
       (λ e. rw (tied s t ∙ e) (sym (ap (λ o. has_id (unwrap_or o []) q)
       (absent_from (listed_by a.undo.reservations t) (ap (is_open (state_of a)) (sym (eqb-true s t e)) ∙ shut)))))
@@ -122,8 +127,10 @@ already true true c f = f refl refl
 already true false c f = refl
 already false b c f = refl
 
-pub reserved_already : (a : Inside) (s : ℕ) (id : List ℕ) → IsInPlace a → MayReserve (state_of a) s (same_id id) → is_some (image_at a.undo id) ≡ true →
+pub reserved_already : (a : Inside) (s : ℕ) (id : List ℕ) → IsInPlace a → MayReserve (state_of a) s (same_id id)
+    → is_some (image_at a.undo id) ≡ true →
     (t : ℕ) (q : List ℕ) → is_reserved (state_of a) t q ≡ (((s == t) && same_id id q) || is_reserved (state_of a) t q)
 reserved_already a s id k may h t q = already (s == t) (same_id id q) (is_reserved (state_of a) t q)
     (λ e d. ap (λ r. is_reserved (state_of a) r q) (sym (eqb-true s t e)) ∙ ap (is_reserved (state_of a) s) (sym (same_id_true id q d))
-    ∙ k.listed s id ∙ only_writer s (image_at a.undo id) h (λ r g. may.alone id (same_id_itself id) r (k.listed r id ∙ g)))
+    ∙ k.listed s id ∙ only_writer s (image_at a.undo id) h
+    (λ r g. may.alone id (same_id_itself id) r (k.listed r id ∙ g)))

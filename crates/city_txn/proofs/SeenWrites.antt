@@ -106,7 +106,8 @@ abbrev pub AreCovered : Held → List (List ℕ × OwnWrites) → Type 0
 AreCovered held [] = Unit {0}
 AreCovered held (k ∷ ks) = IsCovered held k.1 × AreCovered held ks
 
-pub are_covered : (held : Held) (es : List Entry) (f : OwnWrites) → IsCovered held f → ((q : List ℕ) → has_before es q ≡ true → covers (held q) Exclusive ≡ true) → AreCovered held (marked es f)
+pub are_covered : (held : Held) (es : List Entry) (f : OwnWrites) → IsCovered held f
+    → ((q : List ℕ) → has_before es q ≡ true → covers (held q) Exclusive ≡ true) → AreCovered held (marked es f)
 are_covered held [] f is h = tt
 are_covered held (Mark name ∷ es) f is h = (is, are_covered held es f is h)
 are_covered held (BeforeImage id o ∷ es) f is h = are_covered held es (update same_id f id o)

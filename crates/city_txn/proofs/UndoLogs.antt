@@ -41,9 +41,6 @@ noted_marked es f id own is = marked_same es (update same_id f id own) f
 pub noted_there : (es : List Entry) (id : List ℕ) (own : Option (Option Object)) → is_noted (BeforeImage id own ∷ es) id ≡ true
 noted_there es id own = or_left (same_id id id) (is_noted es id) (same_id_itself id)
 
-pub noted_still : (es : List Entry) (id q : List ℕ) (own : Option (Option Object)) → is_noted es q ≡ true → is_noted (BeforeImage id own ∷ es) q ≡ true
-noted_still es id q own h = or_right (same_id id q) (is_noted es q) h
-
 -- a log without entries notes all
 pub noted_if_empty : (es : List Entry) (q : List ℕ) → (length es == 0) ≡ true → is_noted es q ≡ true
 noted_if_empty [] q h = refl

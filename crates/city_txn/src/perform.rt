@@ -4,14 +4,12 @@ ghost use Rattle.city_model.specs.Scripts.{is_end, is_mark};
 ghost use Rattle.city_model.specs.declared.command.Command.{Command};
 ghost use Rattle.city_txn.specs.inside.Performing.{MayPerform, IsPerform};
 
-use crate::seen::Seen;
-use crate::store::Store;
-use crate::undo_log::Entry;
+use crate::store::{Seen, Store};
 use city_model::OutOfMemory;
-use city_model::command::{Cause, Command, Reply};
+use city_model::command::{Command, Reply};
 use city_model::copied::Copied;
 use city_model::plan::{Plan, only_parent, plan_of};
-use city_model::text::{Id, Text};
+use city_model::text::Id;
 
 impl Store {
     /// Does a command, whose locks the stamp holds. If memory runs out, nothing is written.
@@ -32,26 +30,6 @@ impl Store {
             Command::Delete(id) => self.delete(stamp, command, id),
             _ => self.carry_out(stamp, command),
         }
-    }
-
-    /// Makes a mark.
-    fn mark(&mut self, stamp: u64, name: &Text) -> Result<Reply, OutOfMemory>
-        ensures { IsPerform stamp (Command.Mark name.now) result self.old self.new }
-    {
-        let entry = Entry::Mark(name.copy(self.alloc())?);
-        self.logs.push(stamp, entry)?;
-        Ok(Reply::Marked)
-    }
-
-    /// Goes back to a mark. Doesn't allocate if it is there.
-    fn back(&mut self, stamp: u64, name: &Text) -> Result<Reply, OutOfMemory>
-        ensures { IsPerform stamp (Command.Back name.now) result self.old self.new }
-    {
-        if !self.logs().has_mark(stamp, name) {
-            return Ok(Reply::Refused(Cause::NoMark(name.copy(self.alloc())?)));
-        }
-        self.go_back(stamp, name);
-        Ok(Reply::WentBack)
     }
 
     /// Deletes an object, in place if possible.

@@ -5,8 +5,7 @@ ghost use Rattle.city_model.specs.declared.command.Command.{Command};
 ghost use Rattle.city_txn.specs.inside.Performing.{MayPerform, IsPerform, edits_in_place};
 ghost use Rattle.city_txn.specs.inside.State.{view};
 
-use crate::seen::Seen;
-use crate::store::Store;
+use crate::store::{Seen, Store};
 use city_model::OutOfMemory;
 use city_model::command::Reply;
 use city_model::copied::Copied;

@@ -10,7 +10,8 @@ ghost use Rattle.city_model.specs.Meaning.{with_child, without_child};
 ghost use Rattle.city_txn.specs.Changing.{change_in};
 ghost use Rattle.city_txn.specs.inside.Orphans.{is_orphan_written};
 ghost use Rattle.city_txn.specs.inside.Ending.{map_at_end};
-ghost use Rattle.city_txn.specs.inside.State.{State, rewritten, is_reserved, is_open, committed, view, own, MayReserve, SeesSame, ChangesWrites, Begins, Forgets};
+ghost use Rattle.city_txn.specs.inside.State.{State, rewritten, is_reserved, is_open, committed, view, own, MayReserve};
+ghost use Rattle.city_txn.specs.inside.State.{SeesSame, ChangesWrites, Begins, Forgets};
 ghost use Rattle.city_txn.specs.Writes.{write_of, is_by, own_write, unless_by};
 
 use crate::changing::{change_of, has_orphan, written_copy};
@@ -22,6 +23,7 @@ use city_model::OutOfMemory;
 use city_model::change::Change;
 use city_model::city::City;
 use city_model::object::Object;
+use city_model::plan::view::View;
 use city_model::text::Id;
 use std::alloc::Global;
 use std::marker::Model;
@@ -266,5 +268,20 @@ impl Store {
         self.logs.close(stamp);
         let ids = self.undo.close(stamp);
         end_each(&mut self.city, &mut self.undo, end, ids.as_slice());
+    }
+}
+
+/// What the transaction of the stamp sees of the store.
+#[derive(Drop)]
+pub struct Seen<'a> {
+    pub store: &'a Store,
+    pub stamp: u64,
+}
+
+impl View for Seen<'_> {
+    ghost map = { λ seen. view seen.store.now seen.stamp };
+
+    fn look(&self, id: &Id) -> Option<&Object> {
+        self.store.read(self.stamp, id)
     }
 }

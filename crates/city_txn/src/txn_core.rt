@@ -14,10 +14,9 @@ ghost use Rattle.city_txn.specs.Changing.{IsPrepared, IsChangeOf, change_in};
 ghost use Rattle.city_txn.specs.Locking.{is_wait};
 
 use crate::changing::orphan_in;
-use crate::lock::lock;
+use crate::lock::{lock, would_lock};
 use crate::step::{Prepared, Step, TxnFault};
 use crate::store::Store;
-use crate::would_lock::would_lock;
 use city_locks::{Answer, LockTable};
 use city_model::city::City;
 use city_model::command::{Cause, Command};

@@ -10,7 +10,7 @@ ghost use Rattle.city_txn.specs.inside.UndoState.{image_at, listed_by, reservati
 
 use crate::image::UndoImage;
 use crate::slot;
-use city_locks::by_stamp::push_at;
+use city_locks::by_stamp::push;
 use city_model::OutOfMemory;
 use city_model::city::City;
 use city_model::copied::Copied;
@@ -127,9 +127,10 @@ impl Undo {
         ensures err { OnErr result (self.new ≡ self.old) }
     {
         let key = id.copy(self.alloc)?;
+        let listed = id.copy(self.alloc)?;
         let image = UndoImage::unwritten(stamp, deleted);
         self.images.insert(key, image)?;
-        let Ok(()) = list(&mut self.reservations, self.alloc, stamp, id) else {
+        let Ok(()) = push(&mut self.reservations, self.alloc, stamp, listed) else {
             let _ = self.images.remove(id);
             return Err(OutOfMemory);
         };
@@ -199,21 +200,4 @@ impl Undo {
             None => Sequence::new(self.alloc),
         }
     }
-}
-
-/// Lists the id at a stamp that is open. If memory runs out, nothing changes.
-fn list(
-    reservations: &mut BTreeMap<u64, Sequence<Id>>,
-    alloc: Global,
-    stamp: u64,
-    id: &Id,
-) -> Result<(), OutOfMemory>
-    requires { is_some (get nat_cmp reservations.old stamp) ≡ true }
-    ensures ok { OnOk result ((t : ℕ) → get nat_cmp reservations.new t
-        ≡ (if is_at (nat_cmp stamp) t then Some (reservations_of reservations.old.entries stamp ++ id.now ∷ []) else get nat_cmp reservations.old t)) }
-    ensures err { OnErr result (reservations.new.entries ≡ reservations.old.entries) }
-{
-    let copy = id.copy(alloc)?;
-    push_at(reservations, stamp, copy)?;
-    Ok(())
 }

@@ -4,7 +4,7 @@ ghost use Rattle.std.specs.List.{list_any};
 ghost use Rattle.city_txn.specs.UndoLog.{log_of};
 ghost use Rattle.city_txn.specs.inside.LogTests.{has_mark, is_at_mark, is_mark};
 
-use city_locks::by_stamp::push_at;
+use city_locks::by_stamp::push;
 use city_model::OutOfMemory;
 use city_model::id_list::is_same_id;
 use city_model::object::Object;
@@ -88,10 +88,7 @@ impl UndoLogs {
         ensures ok { OnOk result ((t : ℕ) → log_of self.new t ≡ (if stamp == t then entry ∷ log_of self.old t else log_of self.old t)) }
         ensures err { OnErr result ((t : ℕ) → log_of self.new t ≡ log_of self.old t) }
     {
-        if !self.by_stamp.contains_key(&stamp) {
-            self.by_stamp.insert(stamp, Sequence::new(self.alloc))?;
-        }
-        push_at(&mut self.by_stamp, stamp, entry)?;
+        push(&mut self.by_stamp, self.alloc, stamp, entry)?;
         Ok(())
     }
 

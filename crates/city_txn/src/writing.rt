@@ -4,7 +4,8 @@ ghost use Rattle.city_model.specs.CityMap.{CityMap, same_id};
 ghost use Rattle.city_model.specs.inside.Plans.{AreOf};
 ghost use Rattle.city_txn.specs.Writes.{write_of, unless_by};
 ghost use Rattle.city_txn.specs.UndoLog.{log_of};
-ghost use Rattle.city_txn.specs.inside.State.{written, is_reserved, MayReserve, ReservesAmong, SeesSame, ChangesWrites, Touches};
+ghost use Rattle.city_txn.specs.inside.State.{written, is_reserved, MayReserve, ReservesAmong, SeesSame, ChangesWrites};
+ghost use Rattle.city_txn.specs.inside.State.{Touches};
 ghost use Rattle.city_txn.specs.inside.LogTests.{is_noted};
 ghost use Rattle.city_txn.specs.inside.Performing.{plans};
 
@@ -23,7 +24,8 @@ impl Store {
         ensures touches { Touches stamp (plans change) self.old self.new }
         ensures marks { (written self.new stamp).1 ≡ (written self.old stamp).1 }
         ensures ok { OnOk result ((f : CityMap) → AreOf f change → (id : List ℕ) →
-            write_of self.new.writes id ≡ (if plans change id then Some (stamp, f id) else write_of self.old.writes id)) }
+            write_of self.new.writes id
+            ≡ (if plans change id then Some (stamp, f id) else write_of self.old.writes id)) }
         ensures err { OnErr result ((id : List ℕ) → write_of self.new.writes id ≡ write_of self.old.writes id) }
     {
         self.reserve_all(stamp, change.as_slice())?;
@@ -57,7 +59,8 @@ impl Store {
         ensures writes { self.new.writes ≡ self.old.writes }
         ensures opened { self.new.opened ≡ self.old.opened }
         ensures marks { written self.new stamp ≡ written self.old stamp }
-        ensures ok { OnOk result ((id : List ℕ) → plans writes.now id ≡ true → is_noted (log_of self.new.logs stamp) id ≡ true) }
+        ensures ok { OnOk result
+            ((id : List ℕ) → plans writes.now id ≡ true → is_noted (log_of self.new.logs stamp) id ≡ true) }
     {
         for write in writes {
             self.note(stamp, &write.0)?;
@@ -73,7 +76,8 @@ impl Store {
         ensures opened { self.new.opened ≡ self.old.opened }
         ensures marks { written self.new stamp ≡ written self.old stamp }
         ensures ok { OnOk result (is_noted (log_of self.new.logs stamp) id.now ≡ true) }
-        ensures more { (q : List ℕ) → is_noted (log_of self.old.logs stamp) q ≡ true → is_noted (log_of self.new.logs stamp) q ≡ true }
+        ensures more { (q : List ℕ) → is_noted (log_of self.old.logs stamp) q ≡ true
+            → is_noted (log_of self.new.logs stamp) q ≡ true }
     {
         if self.logs().is_empty(stamp) {
             return Ok(());
@@ -89,9 +93,12 @@ impl Store {
         requires { (id : List ℕ) → plans writes.items id ≡ true → is_reserved self.old stamp id ≡ true }
         ensures only { ChangesWrites self.old self.new }
         ensures writes { (f : CityMap) → AreOf f writes.items → (id : List ℕ) →
-            write_of self.new.writes id ≡ (if plans writes.items id then Some (stamp, f id) else write_of self.old.writes id) }
-        ensures apart { (id : List ℕ) → plans writes.items id ≡ false → write_of self.new.writes id ≡ write_of self.old.writes id }
-        ensures others { (id : List ℕ) → unless_by stamp (write_of self.new.writes id) ≡ unless_by stamp (write_of self.old.writes id) }
+            write_of self.new.writes id
+            ≡ (if plans writes.items id then Some (stamp, f id) else write_of self.old.writes id) }
+        ensures apart { (id : List ℕ) → plans writes.items id ≡ false → write_of self.new.writes id
+            ≡ write_of self.old.writes id }
+        ensures others { (id : List ℕ) → unless_by stamp (write_of self.new.writes id)
+            ≡ unless_by stamp (write_of self.old.writes id) }
     {
         while let Some(write) = writes.pop() {
             let (id, object) = write;

@@ -10,7 +10,8 @@ has c = ap (λ ls. has_mark (log_of ls c.args.stamp) c.args.name.now) (sym c.log
 
 pub returns-in_err-copy : goal.returns-in_err-copy
 returns-in_err-copy c =
-    back_failed c.args.stamp c.args.name.now c.args.self.now (has (goal.at.returns-in_err-copy c).After-has_mark ∙ c.if-not-has_mark.true)
+    back_failed c.args.stamp c.args.name.now c.args.self.now
+    (has (goal.at.returns-in_err-copy c).After-has_mark ∙ c.if-not-has_mark.true)
     c.from_residual.result c.from_residual.ensures.0
 
 pub returns-then-not-has_mark : goal.returns-then-not-has_mark
@@ -21,4 +22,5 @@ returns-then-not-has_mark c =
 pub returns : goal.returns
 returns c =
     back_performed c.args.stamp c.args.name.now c.args.self.now c.go_back.new.self
-    (has (goal.at.returns c).After-has_mark ∙ c.if-not-has_mark.false) c.go_back.ensures.written c.go_back.ensures.touches
+    (has (goal.at.returns c).After-has_mark ∙ c.if-not-has_mark.false) c.go_back.ensures.written
+    c.go_back.ensures.touches

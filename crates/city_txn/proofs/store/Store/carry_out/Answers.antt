@@ -7,8 +7,10 @@ use Rattle.city_txn.proofs.PerformDone.{refused_performed, unwritten_performed, 
 use Rattle.city_txn.proofs.store.Store.carry_out.Goals as goal
 use Rattle.city_txn.proofs.store.Store.carry_out.Goals.{In-Writes}
 
-planned : (c : In-Writes) → AreWritesOf (view c.args.self.now c.args.stamp) c.args.command.now c.in-Writes.reply c.in-Writes.change
-planned c = subst (IsPlan (view c.args.self.now c.args.stamp) c.args.command.now) c.in-Writes.is c.in_ok-cause.ensures.plan
+planned : (c : In-Writes)
+    → AreWritesOf (view c.args.self.now c.args.stamp) c.args.command.now c.in-Writes.reply c.in-Writes.change
+planned c = subst (IsPlan (view c.args.self.now c.args.stamp) c.args.command.now) c.in-Writes.is
+    c.in_ok-cause.ensures.plan
 
 pub write_all-requires : goal.write_all-requires
 write_all-requires c =
@@ -16,7 +18,9 @@ write_all-requires c =
     let may = c.requires.may.locked in
     record {
       opened = may.opened;
-      alone = λ id h. may.alone id (exclusive_is_named (locks_of (view c.args.self.now c.args.stamp) c.args.command.now) id (sym (p.ids id) ∙ h));
+      alone = λ id h. may.alone id
+          (exclusive_is_named (locks_of (view c.args.self.now c.args.stamp) c.args.command.now) id
+          (sym (p.ids id) ∙ h));
     }
 
 pub returns-in-Refused : goal.returns-in-Refused
@@ -27,12 +31,14 @@ returns-in-Refused c =
 pub returns-in_err-write_all-in-Writes : goal.returns-in_err-write_all-in-Writes
 returns-in_err-write_all-in-Writes c =
     let e = c.in_err-write_all-in-Writes.ensures in
-    unwritten_performed c.args.stamp c.args.command.now c.in-Writes.reply c.in-Writes.change c.args.self.now c.write_all.new.self
+    unwritten_performed c.args.stamp c.args.command.now c.in-Writes.reply c.in-Writes.change c.args.self.now
+    c.write_all.new.self
     c.requires.no_mark (planned (goal.at.returns-in_err-write_all-in-Writes c).In-Writes) e.touches e.marks
     c.from_residual-in_err-write_all-in-Writes.result c.from_residual-in_err-write_all-in-Writes.ensures.0 e.err
 
 pub returns-in_ok-write_all-in-Writes : goal.returns-in_ok-write_all-in-Writes
 returns-in_ok-write_all-in-Writes c =
     let e = c.in_ok-write_all-in-Writes.ensures in
-    written_performed c.args.stamp c.args.command.now c.in-Writes.reply c.in-Writes.change c.args.self.now c.write_all.new.self
+    written_performed c.args.stamp c.args.command.now c.in-Writes.reply c.in-Writes.change c.args.self.now
+    c.write_all.new.self
     c.requires.no_mark (planned (goal.at.returns-in_ok-write_all-in-Writes c).In-Writes) e.touches e.marks e.ok

@@ -13,6 +13,8 @@ pub returns-clause-lists : goal.returns-clause-lists
 returns-clause-lists c =
     let a = c.self.inside in
     if_ok c.change_of.result
-    (λ change lists q. lists q ∙ ap (λ ids. if has_id ids q then written_at (here a q) (image_at a.undo q) else None) c.reserved-ids.ensures ∙ own_written a c.self.invariant c.args.stamp q
+    (λ change lists q. lists q
+    ∙ ap (λ ids. if has_id ids q then written_at (here a q) (image_at a.undo q) else None) c.reserved-ids.ensures
+    ∙ own_written a c.self.invariant c.args.stamp q
     ∙ ap (λ (v : State). own_write c.args.stamp (write_of v.writes q)) c.self.view_is)
     c.change_of.ensures.lists

@@ -22,23 +22,29 @@ reserve-requires c =
     (or_left (same_id c.args.child.now c.args.child.now) _ (same_id_itself c.args.child.now))
 
 is : (c : In-Ok) → AreWritesOf (view c.args.self.now c.args.stamp) (Detach c.args.child.now c.args.parent.now) Detached
-    (related (view c.args.self.now c.args.stamp) c.args.child.now (Some c.in-Ok.below) c.args.parent.now (without_child c.args.child.now))
+    (related (view c.args.self.now c.args.stamp) c.args.child.now (Some c.in-Ok.below) c.args.parent.now
+    (without_child c.args.child.now))
 is c =
     let m = view c.args.self.now c.args.stamp in
     subst (λ (x : Result Object Cause). IfOk x (λ o. AreWritesOf m (Detach c.args.child.now c.args.parent.now) Detached
-    (related m c.args.child.now (Some o) c.args.parent.now (without_child c.args.child.now)))) c.in-Ok.is c.in_ok-below.ensures.writes
+    (related m c.args.child.now (Some o) c.args.parent.now (without_child c.args.child.now)))) c.in-Ok.is
+    c.in_ok-below.ensures.writes
 
 pub set-requires : goal.set-requires
 set-requires c =
-    copy_reserved c.args.stamp (Detach c.args.child.now c.args.parent.now) Detached c.args.child.now c.args.parent.now (Some c.in-Ok.below)
-    (without_child c.args.child.now) c.args.self.now c.reserve.new.self refl (is (goal.at.set-requires c).In-Ok) c.requires.in_place
+    copy_reserved c.args.stamp (Detach c.args.child.now c.args.parent.now) Detached c.args.child.now c.args.parent.now
+    (Some c.in-Ok.below)
+    (without_child c.args.child.now) c.args.self.now c.reserve.new.self refl (is (goal.at.set-requires c).In-Ok)
+    c.requires.in_place
     c.in_ok-reserve.ensures.same c.in_ok-reserve.ensures.ok c.remove_child.new.self c.in_ok-key.key c.in_ok-key.ensures
     c.remove_child.ensures.only c.remove_child.ensures.writes
 
 pub returns : goal.returns
 returns c =
     let w = c.set.ensures in
-    related_performed c.args.stamp (Detach c.args.child.now c.args.parent.now) Detached c.args.child.now c.args.parent.now (Some c.in-Ok.below)
-    (without_child c.args.child.now) c.args.self.now c.reserve.new.self refl (is (goal.at.returns c).In-Ok) c.requires.in_place
+    related_performed c.args.stamp (Detach c.args.child.now c.args.parent.now) Detached c.args.child.now
+    c.args.parent.now (Some c.in-Ok.below)
+    (without_child c.args.child.now) c.args.self.now c.reserve.new.self refl (is (goal.at.returns c).In-Ok)
+    c.requires.in_place
     c.in_ok-reserve.ensures.same c.in_ok-reserve.ensures.ok c.remove_child.new.self c.in_ok-key.key c.in_ok-key.ensures
     c.remove_child.ensures.only c.remove_child.ensures.writes c.set.new.self w.only w.writes w.others

@@ -9,9 +9,11 @@ use Rattle.city_txn.proofs.store.Store.end.Goals.{After-end_each}
 done : (c : After-end_each) → Ending c.args.stamp c.args.end c.self.inside
     (record c.self.inside { city = c.end_each.new.city; undo = c.end_each.new.undo; logs = c.close.new.self })
 done c =
-    ending c.self.inside (record c.self.inside { city = c.end_each.new.city; undo = c.end_each.new.undo; logs = c.close.new.self })
+    ending c.self.inside
+    (record c.self.inside { city = c.end_each.new.city; undo = c.end_each.new.undo; logs = c.close.new.self })
     c.self.invariant c.args.stamp c.as_slice.result.now (c.as_slice.ensures ∙ c.close-ids.ensures.ids)
-    c.close-ids.new.self c.close-ids.ensures.images c.close-ids.ensures.closed c.args.end c.end_each.ensures c.close.ensures
+    c.close-ids.new.self c.close-ids.ensures.images c.close-ids.ensures.closed c.args.end c.end_each.ensures
+    c.close.ensures
 
 pub invariant_of-self : goal.invariant_of-self
 invariant_of-self c = (done (goal.at.invariant_of-self c).After-end_each).in_place
@@ -25,5 +27,6 @@ pub returns-clause-forgets : goal.returns-clause-forgets
 returns-clause-forgets c =
     let at = (goal.at.returns-clause-forgets c).After-end_each in
     subst (λ (v : State). Forgets c.args.stamp v
-    (state_of (record c.self.inside { city = c.end_each.new.city; undo = c.end_each.new.undo; logs = c.close.new.self })))
+    (state_of (record c.self.inside
+    { city = c.end_each.new.city; undo = c.end_each.new.undo; logs = c.close.new.self })))
     c.self.view_is (done at).forgets

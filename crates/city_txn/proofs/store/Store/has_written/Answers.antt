@@ -4,7 +4,7 @@ use Rattle.city_txn.specs.inside.Images.{write_at}
 use Rattle.city_txn.specs.inside.State.{State}
 use Rattle.city_txn.specs.Writes.{is_by, write_of}
 use Rattle.city_txn.proofs.AtOneId.{here, writes_is}
-use Rattle.city_txn.proofs.Edited.{by_image}
+use Rattle.city_txn.proofs.OneIdWritten.{by_image}
 use Rattle.city_txn.proofs.store.Store.has_written.Goals as goal
 
 pub returns-then-not-image : goal.returns-then-not-image

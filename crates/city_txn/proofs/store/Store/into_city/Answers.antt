@@ -1,6 +1,6 @@
 use Rattle.std.proofs.Common.{◌∙◌, ap}
 use Rattle.city_txn.specs.inside.State.{State}
-use Rattle.city_txn.proofs.Idle.{idle_city}
+use Rattle.city_txn.proofs.AtOneId.{idle_city}
 use Rattle.city_txn.proofs.store.Store.into_city.Goals as goal
 
 pub returns : goal.returns

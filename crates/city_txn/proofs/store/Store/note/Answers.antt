@@ -20,7 +20,8 @@ log : (c : In_ok-push) → log_of c.push.new.self c.args.stamp
 log c =
     let es = log_of c.self.inside.logs c.args.stamp in
     c.in_ok-push.ensures.ok c.args.stamp
-    ∙ ap (λ b. if b then BeforeImage c.in_ok-copy.field-0 c.in_ok-write.write ∷ es else es) (eq-eqb c.args.stamp c.args.stamp refl)
+    ∙ ap (λ b. if b then BeforeImage c.in_ok-copy.field-0 c.in_ok-write.write ∷ es else es)
+    (eq-eqb c.args.stamp c.args.stamp refl)
 
 pub invariant_of-self-2 : goal.invariant_of-self-2
 invariant_of-self-2 c =
@@ -36,11 +37,15 @@ invariant_of-self-2 c =
       listed = k.listed;
       noted = λ t q h. bool_cases (s == t)
           (λ f. or_cases (same_id x q) (has_before (log_of old t) q)
-          (sym (ap (λ l. has_before l q) (c.in_ok-push.ensures.ok t ∙ ap (λ b. if b then e ∷ log_of old t else log_of old t) f)) ∙ h)
-          (λ g. ap (λ u. is_reserved v u q) (sym (eqb-true s t f)) ∙ ap (is_reserved v s) (sym (same_id_true x q g) ∙ c.in_ok-copy.ensures)
+          (sym (ap (λ l. has_before l q)
+          (c.in_ok-push.ensures.ok t ∙ ap (λ b. if b then e ∷ log_of old t else log_of old t) f)) ∙ h)
+          (λ g. ap (λ u. is_reserved v u q) (sym (eqb-true s t f))
+          ∙ ap (is_reserved v s) (sym (same_id_true x q g) ∙ c.in_ok-copy.ensures)
           ∙ ap (λ (w : State). is_reserved w s c.args.id.now) c.self.view_is ∙ c.requires)
           (k.noted t q))
-          (λ f. k.noted t q (sym (ap (λ l. has_before l q) (c.in_ok-push.ensures.ok t ∙ ap (λ b. if b then e ∷ log_of old t else log_of old t) f)) ∙ h));
+          (λ f. k.noted t q (sym
+          (ap (λ l. has_before l q)
+          (c.in_ok-push.ensures.ok t ∙ ap (λ b. if b then e ∷ log_of old t else log_of old t) f)) ∙ h));
     }
 
 pub returns-clause-marks : goal.returns-clause-marks
@@ -51,7 +56,8 @@ returns-clause-marks c =
     let w = c.in_ok-write.write in
     ap (λ ms. (own v s, ms)) (ap (λ l. marked l (own v s)) (log (goal.at.returns-clause-marks c).In_ok-push)
     ∙ noted_marked (log_of c.self.inside.logs s) (own v s) x w
-    (c.in_ok-write.ensures ∙ ap (λ (u : State). own u s c.args.id.now) (sym c.self.view_is) ∙ ap (own v s) (sym c.in_ok-copy.ensures)))
+    (c.in_ok-write.ensures ∙ ap (λ (u : State). own u s c.args.id.now) (sym c.self.view_is)
+    ∙ ap (own v s) (sym c.in_ok-copy.ensures)))
     ∙ ap (λ (u : State). written u s) c.self.view_is
 
 pub returns-clause-ok : goal.returns-clause-ok

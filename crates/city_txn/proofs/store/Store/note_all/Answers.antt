@@ -25,7 +25,8 @@ touched c =
     let p = c.write-item.result in
     touches_on s (plans ws) c.args.self.now c.loop-write.self c.note.new.self c.loop-write.invariant.touches
     (touches_more s (same_id p.0) (plans ws) c.loop-write.self c.note.new.self
-    (λ q e. ap (plans ws) (sym (same_id_true p.0 q e)) ∙ plans_got ws c.loop-write.write-index p lt c.write-item.is) c.note.ensures.touches)
+    (λ q e. ap (plans ws) (sym (same_id_true p.0 q e)) ∙ plans_got ws c.loop-write.write-index p lt c.write-item.is)
+    c.note.ensures.touches)
 
 pub returns-in_err-note-clause-touches : goal.returns-in_err-note-clause-touches
 returns-in_err-note-clause-touches c = touched (goal.at.returns-in_err-note-clause-touches c).After-note
@@ -43,7 +44,8 @@ loop-write-preserved c =
       writes = n.writes ∙ i.writes;
       opened = n.opened ∙ i.opened;
       marks = n.marks ∙ i.marks;
-      done = λ q h. or_cases (plans (take index ws) q) (same_id q p.0) (sym (plans_more ws index p q lt c.write-item.is) ∙ h)
+      done = λ q h. or_cases (plans (take index ws) q) (same_id q p.0)
+          (sym (plans_more ws index p q lt c.write-item.is) ∙ h)
           (λ e. n.more q (i.done q e))
           (λ e. ap (is_noted (log_of c.note.new.self.logs c.args.stamp)) (same_id_true q p.0 e) ∙ n.ok);
     }

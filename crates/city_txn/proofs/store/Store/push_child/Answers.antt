@@ -5,7 +5,7 @@ use Rattle.city_model.specs.Meaning.{with_child}
 use Rattle.city_txn.specs.inside.InPlace.{state_of, IsInPlace}
 use Rattle.city_txn.specs.inside.State.{State, rewritten, ChangesWrites}
 use Rattle.city_txn.specs.Writes.{write_of}
-use Rattle.city_txn.proofs.Edited.{written_there, edited}
+use Rattle.city_txn.proofs.OneIdWritten.{written_there, edited}
 use Rattle.city_txn.proofs.OneIdChanged.{OneWritten}
 use Rattle.city_txn.proofs.store.Store.push_child.Goals as goal
 use Rattle.city_txn.proofs.store.Store.push_child.Goals.{In_ok-push_child}
@@ -19,7 +19,8 @@ pub invariant_of-self : goal.invariant_of-self
 invariant_of-self c =
     subst IsInPlace (λ i. record c.self.inside { city = sym c.in_err-push_child.ensures.unchanged i }) c.self.invariant
 
-done : (c : In_ok-push_child) → OneWritten c.self.inside (record c.self.inside { city = c.push_child.new.self }) c.args.id.now
+done : (c : In_ok-push_child)
+    → OneWritten c.self.inside (record c.self.inside { city = c.push_child.new.self }) c.args.id.now
     (option_map (rewritten (with_child c.args.child)) (write_of (state_of c.self.inside).writes c.args.id.now))
 done c =
     let written : is_some (write_of (state_of c.self.inside).writes c.args.id.now) ≡ true =

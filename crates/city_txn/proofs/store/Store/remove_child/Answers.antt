@@ -5,7 +5,7 @@ use Rattle.city_model.specs.Meaning.{without_child}
 use Rattle.city_txn.specs.inside.InPlace.{state_of}
 use Rattle.city_txn.specs.inside.State.{State, rewritten, ChangesWrites}
 use Rattle.city_txn.specs.Writes.{write_of}
-use Rattle.city_txn.proofs.Edited.{written_there, edited}
+use Rattle.city_txn.proofs.OneIdWritten.{written_there, edited}
 use Rattle.city_txn.proofs.OneIdChanged.{OneWritten}
 use Rattle.city_txn.proofs.store.Store.remove_child.Goals as goal
 use Rattle.city_txn.proofs.store.Store.remove_child.Goals.{After-remove_child}
@@ -15,7 +15,8 @@ remove_child-requires c =
     written_there c.self.inside c.self.invariant c.args.id.now
     (ap (λ (v : State). is_some (write_of v.writes c.args.id.now)) c.self.view_is ∙ c.requires)
 
-done : (c : After-remove_child) → OneWritten c.self.inside (record c.self.inside { city = c.remove_child.new.self }) c.args.id.now
+done : (c : After-remove_child)
+    → OneWritten c.self.inside (record c.self.inside { city = c.remove_child.new.self }) c.args.id.now
     (option_map (rewritten (without_child c.args.child.now)) (write_of (state_of c.self.inside).writes c.args.id.now))
 done c =
     let written : is_some (write_of (state_of c.self.inside).writes c.args.id.now) ≡ true =

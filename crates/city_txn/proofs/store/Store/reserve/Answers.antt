@@ -16,7 +16,8 @@ returns-then-has_image-clause-ok c t q =
     let may : MayReserve (state_of a) c.args.stamp (same_id id) =
     subst (λ (v : State). MayReserve v c.args.stamp (same_id id)) (sym c.self.view_is) c.requires in
     let there : is_some (image_at a.undo id) ≡ true = sym c.has_image.ensures ∙ c.if-has_image.true in
-    ap (λ (v : State). is_reserved v t q) (sym c.self.view_is) ∙ reserved_already a c.args.stamp id c.self.invariant may there t q
+    ap (λ (v : State). is_reserved v t q) (sym c.self.view_is)
+    ∙ reserved_already a c.args.stamp id c.self.invariant may there t q
     ∙ ap (λ (v : State). ((c.args.stamp == t) && same_id id q) || is_reserved v t q) c.self.view_is
 
 pub invariant_of-self-in_default : goal.invariant_of-self-in_default
@@ -45,8 +46,10 @@ pub invariant_of-self-in-Ok : goal.invariant_of-self-in-Ok
 invariant_of-self-in-Ok c =
     let a = c.self.inside in
     let at = (goal.at.invariant_of-self-in-Ok c).In-Ok in
-    reserved_in_place a (record a { city = c.make.new.city; undo = c.reserve.new.self }) c.self.invariant c.args.stamp c.args.id.now
-    c.in_ok-deleted.deleted c.in_ok-deleted.ensures.made (opened at) (none at) c.make.ensures.frame c.in_ok-deleted.ensures.after
+    reserved_in_place a (record a { city = c.make.new.city; undo = c.reserve.new.self }) c.self.invariant c.args.stamp
+    c.args.id.now
+    c.in_ok-deleted.deleted c.in_ok-deleted.ensures.made (opened at) (none at) c.make.ensures.frame
+    c.in_ok-deleted.ensures.after
     c.in-Ok.ensures.images c.in-Ok.ensures.reservations refl
 
 pub returns-clause-same : goal.returns-clause-same
@@ -54,15 +57,19 @@ returns-clause-same c =
     let a = c.self.inside in
     let b = record a { city = c.make.new.city; undo = c.reserve.new.self } in
     let at = (goal.at.returns-clause-same c).In-Ok in
-    subst (λ (v : State). SeesSame v (state_of b)) c.self.view_is (reserved_seen a b c.self.invariant c.args.stamp c.args.id.now
-    c.in_ok-deleted.deleted c.in_ok-deleted.ensures.made (opened at) (none at) c.make.ensures.frame c.in_ok-deleted.ensures.after
+    subst (λ (v : State). SeesSame v (state_of b)) c.self.view_is
+    (reserved_seen a b c.self.invariant c.args.stamp c.args.id.now
+    c.in_ok-deleted.deleted c.in_ok-deleted.ensures.made (opened at) (none at) c.make.ensures.frame
+    c.in_ok-deleted.ensures.after
     c.in-Ok.ensures.images c.in-Ok.ensures.reservations refl)
 
 pub returns-clause-ok : goal.returns-clause-ok
 returns-clause-ok c t q =
     let a = c.self.inside in
     let at = (goal.at.returns-clause-ok c).In-Ok in
-    more_reserved a (record a { city = c.make.new.city; undo = c.reserve.new.self }) c.self.invariant c.args.stamp c.args.id.now
-    c.in_ok-deleted.deleted c.in_ok-deleted.ensures.made (opened at) (none at) c.make.ensures.frame c.in_ok-deleted.ensures.after
+    more_reserved a (record a { city = c.make.new.city; undo = c.reserve.new.self }) c.self.invariant c.args.stamp
+    c.args.id.now
+    c.in_ok-deleted.deleted c.in_ok-deleted.ensures.made (opened at) (none at) c.make.ensures.frame
+    c.in_ok-deleted.ensures.after
     c.in-Ok.ensures.images c.in-Ok.ensures.reservations refl t q
     ∙ ap (λ (v : State). ((c.args.stamp == t) && same_id c.args.id.now q) || is_reserved v t q) c.self.view_is

@@ -8,7 +8,8 @@ pub reserve-requires : goal.reserve-requires
 reserve-requires c =
     let i = c.loop-write.invariant in
     let lt : c.loop-write.write-index < length c.args.writes.now = omega arith in
-    may_reserve_next c.args.self.now c.loop-write.self c.loop-write.self c.args.stamp c.args.writes.now c.loop-write.write-index
+    may_reserve_next c.args.self.now c.loop-write.self c.loop-write.self c.args.stamp c.args.writes.now
+    c.loop-write.write-index
     c.write-item.result lt c.write-item.is c.requires i.reserved i.same
 
 pub loop-write-preserved : goal.loop-write-preserved
@@ -18,9 +19,11 @@ loop-write-preserved c =
     let lt : c.loop-write.write-index < length c.args.writes.now = omega arith in
     record {
       same = sees_on c.args.self.now c.loop-write.self c.reserve.new.self i.same e.same;
-      done = done_more c.args.self.now c.loop-write.self c.reserve.new.self c.args.stamp c.args.writes.now c.loop-write.write-index
+      done = done_more c.args.self.now c.loop-write.self c.reserve.new.self c.args.stamp c.args.writes.now
+          c.loop-write.write-index
           c.write-item.result lt c.write-item.is c.requires i.reserved e.ok i.done;
-      reserved = reserved_more c.args.self.now c.loop-write.self c.reserve.new.self c.args.stamp c.args.writes.now c.loop-write.write-index
+      reserved = reserved_more c.args.self.now c.loop-write.self c.reserve.new.self c.args.stamp c.args.writes.now
+          c.loop-write.write-index
           c.write-item.result lt c.write-item.is c.requires i.reserved e.ok;
     }
 

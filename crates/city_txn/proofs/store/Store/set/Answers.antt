@@ -6,8 +6,7 @@ use Rattle.city_txn.specs.inside.State.{State, is_reserved, ChangesWrites}
 use Rattle.city_txn.specs.Writes.{write_of, unless_by}
 use Rattle.city_txn.specs.inside.InPlace.{state_of}
 use Rattle.city_txn.proofs.OneIdChanged.{OneWritten}
-use Rattle.city_txn.proofs.Unwritten.{others_stay}
-use Rattle.city_txn.proofs.Written.{not_deleted, set_written}
+use Rattle.city_txn.proofs.OneIdWritten.{others_stay, not_deleted, set_written}
 use Rattle.city_txn.proofs.store.Store.set.Goals as goal
 use Rattle.city_txn.proofs.store.Store.set.Goals.{After-write}
 
@@ -15,14 +14,17 @@ reserved : (c : After-write) → is_reserved (state_of c.self.inside) c.args.sta
 reserved c = ap (λ (v : State). is_reserved v c.args.stamp c.args.id) c.self.view_is ∙ c.requires
 
 done : (c : After-write) → OneWritten c.self.inside
-    (record c.self.inside { city = c.write.new.city; undo = c.write.new.self }) c.args.id (Some (c.args.stamp, c.args.object))
+    (record c.self.inside { city = c.write.new.city; undo = c.write.new.self }) c.args.id
+    (Some (c.args.stamp, c.args.object))
 done c =
     let a = c.self.inside in
     let w = c.write.ensures in
     let deleted = c.is_none-deleted.result in
-    set_written a (record a { city = c.write.new.city; undo = c.write.new.self }) c.self.invariant c.args.stamp c.args.id (reserved c)
+    set_written a (record a { city = c.write.new.city; undo = c.write.new.self }) c.self.invariant c.args.stamp
+    c.args.id (reserved c)
     deleted c.standing-standing.result c.args.object
-    (ap (λ y. if deleted then None else Some y) c.standing-standing.ensures ∙ not_deleted c.args.object deleted c.is_none-deleted.ensures)
+    (ap (λ y. if deleted then None else Some y) c.standing-standing.ensures
+    ∙ not_deleted c.args.object deleted c.is_none-deleted.ensures)
     w.frame w.city w.images w.reservations refl
 
 pub invariant_of-self : goal.invariant_of-self
@@ -30,7 +32,8 @@ invariant_of-self c = (done (goal.at.invariant_of-self c).After-write).in_place
 
 pub returns-clause-only : goal.returns-clause-only
 returns-clause-only c =
-    subst (λ (v : State). ChangesWrites v (state_of (record c.self.inside { city = c.write.new.city; undo = c.write.new.self })))
+    subst (λ (v : State).
+    ChangesWrites v (state_of (record c.self.inside { city = c.write.new.city; undo = c.write.new.self })))
     c.self.view_is (done (goal.at.returns-clause-only c).After-write).only
 
 pub returns-clause-writes : goal.returns-clause-writes
@@ -44,5 +47,6 @@ returns-clause-others c q =
     let at = (goal.at.returns-clause-others c).After-write in
     others_stay a c.self.invariant c.args.stamp c.args.id (reserved at)
     (record a { city = c.write.new.city; undo = c.write.new.self }) (Some (c.args.stamp, c.args.object))
-    (ap (λ x. if x then None else Some (c.args.stamp, c.args.object)) (eq-eqb c.args.stamp c.args.stamp refl)) (done at) q
+    (ap (λ x. if x then None else Some (c.args.stamp, c.args.object)) (eq-eqb c.args.stamp c.args.stamp refl))
+    (done at) q
     ∙ ap (λ (v : State). unless_by c.args.stamp (write_of v.writes q)) c.self.view_is

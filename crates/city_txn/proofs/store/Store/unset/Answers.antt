@@ -5,7 +5,7 @@ use Rattle.city_txn.specs.inside.State.{State, is_reserved, ChangesWrites}
 use Rattle.city_txn.specs.Writes.{write_of, unless_by}
 use Rattle.city_txn.specs.inside.InPlace.{state_of}
 use Rattle.city_txn.proofs.OneIdChanged.{OneWritten}
-use Rattle.city_txn.proofs.Unwritten.{others_stay, unset_written}
+use Rattle.city_txn.proofs.OneIdWritten.{others_stay, unset_written}
 use Rattle.city_txn.proofs.store.Store.unset.Goals as goal
 use Rattle.city_txn.proofs.store.Store.unset.Goals.{After-unwrite}
 
@@ -25,7 +25,8 @@ invariant_of-self c = (done (goal.at.invariant_of-self c).After-unwrite).in_plac
 
 pub returns-clause-only : goal.returns-clause-only
 returns-clause-only c =
-    subst (λ (v : State). ChangesWrites v (state_of (record c.self.inside { city = c.unwrite.new.city; undo = c.unwrite.new.self })))
+    subst (λ (v : State).
+    ChangesWrites v (state_of (record c.self.inside { city = c.unwrite.new.city; undo = c.unwrite.new.self })))
     c.self.view_is (done (goal.at.returns-clause-only c).After-unwrite).only
 
 pub returns-clause-writes : goal.returns-clause-writes

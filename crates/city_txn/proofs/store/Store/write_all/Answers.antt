@@ -16,11 +16,13 @@ pub returns-in_err-reserve_all-clause-touches : goal.returns-in_err-reserve_all-
 returns-in_err-reserve_all-clause-touches c =
     let listed : c.as_slice.result.now ≡ c.args.change = search rules in
     subst (λ (ws : Change). Touches c.args.stamp (plans ws) c.args.self.now c.reserve_all.new.self) listed
-    (touches_seen c.args.stamp (plans c.as_slice.result.now) c.args.self.now c.reserve_all.new.self c.reserve_all.ensures.same c.reserve_all.ensures.reserved)
+    (touches_seen c.args.stamp (plans c.as_slice.result.now) c.args.self.now c.reserve_all.new.self
+    c.reserve_all.ensures.same c.reserve_all.ensures.reserved)
 
 pub returns-in_err-reserve_all-clause-marks : goal.returns-in_err-reserve_all-clause-marks
 returns-in_err-reserve_all-clause-marks c =
-    ap (λ (x : Written). x.1) (written_seen c.args.self.now c.reserve_all.new.self c.args.stamp c.reserve_all.ensures.same)
+    ap (λ (x : Written). x.1)
+    (written_seen c.args.self.now c.reserve_all.new.self c.args.stamp c.reserve_all.ensures.same)
 
 -- reserved and noted
 touched : (c : After-note_all) → Touches c.args.stamp (plans c.args.change) c.args.self.now c.note_all.new.self
@@ -37,7 +39,8 @@ touched c =
 
 marks : (c : After-note_all) → (written c.note_all.new.self c.args.stamp).1 ≡ (written c.args.self.now c.args.stamp).1
 marks c = ap (λ (x : Written). x.1)
-    (c.note_all.ensures.marks ∙ written_seen c.args.self.now c.reserve_all.new.self c.args.stamp c.reserve_all.ensures.same)
+    (c.note_all.ensures.marks
+    ∙ written_seen c.args.self.now c.reserve_all.new.self c.args.stamp c.reserve_all.ensures.same)
 
 pub returns-in_err-note_all-clause-touches : goal.returns-in_err-note_all-clause-touches
 returns-in_err-note_all-clause-touches c = touched (goal.at.returns-in_err-note_all-clause-touches c).After-note_all
@@ -49,7 +52,8 @@ pub returns-clause-touches : goal.returns-clause-touches
 returns-clause-touches c =
     touches_on c.args.stamp (plans c.args.change) c.args.self.now c.note_all.new.self c.set_all.new.self
     (touched (goal.at.returns-clause-touches c).After-note_all)
-    (touches_writes c.args.stamp (plans c.args.change) c.note_all.new.self c.set_all.new.self c.set_all.ensures.only c.set_all.ensures.others)
+    (touches_writes c.args.stamp (plans c.args.change) c.note_all.new.self c.set_all.new.self c.set_all.ensures.only
+    c.set_all.ensures.others)
 
 pub returns-clause-marks : goal.returns-clause-marks
 returns-clause-marks c =
@@ -59,7 +63,9 @@ returns-clause-marks c =
     let listed : c.as_slice-2.result.now ≡ c.into_vec.result.items = search rules in
     let apart : (q : List ℕ) → is_noted (log_of n.logs s) q ≡ false → plans c.into_vec.result.items q ≡ false =
     λ q e. false_from_ne_true (plans c.into_vec.result.items q)
-    (λ h. not_both (is_noted (log_of n.logs s) q) (c.in_ok-note_all.ensures.ok q (ap (λ (ws : Change). plans ws q) listed ∙ h)) e) in
+    (λ h. not_both (is_noted (log_of n.logs s) q)
+    (c.in_ok-note_all.ensures.ok q (ap (λ (ws : Change). plans ws q) listed ∙ h)) e) in
     ap (λ ls. marked (log_of ls s) (own w s)) c.set_all.ensures.only.logs
-    ∙ marked_same (log_of n.logs s) (own w s) (own n s) (λ q e. ap (own_write s) (c.set_all.ensures.apart q (apart q e)))
+    ∙ marked_same (log_of n.logs s) (own w s) (own n s)
+    (λ q e. ap (own_write s) (c.set_all.ensures.apart q (apart q e)))
     ∙ marks (goal.at.returns-clause-marks c).After-note_all

@@ -1,7 +1,7 @@
 use Rattle.std.proofs.Common.{◌≡◌, ◌∙◌, ap, true}
 use Rattle.city_txn.specs.inside.State.{State, own, is_reserved}
 use Rattle.city_txn.specs.inside.InPlace.{state_of}
-use Rattle.city_txn.proofs.Unwritten.{own_there}
+use Rattle.city_txn.proofs.OneIdWritten.{own_there}
 use Rattle.city_txn.proofs.store.Store.written.Goals as goal
 
 pub returns : goal.returns

@@ -8,7 +8,8 @@ use Rattle.city_txn.proofs.txn_core.Core.commit.Goals.{After-release_all}
 
 core : (c : After-release_all) → IsCore (record { store = c.commit.new.self; locks = c.release_all.new.self })
 core c =
-    committed_core c.self.inside (record { store = c.commit.new.self; locks = c.release_all.new.self }) c.self.invariant c.args.stamp
+    committed_core c.self.inside (record { store = c.commit.new.self; locks = c.release_all.new.self })
+    c.self.invariant c.args.stamp
     c.commit.ensures.forgets c.release_all.ensures.modes c.release_all.ensures.lawful c.commit.ensures.city
     (subst (λ (v : CoreState). HasNoOrphan (view v c.args.stamp)) (sym c.self.view_is) c.requires.no_orphan)
 

@@ -6,8 +6,10 @@ use Rattle.city_txn.proofs.txn_core.Core.roll_back.Goals as goal
 
 pub invariant_of-self : goal.invariant_of-self
 invariant_of-self c =
-    undone_core c.self.inside (record c.self.inside { store = c.roll_back.new.self; locks = c.release_all.new.self }) c.self.invariant
-    c.args.stamp c.roll_back.ensures.forgets c.release_all.ensures.modes c.release_all.ensures.lawful c.roll_back.ensures.city
+    undone_core c.self.inside (record c.self.inside { store = c.roll_back.new.self; locks = c.release_all.new.self })
+    c.self.invariant
+    c.args.stamp c.roll_back.ensures.forgets c.release_all.ensures.modes c.release_all.ensures.lawful
+    c.roll_back.ensures.city
 
 pub returns : goal.returns
 returns c =

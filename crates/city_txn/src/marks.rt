@@ -1,18 +1,43 @@
-//! Going back to a mark.
+//! Marks, and going back to them.
 ghost use Rattle.std.specs.Prelude.{◌≡◌, true, false, drop};
 ghost use Rattle.city_model.specs.Marks.{marks_from};
+ghost use Rattle.city_model.specs.declared.command.Command.{Command};
 ghost use Rattle.city_txn.specs.inside.State.{own, written, Touches};
 ghost use Rattle.city_txn.specs.UndoLog.{log_of, written_at_mark};
+ghost use Rattle.city_txn.specs.inside.Performing.{IsPerform};
 ghost use Rattle.city_txn.specs.inside.LogTests.{has_mark, newest_undone};
 
 use crate::store::Store;
 use crate::undo_log::Entry;
+use city_model::OutOfMemory;
+use city_model::command::{Cause, Reply};
+use city_model::copied::Copied;
 use city_model::text::Text;
 
 impl Store {
+    /// Makes a mark.
+    pub fn mark(&mut self, stamp: u64, name: &Text) -> Result<Reply, OutOfMemory>
+        ensures { IsPerform stamp (Command.Mark name.now) result self.old self.new }
+    {
+        let entry = Entry::Mark(name.copy(self.alloc())?);
+        self.logs.push(stamp, entry)?;
+        Ok(Reply::Marked)
+    }
+
+    /// Goes back to a mark. Doesn't allocate if it is there.
+    pub fn back(&mut self, stamp: u64, name: &Text) -> Result<Reply, OutOfMemory>
+        ensures { IsPerform stamp (Command.Back name.now) result self.old self.new }
+    {
+        if !self.logs().has_mark(stamp, name) {
+            return Ok(Reply::Refused(Cause::NoMark(name.copy(self.alloc())?)));
+        }
+        self.go_back(stamp, name);
+        Ok(Reply::WentBack)
+    }
+
     /// Goes back to the newest mark of the name, which the transaction must have. Its writes are again
     /// those that it had at the mark, newer marks are gone, and the mark stays. Doesn't allocate.
-    pub fn go_back(&mut self, stamp: u64, name: &Text)
+    fn go_back(&mut self, stamp: u64, name: &Text)
         requires { has_mark (log_of self.old.logs stamp) name.now ≡ true }
         ensures written { written self.new stamp
             ≡ written_at_mark (written self.old stamp) (marks_from name.now (written self.old stamp).1) }
