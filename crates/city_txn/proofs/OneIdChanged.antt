@@ -11,7 +11,7 @@ use Rattle.city_txn.specs.inside.Images.{committed_at, write_at, writer_of}
 use Rattle.city_txn.specs.inside.InPlace.{state_of, is_writer, IsInPlace}
 use Rattle.city_txn.specs.UndoLog.{log_of, has_before}
 use Rattle.city_txn.specs.Writes.{Write, write_of}
-use Rattle.city_txn.specs.inside.State.{committed, ChangesWrites}
+use Rattle.city_txn.specs.inside.State.{committed, WritesOne}
 use Rattle.city_txn.specs.inside.UndoState.{image_at, reservations_of}
 use Rattle.city_txn.proofs.AtOneId.{here, city_is, writes_is}
 
@@ -50,9 +50,7 @@ module _ (a b : Inside) (k : IsInPlace a) (id : List ℕ) (x : Option Object) (i
 -- what is left of the store where no more than the write of one id has changed
 pub record OneWritten (a b : Inside) (id : List ℕ) (w : Option Write) : Type 0 where
   pub in_place : IsInPlace b
-  pub only : ChangesWrites (state_of a) (state_of b)
-  pub writes : (q : List ℕ) → write_of (state_of b).writes q
-      ≡ (if same_id id q then w else write_of (state_of a).writes q)
+  pub one : WritesOne id w (state_of a) (state_of b)
 
 -- the image's transaction stays the same, and what is committed beneath it
 module _ (a b : Inside) (k : IsInPlace a) (id : List ℕ) (x : Option Object) (i : Option UndoImage)
@@ -77,13 +75,14 @@ module _ (a b : Inside) (k : IsInPlace a) (id : List ℕ) (x : Option Object) (i
       ≡ committed_at (here a id) (image_at a.undo id) → OneWritten a b id w
   one_written w is same = record {
     in_place = still_in_place;
-    only = record {
-      frame = frame;
-      city = committed_kept a b k id x i city images still_in_place same;
-      opened =
-          reservations;
-      logs = logs;
+    one = record {
+      only = record {
+        frame = frame;
+        city = committed_kept a b k id x i city images still_in_place same;
+        opened = reservations;
+        logs = logs;
+      };
+      writes = λ q. write_changed a b k id x i city images still_in_place q
+          ∙ ap (λ z. if same_id id q then z else write_of (state_of a).writes q) is;
     };
-    writes = λ q. write_changed a b k id x i city images still_in_place q
-        ∙ ap (λ z. if same_id id q then z else write_of (state_of a).writes q) is;
   }

@@ -181,10 +181,11 @@ module _ (a : Inside) (k_a : IsInPlace a) (s : ℕ) (id : List ℕ) (reserved : 
   pub others_stay : (b : Inside) (w : Option Write) → unless_by s w ≡ None → OneWritten a b id w
       → (q : List ℕ) → unless_by s (write_of (state_of b).writes q) ≡ unless_by s (write_of (state_of a).writes q)
   others_stay b w none k = at_each id
-      (ap (unless_by s) (k.writes id ∙ ap (λ b. if b then w else write_of (state_of a).writes id) (same_id_itself id))
+      (ap (unless_by s) (k.one.writes id
+      ∙ ap (λ b. if b then w else write_of (state_of a).writes id) (same_id_itself id))
       ∙ none
       ∙ sym (ap (unless_by s) (writes_is a k_a id) ∙ none_by_others s (here a id) (image_at a.undo id) writer))
-      (λ q e. ap (unless_by s) (k.writes q ∙ ap (λ b. if b then w else write_of (state_of a).writes q) e))
+      (λ q e. ap (unless_by s) (k.one.writes q ∙ ap (λ b. if b then w else write_of (state_of a).writes q) e))
 
   pub unset_written : (b : Inside) → b.city.0 ≡ a.city.0
       → object_at b.city.1 ≡ changed (object_at a.city.1) id (or_else (put_back_at (image_at a.undo id)) (here a id))

@@ -13,7 +13,7 @@ use Rattle.city_model.proofs.Ids.{same_id_itself, same_id_back}
 use Rattle.city_model.proofs.IdLists.{not_both}
 use Rattle.city_model.proofs.Planned.{related}
 use Rattle.city_txn.specs.inside.State.{State, rewritten, own, is_reserved, committed, view}
-use Rattle.city_txn.specs.inside.State.{ReservesAmong, SeesSame, ChangesWrites, Touches}
+use Rattle.city_txn.specs.inside.State.{ReservesAmong, SeesSame, WritesOne, OthersWritesStay, Touches}
 use Rattle.city_txn.specs.Writes.{Write, write_of, is_by, own_or, unless_by}
 use Rattle.city_txn.specs.UndoLog.{log_of, marked}
 use Rattle.city_txn.specs.inside.Performing.{plans, edits_in_place, IsPerform}
@@ -66,26 +66,22 @@ module _ (s : ℕ) (c : Command) (r : Reply) (child parent : List ℕ) (below : 
       unwritten_performed s c r change v u plain_one is reserved (unmarked u same.logs) result failed same.writes
 
   -- x has the parent edited, and w the child written, whose id was copied
-  module _ (x : State) (copy : List ℕ) (copied : copy ≡ child) (edits : ChangesWrites u x)
-      (writes_x : (q : List ℕ) → write_of x.writes q
-      ≡ (if same_id parent q then option_map (rewritten f) (write_of u.writes parent) else write_of u.writes q)) where
+  module _ (x : State) (copy : List ℕ) (copied : copy ≡ child)
+      (edits : WritesOne parent (option_map (rewritten f) (write_of u.writes parent)) u x) where
     pub copy_reserved : is_reserved x s copy ≡ true
-    copy_reserved = ap (is_reserved x s) copied ∙ reserved_by u x s child edits.opened ∙ made s child
+    copy_reserved = ap (is_reserved x s) copied ∙ reserved_by u x s child edits.only.opened ∙ made s child
         ∙ or_left ((s == s) && same_id child child) (is_reserved v s child)
         (and_from (s == s) (same_id child child) (eq-eqb s s refl) (same_id_itself child))
 
-    module _ (w : State) (sets : ChangesWrites x w)
-        (writes : (q : List ℕ) → write_of w.writes q
-        ≡ (if same_id copy q then Some (s, below) else write_of x.writes q))
-        (others_w : (q : List ℕ) → unless_by s (write_of w.writes q) ≡ unless_by s (write_of x.writes q)) where
+    module _ (w : State) (sets : WritesOne copy (Some (s, below)) x w) (others_w : OthersWritesStay s x w) where
       writes_w : (q : List ℕ) → write_of w.writes q ≡ (if same_id child q then Some (s, below) else write_of x.writes q)
-      writes_w q = writes q ∙ ap (λ k. if same_id k q then Some (s, below) else write_of x.writes q) copied
+      writes_w q = sets.writes q ∙ ap (λ k. if same_id k q then Some (s, below) else write_of x.writes q) copied
 
       at_parent : write_of x.writes parent ≡ option_map (rewritten f) (write_of u.writes parent)
-      at_parent = writes_x parent ∙ rw (same_id_itself parent) refl
+      at_parent = edits.writes parent ∙ rw (same_id_itself parent) refl
 
       beside : (q : List ℕ) → same_id parent q ≡ false → write_of x.writes q ≡ write_of v.writes q
-      beside q e = writes_x q ∙ rw e (same.writes q)
+      beside q e = edits.writes q ∙ rw e (same.writes q)
 
       others_x : (q : List ℕ) → unless_by s (write_of x.writes q) ≡ unless_by s (write_of u.writes q)
       others_x = at_each parent
@@ -108,6 +104,6 @@ module _ (s : ℕ) (c : Command) (r : Reply) (child parent : List ℕ) (below : 
       pub related_performed : {E : Type 0} → IsPerform {E = E} s c (Ok r) v w
       related_performed = written_performed s c r change v w plain_one is
           (touches_on s (plans change) v x w
-          (touches_on s (plans change) v u x reserved (touches_writes s (plans change) u x edits others_x))
-          (touches_writes s (plans change) x w sets others_w))
-          (unmarked w (sets.logs ∙ edits.logs ∙ same.logs)) written
+          (touches_on s (plans change) v u x reserved (touches_writes s (plans change) u x edits.only others_x))
+          (touches_writes s (plans change) x w sets.only others_w))
+          (unmarked w (sets.only.logs ∙ edits.only.logs ∙ same.logs)) written

@@ -2,6 +2,7 @@
 ghost use Rattle.std.specs.Prelude.{◌≡◌, ℕ, List, Some, is_some, true};
 ghost use Rattle.city_model.specs.CityMap.{object_at, changed, has_id, same_id};
 ghost use Rattle.city_txn.specs.inside.Ending.{left_at_end, AreEnded};
+ghost use Rattle.city_txn.specs.inside.Slots.{HasSlot};
 ghost use Rattle.city_txn.specs.inside.UndoState.{image_at};
 
 use crate::image::UndoImage;
@@ -21,7 +22,7 @@ pub enum End {
 
 /// Ends the transaction at the ids, one after another. Doesn't allocate.
 pub fn end_each(city: &mut City, undo: &mut Undo, end: End, ids: &[Id])
-    requires { (q : List ℕ) → is_some (image_at undo.old q) ≡ true → is_some (object_at city.old.1 q) ≡ true }
+    requires { (q : List ℕ) → is_some (image_at undo.old q) ≡ true → HasSlot city.old q }
     ensures { AreEnded end (has_id ids.now) city.old undo.old city.new undo.new }
 {
     for id in ids {
@@ -31,7 +32,7 @@ pub fn end_each(city: &mut City, undo: &mut Undo, end: End, ids: &[Id])
 
 /// Ends the transaction at the id, and removes the id's image, if there is one.
 fn end_one(city: &mut City, undo: &mut Undo, end: End, id: &Id)
-    requires { is_some (image_at undo.old id.now) ≡ true → is_some (object_at city.old.1 id.now) ≡ true }
+    requires { is_some (image_at undo.old id.now) ≡ true → HasSlot city.old id.now }
     ensures { AreEnded end (same_id id.now) city.old undo.old city.new undo.new }
 {
     if let Some((key, image)) = undo.take(id) {
@@ -41,7 +42,7 @@ fn end_one(city: &mut City, undo: &mut Undo, end: End, id: &Id)
 
 /// Gives the id of the image the object that it has from now on.
 fn settle(city: &mut City, end: End, id: Id, image: UndoImage)
-    requires { is_some (object_at city.old.1 id) ≡ true }
+    requires { HasSlot city.old id }
     ensures after { object_at city.new.1 ≡ changed (object_at city.old.1) id (left_at_end end (object_at city.old.1 id) (Some image)) }
     ensures frame { city.new.0 ≡ city.old.0 }
 {

@@ -3,7 +3,7 @@ ghost use Rattle.std.specs.Prelude.{◌≡◌, None, Some, unwrap_or, IfOk, OnOk
 ghost use Rattle.city_model.specs.CityMap.{object_at, changed};
 ghost use Rattle.city_txn.specs.inside.Images.{or_else, before_image};
 ghost use Rattle.city_txn.specs.Placeholder.{placeholder};
-ghost use Rattle.city_txn.specs.inside.Slots.{with_slot};
+ghost use Rattle.city_txn.specs.inside.Slots.{with_slot, HasSlot};
 
 use crate::image::UndoImage;
 use crate::placeholder::placeholder;
@@ -42,7 +42,7 @@ pub fn clear(city: &mut City, id: &Id, deleted: bool)
 
 /// Sets the object of an id that has a slot, and returns the one that stood there.
 pub fn swap(city: &mut City, id: Id, object: Object) -> Object
-    requires { is_some (object_at city.old.1 id) ≡ true }
+    requires { HasSlot city.old id }
     ensures old { object_at city.old.1 id ≡ Some result }
     ensures after { object_at city.new.1 ≡ changed (object_at city.old.1) id (Some object) }
     ensures frame { city.new.0 ≡ city.old.0 }
@@ -66,7 +66,7 @@ pub fn standing(alloc: Global, object: Option<Object>) -> Object
 
 /// Sets the object, if there is one, at an id that has a slot.
 pub fn refill(city: &mut City, id: Id, object: Option<Object>)
-    requires { is_some (object_at city.old.1 id) ≡ true }
+    requires { HasSlot city.old id }
     ensures after { object_at city.new.1 ≡ changed (object_at city.old.1) id (or_else object (object_at city.old.1 id)) }
     ensures frame { city.new.0 ≡ city.old.0 }
 {
@@ -80,7 +80,7 @@ pub fn refill(city: &mut City, id: Id, object: Option<Object>)
 
 /// Puts back what the image says stood at the id.
 pub fn give_back(city: &mut City, id: Id, image: UndoImage)
-    requires { is_some (object_at city.old.1 id) ≡ true }
+    requires { HasSlot city.old id }
     ensures after { object_at city.new.1 ≡ changed (object_at city.old.1) id (before_image (object_at city.old.1 id) image) }
     ensures frame { city.new.0 ≡ city.old.0 }
 {
@@ -99,7 +99,7 @@ pub fn give_back(city: &mut City, id: Id, image: UndoImage)
 
 /// Sets the object of an id that has a slot, or removes it.
 fn put(city: &mut City, id: Id, object: Option<Object>)
-    requires { is_some (object_at city.old.1 id) ≡ true }
+    requires { HasSlot city.old id }
     ensures after { object_at city.new.1 ≡ changed (object_at city.old.1) id object }
     ensures frame { city.new.0 ≡ city.old.0 }
 {

@@ -11,7 +11,7 @@ ghost use Rattle.city_txn.specs.Changing.{change_in};
 ghost use Rattle.city_txn.specs.inside.Orphans.{is_orphan_written};
 ghost use Rattle.city_txn.specs.inside.Ending.{map_at_end};
 ghost use Rattle.city_txn.specs.inside.State.{State, rewritten, is_reserved, is_open, committed, view, own, MayReserve};
-ghost use Rattle.city_txn.specs.inside.State.{SeesSame, ChangesWrites, Begins, Forgets};
+ghost use Rattle.city_txn.specs.inside.State.{SeesSame, WritesOne, OthersWritesStay, Begins, Forgets};
 ghost use Rattle.city_txn.specs.Writes.{write_of, is_by, own_write, unless_by};
 
 use crate::changing::{change_of, has_orphan, written_copy};
@@ -145,9 +145,8 @@ impl Store {
     /// there. Doesn't allocate.
     pub fn set(&mut self, stamp: u64, id: Id, object: Option<Object>)
         requires { is_reserved self.old stamp id ≡ true }
-        ensures only { ChangesWrites self.old self.new }
-        ensures writes { (q : List ℕ) → write_of self.new.writes q ≡ (if same_id id q then Some (stamp, object) else write_of self.old.writes q) }
-        ensures others { (q : List ℕ) → unless_by stamp (write_of self.new.writes q) ≡ unless_by stamp (write_of self.old.writes q) }
+        ensures one { WritesOne id (Some (stamp, object)) self.old self.new }
+        ensures others { OthersWritesStay stamp self.old self.new }
     {
         let deleted = object.is_none();
         let standing = slot::standing(self.alloc, object);
@@ -158,8 +157,8 @@ impl Store {
     /// the store is unchanged.
     pub fn push_child(&mut self, id: &Id, child: Id) -> Result<(), OutOfMemory>
         requires { is_some (write_of self.old.writes id.now) ≡ true }
-        ensures only { ChangesWrites self.old self.new }
-        ensures writes { OnOk result ((q : List ℕ) → write_of self.new.writes q ≡ (if same_id id.now q then option_map (rewritten (with_child child)) (write_of self.old.writes id.now) else write_of self.old.writes q)) }
+        ensures ok { OnOk result (WritesOne id.now
+            (option_map (rewritten (with_child child)) (write_of self.old.writes id.now)) self.old self.new) }
         ensures err { OnErr result (self.new ≡ self.old) }
     {
         self.city.push_child(id, child)?;
@@ -169,8 +168,8 @@ impl Store {
     /// Removes a child from the object that was written at an id. Doesn't allocate.
     pub fn remove_child(&mut self, id: &Id, child: &Id)
         requires { is_some (write_of self.old.writes id.now) ≡ true }
-        ensures only { ChangesWrites self.old self.new }
-        ensures writes { (q : List ℕ) → write_of self.new.writes q ≡ (if same_id id.now q then option_map (rewritten (without_child child.now)) (write_of self.old.writes id.now) else write_of self.old.writes q) }
+        ensures { WritesOne id.now
+            (option_map (rewritten (without_child child.now)) (write_of self.old.writes id.now)) self.old self.new }
     {
         self.city.remove_child(id, child);
     }
@@ -188,9 +187,8 @@ impl Store {
     /// or nothing. Doesn't allocate.
     pub fn restore(&mut self, stamp: u64, id: Id, write: OwnWrite)
         requires { is_reserved self.old stamp id ≡ true }
-        ensures only { ChangesWrites self.old self.new }
-        ensures writes { (q : List ℕ) → write_of self.new.writes q ≡ (if same_id id q then option_map (λ o. (stamp, o)) write else write_of self.old.writes q) }
-        ensures others { (q : List ℕ) → unless_by stamp (write_of self.new.writes q) ≡ unless_by stamp (write_of self.old.writes q) }
+        ensures one { WritesOne id (option_map (λ o. (stamp, o)) write) self.old self.new }
+        ensures others { OthersWritesStay stamp self.old self.new }
     {
         match write {
             Some(object) => self.set(stamp, id, object),
@@ -201,9 +199,8 @@ impl Store {
     /// Undoes the stamp's write of an id that it has reserved, if it wrote it. Doesn't allocate.
     fn unset(&mut self, stamp: u64, id: Id)
         requires { is_reserved self.old stamp id ≡ true }
-        ensures only { ChangesWrites self.old self.new }
-        ensures writes { (q : List ℕ) → write_of self.new.writes q ≡ (if same_id id q then None else write_of self.old.writes q) }
-        ensures others { (q : List ℕ) → unless_by stamp (write_of self.new.writes q) ≡ unless_by stamp (write_of self.old.writes q) }
+        ensures one { WritesOne id None self.old self.new }
+        ensures others { OthersWritesStay stamp self.old self.new }
     {
         self.undo.unwrite(&mut self.city, id);
     }

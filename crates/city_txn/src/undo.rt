@@ -6,6 +6,7 @@ ghost use Rattle.std.specs.BTreeMap.{get, is_at, IsOrdered};
 ghost use Rattle.std.specs.FinMap.{entries};
 ghost use Rattle.city_model.specs.CityMap.{object_at, changed, same_id};
 ghost use Rattle.city_txn.specs.inside.Images.{unwritten_image, written_over, image_unwritten, put_back_at, or_else};
+ghost use Rattle.city_txn.specs.inside.Slots.{HasSlot};
 ghost use Rattle.city_txn.specs.inside.UndoState.{image_at, listed_by, reservations_of};
 
 use crate::image::UndoImage;
@@ -140,7 +141,7 @@ impl Undo {
     /// Puts the object at a reserved id of the city, and what stood there into
     /// its image. Doesn't allocate.
     pub fn write(&mut self, city: &mut City, id: Id, object: Object, deleted: bool)
-        requires has_slot { is_some (object_at city.old.1 id) ≡ true }
+        requires has_slot { HasSlot city.old id }
         requires there { is_some (image_at self.old id) ≡ true }
         ensures frame { city.new.0 ≡ city.old.0 }
         ensures city { object_at city.new.1 ≡ changed (object_at city.old.1) id (Some object) }
@@ -160,7 +161,7 @@ impl Undo {
     /// Undoes the write of a reserved id, if it was written: what stood there goes back into
     /// the city. Doesn't allocate.
     pub fn unwrite(&mut self, city: &mut City, id: Id)
-        requires has_slot { is_some (object_at city.old.1 id) ≡ true }
+        requires has_slot { HasSlot city.old id }
         requires there { is_some (image_at self.old id) ≡ true }
         ensures frame { city.new.0 ≡ city.old.0 }
         ensures city { object_at city.new.1 ≡ changed (object_at city.old.1) id (or_else (put_back_at (image_at self.old id)) (object_at city.old.1 id)) }

@@ -5,6 +5,7 @@ ghost use Rattle.city_model.specs.inside.Plans.{AreOf};
 ghost use Rattle.city_txn.specs.Writes.{write_of, unless_by};
 ghost use Rattle.city_txn.specs.UndoLog.{log_of};
 ghost use Rattle.city_txn.specs.inside.State.{written, is_reserved, MayReserve, ReservesAmong, SeesSame, ChangesWrites};
+ghost use Rattle.city_txn.specs.inside.State.{OthersWritesStay};
 ghost use Rattle.city_txn.specs.inside.State.{Touches};
 ghost use Rattle.city_txn.specs.inside.LogTests.{is_noted};
 ghost use Rattle.city_txn.specs.inside.Performing.{plans};
@@ -97,8 +98,7 @@ impl Store {
             ≡ (if plans writes.items id then Some (stamp, f id) else write_of self.old.writes id) }
         ensures apart { (id : List ℕ) → plans writes.items id ≡ false → write_of self.new.writes id
             ≡ write_of self.old.writes id }
-        ensures others { (id : List ℕ) → unless_by stamp (write_of self.new.writes id)
-            ≡ unless_by stamp (write_of self.old.writes id) }
+        ensures others { OthersWritesStay stamp self.old self.new }
     {
         while let Some(write) = writes.pop() {
             let (id, object) = write;

@@ -1,9 +1,9 @@
 -- What contracts see of the store: the committed city, and for each open transaction what it wrote and its undo log.
-use Rattle.std.specs.Prelude.{◌≡◌, ◌==◌, ◌&&◌, ◌||◌, ℕ, Bool, true, false, List, [], is_some, option_map}
+use Rattle.std.specs.Prelude.{◌≡◌, ◌==◌, ◌&&◌, ◌||◌, ℕ, Bool, true, false, List, [], Option, is_some, option_map}
 use Rattle.std.specs.Prelude.{if◌then◌else◌}
 use Rattle.city_model.specs.declared.frame.Frame.{Frame}
 use Rattle.city_model.specs.declared.object.Object.{Object}
-use Rattle.city_model.specs.CityMap.{Objects, CityMap, object_at, has_id}
+use Rattle.city_model.specs.CityMap.{Objects, CityMap, object_at, has_id, same_id}
 use Rattle.city_txn.specs.inside.UndoState.{Reservations, listed_by, reservations_of}
 use Rattle.city_txn.specs.UndoLog.{OwnWrites, Written, Logs, log_of, marked, has_before}
 use Rattle.city_txn.specs.Writes.{Write, write_of, own_or, own_write, unless_by}
@@ -55,6 +55,11 @@ abbrev pub ReservesAmong : (List ℕ → Bool) → ℕ → State → State → T
 ReservesAmong ids stamp v w = (t : ℕ) (id : List ℕ) → is_reserved w t id ≡ true
     → (is_reserved v t id || ((stamp == t) && ids id)) ≡ true
 
+-- what the others wrote stays
+abbrev pub OthersWritesStay : ℕ → State → State → Type 0
+OthersWritesStay stamp v w =
+    (id : List ℕ) → unless_by stamp (write_of w.writes id) ≡ unless_by stamp (write_of v.writes id)
+
 -- what anyone sees is the same
 pub record SeesSame (v w : State) : Type 0 where
   pub frame : w.frame ≡ v.frame
@@ -70,13 +75,18 @@ pub record ChangesWrites (v w : State) : Type 0 where
   pub opened : w.opened ≡ v.opened
   pub logs : w.logs ≡ v.logs
 
+-- nothing but the write of one id has changed, which is this
+pub record WritesOne (id : List ℕ) (write : Option Write) (v w : State) : Type 0 where
+  pub only : ChangesWrites v w
+  pub writes : (q : List ℕ) → write_of w.writes q ≡ (if same_id id q then write else write_of v.writes q)
+
 -- the transaction has changed nothing but its own writes, its log and its reservations; the last two gained these
 -- ids at most
 pub record Touches (stamp : ℕ) (ids : List ℕ → Bool) (v w : State) : Type 0 where
   pub frame : w.frame ≡ v.frame
   pub city : committed w ≡ committed v
   pub opened : (t : ℕ) → is_open w t ≡ is_open v t
-  pub writes : (id : List ℕ) → unless_by stamp (write_of w.writes id) ≡ unless_by stamp (write_of v.writes id)
+  pub writes : OthersWritesStay stamp v w
   pub logs : (t : ℕ) → (stamp == t) ≡ false → log_of w.logs t ≡ log_of v.logs t
   pub reserved : ReservesAmong ids stamp v w
   pub noted : (id : List ℕ) → has_before (log_of w.logs stamp) id ≡ true

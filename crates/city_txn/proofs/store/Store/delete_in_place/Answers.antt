@@ -23,7 +23,7 @@ set-requires c =
     copy_reserved c.args.stamp (Delete c.args.id.now) Deleted c.args.id.now c.args.parent.now None
     (without_child c.args.id.now) c.args.self.now c.reserve.new.self refl is c.requires.in_place
     c.in_ok-reserve.ensures.same c.in_ok-reserve.ensures.ok c.remove_child.new.self c.in_ok-key.key c.in_ok-key.ensures
-    c.remove_child.ensures.only c.remove_child.ensures.writes
+    c.remove_child.ensures
 
 pub returns : goal.returns
 returns c =
@@ -33,4 +33,4 @@ returns c =
     related_performed c.args.stamp (Delete c.args.id.now) Deleted c.args.id.now c.args.parent.now None
     (without_child c.args.id.now) c.args.self.now c.reserve.new.self refl is c.requires.in_place
     c.in_ok-reserve.ensures.same c.in_ok-reserve.ensures.ok c.remove_child.new.self c.in_ok-key.key c.in_ok-key.ensures
-    c.remove_child.ensures.only c.remove_child.ensures.writes c.set.new.self w.only w.writes w.others
+    c.remove_child.ensures c.set.new.self w.one w.others

@@ -37,7 +37,7 @@ set-requires c =
     (without_child c.args.child.now) c.args.self.now c.reserve.new.self refl (is (goal.at.set-requires c).In-Ok)
     c.requires.in_place
     c.in_ok-reserve.ensures.same c.in_ok-reserve.ensures.ok c.remove_child.new.self c.in_ok-key.key c.in_ok-key.ensures
-    c.remove_child.ensures.only c.remove_child.ensures.writes
+    c.remove_child.ensures
 
 pub returns : goal.returns
 returns c =
@@ -47,4 +47,4 @@ returns c =
     (without_child c.args.child.now) c.args.self.now c.reserve.new.self refl (is (goal.at.returns c).In-Ok)
     c.requires.in_place
     c.in_ok-reserve.ensures.same c.in_ok-reserve.ensures.ok c.remove_child.new.self c.in_ok-key.key c.in_ok-key.ensures
-    c.remove_child.ensures.only c.remove_child.ensures.writes c.set.new.self w.only w.writes w.others
+    c.remove_child.ensures c.set.new.self w.one w.others

@@ -1,9 +1,8 @@
 use Rattle.std.proofs.Common.{◌≡◌, ◌∙◌, ap, is_some, true, subst}
-use Rattle.std.specs.Prelude.{if◌then◌else◌, option_map}
-use Rattle.city_model.specs.CityMap.{same_id}
+use Rattle.std.specs.Prelude.{option_map}
 use Rattle.city_model.specs.Meaning.{without_child}
 use Rattle.city_txn.specs.inside.InPlace.{state_of}
-use Rattle.city_txn.specs.inside.State.{State, rewritten, ChangesWrites}
+use Rattle.city_txn.specs.inside.State.{State, rewritten, WritesOne}
 use Rattle.city_txn.specs.Writes.{write_of}
 use Rattle.city_txn.proofs.OneIdWritten.{written_there, edited}
 use Rattle.city_txn.proofs.OneIdChanged.{OneWritten}
@@ -27,14 +26,10 @@ done c =
 pub invariant_of-self : goal.invariant_of-self
 invariant_of-self c = (done (goal.at.invariant_of-self c).After-remove_child).in_place
 
-pub returns-clause-only : goal.returns-clause-only
-returns-clause-only c =
-    subst (λ (v : State). ChangesWrites v (state_of (record c.self.inside { city = c.remove_child.new.self })))
-    c.self.view_is (done (goal.at.returns-clause-only c).After-remove_child).only
-
-pub returns-clause-writes : goal.returns-clause-writes
-returns-clause-writes c q =
-    (done (goal.at.returns-clause-writes c).After-remove_child).writes q
-    ∙ ap (λ (v : State). if same_id c.args.id.now q
-    then option_map (rewritten (without_child c.args.child.now)) (write_of v.writes c.args.id.now)
-    else write_of v.writes q) c.self.view_is
+pub returns : goal.returns
+returns c =
+    let b = record c.self.inside { city = c.remove_child.new.self } in
+    let id = c.args.id.now in
+    subst (λ (v : State).
+    WritesOne id (option_map (rewritten (without_child c.args.child.now)) (write_of v.writes id)) v (state_of b))
+    c.self.view_is (done (goal.at.returns c).After-remove_child).one

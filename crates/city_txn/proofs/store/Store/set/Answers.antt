@@ -1,8 +1,7 @@
 use Rattle.std.proofs.Common.{None, ◌≡◌, ◌∙◌, ap, refl, Some, true, subst}
 use Rattle.std.specs.Prelude.{if◌then◌else◌}
 use Rattle.std.proofs.lemmas.Bool.{eq-eqb}
-use Rattle.city_model.specs.CityMap.{same_id}
-use Rattle.city_txn.specs.inside.State.{State, is_reserved, ChangesWrites}
+use Rattle.city_txn.specs.inside.State.{State, is_reserved, WritesOne}
 use Rattle.city_txn.specs.Writes.{write_of, unless_by}
 use Rattle.city_txn.specs.inside.InPlace.{state_of}
 use Rattle.city_txn.proofs.OneIdChanged.{OneWritten}
@@ -30,16 +29,11 @@ done c =
 pub invariant_of-self : goal.invariant_of-self
 invariant_of-self c = (done (goal.at.invariant_of-self c).After-write).in_place
 
-pub returns-clause-only : goal.returns-clause-only
-returns-clause-only c =
-    subst (λ (v : State).
-    ChangesWrites v (state_of (record c.self.inside { city = c.write.new.city; undo = c.write.new.self })))
-    c.self.view_is (done (goal.at.returns-clause-only c).After-write).only
-
-pub returns-clause-writes : goal.returns-clause-writes
-returns-clause-writes c q =
-    (done (goal.at.returns-clause-writes c).After-write).writes q
-    ∙ ap (λ (v : State). if same_id c.args.id q then Some (c.args.stamp, c.args.object) else write_of v.writes q) c.self.view_is
+pub returns-clause-one : goal.returns-clause-one
+returns-clause-one c =
+    let b = record c.self.inside { city = c.write.new.city; undo = c.write.new.self } in
+    subst (λ (v : State). WritesOne c.args.id (Some (c.args.stamp, c.args.object)) v (state_of b)) c.self.view_is
+    (done (goal.at.returns-clause-one c).After-write).one
 
 pub returns-clause-others : goal.returns-clause-others
 returns-clause-others c q =

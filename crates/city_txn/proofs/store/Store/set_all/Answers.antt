@@ -21,17 +21,17 @@ loop-write-preserved c =
     let w = c.in-Some.write in
     let e : all ≡ left ++ w ∷ [] = c.in-Some.ensures.items in
     record {
-      only = changes_on c.args.self.now c.loop-write.self c.set.new.self i.only x.only;
+      only = changes_on c.args.self.now c.loop-write.self c.set.new.self i.only x.one.only;
       others = λ q. x.others q ∙ i.others q;
-      reserved = λ q h. reserved_by c.loop-write.self c.set.new.self c.args.stamp q x.only.opened
+      reserved = λ q h. reserved_by c.loop-write.self c.set.new.self c.args.stamp q x.one.only.opened
           ∙ i.reserved q (plans_before all left w q e h);
       among = λ q h. i.among q (plans_before all left w q e h);
       apart = λ q h.
-          x.writes q
+          x.one.writes q
           ∙ ap (λ b. if b then Some (c.args.stamp, w.1) else write_of c.loop-write.self.writes q)
           (plans_apart all left w q e (false_from_ne_true (plans all q) (λ k. not_both (plans c.args.writes.items q) (i.among q k) h)))
           ∙ i.apart q h;
       of = λ f h. of_before f all left w e (i.of f h);
       writes = λ f h q. written_last f all left w c.args.stamp (write_of c.loop-write.self.writes q)
-          (write_of c.set.new.self.writes q) q e (i.of f h) (x.writes q) ∙ i.writes f h q;
+          (write_of c.set.new.self.writes q) q e (i.of f h) (x.one.writes q) ∙ i.writes f h q;
     }

@@ -42,4 +42,4 @@ returns-in-Some-BeforeImage-clause-touches c =
     ∙ ap (λ b. if b then option_to_list (Some at.field-0) ++ log_of c.pop.new.self t else log_of c.pop.new.self t) ne))
     (λ q h. or_left (has_before (log_of c.self.inside.logs s) q) false
     (ap (λ es. has_before es q) (log popped) ∙ or_right (same_id at.id q) (has_before (log_of c.pop.new.self s) q) h)))
-    (touches_writes s (λ id. false) u c.restore.new.self c.restore.ensures.only c.restore.ensures.others))
+    (touches_writes s (λ id. false) u c.restore.new.self c.restore.ensures.one.only c.restore.ensures.others))
