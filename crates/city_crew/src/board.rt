@@ -5,6 +5,7 @@ ghost use Rattle.city_model.specs.CityMap.{object_at};
 ghost use Rattle.city_model.specs.Relations.{IsLawful};
 ghost use Rattle.city_crew.specs.inside.BoardRule.{known_from};
 ghost use Rattle.city_crew.specs.BoardValues.{new_poster, viewer_of};
+ghost use Rattle.city_crew.specs.Limits.{max_viewers};
 
 use crate::history::History;
 use crate::poster::Poster;
@@ -20,6 +21,10 @@ use city_model::copied::Copied;
 use std::alloc::Global;
 use std::sync::Wait;
 
+/// The most viewers of a board. A commit is published once no viewer looks at the version before, so each
+/// viewer more may hold it up.
+pub const MAX_VIEWERS: usize = 4;
+
 /// Why there is no board.
 #[derive(Clone, Copy, Debug, PartialEq, Eq, Drop)]
 pub enum BoardFault {
@@ -29,7 +34,8 @@ pub enum BoardFault {
     NoPlace,
 }
 
-/// A board over a lawful city, with its poster and a viewer for each of the places.
+/// A board over a lawful city, with its poster and a viewer for each of the places, of which there are
+/// up to `MAX_VIEWERS`.
 ///
 /// It keeps the city and one copy of it. The runtime is kept for `publish` and the poster's drop.
 pub fn board<R: Wait + Drop>(
@@ -39,7 +45,7 @@ pub fn board<R: Wait + Drop>(
     places: usize,
 ) -> Result<(Poster<R>, Vec<Viewer>), BoardFault>
     requires lawful { IsLawful (object_at city.1) }
-    requires places { places ≤ 4 }
+    requires places { places ≤ max_viewers }
     ensures poster { IfOk result (λ board. board.0 ≡ new_poster board.0.name city) }
     ensures count { IfOk result (λ board. vec_len board.1 ≡ places) }
     ensures viewers { IfOk result (λ board. All (λ v. (v.name ≡ board.0.name) × (v.opening ≡ city) × (v.seen ≡ [])) board.1.items) }

@@ -37,9 +37,10 @@ mod work;
 mod writer;
 mod writes;
 
+pub use board::MAX_VIEWERS;
 pub use gate::{Gate, OpenGate};
 pub use look::Look;
 pub use note::Note;
 pub use poster::Poster;
-pub use run::run_crew;
+pub use run::{MAX_WORKERS, run_crew};
 pub use viewer::Viewer;

@@ -8,6 +8,7 @@ ghost use Rattle.city_desk.specs.TextRuns.{IsRun};
 ghost use Rattle.city_desk.specs.TextRuns.{IsReadFrom};
 ghost use Rattle.city_crew.specs.inside.CrewRuns.{IsResult};
 ghost use Rattle.city_crew.specs.inside.CrewShelves.{taken_by, base_of};
+ghost use Rattle.city_crew.specs.Limits.{max_workers, max_viewers};
 ghost use Rattle.city_crew.specs.Seen.{AreSeen};
 
 use crate::ages::Ages;
@@ -31,9 +32,13 @@ use std::alloc::Global;
 use std::sync::{Condvar, Mutex, Wait};
 use std::thread::Threads;
 
+/// The most workers of a run. All turns are taken under one lock, so however many there are, one of them
+/// runs a command at a time.
+pub const MAX_WORKERS: usize = 16;
+
 /// Runs the scripts on the document's city with so many workers, while so many viewers look.
 ///
-/// Workers are 1 to 16. The document is judged before the scripts. However the workers' turns
+/// Workers are 1 to `MAX_WORKERS`, viewers 0 to `MAX_VIEWERS`. The document is judged before the scripts. However the workers' turns
 /// interleave, the ends and the bytes are those of the scripts run one at a time, each once, in the
 /// order of the ends. A script that runs out of memory ends as `NoMemory` and changes nothing.
 ///
@@ -52,8 +57,8 @@ pub fn run_crew<R: Threads + Wait + Sync, G: Gate + Sync>(
     viewers: usize,
     gate: &G,
 ) -> Result<Output, RunFault>
-    requires workers { (1 ≤ workers) × (workers ≤ 16) }
-    requires viewers { viewers ≤ 4 }
+    requires workers { (1 ≤ workers) × (workers ≤ max_workers) }
+    requires viewers { viewers ≤ max_viewers }
     ensures ran { IfOk result (λ o. IsRun document.now scripts.now o.ends o.bytes.items) }
     ensures seen { IfOk result (λ o. AreSeen viewers (commits_in o.ends) o.seen.items) }
     ensures fault { IfErr result (λ f. IsRunFault document.now scripts.now f) }
@@ -79,7 +84,7 @@ fn open<'r, R: Wait>(
 ) -> Result<(State<&'r R>, Vec<Viewer>), CrewFault>
     requires lawful { IsLawful (object_at city.1) }
     requires read { IsReadFrom document.now scripts.now city list }
-    requires viewers { viewers ≤ 4 }
+    requires viewers { viewers ≤ max_viewers }
 {
     let ages = Ages::new(alloc, workers)?;
     let document = Vec::from_slice(alloc, document)?;
@@ -97,7 +102,7 @@ fn new_shelf<'r, R: Wait>(
     viewers: usize,
 ) -> Result<(CrewShelf<&'r R>, Vec<Viewer>), CrewFault>
     requires lawful { IsLawful (object_at city.now.1) }
-    requires viewers { viewers ≤ 4 }
+    requires viewers { viewers ≤ max_viewers }
     ensures empty { IfOk result (λ made. taken_by made.0 ≡ []) }
     ensures based { IfOk result (λ made. IfSome (base_of made.0) (λ base. base ≡ city.now)) }
 {

@@ -2,12 +2,13 @@
 ghost use Rattle.std.specs.Prelude.{◌≡◌, ◌≤◌, [], All, IfOk, IfSome};
 ghost use Rattle.city_model.specs.CityMap.{object_at};
 ghost use Rattle.city_model.specs.Relations.{IsLawful};
+ghost use Rattle.city_crew.specs.Limits.{max_viewers};
 
 use crate::document::add_city;
 use crate::line::{add_line, add_run_fault};
 use crate::steps::{add_step, step_of};
 use city_crew::board::board;
-use city_crew::{Note, Poster, Viewer};
+use city_crew::{MAX_VIEWERS, Note, Poster, Viewer};
 use city_desk::{Desk, Shelf, Turn, read_texts};
 use city_model::city::City;
 use city_model::copied::Copied;
@@ -26,7 +27,7 @@ pub fn play_board<R: Wait>(
     lines: &str,
     answer: &mut Vec<u8>,
 ) -> Result<(), AllocError> {
-    let places = places.parse::<usize>().unwrap_or(0).min(4);
+    let places = places.parse::<usize>().unwrap_or(0).min(MAX_VIEWERS);
     match read_texts(alloc, document, scripts) {
         Ok((city, scripts)) => play_over(rt, alloc, city, scripts, places, lines, answer),
         Err(fault) => add_run_fault(alloc, answer, fault),
@@ -43,7 +44,7 @@ fn play_over<R: Wait>(
     answer: &mut Vec<u8>,
 ) -> Result<(), AllocError>
     requires lawful { IsLawful (object_at city.1) }
-    requires places { places ≤ 4 }
+    requires places { places ≤ max_viewers }
 {
     match opened(rt, alloc, scripts, city, places) {
         Some((desk, viewers)) => play_at(rt, alloc, desk, viewers, lines, answer),
@@ -59,7 +60,7 @@ fn board_over<'r, R: Wait>(
     places: usize,
 ) -> Option<(Poster<&'r R>, Vec<Viewer>)>
     requires lawful { IsLawful (object_at city.now.1) }
-    requires places { places ≤ 4 }
+    requires places { places ≤ max_viewers }
     ensures opening { IfSome result (λ r. r.0.opening ≡ city.now) }
     ensures taken { IfSome result (λ r. r.0.taken ≡ []) }
 {
@@ -93,7 +94,7 @@ fn opened<'r, R: Wait>(
     places: usize,
 ) -> Option<(Desk<Poster<&'r R>>, Vec<Viewer>)>
     requires lawful { IsLawful (object_at city.1) }
-    requires places { places ≤ 4 }
+    requires places { places ≤ max_viewers }
 {
     let (poster, viewers) = board_over(rt, alloc, &city, places)?;
     let desk = desk_over(alloc, scripts, city, poster)?;
