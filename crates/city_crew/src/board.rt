@@ -30,11 +30,11 @@ pub const MAX_VIEWERS: usize = 4;
 pub enum BoardFault {
     /// Memory ran out.
     OutOfMemory,
-    /// A viewer's place was refused.
+    /// A viewer's seat was refused.
     NoPlace,
 }
 
-/// A board over a lawful city, with its poster and a viewer for each of the places, of which there are
+/// A board over a lawful city, with its poster and a viewer for each of the seats, of which there are
 /// up to `MAX_VIEWERS`.
 ///
 /// It keeps the city and one copy of it. The runtime is kept for `publish` and the poster's drop.
@@ -42,12 +42,12 @@ pub fn board<R: Wait + Drop>(
     rt: R,
     alloc: Global,
     city: City,
-    places: usize,
+    seats: usize,
 ) -> Result<(Poster<R>, Vec<Viewer>), BoardFault>
     requires lawful { IsLawful (object_at city.1) }
-    requires places { places ≤ max_viewers }
+    requires seats { seats ≤ max_viewers }
     ensures poster { IfOk result (λ board. board.0 ≡ new_poster board.0.name city) }
-    ensures count { IfOk result (λ board. vec_len board.1 ≡ places) }
+    ensures count { IfOk result (λ board. vec_len board.1 ≡ seats) }
     ensures viewers { IfOk result (λ board. All (λ v. (v.name ≡ board.0.name) × (v.opening ≡ city) × (v.seen ≡ [])) board.1.items) }
 {
     let (history, head) = History::new();
@@ -56,7 +56,7 @@ pub fn board<R: Wait + Drop>(
         return Err(BoardFault::OutOfMemory);
     };
     // (the writer asks for one reader at least)
-    let readers = if places == 0 { 1 } else { places };
+    let readers = if seats == 0 { 1 } else { seats };
     let Ok(writer) = BoardWriter::new(alloc, first, second, readers) else {
         return Err(BoardFault::OutOfMemory);
     };
@@ -66,7 +66,7 @@ pub fn board<R: Wait + Drop>(
     let Ok(()) = done else {
         return Err(BoardFault::OutOfMemory);
     };
-    let viewers = new_viewers(alloc, &mut own.writer, &history, places)?;
+    let viewers = new_viewers(alloc, &mut own.writer, &history, seats)?;
     Ok((Poster::new(alloc, own, head, opening, history), viewers))
 }
 
@@ -101,11 +101,11 @@ fn new_viewers(
     alloc: Global,
     writer: &mut BoardWriter,
     history: &History,
-    places: usize,
+    seats: usize,
 ) -> Result<Vec<Viewer>, BoardFault>
     requires met { view writer.old.desk.place ≡ known_from writer.old.desk.shown.value }
     requires history { history.now ≡ writer.old.desk.shown.value.history }
-    ensures count { IfOk result (λ viewers. vec_len viewers ≡ places) }
+    ensures count { IfOk result (λ viewers. vec_len viewers ≡ seats) }
     ensures viewers { IfOk result (λ viewers. All (λ v. v ≡ viewer_of history.now writer.old.desk.shown.value.opening) viewers.items) }
     ensures shown { writer.new.desk.shown ≡ writer.old.desk.shown }
     ensures log { writer.new.log ≡ writer.old.log }
@@ -113,7 +113,7 @@ fn new_viewers(
     ensures known { view writer.new.desk.place ≡ view writer.old.desk.place }
 {
     let mut viewers = Vec::new(alloc);
-    for _ in 0..places {
+    for _ in 0..seats {
         let Some(viewer) = new_viewer(writer, history) else {
             return Err(BoardFault::NoPlace);
         };
@@ -124,7 +124,7 @@ fn new_viewers(
     Ok(viewers)
 }
 
-/// A viewer who knows what the writer knows; none where there is no place.
+/// A viewer who knows what the writer knows; none where there is no seat.
 fn new_viewer(writer: &mut BoardWriter, history: &History) -> Option<Viewer>
     requires met { view writer.old.desk.place ≡ known_from writer.old.desk.shown.value }
     requires history { history.now ≡ writer.old.desk.shown.value.history }

@@ -45,7 +45,7 @@ pub const MAX_WORKERS: usize = 16;
 /// For each viewer `seen` has the number of changes at its first look, and then each larger number
 /// that it saw; the last look comes after all workers have ended.
 ///
-/// It answers `OutOfMemory` also if a thread couldn't be made, `NoPlace` if a viewer's place or
+/// It answers `OutOfMemory` also if a thread couldn't be made, `NoPlace` if a viewer's seat or
 /// look was refused, `Unfinished` if a script hadn't ended when the workers had, and `Mixed` if
 /// what was gathered then isn't of these texts, or a viewer is missing or saw too little.
 pub fn run_crew<R: Threads + Wait + Sync, G: Gate + Sync>(
@@ -64,9 +64,9 @@ pub fn run_crew<R: Threads + Wait + Sync, G: Gate + Sync>(
     ensures fault { IfErr result (λ f. IsRunFault document.now scripts.now f) }
 {
     let (city, list) = read_texts(alloc, document, scripts)?;
-    let (state, places) = open(rt, alloc, document, scripts, city, list, workers, viewers)?;
+    let (state, seated) = open(rt, alloc, document, scripts, city, list, workers, viewers)?;
     let output = run(
-        rt, alloc, document, scripts, state, places, workers, viewers, gate,
+        rt, alloc, document, scripts, state, seated, workers, viewers, gate,
     )?;
     Ok(output)
 }
@@ -89,9 +89,9 @@ fn open<'r, R: Wait>(
     let ages = Ages::new(alloc, workers)?;
     let document = Vec::from_slice(alloc, document)?;
     let scripts = Vec::from_slice(alloc, scripts)?;
-    let (shelf, places) = new_shelf(rt, alloc, &city, viewers)?;
+    let (shelf, seated) = new_shelf(rt, alloc, &city, viewers)?;
     let desk = Desk::open(alloc, city, list, shelf)?;
-    Ok((State::new(document, scripts, desk, ages), places))
+    Ok((State::new(document, scripts, desk, ages), seated))
 }
 
 /// A shelf for changes of the city, and the viewers of its board: without viewers it has none.
@@ -110,8 +110,8 @@ fn new_shelf<'r, R: Wait>(
         return Ok((CrewShelf::Unseen(NullShelf::new()), Vec::new(alloc)));
     }
     let copy = city.copy(alloc)?;
-    let (poster, places) = board(rt, alloc, copy, viewers)?;
-    Ok((CrewShelf::Posted(poster), places))
+    let (poster, seated) = board(rt, alloc, copy, viewers)?;
+    Ok((CrewShelf::Posted(poster), seated))
 }
 
 /// Runs the workers and the viewers to their ends, and gathers what they leave.
@@ -121,7 +121,7 @@ fn run<R: Threads + Wait + Sync, G: Gate + Sync>(
     document: &[u8],
     scripts: &[u8],
     state: State<&R>,
-    places: Vec<Viewer>,
+    seated: Vec<Viewer>,
     workers: usize,
     viewers: usize,
     gate: &G,
@@ -129,7 +129,7 @@ fn run<R: Threads + Wait + Sync, G: Gate + Sync>(
     ensures ran { IfOk result (λ o. IsRun document.now scripts.now o.ends o.bytes.items) }
     ensures seen { IfOk result (λ o. AreSeen viewers (commits_in o.ends) o.seen.items) }
 {
-    let watchers = watchers_of(alloc, places)?;
+    let watchers = watchers_of(alloc, seated)?;
     let shared = Shared {
         turns: Mutex::new(state),
         moved: Condvar::new(),

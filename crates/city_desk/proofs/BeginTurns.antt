@@ -177,7 +177,7 @@ module _ (d : DeskState) (changes : List Change) (base : Option CityValue) (n st
       let script : slice_get d.scripts n ≡ Some (slice_index_or d.scripts n ([], [])) = slice_get-get_or d.scripts n ([], []) there in
       let m : CityMap = model_after d.scripts (object_at d.start.1) d.ends in
       let nothing : IsScriptResult m (commands_at d.scripts n) [] (Outcome.NoMemory 0) =
-          no_memory_result m (commands_at d.scripts n) (ends_once_there s there) in
+      no_memory_result m (commands_at d.scripts n) (ends_once_there s there) in
       let heard : IsScriptResult m (commands_at d.scripts n) (replies_of d n) (Outcome.NoMemory 0) = subst (λ (rs : List Reply). IsScriptResult m (commands_at d.scripts n) rs (Outcome.NoMemory 0)) (sym is_fresh.unheard) nothing in
       record {
         script = slice_index_or d.scripts n ([], []);

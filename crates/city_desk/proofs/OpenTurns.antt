@@ -110,7 +110,7 @@ module _ (d : DeskState) (changes : List Change) (base : Option CityValue) (n st
   unfinished_at x cs p script list read =
       let all : commands_at d.scripts n ≡ cs = commands_read d.scripts n x there script ∙ sym list in
       let heard : length (replies_of d n) ≡ length p.replies.list =
-          ap (λ (q : Progress). length q.replies.list) (progress_at d.progress n p (progress_there s there) read) in
+      ap (λ (q : Progress). length q.replies.list) (progress_at d.progress n p (progress_there s there) read) in
       let less = attempt.unfinished in
       let long : length (commands_at d.scripts n) ≡ length cs = ap length all in
       omega arith
@@ -180,7 +180,7 @@ module _ (d : DeskState) (changes : List Change) (base : Option CityValue) (n st
     replied_stands p q progress h =
         let more : length (heard h.reply).replies.list ≡ length (replies_of d n) + 1 = length-append (replies_of d n) (h.reply ∷ []) in
         let last = not_last (commands_at d.scripts n) (length (replies_of d n)) command (ends_once_there s there) next
-            h.goes_on in
+        h.goes_on in
         record {
           opened = h.opened;
           begun = attempt.begun;
@@ -327,8 +327,8 @@ module _ (d : DeskState) (changes : List Change) (base : Option CityValue) (n st
         let turn = turn_of e nowhere refl moves (omega arith) (omega (arith, long)) h.keeps h.closed (λ j k. absurd (cc)) refl in
         let both = published outcome (is_commit outcome) refl h.ends h.publishes in
         let serial : IsSerial e after base = ended_serial d changes after base ends progress core n stamp
-            (end_of d n since outcome) s h.keeps.frame turn more refl there is_unended (fits_here outcome h.ends) both.0
-            both.1 in
+        (end_of d n since outcome) s h.keeps.frame turn more refl there is_unended (fits_here outcome h.ends) both.0
+        both.1 in
         let gained = gained_by (is_commit outcome) stamp d.core core changes after h.publishes in
         record {
           serial = serial;
@@ -374,7 +374,7 @@ module _ (d : DeskState) (changes : List Change) (base : Option CityValue) (n st
         → HasRoom d names capacity → room ≡ capacity → LeavesDesk n turns.Ended d (ended_at d ends (slice_set d.progress n w) core) (slice_set names n taken) room changes after base
     ends_from outcome q w core after ends names name taken capacity room h over more named r same =
         let called : name ≡ name_at d.scripts n = sym (name_there names n name
-            (subst (λ k. n < k) (sym r.names_long) there) named) ∙ r.named n there is_unended in
+        (subst (λ k. n < k) (sym r.names_long) there) named) ∙ r.named n there is_unended in
         let replies : q.replies.list ≡ replies_of d n = ap (λ (y : Progress). y.replies.list) h.0 ∙ sym heard_so_far in
         let step : AttemptEnded stamp command (length (replies_of d n)) outcome d.core core changes after = subst (λ (rs : List Reply). AttemptEnded stamp command (length rs) outcome d.core core changes after) (sym heard_so_far) h.1 in
         ended command next_read core after outcome ends (slice_set d.progress n w) names (slice_set names n taken) taken capacity room step
