@@ -9,11 +9,10 @@ ghost use Rattle.city_crew.specs.Limits.{max_viewers};
 
 use crate::history::History;
 use crate::poster::Poster;
-use crate::publish::{BoardWriter, publish};
-use crate::rule::{BelievesAll, TellsAll};
+use crate::rule::{BelievesAll, SeesVersion, TellsAll};
 use crate::version::Version;
 use crate::viewer::Viewer;
-use crate::writer::OwnWriter;
+use crate::writer::{BoardWriter, OwnWriter};
 use city_desk::OpeningCity;
 use city_model::OutOfMemory;
 use city_model::city::City;
@@ -61,7 +60,7 @@ pub fn board<R: Wait + Drop>(
         return Err(BoardFault::OutOfMemory);
     };
     // (published once, so that the writer knows the first version and can tell it)
-    let (writer, done) = publish(&rt, writer);
+    let (writer, done) = writer.publish_as::<SeesVersion, R>(&rt);
     let mut own = OwnWriter { writer, rt };
     let Ok(()) = done else {
         return Err(BoardFault::OutOfMemory);

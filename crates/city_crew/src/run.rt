@@ -13,7 +13,6 @@ ghost use Rattle.city_crew.specs.Seen.{AreSeen};
 
 use crate::ages::Ages;
 use crate::board::board;
-use crate::commits::count_commits;
 use crate::crew_shelf::CrewShelf;
 use crate::fault::CrewFault;
 use crate::gate::Gate;
@@ -162,8 +161,7 @@ fn gather<S: Shelf, Q: Wait>(
         mut shelf,
     } = finished;
     shelf.show(rt)?;
-    let commits = count_commits(ends.as_slice());
-    let seen = last_looks(alloc, watchers, viewers, commits)?;
+    let seen = last_looks(alloc, watchers, viewers, ends.as_slice())?;
     let bytes = output_bytes(alloc, &city, ends.as_slice(), room)?;
     Ok(Output { ends, bytes, seen })
 }
