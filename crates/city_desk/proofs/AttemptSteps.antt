@@ -82,7 +82,8 @@ module _ (stamp : ℕ) (command : Command) (p q : Progress) (v w : CoreState) (g
         changes = refl;
       }
 
-  pub waits : IsAct stamp command (Ok steps.Wait) v w → is_open v stamp ≡ true → q ≡ p → HasStepped stamp command (Stepped.GoesOn turns.Waits) p q v w changes changes
+  pub waits : IsAct stamp command (Ok steps.Wait) v w → is_open v stamp ≡ true → q ≡ p
+      → HasStepped stamp command (Stepped.GoesOn turns.Waits) p q v w changes changes
   waits k opened same =
       let by = by_wait (answer_in v stamp command) k.reply k.step in
       record {
@@ -102,7 +103,8 @@ module _ (stamp : ℕ) (command : Command) (p q : Progress) (v w : CoreState) (g
   -- ---- and the transaction is rolled back
 
   module _ (x : CoreState) (undone : IsRolledBack stamp w x) where
-    pub dies : IsAct stamp command (Ok steps.Die) v w → q ≡ progress_to (Idle stamp) [] p.replies.room → HasStepped stamp command (Stepped.GoesOn turns.Died) p q v x changes changes
+    pub dies : IsAct stamp command (Ok steps.Die) v w → q ≡ progress_to (Idle stamp) [] p.replies.room
+        → HasStepped stamp command (Stepped.GoesOn turns.Died) p q v x changes changes
     dies k idle =
         let by = by_die (answer_in v stamp command) k.reply k.step in
         record {
@@ -132,7 +134,9 @@ module _ (stamp : ℕ) (command : Command) (p q : Progress) (v w : CoreState) (g
           },
         )
 
-    pub unheard : (number : ℕ) (result : Result Step TxnFault) → IsAct stamp command result v w → number ≡ length p.replies.list → q ≡ p → HasStepped stamp command (Stepped.Ends (Outcome.NoMemory number)) p q v x changes changes
+    pub unheard : (number : ℕ) (result : Result Step TxnFault) → IsAct stamp command result v w
+        → number ≡ length p.replies.list → q ≡ p → HasStepped stamp command (Stepped.Ends (Outcome.NoMemory number)) p q
+        v x changes changes
     unheard number result k count same = (
       same,
       record {

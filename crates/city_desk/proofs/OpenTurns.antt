@@ -1,5 +1,6 @@
 -- What a turn of a script with an open transaction leaves.
-use Rattle.std.proofs.Common.{◌≡◌, ◌<◌, ◌≤◌, ◌+◌, ◌||◌, ℕ, suc, zero, Bool, true, false, List, [], ◌∷◌, ◌++◌, length, Option, Some, refl, ap, sym, subst, ◌∙◌, arith, length-append, append-nil}
+use Rattle.std.proofs.Common.{◌≡◌, ◌<◌, ◌≤◌, ◌+◌, ◌||◌, ℕ, suc, zero, Bool, true, false, List, [], ◌∷◌, ◌++◌, length}
+use Rattle.std.proofs.Common.{Option, Some, refl, ap, sym, subst, ◌∙◌, arith, length-append, append-nil}
 use Rattle.std.specs.Prelude.{slice_set, slice_get, slice_index_or, IfSome}
 use Rattle.std.specs.List.{list_any}
 use Rattle.std.proofs.lemmas.Bool.{false≢true, or_from}
@@ -365,11 +366,14 @@ module _ (d : DeskState) (changes : List Change) (base : Option CityValue) (n st
         let less = unfinished_at x cs p script list read in
         next_at d.scripts n x cs (length (replies_of d n)) command there script list (omega arith) here
 
-    goes_on_from : (turn : Turn) (q : Progress) (core : CoreState) (after : List Change) (names : List (List ℕ)) (capacity : ℕ) → HasStepped stamp command (Stepped.GoesOn turn) p q d.core core changes after
+    goes_on_from : (turn : Turn) (q : Progress) (core : CoreState) (after : List Change) (names : List (List ℕ))
+        (capacity : ℕ) → HasStepped stamp command (Stepped.GoesOn turn) p q d.core core changes after
         → HasRoom d names capacity → LeavesDesk n turn d (now_at d (slice_set d.progress n q) d.begun core) names capacity changes after base
     goes_on_from turn q core after names capacity h r = went_on command next_read core after turn p q names capacity reads h r
 
-    ends_from : (outcome : Outcome) (q w : Progress) (core : CoreState) (after : List Change) (ends : List End) (names : List (List ℕ)) (name taken : List ℕ) (capacity room : ℕ) → HasStepped stamp command (Stepped.Ends outcome) p q d.core core changes after
+    ends_from : (outcome : Outcome) (q w : Progress) (core : CoreState) (after : List Change) (ends : List End)
+        (names : List (List ℕ)) (name taken : List ℕ) (capacity room : ℕ)
+        → HasStepped stamp command (Stepped.Ends outcome) p q d.core core changes after
         → w ≡ nowhere → ends ≡ d.ends ++ (record { script = n; name = name; since = since; replies = q.replies.list; outcome = outcome }) ∷ [] → name ≡ slice_index_or names n name
         → HasRoom d names capacity → room ≡ capacity → LeavesDesk n turns.Ended d (ended_at d ends (slice_set d.progress n w) core) (slice_set names n taken) room changes after base
     ends_from outcome q w core after ends names name taken capacity room h over more named r same =
@@ -403,7 +407,8 @@ module _ {d seen : DeskState} {changes listing : List Change} {base : Option Cit
     turn_goes_on {turn} h = left_of run listed
         (goes_on_from d changes base n stamp since s is_here there_here p x cs number command read script list count at_number turn q core after names capacity h r)
 
-    pub turn_ends : {outcome : Outcome} {w : Progress} {ends : List End} {name : List ℕ} (taken : List ℕ) {room : ℕ} → HasStepped stamp command (Stepped.Ends outcome) p q d.core core changes after
+    pub turn_ends : {outcome : Outcome} {w : Progress} {ends : List End} {name : List ℕ} (taken : List ℕ) {room : ℕ}
+        → HasStepped stamp command (Stepped.Ends outcome) p q d.core core changes after
         → w ≡ nowhere → ends ≡ d.ends ++ (record { script = n; name = name; since = since; replies = q.replies.list; outcome = outcome }) ∷ [] → name ≡ slice_index_or names n name
         → room ≡ capacity → LeavesDesk n turns.Ended seen (ended_at d ends (slice_set d.progress n w) core) (slice_set names n taken) room listing after base
     turn_ends {outcome} {w} {ends} {name} taken {room} h over more named same = left_of run listed

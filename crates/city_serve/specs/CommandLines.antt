@@ -23,7 +23,8 @@ IsCount least most (Some text) n =
 -- the options that the texts of --workers and --watch ask for, and whether --decimals is given
 abbrev pub AreOptionsOf : Option (List ℕ) → Option (List ℕ) → Bool → Options → Type 0
 AreOptionsOf workers watch decimals options =
-    IsCount 1 max_workers workers options.workers × IsCount 0 max_viewers watch options.viewers × (options.decimals ≡ decimals)
+    IsCount 1 max_workers workers options.workers × IsCount 0 max_viewers watch options.viewers
+    × (options.decimals ≡ decimals)
 
 -- those of a command line without options
 abbrev pub plain_options : Options
