@@ -31,7 +31,7 @@ module _ (option : Text) (unknown : IsUnknownOption option) where
   named_other : (known : Text) → unknown.name ≢ known → bytes_eq known unknown.name ≡ false
   named_other known differs =
       false_from_ne_true (bytes_eq known unknown.name) (λ same.
-          differs (sym ((bytes_eq-Decides known unknown.name).0 same)))
+      differs (sym ((bytes_eq-Decides known unknown.name).0 same)))
 
   no_rule : arg_by_long rules unknown.name ≡ None
   no_rule =
