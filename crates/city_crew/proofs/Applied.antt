@@ -9,7 +9,7 @@ use Rattle.city_model.proofs.IdLists.{bool_cases}
 use Rattle.city_model.proofs.Ids.{same_id_back}
 use Rattle.city_model.proofs.Objects.{same_objects}
 use Rattle.city_model.proofs.Writing.{same_map, at_after}
-use Rattle.city_crew.specs.inside.Versions.{city_after}
+use Rattle.city_crew.specs.inside.Versions.{city_with}
 
 -- writes give the same where maps differ at written ids alone
 same_after : (c : Change) (m n : CityMap) (q : List ℕ) → (has_id (keys_of c) q ≡ false → m q ≡ n q) → after_change m c q ≡ after_change n c q
@@ -25,7 +25,7 @@ same_city c d frame same = let objects : d.1 ≡ c.1 = same_objects d.1 c.1 same
 
 -- the writes were made in a map that differs at written ids alone
 pub is_after : (c d : CityValue) (writes : Change) (placed : CityMap) → d.0 ≡ c.0 → ((q : List ℕ) → has_id (keys_of writes) q ≡ false → placed q ≡ object_at c.1 q) → object_at d.1 ≡ after_change placed writes
-    → d ≡ city_after c writes
+    → d ≡ city_with c writes
 is_after c d writes placed frame others is =
-    same_city (city_after c writes) d frame
+    same_city (city_with c writes) d frame
     (is ∙ same_map (after_change placed writes) (after_change (object_at c.1) writes) (λ q. same_after writes placed (object_at c.1) q (others q)) ∙ sym (at_after c.1 writes))

@@ -3,7 +3,7 @@ ghost use Rattle.std.specs.Prelude.{◌≡◌, ℕ, List, true, is_some, MatchRe
 ghost use Rattle.std.specs.Map.{keys_of};
 ghost use Rattle.city_model.specs.CityMap.{object_at, changed, has_id};
 ghost use Rattle.city_model.specs.Runs.{after_change};
-ghost use Rattle.city_crew.specs.inside.Versions.{city_after};
+ghost use Rattle.city_crew.specs.inside.Versions.{city_with};
 
 use crate::places::make_places;
 use crate::writes::Writes;
@@ -18,7 +18,7 @@ use std::alloc::Global;
 /// The city isn't copied; it allocates only for the places of new ids.
 pub fn apply(alloc: Global, city: &mut City, writes: Writes) -> Result<(), Writes>
     ensures { MatchResult result
-        (λ _. city.new ≡ city_after city.old writes.entries)
+        (λ _. city.new ≡ city_with city.old writes.entries)
         (λ back. (back ≡ writes) × (city.new ≡ city.old)) }
 {
     if make_places(alloc, city, &writes).is_err() {

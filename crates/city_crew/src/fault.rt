@@ -8,7 +8,7 @@ use city_model::OutOfMemory;
 pub enum CrewFault {
     /// Memory ran out, or a thread couldn't be made.
     OutOfMemory,
-    /// A viewer's place or one of its looks was refused.
+    /// A viewer's seat or one of its looks was refused.
     NoPlace,
     /// A script had not ended when the workers had.
     Unfinished,

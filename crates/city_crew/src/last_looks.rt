@@ -1,22 +1,25 @@
 //! What the viewers of a run saw.
 ghost use Rattle.std.specs.Prelude.{◌≡◌, ◌≤◌, All, IfOk};
+ghost use Rattle.city_model.specs.SerialEnds.{commits_in};
 ghost use Rattle.city_crew.specs.Seen.{AreSeen};
 
 use crate::fault::CrewFault;
 use crate::watcher::Watcher;
+use city_model::end::{End, Outcome};
 use std::alloc::Global;
 
-/// Has each watcher look once more, after so many commits, and returns what each of so many saw.
+/// Has each watcher look once more, after these ends, and returns what each of so many saw.
 ///
 /// It answers `Mixed` if a watcher is missing, or if one saw fewer changes than there were commits.
 pub fn last_looks(
     alloc: Global,
     watchers: Vec<Watcher>,
     count: usize,
-    commits: u64,
+    ends: &[End],
 ) -> Result<Vec<Vec<u64>>, CrewFault>
-    ensures { IfOk result (λ seen. AreSeen count commits seen.items) }
+    ensures { IfOk result (λ seen. AreSeen count (commits_in ends.now) seen.items) }
 {
+    let commits = count_commits(ends);
     let mut seen = Vec::new(alloc);
     for watcher in watchers {
         let (watcher, _) = watcher.look_once();
@@ -40,4 +43,17 @@ pub fn last_looks(
         return Err(CrewFault::Mixed);
     }
     Ok(seen)
+}
+
+/// How many of the ends are commits.
+fn count_commits(ends: &[End]) -> u64
+    ensures { result ≡ commits_in ends.now }
+{
+    let mut commits = 0;
+    for end in ends {
+        if matches!(end.outcome, Outcome::Committed) {
+            commits += 1;
+        }
+    }
+    commits
 }

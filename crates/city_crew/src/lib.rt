@@ -2,9 +2,9 @@
 //!
 //! - `run`: the run; `fault`: why it may have no output; `gate`: where a caller may hold its workers and viewers
 //! - `state`, `work`, `ages`, `threads`: what lies under the lock, what a worker does, who is oldest, the threads
-//! - `watcher`, `last_looks`, `counts`, `commits`: viewers in a run, and what they saw
+//! - `watcher`, `last_looks`: viewers in a run, and what they saw
 //! - `board`, `rule`, `history`: a new board, and what holds of every board
-//! - `poster`, `writer`, `note`, `publish`: what writes versions and tells of them
+//! - `poster`, `writer`, `note`: what writes versions and tells of them
 //! - `viewer`, `look`, `version`: what looks at them
 //! - `writes`, `places`, `apply`: a change written into a version
 //! - `shelf`, `crew_shelf`: the poster as the shelf of a desk
@@ -13,8 +13,6 @@
 mod ages;
 mod apply;
 pub mod board;
-mod commits;
-mod counts;
 mod crew_shelf;
 mod fault;
 mod gate;
@@ -24,7 +22,6 @@ mod look;
 mod note;
 mod places;
 mod poster;
-mod publish;
 mod rule;
 mod run;
 mod shelf;
@@ -37,9 +34,10 @@ mod work;
 mod writer;
 mod writes;
 
+pub use board::MAX_VIEWERS;
 pub use gate::{Gate, OpenGate};
 pub use look::Look;
 pub use note::Note;
 pub use poster::Poster;
-pub use run::run_crew;
+pub use run::{MAX_WORKERS, run_crew};
 pub use viewer::Viewer;

@@ -9,7 +9,7 @@ ghost use Rattle.city_crew.specs.HistoryValue.{history_of};
 
 use crate::history::{Head, History};
 use crate::note::Note;
-use crate::publish::publish;
+use crate::rule::SeesVersion;
 use crate::version::Edit;
 use crate::writer::{OwnWriter, append_all};
 use crate::writes::writes_of;
@@ -123,7 +123,7 @@ impl<R: Wait + Drop> Poster<R> {
             self.writer = Some(OwnWriter { writer, rt });
             return Err(OutOfMemory);
         }
-        let (writer, done) = publish(&rt, writer);
+        let (writer, done) = writer.publish_as::<SeesVersion, R>(&rt);
         self.writer = Some(OwnWriter { writer, rt });
         match done {
             Err(_) => Err(OutOfMemory),

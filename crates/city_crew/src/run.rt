@@ -8,11 +8,11 @@ ghost use Rattle.city_desk.specs.TextRuns.{IsRun};
 ghost use Rattle.city_desk.specs.TextRuns.{IsReadFrom};
 ghost use Rattle.city_crew.specs.inside.CrewRuns.{IsResult};
 ghost use Rattle.city_crew.specs.inside.CrewShelves.{taken_by, base_of};
+ghost use Rattle.city_crew.specs.Limits.{max_workers, max_viewers};
 ghost use Rattle.city_crew.specs.Seen.{AreSeen};
 
 use crate::ages::Ages;
 use crate::board::board;
-use crate::commits::count_commits;
 use crate::crew_shelf::CrewShelf;
 use crate::fault::CrewFault;
 use crate::gate::Gate;
@@ -31,16 +31,20 @@ use std::alloc::Global;
 use std::sync::{Condvar, Mutex, Wait};
 use std::thread::Threads;
 
+/// The most workers of a run. All turns are taken under one lock, so however many there are, one of them
+/// runs a command at a time.
+pub const MAX_WORKERS: usize = 16;
+
 /// Runs the scripts on the document's city with so many workers, while so many viewers look.
 ///
-/// Workers are 1 to 16. The document is judged before the scripts. However the workers' turns
+/// Workers are 1 to `MAX_WORKERS`, viewers 0 to `MAX_VIEWERS`. The document is judged before the scripts. However the workers' turns
 /// interleave, the ends and the bytes are those of the scripts run one at a time, each once, in the
 /// order of the ends. A script that runs out of memory ends as `NoMemory` and changes nothing.
 ///
 /// For each viewer `seen` has the number of changes at its first look, and then each larger number
 /// that it saw; the last look comes after all workers have ended.
 ///
-/// It answers `OutOfMemory` also if a thread couldn't be made, `NoPlace` if a viewer's place or
+/// It answers `OutOfMemory` also if a thread couldn't be made, `NoPlace` if a viewer's seat or
 /// look was refused, `Unfinished` if a script hadn't ended when the workers had, and `Mixed` if
 /// what was gathered then isn't of these texts, or a viewer is missing or saw too little.
 pub fn run_crew<R: Threads + Wait + Sync, G: Gate + Sync>(
@@ -52,16 +56,16 @@ pub fn run_crew<R: Threads + Wait + Sync, G: Gate + Sync>(
     viewers: usize,
     gate: &G,
 ) -> Result<Output, RunFault>
-    requires workers { (1 ≤ workers) × (workers ≤ 16) }
-    requires viewers { viewers ≤ 4 }
+    requires workers { (1 ≤ workers) × (workers ≤ max_workers) }
+    requires viewers { viewers ≤ max_viewers }
     ensures ran { IfOk result (λ o. IsRun document.now scripts.now o.ends o.bytes.items) }
     ensures seen { IfOk result (λ o. AreSeen viewers (commits_in o.ends) o.seen.items) }
     ensures fault { IfErr result (λ f. IsRunFault document.now scripts.now f) }
 {
     let (city, list) = read_texts(alloc, document, scripts)?;
-    let (state, places) = open(rt, alloc, document, scripts, city, list, workers, viewers)?;
+    let (state, seated) = open(rt, alloc, document, scripts, city, list, workers, viewers)?;
     let output = run(
-        rt, alloc, document, scripts, state, places, workers, viewers, gate,
+        rt, alloc, document, scripts, state, seated, workers, viewers, gate,
     )?;
     Ok(output)
 }
@@ -79,14 +83,14 @@ fn open<'r, R: Wait>(
 ) -> Result<(State<&'r R>, Vec<Viewer>), CrewFault>
     requires lawful { IsLawful (object_at city.1) }
     requires read { IsReadFrom document.now scripts.now city list }
-    requires viewers { viewers ≤ 4 }
+    requires viewers { viewers ≤ max_viewers }
 {
     let ages = Ages::new(alloc, workers)?;
     let document = Vec::from_slice(alloc, document)?;
     let scripts = Vec::from_slice(alloc, scripts)?;
-    let (shelf, places) = new_shelf(rt, alloc, &city, viewers)?;
+    let (shelf, seated) = new_shelf(rt, alloc, &city, viewers)?;
     let desk = Desk::open(alloc, city, list, shelf)?;
-    Ok((State::new(document, scripts, desk, ages), places))
+    Ok((State::new(document, scripts, desk, ages), seated))
 }
 
 /// A shelf for changes of the city, and the viewers of its board: without viewers it has none.
@@ -97,7 +101,7 @@ fn new_shelf<'r, R: Wait>(
     viewers: usize,
 ) -> Result<(CrewShelf<&'r R>, Vec<Viewer>), CrewFault>
     requires lawful { IsLawful (object_at city.now.1) }
-    requires viewers { viewers ≤ 4 }
+    requires viewers { viewers ≤ max_viewers }
     ensures empty { IfOk result (λ made. taken_by made.0 ≡ []) }
     ensures based { IfOk result (λ made. IfSome (base_of made.0) (λ base. base ≡ city.now)) }
 {
@@ -105,8 +109,8 @@ fn new_shelf<'r, R: Wait>(
         return Ok((CrewShelf::Unseen(NullShelf::new()), Vec::new(alloc)));
     }
     let copy = city.copy(alloc)?;
-    let (poster, places) = board(rt, alloc, copy, viewers)?;
-    Ok((CrewShelf::Posted(poster), places))
+    let (poster, seated) = board(rt, alloc, copy, viewers)?;
+    Ok((CrewShelf::Posted(poster), seated))
 }
 
 /// Runs the workers and the viewers to their ends, and gathers what they leave.
@@ -116,7 +120,7 @@ fn run<R: Threads + Wait + Sync, G: Gate + Sync>(
     document: &[u8],
     scripts: &[u8],
     state: State<&R>,
-    places: Vec<Viewer>,
+    seated: Vec<Viewer>,
     workers: usize,
     viewers: usize,
     gate: &G,
@@ -124,7 +128,7 @@ fn run<R: Threads + Wait + Sync, G: Gate + Sync>(
     ensures ran { IfOk result (λ o. IsRun document.now scripts.now o.ends o.bytes.items) }
     ensures seen { IfOk result (λ o. AreSeen viewers (commits_in o.ends) o.seen.items) }
 {
-    let watchers = watchers_of(alloc, places)?;
+    let watchers = watchers_of(alloc, seated)?;
     let shared = Shared {
         turns: Mutex::new(state),
         moved: Condvar::new(),
@@ -157,8 +161,7 @@ fn gather<S: Shelf, Q: Wait>(
         mut shelf,
     } = finished;
     shelf.show(rt)?;
-    let commits = count_commits(ends.as_slice());
-    let seen = last_looks(alloc, watchers, viewers, commits)?;
+    let seen = last_looks(alloc, watchers, viewers, ends.as_slice())?;
     let bytes = output_bytes(alloc, &city, ends.as_slice(), room)?;
     Ok(Output { ends, bytes, seen })
 }

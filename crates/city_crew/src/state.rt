@@ -4,12 +4,11 @@ ghost use Rattle.city_desk.specs.TextRuns.{IsReadFrom};
 ghost use Rattle.city_crew.specs.inside.CrewRuns.{IsResult};
 
 use crate::ages::Ages;
-use crate::commits::is_commit;
 use crate::crew_shelf::CrewShelf;
 use crate::fault::CrewFault;
 use crate::work::Turns;
 use city_desk::{Desk, Finished, Turn};
-use city_model::end::End;
+use city_model::end::{End, Outcome};
 use std::marker::Model;
 use std::sync::Wait;
 
@@ -125,7 +124,7 @@ impl<R: Wait + Drop> Turns for State<R> {
 /// Whether there is an end, and it is a commit's.
 fn was_committed(last: Option<&End>) -> bool {
     match last {
-        Some(end) => is_commit(&end.outcome),
+        Some(end) => matches!(end.outcome, Outcome::Committed),
         None => false,
     }
 }

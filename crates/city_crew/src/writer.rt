@@ -1,10 +1,14 @@
 //! A board's writer, as its poster keeps it.
 ghost use Rattle.std.specs.Prelude.{◌≡◌, ◌++◌, [], drop, IsTrue};
 
-use crate::publish::BoardWriter;
-use crate::version::Edit;
+use crate::rule::{BoardRule, Known};
+use crate::version::{Edit, Version};
+use left_right::writer::Writer;
 use std::collections::VecDeque;
 use std::sync::Wait;
+
+/// What writes both versions of a board.
+pub type BoardWriter = Writer<Version, Edit, Known, BoardRule>;
 
 /// A writer, and the runtime that ends it: its drop waits until each look has been left.
 pub struct OwnWriter<R: Wait + Drop> {

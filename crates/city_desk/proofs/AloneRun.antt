@@ -1,7 +1,8 @@
 -- A script that is run to its end while nothing else is open.
-use Rattle.std.proofs.Common.{◌≡◌, ◌≢◌, ◌<◌, ◌+◌, ◌-◌, ◌==◌, ◌||◌, ℕ, false, List, [], ◌∷◌, ◌++◌, length, Some, None, refl, ap, sym, subst, ◌∙◌, inl, inr, arith, length-append}
+use Rattle.std.proofs.Common.{◌≡◌, ◌≢◌, ◌<◌, ◌+◌, ◌-◌, ◌==◌, ◌||◌, ℕ, true, false, List, [], ◌∷◌, ◌++◌, length, Some}
+use Rattle.std.proofs.Common.{None, refl, ap, sym, subst, ◌∙◌, inl, inr, arith, length-append}
 use Rattle.std.specs.Prelude.{slice_index_or, slice_set}
-use Rattle.std.proofs.lemmas.Bool.{false≢true, cases_eq, eq-eqb}
+use Rattle.std.proofs.lemmas.Bool.{false≢true, cases_eq, eq-eqb, or_right}
 use Rattle.std.proofs.lemmas.List.{get_or-set_same, get_or-set_other}
 use Rattle.std.proofs.lemmas.Option.{slice_get_within}
 use Rattle.city_model.specs.declared.command.Reply.{Reply}
@@ -18,7 +19,6 @@ use Rattle.city_desk.specs.InTurn.{AreInTurn}
 use Rattle.city_desk.specs.inside.RunInTurn.{HasRun, HaveRun}
 use Rattle.city_model.proofs.Fitting.{has_end_more}
 use Rattle.city_desk.proofs.ScriptReads.{command_as}
-use Rattle.city_desk.proofs.SerialKept.{or_true}
 use Rattle.city_desk.proofs.Youngest.{open_within}
 
 -- how far the script is that began after so many ends
@@ -186,7 +186,8 @@ one_more_run start d e n there h r =
       in_turn = subst (AreInTurn 0) (sym r.ends) (in_turn_more 0 d.ends r.last h.in_turn number since);
       so_many = omega arith;
       ended = λ k lt. ap (has_end k) r.ends ∙ (has_end_more k d.ends r.last ∙ elim (cases_eq k n) [
-        | inl same ↦ ap (λ b. has_end k d.ends || b) (eq-eqb r.last.script k (r.script ∙ sym same)) ∙ or_true (has_end k d.ends)
+        | inl same ↦ ap (λ b. has_end k d.ends || b) (eq-eqb r.last.script k (r.script ∙ sym same))
+            ∙ or_right (has_end k d.ends) true refl
         | inr ne ↦ ap (λ b. b || (r.last.script == k)) (h.ended k (omega (arith, ne)))
       ]);
       left = λ k le lt. r.beside k (λ same. absurd (omega (arith, same))) ∙ h.left k (omega arith) (subst (λ ss. k < length ss) r.keeps.scripts lt);

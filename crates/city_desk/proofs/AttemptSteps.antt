@@ -1,5 +1,6 @@
 -- What a call of the core says of an attempt's step.
-use Rattle.std.proofs.Common.{◌≡◌, ℕ, true, false, List, [], ◌∷◌, ◌++◌, length, Option, Some, None, Result, Ok, Err, refl, ap, sym, subst, ◌∙◌}
+use Rattle.std.proofs.Common.{◌≡◌, ℕ, true, false, List, [], ◌∷◌, ◌++◌, length, Option, Result, Ok, refl, ap, sym}
+use Rattle.std.proofs.Common.{subst, ◌∙◌}
 use Rattle.std.specs.Prelude.{IfSome}
 use Rattle.std.proofs.lemmas.Bool.{false≢true}
 use Rattle.city_model.specs.declared.command.Command.{Command}
@@ -23,6 +24,7 @@ use Rattle.city_txn.specs.CoreState.{CoreState, committed, snapshot, is_open, St
 use Rattle.city_txn.specs.Acting.{IsAct, answer_in, step_of, EndsIn}
 use Rattle.city_txn.specs.Changing.{IsChangeOf}
 use Rattle.city_txn.specs.Locking.{IsBlocked}
+use Rattle.city_desk.specs.declared.attempt.Stepped.{Stepped}
 use Rattle.city_desk.specs.declared.progress.Progress.{Progress}
 use Rattle.city_desk.specs.declared.progress.Phase.TheVariants.{Idle}
 use Rattle.city_desk.specs.declared.turn.Turn.TheVariants as turns
@@ -61,7 +63,7 @@ by_die Die reply e = refl
 
 module _ (stamp : ℕ) (command : Command) (p q : Progress) (v w : CoreState) (goes_on : is_end command ≡ false) (changes : List Change) where
   pub replied : (reply : Reply) → IsAct stamp command (Ok (steps.Done reply)) v w → is_open v stamp ≡ true → is_refusal reply ≡ false → q ≡ progress_to p.phase (p.replies.list ++ reply ∷ []) p.replies.room
-      → HasStepped stamp command (Ok turns.Replied) p q v w changes changes
+      → HasStepped stamp command (Stepped.GoesOn turns.Replied) p q v w changes changes
   replied reply k opened unrefused heard =
       let by = by_done (answer_in v stamp command) k.reply reply k.step in
       record {
@@ -81,7 +83,8 @@ module _ (stamp : ℕ) (command : Command) (p q : Progress) (v w : CoreState) (g
         changes = refl;
       }
 
-  pub waits : IsAct stamp command (Ok steps.Wait) v w → is_open v stamp ≡ true → q ≡ p → HasStepped stamp command (Ok turns.Waits) p q v w changes changes
+  pub waits : IsAct stamp command (Ok steps.Wait) v w → is_open v stamp ≡ true → q ≡ p
+      → HasStepped stamp command (Stepped.GoesOn turns.Waits) p q v w changes changes
   waits k opened same =
       let by = by_wait (answer_in v stamp command) k.reply k.step in
       record {
@@ -101,7 +104,8 @@ module _ (stamp : ℕ) (command : Command) (p q : Progress) (v w : CoreState) (g
   -- ---- and the transaction is rolled back
 
   module _ (x : CoreState) (undone : IsRolledBack stamp w x) where
-    pub dies : IsAct stamp command (Ok steps.Die) v w → q ≡ progress_to (Idle stamp) [] p.replies.room → HasStepped stamp command (Ok turns.Died) p q v x changes changes
+    pub dies : IsAct stamp command (Ok steps.Die) v w → q ≡ progress_to (Idle stamp) [] p.replies.room
+        → HasStepped stamp command (Stepped.GoesOn turns.Died) p q v x changes changes
     dies k idle =
         let by = by_die (answer_in v stamp command) k.reply k.step in
         record {
@@ -118,7 +122,7 @@ module _ (stamp : ℕ) (command : Command) (p q : Progress) (v w : CoreState) (g
         }
 
     pub refused : (number : ℕ) (reply : Reply) (cause : Cause) → IsAct stamp command (Ok (steps.Done reply)) v w → reply ≡ replies.Refused cause → number ≡ length p.replies.list → q ≡ p
-        → HasStepped stamp command (Err (Outcome.Refused number cause)) p q v x changes changes
+        → HasStepped stamp command (Stepped.Ends (Outcome.Refused number cause)) p q v x changes changes
     refused number reply cause k is count same =
         let by = by_done (answer_in v stamp command) k.reply reply k.step in (
           same,
@@ -131,7 +135,9 @@ module _ (stamp : ℕ) (command : Command) (p q : Progress) (v w : CoreState) (g
           },
         )
 
-    pub unheard : (number : ℕ) (result : Result Step TxnFault) → IsAct stamp command result v w → number ≡ length p.replies.list → q ≡ p → HasStepped stamp command (Err (Outcome.NoMemory number)) p q v x changes changes
+    pub unheard : (number : ℕ) (result : Result Step TxnFault) → IsAct stamp command result v w
+        → number ≡ length p.replies.list → q ≡ p → HasStepped stamp command (Stepped.Ends (Outcome.NoMemory number)) p q
+        v x changes changes
     unheard number result k count same = (
       same,
       record {

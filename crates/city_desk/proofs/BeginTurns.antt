@@ -1,7 +1,8 @@
 -- A script that is begun, and one that couldn't be.
-use Rattle.std.proofs.Common.{◌≡◌, ◌<◌, ◌≤◌, ◌+◌, ℕ, Bool, true, false, List, [], ◌∷◌, ◌++◌, length, Option, Some, None, refl, ap, sym, subst, ◌∙◌, arith, length-append, append-nil}
+use Rattle.std.proofs.Common.{◌≡◌, ◌<◌, ◌≤◌, ◌+◌, ℕ, true, false, List, [], ◌∷◌, ◌++◌, length, Option, Some, None, refl}
+use Rattle.std.proofs.Common.{ap, sym, subst, ◌∙◌, arith, length-append, append-nil}
 use Rattle.std.specs.Prelude.{slice_set, slice_get, slice_index_or}
-use Rattle.std.proofs.lemmas.Bool.{false≢true}
+use Rattle.std.proofs.lemmas.Bool.{false≢true, false_from_ne_true}
 use Rattle.std.proofs.lemmas.Option.{slice_get-get_or}
 use Rattle.city_model.specs.declared.command.Command.{Command}
 use Rattle.city_model.specs.declared.command.Reply.{Reply}
@@ -22,9 +23,10 @@ use Rattle.city_desk.specs.inside.Room.{is_not_begun, HasRoom}
 use Rattle.city_desk.specs.Serial.{IsAttempt, StandsAs, AreStanding, IsSerial}
 use Rattle.city_desk.specs.Turning.{stamp_for, begun_after, IsDue, end_of}
 use Rattle.city_desk.proofs.AttemptsKept.{IsTurnOf}
-use Rattle.city_desk.proofs.OpenTurns.{LeavesDesk, counted, some_there, left_of}
-use Rattle.city_desk.proofs.ScriptReads.{own_end, once_of, progress_at, name_there, end_as}
-use Rattle.city_desk.proofs.RoomKept.{one_if, place_left, room_now, room_ended}
+use Rattle.city_desk.proofs.AtScript.{LeavesDesk, counted, has_commands, left_of, progress_there, ends_once_there}
+use Rattle.city_desk.proofs.AtScript.{place_for_its_end, there_in_equal}
+use Rattle.city_desk.proofs.ScriptReads.{own_end, progress_at, name_there, end_as}
+use Rattle.city_desk.proofs.RoomKept.{one_if, room_now, room_ended}
 use Rattle.city_desk.proofs.SerialKept.{now_at, ended_at, kept_serial, ended_serial}
 use Rattle.city_desk.proofs.Shelved.{changes_kept}
 
@@ -42,9 +44,10 @@ none_some s e = cc
 some_eq : (s t : ℕ) → Some s ≡ Some t → s ≡ t
 some_eq s t e = cc
 
-no_room : (m : CityMap) (all : List Command) → ends_once all ≡ true → IsScriptResult m all [] (Outcome.NoMemory 0)
-no_room m [] h = absurd (false≢true h)
-no_room m (c ∷ cs) h = refl
+no_memory_result : (m : CityMap) (all : List Command) → ends_once all ≡ true
+    → IsScriptResult m all [] (Outcome.NoMemory 0)
+no_memory_result m [] h = absurd (false≢true h)
+no_memory_result m (c ∷ cs) h = refl
 
 -- the stamp is the script's alone, and no transaction of it is open
 record IsFresh (d : DeskState) (n stamp : ℕ) : Type 0 where
@@ -99,10 +102,6 @@ begun_room d n stamp begun (Idle t) its is = omega (arith, is)
 begun_room d n stamp begun (Open t since) its is = omega (arith, is)
 begun_room d n stamp begun Ended its is = omega (arith, is)
 
-false_by : (b : Bool) → (b ≡ true → ⊥) → b ≡ false
-false_by true h = absurd (h refl)
-false_by false h = refl
-
 -- a script that ran out of memory leaves all as it was
 leaves_all : (m : CityMap) (s : Option Scripted) (i : ℕ) → left_by_found m s (Outcome.NoMemory i) ≡ m
 leaves_all m None i = refl
@@ -113,30 +112,19 @@ module _ (d : DeskState) (changes : List Change) (base : Option CityValue) (n st
   is_fresh : IsFresh d n stamp
   is_fresh = fresh d n stamp (phase_of d n) s.standing refl its
 
-  within : n < length d.progress
-  within = subst (λ k. n < k) (sym s.of_each) there
-
   abbrev script : Scripted
   script = slice_index_or d.scripts n ([], [])
 
   script_is : slice_get d.scripts n ≡ Some script
   script_is = slice_get-get_or d.scripts n ([], []) there
 
-  once : ends_once (commands_at d.scripts n) ≡ true
-  once = once_of d.scripts n s.scripted there
-
-  -- there is a place for its end
-  place_unbegun : (names : List (List ℕ)) (capacity : ℕ) → HasRoom d names capacity → length d.ends < capacity
-  place_unbegun names capacity r =
-      let few = place_left d names capacity n r s.of_each within is_fresh.unended in
-      let places = r.places in
-      omega arith
-
   reads : (p : Progress) → p ≡ slice_index_or d.progress n p → p.replies.list ≡ []
-  reads p read = sym (ap (λ (q : Progress). q.replies.list) (progress_at d.progress n p within read)) ∙ is_fresh.unheard
+  reads p read = sym (ap (λ (q : Progress). q.replies.list) (progress_at d.progress n p (progress_there s there) read))
+      ∙ is_fresh.unheard
 
   room_read : (p : Progress) → p ≡ slice_index_or d.progress n p → p.replies.room ≡ room_of d n
-  room_read p read = sym (ap (λ (q : Progress). q.replies.room) (progress_at d.progress n p within read))
+  room_read p read = sym (ap (λ (q : Progress). q.replies.room)
+      (progress_at d.progress n p (progress_there s there) read))
 
   begins : (p : Progress) (since begun : ℕ) (core : CoreState) (names : List (List ℕ)) (capacity : ℕ) → p ≡ slice_index_or d.progress n p → since ≡ length d.ends → begun ≡ begun_after d.begun (phase_of d n)
       → KeepsOthers stamp d.core core → core.city ≡ d.core.city → is_open core stamp ≡ true → StandsUnderLocks core stamp [] → HasRoom d names capacity
@@ -158,13 +146,13 @@ module _ (d : DeskState) (changes : List Change) (base : Option CityValue) (n st
         opened = opened;
         begun = omega arith;
         since = omega arith;
-        unfinished = some_there script.1
-            (subst (λ (cs : List Command). ends_once cs ≡ true) (ap commands_of script_is) once);
+        unfinished = has_commands script.1 (subst (λ (cs : List Command). ends_once cs ≡ true)
+            (ap commands_of script_is) (ends_once_there s there));
         unrefused = refl;
         stands = stands;
       } in
       let turn : IsTurnOf d e n stamp begun_now = record {
-        there = within;
+        there = progress_there s there;
         scripts = refl;
         progress = moves;
         begun = omega arith;
@@ -180,7 +168,8 @@ module _ (d : DeskState) (changes : List Change) (base : Option CityValue) (n st
       let serial : IsSerial e changes base = kept_serial d changes base progress begun core n stamp begun_now s keeps.frame city turn (sym is_fresh.unended) in
       record {
         serial = serial;
-        room_left = room_now d names capacity progress begun core n begun_now r within moves refl (sym is_fresh.unended) (begun_room d n stamp begun (phase_of d n) its more);
+        room_left = room_now d names capacity progress begun core n begun_now r (progress_there s there) moves refl
+            (sym is_fresh.unended) (begun_room d n stamp begun (phase_of d n) its more);
         turned = record {
           keeps = record { start = refl; scripts = refl; taken = refl };
           so = record { stamp = stamp; is_its = its; moves = moves; begun = more; ends = refl };
@@ -197,7 +186,8 @@ module _ (d : DeskState) (changes : List Change) (base : Option CityValue) (n st
   fits_unbegun : IsEndOf d.scripts (model_after d.scripts (object_at d.start.1) d.ends) (length d.ends) (own_end d n (length d.ends) (Outcome.NoMemory 0))
   fits_unbegun =
       let m : CityMap = model_after d.scripts (object_at d.start.1) d.ends in
-      let nothing : IsScriptResult m (commands_at d.scripts n) [] (Outcome.NoMemory 0) = no_room m (commands_at d.scripts n) once in
+      let nothing : IsScriptResult m (commands_at d.scripts n) [] (Outcome.NoMemory 0) =
+      no_memory_result m (commands_at d.scripts n) (ends_once_there s there) in
       let heard : IsScriptResult m (commands_at d.scripts n) (replies_of d n) (Outcome.NoMemory 0) = subst (λ (rs : List Reply). IsScriptResult m (commands_at d.scripts n) rs (Outcome.NoMemory 0)) (sym is_fresh.unheard) nothing in
       record {
         script = script;
@@ -216,14 +206,14 @@ module _ (d : DeskState) (changes : List Change) (base : Option CityValue) (n st
       let unmoved : left_by d.scripts (model_after d.scripts (object_at d.start.1) d.ends) last ≡ model_after d.scripts (object_at d.start.1) d.ends =
       leaves_all (model_after d.scripts (object_at d.start.1) d.ends) (slice_get d.scripts n) 0 in
       let turn : IsTurnOf d e n stamp ended_progress = record {
-        there = within;
+        there = progress_there s there;
         scripts = refl;
         progress = moves;
         begun = omega arith;
         ends = omega (arith, long);
         others = λ t done ne h. h;
         opened = λ t ne. refl;
-        own = false_by (is_open d.core stamp) is_fresh.closed;
+        own = false_from_ne_true (is_open d.core stamp) is_fresh.closed;
         was = is_fresh.was;
         becomes = λ j h. absurd (cc);
         alone = is_fresh.alone;
@@ -233,7 +223,8 @@ module _ (d : DeskState) (changes : List Change) (base : Option CityValue) (n st
       (changes_kept d.scripts (object_at d.start.1) d.ends changes s.shelf last refl (model_more d.scripts d.ends last (object_at d.start.1) ∙ unmoved)) in
       record {
         serial = serial;
-        room_left = room_ended d names left capacity room ends progress d.core n last name r within moves more is_fresh.unended taken same;
+        room_left = room_ended d names left capacity room ends progress d.core n last name r (progress_there s there)
+            moves more is_fresh.unended taken same;
         turned = record {
           keeps = record { start = refl; scripts = refl; taken = refl };
           so = record {
@@ -273,10 +264,10 @@ module _ {d seen : DeskState} {changes listing : List Change} {base : Option Cit
   its_here = subst (λ (x : DeskState). stamp_for x (phase_of x n) ≡ Some stamp) (sym run) its
 
   there_here : n < length d.scripts
-  there_here = subst (λ (x : DeskState). n < length x.scripts) (sym run) there
+  there_here = there_in_equal run there
 
   pub place_for_end : length d.ends < capacity
-  place_for_end = place_unbegun d changes base n stamp s its_here there_here names capacity r
+  place_for_end = place_for_its_end s there_here (is_fresh d changes base n stamp s its_here there_here).unended r
 
   module _ {p : Progress} {since : ℕ} {core : CoreState} (read : p ≡ slice_index_or d.progress n p) (now : since ≡ length d.ends) where
     pub turn_begins : {begun : ℕ} → begun ≡ begun_after seen.begun (phase_of seen n) → KeepsOthers stamp d.core core → core.city ≡ d.core.city → is_open core stamp ≡ true → StandsUnderLocks core stamp []

@@ -1,4 +1,5 @@
 pub mod AloneRun
+pub mod AtScript
 pub mod AttemptSteps
 pub mod AttemptsKept
 pub mod BeginTurns

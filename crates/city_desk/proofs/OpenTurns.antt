@@ -1,8 +1,10 @@
 -- What a turn of a script with an open transaction leaves.
-use Rattle.std.proofs.Common.{◌≡◌, ◌<◌, ◌≤◌, ◌+◌, ◌||◌, ℕ, suc, zero, Bool, true, false, List, [], ◌∷◌, ◌++◌, length, Option, Some, Ok, Err, refl, ap, sym, subst, ◌∙◌, arith, length-append, append-nil}
+use Rattle.std.proofs.Common.{◌≡◌, ◌<◌, ◌≤◌, ◌+◌, ◌||◌, ℕ, suc, zero, Bool, true, false, List, [], ◌∷◌, ◌++◌, length}
+use Rattle.std.proofs.Common.{Option, Some, refl, ap, sym, subst, ◌∙◌, arith, length-append, append-nil}
 use Rattle.std.specs.Prelude.{slice_set, slice_get, slice_index_or, IfSome}
 use Rattle.std.specs.List.{list_any}
-use Rattle.std.proofs.lemmas.Bool.{false≢true}
+use Rattle.std.proofs.lemmas.Bool.{false≢true, or_from}
+use Rattle.std.proofs.lemmas.List.Folds.{list_any-append}
 use Rattle.std.proofs.lemmas.List.{set-get_or}
 use Rattle.std.proofs.lemmas.Option.{slice_get-get_or}
 use Rattle.city_model.specs.declared.command.Command.{Command}
@@ -23,6 +25,7 @@ use Rattle.city_model.proofs.Fitting.{model_more}
 use Rattle.city_model.proofs.Replied.{goes_on, ends_later, answered_more, result_from, committed_from}
 use Rattle.city_txn.specs.CoreState as txn
 use Rattle.city_txn.specs.CoreState.{CoreState, committed, view, is_open, held, StandsUnderLocks, KeepsOthers}
+use Rattle.city_desk.specs.declared.attempt.Stepped.{Stepped}
 use Rattle.city_desk.specs.declared.progress.Progress.{Progress}
 use Rattle.city_desk.specs.declared.progress.Phase.{Phase}
 use Rattle.city_desk.specs.declared.progress.Phase.TheVariants.{Idle, Open}
@@ -33,53 +36,33 @@ use Rattle.city_desk.specs.DeskState.{DeskState, progress_to, ended_progress, ph
 use Rattle.city_desk.specs.inside.ScriptParts.{commands_of, commands_at, name_at, name_in}
 use Rattle.city_desk.specs.inside.Room.{is_not_begun, HasRoom}
 use Rattle.city_desk.specs.Serial.{IsAttempt, StandsAs, AreChangesOf, IsSerial}
-use Rattle.city_desk.specs.Turning.{IsNext, IsOpenAt, IsDue, end_of, IsTurn, IsTurnAs, GainsCommits}
+use Rattle.city_desk.specs.Turning.{IsNext, IsOpenAt, IsDue, end_of, IsTurnAs}
 use Rattle.city_desk.proofs.AttemptsKept.{IsTurnOf}
-use Rattle.city_desk.proofs.ScriptReads.{command_as, own_end, once_of, commands_read, progress_at, next_at, name_there, end_as}
-use Rattle.city_desk.proofs.RoomKept.{one_if, place_left, room_now, room_ended}
+use Rattle.city_desk.proofs.AtScript.{LeavesDesk, counted, has_commands, left_of, progress_there, ends_once_there}
+use Rattle.city_desk.proofs.AtScript.{place_for_its_end, there_in_equal}
+use Rattle.city_desk.proofs.ScriptReads.{command_as, own_end, commands_read, progress_at, next_at, name_there, end_as}
+use Rattle.city_desk.proofs.RoomKept.{one_if, room_now, room_ended}
 use Rattle.city_desk.proofs.SerialKept.{now_at, ended_at, kept_serial, ended_serial}
 use Rattle.city_desk.proofs.Shelved.{shows_all, changes_kept, changes_more, if_some_to}
 
--- ---- all that a turn leaves of a desk
-
-pub record LeavesDesk (n : ℕ) (turn : Turn) (d e : DeskState) (names : List (List ℕ)) (room : ℕ) (before after : List Change) (base : Option CityValue) : Type 0 where
-  pub serial : IsSerial e after base
-  pub room_left : HasRoom e names room
-  pub turned : IsTurn n turn d e
-  pub changes : GainsCommits d.ends e.ends before after
-
--- where both histories are serial the commits count the changes that were gained
-pub counted : (d e : DeskState) (before after gained : List Change) (base : Option CityValue) → IsSerial d before base → IsSerial e after base → after ≡ before ++ gained → GainsCommits d.ends e.ends before after
-counted d e before after gained base s t more =
-    let old = s.shelf.one_each in
-    let new = t.shelf.one_each in
-    let long : length after ≡ length before + length gained = ap length more ∙ length-append before gained in
-    (gained, more, omega arith)
-
 -- ---- lists
-
-pub some_there : (cs : List Command) → ends_once cs ≡ true → 0 < length cs
-some_there [] e = absurd (false≢true e)
-some_there (c ∷ cs) e = omega arith
 
 -- a command that goes on has another after it
 not_last : (cs : List Command) (k : ℕ) (c : Command) → ends_once cs ≡ true → slice_get cs k ≡ Some c → is_end c ≡ false → k + 1 < length cs
 not_last [] k c e h g = absurd (cc)
 not_last (d ∷ cs) zero c e h g =
     let same : d ≡ c = cc in
-    let more = some_there cs (ends_later d cs e (ap is_end same ∙ g)) in
+    let more = has_commands cs (ends_later d cs e (ap is_end same ∙ g)) in
     omega arith
 not_last (d ∷ cs) (suc k) c e h g =
     let more = not_last cs k c (ends_later d cs e (goes_on d cs k c e h)) h g in
     omega arith
 
-parts : (a b c : Bool) → (a || b) ≡ false → (b ≡ false → c ≡ false) → (a || c) ≡ false
-parts true b c h f = h
-parts false b c h f = f h
-
-any_more : (rs : List Reply) (r : Reply) → list_any is_refusal rs ≡ false → is_refusal r ≡ false → list_any is_refusal (rs ++ r ∷ []) ≡ false
-any_more [] r h u = ap (λ b. b || false) u
-any_more (s ∷ rs) r h u = parts (is_refusal s) (list_any is_refusal rs) (list_any is_refusal (rs ++ r ∷ [])) h (λ g. any_more rs r g u)
+unrefused_more : (rs : List Reply) (r : Reply) → list_any is_refusal rs ≡ false → is_refusal r ≡ false
+    → list_any is_refusal (rs ++ r ∷ []) ≡ false
+unrefused_more rs r none unrefused =
+    list_any-append is_refusal rs (r ∷ [])
+    ∙ or_from (list_any is_refusal rs) (list_any is_refusal (r ∷ [])) none (ap (λ b. b || false) unrefused)
 
 -- ---- outcomes
 
@@ -133,26 +116,14 @@ module _ (d : DeskState) (changes : List Change) (base : Option CityValue) (n st
       subst (λ (cs : List Command). StandsUnderLocks d.core stamp (answered cs (replies_of d n))) (sym commands_are)
       attempt.stands
 
-  within : n < length d.progress
-  within = subst (λ k. n < k) (sym s.of_each) there
-
-  once : ends_once (commands_at d.scripts n) ≡ true
-  once = once_of d.scripts n s.scripted there
-
-  going : is_ended (phase_of d n) ≡ false
-  going = ap is_ended is
-
-  -- while it is open there is a place for its end
-  place_open : (names : List (List ℕ)) (capacity : ℕ) → HasRoom d names capacity → length d.ends < capacity
-  place_open names capacity r =
-      let few = place_left d names capacity n r s.of_each within going in
-      let places = r.places in
-      omega arith
+  is_unended : is_ended (phase_of d n) ≡ false
+  is_unended = ap is_ended is
 
   pub unfinished_at : (x : Scripted) (cs : List Command) (p : Progress) → x ≡ slice_index_or d.scripts n x → cs ≡ x.1 → p ≡ slice_index_or d.progress n p → length p.replies.list < length cs
   unfinished_at x cs p script list read =
       let all : commands_at d.scripts n ≡ cs = commands_read d.scripts n x there script ∙ sym list in
-      let heard : length (replies_of d n) ≡ length p.replies.list = ap (λ (q : Progress). length q.replies.list) (progress_at d.progress n p within read) in
+      let heard : length (replies_of d n) ≡ length p.replies.list =
+      ap (λ (q : Progress). length q.replies.list) (progress_at d.progress n p (progress_there s there) read) in
       let less = unfinished in
       let long : length (commands_at d.scripts n) ≡ length cs = ap length all in
       omega arith
@@ -160,10 +131,10 @@ module _ (d : DeskState) (changes : List Change) (base : Option CityValue) (n st
   -- there is room for the reply to its next command
   pub reply_place : (p : Progress) (names : List (List ℕ)) (capacity : ℕ) → p ≡ slice_index_or d.progress n p → HasRoom d names capacity → length p.replies.list < p.replies.room
   reply_place p names capacity read r =
-      let same = progress_at d.progress n p within read in
+      let same = progress_at d.progress n p (progress_there s there) read in
       let heard : length (replies_of d n) ≡ length p.replies.list = ap (λ (q : Progress). length q.replies.list) same in
       let room : room_of d n ≡ p.replies.room = ap (λ (q : Progress). q.replies.room) same in
-      let wanted = r.replies n there going in
+      let wanted = r.replies n there is_unended in
       let less = unfinished in
       omega arith
 
@@ -172,7 +143,7 @@ module _ (d : DeskState) (changes : List Change) (base : Option CityValue) (n st
       → KeepsOthers stamp d.core e.core → is_open e.core stamp ≡ is_open_phase q.phase → ((t : ℕ) → stamp_of q.phase ≡ Some t → t ≡ stamp)
       → StandsAs e n q.phase q.replies.list → IsTurnOf d e n stamp q
   turn_of e q scripts progress begun ends k own becomes stands = record {
-    there = within;
+    there = progress_there s there;
     scripts = scripts;
     progress = progress;
     begun = begun;
@@ -204,11 +175,12 @@ module _ (d : DeskState) (changes : List Change) (base : Option CityValue) (n st
     leaves turn progress q names capacity moves kept k city same own becomes stands on begun r so =
         let made = turn_of (now progress) q refl moves (omega arith) (omega arith) k own becomes stands in
         let serial : IsSerial (now progress) after base = subst (λ cs. IsSerial (now progress) cs base) (sym same)
-        (kept_serial d changes base progress d.begun core n stamp q s k.frame city made (on ∙ sym going)) in
+        (kept_serial d changes base progress d.begun core n stamp q s k.frame city made (on ∙ sym is_unended)) in
         let none : one_if (is_not_begun q.phase) ≡ 0 = ap one_if begun in
         record {
           serial = serial;
-          room_left = room_now d names capacity progress d.begun core n q r within moves kept (on ∙ sym going) (omega arith);
+          room_left = room_now d names capacity progress d.begun core n q r (progress_there s there) moves kept
+              (on ∙ sym is_unended) (omega arith);
           turned = record { keeps = record { start = refl; scripts = refl; taken = refl }; so = so };
           changes = counted d (now progress) changes after [] base s serial (same ∙ sym (append-nil changes));
         }
@@ -220,7 +192,8 @@ module _ (d : DeskState) (changes : List Change) (base : Option CityValue) (n st
         → IsAttempt (now progress) n stamp since (heard h.reply).replies.list
     replied_stands p q progress h =
         let more : length (heard h.reply).replies.list ≡ length (replies_of d n) + 1 = length-append (replies_of d n) (h.reply ∷ []) in
-        let last = not_last (commands_at d.scripts n) (length (replies_of d n)) command once next h.goes_on in
+        let last = not_last (commands_at d.scripts n) (length (replies_of d n)) command (ends_once_there s there) next
+        h.goes_on in
         let long : length (commands_at d.scripts n) ≡ length attempt.script.1 = ap length commands_are in
         record {
           script = attempt.script;
@@ -229,7 +202,7 @@ module _ (d : DeskState) (changes : List Change) (base : Option CityValue) (n st
           begun = attempt.begun;
           since = attempt.since;
           unfinished = omega arith;
-          unrefused = any_more (replies_of d n) h.reply attempt.unrefused h.unrefused;
+          unrefused = unrefused_more (replies_of d n) h.reply attempt.unrefused h.unrefused;
           stands =
               subst (λ (cs : List Command). StandsUnderLocks core stamp (answered cs (replies_of d n ++ h.reply ∷ [])))
               commands_are
@@ -376,11 +349,14 @@ module _ (d : DeskState) (changes : List Change) (base : Option CityValue) (n st
         let long : length ends ≡ length d.ends + 1 = ap length more ∙ length-append d.ends (own_end d n since outcome ∷ []) in
         let turn = turn_of e ended_progress refl moves (omega arith) (omega (arith, long)) h.keeps h.closed (λ j k. absurd (cc)) refl in
         let both = published outcome (is_commit outcome) refl h.ends h.publishes in
-        let serial : IsSerial e after base = ended_serial d changes after base ends progress core n stamp (own_end d n since outcome) s h.keeps.frame turn more refl there going (fits_here outcome h.ends) both.0 both.1 in
+        let serial : IsSerial e after base = ended_serial d changes after base ends progress core n stamp
+        (own_end d n since outcome) s h.keeps.frame turn more refl there is_unended (fits_here outcome h.ends) both.0
+        both.1 in
         let gained = gained_by (is_commit outcome) stamp d.core core changes after h.publishes in
         record {
           serial = serial;
-          room_left = room_ended d names left capacity room ends progress core n (own_end d n since outcome) name r within moves more going taken same;
+          room_left = room_ended d names left capacity room ends progress core n (own_end d n since outcome) name r
+              (progress_there s there) moves more is_unended taken same;
           turned = record {
             keeps = record { start = refl; scripts = refl; taken = refl };
             so = record {
@@ -404,7 +380,7 @@ module _ (d : DeskState) (changes : List Change) (base : Option CityValue) (n st
   module _ (p : Progress) (x : Scripted) (cs : List Command) (number : ℕ) (command : Command) (read : p ≡ slice_index_or d.progress n p) (script : x ≡ slice_index_or d.scripts n x) (list : cs ≡ x.1)
       (count : number ≡ length p.replies.list) (at_number : command ≡ slice_index_or cs number command) where
     reads : slice_index_or d.progress n ended_progress ≡ p
-    reads = progress_at d.progress n p within read
+    reads = progress_at d.progress n p (progress_there s there) read
 
     heard_so_far : replies_of d n ≡ p.replies.list
     heard_so_far = ap (λ (q : Progress). q.replies.list) reads
@@ -416,15 +392,19 @@ module _ (d : DeskState) (changes : List Change) (base : Option CityValue) (n st
         let less = unfinished_at x cs p script list read in
         next_at d.scripts n x cs (length (replies_of d n)) command there script list (omega arith) here
 
-    goes_on_from : (turn : Turn) (q : Progress) (core : CoreState) (after : List Change) (names : List (List ℕ)) (capacity : ℕ) → HasStepped stamp command (Ok turn) p q d.core core changes after
+    goes_on_from : (turn : Turn) (q : Progress) (core : CoreState) (after : List Change) (names : List (List ℕ))
+        (capacity : ℕ) → HasStepped stamp command (Stepped.GoesOn turn) p q d.core core changes after
         → HasRoom d names capacity → LeavesDesk n turn d (now_at d (slice_set d.progress n q) d.begun core) names capacity changes after base
     goes_on_from turn q core after names capacity h r = went_on command next_read core after turn p q names capacity reads h r
 
-    ends_from : (outcome : Outcome) (q w : Progress) (core : CoreState) (after : List Change) (ends : List End) (names : List (List ℕ)) (name taken : List ℕ) (capacity room : ℕ) → HasStepped stamp command (Err outcome) p q d.core core changes after
+    ends_from : (outcome : Outcome) (q w : Progress) (core : CoreState) (after : List Change) (ends : List End)
+        (names : List (List ℕ)) (name taken : List ℕ) (capacity room : ℕ)
+        → HasStepped stamp command (Stepped.Ends outcome) p q d.core core changes after
         → w ≡ ended_progress → ends ≡ d.ends ++ (record { script = n; name = name; since = since; replies = q.replies.list; outcome = outcome }) ∷ [] → name ≡ slice_index_or names n name
         → HasRoom d names capacity → room ≡ capacity → LeavesDesk n turns.Ended d (ended_at d ends (slice_set d.progress n w) core) (slice_set names n taken) room changes after base
     ends_from outcome q w core after ends names name taken capacity room h over more named r same =
-        let called : name ≡ name_at d.scripts n = sym (name_there names n name (subst (λ k. n < k) (sym r.names_long) there) named) ∙ r.named n there going in
+        let called : name ≡ name_at d.scripts n = sym (name_there names n name
+        (subst (λ k. n < k) (sym r.names_long) there) named) ∙ r.named n there is_unended in
         let replies : q.replies.list ≡ replies_of d n = ap (λ (y : Progress). y.replies.list) h.0 ∙ sym heard_so_far in
         let step : AttemptEnded stamp command (length (replies_of d n)) outcome d.core core changes after = subst (λ (rs : List Reply). AttemptEnded stamp command (length rs) outcome d.core core changes after) (sym heard_so_far) h.1 in
         ended command next_read core after outcome ends (slice_set d.progress n w) names (slice_set names n taken) taken capacity room step
@@ -432,35 +412,29 @@ module _ (d : DeskState) (changes : List Change) (base : Option CityValue) (n st
 
 -- ---- the same of the desk that contracts see
 
--- what is left of a desk is left of its equal
-pub left_of : {n : ℕ} {turn : Turn} {d seen e : DeskState} {names : List (List ℕ)} {room : ℕ} {before listing after : List Change} {base : Option CityValue} → d ≡ seen → before ≡ listing
-    → LeavesDesk n turn d e names room before after base → LeavesDesk n turn seen e names room listing after base
-left_of {n} {turn} {d} {seen} {e} {names} {room} {before} {listing} {after} {base} run listed h =
-    subst (λ (x : DeskState). LeavesDesk n turn x e names room listing after base) run
-    (subst (λ (l : List Change). LeavesDesk n turn d e names room l after base) listed h)
-
 module _ {d seen : DeskState} {changes listing : List Change} {base : Option CityValue} {n stamp since : ℕ} (run : d ≡ seen) (listed : changes ≡ listing) (s : IsSerial d changes base)
     (opened : phase_of seen n ≡ Open stamp since) (there : n < length seen.scripts) {names : List (List ℕ)} {capacity : ℕ} (r : HasRoom d names capacity) where
   is_here : phase_of d n ≡ Open stamp since
   is_here = subst (λ (x : DeskState). phase_of x n ≡ Open stamp since) (sym run) opened
 
   there_here : n < length d.scripts
-  there_here = subst (λ (x : DeskState). n < length x.scripts) (sym run) there
+  there_here = there_in_equal run there
 
   pub place_for_end : length d.ends < capacity
-  place_for_end = place_open d changes base n stamp since s is_here there_here names capacity r
+  place_for_end = place_for_its_end s there_here (ap is_ended is_here) r
 
   pub place_for_reply : {p : Progress} → p ≡ slice_index_or d.progress n p → length p.replies.list < p.replies.room
   place_for_reply {p} read = reply_place d changes base n stamp since s is_here there_here p names capacity read r
 
   module _ {p : Progress} {x : Scripted} {cs : List Command} {number : ℕ} {command : Command} (read : p ≡ slice_index_or d.progress n p) (script : x ≡ slice_index_or d.scripts n x) (list : cs ≡ x.1)
       (count : number ≡ length p.replies.list) (at_number : command ≡ slice_index_or cs number command) {q : Progress} {core : CoreState} {after : List Change} where
-    pub turn_goes_on : {turn : Turn} → HasStepped stamp command (Ok turn) p q d.core core changes after
+    pub turn_goes_on : {turn : Turn} → HasStepped stamp command (Stepped.GoesOn turn) p q d.core core changes after
         → LeavesDesk n turn seen (now_at d (slice_set d.progress n q) d.begun core) names capacity listing after base
     turn_goes_on {turn} h = left_of run listed
         (goes_on_from d changes base n stamp since s is_here there_here p x cs number command read script list count at_number turn q core after names capacity h r)
 
-    pub turn_ends : {outcome : Outcome} {w : Progress} {ends : List End} {name : List ℕ} (taken : List ℕ) {room : ℕ} → HasStepped stamp command (Err outcome) p q d.core core changes after
+    pub turn_ends : {outcome : Outcome} {w : Progress} {ends : List End} {name : List ℕ} (taken : List ℕ) {room : ℕ}
+        → HasStepped stamp command (Stepped.Ends outcome) p q d.core core changes after
         → w ≡ ended_progress → ends ≡ d.ends ++ (record { script = n; name = name; since = since; replies = q.replies.list; outcome = outcome }) ∷ [] → name ≡ slice_index_or names n name
         → room ≡ capacity → LeavesDesk n turns.Ended seen (ended_at d ends (slice_set d.progress n w) core) (slice_set names n taken) room listing after base
     turn_ends {outcome} {w} {ends} {name} taken {room} h over more named same = left_of run listed

@@ -51,8 +51,8 @@ no_stamp city scripts n stamp h = elim (each_unbegun scripts n) [
   | inr e ↦ let k : None ≡ Some stamp = sym (ap (λ (p : Progress). stamp_of p.phase) e) ∙ h in cc
 ]
 
-nothing_shown : (scripts : List Scripted) (start : CityMap) → AreChangesOf scripts start [] []
-nothing_shown scripts start = record {
+no_changes_yet : (scripts : List Scripted) (start : CityMap) → AreChangesOf scripts start [] []
+no_changes_yet scripts start = record {
   one_each = refl;
   shows = λ n. subst (λ es. after_changes start (take (commits_in es) []) ≡ model_after scripts start es) (sym (none_of_none n)) refl;
 }
@@ -71,7 +71,8 @@ opened_serial city scripts list base lawful scripted empty based = record {
   };
   ended = λ n lt. sym (ap (λ (p : Progress). is_ended p.phase) (unbegun_within scripts n lt));
   of_each = length-map scripts unbegun;
-  shelf = subst (λ (cs : List Change). AreChangesOf scripts (object_at city.1) [] cs) (sym empty) (nothing_shown scripts (object_at city.1));
+  shelf = subst (λ (cs : List Change). AreChangesOf scripts (object_at city.1) [] cs) (sym empty)
+      (no_changes_yet scripts (object_at city.1));
   based = based;
 }
 

@@ -1,6 +1,8 @@
 -- What keeps a desk serial: a turn after which its script goes on, and one more end.
-use Rattle.std.proofs.Common.{◌≡◌, ◌<◌, ◌||◌, ℕ, Bool, true, false, List, [], ◌∷◌, ◌++◌, length, Option, refl, ap, sym, subst, ◌∙◌, inl, inr, arith, length-set}
-use Rattle.std.proofs.lemmas.Bool.{cases_eq, ne_eqb, eq-eqb}
+use Rattle.std.proofs.Common.{◌≡◌, ◌<◌, ◌||◌, ℕ, true, false, List, [], ◌∷◌, ◌++◌, length, Option, refl, ap, sym, subst}
+use Rattle.std.proofs.Common.{◌∙◌, inl, inr, arith, length-set}
+use Rattle.std.proofs.Math.Bool.{or-false}
+use Rattle.std.proofs.lemmas.Bool.{cases_eq, ne_eqb, eq-eqb, or_right}
 use Rattle.city_model.specs.declared.end.End.{End}
 use Rattle.city_model.specs.CityMap.{object_at, CityValue}
 use Rattle.city_model.specs.Runs.{IsSerialHistoryFrom, IsEndOf, left_by, model_after, Change, has_end}
@@ -17,14 +19,6 @@ now_at d progress begun core = record d { progress = progress; begun = begun; co
 
 abbrev pub ended_at : DeskState → List End → List Progress → CoreState → DeskState
 ended_at d ends progress core = record d { ends = ends; progress = progress; core = core }
-
-pub or_true : (b : Bool) → (b || true) ≡ true
-or_true true = refl
-or_true false = refl
-
-or_false : (b : Bool) → (b || false) ≡ b
-or_false true = refl
-or_false false = refl
 
 -- the script goes on
 pub kept_serial : (d : DeskState) (changes : List Change) (base : Option CityValue) (progress : List Progress) (begun : ℕ) (core : CoreState) (n stamp : ℕ) (q : Progress)
@@ -62,8 +56,13 @@ ended_serial d changes after base ends progress core n stamp e s frame k more sc
       city = city ∙ (sym (model_more d.scripts d.ends e (object_at d.start.1)) ∙ ap (model_after d.scripts (object_at d.start.1)) (sym more));
       standing = attempts_kept d (ended_at d ends progress core) n stamp ended_progress k s.standing;
       ended = λ j lt. ap (has_end j) more ∙ (has_end_more j d.ends e ∙ elim (cases_eq j n) [
-        | inl one ↦ ap (λ b. has_end j d.ends || b) (eq-eqb e.script j (script ∙ sym one)) ∙ (or_true (has_end j d.ends) ∙ (sym (ap is_ended (phase_here d (ended_at d ends progress core) n stamp ended_progress k)) ∙ ap (λ i. is_ended (phase_of (ended_at d ends progress core) i)) (sym one)))
-        | inr ne ↦ ap (λ b. has_end j d.ends || b) (ne_eqb e.script j (λ same. ne (sym same ∙ script))) ∙ (or_false (has_end j d.ends) ∙ (s.ended j lt ∙ sym (ap is_ended (phase_beside d (ended_at d ends progress core) n stamp ended_progress k j ne))))
+        | inl one ↦ ap (λ b. has_end j d.ends || b) (eq-eqb e.script j (script ∙ sym one))
+            ∙ (or_right (has_end j d.ends) true refl ∙ (sym (ap is_ended
+            (phase_here d (ended_at d ends progress core) n stamp ended_progress k))
+            ∙ ap (λ i. is_ended (phase_of (ended_at d ends progress core) i)) (sym one)))
+        | inr ne ↦ ap (λ b. has_end j d.ends || b) (ne_eqb e.script j (λ same. ne (sym same ∙ script)))
+            ∙ (or-false (has_end j d.ends) ∙ (s.ended j lt ∙ sym
+            (ap is_ended (phase_beside d (ended_at d ends progress core) n stamp ended_progress k j ne))))
       ]);
       of_each = ap length k.progress ∙ (length-set d.progress n ended_progress ∙ s.of_each);
       shelf = subst (λ es. AreChangesOf d.scripts (object_at d.start.1) es after) (sym more) shelf;

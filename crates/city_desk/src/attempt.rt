@@ -16,6 +16,15 @@ use city_model::command::{Cause, Command, Reply};
 use city_model::end::Outcome;
 use city_txn::{Core, Step};
 
+/// What a command of an attempt comes to.
+#[derive(Drop)]
+pub enum Stepped {
+    /// The script goes on after this turn.
+    GoesOn(Turn),
+    /// The script ends so.
+    Ends(Outcome),
+}
+
 /// The reply, or the cause where it is a refusal.
 fn unless_refused(reply: Reply) -> Result<Reply, Cause>
     ensures ok { IfOk result (λ same. (same ≡ reply) × (is_refusal reply ≡ false)) }
@@ -28,12 +37,7 @@ fn unless_refused(reply: Reply) -> Result<Reply, Cause>
 }
 
 /// Runs a command that doesn't end its script.
-fn run_command(
-    core: &mut Core,
-    progress: &mut Progress,
-    stamp: u64,
-    command: &Command,
-) -> Result<Turn, Outcome>
+fn run_command(core: &mut Core, progress: &mut Progress, stamp: u64, command: &Command) -> Stepped
     requires place { length progress.old.replies.list < progress.old.replies.room }
     requires opened { is_open core.old stamp ≡ true }
     requires goes_on { is_end command.now ≡ false }
@@ -44,22 +48,22 @@ fn run_command(
         Ok(Step::Done(reply)) => match unless_refused(reply) {
             Ok(reply) => {
                 progress.replies.add(reply);
-                Ok(Turn::Replied)
+                Stepped::GoesOn(Turn::Replied)
             }
             Err(cause) => {
                 core.roll_back(stamp);
-                Err(Outcome::Refused(number, cause))
+                Stepped::Ends(Outcome::Refused(number, cause))
             }
         },
-        Ok(Step::Wait) => Ok(Turn::Waits),
+        Ok(Step::Wait) => Stepped::GoesOn(Turn::Waits),
         Ok(Step::Die) => {
             core.roll_back(stamp);
             progress.die(stamp);
-            Ok(Turn::Died)
+            Stepped::GoesOn(Turn::Died)
         }
         Err(_) => {
             core.roll_back(stamp);
-            Err(Outcome::NoMemory(number))
+            Stepped::Ends(Outcome::NoMemory(number))
         }
     }
 }
@@ -95,8 +99,7 @@ fn commit<S: Shelf>(core: &mut Core, shelf: &mut S, stamp: u64, number: usize) -
     }
 }
 
-/// Runs the next command of an attempt, under its locks. Returns the turn after which the script
-/// goes on, or how the script ends.
+/// Runs the next command of an attempt, under its locks.
 ///
 /// A commit puts its change on the shelf. If the script ends or the attempt dies, its
 /// transaction is over and has left nothing but what it committed. The replies of an attempt
@@ -107,7 +110,7 @@ pub fn step<S: Shelf>(
     progress: &mut Progress,
     stamp: u64,
     command: &Command,
-) -> Result<Turn, Outcome>
+) -> Stepped
     requires place { length progress.old.replies.list < progress.old.replies.room }
     requires opened { is_open core.old stamp ≡ true }
     requires room { length (S.list shelf.old) + 1 < 2 ^ 64 }
@@ -118,10 +121,10 @@ pub fn step<S: Shelf>(
     ensures published { S.published shelf.new ≡ S.published shelf.old }
 {
     match command {
-        Command::Commit => Err(commit(core, shelf, stamp, progress.replies.len())),
+        Command::Commit => Stepped::Ends(commit(core, shelf, stamp, progress.replies.len())),
         Command::Abort => {
             core.roll_back(stamp);
-            Err(Outcome::Aborted)
+            Stepped::Ends(Outcome::Aborted)
         }
         _ => run_command(core, progress, stamp, command),
     }

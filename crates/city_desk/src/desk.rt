@@ -9,7 +9,7 @@ ghost use Rattle.city_desk.specs.Opening.{opened};
 ghost use Rattle.city_desk.specs.Serial.{IsSerial};
 ghost use Rattle.city_desk.specs.Turning.{IsTurn, GainsCommits, IsWaiting, stamp_for, begun_after};
 
-use crate::attempt::step;
+use crate::attempt::{Stepped, step};
 use crate::closing::roll_back_all;
 use crate::opening::{names_of, unbegun_each};
 use crate::opening_city::OpeningCity;
@@ -238,8 +238,8 @@ impl<S: Shelf> Desk<S> {
         let number = progress.replies.len();
         let command = &self.scripts[n].commands()[number];
         match step(&mut self.core, &mut self.shelf, progress, stamp, command) {
-            Ok(turn) => turn,
-            Err(outcome) => {
+            Stepped::GoesOn(turn) => turn,
+            Stepped::Ends(outcome) => {
                 record_end(
                     self.alloc,
                     &mut self.ends,

@@ -12,7 +12,7 @@ pub enum RunFault {
     Script(ScriptFault),
     #[error("out of memory")]
     OutOfMemory,
-    /// A viewer's place was refused.
+    /// A viewer's seat was refused.
     #[error("no viewer place")]
     NoPlace,
     /// A script had not ended when the workers had.

@@ -2,12 +2,13 @@
 ghost use Rattle.std.specs.Prelude.{◌≡◌, ◌≤◌, [], All, IfOk, IfSome};
 ghost use Rattle.city_model.specs.CityMap.{object_at};
 ghost use Rattle.city_model.specs.Relations.{IsLawful};
+ghost use Rattle.city_crew.specs.Limits.{max_viewers};
 
 use crate::document::add_city;
 use crate::line::{add_line, add_run_fault};
 use crate::steps::{add_step, step_of};
 use city_crew::board::board;
-use city_crew::{Note, Poster, Viewer};
+use city_crew::{MAX_VIEWERS, Note, Poster, Viewer};
 use city_desk::{Desk, Shelf, Turn, read_texts};
 use city_model::city::City;
 use city_model::copied::Copied;
@@ -16,19 +17,19 @@ use city_model::sequence::Sequence;
 use std::alloc::{AllocError, Global};
 use std::sync::Wait;
 
-/// Takes the steps at a board of so many places, and answers each, and then the model that is left.
+/// Takes the steps at a board of so many seats, and answers each, and then the model that is left.
 pub fn play_board<R: Wait>(
     rt: &R,
     alloc: Global,
-    places: &str,
+    seats: &str,
     document: &[u8],
     scripts: &[u8],
     lines: &str,
     answer: &mut Vec<u8>,
 ) -> Result<(), AllocError> {
-    let places = places.parse::<usize>().unwrap_or(0).min(4);
+    let seats = seats.parse::<usize>().unwrap_or(0).min(MAX_VIEWERS);
     match read_texts(alloc, document, scripts) {
-        Ok((city, scripts)) => play_over(rt, alloc, city, scripts, places, lines, answer),
+        Ok((city, scripts)) => play_over(rt, alloc, city, scripts, seats, lines, answer),
         Err(fault) => add_run_fault(alloc, answer, fault),
     }
 }
@@ -38,14 +39,14 @@ fn play_over<R: Wait>(
     alloc: Global,
     city: City,
     scripts: Sequence<Script>,
-    places: usize,
+    seats: usize,
     lines: &str,
     answer: &mut Vec<u8>,
 ) -> Result<(), AllocError>
     requires lawful { IsLawful (object_at city.1) }
-    requires places { places ≤ 4 }
+    requires seats { seats ≤ max_viewers }
 {
-    match opened(rt, alloc, scripts, city, places) {
+    match opened(rt, alloc, scripts, city, seats) {
         Some((desk, viewers)) => play_at(rt, alloc, desk, viewers, lines, answer),
         None => add_line(answer, "no board"),
     }
@@ -56,17 +57,17 @@ fn board_over<'r, R: Wait>(
     rt: &'r R,
     alloc: Global,
     city: &City,
-    places: usize,
+    seats: usize,
 ) -> Option<(Poster<&'r R>, Vec<Viewer>)>
     requires lawful { IsLawful (object_at city.now.1) }
-    requires places { places ≤ 4 }
+    requires seats { seats ≤ max_viewers }
     ensures opening { IfSome result (λ r. r.0.opening ≡ city.now) }
     ensures taken { IfSome result (λ r. r.0.taken ≡ []) }
 {
     let Ok(copy) = city.copy(alloc) else {
         return None;
     };
-    board(rt, alloc, copy, places).ok()
+    board(rt, alloc, copy, seats).ok()
 }
 
 /// A desk over the city of a board, whose shelf is the board's poster.
@@ -90,12 +91,12 @@ fn opened<'r, R: Wait>(
     alloc: Global,
     scripts: Sequence<Script>,
     city: City,
-    places: usize,
+    seats: usize,
 ) -> Option<(Desk<Poster<&'r R>>, Vec<Viewer>)>
     requires lawful { IsLawful (object_at city.1) }
-    requires places { places ≤ 4 }
+    requires seats { seats ≤ max_viewers }
 {
-    let (poster, viewers) = board_over(rt, alloc, &city, places)?;
+    let (poster, viewers) = board_over(rt, alloc, &city, seats)?;
     let desk = desk_over(alloc, scripts, city, poster)?;
     Some((desk, viewers))
 }
@@ -178,23 +179,23 @@ fn end_next<S: Shelf>(desk: &mut Desk<S>) -> &'static str {
     "no end"
 }
 
-/// The place of the viewer that looks in a step.
-fn place_of(step: &str) -> Option<usize> {
+/// The seat of the viewer that looks in a step.
+fn seat_of(step: &str) -> Option<usize> {
     step.strip_prefix("look ")?.parse::<usize>().ok()
 }
 
-/// Has the viewer of a step's place look, and adds what it sees.
+/// Has the viewer of a step's seat look, and adds what it sees.
 fn look_at(
     alloc: Global,
     viewers: &mut Vec<Viewer>,
     step: &str,
     answer: &mut Vec<u8>,
 ) -> Result<(), AllocError> {
-    match place_of(step) {
-        Some(place) if place < viewers.len() => {
+    match seat_of(step) {
+        Some(seat) if seat < viewers.len() => {
             let mut said = String::new(alloc);
-            let viewer = looked(alloc, viewers.remove(place), &mut said)?;
-            viewers.insert(place, viewer)?;
+            let viewer = looked(alloc, viewers.remove(seat), &mut said)?;
+            viewers.insert(seat, viewer)?;
             add_step(answer, step, said.as_str())
         }
         _ => add_step(answer, step, "no such step"),

@@ -1,9 +1,10 @@
 //! The verbs `crew`, `replay`, `model` and `texts`: runs by so many workers before so many viewers.
 ghost use Rattle.std.specs.Prelude.{◌≤◌};
+ghost use Rattle.city_crew.specs.Limits.{max_workers, max_viewers};
 
 use crate::line::{add_bytes, add_fault, add_line, add_run_fault, add_unlike};
 use crate::replay::replay;
-use city_crew::{OpenGate, run_crew};
+use city_crew::{MAX_VIEWERS, MAX_WORKERS, OpenGate, run_crew};
 use city_desk::Output;
 use city_model::end::{End, Outcome};
 use city_serve::Device;
@@ -69,8 +70,8 @@ fn play_crew<T: Threads + Wait + Sync>(
     answer: &mut Vec<u8>,
 ) -> Result<(), AllocError> {
     let (workers, viewers) = crew.split_once("x").unwrap_or((crew, "0"));
-    let workers = workers.parse::<usize>().unwrap_or(1).clamp(1, 16);
-    let viewers = viewers.parse::<usize>().unwrap_or(0).min(4);
+    let workers = workers.parse::<usize>().unwrap_or(1).clamp(1, MAX_WORKERS);
+    let viewers = viewers.parse::<usize>().unwrap_or(0).min(MAX_VIEWERS);
     if matches!(told, Told::Texts) {
         return run_texts(rt, alloc, workers, viewers, document, scripts, answer);
     }
@@ -90,8 +91,8 @@ fn run_texts<T: Threads + Wait + Sync>(
     scripts: &[u8],
     answer: &mut Vec<u8>,
 ) -> Result<(), AllocError>
-    requires workers { (1 ≤ workers) × (workers ≤ 16) }
-    requires viewers { viewers ≤ 4 }
+    requires workers { (1 ≤ workers) × (workers ≤ max_workers) }
+    requires viewers { viewers ≤ max_viewers }
 {
     let mut written = Vec::new(alloc);
     let served = serve_texts(

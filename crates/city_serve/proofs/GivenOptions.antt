@@ -5,6 +5,7 @@ use Rattle.std.specs.Prelude.{◌==◌, ◌≢◌, if◌then◌else◌, fold, op
 use Rattle.std.specs.Option.{option_map_or}
 use Rattle.std.specs.Str.{bytes_eq}
 use Rattle.clap.specs.Lexer.{long_of, long_of_rest, short_of, short_of_rest, strip_byte}
+use Rattle.std.proofs.lemmas.Bool.{false_from_ne_true}
 use Rattle.std.proofs.lemmas.Bool.Decides.{nat_tests}
 use Rattle.clap.proofs.OnLiterals.{clap_on_literals}
 use Rattle.clap.specs.Walk.{Held, Row, Rule, Step, Text, Waiting, Walk, after_step, arg_by_id, arg_by_index, has_row}
@@ -20,7 +21,7 @@ use Rattle.clap.specs.declared.parser.matches.ValueSource.TheVariants.{CommandLi
 use Rattle.city_serve.specs.CommandLines.{IsLineOf, IsName, ends, gives_decimals, gives_name}
 use Rattle.city_serve.specs.inside.CommandShape.{cityed_command}
 use Rattle.city_serve.specs.CommandLines.{gives_watch, gives_workers}
-use Rattle.city_serve.proofs.Rows.{AreFresh, behind, not_both, row_by, untrue, used_fresh}
+use Rattle.city_serve.proofs.Rows.{AreFresh, behind, not_both, row_by, used_fresh}
 
 abbrev pub top : Shape
 top = (built cityed_command).top
@@ -31,7 +32,8 @@ rules = top.rules
 -- ---- a word that doesn't begin with a hyphen is a value
 
 no_hyphen_byte : (b : ℕ) → Some b ≢ Some 45 → (b == 45) ≡ false
-no_hyphen_byte b other = untrue (b == 45) (λ same. other (ap (λ k. Some k) (grind (arith, nat_tests, same))))
+no_hyphen_byte b other = false_from_ne_true (b == 45) (λ same.
+    other (ap (λ k. Some k) (grind (arith, nat_tests, same))))
 
 no_hyphen : (word : Text) → IsName word → strip_byte 45 word ≡ None
 no_hyphen [] name = refl

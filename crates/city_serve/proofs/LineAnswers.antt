@@ -9,6 +9,7 @@ use Rattle.clap.specs.Walk.{Text, first_of, one_of}
 use Rattle.clap.specs.Kinds.{IsAmong, Kinds}
 use Rattle.clap.specs.declared.error.kind.ErrorKind.TheVariants.{OutOfMemory, UnknownArgument}
 use Rattle.clap.specs.declared.error.kind.ErrorKind.{ErrorKind}
+use Rattle.city_crew.specs.Limits.{max_workers, max_viewers}
 use Rattle.city_serve.specs.CommandLines.{AnswersNames, AnswersOptions, AreOptionsOf, AreWithin}
 use Rattle.city_serve.specs.inside.CommandShape.{AnswersPlaces}
 use Rattle.city_serve.specs.CommandLines.{HasOptions, IsCount, IsLineOf, IsName, IsWantOfMemory, ends, gives_name}
@@ -32,8 +33,8 @@ count_unique least most (Some text) n k is other = is.1 ∙ sym other.1
 options_unique : (workers watch : Option Text) (decimals : Bool) (a b : Options) → AreOptionsOf workers watch decimals a
     → AreOptionsOf workers watch decimals b → a ≡ b
 options_unique workers watch decimals a b is other =
-    let by_workers = count_unique 1 16 workers a.workers b.workers is.0 other.0 in
-    rw (by_workers, count_unique 0 4 watch a.viewers b.viewers is.1 other.1, is.2 ∙ sym other.2) refl
+    let by_workers = count_unique 1 max_workers workers a.workers b.workers is.0 other.0 in
+    rw (by_workers, count_unique 0 max_viewers watch a.viewers b.viewers is.1 other.1, is.2 ∙ sym other.2) refl
 
 count_within : (least most : ℕ) (text : Option Text) (n : ℕ) → least ≤ most → IsCount least most text n
     → (least ≤ n) × (n ≤ most)

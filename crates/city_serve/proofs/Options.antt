@@ -5,6 +5,7 @@ use Rattle.std.specs.Prelude.{◌≢◌, if◌then◌else◌, IsErr}
 use Rattle.std.specs.List.{All}
 use Rattle.std.specs.Str.{bytes_eq}
 use Rattle.clap.specs.Lexer.{long_of}
+use Rattle.std.proofs.lemmas.Bool.{false_from_ne_true}
 use Rattle.std.proofs.lemmas.Slice.Eq.{bytes_eq-Decides}
 use Rattle.clap.proofs.OnLiterals.{clap_on_literals}
 use Rattle.clap.specs.Walk.{Held, Row, Text, arg_by_long, idle, nothing_held, walk_from, walked, word_met}
@@ -18,11 +19,10 @@ use Rattle.city_serve.specs.CommandLines.{MeetsUnknownOption}
 use Rattle.city_serve.proofs.FoundOptions.{fault, line_ends, refused_all}
 use Rattle.city_serve.proofs.GivenOptions.{Ends, is_over, model_next, rules, stands, top}
 use Rattle.city_serve.proofs.LineAnswers.{Answer, names_line, not_free, only, want_is_err}
-use Rattle.city_serve.proofs.Rows.{untrue}
 
 module _ (option : Text) (unknown : IsUnknownOption option) where
   no_dashes_alone : bytes_eq option (45 ∷ 45 ∷ []) ≡ false
-  no_dashes_alone = untrue (bytes_eq option (45 ∷ 45 ∷ [])) (λ same.
+  no_dashes_alone = false_from_ne_true (bytes_eq option (45 ∷ 45 ∷ [])) (λ same.
       let none : long_of option ≡ None = ap long_of ((bytes_eq-Decides option (45 ∷ 45 ∷ [])).0 same) in
       let found : Option (Text × Option Text) = Some (unknown.name, unknown.given) in
       let bad : found ≡ None = sym unknown.long ∙ none in
@@ -30,7 +30,8 @@ module _ (option : Text) (unknown : IsUnknownOption option) where
 
   named_other : (known : Text) → unknown.name ≢ known → bytes_eq known unknown.name ≡ false
   named_other known differs =
-      untrue (bytes_eq known unknown.name) (λ same. differs (sym ((bytes_eq-Decides known unknown.name).0 same)))
+      false_from_ne_true (bytes_eq known unknown.name) (λ same.
+      differs (sym ((bytes_eq-Decides known unknown.name).0 same)))
 
   no_rule : arg_by_long rules unknown.name ≡ None
   no_rule =

@@ -4,6 +4,7 @@ use Rattle.std.proofs.Common.{◌++◌, append-nil, append_assoc, Option, Some, 
 use Rattle.std.proofs.Common.{◌∙◌}
 use Rattle.std.specs.Prelude.{find, fold}
 use Rattle.std.specs.Str.{bytes_eq}
+use Rattle.std.proofs.lemmas.Bool.{false_from_ne_true, or_parts, or_right}
 use Rattle.std.proofs.lemmas.Slice.Eq.{bytes_eq-Decides}
 use Rattle.clap.specs.Walk.{Row, Rule, Text, at_row, default_rows, has_row, is_empty, more_values, reading_by}
 use Rattle.clap.specs.Walk.{with_default, with_values, without}
@@ -23,22 +24,6 @@ not_both false x y = refl
 either : {X : Type 0} (b : Bool) (x y : X) → cond (b || true) x y ≡ x
 either true x y = refl
 either false x y = refl
-
-pub untrue : (b : Bool) → (b ≡ true → ⊥) → b ≡ false
-untrue true not_so = absurd (not_so refl)
-untrue false not_so = refl
-
-either_true : (a b : Bool) → b ≡ true → (a || b) ≡ true
-either_true true b is = refl
-either_true false b is = is
-
-left_false : (a b : Bool) → (a || b) ≡ false → a ≡ false
-left_false true b bad = bad
-left_false false b none = refl
-
-right_false : (a b : Bool) → (a || b) ≡ false → b ≡ false
-right_false true b bad = absurd (true≢false bad)
-right_false false b none = none
 
 abbrev pub row_by : Text → Reading → ValueSource → List Text → Row
 row_by id how source values =
@@ -70,8 +55,8 @@ module _ (id : Text) where
       → found id (rows ++ r ∷ []) ≡ cond (bytes_eq r.id id) (Some r) None
   found_last r [] fresh = refl
   found_last r (x ∷ xs) fresh =
-      ap (λ b. cond b (Some x) (found id (xs ++ r ∷ []))) (left_false (bytes_eq x.id id) (has_row id xs) fresh)
-      ∙ found_last r xs (right_false (bytes_eq x.id id) (has_row id xs) fresh)
+      ap (λ b. cond b (Some x) (found id (xs ++ r ∷ []))) (or_parts (bytes_eq x.id id) (has_row id xs) fresh).0
+      ∙ found_last r xs (or_parts (bytes_eq x.id id) (has_row id xs) fresh).1
 
   lacks_last : (r : Row) (rows : List Row) → bytes_eq r.id id ≡ false → has_row id rows ≡ false
       → has_row id (rows ++ r ∷ []) ≡ false
@@ -83,8 +68,8 @@ module _ (id : Text) where
   at_fresh change missing [] fresh = refl
   at_fresh change missing (r ∷ rs) fresh =
       ap (λ b. cond b (change r ++ rs) (r ∷ at_row id change missing rs))
-      (left_false (bytes_eq r.id id) (has_row id rs) fresh)
-      ∙ ap (λ xs. r ∷ xs) (at_fresh change missing rs (right_false (bytes_eq r.id id) (has_row id rs) fresh))
+      (or_parts (bytes_eq r.id id) (has_row id rs) fresh).0
+      ∙ ap (λ xs. r ∷ xs) (at_fresh change missing rs (or_parts (bytes_eq r.id id) (has_row id rs) fresh).1)
 
   module _ (how : Reading) (source : ValueSource) (values : List Text) (rows : List Row)
       (fresh : has_row id rows ≡ false) where
@@ -117,7 +102,7 @@ behind_is held (r ∷ rs) = behind_is (held ++ r ∷ []) rs ∙ append_assoc hel
 
 differs : (id : Text) (r : Row) (rs : List Row) → has_row id rs ≡ true → has_row r.id rs ≡ false
     → bytes_eq r.id id ≡ false
-differs id r rs has lacks = untrue (bytes_eq r.id id) (λ same.
+differs id r rs has lacks = false_from_ne_true (bytes_eq r.id id) (λ same.
     true≢false (sym has ∙ subst (λ i. has_row i rs ≡ false) ((bytes_eq-Decides r.id id).0 same) lacks))
 
 fresh_behind : (held rows : List Row) → ((id : Text) → has_row id rows ≡ true → has_row id held ≡ false)
@@ -128,7 +113,7 @@ fresh_behind held (r ∷ rs) apart distinct = (
   fresh_behind (held ++ r ∷ []) rs
       (λ id has.
       lacks_last id r held (differs id r rs has distinct.0)
-      (apart id (either_true (bytes_eq r.id id) (has_row id rs) has)))
+      (apart id (or_right (bytes_eq r.id id) (has_row id rs) has)))
       distinct.1,
 )
 

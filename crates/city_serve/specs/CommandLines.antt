@@ -5,6 +5,7 @@ use Rattle.std.specs.Result.{IsOkAnd}
 use Rattle.std.specs.Str.Parse.{digits_value, without_leading_plus}
 use Rattle.clap.specs.Words.{IsUnsignedIn}
 use Rattle.clap.specs.Lexer.{long_of}
+use Rattle.city_crew.specs.Limits.{max_workers, max_viewers}
 use Rattle.city_serve.specs.declared.command_line.Asked.{Asked}
 use Rattle.city_serve.specs.declared.command_line.LineFault.{LineFault}
 use Rattle.city_serve.specs.declared.command_line.Options.{Options}
@@ -22,7 +23,8 @@ IsCount least most (Some text) n =
 -- the options that the texts of --workers and --watch ask for, and whether --decimals is given
 abbrev pub AreOptionsOf : Option (List ℕ) → Option (List ℕ) → Bool → Options → Type 0
 AreOptionsOf workers watch decimals options =
-    IsCount 1 16 workers options.workers × IsCount 0 4 watch options.viewers × (options.decimals ≡ decimals)
+    IsCount 1 max_workers workers options.workers × IsCount 0 max_viewers watch options.viewers
+    × (options.decimals ≡ decimals)
 
 -- those of a command line without options
 abbrev pub plain_options : Options
@@ -30,7 +32,7 @@ plain_options = record { workers = 1; viewers = 0; decimals = false }
 
 -- a run may have such options
 abbrev pub AreWithin : Options → Type 0
-AreWithin options = (1 ≤ options.workers) × (options.workers ≤ 16) × (options.viewers ≤ 4)
+AreWithin options = (1 ≤ options.workers) × (options.workers ≤ max_workers) × (options.viewers ≤ max_viewers)
 
 -- what is asked for is a text, or a run with such options
 abbrev pub HasOptions : Asked → Type 0

@@ -52,9 +52,6 @@ pub record AreCutShortBy (run : Written) (document scripts : List ℕ) (workers 
 abbrev pub AreServed : List ℕ → List ℕ → ℕ → ℕ → List (Vec ℕ) → Option (List ℕ) → Option (List ℕ) → Type 0
 AreServed = AreServedBy IsRun
 
-abbrev pub AreCutShort : List ℕ → List ℕ → ℕ → ℕ → Option (List ℕ) → Option (List ℕ) → Type 0
-AreCutShort = AreCutShortBy IsRun
-
 -- a fault of a run; one worker without viewers doesn't meet those of a crew
 abbrev pub IsFaultOfRun : List ℕ → List ℕ → ℕ → ℕ → RunFault → Type 0
 IsFaultOfRun document scripts workers viewers f =

@@ -8,6 +8,7 @@ ghost use Rattle.city_serve.specs.CommandLines.{MeetsUnknownOption};
 ghost use Rattle.city_serve.specs.inside.CommandShape.{cityed_command, files_command, flag_rule, option_rule};
 ghost use Rattle.city_serve.specs.inside.CommandShape.{AnswersPlaces};
 
+use city_crew::{MAX_VIEWERS, MAX_WORKERS};
 use clap::error::ErrorKind;
 use clap::{Arg, ArgAction, Command, Error};
 use std::alloc::{AllocError, Global};
@@ -57,9 +58,9 @@ A script that is refused ends as \"refused\" in its line, and the status is 0.";
 /// How a run is done: by how many workers, before how many viewers, and with which numbers.
 #[derive(Clone, Copy)]
 pub struct Options {
-    /// From 1 to 16.
+    /// From 1 to `MAX_WORKERS`.
     pub workers: usize,
-    /// From 0 to 4.
+    /// From 0 to `MAX_VIEWERS`.
     pub viewers: usize,
     /// Whether numbers of any form are taken, and given back as they were written.
     pub decimals: bool,
@@ -97,8 +98,8 @@ impl From<AllocError> for LineFault {
 
 /// What a command line asks for. Its first word is the program's name.
 ///
-/// An answer other than a text has 1 to 16 workers, 1 where `--workers` isn't given, 0 to 4 viewers,
-/// 0 where `--watch` isn't given, and takes numbers of any form where `--decimals` is given. The
+/// An answer other than a text has 1 to `MAX_WORKERS` workers, 1 where `--workers` isn't given, 0 to
+/// `MAX_VIEWERS` viewers, 0 where `--watch` isn't given, and takes numbers of any form where `--decimals` is given. The
 /// options stand in any order, and names before, between and after them. Refused: a number outside
 /// these ranges, a MODEL without SCRIPTS, a third name, and an option that is unknown, comes twice
 /// or has no number.
@@ -190,10 +191,10 @@ fn options_by<'a>(
         (λ _. (options : _) → ¬ AreOptionsOf (option_map (λ s. s.now) workers.entry)
         (option_map (λ s. s.now) watch.entry) decimals options) }
 {
-    let Some(workers) = count_by(workers, 1, 16) else {
+    let Some(workers) = count_by(workers, 1, MAX_WORKERS) else {
         return Err(mistake(alloc, command, "--workers takes a number from 1 to 16")?);
     };
-    let Some(viewers) = count_by(watch, 0, 4) else {
+    let Some(viewers) = count_by(watch, 0, MAX_VIEWERS) else {
         return Err(mistake(alloc, command, "--watch takes a number from 0 to 4")?);
     };
     Ok(Options {

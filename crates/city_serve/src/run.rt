@@ -1,6 +1,7 @@
 //! Runs a text of scripts by as many workers as are asked for.
 ghost use Rattle.std.specs.Prelude.{◌≡◌, ◌≤◌, IfOk, IfErr};
 ghost use Rattle.city_model.specs.SerialEnds.{commits_in};
+ghost use Rattle.city_crew.specs.Limits.{max_workers, max_viewers};
 ghost use Rattle.city_crew.specs.Seen.{AreSeen};
 ghost use Rattle.city_desk.specs.InTurn.{AreInTurn};
 ghost use Rattle.city_desk.specs.TextRuns.{IsRun};
@@ -24,8 +25,8 @@ pub(crate) fn run<R: Threads + Wait + Sync, G: Gate + Sync>(
     workers: usize,
     viewers: usize,
 ) -> Result<Output, RunFault>
-    requires workers { (1 ≤ workers) × (workers ≤ 16) }
-    requires viewers { viewers ≤ 4 }
+    requires workers { (1 ≤ workers) × (workers ≤ max_workers) }
+    requires viewers { viewers ≤ max_viewers }
     ensures ran { IfOk result (λ o. IsRun document.now scripts.now o.ends o.bytes.items) }
     ensures in_turn { IfOk result (λ o. WhereAlone workers viewers (AreInTurn 0 o.ends)) }
     ensures seen { IfOk result (λ o. AreSeen viewers (commits_in o.ends) o.seen.items) }
@@ -51,8 +52,8 @@ pub(crate) fn run_owned<R: Threads + Wait + Sync>(
     workers: usize,
     viewers: usize,
 ) -> Result<Output, RunFault>
-    requires workers { (1 ≤ workers) × (workers ≤ 16) }
-    requires viewers { viewers ≤ 4 }
+    requires workers { (1 ≤ workers) × (workers ≤ max_workers) }
+    requires viewers { viewers ≤ max_viewers }
     ensures ran { IfOk result (λ o. IsRun document.items scripts.items o.ends o.bytes.items) }
     ensures in_turn { IfOk result (λ o. WhereAlone workers viewers (AreInTurn 0 o.ends)) }
     ensures seen { IfOk result (λ o. AreSeen viewers (commits_in o.ends) o.seen.items) }

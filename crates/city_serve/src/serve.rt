@@ -1,6 +1,7 @@
 //! Serves a document and its scripts from a reader to a writer.
 ghost use Rattle.std.specs.Prelude.{◌≡◌, ◌≤◌, true, false, IfOk, IfErr, IfSome, OnOk, position, take};
 ghost use Rattle.std.specs.Io.KnownBytes.{Appends};
+ghost use Rattle.city_crew.specs.Limits.{max_workers, max_viewers};
 ghost use Rattle.city_serve.specs.Served.{is_newline, max_input, document_part, scripts_part, IsServed, IsDeviceFault, IsServeFault};
 ghost use Rattle.city_serve.specs.ServedTexts.{LosesAtMost, AppendsSome};
 
@@ -23,8 +24,8 @@ const PIECE: usize = 64 * 1024;
 /// Reads a document and, after the first newline, scripts; runs the scripts on the document; writes
 /// the output.
 ///
-/// Workers are 1 to 16, viewers 0 to 4. No more bytes are taken from the reader than 2 * `MAX_TEXT` + 2.
-/// Without a newline there are no scripts. Where the reader fails, or the run has no output, nothing is
+/// Workers are 1 to `MAX_WORKERS`, viewers 0 to `MAX_VIEWERS`. No more bytes are taken from the reader
+/// than 2 * `MAX_TEXT` + 2. Without a newline there are no scripts. Where the reader fails, or the run has no output, nothing is
 /// written; where the writer fails, it has got the first bytes of the output. `Read` and `Write` come only
 /// where the reader or the writer has failed, and where either fails in this call there is no `Ok`. The
 /// answer has, for each viewer, the numbers of changes that it saw.
@@ -36,8 +37,8 @@ pub fn serve<T: Threads + Wait + Sync, R: Read, W: Write>(
     workers: usize,
     viewers: usize,
 ) -> Result<Vec<Vec<u64>>, ServeFault>
-    requires workers { (1 ≤ workers) × (workers ≤ 16) }
-    requires viewers { viewers ≤ 4 }
+    requires workers { (1 ≤ workers) × (workers ≤ max_workers) }
+    requires viewers { viewers ≤ max_viewers }
     ensures served { IfOk result (λ seen. IfSome (R.remaining reader.old.0) (λ input.
         IsServed input workers viewers seen.items (W.contents writer.old.0) (W.contents writer.new.0))) }
     ensures taken { LosesAtMost max_input (R.remaining reader.old.0) (R.remaining reader.new.0) }

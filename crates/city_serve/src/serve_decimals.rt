@@ -1,6 +1,7 @@
 //! Serves a document and its scripts whose numbers are of any form.
 ghost use Rattle.std.specs.Prelude.{◌≡◌, ◌≤◌, IfOk, IfErr, IfSome, OnOk};
 ghost use Rattle.city_model.specs.SerialEnds.{commits_in};
+ghost use Rattle.city_crew.specs.Limits.{max_workers, max_viewers};
 ghost use Rattle.city_crew.specs.Seen.{AreSeen};
 ghost use Rattle.city_desk.specs.InTurn.{AreInTurn};
 ghost use Rattle.city_serve.specs.Served.{max_input};
@@ -35,8 +36,8 @@ pub fn serve_decimals<T: Threads + Wait + Sync, R: Read, W: Write>(
     workers: usize,
     viewers: usize,
 ) -> Result<Vec<Vec<u64>>, ServeFault>
-    requires workers { (1 ≤ workers) × (workers ≤ 16) }
-    requires viewers { viewers ≤ 4 }
+    requires workers { (1 ≤ workers) × (workers ≤ max_workers) }
+    requires viewers { viewers ≤ max_viewers }
     ensures served { IfOk result (λ seen. IfSome (R.remaining reader.old.0) (λ input.
         IsServedDecimals input workers viewers seen.items (W.contents writer.old.0) (W.contents writer.new.0))) }
     ensures taken { LosesAtMost max_input (R.remaining reader.old.0) (R.remaining reader.new.0) }
@@ -62,8 +63,8 @@ pub fn serve_decimals_texts<R: Threads + Wait + Sync, W: Write>(
     workers: usize,
     viewers: usize,
 ) -> Result<Vec<Vec<u64>>, ServeFault>
-    requires workers { (1 ≤ workers) × (workers ≤ 16) }
-    requires viewers { viewers ≤ 4 }
+    requires workers { (1 ≤ workers) × (workers ≤ max_workers) }
+    requires viewers { viewers ≤ max_viewers }
     ensures served { IfOk result (λ seen. AreServedDecimals document.items scripts.items workers viewers seen.items
         (W.contents writer.old.0) (W.contents writer.new.0)) }
     ensures unfailed { OnOk result (writer.new.1 ≡ writer.old.1) }
@@ -83,8 +84,8 @@ fn run_decimals<R: Threads + Wait + Sync>(
     workers: usize,
     viewers: usize,
 ) -> Result<Output, RunFault>
-    requires workers { (1 ≤ workers) × (workers ≤ 16) }
-    requires viewers { viewers ≤ 4 }
+    requires workers { (1 ≤ workers) × (workers ≤ max_workers) }
+    requires viewers { viewers ≤ max_viewers }
     ensures ran { IfOk result (λ o. IsDecimalsRun document.items scripts.items o.ends o.bytes.items) }
     ensures in_turn { IfOk result (λ o. WhereAlone workers viewers (AreInTurn 0 o.ends)) }
     ensures seen { IfOk result (λ o. AreSeen viewers (commits_in o.ends) o.seen.items) }

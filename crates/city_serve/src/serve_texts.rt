@@ -1,6 +1,7 @@
 //! Serves a document and its scripts from two texts to a writer.
 ghost use Rattle.std.specs.Prelude.{◌≡◌, ◌≤◌, true, IfOk, IfErr, OnOk};
 ghost use Rattle.std.specs.Io.KnownBytes.{Appends};
+ghost use Rattle.city_crew.specs.Limits.{max_workers, max_viewers};
 ghost use Rattle.city_serve.specs.declared.fault.ServeFault.{ServeFault};
 ghost use Rattle.city_serve.specs.ServedTexts.{AppendsSome, AreServed, IsTextsFault};
 
@@ -17,8 +18,8 @@ use std::thread::Threads;
 
 /// Runs the scripts of a text on a document, and writes the output.
 ///
-/// Workers are 1 to 16, viewers 0 to 4. One worker without viewers runs the scripts in their order. The
-/// document is judged before the scripts. Where the run has no output, nothing is written; where the
+/// Workers are 1 to `MAX_WORKERS`, viewers 0 to `MAX_VIEWERS`. One worker without viewers runs the scripts
+/// in their order. The document is judged before the scripts. Where the run has no output, nothing is written; where the
 /// writer fails, it has got the first bytes of the output. The answer has, for each viewer, the numbers of
 /// changes that it saw.
 pub fn serve_texts<R: Threads + Wait + Sync, W: Write>(
@@ -30,8 +31,8 @@ pub fn serve_texts<R: Threads + Wait + Sync, W: Write>(
     workers: usize,
     viewers: usize,
 ) -> Result<Vec<Vec<u64>>, ServeFault>
-    requires workers { (1 ≤ workers) × (workers ≤ 16) }
-    requires viewers { viewers ≤ 4 }
+    requires workers { (1 ≤ workers) × (workers ≤ max_workers) }
+    requires viewers { viewers ≤ max_viewers }
     ensures served { IfOk result (λ seen. AreServed document.now scripts.now workers viewers seen.items
         (W.contents writer.old.0) (W.contents writer.new.0)) }
     ensures unfailed { OnOk result (writer.new.1 ≡ writer.old.1) }
@@ -54,8 +55,8 @@ pub fn serve_texts_through<R: Threads + Wait + Sync, G: Gate + Sync, W: Write>(
     workers: usize,
     viewers: usize,
 ) -> Result<Vec<Vec<u64>>, ServeFault>
-    requires workers { (1 ≤ workers) × (workers ≤ 16) }
-    requires viewers { viewers ≤ 4 }
+    requires workers { (1 ≤ workers) × (workers ≤ max_workers) }
+    requires viewers { viewers ≤ max_viewers }
     ensures served { IfOk result (λ seen. AreServed document.now scripts.now workers viewers seen.items
         (W.contents writer.old.0) (W.contents writer.new.0)) }
     ensures unfailed { OnOk result (writer.new.1 ≡ writer.old.1) }
@@ -76,8 +77,8 @@ pub fn serve_owned_texts<R: Threads + Wait + Sync, W: Write>(
     workers: usize,
     viewers: usize,
 ) -> Result<Vec<Vec<u64>>, ServeFault>
-    requires workers { (1 ≤ workers) × (workers ≤ 16) }
-    requires viewers { viewers ≤ 4 }
+    requires workers { (1 ≤ workers) × (workers ≤ max_workers) }
+    requires viewers { viewers ≤ max_viewers }
     ensures served { IfOk result (λ seen. AreServed document.items scripts.items workers viewers seen.items
         (W.contents writer.old.0) (W.contents writer.new.0)) }
     ensures unfailed { OnOk result (writer.new.1 ≡ writer.old.1) }

@@ -33,7 +33,7 @@ known_from x = record { met = true; opening = x.opening; history = x.history }
 abbrev pub MeetsRule : Version → List Known → Type 0
 MeetsRule x each =
     IsFaithful x
-    × ((place : ℕ) (known : Known) → get_elem? each place ≡ some known → known.met ≡ true → IsNoOlder known x)
+    × ((seat : ℕ) (known : Known) → get_elem? each seat ≡ some known → known.met ≡ true → IsNoOlder known x)
 
 -- one who knew this has seen the version y, which is faithful and no older
 abbrev pub Sees : Known → Version → Version → Known → Type 0

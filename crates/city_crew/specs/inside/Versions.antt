@@ -9,12 +9,12 @@ use Rattle.city_crew.specs.declared.version.Edit.{Edit}
 use Rattle.city_crew.specs.declared.version.Version.{Version}
 
 -- the city with a change written into it
-abbrev pub city_after : CityValue → Change → CityValue
-city_after city change = (city.0, objects_after city.1 change)
+abbrev pub city_with : CityValue → Change → CityValue
+city_with city change = (city.0, objects_after city.1 change)
 
 -- the version after an edit
 abbrev pub edited : Version → Edit → Version
-edited x e = record x { city = city_after x.city e.writes.entries; history = e.history }
+edited x e = record x { city = city_with x.city e.writes.entries; history = e.history }
 
 -- its city is the opening city after the changes of its history, and lawful
 pub record IsFaithful (x : Version) : Type 0 where

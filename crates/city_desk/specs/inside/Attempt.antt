@@ -1,5 +1,5 @@
 -- One step of an attempt: the next command of an open transaction, run on a core.
-use Rattle.std.specs.Prelude.{◌≡◌, ℕ, Bool, true, false, List, [], ◌∷◌, ◌++◌, length, Result, Ok, Err}
+use Rattle.std.specs.Prelude.{◌≡◌, ℕ, Bool, true, false, List, [], ◌∷◌, ◌++◌, length}
 use Rattle.city_model.specs.declared.command.Command.{Command}
 use Rattle.city_model.specs.declared.command.Reply.{Reply}
 use Rattle.city_model.specs.declared.end.Outcome.{Outcome}
@@ -14,6 +14,7 @@ use Rattle.city_txn.specs.CoreState.{CoreState, committed, view, snapshot, is_op
 use Rattle.city_txn.specs.CoreState.{KeepsOthers}
 use Rattle.city_txn.specs.Acting.{answer_in, EndsIn}
 use Rattle.city_txn.specs.Locking.{IsBlocked}
+use Rattle.city_desk.specs.declared.attempt.Stepped.{Stepped}
 use Rattle.city_desk.specs.declared.progress.Progress.{Progress}
 use Rattle.city_desk.specs.declared.progress.Phase.TheVariants.{Idle}
 use Rattle.city_desk.specs.DeskState.{progress_to}
@@ -86,9 +87,9 @@ pub record HasGoneOn (stamp : ℕ) (command : Command) (turn : Turn) (p q : Prog
   pub changes : after ≡ before
 
 -- A step by the command: from this progress, core and list of the shelf's changes to those.
-abbrev pub HasStepped : ℕ → Command → Result Turn Outcome → Progress → Progress → CoreState → CoreState
+abbrev pub HasStepped : ℕ → Command → Stepped → Progress → Progress → CoreState → CoreState
     → List Change → List Change → Type 0
-HasStepped stamp command (Ok turn) p q old new before after =
+HasStepped stamp command (Stepped.GoesOn turn) p q old new before after =
     HasGoneOn stamp command turn p q old new before after
-HasStepped stamp command (Err outcome) p q old new before after =
+HasStepped stamp command (Stepped.Ends outcome) p q old new before after =
     (q ≡ p) × AttemptEnded stamp command (length p.replies.list) outcome old new before after

@@ -1,16 +1,18 @@
 use Rattle.std.proofs.Common.{rules, Some, ◌≡◌, ◌++◌, [], List, drop, ap, sym, ◌∙◌, subst, refl}
 use Rattle.std.proofs.lemmas.List.{append-nil}
 use Rattle.left_right.specs.Sides.{view}
-use Rattle.city_crew.specs.inside.BoardRule.{HoldsEdits}
+use Rattle.city_crew.specs.inside.BoardRule.{HoldsEdits, IsLater}
 use Rattle.city_crew.specs.declared.version.Edit.{Edit}
+use Rattle.city_crew.specs.declared.version.Version.{Version}
 use Rattle.city_crew.proofs.HeldEdits.{holds_published}
+use Rattle.city_crew.proofs.KeptRule.{publishes}
 use Rattle.city_crew.proofs.LaterVersions.{all_later}
 use Rattle.city_crew.proofs.Prefixes.{prefix_self}
 use Rattle.city_crew.proofs.Results.{from_some, from_ok}
 use Rattle.city_crew.proofs.poster.Poster.publish.Goals as goal
 
-pub publish-writer-requires : goal.publish-writer-requires
-publish-writer-requires g c =
+pub publish_as-writer-requires : goal.publish_as-writer-requires
+publish_as-writer-requires g c next is =
     let p = c.self.inside in
     let w = c.append_all.new.writer in
     let there : p.writer ≡ Some c.in-Some.own = sym c.take.ensures.value ∙ c.in-Some.is in
@@ -22,13 +24,15 @@ publish-writer-requires g c =
     let held : HoldsEdits w.desk.shown.value (view w.desk.place) (drop w.behind w.log.items) p.opening p.published p.taken =
     subst (λ d. HoldsEdits d.shown.value (view d.place) (drop w.behind w.log.items) p.opening p.published p.taken) desk
     (subst (λ (es : List Edit). HoldsEdits c.in-Some.own.writer.desk.shown.value (view c.in-Some.own.writer.desk.place) es p.opening p.published p.taken) edits old) in
-    record { later = (all_later w.desk.shown.value (drop w.behind w.log.items) p.taken held.faithful held.lead).0 }
+    let now = w.desk.shown.value in
+    let later = (all_later now (drop w.behind w.log.items) p.taken held.faithful held.lead).0 in
+    publishes _ _ now next (subst (λ (y : Version). IsLater now y) (sym is) later)
 
 pub invariant_of-self-in-Ok : goal.invariant_of-self-in-Ok
 invariant_of-self-in-Ok g c =
     let p = c.self.inside in
     let w = c.append_all.new.writer in
-    let r = c.publish-writer.result.0 in
+    let r = c.publish_as-writer.result.0 in
     let there : p.writer ≡ Some c.in-Some.own = sym c.take.ensures.value ∙ c.in-Some.is in
     let old = from_some p.writer c.in-Some.own _ there c.self.invariant.3 in
     let desk : c.in-Some.own.writer.desk ≡ w.desk = search rules in
@@ -38,9 +42,10 @@ invariant_of-self-in-Ok g c =
     let held : HoldsEdits w.desk.shown.value (view w.desk.place) (drop w.behind w.log.items) p.opening p.published p.taken =
     subst (λ d. HoldsEdits d.shown.value (view d.place) (drop w.behind w.log.items) p.opening p.published p.taken) desk
     (subst (λ (es : List Edit). HoldsEdits c.in-Some.own.writer.desk.shown.value (view c.in-Some.own.writer.desk.place) es p.opening p.published p.taken) edits old) in
-    let done = from_ok _ _ _ _ c.in-Ok.is c.publish-writer.ensures in
+    let done = from_ok _ _ _ _ c.in-Ok.is c.publish_as-writer.ensures.values in
+    let seen = from_ok _ _ _ _ c.in-Ok.is c.publish_as-writer.ensures.rule in
     let now : HoldsEdits r.desk.shown.value (view r.desk.place) [] p.opening p.taken p.taken =
-    holds_published w.desk.shown.value r.desk.shown.value (view w.desk.place) (view r.desk.place) (drop w.behind w.log.items) p.opening p.published p.taken held done.0 done.2 in
+    holds_published w.desk.shown.value r.desk.shown.value (view w.desk.place) (view r.desk.place) (drop w.behind w.log.items) p.opening p.published p.taken held done.0 seen.0 in
     let empty : drop r.behind r.log.items ≡ [] = done.1 in
     let rest : drop r.behind r.log.items ++ c.append_all.new.waiting.items ≡ [] = ap (λ (l : List Edit). l ++ c.append_all.new.waiting.items) empty ∙ none in
     let again : c.again.result ≡ p.taken = c.again.ensures in

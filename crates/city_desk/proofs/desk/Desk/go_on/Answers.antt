@@ -18,32 +18,37 @@ record_end-requires g c =
 pub invariant_of-self : goal.invariant_of-self
 invariant_of-self g c =
     let t = turn_goes_on (ap (λ v. v.0) c.self.view_is) (ap (λ v. g.S.Shelf.list v.1) c.self.view_is) c.self.invariant.0 c.requires.opened c.requires.there c.self.invariant.1
-    c.index_mut-progress.ensures.value c.index.ensures c.commands.ensures.commands c.len-number.ensures c.index-commands-number.is c.in-Ok.ensures.stepped in
+    c.index_mut-progress.ensures.value c.index.ensures c.commands.ensures.commands c.len-number.ensures
+    c.index-commands-number.is c.in-GoesOn.ensures.stepped in
     (subst (IsSerial _ _) (sym c.step.ensures.base) t.serial, t.room_left)
 
-pub returns-in-Ok-clause-turned : goal.returns-in-Ok-clause-turned
-returns-in-Ok-clause-turned g c =
+pub returns-in-GoesOn-clause-turned : goal.returns-in-GoesOn-clause-turned
+returns-in-GoesOn-clause-turned g c =
     let t = turn_goes_on (ap (λ v. v.0) c.self.view_is) (ap (λ v. g.S.Shelf.list v.1) c.self.view_is) c.self.invariant.0 c.requires.opened c.requires.there c.self.invariant.1
-    c.index_mut-progress.ensures.value c.index.ensures c.commands.ensures.commands c.len-number.ensures c.index-commands-number.is c.in-Ok.ensures.stepped in
+    c.index_mut-progress.ensures.value c.index.ensures c.commands.ensures.commands c.len-number.ensures
+    c.index-commands-number.is c.in-GoesOn.ensures.stepped in
     t.turned
 
-pub invariant_of-self-in-Err : goal.invariant_of-self-in-Err
-invariant_of-self-in-Err g c =
+pub invariant_of-self-in-Ends : goal.invariant_of-self-in-Ends
+invariant_of-self-in-Ends g c =
     let t = turn_ends (ap (λ v. v.0) c.self.view_is) (ap (λ v. g.S.Shelf.list v.1) c.self.view_is) c.self.invariant.0 c.requires.opened c.requires.there c.self.invariant.1
-    c.index_mut-progress.ensures.value c.index.ensures c.commands.ensures.commands c.len-number.ensures c.index-commands-number.is c.record_end.new.name c.in-Err.ensures.stepped
+    c.index_mut-progress.ensures.value c.index.ensures c.commands.ensures.commands c.len-number.ensures
+    c.index-commands-number.is c.record_end.new.name c.in-Ends.ensures.stepped
     c.record_end.ensures.progress c.record_end.ensures.ends c.index_mut.ensures.value c.record_end.ensures.room in
     (subst (IsSerial _ _) (sym c.step.ensures.base) t.serial, t.room_left)
 
-pub returns-in-Err-clause-turned : goal.returns-in-Err-clause-turned
-returns-in-Err-clause-turned g c =
+pub returns-in-Ends-clause-turned : goal.returns-in-Ends-clause-turned
+returns-in-Ends-clause-turned g c =
     let t = turn_ends (ap (λ v. v.0) c.self.view_is) (ap (λ v. g.S.Shelf.list v.1) c.self.view_is) c.self.invariant.0 c.requires.opened c.requires.there c.self.invariant.1
-    c.index_mut-progress.ensures.value c.index.ensures c.commands.ensures.commands c.len-number.ensures c.index-commands-number.is c.record_end.new.name c.in-Err.ensures.stepped
+    c.index_mut-progress.ensures.value c.index.ensures c.commands.ensures.commands c.len-number.ensures
+    c.index-commands-number.is c.record_end.new.name c.in-Ends.ensures.stepped
     c.record_end.ensures.progress c.record_end.ensures.ends c.index_mut.ensures.value c.record_end.ensures.room in
     t.turned
 
-pub returns-in-Err-clause-changes : goal.returns-in-Err-clause-changes
-returns-in-Err-clause-changes g c =
+pub returns-in-Ends-clause-changes : goal.returns-in-Ends-clause-changes
+returns-in-Ends-clause-changes g c =
     let t = turn_ends (ap (λ v. v.0) c.self.view_is) (ap (λ v. g.S.Shelf.list v.1) c.self.view_is) c.self.invariant.0 c.requires.opened c.requires.there c.self.invariant.1
-    c.index_mut-progress.ensures.value c.index.ensures c.commands.ensures.commands c.len-number.ensures c.index-commands-number.is c.record_end.new.name c.in-Err.ensures.stepped
+    c.index_mut-progress.ensures.value c.index.ensures c.commands.ensures.commands c.len-number.ensures
+    c.index-commands-number.is c.record_end.new.name c.in-Ends.ensures.stepped
     c.record_end.ensures.progress c.record_end.ensures.ends c.index_mut.ensures.value c.record_end.ensures.room in
     t.changes
