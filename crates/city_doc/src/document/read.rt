@@ -1,5 +1,6 @@
 //! Reads a document: its tree is taken apart, and the city is built at once.
 ghost use Rattle.std.specs.Prelude.{◌≡◌, ◌⊎◌, true, Some, None, IfOk, IfErr, IfSome, IfNone, OnOk};
+ghost use Rattle.std.specs.Prelude.{MatchResult};
 ghost use Rattle.serde_json.specs.Data.{Data};
 ghost use Rattle.serde_json.specs.View.{view};
 ghost use Rattle.city_model.specs.CityMap.{object_at, CityValue};
@@ -106,6 +107,13 @@ fn city_of_tree(alloc: Global, tree: Value) -> Result<Option<City>, ReadFault>
         return Ok(None);
     };
     let fault = city_fault(alloc, bad_list.as_ref(), &city)?;
+    built(city, fault)
+}
+
+/// The city that was built, unless it has a fault.
+fn built(city: City, fault: Option<ReadFault>) -> Result<Option<City>, ReadFault>
+    ensures { MatchResult result (λ o. (o ≡ Some city) × (fault ≡ None)) (λ f. fault ≡ Some f) }
+{
     match fault {
         Some(fault) => Err(fault),
         None => Ok(Some(city)),

@@ -69,17 +69,17 @@ impl Own for CommandParts {
     ) -> Option<bool> {
         match name {
             "object" => {
-                let body = read_body(alloc, reader, depth)?;
                 if self.other.is_some() {
                     return None;
                 }
+                let body = read_body(alloc, reader, depth)?;
                 self.other = Some(Other::Object(body));
             }
             "parent" => {
-                let parent = Id::from_tokens(alloc, reader, depth)?;
                 if self.other.is_some() {
                     return None;
                 }
+                let parent = Id::from_tokens(alloc, reader, depth)?;
                 self.other = Some(Other::Parent(parent));
             }
             _ => {

@@ -5,14 +5,14 @@ use Rattle.city_doc.specs.declared.stream.command.Other.TheVariants.{Object, Par
 use Rattle.city_doc.proofs.stream.CommandMembers.{verb_taken, other_taken}
 use Rattle.city_doc.proofs.stream.command.CommandPartsOwn.take.Goals as goal
 
-pub returns-else-is_some : goal.returns-else-is_some
-returns-else-is_some c =
+pub returns-in_ok-body-in-object : goal.returns-in_ok-body-in-object
+returns-in_ok-body-in-object c =
     let read = c.in_ok-body-in-object in
     let none : is_some c.args.self.now.other ≡ false = grind arith in
     (read.ensures.0, read.ensures.1, λ found kept h. other_taken c.args.self.now (Object read.body) c.args.name.now _ found kept (c.in-object.is, read.ensures.2) none h)
 
-pub returns-else-is_some-2 : goal.returns-else-is_some-2
-returns-else-is_some-2 c =
+pub returns-in_ok-parent-in-parent : goal.returns-in_ok-parent-in-parent
+returns-in_ok-parent-in-parent c =
     let read = c.in_ok-parent-in-parent in
     let none : is_some c.args.self.now.other ≡ false = grind arith in
     (read.ensures.0, read.ensures.1, λ found kept h. other_taken c.args.self.now (Parent read.parent) c.args.name.now _ found kept (c.in-parent.is, read.ensures.2) none h)
