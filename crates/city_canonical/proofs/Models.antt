@@ -1,5 +1,6 @@
 -- A model that was read of an encoded one, is written and decoded, is the same model.
-use Rattle.std.proofs.Common.{◌≡◌, ℕ, List, [], ◌∷◌, true, false, true≢false, Option, Some, None, codes, refl, sym, ap, subst, ◌∙◌}
+use Rattle.std.proofs.Common.{◌≡◌, ℕ, List, [], ◌∷◌, true, false, true≢false, Option, Some, None, codes, refl, sym, ap}
+use Rattle.std.proofs.Common.{subst, ◌∙◌}
 use Rattle.std.specs.Prelude.{map, option_map, option_and_then}
 use Rattle.std.specs.FinMap.{entries}
 use Rattle.std.proofs.lemmas.Bool.{and_parts, or_parts}
@@ -40,8 +41,10 @@ use Rattle.city_canonical.specs.Placed.{or_empty, list_at}
 use Rattle.city_canonical.specs.Members.{IsInOrder, IsSameAt}
 use Rattle.city_canonical.specs.Same.{IsEachOnce, IsPart, IsUsed, IsSameObjectOrNone, object_at, IsSameModel}
 use Rattle.city_canonical.proofs.Cities.{ids_ascend, object_shown, objects_read, objects_decoded, objects_same}
-use Rattle.city_canonical.proofs.Members.{IsRead, value_at, read_members, decoded_members_at, no_number, Numbers, numbers_at, member_same}
-use Rattle.city_canonical.proofs.Objects.{ascend_decoded, ordered_read, ordered_without, object_is, array_is, object_inj, number_object, found_read}
+use Rattle.city_canonical.proofs.Members.{IsRead, value_at, read_members, decoded_members_at, no_number, Numbers}
+use Rattle.city_canonical.proofs.Members.{numbers_at, member_same}
+use Rattle.city_canonical.proofs.Objects.{ascend_decoded, ordered_read, ordered_without, object_is, array_is}
+use Rattle.city_canonical.proofs.Objects.{object_inj, number_object, found_read}
 use Rattle.city_canonical.proofs.Places.{Show, shown_shape, shows_read, shows_written}
 use Rattle.city_canonical.proofs.Plain.{ArePlain, vertices_plain, itself, plain_decoded}
 use Rattle.city_canonical.proofs.Vertices.{vertex_at, vertices_once}
@@ -81,7 +84,8 @@ city_parts d c h =
     let s = stands_for d c h in
     let top = and_then_some (λ top. frame_of_rest (without (codes "CityObjects") top)) (as_object d) c.0 s.frame in
     let is = object_is d top.0 top.1 in
-    let texts = and_parts (is_text (codes "CityJSON") (get (codes "type") d)) (is_text (codes "2.0") (get (codes "version") d)) s.json in
+    let texts = and_parts (is_text (codes "CityJSON") (get (codes "type") d))
+    (is_text (codes "2.0") (get (codes "version") d)) s.json in
     let objects = and_then_some as_object (get (codes "CityObjects") d) _ s.objects in
     let vertices = and_then_some points_of (get (codes "vertices") d) _ s.points in
     let items = and_then_some (read_items point_of) (as_array vertices.0) _ vertices.2 in (
@@ -105,32 +109,41 @@ city_parts d c h =
 
 -- ---- the top was read of an object
 
-top_read : (j : json.Json) (ms : Members) (d : Data) → of_json (encoded_top j) ≡ Some (object ms) → get_member (codes "type") ms ≡ Some d → (js : json.Members) × (j ≡ json.object js) × (of_members (encoded_members true js) no_members ≡ Some ms)
+top_read : (j : json.Json) (ms : Members) (d : Data) → of_json (encoded_top j) ≡ Some (object ms)
+    → get_member (codes "type") ms ≡ Some d
+    → (js : json.Members) × (j ≡ json.object js) × (of_members (encoded_members true js) no_members ≡ Some ms)
 top_read json.null ms d is h = absurd (let no : null ≡ object ms = Some_inj _ _ is in cc)
 top_read (json.boolean b) ms d is h = absurd (let no : boolean b ≡ object ms = Some_inj _ _ is in cc)
 top_read (json.number s) ms d is h =
     let o = number_object s (is_whole s) ms (codes "type") d is refl h in
     let no : json.number s ≡ json.object o.ms = o.is in absurd (cc)
 top_read (json.string s) ms d is h = absurd (let no : string s ≡ object ms = Some_inj _ _ is in cc)
-top_read (json.array js) ms d is h = let a = mapped array (of_items (encoded_items js)) (object ms) is in let no : array a.0 ≡ object ms = a.2 in absurd (cc)
+top_read (json.array js) ms d is h = let a =
+    mapped array (of_items (encoded_items js)) (object ms) is in let no : array a.0 ≡ object ms = a.2 in absurd (cc)
 top_read (json.object js) ms d is h =
     let o = mapped object (of_members (encoded_members true js) no_members) (object ms) is in
     (js, refl, o.1 ∙ ap Some (object_inj o.2))
 
 -- ---- what is written for a city
 
-left_other : (name : List ℕ) (ms : Members) → same_id name (codes "CityObjects") ≡ false → same_id name (codes "vertices") ≡ false → same_id name (codes "transform") ≡ false → same_id name (codes "version") ≡ false → same_id name (codes "type") ≡ false
+left_other : (name : List ℕ) (ms : Members) → same_id name (codes "CityObjects") ≡ false
+    → same_id name (codes "vertices") ≡ false → same_id name (codes "transform") ≡ false
+    → same_id name (codes "version") ≡ false → same_id name (codes "type") ≡ false
     → get_member name (without_top_members (without (codes "CityObjects") ms)) ≡ get_member name ms
 left_other name ms a b t v y =
     let rest = without (codes "CityObjects") ms in
-    get_member-without name (codes "vertices") (without (codes "version") (without (codes "type") (without (codes "transform") rest))) b
+    get_member-without name (codes "vertices")
+    (without (codes "version") (without (codes "type") (without (codes "transform") rest))) b
     ∙ get_member-without name (codes "version") (without (codes "type") (without (codes "transform") rest)) v
     ∙ get_member-without name (codes "type") (without (codes "transform") rest) y
     ∙ get_member-without name (codes "transform") rest t ∙ get_member-without name (codes "CityObjects") ms a
 
 left_ordered : (ms : Members) → AreOrdered ms → AreOrdered (without_top_members (without (codes "CityObjects") ms))
 left_ordered ms h =
-    ordered_without (codes "vertices") _ (ordered_without (codes "version") _ (ordered_without (codes "type") _ (ordered_without (codes "transform") _ (ordered_without (codes "CityObjects") ms h))))
+    ordered_without (codes "vertices") _
+    (ordered_without (codes "version") _
+    (ordered_without (codes "type") _
+    (ordered_without (codes "transform") _ (ordered_without (codes "CityObjects") ms h))))
 
 module _ (objects vertices transform version type : Data) (extra : Members) where
   abbrev typed : Members
@@ -149,41 +162,59 @@ module _ (objects vertices transform version type : Data) (extra : Members) wher
   written = put (codes "CityObjects") objects pointed
 
   written_vertices : get_member (codes "vertices") written ≡ Some vertices
-  written_vertices = get_member-put_apart (codes "vertices") (codes "CityObjects") objects pointed refl ∙ get_member-put (codes "vertices") vertices framed
+  written_vertices = get_member-put_apart (codes "vertices") (codes "CityObjects") objects pointed refl
+      ∙ get_member-put (codes "vertices") vertices framed
 
-  written_other_than : (name : List ℕ) → same_id name (codes "CityObjects") ≡ false → same_id name (codes "vertices") ≡ false → get_member name written ≡ get_member name framed
-  written_other_than name a b = get_member-put_apart name (codes "CityObjects") objects pointed a ∙ get_member-put_apart name (codes "vertices") vertices framed b
+  written_other_than : (name : List ℕ) → same_id name (codes "CityObjects") ≡ false
+      → same_id name (codes "vertices") ≡ false → get_member name written ≡ get_member name framed
+  written_other_than name a b = get_member-put_apart name (codes "CityObjects") objects pointed a
+      ∙ get_member-put_apart name (codes "vertices") vertices framed b
 
   written_transform : get_member (codes "transform") written ≡ Some transform
-  written_transform = written_other_than (codes "transform") refl refl ∙ get_member-put (codes "transform") transform versioned
+  written_transform = written_other_than (codes "transform") refl refl
+      ∙ get_member-put (codes "transform") transform versioned
 
   written_version : get_member (codes "version") written ≡ Some version
-  written_version = written_other_than (codes "version") refl refl ∙ get_member-put_apart (codes "version") (codes "transform") transform versioned refl ∙ get_member-put (codes "version") version typed
+  written_version = written_other_than (codes "version") refl refl
+      ∙ get_member-put_apart (codes "version") (codes "transform") transform versioned refl
+      ∙ get_member-put (codes "version") version typed
 
   written_type : get_member (codes "type") written ≡ Some type
   written_type =
-      written_other_than (codes "type") refl refl ∙ get_member-put_apart (codes "type") (codes "transform") transform versioned refl ∙ get_member-put_apart (codes "type") (codes "version") version typed refl
+      written_other_than (codes "type") refl refl
+      ∙ get_member-put_apart (codes "type") (codes "transform") transform versioned refl
+      ∙ get_member-put_apart (codes "type") (codes "version") version typed refl
       ∙ get_member-put (codes "type") type extra
 
-  written_extra : (name : List ℕ) → same_id name (codes "CityObjects") ≡ false → same_id name (codes "vertices") ≡ false → same_id name (codes "transform") ≡ false → same_id name (codes "version") ≡ false → same_id name (codes "type") ≡ false
+  written_extra : (name : List ℕ) → same_id name (codes "CityObjects") ≡ false → same_id name (codes "vertices") ≡ false
+      → same_id name (codes "transform") ≡ false → same_id name (codes "version") ≡ false
+      → same_id name (codes "type") ≡ false
       → get_member name written ≡ get_member name extra
   written_extra name a b t v y =
-      written_other_than name a b ∙ get_member-put_apart name (codes "transform") transform versioned t ∙ get_member-put_apart name (codes "version") version typed v ∙ get_member-put_apart name (codes "type") type extra y
+      written_other_than name a b ∙ get_member-put_apart name (codes "transform") transform versioned t
+      ∙ get_member-put_apart name (codes "version") version typed v
+      ∙ get_member-put_apart name (codes "type") type extra y
 
   written_ordered : AreOrdered extra → AreOrdered written
   written_ordered h =
-      ordered_put (codes "CityObjects") objects pointed (ordered_put (codes "vertices") vertices framed (ordered_put (codes "transform") transform versioned (ordered_put (codes "version") version typed (ordered_put (codes "type") type extra h))))
+      ordered_put (codes "CityObjects") objects pointed
+      (ordered_put (codes "vertices") vertices framed
+      (ordered_put (codes "transform") transform versioned
+      (ordered_put (codes "version") version typed (ordered_put (codes "type") type extra h))))
 
 points_plain : (ps : List Point) → ArePlain (items_of (map vertex_data ps))
 points_plain [] = tt
 points_plain (p ∷ ps) = ((tt, (tt, (tt, tt))), points_plain ps)
 
-top_decoded : (ms : Members) (d : Data) → get_member (codes "type") ms ≡ Some d → decoded_top (outline (object ms)) ≡ json.object (decoded_members true (members_outline ms))
+top_decoded : (ms : Members) (d : Data) → get_member (codes "type") ms ≡ Some d
+    → decoded_top (outline (object ms)) ≡ json.object (decoded_members true (members_outline ms))
 top_decoded ms d h = let none = no_number (codes "type") refl ms d h in rw none refl
 
 -- ---- the model
 
-module _ (js : json.Members) (ms : Members) (c : CityValue) (numbers : HasNumbers (json.object js)) (read : of_members (encoded_members true js) no_members ≡ Some ms) (p : IsCityOf ms c) (range : IsInRange (pool_of c) c.0) where
+module _ (js : json.Members) (ms : Members) (c : CityValue) (numbers : HasNumbers (json.object js))
+    (read : of_members (encoded_members true js) no_members ≡ Some ms) (p : IsCityOf ms c)
+    (range : IsInRange (pool_of c) c.0) where
   abbrev objects : Data
   objects = objects_data (pool_of c) (entries c.1)
 
@@ -206,34 +237,47 @@ module _ (js : json.Members) (ms : Members) (c : CityValue) (numbers : HasNumber
   back = json.object (decoded_members true (members_outline all))
 
   all_ordered : AreOrdered all
-  all_ordered = written_ordered objects vertices transform version type c.0.extra (subst AreOrdered (sym p.frame.extra) (left_ordered ms (ordered_read (encoded_members true js) ms read)))
+  all_ordered =
+      written_ordered objects vertices transform version type c.0.extra
+      (subst AreOrdered (sym p.frame.extra) (left_ordered ms (ordered_read (encoded_members true js) ms read)))
 
-  found_at : (name : List ℕ) (d : Data) → get_member name all ≡ Some d → look.get name back ≡ Some (value_at true name d)
+  found_at : (name : List ℕ) (d : Data) → get_member name all ≡ Some d
+      → look.get name back ≡ Some (value_at true name d)
   found_at name d is = decoded_members_at true name all all_ordered ∙ ap (option_map (value_at true name)) is
 
   -- members that are kept
 
-  same_at : (name : List ℕ) → same_id name (codes "CityObjects") ≡ false → same_id name (codes "vertices") ≡ false → same_id name (codes "transform") ≡ false → get_member name all ≡ get_member name ms
+  same_at : (name : List ℕ) → same_id name (codes "CityObjects") ≡ false → same_id name (codes "vertices") ≡ false
+      → same_id name (codes "transform") ≡ false → get_member name all ≡ get_member name ms
   same_at name a b t =
-      by_id name (codes "type") (λ e. subst (λ n. get_member n all ≡ get_member n ms) (sym e) (written_type objects vertices transform version type c.0.extra ∙ sym p.type))
-      (λ y. by_id name (codes "version") (λ e. subst (λ n. get_member n all ≡ get_member n ms) (sym e) (written_version objects vertices transform version type c.0.extra ∙ sym p.version))
-      (λ v. written_extra objects vertices transform version type c.0.extra name a b t v y ∙ ap (get_member name) p.frame.extra ∙ left_other name ms a b t v y))
+      by_id name (codes "type")
+      (λ e. subst (λ n. get_member n all ≡ get_member n ms) (sym e)
+      (written_type objects vertices transform version type c.0.extra ∙ sym p.type))
+      (λ y. by_id name (codes "version")
+      (λ e. subst (λ n. get_member n all ≡ get_member n ms) (sym e)
+      (written_version objects vertices transform version type c.0.extra ∙ sym p.version))
+      (λ v. written_extra objects vertices transform version type c.0.extra name a b t v y
+      ∙ ap (get_member name) p.frame.extra ∙ left_other name ms a b t v y))
 
-  transform_step : (o : Option json.Json) (r : Option Data) → Numbers o → IsRead true (codes "transform") None o r → r ≡ Some p.frame.transform → Some (value_at true (codes "transform") transform) ≡ option_map arranged o
+  transform_step : (o : Option json.Json) (r : Option Data) → Numbers o → IsRead true (codes "transform") None o r
+      → r ≡ Some p.frame.transform → Some (value_at true (codes "transform") transform) ≡ option_map arranged o
   transform_step None r n is h = not_found p.frame.transform (sym is ∙ h)
   transform_step (Some t) r n is h = ap Some (transform_same ms c.0 p.frame t n (is.1 ∙ sym is.2 ∙ h))
 
   transform_is : IsSameAt (json.object js) back (codes "transform")
   transform_is =
       found_at (codes "transform") transform (written_transform objects vertices transform version type c.0.extra)
-      ∙ transform_step (look.get_member (codes "transform") js) (get_member (codes "transform") ms) (numbers_at (codes "transform") js numbers) (read_members true (codes "transform") js ms read) p.frame.there
+      ∙ transform_step (look.get_member (codes "transform") js) (get_member (codes "transform") ms)
+      (numbers_at (codes "transform") js numbers) (read_members true (codes "transform") js ms read) p.frame.there
 
-  member_is : (name : List ℕ) → has_id (codes "CityObjects" ∷ codes "vertices" ∷ []) name ≡ false → IsSameAt (json.object js) back name
+  member_is : (name : List ℕ) → has_id (codes "CityObjects" ∷ codes "vertices" ∷ []) name ≡ false
+      → IsSameAt (json.object js) back name
   member_is name apart =
       let first = or_parts (same_id name (codes "CityObjects")) (has_id (codes "vertices" ∷ []) name) apart in
       let second = or_parts (same_id name (codes "vertices")) false first.1 in
       by_id name (codes "transform") (λ e. subst (IsSameAt (json.object js) back) (sym e) transform_is)
-      (λ t. member_same true name js ms all (sym (is_eq-slice_cmp name (codes "transform")) ∙ t) numbers read all_ordered (same_at name first.0 second.0 t))
+      (λ t. member_same true name js ms all (sym (is_eq-slice_cmp name (codes "transform")) ∙ t) numbers read
+      all_ordered (same_at name first.0 second.0 t))
 
   -- vertices
 
@@ -246,7 +290,8 @@ module _ (js : json.Members) (ms : Members) (c : CityValue) (numbers : HasNumber
   vertices_back : list_at (codes "vertices") back ≡ items_outline (items_of (map vertex_data (pool_of c)))
   vertices_back =
       ap (λ o. or_empty (option_and_then look.as_array o))
-      (found_at (codes "vertices") vertices (written_vertices objects vertices transform version type c.0.extra) ∙ ap Some (plain_decoded vertices (points_plain (pool_of c))))
+      (found_at (codes "vertices") vertices (written_vertices objects vertices transform version type c.0.extra)
+      ∙ ap Some (plain_decoded vertices (points_plain (pool_of c))))
 
   abbrev vs : json.Items
   vs = list_at (codes "vertices") (json.object js)
@@ -262,21 +307,27 @@ module _ (js : json.Members) (ms : Members) (c : CityValue) (numbers : HasNumber
 
   -- objects
 
-  objects_there : look.get (codes "CityObjects") back ≡ Some (json.object (decoded_members false (members_outline (in_turn (pool_of c) (entries c.1)))))
+  objects_there : look.get (codes "CityObjects") back
+      ≡ Some (json.object (decoded_members false (members_outline (in_turn (pool_of c) (entries c.1)))))
   objects_there =
-      found_at (codes "CityObjects") objects (get_member-put (codes "CityObjects") objects (pointed objects vertices transform version type c.0.extra)) ∙ ap Some (objects_decoded vs ws p.ps c range.fewer show show_written)
+      found_at (codes "CityObjects") objects
+      (get_member-put (codes "CityObjects") objects (pointed objects vertices transform version type c.0.extra))
+      ∙ ap Some (objects_decoded vs ws p.ps c range.fewer show show_written)
 
   ids_in_order : (o : json.Json) → look.get (codes "CityObjects") back ≡ Some o → IsInOrder o
-  ids_in_order o is = subst IsInOrder (Some_inj _ _ (sym objects_there ∙ is)) (ids_ascend vs ws p.ps c range.fewer show show_written)
+  ids_in_order o is =
+      subst IsInOrder (Some_inj _ _ (sym objects_there ∙ is)) (ids_ascend vs ws p.ps c range.fewer show show_written)
 
   object_is_same : (id : List ℕ) → IsSameObjectOrNone vs ws (object_at id (json.object js)) (object_at id back)
   object_is_same id =
       let found = found_read true (codes "CityObjects") refl refl js ms read (object p.objs) p.objects in
       let o = objects_read p.ps found.0 p.objs p.list found.2 p.entries_are in
       let there = found.1 ∙ ap Some o.is in
-      let same = objects_same vs ws p.ps c range.fewer show show_written p.objs p.list p.entries_are p.made o.ms (subst Numbers there (numbers_at (codes "CityObjects") js numbers)) o.read id in
+      let same = objects_same vs ws p.ps c range.fewer show show_written p.objs p.list p.entries_are p.made o.ms
+      (subst Numbers there (numbers_at (codes "CityObjects") js numbers)) o.read id in
       subst (λ o. IsSameObjectOrNone vs ws o (object_at id back)) (sym (ap (option_and_then (look.get id)) there))
-      (subst (IsSameObjectOrNone vs ws (look.get_member id o.ms)) (sym (ap (option_and_then (look.get id)) objects_there)) same)
+      (subst (IsSameObjectOrNone vs ws (look.get_member id o.ms))
+      (sym (ap (option_and_then (look.get id)) objects_there)) same)
 
   -- vertices are used
 
@@ -290,7 +341,8 @@ module _ (js : json.Members) (ms : Members) (c : CityValue) (numbers : HasNumber
       let found = found_read true (codes "CityObjects") refl refl js ms read (object p.objs) p.objects in
       let o = objects_read p.ps found.0 p.objs p.list found.2 p.entries_are in
       let numbered = subst Numbers (found.1 ∙ ap Some o.is) (numbers_at (codes "CityObjects") js numbers) in
-      let h = object_shown vs ws p.ps c range.fewer show show_written p.objs p.list p.entries_are p.made o.ms numbered o.read (e.0).0 (e.0).1 here in
+      let h = object_shown vs ws p.ps c range.fewer show show_written p.objs p.list p.entries_are p.made o.ms numbered
+      o.read (e.0).0 (e.0).1 here in
       let s = shown_at ws (list_at (codes "geometry") h.0) (e.0).1.body.geometry g.1.0 g.0 h.2 g.1.1 in
       record {
         id = (e.0).0;
@@ -306,12 +358,22 @@ module _ (js : json.Members) (ms : Members) (c : CityValue) (numbers : HasNumber
 
   top_same : IsSameModel (json.object js) (decoded_top (outline (tree_of c)))
   top_same =
-      subst (IsSameModel (json.object js)) (sym (top_decoded all type (written_type objects vertices transform version type c.0.extra)))
-      (record { names = ascend_decoded true all all_ordered; ids = ids_in_order; members = member_is; objects = object_is_same; once = subst IsEachOnce (sym vertices_back) (vertices_once (city_points c) range.points); used = vertex_used })
+      subst (IsSameModel (json.object js))
+      (sym (top_decoded all type (written_type objects vertices transform version type c.0.extra)))
+      (record {
+        names = ascend_decoded true all all_ordered;
+        ids = ids_in_order;
+        members = member_is;
+        objects = object_is_same;
+        once = subst IsEachOnce (sym vertices_back) (vertices_once (city_points c) range.points);
+        used = vertex_used;
+      })
 
 -- a model that is read and written is the same
-pub model_same : (j : json.Json) (d : Data) (c : CityValue) → HasNumbers j → of_json (encoded_top j) ≡ Some d → city_of d ≡ Some c → IsInRange (pool_of c) c.0 → IsSameModel j (decoded_top (outline (tree_of c)))
+pub model_same : (j : json.Json) (d : Data) (c : CityValue) → HasNumbers j → of_json (encoded_top j) ≡ Some d
+    → city_of d ≡ Some c → IsInRange (pool_of c) c.0 → IsSameModel j (decoded_top (outline (tree_of c)))
 model_same j d c numbers is stands range =
     let p = city_parts d c stands in
     let top = top_read j p.0 (string (codes "CityJSON")) (is ∙ ap Some p.1) p.2.type in
-    subst (λ j. IsSameModel j (decoded_top (outline (tree_of c)))) (sym top.1) (top_same top.0 p.0 c (subst HasNumbers top.1 numbers) top.2 p.2 range)
+    subst (λ j. IsSameModel j (decoded_top (outline (tree_of c)))) (sym top.1)
+    (top_same top.0 p.0 c (subst HasNumbers top.1 numbers) top.2 p.2 range)

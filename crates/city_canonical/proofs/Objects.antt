@@ -25,7 +25,8 @@ use Rattle.city_canonical.proofs.Members.{member_read, IsRead, in_plain, no_fram
 
 -- ---- the names ascend
 
-ordered_after : (ms : json.Members) (before ds : Members) → of_members ms before ≡ Some ds → AreOrdered before → AreOrdered ds
+ordered_after : (ms : json.Members) (before ds : Members) → of_members ms before ≡ Some ds → AreOrdered before
+    → AreOrdered ds
 ordered_after json.no_members before ds is h = subst AreOrdered (Some_inj _ _ is) h
 ordered_after (json.member k j ms) before ds is h =
     let d = and_then_some (λ d. of_members ms (put k d before)) (of_json j) ds is in
@@ -37,14 +38,17 @@ ordered_read ms ds is = ordered_after ms no_members ds is tt
 above_without : (k name : List ℕ) (ms : Members) → AllAbove k ms → AllAbove k (without name ms)
 above_without k name no_members h = tt
 above_without k name (member l d ms) h =
-    elim (same_id name l) as (λ b. AllAbove k (if b then without name ms else member l d (without name ms))) [ true ↦ above_without k name ms h.1 | false ↦ (h.0, above_without k name ms h.1) ]
+    elim (same_id name l) as (λ b. AllAbove k (if b then without name ms else member l d (without name ms)))
+    [ true ↦ above_without k name ms h.1 | false ↦ (h.0, above_without k name ms h.1) ]
 
 pub ordered_without : (name : List ℕ) (ms : Members) → AreOrdered ms → AreOrdered (without name ms)
 ordered_without name no_members h = tt
 ordered_without name (member l d ms) h =
-    elim (same_id name l) as (λ b. AreOrdered (if b then without name ms else member l d (without name ms))) [ true ↦ ordered_without name ms h.1 | false ↦ (above_without l name ms h.0, ordered_without name ms h.1) ]
+    elim (same_id name l) as (λ b. AreOrdered (if b then without name ms else member l d (without name ms)))
+    [ true ↦ ordered_without name ms h.1 | false ↦ (above_without l name ms h.0, ordered_without name ms h.1) ]
 
-below_decoded : (top : Bool) (k : List ℕ) (ms : Members) → AllAbove k ms → IsBelow k (decoded_members top (members_outline ms))
+below_decoded : (top : Bool) (k : List ℕ) (ms : Members) → AllAbove k ms
+    → IsBelow k (decoded_members top (members_outline ms))
 below_decoded top k no_members h = tt
 below_decoded top k (member l d ms) h = (h.0, below_decoded top k ms h.1)
 
@@ -66,7 +70,8 @@ string_is (object ms) s h = not_found s h
 pub kept_is : (test : Members → Bool) (ms kept : Members) → kept_if test ms ≡ Some kept → kept ≡ ms
 kept_is test ms kept h = sym (Some_inj _ _ (if_some (test ms) (Some ms) kept h).1)
 
-pub decoded_object : (ms : Members) → number_in (members_outline ms) ≡ None → decoded (outline (object ms)) ≡ json.object (decoded_members false (members_outline ms))
+pub decoded_object : (ms : Members) → number_in (members_outline ms) ≡ None
+    → decoded (outline (object ms)) ≡ json.object (decoded_members false (members_outline ms))
 decoded_object ms h = rw h refl
 
 -- ---- an object was read of an object
@@ -79,7 +84,9 @@ pub record IsObject (j : json.Json) (ds : Members) : Type 0 where
 pub object_inj : {ds es : Members} → object ds ≡ object es → ds ≡ es
 object_inj {ds} e = cc
 
-pub number_object : (s : List ℕ) (b : Bool) (ds : Members) (name : List ℕ) (d : Data) → of_json (cond b (json.number s) (tagged s)) ≡ Some (object ds) → (get_member name (member (codes "#") (string s) no_members) ≡ None) → get_member name ds ≡ Some d
+pub number_object : (s : List ℕ) (b : Bool) (ds : Members) (name : List ℕ) (d : Data)
+    → of_json (cond b (json.number s) (tagged s)) ≡ Some (object ds)
+    → (get_member name (member (codes "#") (string s) no_members) ≡ None) → get_member name ds ≡ Some d
     → IsObject (json.number s) ds
 number_object s true ds name d is none h = let n = mapped number (number_of s) (object ds) is in absurd (cc)
 number_object s false ds name d is none h =
@@ -87,33 +94,46 @@ number_object s false ds name d is none h =
     not_found d (sym none ∙ ap (get_member name) same ∙ h)
 
 -- where a member of another name than the tag is there
-pub object_read : (j : json.Json) (ds : Members) (name : List ℕ) (d : Data) → ((s : List ℕ) → get_member name (member (codes "#") (string s) no_members) ≡ None) → of_json (encoded j) ≡ Some (object ds) → get_member name ds ≡ Some d → IsObject j ds
+pub object_read : (j : json.Json) (ds : Members) (name : List ℕ) (d : Data)
+    → ((s : List ℕ) → get_member name (member (codes "#") (string s) no_members) ≡ None)
+    → of_json (encoded j) ≡ Some (object ds) → get_member name ds ≡ Some d → IsObject j ds
 object_read json.null ds name d none is h = absurd (let e : null ≡ object ds = Some_inj _ _ is in cc)
 object_read (json.boolean b) ds name d none is h = absurd (let e : boolean b ≡ object ds = Some_inj _ _ is in cc)
 object_read (json.number s) ds name d none is h = number_object s (is_whole s) ds name d is (none s) h
 object_read (json.string s) ds name d none is h = absurd (let e : string s ≡ object ds = Some_inj _ _ is in cc)
-object_read (json.array js) ds name d none is h = let a = mapped array (of_items (encoded_items js)) (object ds) is in absurd (cc)
+object_read (json.array js) ds name d none is h = let a = mapped array (of_items (encoded_items js)) (object ds) is in
+    absurd (cc)
 object_read (json.object ms) ds name d none is h =
     let o = mapped object (of_members (encoded_members false ms) no_members) (object ds) is in
     record { ms = ms; is = refl; read = o.1 ∙ ap Some (object_inj o.2) }
 
 -- ---- a member that was read of an encoded one
 
-module _ (top : Bool) (name : List ℕ) (untagged : is_tag name ≡ false) (unframed : (top && bytes_eq name (codes "transform")) ≡ false) where
+module _ (top : Bool) (name : List ℕ) (untagged : is_tag name ≡ false)
+    (unframed : (top && bytes_eq name (codes "transform")) ≡ false) where
   untagged_read : (j : json.Json) → member_read top name j ≡ of_json (encoded j)
-  untagged_read j = ap of_json (in_plain top name j (encoded j) (no_frame top (bytes_eq name (codes "transform")) (is_frame j) unframed) (ap (λ b. b && is_text_or_array j) untagged))
+  untagged_read j =
+      ap of_json
+      (in_plain top name j (encoded j) (no_frame top (bytes_eq name (codes "transform")) (is_frame j) unframed)
+      (ap (λ b. b && is_text_or_array j) untagged))
 
-  found_step : (o : Option json.Json) (r : Option Data) (d : Data) → IsRead top name None o r → r ≡ Some d → (j : json.Json) × (o ≡ Some j) × (of_json (encoded j) ≡ Some d)
+  found_step : (o : Option json.Json) (r : Option Data) (d : Data) → IsRead top name None o r → r ≡ Some d
+      → (j : json.Json) × (o ≡ Some j) × (of_json (encoded j) ≡ Some d)
   found_step None r d is h = not_found d (sym is ∙ h)
   found_step (Some j) r d is h = (j, refl, sym (untagged_read j) ∙ is.1 ∙ sym is.2 ∙ h)
 
   module _ (ms : json.Members) (ds : Members) (is : of_members (encoded_members top ms) no_members ≡ Some ds) where
-    pub found_read : (d : Data) → get_member name ds ≡ Some d → (j : json.Json) × (look.get_member name ms ≡ Some j) × (of_json (encoded j) ≡ Some d)
+    pub found_read : (d : Data) → get_member name ds ≡ Some d
+        → (j : json.Json) × (look.get_member name ms ≡ Some j) × (of_json (encoded j) ≡ Some d)
     found_read d h = found_step (look.get_member name ms) (get_member name ds) d (read_members top name ms ds is) h
 
-none_step : (top : Bool) (name : List ℕ) (o : Option json.Json) (r : Option Data) → IsRead top name None o r → r ≡ None → o ≡ None
+none_step : (top : Bool) (name : List ℕ) (o : Option json.Json) (r : Option Data) → IsRead top name None o r → r ≡ None
+    → o ≡ None
 none_step top name None r is h = refl
 none_step top name (Some j) r is h = not_found is.0 (sym h ∙ is.2)
 
-pub none_read : (top : Bool) (name : List ℕ) (ms : json.Members) (ds : Members) → of_members (encoded_members top ms) no_members ≡ Some ds → get_member name ds ≡ None → look.get_member name ms ≡ None
-none_read top name ms ds is h = none_step top name (look.get_member name ms) (get_member name ds) (read_members top name ms ds is) h
+pub none_read : (top : Bool) (name : List ℕ) (ms : json.Members) (ds : Members)
+    → of_members (encoded_members top ms) no_members ≡ Some ds → get_member name ds ≡ None
+    → look.get_member name ms ≡ None
+none_read top name ms ds is h =
+    none_step top name (look.get_member name ms) (get_member name ds) (read_members top name ms ds is) h

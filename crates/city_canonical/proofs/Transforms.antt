@@ -1,12 +1,14 @@
 -- A transform that was framed is written in its frame, and decoded as it was.
-use Rattle.std.proofs.Common.{◌≡◌, ℕ, ℤ, pos, List, [], ◌∷◌, Bool, true, false, true≢false, Some, None, codes, refl, sym, ap, ap₂, ◌∙◌, arith, decimal}
+use Rattle.std.proofs.Common.{◌≡◌, ℕ, ℤ, pos, List, [], ◌∷◌, Bool, true, false, true≢false, Some, None, codes, refl}
+use Rattle.std.proofs.Common.{sym, ap, ap₂, ◌∙◌, arith, decimal}
 use Rattle.std.proofs.lemmas.Bool.{and_from}
 use Rattle.std.proofs.lemmas.Fmt.{decimal_digit}
 use Rattle.json.specs.Json as json
 use Rattle.json.specs.Find as look
 use Rattle.json.specs.Tree.{HasNumbers}
 use Rattle.json.proofs.Found.{Some_inj, not_found}
-use Rattle.serde_json.specs.Data.{Data, unsigned, null, boolean, number, string, array, object, Members, no_members, member, put}
+use Rattle.serde_json.specs.Data.{Data, unsigned, null, boolean, number, string, array, object, Members, no_members}
+use Rattle.serde_json.specs.Data.{member, put}
 use Rattle.serde_json.specs.Find.{get, get_member, as_object}
 use Rattle.serde_json.specs.Read.{number_of, of_json}
 use Rattle.serde_json.specs.Written.{outline}
@@ -21,7 +23,8 @@ use Rattle.city_decimals.specs.Decoded.{decoded, out_of_form}
 use Rattle.city_decimals.specs.Arranged.{arranged}
 use Rattle.city_decimals.proofs.Kept.{kept, transform_kept}
 use Rattle.city_doc.specs.document.Canonical.{transform_data}
-use Rattle.city_doc.specs.document.Top.{triple_at, without_transform_members, more_of, without_top_members, frame_with, frame_of_rest}
+use Rattle.city_doc.specs.document.Top.{triple_at, without_transform_members, more_of, without_top_members, frame_with}
+use Rattle.city_doc.specs.document.Top.{frame_of_rest}
 use Rattle.city_doc.specs.tree.Members.{kept_if}
 use Rattle.city_doc.specs.tree.Triples.{triple_of, triple_data}
 use Rattle.city_doc.proofs.Options.{and_then_some, map_some}
@@ -41,7 +44,8 @@ pub record IsFrameOf (ms : Members) (f : Frame) : Type 0 where
   pub more : f.more ≡ without_transform_members members
   pub extra : f.extra ≡ without_top_members (without (codes "CityObjects") ms)
 
-pub frame_parts : (ms : Members) (f : Frame) → frame_of_rest (without (codes "CityObjects") ms) ≡ Some f → IsFrameOf ms f
+pub frame_parts : (ms : Members) (f : Frame) → frame_of_rest (without (codes "CityObjects") ms) ≡ Some f
+    → IsFrameOf ms f
 frame_parts ms f h =
     let rest = without (codes "CityObjects") ms in
     let kept = and_then_some _ (kept_if kept_at_top (without_top_members rest)) f h in
@@ -49,7 +53,8 @@ frame_parts ms f h =
     let scale = and_then_some _ (triple_at (codes "scale") t.0) f t.2 in
     let translate = and_then_some _ (triple_at (codes "translate") t.0) f scale.2 in
     let more = map_some _ (more_of t.0) f translate.2 in
-    let members = and_then_some (λ ms. kept_if kept_at_transform (without_transform_members ms)) (as_object t.0) more.0 more.1 in
+    let members =
+    and_then_some (λ ms. kept_if kept_at_transform (without_transform_members ms)) (as_object t.0) more.0 more.1 in
     record {
       transform = t.0;
       there = sym (get_member-without (codes "transform") (codes "CityObjects") ms refl) ∙ t.1;
@@ -69,12 +74,16 @@ one_text = decimal_digit 1 (omega arith)
 none_text : decimal 0 ≡ codes "0"
 none_text = decimal_digit 0 (omega arith)
 
-three_read : (s : List ℕ) (n : ℕ) → number_of s ≡ Some (unsigned n) → of_json (three s) ≡ Some (triple_data (pos n ∷ pos n ∷ pos n ∷ []))
+three_read : (s : List ℕ) (n : ℕ) → number_of s ≡ Some (unsigned n)
+    → of_json (three s) ≡ Some (triple_data (pos n ∷ pos n ∷ pos n ∷ []))
 three_read s n h = rw h refl
 
 -- the members of a frame round the data
 abbrev framed_members : Data → Members
-framed_members d = member (codes "#") d (member (codes "scale") (triple_data (pos 1 ∷ pos 1 ∷ pos 1 ∷ [])) (member (codes "translate") (triple_data (pos 0 ∷ pos 0 ∷ pos 0 ∷ [])) no_members))
+framed_members d =
+    member (codes "#") d
+    (member (codes "scale") (triple_data (pos 1 ∷ pos 1 ∷ pos 1 ∷ []))
+    (member (codes "translate") (triple_data (pos 0 ∷ pos 0 ∷ pos 0 ∷ [])) no_members))
 
 framed_read : (j : json.Json) (d : Data) → of_json j ≡ Some d → of_json (framed j) ≡ Some (object (framed_members d))
 framed_read j d h =
@@ -84,7 +93,10 @@ framed_read j d h =
 
 framed_written : (d : Data) → outline (object (framed_members d)) ≡ framed (outline d)
 framed_written d =
-    ap₂ (λ a b. json.object (json.member (codes "#") (outline d) (json.member (codes "scale") (three a) (json.member (codes "translate") (three b) json.no_members)))) one_text none_text
+    ap₂ (λ a b. json.object
+    (json.member (codes "#") (outline d)
+    (json.member (codes "scale") (three a) (json.member (codes "translate") (three b) json.no_members)))) one_text
+    none_text
 
 -- ---- what a frame is read of has two triples
 
@@ -96,7 +108,9 @@ has_members (string s) name v h = not_found v h
 has_members (array ds) name v h = not_found v h
 has_members (object ms) name v h = (ms, refl)
 
-triple_there : (j : json.Json) (d : Data) (name : List ℕ) (zs : List ℤ) → is_tag name ≡ false → ((s : List ℕ) → get_member name (member (codes "#") (string s) no_members) ≡ None) → of_json (encoded j) ≡ Some d → triple_at name d ≡ Some zs
+triple_there : (j : json.Json) (d : Data) (name : List ℕ) (zs : List ℤ) → is_tag name ≡ false
+    → ((s : List ℕ) → get_member name (member (codes "#") (string s) no_members) ≡ None) → of_json (encoded j) ≡ Some d
+    → triple_at name d ≡ Some zs
     → is_triple (look.get name j) ≡ true
 triple_there j d name zs untagged none is h =
     let v = and_then_some triple_of (get name d) zs h in
@@ -105,28 +119,40 @@ triple_there j d name zs untagged none is h =
     let o = object_read j ms.0 name v.0 none (is ∙ ap Some ms.1) at in
     let found = found_read false name untagged refl o.ms ms.0 o.read v.0 at in
     let t = triple_is v.0 zs v.2 in
-    ap (λ j. is_triple (look.get name j)) o.is ∙ ap is_triple found.1 ∙ ap (λ j. is_triple (Some j)) ((itself found.0 v.0 found.2 t.1).written_so ∙ t.2)
+    ap (λ j. is_triple (look.get name j)) o.is ∙ ap is_triple found.1
+    ∙ ap (λ j. is_triple (Some j)) ((itself found.0 v.0 found.2 t.1).written_so ∙ t.2)
 
 -- ---- the transform comes back
 
-module _ (ms : Members) (f : Frame) (p : IsFrameOf ms f) (t : json.Json) (numbers : HasNumbers t) (is : member_read true (codes "transform") t ≡ Some p.transform) where
+module _ (ms : Members) (f : Frame) (p : IsFrameOf ms f) (t : json.Json) (numbers : HasNumbers t)
+    (is : member_read true (codes "transform") t ≡ Some p.transform) where
   in_its_frame : is_frame t ≡ true → value_at true (codes "transform") (transform_data f) ≡ arranged t
   in_its_frame e =
       let k = kept t numbers in
-      let same : object (framed_members k.d) ≡ p.transform = Some_inj _ _ (sym (framed_read (encoded t) k.d k.read) ∙ ap of_json (sym (in_frame true (codes "transform") t (encoded t) e)) ∙ is) in
+      let same : object (framed_members k.d) ≡ p.transform =
+      Some_inj _ _ (sym (framed_read (encoded t) k.d k.read)
+      ∙ ap of_json (sym (in_frame true (codes "transform") t (encoded t) e)) ∙ is) in
       let members : framed_members k.d ≡ p.members = object_inj (same ∙ p.is) in
-      let scale : f.scale ≡ pos 1 ∷ pos 1 ∷ pos 1 ∷ [] = sym (Some_inj _ _ (ap (triple_at (codes "scale")) same ∙ p.scale)) in
-      let translate : f.translate ≡ pos 0 ∷ pos 0 ∷ pos 0 ∷ [] = sym (Some_inj _ _ (ap (triple_at (codes "translate")) same ∙ p.translate)) in
+      let scale : f.scale ≡ pos 1 ∷ pos 1 ∷ pos 1 ∷ [] =
+      sym (Some_inj _ _ (ap (triple_at (codes "scale")) same ∙ p.scale)) in
+      let translate : f.translate ≡ pos 0 ∷ pos 0 ∷ pos 0 ∷ [] =
+      sym (Some_inj _ _ (ap (triple_at (codes "translate")) same ∙ p.translate)) in
       let more : f.more ≡ member (codes "#") k.d no_members = p.more ∙ ap without_transform_members (sym members) in
       let whole : transform_data f ≡ object (framed_members k.d) =
-      ap (λ more. object (put (codes "translate") (triple_data f.translate) (put (codes "scale") (triple_data f.scale) more))) more
-      ∙ ap₂ (λ a b. object (put (codes "translate") (triple_data a) (put (codes "scale") (triple_data b) (member (codes "#") k.d no_members)))) translate scale in
-      ap (value_at true (codes "transform")) whole ∙ ap (λ j. out_of_form true (codes "transform") j (decoded j)) (framed_written k.d) ∙ transform_kept t numbers e k.d k.read
+      ap (λ more. object
+      (put (codes "translate") (triple_data f.translate) (put (codes "scale") (triple_data f.scale) more))) more
+      ∙ ap₂ (λ a b.
+      object (put (codes "translate") (triple_data a)
+      (put (codes "scale") (triple_data b) (member (codes "#") k.d no_members)))) translate scale in
+      ap (value_at true (codes "transform")) whole
+      ∙ ap (λ j. out_of_form true (codes "transform") j (decoded j)) (framed_written k.d)
+      ∙ transform_kept t numbers e k.d k.read
 
   in_no_frame : is_frame t ≡ false → is_frame t ≡ true
   in_no_frame e =
       let read = ap of_json (sym (in_plain true (codes "transform") t (encoded t) e refl)) ∙ is in
-      and_from (is_triple (look.get (codes "scale") t)) (is_triple (look.get (codes "translate") t)) (triple_there t p.transform (codes "scale") f.scale refl (λ s. refl) read p.scale)
+      and_from (is_triple (look.get (codes "scale") t)) (is_triple (look.get (codes "translate") t))
+      (triple_there t p.transform (codes "scale") f.scale refl (λ s. refl) read p.scale)
       (triple_there t p.transform (codes "translate") f.translate refl (λ s. refl) read p.translate)
 
   transform_at : (b : Bool) → is_frame t ≡ b → value_at true (codes "transform") (transform_data f) ≡ arranged t

@@ -11,5 +11,7 @@ crew_fault document scripts CrewFault.NoPlace = tt
 crew_fault document scripts CrewFault.Unfinished = tt
 crew_fault document scripts CrewFault.Mixed = tt
 
-pub crew_refused : (document scripts : List ℕ) (f : CrewFault) (r : RunFault) → r ≡ fault_of_crew f → IsRunFault document scripts r
-crew_refused document scripts f r is = subst (λ g. IsRunFault document scripts g) (sym is) (crew_fault document scripts f)
+pub crew_refused : (document scripts : List ℕ) (f : CrewFault) (r : RunFault) → r ≡ fault_of_crew f
+    → IsRunFault document scripts r
+crew_refused document scripts f r is =
+    subst (λ g. IsRunFault document scripts g) (sym is) (crew_fault document scripts f)

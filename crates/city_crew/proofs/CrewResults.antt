@@ -12,9 +12,11 @@ use Rattle.city_desk.proofs.Throughout.{lawful_throughout}
 use Rattle.city_desk.specs.TextRuns.{IsReadFrom, IsRun}
 use Rattle.city_crew.specs.inside.CrewRuns.{IsResult}
 
-pub is_result : (document scripts : List ℕ) (d : DeskState) (changes : List Change) (base : Option CityValue) (left : CityValue) (ends : List End)
+pub is_result : (document scripts : List ℕ) (d : DeskState) (changes : List Change) (base : Option CityValue)
+    (left : CityValue) (ends : List End)
     → IsReadFrom document scripts d.start d.scripts → IsSerial d changes base → length ends ≡ length d.scripts
-    → left.0 ≡ d.start.0 → object_at left.1 ≡ model_after d.scripts (object_at d.start.1) d.ends → ends ≡ d.ends → IsResult document scripts left ends
+    → left.0 ≡ d.start.0 → object_at left.1 ≡ model_after d.scripts (object_at d.start.1) d.ends → ends ≡ d.ends
+    → IsResult document scripts left ends
 is_result document scripts d changes base left ends read serial once frame model same =
     subst (λ (es : List End). IsResult document scripts left es) (sym same) (record {
       city = d.start;
@@ -30,7 +32,8 @@ is_result document scripts d changes base left ends read serial once frame model
     })
 
 pub is_run : (document scripts : List ℕ) (left : CityValue) (ends : List End) (bytes : List ℕ)
-    → IsResult document scripts left ends → bytes ≡ report_text ends ++ city_text left ++ 10 ∷ [] → IsRun document scripts ends bytes
+    → IsResult document scripts left ends → bytes ≡ report_text ends ++ city_text left ++ 10 ∷ []
+    → IsRun document scripts ends bytes
 is_run document scripts left ends bytes result text = record {
   city = result.city;
   list = result.list;

@@ -32,24 +32,33 @@ use Rattle.city_crew.proofs.DeskCrossing.{declared_sends}
 -- ---- versions, edits and viewers
 
 version_sends : IsSend Version.the_row
-version_sends = search (city_field_sends, opening.the_send, history.the_send, values.crosses, sendable) depth 60 fits 20000
+version_sends =
+    search (city_field_sends, opening.the_send, history.the_send, values.crosses, sendable) depth 60 fits 20000
 
 version_syncs : IsSync Version.the_row
-version_syncs = search (city_field_syncs, opening.the_sync, history.the_sync, values.crosses, sendable) depth 60 fits 20000
+version_syncs =
+    search (city_field_syncs, opening.the_sync, history.the_sync, values.crosses, sendable) depth 60 fits 20000
 
 edit_sends : IsSend Edit.the_row
-edit_sends = search (text_sends, object_sends, history.the_send, maps.crosses, values.crosses, sendable) depth 60 fits 20000
+edit_sends = search (text_sends, object_sends, history.the_send, maps.crosses, values.crosses, sendable) depth 60 fits
+    20000
 
 pub viewer_sends : IsSend Viewer.the_row
-viewer_sends = search (reader.the_field_send, version_syncs, history.the_send, values.frees, values.send, values.sync, sendable) depth 60 fits 20000
+viewer_sends =
+    search (reader.the_field_send, version_syncs, history.the_send, values.frees, values.send, values.sync, sendable)
+    depth 60 fits 20000
 
 pub watcher_sends : IsSend Watcher.the_row
 watcher_sends = search (viewer_sends, values.crosses, sendable) depth 60 fits 20000
 
 -- ---- the poster
 
-writer_sends : IsSend (Writer.the_field Version.the_row Edit.the_row Known.the_row BoardRule.the_row Heap.the_row Version.the_row absorb.ghosts protocol.ghosts ghosts).row
-writer_sends = writer.the_field_send Version.the_row Edit.the_row Known.the_row BoardRule.the_row Heap.the_row Version.the_row absorb.ghosts protocol.ghosts ghosts
+writer_sends : IsSend
+    (Writer.the_field Version.the_row Edit.the_row Known.the_row BoardRule.the_row Heap.the_row Version.the_row
+    absorb.ghosts protocol.ghosts ghosts).row
+writer_sends =
+    writer.the_field_send Version.the_row Edit.the_row Known.the_row BoardRule.the_row Heap.the_row Version.the_row
+    absorb.ghosts protocol.ghosts ghosts
     version_sends edit_sends values.send version_syncs values.sync values.frees
 
 own_field_sends : (R : RattleType) → IsSend R → IsSend (OwnWriter.the_field R).row
@@ -66,7 +75,13 @@ maybe_own_sends R s = option.the_field_send (OwnWriter.the_row R) (own_sends R s
 
 poster_inside_sends : (R : RattleType) → IsSend R → IsSend (PosterInside.the_field R).row
 poster_inside_sends R s =
-    struct_send (shape (PosterInside.the_type R)) (search sendable depth 20, (maybe_own_sends R s, (head.the_send, (opening.the_send, (history.the_send, (history.the_send, (waiting_sends, tt)))))))
+    struct_send (shape (PosterInside.the_type R)) (
+      search sendable depth 20,
+      (
+        maybe_own_sends R s,
+        (head.the_send, (opening.the_send, (history.the_send, (history.the_send, (waiting_sends, tt))))),
+      ),
+    )
 
 pub poster_sends : (R : RattleType) → IsSend R → IsSend (Poster.the_row R)
 poster_sends R s = view_send _ _ _ _ _ (declared_sends (PosterInside.the_type R) (poster_inside_sends R s))

@@ -13,23 +13,29 @@ use Rattle.city_crew.specs.declared.version.Version.{Version}
 use Rattle.city_crew.proofs.LaterVersions.{all_later, lead_more}
 
 -- nothing was taken yet
-pub holds_none : (x : Version) (known : Known) (es : List Edit) (opening : CityValue) (history : HistoryValue) → IsFaithful x → known ≡ known_from x → x.opening ≡ opening → x.history ≡ history → es ≡ []
+pub holds_none : (x : Version) (known : Known) (es : List Edit) (opening : CityValue) (history : HistoryValue)
+    → IsFaithful x → known ≡ known_from x → x.opening ≡ opening → x.history ≡ history → es ≡ []
     → HoldsEdits x known es opening history history
 holds_none x known es opening history faithful met o h none =
     subst (λ (ds : List Edit). HoldsEdits x known ds opening history history) (sym none)
     (record { faithful = faithful; met = met; opening_is = o; history = h; lead = h })
 
 -- one edit more
-holds_more : (x : Version) (known : Known) (es : List Edit) (opening : CityValue) (published taken : HistoryValue) (e : Edit) (change : Change)
-    → e.history ≡ history_of taken.name (taken.changes ++ change ∷ []) → ((m : CityMap) → after_change m e.writes.entries ≡ after_change m change)
+holds_more : (x : Version) (known : Known) (es : List Edit) (opening : CityValue) (published taken : HistoryValue)
+    (e : Edit) (change : Change)
+    → e.history ≡ history_of taken.name (taken.changes ++ change ∷ [])
+    → ((m : CityMap) → after_change m e.writes.entries ≡ after_change m change)
     → IsLawful (after_changes (object_at opening.1) (taken.changes ++ change ∷ []))
     → HoldsEdits x known es opening published taken → HoldsEdits x known (es ++ e ∷ []) opening published e.history
 holds_more x known es opening published taken e change history writes lawful held =
     let y = fold edited x es in
     let all = all_later x es taken held.faithful held.lead in
     let opened = all.0.1.opening ∙ held.opening_is in
-    let city : after_change (object_at y.city.1) change ≡ after_changes (object_at opening.1) (taken.changes ++ change ∷ []) =
-    ap (λ (m : CityMap). after_change m change) (all.0.0.objects ∙ (ap (λ l. after_changes (object_at y.opening.1) l) (ap (λ (p : HistoryValue). p.changes) all.1) ∙ ap (λ (o : CityValue). after_changes (object_at o.1) taken.changes) opened))
+    let city : after_change (object_at y.city.1) change ≡ after_changes (object_at opening.1)
+    (taken.changes ++ change ∷ []) =
+    ap (λ (m : CityMap). after_change m change) (all.0.0.objects
+    ∙ (ap (λ l. after_changes (object_at y.opening.1) l) (ap (λ (p : HistoryValue). p.changes) all.1)
+    ∙ ap (λ (o : CityValue). after_changes (object_at o.1) taken.changes) opened))
     ∙ sym (shown_more (object_at opening.1) taken.changes change) in
     let next : IsNextEdit y e = record {
       change = change;
@@ -46,22 +52,34 @@ holds_more x known es opening published taken e change history writes lawful hel
     }
 
 -- one edit more waits behind those that the writer has
-pub holds_waiting : (x : Version) (known : Known) (ds ws : List Edit) (opening : CityValue) (published taken : HistoryValue) (e : Edit) (change : Change)
-    → e.history ≡ history_of taken.name (taken.changes ++ change ∷ []) → ((m : CityMap) → after_change m e.writes.entries ≡ after_change m change)
+pub holds_waiting : (x : Version) (known : Known) (ds ws : List Edit) (opening : CityValue)
+    (published taken : HistoryValue) (e : Edit) (change : Change)
+    → e.history ≡ history_of taken.name (taken.changes ++ change ∷ [])
+    → ((m : CityMap) → after_change m e.writes.entries ≡ after_change m change)
     → IsLawful (after_changes (object_at opening.1) (taken.changes ++ change ∷ []))
-    → HoldsEdits x known (ds ++ ws) opening published taken → HoldsEdits x known (ds ++ (ws ++ e ∷ [])) opening published e.history
+    → HoldsEdits x known (ds ++ ws) opening published taken
+    → HoldsEdits x known (ds ++ (ws ++ e ∷ [])) opening published e.history
 holds_waiting x known ds ws opening published taken e change history writes lawful held =
     subst (λ (es : List Edit). HoldsEdits x known es opening published e.history) (append_assoc ds ws (e ∷ []))
     (holds_more x known (ds ++ ws) opening published taken e change history writes lawful held)
 
 -- all edits were published
-pub holds_published : (x y : Version) (known after : Known) (es : List Edit) (opening : CityValue) (published taken : HistoryValue)
-    → HoldsEdits x known es opening published taken → y ≡ fold edited x es → after ≡ known_from y → HoldsEdits y after [] opening taken taken
+pub holds_published : (x y : Version) (known after : Known) (es : List Edit) (opening : CityValue)
+    (published taken : HistoryValue)
+    → HoldsEdits x known es opening published taken → y ≡ fold edited x es → after ≡ known_from y
+    → HoldsEdits y after [] opening taken taken
 holds_published x y known after es opening published taken held is met =
     let all = all_later x es taken held.faithful held.lead in
     subst (λ (z : Version). after ≡ known_from z → HoldsEdits z after [] opening taken taken) (sym is)
-    (λ m. record { faithful = all.0.0; met = m; opening_is = all.0.1.opening ∙ held.opening_is; history = all.1; lead = all.1 })
+    (λ m. record {
+      faithful = all.0.0;
+      met = m;
+      opening_is = all.0.1.opening ∙ held.opening_is;
+      history = all.1;
+      lead = all.1;
+    })
     met
 
-pub same_version : (x y : Version) → x.alloc ≡ y.alloc → x.city ≡ y.city → x.opening ≡ y.opening → x.history ≡ y.history → x ≡ y
+pub same_version : (x y : Version) → x.alloc ≡ y.alloc → x.city ≡ y.city → x.opening ≡ y.opening → x.history ≡ y.history
+    → x ≡ y
 same_version x y a c o h = λ i. record { alloc = a i; city = c i; opening = o i; history = h i }

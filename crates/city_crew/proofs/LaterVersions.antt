@@ -26,19 +26,23 @@ no_older_on known x y f g = record {
 
 -- ---- the first version
 
-pub first_faithful : (x : Version) (city : CityValue) → x.city ≡ city → x.opening ≡ city → x.history.changes ≡ [] → IsLawful (object_at city.1) → IsFaithful x
+pub first_faithful : (x : Version) (city : CityValue) → x.city ≡ city → x.opening ≡ city → x.history.changes ≡ []
+    → IsLawful (object_at city.1) → IsFaithful x
 first_faithful x city c o none lawful = record {
   frame = ap (λ (d : CityValue). d.0) (c ∙ sym o);
-  objects = ap (λ (d : CityValue). object_at d.1) (c ∙ sym o) ∙ ap (λ (l : List Change). after_changes (object_at x.opening.1) l) (sym none);
+  objects = ap (λ (d : CityValue). object_at d.1) (c ∙ sym o)
+      ∙ ap (λ (l : List Change). after_changes (object_at x.opening.1) l) (sym none);
   lawful = subst (λ (d : CityValue). IsLawful (object_at d.1)) (sym c) lawful;
 }
 
 pub no_edits : (x : Version) (es : List Edit) → IsFaithful x → es ≡ [] → IsLater x (fold edited x es)
-no_edits x es faithful none = subst (λ (ds : List Edit). IsLater x (fold edited x ds)) (sym none) (faithful, no_older_itself x)
+no_edits x es faithful none =
+    subst (λ (ds : List Edit). IsLater x (fold edited x ds)) (sym none) (faithful, no_older_itself x)
 
 -- ---- the next ones
 
-next_objects : (x : Version) (e : Edit) (next : IsNextEdit x e) → object_at (edited x e).city.1 ≡ after_change (object_at x.city.1) next.change
+next_objects : (x : Version) (e : Edit) (next : IsNextEdit x e)
+    → object_at (edited x e).city.1 ≡ after_change (object_at x.city.1) next.change
 next_objects x e next = at_after x.city.1 e.writes.entries ∙ next.writes (object_at x.city.1)
 
 pub next_later : (x : Version) (e : Edit) → IsFaithful x → IsNextEdit x e → IsLater x (edited x e)
@@ -48,19 +52,22 @@ next_later x e faithful next =
       record {
         frame = faithful.frame;
         objects = objects ∙ (ap (λ (m : CityMap). after_change m next.change) faithful.objects
-            ∙ (sym (shown_more (object_at x.opening.1) x.history.changes next.change) ∙ ap (λ l. after_changes (object_at x.opening.1) l) (sym changes)));
+            ∙ (sym (shown_more (object_at x.opening.1) x.history.changes next.change)
+            ∙ ap (λ l. after_changes (object_at x.opening.1) l) (sym changes)));
         lawful = subst IsLawful (sym objects) next.lawful;
       },
       record { name = ap (λ h. h.name) next.history; opening = refl; later = (next.change ∷ [], sym changes) },
     )
 
-pub all_later : (x : Version) (es : List Edit) (to : HistoryValue) → IsFaithful x → LeadTo x es to → IsLater x (fold edited x es) × ((fold edited x es).history ≡ to)
+pub all_later : (x : Version) (es : List Edit) (to : HistoryValue) → IsFaithful x → LeadTo x es to
+    → IsLater x (fold edited x es) × ((fold edited x es).history ≡ to)
 all_later x [] to faithful lead = ((faithful, no_older_itself x), lead)
 all_later x (e ∷ es) to faithful lead =
     let next = next_later x e faithful lead.0 in
     let rest = all_later (edited x e) es to next.0 lead.1 in
     ((rest.0.0, no_older_on (known_from x) (edited x e) (fold edited (edited x e) es) next.1 rest.0.1), rest.1)
 
-pub lead_more : (x : Version) (es : List Edit) (to : HistoryValue) (e : Edit) → LeadTo x es to → IsNextEdit (fold edited x es) e → LeadTo x (es ++ e ∷ []) e.history
+pub lead_more : (x : Version) (es : List Edit) (to : HistoryValue) (e : Edit) → LeadTo x es to
+    → IsNextEdit (fold edited x es) e → LeadTo x (es ++ e ∷ []) e.history
 lead_more x [] to e lead next = (next, refl)
 lead_more x (d ∷ ds) to e lead next = (lead.0, lead_more (edited x d) ds to e lead.1 next)

@@ -20,9 +20,11 @@ ages_send = search (values.crosses, sendable) depth 60 fits 20000
 shelf_sends : (R : RattleType) → IsSend R → IsSend (CrewShelf.the_row R)
 shelf_sends R s =
     let T = CrewShelf.the_type R in
-    recorded_send _ T.D T.to T.to_one (enum_send (enums.shape T) ((null_shelf.the_send, tt), ((poster_sends R s, tt), tt)))
+    recorded_send _ T.D T.to T.to_one
+    (enum_send (enums.shape T) ((null_shelf.the_send, tt), ((poster_sends R s, tt), tt)))
 
-state_inside_sends : (R : RattleType) (W : Ghosts R.Denot) → IsSend (CrewShelf.the_row R) → IsSend (StateInside.the_field R W).row
+state_inside_sends : (R : RattleType) (W : Ghosts R.Denot) → IsSend (CrewShelf.the_row R)
+    → IsSend (StateInside.the_field R W).row
 state_inside_sends R W shelf =
     struct_send (shape (StateInside.the_type R W)) (
       search (values.crosses, sendable) depth 60 fits 20000,
@@ -42,4 +44,5 @@ state_inside_sends R W shelf =
     )
 
 pub state_sends : (R : RattleType) (W : Ghosts R.Denot) → IsSend R → IsSend (State.the_row R W)
-state_sends R W s = view_send _ _ _ _ _ (declared_sends (StateInside.the_type R W) (state_inside_sends R W (shelf_sends R s)))
+state_sends R W s =
+    view_send _ _ _ _ _ (declared_sends (StateInside.the_type R W) (state_inside_sends R W (shelf_sends R s)))

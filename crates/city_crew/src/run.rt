@@ -37,9 +37,9 @@ pub const MAX_WORKERS: usize = 16;
 
 /// Runs the scripts on the document's city with so many workers, while so many viewers look.
 ///
-/// Workers are 1 to `MAX_WORKERS`, viewers 0 to `MAX_VIEWERS`. The document is judged before the scripts. However the workers' turns
-/// interleave, the ends and the bytes are those of the scripts run one at a time, each once, in the
-/// order of the ends. A script that runs out of memory ends as `NoMemory` and changes nothing.
+/// Workers are 1 to `MAX_WORKERS`, viewers 0 to `MAX_VIEWERS`. The document is judged before the scripts. However
+/// the workers' turns interleave, the ends and the bytes are those of the scripts run one at a time, each once, in
+/// the order of the ends. A script that runs out of memory ends as `NoMemory` and changes nothing.
 ///
 /// For each viewer `seen` has the number of changes at its first look, and then each larger number
 /// that it saw; the last look comes after all workers have ended.

@@ -12,9 +12,11 @@ use Rattle.city_model.specs.Runs.{Scripted, has_end}
 use Rattle.city_desk.specs.declared.progress.Progress.{Progress}
 use Rattle.city_desk.specs.declared.progress.Phase.{Phase}
 use Rattle.city_desk.specs.declared.progress.Phase.TheVariants.{NotBegun, Idle, Open, Ended}
-use Rattle.city_desk.specs.DeskState.{DeskState, progress_to, ended_progress, replies_in, phase_of, replies_of, room_of, is_ended, is_open_phase}
+use Rattle.city_desk.specs.DeskState.{DeskState, progress_to, ended_progress, replies_in, phase_of, replies_of, room_of}
+use Rattle.city_desk.specs.DeskState.{is_ended, is_open_phase}
 use Rattle.city_desk.specs.inside.ScriptParts.{commands_at}
-use Rattle.city_desk.specs.Turning.{Keeps, Moves, stamp_for, HasBegun, HasReplied, HasWaited, HasDied, IsDue, HasEnded, IsOpenAt}
+use Rattle.city_desk.specs.Turning.{Keeps, Moves, stamp_for, HasBegun, HasReplied, HasWaited, HasDied, IsDue, HasEnded}
+use Rattle.city_desk.specs.Turning.{IsOpenAt}
 use Rattle.city_desk.specs.InTurn.{AreInTurn}
 use Rattle.city_desk.specs.inside.RunInTurn.{HasRun, HaveRun}
 use Rattle.city_model.proofs.Fitting.{has_end_more}
@@ -51,15 +53,19 @@ unended since (Idle stamp) h = refl
 unended since (Open stamp began) h = refl
 unended since Ended h = absurd h
 
-module _ (d e : DeskState) (n : ℕ) (q : Progress) (within : n < length d.progress) (moves : e.progress ≡ slice_set d.progress n q) where
+module _ (d e : DeskState) (n : ℕ) (q : Progress) (within : n < length d.progress)
+    (moves : e.progress ≡ slice_set d.progress n q) where
   pub phase_moved : phase_of e n ≡ q.phase
-  phase_moved = ap (λ ps. (slice_index_or ps n ended_progress).phase) moves ∙ ap (λ (p : Progress). p.phase) (get_or-set_same d.progress n q ended_progress within)
+  phase_moved = ap (λ ps. (slice_index_or ps n ended_progress).phase) moves
+      ∙ ap (λ (p : Progress). p.phase) (get_or-set_same d.progress n q ended_progress within)
 
   pub replies_moved : replies_of e n ≡ q.replies.list
-  replies_moved = ap (λ ps. replies_in ps n) moves ∙ ap (λ (p : Progress). p.replies.list) (get_or-set_same d.progress n q ended_progress within)
+  replies_moved = ap (λ ps. replies_in ps n) moves
+      ∙ ap (λ (p : Progress). p.replies.list) (get_or-set_same d.progress n q ended_progress within)
 
   pub phase_unmoved : (k : ℕ) → k ≢ n → phase_of e k ≡ phase_of d k
-  phase_unmoved k ne = ap (λ ps. (slice_index_or ps k ended_progress).phase) moves ∙ ap (λ (p : Progress). p.phase) (get_or-set_other d.progress n k q ended_progress ne)
+  phase_unmoved k ne = ap (λ ps. (slice_index_or ps k ended_progress).phase) moves
+      ∙ ap (λ (p : Progress). p.phase) (get_or-set_other d.progress n k q ended_progress ne)
 
 module _ (n : ℕ) (start d e : DeskState) (r : IsRunning n start d) (keeps : Keeps d e) where
   within : n < length d.progress
@@ -68,7 +74,8 @@ module _ (n : ℕ) (start d e : DeskState) (r : IsRunning n start d) (keeps : Ke
   abbrev at_now : Phase → List Reply → Progress
   at_now phase replies = progress_to phase replies (room_of d n)
 
-  went_on : (phase : Phase) (replies : List Reply) → Moves d e n phase replies → IsGoing (length start.ends) phase → e.ends ≡ d.ends → IsRunning n start e
+  went_on : (phase : Phase) (replies : List Reply) → Moves d e n phase replies → IsGoing (length start.ends) phase
+      → e.ends ≡ d.ends → IsRunning n start e
   went_on phase replies moves going ends = record {
     keeps = keeps_both start d e r.keeps keeps;
     ends = ends ∙ r.ends;
@@ -81,7 +88,8 @@ module _ (n : ℕ) (start d e : DeskState) (r : IsRunning n start d) (keeps : Ke
   began h = went_on (Open h.stamp (length d.ends)) [] h.moves (ap length r.ends) h.ends
 
   pub replied : HasReplied d e n → IsRunning n start e
-  replied h = went_on (Open h.stamp h.since) _ h.moves (subst (IsGoing (length start.ends)) h.is.next.phase r.going) h.ends
+  replied h = went_on (Open h.stamp h.since) _ h.moves (subst (IsGoing (length start.ends)) h.is.next.phase r.going)
+      h.ends
 
   open_alone : (stamp other since : ℕ) → phase_of d n ≡ Open stamp since → IsOpenAt d other → other ≡ stamp
   open_alone stamp other since is h = elim (cases_eq h.script n) [
@@ -104,7 +112,8 @@ module _ (n : ℕ) (start d e : DeskState) (r : IsRunning n start d) (keeps : Ke
   pub ended_not : phase_of d n ≡ Ended → ⊥
   ended_not is = subst (IsGoing (length start.ends)) is r.going
 
-  since_of : (p : Phase) (since : ℕ) (outcome : Outcome) → IsGoing (length start.ends) p → IsDue d n p since outcome → since ≡ length start.ends
+  since_of : (p : Phase) (since : ℕ) (outcome : Outcome) → IsGoing (length start.ends) p → IsDue d n p since outcome
+      → since ≡ length start.ends
   since_of NotBegun since outcome g due = due.0 ∙ ap length r.ends
   since_of (Idle stamp) since outcome g due = absurd g
   since_of (Open stamp began) since outcome g due = due.0 ∙ g
@@ -112,7 +121,8 @@ module _ (n : ℕ) (start d e : DeskState) (r : IsRunning n start d) (keeps : Ke
 
   pub ended : HasEnded d e n → HasRun n start e
   ended h =
-      let last : End = record { script = n; name = h.script.0; since = h.since; replies = replies_of d n; outcome = h.outcome } in
+      let last : End =
+      record { script = n; name = h.script.0; since = h.since; replies = replies_of d n; outcome = h.outcome } in
       record {
         keeps = keeps_both start d e r.keeps keeps;
         last = last;
@@ -125,38 +135,50 @@ module _ (n : ℕ) (start d e : DeskState) (r : IsRunning n start d) (keeps : Ke
 
   -- ---- fewer turns are left
 
-  more_at_first : (p : Phase) (rs : List Reply) (stamp : ℕ) → IsGoing (length start.ends) p → stamp_for d p ≡ Some stamp → length (commands_at d.scripts n) < turns_left d.scripts n p rs
+  more_at_first : (p : Phase) (rs : List Reply) (stamp : ℕ) → IsGoing (length start.ends) p → stamp_for d p ≡ Some stamp
+      → length (commands_at d.scripts n) < turns_left d.scripts n p rs
   more_at_first NotBegun rs stamp g h = omega arith
   more_at_first (Idle t) rs stamp g h = absurd g
   more_at_first (Open t began) rs stamp g h = let none : None ≡ Some stamp = h in absurd (cc)
   more_at_first Ended rs stamp g h = absurd g
 
-  left_as : (p : Phase) (rs : List Reply) → phase_of e n ≡ p → replies_of e n ≡ rs → turns_left e.scripts n (phase_of e n) (replies_of e n) ≡ turns_left d.scripts n p rs
-  left_as p rs a b = ap (λ ss. turns_left ss n (phase_of e n) (replies_of e n)) keeps.scripts ∙ (ap (λ q. turns_left d.scripts n q (replies_of e n)) a ∙ ap (λ l. turns_left d.scripts n p l) b)
+  left_as : (p : Phase) (rs : List Reply) → phase_of e n ≡ p → replies_of e n ≡ rs
+      → turns_left e.scripts n (phase_of e n) (replies_of e n) ≡ turns_left d.scripts n p rs
+  left_as p rs a b = ap (λ ss. turns_left ss n (phase_of e n) (replies_of e n)) keeps.scripts
+      ∙ (ap (λ q. turns_left d.scripts n q (replies_of e n)) a ∙ ap (λ l. turns_left d.scripts n p l) b)
 
-  pub began_fewer : HasBegun d e n → turns_left e.scripts n (phase_of e n) (replies_of e n) < turns_left d.scripts n (phase_of d n) (replies_of d n)
+  pub began_fewer : HasBegun d e n
+      → turns_left e.scripts n (phase_of e n) (replies_of e n) < turns_left d.scripts n (phase_of d n) (replies_of d n)
   began_fewer h =
-      let now = left_as (Open h.stamp (length d.ends)) [] (phase_moved d e n (at_now (Open h.stamp (length d.ends)) []) within h.moves) (replies_moved d e n (at_now (Open h.stamp (length d.ends)) []) within h.moves) in
+      let now = left_as (Open h.stamp (length d.ends)) []
+      (phase_moved d e n (at_now (Open h.stamp (length d.ends)) []) within h.moves)
+      (replies_moved d e n (at_now (Open h.stamp (length d.ends)) []) within h.moves) in
       let before = more_at_first (phase_of d n) (replies_of d n) h.stamp r.going h.is_its in
       omega arith
 
-  pub replied_fewer : HasReplied d e n → turns_left e.scripts n (phase_of e n) (replies_of e n) < turns_left d.scripts n (phase_of d n) (replies_of d n)
+  pub replied_fewer : HasReplied d e n
+      → turns_left e.scripts n (phase_of e n) (replies_of e n) < turns_left d.scripts n (phase_of d n) (replies_of d n)
   replied_fewer h =
       let rs : List Reply = replies_of d n ++ h.reply ∷ [] in
-      let now = left_as (Open h.stamp h.since) rs (phase_moved d e n (at_now (Open h.stamp h.since) rs) within h.moves) (replies_moved d e n (at_now (Open h.stamp h.since) rs) within h.moves) in
+      let now = left_as (Open h.stamp h.since) rs (phase_moved d e n (at_now (Open h.stamp h.since) rs) within h.moves)
+      (replies_moved d e n (at_now (Open h.stamp h.since) rs) within h.moves) in
       let long : length rs ≡ length (replies_of d n) + 1 = length-append (replies_of d n) (h.reply ∷ []) in
       let next = sym (command_as d.scripts n (length (replies_of d n))) ∙ h.is.next.next in
       let lt = slice_get_within (commands_at d.scripts n) (length (replies_of d n)) h.is.command next in
-      let before : turns_left d.scripts n (phase_of d n) (replies_of d n) ≡ length (commands_at d.scripts n) - length (replies_of d n) = ap (λ p. turns_left d.scripts n p (replies_of d n)) h.is.next.phase in
+      let before : turns_left d.scripts n (phase_of d n) (replies_of d n) ≡ length (commands_at d.scripts n) - length
+      (replies_of d n) = ap (λ p. turns_left d.scripts n p (replies_of d n)) h.is.next.phase in
       omega arith
 
 -- ---- one script after the other
 
-in_turn_more : (k : ℕ) (es : List End) (e : End) → AreInTurn k es → e.script ≡ k + length es → e.since ≡ k + length es → AreInTurn k (es ++ e ∷ [])
+in_turn_more : (k : ℕ) (es : List End) (e : End) → AreInTurn k es → e.script ≡ k + length es → e.since ≡ k + length es
+    → AreInTurn k (es ++ e ∷ [])
 in_turn_more k [] e turns script since = (script ∙ omega arith, since ∙ omega arith, tt)
-in_turn_more k (f ∷ fs) e turns script since = (turns.0, turns.1, in_turn_more (k + 1) fs e turns.2 (script ∙ omega arith) (since ∙ omega arith))
+in_turn_more k (f ∷ fs) e turns script since =
+    (turns.0, turns.1, in_turn_more (k + 1) fs e turns.2 (script ∙ omega arith) (since ∙ omega arith))
 
-pub begins_running : (n : ℕ) (d : DeskState) → phase_of d n ≡ NotBegun → ((k : ℕ) → is_open_phase (phase_of d k) ≡ false) → IsRunning n d d
+pub begins_running : (n : ℕ) (d : DeskState) → phase_of d n ≡ NotBegun
+    → ((k : ℕ) → is_open_phase (phase_of d k) ≡ false) → IsRunning n d d
 begins_running n d is none = record {
   keeps = record { start = refl; scripts = refl; taken = refl };
   ends = refl;
@@ -165,7 +187,8 @@ begins_running n d is none = record {
   alone = λ k ne. none k;
 }
 
-pub none_run : (d : DeskState) → d.ends ≡ [] → ((k : ℕ) → k < length d.scripts → phase_of d k ≡ NotBegun) → ((k : ℕ) → is_open_phase (phase_of d k) ≡ false) → HaveRun d 0 d
+pub none_run : (d : DeskState) → d.ends ≡ [] → ((k : ℕ) → k < length d.scripts → phase_of d k ≡ NotBegun)
+    → ((k : ℕ) → is_open_phase (phase_of d k) ≡ false) → HaveRun d 0 d
 none_run d empty all none = record {
   keeps = record { start = refl; scripts = refl; taken = refl };
   in_turn = subst (AreInTurn 0) (sym empty) tt;
@@ -175,7 +198,8 @@ none_run d empty all none = record {
   none_open = none;
 }
 
-pub one_more_run : (start d e : DeskState) (n : ℕ) → n < length start.scripts → HaveRun start n d → HasRun n d e → HaveRun start (n + 1) e
+pub one_more_run : (start d e : DeskState) (n : ℕ) → n < length start.scripts → HaveRun start n d → HasRun n d e
+    → HaveRun start (n + 1) e
 one_more_run start d e n there h r =
     let number : r.last.script ≡ 0 + length d.ends = r.script ∙ (sym h.so_many ∙ omega arith) in
     let since : r.last.since ≡ 0 + length d.ends = r.since ∙ omega arith in
@@ -190,7 +214,8 @@ one_more_run start d e n there h r =
             ∙ or_right (has_end k d.ends) true refl
         | inr ne ↦ ap (λ b. b || (r.last.script == k)) (h.ended k (omega (arith, ne)))
       ]);
-      left = λ k le lt. r.beside k (λ same. absurd (omega (arith, same))) ∙ h.left k (omega arith) (subst (λ ss. k < length ss) r.keeps.scripts lt);
+      left = λ k le lt. r.beside k (λ same. absurd (omega (arith, same)))
+          ∙ h.left k (omega arith) (subst (λ ss. k < length ss) r.keeps.scripts lt);
       none_open = λ k. elim (cases_eq k n) [
         | inl same ↦ ap (λ i. is_open_phase (phase_of e i)) same ∙ ap is_open_phase r.over
         | inr ne ↦ ap is_open_phase (r.beside k ne) ∙ h.none_open k

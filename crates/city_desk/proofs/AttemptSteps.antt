@@ -4,7 +4,8 @@ use Rattle.std.proofs.Common.{subst, ◌∙◌}
 use Rattle.std.specs.Prelude.{IfSome}
 use Rattle.std.proofs.lemmas.Bool.{false≢true}
 use Rattle.city_model.specs.declared.command.Command.{Command}
-use Rattle.city_model.specs.declared.command.Command.TheVariants.{Read, Put, Delete, Attach, Detach, Mark, Back, Commit, Abort}
+use Rattle.city_model.specs.declared.command.Command.TheVariants.{Read, Put, Delete, Attach, Detach, Mark, Back, Commit}
+use Rattle.city_model.specs.declared.command.Command.TheVariants.{Abort}
 use Rattle.city_model.specs.declared.command.Cause.{Cause}
 use Rattle.city_model.specs.declared.command.Reply.{Reply}
 use Rattle.city_model.specs.declared.command.Reply.TheVariants as replies
@@ -20,7 +21,8 @@ use Rattle.city_locks.specs.declared.answer.Answer.TheVariants.{Granted, Wait, D
 use Rattle.city_txn.specs.declared.step.Step.{Step}
 use Rattle.city_txn.specs.declared.step.Step.TheVariants as steps
 use Rattle.city_txn.specs.declared.step.TxnFault.{TxnFault}
-use Rattle.city_txn.specs.CoreState.{CoreState, committed, snapshot, is_open, StandsUnderLocks, KeepsOthers, IsRolledBack}
+use Rattle.city_txn.specs.CoreState.{CoreState, committed, snapshot, is_open, StandsUnderLocks, KeepsOthers}
+use Rattle.city_txn.specs.CoreState.{IsRolledBack}
 use Rattle.city_txn.specs.Acting.{IsAct, answer_in, step_of, EndsIn}
 use Rattle.city_txn.specs.Changing.{IsChangeOf}
 use Rattle.city_txn.specs.Locking.{IsBlocked}
@@ -61,8 +63,10 @@ by_die Die reply e = refl
 
 -- ---- a command that doesn't end its script
 
-module _ (stamp : ℕ) (command : Command) (p q : Progress) (v w : CoreState) (goes_on : is_end command ≡ false) (changes : List Change) where
-  pub replied : (reply : Reply) → IsAct stamp command (Ok (steps.Done reply)) v w → is_open v stamp ≡ true → is_refusal reply ≡ false → q ≡ progress_to p.phase (p.replies.list ++ reply ∷ []) p.replies.room
+module _ (stamp : ℕ) (command : Command) (p q : Progress) (v w : CoreState) (goes_on : is_end command ≡ false)
+    (changes : List Change) where
+  pub replied : (reply : Reply) → IsAct stamp command (Ok (steps.Done reply)) v w → is_open v stamp ≡ true
+      → is_refusal reply ≡ false → q ≡ progress_to p.phase (p.replies.list ++ reply ∷ []) p.replies.room
       → HasStepped stamp command (Stepped.GoesOn turns.Replied) p q v w changes changes
   replied reply k opened unrefused heard =
       let by = by_done (answer_in v stamp command) k.reply reply k.step in
@@ -121,13 +125,18 @@ module _ (stamp : ℕ) (command : Command) (p q : Progress) (v w : CoreState) (g
           changes = refl;
         }
 
-    pub refused : (number : ℕ) (reply : Reply) (cause : Cause) → IsAct stamp command (Ok (steps.Done reply)) v w → reply ≡ replies.Refused cause → number ≡ length p.replies.list → q ≡ p
+    pub refused : (number : ℕ) (reply : Reply) (cause : Cause) → IsAct stamp command (Ok (steps.Done reply)) v w
+        → reply ≡ replies.Refused cause → number ≡ length p.replies.list → q ≡ p
         → HasStepped stamp command (Stepped.Ends (Outcome.Refused number cause)) p q v x changes changes
     refused number reply cause k is count same =
         let by = by_done (answer_in v stamp command) k.reply reply k.step in (
           same,
           record {
-            ends = (count, refused_does (snapshot v stamp) command cause k.after (k.does ∙ ap (λ r. Answers r k.after) (sym by.1 ∙ is)));
+            ends = (
+              count,
+              refused_does (snapshot v stamp) command cause k.after
+                  (k.does ∙ ap (λ r. Answers r k.after) (sym by.1 ∙ is)),
+            );
             granted = λ _ _. by.0;
             closed = undone.over.closed;
             keeps = keeps_both stamp v w x k.keeps undone.over.keeps;
@@ -150,8 +159,11 @@ module _ (stamp : ℕ) (command : Command) (p q : Progress) (v w : CoreState) (g
     )
 
 -- the step, as the code takes it apart
-pub done_as : (stamp : ℕ) (command : Command) (step : Step) (reply heard : Reply) (v w : CoreState) → IsAct stamp command (Ok step) v w → step ≡ steps.Done reply → reply ≡ heard → IsAct stamp command (Ok (steps.Done heard)) v w
-done_as stamp command step reply heard v w k is same = subst (λ (s : Step). IsAct stamp command (Ok s) v w) (is ∙ ap (λ r. steps.Done r) same) k
+pub done_as : (stamp : ℕ) (command : Command) (step : Step) (reply heard : Reply) (v w : CoreState)
+    → IsAct stamp command (Ok step) v w → step ≡ steps.Done reply → reply ≡ heard
+    → IsAct stamp command (Ok (steps.Done heard)) v w
+done_as stamp command step reply heard v w k is same =
+    subst (λ (s : Step). IsAct stamp command (Ok s) v w) (is ∙ ap (λ r. steps.Done r) same) k
 
 pub goes_on_else : (c : Command) → (c ≡ Commit → ⊥) → (c ≡ Abort → ⊥) → is_end c ≡ false
 goes_on_else (Read id) f g = refl
@@ -167,14 +179,21 @@ goes_on_else Abort f g = absurd (g refl)
 -- ---- a commit
 
 -- the shelf may take the change
-pub may_take : (v : CoreState) (stamp : ℕ) (change : Change) (list : List Change) (base : Option CityValue) → IsChangeOf v stamp change
-    → IfSome base (λ city. after_changes (object_at city.1) list ≡ committed v) → IfSome base (λ city. IsLawful (after_changes (object_at city.1) (list ++ change ∷ [])))
+pub may_take : (v : CoreState) (stamp : ℕ) (change : Change) (list : List Change) (base : Option CityValue)
+    → IsChangeOf v stamp change
+    → IfSome base (λ city. after_changes (object_at city.1) list ≡ committed v)
+    → IfSome base (λ city. IsLawful (after_changes (object_at city.1) (list ++ change ∷ [])))
 may_take v stamp change list base k shows =
-    if_some_to base (λ city. after_changes (object_at city.1) list ≡ committed v) (λ city. IsLawful (after_changes (object_at city.1) (list ++ change ∷ [])))
-    (λ city same. subst IsLawful (sym (shown_more (object_at city.1) list change ∙ (ap (λ m. after_change m change) same ∙ k.makes_view))) k.lawful)
+    if_some_to base (λ city. after_changes (object_at city.1) list ≡ committed v)
+    (λ city. IsLawful (after_changes (object_at city.1) (list ++ change ∷ [])))
+    (λ city same.
+    subst IsLawful
+    (sym (shown_more (object_at city.1) list change ∙ (ap (λ m. after_change m change) same ∙ k.makes_view)))
+    k.lawful)
     shows
 
-pub commit_refused : (v w : CoreState) (stamp number : ℕ) (cause : Cause) (changes : List Change) → EndsIn v stamp Commit number (Outcome.Refused number cause) → IsRolledBack stamp v w
+pub commit_refused : (v w : CoreState) (stamp number : ℕ) (cause : Cause) (changes : List Change)
+    → EndsIn v stamp Commit number (Outcome.Refused number cause) → IsRolledBack stamp v w
     → AttemptEnded stamp Commit number (Outcome.Refused number cause) v w changes changes
 commit_refused v w stamp number cause changes ends undone = record {
   ends = ends;

@@ -1,5 +1,6 @@
 -- What a turn of one script leaves of the open transactions.
-use Rattle.std.proofs.Common.{◌≡◌, ◌≢◌, ◌<◌, ◌≤◌, ◌==◌, ℕ, true, false, List, length, Some, refl, ap, sym, subst, ◌∙◌, inl, inr, arith}
+use Rattle.std.proofs.Common.{◌≡◌, ◌≢◌, ◌<◌, ◌≤◌, ◌==◌, ℕ, true, false, List, length, Some, refl, ap, sym, subst, ◌∙◌}
+use Rattle.std.proofs.Common.{inl, inr, arith}
 use Rattle.std.specs.Prelude.{slice_set, slice_get, slice_index_or}
 use Rattle.std.proofs.lemmas.Bool.{false≢true, ne_eqb, cases_eq}
 use Rattle.std.proofs.lemmas.List.{get_or-set_same, get_or-set_other}
@@ -19,7 +20,8 @@ pub record IsTurnOf (d e : DeskState) (n stamp : ℕ) (q : Progress) : Type 0 wh
   pub progress : e.progress ≡ slice_set d.progress n q
   pub begun : d.begun ≤ e.begun
   pub ends : length d.ends ≤ length e.ends
-  pub others : (t : ℕ) (done : List Answered) → (stamp == t) ≡ false → StandsUnderLocks d.core t done → StandsUnderLocks e.core t done
+  pub others : (t : ℕ) (done : List Answered) → (stamp == t) ≡ false → StandsUnderLocks d.core t done
+      → StandsUnderLocks e.core t done
   pub opened : (t : ℕ) → (stamp == t) ≡ false → is_open e.core t ≡ is_open d.core t
   pub own : is_open e.core stamp ≡ is_open_phase q.phase
   pub was : (s : ℕ) → stamp_of (phase_of d n) ≡ Some s → s ≡ stamp
@@ -35,7 +37,8 @@ open_by Ended h = absurd (false≢true h)
 
 module _ (d e : DeskState) (n stamp : ℕ) (q : Progress) (k : IsTurnOf d e n stamp q) where
   progress_here : slice_index_or e.progress n ended_progress ≡ q
-  progress_here = ap (λ ps. slice_index_or ps n ended_progress) k.progress ∙ get_or-set_same d.progress n q ended_progress k.there
+  progress_here = ap (λ ps. slice_index_or ps n ended_progress) k.progress
+      ∙ get_or-set_same d.progress n q ended_progress k.there
 
   pub phase_here : phase_of e n ≡ q.phase
   phase_here = ap (λ (p : Progress). p.phase) progress_here
@@ -43,8 +46,10 @@ module _ (d e : DeskState) (n stamp : ℕ) (q : Progress) (k : IsTurnOf d e n st
   pub replies_here : replies_of e n ≡ q.replies.list
   replies_here = ap (λ (p : Progress). p.replies.list) progress_here
 
-  progress_beside : (j : ℕ) → j ≢ n → slice_index_or e.progress j ended_progress ≡ slice_index_or d.progress j ended_progress
-  progress_beside j ne = ap (λ ps. slice_index_or ps j ended_progress) k.progress ∙ get_or-set_other d.progress n j q ended_progress ne
+  progress_beside : (j : ℕ) → j ≢ n
+      → slice_index_or e.progress j ended_progress ≡ slice_index_or d.progress j ended_progress
+  progress_beside j ne = ap (λ ps. slice_index_or ps j ended_progress) k.progress
+      ∙ get_or-set_other d.progress n j q ended_progress ne
 
   pub phase_beside : (j : ℕ) → j ≢ n → phase_of e j ≡ phase_of d j
   phase_beside j ne = ap (λ (p : Progress). p.phase) (progress_beside j ne)
@@ -52,7 +57,8 @@ module _ (d e : DeskState) (n stamp : ℕ) (q : Progress) (k : IsTurnOf d e n st
   pub replies_beside : (j : ℕ) → j ≢ n → replies_of e j ≡ replies_of d j
   replies_beside j ne = ap (λ (p : Progress). p.replies.list) (progress_beside j ne)
 
-  stands_still : (j : ℕ) (p : Phase) (rs : List Reply) → (stamp_of p ≡ Some stamp → ⊥) → StandsAs d j p rs → StandsAs e j p rs
+  stands_still : (j : ℕ) (p : Phase) (rs : List Reply) → (stamp_of p ≡ Some stamp → ⊥) → StandsAs d j p rs
+      → StandsAs e j p rs
   stands_still j NotBegun rs ne h = h
   stands_still j (Idle s) rs ne h = (h.0, let a = h.1 in let b = k.begun in omega arith)
   stands_still j (Open s since) rs ne h =
@@ -89,16 +95,19 @@ module _ (d e : DeskState) (n stamp : ℕ) (q : Progress) (k : IsTurnOf d e n st
       let its : by.0 ≡ s = k.becomes by.0 (ap stamp_of by.2) ∙ same in
       (n, by.1, phase_here ∙ (by.2 ∙ ap (λ t. Open t by.1) its))
 
-  owner_beside : AreStanding d → (s : ℕ) → (stamp ≡ s → ⊥) → is_open e.core s ≡ true → (j : ℕ) × (since : ℕ) × (phase_of e j ≡ Open s since)
+  owner_beside : AreStanding d → (s : ℕ) → (stamp ≡ s → ⊥) → is_open e.core s ≡ true
+      → (j : ℕ) × (since : ℕ) × (phase_of e j ≡ Open s since)
   owner_beside st s ne h =
       let by = st.owner s (sym (k.opened s (ne_eqb stamp s ne)) ∙ h) in
-      let other : by.0 ≢ n = λ same. ne (sym (k.was s (ap (λ j. stamp_of (phase_of d j)) (sym same) ∙ ap stamp_of by.2))) in
+      let other : by.0 ≢ n =
+      λ same. ne (sym (k.was s (ap (λ j. stamp_of (phase_of d j)) (sym same) ∙ ap stamp_of by.2))) in
       (by.0, by.1, phase_beside by.0 other ∙ by.2)
 
   -- a script with the stamp of n is n
   apart_here : (j i s : ℕ) → j ≡ n → i ≢ n → stamp_of (phase_of e j) ≡ Some s → stamp_of (phase_of e i) ≡ Some s → ⊥
   apart_here j i s same ne a b =
-      let own : stamp_of q.phase ≡ Some s = sym (ap stamp_of phase_here) ∙ (ap (λ x. stamp_of (phase_of e x)) (sym same) ∙ a) in
+      let own : stamp_of q.phase ≡ Some s = sym (ap stamp_of phase_here)
+      ∙ (ap (λ x. stamp_of (phase_of e x)) (sym same) ∙ a) in
       ne (k.alone i (sym (ap stamp_of (phase_beside i ne)) ∙ (b ∙ ap Some (k.becomes s own))))
 
   pub attempts_kept : AreStanding d → AreStanding e
@@ -109,7 +118,8 @@ module _ (d e : DeskState) (n stamp : ℕ) (q : Progress) (k : IsTurnOf d e n st
       | inl one ↦ elim (cases_eq i n) [ inl two ↦ one ∙ sym two | inr ne ↦ absurd (apart_here j i s one ne a b) ]
       | inr no_one ↦ elim (cases_eq i n) [
         | inl two ↦ absurd (apart_here i j s two no_one b a)
-        | inr ne ↦ st.apart j i s (sym (ap stamp_of (phase_beside j no_one)) ∙ a) (sym (ap stamp_of (phase_beside i ne)) ∙ b)
+        | inr ne ↦ st.apart j i s (sym (ap stamp_of (phase_beside j no_one)) ∙ a) (sym (ap stamp_of (phase_beside i ne))
+            ∙ b)
       ]
     ];
   }

@@ -5,7 +5,9 @@ pub mod AttemptsKept
 pub mod BeginTurns
 pub mod Closed
 pub mod OneRun
+pub mod OpenScripts
 pub mod OpenTurns
+pub mod OpenTurnsSeen
 pub mod Opened
 pub mod RoomKept
 pub mod RunFaults

@@ -1,10 +1,7 @@
 -- What a turn of a script with an open transaction leaves.
-use Rattle.std.proofs.Common.{◌≡◌, ◌<◌, ◌≤◌, ◌+◌, ◌||◌, ℕ, suc, zero, Bool, true, false, List, [], ◌∷◌, ◌++◌, length}
+use Rattle.std.proofs.Common.{◌≡◌, ◌<◌, ◌≤◌, ◌+◌, ℕ, Bool, true, false, List, [], ◌∷◌, ◌++◌, length}
 use Rattle.std.proofs.Common.{Option, Some, refl, ap, sym, subst, ◌∙◌, arith, length-append, append-nil}
-use Rattle.std.specs.Prelude.{slice_set, slice_get, slice_index_or, IfSome}
-use Rattle.std.specs.List.{list_any}
-use Rattle.std.proofs.lemmas.Bool.{false≢true, or_from}
-use Rattle.std.proofs.lemmas.List.Folds.{list_any-append}
+use Rattle.std.specs.Prelude.{slice_set, slice_get, slice_index_or}
 use Rattle.std.proofs.lemmas.List.{set-get_or}
 use Rattle.std.proofs.lemmas.Option.{slice_get-get_or}
 use Rattle.city_model.specs.declared.command.Command.{Command}
@@ -14,15 +11,12 @@ use Rattle.city_model.specs.declared.end.End.{End}
 use Rattle.city_model.specs.declared.end.Outcome.{Outcome}
 use Rattle.city_model.specs.CityMap.{CityMap, object_at, CityValue}
 use Rattle.city_model.specs.Marks.{View, unmarked}
-use Rattle.city_model.specs.Meaning.{is_refusal}
-use Rattle.city_model.specs.Runs.{Scripted, EndsAt, IsScriptResult, IsEndOf, map_left, left_by, left_by_found}
-use Rattle.city_model.specs.Runs.{model_after, Change, after_change, after_changes}
-use Rattle.city_model.specs.Scripts.{is_end, ends_once}
+use Rattle.city_model.specs.Runs.{Scripted, EndsAt, IsScriptResult, IsEndOf, map_left, left_by}
+use Rattle.city_model.specs.Runs.{model_after, Change, after_change}
 use Rattle.city_model.specs.SerialEnds.{is_commit}
 use Rattle.city_model.specs.Standing.{Answered, answered, IsTraceUnderLocks}
-use Rattle.city_model.proofs.Effects.{committed_at}
 use Rattle.city_model.proofs.Fitting.{model_more}
-use Rattle.city_model.proofs.Replied.{goes_on, ends_later, answered_more, result_from, committed_from}
+use Rattle.city_model.proofs.Replied.{goes_on, answered_more, result_from, committed_from}
 use Rattle.city_txn.specs.CoreState as txn
 use Rattle.city_txn.specs.CoreState.{CoreState, committed, view, is_open, held, StandsUnderLocks, KeepsOthers}
 use Rattle.city_desk.specs.declared.attempt.Stepped.{Stepped}
@@ -32,75 +26,27 @@ use Rattle.city_desk.specs.declared.progress.Phase.TheVariants.{Idle, Open}
 use Rattle.city_desk.specs.declared.turn.Turn.{Turn}
 use Rattle.city_desk.specs.declared.turn.Turn.TheVariants as turns
 use Rattle.city_desk.specs.inside.Attempt.{IsReplied, IsToWait, Publishes, AttemptEnded, HasGoneOn, HasStepped}
-use Rattle.city_desk.specs.DeskState.{DeskState, progress_to, ended_progress, phase_of, replies_of, room_of, is_ended, is_open_phase, stamp_of}
+use Rattle.city_desk.specs.DeskState.{DeskState, progress_to, ended_progress, phase_of, replies_of, room_of, is_ended}
+use Rattle.city_desk.specs.DeskState.{is_open_phase, stamp_of}
 use Rattle.city_desk.specs.inside.ScriptParts.{commands_of, commands_at, name_at, name_in}
 use Rattle.city_desk.specs.inside.Room.{is_not_begun, HasRoom}
 use Rattle.city_desk.specs.Serial.{IsAttempt, StandsAs, AreChangesOf, IsSerial}
 use Rattle.city_desk.specs.Turning.{IsNext, IsOpenAt, IsDue, end_of, IsTurnAs}
 use Rattle.city_desk.proofs.AttemptsKept.{IsTurnOf}
-use Rattle.city_desk.proofs.AtScript.{LeavesDesk, counted, has_commands, left_of, progress_there, ends_once_there}
-use Rattle.city_desk.proofs.AtScript.{place_for_its_end, there_in_equal}
+use Rattle.city_desk.proofs.AtScript.{LeavesDesk, counted, progress_there, ends_once_there}
 use Rattle.city_desk.proofs.ScriptReads.{command_as, own_end, commands_read, progress_at, next_at, name_there, end_as}
 use Rattle.city_desk.proofs.RoomKept.{one_if, room_now, room_ended}
 use Rattle.city_desk.proofs.SerialKept.{now_at, ended_at, kept_serial, ended_serial}
-use Rattle.city_desk.proofs.Shelved.{shows_all, changes_kept, changes_more, if_some_to}
-
--- ---- lists
-
--- a command that goes on has another after it
-not_last : (cs : List Command) (k : ℕ) (c : Command) → ends_once cs ≡ true → slice_get cs k ≡ Some c → is_end c ≡ false → k + 1 < length cs
-not_last [] k c e h g = absurd (cc)
-not_last (d ∷ cs) zero c e h g =
-    let same : d ≡ c = cc in
-    let more = has_commands cs (ends_later d cs e (ap is_end same ∙ g)) in
-    omega arith
-not_last (d ∷ cs) (suc k) c e h g =
-    let more = not_last cs k c (ends_later d cs e (goes_on d cs k c e h)) h g in
-    omega arith
-
-unrefused_more : (rs : List Reply) (r : Reply) → list_any is_refusal rs ≡ false → is_refusal r ≡ false
-    → list_any is_refusal (rs ++ r ∷ []) ≡ false
-unrefused_more rs r none unrefused =
-    list_any-append is_refusal rs (r ∷ [])
-    ∙ or_from (list_any is_refusal rs) (list_any is_refusal (r ∷ [])) none (ap (λ b. b || false) unrefused)
-
--- ---- outcomes
-
-left_same : (m : CityMap) (cs : List Command) (o : Outcome) → is_commit o ≡ false → map_left m cs o ≡ m
-left_same m cs Outcome.Committed h = absurd (false≢true (sym h))
-left_same m cs Outcome.Aborted h = refl
-left_same m cs (Outcome.Refused i cause) h = refl
-left_same m cs (Outcome.NoMemory i) h = refl
-
-commits : (v : View) (c : Command) (i : ℕ) (o : Outcome) → is_commit o ≡ true → EndsAt v c i o → (o ≡ Outcome.Committed) × (c ≡ Commit)
-commits v c i Outcome.Committed h e = (refl, (committed_at v c v e).0)
-commits v c i Outcome.Aborted h e = absurd (false≢true h)
-commits v c i (Outcome.Refused j cause) h e = absurd (false≢true h)
-commits v c i (Outcome.NoMemory j) h e = absurd (false≢true h)
-
--- what the script of an end leaves, where it is there
-found_left : (m : CityMap) (s : Option Scripted) (x : Scripted) (o : Outcome) → s ≡ Some x
-    → left_by_found m s o ≡ map_left m (commands_of s) o
-found_left m s x o is =
-    ap (λ (f : Option Scripted). left_by_found m f o) is
-    ∙ sym (ap (λ (f : Option Scripted). map_left m (commands_of f) o) is)
-
-gained_by : (b : Bool) (stamp : ℕ) (v w : CoreState) (before after : List Change) → Publishes b stamp v w before after → (gained : List Change) × (after ≡ before ++ gained)
-gained_by true stamp v w before after p = (p.1.0 ∷ [], p.1.1)
-gained_by false stamp v w before after p = ([], p.1 ∙ sym (append-nil before))
+use Rattle.city_desk.proofs.Shelved.{changes_kept, changes_more}
+use Rattle.city_desk.proofs.OpenScripts.{not_last, unrefused_more, left_same, commits, found_left, gained_by}
 
 -- ---- a script with an open transaction
-
--- the shelf shows the committed city
-pub shows_core : (d : DeskState) (changes : List Change) (base : Option CityValue) → IsSerial d changes base → IfSome base (λ city. after_changes (object_at city.1) changes ≡ committed d.core)
-shows_core d changes base s = if_some_to base (λ city. city ≡ d.start) (λ city. after_changes (object_at city.1) changes ≡ committed d.core)
-    (λ city same. ap (λ (x : CityValue). after_changes (object_at x.1) changes) same ∙ (shows_all d.scripts (object_at d.start.1) d.ends changes s.shelf ∙ sym s.city))
-    s.based
 
 stamp_same : (a b : ℕ) → Some a ≡ Some b → b ≡ a
 stamp_same a b e = cc
 
-module _ (d : DeskState) (changes : List Change) (base : Option CityValue) (n stamp since : ℕ) (s : IsSerial d changes base)
+module _ (d : DeskState) (changes : List Change) (base : Option CityValue) (n stamp since : ℕ)
+    (s : IsSerial d changes base)
     (is : phase_of d n ≡ Open stamp since) (there : n < length d.scripts) where
   pub attempt : IsAttempt d n stamp since (replies_of d n)
   attempt = subst (λ p. StandsAs d n p (replies_of d n)) is (s.standing.each n)
@@ -119,7 +65,8 @@ module _ (d : DeskState) (changes : List Change) (base : Option CityValue) (n st
   is_unended : is_ended (phase_of d n) ≡ false
   is_unended = ap is_ended is
 
-  pub unfinished_at : (x : Scripted) (cs : List Command) (p : Progress) → x ≡ slice_index_or d.scripts n x → cs ≡ x.1 → p ≡ slice_index_or d.progress n p → length p.replies.list < length cs
+  pub unfinished_at : (x : Scripted) (cs : List Command) (p : Progress) → x ≡ slice_index_or d.scripts n x → cs ≡ x.1
+      → p ≡ slice_index_or d.progress n p → length p.replies.list < length cs
   unfinished_at x cs p script list read =
       let all : commands_at d.scripts n ≡ cs = commands_read d.scripts n x there script ∙ sym list in
       let heard : length (replies_of d n) ≡ length p.replies.list =
@@ -129,7 +76,8 @@ module _ (d : DeskState) (changes : List Change) (base : Option CityValue) (n st
       omega arith
 
   -- there is room for the reply to its next command
-  pub reply_place : (p : Progress) (names : List (List ℕ)) (capacity : ℕ) → p ≡ slice_index_or d.progress n p → HasRoom d names capacity → length p.replies.list < p.replies.room
+  pub reply_place : (p : Progress) (names : List (List ℕ)) (capacity : ℕ) → p ≡ slice_index_or d.progress n p
+      → HasRoom d names capacity → length p.replies.list < p.replies.room
   reply_place p names capacity read r =
       let same = progress_at d.progress n p (progress_there s there) read in
       let heard : length (replies_of d n) ≡ length p.replies.list = ap (λ (q : Progress). length q.replies.list) same in
@@ -139,9 +87,9 @@ module _ (d : DeskState) (changes : List Change) (base : Option CityValue) (n st
       omega arith
 
   turn_of : (e : DeskState) (q : Progress)
-      → e.scripts ≡ d.scripts → e.progress ≡ slice_set d.progress n q → d.begun ≤ e.begun → length d.ends ≤ length e.ends
-      → KeepsOthers stamp d.core e.core → is_open e.core stamp ≡ is_open_phase q.phase → ((t : ℕ) → stamp_of q.phase ≡ Some t → t ≡ stamp)
-      → StandsAs e n q.phase q.replies.list → IsTurnOf d e n stamp q
+      → e.scripts ≡ d.scripts → e.progress ≡ slice_set d.progress n q → d.begun ≤ e.begun
+      → length d.ends ≤ length e.ends → KeepsOthers stamp d.core e.core → is_open e.core stamp ≡ is_open_phase q.phase
+      → ((t : ℕ) → stamp_of q.phase ≡ Some t → t ≡ stamp) → StandsAs e n q.phase q.replies.list → IsTurnOf d e n stamp q
   turn_of e q scripts progress begun ends k own becomes stands = record {
     there = progress_there s there;
     scripts = scripts;
@@ -158,9 +106,11 @@ module _ (d : DeskState) (changes : List Change) (base : Option CityValue) (n st
   }
 
   open_at : (t : ℕ) → is_open d.core t ≡ true → IsOpenAt d t
-  open_at t opened = let owner = s.standing.owner t opened in record { script = owner.0; began = owner.1; phase = owner.2 }
+  open_at t opened = let owner = s.standing.owner t opened in
+      record { script = owner.0; began = owner.1; phase = owner.2 }
 
-  module _ (command : Command) (next : slice_get (commands_at d.scripts n) (length (replies_of d n)) ≡ Some command) (core : CoreState) (after : List Change) where
+  module _ (command : Command) (next : slice_get (commands_at d.scripts n) (length (replies_of d n)) ≡ Some command)
+      (core : CoreState) (after : List Change) where
     is_next : IsNext d n stamp since command
     is_next = record { phase = is; next = command_as d.scripts n (length (replies_of d n)) ∙ next }
 
@@ -169,9 +119,13 @@ module _ (d : DeskState) (changes : List Change) (base : Option CityValue) (n st
 
     -- ---- its script goes on
 
-    leaves : (turn : Turn) (progress : List Progress) (q : Progress) (names : List (List ℕ)) (capacity : ℕ) → progress ≡ slice_set d.progress n q → q.replies.room ≡ room_of d n → KeepsOthers stamp d.core core → committed core ≡ committed d.core → after ≡ changes
-        → is_open core stamp ≡ is_open_phase q.phase → ((t : ℕ) → stamp_of q.phase ≡ Some t → t ≡ stamp) → StandsAs (now progress) n q.phase q.replies.list → is_ended q.phase ≡ false → is_not_begun q.phase ≡ false
-        → HasRoom d names capacity → IsTurnAs d (now progress) n turn → LeavesDesk n turn d (now progress) names capacity changes after base
+    leaves : (turn : Turn) (progress : List Progress) (q : Progress) (names : List (List ℕ)) (capacity : ℕ)
+        → progress ≡ slice_set d.progress n q → q.replies.room ≡ room_of d n → KeepsOthers stamp d.core core
+        → committed core ≡ committed d.core → after ≡ changes
+        → is_open core stamp ≡ is_open_phase q.phase → ((t : ℕ) → stamp_of q.phase ≡ Some t → t ≡ stamp)
+        → StandsAs (now progress) n q.phase q.replies.list → is_ended q.phase ≡ false → is_not_begun q.phase ≡ false
+        → HasRoom d names capacity → IsTurnAs d (now progress) n turn
+        → LeavesDesk n turn d (now progress) names capacity changes after base
     leaves turn progress q names capacity moves kept k city same own becomes stands on begun r so =
         let made = turn_of (now progress) q refl moves (omega arith) (omega arith) k own becomes stands in
         let serial : IsSerial (now progress) after base = subst (λ cs. IsSerial (now progress) cs base) (sym same)
@@ -191,7 +145,8 @@ module _ (d : DeskState) (changes : List Change) (base : Option CityValue) (n st
     replied_stands : (p q : Progress) (progress : List Progress) → (h : IsReplied stamp command p q d.core core)
         → IsAttempt (now progress) n stamp since (heard h.reply).replies.list
     replied_stands p q progress h =
-        let more : length (heard h.reply).replies.list ≡ length (replies_of d n) + 1 = length-append (replies_of d n) (h.reply ∷ []) in
+        let more : length (heard h.reply).replies.list ≡ length (replies_of d n) + 1 =
+        length-append (replies_of d n) (h.reply ∷ []) in
         let last = not_last (commands_at d.scripts n) (length (replies_of d n)) command (ends_once_there s there) next
         h.goes_on in
         let long : length (commands_at d.scripts n) ≡ length attempt.script.1 = ap length commands_are in
@@ -211,7 +166,8 @@ module _ (d : DeskState) (changes : List Change) (base : Option CityValue) (n st
               (h.stands (answered (commands_at d.scripts n) (replies_of d n)) stood));
         }
 
-    waiting_stands : (p q : Progress) (progress : List Progress) → IsToWait stamp command p q d.core core → IsAttempt (now progress) n stamp since (replies_of d n)
+    waiting_stands : (p q : Progress) (progress : List Progress) → IsToWait stamp command p q d.core core
+        → IsAttempt (now progress) n stamp since (replies_of d n)
     waiting_stands p q progress h = record {
       script = attempt.script;
       is_there = attempt.is_there;
@@ -232,16 +188,21 @@ module _ (d : DeskState) (changes : List Change) (base : Option CityValue) (n st
     abbrev dead : Progress
     dead = progress_to (Idle stamp) [] (room_of d n)
 
-    pub went_on : (turn : Turn) (p q : Progress) (names : List (List ℕ)) (capacity : ℕ) → slice_index_or d.progress n ended_progress ≡ p → HasGoneOn stamp command turn p q d.core core changes after
-        → HasRoom d names capacity → LeavesDesk n turn d (now (slice_set d.progress n q)) names capacity changes after base
+    pub went_on : (turn : Turn) (p q : Progress) (names : List (List ℕ)) (capacity : ℕ)
+        → slice_index_or d.progress n ended_progress ≡ p → HasGoneOn stamp command turn p q d.core core changes after
+        → HasRoom d names capacity
+        → LeavesDesk n turn d (now (slice_set d.progress n q)) names capacity changes after base
     went_on turns.Began p q names capacity read h r = absurd h.so
     went_on turns.Replied p q names capacity read h r =
         let phase : p.phase ≡ Open stamp since = sym (ap (λ (x : Progress). x.phase) read) ∙ is in
         let last = heard h.so.reply in
-        let made : q ≡ last = h.so.heard ∙ (ap (λ f. progress_to f (p.replies.list ++ h.so.reply ∷ []) p.replies.room) phase
-        ∙ ap (λ (x : Progress). progress_to (Open stamp since) (x.replies.list ++ h.so.reply ∷ []) x.replies.room) (sym read)) in
+        let made : q ≡ last = h.so.heard
+        ∙ (ap (λ f. progress_to f (p.replies.list ++ h.so.reply ∷ []) p.replies.room) phase
+        ∙ ap (λ (x : Progress). progress_to (Open stamp since) (x.replies.list ++ h.so.reply ∷ []) x.replies.room)
+        (sym read)) in
         let moves : slice_set d.progress n q ≡ slice_set d.progress n last = ap (slice_set d.progress n) made in
-        leaves turns.Replied (slice_set d.progress n q) last names capacity moves refl h.keeps h.city h.changes h.so.opened (λ t e. stamp_same stamp t e)
+        leaves turns.Replied (slice_set d.progress n q) last names capacity moves refl h.keeps h.city h.changes
+        h.so.opened (λ t e. stamp_same stamp t e)
         (replied_stands p q (slice_set d.progress n q) h.so) refl refl r (record {
           stamp = stamp;
           since = since;
@@ -255,9 +216,12 @@ module _ (d : DeskState) (changes : List Change) (base : Option CityValue) (n st
           ends = refl;
         })
     went_on turns.Waits p q names capacity read h r =
-        let moves : slice_set d.progress n q ≡ slice_set d.progress n still = ap (slice_set d.progress n) (as_read p q h.so.same read) in
-        let same : slice_set d.progress n q ≡ d.progress = ap (slice_set d.progress n) (h.so.same ∙ sym read) ∙ set-get_or d.progress n ended_progress in
-        leaves turns.Waits (slice_set d.progress n q) still names capacity moves refl h.keeps h.city h.changes h.so.opened (λ t e. stamp_same stamp t e)
+        let moves : slice_set d.progress n q ≡ slice_set d.progress n still =
+        ap (slice_set d.progress n) (as_read p q h.so.same read) in
+        let same : slice_set d.progress n q ≡ d.progress = ap (slice_set d.progress n) (h.so.same ∙ sym read)
+        ∙ set-get_or d.progress n ended_progress in
+        leaves turns.Waits (slice_set d.progress n q) still names capacity moves refl h.keeps h.city h.changes
+        h.so.opened (λ t e. stamp_same stamp t e)
         (waiting_stands p q (slice_set d.progress n q) h.so) refl refl r (record {
           waits = record {
             stamp = stamp;
@@ -273,8 +237,10 @@ module _ (d : DeskState) (changes : List Change) (base : Option CityValue) (n st
         })
     went_on turns.Died p q names capacity read h r =
         let moves : slice_set d.progress n q ≡ slice_set d.progress n dead =
-        ap (slice_set d.progress n) (h.so.idle ∙ ap (λ (x : Progress). progress_to (Idle stamp) [] x.replies.room) (sym read)) in
-        leaves turns.Died (slice_set d.progress n q) dead names capacity moves refl h.keeps h.city h.changes h.so.closed (λ t e. stamp_same stamp t e) (refl, attempt.begun) refl refl r (record {
+        ap (slice_set d.progress n)
+        (h.so.idle ∙ ap (λ (x : Progress). progress_to (Idle stamp) [] x.replies.room) (sym read)) in
+        leaves turns.Died (slice_set d.progress n q) dead names capacity moves refl h.keeps h.city h.changes h.so.closed
+        (λ t e. stamp_same stamp t e) (refl, attempt.begun) refl refl r (record {
           stamp = stamp;
           since = since;
           is = record { command = command; next = is_next; goes_on = h.so.goes_on; answered = h.so.dies };
@@ -296,22 +262,31 @@ module _ (d : DeskState) (changes : List Change) (base : Option CityValue) (n st
     abbrev model : CityMap
     model = model_after d.scripts (object_at d.start.1) d.ends
 
-    stands_on_model : IsTraceUnderLocks (held d.core stamp) (unmarked model) (answered (commands_at d.scripts n) (replies_of d n)) (txn.snapshot d.core stamp)
-    stands_on_model = subst (λ (m : CityMap). IsTraceUnderLocks (held d.core stamp) (unmarked m) (answered (commands_at d.scripts n) (replies_of d n)) (txn.snapshot d.core stamp)) s.city stood
+    stands_on_model : IsTraceUnderLocks (held d.core stamp) (unmarked model)
+        (answered (commands_at d.scripts n) (replies_of d n)) (txn.snapshot d.core stamp)
+    stands_on_model =
+        subst (λ (m : CityMap).
+        IsTraceUnderLocks (held d.core stamp) (unmarked m) (answered (commands_at d.scripts n) (replies_of d n))
+        (txn.snapshot d.core stamp)) s.city stood
 
-    result : (outcome : Outcome) → EndsAt (txn.snapshot d.core stamp) command (length (replies_of d n)) outcome → IsScriptResult model (commands_at d.scripts n) (replies_of d n) outcome
+    result : (outcome : Outcome) → EndsAt (txn.snapshot d.core stamp) command (length (replies_of d n)) outcome
+        → IsScriptResult model (commands_at d.scripts n) (replies_of d n) outcome
     result outcome e =
         let number : length (replies_of d n) ≡ 0 + length (replies_of d n) = omega arith in
-        result_from (held d.core stamp) (unmarked model) (txn.snapshot d.core stamp) 0 (commands_at d.scripts n) (replies_of d n) command outcome
-        stands_on_model attempt.unrefused next (subst (λ i. EndsAt (txn.snapshot d.core stamp) command i outcome) number e)
+        result_from (held d.core stamp) (unmarked model) (txn.snapshot d.core stamp) 0 (commands_at d.scripts n)
+        (replies_of d n) command outcome
+        stands_on_model attempt.unrefused next
+        (subst (λ i. EndsAt (txn.snapshot d.core stamp) command i outcome) number e)
 
-    fits_here : (outcome : Outcome) → EndsAt (txn.snapshot d.core stamp) command (length (replies_of d n)) outcome → IsEndOf d.scripts model (length d.ends) (own_end d n since outcome)
+    fits_here : (outcome : Outcome) → EndsAt (txn.snapshot d.core stamp) command (length (replies_of d n)) outcome
+        → IsEndOf d.scripts model (length d.ends) (own_end d n since outcome)
     fits_here outcome e = record {
       script = slice_index_or d.scripts n ([], []);
       is_there = script_there;
       named = ap name_in script_there;
       since = attempt.since;
-      result = subst (λ (cs : List Command). IsScriptResult model cs (replies_of d n) outcome) (ap commands_of script_there) (result outcome e);
+      result = subst (λ (cs : List Command). IsScriptResult model cs (replies_of d n) outcome)
+          (ap commands_of script_there) (result outcome e);
     }
 
     left_here : (outcome : Outcome)
@@ -319,35 +294,51 @@ module _ (d : DeskState) (changes : List Change) (base : Option CityValue) (n st
     left_here outcome =
         found_left model (slice_get d.scripts n) (slice_index_or d.scripts n ([], [])) outcome script_there
 
-    published : (outcome : Outcome) (b : Bool) → is_commit outcome ≡ b → EndsAt (txn.snapshot d.core stamp) command (length (replies_of d n)) outcome → Publishes b stamp d.core core changes after
-        → (committed core ≡ left_by d.scripts model (own_end d n since outcome)) × AreChangesOf d.scripts (object_at d.start.1) (d.ends ++ own_end d n since outcome ∷ []) after
+    published : (outcome : Outcome) (b : Bool) → is_commit outcome ≡ b
+        → EndsAt (txn.snapshot d.core stamp) command (length (replies_of d n)) outcome
+        → Publishes b stamp d.core core changes after
+        → (committed core ≡ left_by d.scripts model (own_end d n since outcome))
+        × AreChangesOf d.scripts (object_at d.start.1) (d.ends ++ own_end d n since outcome ∷ []) after
     published outcome true one e p =
         let by = commits (txn.snapshot d.core stamp) command (length (replies_of d n)) outcome one e in
         let last : slice_get (commands_at d.scripts n) (length (replies_of d n)) ≡ Some Commit = next ∙ ap Some by.1 in
         let left : left_by d.scripts model (own_end d n since outcome) ≡ view d.core stamp =
         left_here outcome ∙ ap (map_left model (commands_at d.scripts n)) by.0
-        ∙ ap (λ (x : View). x.map) (committed_from (held d.core stamp) (unmarked model) (txn.snapshot d.core stamp) (commands_at d.scripts n) (replies_of d n) stands_on_model attempt.unrefused last) in
-        let made : model_after d.scripts (object_at d.start.1) (d.ends ++ own_end d n since outcome ∷ []) ≡ after_change model p.1.0 =
-        model_more d.scripts d.ends (own_end d n since outcome) (object_at d.start.1) ∙ (left ∙ (sym p.1.2 ∙ ap (λ m. after_change m p.1.0) s.city)) in (
+        ∙ ap (λ (x : View). x.map)
+        (committed_from (held d.core stamp) (unmarked model) (txn.snapshot d.core stamp) (commands_at d.scripts n)
+        (replies_of d n) stands_on_model attempt.unrefused last) in
+        let made : model_after d.scripts (object_at d.start.1) (d.ends ++ own_end d n since outcome ∷ [])
+        ≡ after_change model p.1.0 =
+        model_more d.scripts d.ends (own_end d n since outcome) (object_at d.start.1)
+        ∙ (left ∙ (sym p.1.2 ∙ ap (λ m. after_change m p.1.0) s.city)) in (
           p.0 ∙ sym left,
-          subst (λ cs. AreChangesOf d.scripts (object_at d.start.1) (d.ends ++ own_end d n since outcome ∷ []) cs) (sym p.1.1)
-              (changes_more d.scripts (object_at d.start.1) d.ends changes s.shelf (own_end d n since outcome) p.1.0 one made),
+          subst (λ cs. AreChangesOf d.scripts (object_at d.start.1) (d.ends ++ own_end d n since outcome ∷ []) cs)
+              (sym p.1.1)
+              (changes_more d.scripts (object_at d.start.1) d.ends changes s.shelf (own_end d n since outcome) p.1.0 one
+              made),
         )
     published outcome false one e p =
         let left : left_by d.scripts model (own_end d n since outcome) ≡ model =
         left_here outcome ∙ left_same model (commands_at d.scripts n) outcome one in (
           p.0 ∙ (s.city ∙ sym left),
-          subst (λ cs. AreChangesOf d.scripts (object_at d.start.1) (d.ends ++ own_end d n since outcome ∷ []) cs) (sym p.1)
-              (changes_kept d.scripts (object_at d.start.1) d.ends changes s.shelf (own_end d n since outcome) one (model_more d.scripts d.ends (own_end d n since outcome) (object_at d.start.1) ∙ left)),
+          subst (λ cs. AreChangesOf d.scripts (object_at d.start.1) (d.ends ++ own_end d n since outcome ∷ []) cs)
+              (sym p.1)
+              (changes_kept d.scripts (object_at d.start.1) d.ends changes s.shelf (own_end d n since outcome) one
+              (model_more d.scripts d.ends (own_end d n since outcome) (object_at d.start.1) ∙ left)),
         )
 
-    pub ended : (outcome : Outcome) (ends : List End) (progress : List Progress) (names left : List (List ℕ)) (name : List ℕ) (capacity room : ℕ)
-        → AttemptEnded stamp command (length (replies_of d n)) outcome d.core core changes after → ends ≡ d.ends ++ own_end d n since outcome ∷ [] → progress ≡ slice_set d.progress n ended_progress
-        → HasRoom d names capacity → left ≡ slice_set names n name → room ≡ capacity → LeavesDesk n turns.Ended d (ended_at d ends progress core) left room changes after base
+    pub ended : (outcome : Outcome) (ends : List End) (progress : List Progress) (names left : List (List ℕ))
+        (name : List ℕ) (capacity room : ℕ)
+        → AttemptEnded stamp command (length (replies_of d n)) outcome d.core core changes after
+        → ends ≡ d.ends ++ own_end d n since outcome ∷ [] → progress ≡ slice_set d.progress n ended_progress
+        → HasRoom d names capacity → left ≡ slice_set names n name → room ≡ capacity
+        → LeavesDesk n turns.Ended d (ended_at d ends progress core) left room changes after base
     ended outcome ends progress names left name capacity room h more moves r taken same =
         let e : DeskState = ended_at d ends progress core in
-        let long : length ends ≡ length d.ends + 1 = ap length more ∙ length-append d.ends (own_end d n since outcome ∷ []) in
-        let turn = turn_of e ended_progress refl moves (omega arith) (omega (arith, long)) h.keeps h.closed (λ j k. absurd (cc)) refl in
+        let long : length ends ≡ length d.ends + 1 = ap length more
+        ∙ length-append d.ends (own_end d n since outcome ∷ []) in
+        let turn = turn_of e ended_progress refl moves (omega arith) (omega (arith, long)) h.keeps h.closed
+        (λ j k. absurd (cc)) refl in
         let both = published outcome (is_commit outcome) refl h.ends h.publishes in
         let serial : IsSerial e after base = ended_serial d changes after base ends progress core n stamp
         (own_end d n since outcome) s h.keeps.frame turn more refl there is_unended (fits_here outcome h.ends) both.0
@@ -364,7 +355,8 @@ module _ (d : DeskState) (changes : List Change) (base : Option CityValue) (n st
               is_there = script_there;
               since = since;
               outcome = outcome;
-              due = subst (λ p. IsDue d n p since outcome) (sym is) (refl, record { command = command; next = is_next; ends = h.ends; granted = h.granted });
+              due = subst (λ p. IsDue d n p since outcome) (sym is)
+                  (refl, record { command = command; next = is_next; ends = h.ends; granted = h.granted });
               ends =
                   more
                   ∙ ap (λ (name : List ℕ). d.ends ++ end_of d n name since outcome ∷ []) (ap name_in script_there);
@@ -377,7 +369,8 @@ module _ (d : DeskState) (changes : List Change) (base : Option CityValue) (n st
 
   -- ---- as the code reads the script and its progress, and writes its end
 
-  module _ (p : Progress) (x : Scripted) (cs : List Command) (number : ℕ) (command : Command) (read : p ≡ slice_index_or d.progress n p) (script : x ≡ slice_index_or d.scripts n x) (list : cs ≡ x.1)
+  module _ (p : Progress) (x : Scripted) (cs : List Command) (number : ℕ) (command : Command)
+      (read : p ≡ slice_index_or d.progress n p) (script : x ≡ slice_index_or d.scripts n x) (list : cs ≡ x.1)
       (count : number ≡ length p.replies.list) (at_number : command ≡ slice_index_or cs number command) where
     reads : slice_index_or d.progress n ended_progress ≡ p
     reads = progress_at d.progress n p (progress_there s there) read
@@ -387,55 +380,35 @@ module _ (d : DeskState) (changes : List Change) (base : Option CityValue) (n st
 
     next_read : slice_get (commands_at d.scripts n) (length (replies_of d n)) ≡ Some command
     next_read =
-        let here : command ≡ slice_index_or cs (length (replies_of d n)) command = subst (λ k. command ≡ slice_index_or cs k command) (count ∙ sym (ap length heard_so_far)) at_number in
+        let here : command ≡ slice_index_or cs (length (replies_of d n)) command =
+        subst (λ k. command ≡ slice_index_or cs k command) (count ∙ sym (ap length heard_so_far)) at_number in
         let few : length (replies_of d n) ≡ length p.replies.list = ap length heard_so_far in
         let less = unfinished_at x cs p script list read in
         next_at d.scripts n x cs (length (replies_of d n)) command there script list (omega arith) here
 
-    goes_on_from : (turn : Turn) (q : Progress) (core : CoreState) (after : List Change) (names : List (List ℕ))
+    pub goes_on_from : (turn : Turn) (q : Progress) (core : CoreState) (after : List Change) (names : List (List ℕ))
         (capacity : ℕ) → HasStepped stamp command (Stepped.GoesOn turn) p q d.core core changes after
-        → HasRoom d names capacity → LeavesDesk n turn d (now_at d (slice_set d.progress n q) d.begun core) names capacity changes after base
-    goes_on_from turn q core after names capacity h r = went_on command next_read core after turn p q names capacity reads h r
+        → HasRoom d names capacity
+        → LeavesDesk n turn d (now_at d (slice_set d.progress n q) d.begun core) names capacity changes after base
+    goes_on_from turn q core after names capacity h r =
+        went_on command next_read core after turn p q names capacity reads h r
 
-    ends_from : (outcome : Outcome) (q w : Progress) (core : CoreState) (after : List Change) (ends : List End)
+    pub ends_from : (outcome : Outcome) (q w : Progress) (core : CoreState) (after : List Change) (ends : List End)
         (names : List (List ℕ)) (name taken : List ℕ) (capacity room : ℕ)
-        → HasStepped stamp command (Stepped.Ends outcome) p q d.core core changes after
-        → w ≡ ended_progress → ends ≡ d.ends ++ (record { script = n; name = name; since = since; replies = q.replies.list; outcome = outcome }) ∷ [] → name ≡ slice_index_or names n name
-        → HasRoom d names capacity → room ≡ capacity → LeavesDesk n turns.Ended d (ended_at d ends (slice_set d.progress n w) core) (slice_set names n taken) room changes after base
+        → HasStepped stamp command (Stepped.Ends outcome) p q d.core core changes after → w ≡ ended_progress
+        → ends ≡ d.ends
+        ++ (record { script = n; name = name; since = since; replies = q.replies.list; outcome = outcome }) ∷ []
+        → name ≡ slice_index_or names n name → HasRoom d names capacity → room ≡ capacity
+        → LeavesDesk n turns.Ended d (ended_at d ends (slice_set d.progress n w) core) (slice_set names n taken) room
+        changes after base
     ends_from outcome q w core after ends names name taken capacity room h over more named r same =
         let called : name ≡ name_at d.scripts n = sym (name_there names n name
         (subst (λ k. n < k) (sym r.names_long) there) named) ∙ r.named n there is_unended in
         let replies : q.replies.list ≡ replies_of d n = ap (λ (y : Progress). y.replies.list) h.0 ∙ sym heard_so_far in
-        let step : AttemptEnded stamp command (length (replies_of d n)) outcome d.core core changes after = subst (λ (rs : List Reply). AttemptEnded stamp command (length rs) outcome d.core core changes after) (sym heard_so_far) h.1 in
-        ended command next_read core after outcome ends (slice_set d.progress n w) names (slice_set names n taken) taken capacity room step
-        (end_as d.ends ends n since outcome name (name_at d.scripts n) q.replies.list (replies_of d n) more called replies) (ap (slice_set d.progress n) over) r refl same
-
--- ---- the same of the desk that contracts see
-
-module _ {d seen : DeskState} {changes listing : List Change} {base : Option CityValue} {n stamp since : ℕ} (run : d ≡ seen) (listed : changes ≡ listing) (s : IsSerial d changes base)
-    (opened : phase_of seen n ≡ Open stamp since) (there : n < length seen.scripts) {names : List (List ℕ)} {capacity : ℕ} (r : HasRoom d names capacity) where
-  is_here : phase_of d n ≡ Open stamp since
-  is_here = subst (λ (x : DeskState). phase_of x n ≡ Open stamp since) (sym run) opened
-
-  there_here : n < length d.scripts
-  there_here = there_in_equal run there
-
-  pub place_for_end : length d.ends < capacity
-  place_for_end = place_for_its_end s there_here (ap is_ended is_here) r
-
-  pub place_for_reply : {p : Progress} → p ≡ slice_index_or d.progress n p → length p.replies.list < p.replies.room
-  place_for_reply {p} read = reply_place d changes base n stamp since s is_here there_here p names capacity read r
-
-  module _ {p : Progress} {x : Scripted} {cs : List Command} {number : ℕ} {command : Command} (read : p ≡ slice_index_or d.progress n p) (script : x ≡ slice_index_or d.scripts n x) (list : cs ≡ x.1)
-      (count : number ≡ length p.replies.list) (at_number : command ≡ slice_index_or cs number command) {q : Progress} {core : CoreState} {after : List Change} where
-    pub turn_goes_on : {turn : Turn} → HasStepped stamp command (Stepped.GoesOn turn) p q d.core core changes after
-        → LeavesDesk n turn seen (now_at d (slice_set d.progress n q) d.begun core) names capacity listing after base
-    turn_goes_on {turn} h = left_of run listed
-        (goes_on_from d changes base n stamp since s is_here there_here p x cs number command read script list count at_number turn q core after names capacity h r)
-
-    pub turn_ends : {outcome : Outcome} {w : Progress} {ends : List End} {name : List ℕ} (taken : List ℕ) {room : ℕ}
-        → HasStepped stamp command (Stepped.Ends outcome) p q d.core core changes after
-        → w ≡ ended_progress → ends ≡ d.ends ++ (record { script = n; name = name; since = since; replies = q.replies.list; outcome = outcome }) ∷ [] → name ≡ slice_index_or names n name
-        → room ≡ capacity → LeavesDesk n turns.Ended seen (ended_at d ends (slice_set d.progress n w) core) (slice_set names n taken) room listing after base
-    turn_ends {outcome} {w} {ends} {name} taken {room} h over more named same = left_of run listed
-        (ends_from d changes base n stamp since s is_here there_here p x cs number command read script list count at_number outcome q w core after ends names name taken capacity room h over more named r same)
+        let step : AttemptEnded stamp command (length (replies_of d n)) outcome d.core core changes after =
+        subst (λ (rs : List Reply). AttemptEnded stamp command (length rs) outcome d.core core changes after)
+        (sym heard_so_far) h.1 in
+        ended command next_read core after outcome ends (slice_set d.progress n w) names (slice_set names n taken) taken
+        capacity room step
+        (end_as d.ends ends n since outcome name (name_at d.scripts n) q.replies.list (replies_of d n) more called
+        replies) (ap (slice_set d.progress n) over) r refl same

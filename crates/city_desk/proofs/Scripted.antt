@@ -13,7 +13,8 @@ below i n lt ne = omega (arith, ne)
 same_script : (s x : Scripted) → Some s ≡ Some x → s ≡ x
 same_script s x e = cc
 
-pub one_more_scripted : (scripts : List Scripted) (n : ℕ) (x : Scripted) → n < length scripts → x ≡ slice_index_or scripts n x → ends_once x.1 ≡ true
+pub one_more_scripted : (scripts : List Scripted) (n : ℕ) (x : Scripted) → n < length scripts
+    → x ≡ slice_index_or scripts n x → ends_once x.1 ≡ true
     → ((i : ℕ) (s : Scripted) → i < n → slice_get scripts i ≡ Some s → ends_once s.1 ≡ true)
     → (i : ℕ) (s : Scripted) → i < n + 1 → slice_get scripts i ≡ Some s → ends_once s.1 ≡ true
 one_more_scripted scripts n x within is once before i s lt there = elim (cases_eq i n) [
@@ -23,5 +24,6 @@ one_more_scripted scripts n x within is once before i s lt there = elim (cases_e
   | inr ne ↦ before i s (below i n lt ne) there
 ]
 
-pub all_scripted : (scripts : List Scripted) (n : ℕ) → length scripts ≤ n → ((i : ℕ) (s : Scripted) → i < n → slice_get scripts i ≡ Some s → ends_once s.1 ≡ true) → AreScripts scripts
+pub all_scripted : (scripts : List Scripted) (n : ℕ) → length scripts ≤ n
+    → ((i : ℕ) (s : Scripted) → i < n → slice_get scripts i ≡ Some s → ends_once s.1 ≡ true) → AreScripts scripts
 all_scripted scripts n long all i s there = let lt = slice_get_within scripts i s there in all i s (omega arith) there

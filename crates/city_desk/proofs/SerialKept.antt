@@ -21,8 +21,10 @@ abbrev pub ended_at : DeskState → List End → List Progress → CoreState →
 ended_at d ends progress core = record d { ends = ends; progress = progress; core = core }
 
 -- the script goes on
-pub kept_serial : (d : DeskState) (changes : List Change) (base : Option CityValue) (progress : List Progress) (begun : ℕ) (core : CoreState) (n stamp : ℕ) (q : Progress)
-    → IsSerial d changes base → core.frame ≡ d.core.frame → committed core ≡ committed d.core → IsTurnOf d (now_at d progress begun core) n stamp q
+pub kept_serial : (d : DeskState) (changes : List Change) (base : Option CityValue) (progress : List Progress)
+    (begun : ℕ) (core : CoreState) (n stamp : ℕ) (q : Progress)
+    → IsSerial d changes base → core.frame ≡ d.core.frame → committed core ≡ committed d.core
+    → IsTurnOf d (now_at d progress begun core) n stamp q
     → is_ended q.phase ≡ is_ended (phase_of d n) → IsSerial (now_at d progress begun core) changes base
 kept_serial d changes base progress begun core n stamp q s frame city k same = record {
   lawful = s.lawful;
@@ -32,7 +34,10 @@ kept_serial d changes base progress begun core n stamp q s frame city k same = r
   city = city ∙ s.city;
   standing = attempts_kept d (now_at d progress begun core) n stamp q k s.standing;
   ended = λ j lt. s.ended j lt ∙ elim (cases_eq j n) [
-    | inl one ↦ ap (λ i. is_ended (phase_of d i)) one ∙ (sym same ∙ (sym (ap is_ended (phase_here d (now_at d progress begun core) n stamp q k)) ∙ ap (λ i. is_ended (phase_of (now_at d progress begun core) i)) (sym one)))
+    | inl one ↦ ap (λ i. is_ended (phase_of d i)) one
+        ∙ (sym same
+        ∙ (sym (ap is_ended (phase_here d (now_at d progress begun core) n stamp q k))
+        ∙ ap (λ i. is_ended (phase_of (now_at d progress begun core) i)) (sym one)))
     | inr ne ↦ sym (ap is_ended (phase_beside d (now_at d progress begun core) n stamp q k j ne))
   ];
   of_each = ap length k.progress ∙ (length-set d.progress n q ∙ s.of_each);
@@ -41,19 +46,27 @@ kept_serial d changes base progress begun core n stamp q s frame city k same = r
 }
 
 -- the script ends
-pub ended_serial : (d : DeskState) (changes after : List Change) (base : Option CityValue) (ends : List End) (progress : List Progress) (core : CoreState) (n stamp : ℕ) (e : End)
-    → IsSerial d changes base → core.frame ≡ d.core.frame → IsTurnOf d (ended_at d ends progress core) n stamp ended_progress → ends ≡ d.ends ++ e ∷ [] → e.script ≡ n → n < length d.scripts
-    → is_ended (phase_of d n) ≡ false → IsEndOf d.scripts (model_after d.scripts (object_at d.start.1) d.ends) (length d.ends) e
+pub ended_serial : (d : DeskState) (changes after : List Change) (base : Option CityValue) (ends : List End)
+    (progress : List Progress) (core : CoreState) (n stamp : ℕ) (e : End)
+    → IsSerial d changes base → core.frame ≡ d.core.frame
+    → IsTurnOf d (ended_at d ends progress core) n stamp ended_progress → ends ≡ d.ends ++ e ∷ [] → e.script ≡ n
+    → n < length d.scripts
+    → is_ended (phase_of d n) ≡ false
+    → IsEndOf d.scripts (model_after d.scripts (object_at d.start.1) d.ends) (length d.ends) e
     → committed core ≡ left_by d.scripts (model_after d.scripts (object_at d.start.1) d.ends) e
-    → AreChangesOf d.scripts (object_at d.start.1) (d.ends ++ e ∷ []) after → IsSerial (ended_at d ends progress core) after base
+    → AreChangesOf d.scripts (object_at d.start.1) (d.ends ++ e ∷ []) after
+    → IsSerial (ended_at d ends progress core) after base
 ended_serial d changes after base ends progress core n stamp e s frame k more script there going is city shelf =
     let none : has_end e.script d.ends ≡ false = ap (λ i. has_end i d.ends) script ∙ (s.ended n there ∙ going) in
     record {
       lawful = s.lawful;
       scripted = s.scripted;
-      fits = subst (λ es. IsSerialHistoryFrom d.scripts (object_at d.start.1) 0 es) (sym more) (fits_more d.scripts d.ends e (object_at d.start.1) 0 s.fits none (subst (λ p. IsEndOf d.scripts (model_after d.scripts (object_at d.start.1) d.ends) p e) (omega arith) is));
+      fits = subst (λ es. IsSerialHistoryFrom d.scripts (object_at d.start.1) 0 es) (sym more)
+          (fits_more d.scripts d.ends e (object_at d.start.1) 0 s.fits none
+          (subst (λ p. IsEndOf d.scripts (model_after d.scripts (object_at d.start.1) d.ends) p e) (omega arith) is));
       frame = frame ∙ s.frame;
-      city = city ∙ (sym (model_more d.scripts d.ends e (object_at d.start.1)) ∙ ap (model_after d.scripts (object_at d.start.1)) (sym more));
+      city = city ∙ (sym (model_more d.scripts d.ends e (object_at d.start.1))
+          ∙ ap (model_after d.scripts (object_at d.start.1)) (sym more));
       standing = attempts_kept d (ended_at d ends progress core) n stamp ended_progress k s.standing;
       ended = λ j lt. ap (has_end j) more ∙ (has_end_more j d.ends e ∙ elim (cases_eq j n) [
         | inl one ↦ ap (λ b. has_end j d.ends || b) (eq-eqb e.script j (script ∙ sym one))

@@ -1,5 +1,6 @@
 -- The youngest open transaction, and that it doesn't wait.
-use Rattle.std.proofs.Common.{◌≡◌, ◌<◌, ◌≤◌, ℕ, true, false, List, length, Option, Some, None, refl, ap, sym, ◌∙◌, ⊎_elim, arith}
+use Rattle.std.proofs.Common.{◌≡◌, ◌<◌, ◌≤◌, ℕ, true, false, List, length, Option, Some, None, refl, ap, sym, ◌∙◌}
+use Rattle.std.proofs.Common.{⊎_elim, arith}
 use Rattle.std.specs.Prelude.{MatchOption}
 use Rattle.std.proofs.lemmas.Bool.{false≢true, cases_lt}
 use Rattle.std.proofs.lemmas.List.{get_or_past}
@@ -14,19 +15,23 @@ past : (ps : List Progress) (k : ℕ) → length ps ≤ k → phase_in ps k ≡ 
 past ps k le = ap (λ (p : Progress). p.phase) (get_or_past ps k ended_progress le)
 
 pub open_within : (ps : List Progress) (k : ℕ) → is_ended (phase_in ps k) ≡ false → k < length ps
-open_within ps k h = ⊎_elim (λ lt. lt) (λ le. absurd (false≢true (sym h ∙ ap is_ended (past ps k le)))) (cases_lt k (length ps))
+open_within ps k h =
+    ⊎_elim (λ lt. lt) (λ le. absurd (false≢true (sym h ∙ ap is_ended (past ps k le)))) (cases_lt k (length ps))
 
 pub youngest_of_all : (ps : List Progress) (found : Option ℕ) (stamp i : ℕ) → length ps ≤ i
-    → MatchOption found ((k : ℕ) → k < i → is_open_phase (phase_in ps k) ≡ false) (λ m. (m < i) × IsYoungestBelow ps i m stamp)
+    → MatchOption found ((k : ℕ) → k < i → is_open_phase (phase_in ps k) ≡ false)
+    (λ m. (m < i) × IsYoungestBelow ps i m stamp)
     → MatchOption found ((k : ℕ) → is_open_phase (phase_in ps k) ≡ false) (λ m. (m < length ps) × IsYoungest ps m)
-youngest_of_all ps None stamp i le h = λ k. ⊎_elim (λ lt. h k (omega arith)) (λ out. ap is_open_phase (past ps k out)) (cases_lt k (length ps))
+youngest_of_all ps None stamp i le h =
+    λ k. ⊎_elim (λ lt. h k (omega arith)) (λ out. ap is_open_phase (past ps k out)) (cases_lt k (length ps))
 youngest_of_all ps (Some m) stamp i le h = (
   open_within ps m (ap is_ended h.1.is),
   record {
     stamp = stamp;
     since = h.1.since;
     is = h.1.is;
-    youngest = λ k other began e. let lt = open_within ps k (ap is_ended e) in h.1.youngest k other began (omega arith) e;
+    youngest = λ k other began e. let lt = open_within ps k (ap is_ended e) in
+        h.1.youngest k other began (omega arith) e;
   },
 )
 

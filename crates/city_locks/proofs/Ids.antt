@@ -12,7 +12,8 @@ use Rattle.city_model.proofs.IdLists.{bool_cases}
 
 -- another stamp is at another place
 pub stamp_apart : (s t : ℕ) → (s == t) ≡ false → is_at (nat_cmp s) t ≡ false
-stamp_apart s t e = false_from_ne_true (is_at (nat_cmp s) t) (λ h. eqb-false s t e (exact_unsigned s t ((Equal-is (nat_cmp s t)).0 h)))
+stamp_apart s t e =
+    false_from_ne_true (is_at (nat_cmp s) t) (λ h. eqb-false s t e (exact_unsigned s t ((Equal-is (nat_cmp s t)).0 h)))
 
 -- a choice at one id, where it is the old value anyway
 pub same_at_id : {A : Type 0} (f : List ℕ → A) (x : A) (id q : List ℕ) → x ≡ f id → f q ≡ cond (same_id id q) x (f q)
@@ -23,5 +24,6 @@ same_at_id {A} f x id q e = bool_cases (same_id id q)
 -- one more id of a list
 pub has_id_more : (ids : List (List ℕ)) (i : ℕ) (id q : List ℕ) → i < length ids → id ≡ get_or ids i id →
     has_id (take (i + 1) ids) q ≡ (has_id (take i ids) q || same_id id q)
-has_id_more ids i id q lt e = list_any_more (same_id q) ids i id lt ∙ ap (λ d. has_id (take i ids) q || same_id q d) (sym e)
+has_id_more ids i id q lt e = list_any_more (same_id q) ids i id lt
+    ∙ ap (λ d. has_id (take i ids) q || same_id q d) (sym e)
     ∙ ap (λ b. has_id (take i ids) q || b) (same_id_back q id)

@@ -41,14 +41,17 @@ module _ (held : Held) (other : CityMap) where
 
   -- ---- going back
 
-  from_carried : (name : List ℕ) (ks : List Marked) → marks_from name (carried_marks held other ks) ≡ carried_marks held other (marks_from name ks)
+  from_carried : (name : List ℕ) (ks : List Marked)
+      → marks_from name (carried_marks held other ks) ≡ carried_marks held other (marks_from name ks)
   from_carried name ks = from_mapped (carried_map held other) name ks
 
-  back_carried : (v : View) (ks : List Marked) → back_to (carried held other v) (carried_marks held other ks) ≡ carried held other (back_to v ks)
+  back_carried : (v : View) (ks : List Marked)
+      → back_to (carried held other v) (carried_marks held other ks) ≡ carried held other (back_to v ks)
   back_carried v [] = refl
   back_carried v (k ∷ ks) = refl
 
-  cause_carried : (name : List ℕ) (ks : List Marked) → back_cause name (carried_marks held other ks) ≡ back_cause name ks
+  cause_carried : (name : List ℕ) (ks : List Marked)
+      → back_cause name (carried_marks held other ks) ≡ back_cause name ks
   cause_carried name [] = refl
   cause_carried name (k ∷ ks) = refl
 
@@ -64,25 +67,30 @@ module _ (held : Held) (other : CityMap) where
 
   -- ---- one command
 
-  module _ (v : View) (c : Command) (s : IsSoundView v) (t : IsSoundView (carried held other v)) (is : IsCarriedView v) (all : AllHeld held (locks_of v.map c)) where
+  module _ (v : View) (c : Command) (s : IsSoundView v) (t : IsSoundView (carried held other v)) (is : IsCarriedView v)
+      (all : AllHeld held (locks_of v.map c)) where
     on : AgreeOn (locks_of v.map c) v.map (carried_map held other v.map)
     on = λ q h. is.0 q (held_named held (locks_of v.map c) q all h)
 
     same : locks_of v.map c ≡ locks_of (carried_map held other v.map) c
     same = same_locks v.map (carried_map held other v.map) c on
 
-    apart : (q : List ℕ) → locks_id_exclusively (locks_of v.map c) q ≡ false → after (carried_map held other v.map) c q ≡ carried_map held other v.map q
+    apart : (q : List ℕ) → locks_id_exclusively (locks_of v.map c) q ≡ false
+        → after (carried_map held other v.map) c q ≡ carried_map held other v.map q
     apart q e = frame (carried_map held other v.map) c q t.0 (sym (ap (λ ls. locks_id_exclusively ls q) same) ∙ e)
 
     still : (q : List ℕ) → covers (held q) Exclusive ≡ false → after v.map c q ≡ v.map q
     still q e = frame v.map c q s.0 (not_named held (locks_of v.map c) q all e)
 
-    after_carried_at : (q : List ℕ) → after (carried_map held other v.map) c q ≡ carried_map held other (after v.map c) q
+    after_carried_at : (q : List ℕ)
+        → after (carried_map held other v.map) c q ≡ carried_map held other (after v.map c) q
     after_carried_at q = bool_cases (covers (held q) Exclusive)
         (λ e. bool_cases (locks_id_exclusively (locks_of v.map c) q)
         (λ f. sym (same_after v.map (carried_map held other v.map) c q on f))
-        (λ f. apart q f ∙ carried_held v.map q e ∙ sym (frame v.map c q s.0 f)) ∙ sym (carried_held (after v.map c) q e))
-        (λ e. apart q (not_named held (locks_of v.map c) q all e) ∙ carried_apart v.map q e ∙ sym (carried_apart (after v.map c) q e))
+        (λ f. apart q f ∙ carried_held v.map q e ∙ sym (frame v.map c q s.0 f))
+        ∙ sym (carried_held (after v.map c) q e))
+        (λ e. apart q (not_named held (locks_of v.map c) q all e) ∙ carried_apart v.map q e
+        ∙ sym (carried_apart (after v.map c) q e))
 
     after_carried : after (carried_map held other v.map) c ≡ carried_map held other (after v.map c)
     after_carried = λ i q. after_carried_at q i
@@ -93,9 +101,11 @@ module _ (held : Held) (other : CityMap) where
         (λ e. still q e ∙ is.0 q h ∙ carried_apart v.map q e ∙ sym (carried_apart (after v.map c) q e))
 
     step_carried_as : (k : Marking) → step_as k (carried held other v) c ≡ carried held other (step_as k v c)
-    step_carried_as Leaves = ap (λ (m : CityMap). record { map = m; marks = carried_marks held other v.marks }) after_carried
+    step_carried_as Leaves =
+        ap (λ (m : CityMap). record { map = m; marks = carried_marks held other v.marks }) after_carried
     step_carried_as (Marks name) = refl
-    step_carried_as (GoesBack name) = ap (back_to (carried held other v)) (from_carried name v.marks) ∙ back_carried v (marks_from name v.marks)
+    step_carried_as (GoesBack name) = ap (back_to (carried held other v)) (from_carried name v.marks)
+        ∙ back_carried v (marks_from name v.marks)
 
     step_carried : seen_next (carried held other v) c ≡ carried held other (seen_next v c)
     step_carried = step_carried_as (marking c)
@@ -103,7 +113,8 @@ module _ (held : Held) (other : CityMap) where
     refusal_carried_as : (k : Marking) → refusal_as k v c ≡ refusal_as k (carried held other v) c
     refusal_carried_as Leaves = same_cause v.map (carried_map held other v.map) c on
     refusal_carried_as (Marks name) = refl
-    refusal_carried_as (GoesBack name) = sym (ap (back_cause name) (from_carried name v.marks) ∙ cause_carried name (marks_from name v.marks))
+    refusal_carried_as (GoesBack name) =
+        sym (ap (back_cause name) (from_carried name v.marks) ∙ cause_carried name (marks_from name v.marks))
 
     answer_carried : answer v c ≡ answer (carried held other v) c
     answer_carried = ap (λ x. refused_or x (done_reply v.map c)) (refusal_carried_as (marking c))
@@ -126,7 +137,8 @@ module _ (held : Held) (other : CityMap) where
       is_carried_next = subst IsCarriedView (sym (answered_next v c reply u answers)) (is_step_as (marking c))
 
   -- a history under locks holds from the view that is carried, and leads to the carried one
-  pub history_carried : (v : View) (ds : List Answered) (w : View) → IsSoundView v → IsSoundView (carried held other v) → IsCarriedView v
+  pub history_carried : (v : View) (ds : List Answered) (w : View) → IsSoundView v → IsSoundView (carried held other v)
+      → IsCarriedView v
       → IsTraceUnderLocks held v ds w → IsTraceUnderLocks held (carried held other v) ds (carried held other w)
   history_carried v [] w s t is f = ap (carried held other) f
   history_carried v (d ∷ ds) w s t is f = (
@@ -154,4 +166,8 @@ history_kept held m other ds w s t agree f =
     (λ e. carried_apart held other m q e) in
     let same : carried_map held other m ≡ other = λ i q. at q i in
     subst (λ (k : CityMap). IsTraceUnderLocks held (unmarked k) ds (carried held other w)) same
-    (history_carried held other (unmarked m) ds w (s, tt) (subst IsSound (sym same) t, tt) (λ q h. agree q h ∙ sym (at q), tt) f)
+    (history_carried held other (unmarked m) ds w (s, tt) (subst IsSound (sym same) t, tt) (
+      λ q h. agree q h
+          ∙ sym (at q),
+      tt,
+    ) f)

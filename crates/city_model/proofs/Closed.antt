@@ -1,5 +1,6 @@
 -- A shell is closed where the edges that are run up are each there once, and are the ones that are run down, turned.
-use Rattle.std.proofs.Common.{◌≡◌, ℕ, zero, suc, ◌+◌, ◌≤◌, List, [], ◌∷◌, Bool, true, false, true≢false, not, map, Ordering, Less, Equal, Greater, is_eq, refl, sym, ap, ◌∙◌, subst, arith}
+use Rattle.std.proofs.Common.{◌≡◌, ℕ, zero, suc, ◌+◌, ◌≤◌, List, [], ◌∷◌, Bool, true, false, true≢false, not, map}
+use Rattle.std.proofs.Common.{Ordering, Less, Equal, Greater, is_eq, refl, sym, ap, ◌∙◌, subst, arith}
 use Rattle.std.specs.Prelude.{◌&&◌, ◌==◌, if◌then◌else◌}
 use Rattle.std.specs.Bool.{Decides}
 use Rattle.std.specs.Cmp.{IsTotalOrder, tied_then}
@@ -29,10 +30,12 @@ edge_order e f = ordering_then (point_order e.0 f.0) (point_order e.1 f.1)
 
 point_order_total : IsTotalOrder point_order
 point_order_total =
-    then_total (on_total (λ (p : Point). p.x) int_cmp_total) (then_total (on_total (λ (p : Point). p.y) int_cmp_total) (on_total (λ (p : Point). p.z) int_cmp_total))
+    then_total (on_total (λ (p : Point). p.x) int_cmp_total)
+    (then_total (on_total (λ (p : Point). p.y) int_cmp_total) (on_total (λ (p : Point). p.z) int_cmp_total))
 
 edge_order_total : IsTotalOrder edge_order
-edge_order_total = then_total (on_total (λ (e : Edge). e.0) point_order_total) (on_total (λ (e : Edge). e.1) point_order_total)
+edge_order_total =
+    then_total (on_total (λ (e : Edge). e.0) point_order_total) (on_total (λ (e : Edge). e.1) point_order_total)
 
 and_assoc : (a b c : Bool) → (a && (b && c)) ≡ ((a && b) && c)
 and_assoc true b c = refl
@@ -43,12 +46,14 @@ tied_points p q =
     let x = int_cmp p.x q.x in
     let y = int_cmp p.y q.y in
     let z = int_cmp p.z q.z in
-    sym (tied_then x (ordering_then y z)) ∙ ap (λ b. is_eq x && b) (sym (tied_then y z)) ∙ and_assoc (is_eq x) (is_eq y) (is_eq z)
+    sym (tied_then x (ordering_then y z)) ∙ ap (λ b. is_eq x && b) (sym (tied_then y z))
+    ∙ and_assoc (is_eq x) (is_eq y) (is_eq z)
 
 -- it ties equal edges alone
 tied_edges : eq_by_cmp edge_order ≡ same_edge
 tied_edges i e f =
-    let tied : eq_by_cmp edge_order e f ≡ same_edge e f = sym (tied_then (point_order e.0 f.0) (point_order e.1 f.1)) ∙ (λ j. tied_points e.0 f.0 j && tied_points e.1 f.1 j) in
+    let tied : eq_by_cmp edge_order e f ≡ same_edge e f = sym (tied_then (point_order e.0 f.0) (point_order e.1 f.1))
+    ∙ (λ j. tied_points e.0 f.0 j && tied_points e.1 f.1 j) in
     tied i
 
 -- ---- the tests of edges
@@ -65,14 +70,17 @@ point_decides p q =
     let x = int_eq p.x q.x in
     let y = int_eq p.y q.y in
     let z = int_eq p.z q.z in
-    same_decides (point_eq p q) (Decides-and x (y && z) (Decides-int_eq p.x q.x) (Decides-and y z (Decides-int_eq p.y q.y) (Decides-int_eq p.z q.z)))
+    same_decides (point_eq p q)
+    (Decides-and x (y && z) (Decides-int_eq p.x q.x)
+    (Decides-and y z (Decides-int_eq p.y q.y) (Decides-int_eq p.z q.z)))
     (λ h i. record { x = h.0 i; y = h.1.0 i; z = h.1.1 i })
     (λ e. (ap (λ (r : Point). r.x) e, (ap (λ (r : Point). r.y) e, ap (λ (r : Point). r.z) e)))
 
 -- the derived test of two edges
 pub pair_decides : (e f : Edge) → Decides (point_eq e.0 f.0 && point_eq e.1 f.1) (e ≡ f)
 pair_decides e f =
-    same_decides (point_eq e.0 f.0 && point_eq e.1 f.1) (Decides-and (point_eq e.0 f.0) (point_eq e.1 f.1) (point_decides e.0 f.0) (point_decides e.1 f.1))
+    same_decides (point_eq e.0 f.0 && point_eq e.1 f.1)
+    (Decides-and (point_eq e.0 f.0) (point_eq e.1 f.1) (point_decides e.0 f.0) (point_decides e.1 f.1))
     (λ h i. (h.0 i, h.1 i))
     (λ h. (ap (λ (g : Edge). g.0) h, ap (λ (g : Edge). g.1) h))
 
@@ -80,10 +88,12 @@ same_points : (p q : Point) → point_eq p q ≡ same_point p q
 same_points p q = and_assoc (int_eq p.x q.x) (int_eq p.y q.y) (int_eq p.z q.z)
 
 edge_decides : (e f : Edge) → Decides (same_edge e f) (e ≡ f)
-edge_decides e f = subst (λ b. Decides b (e ≡ f)) (λ i. same_points e.0 f.0 i && same_points e.1 f.1 i) (pair_decides e f)
+edge_decides e f =
+    subst (λ b. Decides b (e ≡ f)) (λ i. same_points e.0 f.0 i && same_points e.1 f.1 i) (pair_decides e f)
 
 order_decides : (e f : Edge) → Decides (eq_by_cmp edge_order e f) (e ≡ f)
-order_decides = subst (λ (same : Edge → Edge → Bool). (e f : Edge) → Decides (same e f) (e ≡ f)) (sym tied_edges) edge_decides
+order_decides =
+    subst (λ (same : Edge → Edge → Bool). (e f : Edge) → Decides (same e f) (e ≡ f)) (sym tied_edges) edge_decides
 
 -- ---- how often an edge is run
 
@@ -120,16 +130,23 @@ module _ (es : List Edge) where
   up_times : (q : Edge) → rises q ≡ true → times same_edge q (rising es) ≡ times same_edge q es
   up_times q h = times-filter_kept edge_decides rises q h es
 
-  down_times : (q : Edge) → rises q ≡ true → times same_edge q (rising (map flipped es)) ≡ times same_edge (flipped q) es
+  down_times : (q : Edge) → rises q ≡ true
+      → times same_edge q (rising (map flipped es)) ≡ times same_edge (flipped q) es
   down_times q h = times-filter_kept edge_decides rises q h (map flipped es) ∙ times-flipped q es
 
   module _ (once : (q : Edge) → 1 ≤ times same_edge q (rising es) → times same_edge q (rising es) ≡ 1)
       (alike : (q : Edge) → times same_edge q (rising es) ≡ times same_edge q (rising (map flipped es))) where
-    paired : (q : Edge) → rises q ≡ true → (times same_edge q es ≡ times same_edge (flipped q) es) × (1 ≤ times same_edge q es → times same_edge q es ≡ 1)
-    paired q h =
-        (sym (up_times q h) ∙ alike q ∙ down_times q h, λ many. sym (up_times q h) ∙ once q (subst (λ n. 1 ≤ n) (sym (up_times q h)) many))
+    paired : (q : Edge) → rises q ≡ true
+        → (times same_edge q es ≡ times same_edge (flipped q) es)
+        × (1 ≤ times same_edge q es → times same_edge q es ≡ 1)
+    paired q h = (
+      sym (up_times q h) ∙ alike q ∙ down_times q h,
+      λ many. sym (up_times q h)
+          ∙ once q (subst (λ n. 1 ≤ n) (sym (up_times q h)) many),
+    )
 
-    -- where the edges that are run up are each there once, and are the ones that are run down, each is run once each way
+    -- where the edges that are run up are each there once, and are the ones that are run down, each is run once each
+    -- way
     closed_from_lists : list_all (runs_both_ways es) es ≡ true
     closed_from_lists = counted_all edge_decides (runs_both_ways es) es (λ q many.
         bool_cases (rises q)
@@ -144,7 +161,8 @@ module _ (es : List Edge) where
   module _ (closed : list_all (runs_both_ways es) es ≡ true) where
     each_way : (q : Edge) → 1 ≤ times same_edge q es → (times same_edge q es ≡ 1) × (times same_edge (flipped q) es ≡ 1)
     each_way q many =
-        let parts = and_parts (occurs_once same_edge es q) (occurs_once same_edge es (flipped q)) (all_counted edge_decides (runs_both_ways es) es closed q many) in
+        let parts = and_parts (occurs_once same_edge es q) (occurs_once same_edge es (flipped q))
+        (all_counted edge_decides (runs_both_ways es) es closed q many) in
         (eqb-true (times same_edge q es) 1 parts.0, eqb-true (times same_edge (flipped q) es) 1 parts.1)
 
     once_from_closed : (q : Edge) → 1 ≤ times same_edge q (rising es) → times same_edge q (rising es) ≡ 1
@@ -157,33 +175,44 @@ module _ (es : List Edge) where
     alike_from_closed q =
         bool_cases (rises q)
         (λ h. up_times q h ∙ balanced _ _ (each_way q) (each_way (flipped q)) ∙ sym (down_times q h))
-        (λ h. times-filter_left edge_decides rises q h es ∙ sym (times-filter_left edge_decides rises q h (map flipped es)))
+        (λ h. times-filter_left edge_decides rises q h es
+        ∙ sym (times-filter_left edge_decides rises q h (map flipped es)))
 
 -- ---- as the code finds it, in order
 
 module _ (es us : List Edge) (ups : IsPermutation (rising es) us) where
-  once_there : list_all (occurs_once (eq_by_cmp edge_order) us) us ≡ true → (q : Edge) → 1 ≤ times same_edge q (rising es) → times same_edge q (rising es) ≡ 1
+  once_there : list_all (occurs_once (eq_by_cmp edge_order) us) us ≡ true → (q : Edge)
+      → 1 ≤ times same_edge q (rising es) → times same_edge q (rising es) ≡ 1
   once_there h q many =
       let moved = times_permutation ups same_edge q in
-      let once : list_all (occurs_once same_edge us) us ≡ true = subst (λ (same : Edge → Edge → Bool). list_all (occurs_once same us) us ≡ true) tied_edges h in
-      sym moved ∙ eqb-true (times same_edge q us) 1 (all_counted edge_decides (occurs_once same_edge us) us once q (subst (λ n. 1 ≤ n) (sym moved) many))
+      let once : list_all (occurs_once same_edge us) us ≡ true =
+      subst (λ (same : Edge → Edge → Bool). list_all (occurs_once same us) us ≡ true) tied_edges h in
+      sym moved ∙ eqb-true (times same_edge q us) 1
+      (all_counted edge_decides (occurs_once same_edge us) us once q (subst (λ n. 1 ≤ n) (sym moved) many))
 
   none_twice : list_all (runs_both_ways es) es ≡ true → list_all (occurs_once (eq_by_cmp edge_order) us) us ≡ true
   none_twice closed =
-      subst (λ (same : Edge → Edge → Bool). list_all (occurs_once same us) us ≡ true) (sym tied_edges) (counted_all edge_decides (occurs_once same_edge us) us (λ q many.
+      subst (λ (same : Edge → Edge → Bool). list_all (occurs_once same us) us ≡ true) (sym tied_edges)
+      (counted_all edge_decides (occurs_once same_edge us) us (λ q many.
       let moved = times_permutation ups same_edge q in
       eq-eqb (times same_edge q us) 1 (moved ∙ once_from_closed es closed q (subst (λ n. 1 ≤ n) moved many))))
 
-  pub closed_where_same : (ds : List Edge) → IsPermutation (rising (map flipped es)) ds → IsSorted edge_order us → IsSorted edge_order ds
-      → false ≡ not (list_all (occurs_once (eq_by_cmp edge_order) us) us) → (same : Bool) → Decides same (us ≡ ds) → same ≡ list_all (runs_both_ways es) es
+  pub closed_where_same : (ds : List Edge) → IsPermutation (rising (map flipped es)) ds → IsSorted edge_order us
+      → IsSorted edge_order ds
+      → false ≡ not (list_all (occurs_once (eq_by_cmp edge_order) us) us) → (same : Bool) → Decides same (us ≡ ds)
+      → same ≡ list_all (runs_both_ways es) es
   closed_where_same ds downs up down none same decides =
       let there = times_permutation ups same_edge in
       let back = times_permutation downs same_edge in
       same_truth same (list_all (runs_both_ways es) es)
-      (λ h. closed_from_lists es (once_there (not-false _ (sym none))) (λ q. sym (there q) ∙ ap (times same_edge q) (decides.0 h) ∙ back q))
+      (λ h. closed_from_lists es (once_there (not-false _ (sym none))) (λ q. sym (there q)
+      ∙ ap (times same_edge q) (decides.0 h) ∙ back q))
       (λ closed. decides.1 (sorted_same edge_order_total order_decides us ds up down (λ q.
-      subst (λ (same : Edge → Edge → Bool). times same q us ≡ times same q ds) (sym tied_edges) (there q ∙ alike_from_closed es closed q ∙ sym (back q)))))
+      subst (λ (same : Edge → Edge → Bool). times same q us ≡ times same q ds) (sym tied_edges)
+      (there q ∙ alike_from_closed es closed q ∙ sym (back q)))))
 
-  pub open_where_repeated : true ≡ not (list_all (occurs_once (eq_by_cmp edge_order) us) us) → false ≡ list_all (runs_both_ways es) es
+  pub open_where_repeated : true ≡ not (list_all (occurs_once (eq_by_cmp edge_order) us) us)
+      → false ≡ list_all (runs_both_ways es) es
   open_where_repeated some =
-      same_truth false (list_all (runs_both_ways es) es) (λ h. absurd (false≢true h)) (λ closed. absurd (true≢false (sym (none_twice closed) ∙ not-true _ (sym some))))
+      same_truth false (list_all (runs_both_ways es) es) (λ h. absurd (false≢true h))
+      (λ closed. absurd (true≢false (sym (none_twice closed) ∙ not-true _ (sym some))))

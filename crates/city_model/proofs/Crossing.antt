@@ -23,16 +23,20 @@ pub text_syncs : IsSync Text.the_field.row
 text_syncs = search (maps.crosses, values.crosses, sendable) depth 60 fits 20000
 
 pub geometry_sends : IsSend Geometry.the_field.row
-geometry_sends = search (text_sends, shape.the_field_send, maps.crosses, values.crosses, json.crosses, sendable) depth 60 fits 20000
+geometry_sends =
+    search (text_sends, shape.the_field_send, maps.crosses, values.crosses, json.crosses, sendable) depth 60 fits 20000
 
 pub geometry_syncs : IsSync Geometry.the_field.row
-geometry_syncs = search (text_syncs, shape.the_field_sync, maps.crosses, values.crosses, json.crosses, sendable) depth 60 fits 20000
+geometry_syncs =
+    search (text_syncs, shape.the_field_sync, maps.crosses, values.crosses, json.crosses, sendable) depth 60 fits 20000
 
 pub body_sends : IsSend Body.the_field.row
-body_sends = search (geometry_sends, object_type.the_field_send, maps.crosses, values.crosses, json.crosses, sendable) depth 60 fits 20000
+body_sends = search (geometry_sends, object_type.the_field_send, maps.crosses, values.crosses, json.crosses, sendable)
+    depth 60 fits 20000
 
 pub body_syncs : IsSync Body.the_field.row
-body_syncs = search (geometry_syncs, object_type.the_field_sync, maps.crosses, values.crosses, json.crosses, sendable) depth 60 fits 20000
+body_syncs = search (geometry_syncs, object_type.the_field_sync, maps.crosses, values.crosses, json.crosses, sendable)
+    depth 60 fits 20000
 
 pub object_sends : IsSend Object.the_field.row
 object_sends = search (text_sends, body_sends, values.crosses, sendable) depth 60 fits 20000

@@ -1,5 +1,6 @@
 -- Where the first command that ends a script stands.
-use Rattle.std.proofs.Common.{◌≡◌, ℕ, ◌+◌, ◌-◌, ◌<◌, ◌≤◌, suc, List, [], ◌∷◌, true, length, drop, get_or, refl, ◌∙◌, arith, length-drop}
+use Rattle.std.proofs.Common.{◌≡◌, ℕ, ◌+◌, ◌-◌, ◌<◌, ◌≤◌, suc, List, [], ◌∷◌, true, length, drop, get_or, refl, ◌∙◌}
+use Rattle.std.proofs.Common.{arith, length-drop}
 use Rattle.std.specs.Prelude.{◌==◌}
 use Rattle.std.proofs.Math.Seq.{drop-cons}
 use Rattle.city_model.specs.declared.command.Command.{Command}
@@ -13,6 +14,8 @@ pub zero_rest : (n m k : ℕ) → n ≤ m → k ≡ m - n → (k == 0) ≡ (n ==
 zero_rest n m k h e = grind (arith, h, e)
 
 -- a command that ends the script is the last one, or the list is no script
-pub ends_once-drop : (cs : List Command) (i : ℕ) (c : Command) → i < length cs → c ≡ get_or cs i c → is_end c ≡ true → ends_once (drop i cs) ≡ (i + 1 == length cs)
+pub ends_once-drop : (cs : List Command) (i : ℕ) (c : Command) → i < length cs → c ≡ get_or cs i c → is_end c ≡ true
+    → ends_once (drop i cs) ≡ (i + 1 == length cs)
 ends_once-drop cs i c h at end =
-    rw (drop-cons cs i c h, ← at, end) (is_empty_list-length (drop (suc i) cs) _ refl ∙ zero_rest (i + 1) (length cs) (length (drop (suc i) cs)) (omega arith) (length-drop (suc i) cs ∙ omega arith))
+    rw (drop-cons cs i c h, ← at, end) (is_empty_list-length (drop (suc i) cs) _ refl
+    ∙ zero_rest (i + 1) (length cs) (length (drop (suc i) cs)) (omega arith) (length-drop (suc i) cs ∙ omega arith))

@@ -33,7 +33,8 @@ put_number n = Put (codes "x") (numbered n)
 abbrev goes_back : List Command
 goes_back = Mark (codes "m") ∷ put_number 1 ∷ Back (codes "m") ∷ Commit ∷ []
 
-pub back_takes_the_put_back : IsScriptResult (found_in meadow) goes_back (Marked ∷ Replaced ∷ WentBack ∷ []) Outcome.Committed
+pub back_takes_the_put_back : IsScriptResult (found_in meadow) goes_back (Marked ∷ Replaced ∷ WentBack ∷ [])
+    Outcome.Committed
 back_takes_the_put_back = (
   refl,
   refl,
@@ -47,10 +48,12 @@ back_leaves_the_marked_map = refl
 
 abbrev marks_twice : List Command
 marks_twice =
-    put_number 1 ∷ Mark (codes "m") ∷ put_number 2 ∷ Mark (codes "m") ∷ put_number 3 ∷ Back (codes "m") ∷ Back (codes "m") ∷ Commit ∷ []
+    put_number 1 ∷ Mark (codes "m") ∷ put_number 2 ∷ Mark (codes "m") ∷ put_number 3 ∷ Back (codes "m") ∷ Back
+    (codes "m") ∷ Commit ∷ []
 
 abbrev second_number : CityMap
-second_number = changed (changed (found_in meadow) (codes "x") (Some (with_number 1))) (codes "x") (Some (with_number 2))
+second_number =
+    changed (changed (found_in meadow) (codes "x") (Some (with_number 1))) (codes "x") (Some (with_number 2))
 
 second_number_no_orphan : HasNoOrphan second_number
 second_number_no_orphan = no_orphan second_number (λ q.
@@ -58,7 +61,8 @@ second_number_no_orphan = no_orphan second_number (λ q.
     (Some (with_number 2)) q refl
     (no_orphan_put (found_in meadow) (codes "x") (Some (with_number 1)) q refl (no_orphan_at meadow q refl)))
 
-pub newest_mark_counts : IsScriptResult (found_in meadow) marks_twice (Replaced ∷ Marked ∷ Replaced ∷ Marked ∷ Replaced ∷ WentBack ∷ WentBack ∷ []) Outcome.Committed
+pub newest_mark_counts : IsScriptResult (found_in meadow) marks_twice
+    (Replaced ∷ Marked ∷ Replaced ∷ Marked ∷ Replaced ∷ WentBack ∷ WentBack ∷ []) Outcome.Committed
 newest_mark_counts = (
   refl,
   refl,
@@ -79,12 +83,16 @@ newest_mark_is_left = refl
 -- ---- going back drops the newer marks
 
 abbrev goes_behind : List Command
-goes_behind = Mark (codes "a") ∷ Put (codes "g") (bare Road) ∷ Mark (codes "b") ∷ Back (codes "a") ∷ Back (codes "b") ∷ Commit ∷ []
+goes_behind =
+    Mark (codes "a") ∷ Put (codes "g") (bare Road) ∷ Mark (codes "b") ∷ Back (codes "a") ∷ Back (codes "b") ∷ Commit
+    ∷ []
 
-pub newer_mark_is_gone : IsScriptResult (found_in meadow) goes_behind (Marked ∷ Added ∷ Marked ∷ WentBack ∷ []) (Outcome.Refused 4 (NoMark (codes "b")))
+pub newer_mark_is_gone : IsScriptResult (found_in meadow) goes_behind (Marked ∷ Added ∷ Marked ∷ WentBack ∷ [])
+    (Outcome.Refused 4 (NoMark (codes "b")))
 newer_mark_is_gone = (refl, refl, (refl, refl, (refl, refl, (refl, refl, (refl, (refl, refl))))))
 
-pub refused_back_leaves_the_map : map_left (found_in meadow) goes_behind (Outcome.Refused 4 (NoMark (codes "b"))) ≡ found_in meadow
+pub refused_back_leaves_the_map : map_left (found_in meadow) goes_behind (Outcome.Refused 4 (NoMark (codes "b")))
+    ≡ found_in meadow
 refused_back_leaves_the_map = refl
 
 -- a mark inside another: both are there, and going back to the inner one leaves the outer one
@@ -110,9 +118,11 @@ no_mark_is_a_refusal m = (refl, refl)
 
 abbrev puts_again : List Command
 puts_again =
-    Mark (codes "m") ∷ Delete (codes "x") ∷ Put (codes "x") (bare Road) ∷ Back (codes "m") ∷ Read (codes "x") ∷ Abort ∷ []
+    Mark (codes "m") ∷ Delete (codes "x") ∷ Put (codes "x") (bare Road) ∷ Back (codes "m") ∷ Read (codes "x") ∷ Abort
+    ∷ []
 
-pub deleted_object_is_back : IsScriptResult (found_in meadow) puts_again (Marked ∷ Deleted ∷ Added ∷ WentBack ∷ Found (alone LandUse) ∷ []) Outcome.Aborted
+pub deleted_object_is_back : IsScriptResult (found_in meadow) puts_again
+    (Marked ∷ Deleted ∷ Added ∷ WentBack ∷ Found (alone LandUse) ∷ []) Outcome.Aborted
 deleted_object_is_back = (refl, refl, (refl, refl, (refl, refl, (refl, refl, (refl, refl, (refl, refl))))))
 
 -- ---- marks end with the script

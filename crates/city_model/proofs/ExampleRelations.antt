@@ -12,13 +12,15 @@ use Rattle.city_model.specs.Meaning.{attached, detached, deleted}
 use Rattle.city_model.specs.Runs.{Scripted, IsScriptResult, model_after, IsSerialHistory}
 use Rattle.city_model.proofs.ExampleCities.{one_id, bare, object, alone}
 use Rattle.city_model.specs.Relations.{is_orphan_there}
-use Rattle.city_model.proofs.NoOrphan.{no_orphan, orphan_apart, no_orphan_at, no_orphan_attached, no_orphan_detached, no_orphan_deleted}
+use Rattle.city_model.proofs.NoOrphan.{no_orphan, orphan_apart, no_orphan_at, no_orphan_attached, no_orphan_detached}
+use Rattle.city_model.proofs.NoOrphan.{no_orphan_deleted}
 
 abbrev buildings : Entries
 buildings = (codes "b", alone Building) ∷ (codes "r", alone Building) ∷ []
 
 abbrev attaches : List Command
-attaches = Put (codes "p") (bare BuildingPart) ∷ Attach (codes "p") (codes "b") ∷ Attach (codes "p") (codes "r") ∷ Commit ∷ []
+attaches = Put (codes "p") (bare BuildingPart) ∷ Attach (codes "p") (codes "b") ∷ Attach (codes "p")
+    (codes "r") ∷ Commit ∷ []
 
 abbrev detaches : List Command
 detaches = Detach (codes "p") (codes "b") ∷ Commit ∷ []
@@ -30,7 +32,14 @@ abbrev scripts : List Scripted
 scripts = (codes "a", attaches) ∷ (codes "b", detaches) ∷ (codes "c", deletes) ∷ []
 
 abbrev attaches_ends : End
-attaches_ends = record { script = 0; name = codes "a"; since = 0; replies = Added ∷ Attached ∷ Attached ∷ []; outcome = Outcome.Committed }
+attaches_ends =
+    record {
+      script = 0;
+      name = codes "a";
+      since = 0;
+      replies = Added ∷ Attached ∷ Attached ∷ [];
+      outcome = Outcome.Committed;
+    }
 
 abbrev detaches_ends : End
 detaches_ends = record { script = 1; name = codes "b"; since = 1; replies = Detached ∷ []; outcome = Outcome.Committed }
@@ -52,10 +61,12 @@ other_parent = detached two_parents (codes "p") (codes "b")
 
 one_parent_no_orphan : (q : List ℕ) → is_orphan_there (one_parent q) ≡ false
 one_parent_no_orphan q = no_orphan_attached with_part (codes "p") (codes "b") q refl refl
-    (λ apart. orphan_apart (found_in buildings) (codes "p") (Some (alone BuildingPart)) q apart (no_orphan_at buildings q refl))
+    (λ apart. orphan_apart (found_in buildings) (codes "p") (Some (alone BuildingPart)) q apart
+    (no_orphan_at buildings q refl))
 
 two_parents_no_orphan : (q : List ℕ) → is_orphan_there (two_parents q) ≡ false
-two_parents_no_orphan q = no_orphan_attached one_parent (codes "p") (codes "r") q refl refl (λ apart. one_parent_no_orphan q)
+two_parents_no_orphan q =
+    no_orphan_attached one_parent (codes "p") (codes "r") q refl refl (λ apart. one_parent_no_orphan q)
 
 other_parent_no_orphan : (q : List ℕ) → is_orphan_there (other_parent q) ≡ false
 other_parent_no_orphan q = no_orphan_detached two_parents (codes "p") (codes "b") q refl refl (two_parents_no_orphan q)
@@ -81,15 +92,34 @@ deletes_commits = (
   ),
 )
 
-pub three_scripts_in_turn_fit : IsSerialHistory scripts (found_in buildings) (attaches_ends ∷ detaches_ends ∷ deletes_ends ∷ [])
+pub three_scripts_in_turn_fit : IsSerialHistory scripts (found_in buildings)
+    (attaches_ends ∷ detaches_ends ∷ deletes_ends ∷ [])
 three_scripts_in_turn_fit = (
-  record { script = (codes "a", attaches); is_there = refl; named = refl; since = omega arith; result = attaches_commits },
+  record {
+    script = (codes "a", attaches);
+    is_there = refl;
+    named = refl;
+    since = omega arith;
+    result = attaches_commits;
+  },
   (λ same. omega arith, (λ same. omega arith, tt)),
   (
-    record { script = (codes "b", detaches); is_there = refl; named = refl; since = omega arith; result = detaches_commits },
+    record {
+      script = (codes "b", detaches);
+      is_there = refl;
+      named = refl;
+      since = omega arith;
+      result = detaches_commits;
+    },
     (λ same. omega arith, tt),
     (
-      record { script = (codes "c", deletes); is_there = refl; named = refl; since = omega arith; result = deletes_commits },
+      record {
+        script = (codes "c", deletes);
+        is_there = refl;
+        named = refl;
+        since = omega arith;
+        result = deletes_commits;
+      },
       tt,
       tt,
     ),

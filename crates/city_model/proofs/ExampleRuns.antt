@@ -16,7 +16,8 @@ use Rattle.city_model.proofs.Changed.{at_absent, attached_apart, deleted_apart}
 use Rattle.city_model.proofs.ExampleCities.{one_id, bare, object, alone}
 use Rattle.city_model.proofs.Ids.{same_id_back}
 use Rattle.city_model.specs.Relations.{is_orphan_there}
-use Rattle.city_model.proofs.NoOrphan.{no_orphan, orphan_apart, no_orphan_at, no_orphan_attached, no_orphan_put, no_orphan_deleted}
+use Rattle.city_model.proofs.NoOrphan.{no_orphan, orphan_apart, no_orphan_at, no_orphan_attached, no_orphan_put}
+use Rattle.city_model.proofs.NoOrphan.{no_orphan_deleted}
 
 -- ---- a part of two buildings is deleted, while another part is put and attached to one of them
 
@@ -51,7 +52,8 @@ both_parts = attached with_part (codes "q") (codes "b2")
 
 both_parts_no_orphan : (q : List ℕ) → is_orphan_there (both_parts q) ≡ false
 both_parts_no_orphan q = no_orphan_attached with_part (codes "q") (codes "b2") q refl refl
-    (λ apart. orphan_apart (found_in two_buildings) (codes "q") (Some (alone BuildingPart)) q apart (no_orphan_at two_buildings q refl))
+    (λ apart. orphan_apart (found_in two_buildings) (codes "q") (Some (alone BuildingPart)) q apart
+    (no_orphan_at two_buildings q refl))
 
 attaches_commits : IsScriptResult (found_in two_buildings) attaches (Added ∷ Attached ∷ []) Outcome.Committed
 attaches_commits = (refl, refl, (refl, refl, (inl (refl, no_orphan both_parts both_parts_no_orphan), refl)))
@@ -73,10 +75,22 @@ deletes_commits = (
 -- these ends are those of the scripts, run one at a time
 pub attach_then_delete_fits : IsSerialHistory delete_and_attach (found_in two_buildings) attach_then_delete
 attach_then_delete_fits = (
-  record { script = (codes "b", attaches); is_there = refl; named = refl; since = omega arith; result = attaches_commits },
+  record {
+    script = (codes "b", attaches);
+    is_there = refl;
+    named = refl;
+    since = omega arith;
+    result = attaches_commits;
+  },
   (λ same. omega arith, tt),
   (
-    record { script = (codes "a", deletes); is_there = refl; named = refl; since = omega arith; result = deletes_commits },
+    record {
+      script = (codes "a", deletes);
+      is_there = refl;
+      named = refl;
+      since = omega arith;
+      result = deletes_commits;
+    },
     tt,
     tt,
   ),
@@ -98,16 +112,22 @@ delete_takes_the_object = refl
 pub attached_sibling_stays : left (codes "q") ≡ Some (object BuildingPart (one_id (codes "b2")) [])
 attached_sibling_stays = refl
 
-pub no_other_object_comes : (id : List ℕ) → has_id (codes "b1" ∷ codes "b2" ∷ codes "p" ∷ codes "q" ∷ []) id ≡ false → left id ≡ None
+pub no_other_object_comes : (id : List ℕ) → has_id (codes "b1" ∷ codes "b2" ∷ codes "p" ∷ codes "q" ∷ []) id ≡ false
+    → left id ≡ None
 no_other_object_comes id h =
     let b1 = or_parts (same_id id (codes "b1")) (has_id (codes "b2" ∷ codes "p" ∷ codes "q" ∷ []) id) h in
     let b2 = or_parts (same_id id (codes "b2")) (has_id (codes "p" ∷ codes "q" ∷ []) id) b1.1 in
     let p = or_parts (same_id id (codes "p")) (has_id (codes "q" ∷ []) id) b2.1 in
     let q = or_parts (same_id id (codes "q")) false p.1 in
     let before : found_in two_buildings id ≡ None = at_absent two_buildings id (rw (b1.0, b2.0, p.0) refl) in
-    let put : with_part id ≡ None = update_other same_id (found_in two_buildings) (codes "q") (Some (alone BuildingPart)) id (same_id_back (codes "q") id ∙ q.0) ∙ before in
-    let tied : both_parts id ≡ None = attached_apart with_part (codes "q") (codes "b2") id (same_id_back (codes "q") id ∙ q.0) (same_id_back (codes "b2") id ∙ b2.0) ∙ put in
-    deleted_apart both_parts (codes "p") id (same_id_back (codes "p") id ∙ p.0) ∙ ap (option_map (without_child (codes "p"))) tied
+    let put : with_part id ≡ None =
+    update_other same_id (found_in two_buildings) (codes "q") (Some (alone BuildingPart)) id
+    (same_id_back (codes "q") id ∙ q.0) ∙ before in
+    let tied : both_parts id ≡ None =
+    attached_apart with_part (codes "q") (codes "b2") id (same_id_back (codes "q") id ∙ q.0)
+    (same_id_back (codes "b2") id ∙ b2.0) ∙ put in
+    deleted_apart both_parts (codes "p") id (same_id_back (codes "p") id ∙ p.0)
+    ∙ ap (option_map (without_child (codes "p"))) tied
 
 -- ---- an object that is read twice, and put by another script after it
 
@@ -149,10 +169,22 @@ puts_commits = (
 
 pub read_then_put_fits : IsSerialHistory read_and_put (found_in no_objects) read_then_put
 read_then_put_fits = (
-  record { script = (codes "a", reads_twice); is_there = refl; named = refl; since = omega arith; result = reads_commits },
+  record {
+    script = (codes "a", reads_twice);
+    is_there = refl;
+    named = refl;
+    since = omega arith;
+    result = reads_commits;
+  },
   (λ same. omega arith, tt),
   (
-    record { script = (codes "b", puts_road); is_there = refl; named = refl; since = omega arith; result = puts_commits },
+    record {
+      script = (codes "b", puts_road);
+      is_there = refl;
+      named = refl;
+      since = omega arith;
+      result = puts_commits;
+    },
     tt,
     tt,
   ),

@@ -70,11 +70,13 @@ cube_has_no_fault = refl
 pub turned_face_is_a_fault : body_fault (body_of (solid cube_with_turned_face ∷ [])) ≡ Some OpenShell
 turned_face_is_a_fault = refl
 
-pub second_solid_may_be_open : body_fault (body_of (of_shape (MultiSolid ((cube ∷ []) ∷ (cube_with_turned_face ∷ []) ∷ [])) ∷ [])) ≡ Some OpenShell
+pub second_solid_may_be_open : body_fault
+    (body_of (of_shape (MultiSolid ((cube ∷ []) ∷ (cube_with_turned_face ∷ []) ∷ [])) ∷ [])) ≡ Some OpenShell
 second_solid_may_be_open = refl
 
 -- each shell is closed by itself, so no edge of one counts for another
-pub equal_solids_have_no_fault : body_fault (body_of (of_shape (CompositeSolid ((cube ∷ []) ∷ (cube ∷ []) ∷ [])) ∷ [])) ≡ None
+pub equal_solids_have_no_fault : body_fault (body_of (of_shape (CompositeSolid ((cube ∷ []) ∷ (cube ∷ []) ∷ [])) ∷ []))
+    ≡ None
 equal_solids_have_no_fault = refl
 
 pub two_points_are_a_short_ring : body_fault (body_of (flat two_points ∷ [])) ≡ Some ShortRing
@@ -83,11 +85,13 @@ two_points_are_a_short_ring = refl
 pub surface_without_a_ring_is_short : body_fault (body_of (of_shape (MultiSurface ([] ∷ [])) ∷ [])) ≡ Some ShortRing
 surface_without_a_ring_is_short = refl
 
-pub equal_neighbours_are_the_same_twice : body_fault (body_of (flat (origin ∷ corner 1 0 0 ∷ corner 1 0 0 ∷ []) ∷ [])) ≡ Some SameTwice
+pub equal_neighbours_are_the_same_twice : body_fault (body_of (flat (origin ∷ corner 1 0 0 ∷ corner 1 0 0 ∷ []) ∷ []))
+    ≡ Some SameTwice
 equal_neighbours_are_the_same_twice = refl
 
 -- the last point is a neighbour of the first
-pub repeated_first_point_is_the_same_twice : body_fault (body_of (flat (origin ∷ corner 1 0 0 ∷ corner 0 1 0 ∷ origin ∷ []) ∷ [])) ≡ Some SameTwice
+pub repeated_first_point_is_the_same_twice : body_fault
+    (body_of (flat (origin ∷ corner 1 0 0 ∷ corner 0 1 0 ∷ origin ∷ []) ∷ [])) ≡ Some SameTwice
 repeated_first_point_is_the_same_twice = refl
 
 pub one_triangle_is_an_open_shell : body_fault (body_of (solid ((triangle ∷ []) ∷ []) ∷ [])) ≡ Some OpenShell
@@ -98,5 +102,6 @@ pub one_triangle_is_a_surface : body_fault (body_of (flat triangle ∷ [])) ≡ 
 one_triangle_is_a_surface = refl
 
 -- of the faults of two geometries the first in the causes' order counts, and not that of the first geometry
-pub short_ring_comes_before_an_open_shell : body_fault (body_of (solid ((triangle ∷ []) ∷ []) ∷ flat two_points ∷ [])) ≡ Some ShortRing
+pub short_ring_comes_before_an_open_shell : body_fault (body_of (solid ((triangle ∷ []) ∷ []) ∷ flat two_points ∷ []))
+    ≡ Some ShortRing
 short_ring_comes_before_an_open_shell = refl

@@ -8,7 +8,8 @@ use Rattle.city_model.proofs.FirstEntry.{first_that, least_in, none_in}
 abbrev pub first_orphan : Entries → Option (List ℕ)
 first_orphan es = first_that (λ _ o. is_orphan o) es
 
-pub is_least_orphan : (objects : Objects) (id : List ℕ) → first_orphan (entries objects) ≡ Some id → IsLeastOrphan (object_at objects) id
+pub is_least_orphan : (objects : Objects) (id : List ℕ) → first_orphan (entries objects) ≡ Some id
+    → IsLeastOrphan (object_at objects) id
 is_least_orphan objects id there = least_in (λ _ o. is_orphan o) objects id there
 
 pub has_no_orphan : (objects : Objects) → first_orphan (entries objects) ≡ None → HasNoOrphan (object_at objects)

@@ -45,29 +45,37 @@ stays true true h f = absurd (false≢true (sym (f refl)))
 stays true false h f = refl
 stays false b h f = refl
 
-pub has_without : (id : List ℕ) (ids : List (List ℕ)) (q : List ℕ) → has_id (without_id id ids) q ≡ (not (same_id id q) && has_id ids q)
+pub has_without : (id : List ℕ) (ids : List (List ℕ)) (q : List ℕ)
+    → has_id (without_id id ids) q ≡ (not (same_id id q) && has_id ids q)
 has_without id [] q = sym (and_right (not (same_id id q)) false refl)
 has_without id (x ∷ xs) q = by_id id x
-    (λ is. rw (← is, same_id_itself id) (has_without id xs q ∙ taken_out (same_id id q) (same_id q id) (has_id xs q) (same_id_back q id)))
+    (λ is. rw (← is, same_id_itself id) (has_without id xs q
+    ∙ taken_out (same_id id q) (same_id q id) (has_id xs q) (same_id_back q id)))
     (λ e. rw e (ap (λ h. same_id q x || h) (has_without id xs q)
     ∙ stays (same_id id q) (same_id q x) (has_id xs q) (λ t. ap (same_id id) (same_id_true q x t) ∙ e)))
 
-pub in_without : (id : List ℕ) (ids : List (List ℕ)) (q : List ℕ) → has_id (without_id id ids) q ≡ true → (same_id id q ≡ false) × (has_id ids q ≡ true)
+pub in_without : (id : List ℕ) (ids : List (List ℕ)) (q : List ℕ) → has_id (without_id id ids) q ≡ true
+    → (same_id id q ≡ false) × (has_id ids q ≡ true)
 in_without id ids q h = not_and (same_id id q) (has_id ids q) (sym (has_without id ids q) ∙ h)
 
-pub without_has : (id : List ℕ) (ids : List (List ℕ)) (q : List ℕ) → same_id id q ≡ false → has_id ids q ≡ true → has_id (without_id id ids) q ≡ true
+pub without_has : (id : List ℕ) (ids : List (List ℕ)) (q : List ℕ) → same_id id q ≡ false → has_id ids q ≡ true
+    → has_id (without_id id ids) q ≡ true
 without_has id ids q h k = has_without id ids q ∙ and_not (same_id id q) (has_id ids q) h k
 
 -- ---- with an id more
 
-pub in_more : (ids : List (List ℕ)) (id q : List ℕ) → has_id (ids ++ id ∷ []) q ≡ true → same_id q id ≡ false → has_id ids q ≡ true
-in_more ids id q h apart = or_first (has_id ids q) (same_id q id || false) (sym (list_any-append (same_id q) ids (id ∷ [])) ∙ h) (rw apart refl)
+pub in_more : (ids : List (List ℕ)) (id q : List ℕ) → has_id (ids ++ id ∷ []) q ≡ true → same_id q id ≡ false
+    → has_id ids q ≡ true
+in_more ids id q h apart =
+    or_first (has_id ids q) (same_id q id || false) (sym (list_any-append (same_id q) ids (id ∷ [])) ∙ h)
+    (rw apart refl)
 
 pub more_has : (ids : List (List ℕ)) (id q : List ℕ) → has_id ids q ≡ true → has_id (ids ++ id ∷ []) q ≡ true
 more_has ids id q h = list_any-append (same_id q) ids (id ∷ []) ∙ or_left (has_id ids q) (same_id q id || false) h
 
 pub more_has_last : (ids : List (List ℕ)) (id q : List ℕ) → same_id q id ≡ true → has_id (ids ++ id ∷ []) q ≡ true
-more_has_last ids id q h = list_any-append (same_id q) ids (id ∷ []) ∙ or_right (has_id ids q) (same_id q id || false) (or_left (same_id q id) false h)
+more_has_last ids id q h = list_any-append (same_id q) ids (id ∷ [])
+    ∙ or_right (has_id ids q) (same_id q id || false) (or_left (same_id q id) false h)
 
 -- ---- no id twice
 
@@ -80,8 +88,12 @@ distinct_without id (x ∷ xs) d = by_id id x
 none_more : (a b : Bool) → a ≡ false → b ≡ false → (a || (b || false)) ≡ false
 none_more a b h k = rw (h, k) refl
 
-pub distinct_more : (ids : List (List ℕ)) (id : List ℕ) → AreDistinct ids → has_id ids id ≡ false → AreDistinct (ids ++ id ∷ [])
+pub distinct_more : (ids : List (List ℕ)) (id : List ℕ) → AreDistinct ids → has_id ids id ≡ false
+    → AreDistinct (ids ++ id ∷ [])
 distinct_more [] id d h = (refl, tt)
 distinct_more (x ∷ xs) id d h =
-    let parts = or_parts (same_id id x) (has_id xs id) h in
-    (list_any-append (same_id x) xs (id ∷ []) ∙ none_more (has_id xs x) (same_id x id) d.0 (same_id_back x id ∙ parts.0), distinct_more xs id d.1 parts.1)
+    let parts = or_parts (same_id id x) (has_id xs id) h in (
+      list_any-append (same_id x) xs (id ∷ [])
+          ∙ none_more (has_id xs x) (same_id x id) d.0 (same_id_back x id ∙ parts.0),
+      distinct_more xs id d.1 parts.1,
+    )

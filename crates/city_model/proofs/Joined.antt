@@ -8,7 +8,8 @@ use Rattle.city_model.specs.Shells.{Surface, Shell, Solid, joined, surfaces_of, 
 use Rattle.city_model.specs.inside.BorrowedBounds.{Boundaries, Surfaces, Shells, Solids, boundaries_of}
 
 -- some item of the lists passes the test exactly where some list has one that does
-list_any-joined : {T : Type 0} (p : T → Bool) (xss : List (List T)) → list_any p (joined xss) ≡ list_any (list_any p) xss
+list_any-joined : {T : Type 0} (p : T → Bool) (xss : List (List T))
+    → list_any p (joined xss) ≡ list_any (list_any p) xss
 list_any-joined p [] = refl
 list_any-joined p (xs ∷ xss) = list_any-append p xs (joined xss) ∙ ap (λ b. list_any p xs || b) (list_any-joined p xss)
 

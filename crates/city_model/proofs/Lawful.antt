@@ -11,7 +11,8 @@ use Rattle.city_model.specs.CityMap.{CityMap}
 use Rattle.city_model.specs.Marks.{View, unmarked, IsSoundView}
 use Rattle.city_model.specs.Meaning.{Effect, Answers, Commits, Aborts, effect, is_refusal}
 use Rattle.city_model.specs.Relations.{HasNoOrphan, IsSound, IsLawful}
-use Rattle.city_model.specs.Runs.{Scripted, Trace, EndsFrom, IsScriptResult, goes_to, view_at_end, map_left, left_by_found}
+use Rattle.city_model.specs.Runs.{Scripted, Trace, EndsFrom, IsScriptResult, goes_to, view_at_end, map_left}
+use Rattle.city_model.specs.Runs.{left_by_found}
 use Rattle.city_model.specs.Runs.{left_by, model_after, IsSerialHistoryFrom, IsSerialHistory}
 use Rattle.city_model.specs.Scripts.{is_end, is_empty_list, ends_once}
 use Rattle.city_model.specs.inside.CommandParts.{seen_next, answer}
@@ -105,7 +106,8 @@ pub lawful_when_committed : (m : CityMap) (cs : List Command) (rs : List Reply) 
 lawful_when_committed m cs rs s h = ((sound_at_end (unmarked m) cs (s, tt)).0, no_orphan_from (unmarked m) 0 cs rs h)
 
 -- whatever a script's outcome, it leaves a lawful map of a lawful one
-pub lawful_left : (m : CityMap) (cs : List Command) (rs : List Reply) (o : Outcome) → IsLawful m → IsScriptResult m cs rs o
+pub lawful_left : (m : CityMap) (cs : List Command) (rs : List Reply) (o : Outcome) → IsLawful m
+    → IsScriptResult m cs rs o
     → IsLawful (map_left m cs o)
 lawful_left m cs rs Outcome.Committed s h = lawful_when_committed m cs rs s.0 h
 lawful_left m cs rs Outcome.Aborted s h = s
@@ -124,6 +126,7 @@ lawful_from scripts m place (e ∷ es) l h =
     lawful_from scripts (left_by scripts m e) (place + 1) es left h.2
 
 -- after scripts run one at a time a lawful map is lawful
-pub lawful_after : (scripts : List Scripted) (m : CityMap) (ends : List End) → IsLawful m → IsSerialHistory scripts m ends
+pub lawful_after : (scripts : List Scripted) (m : CityMap) (ends : List End) → IsLawful m
+    → IsSerialHistory scripts m ends
     → IsLawful (model_after scripts m ends)
 lawful_after scripts m ends l h = lawful_from scripts m 0 ends l h

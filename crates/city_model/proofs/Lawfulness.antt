@@ -1,5 +1,6 @@
 -- Lawful maps, by the relations and the bodies of their entries.
-use Rattle.std.proofs.Common.{◌≡◌, ℕ, Bool, true, false, List, ◌∷◌, ◌⊎◌, inl, inr, Option, Some, None, refl, ap, sym, ◌∙◌}
+use Rattle.std.proofs.Common.{◌≡◌, ℕ, Bool, true, false, List, ◌∷◌, ◌⊎◌, inl, inr, Option, Some, None, refl, ap, sym}
+use Rattle.std.proofs.Common.{◌∙◌}
 use Rattle.std.specs.Prelude.{is_none, is_some}
 use Rattle.std.specs.List.{list_all}
 use Rattle.std.specs.FinMap.{entries}
@@ -22,7 +23,9 @@ related_no_fault : (m : CityMap) (id : List ℕ) (o : Object) → IsInOrder m id
 related_no_fault m id o h (inl f) = f h.0
 related_no_fault m id o h (inr e) = false≢true (sym h.1 ∙ e)
 
-pub least_misrelated : (objects : Objects) (id : List ℕ) → first_that (is_misrelated (object_at objects)) (entries objects) ≡ Some id → IsLeastMisrelated (object_at objects) id
+pub least_misrelated : (objects : Objects) (id : List ℕ)
+    → first_that (is_misrelated (object_at objects)) (entries objects) ≡ Some id
+    → IsLeastMisrelated (object_at objects) id
 least_misrelated objects id found =
     let least = least_in (is_misrelated (object_at objects)) objects id found in (
       (least.0.0, least.0.1, misrelated_true (object_at objects) id least.0.0 least.0.2),
@@ -32,8 +35,10 @@ least_misrelated objects id found =
           related_no_fault (object_at objects) q h.0 (misrelated_false (object_at objects) q h.0 not) h.2,
     )
 
-pub all_related : (objects : Objects) → first_that (is_misrelated (object_at objects)) (entries objects) ≡ None → IsRelated (object_at objects)
-all_related objects none id o there = misrelated_false (object_at objects) id o (none_in (is_misrelated (object_at objects)) objects id o none there)
+pub all_related : (objects : Objects) → first_that (is_misrelated (object_at objects)) (entries objects) ≡ None
+    → IsRelated (object_at objects)
+all_related objects none id o there =
+    misrelated_false (object_at objects) id o (none_in (is_misrelated (object_at objects)) objects id o none there)
 
 -- ---- bodies
 
@@ -54,7 +59,8 @@ pub faultless_all : (objects : Objects) → IsFaultless (object_at objects) → 
 faultless_all objects f = in_all has_no_fault objects (λ id o there. ap is_none (f id o there))
 
 -- an entry whose body has a fault, among those that are left
-pub faulty_entry : (all left : Entries) (e : List ℕ × Object) (rest : Entries) → all_faultless all ≡ all_faultless left → left ≡ e ∷ rest
+pub faulty_entry : (all left : Entries) (e : List ℕ × Object) (rest : Entries) → all_faultless all ≡ all_faultless left
+    → left ≡ e ∷ rest
     → is_some (body_fault e.1.body) ≡ true → all_faultless all ≡ true → false ≡ true
 faulty_entry all left e rest answer left_is some whole =
     let parts = and_parts (has_no_fault e.1) (all_faultless rest) (sym (answer ∙ ap all_faultless left_is) ∙ whole) in

@@ -4,7 +4,8 @@ use Rattle.std.specs.Prelude.{if◌then◌else◌}
 use Rattle.std.proofs.lemmas.Bool.{false≢true}
 use Rattle.city_model.specs.declared.command.Command.{Command}
 use Rattle.city_model.specs.declared.command.Reply.{Reply}
-use Rattle.city_model.specs.declared.command.Command.TheVariants.{Read, Put, Delete, Attach, Detach, Mark, Back, Commit, Abort}
+use Rattle.city_model.specs.declared.command.Command.TheVariants.{Read, Put, Delete, Attach, Detach, Mark, Back, Commit}
+use Rattle.city_model.specs.declared.command.Command.TheVariants.{Abort}
 use Rattle.city_model.specs.declared.command.Cause.TheVariants.{NoMark}
 use Rattle.city_model.specs.declared.command.Reply.TheVariants.{WentBack, Refused}
 use Rattle.city_model.specs.CityMap.{CityMap, same_id}
@@ -52,7 +53,8 @@ from_mapped f name [] = refl
 from_mapped f name (k ∷ ks) = bool_cases (same_id name k.0)
     (λ e. ap (λ b. if b then map (λ j. (j.0, f j.1)) (k ∷ ks) else marks_from name (map (λ j. (j.0, f j.1)) ks)) e
     ∙ sym (ap (λ b. map (λ j. (j.0, f j.1)) (if b then k ∷ ks else marks_from name ks)) e))
-    (λ e. ap (λ b. if b then map (λ j. (j.0, f j.1)) (k ∷ ks) else marks_from name (map (λ j. (j.0, f j.1)) ks)) e ∙ from_mapped f name ks
+    (λ e. ap (λ b. if b then map (λ j. (j.0, f j.1)) (k ∷ ks) else marks_from name (map (λ j. (j.0, f j.1)) ks)) e
+    ∙ from_mapped f name ks
     ∙ sym (ap (λ b. map (λ j. (j.0, f j.1)) (if b then k ∷ ks else marks_from name ks)) e))
 
 -- no mark of the list has this name
@@ -65,10 +67,12 @@ pub newer_dropped : (name : List ℕ) (newer : List Marked) (m : CityMap) (older
     → marks_from name (newer ++ (name, m) ∷ older) ≡ (name, m) ∷ older
 newer_dropped name [] m older h = ap (λ b. if b then (name, m) ∷ older else marks_from name older) (same_id_itself name)
 newer_dropped name (k ∷ ks) m older h =
-    ap (λ b. if b then (k ∷ ks) ++ (name, m) ∷ older else marks_from name (ks ++ (name, m) ∷ older)) h.0 ∙ newer_dropped name ks m older h.1
+    ap (λ b. if b then (k ∷ ks) ++ (name, m) ∷ older else marks_from name (ks ++ (name, m) ∷ older)) h.0
+    ∙ newer_dropped name ks m older h.1
 
 -- going back gives the mark's map, and keeps the mark and those before it
-pub went_back : (v : View) (name : List ℕ) (newer : List Marked) (m : CityMap) (older : List Marked) → HasNone name newer → v.marks ≡ newer ++ (name, m) ∷ older
+pub went_back : (v : View) (name : List ℕ) (newer : List Marked) (m : CityMap) (older : List Marked)
+    → HasNone name newer → v.marks ≡ newer ++ (name, m) ∷ older
     → effect v (Back name) ≡ Answers WentBack (record { map = m; marks = (name, m) ∷ older })
 went_back v name newer m older h e = ap (back name v) (ap (marks_from name) e ∙ newer_dropped name newer m older h)
 

@@ -1,5 +1,6 @@
 -- The finite map of a city's objects: the entries that it lists, and what it answers after a change.
-use Rattle.std.proofs.Common.{◌≡◌, ℕ, Bool, true, false, cond, List, [], ◌∷◌, length, Option, Some, None, Ordering, Less, Equal, Greater, refl, ap, sym, subst, ◌∙◌}
+use Rattle.std.proofs.Common.{◌≡◌, ℕ, Bool, true, false, cond, List, [], ◌∷◌, length, Option, Some, None, Ordering}
+use Rattle.std.proofs.Common.{Less, Equal, Greater, refl, ap, sym, subst, ◌∙◌}
 use Rattle.std.specs.Prelude.{T, ◌&&◌, option_map}
 use Rattle.std.specs.Ordering.{nat_cmp, is_lt, eq_by_cmp}
 use Rattle.std.specs.List.{AllByRecursion}
@@ -7,7 +8,9 @@ use Rattle.std.specs.List.Sorted.{IsStrictlySortedBy}
 use Rattle.std.specs.Cmp.Lexicographic.{slice_cmp}
 use Rattle.std.specs.Map.{keys_of, lookup}
 use Rattle.std.specs.BTreeMap.{is_at}
-use Rattle.std.specs.FinMap.{entries, len, insert, remove, empty, from_sorted, find, is_sorted, entries_sorted, entries-from_sorted, get-entries, get-empty, get-insert, get-remove, len-entries, empty_of_len, same_map, slice_cmp-IsAntisymmetric, nat_cmp-IsAntisymmetric}
+use Rattle.std.specs.FinMap.{entries, len, insert, remove, empty, from_sorted, find, is_sorted, entries_sorted}
+use Rattle.std.specs.FinMap.{entries-from_sorted, get-entries, get-empty, get-insert, get-remove, len-entries}
+use Rattle.std.specs.FinMap.{empty_of_len, same_map, slice_cmp-IsAntisymmetric, nat_cmp-IsAntisymmetric}
 use Rattle.std.specs.FinMap.Entries.{below_all}
 use Rattle.std.proofs.lemmas.Cmp.{nat_list_cmp_total}
 use Rattle.city_model.specs.declared.object.Object.{Object}
@@ -36,7 +39,8 @@ module _ {K X : Type 0} (R : K → K → Ordering) where
 
   them_above : (k : K) (es : List (K × X)) → T (below_all R k es) → AllByRecursion (λ y. R k y ≡ Less) (keys_of es)
   them_above k [] h = tt
-  them_above k (e ∷ es) h = let parts = T_and (is_lt (R k e.0)) (below_all R k es) h in (less_by (R k e.0) parts.0, them_above k es parts.1)
+  them_above k (e ∷ es) h = let parts = T_and (is_lt (R k e.0)) (below_all R k es) h in
+      (less_by (R k e.0) parts.0, them_above k es parts.1)
 
   pub in_order : (es : List (K × X)) → IsStrictlySortedBy R (keys_of es) → T (is_sorted R es)
   unfolding IsStrictlySortedBy
@@ -46,7 +50,8 @@ module _ {K X : Type 0} (R : K → K → Ordering) where
   pub ascending : (es : List (K × X)) → T (is_sorted R es) → IsStrictlySortedBy R (keys_of es)
   unfolding IsStrictlySortedBy
   ascending [] h = tt
-  ascending (e ∷ es) h = let parts = T_and (below_all R e.0 es) (is_sorted R es) h in (them_above e.0 es parts.0, ascending es parts.1)
+  ascending (e ∷ es) h = let parts = T_and (below_all R e.0 es) (is_sorted R es) h in
+      (them_above e.0 es parts.0, ascending es parts.1)
 
   pub find_is_lookup : (q : K) (es : List (K × X)) → find R q es ≡ lookup (is_at (R q)) es
   find_is_lookup q [] = refl
@@ -60,23 +65,28 @@ at_entries objects = λ i q. (get-entries objects q ∙ find_is_lookup (slice_cm
 pub entries_ascend : (objects : Objects) → IsStrictlySortedBy (slice_cmp nat_cmp) (keys_of (entries objects))
 entries_ascend objects = ascending (slice_cmp nat_cmp) (entries objects) (entries_sorted objects)
 
-pub entries_of : (es : Entries) → IsStrictlySortedBy (slice_cmp nat_cmp) (keys_of es) → entries (from_sorted {R = slice_cmp nat_cmp} es) ≡ es
+pub entries_of : (es : Entries) → IsStrictlySortedBy (slice_cmp nat_cmp) (keys_of es)
+    → entries (from_sorted {R = slice_cmp nat_cmp} es) ≡ es
 entries_of es ascend = entries-from_sorted (slice_cmp nat_cmp) es (in_order (slice_cmp nat_cmp) es ascend)
 
-pub at_sorted : (es : Entries) → IsStrictlySortedBy (slice_cmp nat_cmp) (keys_of es) → object_at (from_sorted es) ≡ found_in es
+pub at_sorted : (es : Entries) → IsStrictlySortedBy (slice_cmp nat_cmp) (keys_of es)
+    → object_at (from_sorted es) ≡ found_in es
 at_sorted es ascend = at_entries (from_sorted es) ∙ ap found_in (entries_of es ascend)
 
-pub len_of : (es : Entries) → IsStrictlySortedBy (slice_cmp nat_cmp) (keys_of es) → len (from_sorted {R = slice_cmp nat_cmp} es) ≡ length es
+pub len_of : (es : Entries) → IsStrictlySortedBy (slice_cmp nat_cmp) (keys_of es)
+    → len (from_sorted {R = slice_cmp nat_cmp} es) ≡ length es
 len_of es ascend = len-entries (from_sorted es) ∙ ap length (entries_of es ascend)
 
 pub of_nothing : (es : Entries) → es ≡ [] → ◌≡◌ {A = Objects} (from_sorted es) empty
-of_nothing es nothing = ap (λ (xs : Entries). from_sorted xs) nothing ∙ empty_of_len (from_sorted []) (len_of [] (ascending {X = Object} (slice_cmp nat_cmp) [] tt))
+of_nothing es nothing = ap (λ (xs : Entries). from_sorted xs) nothing
+    ∙ empty_of_len (from_sorted []) (len_of [] (ascending {X = Object} (slice_cmp nat_cmp) [] tt))
 
 -- ---- answers
 
 -- objects that answer alike are the same
 pub same_objects : (m n : Objects) → object_at m ≡ object_at n → m ≡ n
-same_objects m n same = same_map nat_list_cmp_total (slice_cmp-IsAntisymmetric nat_cmp-IsAntisymmetric) m n (λ q. ap (λ f. f q) same)
+same_objects m n same =
+    same_map nat_list_cmp_total (slice_cmp-IsAntisymmetric nat_cmp-IsAntisymmetric) m n (λ q. ap (λ f. f q) same)
 
 pub at_empty : object_at empty ≡ (λ q. None)
 at_empty = λ i q. get-empty {X = Object} (slice_cmp nat_cmp) q i
@@ -84,37 +94,52 @@ at_empty = λ i q. get-empty {X = Object} (slice_cmp nat_cmp) q i
 turned : (m : CityMap) (id : List ℕ) (w : Option Object) (q : List ℕ) → cond (same_id q id) w (m q) ≡ changed m id w q
 turned m id w q = ap (λ b. cond b w (m q)) (same_id_back q id)
 
-pub at_insert : (objects : Objects) (id : List ℕ) (o : Object) → object_at (insert objects id o) ≡ changed (object_at objects) id (Some o)
-at_insert objects id o = λ i q. (get-insert nat_list_cmp_total objects id o q ∙ turned (object_at objects) id (Some o) q) i
+pub at_insert : (objects : Objects) (id : List ℕ) (o : Object)
+    → object_at (insert objects id o) ≡ changed (object_at objects) id (Some o)
+at_insert objects id o =
+    λ i q. (get-insert nat_list_cmp_total objects id o q ∙ turned (object_at objects) id (Some o) q) i
 
 pub at_remove : (objects : Objects) (id : List ℕ) → object_at (remove objects id) ≡ changed (object_at objects) id None
 at_remove objects id = λ i q. (get-remove nat_list_cmp_total objects id q ∙ turned (object_at objects) id None q) i
 
 -- ---- entries of which one is set or taken out
 
-pub at_changed : (es fs : Entries) (id : List ℕ) (w : Option Object) → IsStrictlySortedBy (slice_cmp nat_cmp) (keys_of es) → IsStrictlySortedBy (slice_cmp nat_cmp) (keys_of fs)
-    → ((q : List ℕ) → found_in fs q ≡ changed (found_in es) id w q) → object_at (from_sorted fs) ≡ changed (object_at (from_sorted es)) id w
+pub at_changed : (es fs : Entries) (id : List ℕ) (w : Option Object)
+    → IsStrictlySortedBy (slice_cmp nat_cmp) (keys_of es) → IsStrictlySortedBy (slice_cmp nat_cmp) (keys_of fs)
+    → ((q : List ℕ) → found_in fs q ≡ changed (found_in es) id w q)
+    → object_at (from_sorted fs) ≡ changed (object_at (from_sorted es)) id w
 at_changed es fs id w ascend still is =
     at_sorted fs still ∙ (λ i q. is q i) ∙ ap (λ (m : CityMap). changed m id w) (sym (at_sorted es ascend))
 
-pub inserted : (es fs : Entries) (id : List ℕ) (o : Object) → IsStrictlySortedBy (slice_cmp nat_cmp) (keys_of es) → IsStrictlySortedBy (slice_cmp nat_cmp) (keys_of fs)
-    → ((q : List ℕ) → found_in fs q ≡ changed (found_in es) id (Some o) q) → ◌≡◌ {A = Objects} (from_sorted fs) (insert (from_sorted es) id o)
+pub inserted : (es fs : Entries) (id : List ℕ) (o : Object) → IsStrictlySortedBy (slice_cmp nat_cmp) (keys_of es)
+    → IsStrictlySortedBy (slice_cmp nat_cmp) (keys_of fs)
+    → ((q : List ℕ) → found_in fs q ≡ changed (found_in es) id (Some o) q)
+    → ◌≡◌ {A = Objects} (from_sorted fs) (insert (from_sorted es) id o)
 inserted es fs id o ascend still is =
-    same_objects (from_sorted fs) (insert (from_sorted es) id o) (at_changed es fs id (Some o) ascend still is ∙ sym (at_insert (from_sorted es) id o))
+    same_objects (from_sorted fs) (insert (from_sorted es) id o) (at_changed es fs id (Some o) ascend still is
+    ∙ sym (at_insert (from_sorted es) id o))
 
-pub removed : (es fs : Entries) (id : List ℕ) → IsStrictlySortedBy (slice_cmp nat_cmp) (keys_of es) → IsStrictlySortedBy (slice_cmp nat_cmp) (keys_of fs)
-    → ((q : List ℕ) → found_in fs q ≡ changed (found_in es) id None q) → ◌≡◌ {A = Objects} (from_sorted fs) (remove (from_sorted es) id)
+pub removed : (es fs : Entries) (id : List ℕ) → IsStrictlySortedBy (slice_cmp nat_cmp) (keys_of es)
+    → IsStrictlySortedBy (slice_cmp nat_cmp) (keys_of fs)
+    → ((q : List ℕ) → found_in fs q ≡ changed (found_in es) id None q)
+    → ◌≡◌ {A = Objects} (from_sorted fs) (remove (from_sorted es) id)
 removed es fs id ascend still is =
-    same_objects (from_sorted fs) (remove (from_sorted es) id) (at_changed es fs id None ascend still is ∙ sym (at_remove (from_sorted es) id))
+    same_objects (from_sorted fs) (remove (from_sorted es) id) (at_changed es fs id None ascend still is
+    ∙ sym (at_remove (from_sorted es) id))
 
 -- ---- an object edited where it stands
 
-pub found_at : (es : Entries) → IsStrictlySortedBy (slice_cmp nat_cmp) (keys_of es) → (objects : Objects) → from_sorted es ≡ objects → (id : List ℕ) → found_in es id ≡ object_at objects id
-found_at es ascend objects seen id = ap (λ (m : CityMap). m id) (sym (at_sorted es ascend)) ∙ ap (λ (x : Objects). object_at x id) seen
+pub found_at : (es : Entries) → IsStrictlySortedBy (slice_cmp nat_cmp) (keys_of es) → (objects : Objects)
+    → from_sorted es ≡ objects → (id : List ℕ) → found_in es id ≡ object_at objects id
+found_at es ascend objects seen id = ap (λ (m : CityMap). m id) (sym (at_sorted es ascend))
+    ∙ ap (λ (x : Objects). object_at x id) seen
 
-pub edited : (es fs : Entries) (id : List ℕ) (f : Object → Object) (o p : Object) → IsStrictlySortedBy (slice_cmp nat_cmp) (keys_of es) → IsStrictlySortedBy (slice_cmp nat_cmp) (keys_of fs)
+pub edited : (es fs : Entries) (id : List ℕ) (f : Object → Object) (o p : Object)
+    → IsStrictlySortedBy (slice_cmp nat_cmp) (keys_of es) → IsStrictlySortedBy (slice_cmp nat_cmp) (keys_of fs)
     → found_in es id ≡ Some o → p ≡ f o → ((q : List ℕ) → found_in fs q ≡ changed (found_in es) id (Some p) q)
-    → object_at (from_sorted fs) ≡ changed (object_at (from_sorted es)) id (option_map f (object_at (from_sorted es) id))
+    → object_at (from_sorted fs) ≡ changed (object_at (from_sorted es)) id
+    (option_map f (object_at (from_sorted es) id))
 edited es fs id f o p ascend still there made is =
     at_changed es fs id (Some p) ascend still is
-    ∙ ap (λ x. changed (object_at (from_sorted es)) id x) (ap Some made ∙ ap (option_map f) (sym there ∙ found_at es ascend (from_sorted es) refl id))
+    ∙ ap (λ x. changed (object_at (from_sorted es)) id x)
+    (ap Some made ∙ ap (option_map f) (sym there ∙ found_at es ascend (from_sorted es) refl id))

@@ -1,8 +1,10 @@
 -- The tests on relations say what the definitions say.
-use Rattle.std.proofs.Common.{◌≡◌, ℕ, List, [], ◌∷◌, Bool, true, false, ◌||◌, ◌&&◌, ◌⊎◌, inl, inr, Option, Some, None, refl, ap, sym, ◌∙◌, length, suc, arith}
+use Rattle.std.proofs.Common.{◌≡◌, ℕ, List, [], ◌∷◌, Bool, true, false, ◌||◌, ◌&&◌, ◌⊎◌, inl, inr, Option, Some, None}
+use Rattle.std.proofs.Common.{refl, ap, sym, ◌∙◌, length, suc, arith}
 use Rattle.std.specs.Prelude.{not, ◌==◌}
 use Rattle.std.specs.List.{list_all}
-use Rattle.std.proofs.lemmas.Bool.{false≢true, and_parts, and_from, or_parts, not-true, not-false, not_from_false, ne_eqb, or_left, or_right}
+use Rattle.std.proofs.lemmas.Bool.{false≢true, and_parts, and_from, or_parts, not-true, not-false, not_from_false}
+use Rattle.std.proofs.lemmas.Bool.{ne_eqb, or_left, or_right}
 use Rattle.city_model.specs.declared.object.Object.{Object}
 use Rattle.city_model.specs.CityMap.{CityMap, same_id, has_id, parents_of, children_of}
 use Rattle.city_model.specs.Relations.{AreDistinct, IsInOrder, is_second_level, same_family, is_orphan}
@@ -16,13 +18,16 @@ use Rattle.city_model.proofs.IdLists.{bool_cases, not_both, or_first}
 distinct_true : (ids : List (List ℕ)) → are_distinct ids ≡ true → AreDistinct ids
 distinct_true [] h = tt
 distinct_true (id ∷ ids) h =
-    let parts = and_parts (not (has_id ids id)) (are_distinct ids) h in (not-true (has_id ids id) parts.0, distinct_true ids parts.1)
+    let parts = and_parts (not (has_id ids id)) (are_distinct ids) h in
+    (not-true (has_id ids id) parts.0, distinct_true ids parts.1)
 
 true_distinct : (ids : List (List ℕ)) → AreDistinct ids → are_distinct ids ≡ true
 true_distinct [] d = refl
-true_distinct (id ∷ ids) d = and_from (not (has_id ids id)) (are_distinct ids) (not_from_false (has_id ids id) d.0) (true_distinct ids d.1)
+true_distinct (id ∷ ids) d =
+    and_from (not (has_id ids id)) (are_distinct ids) (not_from_false (has_id ids id) d.0) (true_distinct ids d.1)
 
-all_there : (test : List ℕ → Bool) (ids : List (List ℕ)) (p : List ℕ) → list_all test ids ≡ true → has_id ids p ≡ true → test p ≡ true
+all_there : (test : List ℕ → Bool) (ids : List (List ℕ)) (p : List ℕ) → list_all test ids ≡ true → has_id ids p ≡ true
+    → test p ≡ true
 all_there test [] p h k = absurd (false≢true k)
 all_there test (x ∷ xs) p h k =
     let parts = and_parts (test x) (list_all test xs) h in
@@ -30,7 +35,8 @@ all_there test (x ∷ xs) p h k =
     (λ is. ap test is ∙ parts.0)
     (λ apart. all_there test xs p parts.1 (sym (ap (λ b. b || has_id xs p) apart) ∙ k))
 
-there_all : (test : List ℕ → Bool) (ids : List (List ℕ)) → ((p : List ℕ) → has_id ids p ≡ true → test p ≡ true) → list_all test ids ≡ true
+there_all : (test : List ℕ → Bool) (ids : List (List ℕ)) → ((p : List ℕ) → has_id ids p ≡ true → test p ≡ true)
+    → list_all test ids ≡ true
 there_all test [] f = refl
 there_all test (x ∷ xs) f = and_from (test x) (list_all test xs)
     (f x (or_left (same_id x x) (has_id xs x) (same_id_itself x)))
@@ -38,17 +44,21 @@ there_all test (x ∷ xs) f = and_from (test x) (list_all test xs)
 
 -- ---- parents
 
-fits_parts : (id : List ℕ) (o : Object) (p : List ℕ) (w : Option Object) → parent_fits id o p w ≡ true → (same_id p id ≡ false) × (has_id (children_of w) id ≡ true)
+fits_parts : (id : List ℕ) (o : Object) (p : List ℕ) (w : Option Object) → parent_fits id o p w ≡ true
+    → (same_id p id ≡ false) × (has_id (children_of w) id ≡ true)
 fits_parts id o p None h = absurd (false≢true h)
 fits_parts id o p (Some q) h =
     let outer = and_parts (not (same_id p id) && has_id q.children id) (same_family q.body.kind o.body.kind) h in
     let inner = and_parts (not (same_id p id)) (has_id q.children id) outer.0 in
     (not-true (same_id p id) inner.0, inner.1)
 
-fits_family : (id : List ℕ) (o : Object) (p : List ℕ) (q : Object) → parent_fits id o p (Some q) ≡ true → same_family q.body.kind o.body.kind ≡ true
-fits_family id o p q h = (and_parts (not (same_id p id) && has_id q.children id) (same_family q.body.kind o.body.kind) h).1
+fits_family : (id : List ℕ) (o : Object) (p : List ℕ) (q : Object) → parent_fits id o p (Some q) ≡ true
+    → same_family q.body.kind o.body.kind ≡ true
+fits_family id o p q h =
+    (and_parts (not (same_id p id) && has_id q.children id) (same_family q.body.kind o.body.kind) h).1
 
-parts_fit : (id : List ℕ) (o : Object) (p : List ℕ) (w : Option Object) → same_id p id ≡ false → has_id (children_of w) id ≡ true
+parts_fit : (id : List ℕ) (o : Object) (p : List ℕ) (w : Option Object) → same_id p id ≡ false
+    → has_id (children_of w) id ≡ true
     → ((q : Object) → w ≡ Some q → same_family q.body.kind o.body.kind ≡ true) → parent_fits id o p w ≡ true
 parts_fit id o p None apart has f = absurd (false≢true has)
 parts_fit id o p (Some q) apart has f =
@@ -62,7 +72,9 @@ one_is_none n e = omega arith
 
 no_parents : (second : Bool) (ids : List (List ℕ)) → (second || (length ids == 0)) ≡ true → second ≡ false → ids ≡ []
 no_parents second [] h first = refl
-no_parents second (x ∷ xs) h first = not_both second (or_first second (length (x ∷ xs) == 0) h (ne_eqb (length (x ∷ xs)) 0 (λ e. one_is_none (length xs) e))) first
+no_parents second (x ∷ xs) h first =
+    not_both second
+    (or_first second (length (x ∷ xs) == 0) h (ne_eqb (length (x ∷ xs)) 0 (λ e. one_is_none (length xs) e))) first
 
 right_level : (second : Bool) (ids : List (List ℕ)) → (second ≡ false → ids ≡ []) → (second || (length ids == 0)) ≡ true
 right_level second ids f = bool_cases second
@@ -85,15 +97,20 @@ module _ (m : CityMap) (id : List ℕ) (o : Object) where
         children_know_it = λ q k. all_there (λ r. has_id (parents_of (m r)) id) o.children q a.1 k;
         first_level = no_parents (is_second_level o.body.kind) o.parents c.1;
         one_family = λ p q k there.
-            fits_family id o p q (ap (parent_fits id o p) (sym there) ∙ all_there (λ r. parent_fits id o r (m r)) o.parents p b.1 k);
+            fits_family id o p q (ap (parent_fits id o p) (sym there)
+            ∙ all_there (λ r. parent_fits id o r (m r)) o.parents p b.1 k);
       }
 
   pub true_in_order : IsInOrder m id o → is_in_order m id o ≡ true
   true_in_order i =
-      let once = and_from (are_distinct o.parents) (are_distinct o.children) (true_distinct o.parents i.parents_once) (true_distinct o.children i.children_once) in
-      let levels = and_from (relatives_once o) (level_fits o) once (right_level (is_second_level o.body.kind) o.parents i.first_level) in
+      let once = and_from (are_distinct o.parents) (are_distinct o.children) (true_distinct o.parents i.parents_once)
+      (true_distinct o.children i.children_once) in
+      let levels =
+      and_from (relatives_once o) (level_fits o) once
+      (right_level (is_second_level o.body.kind) o.parents i.first_level) in
       let parents = there_all (λ r. parent_fits id o r (m r)) o.parents (λ p k.
-      let known = i.parents_know_it p k in parts_fit id o p (m p) known.0 known.1 (λ q there. i.one_family p q k there)) in
+      let known = i.parents_know_it p k in parts_fit id o p (m p) known.0 known.1 (λ q there. i.one_family p q k there))
+      in
       let children = there_all (λ r. has_id (parents_of (m r)) id) o.children i.children_know_it in
       and_from (relatives_once o && level_fits o && parents_fit m id o) (children_fit m id o)
       (and_from (relatives_once o && level_fits o) (parents_fit m id o) levels parents) children
@@ -107,4 +124,5 @@ module _ (m : CityMap) (id : List ℕ) (o : Object) where
 
   pub misrelated_false : is_misrelated m id o ≡ false → IsInOrder m id o × (is_orphan o ≡ false)
   misrelated_false h =
-      let parts = or_parts (is_orphan o) (not (is_in_order m id o)) h in (in_order_true (not-false (is_in_order m id o) parts.1), parts.0)
+      let parts = or_parts (is_orphan o) (not (is_in_order m id o)) h in
+      (in_order_true (not-false (is_in_order m id o) parts.1), parts.0)

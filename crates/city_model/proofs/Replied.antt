@@ -24,7 +24,8 @@ nothing_after [] k c e h = cc
 nothing_after (d ∷ cs) k c e h = false≢true e
 
 -- a command with another after it doesn't end its script
-pub goes_on : (d : Command) (cs : List Command) (k : ℕ) (c : Command) → ends_once (d ∷ cs) ≡ true → slice_get cs k ≡ Some c → is_end d ≡ false
+pub goes_on : (d : Command) (cs : List Command) (k : ℕ) (c : Command) → ends_once (d ∷ cs) ≡ true
+    → slice_get cs k ≡ Some c → is_end d ≡ false
 goes_on d cs k c e h = bool_cases (is_end d)
     (λ end. absurd (nothing_after cs k c (sym (ap (λ b. if b then is_empty_list cs else ends_once cs) end) ∙ e) h))
     (λ on. on)
@@ -34,7 +35,8 @@ ends_later d cs e on = sym (ap (λ b. if b then is_empty_list cs else ends_once 
 
 -- ---- all of them
 
-pub answered_more : (cs : List Command) (rs : List Reply) (c : Command) (r : Reply) → slice_get cs (length rs) ≡ Some c → answered cs (rs ++ r ∷ []) ≡ answered cs rs ++ (c, r) ∷ []
+pub answered_more : (cs : List Command) (rs : List Reply) (c : Command) (r : Reply) → slice_get cs (length rs) ≡ Some c
+    → answered cs (rs ++ r ∷ []) ≡ answered cs rs ++ (c, r) ∷ []
 answered_more [] rs c r h = absurd (cc)
 answered_more (d ∷ cs) [] c r h = let same : d ≡ c = cc in ap (λ k. (k, r) ∷ []) same
 answered_more (d ∷ cs) (s ∷ rs) c r h = ap (λ l. (d, s) ∷ l) (answered_more cs rs c r h)
@@ -47,7 +49,8 @@ result_from held v w i [] rs c o f u h k = absurd (cc)
 result_from held v w i (d ∷ cs) [] c o f u h k =
     let same : c ≡ d = cc in
     let number : i + 0 ≡ i = omega arith in
-    subst (λ (x : View). EndsAt x d i o) f (subst (λ (x : Command). EndsAt w x i o) same (subst (λ (j : ℕ). EndsAt w c j o) number k))
+    subst (λ (x : View). EndsAt x d i o) f
+    (subst (λ (x : Command). EndsAt w x i o) same (subst (λ (j : ℕ). EndsAt w c j o) number k))
 result_from held v w i (d ∷ cs) (r ∷ rs) c o f u h k =
     let parts = or_parts (is_refusal r) (list_any is_refusal rs) u in
     let number : i + length (r ∷ rs) ≡ i + 1 + length rs = omega arith in
@@ -59,7 +62,8 @@ result_from held v w i (d ∷ cs) (r ∷ rs) c o f u h k =
 
 -- a script whose next command is Commit leaves what its first commands lead to
 pub committed_from : (held : Held) (v w : View) (cs : List Command) (rs : List Reply)
-    → IsTraceUnderLocks held v (answered cs rs) w → list_any is_refusal rs ≡ false → slice_get cs (length rs) ≡ Some Commit
+    → IsTraceUnderLocks held v (answered cs rs) w → list_any is_refusal rs ≡ false
+    → slice_get cs (length rs) ≡ Some Commit
     → view_at_end v cs ≡ w
 committed_from held v w [] rs f u h = absurd (cc)
 committed_from held v w (d ∷ cs) [] f u h =

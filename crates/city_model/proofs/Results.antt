@@ -19,7 +19,8 @@ use Rattle.city_model.specs.Marks.{View, unmarked}
 use Rattle.city_model.specs.Meaning.{Effect, Answers, Commits, Aborts, effect, IsCommitReply, IsReply, GoesOn}
 use Rattle.city_model.specs.Meaning.{is_refusal}
 use Rattle.city_model.specs.Relations.{IsOrphanAt, IsLeastOrphan, HasNoOrphan}
-use Rattle.city_model.specs.Runs.{Scripted, EndsAt, EndsFrom, IsScriptResult, left_by, IsEndOf, IsSerialHistoryFrom, IsSerialHistory}
+use Rattle.city_model.specs.Runs.{Scripted, EndsAt, EndsFrom, IsScriptResult, left_by, IsEndOf, IsSerialHistoryFrom}
+use Rattle.city_model.specs.Runs.{IsSerialHistory}
 use Rattle.city_model.specs.SerialEnds.{is_no_memory, IsSerialFrom}
 use Rattle.city_model.proofs.Effects.{goes_on_case, answered_no_ending, is_ending}
 use Rattle.city_model.proofs.Lawful.{EndsFurther}
@@ -52,7 +53,8 @@ reply_is_unique v (Answers q u) r s h k = h ∙ sym k
 reply_is_unique v Commits r s h k = commit_reply_is_unique v.map r s h k
 reply_is_unique v Aborts r s h k = h ∙ sym k
 
-end_is_unique : (v : View) (c : Command) (i : ℕ) (o p : Outcome) → is_no_memory o ≡ false → is_no_memory p ≡ false → EndsAt v c i o → EndsAt v c i p → o ≡ p
+end_is_unique : (v : View) (c : Command) (i : ℕ) (o p : Outcome) → is_no_memory o ≡ false → is_no_memory p ≡ false
+    → EndsAt v c i o → EndsAt v c i p → o ≡ p
 end_is_unique v c i Outcome.Committed Outcome.Committed n l h k = refl
 end_is_unique v c i Outcome.Committed Outcome.Aborted n l h k =
     let e : Committed ≡ Aborted = reply_is_unique v (effect v c) Committed Aborted h.0 k.0 in absurd (cc)
@@ -97,7 +99,8 @@ ends_or_goes_on v c i j (Outcome.NoMemory k) p r cs rs n h g = false≢true (sym
 
 -- ---- one script
 
-result_from : (v : View) (i : ℕ) (cs : List Command) (rs ss : List Reply) (o p : Outcome) → is_no_memory o ≡ false → is_no_memory p ≡ false
+result_from : (v : View) (i : ℕ) (cs : List Command) (rs ss : List Reply) (o p : Outcome) → is_no_memory o ≡ false
+    → is_no_memory p ≡ false
     → EndsFrom v i cs rs o → EndsFrom v i cs ss p → (rs ≡ ss) × (o ≡ p)
 result_from v i [] rs ss o p n l h k = absurd h
 result_from v i (c ∷ cs) [] [] o p n l h k = (refl, end_is_unique v c i o p n l h k)
@@ -110,17 +113,21 @@ result_from v i (c ∷ cs) (r ∷ rs) (s ∷ ss) o p n l h k =
     (ap (λ t. t ∷ rs) (sym f.0 ∙ g.0) ∙ ap (λ ts. s ∷ ts) rest.0, rest.1)) h
 
 -- two results of a list of commands at one map are the same, unless there was no memory
-pub result_is_unique : (m : CityMap) (cs : List Command) (rs ss : List Reply) (o p : Outcome) → is_no_memory o ≡ false → is_no_memory p ≡ false
+pub result_is_unique : (m : CityMap) (cs : List Command) (rs ss : List Reply) (o p : Outcome) → is_no_memory o ≡ false
+    → is_no_memory p ≡ false
     → IsScriptResult m cs rs o → IsScriptResult m cs ss p → (rs ≡ ss) × (o ≡ p)
 result_is_unique m cs rs ss o p n l h k = result_from (unmarked m) 0 cs rs ss o p n l h k
 
 -- ---- scripts run in their order
 
-same_end : (e f : End) → e.script ≡ f.script → e.name ≡ f.name → e.since ≡ f.since → e.replies ≡ f.replies → e.outcome ≡ f.outcome → e ≡ f
+same_end : (e f : End) → e.script ≡ f.script → e.name ≡ f.name → e.since ≡ f.since → e.replies ≡ f.replies
+    → e.outcome ≡ f.outcome → e ≡ f
 same_end e f a b c d g = λ i. record { script = a i; name = b i; since = c i; replies = d i; outcome = g i }
 
-end_of_script_is_unique : (scripts : List Scripted) (m : CityMap) (place : ℕ) (e f : End) → e.script ≡ f.script → e.since ≡ f.since
-    → is_no_memory e.outcome ≡ false → is_no_memory f.outcome ≡ false → IsEndOf scripts m place e → IsEndOf scripts m place f → e ≡ f
+end_of_script_is_unique : (scripts : List Scripted) (m : CityMap) (place : ℕ) (e f : End) → e.script ≡ f.script
+    → e.since ≡ f.since
+    → is_no_memory e.outcome ≡ false → is_no_memory f.outcome ≡ false → IsEndOf scripts m place e
+    → IsEndOf scripts m place f → e ≡ f
 end_of_script_is_unique scripts m place e f script since n l h k =
     let found : Some h.script ≡ Some k.script = sym h.is_there ∙ ap (slice_get scripts) script ∙ k.is_there in
     let same : h.script ≡ k.script = cc in
@@ -128,14 +135,17 @@ end_of_script_is_unique scripts m place e f script since n l h k =
     (subst (λ (s : Scripted). IsScriptResult m s.1 e.replies e.outcome) same h.result) k.result in
     same_end e f script (h.named ∙ ap (λ (s : Scripted). s.0) same ∙ sym k.named) since result.0 result.1
 
--- the ends at each place are of one script, which began its last attempt at one place, and neither is for want of memory
+-- the ends at each place are of one script, which began its last attempt at one place, and neither is for want of
+-- memory
 abbrev pub AreInOneOrder : List End → List End → Type 0
 AreInOneOrder [] [] = Unit {0}
 AreInOneOrder [] (f ∷ fs) = ⊥
 AreInOneOrder (e ∷ es) [] = ⊥
-AreInOneOrder (e ∷ es) (f ∷ fs) = (e.script ≡ f.script) × (e.since ≡ f.since) × (is_no_memory e.outcome ≡ false) × (is_no_memory f.outcome ≡ false) × AreInOneOrder es fs
+AreInOneOrder (e ∷ es) (f ∷ fs) = (e.script ≡ f.script) × (e.since ≡ f.since) × (is_no_memory e.outcome ≡ false)
+    × (is_no_memory f.outcome ≡ false) × AreInOneOrder es fs
 
-ends_from : (scripts : List Scripted) (m : CityMap) (k : ℕ) (es fs : List End) → AreInOneOrder es fs → IsSerialHistoryFrom scripts m k es → IsSerialHistoryFrom scripts m k fs → es ≡ fs
+ends_from : (scripts : List Scripted) (m : CityMap) (k : ℕ) (es fs : List End) → AreInOneOrder es fs
+    → IsSerialHistoryFrom scripts m k es → IsSerialHistoryFrom scripts m k fs → es ≡ fs
 ends_from scripts m k [] [] o h g = refl
 ends_from scripts m k [] (y ∷ fs) o h g = absurd o
 ends_from scripts m k (x ∷ es) [] o h g = absurd o
@@ -147,13 +157,18 @@ ends_from scripts m k (x ∷ es) (y ∷ fs) o h g =
     (subst (λ (n : CityMap). IsSerialHistoryFrom scripts n (k + 1) es) same h.2) g.2 in
     ap (λ z. z ∷ es) first ∙ ap (λ zs. y ∷ zs) rest
 
-serial_order : (k : ℕ) (es fs : List End) → length es ≡ length fs → IsSerialFrom k es → IsSerialFrom k fs → AreInOneOrder es fs
+serial_order : (k : ℕ) (es fs : List End) → length es ≡ length fs → IsSerialFrom k es → IsSerialFrom k fs
+    → AreInOneOrder es fs
 serial_order k [] [] e s t = tt
 serial_order k [] (y ∷ fs) e s t = absurd (omega arith)
 serial_order k (x ∷ es) [] e s t = absurd (omega arith)
-serial_order k (x ∷ es) (y ∷ fs) e s t = (s.0 ∙ sym t.0, s.1 ∙ sym t.1, s.2, t.2, serial_order (k + 1) es fs (omega arith) s.3 t.3)
+serial_order k (x ∷ es) (y ∷ fs) e s t =
+    (s.0 ∙ sym t.0, s.1 ∙ sym t.1, s.2, t.2, serial_order (k + 1) es fs (omega arith) s.3 t.3)
 
--- two lists of ends of the same scripts, each run in its turn from the same map, are the same, unless there was no memory
-pub serial_ends_are_unique : (scripts : List Scripted) (m : CityMap) (es fs : List End) → length es ≡ length scripts → length fs ≡ length scripts
+-- two lists of ends of the same scripts, each run in its turn from the same map, are the same, unless there was no
+-- memory
+pub serial_ends_are_unique : (scripts : List Scripted) (m : CityMap) (es fs : List End) → length es ≡ length scripts
+    → length fs ≡ length scripts
     → IsSerialFrom 0 es → IsSerialFrom 0 fs → IsSerialHistory scripts m es → IsSerialHistory scripts m fs → es ≡ fs
-serial_ends_are_unique scripts m es fs a b s t h g = ends_from scripts m 0 es fs (serial_order 0 es fs (a ∙ sym b) s t) h g
+serial_ends_are_unique scripts m es fs a b s t h g =
+    ends_from scripts m 0 es fs (serial_order 0 es fs (a ∙ sym b) s t) h g

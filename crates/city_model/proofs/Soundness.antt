@@ -37,11 +37,13 @@ once_children : (m : CityMap) (id : List ℕ) (w : Option Object) → m id ≡ w
 once_children m id None is s = tt
 once_children m id (Some o) is s = (s id o is).0.children_once
 
-known_parents : (m : CityMap) (id p : List ℕ) (w : Option Object) → m id ≡ w → IsSound m → has_id (parents_of w) p ≡ true → (same_id p id ≡ false) × (has_id (children_of (m p)) id ≡ true)
+known_parents : (m : CityMap) (id p : List ℕ) (w : Option Object) → m id ≡ w → IsSound m
+    → has_id (parents_of w) p ≡ true → (same_id p id ≡ false) × (has_id (children_of (m p)) id ≡ true)
 known_parents m id p None is s h = absurd (false≢true h)
 known_parents m id p (Some o) is s h = (s id o is).0.parents_know_it p h
 
-known_children : (m : CityMap) (id d : List ℕ) (w : Option Object) → m id ≡ w → IsSound m → has_id (children_of w) d ≡ true → has_id (parents_of (m d)) id ≡ true
+known_children : (m : CityMap) (id d : List ℕ) (w : Option Object) → m id ≡ w → IsSound m
+    → has_id (children_of w) d ≡ true → has_id (parents_of (m d)) id ≡ true
 known_children m id d None is s h = absurd (false≢true h)
 known_children m id d (Some o) is s h = (s id o is).0.children_know_it d h
 
@@ -56,7 +58,8 @@ sound_agrees m s = record {
 pub sound_has_no_fault : (m : CityMap) → IsSound m → HasNoFault m
 sound_has_no_fault m s = λ id o is. (s id o is).1
 
-tie : (m : CityMap) (id p : List ℕ) (w v : Option Object) → m id ≡ w → m p ≡ v → IsSound m → has_id (parents_of w) p ≡ true → has_id (children_of v) id ≡ true → IsRightTie m id p
+tie : (m : CityMap) (id p : List ℕ) (w v : Option Object) → m id ≡ w → m p ≡ v → IsSound m
+    → has_id (parents_of w) p ≡ true → has_id (children_of v) id ≡ true → IsRightTie m id p
 tie m id p None v is at s h k = absurd (false≢true h)
 tie m id p (Some o) None is at s h k = absurd (false≢true k)
 tie m id p (Some o) (Some q) is at s h k = record {
@@ -64,7 +67,9 @@ tie m id p (Some o) (Some q) is at s h k = record {
   parent = q;
   child_there = is;
   parent_there = at;
-  second_level = true_from_ne_false (is_second_level o.body.kind) (λ e. false≢true (sym (ap (λ ids. has_id ids p) ((s id o is).0.first_level e)) ∙ h));
+  second_level =
+      true_from_ne_false (is_second_level o.body.kind)
+      (λ e. false≢true (sym (ap (λ ids. has_id ids p) ((s id o is).0.first_level e)) ∙ h));
   one_family = (s id o is).0.one_family p q h at;
 }
 
@@ -85,18 +90,22 @@ nothing_in (x ∷ xs) f = absurd (f x (or_left (same_id x x) (has_id xs x) (same
 abbrev pub HasTiesOf : CityMap → CityMap → Type 0
 HasTiesOf m n = (id p : List ℕ) → has_id (parents_of (n id)) p ≡ true → IsRightTie m id p
 
-no_parents : (m n : CityMap) → SameKinds m n → HasTiesOf m n → (id : List ℕ) (o : Object) → n id ≡ Some o → is_second_level o.body.kind ≡ false → o.parents ≡ []
+no_parents : (m n : CityMap) → SameKinds m n → HasTiesOf m n → (id : List ℕ) (o : Object) → n id ≡ Some o
+    → is_second_level o.body.kind ≡ false → o.parents ≡ []
 no_parents m n kinds ties id o is first = nothing_in o.parents (λ p h.
     let t = ties id p (ap (λ w. has_id (parents_of w) p) is ∙ h) in
-    not_both (is_second_level o.body.kind) (ap is_second_level (kinds id t.child o t.child_there is) ∙ t.second_level) first)
+    not_both (is_second_level o.body.kind) (ap is_second_level (kinds id t.child o t.child_there is) ∙ t.second_level)
+    first)
 
-family : (m n : CityMap) → SameKinds m n → HasTiesOf m n → (id p : List ℕ) (o q : Object) → n id ≡ Some o → n p ≡ Some q → has_id o.parents p ≡ true → same_family q.body.kind o.body.kind ≡ true
+family : (m n : CityMap) → SameKinds m n → HasTiesOf m n → (id p : List ℕ) (o q : Object) → n id ≡ Some o → n p ≡ Some q
+    → has_id o.parents p ≡ true → same_family q.body.kind o.body.kind ≡ true
 family m n kinds ties id p o q is at h =
     let t = ties id p (ap (λ w. has_id (parents_of w) p) is ∙ h) in
     ap (λ k. same_family k o.body.kind) (kinds p t.parent q t.parent_there at)
     ∙ ap (λ k. same_family t.parent.body.kind k) (kinds id t.child o t.child_there is) ∙ t.one_family
 
-in_order : (m n : CityMap) → SameKinds m n → HasTiesOf m n → AreInAgreement n → (id : List ℕ) (o : Object) → n id ≡ Some o → IsInOrder n id o
+in_order : (m n : CityMap) → SameKinds m n → HasTiesOf m n → AreInAgreement n → (id : List ℕ) (o : Object)
+    → n id ≡ Some o → IsInOrder n id o
 in_order m n kinds ties a id o is = record {
   parents_once = subst AreDistinct (ap parents_of is) (a.parents_once id);
   children_once = subst AreDistinct (ap children_of is) (a.children_once id);

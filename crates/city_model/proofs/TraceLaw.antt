@@ -13,7 +13,8 @@ use Rattle.city_model.specs.Marks.{View, unmarked}
 use Rattle.city_model.specs.Relations.{IsSound}
 use Rattle.city_model.specs.Runs.{Trace}
 use Rattle.city_model.specs.Mode.{is_exclusive}
-use Rattle.city_model.specs.Standing.{Held, Lock, covers, AllHeld, answered, IsTraceUnderLocks, locks_id, locks_id_exclusively}
+use Rattle.city_model.specs.Standing.{Held, Lock, covers, AllHeld, answered, IsTraceUnderLocks, locks_id}
+use Rattle.city_model.specs.Standing.{locks_id_exclusively}
 use Rattle.city_model.specs.Standing.{exclusive_ids}
 use Rattle.city_model.specs.TraceLaw.{as_named, stronger_of, named_by, carried, TraceLaw}
 use Rattle.city_model.proofs.Ids.{same_id_itself}
@@ -69,7 +70,8 @@ all_held held (l ∷ ls) s x = (
       ∙ or_left (same_id l.0 l.0) (locks_id_exclusively ls l.0) (same_id_itself l.0))),
   all_held held ls (λ q h. s q (or_right (same_id q l.0) (locks_id ls q) h))
       (λ q h. x q (bool_cases (is_exclusive l.1)
-      (λ e. ap (λ b. has_id (if b then l.0 ∷ exclusive_ids ls else exclusive_ids ls) q) e ∙ or_right (same_id q l.0) (locks_id_exclusively ls q) h)
+      (λ e. ap (λ b. has_id (if b then l.0 ∷ exclusive_ids ls else exclusive_ids ls) q) e
+      ∙ or_right (same_id q l.0) (locks_id_exclusively ls q) h)
       (λ e. ap (λ b. has_id (if b then l.0 ∷ exclusive_ids ls else exclusive_ids ls) q) e ∙ h))),
 )
 
@@ -78,7 +80,8 @@ named_in ls q = as_named (locks_id_exclusively ls q) (locks_id ls q)
 
 named_held : (ls : List Lock) → AllHeld (named_in ls) ls
 named_held ls = all_held (named_in ls) ls
-    (λ q h. named_some (locks_id_exclusively ls q) (locks_id ls q) h) (λ q h. named_exclusive (locks_id_exclusively ls q) (locks_id ls q) h)
+    (λ q h. named_some (locks_id_exclusively ls q) (locks_id ls q) h)
+    (λ q h. named_exclusive (locks_id_exclusively ls q) (locks_id ls q) h)
 
 -- ---- the commands with what they are answered
 
@@ -96,7 +99,8 @@ trace_follows v [] (r ∷ rs) w f = absurd f
 trace_follows v (c ∷ cs) [] w f = absurd f
 trace_follows v (c ∷ cs) (r ∷ rs) w f = (
   more_held (named_in (locks_of v.map c)) (named_by v (c ∷ cs)) (locks_of v.map c)
-      (λ q b h. covers_left (named_in (locks_of v.map c) q) (named_by (step v c) cs q) b h) (named_held (locks_of v.map c)),
+      (λ q b h. covers_left (named_in (locks_of v.map c) q) (named_by (step v c) cs q) b h)
+      (named_held (locks_of v.map c)),
   goes_on_case (Further r cs rs w) (effect v c) (λ reply u is g.
       let more : HoldsMore (named_by u cs) (named_by v (c ∷ cs)) =
       subst (λ (k : View). HoldsMore (named_by k cs) (named_by v (c ∷ cs))) (answered_step v c reply u is)

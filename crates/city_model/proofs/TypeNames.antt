@@ -2,7 +2,19 @@
 use Rattle.std.proofs.Common.{◌≡◌, true, Some, refl, ap, sym, ◌∙◌}
 use Rattle.std.proofs.lemmas.Slice.Eq.{bytes_eq-Decides}
 use Rattle.city_model.specs.declared.object_type.ObjectType.{ObjectType}
-use Rattle.city_model.specs.declared.object_type.ObjectType.TheVariants.{Building, Bridge, Tunnel, CityFurniture, LandUse, OtherConstruction, PlantCover, SolitaryVegetationObject, TINRelief, Road, Railway, Waterway, TransportSquare, WaterBody, GenericCityObject, BuildingPart, BuildingInstallation, BuildingConstructiveElement, BuildingFurniture, BuildingStorey, BuildingRoom, BuildingUnit, BridgePart, BridgeInstallation, BridgeConstructiveElement, BridgeRoom, BridgeFurniture, TunnelPart, TunnelInstallation, TunnelConstructiveElement, TunnelHollowSpace, TunnelFurniture}
+use Rattle.city_model.specs.declared.object_type.ObjectType.TheVariants.{Building, Bridge, Tunnel, CityFurniture}
+use Rattle.city_model.specs.declared.object_type.ObjectType.TheVariants.{LandUse, OtherConstruction, PlantCover}
+use Rattle.city_model.specs.declared.object_type.ObjectType.TheVariants.{SolitaryVegetationObject, TINRelief, Road}
+use Rattle.city_model.specs.declared.object_type.ObjectType.TheVariants.{Railway, Waterway, TransportSquare, WaterBody}
+use Rattle.city_model.specs.declared.object_type.ObjectType.TheVariants.{GenericCityObject, BuildingPart}
+use Rattle.city_model.specs.declared.object_type.ObjectType.TheVariants.{BuildingInstallation}
+use Rattle.city_model.specs.declared.object_type.ObjectType.TheVariants.{BuildingConstructiveElement, BuildingFurniture}
+use Rattle.city_model.specs.declared.object_type.ObjectType.TheVariants.{BuildingStorey, BuildingRoom, BuildingUnit}
+use Rattle.city_model.specs.declared.object_type.ObjectType.TheVariants.{BridgePart, BridgeInstallation}
+use Rattle.city_model.specs.declared.object_type.ObjectType.TheVariants.{BridgeConstructiveElement, BridgeRoom}
+use Rattle.city_model.specs.declared.object_type.ObjectType.TheVariants.{BridgeFurniture, TunnelPart}
+use Rattle.city_model.specs.declared.object_type.ObjectType.TheVariants.{TunnelInstallation, TunnelConstructiveElement}
+use Rattle.city_model.specs.declared.object_type.ObjectType.TheVariants.{TunnelHollowSpace, TunnelFurniture}
 use Rattle.city_model.specs.Types.{name_of, family_of, all_types, first_named}
 use Rattle.city_model.specs.Relations.{same_type, same_family}
 
@@ -48,4 +60,5 @@ same_type_true kind other h =
 
 pub same_family_back : (kind other : ObjectType) → same_family kind other ≡ true → same_family other kind ≡ true
 same_family_back kind other h =
-    (bytes_eq-Decides (name_of (family_of other)) (name_of (family_of kind))).1 (sym ((bytes_eq-Decides (name_of (family_of kind)) (name_of (family_of other))).0 h))
+    (bytes_eq-Decides (name_of (family_of other)) (name_of (family_of kind))).1
+    (sym ((bytes_eq-Decides (name_of (family_of kind)) (name_of (family_of other))).0 h))

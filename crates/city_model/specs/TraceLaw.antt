@@ -28,7 +28,8 @@ stronger_of (Some Shared) (Some mode) = Some mode
 abbrev pub named_by : View → List Command → Held
 named_by v [] q = None
 named_by v (c ∷ cs) q =
-    stronger_of (as_named (locks_id_exclusively (locks_of v.map c) q) (locks_id (locks_of v.map c) q)) (named_by (step v c) cs q)
+    stronger_of (as_named (locks_id_exclusively (locks_of v.map c) q) (locks_id (locks_of v.map c) q))
+    (named_by (step v c) cs q)
 
 -- this map at each id that is held exclusively, and the other one elsewhere
 abbrev pub carried_map : Held → CityMap → CityMap → CityMap

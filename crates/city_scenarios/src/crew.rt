@@ -46,7 +46,8 @@ pub fn play_crews<T: Threads + Wait + Sync>(
     Ok(())
 }
 
-/// Adds what is reported of a crew's run where it isn't what was reported last, after the crew where it isn't the first.
+/// Adds what is reported of a crew's run where it isn't what was reported last, after the crew where it isn't the
+/// first.
 fn add_told(
     answer: &mut Vec<u8>,
     last: &mut Vec<u8>,

@@ -8,7 +8,8 @@
 //! - `document`, `scripts`: texts read; `body`: bodies judged; `members`: members kept
 //! - `run`, `crew`, `replay`: whole runs, by one worker, by several, and their scripts one at a time
 //! - `serve`, `reader`, `writer`: from a device to a device
-//! - `steps`, `turns`: what is taken step by step, a desk; `core_steps`, `reply`, `change`: transactions; `locks`: a lock table; `board`: viewers
+//! - `steps`, `turns`: what is taken step by step, a desk; `core_steps`, `reply`, `change`: transactions; `locks`: a
+//!   lock table; `board`: viewers
 //! - `command_line`, `pool`: what a command line asks for, and points numbered
 #![tactic(auto)]
 

@@ -35,8 +35,8 @@ pub fn name_text<'a>(
     Ok(Named { name, text })
 }
 
-/// Adds a piece: `bytes 255 10` is those bytes, `repeat 128 [` is the rest of the line so often, and any other line is what
-/// it means.
+/// Adds a piece: `bytes 255 10` is those bytes, `repeat 128 [` is the rest of the line so often, and any other line
+/// is what it means.
 fn add_piece(
     alloc: Global,
     names: &[Named],

@@ -21,8 +21,8 @@ fn add_scripts(alloc: Global, scripts: &[Script], answer: &mut Vec<u8>) -> Resul
     Ok(())
 }
 
-/// Answers what each proper prefix of a text of scripts is answered, the empty one first: a line where it isn't what the
-/// prefix before it was.
+/// Answers what each proper prefix of a text of scripts is answered, the empty one first: a line where it isn't what
+/// the prefix before it was.
 pub fn play_script_prefixes(
     alloc: Global,
     text: &[u8],

@@ -1,5 +1,6 @@
 -- What is read of a text is the whole of it, or shows that it is too long.
-use Rattle.std.proofs.Common.{◌≡◌, ℕ, ◌+◌, ◌<◌, ◌≤◌, Bool, true, false, List, length, take, Option, Some, None, IfSome, nat_lt, inl, inr, refl, ap, ◌∙◌, arith}
+use Rattle.std.proofs.Common.{◌≡◌, ℕ, ◌+◌, ◌<◌, ◌≤◌, Bool, true, false, List, length, take, Option, Some, None, IfSome}
+use Rattle.std.proofs.Common.{nat_lt, inl, inr, refl, ap, ◌∙◌, arith}
 use Rattle.std.proofs.lemmas.Bool.Decides.{nat_tests}
 use Rattle.std.proofs.lemmas.List.{take_all, length-take-le}
 use Rattle.city_doc.specs.tree.Texts.{max_text}
@@ -19,6 +20,7 @@ module _ (all read : List ℕ) (is : read ≡ take (max_text + 1) all) where
   enough_of : IsEnoughOf all read
   enough_of = by_length (nat_lt max_text (length all)) refl
 
-pub enough_read : (known : Option (List ℕ)) (read : List ℕ) → IfSome known (λ all. read ≡ take (max_text + 1) all) → IfSome known (λ all. IsEnoughOf all read)
+pub enough_read : (known : Option (List ℕ)) (read : List ℕ) → IfSome known (λ all. read ≡ take (max_text + 1) all)
+    → IfSome known (λ all. IsEnoughOf all read)
 enough_read None read is = tt
 enough_read (Some all) read is = enough_of all read is

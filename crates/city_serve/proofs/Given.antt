@@ -1,5 +1,6 @@
 -- What a run on encoded texts says of the texts.
-use Rattle.std.proofs.Common.{◌≡◌, ◌≤◌, ◌<◌, ℕ, List, [], ◌∷◌, Bool, true, false, Option, Some, None, inl, inr, refl, sym, ap, ap₂, ◌∙◌, subst, arith}
+use Rattle.std.proofs.Common.{◌≡◌, ◌≤◌, ◌<◌, ℕ, List, [], ◌∷◌, Bool, true, false, Option, Some, None, inl, inr, refl}
+use Rattle.std.proofs.Common.{sym, ap, ap₂, ◌∙◌, subst, arith}
 use Rattle.std.specs.Prelude.{◌≢◌, ◌⊎◌, ◌&&◌, option_and_then, is_some}
 use Rattle.std.specs.Str.{IsUtf8}
 use Rattle.json.specs.Token.{Token}
@@ -9,7 +10,8 @@ use Rattle.json.specs.Json as json
 use Rattle.json.proofs.Nesting.{value-depth}
 use Rattle.json.proofs.Printed.Trees.{value-json_tokens}
 use Rattle.json.proofs.Unique.Spelling.{value-json_tokens_back}
-use Rattle.serde_json.specs.Data.{Data, null, boolean, number, string, array, object, Items, no_items, item, Members, no_members, member}
+use Rattle.serde_json.specs.Data.{Data, null, boolean, number, string, array, object, Items, no_items, item, Members}
+use Rattle.serde_json.specs.Data.{no_members, member}
 use Rattle.serde_json.specs.Read.{read, of_json}
 use Rattle.serde_json.specs.Read as serde
 use Rattle.city_model.specs.Integral as model
@@ -79,7 +81,8 @@ mutual
   same_members no_members = refl
   same_members (member k d ms) = ap₂ (λ a b. a && b) (same_integral d) (same_members ms)
 
-pub encoded_whole : (text : List ℕ) → ((d : Data) → read text ≡ Some d → decimals.is_integral d ≡ true) → HasWholeNumbers text
+pub encoded_whole : (text : List ℕ) → ((d : Data) → read text ≡ Some d → decimals.is_integral d ≡ true)
+    → HasWholeNumbers text
 encoded_whole text whole d tree = sym (same_integral d) ∙ whole d tree.1.1
 
 pub refused_whole : (text : List ℕ) → IsRefusedText text → HasWholeNumbers text
@@ -111,10 +114,12 @@ scripts_whole : (text : List ℕ) → HasWholeNumbers text → ScriptTextFault t
 scripts_whole text whole (inl e) = absurd (cc)
 scripts_whole text whole (inr (inl (e, _))) = absurd (cc)
 scripts_whole text whole (inr (inr (inl (e, _)))) = absurd (cc)
-scripts_whole text whole (inr (inr (inr (inl (e, (d, tree, other)))))) = not_false (model.is_integral d) (whole d tree) other
+scripts_whole text whole (inr (inr (inr (inl (e, (d, tree, other)))))) =
+    not_false (model.is_integral d) (whole d tree) other
 scripts_whole text whole (inr (inr (inr (inr (d, tree, integral, fault))))) = no_tree_fault d fault
 
-whole_fault : (model commands : List ℕ) (workers viewers : ℕ) (f : RunFault) → HasWholeNumbers model → HasWholeNumbers commands
+whole_fault : (model commands : List ℕ) (workers viewers : ℕ) (f : RunFault) → HasWholeNumbers model
+    → HasWholeNumbers commands
     → IsFaultOfRun model commands workers viewers f → IsOfWholeNumbers f
 whole_fault model commands workers viewers f first second fault = (
   λ is. document_whole model first (subst (IsRunFault model commands) is fault.0).1,
@@ -123,8 +128,10 @@ whole_fault model commands workers viewers f first second fault = (
 
 -- ---- a run on what is given of two texts
 
-module _ (model commands given_model given_commands : List ℕ) (first : IsGiven model given_model) (second : IsGiven commands given_commands) where
-  pub decimals_run : (ends : List End) (output bytes : List ℕ) → IsRun given_model given_commands ends output → AreDecodedLines output bytes
+module _ (model commands given_model given_commands : List ℕ) (first : IsGiven model given_model)
+    (second : IsGiven commands given_commands) where
+  pub decimals_run : (ends : List End) (output bytes : List ℕ) → IsRun given_model given_commands ends output
+      → AreDecodedLines output bytes
       → IsDecimalsRun model commands ends bytes
   decimals_run ends output bytes ran decoded = record {
     encoded_document = given_model;
@@ -136,8 +143,10 @@ module _ (model commands given_model given_commands : List ℕ) (first : IsGiven
     decoded = decoded;
   }
 
-  pub decimals_fault : (workers viewers : ℕ) (f : RunFault) → HasWholeNumbers given_model → HasWholeNumbers given_commands
-      → IsFaultOfRun given_model given_commands workers viewers f → IsFaultOfDecimalsRun model commands workers viewers f
+  pub decimals_fault : (workers viewers : ℕ) (f : RunFault) → HasWholeNumbers given_model
+      → HasWholeNumbers given_commands
+      → IsFaultOfRun given_model given_commands workers viewers f
+      → IsFaultOfDecimalsRun model commands workers viewers f
   decimals_fault workers viewers f model_whole commands_whole fault = inr (record {
     given_document = given_model;
     given_scripts = given_commands;

@@ -1,5 +1,6 @@
 -- The parts of an input round its first newline.
-use Rattle.std.proofs.Common.{◌≡◌, ℕ, ◌+◌, ◌-◌, ◌≤◌, ◌<◌, Bool, true, false, cond, List, [], length, take, drop, Option, Some, None, nat_lt, refl, ap, sym, ◌∙◌, arith, length-drop}
+use Rattle.std.proofs.Common.{◌≡◌, ℕ, ◌+◌, ◌-◌, ◌≤◌, ◌<◌, Bool, true, false, cond, List, [], length, take, drop, Option}
+use Rattle.std.proofs.Common.{Some, None, nat_lt, refl, ap, sym, ◌∙◌, arith, length-drop}
 use Rattle.std.specs.Prelude.{position}
 use Rattle.std.specs.List.{position_or_len, before_first, after_first}
 use Rattle.std.proofs.lemmas.Bool.Decides.{nat_tests}
@@ -17,12 +18,14 @@ found_past false k l is e = grind (arith, nat_tests, is)
 
 module _ (p : ℕ → Bool) (xs : List ℕ) where
   pub before_found : (n : ℕ) → position p xs ≡ Some n → take n xs ≡ before_first p xs
-  before_found n found = ap (λ k. take k xs) (sym (found_at (nat_lt (position_or_len p xs) (length xs)) (position_or_len p xs) n found))
+  before_found n found =
+      ap (λ k. take k xs) (sym (found_at (nat_lt (position_or_len p xs) (length xs)) (position_or_len p xs) n found))
 
   pub after_found : (n : ℕ) → position p xs ≡ Some n → take (length xs - (n + 1)) (drop (n + 1) xs) ≡ after_first p xs
   after_found n found =
       take_all (length xs - (n + 1)) (drop (n + 1) xs) (omega (arith, length-drop (n + 1) xs))
-      ∙ ap (λ k. drop (k + 1) xs) (sym (found_at (nat_lt (position_or_len p xs) (length xs)) (position_or_len p xs) n found))
+      ∙ ap (λ k. drop (k + 1) xs)
+      (sym (found_at (nat_lt (position_or_len p xs) (length xs)) (position_or_len p xs) n found))
 
   past : position p xs ≡ None → length xs ≤ position_or_len p xs
   past none = found_past (nat_lt (position_or_len p xs) (length xs)) (position_or_len p xs) (length xs) refl none
@@ -31,7 +34,8 @@ module _ (p : ℕ → Bool) (xs : List ℕ) where
   before_none none = sym (take_all (position_or_len p xs) xs (past none))
 
   pub after_none : position p xs ≡ None → [] ≡ after_first p xs
-  after_none none = let h : length xs ≤ position_or_len p xs = past none in sym (drop_all (position_or_len p xs + 1) xs (omega arith))
+  after_none none = let h : length xs ≤ position_or_len p xs = past none in
+      sym (drop_all (position_or_len p xs + 1) xs (omega arith))
 
 not_true : (b : Bool) → ¬ (b ≡ true) → b ≡ false
 not_true true never = absurd (never refl)
@@ -49,8 +53,14 @@ module _ (p : ℕ → Bool) (xs : List ℕ) where
   -- where the first byte stands that passes
   pub first_position : (r : Option ℕ) → IsFirstByte p xs r → r ≡ position p xs
   first_position None nowhere =
-      let all : position_or_len p xs ≡ length xs = position_or_len_is p xs (length xs) 0 (omega arith) (λ k within. not_true _ (nowhere k (omega arith) within)) (λ past. absurd (omega (arith, past))) in
-      sym (ap (λ n. cond (nat_lt n (length xs)) (Some n) None) all ∙ found_none (nat_lt (length xs) (length xs)) (length xs) refl)
+      let all : position_or_len p xs ≡ length xs =
+      position_or_len_is p xs (length xs) 0 (omega arith) (λ k within. not_true _ (nowhere k (omega arith) within))
+      (λ past. absurd (omega (arith, past))) in
+      sym (ap (λ n. cond (nat_lt n (length xs)) (Some n) None) all
+      ∙ found_none (nat_lt (length xs) (length xs)) (length xs) refl)
   first_position (Some n) found =
-      let at : position_or_len p xs ≡ n = position_or_len_is p xs n 0 (omega (arith, found.0.high)) (λ k before. not_true _ (found.0.before k (omega arith) before)) (λ _. found.1) in
-      sym (ap (λ n. cond (nat_lt n (length xs)) (Some n) None) at ∙ found_first (nat_lt n (length xs)) n refl found.0.high)
+      let at : position_or_len p xs ≡ n =
+      position_or_len_is p xs n 0 (omega (arith, found.0.high))
+      (λ k before. not_true _ (found.0.before k (omega arith) before)) (λ _. found.1) in
+      sym (ap (λ n. cond (nat_lt n (length xs)) (Some n) None) at
+      ∙ found_first (nat_lt n (length xs)) n refl found.0.high)

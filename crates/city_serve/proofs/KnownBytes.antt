@@ -1,5 +1,6 @@
 -- Known bytes that are read or written part by part.
-use Rattle.std.proofs.Common.{◌≡◌, ◌≤◌, ◌+◌, ◌-◌, ℕ, List, ◌++◌, length, take, drop, Option, Some, None, IfSome, sym, ap, subst, ◌∙◌, append_assoc, append-nil, arith, length-append, length-drop}
+use Rattle.std.proofs.Common.{◌≡◌, ◌≤◌, ◌+◌, ◌-◌, ℕ, List, ◌++◌, length, take, drop, Option, Some, None, IfSome, sym}
+use Rattle.std.proofs.Common.{ap, subst, ◌∙◌, append_assoc, append-nil, arith, length-append, length-drop}
 use Rattle.std.proofs.lemmas.List.{length-take, take-append-drop, take-append-le, take_all}
 use Rattle.std.specs.Io.KnownBytes.{Appends, Consumes, IsAtEnd, Keeps}
 use Rattle.city_serve.specs.ServedTexts.{LosesAtMost, AppendsSome}
@@ -19,18 +20,22 @@ appends_more (Some xs) (Some ys) None a b h k = k
 appends_more (Some xs) (Some ys) (Some zs) a b h k = k ∙ ap (λ t. t ++ b) h ∙ append_assoc xs a b
 
 -- what was written so far is the first of the bytes
-pub some_appended : (u v : Option (List ℕ)) (done rest bytes : List ℕ) → done ++ rest ≡ bytes → Appends u v done → AppendsSome u v bytes
+pub some_appended : (u v : Option (List ℕ)) (done rest bytes : List ℕ) → done ++ rest ≡ bytes → Appends u v done
+    → AppendsSome u v bytes
 some_appended u v done rest bytes all h =
-    let first : take (length done) bytes ≡ done = ap (take (length done)) (sym all) ∙ take-append-le (length done) done rest (omega arith) ∙ take_all (length done) done (omega arith) in
+    let first : take (length done) bytes ≡ done = ap (take (length done)) (sym all)
+    ∙ take-append-le (length done) done rest (omega arith) ∙ take_all (length done) done (omega arith) in
     (length done, subst (Appends u v) (sym first) h)
 
 cut_off : (n : ℕ) (xs : List ℕ) → take (length xs - n) (drop n xs) ≡ drop n xs
 cut_off n xs = take_all (length xs - n) (drop n xs) (omega (arith, length-drop n xs))
 
 -- what was written, and what is left once n more are
-pub more_written : (done rest bytes : List ℕ) (n : ℕ) → done ++ rest ≡ bytes → (done ++ take n rest) ++ take (length rest - n) (drop n rest) ≡ bytes
+pub more_written : (done rest bytes : List ℕ) (n : ℕ) → done ++ rest ≡ bytes
+    → (done ++ take n rest) ++ take (length rest - n) (drop n rest) ≡ bytes
 more_written done rest bytes n all =
-    ap (λ t. (done ++ take n rest) ++ t) (cut_off n rest) ∙ append_assoc done (take n rest) (drop n rest) ∙ ap (λ t. done ++ t) (take-append-drop n rest) ∙ all
+    ap (λ t. (done ++ take n rest) ++ t) (cut_off n rest) ∙ append_assoc done (take n rest) (drop n rest)
+    ∙ ap (λ t. done ++ t) (take-append-drop n rest) ∙ all
 
 -- ---- reading
 
@@ -47,7 +52,8 @@ consumes_more (Some xs) (Some ys) None a b h k = k
 consumes_more (Some xs) (Some ys) (Some zs) a b h k = h ∙ ap (λ t. a ++ t) k ∙ sym (append_assoc a b zs)
 
 -- all that was there was read, and it was no more than the most
-pub all_read : (u v : Option (List ℕ)) (items : List ℕ) (most : ℕ) → Consumes u v items → IsAtEnd v → length items ≤ most → IfSome u (λ all. items ≡ take most all)
+pub all_read : (u v : Option (List ℕ)) (items : List ℕ) (most : ℕ) → Consumes u v items → IsAtEnd v
+    → length items ≤ most → IfSome u (λ all. items ≡ take most all)
 all_read None v items most h end within = tt
 all_read (Some xs) None items most h end within = absurd h
 all_read (Some xs) (Some ys) items most h end within =
@@ -55,20 +61,27 @@ all_read (Some xs) (Some ys) items most h end within =
     sym (ap (take most) whole ∙ take_all most items within)
 
 -- the most was read
-pub most_read : (u v : Option (List ℕ)) (items : List ℕ) (most : ℕ) → Consumes u v items → length items ≡ most → IfSome u (λ all. items ≡ take most all)
+pub most_read : (u v : Option (List ℕ)) (items : List ℕ) (most : ℕ) → Consumes u v items → length items ≡ most
+    → IfSome u (λ all. items ≡ take most all)
 most_read None v items most h full = tt
 most_read (Some xs) None items most h full = absurd h
 most_read (Some xs) (Some ys) items most h full =
-    sym (ap (take most) h ∙ take-append-le most items ys (omega (arith, full)) ∙ take_all most items (omega (arith, full)))
+    sym (ap (take most) h ∙ take-append-le most items ys (omega (arith, full))
+    ∙ take_all most items (omega (arith, full)))
 
 -- a read at the end gave nothing more
-pub end_read : (u v w : Option (List ℕ)) (items chunk : List ℕ) (n most : ℕ) → Consumes u v items → Consumes v w (take n chunk) → n ≡ 0 → IsAtEnd w → length items ≤ most
+pub end_read : (u v w : Option (List ℕ)) (items chunk : List ℕ) (n most : ℕ) → Consumes u v items
+    → Consumes v w (take n chunk) → n ≡ 0 → IsAtEnd w → length items ≤ most
     → IfSome u (λ all. items ≡ take most all)
 end_read u v w items chunk n most h k none end within =
     let nothing : items ++ take n chunk ≡ items = ap (λ m. items ++ take m chunk) none ∙ append-nil items in
     all_read u w items most (subst (Consumes u w) nothing (consumes_more u v w items (take n chunk) h k)) end within
 
 -- a read took no more than was still wanted
-pub loses_more : (u v w : Option (List ℕ)) (items chunk : List ℕ) (n most : ℕ) → Consumes u v items → Consumes v w (take n chunk) → length items + n ≤ most → LosesAtMost most u w
-loses_more u v w items chunk n most h k within =
-    (items ++ take n chunk, consumes_more u v w items (take n chunk) h k, omega (arith, length-append items (take n chunk), length-take n chunk))
+pub loses_more : (u v w : Option (List ℕ)) (items chunk : List ℕ) (n most : ℕ) → Consumes u v items
+    → Consumes v w (take n chunk) → length items + n ≤ most → LosesAtMost most u w
+loses_more u v w items chunk n most h k within = (
+  items ++ take n chunk,
+  consumes_more u v w items (take n chunk) h k,
+  omega (arith, length-append items (take n chunk), length-take n chunk),
+)

@@ -25,10 +25,10 @@ const PIECE: usize = 64 * 1024;
 /// the output.
 ///
 /// Workers are 1 to `MAX_WORKERS`, viewers 0 to `MAX_VIEWERS`. No more bytes are taken from the reader
-/// than 2 * `MAX_TEXT` + 2. Without a newline there are no scripts. Where the reader fails, or the run has no output, nothing is
-/// written; where the writer fails, it has got the first bytes of the output. `Read` and `Write` come only
-/// where the reader or the writer has failed, and where either fails in this call there is no `Ok`. The
-/// answer has, for each viewer, the numbers of changes that it saw.
+/// than 2 * `MAX_TEXT` + 2. Without a newline there are no scripts. Where the reader fails, or the run has no output,
+/// nothing is written; where the writer fails, it has got the first bytes of the output. `Read` and `Write` come only
+/// where the reader or the writer has failed, and where either fails in this call there is no `Ok`. The answer has,
+/// for each viewer, the numbers of changes that it saw.
 pub fn serve<T: Threads + Wait + Sync, R: Read, W: Write>(
     rt: &T,
     alloc: Global,

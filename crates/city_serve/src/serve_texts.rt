@@ -19,8 +19,8 @@ use std::thread::Threads;
 /// Runs the scripts of a text on a document, and writes the output.
 ///
 /// Workers are 1 to `MAX_WORKERS`, viewers 0 to `MAX_VIEWERS`. One worker without viewers runs the scripts
-/// in their order. The document is judged before the scripts. Where the run has no output, nothing is written; where the
-/// writer fails, it has got the first bytes of the output. The answer has, for each viewer, the numbers of
+/// in their order. The document is judged before the scripts. Where the run has no output, nothing is written; where
+/// the writer fails, it has got the first bytes of the output. The answer has, for each viewer, the numbers of
 /// changes that it saw.
 pub fn serve_texts<R: Threads + Wait + Sync, W: Write>(
     rt: &R,

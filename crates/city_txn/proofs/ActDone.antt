@@ -6,7 +6,8 @@ use Rattle.std.proofs.lemmas.Result.{on_ok_weaker}
 use Rattle.std.proofs.lemmas.Bool.{false≢true, eqb-true, cases_eq, and_parts}
 use Rattle.city_model.specs.declared.command.Cause.{Cause}
 use Rattle.city_model.specs.declared.command.Command.{Command}
-use Rattle.city_model.specs.declared.command.Command.TheVariants.{Read, Put, Delete, Attach, Detach, Mark, Back, Commit, Abort}
+use Rattle.city_model.specs.declared.command.Command.TheVariants.{Read, Put, Delete, Attach, Detach, Mark, Back, Commit}
+use Rattle.city_model.specs.declared.command.Command.TheVariants.{Abort}
 use Rattle.city_model.specs.declared.command.Reply.{Reply}
 use Rattle.city_model.specs.CityMap.{CityMap}
 use Rattle.city_model.specs.Marks.{Marked, View, unmarked}
@@ -49,7 +50,8 @@ use Rattle.city_txn.proofs.Answering.{went_back, written_alike}
 
 -- ---- no command done
 
-no_step : (result : Result Step TxnFault) (c : Command) (done : List Answered) → is_done result ≡ false → with_step result c done ≡ done
+no_step : (result : Result Step TxnFault) (c : Command) (done : List Answered) → is_done result ≡ false
+    → with_step result c done ≡ done
 no_step (Ok (steps.Done r)) c done h = absurd (false≢true (sym h))
 no_step (Ok steps.Wait) c done h = refl
 no_step (Ok steps.Die) c done h = refl
@@ -225,7 +227,8 @@ module _ (a : Inside) (k : IsCore a) (s : ℕ) (o : is_open (core_state a) s ≡
 
 -- ---- a call, of a core that is seen as v: its locks are asked for, and ks are the locks then
 
-module _ (a : Inside) (k : IsCore a) {v : CoreState} (known : core_state a ≡ v) (s : ℕ) (c : Command) (here : is_open v s ≡ true) (no_end : is_end c ≡ false) (ks : Locks) where
+module _ (a : Inside) (k : IsCore a) {v : CoreState} (known : core_state a ≡ v) (s : ℕ) (c : Command)
+    (here : is_open v s ≡ true) (no_end : is_end c ≡ false) (ks : Locks) where
   abbrev m : CityMap
   m = view (core_state a) s
 
@@ -240,7 +243,8 @@ module _ (a : Inside) (k : IsCore a) {v : CoreState} (known : core_state a ≡ v
         ≡ written (core_state a) s → is_done result ≡ false →
         IfOk result (λ step. step ≡ step_of (answer_in (core_state a) s c) (reply_in (core_state a) s c)) →
         IfErr result (λ e. e ≡ OutOfMemory) →
-        (answer_in (core_state a) s c ≢ Granted → AllHeld (held (core_state a) s) (granted_in (core_state a) s c) → IsOk result) →
+        (answer_in (core_state a) s c ≢ Granted → AllHeld (held (core_state a) s) (granted_in (core_state a) s c)
+        → IsOk result) →
         (finds_mark (snapshot (core_state a) s) c ≡ true → IsOk result) →
         OnOk result (IsBlocked (HoldsLock a.locks) s (answer_in (core_state a) s c)) →
         OnOk result (AllHeld (held_in ks s) (granted_in (core_state a) s c))

@@ -50,46 +50,58 @@ or_none (Some y) = refl
 
 at_first : {Y : Type 0} (id : List ℕ) (y : Option Y) (es : List (List ℕ × Y)) (q : List ℕ) →
     lookup (is_at (slice_cmp nat_cmp q)) (with_some id y es)
-    ≡ (if same_id q id then or_else y (lookup (is_at (slice_cmp nat_cmp q)) es) else lookup (is_at (slice_cmp nat_cmp q)) es)
+    ≡ (if same_id q id then or_else y (lookup (is_at (slice_cmp nat_cmp q)) es)
+    else lookup (is_at (slice_cmp nat_cmp q)) es)
 at_first id None es q = same_either_way (same_id q id) (lookup (is_at (slice_cmp nat_cmp q)) es)
 at_first id (Some y) es q = refl
 
-pub at_made : {X Y : Type 0} (f : List ℕ → X → Option Y) (es : List (List ℕ × X)) (q : List ℕ) → IsStrictlySortedBy (slice_cmp nat_cmp) (keys_of es) →
+pub at_made : {X Y : Type 0} (f : List ℕ → X → Option Y) (es : List (List ℕ × X)) (q : List ℕ)
+    → IsStrictlySortedBy (slice_cmp nat_cmp) (keys_of es) →
     lookup (is_at (slice_cmp nat_cmp q)) (made_by f es) ≡ through (f q) (lookup (is_at (slice_cmp nat_cmp q)) es)
 at_made f [] q s = refl
 at_made f (e ∷ es) q s = at_first e.0 (f e.0 e.1) (made_by f es) q ∙ by_id q e.0
     (λ is. let t : same_id q e.0 ≡ true = same_id_of_equal q e.0 is in
     let none : lookup (is_at (slice_cmp nat_cmp q)) es ≡ None =
-    lookup-none (is_at (slice_cmp nat_cmp q)) es (none_past_head {eq = eq_by_cmp (slice_cmp nat_cmp)} (eq_by_cmp_equiv nat_list_cmp_total) q e es (IsDistinct-from_sorted (slice_cmp nat_cmp) (keys_of (e ∷ es)) s) t) in
-    let rest : lookup (is_at (slice_cmp nat_cmp q)) (made_by f es) ≡ None = at_made f es q (sorted_tail (slice_cmp nat_cmp) e.0 (keys_of es) s) ∙ ap (through (f q)) none in
+    lookup-none (is_at (slice_cmp nat_cmp q)) es
+    (none_past_head {eq = eq_by_cmp (slice_cmp nat_cmp)} (eq_by_cmp_equiv nat_list_cmp_total) q e es
+    (IsDistinct-from_sorted (slice_cmp nat_cmp) (keys_of (e ∷ es)) s) t) in
+    let rest : lookup (is_at (slice_cmp nat_cmp q)) (made_by f es) ≡ None =
+    at_made f es q (sorted_tail (slice_cmp nat_cmp) e.0 (keys_of es) s) ∙ ap (through (f q)) none in
     rw (t, rest) (or_none (f e.0 e.1) ∙ ap (λ k. f k e.1) (sym is)))
     (λ apart. rw apart (at_made f es q (sorted_tail (slice_cmp nat_cmp) e.0 (keys_of es) s)))
 
 -- and ascend where those do
-above_step : {Y : Type 0} (k id : List ℕ) (y : Option Y) (es : List (List ℕ × Y)) → slice_cmp nat_cmp k id ≡ Less → AllByRecursion (λ j. slice_cmp nat_cmp k j ≡ Less) (keys_of es) →
+above_step : {Y : Type 0} (k id : List ℕ) (y : Option Y) (es : List (List ℕ × Y)) → slice_cmp nat_cmp k id ≡ Less
+    → AllByRecursion (λ j. slice_cmp nat_cmp k j ≡ Less) (keys_of es) →
     AllByRecursion (λ j. slice_cmp nat_cmp k j ≡ Less) (keys_of (with_some id y es))
 above_step k id None es l a = a
 above_step k id (Some y) es l a = (l, a)
 
-above_made : {X Y : Type 0} (f : List ℕ → X → Option Y) (k : List ℕ) (es : List (List ℕ × X)) → AllByRecursion (λ j. slice_cmp nat_cmp k j ≡ Less) (keys_of es) →
+above_made : {X Y : Type 0} (f : List ℕ → X → Option Y) (k : List ℕ) (es : List (List ℕ × X))
+    → AllByRecursion (λ j. slice_cmp nat_cmp k j ≡ Less) (keys_of es) →
     AllByRecursion (λ j. slice_cmp nat_cmp k j ≡ Less) (keys_of (made_by f es))
 above_made f k [] a = tt
 above_made f k (e ∷ es) a = above_step k e.0 (f e.0 e.1) (made_by f es) a.0 (above_made f k es a.1)
 
-sorted_step : {Y : Type 0} (id : List ℕ) (y : Option Y) (es : List (List ℕ × Y)) → AllByRecursion (λ j. slice_cmp nat_cmp id j ≡ Less) (keys_of es) →
-    IsStrictlySortedBy (slice_cmp nat_cmp) (keys_of es) → IsStrictlySortedBy (slice_cmp nat_cmp) (keys_of (with_some id y es))
+sorted_step : {Y : Type 0} (id : List ℕ) (y : Option Y) (es : List (List ℕ × Y))
+    → AllByRecursion (λ j. slice_cmp nat_cmp id j ≡ Less) (keys_of es) →
+    IsStrictlySortedBy (slice_cmp nat_cmp) (keys_of es)
+    → IsStrictlySortedBy (slice_cmp nat_cmp) (keys_of (with_some id y es))
 unfolding IsStrictlySortedBy
 sorted_step id None es a s = s
 sorted_step id (Some y) es a s = (a, s)
 
-pub sorted_made : {X Y : Type 0} (f : List ℕ → X → Option Y) (es : List (List ℕ × X)) → IsStrictlySortedBy (slice_cmp nat_cmp) (keys_of es) → IsStrictlySortedBy (slice_cmp nat_cmp) (keys_of (made_by f es))
+pub sorted_made : {X Y : Type 0} (f : List ℕ → X → Option Y) (es : List (List ℕ × X))
+    → IsStrictlySortedBy (slice_cmp nat_cmp) (keys_of es)
+    → IsStrictlySortedBy (slice_cmp nat_cmp) (keys_of (made_by f es))
 unfolding IsStrictlySortedBy
 sorted_made f [] s = s
 sorted_made f (e ∷ es) s = sorted_step e.0 (f e.0 e.1) (made_by f es) (above_made f e.0 es s.0) (sorted_made f es s.1)
 
 -- ---- the value at an id
 
-committed_point : (x : Option Object) (i : Option UndoImage) → (is_some i ≡ true → is_some x ≡ true) → through (λ o. committed_at (Some o) i) x ≡ committed_at x i
+committed_point : (x : Option Object) (i : Option UndoImage) → (is_some i ≡ true → is_some x ≡ true)
+    → through (λ o. committed_at (Some o) i) x ≡ committed_at x i
 committed_point (Some o) i h = refl
 committed_point None None h = refl
 committed_point None (Some i) h = absurd (false≢true (h refl))
@@ -105,28 +117,37 @@ here a q = object_at a.city.1 q
 module _ (a : Inside) (k : IsInPlace a) (q : List ℕ) where
   pub city_is : committed (state_of a) q ≡ committed_at (here a q) (image_at a.undo q)
   city_is =
-      ap (λ f. f q) (at_sorted (made_by (λ r o. committed_at (Some o) (image_at a.undo r)) (entries a.city.1)) (sorted_made (λ r o. committed_at (Some o) (image_at a.undo r)) (entries a.city.1) (entries_ascend a.city.1)))
+      ap (λ f. f q)
+      (at_sorted (made_by (λ r o. committed_at (Some o) (image_at a.undo r)) (entries a.city.1))
+      (sorted_made (λ r o. committed_at (Some o) (image_at a.undo r)) (entries a.city.1) (entries_ascend a.city.1)))
       ∙ at_made (λ r o. committed_at (Some o) (image_at a.undo r)) (entries a.city.1) q (entries_ascend a.city.1)
       ∙ ap (λ f. through (λ o. committed_at (Some o) (image_at a.undo q)) (f q)) (sym (at_entries a.city.1))
       ∙ committed_point (here a q) (image_at a.undo q) (k.has_slot q)
 
   pub writes_is : write_of (state_of a).writes q ≡ write_at (here a q) (image_at a.undo q)
   writes_is = at_made (λ r i. write_at (here a r) (Some i)) (entries a.undo.images) q (images_ascend a.undo.images)
-      ∙ ap (through (λ i. write_at (here a q) (Some i))) (sym (image_listed a.undo.images q)) ∙ write_point (here a q) (image_at a.undo q)
+      ∙ ap (through (λ i. write_at (here a q) (Some i))) (sym (image_listed a.undo.images q))
+      ∙ write_point (here a q) (image_at a.undo q)
 
-  pub view_is : (s : ℕ) → view (state_of a) s q ≡ own_or s (write_at (here a q) (image_at a.undo q)) (committed_at (here a q) (image_at a.undo q))
-  view_is s = ap (λ w. own_or s w (committed (state_of a) q)) writes_is ∙ ap (own_or s (write_at (here a q) (image_at a.undo q))) city_is
+  pub view_is : (s : ℕ)
+      → view (state_of a) s q ≡ own_or s (write_at (here a q) (image_at a.undo q))
+      (committed_at (here a q) (image_at a.undo q))
+  view_is s = ap (λ w. own_or s w (committed (state_of a) q)) writes_is
+      ∙ ap (own_or s (write_at (here a q) (image_at a.undo q))) city_is
 
 -- ---- what a transaction sees, from its image
 
-pub own_seen : (s : ℕ) (x : Option Object) (i : UndoImage) → (i.by == s) ≡ true → own_or s (write_at x (Some i)) (committed_at x (Some i)) ≡ seen_under x i
+pub own_seen : (s : ℕ) (x : Option Object) (i : UndoImage) → (i.by == s) ≡ true
+    → own_or s (write_at x (Some i)) (committed_at x (Some i)) ≡ seen_under x i
 own_seen s x i e = bool_cases i.unwritten (λ f. rw f refl) (λ f. rw (f, e) refl)
 
 -- the write of another
-pub own_committed : (s : ℕ) (x o : Option Object) (i : UndoImage) → (i.by == s) ≡ false → own_or s (write_at x (Some i)) o ≡ o
+pub own_committed : (s : ℕ) (x o : Option Object) (i : UndoImage) → (i.by == s) ≡ false
+    → own_or s (write_at x (Some i)) o ≡ o
 own_committed s x o i e = bool_cases i.unwritten (λ f. rw f refl) (λ f. rw (f, e) refl)
 
-pub seen_point : (s : ℕ) (x : Option Object) (i : UndoImage) → own_or s (write_at x (Some i)) (committed_at x (Some i)) ≡ seen_by s x i
+pub seen_point : (s : ℕ) (x : Option Object) (i : UndoImage)
+    → own_or s (write_at x (Some i)) (committed_at x (Some i)) ≡ seen_by s x i
 seen_point s x i = bool_cases (i.by == s)
     (λ e. bool_cases i.unwritten (λ f. rw (f, e) refl) (λ f. rw (f, e) refl))
     (λ e. bool_cases i.unwritten (λ f. rw (f, e) refl) (λ f. rw (f, e) refl))
@@ -140,7 +161,8 @@ all_made (e ∷ es) = ap (λ r. (e.0, e.1) ∷ r) (all_made es)
 -- with no image put back the city is as it is
 pub all_there : (objects : Objects) → from_sorted (made_by (λ r o. Some o) (entries objects)) ≡ objects
 all_there objects = ap (λ (es : Entries). from_sorted es) (all_made (entries objects))
-    ∙ same_objects (from_sorted (entries objects)) objects (at_sorted (entries objects) (entries_ascend objects) ∙ sym (at_entries objects))
+    ∙ same_objects (from_sorted (entries objects)) objects (at_sorted (entries objects) (entries_ascend objects)
+    ∙ sym (at_entries objects))
 
 no_image_listed : (images : Images) → entries images ≡ [] → (q : List ℕ) → get images q ≡ None
 no_image_listed images none q = image_listed images q ∙ ap (λ is. lookup (is_at (slice_cmp nat_cmp q)) is) none
@@ -149,7 +171,9 @@ pub new_state : (a : Inside) → entries a.undo.images ≡ [] → a.undo.reserva
     → state_of a ≡ record { frame = a.city.0; city = a.city.1; writes = []; opened = []; logs = [] }
 new_state a none shut unlogged i = record {
   frame = a.city.0;
-  city = ((λ j. from_sorted (made_by (λ r o. committed_at (Some o) (no_image_listed a.undo.images none r j)) (entries a.city.1))) ∙ all_there a.city.1) i;
+  city = ((λ j.
+      from_sorted (made_by (λ r o. committed_at (Some o) (no_image_listed a.undo.images none r j)) (entries a.city.1)))
+      ∙ all_there a.city.1) i;
   writes = ap (λ (is : List (List ℕ × UndoImage)). made_by (λ r j. write_at (here a r) (Some j)) is) none i;
   opened = shut i;
   logs = unlogged i;
@@ -158,7 +182,8 @@ new_state a none shut unlogged i = record {
 pub new_in_place : (a : Inside) → entries a.undo.images ≡ [] → a.undo.reservations ≡ [] → a.logs ≡ [] → IsInPlace a
 new_in_place a none shut unlogged = record {
   has_slot = λ id h. absurd (false≢true (sym (ap is_some (no_image_listed a.undo.images none id)) ∙ h));
-  listed = λ s id. ap (λ r. has_id (reservations_of r s) id) shut ∙ sym (ap (λ i. is_writer s (writer_of i)) (no_image_listed a.undo.images none id));
+  listed = λ s id. ap (λ r. has_id (reservations_of r s) id) shut
+      ∙ sym (ap (λ i. is_writer s (writer_of i)) (no_image_listed a.undo.images none id));
   noted = λ s id h. absurd (false≢true (sym (ap (λ ls. has_before (log_of ls s) id) unlogged) ∙ h));
 }
 

@@ -1,5 +1,6 @@
 -- What a transaction wrote, listed as a change, makes its view of the committed map.
-use Rattle.std.proofs.Common.{◌≡◌, ◌||◌, ◌==◌, ℕ, ◌+◌, ◌<◌, ◌≤◌, List, [], ◌∷◌, length, take, get_or, Bool, true, false, Option, None, Some, is_some, Result, Ok, Err, refl, ap, sym, subst, ◌∙◌, arith}
+use Rattle.std.proofs.Common.{◌≡◌, ◌||◌, ◌==◌, ℕ, ◌+◌, ◌<◌, ◌≤◌, List, [], ◌∷◌, length, take, get_or, Bool, true, false}
+use Rattle.std.proofs.Common.{Option, None, Some, is_some, Result, Ok, Err, refl, ap, sym, subst, ◌∙◌, arith}
 use Rattle.std.specs.Prelude.{if◌then◌else◌, IfOk}
 use Rattle.std.specs.Map.{lookup, keys_of}
 use Rattle.std.specs.Cmp.{eq_by_cmp_equiv}
@@ -37,7 +38,8 @@ use Rattle.city_txn.proofs.ImagesHeld.{images_ascend}
 
 -- ---- writes noted
 
-note_point : (a b : Bool) (w : Option (Option Object)) → (if a then or_else w (if b then w else None) else (if b then w else None)) ≡ (if b || a then w else None)
+note_point : (a b : Bool) (w : Option (Option Object))
+    → (if a then or_else w (if b then w else None) else (if b then w else None)) ≡ (if b || a then w else None)
 note_point true true None = refl
 note_point true true (Some x) = refl
 note_point true false None = refl
@@ -46,31 +48,38 @@ note_point false true w = refl
 note_point false false w = refl
 
 -- with one id more
-pub noted_more : (f x y : List ℕ → Option (Option Object)) (ids : List (List ℕ)) (i : ℕ) (id : List ℕ) → i < length ids → id ≡ get_or ids i id →
-    ((q : List ℕ) → x q ≡ (if has_id (take i ids) q then f q else None)) → ((q : List ℕ) → y q ≡ (if same_id id q then or_else (f id) (x q) else x q)) →
+pub noted_more : (f x y : List ℕ → Option (Option Object)) (ids : List (List ℕ)) (i : ℕ) (id : List ℕ) → i < length ids
+    → id ≡ get_or ids i id →
+    ((q : List ℕ) → x q ≡ (if has_id (take i ids) q then f q else None))
+    → ((q : List ℕ) → y q ≡ (if same_id id q then or_else (f id) (x q) else x q)) →
     (q : List ℕ) → y q ≡ (if has_id (take (i + 1) ids) q then f q else None)
 noted_more f x y ids i id lt is before step q =
     step q
     ∙ bool_cases (same_id id q)
     (λ e. ap (λ k. if same_id id q then or_else (f k) (x q) else x q) (same_id_true id q e))
-    (λ e. ap (λ b. if b then or_else (f id) (x q) else x q) e ∙ sym (ap (λ b. if b then or_else (f q) (x q) else x q) e))
+    (λ e. ap (λ b. if b then or_else (f id) (x q) else x q) e
+    ∙ sym (ap (λ b. if b then or_else (f q) (x q) else x q) e))
     ∙ ap (λ z. if same_id id q then or_else (f q) z else z) (before q)
     ∙ note_point (same_id id q) (has_id (take i ids) q) (f q)
     ∙ ap (λ b. if b then f q else None)
-    (ap (λ b. has_id (take i ids) q || b) (same_id_back id q ∙ ap (same_id q) is) ∙ sym (list_any_more (same_id q) ids i id lt))
+    (ap (λ b. has_id (take i ids) q || b) (same_id_back id q ∙ ap (same_id q) is)
+    ∙ sym (list_any_more (same_id q) ids i id lt))
 
 -- what is listed at the ids that the transaction has reserved is what it wrote
 either_none : {Y : Type 0} (b : Bool) → ◌≡◌ {A = Option Y} (if b then None else None) None
 either_none true = refl
 either_none false = refl
 
-own_point : (s : ℕ) (x : Option Object) (i : Option UndoImage) → (if is_writer s (writer_of i) then written_at x i else None) ≡ own_write s (write_at x i)
+own_point : (s : ℕ) (x : Option Object) (i : Option UndoImage)
+    → (if is_writer s (writer_of i) then written_at x i else None) ≡ own_write s (write_at x i)
 own_point s x None = refl
 own_point s x (Some i) = bool_cases i.unwritten (λ e. rw e (either_none (i.by == s))) (λ e. rw e refl)
 
 pub own_written : (a : Inside) → IsInPlace a → (s : ℕ) (q : List ℕ) →
-    (if has_id (reservations_of a.undo.reservations s) q then written_at (here a q) (image_at a.undo q) else None) ≡ own_write s (write_of (state_of a).writes q)
-own_written a k s q = ap (λ b. if b then written_at (here a q) (image_at a.undo q) else None) (k.listed s q) ∙ own_point s (here a q) (image_at a.undo q) ∙ sym (ap (own_write s) (writes_is a k q))
+    (if has_id (reservations_of a.undo.reservations s) q then written_at (here a q) (image_at a.undo q) else None)
+    ≡ own_write s (write_of (state_of a).writes q)
+own_written a k s q = ap (λ b. if b then written_at (here a q) (image_at a.undo q) else None) (k.listed s q)
+    ∙ own_point s (here a q) (image_at a.undo q) ∙ sym (ap (own_write s) (writes_is a k q))
 
 pub if_ok : {A E : Type 0} {P Q : A → Type 0} (r : Result A E) → ((x : A) → P x → Q x) → IfOk r P → IfOk r Q
 if_ok (Ok x) f p = f x p
@@ -79,27 +88,33 @@ if_ok (Err e) f p = tt
 -- ---- the writes of a transaction among all of them
 
 pub writes_ascend : (a : Inside) → IsStrictlySortedBy (slice_cmp nat_cmp) (keys_of (state_of a).writes)
-writes_ascend a = sorted_made (λ id i. write_at (here a id) (Some i)) (entries a.undo.images) (images_ascend a.undo.images)
+writes_ascend a =
+    sorted_made (λ id i. write_at (here a id) (Some i)) (entries a.undo.images) (images_ascend a.undo.images)
 
 own_through : (s : ℕ) (x : Option Write) → through (λ w. own_write s (Some w)) x ≡ own_write s x
 own_through s None = refl
 own_through s (Some w) = refl
 
-pub own_listed : (s : ℕ) (ws : List (List ℕ × Write)) (q : List ℕ) → IsStrictlySortedBy (slice_cmp nat_cmp) (keys_of ws) →
+pub own_listed : (s : ℕ) (ws : List (List ℕ × Write)) (q : List ℕ) → IsStrictlySortedBy (slice_cmp nat_cmp) (keys_of ws)
+    →
     lookup (is_at (slice_cmp nat_cmp q)) (change_in ws s) ≡ own_write s (write_of ws q)
 own_listed s ws q sorted = at_made (λ id w. own_write s (Some w)) ws q sorted ∙ own_through s (write_of ws q)
 
-pub own_ascend : (s : ℕ) (ws : List (List ℕ × Write)) → IsStrictlySortedBy (slice_cmp nat_cmp) (keys_of ws) → IsStrictlySortedBy (slice_cmp nat_cmp) (keys_of (change_in ws s))
+pub own_ascend : (s : ℕ) (ws : List (List ℕ × Write)) → IsStrictlySortedBy (slice_cmp nat_cmp) (keys_of ws)
+    → IsStrictlySortedBy (slice_cmp nat_cmp) (keys_of (change_in ws s))
 own_ascend s ws sorted = sorted_made (λ id w. own_write s (Some w)) ws sorted
 
 -- what holds of none holds of no one of them
-none_at : (p : List ℕ → Bool) (ids : List (List ℕ)) (q : List ℕ) → list_any p ids ≡ false → has_id ids q ≡ true → p q ≡ false
+none_at : (p : List ℕ → Bool) (ids : List (List ℕ)) (q : List ℕ) → list_any p ids ≡ false → has_id ids q ≡ true
+    → p q ≡ false
 none_at p [] q h k = absurd (false≢true k)
 none_at p (x ∷ xs) q h k =
     let parts = or_parts (p x) (list_any p xs) h in
-    bool_cases (same_id q x) (λ e. ap p (same_id_true q x e) ∙ parts.0) (λ e. none_at p xs q parts.1 (sym (ap (λ b. b || has_id xs q) e) ∙ k))
+    bool_cases (same_id q x) (λ e. ap p (same_id_true q x e) ∙ parts.0)
+    (λ e. none_at p xs q parts.1 (sym (ap (λ b. b || has_id xs q) e) ∙ k))
 
-pub no_orphan_at : (ids : List (List ℕ)) (f : List ℕ → Option (Option Object)) (q : List ℕ) → list_any (λ id. is_orphan_written (f id)) ids ≡ false →
+pub no_orphan_at : (ids : List (List ℕ)) (f : List ℕ → Option (Option Object)) (q : List ℕ)
+    → list_any (λ id. is_orphan_written (f id)) ids ≡ false →
     is_orphan_written (if has_id ids q then f q else None) ≡ false
 no_orphan_at ids f q h = bool_cases (has_id ids q)
     (λ e. ap (λ b. is_orphan_written (if b then f q else None)) e ∙ none_at (λ id. is_orphan_written (f id)) ids q h e)
@@ -107,27 +122,34 @@ no_orphan_at ids f q h = bool_cases (has_id ids q)
 
 -- ---- its objects
 
-orphan_here : (id : List ℕ) (x : Option Object) (es : List (List ℕ × Object)) → is_orphan_there x ≡ true → first_orphan (with_some id x es) ≡ Some id
+orphan_here : (id : List ℕ) (x : Option Object) (es : List (List ℕ × Object)) → is_orphan_there x ≡ true
+    → first_orphan (with_some id x es) ≡ Some id
 orphan_here id None es h = cc
 orphan_here id (Some o) es h = ap (λ b. if b then Some id else first_orphan es) h
 
 -- the first of what is left is an orphan
-pub orphan_first : (left : Change) (w : List ℕ × Option Object) → 1 ≤ length left → w ≡ get_or left 0 w → is_orphan_there w.1 ≡ true → first_orphan (objects_in left) ≡ Some w.0
+pub orphan_first : (left : Change) (w : List ℕ × Option Object) → 1 ≤ length left → w ≡ get_or left 0 w
+    → is_orphan_there w.1 ≡ true → first_orphan (objects_in left) ≡ Some w.0
 orphan_first [] w some is h = absurd (omega arith)
-orphan_first (x ∷ xs) w some is h = orphan_here x.0 x.1 (objects_in xs) (ap (λ y. is_orphan_there y.1) (sym is) ∙ h) ∙ ap (λ y. Some y.0) (sym is)
+orphan_first (x ∷ xs) w some is h = orphan_here x.0 x.1 (objects_in xs) (ap (λ y. is_orphan_there y.1) (sym is) ∙ h)
+    ∙ ap (λ y. Some y.0) (sym is)
 
 pub none_left : (left : Change) → length left < 1 → first_orphan (objects_in left) ≡ None
 none_left [] none = refl
 none_left (x ∷ xs) none = absurd (omega arith)
 
-objects_ascend : (c : Change) → IsStrictlySortedBy (slice_cmp nat_cmp) (keys_of c) → IsStrictlySortedBy (slice_cmp nat_cmp) (keys_of (objects_in c))
+objects_ascend : (c : Change) → IsStrictlySortedBy (slice_cmp nat_cmp) (keys_of c)
+    → IsStrictlySortedBy (slice_cmp nat_cmp) (keys_of (objects_in c))
 objects_ascend c s = sorted_made (λ id object. object) c s
 
-pub least_in_change : (c : Change) (id : List ℕ) → IsStrictlySortedBy (slice_cmp nat_cmp) (keys_of c) → first_orphan (objects_in c) ≡ Some id → IsLeastOrphan (found_in (objects_in c)) id
+pub least_in_change : (c : Change) (id : List ℕ) → IsStrictlySortedBy (slice_cmp nat_cmp) (keys_of c)
+    → first_orphan (objects_in c) ≡ Some id → IsLeastOrphan (found_in (objects_in c)) id
 least_in_change c id s e = subst (λ (m : CityMap). IsLeastOrphan m id) (at_sorted (objects_in c) (objects_ascend c s))
-    (is_least_orphan (from_sorted (objects_in c)) id (ap first_orphan (entries_of (objects_in c) (objects_ascend c s)) ∙ e))
+    (is_least_orphan (from_sorted (objects_in c)) id (ap first_orphan (entries_of (objects_in c) (objects_ascend c s))
+    ∙ e))
 
-pub none_in_change : (c : Change) → IsStrictlySortedBy (slice_cmp nat_cmp) (keys_of c) → first_orphan (objects_in c) ≡ None → HasNoOrphan (found_in (objects_in c))
+pub none_in_change : (c : Change) → IsStrictlySortedBy (slice_cmp nat_cmp) (keys_of c)
+    → first_orphan (objects_in c) ≡ None → HasNoOrphan (found_in (objects_in c))
 none_in_change c s e = subst (λ (m : CityMap). HasNoOrphan m) (at_sorted (objects_in c) (objects_ascend c s))
     (has_no_orphan (from_sorted (objects_in c)) (ap first_orphan (entries_of (objects_in c) (objects_ascend c s)) ∙ e))
 
@@ -138,17 +160,22 @@ abbrev over : Option (Option Object) → Option Object → Option Object
 over None o = o
 over (Some w) o = w
 
-changed_by : (c : Change) (m : CityMap) (q : List ℕ) → IsStrictlySortedBy (slice_cmp nat_cmp) (keys_of c) → after_change m c q ≡ over (lookup (is_at (slice_cmp nat_cmp q)) c) (m q)
+changed_by : (c : Change) (m : CityMap) (q : List ℕ) → IsStrictlySortedBy (slice_cmp nat_cmp) (keys_of c)
+    → after_change m c q ≡ over (lookup (is_at (slice_cmp nat_cmp q)) c) (m q)
 changed_by [] m q s = refl
 changed_by (w ∷ ws) m q s =
     let rest = lookup (is_at (slice_cmp nat_cmp q)) ws in
-    changed_by ws (changed m w.0 w.1) q (sorted_tail (slice_cmp nat_cmp) w.0 (keys_of ws) s) ∙ bool_cases (same_id q w.0)
+    changed_by ws (changed m w.0 w.1) q (sorted_tail (slice_cmp nat_cmp) w.0 (keys_of ws) s)
+    ∙ bool_cases (same_id q w.0)
     (λ t. let none : rest ≡ None =
-    lookup-none (is_at (slice_cmp nat_cmp q)) ws (none_past_head {eq = eq_by_cmp (slice_cmp nat_cmp)} (eq_by_cmp_equiv nat_list_cmp_total) q w ws (IsDistinct-from_sorted (slice_cmp nat_cmp) (keys_of (w ∷ ws)) s) t) in
+    lookup-none (is_at (slice_cmp nat_cmp q)) ws
+    (none_past_head {eq = eq_by_cmp (slice_cmp nat_cmp)} (eq_by_cmp_equiv nat_list_cmp_total) q w ws
+    (IsDistinct-from_sorted (slice_cmp nat_cmp) (keys_of (w ∷ ws)) s) t) in
     rw (none, same_id_back w.0 q, t) refl)
     (λ t. rw (same_id_back w.0 q, t) refl)
 
-key_listed : {Y : Type 0} (es : List (List ℕ × Y)) (q : List ℕ) → has_id (keys_of es) q ≡ is_some (lookup (is_at (slice_cmp nat_cmp q)) es)
+key_listed : {Y : Type 0} (es : List (List ℕ × Y)) (q : List ℕ)
+    → has_id (keys_of es) q ≡ is_some (lookup (is_at (slice_cmp nat_cmp q)) es)
 key_listed [] q = refl
 key_listed (e ∷ es) q = bool_cases (same_id q e.0) (λ t. rw t refl) (λ t. rw t (key_listed es q))
 
@@ -162,20 +189,24 @@ own_by s (Some w) = bool_cases (w.0 == s) (λ e. rw e refl) (λ e. rw e refl)
 
 -- ---- orphans
 
-over_cases : {A : Type 0} (x : Option (Option Object)) (y : Option Object) (o : Object) → over x y ≡ Some o → (through (λ z. z) x ≡ Some o → A) → (y ≡ Some o → A) → A
+over_cases : {A : Type 0} (x : Option (Option Object)) (y : Option Object) (o : Object) → over x y ≡ Some o
+    → (through (λ z. z) x ≡ Some o → A) → (y ≡ Some o → A) → A
 over_cases None y o h f g = g h
 over_cases (Some w) y o h f g = f h
 
-over_written : (x : Option (Option Object)) (y : Option Object) (o : Object) → through (λ z. z) x ≡ Some o → over x y ≡ Some o
+over_written : (x : Option (Option Object)) (y : Option Object) (o : Object) → through (λ z. z) x ≡ Some o
+    → over x y ≡ Some o
 over_written None y o h = absurd (cc)
 over_written (Some w) y o h = h
 
-orphan_through : (x : Option (Option Object)) (o : Object) → through (λ z. z) x ≡ Some o → is_orphan_written x ≡ false → is_orphan o ≡ false
+orphan_through : (x : Option (Option Object)) (o : Object) → through (λ z. z) x ≡ Some o → is_orphan_written x ≡ false
+    → is_orphan o ≡ false
 orphan_through None o is h = absurd (cc)
 orphan_through (Some y) o is h = sym (ap is_orphan_there is) ∙ h
 
 -- the change has what the transaction wrote, in byte order; no object of the committed map is an orphan
-module _ (v : CoreState) (s : ℕ) (c : Change) (lists : (q : List ℕ) → lookup (is_at (slice_cmp nat_cmp q)) c ≡ own_write s (write_of v.writes q))
+module _ (v : CoreState) (s : ℕ) (c : Change) (lists : (q : List ℕ)
+    → lookup (is_at (slice_cmp nat_cmp q)) c ≡ own_write s (write_of v.writes q))
     (sorted : IsStrictlySortedBy (slice_cmp nat_cmp) (keys_of c)) (none : HasNoOrphan (committed v)) where
   view_over : (q : List ℕ) → view v s q ≡ over (lookup (is_at (slice_cmp nat_cmp q)) c) (committed v q)
   view_over q = own_over s (write_of v.writes q) (committed v q) ∙ sym (ap (λ x. over x (committed v q)) (lists q))
@@ -183,18 +214,29 @@ module _ (v : CoreState) (s : ℕ) (c : Change) (lists : (q : List ℕ) → look
   objects_at : (q : List ℕ) → found_in (objects_in c) q ≡ through (λ z. z) (lookup (is_at (slice_cmp nat_cmp q)) c)
   objects_at q = at_made (λ id object. object) c q sorted
 
-  not_orphan : (q : List ℕ) (o : Object) → view v s q ≡ Some o → (found_in (objects_in c) q ≡ Some o → is_orphan o ≡ false) → is_orphan o ≡ false
-  not_orphan q o is f = over_cases (lookup (is_at (slice_cmp nat_cmp q)) c) (committed v q) o (sym (view_over q) ∙ is) (λ h. f (objects_at q ∙ h)) (λ h. none q o h)
+  not_orphan : (q : List ℕ) (o : Object) → view v s q ≡ Some o
+      → (found_in (objects_in c) q ≡ Some o → is_orphan o ≡ false) → is_orphan o ≡ false
+  not_orphan q o is f =
+      over_cases (lookup (is_at (slice_cmp nat_cmp q)) c) (committed v q) o (sym (view_over q) ∙ is)
+      (λ h. f (objects_at q ∙ h)) (λ h. none q o h)
 
   pub least_of_view : (id : List ℕ) → IsLeastOrphan (found_in (objects_in c)) id → IsLeastOrphan (view v s) id
   least_of_view id l = (
-    (l.0.0, view_over id ∙ over_written (lookup (is_at (slice_cmp nat_cmp id)) c) (committed v id) l.0.0 (sym (objects_at id) ∙ l.0.1), l.0.2),
+    (
+      l.0.0,
+      view_over id
+          ∙ over_written (lookup (is_at (slice_cmp nat_cmp id)) c) (committed v id) l.0.0 (sym (objects_at id) ∙ l.0.1),
+      l.0.2,
+    ),
     λ q less h. over_cases (lookup (is_at (slice_cmp nat_cmp q)) c) (committed v q) h.0 (sym (view_over q) ∙ h.1)
         (λ t. l.1 q less (h.0, objects_at q ∙ t, h.2)) (λ t. false≢true (sym (none q h.0 t) ∙ h.2)),
   )
 
-  pub no_orphan_listed : ((q : List ℕ) → is_orphan_written (own_write s (write_of v.writes q)) ≡ false) → HasNoOrphan (found_in (objects_in c))
-  no_orphan_listed h q o is = orphan_through (lookup (is_at (slice_cmp nat_cmp q)) c) o (sym (objects_at q) ∙ is) (ap is_orphan_written (lists q) ∙ h q)
+  pub no_orphan_listed : ((q : List ℕ) → is_orphan_written (own_write s (write_of v.writes q)) ≡ false)
+      → HasNoOrphan (found_in (objects_in c))
+  no_orphan_listed h q o is =
+      orphan_through (lookup (is_at (slice_cmp nat_cmp q)) c) o (sym (objects_at q) ∙ is)
+      (ap is_orphan_written (lists q) ∙ h q)
 
   pub is_change_to : IsLawful (view v s) → IsChangeOf v s c
   is_change_to lawful = record {

@@ -1,5 +1,6 @@
 -- A core by its fields: opened, begun, and after a commit or an abort.
-use Rattle.std.proofs.Common.{◌≡◌, ◌==◌, ◌||◌, ℕ, List, [], ◌∷◌, Bool, true, false, Option, None, Some, is_some, refl, ap, sym, ◌∙◌, subst}
+use Rattle.std.proofs.Common.{◌≡◌, ◌==◌, ◌||◌, ℕ, List, [], ◌∷◌, Bool, true, false, Option, None, Some, is_some, refl}
+use Rattle.std.proofs.Common.{ap, sym, ◌∙◌, subst}
 use Rattle.std.specs.Prelude.{if◌then◌else◌, cond}
 use Rattle.std.specs.List.{list_any}
 use Rattle.std.specs.Map.{keys_of, lookup}
@@ -21,23 +22,28 @@ use Rattle.city_txn.specs.Writes.{Write, write_of, own_or, own_write, is_by}
 use Rattle.city_txn.specs.UndoLog.{log_of, marked, has_before, marks_with}
 use Rattle.city_model.specs.Marks.{unmarked}
 use Rattle.city_model.specs.Standing.{Answered, covers}
-use Rattle.city_txn.specs.CoreState.{CoreState, committed, view, own, written, snapshot, is_open, held, held_in, StandsUnderLocks, KeepsOthers, IsTransactionEnd, IsRolledBack}
+use Rattle.city_txn.specs.CoreState.{CoreState, committed, view, own, written, snapshot, is_open, held, held_in}
+use Rattle.city_txn.specs.CoreState.{StandsUnderLocks, KeepsOthers, IsTransactionEnd, IsRolledBack}
 use Rattle.city_txn.specs.inside.Core.{core_state, IsCore, IsConsistent}
 use Rattle.city_txn.specs.declared.txn_core.Core.TheInside.{Inside}
 use Rattle.city_txn.proofs.AtOneId.{tied}
-use Rattle.city_txn.proofs.Ended.{Ended, own_not, is_over, stands_committed, committed_consistent, seen_undone, stands_aborted, aborted_consistent}
+use Rattle.city_txn.proofs.Ended.{Ended, own_not, is_over, stands_committed, committed_consistent, seen_undone}
+use Rattle.city_txn.proofs.Ended.{stands_aborted, aborted_consistent}
 use Rattle.city_txn.proofs.SeenWrites.{written_same, seen_same}
 
 -- ---- which stamps are open
 
-either : (b : Bool) (r : List (List ℕ)) (o : Option (List (List ℕ))) → (b || is_some o) ≡ is_some (if b then Some r else o)
+either : (b : Bool) (r : List (List ℕ)) (o : Option (List (List ℕ)))
+    → (b || is_some o) ≡ is_some (if b then Some r else o)
 either true r o = refl
 either false r o = refl
 
-listed_open : (opened : List (ℕ × List (List ℕ))) (s : ℕ) → list_any (λ t. s == t) (keys_of opened) ≡ is_some (lookup (is_at (nat_cmp s)) opened)
+listed_open : (opened : List (ℕ × List (List ℕ))) (s : ℕ)
+    → list_any (λ t. s == t) (keys_of opened) ≡ is_some (lookup (is_at (nat_cmp s)) opened)
 listed_open [] s = refl
 listed_open (e ∷ es) s =
-    ap (λ b. b || list_any (λ t. s == t) (keys_of es)) (sym (tied s e.0)) ∙ ap (λ b. is_at (nat_cmp s) e.0 || b) (listed_open es s)
+    ap (λ b. b || list_any (λ t. s == t) (keys_of es)) (sym (tied s e.0))
+    ∙ ap (λ b. is_at (nat_cmp s) e.0 || b) (listed_open es s)
     ∙ either (is_at (nat_cmp s) e.0) e.1 (lookup (is_at (nat_cmp s)) es)
 
 pub open_is : (a : Inside) (s : ℕ) → is_open (core_state a) s ≡ store.is_open a.store s
@@ -75,15 +81,20 @@ not_by s None h = refl
 not_by s (Some w) h = h w refl
 
 -- what isn't open holds nothing and wrote nothing
-pub shut_unlocked : (v : CoreState) (s : ℕ) (q : List ℕ) → IsConsistent v → is_open v s ≡ false → mode_of v.locks s q ≡ None
+pub shut_unlocked : (v : CoreState) (s : ℕ) (q : List ℕ) → IsConsistent v → is_open v s ≡ false
+    → mode_of v.locks s q ≡ None
 shut_unlocked v s q c h = none_from (mode_of v.locks s q) (λ e. false≢true (sym h ∙ c.open_only s q e))
 
-shut_writer : (v : CoreState) (s : ℕ) (q : List ℕ) → IsConsistent v → is_open v s ≡ false → (w : Write) → write_of v.writes q ≡ Some w → (w.0 == s) ≡ false
+shut_writer : (v : CoreState) (s : ℕ) (q : List ℕ) → IsConsistent v → is_open v s ≡ false → (w : Write)
+    → write_of v.writes q ≡ Some w → (w.0 == s) ≡ false
 shut_writer v s q c h w e = bool_cases (w.0 == s)
-    (λ f. absurd (none-some Exclusive (sym (shut_unlocked v s q c h) ∙ ap (λ k. mode_of v.locks k q) (sym (eqb-true w.0 s f)) ∙ c.locked q w e)))
+    (λ f. absurd
+    (none-some Exclusive (sym (shut_unlocked v s q c h) ∙ ap (λ k. mode_of v.locks k q) (sym (eqb-true w.0 s f))
+    ∙ c.locked q w e)))
     (λ f. f)
 
-pub shut_unwritten : (v : CoreState) (s : ℕ) (q : List ℕ) → IsConsistent v → is_open v s ≡ false → is_by s (write_of v.writes q) ≡ false
+pub shut_unwritten : (v : CoreState) (s : ℕ) (q : List ℕ) → IsConsistent v → is_open v s ≡ false
+    → is_by s (write_of v.writes q) ≡ false
 shut_unwritten v s q c h = not_by s (write_of v.writes q) (shut_writer v s q c h)
 
 pub record Begun (s : ℕ) (v : CoreState) (b : Inside) : Type 0 where
@@ -111,20 +122,28 @@ module _ (a b : Inside) (k : IsCore a) {v : CoreState} (known : core_state a ≡
   -- the new one did nothing, so it sees the committed map
   begun_own : StandsUnderLocks (core_state b) s []
   begun_own =
-      let none : (q : List ℕ) → own_or s (write_of b.store.writes q) (object_at b.store.city q) ≡ object_at b.store.city q =
+      let none : (q : List ℕ)
+      → own_or s (write_of b.store.writes q) (object_at b.store.city q) ≡ object_at b.store.city q =
       λ q. own_not s (write_of b.store.writes q) (object_at b.store.city q)
       (λ w e. shut_writer (core_state a) s q k.state was_shut w (ap (λ ws. write_of ws q) (sym begins.writes) ∙ e)) in
-      λ i. record { map = λ q. none q i; marks = marks_with (object_at b.store.city) (marked (begun_unmarked i) (own (core_state b) s)) }
+      λ i. record {
+        map = λ q. none q i;
+        marks = marks_with (object_at b.store.city) (marked (begun_unmarked i) (own (core_state b) s));
+      }
 
   begun_written : (t : ℕ) → written (core_state b) t ≡ written (core_state a) t
   begun_written t = written_same (core_state a) (core_state b) t
       (λ q. ap (λ ws. own_write t (write_of ws q)) begins.writes) (ap (λ ls. log_of ls t) begins.logs)
 
-  begun_stands : (t : ℕ) (done : List Answered) → StandsUnderLocks (core_state a) t done → StandsUnderLocks (core_state b) t done
-  begun_stands t done f = follows_same (held (core_state a) t) (held (core_state b) t) (unmarked (committed (core_state a))) (unmarked (committed (core_state b))) done
+  begun_stands : (t : ℕ) (done : List Answered) → StandsUnderLocks (core_state a) t done
+      → StandsUnderLocks (core_state b) t done
+  begun_stands t done f =
+      follows_same (held (core_state a) t) (held (core_state b) t) (unmarked (committed (core_state a)))
+      (unmarked (committed (core_state b))) done
       (snapshot (core_state a) t) (snapshot (core_state b) t)
       (λ q c h. ap (λ hs. covers (held_in hs t q) c) locks ∙ h)
-      (λ i. unmarked (object_at (sym begins.city i))) (sym (seen_same (core_state a) (core_state b) t (ap object_at begins.city) (begun_written t))) f
+      (λ i. unmarked (object_at (sym begins.city i)))
+      (sym (seen_same (core_state a) (core_state b) t (ap object_at begins.city) (begun_written t))) f
 
   begun_keeps : KeepsOthers s v (core_state b)
   begun_keeps = subst (λ u. KeepsOthers s u (core_state b)) known (record {
@@ -137,10 +156,13 @@ module _ (a b : Inside) (k : IsCore a) {v : CoreState} (known : core_state a ≡
   begun_core = record {
     state = record {
       lawful = subst Lawful (sym locks) k.state.lawful;
-      locked = λ q w e. ap (λ hs. mode_of hs w.0 q) locks ∙ k.state.locked q w (ap (λ ws. write_of ws q) (sym begins.writes) ∙ e);
+      locked = λ q w e. ap (λ hs. mode_of hs w.0 q) locks
+          ∙ k.state.locked q w (ap (λ ws. write_of ws q) (sym begins.writes) ∙ e);
       marks_locked = λ t q h. ap (λ hs. mode_of hs t q) locks
           ∙ k.state.marks_locked t q (ap (λ ls. has_before (log_of ls t) q) (sym begins.logs) ∙ h);
-      open_only = λ t q h. begun_open t ∙ or_right (s == t) (is_open (core_state a) t) (k.state.open_only t q (ap (λ hs. is_some (mode_of hs t q)) (sym locks) ∙ h));
+      open_only = λ t q h. begun_open t
+          ∙ or_right (s == t) (is_open (core_state a) t)
+          (k.state.open_only t q (ap (λ hs. is_some (mode_of hs t q)) (sym locks) ∙ h));
       marks_open = λ t h. ap (λ ls. log_of ls t) begins.logs
           ∙ k.state.marks_open t (or_parts (s == t) (is_open (core_state a) t) (sym (begun_open t) ∙ h)).1;
       city = subst (λ es. IsLawful (object_at es)) (sym begins.city) k.state.city;
@@ -166,7 +188,8 @@ none_left true c h = absurd (false≢true h)
 none_left false c h = (refl, h)
 
 module _ (a b : Inside) (k : IsCore a) (s : ℕ) (f : Forgets s a.store b.store)
-    (modes : (t : ℕ) (q : List ℕ) → mode_of b.locks t q ≡ cond (s == t) None (mode_of a.locks t q)) (lawful : Lawful b.locks) where
+    (modes : (t : ℕ) (q : List ℕ) → mode_of b.locks t q ≡ cond (s == t) None (mode_of a.locks t q))
+    (lawful : Lawful b.locks) where
   ended : Ended s (core_state a) (core_state b)
   ended = record {
     writes = f.writes;
@@ -183,7 +206,9 @@ module _ (a b : Inside) (k : IsCore a) (s : ℕ) (f : Forgets s a.store b.store)
 
   module _ (city : store.committed b.store ≡ store.view a.store s) where
     pub committed_over : IsTransactionEnd s (core_state a) (core_state b)
-    committed_over = is_over s (core_state a) (core_state b) ended f.frame (λ t done ne g. stands_committed s t (core_state a) (core_state b) done k.state ended city ne g)
+    committed_over =
+        is_over s (core_state a) (core_state b) ended f.frame
+        (λ t done ne g. stands_committed s t (core_state a) (core_state b) done k.state ended city ne g)
 
     pub committed_core : HasNoOrphan (view (core_state a) s) → IsCore b
     committed_core orphans =
@@ -198,7 +223,8 @@ module _ (a b : Inside) (k : IsCore a) (s : ℕ) (f : Forgets s a.store b.store)
     undone = record {
       city = city;
       views = λ t ne. seen_undone s t (core_state a) (core_state b) ended city ne;
-      over = is_over s (core_state a) (core_state b) ended f.frame (λ t done ne g. stands_aborted s t (core_state a) (core_state b) done ended city ne g);
+      over = is_over s (core_state a) (core_state b) ended f.frame
+          (λ t done ne g. stands_aborted s t (core_state a) (core_state b) done ended city ne g);
     }
 
     pub undone_core : IsCore b

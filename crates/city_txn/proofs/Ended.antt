@@ -1,5 +1,6 @@
 -- What the end of a transaction leaves: a commit and an abort keep what the others' commands stand on.
-use Rattle.std.proofs.Common.{◌≡◌, ◌==◌, ℕ, List, [], true, false, Option, None, Some, is_some, refl, ap, sym, ◌∙◌, subst, inl, inr}
+use Rattle.std.proofs.Common.{◌≡◌, ◌==◌, ℕ, List, [], true, false, Option, None, Some, is_some, refl, ap, sym, ◌∙◌}
+use Rattle.std.proofs.Common.{subst, inl, inr}
 use Rattle.std.specs.Prelude.{if◌then◌else◌, unwrap_or, cond}
 use Rattle.std.proofs.lemmas.Option.{none-some}
 use Rattle.std.proofs.lemmas.Bool.{false≢true, eqb-true, eqb-false, eq-eqb, ne_eqb, cases_eq}
@@ -18,9 +19,11 @@ use Rattle.city_txn.specs.Writes.{Write, write_of, own_or, unless_by}
 use Rattle.city_txn.specs.UndoLog.{log_of, marked, has_before, map_with}
 use Rattle.city_txn.specs.inside.LogTests.{view_with}
 use Rattle.city_model.specs.Standing.{Held, Answered, IsTraceUnderLocks, covers}
-use Rattle.city_txn.specs.CoreState.{CoreState, committed, view, own, written, snapshot, is_open, held, StandsUnderLocks, IsTransactionEnd}
+use Rattle.city_txn.specs.CoreState.{CoreState, committed, view, own, written, snapshot, is_open, held}
+use Rattle.city_txn.specs.CoreState.{StandsUnderLocks, IsTransactionEnd}
 use Rattle.city_txn.specs.inside.Core.{IsConsistent}
-use Rattle.city_txn.proofs.SeenWrites.{seen_with, seen_same, written_same, own_covered, marks_covered, view_carried, own_left, own_gone}
+use Rattle.city_txn.proofs.SeenWrites.{seen_with, seen_same, written_same, own_covered, marks_covered, view_carried}
+use Rattle.city_txn.proofs.SeenWrites.{own_left, own_gone}
 
 pub held_exclusively : (o : Option Mode) → covers o Exclusive ≡ true → o ≡ Some Exclusive
 held_exclusively None h = absurd (false≢true h)
@@ -29,12 +32,14 @@ held_exclusively (Some Exclusive) h = refl
 
 -- everything that is seen is sound
 pub sound_seen : (v : CoreState) (s : ℕ) → IsConsistent v → IsSoundView (snapshot v s)
-sound_seen v s c = follows_sound (held v s) (unmarked (committed v)) (c.history s).0 (snapshot v s) (c.city.0, tt) (c.history s).1
+sound_seen v s c =
+    follows_sound (held v s) (unmarked (committed v)) (c.history s).0 (snapshot v s) (c.city.0, tt) (c.history s).1
 
 pub sound_view : (v : CoreState) (s : ℕ) → IsConsistent v → IsSound (view v s)
 sound_view v s c = (sound_seen v s c).0
 
-pub own_not : (s : ℕ) (x : Option Write) (o : Option Object) → ((w : Write) → x ≡ Some w → (w.0 == s) ≡ false) → own_or s x o ≡ o
+pub own_not : (s : ℕ) (x : Option Write) (o : Option Object) → ((w : Write) → x ≡ Some w → (w.0 == s) ≡ false)
+    → own_or s x o ≡ o
 own_not s None o h = refl
 own_not s (Some w) o h = rw (h w refl) refl
 
@@ -65,31 +70,41 @@ pub record Ended (s : ℕ) (v w : CoreState) : Type 0 where
 same_held : (s t : ℕ) (v w : CoreState) → Ended s v w → (s == t) ≡ false → held v t ≡ held w t
 same_held s t v w k ne = λ i q. sym (k.locks t q ∙ ap (λ b. cond b None (mode_of v.locks t q)) ne) i
 
-ended_locked : (s : ℕ) (v w : CoreState) → IsConsistent v → Ended s v w → (q : List ℕ) (x : Write) → write_of w.writes q ≡ Some x → mode_of w.locks x.0 q ≡ Some Exclusive
+ended_locked : (s : ℕ) (v w : CoreState) → IsConsistent v → Ended s v w → (q : List ℕ) (x : Write)
+    → write_of w.writes q ≡ Some x → mode_of w.locks x.0 q ≡ Some Exclusive
 ended_locked s v w c k q x e =
     let l = left_over s (write_of v.writes q) x (sym (k.writes q) ∙ e) in
     k.locks x.0 q ∙ ap (λ b. cond b None (mode_of v.locks x.0 q)) l.1 ∙ c.locked q x l.0
 
-ended_open : (s : ℕ) (v w : CoreState) → IsConsistent v → Ended s v w → (t : ℕ) (q : List ℕ) → is_some (mode_of w.locks t q) ≡ true → is_open w t ≡ true
+ended_open : (s : ℕ) (v w : CoreState) → IsConsistent v → Ended s v w → (t : ℕ) (q : List ℕ)
+    → is_some (mode_of w.locks t q) ≡ true → is_open w t ≡ true
 ended_open s v w c k t q h = bool_cases (s == t)
     (λ e. absurd (false≢true (sym (ap is_some (k.locks t q ∙ ap (λ b. cond b None (mode_of v.locks t q)) e)) ∙ h)))
-    (λ e. k.opened t ∙ ap (λ b. if b then false else is_open v t) e ∙ c.open_only t q (sym (ap is_some (k.locks t q ∙ ap (λ b. cond b None (mode_of v.locks t q)) e)) ∙ h))
+    (λ e. k.opened t ∙ ap (λ b. if b then false else is_open v t) e
+    ∙ c.open_only t q (sym (ap is_some (k.locks t q ∙ ap (λ b. cond b None (mode_of v.locks t q)) e)) ∙ h))
 
-ended_marks_locked : (s : ℕ) (v w : CoreState) → IsConsistent v → Ended s v w → (t : ℕ) (q : List ℕ) → has_before (log_of w.logs t) q ≡ true → mode_of w.locks t q ≡ Some Exclusive
+ended_marks_locked : (s : ℕ) (v w : CoreState) → IsConsistent v → Ended s v w → (t : ℕ) (q : List ℕ)
+    → has_before (log_of w.logs t) q ≡ true → mode_of w.locks t q ≡ Some Exclusive
 ended_marks_locked s v w c k t q h = bool_cases (s == t)
-    (λ e. absurd (false≢true (sym (ap (λ es. has_before es q) (k.marks t ∙ ap (λ b. if b then [] else log_of v.logs t) e)) ∙ h)))
+    (λ e. absurd
+    (false≢true (sym (ap (λ es. has_before es q) (k.marks t ∙ ap (λ b. if b then [] else log_of v.logs t) e)) ∙ h)))
     (λ e. k.locks t q ∙ ap (λ b. cond b None (mode_of v.locks t q)) e
-    ∙ c.marks_locked t q (sym (ap (λ es. has_before es q) (k.marks t ∙ ap (λ b. if b then [] else log_of v.logs t) e)) ∙ h))
+    ∙ c.marks_locked t q (sym (ap (λ es. has_before es q) (k.marks t ∙ ap (λ b. if b then [] else log_of v.logs t) e))
+    ∙ h))
 
-ended_marks_open : (s : ℕ) (v w : CoreState) → IsConsistent v → Ended s v w → (t : ℕ) → is_open w t ≡ false → log_of w.logs t ≡ []
+ended_marks_open : (s : ℕ) (v w : CoreState) → IsConsistent v → Ended s v w → (t : ℕ) → is_open w t ≡ false
+    → log_of w.logs t ≡ []
 ended_marks_open s v w c k t h = bool_cases (s == t)
     (λ e. k.marks t ∙ ap (λ b. if b then [] else log_of v.logs t) e)
-    (λ e. k.marks t ∙ ap (λ b. if b then [] else log_of v.logs t) e ∙ c.marks_open t (sym (k.opened t ∙ ap (λ b. if b then false else is_open v t) e) ∙ h))
+    (λ e. k.marks t ∙ ap (λ b. if b then [] else log_of v.logs t) e
+    ∙ c.marks_open t (sym (k.opened t ∙ ap (λ b. if b then false else is_open v t) e) ∙ h))
 
 -- where another holds anything, s wrote nothing
-unwritten : (v : CoreState) (s t : ℕ) (q : List ℕ) → IsConsistent v → (s == t) ≡ false → is_some (held v t q) ≡ true → (w : Write) → write_of v.writes q ≡ Some w → (w.0 == s) ≡ false
+unwritten : (v : CoreState) (s t : ℕ) (q : List ℕ) → IsConsistent v → (s == t) ≡ false → is_some (held v t q) ≡ true
+    → (w : Write) → write_of v.writes q ≡ Some w → (w.0 == s) ≡ false
 unwritten v s t q c ne h w e = bool_cases (w.0 == s)
-    (λ f. let x : mode_of v.locks s q ≡ Some Exclusive = ap (λ k. mode_of v.locks k q) (sym (eqb-true w.0 s f)) ∙ c.locked q w e in
+    (λ f. let x : mode_of v.locks s q ≡ Some Exclusive = ap (λ k. mode_of v.locks k q) (sym (eqb-true w.0 s f))
+    ∙ c.locked q w e in
     let none : mode_of v.locks t q ≡ None = c.lawful s t q (eqb-false s t ne) x in
     absurd (false≢true (ap (λ o. is_some o) (sym none) ∙ h)))
     (λ f. f)
@@ -97,8 +112,10 @@ unwritten v s t q c ne h w e = bool_cases (w.0 == s)
 -- s itself sees what is committed
 nothing_done : (s : ℕ) (v w : CoreState) → Ended s v w → StandsUnderLocks w s []
 nothing_done s v w k =
-    let none : (q : List ℕ) → own w s q ≡ None = λ q. own_gone s (write_of w.writes q) (write_of v.writes q) (k.writes q) in
-    let at_one : (q : List ℕ) → map_with (committed w) (own w s) q ≡ committed w q = λ q. ap (λ o. unwrap_or o (committed w q)) (none q) in
+    let none : (q : List ℕ) → own w s q ≡ None =
+    λ q. own_gone s (write_of w.writes q) (write_of v.writes q) (k.writes q) in
+    let at_one : (q : List ℕ) → map_with (committed w) (own w s) q ≡ committed w q =
+    λ q. ap (λ o. unwrap_or o (committed w q)) (none q) in
     let no_marks : log_of w.logs s ≡ [] = k.marks s ∙ ap (λ b. if b then [] else log_of v.logs s) (eq-eqb s s refl) in
     seen_with w s ∙ ap (λ es. view_with (committed w) (own w s, marked es (own w s))) no_marks
     ∙ ap (λ (m : CityMap). unmarked m) (λ i q. at_one q i)
@@ -109,22 +126,30 @@ others_written s t v w k ne = written_same v w t
     (λ q. own_left s t (write_of w.writes q) (write_of v.writes q) ne (k.writes q))
     (k.marks t ∙ ap (λ b. if b then [] else log_of v.logs t) ne)
 
-pub is_over : (s : ℕ) (v w : CoreState) → Ended s v w → w.frame ≡ v.frame → ((t : ℕ) (done : List Answered) → (s == t) ≡ false → StandsUnderLocks v t done → StandsUnderLocks w t done) → IsTransactionEnd s v w
+pub is_over : (s : ℕ) (v w : CoreState) → Ended s v w → w.frame ≡ v.frame
+    → ((t : ℕ) (done : List Answered) → (s == t) ≡ false → StandsUnderLocks v t done → StandsUnderLocks w t done)
+    → IsTransactionEnd s v w
 is_over s v w k frame stands = record {
   writes = k.writes;
   marks = k.marks;
   locks = k.locks;
   closed = k.opened s ∙ ap (λ b. if b then false else is_open v s) (eq-eqb s s refl);
-  keeps = record { frame = frame; opened = λ t ne. k.opened t ∙ ap (λ b. if b then false else is_open v t) ne; others = stands };
+  keeps = record {
+    frame = frame;
+    opened = λ t ne. k.opened t ∙ ap (λ b. if b then false else is_open v t) ne;
+    others = stands;
+  };
 }
 
 -- ---- a commit
 
-pub stands_committed : (s t : ℕ) (v w : CoreState) (done : List Answered) → IsConsistent v → Ended s v w → committed w ≡ view v s →
+pub stands_committed : (s t : ℕ) (v w : CoreState) (done : List Answered) → IsConsistent v → Ended s v w
+    → committed w ≡ view v s →
     (s == t) ≡ false → StandsUnderLocks v t done → StandsUnderLocks w t done
 stands_committed s t v w done c k city ne f =
     let agree : (q : List ℕ) → is_some (held v t q) ≡ true → committed v q ≡ committed w q =
-    λ q h. sym (ap (λ (m : CityMap). m q) city ∙ own_not s (write_of v.writes q) (object_at v.city q) (unwritten v s t q c ne h)) in
+    λ q h. sym (ap (λ (m : CityMap). m q) city
+    ∙ own_not s (write_of v.writes q) (object_at v.city q) (unwritten v s t q c ne h)) in
     let same : carried (held v t) (committed w) (snapshot v t) ≡ snapshot w t =
     ap (carried (held v t) (committed w)) (seen_with v t)
     ∙ view_carried (held v t) (committed v) (committed w)
@@ -133,9 +158,11 @@ stands_committed s t v w done c k city ne f =
     ∙ ap (view_with (committed w)) (sym (others_written s t v w k ne)) ∙ sym (seen_with w t) in
     subst (λ (h : Held). IsTraceUnderLocks h (unmarked (committed w)) done (snapshot w t)) (same_held s t v w k ne)
     (subst (λ (x : View). IsTraceUnderLocks (held v t) (unmarked (committed w)) done x) same
-    (history_kept (held v t) (committed v) (committed w) done (snapshot v t) c.city.0 (subst IsSound (sym city) (sound_view v s c)) agree f))
+    (history_kept (held v t) (committed v) (committed w) done (snapshot v t) c.city.0
+    (subst IsSound (sym city) (sound_view v s c)) agree f))
 
-pub committed_consistent : (s : ℕ) (v w : CoreState) → IsConsistent v → Ended s v w → committed w ≡ view v s → HasNoOrphan (view v s) → IsConsistent w
+pub committed_consistent : (s : ℕ) (v w : CoreState) → IsConsistent v → Ended s v w → committed w ≡ view v s
+    → HasNoOrphan (view v s) → IsConsistent w
 committed_consistent s v w c k city orphans = record {
   lawful = k.lawful;
   locked = ended_locked s v w c k;
@@ -151,17 +178,20 @@ committed_consistent s v w c k city orphans = record {
 
 -- ---- an abort
 
-pub seen_undone : (s t : ℕ) (v w : CoreState) → Ended s v w → committed w ≡ committed v → (s == t) ≡ false → snapshot w t ≡ snapshot v t
+pub seen_undone : (s t : ℕ) (v w : CoreState) → Ended s v w → committed w ≡ committed v → (s == t) ≡ false
+    → snapshot w t ≡ snapshot v t
 seen_undone s t v w k city ne = seen_same v w t city (others_written s t v w k ne)
 
 pub stands_aborted : (s t : ℕ) (v w : CoreState) (done : List Answered) → Ended s v w → committed w ≡ committed v →
     (s == t) ≡ false → StandsUnderLocks v t done → StandsUnderLocks w t done
 stands_aborted s t v w done k city ne f =
-    follows_same (held v t) (held w t) (unmarked (committed v)) (unmarked (committed w)) done (snapshot v t) (snapshot w t)
+    follows_same (held v t) (held w t) (unmarked (committed v)) (unmarked (committed w)) done (snapshot v t)
+    (snapshot w t)
     (λ q b h. ap (λ (g : Held). covers (g q) b) (sym (same_held s t v w k ne)) ∙ h)
     (ap (λ (m : CityMap). unmarked m) (sym city)) (sym (seen_undone s t v w k city ne)) f
 
-pub aborted_consistent : (s : ℕ) (v w : CoreState) → IsConsistent v → Ended s v w → committed w ≡ committed v → IsConsistent w
+pub aborted_consistent : (s : ℕ) (v w : CoreState) → IsConsistent v → Ended s v w → committed w ≡ committed v
+    → IsConsistent w
 aborted_consistent s v w c k city = record {
   lawful = k.lawful;
   locked = ended_locked s v w c k;

@@ -143,30 +143,41 @@ all_granted hs s (l ∷ ls) e =
 
 -- ---- locks that give a stamp the same answers
 
-same_first : (s : ℕ) (hs ks : Locks) (ls : List Lock) → ((q : List ℕ) (n : Mode) → answer_of ks s q n ≡ answer_of hs s q n) → first_answer ks s ls ≡ first_answer hs s ls
+same_first : (s : ℕ) (hs ks : Locks) (ls : List Lock)
+    → ((q : List ℕ) (n : Mode) → answer_of ks s q n ≡ answer_of hs s q n) → first_answer ks s ls ≡ first_answer hs s ls
 same_first s hs ks [] e = refl
-same_first s hs ks (l ∷ ls) e = ap (λ a. go_on a (first_answer ks s ls)) (e l.0 l.1) ∙ ap (go_on (answer_of hs s l.0 l.1)) (same_first s hs ks ls e)
+same_first s hs ks (l ∷ ls) e = ap (λ a. go_on a (first_answer ks s ls)) (e l.0 l.1)
+    ∙ ap (go_on (answer_of hs s l.0 l.1)) (same_first s hs ks ls e)
 
-same_before : (s : ℕ) (hs ks : Locks) (ls : List Lock) → ((q : List ℕ) (n : Mode) → answer_of ks s q n ≡ answer_of hs s q n) → granted_before ks s ls ≡ granted_before hs s ls
+same_before : (s : ℕ) (hs ks : Locks) (ls : List Lock)
+    → ((q : List ℕ) (n : Mode) → answer_of ks s q n ≡ answer_of hs s q n)
+    → granted_before ks s ls ≡ granted_before hs s ls
 same_before s hs ks [] e = refl
-same_before s hs ks (l ∷ ls) e = ap (λ a. first_if a l (granted_before ks s ls)) (e l.0 l.1) ∙ ap (first_if (answer_of hs s l.0 l.1) l) (same_before s hs ks ls e)
+same_before s hs ks (l ∷ ls) e = ap (λ a. first_if a l (granted_before ks s ls)) (e l.0 l.1)
+    ∙ ap (first_if (answer_of hs s l.0 l.1) l) (same_before s hs ks ls e)
 
 -- ---- who holds a lock that the stamp is refused
 
-pub blocked_weaker : (P Q : ℕ → Type 0) (s : ℕ) → ((t : ℕ) → s ≢ t → P t → Q t) → (a : Answer) → IsBlocked P s a → IsBlocked Q s a
+pub blocked_weaker : (P Q : ℕ → Type 0) (s : ℕ) → ((t : ℕ) → s ≢ t → P t → Q t) → (a : Answer) → IsBlocked P s a
+    → IsBlocked Q s a
 blocked_weaker P Q s f Granted b = tt
 blocked_weaker P Q s f Wait b = (b.0, b.1, f b.0 (ne_of_lt b.1) b.2)
 blocked_weaker P Q s f Die b = (b.0, b.1, f b.0 (ne_of_gt b.1) b.2)
 
 -- another holds a lock after the stamp has gained one only if it did before
-held_before : (s : ℕ) (id : List ℕ) (m : Mode) (hs ks : Locks) → Adds s id m hs ks → (t : ℕ) → s ≢ t → HoldsLock ks t → HoldsLock hs t
-held_before s id m hs ks adds t ne h = (h.0, ap is_some (sym (mode_of_another s id m hs ks adds t h.0 (ne_eqb s t ne))) ∙ h.1)
+held_before : (s : ℕ) (id : List ℕ) (m : Mode) (hs ks : Locks) → Adds s id m hs ks → (t : ℕ) → s ≢ t → HoldsLock ks t
+    → HoldsLock hs t
+held_before s id m hs ks adds t ne h =
+    (h.0, ap is_some (sym (mode_of_another s id m hs ks adds t h.0 (ne_eqb s t ne))) ∙ h.1)
 
-still_all_held : (s : ℕ) (id : List ℕ) (m : Mode) (hs ks : Locks) → Adds s id m hs ks → (ls : List Lock) → AllHeld (held_in hs s) ls → AllHeld (held_in ks s) ls
+still_all_held : (s : ℕ) (id : List ℕ) (m : Mode) (hs ks : Locks) → Adds s id m hs ks → (ls : List Lock)
+    → AllHeld (held_in hs s) ls → AllHeld (held_in ks s) ls
 still_all_held s id m hs ks adds [] h = tt
-still_all_held s id m hs ks adds (l ∷ ls) h = (still_held s id m hs ks adds l.0 l.1 h.0, still_all_held s id m hs ks adds ls h.1)
+still_all_held s id m hs ks adds (l ∷ ls) h =
+    (still_held s id m hs ks adds l.0 l.1 h.0, still_all_held s id m hs ks adds ls h.1)
 
-wait_die_blocked : (hs : Locks) (s : ℕ) (id : List ℕ) (m : Mode) (a : Answer) → IsWaitDie (IsInConflict hs s id m) s a → IsBlocked (HoldsLock hs) s a
+wait_die_blocked : (hs : Locks) (s : ℕ) (id : List ℕ) (m : Mode) (a : Answer) → IsWaitDie (IsInConflict hs s id m) s a
+    → IsBlocked (HoldsLock hs) s a
 wait_die_blocked hs s id m Granted w = tt
 wait_die_blocked hs s id m Wait w =
     let found = w.wait.0 refl in
@@ -196,13 +207,16 @@ module _ (s : ℕ) (id : List ℕ) (m : Mode) (hs ks : Locks) (ls : List Lock) w
   all = (id, m) ∷ ls
 
   -- it is granted, and the others are asked for
-  pub asked_granted : {E : Type 0} (r : Result Answer E) (us : Locks) → answer_of hs s id m ≡ Granted → Adds s id m hs ks → Lawful ks →
+  pub asked_granted : {E : Type 0} (r : Result Answer E) (us : Locks) → answer_of hs s id m ≡ Granted
+      → Adds s id m hs ks → Lawful ks →
       ((q : List ℕ) (n : Mode) → answer_of ks s q n ≡ answer_of hs s q n) → Asked s ls r ks us → Asked s all r hs us
   asked_granted {E} r us granted adds lawful own a =
       let here : answer_of hs s id m ≡ Granted = granted in
-      let first : first_answer ks s ls ≡ first_answer hs s all = same_first s hs ks ls own ∙ sym (ap (λ x. go_on x (first_answer hs s ls)) here) in
+      let first : first_answer ks s ls ≡ first_answer hs s all = same_first s hs ks ls own
+      ∙ sym (ap (λ x. go_on x (first_answer hs s ls)) here) in
       let before : granted_before hs s all ≡ (id, m) ∷ granted_before ks s ls =
-      ap (λ x. first_if x (id, m) (granted_before hs s ls)) here ∙ ap (λ bs. (id, m) ∷ bs) (sym (same_before s hs ks ls own)) in
+      ap (λ x. first_if x (id, m) (granted_before hs s ls)) here
+      ∙ ap (λ bs. (id, m) ∷ bs) (sym (same_before s hs ks ls own)) in
       let held : covers (held_in us s id) m ≡ true = a.gains.locks.more id m (asked_held s id m hs ks adds) in
       record {
         answer = subst (λ x. IfOk r (λ y. y ≡ x)) first a.answer;
@@ -216,40 +230,47 @@ module _ (s : ℕ) (id : List ℕ) (m : Mode) (hs ks : Locks) (ls : List Lock) w
         held = on_ok_weaker r (λ h. subst (AllHeld (held_in us s)) (sym before) (held, h)) a.held;
         blocked = IfOk-weaker r (IsBlocked (HoldsLock ks) s) (IsBlocked (HoldsLock hs) s)
             (blocked_weaker (HoldsLock ks) (HoldsLock hs) s (held_before s id m hs ks adds)) a.blocked;
-        answered = λ h. a.answered (still_all_held s id m hs ks adds (granted_before ks s ls) (subst (AllHeld (held_in hs s)) before h).1);
+        answered = λ h.
+            a.answered
+            (still_all_held s id m hs ks adds (granted_before ks s ls) (subst (AllHeld (held_in hs s)) before h).1);
       }
 
   -- it isn't granted, and the others aren't asked for
-  pub asked_refused : {E : Type 0} (a : Answer) → a ≡ answer_of hs s id m → a ≢ Granted → (answer_of hs s id m ≢ Granted → ks ≡ hs) →
+  pub asked_refused : {E : Type 0} (a : Answer) → a ≡ answer_of hs s id m → a ≢ Granted
+      → (answer_of hs s id m ≢ Granted → ks ≡ hs) →
       IsWaitDie (IsInConflict hs s id m) s a → Asked {E = E} s all (Ok a) hs ks
   asked_refused {E} a is refused same w =
       let here : answer_of hs s id m ≡ a = sym is in
-      let none : granted_before hs s all ≡ [] = ap (λ x. first_if x (id, m) (granted_before hs s ls)) here ∙ none_before a (id, m) (granted_before hs s ls) refused in
+      let none : granted_before hs s all ≡ [] = ap (λ x. first_if x (id, m) (granted_before hs s ls)) here
+      ∙ none_before a (id, m) (granted_before hs s ls) refused in
       record {
         answer = sym (ap (λ x. go_on x (first_answer hs s ls)) here ∙ refused_first a (first_answer hs s ls) refused);
-        gains = subst (GainsFirst s (granted_before hs s all) hs) (sym (same (λ e. refused (is ∙ e)))) (gains_nothing s (granted_before hs s all) hs);
+        gains = subst (GainsFirst s (granted_before hs s all) hs) (sym (same (λ e. refused (is ∙ e))))
+            (gains_nothing s (granted_before hs s all) hs);
         held = subst (AllHeld (held_in ks s)) (sym none) tt;
         blocked = wait_die_blocked hs s id m a w;
         answered = λ h. refl;
       }
 
   -- no memory for it, which would be granted and wasn't held
-  pub asked_failed : {E : Type 0} (r : Result Answer E) → IsErr r → ks ≡ hs → answer_of hs s id m ≡ Granted → mode_of hs s id ≡ None → Asked s all r hs ks
-  asked_failed {E} (Ok a) bad same granted unheld = absurd (false≢true bad)
-  asked_failed {E} (Err e) bad same granted unheld = record {
+  pub asked_failed : {E : Type 0} (r : Result Answer E) → IsErr r → ks ≡ hs → answer_of hs s id m ≡ Granted
+      → mode_of hs s id ≡ None → Asked s all r hs ks
+  asked_failed {E} (Ok a) bad same is_granted unheld = absurd (false≢true bad)
+  asked_failed {E} (Err e) bad same is_granted unheld = record {
     answer = tt;
     gains = subst (GainsFirst s (granted_before hs s all) hs) (sym same) (gains_nothing s (granted_before hs s all) hs);
     held = tt;
     blocked = tt;
     answered = λ h.
-        let here : answer_of hs s id m ≡ Granted = granted in
+        let here : answer_of hs s id m ≡ Granted = is_granted in
         let held = subst (AllHeld (held_in hs s)) (ap (λ x. first_if x (id, m) (granted_before hs s ls)) here) h in
         absurd (false≢true (sym (ap (λ o. covers o m) unheld) ∙ held.0));
   }
 
 -- no lock asked for
 pub asked_none : {E : Type 0} (s : ℕ) (hs : Locks) → Asked {E = E} s [] (Ok Granted) hs hs
-asked_none {E} s hs = record { answer = refl; gains = gains_nothing s [] hs; held = tt; blocked = tt; answered = λ h. refl }
+asked_none {E} s hs =
+    record { answer = refl; gains = gains_nothing s [] hs; held = tt; blocked = tt; answered = λ h. refl }
 
 -- the ids that are left at an index
 pub exclusive_left : (ids : List (List ℕ)) (i : ℕ) (id : List ℕ) → i < length ids → id ≡ get_or ids i id →

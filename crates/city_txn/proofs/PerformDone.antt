@@ -17,7 +17,8 @@ use Rattle.city_model.specs.inside.Plans.{AreOf, AreWritesOf}
 use Rattle.city_model.specs.Runs.{Change}
 use Rattle.city_model.specs.Scripts.{is_mark}
 use Rattle.city_model.specs.Standing.{locks_id_exclusively}
-use Rattle.city_model.specs.inside.CommandParts.{back_cause, cause_of, effect_of, done_reply, map_unless, refused_or, after}
+use Rattle.city_model.specs.inside.CommandParts.{back_cause, cause_of, effect_of, done_reply, map_unless, refused_or}
+use Rattle.city_model.specs.inside.CommandParts.{after}
 use Rattle.city_model.proofs.MarksKept.{from_mapped, plain, plain_answer}
 use Rattle.city_txn.specs.inside.State.{State, own, written, committed, view, Touches}
 use Rattle.city_txn.specs.Writes.{Write, write_of, own_write}
@@ -32,7 +33,8 @@ use Rattle.city_txn.proofs.UndoLogs.{no_mark_from, mark_is_there}
 -- ---- marks
 
 -- the marks that are seen from the newest of the name on
-seen_from : (m : CityMap) (name : List ℕ) (ks : List (List ℕ × OwnWrites)) → marks_from name (marks_with m ks) ≡ marks_with m (marks_from name ks)
+seen_from : (m : CityMap) (name : List ℕ) (ks : List (List ℕ × OwnWrites))
+    → marks_from name (marks_with m ks) ≡ marks_with m (marks_from name ks)
 seen_from m name ks = from_mapped (map_with m) name ks
 
 lost_back : (s : ℕ) (name : List ℕ) (v : State) → has_mark (log_of v.logs s) name ≡ false
@@ -110,7 +112,8 @@ refused_performed s c cause v plain_one why =
 pub lost_plain : (s : ℕ) (c : Command) (v : State) → is_mark c ≡ false → finds_mark (seen v s) c ≡ false
 lost_plain s c v plain_one = ap (λ k. finds_as k (seen v s).marks) (plain c plain_one)
 
-own_written : (s : ℕ) (b : Bool) (x : Option Object) (y : Option Write) → own_write s (if b then Some (s, x) else y) ≡ (if b then Some x else own_write s y)
+own_written : (s : ℕ) (b : Bool) (x : Option Object) (y : Option Write)
+    → own_write s (if b then Some (s, x) else y) ≡ (if b then Some x else own_write s y)
 own_written s true x y = ap (λ b. if b then Some x else None) (eq-eqb s s refl)
 own_written s false x y = refl
 
@@ -132,15 +135,19 @@ module _ (s : ℕ) (c : Command) (r : Reply) (change : Change) (v w : State) (pl
     touches = touched;
   }
 
-  pub written_performed : {E : Type 0} → ((f : CityMap) → AreOf f change → (q : List ℕ) → write_of w.writes q ≡ (if plans change q then Some (s, f q) else write_of v.writes q))
+  pub written_performed : {E : Type 0}
+      → ((f : CityMap) → AreOf f change → (q : List ℕ)
+      → write_of w.writes q ≡ (if plans change q then Some (s, f q) else write_of v.writes q))
       → IsPerform {E = E} s c (Ok r) v w
   written_performed done =
       let m = view v s in
       let made : effect_of m c ≡ after m c = sym (ap (λ x. map_unless x m (effect_of m c)) is.allowed) in
       let all : AreOf (after m c) change = subst (λ (n : CityMap). AreOf n change) made is.objects in
-      let writes : (q : List ℕ) → plans change q ≡ writes_id m c q = λ q. is.ids q ∙ sym (ap (λ x. is_none x && locks_id_exclusively (locks_of m c) q) is.allowed) in
+      let writes : (q : List ℕ) → plans change q ≡ writes_id m c q = λ q. is.ids q
+      ∙ sym (ap (λ x. is_none x && locks_id_exclusively (locks_of m c) q) is.allowed) in
       let at_one : (q : List ℕ) → own w s q ≡ own_done m (own v s) c q =
-      λ q. ap (own_write s) (done (after m c) all q) ∙ own_written s (plans change q) (after m c q) (write_of v.writes q)
+      λ q. ap (own_write s) (done (after m c) all q)
+      ∙ own_written s (plans change q) (after m c q) (write_of v.writes q)
       ∙ ap (λ b. if b then Some (after m c q) else own v s q) (writes q) in
       record {
         reply = sym is.reply

@@ -1,5 +1,6 @@
 -- An attach, a detach and a delete in place: what was written at the parent is edited, and the child is written.
-use Rattle.std.proofs.Common.{◌≡◌, ◌==◌, ◌&&◌, ◌||◌, ℕ, List, length, true, false, Option, None, Some, Result, Ok, refl, ap, sym, ◌∙◌}
+use Rattle.std.proofs.Common.{◌≡◌, ◌==◌, ◌&&◌, ◌||◌, ℕ, List, length, true, false, Option, None, Some, Result, Ok, refl}
+use Rattle.std.proofs.Common.{ap, sym, ◌∙◌}
 use Rattle.std.specs.Prelude.{if◌then◌else◌, option_map, IsErr}
 use Rattle.std.proofs.lemmas.Bool.{false≢true, eqb-true, eq-eqb, or_left, or_right, and_parts, and_from}
 use Rattle.city_model.specs.declared.object.Object.{Object}
@@ -24,13 +25,17 @@ use Rattle.city_txn.proofs.UndoLogs.{marked_same, noted_if_empty}
 
 -- ---- the write of the parent, edited
 
-edited_write : (s : ℕ) (f : Object → Object) (y : Option Write) (o : Option Object) → is_by s y ≡ true → option_map (rewritten f) y ≡ Some (s, option_map f (own_or s y o))
+edited_write : (s : ℕ) (f : Object → Object) (y : Option Write) (o : Option Object) → is_by s y ≡ true
+    → option_map (rewritten f) y ≡ Some (s, option_map f (own_or s y o))
 edited_write s f None o h = absurd (false≢true h)
-edited_write s f (Some w) o h = ap (λ t. Some (t, option_map f w.1)) (eqb-true w.0 s h) ∙ sym (ap (λ b. Some (s, option_map f (if b then w.1 else o))) h)
+edited_write s f (Some w) o h = ap (λ t. Some (t, option_map f w.1)) (eqb-true w.0 s h)
+    ∙ sym (ap (λ b. Some (s, option_map f (if b then w.1 else o))) h)
 
-edited_unless : (s : ℕ) (f : Object → Object) (y : Option Write) → is_by s y ≡ true → unless_by s (option_map (rewritten f) y) ≡ unless_by s y
+edited_unless : (s : ℕ) (f : Object → Object) (y : Option Write) → is_by s y ≡ true
+    → unless_by s (option_map (rewritten f) y) ≡ unless_by s y
 edited_unless s f None h = refl
-edited_unless s f (Some w) h = ap (λ b. if b then None else Some (w.0, option_map f w.1)) h ∙ sym (ap (λ b. if b then None else Some w) h)
+edited_unless s f (Some w) h = ap (λ b. if b then None else Some (w.0, option_map f w.1)) h
+    ∙ sym (ap (λ b. if b then None else Some w) h)
 
 -- ---- the whole: v is the store, and u has the child reserved
 

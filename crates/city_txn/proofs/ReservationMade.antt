@@ -1,5 +1,6 @@
 -- An id reserved: an unwritten image, and a placeholder where no object is there. Nobody sees it.
-use Rattle.std.proofs.Common.{◌≡◌, ◌==◌, ℕ, List, [], ◌∷◌, ◌++◌, Bool, true, false, not, ◌&&◌, ◌||◌, Option, None, Some, is_some, refl, ap, sym, ◌∙◌, subst, inl, inr}
+use Rattle.std.proofs.Common.{◌≡◌, ◌==◌, ℕ, List, [], ◌∷◌, ◌++◌, Bool, true, false, not, ◌&&◌, ◌||◌, Option, None, Some}
+use Rattle.std.proofs.Common.{is_some, refl, ap, sym, ◌∙◌, subst, inl, inr}
 use Rattle.std.specs.Prelude.{if◌then◌else◌, unwrap_or}
 use Rattle.std.specs.Ordering.{nat_cmp}
 use Rattle.std.specs.BTreeMap.{is_at}
@@ -32,14 +33,17 @@ same_city z x frame objects = λ i. (frame i, same_objects z.1 x.1 objects i)
 
 -- ---- reserved
 
-unwritten_committed : (s : ℕ) (x : Option Object) → committed_at (Some (unwrap_or x placeholder)) (Some (unwritten_image s (not (is_some x)))) ≡ x
+unwritten_committed : (s : ℕ) (x : Option Object)
+    → committed_at (Some (unwrap_or x placeholder)) (Some (unwritten_image s (not (is_some x)))) ≡ x
 unwritten_committed s None = refl
 unwritten_committed s (Some o) = refl
 
-module _ (a b : Inside) (k : IsInPlace a) (s : ℕ) (id : List ℕ) (deleted : Bool) (is : deleted ≡ not (is_some (here a id)))
+module _ (a b : Inside) (k : IsInPlace a) (s : ℕ) (id : List ℕ) (deleted : Bool)
+    (is : deleted ≡ not (is_some (here a id)))
     (is_opened : is_open (state_of a) s ≡ true) (absent : image_at a.undo id ≡ None) (frame : b.city.0 ≡ a.city.0)
     (city : object_at b.city.1 ≡ with_slot (object_at a.city.1) id)
-    (images : (q : List ℕ) → image_at b.undo q ≡ (if same_id id q then Some (unwritten_image s deleted) else image_at a.undo q))
+    (images : (q : List ℕ)
+    → image_at b.undo q ≡ (if same_id id q then Some (unwritten_image s deleted) else image_at a.undo q))
     (reservations : (t : ℕ) → listed_by b.undo.reservations t
     ≡ (if is_at (nat_cmp s) t then Some (reservations_of a.undo.reservations s ++ id ∷ [])
     else listed_by a.undo.reservations t))
@@ -61,9 +65,11 @@ module _ (a b : Inside) (k : IsInPlace a) (s : ℕ) (id : List ℕ) (deleted : B
       ∙ list_any-append (same_id q) (reservations_of a.undo.reservations s) (id ∷ [])
       ∙ rw (or-false (same_id q id), same_id_back q id) (or_comm (is_reserved (state_of a) s q) (same_id id q))
 
-  pub more_reserved : (t : ℕ) (q : List ℕ) → is_reserved (state_of b) t q ≡ (((s == t) && same_id id q) || is_reserved (state_of a) t q)
+  pub more_reserved : (t : ℕ) (q : List ℕ)
+      → is_reserved (state_of b) t q ≡ (((s == t) && same_id id q) || is_reserved (state_of a) t q)
   more_reserved t q = elim (cases_eq s t) [
-    | inl e ↦ subst (λ r. is_reserved (state_of b) r q ≡ (((s == r) && same_id id q) || is_reserved (state_of a) r q)) e (rw (eq-eqb s s refl) (reserved_there q))
+    | inl e ↦ subst (λ r. is_reserved (state_of b) r q ≡ (((s == r) && same_id id q) || is_reserved (state_of a) r q)) e
+        (rw (eq-eqb s s refl) (reserved_there q))
     | inr e ↦ rw (ne_eqb s t e) (ap (λ o. has_id (unwrap_or o []) q) (listed_beside t (ne_eqb s t e)))
   ]
 
@@ -76,10 +82,16 @@ module _ (a b : Inside) (k : IsInPlace a) (s : ℕ) (id : List ℕ) (deleted : B
   pub reserved_in_place : IsInPlace b
   reserved_in_place = record {
     has_slot = slots_kept a b k id object image city images refl;
-    listed = λ t q. more_reserved t q ∙ at_each {P = λ r. (((s == t) && same_id id r) || is_reserved (state_of a) t r) ≡ is_writer t (writer_of (image_at b.undo r))} id
-        (rw (same_id_itself id, and-true (s == t)) (ap (λ c. (s == t) || c) (k.listed t id ∙ ap (λ i. is_writer t (writer_of i)) absent) ∙ or-false (s == t)
+    listed = λ t q. more_reserved t q
+        ∙ at_each
+        {P = λ r. (((s == t) && same_id id r) || is_reserved (state_of a) t r)
+        ≡ is_writer t (writer_of (image_at b.undo r))} id
+        (rw (same_id_itself id, and-true (s == t))
+        (ap (λ c. (s == t) || c) (k.listed t id ∙ ap (λ i. is_writer t (writer_of i)) absent) ∙ or-false (s == t)
         ∙ sym (ap (λ i. is_writer t (writer_of i)) (image_there a b k id object image city images))))
-        (λ r e. rw (e, and-false (s == t)) (k.listed t r ∙ sym (ap (λ i. is_writer t (writer_of i)) (image_beside a b k id object image city images r e)))) q;
+        (λ r e. rw (e, and-false (s == t))
+        (k.listed t r
+        ∙ sym (ap (λ i. is_writer t (writer_of i)) (image_beside a b k id object image city images r e)))) q;
     noted = λ t q h. more_reserved t q ∙ or_right ((s == t) && same_id id q) (is_reserved (state_of a) t q)
         (k.noted t q (ap (λ ls. has_before (log_of ls t) q) (sym logs) ∙ h));
   }
@@ -88,8 +100,11 @@ module _ (a b : Inside) (k : IsInPlace a) (s : ℕ) (id : List ℕ) (deleted : B
   reserved_seen = record {
     frame = frame;
     city = committed_kept a b k id object image city images reserved_in_place
-        (ap (λ d. committed_at object (Some (unwritten_image s d))) is ∙ unwritten_committed s (here a id) ∙ sym (ap (committed_at (here a id)) absent));
-    writes = λ q. write_changed a b k id object image city images reserved_in_place q ∙ at_each {P = λ r. (if same_id id r then None else write_of (state_of a).writes r) ≡ write_of (state_of a).writes r} id
+        (ap (λ d. committed_at object (Some (unwritten_image s d))) is ∙ unwritten_committed s (here a id)
+        ∙ sym (ap (committed_at (here a id)) absent));
+    writes = λ q. write_changed a b k id object image city images reserved_in_place q
+        ∙ at_each
+        {P = λ r. (if same_id id r then None else write_of (state_of a).writes r) ≡ write_of (state_of a).writes r} id
         (rw (same_id_itself id) (sym (writes_is a k id ∙ ap (write_at (here a id)) absent)))
         (λ r e. rw e refl) q;
     opened = still_open;
@@ -118,7 +133,8 @@ module _ (a : Inside) (k : IsInPlace a) (s : ℕ) (shut : is_open (state_of a) s
 
 -- ---- reserved already
 
-only_writer : (s : ℕ) (i : Option UndoImage) → is_some i ≡ true → ((t : ℕ) → is_writer t (writer_of i) ≡ true → t ≡ s) → is_writer s (writer_of i) ≡ true
+only_writer : (s : ℕ) (i : Option UndoImage) → is_some i ≡ true → ((t : ℕ) → is_writer t (writer_of i) ≡ true → t ≡ s)
+    → is_writer s (writer_of i) ≡ true
 only_writer s None h f = absurd (false≢true h)
 only_writer s (Some i) h f = eq-eqb i.by s (f i.by (eq-eqb i.by i.by refl))
 
@@ -131,6 +147,7 @@ pub reserved_already : (a : Inside) (s : ℕ) (id : List ℕ) → IsInPlace a �
     → is_some (image_at a.undo id) ≡ true →
     (t : ℕ) (q : List ℕ) → is_reserved (state_of a) t q ≡ (((s == t) && same_id id q) || is_reserved (state_of a) t q)
 reserved_already a s id k may h t q = already (s == t) (same_id id q) (is_reserved (state_of a) t q)
-    (λ e d. ap (λ r. is_reserved (state_of a) r q) (sym (eqb-true s t e)) ∙ ap (is_reserved (state_of a) s) (sym (same_id_true id q d))
+    (λ e d. ap (λ r. is_reserved (state_of a) r q) (sym (eqb-true s t e))
+    ∙ ap (is_reserved (state_of a) s) (sym (same_id_true id q d))
     ∙ k.listed s id ∙ only_writer s (image_at a.undo id) h
     (λ r g. may.alone id (same_id_itself id) r (k.listed r id ∙ g)))

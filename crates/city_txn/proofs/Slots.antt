@@ -37,9 +37,12 @@ pub slot_made : (m : CityMap) (id : List ℕ) → is_some (m id) ≡ false → c
 slot_made m id h = ap (λ x. changed m id (Some (unwrap_or x placeholder))) (sym (absent_from (m id) h))
 
 -- a slot that was made and cleared
-pub slot_cleared : (m : CityMap) (id : List ℕ) (deleted : Bool) → deleted ≡ not (is_some (m id)) → (if deleted then changed (with_slot m id) id None else with_slot m id) ≡ m
+pub slot_cleared : (m : CityMap) (id : List ℕ) (deleted : Bool) → deleted ≡ not (is_some (m id))
+    → (if deleted then changed (with_slot m id) id None else with_slot m id) ≡ m
 slot_cleared m id deleted is = by_there (is_some (m id)) refl
   where
-    by_there : (there : Bool) → is_some (m id) ≡ there → (if deleted then changed (with_slot m id) id None else with_slot m id) ≡ m
+    by_there : (there : Bool) → is_some (m id) ≡ there
+        → (if deleted then changed (with_slot m id) id None else with_slot m id) ≡ m
     by_there true h = rw (is ∙ ap not h) (sym (has_slot_already m id h))
-    by_there false h = rw (is ∙ ap not h) (changed_back m id (Some (unwrap_or (m id) placeholder)) (absent_from (m id) h))
+    by_there false h =
+        rw (is ∙ ap not h) (changed_back m id (Some (unwrap_or (m id) placeholder)) (absent_from (m id) h))

@@ -1,5 +1,6 @@
 -- Undo logs: what an entry changes, and what is seen of marks.
-use Rattle.std.proofs.Common.{◌≡◌, ◌==◌, ◌||◌, ℕ, ◌<◌, List, [], ◌∷◌, length, drop, Bool, true, false, Option, refl, ap, sym, ◌∙◌, arith}
+use Rattle.std.proofs.Common.{◌≡◌, ◌==◌, ◌||◌, ℕ, ◌<◌, List, [], ◌∷◌, length, drop, Bool, true, false, Option, refl, ap}
+use Rattle.std.proofs.Common.{sym, ◌∙◌, arith}
 use Rattle.std.specs.Prelude.{if◌then◌else◌}
 use Rattle.std.specs.Map.{update}
 use Rattle.std.proofs.lemmas.Bool.{false≢true, eqb-true, or_left, or_right, or_parts}
@@ -21,24 +22,29 @@ apart_noted : (id q : List ℕ) (b : Bool) → same_id id q ≡ false → b ≡ 
 apart_noted id q b e h = ap (λ x. x || b) e ∙ h
 
 -- marks stay where what changes is noted
-pub marked_same : (es : List Entry) (f g : OwnWrites) → ((q : List ℕ) → is_noted es q ≡ false → f q ≡ g q) → marked es f ≡ marked es g
+pub marked_same : (es : List Entry) (f g : OwnWrites) → ((q : List ℕ) → is_noted es q ≡ false → f q ≡ g q)
+    → marked es f ≡ marked es g
 marked_same [] f g same = refl
 marked_same (Mark name ∷ es) f g same =
     let e : f ≡ g = λ i q. same q refl i in
     ap (λ (h : OwnWrites). (name, h) ∷ marked es h) e
 marked_same (BeforeImage id own ∷ es) f g same = marked_same es (update same_id f id own) (update same_id g id own)
     (λ q h. at_each {P = λ r. is_noted es r ≡ false → update same_id f id own r ≡ update same_id g id own r} id
-    (λ n. update_same same_id f id own id (same_id_itself id) ∙ sym (update_same same_id g id own id (same_id_itself id)))
-    (λ r e n. update_other same_id f id own r e ∙ same r (apart_noted id r (is_noted es r) e n) ∙ sym (update_other same_id g id own r e)) q h)
+    (λ n. update_same same_id f id own id (same_id_itself id)
+    ∙ sym (update_same same_id g id own id (same_id_itself id)))
+    (λ r e n. update_other same_id f id own r e ∙ same r (apart_noted id r (is_noted es r) e n)
+    ∙ sym (update_other same_id g id own r e)) q h)
 
 -- what is there, noted: marks stay
-pub noted_marked : (es : List Entry) (f : OwnWrites) (id : List ℕ) (own : Option (Option Object)) → own ≡ f id → marked (BeforeImage id own ∷ es) f ≡ marked es f
+pub noted_marked : (es : List Entry) (f : OwnWrites) (id : List ℕ) (own : Option (Option Object)) → own ≡ f id
+    → marked (BeforeImage id own ∷ es) f ≡ marked es f
 noted_marked es f id own is = marked_same es (update same_id f id own) f
     (λ q h. at_each {P = λ r. update same_id f id own r ≡ f r} id
     (update_same same_id f id own id (same_id_itself id) ∙ is)
     (λ r e. update_other same_id f id own r e) q)
 
-pub noted_there : (es : List Entry) (id : List ℕ) (own : Option (Option Object)) → is_noted (BeforeImage id own ∷ es) id ≡ true
+pub noted_there : (es : List Entry) (id : List ℕ) (own : Option (Option Object))
+    → is_noted (BeforeImage id own ∷ es) id ≡ true
 noted_there es id own = or_left (same_id id id) (is_noted es id) (same_id_itself id)
 
 -- a log without entries notes all
@@ -51,10 +57,12 @@ noted_if_empty (e ∷ es) q h = let none : length (e ∷ es) ≡ 0 = eqb-true (l
 pub undone_marks : (es : List Entry) (f : OwnWrites) (name : List ℕ) → is_at_mark es name ≡ false →
     marks_from name (marked (drop 1 es) (newest_undone es f)) ≡ marks_from name (marked es f)
 undone_marks [] f name h = refl
-undone_marks (Mark n ∷ es) f name h = sym (ap (λ b. if b then (n, f) ∷ marked es f else marks_from name (marked es f)) h)
+undone_marks (Mark n ∷ es) f name h =
+    sym (ap (λ b. if b then (n, f) ∷ marked es f else marks_from name (marked es f)) h)
 undone_marks (BeforeImage id own ∷ es) f name h = refl
 
-pub undone_has : (es : List Entry) (name : List ℕ) → is_at_mark es name ≡ false → has_mark es name ≡ true → has_mark (drop 1 es) name ≡ true
+pub undone_has : (es : List Entry) (name : List ℕ) → is_at_mark es name ≡ false → has_mark es name ≡ true
+    → has_mark (drop 1 es) name ≡ true
 undone_has [] name h k = absurd (false≢true k)
 undone_has (e ∷ es) name h k = sym (ap (λ b. b || has_mark es name) h) ∙ k
 
@@ -67,13 +75,16 @@ undone_shorter [] name h = absurd (false≢true h)
 undone_shorter (e ∷ es) name h = omega arith
 
 -- at the mark: what is written now is what was written then, and the newer marks are gone
-pub at_mark : (es : List Entry) (f : OwnWrites) (name : List ℕ) (w : Written) → is_at_mark es name ≡ true → written_at_mark w (marks_from name (marked es f)) ≡ (f, marked es f)
+pub at_mark : (es : List Entry) (f : OwnWrites) (name : List ℕ) (w : Written) → is_at_mark es name ≡ true
+    → written_at_mark w (marks_from name (marked es f)) ≡ (f, marked es f)
 at_mark [] f name w h = absurd (false≢true h)
-at_mark (Mark n ∷ es) f name w h = ap (λ b. written_at_mark w (if b then (n, f) ∷ marked es f else marks_from name (marked es f))) h
+at_mark (Mark n ∷ es) f name w h =
+    ap (λ b. written_at_mark w (if b then (n, f) ∷ marked es f else marks_from name (marked es f))) h
 at_mark (BeforeImage id own ∷ es) f name w h = absurd (false≢true h)
 
 -- without a mark of the name there is none to go back to
-pub no_mark_from : (es : List Entry) (f : OwnWrites) (name : List ℕ) → has_mark es name ≡ false → marks_from name (marked es f) ≡ []
+pub no_mark_from : (es : List Entry) (f : OwnWrites) (name : List ℕ) → has_mark es name ≡ false
+    → marks_from name (marked es f) ≡ []
 no_mark_from [] f name h = refl
 no_mark_from (Mark n ∷ es) f name h =
     let parts = or_parts (same_id name n) (has_mark es name) h in

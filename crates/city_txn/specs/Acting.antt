@@ -21,7 +21,8 @@ use Rattle.city_txn.specs.declared.step.TxnFault.TheVariants.{NotOpen, OutOfMemo
 use Rattle.city_txn.specs.Writes.{write_of, unless_by}
 use Rattle.city_txn.specs.UndoLog.{OwnWrites, written_after}
 use Rattle.city_model.specs.Standing.{Lock, Answered, AllHeld, locks_id_exclusively}
-use Rattle.city_txn.specs.CoreState.{CoreState, committed, view, own, written, snapshot, is_open, held, StandsUnderLocks, KeepsOthers}
+use Rattle.city_txn.specs.CoreState.{CoreState, committed, view, own, written, snapshot, is_open, held}
+use Rattle.city_txn.specs.CoreState.{StandsUnderLocks, KeepsOthers}
 use Rattle.city_txn.specs.Locking.{first_answer, granted_before, GainsFirst, IsBlocked}
 
 -- what is written after a command that asked for these locks, got this reply and left this map, marks aside: where it
@@ -100,7 +101,8 @@ pub record IsAct (stamp : ℕ) (command : Command) (result : Result Step TxnFaul
   pub unwritten : (id : List ℕ) → unless_by stamp (write_of new.writes id) ≡ unless_by stamp (write_of old.writes id)
   pub others : (t : ℕ) → (stamp == t) ≡ false → written new t ≡ written old t
   -- all commands that stood stand, and this one with them; without it too, where it is refused
-  pub own : (done : List Answered) → StandsUnderLocks old stamp done → StandsUnderLocks new stamp (with_step result command done)
+  pub own : (done : List Answered) → StandsUnderLocks old stamp done
+      → StandsUnderLocks new stamp (with_step result command done)
   pub refused : is_refusal reply ≡ true
       → (done : List Answered) → StandsUnderLocks old stamp done → StandsUnderLocks new stamp done
   pub keeps : KeepsOthers stamp old new

@@ -60,7 +60,8 @@ StandsUnderLocks v stamp done = IsTraceUnderLocks (held v stamp) (unmarked (comm
 pub record KeepsOthers (stamp : ℕ) (old new : CoreState) : Type 0 where
   pub frame : new.frame ≡ old.frame
   pub opened : (t : ℕ) → (stamp == t) ≡ false → is_open new t ≡ is_open old t
-  pub others : (t : ℕ) (done : List Answered) → (stamp == t) ≡ false → StandsUnderLocks old t done → StandsUnderLocks new t done
+  pub others : (t : ℕ) (done : List Answered) → (stamp == t) ≡ false → StandsUnderLocks old t done
+      → StandsUnderLocks new t done
 
 -- the transaction of the stamp is over: its writes, its marks and its locks are gone, and it is no longer
 -- open; the others' stay

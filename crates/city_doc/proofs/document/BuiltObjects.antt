@@ -20,14 +20,16 @@ use Rattle.city_doc.proofs.document.LenientEntries.{starts_read, lenient_body}
 use Rattle.city_doc.proofs.Options.{and_then_some, map_some}
 
 -- a test that no tree of a body passes finds nothing
-none_with : (test : Data → Bool) (points : List Point) → ((d : Data) (b : Body) → body_of points d ≡ Some b → test d ≡ false)
+none_with : (test : Data → Bool) (points : List Point)
+    → ((d : Data) (b : Body) → body_of points d ≡ Some b → test d ≡ false)
     → (ms : Members) (es : Entries) → lenient_entries_of points ms ≡ Some es → first_with test ms ≡ None
 none_with test points out no_members es h = refl
 none_with test points out (member id d ms) es h =
     let s = starts_read points id d ms es h in
     rw (out d s.object.body (lenient_body points d s.object s.first)) (none_with test points out ms s.entries s.rest)
 
-are_readable : (points : List Point) (ms : Members) (es : Entries) → lenient_entries_of points ms ≡ Some es → AreReadable (length points) ms
+are_readable : (points : List Point) (ms : Members) (es : Entries) → lenient_entries_of points ms ≡ Some es
+    → AreReadable (length points) ms
 are_readable points ms es h =
     record {
       known = none_with _ points (known points) ms es h;
@@ -45,12 +47,16 @@ pub record IsBuilt (points : List Point) (d : Data) (c : Frame × Entries) : Typ
   pub entries : lenient_entries_of points objects ≡ Some c.1
   pub frame : frame_of_rest (without (codes "CityObjects") top) ≡ Some c.0
 
-pub is_built : (points : List Point) (d : Data) (c : Frame × Entries) → lenient_city_of points d ≡ Some c → IsBuilt points d c
+pub is_built : (points : List Point) (d : Data) (c : Frame × Entries) → lenient_city_of points d ≡ Some c
+    → IsBuilt points d c
 is_built points d c h =
     let top = and_then_some (lenient_city_at points) (as_object d) c h in
-    let es = and_then_some (λ entries. option_map (λ frame. (frame, entries)) (frame_of_rest (without (codes "CityObjects") top.0)))
-    (option_and_then (lenient_entries_of points) (option_and_then as_object (get_member (codes "CityObjects") top.0))) c top.2 in
-    let ms = and_then_some (lenient_entries_of points) (option_and_then as_object (get_member (codes "CityObjects") top.0)) es.0 es.1 in
+    let es = and_then_some
+    (λ entries. option_map (λ frame. (frame, entries)) (frame_of_rest (without (codes "CityObjects") top.0)))
+    (option_and_then (lenient_entries_of points) (option_and_then as_object (get_member (codes "CityObjects") top.0))) c
+    top.2 in
+    let ms = and_then_some (lenient_entries_of points)
+    (option_and_then as_object (get_member (codes "CityObjects") top.0)) es.0 es.1 in
     let frame = map_some (λ frame. (frame, es.0)) (frame_of_rest (without (codes "CityObjects") top.0)) c es.2 in
     record {
       top = top.0;
@@ -64,4 +70,9 @@ is_built points d c h =
 -- a tree of which a city is built has the form of a document
 pub has_form : (d : Data) (c : Frame × Entries) → wrong_member d ≡ None → IsBuilt (vertices_in d) d c → HasForm d
 has_form d c right b =
-    record { right = right; objects = are_readable (vertices_in d) (objects_in d) c.1 (ap (lenient_entries_of (vertices_in d)) (objects_at d b.top b.is_top b.objects b.are_objects) ∙ b.entries) }
+    record {
+      right = right;
+      objects =
+          are_readable (vertices_in d) (objects_in d) c.1
+          (ap (lenient_entries_of (vertices_in d)) (objects_at d b.top b.is_top b.objects b.are_objects) ∙ b.entries);
+    }

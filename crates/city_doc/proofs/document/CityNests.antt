@@ -1,5 +1,6 @@
 -- A city that a text stands for is written so that it nests no deeper than what is read.
-use Rattle.std.proofs.Common.{◌≡◌, ℕ, suc, ◌≤◌, List, [], ◌∷◌, ℤ, Bool, true, false, Option, Some, None, codes, subst, arith}
+use Rattle.std.proofs.Common.{◌≡◌, ℕ, suc, ◌≤◌, List, [], ◌∷◌, ℤ, Bool, true, false, Option, Some, None, codes, subst}
+use Rattle.std.proofs.Common.{arith}
 use Rattle.std.specs.Prelude.{option_map, option_and_then, if◌then◌else◌}
 use Rattle.std.specs.FinMap.{entries}
 use Rattle.serde_json.specs.Data.{Data, string, Members, no_members, put, depth, members_depth}
@@ -15,11 +16,14 @@ use Rattle.city_model.specs.declared.object.Object.{Object}
 use Rattle.city_doc.specs.tree.Members.{kept_if}
 use Rattle.city_doc.specs.tree.Triples.{integer_data, triple_data}
 use Rattle.city_doc.specs.object.Canonical.{object_data, with_objects, objects_data}
-use Rattle.city_doc.specs.document.Canonical.{transform_data, vertex_data, vertices_data, frame_members, numbered_tree, tree_of}
+use Rattle.city_doc.specs.document.Canonical.{transform_data, vertex_data, vertices_data, frame_members, numbered_tree}
+use Rattle.city_doc.specs.document.Canonical.{tree_of}
 use Rattle.city_doc.specs.document.Cities.{is_city_json, points_in, entries_in, objects_of, city_of, IsTextOfCity}
-use Rattle.city_doc.specs.document.Top.{triple_at, without_transform_members, without_top_members, more_of, frame_with, frame_of_rest, frame_of}
+use Rattle.city_doc.specs.document.Top.{triple_at, without_transform_members, without_top_members, more_of, frame_with}
+use Rattle.city_doc.specs.document.Top.{frame_of_rest, frame_of}
 use Rattle.city_doc.specs.Pool.{pool_of}
-use Rattle.city_doc.proofs.document.NestsNoDeeper.{Holds, holds_then, holds_map, put_depth, without_depth, kept_depth, member_depth, object_members_depth, list_depth, objects_within}
+use Rattle.city_doc.proofs.document.NestsNoDeeper.{Holds, holds_then, holds_map, put_depth, without_depth, kept_depth}
+use Rattle.city_doc.proofs.document.NestsNoDeeper.{member_depth, object_members_depth, list_depth, objects_within}
 use Rattle.city_doc.proofs.document.Listings.{OfEach, of_each_listed}
 
 triple_depth : (zs : List ℤ) → depth (triple_data zs) ≤ 1
@@ -34,37 +38,54 @@ module _ (k : ℕ) (deep : 1 ≤ k) where
   abbrev IsFrameWithin : Frame → Type 0
   IsFrameWithin f = (members_depth f.extra ≤ suc k) × (members_depth f.more ≤ k)
 
-  frame_parts : (extra : Members) (scale translate : Option (List ℤ)) (more : Option Members) → members_depth extra ≤ suc k → Holds (λ ms. members_depth ms ≤ k) more
-      → Holds IsFrameWithin (option_and_then (λ scale. option_and_then (λ translate. option_map (λ more. record { scale = scale; translate = translate; more = more; extra = extra }) more) translate) scale)
+  frame_parts : (extra : Members) (scale translate : Option (List ℤ)) (more : Option Members)
+      → members_depth extra ≤ suc k → Holds (λ ms. members_depth ms ≤ k) more
+      → Holds IsFrameWithin
+      (option_and_then
+      (λ scale.
+      option_and_then
+      (λ translate. option_map (λ more. record { scale = scale; translate = translate; more = more; extra = extra })
+      more) translate) scale)
   frame_parts extra None translate more h r = tt
   frame_parts extra (Some s) None more h r = tt
   frame_parts extra (Some s) (Some t) None h r = tt
   frame_parts extra (Some s) (Some t) (Some ms) h r = (h, r)
 
-  frame_with_within : (extra : Members) → members_depth extra ≤ suc k → (transform : Data) → depth transform ≤ suc k → Holds IsFrameWithin (frame_with extra transform)
+  frame_with_within : (extra : Members) → members_depth extra ≤ suc k → (transform : Data) → depth transform ≤ suc k
+      → Holds IsFrameWithin (frame_with extra transform)
   frame_with_within extra h transform within =
-      frame_parts extra (triple_at (codes "scale") transform) (triple_at (codes "translate") transform) (more_of transform) h
-      (holds_then (λ ms. members_depth ms ≤ k) (λ ms. members_depth ms ≤ k) (λ ms. kept_if kept_at_transform (without_transform_members ms))
-      (λ ms below. kept_depth kept_at_transform (without_transform_members ms) k (without_depth (codes "translate") _ k (without_depth (codes "scale") ms k below)))
+      frame_parts extra (triple_at (codes "scale") transform) (triple_at (codes "translate") transform)
+      (more_of transform) h
+      (holds_then (λ ms. members_depth ms ≤ k) (λ ms. members_depth ms ≤ k)
+      (λ ms. kept_if kept_at_transform (without_transform_members ms))
+      (λ ms below. kept_depth kept_at_transform (without_transform_members ms) k
+      (without_depth (codes "translate") _ k (without_depth (codes "scale") ms k below)))
       (as_object transform) (object_members_depth transform k within))
 
   frame_of_rest_within : (rest : Members) → members_depth rest ≤ suc k → Holds IsFrameWithin (frame_of_rest rest)
   frame_of_rest_within rest h =
-      holds_then (λ extra. members_depth extra ≤ suc k) IsFrameWithin (λ extra. option_and_then (frame_with extra) (get_member (codes "transform") rest))
-      (λ extra below. holds_then (λ d. depth d ≤ suc k) IsFrameWithin (frame_with extra) (frame_with_within extra below) (get_member (codes "transform") rest) (member_depth (codes "transform") rest (suc k) h))
+      holds_then (λ extra. members_depth extra ≤ suc k) IsFrameWithin
+      (λ extra. option_and_then (frame_with extra) (get_member (codes "transform") rest))
+      (λ extra below. holds_then (λ d. depth d ≤ suc k) IsFrameWithin (frame_with extra) (frame_with_within extra below)
+      (get_member (codes "transform") rest) (member_depth (codes "transform") rest (suc k) h))
       (kept_if kept_at_top (without_top_members rest))
       (kept_depth kept_at_top (without_top_members rest) (suc k)
-      (without_depth (codes "vertices") _ (suc k) (without_depth (codes "version") _ (suc k) (without_depth (codes "type") _ (suc k) (without_depth (codes "transform") rest (suc k) h)))))
+      (without_depth (codes "vertices") _ (suc k)
+      (without_depth (codes "version") _ (suc k)
+      (without_depth (codes "type") _ (suc k) (without_depth (codes "transform") rest (suc k) h)))))
 
   frame_within : (d : Data) → depth d ≤ suc (suc k) → Holds IsFrameWithin (frame_of d)
   frame_within d h =
-      holds_then (λ ms. members_depth ms ≤ suc k) IsFrameWithin (λ top. frame_of_rest (without (codes "CityObjects") top))
-      (λ top within. frame_of_rest_within (without (codes "CityObjects") top) (without_depth (codes "CityObjects") top (suc k) within)) (as_object d) (object_members_depth d (suc k) h)
+      holds_then (λ ms. members_depth ms ≤ suc k) IsFrameWithin
+      (λ top. frame_of_rest (without (codes "CityObjects") top))
+      (λ top within. frame_of_rest_within (without (codes "CityObjects") top)
+      (without_depth (codes "CityObjects") top (suc k) within)) (as_object d) (object_members_depth d (suc k) h)
 
   transform_depth : (f : Frame) → IsFrameWithin f → depth (transform_data f) ≤ suc k
   transform_depth f h =
       let a = put_depth (codes "scale") (triple_data f.scale) f.more k (omega (arith, triple_depth f.scale)) h.1 in
-      let b = put_depth (codes "translate") (triple_data f.translate) (put (codes "scale") (triple_data f.scale) f.more) k (omega (arith, triple_depth f.translate)) a in
+      let b = put_depth (codes "translate") (triple_data f.translate) (put (codes "scale") (triple_data f.scale) f.more)
+      k (omega (arith, triple_depth f.translate)) a in
       omega arith
 
   frame_members_depth : (f : Frame) → IsFrameWithin f → members_depth (frame_members f) ≤ suc k
@@ -72,7 +93,8 @@ module _ (k : ℕ) (deep : 1 ≤ k) where
       let typed = put (codes "type") (string (codes "CityJSON")) f.extra in
       let a = put_depth (codes "type") (string (codes "CityJSON")) f.extra (suc k) (omega arith) h.0 in
       let b = put_depth (codes "version") (string (codes "2.0")) typed (suc k) (omega arith) a in
-      put_depth (codes "transform") (transform_data f) (put (codes "version") (string (codes "2.0")) typed) (suc k) (transform_depth f h) b
+      put_depth (codes "transform") (transform_data f) (put (codes "version") (string (codes "2.0")) typed) (suc k)
+      (transform_depth f h) b
 
 -- ---- the whole
 
@@ -81,33 +103,48 @@ module _ (m : ℕ) (deep : 5 ≤ m) (pool : List Point) where
   IsObjectWithin o = depth (object_data pool o) ≤ suc (suc (suc m))
 
   -- wherever the objects are put in
-  objects_depth : (es : Entries) → OfEach IsObjectWithin es → (ms : Members) → members_depth ms ≤ suc (suc (suc m)) → members_depth (with_objects pool ms es) ≤ suc (suc (suc m))
+  objects_depth : (es : Entries) → OfEach IsObjectWithin es → (ms : Members) → members_depth ms ≤ suc (suc (suc m))
+      → members_depth (with_objects pool ms es) ≤ suc (suc (suc m))
   objects_depth [] h ms below = below
-  objects_depth (e ∷ es) h ms below = objects_depth es h.1 (put e.0 (object_data pool e.1) ms) (put_depth e.0 (object_data pool e.1) ms (suc (suc (suc m))) h.0 below)
+  objects_depth (e ∷ es) h ms below =
+      objects_depth es h.1 (put e.0 (object_data pool e.1) ms)
+      (put_depth e.0 (object_data pool e.1) ms (suc (suc (suc m))) h.0 below)
 
-  city_depth : (f : Frame) (es : Entries) → IsFrameWithin (suc (suc (suc m))) (omega arith) f → OfEach IsObjectWithin es → depth (numbered_tree pool (f, objects_of es)) ≤ suc (suc (suc (suc (suc m))))
+  city_depth : (f : Frame) (es : Entries) → IsFrameWithin (suc (suc (suc m))) (omega arith) f → OfEach IsObjectWithin es
+      → depth (numbered_tree pool (f, objects_of es)) ≤ suc (suc (suc (suc (suc m))))
   city_depth f es h r =
       let n = suc (suc (suc (suc m))) in
       let listed = entries (objects_of es) in
-      let objects : depth (objects_data pool listed) ≤ n = omega (arith, objects_depth listed (of_each_listed IsObjectWithin es r) no_members (omega arith)) in
-      let a = put_depth (codes "vertices") (vertices_data pool) (frame_members f) n (omega (arith, vertices_depth pool)) (frame_members_depth (suc (suc (suc m))) (omega arith) f h) in
-      let b = put_depth (codes "CityObjects") (objects_data pool listed) (put (codes "vertices") (vertices_data pool) (frame_members f)) n objects a in
+      let objects : depth (objects_data pool listed) ≤ n =
+      omega (arith, objects_depth listed (of_each_listed IsObjectWithin es r) no_members (omega arith)) in
+      let a = put_depth (codes "vertices") (vertices_data pool) (frame_members f) n (omega (arith, vertices_depth pool))
+      (frame_members_depth (suc (suc (suc m))) (omega arith) f h) in
+      let b = put_depth (codes "CityObjects") (objects_data pool listed)
+      (put (codes "vertices") (vertices_data pool) (frame_members f)) n objects a in
       omega arith
 
   city_parts : (b : Bool) (points : Option (List Point)) (entries : List Point → Option Entries) (frame : Option Frame)
-      → ((ps : List Point) → Holds (OfEach IsObjectWithin) (entries ps)) → Holds (IsFrameWithin (suc (suc (suc m))) (omega arith)) frame
+      → ((ps : List Point) → Holds (OfEach IsObjectWithin) (entries ps))
+      → Holds (IsFrameWithin (suc (suc (suc m))) (omega arith)) frame
       → Holds (λ c. depth (numbered_tree pool c) ≤ suc (suc (suc (suc (suc m)))))
-      (if b then option_and_then (λ points. option_and_then (λ entries. option_map (λ frame. (frame, objects_of entries)) frame) (entries points)) points else None)
+      (if b then option_and_then
+      (λ points. option_and_then (λ entries. option_map (λ frame. (frame, objects_of entries)) frame)
+      (entries points)) points else None)
   city_parts false points entries frame h r = tt
   city_parts true None entries frame h r = tt
   city_parts true (Some ps) entries frame h r =
-      holds_then (OfEach IsObjectWithin) (λ c. depth (numbered_tree pool c) ≤ suc (suc (suc (suc (suc m))))) (λ es. option_map (λ f. (f, objects_of es)) frame)
-      (λ es within. holds_map (IsFrameWithin (suc (suc (suc m))) (omega arith)) (λ c. depth (numbered_tree pool c) ≤ suc (suc (suc (suc (suc m))))) (λ f. (f, objects_of es)) (λ f below. city_depth f es below within) frame r)
+      holds_then (OfEach IsObjectWithin) (λ c. depth (numbered_tree pool c) ≤ suc (suc (suc (suc (suc m)))))
+      (λ es. option_map (λ f. (f, objects_of es)) frame)
+      (λ es within. holds_map (IsFrameWithin (suc (suc (suc m))) (omega arith))
+      (λ c. depth (numbered_tree pool c) ≤ suc (suc (suc (suc (suc m))))) (λ f. (f, objects_of es))
+      (λ f below. city_depth f es below within) frame r)
       (entries ps) (h ps)
 
-  city_within : (d : Data) → depth d ≤ suc (suc (suc (suc (suc m)))) → Holds (λ c. depth (numbered_tree pool c) ≤ suc (suc (suc (suc (suc m))))) (city_of d)
+  city_within : (d : Data) → depth d ≤ suc (suc (suc (suc (suc m))))
+      → Holds (λ c. depth (numbered_tree pool c) ≤ suc (suc (suc (suc (suc m))))) (city_of d)
   city_within d h =
-      city_parts (is_city_json d) (points_in d) (λ ps. entries_in ps d) (frame_of d) (λ ps. objects_within pool ps m deep d h) (frame_within (suc (suc (suc m))) (omega arith) d h)
+      city_parts (is_city_json d) (points_in d) (λ ps. entries_in ps d) (frame_of d)
+      (λ ps. objects_within pool ps m deep d h) (frame_within (suc (suc (suc m))) (omega arith) d h)
 
 held : {A : Type 0} (P : A → Type 0) (o : Option A) (x : A) → o ≡ Some x → Holds P o → P x
 held P o x e h = subst (Holds P) e h
@@ -115,4 +152,5 @@ held P o x e h = subst (Holds P) e h
 -- the canonical tree of a city that was read may be read
 pub written_within : (text : List ℕ) (c : CityValue) → IsTextOfCity text c → depth (tree_of c) ≤ max_depth
 written_within text c (d, (utf, is), stands) =
-    held (λ other. depth (numbered_tree (pool_of c) other) ≤ 127) (city_of d) c stands (city_within 122 (omega arith) (pool_of c) d (depth-read text d is))
+    held (λ other. depth (numbered_tree (pool_of c) other) ≤ 127) (city_of d) c stands
+    (city_within 122 (omega arith) (pool_of c) d (depth-read text d is))

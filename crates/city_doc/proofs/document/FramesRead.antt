@@ -27,7 +27,8 @@ pub record LacksTransformMembers (ms : Members) : Type 0 where
 
 pub transform_members_lacking : (ms : Members) → kept_at_transform ms ≡ true → LacksTransformMembers ms
 transform_members_lacking ms h =
-    let both = and_parts (lacks (codes "scale") ms) (lacks (codes "translate") ms) (and_parts (members_integral ms) (lacks_both (codes "scale") (codes "translate") ms) h).1 in
+    let both = and_parts (lacks (codes "scale") ms) (lacks (codes "translate") ms)
+    (and_parts (members_integral ms) (lacks_both (codes "scale") (codes "translate") ms) h).1 in
     record { no_scale = none_of _ both.0; no_translate = none_of _ both.1 }
 
 transform_left : (more : Members) (scale translate : Data) → kept_at_transform more ≡ true
@@ -35,20 +36,30 @@ transform_left : (more : Members) (scale translate : Data) → kept_at_transform
 transform_left more scale translate h =
     let lacking = transform_members_lacking more h in
     let scaled = put (codes "scale") scale more in
-    let no_translate = get_member-put_apart (codes "translate") (codes "scale") scale more refl ∙ lacking.no_translate in
+    let no_translate = get_member-put_apart (codes "translate") (codes "scale") scale more refl ∙ lacking.no_translate
+    in
     without-swap (codes "translate") (codes "scale") (put (codes "translate") translate scaled)
     ∙ ap (without (codes "scale")) (without-put (codes "translate") translate scaled no_translate)
     ∙ without-put (codes "scale") scale more lacking.no_scale
 
-transform_read : (f : Frame) → is_i64_triple f.scale ≡ true → is_i64_triple f.translate ≡ true → kept_at_transform f.more ≡ true → frame_with f.extra (transform_data f) ≡ Some f
+transform_read : (f : Frame) → is_i64_triple f.scale ≡ true → is_i64_triple f.translate ≡ true
+    → kept_at_transform f.more ≡ true → frame_with f.extra (transform_data f) ≡ Some f
 transform_read f in_scale in_translate keeps =
     let scale = triple_data f.scale in
     let translate = triple_data f.translate in
     let scaled = put (codes "scale") scale f.more in
-    let get_scale = get_member-put_apart (codes "scale") (codes "translate") translate scaled refl ∙ get_member-put (codes "scale") scale f.more in
+    let get_scale = get_member-put_apart (codes "scale") (codes "translate") translate scaled refl
+    ∙ get_member-put (codes "scale") scale f.more in
     let get_translate = get_member-put (codes "translate") translate scaled in
     let left = transform_left f.more scale translate keeps in
-    rw (get_scale, get_translate, triple_read f.scale in_scale, triple_read f.translate in_translate, left, kept_all kept_at_transform f.more keeps) refl
+    rw (
+      get_scale,
+      get_translate,
+      triple_read f.scale in_scale,
+      triple_read f.translate in_translate,
+      left,
+      kept_all kept_at_transform f.more keeps,
+    ) refl
 
 -- ---- the top
 
@@ -70,7 +81,13 @@ top_members_lacking ms h =
     let one = and_parts (members_integral ms) named two.0 in
     let first = and_parts (lacks (codes "type") ms) (lacks (codes "version") ms) one.1 in
     let second = and_parts (lacks (codes "transform") ms) (lacks (codes "CityObjects") ms) two.1 in
-    record { no_type = none_of _ first.0; no_version = none_of _ first.1; no_transform = none_of _ second.0; no_objects = none_of _ second.1; no_vertices = none_of _ three.1 }
+    record {
+      no_type = none_of _ first.0;
+      no_version = none_of _ first.1;
+      no_transform = none_of _ second.0;
+      no_objects = none_of _ second.1;
+      no_vertices = none_of _ three.1;
+    }
 
 module _ (f : Frame) (vertices : Data) where
   -- the members of the top but the objects, as they are put in
@@ -104,42 +121,50 @@ module _ (f : Frame) (vertices : Data) where
 
   module _ (absent : LacksTopMembers f.extra) where
     no_version_typed : get_member (codes "version") typed ≡ None
-    no_version_typed = get_member-put_apart (codes "version") (codes "type") (string (codes "CityJSON")) f.extra refl ∙ absent.no_version
+    no_version_typed = get_member-put_apart (codes "version") (codes "type") (string (codes "CityJSON")) f.extra refl
+        ∙ absent.no_version
 
     no_transform_versioned : get_member (codes "transform") versioned ≡ None
     no_transform_versioned =
         get_member-put_apart (codes "transform") (codes "version") (string (codes "2.0")) typed refl
-        ∙ get_member-put_apart (codes "transform") (codes "type") (string (codes "CityJSON")) f.extra refl ∙ absent.no_transform
+        ∙ get_member-put_apart (codes "transform") (codes "type") (string (codes "CityJSON")) f.extra refl
+        ∙ absent.no_transform
 
     no_vertices_framed : get_member (codes "vertices") (frame_members f) ≡ None
     no_vertices_framed =
         get_member-put_apart (codes "vertices") (codes "transform") (transform_data f) versioned refl
         ∙ get_member-put_apart (codes "vertices") (codes "version") (string (codes "2.0")) typed refl
-        ∙ get_member-put_apart (codes "vertices") (codes "type") (string (codes "CityJSON")) f.extra refl ∙ absent.no_vertices
+        ∙ get_member-put_apart (codes "vertices") (codes "type") (string (codes "CityJSON")) f.extra refl
+        ∙ absent.no_vertices
 
     pub no_objects_pooled : get_member (codes "CityObjects") pooled ≡ None
     no_objects_pooled =
         get_member-put_apart (codes "CityObjects") (codes "vertices") vertices (frame_members f) refl
         ∙ get_member-put_apart (codes "CityObjects") (codes "transform") (transform_data f) versioned refl
         ∙ get_member-put_apart (codes "CityObjects") (codes "version") (string (codes "2.0")) typed refl
-        ∙ get_member-put_apart (codes "CityObjects") (codes "type") (string (codes "CityJSON")) f.extra refl ∙ absent.no_objects
+        ∙ get_member-put_apart (codes "CityObjects") (codes "type") (string (codes "CityJSON")) f.extra refl
+        ∙ absent.no_objects
 
     -- what is left of them are the kept ones
     top_left : without_top_members pooled ≡ f.extra
     top_left =
         without-four (codes "vertices") (codes "version") (codes "type") (codes "transform") pooled
-        ∙ ap (λ ms. without (codes "transform") (without (codes "type") (without (codes "version") ms))) (without-put (codes "vertices") vertices (frame_members f) no_vertices_framed)
+        ∙ ap (λ ms. without (codes "transform") (without (codes "type") (without (codes "version") ms)))
+        (without-put (codes "vertices") vertices (frame_members f) no_vertices_framed)
         ∙ without-three (codes "transform") (codes "type") (codes "version") (frame_members f)
-        ∙ ap (λ ms. without (codes "version") (without (codes "type") ms)) (without-put (codes "transform") (transform_data f) versioned no_transform_versioned)
+        ∙ ap (λ ms. without (codes "version") (without (codes "type") ms))
+        (without-put (codes "transform") (transform_data f) versioned no_transform_versioned)
         ∙ without-swap (codes "version") (codes "type") versioned
         ∙ ap (without (codes "type")) (without-put (codes "version") (string (codes "2.0")) typed no_version_typed)
         ∙ without-put (codes "type") (string (codes "CityJSON")) f.extra absent.no_type
 
-    frame_left : kept_at_top f.extra ≡ true → frame_with f.extra (transform_data f) ≡ Some f → frame_of_rest pooled ≡ Some f
+    frame_left : kept_at_top f.extra ≡ true → frame_with f.extra (transform_data f) ≡ Some f
+        → frame_of_rest pooled ≡ Some f
     frame_left keeps read = rw (top_left, kept_all kept_at_top f.extra keeps, get_transform) read
 
 -- the frame of the members that it gave
-pub frame_read : (f : Frame) (vertices : Data) → is_i64_triple f.scale ≡ true → is_i64_triple f.translate ≡ true → kept_at_top f.extra ≡ true → kept_at_transform f.more ≡ true
+pub frame_read : (f : Frame) (vertices : Data) → is_i64_triple f.scale ≡ true → is_i64_triple f.translate ≡ true
+    → kept_at_top f.extra ≡ true → kept_at_transform f.more ≡ true
     → frame_of_rest (pooled f vertices) ≡ Some f
 frame_read f vertices in_scale in_translate keeps keeps_more =
     frame_left f vertices (top_members_lacking f.extra keeps) keeps (transform_read f in_scale in_translate keeps_more)

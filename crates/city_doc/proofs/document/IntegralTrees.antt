@@ -1,5 +1,6 @@
 -- Every number of a city's canonical tree is a 64-bit signed integer.
-use Rattle.std.proofs.Common.{◌≡◌, ℕ, zero, suc, ℤ, ◌<◌, ◌≤◌, Bool, true, not, List, [], ◌∷◌, map, length, codes, refl, ap, arith}
+use Rattle.std.proofs.Common.{◌≡◌, ℕ, zero, suc, ℤ, ◌<◌, ◌≤◌, Bool, true, not, List, [], ◌∷◌, map, length, codes, refl}
+use Rattle.std.proofs.Common.{ap, arith}
 use Rattle.std.specs.Prelude.{◌&&◌, ◌^◌, nat_lt, is_some}
 use Rattle.std.specs.List.{list_all}
 use Rattle.std.proofs.lemmas.Bool.{lt-ltb, and_parts}
@@ -14,7 +15,8 @@ use Rattle.city_model.specs.declared.object.Geometry.{Geometry}
 use Rattle.city_model.specs.declared.object.Object.{Object}
 use Rattle.city_model.specs.declared.object.Point.{Point}
 use Rattle.city_model.specs.declared.object.Shape.{Shape}
-use Rattle.city_model.specs.Kept.{lacks, lacks_both, has_location, is_empty_object_or_absent, kept_at_top, kept_at_transform, kept_at_object, kept_at_geometry}
+use Rattle.city_model.specs.Kept.{lacks, lacks_both, has_location, is_empty_object_or_absent, kept_at_top}
+use Rattle.city_model.specs.Kept.{kept_at_transform, kept_at_object, kept_at_geometry}
 use Rattle.city_model.specs.Shells.{same_point}
 use Rattle.city_model.specs.Types.{name_of}
 use Rattle.city_model.specs.Integral.{is_integral, items_integral, members_integral}
@@ -32,18 +34,22 @@ use Rattle.city_doc.proofs.tree.TriplesRead.{integer_read}
 
 -- ---- lists
 
-list_integral : {A : Type 0} (f : A → Data) (ok : A → Bool) → ((x : A) → ok x ≡ true → is_integral (f x) ≡ true) → (xs : List A) → list_all ok xs ≡ true → items_integral (items_of (map f xs)) ≡ true
+list_integral : {A : Type 0} (f : A → Data) (ok : A → Bool) → ((x : A) → ok x ≡ true → is_integral (f x) ≡ true)
+    → (xs : List A) → list_all ok xs ≡ true → items_integral (items_of (map f xs)) ≡ true
 list_integral f ok each [] h = refl
 list_integral f ok each (x ∷ xs) h =
     let parts = and_parts (ok x) (list_all ok xs) h in
     let first : is_integral (f x) ≡ true = each x parts.0 in
     rw (first, list_integral f ok each xs parts.1) refl
 
-every_integral : {A : Type 0} (f : A → Data) → ((x : A) → is_integral (f x) ≡ true) → (xs : List A) → items_integral (items_of (map f xs)) ≡ true
+every_integral : {A : Type 0} (f : A → Data) → ((x : A) → is_integral (f x) ≡ true) → (xs : List A)
+    → items_integral (items_of (map f xs)) ≡ true
 every_integral f each [] = refl
 every_integral f each (x ∷ xs) = rw (each x, every_integral f each xs) refl
 
-put_list_whole : {A : Type 0} (k : List ℕ) (f : A → Data) (xs : List A) (ms : Members) → items_integral (items_of (map f xs)) ≡ true → members_integral ms ≡ true → members_integral (put_list k f xs ms) ≡ true
+put_list_whole : {A : Type 0} (k : List ℕ) (f : A → Data) (xs : List A) (ms : Members)
+    → items_integral (items_of (map f xs)) ≡ true → members_integral ms ≡ true
+    → members_integral (put_list k f xs ms) ≡ true
 put_list_whole k f [] ms h hs = hs
 put_list_whole k f (x ∷ xs) ms h hs = put-integral k (list_data f (x ∷ xs)) ms h hs
 
@@ -64,13 +70,19 @@ vertex_integral p h =
 -- ---- geometries and objects
 
 pub at_geometry : (ms : Members) → kept_at_geometry ms ≡ true → members_integral ms ≡ true
-at_geometry ms h = (and_parts (members_integral ms) (lacks_both (codes "type") (codes "lod") ms) (and_parts (members_integral ms && lacks_both (codes "type") (codes "lod") ms) (lacks (codes "boundaries") ms) h).0).0
+at_geometry ms h =
+    (and_parts (members_integral ms) (lacks_both (codes "type") (codes "lod") ms)
+    (and_parts (members_integral ms && lacks_both (codes "type") (codes "lod") ms) (lacks (codes "boundaries") ms)
+    h).0).0
 
 pub at_object : (ms : Members) → kept_at_object ms ≡ true → members_integral ms ≡ true
 at_object ms h =
     let own = lacks_both (codes "type") (codes "geometry") ms in
     let relations = lacks_both (codes "parents") (codes "children") ms in
-    (and_parts (members_integral ms) own (and_parts (members_integral ms && own) relations (and_parts (members_integral ms && own && relations) (not (has_location (get_member (codes "address") ms))) h).0).0).0
+    (and_parts (members_integral ms) own
+    (and_parts (members_integral ms && own) relations
+    (and_parts (members_integral ms && own && relations) (not (has_location (get_member (codes "address") ms)))
+    h).0).0).0
 
 module _ (pool : List Point) (fewer : length pool < 2 ^ 63) where
   point_integral : (p : Point) → is_integral (point_data pool p) ≡ true
@@ -90,8 +102,10 @@ module _ (pool : List Point) (fewer : length pool < 2 ^ 63) where
   unfolding is_kept_geometry
   geometry_integral g h =
       let typed = put (codes "type") (string (shape_name g.shape)) g.extra in
-      put-integral (codes "boundaries") (boundaries_data pool g.shape) (put (codes "lod") (string g.lod) typed) (boundaries_integral g.shape)
-      (put-integral (codes "lod") (string g.lod) typed refl (put-integral (codes "type") (string (shape_name g.shape)) g.extra refl (at_geometry g.extra h)))
+      put-integral (codes "boundaries") (boundaries_data pool g.shape) (put (codes "lod") (string g.lod) typed)
+      (boundaries_integral g.shape)
+      (put-integral (codes "lod") (string g.lod) typed refl
+      (put-integral (codes "type") (string (shape_name g.shape)) g.extra refl (at_geometry g.extra h)))
 
   object_integral : (o : Object) → is_kept_object o ≡ true → is_integral (object_data pool o) ≡ true
   unfolding is_kept_object
@@ -102,14 +116,17 @@ module _ (pool : List Point) (fewer : length pool < 2 ^ 63) where
       let below = put_list (codes "parents") string o.parents shaped in
       put_list_whole (codes "children") string o.children below (every_integral string (λ s. refl) o.children)
       (put_list_whole (codes "parents") string o.parents shaped (every_integral string (λ s. refl) o.parents)
-      (put_list_whole (codes "geometry") (geometry_data pool) o.body.geometry typed (list_integral (geometry_data pool) is_kept_geometry geometry_integral o.body.geometry parts.1)
+      (put_list_whole (codes "geometry") (geometry_data pool) o.body.geometry typed
+      (list_integral (geometry_data pool) is_kept_geometry geometry_integral o.body.geometry parts.1)
       (put-integral (codes "type") (string (name_of o.body.kind)) o.body.extra refl (at_object o.body.extra parts.0))))
 
-  objects_integral : (ms : Members) (es : Entries) → are_kept_objects es ≡ true → members_integral ms ≡ true → members_integral (with_objects pool ms es) ≡ true
+  objects_integral : (ms : Members) (es : Entries) → are_kept_objects es ≡ true → members_integral ms ≡ true
+      → members_integral (with_objects pool ms es) ≡ true
   objects_integral ms [] h hs = hs
   objects_integral ms (e ∷ es) h hs =
       let parts = and_parts (is_kept_object e.1) (are_kept_objects es) h in
-      objects_integral (put e.0 (object_data pool e.1) ms) es parts.1 (put-integral e.0 (object_data pool e.1) ms (object_integral e.1 parts.0) hs)
+      objects_integral (put e.0 (object_data pool e.1) ms) es parts.1
+      (put-integral e.0 (object_data pool e.1) ms (object_integral e.1 parts.0) hs)
 
 -- ---- the top
 
@@ -120,24 +137,35 @@ pub at_top : (ms : Members) → kept_at_top ms ≡ true → members_integral ms 
 at_top ms h =
     let named = lacks_both (codes "type") (codes "version") ms in
     let placed = lacks_both (codes "transform") (codes "CityObjects") ms in
-    let three = and_parts (members_integral ms && named && placed && lacks (codes "vertices") ms) (is_empty_object_or_absent (get_member (codes "extensions") ms)) h in
-    (and_parts (members_integral ms) named (and_parts (members_integral ms && named) placed (and_parts (members_integral ms && named && placed) (lacks (codes "vertices") ms) three.0).0).0).0
+    let three = and_parts (members_integral ms && named && placed && lacks (codes "vertices") ms)
+    (is_empty_object_or_absent (get_member (codes "extensions") ms)) h in
+    (and_parts (members_integral ms) named
+    (and_parts (members_integral ms && named) placed
+    (and_parts (members_integral ms && named && placed) (lacks (codes "vertices") ms) three.0).0).0).0
 
 triple_numbers : (zs : List ℤ) → is_i64_triple zs ≡ true → list_all is_i64 zs ≡ true
 triple_numbers zs h = (and_parts _ (list_all is_i64 zs) h).1
 
-transform_integral : (f : Frame) → is_i64_triple f.scale ≡ true → is_i64_triple f.translate ≡ true → kept_at_transform f.more ≡ true → is_integral (transform_data f) ≡ true
+transform_integral : (f : Frame) → is_i64_triple f.scale ≡ true → is_i64_triple f.translate ≡ true
+    → kept_at_transform f.more ≡ true → is_integral (transform_data f) ≡ true
 transform_integral f in_scale in_translate h =
-    put-integral (codes "translate") (triple_data f.translate) (put (codes "scale") (triple_data f.scale) f.more) (triple_integral f.translate (triple_numbers f.translate in_translate))
-    (put-integral (codes "scale") (triple_data f.scale) f.more (triple_integral f.scale (triple_numbers f.scale in_scale)) (at_transform f.more h))
+    put-integral (codes "translate") (triple_data f.translate) (put (codes "scale") (triple_data f.scale) f.more)
+    (triple_integral f.translate (triple_numbers f.translate in_translate))
+    (put-integral (codes "scale") (triple_data f.scale) f.more
+    (triple_integral f.scale (triple_numbers f.scale in_scale)) (at_transform f.more h))
 
-pub city_integral : (pool : List Point) (c : CityValue) → IsKeptCity c → IsInRange pool c.0 → is_integral (numbered_tree pool c) ≡ true
+pub city_integral : (pool : List Point) (c : CityValue) → IsKeptCity c → IsInRange pool c.0
+    → is_integral (numbered_tree pool c) ≡ true
 city_integral pool c h r =
     let typed = put (codes "type") (string (codes "CityJSON")) c.0.extra in
     let versioned = put (codes "version") (string (codes "2.0")) typed in
     let pooled = put (codes "vertices") (vertices_data pool) (frame_members c.0) in
-    let framed = put-integral (codes "transform") (transform_data c.0) versioned (transform_integral c.0 r.scale r.translate h.at_transform)
-    (put-integral (codes "version") (string (codes "2.0")) typed refl (put-integral (codes "type") (string (codes "CityJSON")) c.0.extra refl (at_top c.0.extra h.at_top))) in
+    let framed =
+    put-integral (codes "transform") (transform_data c.0) versioned
+    (transform_integral c.0 r.scale r.translate h.at_transform)
+    (put-integral (codes "version") (string (codes "2.0")) typed refl
+    (put-integral (codes "type") (string (codes "CityJSON")) c.0.extra refl (at_top c.0.extra h.at_top))) in
     let listed = list_integral vertex_data is_i64_point vertex_integral pool r.points in
-    put-integral (codes "CityObjects") (objects_data pool (entries c.1)) pooled (objects_integral pool r.fewer no_members (entries c.1) h.objects refl)
+    put-integral (codes "CityObjects") (objects_data pool (entries c.1)) pooled
+    (objects_integral pool r.fewer no_members (entries c.1) h.objects refl)
     (put-integral (codes "vertices") (vertices_data pool) (frame_members c.0) listed framed)

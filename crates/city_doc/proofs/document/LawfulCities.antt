@@ -17,15 +17,18 @@ faultless body rings shells =
     let r = or_parts (some_shape has_short_ring body) (some_shape has_same_twice body) rings in
     rw (r.0, r.1, shells) refl
 
-found : (objects : Objects) (id : List ℕ) (o : Object) → object_at objects id ≡ Some o → found_in (entries objects) id ≡ Some o
+found : (objects : Objects) (id : List ℕ) (o : Object) → object_at objects id ≡ Some o
+    → found_in (entries objects) id ≡ Some o
 found objects id o is = ap (λ (m : CityMap). m id) (sym (at_entries objects)) ∙ is
 
 -- a city whose relations agree, with no bad ring and no open shell, is lawful
-pub lawful : (objects : Objects) → IsRelated (object_at objects) → first_body is_bad_ringed (entries objects) ≡ None → first_body (some_shape has_open_shell) (entries objects) ≡ None → IsLawful (object_at objects)
+pub lawful : (objects : Objects) → IsRelated (object_at objects) → first_body is_bad_ringed (entries objects) ≡ None
+    → first_body (some_shape has_open_shell) (entries objects) ≡ None → IsLawful (object_at objects)
 lawful objects related rings shells = (
   λ id o is. (
     (related id o is).0,
-    faultless o.body (first_body-none is_bad_ringed (entries objects) rings id o (found objects id o is)) (first_body-none (some_shape has_open_shell) (entries objects) shells id o (found objects id o is)),
+    faultless o.body (first_body-none is_bad_ringed (entries objects) rings id o (found objects id o is))
+        (first_body-none (some_shape has_open_shell) (entries objects) shells id o (found objects id o is)),
   ),
   λ id o is. (related id o is).1,
 )

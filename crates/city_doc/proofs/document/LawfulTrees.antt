@@ -1,5 +1,6 @@
 -- A tree of whole numbers that stands for a lawful city has no fault, from its top to its objects.
-use Rattle.std.proofs.Common.{◌≡◌, ◌⊎◌, inl, inr, ℕ, List, [], ◌∷◌, Bool, true, true≢false, Option, Some, None, Result, Ok, Err, refl, sym, ap, subst, ◌∙◌, arith}
+use Rattle.std.proofs.Common.{◌≡◌, ◌⊎◌, inl, inr, ℕ, List, [], ◌∷◌, Bool, true, true≢false, Option, Some, None, Result}
+use Rattle.std.proofs.Common.{Ok, Err, refl, sym, ap, subst, ◌∙◌, arith}
 use Rattle.std.specs.Prelude.{◌&&◌, IfErr, length, option_and_then, option_map, is_some, codes}
 use Rattle.std.proofs.lemmas.Bool.{and_from, and_parts}
 use Rattle.serde_json.specs.Data.{Data, Items, no_items, item, Members, no_members, member}
@@ -14,13 +15,18 @@ use Rattle.city_model.specs.Integral.{is_integral, members_integral}
 use Rattle.city_model.proofs.MemberLaws.{get_member-without}
 use Rattle.city_model.specs.CityMap.{CityValue}
 use Rattle.city_doc.specs.declared.fault.ReadFault.{ReadFault}
-use Rattle.city_doc.specs.declared.fault.ReadFault.TheVariants.{OutOfMemory, TooLong, NotJson, NotWhole, NotCityJson, UnknownType, Unsupported, BadGeometry, BadVertex, BadRing, Relations, OpenShell}
+use Rattle.city_doc.specs.declared.fault.ReadFault.TheVariants.{OutOfMemory, TooLong, NotJson, NotWhole, NotCityJson}
+use Rattle.city_doc.specs.declared.fault.ReadFault.TheVariants.{UnknownType, Unsupported, BadGeometry, BadVertex}
+use Rattle.city_doc.specs.declared.fault.ReadFault.TheVariants.{BadRing, Relations, OpenShell}
 use Rattle.city_doc.specs.tree.Lists.{read_items}
 use Rattle.city_doc.specs.tree.Members.{kept_if}
 use Rattle.city_doc.specs.document.CityFaults.{or_empty}
-use Rattle.city_doc.specs.document.Cities.{is_city_json, points_in, entries_of, entries_in, city_of, objects_of, IsAdmitted}
+use Rattle.city_doc.specs.document.Cities.{is_city_json, points_in, entries_of, entries_in, city_of, objects_of}
+use Rattle.city_doc.specs.document.Cities.{IsAdmitted}
 use Rattle.city_doc.specs.document.Faults.{members_of, objects_in, vertices_in, is_unsupported, StandsIn, DocumentFault}
-use Rattle.city_doc.specs.document.Top.{is_text, has_triple, triple_at, is_transform, all_objects, are_all_objects, are_objects, are_vertices, first_wrong, wrong_member, frame_with, frame_of_rest, frame_of, without_top_members}
+use Rattle.city_doc.specs.document.Top.{is_text, has_triple, triple_at, is_transform, all_objects, are_all_objects}
+use Rattle.city_doc.specs.document.Top.{are_objects, are_vertices, first_wrong, wrong_member, frame_with, frame_of_rest}
+use Rattle.city_doc.specs.document.Top.{frame_of, without_top_members}
 use Rattle.city_doc.specs.object.Faults.{is_unknown_type, is_bad_geometry, has_bad_vertex}
 use Rattle.city_doc.specs.tree.Triples.{integral_at, triple_of, point_of, points_of, all_triples, are_all_triples}
 use Rattle.city_doc.proofs.document.Cities.{get-object}
@@ -57,22 +63,27 @@ stands_for d c h =
       points = ps.1 ∙ ap Some same_points;
       objects = ms.1 ∙ ap Some same_objects;
       list = es.0;
-      entries = sym (ap (λ x. entries_of x (objects_in d)) same_points) ∙ (sym (ap (entries_of ps.0) same_objects) ∙ ms.2);
+      entries = sym (ap (λ x. entries_of x (objects_in d)) same_points)
+          ∙ (sym (ap (entries_of ps.0) same_objects) ∙ ms.2);
       made = ap (λ x. x.1) frame.2;
       frame = frame.1 ∙ ap (λ x. Some x.0) (sym frame.2);
     }
 
 -- ---- the top
 
-all_are_objects : (points : List Point) (ms : Members) (es : city.Entries) → entries_of points ms ≡ Some es → all_objects ms ≡ true
+all_are_objects : (points : List Point) (ms : Members) (es : city.Entries) → entries_of points ms ≡ Some es
+    → all_objects ms ≡ true
 all_are_objects points no_members es h = refl
 all_are_objects points (member k x ms) es h =
     let o = and_then_some (λ y. option_map (λ ys. (k, y) ∷ ys) (entries_of points ms)) _ es h in
     let r = map_some (λ ys. (k, o.0) ∷ ys) (entries_of points ms) es o.2 in
-    and_from (is_some (as_object x)) (all_objects ms) (is_object points x (o.0).body (read_as points x o.0 o.1).body) (all_are_objects points ms r.0 r.1)
+    and_from (is_some (as_object x)) (all_objects ms) (is_object points x (o.0).body (read_as points x o.0 o.1).body)
+    (all_are_objects points ms r.0 r.1)
 
 triple_some : (d : Data) (p : Point) → point_of d ≡ Some p → is_some (triple_of d) ≡ true
-triple_some d p h = three_some (λ x y z. record { x = x; y = y; z = z }) (λ x y z. x ∷ y ∷ z ∷ []) (is_some (at 3 d)) (integral_at 0 d) (integral_at 1 d) (integral_at 2 d) (ap is_some h)
+triple_some d p h =
+    three_some (λ x y z. record { x = x; y = y; z = z }) (λ x y z. x ∷ y ∷ z ∷ []) (is_some (at 3 d)) (integral_at 0 d)
+    (integral_at 1 d) (integral_at 2 d) (ap is_some h)
 
 triples : (ds : Items) (ps : List Point) → read_items point_of ds ≡ Some ps → all_triples ds ≡ true
 triples no_items ps h = refl
@@ -83,7 +94,8 @@ triples (item d ds) ps h =
 
 pub vertices_right : (o : Option Data) (ps : List Point) → option_and_then points_of o ≡ Some ps → are_vertices o ≡ true
 vertices_right None ps h = absurd (let no : ⊥ = cc in no)
-vertices_right (Some v) ps h = let ds = and_then_some (read_items point_of) (as_array v) ps h in ap are_all_triples ds.1 ∙ triples ds.0 ps ds.2
+vertices_right (Some v) ps h = let ds = and_then_some (read_items point_of) (as_array v) ps h in ap are_all_triples ds.1
+    ∙ triples ds.0 ps ds.2
 
 -- the members of the top that a frame is read of
 record HasFrameParts (top : Members) : Type 0 where
@@ -93,65 +105,96 @@ record HasFrameParts (top : Members) : Type 0 where
 last_of_five : (a b c e f : Bool) → (a && b && c && e && f) ≡ true → f ≡ true
 last_of_five a b c e f h = (and_parts (a && b && c && e) f h).1
 
-extensions_stay : (top : Members) → get_member (codes "extensions") (without_top_members (without (codes "CityObjects") top)) ≡ get_member (codes "extensions") top
+extensions_stay : (top : Members)
+    → get_member (codes "extensions") (without_top_members (without (codes "CityObjects") top))
+    ≡ get_member (codes "extensions") top
 extensions_stay top =
     let a = without (codes "CityObjects") top in
     let b = without (codes "transform") a in
     let c = without (codes "type") b in
     let e = without (codes "version") c in
     let name = codes "extensions" in
-    get_member-without name (codes "vertices") e refl ∙ get_member-without name (codes "version") c refl ∙ get_member-without name (codes "type") b refl
+    get_member-without name (codes "vertices") e refl ∙ get_member-without name (codes "version") c refl
+    ∙ get_member-without name (codes "type") b refl
     ∙ get_member-without name (codes "transform") a refl ∙ get_member-without name (codes "CityObjects") top refl
 
-frame_parts : (top : Members) (f : Frame) → frame_of_rest (without (codes "CityObjects") top) ≡ Some f → HasFrameParts top
+frame_parts : (top : Members) (f : Frame) → frame_of_rest (without (codes "CityObjects") top) ≡ Some f
+    → HasFrameParts top
 frame_parts top f h =
     let rest = without (codes "CityObjects") top in
     let kept = and_then_some _ (kept_if kept_at_top (without_top_members rest)) f h in
     let t = and_then_some (frame_with kept.0) (get_member (codes "transform") rest) f kept.2 in
     let scale = and_then_some _ (triple_at (codes "scale") t.0) f t.2 in
     let translate = and_then_some _ (triple_at (codes "translate") t.0) f scale.2 in
-    let there : get_member (codes "transform") top ≡ Some t.0 = sym (get_member-without (codes "transform") (codes "CityObjects") top refl) ∙ t.1 in
+    let there : get_member (codes "transform") top ≡ Some t.0 =
+    sym (get_member-without (codes "transform") (codes "CityObjects") top refl) ∙ t.1 in
     let keeps = kept_passes kept_at_top (without_top_members rest) kept.0 kept.1 in
     record {
-      transform = ap is_transform there ∙ and_from (has_triple (codes "scale") t.0) (has_triple (codes "translate") t.0) (ap is_some scale.1) (ap is_some translate.1);
-      extensions = ap is_empty_object_or_absent (sym (extensions_stay top)) ∙ last_of_five (members_integral (without_top_members rest)) (lacks_both (codes "type") (codes "version") (without_top_members rest))
-          (lacks_both (codes "transform") (codes "CityObjects") (without_top_members rest)) (lacks (codes "vertices") (without_top_members rest)) (is_empty_object_or_absent (get_member (codes "extensions") (without_top_members rest))) keeps;
+      transform = ap is_transform there
+          ∙ and_from (has_triple (codes "scale") t.0) (has_triple (codes "translate") t.0) (ap is_some scale.1)
+          (ap is_some translate.1);
+      extensions = ap is_empty_object_or_absent (sym (extensions_stay top))
+          ∙ last_of_five (members_integral (without_top_members rest))
+          (lacks_both (codes "type") (codes "version") (without_top_members rest))
+          (lacks_both (codes "transform") (codes "CityObjects") (without_top_members rest))
+          (lacks (codes "vertices") (without_top_members rest))
+          (is_empty_object_or_absent (get_member (codes "extensions") (without_top_members rest))) keeps;
     }
 
 none_wrong : (a b c e f g : Bool) → a ≡ true → b ≡ true → c ≡ true → e ≡ true → f ≡ true → g ≡ true
-    → first_wrong ((codes "type", a) ∷ (codes "version", b) ∷ (codes "transform", c) ∷ (codes "CityObjects", e) ∷ (codes "vertices", f) ∷ (codes "extensions", g) ∷ []) ≡ None
+    → first_wrong
+    ((codes "type", a) ∷ (codes "version", b) ∷ (codes "transform", c) ∷ (codes "CityObjects", e)
+    ∷ (codes "vertices", f) ∷ (codes "extensions", g) ∷ []) ≡ None
 none_wrong a b c e f g ha hb hc he hf hg = rw (ha, hb, hc, he, hf, hg) refl
 
 right : (d : Data) (c : CityValue) → StandsFor d c → wrong_member d ≡ None
 right d c h =
-    let json = and_parts (is_text (codes "CityJSON") (get (codes "type") d)) (is_text (codes "2.0") (get (codes "version") d)) h.json in
+    let json = and_parts (is_text (codes "CityJSON") (get (codes "type") d))
+    (is_text (codes "2.0") (get (codes "version") d)) h.json in
     let top = and_then_some (λ ms. frame_of_rest (without (codes "CityObjects") ms)) (as_object d) c.0 h.frame in
     let parts = frame_parts top.0 c.0 top.2 in
-    none_wrong _ _ (is_transform (get (codes "transform") d)) (are_objects (get (codes "CityObjects") d)) (are_vertices (get (codes "vertices") d)) (is_empty_object_or_absent (get (codes "extensions") d)) json.0 json.1
-    (ap is_transform (get-object (codes "transform") d top.0 top.1) ∙ parts.transform) (ap are_all_objects h.objects ∙ all_are_objects (vertices_in d) (objects_in d) h.list h.entries)
-    (vertices_right (get (codes "vertices") d) (vertices_in d) h.points) (ap is_empty_object_or_absent (get-object (codes "extensions") d top.0 top.1) ∙ parts.extensions)
+    none_wrong _ _ (is_transform (get (codes "transform") d)) (are_objects (get (codes "CityObjects") d))
+    (are_vertices (get (codes "vertices") d)) (is_empty_object_or_absent (get (codes "extensions") d)) json.0 json.1
+    (ap is_transform (get-object (codes "transform") d top.0 top.1) ∙ parts.transform) (ap are_all_objects h.objects
+    ∙ all_are_objects (vertices_in d) (objects_in d) h.list h.entries)
+    (vertices_right (get (codes "vertices") d) (vertices_in d) h.points)
+    (ap is_empty_object_or_absent (get-object (codes "extensions") d top.0 top.1) ∙ parts.extensions)
 
 -- ---- no fault
 
-lawful_list : (d : Data) (c : CityValue) (s : StandsFor d c) → IsLawful (city.object_at c.1) → IsLawful (city.found_in s.list)
+lawful_list : (d : Data) (c : CityValue) (s : StandsFor d c) → IsLawful (city.object_at c.1)
+    → IsLawful (city.found_in s.list)
 lawful_list d c s lawful = subst IsLawful (ap city.object_at s.made ∙ at_listed s.list) lawful
 
-stands_not : (d : Data) (c : CityValue) (f : ReadFault) → is_integral d ≡ true → StandsFor d c → IsLawful (city.object_at c.1) → StandsIn d f → ⊥
+stands_not : (d : Data) (c : CityValue) (f : ReadFault) → is_integral d ≡ true → StandsFor d c
+    → IsLawful (city.object_at c.1) → StandsIn d f → ⊥
 stands_not d c OutOfMemory integral s lawful h = h
 stands_not d c TooLong integral s lawful h = h
 stands_not d c NotJson integral s lawful h = h
 stands_not d c NotWhole integral s lawful h = true≢false (sym integral ∙ h)
 stands_not d c (NotCityJson name) integral s lawful h = let clash : Some name ≡ None = sym h ∙ right d c s in cc
-stands_not d c (UnknownType id) integral s lawful h = no_object (vertices_in d) (objects_in d) s.list s.entries (lawful_list d c s lawful) is_unknown_type (known (vertices_in d)) id h.0
-stands_not d c (Unsupported id name) integral s lawful h = no_object (vertices_in d) (objects_in d) s.list s.entries (lawful_list d c s lawful) is_unsupported (supported (vertices_in d)) id h.0.0
-stands_not d c (BadGeometry id) integral s lawful h = no_object (vertices_in d) (objects_in d) s.list s.entries (lawful_list d c s lawful) is_bad_geometry (formed (vertices_in d)) id h.0
-stands_not d c (BadVertex id) integral s lawful h = no_object (vertices_in d) (objects_in d) s.list s.entries (lawful_list d c s lawful) (has_bad_vertex (length (vertices_in d))) (placed (vertices_in d)) id h.0
-stands_not d c (BadRing id) integral s lawful h = no_bad_ring (vertices_in d) (objects_in d) s.list s.entries (lawful_list d c s lawful) id h.0
-stands_not d c (Relations id) integral s lawful h = no_badly_related (vertices_in d) (objects_in d) s.list s.entries (lawful_list d c s lawful) id h.0
-stands_not d c (OpenShell id) integral s lawful h = no_open_shell (vertices_in d) (objects_in d) s.list s.entries (lawful_list d c s lawful) id h.0
+stands_not d c (UnknownType id) integral s lawful h =
+    no_object (vertices_in d) (objects_in d) s.list s.entries (lawful_list d c s lawful) is_unknown_type
+    (known (vertices_in d)) id h.0
+stands_not d c (Unsupported id name) integral s lawful h =
+    no_object (vertices_in d) (objects_in d) s.list s.entries (lawful_list d c s lawful) is_unsupported
+    (supported (vertices_in d)) id h.0.0
+stands_not d c (BadGeometry id) integral s lawful h =
+    no_object (vertices_in d) (objects_in d) s.list s.entries (lawful_list d c s lawful) is_bad_geometry
+    (formed (vertices_in d)) id h.0
+stands_not d c (BadVertex id) integral s lawful h =
+    no_object (vertices_in d) (objects_in d) s.list s.entries (lawful_list d c s lawful)
+    (has_bad_vertex (length (vertices_in d))) (placed (vertices_in d)) id h.0
+stands_not d c (BadRing id) integral s lawful h =
+    no_bad_ring (vertices_in d) (objects_in d) s.list s.entries (lawful_list d c s lawful) id h.0
+stands_not d c (Relations id) integral s lawful h =
+    no_badly_related (vertices_in d) (objects_in d) s.list s.entries (lawful_list d c s lawful) id h.0
+stands_not d c (OpenShell id) integral s lawful h =
+    no_open_shell (vertices_in d) (objects_in d) s.list s.entries (lawful_list d c s lawful) id h.0
 
 -- a text that is refused, but for want of memory, stands for no lawful city
-pub refused : (text : List ℕ) (f : ReadFault) → DocumentFault text f → (f ≡ OutOfMemory) ⊎ ((c : CityValue) → IsAdmitted text c → ⊥)
+pub refused : (text : List ℕ) (f : ReadFault) → DocumentFault text f
+    → (f ≡ OutOfMemory) ⊎ ((c : CityValue) → IsAdmitted text c → ⊥)
 refused text f (inl h) = inl h
 refused text f (inr (inl h)) = inr (λ c k. let long = h.1 in let short = k.1.0 in omega arith)
 refused text f (inr (inr (inl h))) = inr (λ c k. h.1.1 k.0 k.1.1)
@@ -160,12 +203,14 @@ refused text f (inr (inr (inr h))) = inr (λ c k.
     stands_not k.0 c f k.2 (stands_for k.0 c k.3) k.4 (subst (λ d. StandsIn d f) same h.2.0))
 
 -- nor is one that does refused, but for want of memory
-pub not_refused : (text : List ℕ) (c : CityValue) → IsAdmitted text c → (f : ReadFault) → DocumentFault text f → f ≡ OutOfMemory
+pub not_refused : (text : List ℕ) (c : CityValue) → IsAdmitted text c → (f : ReadFault) → DocumentFault text f
+    → f ≡ OutOfMemory
 not_refused text c admitted f h = elim (refused text f h) [
   | inl memory ↦ memory
   | inr none ↦ absurd (none c admitted)
 ]
 
-pub refused_result : {A : Type 0} (text : List ℕ) (r : Result A ReadFault) → IfErr r (λ f. DocumentFault text f) → IfErr r (λ f. (f ≡ OutOfMemory) ⊎ ((c : CityValue) → IsAdmitted text c → ⊥))
+pub refused_result : {A : Type 0} (text : List ℕ) (r : Result A ReadFault) → IfErr r (λ f. DocumentFault text f)
+    → IfErr r (λ f. (f ≡ OutOfMemory) ⊎ ((c : CityValue) → IsAdmitted text c → ⊥))
 refused_result text (Ok x) h = tt
 refused_result text (Err f) h = refused text f h

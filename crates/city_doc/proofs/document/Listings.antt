@@ -1,5 +1,6 @@
 -- The objects that a list makes, and the list that they make again.
-use Rattle.std.proofs.Common.{◌≡◌, ℕ, List, [], ◌∷◌, length, cond, Some, Ordering, Less, Equal, Greater, nat_cmp, sym, ap, subst, ◌∙◌, arith}
+use Rattle.std.proofs.Common.{◌≡◌, ℕ, List, [], ◌∷◌, length, cond, Some, Ordering, Less, Equal, Greater, nat_cmp, sym}
+use Rattle.std.proofs.Common.{ap, subst, ◌∙◌, arith}
 use Rattle.std.specs.Cmp.Lexicographic.{slice_cmp}
 use Rattle.std.specs.FinMap.{empty, entries, entries-insert, len-entries, len-empty, put}
 use Rattle.std.specs.FinMap.Entries.{by_order}
@@ -19,7 +20,8 @@ at_listed (e ∷ es) =
     ∙ (λ i q. cond (same_id_back e.0 q i) (Some e.1) (found_in es q))
 
 pub listed_again : (objects : Objects) → objects_of (entries objects) ≡ objects
-listed_again objects = same_objects (objects_of (entries objects)) objects (at_listed (entries objects) ∙ sym (at_entries objects))
+listed_again objects =
+    same_objects (objects_of (entries objects)) objects (at_listed (entries objects) ∙ sym (at_entries objects))
 
 -- ---- what holds of each object of a list holds of each that it makes
 
@@ -31,17 +33,24 @@ module _ (P : Object → Type 0) where
   of_none [] h = tt
   of_none (e ∷ es) h = absurd (omega arith)
 
-  of_each_by : (o : Ordering) (id : List ℕ) (object : Object) (e : List ℕ × Object) (es rest : Entries) → P object → OfEach (e ∷ es) → OfEach rest
+  of_each_by : (o : Ordering) (id : List ℕ) (object : Object) (e : List ℕ × Object) (es rest : Entries) → P object
+      → OfEach (e ∷ es) → OfEach rest
       → OfEach (by_order o ((id, object) ∷ e ∷ es) ((e.0, object) ∷ es) (e ∷ rest))
   of_each_by Less id object e es rest one h more = (one, h)
   of_each_by Equal id object e es rest one h more = (one, h.1)
   of_each_by Greater id object e es rest one h more = (h.0, more)
 
-  of_each_put : (id : List ℕ) (object : Object) (es : Entries) → P object → OfEach es → OfEach (put (slice_cmp nat_cmp) id object es)
+  of_each_put : (id : List ℕ) (object : Object) (es : Entries) → P object → OfEach es
+      → OfEach (put (slice_cmp nat_cmp) id object es)
   of_each_put id object [] one h = (one, tt)
-  of_each_put id object (e ∷ es) one h = of_each_by (slice_cmp nat_cmp id e.0) id object e es (put (slice_cmp nat_cmp) id object es) one h (of_each_put id object es one h.1)
+  of_each_put id object (e ∷ es) one h =
+      of_each_by (slice_cmp nat_cmp id e.0) id object e es (put (slice_cmp nat_cmp) id object es) one h
+      (of_each_put id object es one h.1)
 
   pub of_each_listed : (es : Entries) → OfEach es → OfEach (entries (objects_of es))
-  of_each_listed [] h = of_none (entries {X = Object} {R = slice_cmp nat_cmp} empty) (sym (len-entries empty) ∙ len-empty (slice_cmp nat_cmp) Object)
+  of_each_listed [] h =
+      of_none (entries {X = Object} {R = slice_cmp nat_cmp} empty) (sym (len-entries empty)
+      ∙ len-empty (slice_cmp nat_cmp) Object)
   of_each_listed (e ∷ es) h =
-      subst OfEach (sym (entries-insert nat_list_cmp_total (objects_of es) e.0 e.1)) (of_each_put e.0 e.1 (entries (objects_of es)) h.0 (of_each_listed es h.1))
+      subst OfEach (sym (entries-insert nat_list_cmp_total (objects_of es) e.0 e.1))
+      (of_each_put e.0 e.1 (entries (objects_of es)) h.0 (of_each_listed es h.1))

@@ -25,20 +25,27 @@ Own = List (List ℕ × Option Data)
 -- ---- a geometry
 
 abbrev pub geometry_own : List Point → Geometry → Own
-geometry_own pool g = (codes "boundaries", Some (boundaries_data pool g.shape)) ∷ (codes "lod", Some (string g.lod)) ∷ (codes "type", Some (string (shape_name g.shape))) ∷ []
+geometry_own pool g =
+    (codes "boundaries", Some (boundaries_data pool g.shape)) ∷ (codes "lod", Some (string g.lod)) ∷ (
+      codes "type",
+      Some (string (shape_name g.shape)),
+    ) ∷ []
 
 -- ---- an object
 
 abbrev pub object_own : List Point → Object → Own
 object_own pool o =
-    (codes "children", listed string o.children) ∷ (codes "geometry", listed (geometry_data pool) o.body.geometry) ∷ (codes "parents", listed string o.parents)
+    (codes "children", listed string o.children) ∷ (codes "geometry", listed (geometry_data pool) o.body.geometry)
+    ∷ (codes "parents", listed string o.parents)
     ∷ (codes "type", Some (string (name_of o.body.kind))) ∷ []
 
-put_listed : {A : Type 0} (name : List ℕ) (f : A → Data) (xs : List A) (ms : Members) → put_list name f xs ms ≡ put_if name (listed f xs) ms
+put_listed : {A : Type 0} (name : List ℕ) (f : A → Data) (xs : List A) (ms : Members)
+    → put_list name f xs ms ≡ put_if name (listed f xs) ms
 put_listed name f [] ms = refl
 put_listed name f (x ∷ xs) ms = refl
 
-swap_if : (a b : List ℕ) (x y : Option Data) (ms : Members) → slice_cmp nat_cmp a b ≡ Less → put_if a x (put_if b y ms) ≡ put_if b y (put_if a x ms)
+swap_if : (a b : List ℕ) (x y : Option Data) (ms : Members) → slice_cmp nat_cmp a b ≡ Less
+    → put_if a x (put_if b y ms) ≡ put_if b y (put_if a x ms)
 swap_if a b None None ms less = refl
 swap_if a b None (Some y) ms less = refl
 swap_if a b (Some x) None ms less = refl
@@ -52,7 +59,9 @@ object_puts pool o =
     ap object
     (put_listed (codes "children") string o.children _
     ∙ ap (put_if (codes "children") (listed string o.children))
-    (put_listed (codes "parents") string o.parents _ ∙ ap (put_if (codes "parents") parents) (put_listed (codes "geometry") (geometry_data pool) o.body.geometry typed)
+    (put_listed (codes "parents") string o.parents _
+    ∙ ap (put_if (codes "parents") parents)
+    (put_listed (codes "geometry") (geometry_data pool) o.body.geometry typed)
     ∙ sym (swap_if (codes "geometry") (codes "parents") shapes parents typed refl)))
 
 -- ---- a transform
@@ -61,13 +70,16 @@ abbrev pub transform_own : Frame → Own
 transform_own f = (codes "scale", Some (triple_data f.scale)) ∷ (codes "translate", Some (triple_data f.translate)) ∷ []
 
 pub transform_puts : (f : Frame) → transform_data f ≡ object (puts (transform_own f) f.more)
-transform_puts f = ap object (sym (put-swap (codes "scale") (codes "translate") (triple_data f.scale) (triple_data f.translate) f.more refl))
+transform_puts f =
+    ap object
+    (sym (put-swap (codes "scale") (codes "translate") (triple_data f.scale) (triple_data f.translate) f.more refl))
 
 -- ---- a city
 
 abbrev pub city_own : List Point → CityValue → Own
 city_own pool c =
-    (codes "CityObjects", Some (objects_data pool (entries c.1))) ∷ (codes "transform", Some (transform_data c.0)) ∷ (codes "type", Some (string (codes "CityJSON")))
+    (codes "CityObjects", Some (objects_data pool (entries c.1))) ∷ (codes "transform", Some (transform_data c.0))
+    ∷ (codes "type", Some (string (codes "CityJSON")))
     ∷ (codes "version", Some (string (codes "2.0"))) ∷ (codes "vertices", Some (vertices_data pool)) ∷ []
 
 pub city_puts : (pool : List Point) (c : CityValue) → numbered_tree pool c ≡ object (puts (city_own pool c) c.0.extra)
@@ -82,4 +94,5 @@ city_puts pool c =
     ∙ ap transform
     (sym (put-swap (codes "version") (codes "vertices") (string (codes "2.0")) vertices (type extra) refl)
     ∙ ap version (sym (put-swap (codes "type") (codes "vertices") (string (codes "CityJSON")) vertices extra refl))
-    ∙ sym (put-swap (codes "type") (codes "version") (string (codes "CityJSON")) (string (codes "2.0")) (put (codes "vertices") vertices extra) refl)))
+    ∙ sym (put-swap (codes "type") (codes "version") (string (codes "CityJSON")) (string (codes "2.0"))
+    (put (codes "vertices") vertices extra) refl)))

@@ -8,7 +8,8 @@ use Rattle.city_model.specs.declared.object.Point.{Point}
 use Rattle.city_model.specs.Kept.{is_empty_object_or_absent}
 use Rattle.city_doc.specs.tree.Lists.{read_items}
 use Rattle.city_doc.specs.document.Cities.{is_city_json, points_in}
-use Rattle.city_doc.specs.document.Top.{is_text, is_transform, are_objects, are_vertices, judged, first_wrong, wrong_member}
+use Rattle.city_doc.specs.document.Top.{is_text, is_transform, are_objects, are_vertices, judged, first_wrong}
+use Rattle.city_doc.specs.document.Top.{wrong_member}
 use Rattle.city_doc.specs.tree.Triples.{integral_at, triple_of, point_of, points_of, all_triples, are_all_triples}
 
 pub some_of : {X : Type 0} (o : Option X) → is_some o ≡ true → (x : X) × (o ≡ Some x)
@@ -17,7 +18,8 @@ some_of (Some x) h = (x, refl)
 
 -- ---- every member that is judged
 
-right_one : (b : Bool) (name : List ℕ) (rest : Option (List ℕ)) → (if b then rest else Some name) ≡ None → (b ≡ true) × (rest ≡ None)
+right_one : (b : Bool) (name : List ℕ) (rest : Option (List ℕ)) → (if b then rest else Some name) ≡ None
+    → (b ≡ true) × (rest ≡ None)
 right_one true name rest h = (refl, h)
 right_one false name rest h = cc
 
@@ -40,34 +42,48 @@ pub record IsRight (d : Data) : Type 0 where
 pub is_right : (d : Data) → wrong_member d ≡ None → IsRight d
 is_right d h =
     let r : AllRight (judged d) = all_right (judged d) h in
-    record { type_is = r.0; version_is = r.1.0; transform_is = r.1.1.0; objects_are = r.1.1.1.0; vertices_are = r.1.1.1.1.0; extensions_are = r.1.1.1.1.1.0 }
+    record {
+      type_is = r.0;
+      version_is = r.1.0;
+      transform_is = r.1.1.0;
+      objects_are = r.1.1.1.0;
+      vertices_are = r.1.1.1.1.0;
+      extensions_are = r.1.1.1.1.1.0;
+    }
 
 -- ---- what follows
 
 pub city_json : (d : Data) → IsRight d → is_city_json d ≡ true
 city_json d h = rw (h.type_is, h.version_is) refl
 
-last_some : {A B : Type 0} (make : ℤ → ℤ → ℤ → A) (other : ℤ → ℤ → ℤ → B) (x y : ℤ) (c : Option ℤ) → is_some (option_map (λ z. make x y z) c) ≡ true → is_some (option_map (λ z. other x y z) c) ≡ true
+last_some : {A B : Type 0} (make : ℤ → ℤ → ℤ → A) (other : ℤ → ℤ → ℤ → B) (x y : ℤ) (c : Option ℤ)
+    → is_some (option_map (λ z. make x y z) c) ≡ true → is_some (option_map (λ z. other x y z) c) ≡ true
 last_some make other x y None h = h
 last_some make other x y (Some z) h = refl
 
-middle_some : {A B : Type 0} (make : ℤ → ℤ → ℤ → A) (other : ℤ → ℤ → ℤ → B) (x : ℤ) (b c : Option ℤ) → is_some (option_and_then (λ y. option_map (λ z. make x y z) c) b) ≡ true
+middle_some : {A B : Type 0} (make : ℤ → ℤ → ℤ → A) (other : ℤ → ℤ → ℤ → B) (x : ℤ) (b c : Option ℤ)
+    → is_some (option_and_then (λ y. option_map (λ z. make x y z) c) b) ≡ true
     → is_some (option_and_then (λ y. option_map (λ z. other x y z) c) b) ≡ true
 middle_some make other x None c h = h
 middle_some make other x (Some y) c h = last_some make other x y c h
 
 pub three_some : {A B : Type 0} (make : ℤ → ℤ → ℤ → A) (other : ℤ → ℤ → ℤ → B) (long : Bool) (a b c : Option ℤ)
-    → is_some (if long then None else option_and_then (λ x. option_and_then (λ y. option_map (λ z. make x y z) c) b) a) ≡ true
-    → is_some (if long then None else option_and_then (λ x. option_and_then (λ y. option_map (λ z. other x y z) c) b) a) ≡ true
+    → is_some (if long then None else option_and_then (λ x. option_and_then (λ y. option_map (λ z. make x y z) c) b) a)
+    ≡ true
+    → is_some (if long then None else option_and_then (λ x. option_and_then (λ y. option_map (λ z. other x y z) c) b) a)
+    ≡ true
 three_some make other true a b c h = h
 three_some make other false None b c h = h
 three_some make other false (Some x) b c h = middle_some make other x b c h
 
 point_some : (d : Data) → is_some (triple_of d) ≡ true → is_some (point_of d) ≡ true
-point_some d h = three_some (λ x y z. x ∷ y ∷ z ∷ []) (λ x y z. record { x = x; y = y; z = z }) (is_some (at 3 d)) (integral_at 0 d) (integral_at 1 d) (integral_at 2 d) h
+point_some d h =
+    three_some (λ x y z. x ∷ y ∷ z ∷ []) (λ x y z. record { x = x; y = y; z = z }) (is_some (at 3 d)) (integral_at 0 d)
+    (integral_at 1 d) (integral_at 2 d) h
 
 -- an item that is read, before others that are
-pub item_read : {A : Type 0} (read : Data → Option A) (d : Data) (ds : Items) (x : A) (xs : List A) → read d ≡ Some x → read_items read ds ≡ Some xs → read_items read (item d ds) ≡ Some (x ∷ xs)
+pub item_read : {A : Type 0} (read : Data → Option A) (d : Data) (ds : Items) (x : A) (xs : List A) → read d ≡ Some x
+    → read_items read ds ≡ Some xs → read_items read (item d ds) ≡ Some (x ∷ xs)
 item_read read d ds x xs one rest = rw (one, rest) refl
 
 points_some : (ds : Items) → all_triples ds ≡ true → (ps : List Point) × (read_items point_of ds ≡ Some ps)
@@ -78,7 +94,8 @@ points_some (item d ds) h =
     let ps = points_some ds hs.1 in
     (p.0 ∷ ps.0, item_read point_of d ds p.0 ps.0 p.1 ps.1)
 
-pub array_some : (o : Option Items) → are_all_triples o ≡ true → (ps : List Point) × (option_and_then (read_items point_of) o ≡ Some ps)
+pub array_some : (o : Option Items) → are_all_triples o ≡ true
+    → (ps : List Point) × (option_and_then (read_items point_of) o ≡ Some ps)
 array_some None h = absurd (true≢false (sym h))
 array_some (Some ds) h = points_some ds h
 

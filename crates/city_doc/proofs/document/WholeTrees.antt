@@ -1,9 +1,12 @@
--- A tree that was read from a text and that has a city is a tree of whole numbers: the members that are kept are tested, and what else the city is made of are positions, vertices and texts.
-use Rattle.std.proofs.Common.{◌≡◌, ℕ, zero, suc, ℤ, List, [], ◌∷◌, Bool, true, false, true≢false, Option, Some, None, refl, sym, ap, subst, ◌∙◌}
+-- A tree that was read from a text and that has a city is a tree of whole numbers: the members that are kept are
+-- tested, and what else the city is made of are positions, vertices and texts.
+use Rattle.std.proofs.Common.{◌≡◌, ℕ, zero, suc, ℤ, List, [], ◌∷◌, Bool, true, false, true≢false, Option, Some, None}
+use Rattle.std.proofs.Common.{refl, sym, ap, subst, ◌∙◌}
 use Rattle.std.specs.Prelude.{option_and_then, option_map, codes, is_some, if◌then◌else◌}
 use Rattle.std.specs.List.{AllByRecursion}
 use Rattle.std.proofs.lemmas.Bool.{and_from, and_parts}
-use Rattle.serde_json.specs.Data.{Data, null, boolean, number, string, array, object, Items, no_items, item, Members, no_members, member}
+use Rattle.serde_json.specs.Data.{Data, null, boolean, number, string, array, object, Items, no_items, item, Members}
+use Rattle.serde_json.specs.Data.{no_members, member}
 use Rattle.serde_json.specs.Find.{get, get_member, get_item, as_str, as_object, as_number, as_i64}
 use Rattle.city_model.specs.CityMap.{CityValue, Entries}
 use Rattle.city_model.specs.declared.object.Point.{Point}
@@ -17,12 +20,14 @@ use Rattle.city_doc.specs.tree.Lists.{read_items, list_of, list_or_absent}
 use Rattle.city_doc.specs.tree.Members.{kept_if, text_at}
 use Rattle.city_doc.specs.tree.Texts.{IsText}
 use Rattle.city_doc.specs.tree.Triples.{integral_at, three_of, triple_of, point_of, points_of}
-use Rattle.city_doc.specs.shape.Geometries.{point_at_position, point_at, nested_of, shape_of, shape_in, without_geometry_members, geometry_with, geometry_of}
+use Rattle.city_doc.specs.shape.Geometries.{point_at_position, point_at, nested_of, shape_of, shape_in}
+use Rattle.city_doc.specs.shape.Geometries.{without_geometry_members, geometry_with, geometry_of}
 use Rattle.city_doc.specs.shape.Nesting.{geometry_type}
 use Rattle.city_doc.specs.object.Bodies.{without_object_members, object_of}
 use Rattle.city_doc.specs.document.Cities.{city_of, entries_of}
 use Rattle.city_doc.specs.document.Faults.{objects_in, vertices_in}
-use Rattle.city_doc.specs.document.Top.{triple_at, without_transform_members, more_of, without_top_members, frame_with, frame_of_rest, same_text, is_text}
+use Rattle.city_doc.specs.document.Top.{triple_at, without_transform_members, more_of, without_top_members, frame_with}
+use Rattle.city_doc.specs.document.Top.{frame_of_rest, same_text, is_text}
 use Rattle.city_doc.proofs.Options.{and_then_some, map_some}
 use Rattle.city_doc.proofs.document.Cities.{get-object}
 use Rattle.city_doc.proofs.document.IntegralTrees.{at_geometry, at_object, at_transform, at_top}
@@ -38,10 +43,12 @@ use Rattle.city_doc.proofs.tree.Trees.{object_is}
 -- ---- members that are taken out
 
 -- members each of which is found whole are whole
-all_whole : (ms : Members) → AreOrdered ms → ((k : List ℕ) (d : Data) → get_member k ms ≡ Some d → is_integral d ≡ true) → members_integral ms ≡ true
+all_whole : (ms : Members) → AreOrdered ms → ((k : List ℕ) (d : Data) → get_member k ms ≡ Some d → is_integral d ≡ true)
+    → members_integral ms ≡ true
 all_whole no_members ordered each = refl
 all_whole (member l e ms) ordered each =
-    and_from (is_integral e) (members_integral ms) (each l e (here l e ms)) (all_whole ms ordered.1 (λ k d is. each k d (there l k e d ms ordered.0 is)))
+    and_from (is_integral e) (members_integral ms) (each l e (here l e ms))
+    (all_whole ms ordered.1 (λ k d is. each k d (there l k e d ms ordered.0 is)))
 
 abbrev without_all : List (List ℕ) → Members → Members
 without_all [] ms = ms
@@ -52,21 +59,29 @@ abbrev AreWholeAt : Data → List (List ℕ) → Type 0
 AreWholeAt d names = AllByRecursion (λ n. (e : Data) → IsOrdered e → get n d ≡ Some e → is_integral e ≡ true) names
 
 -- a member is at one of the names, or is left
-taken_or_left : (names : List (List ℕ)) (ms rest : Members) (k : List ℕ) (d : Data) → IsOrdered d → AreWholeAt (object ms) names → members_integral (without_all names rest) ≡ true → get_member k ms ≡ Some d → get_member k rest ≡ Some d
+taken_or_left : (names : List (List ℕ)) (ms rest : Members) (k : List ℕ) (d : Data) → IsOrdered d
+    → AreWholeAt (object ms) names → members_integral (without_all names rest) ≡ true → get_member k ms ≡ Some d
+    → get_member k rest ≡ Some d
     → is_integral d ≡ true
 taken_or_left [] ms rest k d ordered taken left is still = get_member-integral k rest d left still
 taken_or_left (n ∷ names) ms rest k d ordered taken left is still =
     by_id k n (λ same. taken.0 d ordered (ap (λ x. get_member x ms) (sym same) ∙ is))
-    (λ apart. taken_or_left names ms (without n rest) k d ordered taken.1 left is (get_member-without k n rest apart ∙ still))
+    (λ apart. taken_or_left names ms (without n rest) k d ordered taken.1 left is (get_member-without k n rest apart
+    ∙ still))
 
-members_whole : (names : List (List ℕ)) (ms : Members) → IsOrdered (object ms) → AreWholeAt (object ms) names → members_integral (without_all names ms) ≡ true → members_integral ms ≡ true
-members_whole names ms ordered taken left = all_whole ms ordered.0 (λ k d is. taken_or_left names ms ms k d (value_ordered k ms d ordered.1 is) taken left is is)
+members_whole : (names : List (List ℕ)) (ms : Members) → IsOrdered (object ms) → AreWholeAt (object ms) names
+    → members_integral (without_all names ms) ≡ true → members_integral ms ≡ true
+members_whole names ms ordered taken left =
+    all_whole ms ordered.0
+    (λ k d is. taken_or_left names ms ms k d (value_ordered k ms d ordered.1 is) taken left is is)
 
 -- an object is whole where the members of some names are, and those that are left
-object_whole : (names : List (List ℕ)) (d : Data) (ms : Members) → as_object d ≡ Some ms → IsOrdered d → AreWholeAt d names → members_integral (without_all names ms) ≡ true → is_integral d ≡ true
+object_whole : (names : List (List ℕ)) (d : Data) (ms : Members) → as_object d ≡ Some ms → IsOrdered d
+    → AreWholeAt d names → members_integral (without_all names ms) ≡ true → is_integral d ≡ true
 object_whole names d ms is ordered taken left =
     let same : d ≡ object ms = object_is d ms is in
-    subst (λ x. IsOrdered x → AreWholeAt x names → is_integral x ≡ true) (sym same) (λ o t. members_whole names ms o t left) ordered taken
+    subst (λ x. IsOrdered x → AreWholeAt x names → is_integral x ≡ true) (sym same)
+    (λ o t. members_whole names ms o t left) ordered taken
 
 -- ---- what is read
 
@@ -74,7 +89,8 @@ object_whole names d ms is ordered taken left =
 abbrev ReadsWhole : {A : Type 0} → (Data → Option A) → Type 0
 ReadsWhole {A} read = (d : Data) (x : A) → IsOrdered d → read d ≡ Some x → is_integral d ≡ true
 
-at_read : {A : Type 0} (read : Data → Option A) → ReadsWhole read → (o : Option Data) (x : A) → option_and_then read o ≡ Some x → (d : Data) → IsOrdered d → o ≡ Some d → is_integral d ≡ true
+at_read : {A : Type 0} (read : Data → Option A) → ReadsWhole read → (o : Option Data) (x : A)
+    → option_and_then read o ≡ Some x → (d : Data) → IsOrdered d → o ≡ Some d → is_integral d ≡ true
 at_read read whole o x h d ordered is = whole d x ordered (ap (option_and_then read) (sym is) ∙ h)
 
 text_whole : ReadsWhole as_str
@@ -98,15 +114,19 @@ integer_whole (string s) h = refl
 integer_whole (array ds) h = absurd (true≢false (sym h))
 integer_whole (object ms) h = absurd (true≢false (sym h))
 
-three_items : (ds : Items) → is_some (get_item 3 ds) ≡ false → is_some (integral_at 0 (array ds)) ≡ true → is_some (integral_at 1 (array ds)) ≡ true → is_some (integral_at 2 (array ds)) ≡ true → items_integral ds ≡ true
+three_items : (ds : Items) → is_some (get_item 3 ds) ≡ false → is_some (integral_at 0 (array ds)) ≡ true
+    → is_some (integral_at 1 (array ds)) ≡ true → is_some (integral_at 2 (array ds)) ≡ true → items_integral ds ≡ true
 three_items no_items short x y z = refl
 three_items (item a no_items) short x y z = rw (integer_whole a x) refl
 three_items (item a (item b no_items)) short x y z = rw (integer_whole a x, integer_whole b y) refl
-three_items (item a (item b (item c no_items))) short x y z = rw (integer_whole a x, integer_whole b y, integer_whole c z) refl
+three_items (item a (item b (item c no_items))) short x y z =
+    rw (integer_whole a x, integer_whole b y, integer_whole c z) refl
 three_items (item a (item b (item c (item d ds)))) short x y z = absurd (true≢false short)
 
 module _ {A : Type 0} (make : ℤ → ℤ → ℤ → A) where
-  all_three : (long : Bool) (a b c : Option ℤ) (x : A) → (if long then None else option_and_then (λ x. option_and_then (λ y. option_map (λ z. make x y z) c) b) a) ≡ Some x
+  all_three : (long : Bool) (a b c : Option ℤ) (x : A)
+      → (if long then None else option_and_then (λ x. option_and_then (λ y. option_map (λ z. make x y z) c) b) a)
+      ≡ Some x
       → (long ≡ false) × (is_some a ≡ true) × (is_some b ≡ true) × (is_some c ≡ true)
   all_three true a b c x h = absurd (let no : ⊥ = cc in no)
   all_three false None b c x h = absurd (let no : ⊥ = cc in no)
@@ -121,13 +141,15 @@ module _ {A : Type 0} (make : ℤ → ℤ → ℤ → A) where
   three_whole (string s) x o h = refl
   three_whole (object ms) x o h = absurd (let no : ⊥ = cc in no)
   three_whole (array ds) x o h =
-      let hs = all_three (is_some (get_item 3 ds)) (integral_at 0 (array ds)) (integral_at 1 (array ds)) (integral_at 2 (array ds)) x h in
+      let hs = all_three (is_some (get_item 3 ds)) (integral_at 0 (array ds)) (integral_at 1 (array ds))
+      (integral_at 2 (array ds)) x h in
       three_items ds hs.0 hs.1 hs.2 hs.3
 
 -- ---- lists
 
 module _ {A : Type 0} (read : Data → Option A) (whole : ReadsWhole read) where
-  items_whole : (ds : Items) (xs : List A) → AreItemsOrdered ds → read_items read ds ≡ Some xs → items_integral ds ≡ true
+  items_whole : (ds : Items) (xs : List A) → AreItemsOrdered ds → read_items read ds ≡ Some xs
+      → items_integral ds ≡ true
   items_whole no_items xs o h = refl
   items_whole (item d ds) xs o h =
       let x = and_then_some (λ y. option_map (λ ys. y ∷ ys) (read_items read ds)) (read d) xs h in
@@ -142,14 +164,16 @@ module _ {A : Type 0} (read : Data → Option A) (whole : ReadsWhole read) where
   list_whole (array ds) xs o h = items_whole ds xs o h
   list_whole (object ms) xs o h = absurd (let no : ⊥ = cc in no)
 
-  or_absent_whole : (o : Option Data) (xs : List A) → list_or_absent read o ≡ Some xs → (d : Data) → IsOrdered d → o ≡ Some d → is_integral d ≡ true
+  or_absent_whole : (o : Option Data) (xs : List A) → list_or_absent read o ≡ Some xs → (d : Data) → IsOrdered d
+      → o ≡ Some d → is_integral d ≡ true
   or_absent_whole o xs h d ordered is = list_whole d xs ordered (ap (list_or_absent read) (sym is) ∙ h)
 
 -- ---- objects
 
 module _ (points : List Point) where
   point_whole : ReadsWhole (point_at points)
-  point_whole d p o h = let z = and_then_some (point_at_position points) (option_and_then as_i64 (as_number d)) p h in integer_whole d (ap is_some z.1)
+  point_whole d p o h = let z = and_then_some (point_at_position points) (option_and_then as_i64 (as_number d)) p h in
+      integer_whole d (ap is_some z.1)
 
   nested_whole : (n : ℕ) → ReadsWhole (nested_of points n)
   nested_whole zero = point_whole
@@ -164,15 +188,19 @@ module _ (points : List Point) where
   geometry_whole : ReadsWhole (geometry_of points)
   geometry_whole d g o h =
       let shape = and_then_some (λ s. option_and_then (geometry_with s) (as_object d)) (shape_in points d) g h in
-      let kind = and_then_some (λ k. option_and_then (shape_of points k) (get (codes "boundaries") d)) (text_at (codes "type") d) shape.0 shape.1 in
+      let kind = and_then_some (λ k. option_and_then (shape_of points k) (get (codes "boundaries") d))
+      (text_at (codes "type") d) shape.0 shape.1 in
       let ms = and_then_some (geometry_with shape.0) (as_object d) g shape.2 in
       let lod = and_then_some _ (option_and_then as_str (get_member (codes "lod") ms.0)) g ms.2 in
       let left = without_geometry_members ms.0 in
       let kept = map_some _ (kept_if kept_at_geometry left) g lod.2 in
       let typed = at_read as_str text_whole (get (codes "type") d) kind.0 kind.1 in
-      let detailed = at_read as_str text_whole (get (codes "lod") d) lod.0 (ap (option_and_then as_str) (get-object (codes "lod") d ms.0 ms.1) ∙ lod.1) in
+      let detailed =
+      at_read as_str text_whole (get (codes "lod") d) lod.0
+      (ap (option_and_then as_str) (get-object (codes "lod") d ms.0 ms.1) ∙ lod.1) in
       let bounded = at_read (shape_of points kind.0) (shape_whole kind.0) (get (codes "boundaries") d) shape.0 kind.2 in
-      object_whole (codes "type" ∷ codes "lod" ∷ codes "boundaries" ∷ []) d ms.0 ms.1 o (typed, (detailed, (bounded, tt))) (at_geometry left (kept_passes kept_at_geometry left kept.0 kept.1))
+      object_whole (codes "type" ∷ codes "lod" ∷ codes "boundaries" ∷ []) d ms.0 ms.1 o
+      (typed, (detailed, (bounded, tt))) (at_geometry left (kept_passes kept_at_geometry left kept.0 kept.1))
 
   city_object_whole : ReadsWhole (object_of points)
   city_object_whole d x o h =
@@ -180,19 +208,24 @@ module _ (points : List Point) where
       let b = body_parts points d x.body r.body in
       let kind = and_then_some type_named (text_at (codes "type") d) _ b.kind in
       let typed = at_read as_str text_whole (get (codes "type") d) kind.0 kind.1 in
-      let shaped = or_absent_whole (geometry_of points) geometry_whole (get (codes "geometry") d) (x.body).geometry b.geometry in
+      let shaped =
+      or_absent_whole (geometry_of points) geometry_whole (get (codes "geometry") d) (x.body).geometry b.geometry in
       let below = or_absent_whole as_str text_whole (get (codes "parents") d) x.parents r.parents in
       let above = or_absent_whole as_str text_whole (get (codes "children") d) x.children r.children in
-      object_whole (codes "type" ∷ codes "geometry" ∷ codes "parents" ∷ codes "children" ∷ []) d b.members b.is_object o (typed, (shaped, (below, (above, tt)))) (at_object (without_object_members b.members) b.kept)
+      object_whole (codes "type" ∷ codes "geometry" ∷ codes "parents" ∷ codes "children" ∷ []) d b.members b.is_object o
+      (typed, (shaped, (below, (above, tt)))) (at_object (without_object_members b.members) b.kept)
 
-  entries_whole : (ms : Members) (es : Entries) → AreValuesOrdered ms → entries_of points ms ≡ Some es → members_integral ms ≡ true
+  entries_whole : (ms : Members) (es : Entries) → AreValuesOrdered ms → entries_of points ms ≡ Some es
+      → members_integral ms ≡ true
   entries_whole no_members es o h = refl
   entries_whole (member id d ms) es o h =
       let x = and_then_some (λ y. option_map (λ ys. (id, y) ∷ ys) (entries_of points ms)) (object_of points d) es h in
       let rest = map_some (λ ys. (id, x.0) ∷ ys) (entries_of points ms) es x.2 in
-      and_from (is_integral d) (members_integral ms) (city_object_whole d x.0 o.0 x.1) (entries_whole ms rest.0 o.1 rest.1)
+      and_from (is_integral d) (members_integral ms) (city_object_whole d x.0 o.0 x.1)
+      (entries_whole ms rest.0 o.1 rest.1)
 
-  objects_whole : (ms : Members) (es : Entries) → entries_of points ms ≡ Some es → (o : Option Data) → option_and_then as_object o ≡ Some ms → (d : Data) → IsOrdered d → o ≡ Some d → is_integral d ≡ true
+  objects_whole : (ms : Members) (es : Entries) → entries_of points ms ≡ Some es → (o : Option Data)
+      → option_and_then as_object o ≡ Some ms → (d : Data) → IsOrdered d → o ≡ Some d → is_integral d ≡ true
   objects_whole ms es read o are d ordered is =
       let same : d ≡ object ms = object_is d ms (ap (option_and_then as_object) (sym is) ∙ are) in
       subst (λ x. IsOrdered x → is_integral x ≡ true) (sym same) (λ h. entries_whole ms es h.1 read) ordered
@@ -207,29 +240,39 @@ transform_whole extra d f o h =
     let scale = and_then_some _ (triple_at (codes "scale") d) f h in
     let translate = and_then_some _ (triple_at (codes "translate") d) f scale.2 in
     let more = map_some _ (more_of d) f translate.2 in
-    let ms = and_then_some (λ ms. kept_if kept_at_transform (without_transform_members ms)) (as_object d) more.0 more.1 in
+    let ms = and_then_some (λ ms. kept_if kept_at_transform (without_transform_members ms)) (as_object d) more.0 more.1
+    in
     let left = without_transform_members ms.0 in
     let scaled = at_read triple_of triple_whole (get (codes "scale") d) scale.0 scale.1 in
     let translated = at_read triple_of triple_whole (get (codes "translate") d) translate.0 translate.1 in
-    object_whole (codes "scale" ∷ codes "translate" ∷ []) d ms.0 ms.1 o (scaled, (translated, tt)) (at_transform left (kept_passes kept_at_transform left more.0 ms.2))
+    object_whole (codes "scale" ∷ codes "translate" ∷ []) d ms.0 ms.1 o (scaled, (translated, tt))
+    (at_transform left (kept_passes kept_at_transform left more.0 ms.2))
 
 top_whole : (d : Data) (c : CityValue) → IsOrdered d → StandsFor d c → is_integral d ≡ true
 top_whole d c o s =
-    let json = and_parts (is_text (codes "CityJSON") (get (codes "type") d)) (is_text (codes "2.0") (get (codes "version") d)) s.json in
+    let json = and_parts (is_text (codes "CityJSON") (get (codes "type") d))
+    (is_text (codes "2.0") (get (codes "version") d)) s.json in
     let kind = compared (codes "CityJSON") (option_and_then as_str (get (codes "type") d)) json.0 in
     let version = compared (codes "2.0") (option_and_then as_str (get (codes "version") d)) json.1 in
     let top = and_then_some (λ ms. frame_of_rest (without (codes "CityObjects") ms)) (as_object d) c.0 s.frame in
     let rest = without (codes "CityObjects") top.0 in
     let left = without_top_members rest in
     let kept = and_then_some _ (kept_if kept_at_top left) c.0 top.2 in
-    let placed = get-object (codes "transform") d top.0 top.1 ∙ sym (get_member-without (codes "transform") (codes "CityObjects") top.0 refl) in
-    let objects = objects_whole (vertices_in d) (objects_in d) s.list s.entries (get (codes "CityObjects") d) s.objects in
-    let transformed = at_read (frame_with kept.0) (transform_whole kept.0) (get (codes "transform") d) c.0 (ap (option_and_then (frame_with kept.0)) placed ∙ kept.2) in
+    let placed = get-object (codes "transform") d top.0 top.1
+    ∙ sym (get_member-without (codes "transform") (codes "CityObjects") top.0 refl) in
+    let objects = objects_whole (vertices_in d) (objects_in d) s.list s.entries (get (codes "CityObjects") d) s.objects
+    in
+    let transformed =
+    at_read (frame_with kept.0) (transform_whole kept.0) (get (codes "transform") d) c.0
+    (ap (option_and_then (frame_with kept.0)) placed ∙ kept.2) in
     let typed = at_read as_str text_whole (get (codes "type") d) kind.0 kind.1 in
     let versioned = at_read as_str text_whole (get (codes "version") d) version.0 version.1 in
-    let vertices = at_read points_of (list_whole point_of (three_whole _)) (get (codes "vertices") d) (vertices_in d) s.points in
-    object_whole (codes "CityObjects" ∷ codes "transform" ∷ codes "type" ∷ codes "version" ∷ codes "vertices" ∷ []) d top.0 top.1 o (objects, (transformed, (typed, (versioned, (vertices, tt)))))
+    let vertices =
+    at_read points_of (list_whole point_of (three_whole _)) (get (codes "vertices") d) (vertices_in d) s.points in
+    object_whole (codes "CityObjects" ∷ codes "transform" ∷ codes "type" ∷ codes "version" ∷ codes "vertices" ∷ []) d
+    top.0 top.1 o (objects, (transformed, (typed, (versioned, (vertices, tt)))))
     (at_top left (kept_passes kept_at_top left kept.0 kept.1))
 
-pub text_is_whole : (text : List ℕ) (d : Data) (c : CityValue) → IsText text d → city_of d ≡ Some c → is_integral d ≡ true
+pub text_is_whole : (text : List ℕ) (d : Data) (c : CityValue) → IsText text d → city_of d ≡ Some c
+    → is_integral d ≡ true
 text_is_whole text d c is h = top_whole d c (read_ordered text d is.1) (stands_for d c h)

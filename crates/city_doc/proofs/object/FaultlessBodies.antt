@@ -42,35 +42,48 @@ body_parts points d b h =
       geometry = gs.1 ∙ ap (λ x. Some x.geometry) (sym kept.2);
     }
 
-address_stays : (ms : Members) → get_member (codes "address") (without_object_members ms) ≡ get_member (codes "address") ms
+address_stays : (ms : Members)
+    → get_member (codes "address") (without_object_members ms) ≡ get_member (codes "address") ms
 address_stays ms =
     let a = without (codes "type") ms in
     let b = without (codes "geometry") a in
     let c = without (codes "parents") b in
-    get_member-without (codes "address") (codes "children") c refl ∙ get_member-without (codes "address") (codes "parents") b refl
-    ∙ get_member-without (codes "address") (codes "geometry") a refl ∙ get_member-without (codes "address") (codes "type") ms refl
+    get_member-without (codes "address") (codes "children") c refl
+    ∙ get_member-without (codes "address") (codes "parents") b refl
+    ∙ get_member-without (codes "address") (codes "geometry") a refl
+    ∙ get_member-without (codes "address") (codes "type") ms refl
 
 -- a kept address has no location
-no_location : (d : Data) (ms : Members) → as_object d ≡ Some ms → kept_at_object (without_object_members ms) ≡ true → has_location (get (codes "address") d) ≡ false
+no_location : (d : Data) (ms : Members) → as_object d ≡ Some ms → kept_at_object (without_object_members ms) ≡ true
+    → has_location (get (codes "address") d) ≡ false
 no_location d ms is_object kept =
     let name = codes "address" in
     let stays : get_member name (without_object_members ms) ≡ get_member name ms = address_stays ms in
-    ap has_location (get-object name d ms is_object ∙ sym stays) ∙ not-true (has_location (get_member name (without_object_members ms))) (and_parts _ _ kept).1
+    ap has_location (get-object name d ms is_object ∙ sym stays)
+    ∙ not-true (has_location (get_member name (without_object_members ms))) (and_parts _ _ kept).1
 
 -- no body that is read has a fault that its tree shows
 pub supported : (points : List Point) (d : Data) (b : Body) → body_of points d ≡ Some b → is_unsupported d ≡ false
 supported points d b h =
     let p = body_parts points d b h in
-    rw (no_location d p.members p.is_object p.kept, geometries_supported points (get (codes "geometry") d) b.geometry p.geometry) refl
+    rw (
+      no_location d p.members p.is_object p.kept,
+      geometries_supported points (get (codes "geometry") d) b.geometry p.geometry,
+    ) refl
 
 pub known : (points : List Point) (d : Data) (b : Body) → body_of points d ≡ Some b → is_unknown_type d ≡ false
 known points d b h = ap is_none (body_parts points d b h).kind
 
 pub formed : (points : List Point) (d : Data) (b : Body) → body_of points d ≡ Some b → is_bad_geometry d ≡ false
-formed points d b h = ap not (geometries_fit points _ (number_fits points) (get (codes "geometry") d) b.geometry (body_parts points d b h).geometry)
+formed points d b h =
+    ap not (geometries_fit points _ (number_fits points) (get (codes "geometry") d) b.geometry
+    (body_parts points d b h).geometry)
 
-pub placed : (points : List Point) (d : Data) (b : Body) → body_of points d ≡ Some b → has_bad_vertex (length points) d ≡ false
-placed points d b h = ap not (geometries_fit points _ (position_fits points) (get (codes "geometry") d) b.geometry (body_parts points d b h).geometry)
+pub placed : (points : List Point) (d : Data) (b : Body) → body_of points d ≡ Some b
+    → has_bad_vertex (length points) d ≡ false
+placed points d b h =
+    ap not (geometries_fit points _ (position_fits points) (get (codes "geometry") d) b.geometry
+    (body_parts points d b h).geometry)
 
 pub is_object : (points : List Point) (d : Data) (b : Body) → body_of points d ≡ Some b → is_some (as_object d) ≡ true
 is_object points d b h = ap is_some (body_parts points d b h).is_object

@@ -25,16 +25,21 @@ use Rattle.city_doc.proofs.document.Right.{some_of}
 use Rattle.city_doc.proofs.tree.IntegralParts.{as_object-integral, get_member-integral}
 
 -- the member `geometry`, after `type` was taken out
-pub geometry_stays : (d : Data) (ms left : Members) (found : Option Data) → as_object d ≡ Some ms → left ≡ without (codes "type") ms → found ≡ get_member (codes "geometry") left → get (codes "geometry") d ≡ found
+pub geometry_stays : (d : Data) (ms left : Members) (found : Option Data) → as_object d ≡ Some ms
+    → left ≡ without (codes "type") ms → found ≡ get_member (codes "geometry") left → get (codes "geometry") d ≡ found
 geometry_stays d ms left found is_object is_left is_found =
-    get-object (codes "geometry") d ms is_object ∙ sym (get_member-without (codes "geometry") (codes "type") ms refl) ∙ ap (get_member (codes "geometry")) (sym is_left) ∙ sym is_found
+    get-object (codes "geometry") d ms is_object ∙ sym (get_member-without (codes "geometry") (codes "type") ms refl)
+    ∙ ap (get_member (codes "geometry")) (sym is_left) ∙ sym is_found
 
-module _ (points : List Point) (d : Data) (kind : ObjectType) (ms : Members) (has_type : type_of d ≡ Some kind) (is_object : as_object d ≡ Some ms) where
+module _ (points : List Point) (d : Data) (kind : ObjectType) (ms : Members) (has_type : type_of d ≡ Some kind)
+    (is_object : as_object d ≡ Some ms) where
   pub body_missing : list_or_absent (geometry_of points) (get (codes "geometry") d) ≡ None → None ≡ body_of points d
   body_missing none = rw (has_type, is_object, none) refl
 
-  pub body_read : (geometry : List Geometry) (kept : Members) → list_or_absent (geometry_of points) (get (codes "geometry") d) ≡ Some geometry
-      → kept_if kept_at_object (without_object_members ms) ≡ Some kept → body_of points d ≡ Some (record { kind = kind; geometry = geometry; extra = kept })
+  pub body_read : (geometry : List Geometry) (kept : Members)
+      → list_or_absent (geometry_of points) (get (codes "geometry") d) ≡ Some geometry
+      → kept_if kept_at_object (without_object_members ms) ≡ Some kept
+      → body_of points d ≡ Some (record { kind = kind; geometry = geometry; extra = kept })
   body_read geometry kept is_geometry is_kept = rw (has_type, is_object, is_geometry, is_kept) refl
 
 -- ---- a body is read
@@ -43,11 +48,13 @@ known_some : (o : Option ObjectType) → is_none o ≡ false → (kind : ObjectT
 known_some None h = absurd (true≢false h)
 known_some (Some kind) h = (kind, refl)
 
-not_located : (located : Bool) (rest : Option (List ℕ)) → is_some (if located then Some (codes "location") else rest) ≡ false → located ≡ false
+not_located : (located : Bool) (rest : Option (List ℕ))
+    → is_some (if located then Some (codes "location") else rest) ≡ false → located ≡ false
 not_located true rest h = absurd (true≢false h)
 not_located false rest h = refl
 
--- a tree of whole numbers that is an object of a known type, with nothing unsupported and with positions that name points
+-- a tree of whole numbers that is an object of a known type, with nothing unsupported and with positions that name
+-- points
 pub record IsReadable (points : List Point) (d : Data) : Type 0 where
   pub integral : is_integral d ≡ true
   pub is_object : is_some (as_object d) ≡ true
@@ -55,7 +62,8 @@ pub record IsReadable (points : List Point) (d : Data) : Type 0 where
   pub supported : is_unsupported d ≡ false
   pub placed : has_bad_vertex (length points) d ≡ false
 
-pub body_of-some : (points : List Point) (d : Data) → IsReadable points d → (body : Body) × (body_of points d ≡ Some body)
+pub body_of-some : (points : List Point) (d : Data) → IsReadable points d
+    → (body : Body) × (body_of points d ≡ Some body)
 body_of-some points d h =
     let ms = some_of (as_object d) h.is_object in
     let integral = as_object-integral d ms.0 h.integral ms.1 in
@@ -64,5 +72,6 @@ body_of-some points d h =
     let elsewhere = ap has_location (sym (get-object (codes "address") d ms.0 ms.1)) ∙ located in
     let kept = kept_all kept_at_object (without_object_members ms.0) (object_admitted ms.0 integral elsewhere) in
     let geometry = get-object (codes "geometry") d ms.0 ms.1 in
-    let gs = geometries_some points (get (codes "geometry") d) (λ g is. get_member-integral (codes "geometry") ms.0 g integral (sym geometry ∙ is)) (not-false _ h.placed) in
+    let gs = geometries_some points (get (codes "geometry") d)
+    (λ g is. get_member-integral (codes "geometry") ms.0 g integral (sym geometry ∙ is)) (not-false _ h.placed) in
     (_, body_read points d kind.0 ms.0 kind.1 ms.1 gs.0 (without_object_members ms.0) gs.1 kept)

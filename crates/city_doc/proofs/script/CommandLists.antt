@@ -1,5 +1,6 @@
 -- Lists of the trees of commands: which of them end a script, and what is taken out of its members.
-use Rattle.std.proofs.Common.{◌≡◌, ℕ, ◌+◌, ◌<◌, suc, List, [], ◌∷◌, true, length, map, drop, get_or, Option, Some, option_map, refl, sym, ap, ◌∙◌, arith, length-drop}
+use Rattle.std.proofs.Common.{◌≡◌, ℕ, ◌+◌, ◌<◌, suc, List, [], ◌∷◌, true, length, map, drop, get_or, Option, Some}
+use Rattle.std.proofs.Common.{option_map, refl, sym, ap, ◌∙◌, arith, length-drop}
 use Rattle.std.specs.Prelude.{◌==◌, option_and_then, codes}
 use Rattle.std.proofs.Math.Seq.{drop-cons}
 use Rattle.serde_json.specs.Data.{Data, Members}
@@ -24,18 +25,22 @@ is_last-length f [] n e = grind (arith, e)
 is_last-length f (x ∷ xs) n e = grind (arith, e)
 
 -- a word that ends a script is the last tree, or the list is no script's
-pub word_ends-drop : {A : Type 0} (f : A → Data) (xs : List A) (i : ℕ) (x : A) → i < length xs → x ≡ get_or xs i x → is_end_word (f x) ≡ true
+pub word_ends-drop : {A : Type 0} (f : A → Data) (xs : List A) (i : ℕ) (x : A) → i < length xs → x ≡ get_or xs i x
+    → is_end_word (f x) ≡ true
     → word_ends (map f (drop i xs)) ≡ (i + 1 == length xs)
 word_ends-drop f xs i x h at end =
-    rw (drop-cons xs i x h, ← at, end) (is_last-length f (drop (suc i) xs) _ refl ∙ zero_rest (i + 1) (length xs) (length (drop (suc i) xs)) (omega arith) (length-drop (suc i) xs ∙ omega arith))
+    rw (drop-cons xs i x h, ← at, end) (is_last-length f (drop (suc i) xs) _ refl
+    ∙ zero_rest (i + 1) (length xs) (length (drop (suc i) xs)) (omega arith) (length-drop (suc i) xs ∙ omega arith))
 
 -- ---- the commands that are read end as their trees do
 
-is_empty-read : (points : List Point) (ds : List Data) (cs : List Command) → all_read (command_of points) ds ≡ Some cs → is_empty_list cs ≡ is_last ds
+is_empty-read : (points : List Point) (ds : List Data) (cs : List Command) → all_read (command_of points) ds ≡ Some cs
+    → is_empty_list cs ≡ is_last ds
 is_empty-read points [] cs h = ap is_empty_list (all_read-nil (command_of points) cs h)
 is_empty-read points (d ∷ ds) cs h = let r = all_read-cons (command_of points) d ds cs h in ap is_empty_list r.4
 
-pub ends_once-read : (points : List Point) (ds : List Data) (cs : List Command) → all_read (command_of points) ds ≡ Some cs → ends_once cs ≡ word_ends ds
+pub ends_once-read : (points : List Point) (ds : List Data) (cs : List Command)
+    → all_read (command_of points) ds ≡ Some cs → ends_once cs ≡ word_ends ds
 ends_once-read points [] cs h = ap ends_once (all_read-nil (command_of points) cs h)
 ends_once-read points (d ∷ ds) cs h =
     let r = all_read-cons (command_of points) d ds cs h in
@@ -47,13 +52,16 @@ ends_once-read points (d ∷ ds) cs h =
 -- ---- members taken out one after another
 
 -- the commands, looked up after the name is taken out, and the vertices after both
-pub parts-taken : (ms rest last : Members) (name : List ℕ) (o : Option (List Data)) (v : Option Data) → text_in (codes "name") ms ≡ Some name → rest ≡ without (codes "name") ms
+pub parts-taken : (ms rest last : Members) (name : List ℕ) (o : Option (List Data)) (v : Option Data)
+    → text_in (codes "name") ms ≡ Some name → rest ≡ without (codes "name") ms
     → o ≡ commands_in rest → last ≡ without (codes "commands") rest → v ≡ get_member (codes "vertices") last
     → parts_in ms ≡ option_map (λ cs. record { name = name; commands = cs; vertices = v }) o
 parts-taken ms rest last name o v named left commands gone vertices =
-    let at : get_member (codes "commands") rest ≡ get_member (codes "commands") ms = ap (get_member (codes "commands")) left ∙ get_member-without (codes "commands") (codes "name") ms refl in
+    let at : get_member (codes "commands") rest ≡ get_member (codes "commands") ms =
+    ap (get_member (codes "commands")) left ∙ get_member-without (codes "commands") (codes "name") ms refl in
     let same : commands_in ms ≡ o = sym (commands ∙ ap (λ m. option_and_then ended (option_and_then array_of m)) at) in
     let there : get_member (codes "vertices") ms ≡ v =
-    sym (vertices ∙ ap (get_member (codes "vertices")) gone ∙ get_member-without (codes "vertices") (codes "commands") rest refl
+    sym (vertices ∙ ap (get_member (codes "vertices")) gone
+    ∙ get_member-without (codes "vertices") (codes "commands") rest refl
     ∙ ap (get_member (codes "vertices")) left ∙ get_member-without (codes "vertices") (codes "name") ms refl) in
     rw (named, same, there) refl

@@ -34,6 +34,15 @@ good d h =
     record { is_object = own.0; unrelated = own.1; known = named.0; supported = named.1; formed = read.1 }
 
 -- an object that isn't bad, and whose positions name points, has a body
-pub body_of-good : (points : List Point) (d : Data) → is_integral d ≡ true → is_bad_object d ≡ false → has_bad_vertex (length points) d ≡ false → (b : Body) × (body_of points d ≡ Some b)
+pub body_of-good : (points : List Point) (d : Data) → is_integral d ≡ true → is_bad_object d ≡ false
+    → has_bad_vertex (length points) d ≡ false → (b : Body) × (body_of points d ≡ Some b)
 body_of-good points d integral h placed =
-    let g = good d h in body_of-some points d (record { integral = integral; is_object = there (as_object d) g.is_object; known = g.known; supported = g.supported; placed = placed })
+    let g = good d h in
+    body_of-some points d
+    (record {
+      integral = integral;
+      is_object = there (as_object d) g.is_object;
+      known = g.known;
+      supported = g.supported;
+      placed = placed;
+    })

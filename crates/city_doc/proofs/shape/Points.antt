@@ -8,7 +8,8 @@ use Rattle.std.proofs.lemmas.Bool.{and_parts}
 use Rattle.city_model.specs.declared.object.Point.{Point}
 use Rattle.city_model.specs.Shells.{same_point}
 
-coordinates : (p q : Point) → same_point p q ≡ true → ((int_eq p.x q.x ≡ true) × (int_eq p.y q.y ≡ true)) × (int_eq p.z q.z ≡ true)
+coordinates : (p q : Point) → same_point p q ≡ true
+    → ((int_eq p.x q.x ≡ true) × (int_eq p.y q.y ≡ true)) × (int_eq p.z q.z ≡ true)
 coordinates p q h =
     let two = and_parts (int_eq p.x q.x && int_eq p.y q.y) (int_eq p.z q.z) h in
     (and_parts (int_eq p.x q.x) (int_eq p.y q.y) two.0, two.1)

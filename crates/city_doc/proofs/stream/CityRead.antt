@@ -31,18 +31,25 @@ top_without rest =
     let v = codes "vertices" in
     let t = without-swap (codes "transform") v rest in
     let k = ap (without (codes "type")) t ∙ without-swap (codes "type") v (without (codes "transform") rest) in
-    let n = ap (without (codes "version")) k ∙ without-swap (codes "version") v (without (codes "type") (without (codes "transform") rest)) in
-    ap (without v) n ∙ without-twice v (without (codes "version") (without (codes "type") (without (codes "transform") rest)))
+    let n = ap (without (codes "version")) k
+    ∙ without-swap (codes "version") v (without (codes "type") (without (codes "transform") rest)) in
+    ap (without v) n
+    ∙ without-twice v (without (codes "version") (without (codes "type") (without (codes "transform") rest)))
 
 -- the frame doesn't ask for the vertices
 frame_same : (rest : Members) → frame_of_rest (without (codes "vertices") rest) ≡ frame_of_rest rest
 frame_same rest =
-    ap (λ ms. option_and_then (λ extra. option_and_then (frame_with extra) (get_member (codes "transform") (without (codes "vertices") rest))) (kept_if kept_at_top ms)) (top_without rest)
-    ∙ ap (λ o. option_and_then (λ extra. option_and_then (frame_with extra) o) (kept_if kept_at_top (without_top_members rest))) (get_member-without (codes "transform") (codes "vertices") rest refl)
+    ap (λ ms. option_and_then
+    (λ extra. option_and_then (frame_with extra) (get_member (codes "transform") (without (codes "vertices") rest)))
+    (kept_if kept_at_top ms)) (top_without rest)
+    ∙ ap (λ o. option_and_then (λ extra. option_and_then (frame_with extra) o)
+    (kept_if kept_at_top (without_top_members rest)))
+    (get_member-without (codes "transform") (codes "vertices") rest refl)
 
 -- ---- the points
 
-points_read : (vs : List Vertex) (ds : List Data) → Pairs IsVertex vs ds → read_items triples.point_of (items_of ds) ≡ Some (points_of vs)
+points_read : (vs : List Vertex) (ds : List Data) → Pairs IsVertex vs ds
+    → read_items triples.point_of (items_of ds) ≡ Some (points_of vs)
 points_read [] [] h = refl
 points_read [] (d ∷ ds) h = absurd h
 points_read (v ∷ vs) [] h = absurd h
@@ -53,17 +60,28 @@ vertices_read vs d h = ap triples.points_of h.1 ∙ points_read vs h.0 h.2
 
 -- ---- the city
 
-pub city_read : (found rest objects : Members) (vertices : Data) (points : List Point) (es : Entries) (frame : Frame) → rest ≡ others found
-    → (is_text (codes "CityJSON") (get_member (codes "type") rest) && is_text (codes "2.0") (get_member (codes "version") rest)) ≡ true
-    → get_member (codes "vertices") found ≡ Some vertices → triples.points_of vertices ≡ Some points → get_member (codes "CityObjects") found ≡ Some (object objects) → entries_of points objects ≡ Some es
+pub city_read : (found rest objects : Members) (vertices : Data) (points : List Point) (es : Entries) (frame : Frame)
+    → rest ≡ others found
+    → (is_text (codes "CityJSON") (get_member (codes "type") rest) && is_text (codes "2.0")
+    (get_member (codes "version") rest)) ≡ true
+    → get_member (codes "vertices") found ≡ Some vertices → triples.points_of vertices ≡ Some points
+    → get_member (codes "CityObjects") found ≡ Some (object objects) → entries_of points objects ≡ Some es
     → frame_of_rest rest ≡ Some frame → city_of (object found) ≡ Some (frame, objects_of es)
 city_read found rest objects vertices points es frame is right at_vertices has_points at_objects has_entries has_frame =
     let kind : get_member (codes "type") rest ≡ get_member (codes "type") found =
-    ap (get_member (codes "type")) is ∙ get_member-without (codes "type") (codes "vertices") (without (codes "CityObjects") found) refl ∙ get_member-without (codes "type") (codes "CityObjects") found refl in
+    ap (get_member (codes "type")) is
+    ∙ get_member-without (codes "type") (codes "vertices") (without (codes "CityObjects") found) refl
+    ∙ get_member-without (codes "type") (codes "CityObjects") found refl in
     let version : get_member (codes "version") rest ≡ get_member (codes "version") found =
-    ap (get_member (codes "version")) is ∙ get_member-without (codes "version") (codes "vertices") (without (codes "CityObjects") found) refl ∙ get_member-without (codes "version") (codes "CityObjects") found refl in
-    let framed : frame_of_rest (without (codes "CityObjects") found) ≡ Some frame = sym (frame_same (without (codes "CityObjects") found)) ∙ sym (ap frame_of_rest is) ∙ has_frame in
-    let both = and_parts (is_text (codes "CityJSON") (get_member (codes "type") rest)) (is_text (codes "2.0") (get_member (codes "version") rest)) right in
-    let typed : is_text (codes "CityJSON") (get_member (codes "type") found) ≡ true = sym (ap (is_text (codes "CityJSON")) kind) ∙ both.0 in
-    let dated : is_text (codes "2.0") (get_member (codes "version") found) ≡ true = sym (ap (is_text (codes "2.0")) version) ∙ both.1 in
+    ap (get_member (codes "version")) is
+    ∙ get_member-without (codes "version") (codes "vertices") (without (codes "CityObjects") found) refl
+    ∙ get_member-without (codes "version") (codes "CityObjects") found refl in
+    let framed : frame_of_rest (without (codes "CityObjects") found) ≡ Some frame =
+    sym (frame_same (without (codes "CityObjects") found)) ∙ sym (ap frame_of_rest is) ∙ has_frame in
+    let both = and_parts (is_text (codes "CityJSON") (get_member (codes "type") rest))
+    (is_text (codes "2.0") (get_member (codes "version") rest)) right in
+    let typed : is_text (codes "CityJSON") (get_member (codes "type") found) ≡ true =
+    sym (ap (is_text (codes "CityJSON")) kind) ∙ both.0 in
+    let dated : is_text (codes "2.0") (get_member (codes "version") found) ≡ true =
+    sym (ap (is_text (codes "2.0")) version) ∙ both.1 in
     rw (typed, dated, at_vertices, has_points, at_objects, has_entries, framed) refl

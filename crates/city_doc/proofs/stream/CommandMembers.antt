@@ -14,7 +14,8 @@ unread None h = refl
 unread (Some x) h = absurd (true≢false h)
 
 -- that of a verb, where there was none
-pub verb_taken : (parts : CommandParts) (v : Verb) (copy text name : List ℕ) (found kept : Members) → name ≡ verb_name v → copy ≡ text → is_some parts.verb ≡ false → IsCommandSoFar parts found kept
+pub verb_taken : (parts : CommandParts) (v : Verb) (copy text name : List ℕ) (found kept : Members) → name ≡ verb_name v
+    → copy ≡ text → is_some parts.verb ≡ false → IsCommandSoFar parts found kept
     → IsCommandSoFar (record { verb = Some (v, copy); other = parts.other }) (put name (string text) found) kept
 verb_taken parts v copy text name found kept named same none h = (
   h.0,
@@ -23,7 +24,8 @@ verb_taken parts v copy text name found kept named same none h = (
   h.2,
 )
 
-object_last : (v : Verb) (x d : Data) → put (codes "object") d (put (verb_name v) x no_members) ≡ put (verb_name v) x (put (codes "object") d no_members)
+object_last : (v : Verb) (x d : Data)
+    → put (codes "object") d (put (verb_name v) x no_members) ≡ put (verb_name v) x (put (codes "object") d no_members)
 object_last Read x d = refl
 object_last Put x d = refl
 object_last Delete x d = refl
@@ -32,7 +34,8 @@ object_last Detach x d = refl
 object_last Mark x d = refl
 object_last Back x d = refl
 
-parent_last : (v : Verb) (x d : Data) → put (codes "parent") d (put (verb_name v) x no_members) ≡ put (verb_name v) x (put (codes "parent") d no_members)
+parent_last : (v : Verb) (x d : Data)
+    → put (codes "parent") d (put (verb_name v) x no_members) ≡ put (verb_name v) x (put (codes "parent") d no_members)
 parent_last Read x d = refl
 parent_last Put x d = refl
 parent_last Delete x d = refl
@@ -42,18 +45,25 @@ parent_last Mark x d = refl
 parent_last Back x d = refl
 
 -- it may come before the verb's or after it
-other_last : (verb : Option (Verb × List ℕ)) (o : Other) (name : List ℕ) (d : Data) → IsOther o name d → put name d (with_verb verb no_members) ≡ with_verb verb (put name d no_members)
+other_last : (verb : Option (Verb × List ℕ)) (o : Other) (name : List ℕ) (d : Data) → IsOther o name d
+    → put name d (with_verb verb no_members) ≡ with_verb verb (put name d no_members)
 other_last None o name d is = refl
 other_last (Some v) (Object body) name d is =
     let x = string v.1 in
-    subst (λ n. put n d (put (verb_name v.0) x no_members) ≡ put (verb_name v.0) x (put n d no_members)) (sym is.0) (object_last v.0 x d)
+    subst (λ n. put n d (put (verb_name v.0) x no_members) ≡ put (verb_name v.0) x (put n d no_members)) (sym is.0)
+    (object_last v.0 x d)
 other_last (Some v) (Parent id) name d is =
     let x = string v.1 in
-    subst (λ n. put n d (put (verb_name v.0) x no_members) ≡ put (verb_name v.0) x (put n d no_members)) (sym is.0) (parent_last v.0 x d)
+    subst (λ n. put n d (put (verb_name v.0) x no_members) ≡ put (verb_name v.0) x (put n d no_members)) (sym is.0)
+    (parent_last v.0 x d)
 
 -- that beside the verb's, where there was none
-pub other_taken : (parts : CommandParts) (o : Other) (name : List ℕ) (d : Data) (found kept : Members) → IsOther o name d → is_some parts.other ≡ false → IsCommandSoFar parts found kept
+pub other_taken : (parts : CommandParts) (o : Other) (name : List ℕ) (d : Data) (found kept : Members)
+    → IsOther o name d → is_some parts.other ≡ false → IsCommandSoFar parts found kept
     → IsCommandSoFar (record { verb = parts.verb; other = Some o }) (put name d found) kept
 other_taken parts o name d found kept is none h =
-    let alone : h.0 ≡ no_members = subst (λ x. AreOthers x h.0) (unread parts.other none) h.2 in
-    (put name d no_members, ap (put name d) (h.1 ∙ ap (with_verb parts.verb) alone) ∙ other_last parts.verb o name d is, (name, d, refl, is))
+    let alone : h.0 ≡ no_members = subst (λ x. AreOthers x h.0) (unread parts.other none) h.2 in (
+      put name d no_members,
+      ap (put name d) (h.1 ∙ ap (with_verb parts.verb) alone) ∙ other_last parts.verb o name d is,
+      (name, d, refl, is),
+    )

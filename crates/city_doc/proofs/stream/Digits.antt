@@ -1,5 +1,6 @@
 -- Digits read one by one.
-use Rattle.std.proofs.Common.{◌≡◌, ℕ, false, [], ◌+◌, ◌*◌, ◌%◌, ◌^◌, ◌<◌, ◌≤◌, List, length, take, get_or, sym, ap, subst, ◌∙◌, arith, length-take, append-nil, refl}
+use Rattle.std.proofs.Common.{◌≡◌, ℕ, false, [], ◌+◌, ◌*◌, ◌%◌, ◌^◌, ◌<◌, ◌≤◌, List, length, take, get_or, sym, ap}
+use Rattle.std.proofs.Common.{subst, ◌∙◌, arith, length-take, append-nil, refl}
 use Rattle.std.proofs.Math.Nat.{pow-le-pow_right}
 use Rattle.std.proofs.lemmas.Int.Digits.{digits_more, digits_value_more, digits_value-lt}
 use Rattle.std.proofs.lemmas.Str.{digit_value_digit}
@@ -20,7 +21,8 @@ digit_of byte in_range few =
     (omega arith, omega arith)
 
 -- one digit more
-pub more : (s : List ℕ) (i n digit : ℕ) → i < length s → AllDigits 10 (take i s) → n ≡ digits_value 10 (take i s) → IsDigit (get_or s i 0) digit
+pub more : (s : List ℕ) (i n digit : ℕ) → i < length s → AllDigits 10 (take i s) → n ≡ digits_value 10 (take i s)
+    → IsDigit (get_or s i 0) digit
     → AllDigits 10 (take (i + 1) s) × (n * 10 + digit ≡ digits_value 10 (take (i + 1) s))
 more s i n digit within all is h = (digits_more 10 s i within all h.0, rw (digits_value_more 10 s i within, is, h.1))
 
@@ -34,14 +36,25 @@ below k i s all few =
 
 -- the parts of digits alone
 abbrev parts_of : List ℕ → Parts
-parts_of ds = record { whole = ds; point = false; fraction = []; exponent_negative = false; exponent = []; len = length ds }
+parts_of ds =
+    record { whole = ds; point = false; fraction = []; exponent_negative = false; exponent = []; len = length ds }
 
 scanned : (ds : List ℕ) → AllDigits 10 ds → scan ds ≡ parts_of ds
 scanned ds all =
     let is : text_of (parts_of ds) ≡ ds = append-nil ds in
-    ap scan (sym is) ∙ scan_numeral-text_of (parts_of ds) (record { whole_digits = all; fraction_digits = tt; exponent_digits = tt; no_point = λ _. refl; no_exponent = λ _. refl; len_is = ap length (sym is) })
+    ap scan (sym is)
+    ∙ scan_numeral-text_of (parts_of ds)
+    (record {
+      whole_digits = all;
+      fraction_digits = tt;
+      exponent_digits = tt;
+      no_point = λ _. refl;
+      no_exponent = λ _. refl;
+      len_is = ap length (sym is);
+    })
 
-pub digits_scanned : (ds : List ℕ) → AllDigits 10 ds → 0 < length ds → IsInteger (scan ds) × (digits_of (scan ds) ≡ digits_value 10 ds)
+pub digits_scanned : (ds : List ℕ) → AllDigits 10 ds → 0 < length ds
+    → IsInteger (scan ds) × (digits_of (scan ds) ≡ digits_value 10 ds)
 digits_scanned ds all some = (
   subst IsInteger (sym (scanned ds all)) (some, refl, refl),
   ap digits_of (scanned ds all) ∙ ap (digits_value 10) (append-nil ds),

@@ -14,31 +14,37 @@ use Rattle.city_doc.proofs.stream.Members.{put_own, put_kept, other_name, slot_h
 abbrev names : List (List ℕ)
 names = codes "type" ∷ codes "lod" ∷ codes "boundaries" ∷ []
 
-pub with_kind : (parts : GeometryParts) (k : Kind) (name : List ℕ) (d : Data) (found kept : Members) → name ≡ codes "type" → IsKind k d → IsGeometrySoFar parts found kept
+pub with_kind : (parts : GeometryParts) (k : Kind) (name : List ℕ) (d : Data) (found kept : Members)
+    → name ≡ codes "type" → IsKind k d → IsGeometrySoFar parts found kept
     → IsGeometrySoFar (record { kind = Some k; lod = parts.lod; boundaries = parts.boundaries }) (put name d found) kept
 with_kind parts k name d found kept named is h =
     let new : GeometryParts = record { kind = Some k; lod = parts.lod; boundaries = parts.boundaries } in
     subst (λ n. IsGeometrySoFar new (put n d found) kept) (sym named) (record {
       kind = slot_here IsKind k (codes "type") d found is;
       lod = slot_other IsString parts.lod (codes "lod") (codes "type") d found refl h.lod;
-      boundaries = slot_other AreBoundaries parts.boundaries (codes "boundaries") (codes "type") d found refl h.boundaries;
+      boundaries =
+          slot_other AreBoundaries parts.boundaries (codes "boundaries") (codes "type") d found refl h.boundaries;
       ordered = ordered_put (codes "type") d found h.ordered;
       extra = h.extra ∙ sym (put_own names (codes "type") d found h.ordered refl);
     })
 
-pub with_lod : (parts : GeometryParts) (lod : List ℕ) (name : List ℕ) (d : Data) (found kept : Members) → name ≡ codes "lod" → IsString lod d → IsGeometrySoFar parts found kept
-    → IsGeometrySoFar (record { kind = parts.kind; lod = Some lod; boundaries = parts.boundaries }) (put name d found) kept
+pub with_lod : (parts : GeometryParts) (lod : List ℕ) (name : List ℕ) (d : Data) (found kept : Members)
+    → name ≡ codes "lod" → IsString lod d → IsGeometrySoFar parts found kept
+    → IsGeometrySoFar (record { kind = parts.kind; lod = Some lod; boundaries = parts.boundaries }) (put name d found)
+    kept
 with_lod parts lod name d found kept named is h =
     let new : GeometryParts = record { kind = parts.kind; lod = Some lod; boundaries = parts.boundaries } in
     subst (λ n. IsGeometrySoFar new (put n d found) kept) (sym named) (record {
       kind = slot_other IsKind parts.kind (codes "type") (codes "lod") d found refl h.kind;
       lod = slot_here IsString lod (codes "lod") d found is;
-      boundaries = slot_other AreBoundaries parts.boundaries (codes "boundaries") (codes "lod") d found refl h.boundaries;
+      boundaries =
+          slot_other AreBoundaries parts.boundaries (codes "boundaries") (codes "lod") d found refl h.boundaries;
       ordered = ordered_put (codes "lod") d found h.ordered;
       extra = h.extra ∙ sym (put_own names (codes "lod") d found h.ordered refl);
     })
 
-pub with_boundaries : (parts : GeometryParts) (b : Boundaries) (name : List ℕ) (d : Data) (found kept : Members) → name ≡ codes "boundaries" → AreBoundaries b d → IsGeometrySoFar parts found kept
+pub with_boundaries : (parts : GeometryParts) (b : Boundaries) (name : List ℕ) (d : Data) (found kept : Members)
+    → name ≡ codes "boundaries" → AreBoundaries b d → IsGeometrySoFar parts found kept
     → IsGeometrySoFar (record { kind = parts.kind; lod = parts.lod; boundaries = Some b }) (put name d found) kept
 with_boundaries parts b name d found kept named is h =
     let new : GeometryParts = record { kind = parts.kind; lod = parts.lod; boundaries = Some b } in
@@ -50,7 +56,8 @@ with_boundaries parts b name d found kept named is h =
       extra = h.extra ∙ sym (put_own names (codes "boundaries") d found h.ordered refl);
     })
 
-pub with_kept : (parts : GeometryParts) (name : List ℕ) (d : Data) (found kept : Members) → (name ≡ codes "type" → ⊥) → (name ≡ codes "lod" → ⊥) → (name ≡ codes "boundaries" → ⊥)
+pub with_kept : (parts : GeometryParts) (name : List ℕ) (d : Data) (found kept : Members) → (name ≡ codes "type" → ⊥)
+    → (name ≡ codes "lod" → ⊥) → (name ≡ codes "boundaries" → ⊥)
     → IsGeometrySoFar parts found kept → IsGeometrySoFar parts (put name d found) (put name d kept)
 with_kept parts name d found kept type lod boundaries h =
     let t = other_name name (codes "type") type in
@@ -60,7 +67,9 @@ with_kept parts name d found kept type lod boundaries h =
     record {
       kind = slot_other IsKind parts.kind (codes "type") name d found (same_id_back (codes "type") name ∙ t) h.kind;
       lod = slot_other IsString parts.lod (codes "lod") name d found (same_id_back (codes "lod") name ∙ l) h.lod;
-      boundaries = slot_other AreBoundaries parts.boundaries (codes "boundaries") name d found (same_id_back (codes "boundaries") name ∙ b) h.boundaries;
+      boundaries =
+          slot_other AreBoundaries parts.boundaries (codes "boundaries") name d found
+          (same_id_back (codes "boundaries") name ∙ b) h.boundaries;
       ordered = ordered_put name d found h.ordered;
       extra = ap (put name d) h.extra ∙ sym (put_kept names name d found h.ordered others);
     }

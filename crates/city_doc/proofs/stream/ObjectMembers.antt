@@ -15,10 +15,14 @@ use Rattle.city_doc.proofs.stream.Members.{put_own, put_kept, other_name, slot_h
 abbrev names : List (List ℕ)
 names = codes "type" ∷ codes "geometry" ∷ codes "parents" ∷ codes "children" ∷ []
 
-pub with_kind : (parts : ObjectParts) (k : ObjectType) (name : List ℕ) (d : Data) (found kept : Members) → name ≡ codes "type" → IsType k d → IsObjectSoFar parts found kept
-    → IsObjectSoFar (record { kind = Some k; geometry = parts.geometry; parents = parts.parents; children = parts.children }) (put name d found) kept
+pub with_kind : (parts : ObjectParts) (k : ObjectType) (name : List ℕ) (d : Data) (found kept : Members)
+    → name ≡ codes "type" → IsType k d → IsObjectSoFar parts found kept
+    → IsObjectSoFar
+    (record { kind = Some k; geometry = parts.geometry; parents = parts.parents; children = parts.children })
+    (put name d found) kept
 with_kind parts k name d found kept named is h =
-    let new : ObjectParts = record { kind = Some k; geometry = parts.geometry; parents = parts.parents; children = parts.children } in
+    let new : ObjectParts =
+    record { kind = Some k; geometry = parts.geometry; parents = parts.parents; children = parts.children } in
     subst (λ n. IsObjectSoFar new (put n d found) kept) (sym named) (record {
       kind = slot_here IsType k (codes "type") d found is;
       geometry = list_other IsGeometry parts.geometry (codes "geometry") (codes "type") d found refl h.geometry;
@@ -28,10 +32,13 @@ with_kind parts k name d found kept named is h =
       extra = h.extra ∙ sym (put_own names (codes "type") d found h.ordered refl);
     })
 
-pub with_geometry : (parts : ObjectParts) (gs : List Geometry) (name : List ℕ) (d : Data) (found kept : Members) → name ≡ codes "geometry" → IsArrayOf IsGeometry gs d → IsObjectSoFar parts found kept
-    → IsObjectSoFar (record { kind = parts.kind; geometry = gs; parents = parts.parents; children = parts.children }) (put name d found) kept
+pub with_geometry : (parts : ObjectParts) (gs : List Geometry) (name : List ℕ) (d : Data) (found kept : Members)
+    → name ≡ codes "geometry" → IsArrayOf IsGeometry gs d → IsObjectSoFar parts found kept
+    → IsObjectSoFar (record { kind = parts.kind; geometry = gs; parents = parts.parents; children = parts.children })
+    (put name d found) kept
 with_geometry parts gs name d found kept named is h =
-    let new : ObjectParts = record { kind = parts.kind; geometry = gs; parents = parts.parents; children = parts.children } in
+    let new : ObjectParts =
+    record { kind = parts.kind; geometry = gs; parents = parts.parents; children = parts.children } in
     subst (λ n. IsObjectSoFar new (put n d found) kept) (sym named) (record {
       kind = slot_other IsType parts.kind (codes "type") (codes "geometry") d found refl h.kind;
       geometry = list_here IsGeometry gs (codes "geometry") d found is;
@@ -41,10 +48,13 @@ with_geometry parts gs name d found kept named is h =
       extra = h.extra ∙ sym (put_own names (codes "geometry") d found h.ordered refl);
     })
 
-pub with_parents : (parts : ObjectParts) (ids : List (List ℕ)) (name : List ℕ) (d : Data) (found kept : Members) → name ≡ codes "parents" → IsArrayOf IsString ids d → IsObjectSoFar parts found kept
-    → IsObjectSoFar (record { kind = parts.kind; geometry = parts.geometry; parents = ids; children = parts.children }) (put name d found) kept
+pub with_parents : (parts : ObjectParts) (ids : List (List ℕ)) (name : List ℕ) (d : Data) (found kept : Members)
+    → name ≡ codes "parents" → IsArrayOf IsString ids d → IsObjectSoFar parts found kept
+    → IsObjectSoFar (record { kind = parts.kind; geometry = parts.geometry; parents = ids; children = parts.children })
+    (put name d found) kept
 with_parents parts ids name d found kept named is h =
-    let new : ObjectParts = record { kind = parts.kind; geometry = parts.geometry; parents = ids; children = parts.children } in
+    let new : ObjectParts =
+    record { kind = parts.kind; geometry = parts.geometry; parents = ids; children = parts.children } in
     subst (λ n. IsObjectSoFar new (put n d found) kept) (sym named) (record {
       kind = slot_other IsType parts.kind (codes "type") (codes "parents") d found refl h.kind;
       geometry = list_other IsGeometry parts.geometry (codes "geometry") (codes "parents") d found refl h.geometry;
@@ -54,10 +64,13 @@ with_parents parts ids name d found kept named is h =
       extra = h.extra ∙ sym (put_own names (codes "parents") d found h.ordered refl);
     })
 
-pub with_children : (parts : ObjectParts) (ids : List (List ℕ)) (name : List ℕ) (d : Data) (found kept : Members) → name ≡ codes "children" → IsArrayOf IsString ids d → IsObjectSoFar parts found kept
-    → IsObjectSoFar (record { kind = parts.kind; geometry = parts.geometry; parents = parts.parents; children = ids }) (put name d found) kept
+pub with_children : (parts : ObjectParts) (ids : List (List ℕ)) (name : List ℕ) (d : Data) (found kept : Members)
+    → name ≡ codes "children" → IsArrayOf IsString ids d → IsObjectSoFar parts found kept
+    → IsObjectSoFar (record { kind = parts.kind; geometry = parts.geometry; parents = parts.parents; children = ids })
+    (put name d found) kept
 with_children parts ids name d found kept named is h =
-    let new : ObjectParts = record { kind = parts.kind; geometry = parts.geometry; parents = parts.parents; children = ids } in
+    let new : ObjectParts =
+    record { kind = parts.kind; geometry = parts.geometry; parents = parts.parents; children = ids } in
     subst (λ n. IsObjectSoFar new (put n d found) kept) (sym named) (record {
       kind = slot_other IsType parts.kind (codes "type") (codes "children") d found refl h.kind;
       geometry = list_other IsGeometry parts.geometry (codes "geometry") (codes "children") d found refl h.geometry;
@@ -67,8 +80,10 @@ with_children parts ids name d found kept named is h =
       extra = h.extra ∙ sym (put_own names (codes "children") d found h.ordered refl);
     })
 
-pub with_kept : (parts : ObjectParts) (name : List ℕ) (d : Data) (found kept : Members) → (name ≡ codes "type" → ⊥) → (name ≡ codes "geometry" → ⊥) → (name ≡ codes "parents" → ⊥)
-    → (name ≡ codes "children" → ⊥) → IsObjectSoFar parts found kept → IsObjectSoFar parts (put name d found) (put name d kept)
+pub with_kept : (parts : ObjectParts) (name : List ℕ) (d : Data) (found kept : Members) → (name ≡ codes "type" → ⊥)
+    → (name ≡ codes "geometry" → ⊥) → (name ≡ codes "parents" → ⊥)
+    → (name ≡ codes "children" → ⊥) → IsObjectSoFar parts found kept
+    → IsObjectSoFar parts (put name d found) (put name d kept)
 with_kept parts name d found kept type geometry parents children h =
     let t = other_name name (codes "type") type in
     let g = other_name name (codes "geometry") geometry in
@@ -77,9 +92,12 @@ with_kept parts name d found kept type geometry parents children h =
     let others : has_id names name ≡ false = rw (t, g, p, c) refl in
     record {
       kind = slot_other IsType parts.kind (codes "type") name d found (same_id_back (codes "type") name ∙ t) h.kind;
-      geometry = list_other IsGeometry parts.geometry (codes "geometry") name d found (same_id_back (codes "geometry") name ∙ g) h.geometry;
-      parents = list_other IsString parts.parents (codes "parents") name d found (same_id_back (codes "parents") name ∙ p) h.parents;
-      children = list_other IsString parts.children (codes "children") name d found (same_id_back (codes "children") name ∙ c) h.children;
+      geometry = list_other IsGeometry parts.geometry (codes "geometry") name d found
+          (same_id_back (codes "geometry") name ∙ g) h.geometry;
+      parents = list_other IsString parts.parents (codes "parents") name d found (same_id_back (codes "parents") name
+          ∙ p) h.parents;
+      children = list_other IsString parts.children (codes "children") name d found
+          (same_id_back (codes "children") name ∙ c) h.children;
       ordered = ordered_put name d found h.ordered;
       extra = ap (put name d) h.extra ∙ sym (put_kept names name d found h.ordered others);
     }

@@ -16,5 +16,7 @@ opened_more n ts =
     opened_within n ts ∙ ap (λ k. opened k ts) next
 
 -- what stands for a value behind so many brackets, by other names
-pub read_within : {A : Type 0} (R : A → Data → Type 0) (x : A) (n k depth : ℕ) (before old new : List Token) → old ≡ opened n before → k ≡ depth → IsReadAs R x k (opened n before) new → IsReadAs R x depth old new
-read_within R x n k depth before old new is same h = subst (λ ts. IsReadAs R x depth ts new) (sym is) (subst (λ j. IsReadAs R x j (opened n before) new) same h)
+pub read_within : {A : Type 0} (R : A → Data → Type 0) (x : A) (n k depth : ℕ) (before old new : List Token)
+    → old ≡ opened n before → k ≡ depth → IsReadAs R x k (opened n before) new → IsReadAs R x depth old new
+read_within R x n k depth before old new is same h =
+    subst (λ ts. IsReadAs R x depth ts new) (sym is) (subst (λ j. IsReadAs R x j (opened n before) new) same h)

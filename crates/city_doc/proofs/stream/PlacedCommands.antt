@@ -16,7 +16,8 @@ use Rattle.city_doc.specs.tree.Lists.{list_of}
 use Rattle.city_doc.proofs.stream.Bodies.{body_placed}
 
 -- a put whose geometries are placed
-pub put_placed : (points : List Point) (c : Command) (id : List ℕ) (b : Body) (geometry : List Geometry) → c ≡ Put id b → IsPlaced (IsArrayOf IsGeometry) (list_of (geometry_of points)) b.geometry geometry
+pub put_placed : (points : List Point) (c : Command) (id : List ℕ) (b : Body) (geometry : List Geometry) → c ≡ Put id b
+    → IsPlaced (IsArrayOf IsGeometry) (list_of (geometry_of points)) b.geometry geometry
     → IsPlaced IsCommand (command_of points) c (Put id (record { kind = b.kind; geometry = geometry; extra = b.extra }))
 put_placed points c id b geometry is placed = λ d h.
     let put : IsCommand (Put id b) d = subst (λ x. IsCommand x d) is h in

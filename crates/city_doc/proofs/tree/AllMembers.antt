@@ -6,7 +6,8 @@ use Rattle.serde_json.specs.Data.{Data, Members, no_members, member, put}
 use Rattle.serde_json.specs.Find.{get_member}
 
 -- `All` is `P` of each value
-module _ (P : Data → Type 0) (All : Members → Type 0) (none : All no_members) (join : (k : List ℕ) (d : Data) (ms : Members) → P d → All ms → All (member k d ms))
+module _ (P : Data → Type 0) (All : Members → Type 0) (none : All no_members)
+    (join : (k : List ℕ) (d : Data) (ms : Members) → P d → All ms → All (member k d ms))
     (parts : (k : List ℕ) (d : Data) (ms : Members) → All (member k d ms) → P d × All ms) where
   put_step : (o : Ordering) (k l : List ℕ) (d e : Data) (ms : Members) → P d → P e → All ms → All (put k d ms)
       → All (match_ordering o (member k d (member l e ms)) (member l d ms) (member l e (put k d ms)))
@@ -21,7 +22,8 @@ module _ (P : Data → Type 0) (All : Members → Type 0) (none : All no_members
       let hs = parts l e ms h in
       put_step (slice_cmp nat_cmp k l) k l d e ms one hs.0 hs.1 (all_put k d ms one hs.1)
 
-  found_step : (o : Ordering) (d e : Data) (rest : Option Data) → P d → (rest ≡ Some e → P e) → match_ordering o rest (Some d) rest ≡ Some e → P e
+  found_step : (o : Ordering) (d e : Data) (rest : Option Data) → P d → (rest ≡ Some e → P e)
+      → match_ordering o rest (Some d) rest ≡ Some e → P e
   found_step Less d e rest one more is = more is
   found_step Equal d e rest one more is = let same : d ≡ e = cc in subst P same one
   found_step Greater d e rest one more is = more is

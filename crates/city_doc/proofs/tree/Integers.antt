@@ -26,20 +26,24 @@ module _ (z : ℤ) where
   text_of_i64 (negative y) e = let h : y ≡ z = cc in ap signed_decimal h
   text_of_i64 (float x) e = absurd cc
 
-small_enough : (b : Bool) (n : ℕ) (z : ℤ) → (nat_lt n (2 ^ 63)) ≡ b → (if b then Some (pos n) else None) ≡ Some z → n < 2 ^ 64
+small_enough : (b : Bool) (n : ℕ) (z : ℤ) → (nat_lt n (2 ^ 63)) ≡ b → (if b then Some (pos n) else None) ≡ Some z
+    → n < 2 ^ 64
 small_enough true n z lt e = omega (arith, ltb-true n (2 ^ 63) lt)
 small_enough false n z lt e = absurd cc
 
-below_zero : (y z : ℤ) → Some y ≡ Some z → int_lt y (pos 0) ≡ true → FitsSigned w64 z → number_of (signed_decimal y) ≡ Some (negative y)
+below_zero : (y z : ℤ) → Some y ≡ Some z → int_lt y (pos 0) ≡ true → FitsSigned w64 z
+    → number_of (signed_decimal y) ≡ Some (negative y)
 below_zero (pos n) z e h fits = absurd (grind arith)
 below_zero (negsuc n) z e h fits = let same : negsuc n ≡ z = cc in number_of-negative n (grind (arith, same, fits))
 
-number_read : (n : N) (z : ℤ) → is_valid n ≡ true → as_i64 (num_of n) ≡ Some z → FitsSigned w64 z → number_of (number_text (num_of n)) ≡ Some (num_of n)
+number_read : (n : N) (z : ℤ) → is_valid n ≡ true → as_i64 (num_of n) ≡ Some z → FitsSigned w64 z
+    → number_of (number_text (num_of n)) ≡ Some (num_of n)
 number_read (PosInt n) z valid e fits = number_of-decimal n (small_enough (nat_lt n (2 ^ 63)) n z refl e)
 number_read (NegInt y) z valid e fits = below_zero y z e valid fits
 number_read (Float x) z valid e fits = absurd cc
 
-pub number_reads : (n : N) (z : ℤ) → is_valid n ≡ true → as_i64 (num_of n) ≡ Some z → FitsSigned w64 z → ReadsBack (number (num_of n))
+pub number_reads : (n : N) (z : ℤ) → is_valid n ≡ true → as_i64 (num_of n) ≡ Some z → FitsSigned w64 z
+    → ReadsBack (number (num_of n))
 number_reads n z valid e fits = record { same = ap (option_map number) (number_read n z valid e fits) }
 
 -- a number of 64 bits
@@ -48,7 +52,8 @@ unsigned_reads n h = record { same = ap (option_map number) (number_of-decimal n
 
 pub integer_reads : (z : ℤ) → FitsSigned w64 z → ReadsBack (number (of_integer z))
 integer_reads (pos n) fits = let small : n < 2 ^ 64 = grind (arith, fits) in unsigned_reads n small
-integer_reads (negsuc n) fits = let small : n < 2 ^ 63 = grind (arith, fits) in record { same = ap (option_map number) (number_of-negative n small) }
+integer_reads (negsuc n) fits = let small : n < 2 ^ 63 = grind (arith, fits) in
+    record { same = ap (option_map number) (number_of-negative n small) }
 
 pub text_of_integer : (z : ℤ) → number_text (of_integer z) ≡ signed_decimal z
 text_of_integer (pos n) = refl

@@ -8,7 +8,8 @@ use Rattle.serde_json.specs.View.{items_of}
 use Rattle.serde_json.proofs.Views.{get_member-put}
 use Rattle.city_doc.specs.tree.Lists.{read_items, list_of, list_or_absent, list_data, put_list}
 
-module _ {A : Type 0} (read : Data → Option A) (f : A → Data) (ok : A → Bool) (each : (x : A) → ok x ≡ true → read (f x) ≡ Some x) where
+module _ {A : Type 0} (read : Data → Option A) (f : A → Data) (ok : A → Bool) (each : (x : A) → ok x ≡ true
+    → read (f x) ≡ Some x) where
   items_read : (xs : List A) → list_all ok xs ≡ true → read_items read (items_of (map f xs)) ≡ Some xs
   items_read [] h = refl
   items_read (x ∷ xs) h =
@@ -21,9 +22,11 @@ module _ {A : Type 0} (read : Data → Option A) (f : A → Data) (ok : A → Bo
   list_read xs h = items_read xs h
 
   -- also where it was left out as empty
-  pub put_list_read : (k : List ℕ) (xs : List A) (ms : Members) → list_all ok xs ≡ true → get_member k ms ≡ None → list_or_absent read (get_member k (put_list k f xs ms)) ≡ Some xs
+  pub put_list_read : (k : List ℕ) (xs : List A) (ms : Members) → list_all ok xs ≡ true → get_member k ms ≡ None
+      → list_or_absent read (get_member k (put_list k f xs ms)) ≡ Some xs
   put_list_read k [] ms h none = ap (list_or_absent read) none
-  put_list_read k (x ∷ xs) ms h none = ap (list_or_absent read) (get_member-put k (list_data f (x ∷ xs)) ms) ∙ list_read (x ∷ xs) h
+  put_list_read k (x ∷ xs) ms h none = ap (list_or_absent read) (get_member-put k (list_data f (x ∷ xs)) ms)
+      ∙ list_read (x ∷ xs) h
 
 pub all_pass : {A : Type 0} (xs : List A) → list_all (λ x. true) xs ≡ true
 all_pass [] = refl

@@ -25,7 +25,8 @@ all_above_lower a b (member k d ms) less h = (nat_list_cmp_total.trans a b k les
 
 -- ---- a member put in
 
-above_step : (o : Ordering) (a k l : List ℕ) (d e : Data) (ms : Members) → cmp a k ≡ Less → cmp a l ≡ Less → AllAbove a ms → AllAbove a (put k d ms)
+above_step : (o : Ordering) (a k l : List ℕ) (d e : Data) (ms : Members) → cmp a k ≡ Less → cmp a l ≡ Less
+    → AllAbove a ms → AllAbove a (put k d ms)
     → AllAbove a (match_ordering o (member k d (member l e ms)) (member l d ms) (member l e (put k d ms)))
 above_step Less a k l d e ms less first h rest = (less, (first, h))
 above_step Equal a k l d e ms less first h rest = (first, h)
@@ -35,7 +36,8 @@ pub above_put : (a k : List ℕ) (d : Data) (ms : Members) → cmp a k ≡ Less 
 above_put a k d no_members less h = (less, tt)
 above_put a k d (member l e ms) less h = above_step (cmp k l) a k l d e ms less h.0 h.1 (above_put a k d ms less h.1)
 
-ordered_step : (o : Ordering) (k l : List ℕ) (d e : Data) (ms : Members) → cmp k l ≡ o → AllAbove l ms → AreOrdered ms → AreOrdered (put k d ms)
+ordered_step : (o : Ordering) (k l : List ℕ) (d e : Data) (ms : Members) → cmp k l ≡ o → AllAbove l ms → AreOrdered ms
+    → AreOrdered (put k d ms)
     → AreOrdered (match_ordering o (member k d (member l e ms)) (member l d ms) (member l e (put k d ms)))
 ordered_step Less k l d e ms is above h rest = ((is, all_above_lower k l ms is above), (above, h))
 ordered_step Equal k l d e ms is above h rest = (above, h)
@@ -56,18 +58,27 @@ put_first k d (member l e ms) h = rw h.0 refl
 
 -- ---- two members put in, in either order
 
-swap_step : (p q : Ordering) (a b l : List ℕ) (x y e : Data) (ms : Members) → cmp a b ≡ Less → cmp a l ≡ p → cmp b l ≡ q → put a x (put b y ms) ≡ put b y (put a x ms)
-    → put a x (match_ordering q (member b y (member l e ms)) (member l y ms) (member l e (put b y ms))) ≡ put b y (match_ordering p (member a x (member l e ms)) (member l x ms) (member l e (put a x ms)))
+swap_step : (p q : Ordering) (a b l : List ℕ) (x y e : Data) (ms : Members) → cmp a b ≡ Less → cmp a l ≡ p → cmp b l ≡ q
+    → put a x (put b y ms) ≡ put b y (put a x ms)
+    → put a x (match_ordering q (member b y (member l e ms)) (member l y ms) (member l e (put b y ms)))
+    ≡ put b y (match_ordering p (member a x (member l e ms)) (member l x ms) (member l e (put a x ms)))
 swap_step Less Less a b l x y e ms less at bt rest = rw (less, turned a b less, bt) refl
 swap_step Less Equal a b l x y e ms less at bt rest = rw (at, turned a b less, bt) refl
 swap_step Less Greater a b l x y e ms less at bt rest = rw (at, turned a b less, bt) refl
-swap_step Equal Less a b l x y e ms less at bt rest = absurd (let h : Less ≡ Equal = sym (nat_list_cmp_total.trans a b l less bt) ∙ at in cc)
-swap_step Equal Equal a b l x y e ms less at bt rest = absurd (let h : Less ≡ Equal = sym less ∙ nat_list_cmp_total.congr a l b at ∙ nat_list_cmp_total.antisymm l b ∙ ap ordering_reverse bt in cc)
+swap_step Equal Less a b l x y e ms less at bt rest =
+    absurd (let h : Less ≡ Equal = sym (nat_list_cmp_total.trans a b l less bt) ∙ at in cc)
+swap_step Equal Equal a b l x y e ms less at bt rest =
+    absurd (let h : Less ≡ Equal = sym less ∙ nat_list_cmp_total.congr a l b at ∙ nat_list_cmp_total.antisymm l b
+    ∙ ap ordering_reverse bt in cc)
 swap_step Equal Greater a b l x y e ms less at bt rest = rw (at, bt) refl
-swap_step Greater Less a b l x y e ms less at bt rest = absurd (let h : Less ≡ Greater = sym (nat_list_cmp_total.trans a b l less bt) ∙ at in cc)
-swap_step Greater Equal a b l x y e ms less at bt rest = absurd (let h : Less ≡ Equal = sym (nat_list_cmp_total.trans l a b (back a l at) less) ∙ nat_list_cmp_total.antisymm l b ∙ ap ordering_reverse bt in cc)
+swap_step Greater Less a b l x y e ms less at bt rest =
+    absurd (let h : Less ≡ Greater = sym (nat_list_cmp_total.trans a b l less bt) ∙ at in cc)
+swap_step Greater Equal a b l x y e ms less at bt rest =
+    absurd (let h : Less ≡ Equal = sym (nat_list_cmp_total.trans l a b (back a l at) less)
+    ∙ nat_list_cmp_total.antisymm l b ∙ ap ordering_reverse bt in cc)
 swap_step Greater Greater a b l x y e ms less at bt rest = rw (at, bt) (ap (member l e) rest)
 
 pub put-swap : (a b : List ℕ) (x y : Data) (ms : Members) → cmp a b ≡ Less → put a x (put b y ms) ≡ put b y (put a x ms)
 put-swap a b x y no_members less = rw (less, turned a b less) refl
-put-swap a b x y (member l e ms) less = swap_step (cmp a l) (cmp b l) a b l x y e ms less refl refl (put-swap a b x y ms less)
+put-swap a b x y (member l e ms) less =
+    swap_step (cmp a l) (cmp b l) a b l x y e ms less refl refl (put-swap a b x y ms less)

@@ -1,5 +1,7 @@
--- What is written for data is read as that data, where the names in each object ascend and each number's text is read as the number.
-use Rattle.std.proofs.Common.{◌≡◌, ℕ, ◌≤◌, max, List, [], Some, Less, Greater, nat_cmp, refl, sym, ap, ap₂, ◌∙◌, subst, suc, arith, append-nil}
+-- What is written for data is read as that data, where the names in each object ascend and each number's text is read
+-- as the number.
+use Rattle.std.proofs.Common.{◌≡◌, ℕ, ◌≤◌, max, List, [], Some, Less, Greater, nat_cmp, refl, sym, ap, ap₂, ◌∙◌, subst}
+use Rattle.std.proofs.Common.{suc, arith, append-nil}
 use Rattle.std.specs.Prelude.{option_and_then, option_map}
 use Rattle.std.specs.Cmp.Lexicographic.{slice_cmp}
 use Rattle.std.specs.Ordering.{ordering_reverse}
@@ -8,7 +10,8 @@ use Rattle.json.specs.Lex.{tokens}
 use Rattle.json.specs.Json as json
 use Rattle.json.specs.Tree as tree
 use Rattle.json.proofs.Printed.Trees.{value-json_tokens}
-use Rattle.serde_json.specs.Data.{Data, null, boolean, number, string, array, object, Items, no_items, item, Members, no_members, member, put, depth, items_depth, members_depth}
+use Rattle.serde_json.specs.Data.{Data, null, boolean, number, string, array, object, Items, no_items, item, Members}
+use Rattle.serde_json.specs.Data.{no_members, member, put, depth, items_depth, members_depth}
 use Rattle.serde_json.specs.Read.{read, max_depth, of_json, of_items, of_members}
 use Rattle.serde_json.specs.Written.{outline, items_outline, members_outline}
 use Rattle.city_model.specs.Members.{AllAbove, AreOrdered}
@@ -39,23 +42,28 @@ and_then-assoc : (done more ms : Members) → and_then (and_then done more) ms �
 and_then-assoc no_members more ms = refl
 and_then-assoc (member k d done) more ms = ap (member k d) (and_then-assoc done more ms)
 
-above_later : (l : List ℕ) (done : Members) (k : List ℕ) (d : Data) (ms : Members) → AllAbove l (and_then done (member k d ms)) → slice_cmp nat_cmp l k ≡ Less
+above_later : (l : List ℕ) (done : Members) (k : List ℕ) (d : Data) (ms : Members)
+    → AllAbove l (and_then done (member k d ms)) → slice_cmp nat_cmp l k ≡ Less
 above_later l no_members k d ms h = h.0
 above_later l (member j e done) k d ms h = above_later l done k d ms h.1
 
 -- a name that is above those before it goes last
-put_last : (done : Members) (k : List ℕ) (d : Data) (ms : Members) → AreOrdered (and_then done (member k d ms)) → put k d done ≡ and_then done (member k d no_members)
+put_last : (done : Members) (k : List ℕ) (d : Data) (ms : Members) → AreOrdered (and_then done (member k d ms))
+    → put k d done ≡ and_then done (member k d no_members)
 put_last no_members k d ms h = refl
 put_last (member l e done) k d ms h =
-    let above : slice_cmp nat_cmp k l ≡ Greater = nat_list_cmp_total.antisymm k l ∙ ap ordering_reverse (above_later l done k d ms h.0) in
+    let above : slice_cmp nat_cmp k l ≡ Greater = nat_list_cmp_total.antisymm k l
+    ∙ ap ordering_reverse (above_later l done k d ms h.0) in
     rw above (ap (member l e) (put_last done k d ms h.1))
 
-members_back : (done ms : Members) → AreOrdered (and_then done ms) → MembersReadBack ms → of_members (members_outline ms) done ≡ Some (and_then done ms)
+members_back : (done ms : Members) → AreOrdered (and_then done ms) → MembersReadBack ms
+    → of_members (members_outline ms) done ≡ Some (and_then done ms)
 members_back done no_members o h = ap Some (sym (and_then-none done))
 members_back done (member k d ms) o h =
     let joined = and_then-assoc done (member k d no_members) ms in
     let ordered = subst AreOrdered (sym joined) o in
-    rw h.0.same (ap (of_members (members_outline ms)) (put_last done k d ms o) ∙ members_back (and_then done (member k d no_members)) ms ordered h.1 ∙ ap Some joined)
+    rw h.0.same (ap (of_members (members_outline ms)) (put_last done k d ms o)
+    ∙ members_back (and_then done (member k d no_members)) ms ordered h.1 ∙ ap Some joined)
 
 pub object_reads : (ms : Members) → AreOrdered ms → MembersReadBack ms → ReadsBack (object ms)
 object_reads ms o h = record { same = ap (option_map object) (members_back no_members ms o h) }
@@ -80,8 +88,10 @@ mutual
   members_outline_depth (member k d ms) = ap₂ max (outline_depth d) (members_outline_depth ms)
 
 -- a text whose tokens are those of data is read as the data
-pub text_reads : (text : List ℕ) (d : Data) → tokens text ≡ tokens_of d → ReadsBack d → depth d ≤ max_depth → read text ≡ Some d
+pub text_reads : (text : List ℕ) (d : Data) → tokens text ≡ tokens_of d → ReadsBack d → depth d ≤ max_depth
+    → read text ≡ Some d
 text_reads text d same h shallow =
     ap (λ o. option_and_then of_json (option_and_then (λ p. json.if_last p.0 p.1) o))
-    (ap (json.value max_depth) (same ∙ sym (append-nil (tokens_of d))) ∙ value-json_tokens (outline d) max_depth [] (omega (arith, outline_depth d, shallow)))
+    (ap (json.value max_depth) (same ∙ sym (append-nil (tokens_of d)))
+    ∙ value-json_tokens (outline d) max_depth [] (omega (arith, outline_depth d, shallow)))
     ∙ h.same

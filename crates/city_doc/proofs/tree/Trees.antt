@@ -20,7 +20,8 @@ object_is (array ds) ms h = absurd (let no : ⊥ = cc in no)
 object_is (object ns) ms h = let same : ns ≡ ms = cc in ap object same
 
 -- a tree with a member that passes a test, as none does that isn't there, is an object
-pub object_with : (test : Option Data → Bool) → test None ≡ false → (name : List ℕ) (d : Data) → test (get name d) ≡ true → (ms : Members) × (as_object d ≡ Some ms)
+pub object_with : (test : Option Data → Bool) → test None ≡ false → (name : List ℕ) (d : Data)
+    → test (get name d) ≡ true → (ms : Members) × (as_object d ≡ Some ms)
 object_with test absent name null h = absurd (true≢false (sym h ∙ absent))
 object_with test absent name (boolean b) h = absurd (true≢false (sym h ∙ absent))
 object_with test absent name (number n) h = absurd (true≢false (sym h ∙ absent))

@@ -15,7 +15,8 @@ pub integer_read : (z : ℤ) → is_i64 z ≡ true → as_i64 (of_integer z) ≡
 integer_read (pos n) h = rw h refl
 integer_read (negsuc n) h = refl
 
-three_read : (x y z : ℤ) → is_i64 x ≡ true → is_i64 y ≡ true → is_i64 z ≡ true → triple_of (triple_data (x ∷ y ∷ z ∷ [])) ≡ Some (x ∷ y ∷ z ∷ [])
+three_read : (x y z : ℤ) → is_i64 x ≡ true → is_i64 y ≡ true → is_i64 z ≡ true
+    → triple_of (triple_data (x ∷ y ∷ z ∷ [])) ≡ Some (x ∷ y ∷ z ∷ [])
 three_read x y z in_x in_y in_z = rw (integer_read x in_x, integer_read y in_y, integer_read z in_z) refl
 
 pub triple_read : (zs : List ℤ) → is_i64_triple zs ≡ true → triple_of (triple_data zs) ≡ Some zs
@@ -26,7 +27,9 @@ triple_read (x ∷ y ∷ z ∷ []) h =
     let hs = and_parts (is_i64 x) (list_all is_i64 (y ∷ z ∷ [])) h in
     let ks = and_parts (is_i64 y) (list_all is_i64 (z ∷ [])) hs.1 in
     three_read x y z hs.0 ks.0 (and_parts (is_i64 z) true ks.1).0
-triple_read (x ∷ y ∷ z ∷ w ∷ ws) h = let size = and_parts (length (x ∷ y ∷ z ∷ w ∷ ws) == 3) (list_all is_i64 (x ∷ y ∷ z ∷ w ∷ ws)) h in absurd (grind (arith, nat_tests, size.0))
+triple_read (x ∷ y ∷ z ∷ w ∷ ws) h = let size =
+    and_parts (length (x ∷ y ∷ z ∷ w ∷ ws) == 3) (list_all is_i64 (x ∷ y ∷ z ∷ w ∷ ws)) h in
+    absurd (grind (arith, nat_tests, size.0))
 
 vertex_read : (p : Point) → is_i64_point p ≡ true → point_of (vertex_data p) ≡ Some p
 vertex_read p h =

@@ -1,5 +1,6 @@
 -- Items that are written one after the other, each with the points that it adds to a pool.
-use Rattle.std.proofs.Common.{◌≡◌, ℕ, ◌+◌, ◌<◌, ◌≤◌, List, [], ◌∷◌, ◌++◌, map, length, get_or, drop, sym, ap, ◌∙◌, subst, append_assoc}
+use Rattle.std.proofs.Common.{◌≡◌, ℕ, ◌+◌, ◌<◌, ◌≤◌, List, [], ◌∷◌, ◌++◌, map, length, get_or, drop, sym, ap, ◌∙◌}
+use Rattle.std.proofs.Common.{subst, append_assoc}
 use Rattle.std.proofs.lemmas.List.{drop_more, drop_all}
 use Rattle.json.specs.Token.{Token, end_array}
 use Rattle.serde_json.specs.Data.{Data}
@@ -11,7 +12,8 @@ use Rattle.city_doc.specs.inside.tree.ReadsBack.{ReadsBack, ItemsReadBack}
 use Rattle.city_doc.specs.inside.Pool.{with_points}
 use Rattle.city_doc.proofs.pool.Walks.{with_points-append}
 
-pub item_first : {X : Type 0} (xs : List X) (i : ℕ) (x : X) → i < length xs → x ≡ get_or xs i x → drop i xs ≡ x ∷ drop (i + 1) xs
+pub item_first : {X : Type 0} (xs : List X) (i : ℕ) (x : X) → i < length xs → x ≡ get_or xs i x
+    → drop i xs ≡ x ∷ drop (i + 1) xs
 item_first xs i x lt at = drop_more xs i x lt ∙ ap (λ y. y ∷ drop (i + 1) xs) (sym at)
 
 module _ {X : Type 0} (f : X → Data) where
@@ -19,18 +21,23 @@ module _ {X : Type 0} (f : X → Data) where
   abbrev pub closing : List X → List Token
   closing xs = closing_items (items_of (map f xs))
 
-  pub one_written : (xs : List X) (i : ℕ) (x : X) (start out next : List Token) → i < length xs → x ≡ get_or xs i x → start ++ closing xs ≡ out ++ closing (drop i xs) → next ≡ out ++ tokens_of (f x)
+  pub one_written : (xs : List X) (i : ℕ) (x : X) (start out next : List Token) → i < length xs → x ≡ get_or xs i x
+      → start ++ closing xs ≡ out ++ closing (drop i xs) → next ≡ out ++ tokens_of (f x)
       → start ++ closing xs ≡ next ++ closing (drop (i + 1) xs)
   one_written xs i x start out next lt at left more =
-      left ∙ ap (λ ys. out ++ closing ys) (item_first xs i x lt at) ∙ sym (append_assoc out (tokens_of (f x)) (closing (drop (i + 1) xs))) ∙ ap (λ ts. ts ++ closing (drop (i + 1) xs)) (sym more)
+      left ∙ ap (λ ys. out ++ closing ys) (item_first xs i x lt at)
+      ∙ sym (append_assoc out (tokens_of (f x)) (closing (drop (i + 1) xs)))
+      ∙ ap (λ ts. ts ++ closing (drop (i + 1) xs)) (sym more)
 
-  pub all_written : (xs : List X) (i : ℕ) (start out last : List Token) → length xs ≤ i → start ++ closing xs ≡ out ++ closing (drop i xs) → last ≡ out ++ end_array ∷ [] → last ≡ start ++ closing xs
+  pub all_written : (xs : List X) (i : ℕ) (start out last : List Token) → length xs ≤ i
+      → start ++ closing xs ≡ out ++ closing (drop i xs) → last ≡ out ++ end_array ∷ [] → last ≡ start ++ closing xs
   all_written xs i start out last le left end = end ∙ ap (λ ys. out ++ closing ys) (sym (drop_all i xs le)) ∙ sym left
 
   abbrev pub ReadBack : List X → Type 0
   ReadBack xs = ItemsReadBack (items_of (map f xs))
 
-  pub one_reads : (xs : List X) (i : ℕ) (x : X) → i < length xs → x ≡ get_or xs i x → (ReadBack (drop i xs) → ReadBack xs) → ReadsBack (f x) → ReadBack (drop (i + 1) xs) → ReadBack xs
+  pub one_reads : (xs : List X) (i : ℕ) (x : X) → i < length xs → x ≡ get_or xs i x
+      → (ReadBack (drop i xs) → ReadBack xs) → ReadsBack (f x) → ReadBack (drop (i + 1) xs) → ReadBack xs
   one_reads xs i x lt at all one rest = all (subst ReadBack (sym (item_first xs i x lt at)) (one, rest))
 
   pub all_read : (xs : List X) (i : ℕ) → length xs ≤ i → (ReadBack (drop i xs) → ReadBack xs) → ReadBack xs
@@ -38,10 +45,17 @@ module _ {X : Type 0} (f : X → Data) where
 
 -- the same of items whose points are numbered
 module _ {X : Type 0} (points : X → List Point) (written : List Point → X → Data) where
-  pub numbered_written : (xs : List X) (i : ℕ) (x : X) (pool new : List Point) (start out next : List Token) → i < length xs → x ≡ get_or xs i x → new ≡ with_points pool (points x)
-      → ((later : List Point) → start ++ closing (written (with_points pool later)) xs ≡ out ++ closing (written (with_points pool later)) (drop i xs)) → ((later : List Point) → next ≡ out ++ tokens_of (written (with_points new later) x))
-      → (later : List Point) → start ++ closing (written (with_points new later)) xs ≡ next ++ closing (written (with_points new later)) (drop (i + 1) xs)
+  pub numbered_written : (xs : List X) (i : ℕ) (x : X) (pool new : List Point) (start out next : List Token)
+      → i < length xs → x ≡ get_or xs i x → new ≡ with_points pool (points x)
+      → ((later : List Point)
+      → start ++ closing (written (with_points pool later)) xs ≡ out ++ closing (written (with_points pool later))
+      (drop i xs)) → ((later : List Point) → next ≡ out ++ tokens_of (written (with_points new later) x))
+      → (later : List Point)
+      → start ++ closing (written (with_points new later)) xs ≡ next ++ closing (written (with_points new later))
+      (drop (i + 1) xs)
   numbered_written xs i x pool new start out next lt at grown left more later =
-      let same : with_points pool (points x ++ later) ≡ with_points new later = with_points-append pool (points x) later ∙ ap (λ ps. with_points ps later) (sym grown) in
+      let same : with_points pool (points x ++ later) ≡ with_points new later = with_points-append pool (points x) later
+      ∙ ap (λ ps. with_points ps later) (sym grown) in
       one_written (written (with_points new later)) xs i x start out next lt at
-      (subst (λ ps. start ++ closing (written ps) xs ≡ out ++ closing (written ps) (drop i xs)) same (left (points x ++ later))) (more later)
+      (subst (λ ps. start ++ closing (written ps) xs ≡ out ++ closing (written ps) (drop i xs)) same
+      (left (points x ++ later))) (more later)

@@ -3,7 +3,8 @@ use Rattle.std.specs.Prelude.{ℕ, zero, suc, List, [], ◌∷◌, Option, codes
 use Rattle.std.specs.Str.{bytes_eq}
 use Rattle.city_model.specs.declared.object.Point.{Point}
 use Rattle.city_model.specs.declared.object.Shape.{Shape}
-use Rattle.city_model.specs.declared.object.Shape.TheVariants.{MultiSurface, CompositeSurface, Solid, MultiSolid, CompositeSolid}
+use Rattle.city_model.specs.declared.object.Shape.TheVariants.{MultiSurface, CompositeSurface, Solid, MultiSolid}
+use Rattle.city_model.specs.declared.object.Shape.TheVariants.{CompositeSolid}
 
 -- points within so many lists: a ring has 1, a surface 2, a shell 3, a solid 4
 abbrev pub Nested : ℕ → Type 0

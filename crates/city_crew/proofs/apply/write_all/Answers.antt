@@ -17,8 +17,15 @@ loop-id-preserved c =
     let split : c.loop-id.writes.entries ≡ (id, object) ∷ rest = c.in-Some.ensures.removal in
     record {
       frame = c.write.ensures.frame ∙ c.loop-id.invariant.frame;
-      objects = ap (λ (n : CityMap). after_change n rest) c.write.ensures.objects ∙ sym (ap (λ es. after_change m es) split) ∙ c.loop-id.invariant.objects;
+      objects = ap (λ (n : CityMap). after_change n rest) c.write.ensures.objects
+          ∙ sym (ap (λ es. after_change m es) split) ∙ c.loop-id.invariant.objects;
       there = λ q h.
-          let before = c.loop-id.invariant.there q (ap (λ es. has_id (keys_of es) q) split ∙ or_right (same_id q id) (has_id (keys_of rest) q) h) in
-          ap (λ (n : CityMap). is_some (n q)) c.write.ensures.objects ∙ ap is_some (changed_apart m id object q (apart_below id (keys_of rest) q (recursion_from_All _ (keys_of rest) c.in-Some.ensures.all_above) h)) ∙ before;
+          let before =
+          c.loop-id.invariant.there q (ap (λ es. has_id (keys_of es) q) split
+          ∙ or_right (same_id q id) (has_id (keys_of rest) q) h) in
+          ap (λ (n : CityMap). is_some (n q)) c.write.ensures.objects
+          ∙ ap is_some
+          (changed_apart m id object q
+          (apart_below id (keys_of rest) q (recursion_from_All _ (keys_of rest) c.in-Some.ensures.all_above) h))
+          ∙ before;
     }

@@ -8,7 +8,8 @@ use Rattle.city_crew.proofs.apply.write_all.Given as goal
 abbrev pub invariant-loop-id : goal.invariant-loop-id
 invariant-loop-id l = record {
   frame : l.city.0 ≡ l.initial.city.0;
-  objects : after_change (object_at l.city.1) l.writes.entries ≡ after_change (object_at l.initial.city.1) l.initial.writes.entries;
+  objects : after_change (object_at l.city.1) l.writes.entries ≡ after_change (object_at l.initial.city.1)
+      l.initial.writes.entries;
   there : (q : List ℕ) → has_id (keys_of l.writes.entries) q ≡ true → is_some (object_at l.city.1 q) ≡ true;
 }
 

@@ -14,6 +14,8 @@ loop-id-preserved c =
     record {
       frame = ap (λ (d : CityValue). d.0) c.remove.ensures.objects ∙ c.loop-id.invariant.frame;
       objects = λ q.
-          cleared_more (object_at c.args.city.now.1 q) (object_at c.loop-id.city.1 q) (object_at c.remove.new.self.1 q) (has_id (take n ids) q) (same_id id q) (c.loop-id.invariant.objects q) (ap (λ (m : CityMap). m q) c.remove.ensures.map)
+          cleared_more (object_at c.args.city.now.1 q) (object_at c.loop-id.city.1 q) (object_at c.remove.new.self.1 q)
+          (has_id (take n ids) q) (same_id id q) (c.loop-id.invariant.objects q)
+          (ap (λ (m : CityMap). m q) c.remove.ensures.map)
           ∙ ap (λ b. if b then None else object_at c.args.city.now.1 q) (sym (has_more ids n id q lt c.id-item.is));
     }

@@ -6,5 +6,6 @@ use Rattle.city_crew.proofs.places.clear.Given as goal
 abbrev pub invariant-loop-id : goal.invariant-loop-id
 invariant-loop-id l = record {
   frame : l.city.0 ≡ l.initial.city.0;
-  objects : (q : List ℕ) → object_at l.city.1 q ≡ (if has_id (take l.id-index l.ids) q then None else object_at l.initial.city.1 q);
+  objects : (q : List ℕ)
+      → object_at l.city.1 q ≡ (if has_id (take l.id-index l.ids) q then None else object_at l.initial.city.1 q);
 }

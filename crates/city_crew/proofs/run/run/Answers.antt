@@ -4,7 +4,8 @@ use Rattle.city_crew.proofs.StateCrossing.{state_sends}
 use Rattle.city_crew.proofs.run.run.Goals as goal
 
 pub run_threads-requires-send-T : goal.run_threads-requires-send-T
-run_threads-requires-send-T g c κs within = let y = c.type_bounds.sync-R in search (y, state_sends, sendable) depth 60 fits 20000
+run_threads-requires-send-T g c κs within = let y = c.type_bounds.sync-R in
+    search (y, state_sends, sendable) depth 60 fits 20000
 
 pub run_threads-requires-send-W : goal.run_threads-requires-send-W
 run_threads-requires-send-W g c κs within = search (watcher_sends, sendable) depth 60 fits 20000

@@ -4,4 +4,5 @@ use Rattle.city_crew.proofs.state.finished.Goals as goal
 pub returns-in-Ok : goal.returns-in-Ok
 returns-in-Ok g c document scripts read =
     is_result document scripts c.args.desk.0 _ _ c.in-Ok.finished.city c.in-Ok.finished.ends
-    read c.in-Ok.ensures.serial c.in-Ok.ensures.each_once c.in-Ok.ensures.frame c.in-Ok.ensures.city c.in-Ok.ensures.ends
+    read c.in-Ok.ensures.serial c.in-Ok.ensures.each_once c.in-Ok.ensures.frame c.in-Ok.ensures.city
+    c.in-Ok.ensures.ends

@@ -12,7 +12,8 @@ loop-id-preserved c m =
     let rest = into_iter_items c.next.new.self in
     let split : into_iter_items c.loop-id.id-iterator ≡ (id, object) ∷ rest = search rules in
     let more : after_change m c.insert.new.self.entries ≡ changed (after_change m c.loop-id.writes.entries) id object =
-    written_more c.loop-id.writes.entries c.insert.new.self.entries id object c.insert.ensures.was_ordered c.insert.ensures.ordered (c.in_ok-insert.ensures.updates.0) m in
+    written_more c.loop-id.writes.entries c.insert.new.self.entries id object c.insert.ensures.was_ordered
+    c.insert.ensures.ordered (c.in_ok-insert.ensures.updates.0) m in
     ap (λ (n : CityMap). after_change n rest) more
     ∙ sym (ap (λ es. after_change (after_change m c.loop-id.writes.entries) es) split)
     ∙ c.loop-id.invariant m

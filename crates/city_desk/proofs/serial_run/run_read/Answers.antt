@@ -17,6 +17,9 @@ returns-clause-ran c document text read =
       output = record {
         model = left.1;
         left = run.model;
-        text = c.in_ok-bytes.ensures ∙ ap (λ (es : List End). report_text es ++ city_text left ++ 10 ∷ []) c.as_slice.ensures ∙ ap (λ (f : Frame). report_text c.in_ok-finished.finished.ends ++ city_text (f, left.1) ++ 10 ∷ []) run.frame;
+        text = c.in_ok-bytes.ensures
+            ∙ ap (λ (es : List End). report_text es ++ city_text left ++ 10 ∷ []) c.as_slice.ensures
+            ∙ ap (λ (f : Frame). report_text c.in_ok-finished.finished.ends ++ city_text (f, left.1) ++ 10 ∷ [])
+            run.frame;
       };
     }

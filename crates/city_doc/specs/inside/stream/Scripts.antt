@@ -25,7 +25,8 @@ with_part name (Some d) ms = put name d ms
 -- the members of a script
 abbrev pub script_members : Option Data → Option Data → Option Data → Members
 script_members commands name vertices =
-    with_part (codes "commands") commands (with_part (codes "name") name (with_part (codes "vertices") vertices no_members))
+    with_part (codes "commands") commands
+    (with_part (codes "name") name (with_part (codes "vertices") vertices no_members))
 
 abbrev pub IsScriptSoFar : ScriptParts → Members → Members → Type 0
 IsScriptSoFar parts found kept =

@@ -34,13 +34,15 @@ abbrev pub IsReadAs : {A : Type 0} → (A → Data → Type 0) → A → ℕ →
 IsReadAs R x depth old new = (d : Data) × IsValue depth old d new × R x d
 
 -- the member of a name was read into what stands for the members so far, of which some are kept
-abbrev pub IsTaken : {A : Type 0} → (A → Members → Members → Type 0) → A → A → List ℕ → ℕ → List Token → List Token → Type 0
+abbrev pub IsTaken : {A : Type 0} → (A → Members → Members → Type 0) → A → A → List ℕ → ℕ → List Token → List Token
+    → Type 0
 IsTaken stands old new name depth before after =
     (d : Data) × IsValue depth before d after
     × ((found kept : Members) → stands old found kept → stands new (put name d found) kept)
 
 -- the member of a name is one to be kept
-abbrev pub IsPassed : {A : Type 0} → (A → Members → Members → Type 0) → A → A → List ℕ → List Token → List Token → Type 0
+abbrev pub IsPassed : {A : Type 0} → (A → Members → Members → Type 0) → A → A → List ℕ → List Token → List Token
+    → Type 0
 IsPassed stands old new name before after =
     (after ≡ before)
     × ((d : Data) (found kept : Members) → stands old found kept → stands new (put name d found) (put name d kept))

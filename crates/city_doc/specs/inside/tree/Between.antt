@@ -16,4 +16,5 @@ is_before (Some n) k = is_gt (slice_cmp nat_cmp n k)
 
 abbrev pub members_between : Option (List ℕ) → Option (List ℕ) → Members → Members
 members_between low high no_members = no_members
-members_between low high (member k d ms) = if is_after low k && is_before high k then member k d (members_between low high ms) else members_between low high ms
+members_between low high (member k d ms) = if is_after low k && is_before high k
+    then member k d (members_between low high ms) else members_between low high ms

@@ -10,6 +10,8 @@ pub returns-in_err-push-in-Some-clause-err : goal.returns-in_err-push-in-Some-cl
 returns-in_err-push-in-Some-clause-err g c =
     let w = c.push.new.self in
     let same : w ≡ c.in-Some.list.now = c.in_err-push-in-Some.ensures.err in
-    let found : lookup (is_at (nat_cmp c.args.stamp)) c.args.lists.now.entries ≡ Some w = sym c.in-Some.ensures.value ∙ ap (λ x. Some x) (sym same) in
-    let e : (c.get_mut.follows.lender w).entries ≡ c.args.lists.now.entries = (c.get_mut.follows.holds w).0 ∙ set_value_same (is_at (nat_cmp c.args.stamp)) c.args.lists.now.entries w found in
+    let found : lookup (is_at (nat_cmp c.args.stamp)) c.args.lists.now.entries ≡ Some w = sym c.in-Some.ensures.value
+    ∙ ap (λ x. Some x) (sym same) in
+    let e : (c.get_mut.follows.lender w).entries ≡ c.args.lists.now.entries = (c.get_mut.follows.holds w).0
+    ∙ set_value_same (is_at (nat_cmp c.args.stamp)) c.args.lists.now.entries w found in
     search (rules, e)

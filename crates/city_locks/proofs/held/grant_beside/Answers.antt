@@ -11,6 +11,8 @@ pub returns-in_err-grant-in-Some-clause-err : goal.returns-in_err-grant-in-Some-
 returns-in_err-grant-in-Some-clause-err c =
     let w = c.grant.new.self in
     let same : w ≡ c.in-Some.holders.now = c.in_err-grant-in-Some.ensures.err in
-    let found : lookup (is_at (slice_cmp nat_cmp c.args.id.now)) c.args.held.now.entries ≡ Some w = sym c.in-Some.ensures.value ∙ ap (λ x. Some x) (sym same) in
-    let e : (c.get_mut.follows.lender w).entries ≡ c.args.held.now.entries = (c.get_mut.follows.holds w).0 ∙ set_value_same (is_at (slice_cmp nat_cmp c.args.id.now)) c.args.held.now.entries w found in
+    let found : lookup (is_at (slice_cmp nat_cmp c.args.id.now)) c.args.held.now.entries ≡ Some w =
+    sym c.in-Some.ensures.value ∙ ap (λ x. Some x) (sym same) in
+    let e : (c.get_mut.follows.lender w).entries ≡ c.args.held.now.entries = (c.get_mut.follows.holds w).0
+    ∙ set_value_same (is_at (slice_cmp nat_cmp c.args.id.now)) c.args.held.now.entries w found in
     search (rules, e)

@@ -6,4 +6,5 @@ use Rattle.city_locks.proofs.held.release_each.Given as goal
 
 abbrev pub invariant-loop-id : goal.invariant-loop-id
 invariant-loop-id l = (q : List ℕ) → holders_of l.held.entries q ≡
-    cond (has_id (take l.id-index l.ids) q) (without (holders_of l.fn.held.entries q) l.stamp) (holders_of l.fn.held.entries q)
+    cond (has_id (take l.id-index l.ids) q) (without (holders_of l.fn.held.entries q) l.stamp)
+    (holders_of l.fn.held.entries q)

@@ -15,9 +15,11 @@ returns-in-Some-clause-holders c =
     let w = c.release_each.new.held.entries in
     let l = c.args.locked.now in
     let s = c.args.stamp in
-    let all : ids_of l s ≡ c.as_slice.result.now = ap (λ o. unwrap_or o []) (sym c.in-Some.ensures.value) ∙ sym c.as_slice.ensures in
+    let all : ids_of l s ≡ c.as_slice.result.now = ap (λ o. unwrap_or o []) (sym c.in-Some.ensures.value)
+    ∙ sym c.as_slice.ensures in
     let frees : Frees v w s = freed_listed v w l s c.requires
-    (λ q. c.release_each.ensures q ∙ ap (λ ids. cond (has_id ids q) (without (holders_of v q) s) (holders_of v q)) (sym all)) in
+    (λ q. c.release_each.ensures q
+    ∙ ap (λ ids. cond (has_id ids q) (without (holders_of v q) s) (holders_of v q)) (sym all)) in
     frees.holders
 
 pub returns-in-Some-clause-listed : goal.returns-in-Some-clause-listed
@@ -26,10 +28,15 @@ returns-in-Some-clause-listed c =
     let w = c.release_each.new.held.entries in
     let l = c.args.locked.now in
     let s = c.args.stamp in
-    let all : ids_of l s ≡ c.as_slice.result.now = ap (λ o. unwrap_or o []) (sym c.in-Some.ensures.value) ∙ sym c.as_slice.ensures in
+    let all : ids_of l s ≡ c.as_slice.result.now = ap (λ o. unwrap_or o []) (sym c.in-Some.ensures.value)
+    ∙ sym c.as_slice.ensures in
     let frees : Frees v w s = freed_listed v w l s c.requires
-    (λ q. c.release_each.ensures q ∙ ap (λ ids. cond (has_id ids q) (without (holders_of v q) s) (holders_of v q)) (sym all)) in
-    listed_freed v w l c.remove.new.self s frees c.requires (λ t ne. ap (λ o. unwrap_or o []) (c.in-Some.ensures.updates.0 t ∙ ap (λ b. cond b None (get nat_cmp l t)) (stamp_apart s t ne)))
+    (λ q. c.release_each.ensures q
+    ∙ ap (λ ids. cond (has_id ids q) (without (holders_of v q) s) (holders_of v q)) (sym all)) in
+    listed_freed v w l c.remove.new.self s frees c.requires
+    (λ t ne.
+    ap (λ o. unwrap_or o []) (c.in-Some.ensures.updates.0 t
+    ∙ ap (λ b. cond b None (get nat_cmp l t)) (stamp_apart s t ne)))
 
 pub returns-in_default-clause-holders : goal.returns-in_default-clause-holders
 returns-in_default-clause-holders c =

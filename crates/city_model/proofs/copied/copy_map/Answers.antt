@@ -11,10 +11,12 @@ loop-key-preserved g c =
     let value = c.in-Some.value.now in
     let left = c.next.new.self in
     let done = c.loop-key.copies.entries in
-    let all : c.args.map.now.entries ≡ done ++ (key, value) ∷ left = c.loop-key.invariant ∙ ap (λ es. done ++ es) c.in-Some.ensures.steps in
+    let all : c.args.map.now.entries ≡ done ++ (key, value) ∷ left = c.loop-key.invariant
+    ∙ ap (λ es. done ++ es) c.in-Some.ensures.steps in
     let ascend = subst (λ es. IsStrictlySortedBy g.K.Ord.cmp (keys_of es)) all c.iter-key-items.ensures.ordered in
     let put : c.insert.new.self.entries ≡ done ++ (key, value) ∷ [] =
-    rw (c.in_ok-insert.ensures.entries, c.in_ok-key_copy.ensures, c.in_ok-value_copy.ensures) (insert_last g.met.K.Ord.total done key value left ascend) in
+    rw (c.in_ok-insert.ensures.entries, c.in_ok-key_copy.ensures, c.in_ok-value_copy.ensures)
+    (insert_last g.met.K.Ord.total done key value left ascend) in
     all ∙ (sym (append_assoc done ((key, value) ∷ []) left) ∙ ap (λ es. es ++ left) (sym put))
 
 pub returns : goal.returns

@@ -4,4 +4,5 @@ use Rattle.city_model.proofs.id_list.are_distinct.Goals as goal
 
 pub returns-then-are_increasing : goal.returns-then-are_increasing
 returns-then-are_increasing c =
-    c.if-are_increasing.true ∙ sym (increasing_distinct c.args.ids.now (sym c.are_increasing.ensures ∙ c.if-are_increasing.true))
+    c.if-are_increasing.true
+    ∙ sym (increasing_distinct c.args.ids.now (sym c.are_increasing.ensures ∙ c.if-are_increasing.true))

@@ -5,7 +5,9 @@ use Rattle.city_model.proofs.integral.+integral.Given as goal
 
 -- the answer is that of what is left
 abbrev pub invariant-are_integral-loop-item : goal.invariant-are_integral-loop-item
-invariant-are_integral-loop-item l = items_integral (items_view l.items.items) ≡ items_integral (items_view (drop l.item-index l.items.items))
+invariant-are_integral-loop-item l =
+    items_integral (items_view l.items.items) ≡ items_integral (items_view (drop l.item-index l.items.items))
 
 abbrev pub invariant-have_integral-loop-member : goal.invariant-have_integral-loop-member
-invariant-have_integral-loop-member l = members_integral (members_view l.members.entries) ≡ members_integral (members_view l.member-iterator)
+invariant-have_integral-loop-member l =
+    members_integral (members_view l.members.entries) ≡ members_integral (members_view l.member-iterator)

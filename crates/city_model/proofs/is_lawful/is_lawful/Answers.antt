@@ -4,7 +4,8 @@ use Rattle.city_model.proofs.is_lawful.is_lawful.Goals as goal
 
 pub returns-in-Some-clause-only_then : goal.returns-in-Some-clause-only_then
 returns-in-Some-clause-only_then c =
-    λ lawful. absurd (misrelated_unlawful (object_at c.args.city.now.1) c.in-Some.field-0.now c.in-Some.ensures.fault.0 lawful)
+    λ lawful. absurd
+    (misrelated_unlawful (object_at c.args.city.now.1) c.in-Some.field-0.now c.in-Some.ensures.fault.0 lawful)
 
 pub returns-in_ok-faultless-in-None-clause-lawful : goal.returns-in_ok-faultless-in-None-clause-lawful
 returns-in_ok-faultless-in-None-clause-lawful c =

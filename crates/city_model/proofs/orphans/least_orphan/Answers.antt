@@ -6,7 +6,9 @@ pub returns-then-is_orphan-clause-least : goal.returns-then-is_orphan-clause-lea
 returns-then-is_orphan-clause-least c =
     is_least_orphan c.args.city.now.1 c.in-Some.id.now
     (c.loop-id.invariant ∙ (ap first_orphan c.in-Some.ensures.steps
-    ∙ ap (λ b. cond b (Some c.in-Some.id.now) (first_orphan c.next.new.self)) (sym c.is_orphan.ensures ∙ c.if-is_orphan.true)))
+    ∙ ap (λ b. cond b (Some c.in-Some.id.now) (first_orphan c.next.new.self)) (sym c.is_orphan.ensures
+    ∙ c.if-is_orphan.true)))
 
 pub returns-clause-none : goal.returns-clause-none
-returns-clause-none c = has_no_orphan c.args.city.now.1 (c.loop-id.invariant ∙ ap first_orphan c.in-None.ensures.steps.0)
+returns-clause-none c =
+    has_no_orphan c.args.city.now.1 (c.loop-id.invariant ∙ ap first_orphan c.in-None.ensures.steps.0)

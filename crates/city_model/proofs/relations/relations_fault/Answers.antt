@@ -10,8 +10,10 @@ returns-then-is_misrelated-clause-fault c =
     let test = is_misrelated (object_at c.args.city.now.1) in
     least_misrelated c.args.city.now.1 c.in-Some.id.now
     (c.loop-id.invariant ∙ (ap (first_that test) c.in-Some.ensures.steps
-    ∙ ap (λ b. cond b (Some c.in-Some.id.now) (first_that test c.next.new.self)) (sym c.is_misrelated.ensures ∙ c.if-is_misrelated.true)))
+    ∙ ap (λ b. cond b (Some c.in-Some.id.now) (first_that test c.next.new.self)) (sym c.is_misrelated.ensures
+    ∙ c.if-is_misrelated.true)))
 
 pub returns-clause-none : goal.returns-clause-none
 returns-clause-none c =
-    all_related c.args.city.now.1 (c.loop-id.invariant ∙ ap (first_that (is_misrelated (object_at c.args.city.now.1))) c.in-None.ensures.steps.0)
+    all_related c.args.city.now.1 (c.loop-id.invariant
+    ∙ ap (first_that (is_misrelated (object_at c.args.city.now.1))) c.in-None.ensures.steps.0)

@@ -5,4 +5,6 @@ use Rattle.city_model.proofs.rings.has_same_neighbours.Given as goal
 
 -- the answer is that of the edges that are left
 abbrev pub invariant-loop-point : goal.invariant-loop-point
-invariant-loop-point l = list_any is_same_pair (ring_edges l.ring) ≡ list_any is_same_pair (zip (l.last ∷ drop l.point-index l.rest) (drop l.point-index l.rest ++ l.first ∷ []))
+invariant-loop-point l =
+    list_any is_same_pair (ring_edges l.ring) ≡ list_any is_same_pair
+    (zip (l.last ∷ drop l.point-index l.rest) (drop l.point-index l.rest ++ l.first ∷ []))

@@ -11,7 +11,8 @@ use Rattle.city_model.proofs.SoundAfter.{sound_after}
 use Rattle.city_scenarios.proofs.replay.perform.Goals as goal
 
 -- a sound map with what is planned for a command is sound
-sound_written : (m n : CityMap) (c : Command) (r : Reply) (ws : Change) → IsSound m → AreWritesOf m c r ws → n ≡ after_change m ws → IsSound n
+sound_written : (m n : CityMap) (c : Command) (r : Reply) (ws : Change) → IsSound m → AreWritesOf m c r ws
+    → n ≡ after_change m ws → IsSound n
 sound_written m n c r ws s is made =
     let done : after m c ≡ effect_of m c = ap (λ x. map_unless x m (effect_of m c)) is.allowed in
     subst IsSound (done ∙ sym (plan_makes m c r ws s is) ∙ sym made) (sound_after m c s)
@@ -21,4 +22,5 @@ returns-in_ok-write-in-Writes c =
     let m = object_at c.args.city.now.1 in
     let planned : AreWritesOf m c.args.command.now c.in-Writes.reply c.in-Writes.change =
     subst (IsPlan m c.args.command.now) c.in-Writes.is c.in_ok-cause.ensures.plan in
-    sound_written m (object_at c.write.new.city.1) c.args.command.now c.in-Writes.reply c.in-Writes.change c.requires.sound planned c.in_ok-write-in-Writes.ensures
+    sound_written m (object_at c.write.new.city.1) c.args.command.now c.in-Writes.reply c.in-Writes.change
+    c.requires.sound planned c.in_ok-write-in-Writes.ensures

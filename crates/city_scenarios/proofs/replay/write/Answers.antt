@@ -14,13 +14,15 @@ one_written m n id w all rest last leads split made =
 pub loop-id-preserved-in-Some-object : goal.loop-id-preserved-in-Some-object
 loop-id-preserved-in-Some-object c =
     let m = object_at c.loop-id.city.1 in
-    one_written m (object_at c.set.new.self.1) c.in-Some.id c.in-Some.object (into_iter_items c.loop-id.id-iterator) (into_iter_items c.next.new.self) _
+    one_written m (object_at c.set.new.self.1) c.in-Some.id c.in-Some.object (into_iter_items c.loop-id.id-iterator)
+    (into_iter_items c.next.new.self) _
     c.loop-id.invariant c.in-Some.ensures.steps.0
     (c.in_ok-set-in-Some-object.ensures.map ∙ ap (λ w. changed m c.in-Some.id w) (sym c.in-Some-object.is))
 
 pub loop-id-preserved : goal.loop-id-preserved
 loop-id-preserved c =
     let m = object_at c.loop-id.city.1 in
-    one_written m (object_at c.remove.new.self.1) c.in-Some.id c.in-Some.object (into_iter_items c.loop-id.id-iterator) (into_iter_items c.next.new.self) _
+    one_written m (object_at c.remove.new.self.1) c.in-Some.id c.in-Some.object (into_iter_items c.loop-id.id-iterator)
+    (into_iter_items c.next.new.self) _
     c.loop-id.invariant c.in-Some.ensures.steps.0
     (c.remove.ensures.map ∙ ap (λ w. changed m c.in-Some.id w) (sym c.in-None-object.is))

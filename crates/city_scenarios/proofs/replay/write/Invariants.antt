@@ -5,4 +5,5 @@ use Rattle.city_model.specs.Runs.{after_change}
 use Rattle.city_scenarios.proofs.replay.write.Given as goal
 
 abbrev pub invariant-loop-id : goal.invariant-loop-id
-invariant-loop-id l = after_change (object_at l.city.1) (into_iter_items l.id-iterator) ≡ after_change (object_at l.fn.city.1) l.fn.change
+invariant-loop-id l =
+    after_change (object_at l.city.1) (into_iter_items l.id-iterator) ≡ after_change (object_at l.fn.city.1) l.fn.change

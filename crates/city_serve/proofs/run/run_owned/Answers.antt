@@ -8,5 +8,6 @@ returns-in_ok-output-clause-ran g c =
     let list = c.in_ok-city.list in
     let read : IsReadFrom c.args.document.items c.args.scripts.items city list =
     subst (λ d. IsReadFrom d c.args.scripts.items city list) c.as_slice-model.ensures.value
-    (subst (λ s. IsReadFrom c.as_slice-model.result.now s city list) c.as_slice-commands.ensures.value c.in_ok-city.ensures.read) in
+    (subst (λ s. IsReadFrom c.as_slice-model.result.now s city list) c.as_slice-commands.ensures.value
+    c.in_ok-city.ensures.read) in
     c.in_ok-output.ensures.ran c.args.document.items c.args.scripts.items read

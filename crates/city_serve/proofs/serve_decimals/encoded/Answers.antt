@@ -6,5 +6,7 @@ use Rattle.city_serve.proofs.serve_decimals.encoded.Goals as goal
 
 pub returns-in-Err-NotJson-clause-whole : goal.returns-in-Err-NotJson-clause-whole
 returns-in-Err-NotJson-clause-whole c =
-    let none = subst (IsDecimalsFault c.as_slice.result.now) c.in-Err-NotJson.field-0-is c.in-Err-NotJson.ensures.fault in
-    refused_whole c.args.text.items (inr (subst (λ t. IsDecimalsFault t DecimalsFault.NotJson) c.as_slice.ensures.value none))
+    let none = subst (IsDecimalsFault c.as_slice.result.now) c.in-Err-NotJson.field-0-is c.in-Err-NotJson.ensures.fault
+    in
+    refused_whole c.args.text.items
+    (inr (subst (λ t. IsDecimalsFault t DecimalsFault.NotJson) c.as_slice.ensures.value none))

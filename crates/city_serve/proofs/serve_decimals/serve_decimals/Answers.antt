@@ -8,14 +8,19 @@ returns-clause-served g c =
     let old = g.W.Write.contents c.args.writer.now.0 in
     let new = g.W.Write.contents c.serve_decimals_texts.new.writer.0 in
     IfOk-weaker c.serve_decimals_texts.result _ _
-    (λ seen served. of_input (g.R.Read.remaining c.args.reader.now.0) c.in_ok-input.input.items c.in_ok-document.document.items c.in_ok-document.scripts.items c.in_ok-input.ensures.input
-    c.in_ok-document.ensures.document c.in_ok-document.ensures.scripts (λ d s. AreServedDecimals d s c.args.workers c.args.viewers seen.items old new) served)
+    (λ seen served. of_input (g.R.Read.remaining c.args.reader.now.0) c.in_ok-input.input.items
+    c.in_ok-document.document.items c.in_ok-document.scripts.items c.in_ok-input.ensures.input
+    c.in_ok-document.ensures.document c.in_ok-document.ensures.scripts
+    (λ d s. AreServedDecimals d s c.args.workers c.args.viewers seen.items old new) served)
     c.serve_decimals_texts.ensures.served
 
 pub returns-clause-fault : goal.returns-clause-fault
 returns-clause-fault g c =
     IfErr-weaker c.serve_decimals_texts.result _ _
-    (fault_of_input (g.R.Read.remaining c.args.reader.now.0) c.in_ok-input.input.items c.in_ok-document.document.items c.in_ok-document.scripts.items c.in_ok-input.ensures.input
+    (fault_of_input (g.R.Read.remaining c.args.reader.now.0) c.in_ok-input.input.items c.in_ok-document.document.items
+    c.in_ok-document.scripts.items c.in_ok-input.ensures.input
     c.in_ok-document.ensures.document c.in_ok-document.ensures.scripts
-    IsDecimalsRun IsFaultOfDecimalsRun c.args.workers c.args.viewers (g.W.Write.contents c.args.writer.now.0) (g.W.Write.contents c.serve_decimals_texts.new.writer.0) c.read_at_most.new.reader.1 c.serve_decimals_texts.new.writer.1)
+    IsDecimalsRun IsFaultOfDecimalsRun c.args.workers c.args.viewers (g.W.Write.contents c.args.writer.now.0)
+    (g.W.Write.contents c.serve_decimals_texts.new.writer.0) c.read_at_most.new.reader.1
+    c.serve_decimals_texts.new.writer.1)
     c.serve_decimals_texts.ensures.fault

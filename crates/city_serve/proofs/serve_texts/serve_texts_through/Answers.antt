@@ -8,14 +8,18 @@ pub returns-clause-served : goal.returns-clause-served
 returns-clause-served g c =
     let output = c.in_ok-output.output in
     IfOk-weaker c.write_run.result _ _
-    (run_served IsRun c.args.document.now c.args.scripts.now c.args.workers c.args.viewers output.ends output.bytes.items output.seen
-    c.in_ok-output.ensures.ran c.in_ok-output.ensures.in_turn (g.W.Write.contents c.args.writer.now.0) (g.W.Write.contents c.write_run.new.writer.0) c.in_ok-output.ensures.seen)
+    (run_served IsRun c.args.document.now c.args.scripts.now c.args.workers c.args.viewers output.ends
+    output.bytes.items output.seen
+    c.in_ok-output.ensures.ran c.in_ok-output.ensures.in_turn (g.W.Write.contents c.args.writer.now.0)
+    (g.W.Write.contents c.write_run.new.writer.0) c.in_ok-output.ensures.seen)
     c.write_run.ensures.written
 
 pub returns-clause-fault : goal.returns-clause-fault
 returns-clause-fault g c =
     let output = c.in_ok-output.output in
     IfErr-weaker c.write_run.result _ _
-    (run_unwritten IsRun c.args.document.now c.args.scripts.now c.args.workers c.args.viewers output.ends output.bytes.items output.seen
-    c.in_ok-output.ensures.ran c.in_ok-output.ensures.in_turn (g.W.Write.contents c.args.writer.now.0) (g.W.Write.contents c.write_run.new.writer.0) IsFaultOfRun c.write_run.new.writer.1)
+    (run_unwritten IsRun c.args.document.now c.args.scripts.now c.args.workers c.args.viewers output.ends
+    output.bytes.items output.seen
+    c.in_ok-output.ensures.ran c.in_ok-output.ensures.in_turn (g.W.Write.contents c.args.writer.now.0)
+    (g.W.Write.contents c.write_run.new.writer.0) IsFaultOfRun c.write_run.new.writer.1)
     c.write_run.ensures.fault

@@ -13,6 +13,7 @@ loop-id-preserved c =
     let lt : c.loop-id.id-index < length c.args.ids.now = omega arith in
     record {
       lists = noted_more (λ q. written_at (object_at c.args.city.now.1 q) (image_at c.args.undo.now q))
-          (get (slice_cmp nat_cmp) c.loop-id.writes) (get (slice_cmp nat_cmp) c.note.new.writes) c.args.ids.now c.loop-id.id-index c.id-item.result lt c.id-item.is c.loop-id.invariant.lists c.in_ok-note.ensures.noted;
+          (get (slice_cmp nat_cmp) c.loop-id.writes) (get (slice_cmp nat_cmp) c.note.new.writes) c.args.ids.now
+          c.loop-id.id-index c.id-item.result lt c.id-item.is c.loop-id.invariant.lists c.in_ok-note.ensures.noted;
       ordered = c.note.ensures.ordered c.loop-id.invariant.ordered;
     }

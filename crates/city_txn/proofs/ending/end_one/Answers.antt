@@ -5,13 +5,16 @@ use Rattle.city_txn.proofs.EachId.{one_ended, idle_there}
 use Rattle.city_txn.proofs.ending.end_one.Goals as goal
 
 pub settle-requires : goal.settle-requires
-settle-requires c = ap (λ r. is_some (object_at c.args.city.now.1 r)) c.in-Some.ensures.key ∙ c.requires (ap is_some (sym c.in-Some.ensures.image))
+settle-requires c = ap (λ r. is_some (object_at c.args.city.now.1 r)) c.in-Some.ensures.key
+    ∙ c.requires (ap is_some (sym c.in-Some.ensures.image))
 
 pub returns-in-Some : goal.returns-in-Some
 returns-in-Some c =
     let m = object_at c.args.city.now.1 in
-    one_ended c.args.end c.args.city.now c.settle.new.city c.args.undo.now c.take.new.self c.args.id.now c.settle.ensures.frame
-    (c.settle.ensures.after ∙ ap (λ key. changed m key (left_at_end c.args.end (m key) (Some c.in-Some.image))) c.in-Some.ensures.key
+    one_ended c.args.end c.args.city.now c.settle.new.city c.args.undo.now c.take.new.self c.args.id.now
+    c.settle.ensures.frame
+    (c.settle.ensures.after
+    ∙ ap (λ key. changed m key (left_at_end c.args.end (m key) (Some c.in-Some.image))) c.in-Some.ensures.key
     ∙ ap (λ i. changed m c.args.id.now (left_at_end c.args.end (m c.args.id.now) i)) c.in-Some.ensures.image)
     c.take.ensures.images c.take.ensures.reservations
 

@@ -14,7 +14,8 @@ returns-in_err-answer c =
     let lt : i < length ids = omega arith in
     let failed = c.in_err-answer.ensures in
     c.loop-id.invariant c.from_residual.result c.ask.new.self (rw (exclusive_left ids i id lt c.id-item.is)
-    (asked_failed c.args.stamp id Exclusive c.loop-id.locks c.ask.new.self (exclusively (drop (i + 1) ids)) c.from_residual.result
+    (asked_failed c.args.stamp id Exclusive c.loop-id.locks c.ask.new.self (exclusively (drop (i + 1) ids))
+    c.from_residual.result
     c.from_residual.ensures.0 failed.err failed.memory.0 failed.memory.1))
 
 pub returns-in-Wait : goal.returns-in-Wait
@@ -26,7 +27,8 @@ returns-in-Wait c =
     let told = c.in_ok-answer.ensures in
     let refused : c.in_ok-answer.answer ≢ Granted = search rules in
     c.loop-id.invariant (Ok c.in_ok-answer.answer) c.ask.new.self (rw (exclusive_left ids i id lt c.id-item.is)
-    (asked_refused c.args.stamp id Exclusive c.loop-id.locks c.ask.new.self (exclusively (drop (i + 1) ids)) c.in_ok-answer.answer told.answer refused told.refused told.wait_die))
+    (asked_refused c.args.stamp id Exclusive c.loop-id.locks c.ask.new.self (exclusively (drop (i + 1) ids))
+    c.in_ok-answer.answer told.answer refused told.refused told.wait_die))
 
 pub loop-id-preserved : goal.loop-id-preserved
 loop-id-preserved c = λ r w asked.
@@ -41,4 +43,5 @@ loop-id-preserved c = λ r w asked.
     granted (told.granted granted) c.ask.ensures.lawful c.ask.ensures.own asked))
 
 pub returns : goal.returns
-returns c = c.loop-id.invariant (Ok Granted) c.loop-id.locks (rw (drop_all c.loop-id.id-index c.args.ids.now (omega arith)) (asked_none c.args.stamp c.loop-id.locks))
+returns c = c.loop-id.invariant (Ok Granted) c.loop-id.locks
+    (rw (drop_all c.loop-id.id-index c.args.ids.now (omega arith)) (asked_none c.args.stamp c.loop-id.locks))

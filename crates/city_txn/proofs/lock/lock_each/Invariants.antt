@@ -9,4 +9,5 @@ use Rattle.city_txn.proofs.lock.lock_each.Given as goal
 -- what comes of the ids that are left is what comes of all
 abbrev pub invariant-loop-id : goal.invariant-loop-id
 invariant-loop-id l = (r : Result Answer AllocError) (w : Locks)
-    → Asked l.stamp (exclusively (drop l.id-index l.ids)) r l.locks w → Asked l.stamp (exclusively l.ids) r l.initial.locks w
+    → Asked l.stamp (exclusively (drop l.id-index l.ids)) r l.locks w
+    → Asked l.stamp (exclusively l.ids) r l.initial.locks w

@@ -11,4 +11,6 @@ returns-then-is_some-clause-after c =
 pub returns-clause-after : goal.returns-clause-after
 returns-clause-after c =
     let absent : is_some (object_at c.args.city.now.1 c.args.id.now) ≡ false = search rules in
-    c.in_ok-set.ensures.map ∙ (λ i. changed (object_at c.args.city.now.1) (c.in_ok-key.ensures i) (Some (c.placeholder.ensures i))) ∙ slot_made (object_at c.args.city.now.1) c.args.id.now absent
+    c.in_ok-set.ensures.map
+    ∙ (λ i. changed (object_at c.args.city.now.1) (c.in_ok-key.ensures i) (Some (c.placeholder.ensures i)))
+    ∙ slot_made (object_at c.args.city.now.1) c.args.id.now absent

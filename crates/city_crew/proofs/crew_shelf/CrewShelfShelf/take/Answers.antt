@@ -7,4 +7,7 @@ use Rattle.city_crew.proofs.crew_shelf.CrewShelfShelf.take.Goals as goal
 
 pub take-requires-in-Posted-clause-lawful : goal.take-requires-in-Posted-clause-lawful
 take-requires-in-Posted-clause-lawful g c =
-    subst (λ shelf. IfSome (base_of shelf) (λ (city : CityValue). IsLawful (after_changes (object_at city.1) (taken_by shelf ++ c.args.change ∷ [])))) c.in-Posted.is c.requires.lawful
+    subst (λ shelf.
+    IfSome (base_of shelf)
+    (λ (city : CityValue). IsLawful (after_changes (object_at city.1) (taken_by shelf ++ c.args.change ∷ []))))
+    c.in-Posted.is c.requires.lawful

@@ -19,14 +19,20 @@ loop-id-preserved c =
     let id = c.in-Some.id.now in
     let object = c.in-Some.object.now in
     let arranged = c.in_ok-arranged.arranged in
-    let was : IsArranging all done ((id, object) ∷ left) = subst (IsArranging all done) c.in-Some.ensures.steps c.loop-id.invariant in
-    let ascend = subst (IsStrictlySortedBy (slice_cmp nat_cmp)) (keys_arranging all done ((id, object) ∷ left) was) (entries_ascend c.args.city.now.1) in
+    let was : IsArranging all done ((id, object) ∷ left) =
+    subst (IsArranging all done) c.in-Some.ensures.steps c.loop-id.invariant in
+    let ascend =
+    subst (IsStrictlySortedBy (slice_cmp nat_cmp)) (keys_arranging all done ((id, object) ∷ left) was)
+    (entries_ascend c.args.city.now.1) in
     let put : c.insert.new.self.entries ≡ done ++ (id, arranged) ∷ [] =
-    rw (c.in_ok-insert.ensures.entries, c.in_ok-copy.ensures) (insert_last nat_list_cmp_total done id arranged (keys_of left) ascend) in
-    subst (λ d. IsArranging all d left) (sym put) (arranging_more all done left id object arranged c.in_ok-arranged.ensures was)
+    rw (c.in_ok-insert.ensures.entries, c.in_ok-copy.ensures)
+    (insert_last nat_list_cmp_total done id arranged (keys_of left) ascend) in
+    subst (λ d. IsArranging all d left) (sym put)
+    (arranging_more all done left id object arranged c.in_ok-arranged.ensures was)
 
 pub returns : goal.returns
 returns c =
     let all = entries c.args.city.now.1 in
     let done = c.loop-id.objects.entries in
-    subst (AreArranged all) (sym c.from_parts.ensures.entries) (all_arranged all done (subst (IsArranging all done) c.in-None.ensures.steps.0 c.loop-id.invariant))
+    subst (AreArranged all) (sym c.from_parts.ensures.entries)
+    (all_arranged all done (subst (IsArranging all done) c.in-None.ensures.steps.0 c.loop-id.invariant))

@@ -10,16 +10,22 @@ pub returns : goal.returns
 returns c =
     let ids = c.args.ids.now in
     let xs = c.sort_unstable.new.self.items in
-    let sorted : IsPermutation {X = List ℕ} ids xs = subst (λ (ys : List (List ℕ)). IsPermutation ys xs) (c.into_vec-copies.ensures ∙ c.in_ok-copy.ensures) c.sort_unstable.ensures.permutation in
+    let sorted : IsPermutation {X = List ℕ} ids xs =
+    subst (λ (ys : List (List ℕ)). IsPermutation ys xs) (c.into_vec-copies.ensures ∙ c.in_ok-copy.ensures)
+    c.sort_unstable.ensures.permutation in
     subst (λ (ys : List (List ℕ)). IsPermutation ids ys) (sym c.from_vec.ensures)
     (elim c.match-repeated_at.branch [
       | in-Some+in_ok-insert w ↦
           let i = w.in-Some.i in
           let x = w.remove-recurring.result in
-          let below = subst (λ (ys : List (List ℕ)). i < length ys) c.as_slice.ensures.value (subst (λ o. IfSome o (λ n. n < length c.as_slice.result.now)) w.in-Some.is c.repeated_at.ensures) in
+          let below = subst (λ (ys : List (List ℕ)). i < length ys) c.as_slice.ensures.value
+          (subst (λ o. IfSome o (λ n. n < length c.as_slice.result.now)) w.in-Some.is c.repeated_at.ensures) in
           let taken = IsPermutation-remove xs i x below w.remove-recurring.ensures.value in
-          let put = w.in_ok-insert.ensures.items ∙ ap (λ (ys : List (List ℕ)). insert ys 0 x) w.remove-recurring.ensures.items in
-          let moved = subst (λ (ys : List (List ℕ)). IsPermutation xs ys) (sym put) (IsPermutation-trans _ _ _ taken (IsPermutation-insert (remove xs i) 0 x)) in
-          subst (λ (ys : List (List ℕ)). IsPermutation ids ys) (ap (λ v. v.items) (sym w.copies-is)) (IsPermutation-trans _ _ _ sorted moved)
+          let put = w.in_ok-insert.ensures.items
+          ∙ ap (λ (ys : List (List ℕ)). insert ys 0 x) w.remove-recurring.ensures.items in
+          let moved = subst (λ (ys : List (List ℕ)). IsPermutation xs ys) (sym put)
+          (IsPermutation-trans _ _ _ taken (IsPermutation-insert (remove xs i) 0 x)) in
+          subst (λ (ys : List (List ℕ)). IsPermutation ids ys) (ap (λ v. v.items) (sym w.copies-is))
+          (IsPermutation-trans _ _ _ sorted moved)
       | in_default w ↦ subst (λ (ys : List (List ℕ)). IsPermutation ids ys) (ap (λ v. v.items) (sym w.copies-is)) sorted
     ])

@@ -11,7 +11,8 @@ loop-name-init c =
     let given = c.into_iter-name-iterator.ensures.into_iter_gives in
     let all = members_view c.args.members.entries in
     subst (λ r. IsReading points all c.new-objects.result.entries r) (sym given.0)
-    (subst (λ d. IsReading points all d c.args.members.entries) (sym c.new-objects.ensures.empty) (begins points c.args.members.entries given.5))
+    (subst (λ d. IsReading points all d c.args.members.entries) (sym c.new-objects.ensures.empty)
+    (begins points c.args.members.entries given.5))
 
 pub loop-name-preserved : goal.loop-name-preserved
 loop-name-preserved c =
@@ -22,9 +23,11 @@ loop-name-preserved c =
     let name = string_bytes c.in-Some.name in
     let object = c.in-Some-2.object in
     let was = subst (IsReading points all done) c.in-Some.ensures.steps c.loop-name.invariant in
-    let more = goes_on points all done (c.in-Some.name, c.in-Some.value) left object (sym c.in_ok-object.ensures ∙ c.in-Some-2.is) was in
+    let more = goes_on points all done (c.in-Some.name, c.in-Some.value) left object (sym c.in_ok-object.ensures
+    ∙ c.in-Some-2.is) was in
     let put : c.insert.new.self.entries ≡ done ++ (name, object) ∷ [] =
-    rw (c.in_ok-insert.ensures.entries, c.new.ensures) (insert_last nat_list_cmp_total done name object (map string_bytes (keys_of left)) was.sorted) in
+    rw (c.in_ok-insert.ensures.entries, c.new.ensures)
+    (insert_last nat_list_cmp_total done name object (map string_bytes (keys_of left)) was.sorted) in
     subst (λ d. IsReading points all d left) (sym put) more
 
 pub returns-in_default : goal.returns-in_default
@@ -33,7 +36,8 @@ returns-in_default c =
     let all = members_view c.args.members.entries in
     let done = c.loop-name.objects.entries in
     let was = subst (IsReading points all done) c.in-Some.ensures.steps c.loop-name.invariant in
-    stops points all done (c.in-Some.name, c.in-Some.value) c.next.new.self (sym c.in_ok-object.ensures ∙ c.in_default.is) was
+    stops points all done (c.in-Some.name, c.in-Some.value) c.next.new.self (sym c.in_ok-object.ensures
+    ∙ c.in_default.is) was
 
 pub returns : goal.returns
 returns c =

@@ -9,5 +9,6 @@ use Rattle.city_doc.proofs.document.faults.tree_fault.Goals as goal
 pub unreachable-requires : goal.unreachable-requires
 unreachable-requires c =
     let d = view c.args.tree.now in
-    let form = subst (λ o. MatchOption o (HasForm d) (λ f. IsFirst (StandsIn d) f)) c.in-None.is (c.in_ok-fault.ensures c.requires.whole c.requires.right (c.as_slice.ensures ∙ c.in_ok-points.ensures)) in
+    let form = subst (λ o. MatchOption o (HasForm d) (λ f. IsFirst (StandsIn d) f)) c.in-None.is
+    (c.in_ok-fault.ensures c.requires.whole c.requires.right (c.as_slice.ensures ∙ c.in_ok-points.ensures)) in
     no_city d c.requires.whole form c.requires.unbuilt

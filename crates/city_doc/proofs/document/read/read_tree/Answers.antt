@@ -6,13 +6,20 @@ use Rattle.city_doc.proofs.document.WholeTrees.{text_is_whole}
 use Rattle.city_doc.proofs.document.read.read_tree.Goals as goal
 
 pub returns-in_err-tree-clause-refused : goal.returns-in_err-tree-clause-refused
-returns-in_err-tree-clause-refused c = let fault : IfErr c.from_residual.result (λ f. DocumentFault c.args.bytes.now f) = search rules in refused_result c.args.bytes.now c.from_residual.result fault
+returns-in_err-tree-clause-refused c = let fault : IfErr c.from_residual.result
+    (λ f. DocumentFault c.args.bytes.now f) = search rules in
+    refused_result c.args.bytes.now c.from_residual.result fault
 
 pub returns-in-Ok-Some-clause-admitted : goal.returns-in-Ok-Some-clause-admitted
 returns-in-Ok-Some-clause-admitted c =
     let d = view c.in_ok-tree.tree in
-    let built = rw c.in-Ok-Some.field-0-is at c.in-Ok-Some.ensures.built in
-    (d, c.in_ok-tree.ensures.tree, text_is_whole c.args.bytes.now d c.in-Ok-Some.city c.in_ok-tree.ensures.tree.1 built.0, built.0, built.1)
+    let built = rw c.in-Ok-Some.field-0-is at c.in-Ok-Some.ensures.built in (
+      d,
+      c.in_ok-tree.ensures.tree,
+      text_is_whole c.args.bytes.now d c.in-Ok-Some.city c.in_ok-tree.ensures.tree.1 built.0,
+      built.0,
+      built.1,
+    )
 
 pub returns-in-Ok-None-clause-refused : goal.returns-in-Ok-None-clause-refused
 returns-in-Ok-None-clause-refused c = refused c.args.bytes.now c.objects_fault.result c.objects_fault.ensures

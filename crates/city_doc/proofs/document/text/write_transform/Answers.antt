@@ -19,10 +19,16 @@ returns-clause-tokens c =
     on_ok_weaker c.write_last.result (λ e.
     let own = transform_own f in
     let old = c.args.out.now.tokens in
-    let start = begun (members_view c.map-kept.result.now.entries) own old c.begin_object.new.self.tokens c.in_ok-begin_object.ensures.ok in
-    let scaled = value_written ordered tt lacks.no_scale (refl, tt) c.write_name.new.out.tokens c.write_triple.new.out.tokens start c.in_ok-write_name.ensures.tokens c.in_ok-write_triple.ensures.tokens in
-    let translated = value_written ordered refl lacks.no_translate tt c.write_name-2.new.out.tokens c.write_triple-2.new.out.tokens scaled c.in_ok-write_name-2.ensures.tokens c.in_ok-write_triple-2.ensures.tokens in
-    end_written c.write_last.new.out.tokens translated e ∙ ap (λ ms. old ++ tokens_of (object (puts own ms))) same ∙ ap (λ d. old ++ tokens_of d) (sym (transform_puts f))) c.write_last.ensures.tokens
+    let start = begun (members_view c.map-kept.result.now.entries) own old c.begin_object.new.self.tokens
+    c.in_ok-begin_object.ensures.ok in
+    let scaled =
+    value_written ordered tt lacks.no_scale (refl, tt) c.write_name.new.out.tokens c.write_triple.new.out.tokens
+    start c.in_ok-write_name.ensures.tokens c.in_ok-write_triple.ensures.tokens in
+    let translated =
+    value_written ordered refl lacks.no_translate tt c.write_name-2.new.out.tokens c.write_triple-2.new.out.tokens
+    scaled c.in_ok-write_name-2.ensures.tokens c.in_ok-write_triple-2.ensures.tokens in
+    end_written c.write_last.new.out.tokens translated e ∙ ap (λ ms. old ++ tokens_of (object (puts own ms))) same
+    ∙ ap (λ d. old ++ tokens_of d) (sym (transform_puts f))) c.write_last.ensures.tokens
 
 pub returns-clause-reads : goal.returns-clause-reads
 returns-clause-reads c =
@@ -32,7 +38,12 @@ returns-clause-reads c =
     let ordered = subst AreOrdered (sym same) c.map-kept.ensures.ordered in
     let lacks = subst LacksTransformMembers (sym same) (transform_members_lacking f.more c.map-kept.ensures.kept) in
     on_ok_weaker c.write_last.result (λ translated.
-    let scaled = reads_parts (Some (codes "scale")) (codes "translate") kept lacks.no_translate c.in_ok-write_name-2.ensures.reads translated in
+    let scaled =
+    reads_parts (Some (codes "scale")) (codes "translate") kept lacks.no_translate
+    c.in_ok-write_name-2.ensures.reads translated in
     let all = reads_parts None (codes "scale") kept lacks.no_scale c.in_ok-write_name.ensures.reads scaled in
     subst ReadsBack (ap (λ ms. object (puts (transform_own f) ms)) same ∙ sym (transform_puts f))
-    (own_read (transform_own f) kept ordered (reads_all kept all) (c.in_ok-write_triple.ensures.reads, (c.in_ok-write_triple-2.ensures.reads, tt)))) c.write_last.ensures.reads
+    (own_read (transform_own f) kept ordered (reads_all kept all) (
+      c.in_ok-write_triple.ensures.reads,
+      (c.in_ok-write_triple-2.ensures.reads, tt),
+    ))) c.write_last.ensures.reads

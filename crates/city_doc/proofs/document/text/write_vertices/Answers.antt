@@ -13,4 +13,5 @@ returns-clause-reads c =
     let points = c.as_slice-points.result.now in
     on_ok_weaker c.end_array.result (λ e.
     subst (λ ps. ReadsBack (vertices_data ps)) (c.as_slice-points.ensures.keys ∙ c.points.ensures)
-    (array_reads (items_of (map vertex_data points)) (all_read vertex_data points l.point-index c.loop-point-test.false l.invariant.2))) c.end_array.ensures.ok
+    (array_reads (items_of (map vertex_data points))
+    (all_read vertex_data points l.point-index c.loop-point-test.false l.invariant.2))) c.end_array.ensures.ok

@@ -9,5 +9,7 @@ use Rattle.city_doc.proofs.document.text.write_vertices.Given as goal
 abbrev pub invariant-loop-point : goal.invariant-loop-point
 invariant-loop-point l =
     let left = drop l.point-index l.points in
-    (l.out.before ≡ l.initial.out.before) × (l.initial.out.tokens ++ closing vertex_data l.points ≡ l.out.tokens ++ closing vertex_data left)
-    × (ReadBack vertex_data left → ReadBack vertex_data l.points) × (list_all is_i64_point l.points ≡ list_all is_i64_point left)
+    (l.out.before ≡ l.initial.out.before)
+    × (l.initial.out.tokens ++ closing vertex_data l.points ≡ l.out.tokens ++ closing vertex_data left)
+    × (ReadBack vertex_data left → ReadBack vertex_data l.points)
+    × (list_all is_i64_point l.points ≡ list_all is_i64_point left)

@@ -8,4 +8,13 @@ returns c =
     let city = c.args.city.now in
     let text = c.in_ok-text.ensures.text ∙ ap (λ bs. bs ++ city_text city) c.new.ensures.items in
     let canonical = subst (λ t. IsCanonicalText t city) (sym text) c.in_ok-text.ensures.canonical in
-    record { text = text; read_again = canonical.read_again; canonical = canonical.canonical; accepted = canonical.accepted; rewritten = canonical.rewritten; tokens = canonical.tokens_are; in_range = canonical.in_range }
+    record {
+      text = text;
+      read_again = canonical.read_again;
+      canonical = canonical.canonical;
+      accepted = canonical.accepted;
+      rewritten = canonical.rewritten;
+      tokens = canonical.tokens_are;
+      in_range =
+          canonical.in_range;
+    }

@@ -13,16 +13,21 @@ pub returns-in_default-2 : goal.returns-in_default-2
 returns-in_default-2 c =
     let d = view c.args.object in
     let points = c.args.points.now in
-    let is_object = sym c.into_object.ensures ∙ ap (option_map (λ m. members_view m.entries)) c.in-Some-into_object.is in
+    let is_object = sym c.into_object.ensures ∙ ap (option_map (λ m. members_view m.entries)) c.in-Some-into_object.is
+    in
     let stays = geometry_stays d _ _ _ is_object c.take.ensures.left c.take-2.ensures.found in
-    body_missing points d _ _ (sym c.type_of.ensures ∙ c.in-Some.is) is_object (ap (list_or_absent (geometry_of points)) stays ∙ (sym c.in_ok-geometry.ensures ∙ c.in_default-2.is))
+    body_missing points d _ _ (sym c.type_of.ensures ∙ c.in-Some.is) is_object
+    (ap (list_or_absent (geometry_of points)) stays ∙ (sym c.in_ok-geometry.ensures ∙ c.in_default-2.is))
 
 pub returns : goal.returns
 returns c =
     let d = view c.args.object in
     let points = c.args.points.now in
-    let is_object = sym c.into_object.ensures ∙ ap (option_map (λ m. members_view m.entries)) c.in-Some-into_object.is in
+    let is_object = sym c.into_object.ensures ∙ ap (option_map (λ m. members_view m.entries)) c.in-Some-into_object.is
+    in
     let stays = geometry_stays d _ _ _ is_object c.take.ensures.left c.take-2.ensures.found in
     let left = c.take-2.ensures.left ∙ ap (without (codes "geometry")) c.take.ensures.left in
-    sym (body_read points d _ _ (sym c.type_of.ensures ∙ c.in-Some.is) is_object _ _ (ap (list_or_absent (geometry_of points)) stays ∙ (sym c.in_ok-geometry.ensures ∙ c.in-Some-2.is))
-    (ap (λ ms. kept_if kept_at_object (without (codes "children") (without (codes "parents") ms))) (sym left) ∙ (sym c.kept.ensures ∙ c.in-Some-kept.is)))
+    sym (body_read points d _ _ (sym c.type_of.ensures ∙ c.in-Some.is) is_object _ _
+    (ap (list_or_absent (geometry_of points)) stays ∙ (sym c.in_ok-geometry.ensures ∙ c.in-Some-2.is))
+    (ap (λ ms. kept_if kept_at_object (without (codes "children") (without (codes "parents") ms))) (sym left)
+    ∙ (sym c.kept.ensures ∙ c.in-Some-kept.is)))

@@ -4,4 +4,6 @@ use Rattle.city_doc.specs.object.Faults.{first_unsupported}
 use Rattle.city_doc.proofs.object.faults.first_unsupported.Given as goal
 
 abbrev pub invariant-loop-geometry : goal.invariant-loop-geometry
-invariant-loop-geometry l = first_unsupported (items_view l.geometries.items) ≡ first_unsupported (items_view (drop l.geometry-index l.geometries.items))
+invariant-loop-geometry l =
+    first_unsupported (items_view l.geometries.items) ≡ first_unsupported
+    (items_view (drop l.geometry-index l.geometries.items))

@@ -1,4 +1,5 @@
-use Rattle.std.proofs.Common.{◌≡◌, List, [], ◌∷◌, ◌++◌, length, Some, option_copied, refl, sym, ap, ◌∙◌, arith, append_assoc}
+use Rattle.std.proofs.Common.{◌≡◌, List, [], ◌∷◌, ◌++◌, length, Some, option_copied, refl, sym, ap, ◌∙◌, arith}
+use Rattle.std.proofs.Common.{append_assoc}
 use Rattle.std.proofs.lemmas.Result.{on_ok_weaker}
 use Rattle.json.specs.Token.{key}
 use Rattle.serde_json.specs.Data.{Data}
@@ -19,10 +20,14 @@ returns-clause-tokens g c =
     let old = c.args.out.now.tokens in
     let name = c.args.name.now in
     let list = c.args.list.now in
-    let front = tokens_of_members (members_between (option_copied c.args.low) (Some name) (members_view c.args.kept.now.entries)) in
+    let front = tokens_of_members
+    (members_between (option_copied c.args.low) (Some name) (members_view c.args.kept.now.entries)) in
     on_ok_weaker c.write.result (λ each later.
     let written = g.T.Written.written (with_points c.write.new.pool later) in
     let tree = tokens_of (list_data written list) in
-    each later ∙ ap (λ ts. ts ++ tree) (c.in_ok-key.ensures.ok ∙ ap (λ ts. ts ++ key name ∷ []) c.in_ok-write_between.ensures.tokens)
+    each later ∙ ap (λ ts. ts ++ tree) (c.in_ok-key.ensures.ok
+    ∙ ap (λ ts. ts ++ key name ∷ []) c.in_ok-write_between.ensures.tokens)
     ∙ append_assoc (old ++ front) (key name ∷ []) tree ∙ append_assoc old front (key name ∷ tree)
-    ∙ ap (λ o. old ++ (front ++ tokens_of_own name o)) (sym (listed_some written list (λ e. omega (arith, c.if-len-eq0.false, c.len.ensures, e))))) c.write.ensures.tokens
+    ∙ ap (λ o. old ++ (front ++ tokens_of_own name o))
+    (sym (listed_some written list (λ e. omega (arith, c.if-len-eq0.false, c.len.ensures, e)))))
+    c.write.ensures.tokens

@@ -24,10 +24,17 @@ loop-id-preserved c =
     let left = c.next.new.self in
     let steps = c.in-Some.ensures.steps in
     let one = c.in_ok-write_object.ensures in (
-      l.invariant.0 ∙ (ap (λ es. with_points l.pool (flat_map (λ e. object_points e.1) es)) steps ∙ walk_first (λ e. object_points e.1) (id, o) left l.pool c.write_object.new.pool one.pool),
+      l.invariant.0
+          ∙ (ap (λ es. with_points l.pool (flat_map (λ e. object_points e.1) es)) steps
+          ∙ walk_first (λ e. object_points e.1) (id, o) left l.pool c.write_object.new.pool one.pool),
       one.before ∙ c.key.ensures.room.0 ∙ l.invariant.1,
-      object_written (entries c.args.city.now.1) l.id-iterator left id o l.pool c.write_object.new.pool c.begin_object.new.self.tokens l.out.tokens c.key.new.self.tokens c.write_object.new.out.tokens steps one.pool l.invariant.2 (c.in_ok-key.ensures.ok ∙ ap (λ name. l.out.tokens ++ key name ∷ []) c.as_str.ensures) one.tokens,
-      λ pool small rest. l.invariant.3 pool small (subst (λ es. MembersReadBack (in_turn pool es)) (sym steps) (one.reads pool small, rest)),
+      object_written (entries c.args.city.now.1) l.id-iterator left id o l.pool c.write_object.new.pool
+          c.begin_object.new.self.tokens l.out.tokens c.key.new.self.tokens c.write_object.new.out.tokens steps one.pool
+          l.invariant.2 (c.in_ok-key.ensures.ok ∙ ap (λ name. l.out.tokens ++ key name ∷ []) c.as_str.ensures)
+          one.tokens,
+      λ pool small rest.
+          l.invariant.3 pool small
+          (subst (λ es. MembersReadBack (in_turn pool es)) (sym steps) (one.reads pool small, rest)),
       l.invariant.4 ∙ ap are_kept_objects steps ∙ rw one.kept refl,
     )
 
@@ -37,9 +44,12 @@ returns-clause-tokens c =
     let all = entries c.args.city.now.1 in
     on_ok_weaker c.end_object.result (λ e later.
     let pool = with_points l.pool later in
-    e ∙ ap (λ es. l.out.tokens ++ closing_members (in_turn pool es)) (sym c.in-None.ensures.steps.0) ∙ sym (l.invariant.2 later)
-    ∙ ap (λ ts. ts ++ closing_members (in_turn pool all)) c.in_ok-begin_object.ensures.ok ∙ append_assoc c.args.out.now.tokens (begin_object ∷ []) (closing_members (in_turn pool all))
-    ∙ ap (λ (ms : Members). c.args.out.now.tokens ++ tokens_of (object ms)) (sym (written_in_turn pool all (entries_ascend c.args.city.now.1)))) c.end_object.ensures.ok
+    e ∙ ap (λ es. l.out.tokens ++ closing_members (in_turn pool es)) (sym c.in-None.ensures.steps.0)
+    ∙ sym (l.invariant.2 later)
+    ∙ ap (λ ts. ts ++ closing_members (in_turn pool all)) c.in_ok-begin_object.ensures.ok
+    ∙ append_assoc c.args.out.now.tokens (begin_object ∷ []) (closing_members (in_turn pool all))
+    ∙ ap (λ (ms : Members). c.args.out.now.tokens ++ tokens_of (object ms))
+    (sym (written_in_turn pool all (entries_ascend c.args.city.now.1)))) c.end_object.ensures.ok
 
 pub returns-clause-reads : goal.returns-clause-reads
 returns-clause-reads c =
@@ -48,4 +58,6 @@ returns-clause-reads c =
     let ascend = entries_ascend c.args.city.now.1 in
     on_ok_weaker c.end_object.result (λ e pool small.
     subst (λ (ms : Members). ReadsBack (object ms)) (sym (written_in_turn pool all ascend))
-    (object_reads (in_turn pool all) (ordered_in_turn pool all ascend) (l.invariant.3 pool small (subst (λ es. MembersReadBack (in_turn pool es)) (sym c.in-None.ensures.steps.0) tt)))) c.end_object.ensures.ok
+    (object_reads (in_turn pool all) (ordered_in_turn pool all ascend)
+    (l.invariant.3 pool small
+    (subst (λ es. MembersReadBack (in_turn pool es)) (sym c.in-None.ensures.steps.0) tt)))) c.end_object.ensures.ok

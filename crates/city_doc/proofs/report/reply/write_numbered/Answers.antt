@@ -16,10 +16,15 @@ returns-clause-tokens c =
     let o = c.args.object.now in
     let old = c.args.out.now.tokens in
     let pool = c.write_object.new.pool in
-    let pooled : pool ≡ without_repeats (object_points o) = c.in_ok-write_object.ensures.pool ∙ ap (λ ps. with_points ps (object_points o)) c.requires ∙ pool_is_without_repeats (object_points o) in
+    let pooled : pool ≡ without_repeats (object_points o) = c.in_ok-write_object.ensures.pool
+    ∙ ap (λ ps. with_points ps (object_points o)) c.requires ∙ pool_is_without_repeats (object_points o) in
     on_ok_weaker c.end_object.result (λ e.
     let own = (codes "object", Some (object_data pool o)) ∷ (codes "vertices", Some (vertices_data pool)) ∷ [] in
     let start = begun no_members own old c.begin_object.new.self.tokens c.in_ok-begin_object.ensures.ok in
-    let found = value_written tt tt refl (refl, tt) c.key.new.self.tokens c.write_object.new.out.tokens start c.in_ok-key.ensures.ok (c.in_ok-write_object.ensures.tokens []) in
-    let vertices = value_written tt refl refl tt c.key-2.new.self.tokens c.write_vertices.new.out.tokens found c.in_ok-key-2.ensures.ok c.in_ok-write_vertices.ensures.tokens in
-    end_written c.end_object.new.self.tokens vertices e ∙ ap (λ ps. old ++ tokens_of (numbered_object ps o)) pooled) c.end_object.ensures.ok
+    let found = value_written tt tt refl (refl, tt) c.key.new.self.tokens c.write_object.new.out.tokens start
+    c.in_ok-key.ensures.ok (c.in_ok-write_object.ensures.tokens []) in
+    let vertices =
+    value_written tt refl refl tt c.key-2.new.self.tokens c.write_vertices.new.out.tokens found
+    c.in_ok-key-2.ensures.ok c.in_ok-write_vertices.ensures.tokens in
+    end_written c.end_object.new.self.tokens vertices e ∙ ap (λ ps. old ++ tokens_of (numbered_object ps o)) pooled)
+    c.end_object.ensures.ok

@@ -7,4 +7,5 @@ use Rattle.city_doc.proofs.report.reply.write_replies.Given as goal
 abbrev pub invariant-loop-reply : goal.invariant-loop-reply
 invariant-loop-reply l =
     let left = drop l.reply-index l.replies in
-    (l.out.before ≡ l.initial.out.before) × (l.initial.out.tokens ++ closing reply_data l.replies ≡ l.out.tokens ++ closing reply_data left)
+    (l.out.before ≡ l.initial.out.before)
+    × (l.initial.out.tokens ++ closing reply_data l.replies ≡ l.out.tokens ++ closing reply_data left)

@@ -14,6 +14,7 @@ returns c =
     ∙ ap (λ bs. bs ++ 10 ∷ [])
     (c.into_inner-report.ensures.items
     ∙ ap (λ bs. bs ++ print c.write_end.new.out.tokens) (c.in_ok-write_end.ensures.before ∙ c.new-out.ensures.before)
-    ∙ ap (λ ts. before ++ print ts) (c.in_ok-write_end.ensures.tokens ∙ ap (λ ts. ts ++ tokens_of tree) c.new-out.ensures.tokens)
+    ∙ ap (λ ts. before ++ print ts) (c.in_ok-write_end.ensures.tokens
+    ∙ ap (λ ts. ts ++ tokens_of tree) c.new-out.ensures.tokens)
     ∙ ap (λ bs. before ++ bs) (print-outline tree))
     ∙ append_assoc before (compact_text tree) (10 ∷ [])

@@ -6,5 +6,6 @@ use Rattle.city_doc.proofs.script.read.commands_of.Goals as goal
 
 pub loop-item-preserved : goal.loop-item-preserved
 loop-item-preserved c =
-    all_read-step (command_of c.args.points.now) _ c.loop-item.commands _ _ _ (view c.in-Some.item) c.in-Some-2.command c.loop-item.invariant (ap (map view) c.in-Some.ensures.steps.0)
+    all_read-step (command_of c.args.points.now) _ c.loop-item.commands _ _ _ (view c.in-Some.item) c.in-Some-2.command
+    c.loop-item.invariant (ap (map view) c.in-Some.ensures.steps.0)
     (sym c.in_ok-command.ensures ∙ c.in-Some-2.is) c.in_ok-push.ensures.ok

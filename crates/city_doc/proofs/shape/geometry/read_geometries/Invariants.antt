@@ -8,4 +8,5 @@ use Rattle.city_doc.proofs.shape.geometry.read_geometries.Given as goal
 -- what is found, and then what is left
 abbrev pub invariant-loop-item : goal.invariant-loop-item
 invariant-loop-item l =
-    read_items (geometry_of l.points) (items_view l.fn.items.items) ≡ option_map (λ gs. l.found ++ gs) (read_items (geometry_of l.points) (items_view (into_iter_items l.item-iterator)))
+    read_items (geometry_of l.points) (items_view l.fn.items.items) ≡ option_map (λ gs. l.found ++ gs)
+    (read_items (geometry_of l.points) (items_view (into_iter_items l.item-iterator)))

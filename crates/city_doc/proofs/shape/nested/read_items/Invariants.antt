@@ -6,4 +6,5 @@ use Rattle.city_doc.proofs.shape.nested.read_items.Given as goal
 -- what is found, and then what is left
 abbrev pub invariant-loop-item : goal.invariant-loop-item
 invariant-loop-item g l =
-    read_items (g.T.Nested.reads l.points) (items_view l.items.items) ≡ option_map (λ xs. l.found ++ xs) (read_items (g.T.Nested.reads l.points) (items_view (drop l.item-index l.items.items)))
+    read_items (g.T.Nested.reads l.points) (items_view l.items.items) ≡ option_map (λ xs. l.found ++ xs)
+    (read_items (g.T.Nested.reads l.points) (items_view (drop l.item-index l.items.items)))

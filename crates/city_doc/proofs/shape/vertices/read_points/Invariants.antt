@@ -6,4 +6,6 @@ use Rattle.city_doc.proofs.shape.vertices.read_points.Given as goal
 
 -- what is found, and then what is left
 abbrev pub invariant-loop-item : goal.invariant-loop-item
-invariant-loop-item l = read_items point_of (items_view l.items.items) ≡ option_map (λ ps. l.points ++ ps) (read_items point_of (items_view (drop l.item-index l.items.items)))
+invariant-loop-item l =
+    read_items point_of (items_view l.items.items) ≡ option_map (λ ps. l.points ++ ps)
+    (read_items point_of (items_view (drop l.item-index l.items.items)))

@@ -1,4 +1,5 @@
-use Rattle.std.proofs.Common.{◌≡◌, ◌<◌, [], ◌∷◌, ◌++◌, length, Some, None, refl, sym, ap, ◌∙◌, subst, append-nil, append_assoc, arith}
+use Rattle.std.proofs.Common.{◌≡◌, ◌<◌, [], ◌∷◌, ◌++◌, length, Some, None, refl, sym, ap, ◌∙◌, subst, append-nil}
+use Rattle.std.proofs.Common.{append_assoc, arith}
 use Rattle.json.specs.Json.{after_end_array}
 use Rattle.city_doc.proofs.stream.Pairing.{pairs_push}
 use Rattle.city_doc.proofs.stream.Reading.{value_shorter, seen_value, items_begin, items_next, items_end}
@@ -11,7 +12,9 @@ pub items-smaller : goal.items-smaller
 items-smaller g c =
     let one = c.in_ok-one.ensures in
     let same : c.take_end_array.new.self ≡ c.items.reader = grind arith in
-    let less : length c.from_tokens.new.reader < length c.items.reader = subst (λ ts. length c.from_tokens.new.reader < length ts) same (value_shorter c.args.depth c.take_end_array.new.self c.from_tokens.new.reader one.0 one.1) in
+    let less : length c.from_tokens.new.reader < length c.items.reader =
+    subst (λ ts. length c.from_tokens.new.reader < length ts) same
+    (value_shorter c.args.depth c.take_end_array.new.self c.from_tokens.new.reader one.0 one.1) in
     omega (arith, less)
 
 pub items-preserved : goal.items-preserved

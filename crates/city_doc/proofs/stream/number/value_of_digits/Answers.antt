@@ -19,7 +19,8 @@ overflow_add-n c =
 pub loop-byte-preserved : goal.loop-byte-preserved
 loop-byte-preserved c =
     let i = c.loop-byte.invariant in
-    more c.args.digits.now c.loop-byte.byte-index c.loop-byte.n _ c.loop-byte-test.true i.0 i.1 (digit_of _ (grind arith) (grind arith))
+    more c.args.digits.now c.loop-byte.byte-index c.loop-byte.n _ c.loop-byte-test.true i.0 i.1
+    (digit_of _ (grind arith) (grind arith))
 
 pub returns-clause-small : goal.returns-clause-small
 returns-clause-small c =

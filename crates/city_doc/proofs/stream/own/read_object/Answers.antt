@@ -6,6 +6,7 @@ use Rattle.city_doc.proofs.stream.own.read_object.Goals as goal
 
 pub returns : goal.returns
 returns g c =
-    let first : c.args.reader.now ≡ Token.begin_object ∷ c.next.new.self = c.in_ok-next.ensures.value ∙ ap (λ k. token_of k ∷ c.next.new.self) c.in-BeginObject.is in
+    let first : c.args.reader.now ≡ Token.begin_object ∷ c.next.new.self = c.in_ok-next.ensures.value
+    ∙ ap (λ k. token_of k ∷ c.next.new.self) c.in-BeginObject.is in
     let read = c.in_ok-read.ensures in
     (read.0, seen_value first refl read.1, read.2)

@@ -23,8 +23,10 @@ members-smaller-then-not-taken g c =
     key_read c.next_key.result c.ok.result _ (Some c.in-Some.name) (λ s. s.now) c.members.reader c.next_key.new.self
     c.ok.ensures.value c.in_ok-name.was c.in-Some.is c.next_key.ensures.value in
     let off : c.in_ok-taken.taken ≡ false = grind arith in
-    let passed : IsPassed g.O.Own.stands c.members.own c.take.new.self k c.next_key.new.self c.take.new.reader = rw off at c.in_ok-taken.ensures in
-    let less = value_shorter c.args.depth c.next_key.new.self c.read_value.new.reader (view c.in_ok-value.value) (seen_value (sym passed.0) refl c.in_ok-value.ensures) in
+    let passed : IsPassed g.O.Own.stands c.members.own c.take.new.self k c.next_key.new.self c.take.new.reader =
+    rw off at c.in_ok-taken.ensures in
+    let less = value_shorter c.args.depth c.next_key.new.self c.read_value.new.reader (view c.in_ok-value.value)
+    (seen_value (sym passed.0) refl c.in_ok-value.ensures) in
     let lesser = read_key-shorter c.members.reader (Some k) c.next_key.new.self named in
     omega (arith, less, lesser)
 
@@ -38,13 +40,16 @@ members-preserved-then-not-taken g c =
     key_read c.next_key.result c.ok.result _ (Some c.in-Some.name) (λ s. s.now) l.reader c.next_key.new.self
     c.ok.ensures.value c.in_ok-name.was c.in-Some.is c.next_key.ensures.value in
     let off : c.in_ok-taken.taken ≡ false = grind arith in
-    let passed : IsPassed g.O.Own.stands l.own c.take.new.self k c.next_key.new.self c.take.new.reader = rw off at c.in_ok-taken.ensures in
+    let passed : IsPassed g.O.Own.stands l.own c.take.new.self k c.next_key.new.self c.take.new.reader =
+    rw off at c.in_ok-taken.ensures in
     let copied : string_bytes c.in_ok-key.key ≡ k = search rules in
     let inserted : members_view c.insert.new.self.entries ≡ put k (view v) old =
-    ap members_view (grind arith) ∙ members_view-insert_entry l.kept.entries c.in_ok-key.key v ∙ ap (λ name. put name (view v) old) copied in (
+    ap members_view (grind arith) ∙ members_view-insert_entry l.kept.entries c.in_ok-key.key v
+    ∙ ap (λ name. put name (view v) old) copied in (
       put k (view v) l.invariant.0,
       members_next l.invariant.1 named (seen_value (sym passed.0) refl c.in_ok-value.ensures),
-      λ h. subst (λ ms. g.O.Own.stands c.take.new.self (put k (view v) l.invariant.0) ms) (sym inserted) (passed.1 (view v) l.invariant.0 old (l.invariant.2 h)),
+      λ h. subst (λ ms. g.O.Own.stands c.take.new.self (put k (view v) l.invariant.0) ms) (sym inserted)
+          (passed.1 (view v) l.invariant.0 old (l.invariant.2 h)),
     )
 
 pub members-smaller : goal.members-smaller
@@ -54,7 +59,8 @@ members-smaller g c =
     key_read c.next_key.result c.ok.result _ (Some c.in-Some.name) (λ s. s.now) c.members.reader c.next_key.new.self
     c.ok.ensures.value c.in_ok-name.was c.in-Some.is c.next_key.ensures.value in
     let on : c.in_ok-taken.taken ≡ true = grind arith in
-    let taken : IsTaken g.O.Own.stands c.members.own c.take.new.self k c.args.depth c.next_key.new.self c.take.new.reader = rw on at c.in_ok-taken.ensures in
+    let taken : IsTaken g.O.Own.stands c.members.own c.take.new.self k c.args.depth c.next_key.new.self
+    c.take.new.reader = rw on at c.in_ok-taken.ensures in
     let less = value_shorter c.args.depth c.next_key.new.self c.take.new.reader taken.0 taken.1 in
     let lesser = read_key-shorter c.members.reader (Some k) c.next_key.new.self named in
     omega (arith, less, lesser)
@@ -67,7 +73,8 @@ members-preserved g c =
     key_read c.next_key.result c.ok.result _ (Some c.in-Some.name) (λ s. s.now) l.reader c.next_key.new.self
     c.ok.ensures.value c.in_ok-name.was c.in-Some.is c.next_key.ensures.value in
     let on : c.in_ok-taken.taken ≡ true = grind arith in
-    let taken : IsTaken g.O.Own.stands l.own c.take.new.self k c.args.depth c.next_key.new.self c.take.new.reader = rw on at c.in_ok-taken.ensures in (
+    let taken : IsTaken g.O.Own.stands l.own c.take.new.self k c.args.depth c.next_key.new.self c.take.new.reader =
+    rw on at c.in_ok-taken.ensures in (
       put k taken.0 l.invariant.0,
       members_next l.invariant.1 named taken.1,
       λ h. taken.2 l.invariant.0 (members_view l.kept.entries) (l.invariant.2 h),

@@ -6,4 +6,5 @@ use Rattle.city_doc.proofs.stream.placing.place_all.Given as goal
 abbrev pub invariant-loop-item : goal.invariant-loop-item
 invariant-loop-item g l =
     (done : List g.row.T.Denot) × (l.item-items ≡ done ++ drop l.item-index l.initial.item-items)
-    × Pairs (IsPlaced g.T.Places.stands (g.T.Places.reads (points_of l.vertices))) (take l.item-index l.initial.item-items) done
+    × Pairs (IsPlaced g.T.Places.stands (g.T.Places.reads (points_of l.vertices)))
+    (take l.item-index l.initial.item-items) done

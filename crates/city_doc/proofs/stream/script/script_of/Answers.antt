@@ -19,9 +19,11 @@ returns c =
     let read = c.in_ok-commands.commands in
     let cs = c.place.new.self in
     let placed : IsPlaced (IsArrayOf IsCommand) (list_of (command_of (points_of c.args.parts.vertices))) read cs =
-    subst (λ vs. IsPlaced (IsArrayOf IsCommand) (list_of (command_of (points_of vs))) read cs) c.as_slice.ensures c.in_ok-place.ensures in
+    subst (λ vs. IsPlaced (IsArrayOf IsCommand) (list_of (command_of (points_of vs))) read cs) c.as_slice.ensures
+    c.in_ok-place.ensures in
     let short : length cs ≤ max_commands = grind arith in
     ok_holds c.new.result c.ok.result _ c.ok.ensures.value (λ s made found kept so.
     let is : s ≡ (name, cs) = subst (λ r. IfOk r (λ x. x ≡ (name, cs))) made c.new.ensures.made in
     let ends : ends_once cs ≡ true = sym c.new.ensures.checked ∙ ap is_ok made in
-    subst (λ x. IsScript x (object found)) (sym is) (script_made c.args.parts name read cs found kept c.in_ok-name.was c.in_ok-commands.was placed ends short so))
+    subst (λ x. IsScript x (object found)) (sym is)
+    (script_made c.args.parts name read cs found kept c.in_ok-name.was c.in_ok-commands.was placed ends short so))

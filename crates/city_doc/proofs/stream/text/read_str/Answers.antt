@@ -6,5 +6,6 @@ use Rattle.city_doc.proofs.stream.text.read_str.Goals as goal
 
 pub returns-in-String : goal.returns-in-String
 returns-in-String c = λ depth.
-    let first : c.args.reader.now ≡ Token.string c.in-String.text.now ∷ c.next.new.self = c.in_ok-text.ensures.value ∙ ap (λ k. token_of k ∷ c.next.new.self) c.in-String.is in
+    let first : c.args.reader.now ≡ Token.string c.in-String.text.now ∷ c.next.new.self = c.in_ok-text.ensures.value
+    ∙ ap (λ k. token_of k ∷ c.next.new.self) c.in-String.is in
     seen_value first refl (string_value depth c.in-String.text.now c.next.new.self)

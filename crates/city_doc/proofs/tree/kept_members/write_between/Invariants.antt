@@ -13,5 +13,8 @@ invariant-loop-name l =
     let high = option_copied l.high in
     let all = members_view l.members.entries in
     let left = members_view l.name-iterator in
-    (l.out.before ≡ l.initial.out.before) × (l.out.tokens ++ tokens_of_members (members_between low high left) ≡ l.initial.out.tokens ++ tokens_of_members (members_between low high all))
-    × (members_integral all ≡ members_integral left) × (MembersReadBack (members_between low high left) → MembersReadBack (members_between low high all))
+    (l.out.before ≡ l.initial.out.before)
+    × (l.out.tokens ++ tokens_of_members (members_between low high left) ≡ l.initial.out.tokens ++ tokens_of_members
+    (members_between low high all))
+    × (members_integral all ≡ members_integral left)
+    × (MembersReadBack (members_between low high left) → MembersReadBack (members_between low high all))

@@ -11,10 +11,13 @@ use Rattle.city_doc.proofs.tree.text.write_number.Goals as goal
 pub returns-in-Some-clause-tokens : goal.returns-in-Some-clause-tokens
 returns-in-Some-clause-tokens c =
     let fits : FitsSigned w64 c.in-Some.z = search rules in
-    let text = ap signed_decimal (to_z-of_z fits) ∙ sym (text_of_i64 c.in-Some.z (number_view c.args.n.now) (sym c.as_i64.ensures ∙ c.in-Some.is)) in
+    let text = ap signed_decimal (to_z-of_z fits)
+    ∙ sym (text_of_i64 c.in-Some.z (number_view c.args.n.now) (sym c.as_i64.ensures ∙ c.in-Some.is)) in
     on_ok_weaker c.i64.result (λ e. e ∙ ap (λ t. c.args.out.now.tokens ++ number t ∷ []) text) c.i64.ensures.ok
 
 pub returns-in-Some-clause-reads : goal.returns-in-Some-clause-reads
 returns-in-Some-clause-reads c =
     let fits : FitsSigned w64 c.in-Some.z = search rules in
-    on_ok_weaker c.i64.result (λ e. number_reads c.args.n.now.n c.in-Some.z c.args.n.now.valid (sym c.as_i64.ensures ∙ c.in-Some.is) fits) c.i64.ensures.ok
+    on_ok_weaker c.i64.result
+    (λ e. number_reads c.args.n.now.n c.in-Some.z c.args.n.now.valid (sym c.as_i64.ensures ∙ c.in-Some.is) fits)
+    c.i64.ensures.ok

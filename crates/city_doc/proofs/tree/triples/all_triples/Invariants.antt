@@ -4,4 +4,5 @@ use Rattle.city_doc.specs.tree.Triples.{all_triples}
 use Rattle.city_doc.proofs.tree.triples.all_triples.Given as goal
 
 abbrev pub invariant-loop-item : goal.invariant-loop-item
-invariant-loop-item l = all_triples (items_view l.items.items) ≡ all_triples (items_view (drop l.item-index l.items.items))
+invariant-loop-item l =
+    all_triples (items_view l.items.items) ≡ all_triples (items_view (drop l.item-index l.items.items))

@@ -6,4 +6,5 @@ use Rattle.city_doc.proofs.tree.IntegralParts.{items_list-of}
 use Rattle.city_doc.proofs.tree.values.into_array.Goals as goal
 
 pub returns-in-Array-clause-list : goal.returns-in-Array-clause-list
-returns-in-Array-clause-list c = rw (c.in-Array.is, view-Array c.in-Array.items) (ap Some (sym (items_list-of (map view c.in-Array.items.items))))
+returns-in-Array-clause-list c =
+    rw (c.in-Array.is, view-Array c.in-Array.items) (ap Some (sym (items_list-of (map view c.in-Array.items.items))))

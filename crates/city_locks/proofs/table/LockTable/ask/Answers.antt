@@ -12,8 +12,13 @@ invariant_of-self c =
     let v = c.self.inside.holders.entries in
     let w = c.take.new.holders.entries in
     let adds : Adds v w c.args.stamp c.args.id.now c.args.mode = record { holders = c.in_ok-take.ensures.ok } in
-    let granted : answer_of v c.args.stamp c.args.id.now c.args.mode ≡ Granted = sym c.standing_at-there.ensures.answer ∙ c.in-Granted.is in
-    record { lawful = lawful_added v w c.args.stamp c.args.id.now c.args.mode adds c.self.invariant.lawful granted; listed = c.take.ensures.listed; once = once_added v w c.args.stamp c.args.id.now c.args.mode adds c.self.invariant.once }
+    let granted : answer_of v c.args.stamp c.args.id.now c.args.mode ≡ Granted = sym c.standing_at-there.ensures.answer
+    ∙ c.in-Granted.is in
+    record {
+      lawful = lawful_added v w c.args.stamp c.args.id.now c.args.mode adds c.self.invariant.lawful granted;
+      listed = c.take.ensures.listed;
+      once = once_added v w c.args.stamp c.args.id.now c.args.mode adds c.self.invariant.once;
+    }
 
 pub returns-in_ok-take-clause-granted : goal.returns-in_ok-take-clause-granted
 returns-in_ok-take-clause-granted c h t q =
@@ -21,34 +26,41 @@ returns-in_ok-take-clause-granted c h t q =
     let w = c.take.new.holders.entries in
     let adds : Adds v w c.args.stamp c.args.id.now c.args.mode = record { holders = c.in_ok-take.ensures.ok } in
     mode_added v w c.args.stamp c.args.id.now c.args.mode adds t q
-    ∙ ap (λ u. cond ((c.args.stamp == t) && same_id c.args.id.now q) (Some (stronger c.args.mode (mode_of u c.args.stamp c.args.id.now))) (mode_of u t q)) c.self.view_is
+    ∙ ap (λ u. cond ((c.args.stamp == t) && same_id c.args.id.now q)
+    (Some (stronger c.args.mode (mode_of u c.args.stamp c.args.id.now))) (mode_of u t q)) c.self.view_is
 
 pub returns-in_ok-take-clause-own : goal.returns-in_ok-take-clause-own
 returns-in_ok-take-clause-own c q n =
     let v = c.self.inside.holders.entries in
     let w = c.take.new.holders.entries in
     let adds : Adds v w c.args.stamp c.args.id.now c.args.mode = record { holders = c.in_ok-take.ensures.ok } in
-    own_added v w c.args.stamp c.args.id.now c.args.mode adds q n ∙ ap (λ u. answer_of u c.args.stamp q n) c.self.view_is
+    own_added v w c.args.stamp c.args.id.now c.args.mode adds q n
+    ∙ ap (λ u. answer_of u c.args.stamp q n) c.self.view_is
 
 pub returns-in_ok-take-clause-lawful : goal.returns-in_ok-take-clause-lawful
 returns-in_ok-take-clause-lawful c =
     let v = c.self.inside.holders.entries in
     let w = c.take.new.holders.entries in
     let adds : Adds v w c.args.stamp c.args.id.now c.args.mode = record { holders = c.in_ok-take.ensures.ok } in
-    let granted : answer_of v c.args.stamp c.args.id.now c.args.mode ≡ Granted = sym c.standing_at-there.ensures.answer ∙ c.in-Granted.is in
+    let granted : answer_of v c.args.stamp c.args.id.now c.args.mode ≡ Granted = sym c.standing_at-there.ensures.answer
+    ∙ c.in-Granted.is in
     lawful_added v w c.args.stamp c.args.id.now c.args.mode adds c.self.invariant.lawful granted
 
 pub returns-in_ok-take-clause-wait_die : goal.returns-in_ok-take-clause-wait_die
 returns-in_ok-take-clause-wait_die c =
-    wait_die_seen c.self.inside.holders.entries c.args.self.now c.args.id.now c.args.stamp c.args.mode c.standing_at-there.result.answer
+    wait_die_seen c.self.inside.holders.entries c.args.self.now c.args.id.now c.args.stamp c.args.mode
+    c.standing_at-there.result.answer
     c.self.view_is (c.self.invariant.once c.args.id.now) c.standing_at-there.ensures.answer
 
 not_granted : (c : goal.In_default) → answer_of c.args.self.now c.args.stamp c.args.id.now c.args.mode ≡ Granted → ⊥
-not_granted c h = c.in_default.not-Granted (c.standing_at-there.ensures.answer ∙ ap (λ u. answer_of u c.args.stamp c.args.id.now c.args.mode) c.self.view_is ∙ h)
+not_granted c h =
+    c.in_default.not-Granted (c.standing_at-there.ensures.answer
+    ∙ ap (λ u. answer_of u c.args.stamp c.args.id.now c.args.mode) c.self.view_is ∙ h)
 
 pub returns-in_default-clause-wait_die : goal.returns-in_default-clause-wait_die
 returns-in_default-clause-wait_die c =
-    wait_die_seen c.self.inside.holders.entries c.args.self.now c.args.id.now c.args.stamp c.args.mode c.standing_at-there.result.answer
+    wait_die_seen c.self.inside.holders.entries c.args.self.now c.args.id.now c.args.stamp c.args.mode
+    c.standing_at-there.result.answer
     c.self.view_is (c.self.invariant.once c.args.id.now) c.standing_at-there.ensures.answer
 
 pub returns-in_default-clause-granted : goal.returns-in_default-clause-granted

@@ -5,4 +5,5 @@ use Rattle.city_model.proofs.Objects.{entries_of}
 use Rattle.city_model.proofs.city.City.iter.Goals as goal
 
 pub returns : goal.returns
-returns c = c.iter.ensures.rest ∙ sym (entries_of c.self.inside.objects.entries c.self.invariant) ∙ ap (λ (v : CityValue). entries v.1) c.self.view_is
+returns c = c.iter.ensures.rest ∙ sym (entries_of c.self.inside.objects.entries c.self.invariant)
+    ∙ ap (λ (v : CityValue). entries v.1) c.self.view_is

@@ -7,7 +7,9 @@ use Rattle.city_model.specs.CityMap.{Entries}
 use Rattle.city_model.proofs.city.CityCopied.copy.Goals as goal
 
 pub invariant_of-result : goal.invariant_of-result
-invariant_of-result c = subst (λ (es : Entries). IsStrictlySortedBy (slice_cmp nat_cmp) (keys_of es)) (sym c.in_ok-objects.ensures) c.self.invariant
+invariant_of-result c =
+    subst (λ (es : Entries). IsStrictlySortedBy (slice_cmp nat_cmp) (keys_of es)) (sym c.in_ok-objects.ensures)
+    c.self.invariant
 
 pub returns : goal.returns
 returns c = (λ i. (c.in_ok-frame.ensures i, from_sorted (c.in_ok-objects.ensures i))) ∙ c.self.view_is

@@ -7,13 +7,15 @@ use Rattle.city_model.proofs.plan.putting.plan_put.Goals as goal
 
 pub returns-in_ok-change-in-None : goal.returns-in_ok-change-in-None
 returns-in_ok-change-in-None g c =
-    put_writes (g.V.View.map c.args.view.now) c.args.id.now c.args.body.now None c.in_ok-object-in-None.object Added c.in_ok-change-in-None.change
+    put_writes (g.V.View.map c.args.view.now) c.args.id.now c.args.body.now None c.in_ok-object-in-None.object Added
+    c.in_ok-change-in-None.change
     (sym c.in-None.ensures) (sym c.in_ok-cause.ensures.fault
     ∙ c.in_default.is) refl refl c.in_ok-object-in-None.ensures c.in_ok-change-in-None.ensures
 
 pub returns-in_ok-change-in-Some-look : goal.returns-in_ok-change-in-Some-look
 returns-in_ok-change-in-Some-look g c =
-    put_writes (g.V.View.map c.args.view.now) c.args.id.now c.args.body.now (Some c.in-Some-look.there.now) c.in_ok-object-in-Some-look.object Replaced
+    put_writes (g.V.View.map c.args.view.now) c.args.id.now c.args.body.now (Some c.in-Some-look.there.now)
+    c.in_ok-object-in-Some-look.object Replaced
     c.in_ok-change-in-Some-look.change
     (sym c.in-Some-look.ensures) (sym c.in_ok-cause.ensures.fault ∙ c.in_default.is)
     (ap (λ b. if b then None else Some (TypeFixed c.args.id.now)) (sym c.is_same.ensures ∙ c.if-not-is_same.false)) refl

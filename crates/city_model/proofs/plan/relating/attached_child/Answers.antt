@@ -5,7 +5,8 @@ use Rattle.city_model.proofs.plan.relating.attached_child.Goals as goal
 
 pub returns-clause-writes : goal.returns-clause-writes
 returns-clause-writes g c =
-    attach_writes (g.V.View.map c.args.view.now) c.args.child.now c.args.parent.now c.in-Some.child_object.now c.in-Some-look.parent_object.now
+    attach_writes (g.V.View.map c.args.view.now) c.args.child.now c.args.parent.now c.in-Some.child_object.now
+    c.in-Some-look.parent_object.now
     c.in_ok-below.below (sym c.in-Some.ensures) (sym c.in-Some-look.ensures)
     (sym c.is_wrong_family.ensures ∙ c.if-is_wrong_family.false)
     (ap (λ ids. has_id ids c.args.parent.now) (sym c.as_slice.ensures) ∙ sym c.has_id.ensures ∙ c.if-has_id.false)

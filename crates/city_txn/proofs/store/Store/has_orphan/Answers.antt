@@ -21,16 +21,20 @@ returns-clause-none c =
     let wrote : List ℕ → Option (Option Object) = λ id. written_at (here a id) (image_at a.undo id) in
     λ none q.
     sym (ap is_orphan_written
-    (ap (λ ids. if has_id ids q then wrote q else None) c.reserved.ensures ∙ own_written a c.self.invariant c.args.stamp q
+    (ap (λ ids. if has_id ids q then wrote q else None) c.reserved.ensures
+    ∙ own_written a c.self.invariant c.args.stamp q
     ∙ ap (λ (v : State). own_write c.args.stamp (write_of v.writes q)) c.self.view_is))
     ∙ no_orphan_at c.reserved.result.now wrote q (sym c.has_orphan.ensures ∙ none)
 
 pub returns-clause-lists : goal.returns-clause-lists
 returns-clause-lists c =
-    let ascend = subst (λ (v : State). IsStrictlySortedBy (slice_cmp nat_cmp) (keys_of v.writes)) c.self.view_is (writes_ascend c.self.inside) in
+    let ascend =
+    subst (λ (v : State). IsStrictlySortedBy (slice_cmp nat_cmp) (keys_of v.writes)) c.self.view_is
+    (writes_ascend c.self.inside) in
     λ q. own_listed c.args.stamp c.args.self.now.writes q ascend
 
 pub returns-clause-ordered : goal.returns-clause-ordered
 returns-clause-ordered c =
     own_ascend c.args.stamp c.args.self.now.writes
-    (subst (λ (v : State). IsStrictlySortedBy (slice_cmp nat_cmp) (keys_of v.writes)) c.self.view_is (writes_ascend c.self.inside))
+    (subst (λ (v : State). IsStrictlySortedBy (slice_cmp nat_cmp) (keys_of v.writes)) c.self.view_is
+    (writes_ascend c.self.inside))

@@ -5,7 +5,8 @@ use Rattle.city_txn.specs.inside.State.{State, is_reserved, is_open, MayReserve,
 use Rattle.city_txn.specs.inside.InPlace.{state_of, IsInPlace}
 use Rattle.city_txn.specs.inside.UndoState.{image_at}
 use Rattle.city_txn.proofs.Slots.{slot_cleared, absent_from}
-use Rattle.city_txn.proofs.ReservationMade.{same_city, more_reserved, reserved_in_place, reserved_seen, reserved_already}
+use Rattle.city_txn.proofs.ReservationMade.{same_city, more_reserved, reserved_in_place, reserved_seen}
+use Rattle.city_txn.proofs.ReservationMade.{reserved_already}
 use Rattle.city_txn.proofs.store.Store.reserve.Goals as goal
 use Rattle.city_txn.proofs.store.Store.reserve.Goals.{In-Ok}
 
@@ -25,7 +26,8 @@ invariant_of-self-in_default c =
     let a = c.self.inside in
     let made = c.in_ok-deleted in
     let city = same_city c.clear.new.city a.city (c.clear.ensures.frame ∙ c.make.ensures.frame)
-    (c.clear.ensures.after ∙ ap (λ m. if made.deleted then changed m c.args.id.now None else m) made.ensures.after ∙ slot_cleared (object_at a.city.1) c.args.id.now made.deleted made.ensures.made) in
+    (c.clear.ensures.after ∙ ap (λ m. if made.deleted then changed m c.args.id.now None else m) made.ensures.after
+    ∙ slot_cleared (object_at a.city.1) c.args.id.now made.deleted made.ensures.made) in
     subst IsInPlace (λ i. record a { city = sym city i; undo = sym c.in_default.ensures.err i }) c.self.invariant
 
 pub returns-in_default-clause-err : goal.returns-in_default-clause-err
@@ -33,7 +35,8 @@ returns-in_default-clause-err c =
     let a = c.self.inside in
     let made = c.in_ok-deleted in
     let city = same_city c.clear.new.city a.city (c.clear.ensures.frame ∙ c.make.ensures.frame)
-    (c.clear.ensures.after ∙ ap (λ m. if made.deleted then changed m c.args.id.now None else m) made.ensures.after ∙ slot_cleared (object_at a.city.1) c.args.id.now made.deleted made.ensures.made) in
+    (c.clear.ensures.after ∙ ap (λ m. if made.deleted then changed m c.args.id.now None else m) made.ensures.after
+    ∙ slot_cleared (object_at a.city.1) c.args.id.now made.deleted made.ensures.made) in
     (λ i. state_of (record a { city = city i; undo = c.in_default.ensures.err i })) ∙ c.self.view_is
 
 none : (c : In-Ok) → image_at c.self.inside.undo c.args.id.now ≡ None

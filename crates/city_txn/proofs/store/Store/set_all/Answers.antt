@@ -10,7 +10,8 @@ use Rattle.city_txn.proofs.store.Store.set_all.Goals as goal
 
 pub set-requires : goal.set-requires
 set-requires c =
-    c.loop-write.invariant.reserved c.in-Some.write.0 (plans_this c.loop-write.writes.items c.pop.new.self.items c.in-Some.write c.in-Some.ensures.items)
+    c.loop-write.invariant.reserved c.in-Some.write.0
+    (plans_this c.loop-write.writes.items c.pop.new.self.items c.in-Some.write c.in-Some.ensures.items)
 
 pub loop-write-preserved : goal.loop-write-preserved
 loop-write-preserved c =
@@ -29,7 +30,8 @@ loop-write-preserved c =
       apart = λ q h.
           x.one.writes q
           ∙ ap (λ b. if b then Some (c.args.stamp, w.1) else write_of c.loop-write.self.writes q)
-          (plans_apart all left w q e (false_from_ne_true (plans all q) (λ k. not_both (plans c.args.writes.items q) (i.among q k) h)))
+          (plans_apart all left w q e
+          (false_from_ne_true (plans all q) (λ k. not_both (plans c.args.writes.items q) (i.among q k) h)))
           ∙ i.apart q h;
       of = λ f h. of_before f all left w e (i.of f h);
       writes = λ f h q. written_last f all left w c.args.stamp (write_of c.loop-write.self.writes q)

@@ -11,7 +11,8 @@ use Rattle.city_txn.proofs.txn_core.Core.act.Goals.{In_default, In-Wait, In-Die,
 
 pub returns-then-not-is_open : goal.returns-then-not-is_open
 returns-then-not-is_open c =
-    not_open_acted c.self.inside c.self.invariant c.self.view_is c.args.stamp c.args.command.now c.requires (sym c.is_open.ensures.opened ∙ c.if-not-is_open.true)
+    not_open_acted c.self.inside c.self.invariant c.self.view_is c.args.stamp c.args.command.now c.requires
+    (sym c.is_open.ensures.opened ∙ c.if-not-is_open.true)
 
 failed : (c : In_default)
     → Acted c.args.stamp c.args.command.now (Err OutOfMemory) c.args.self.now
@@ -47,7 +48,8 @@ dies : (c : In-Die) → Acted c.args.stamp c.args.command.now (Ok steps.Die) c.a
 dies c =
     asked_refused c.self.inside c.self.invariant c.self.view_is c.args.stamp c.args.command.now
     (sym c.is_open.ensures.opened ∙ c.if-not-is_open.false) c.requires c.lock.new.locks
-    c.in-Ok.ensures steps.Die refl (ap (λ b. step_of b (reply_in (core_state c.self.inside) c.args.stamp c.args.command.now)) (sym c.in-Die.is))
+    c.in-Ok.ensures steps.Die refl
+    (ap (λ b. step_of b (reply_in (core_state c.self.inside) c.args.stamp c.args.command.now)) (sym c.in-Die.is))
 
 pub invariant_of-self-in-Die : goal.invariant_of-self-in-Die
 invariant_of-self-in-Die c = (dies (goal.at.invariant_of-self-in-Die c).In-Die).core

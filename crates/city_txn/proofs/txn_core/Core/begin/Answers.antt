@@ -7,7 +7,8 @@ use Rattle.city_txn.proofs.txn_core.Core.begin.Goals as goal
 use Rattle.city_txn.proofs.txn_core.Core.begin.Goals.{In-Ok}
 
 pub begin-requires : goal.begin-requires
-begin-requires c = open_stored c.self.inside c.self.view_is c.args.stamp ∙ sym c.is_open.ensures.opened ∙ c.if-is_open.false
+begin-requires c = open_stored c.self.inside c.self.view_is c.args.stamp ∙ sym c.is_open.ensures.opened
+    ∙ c.if-is_open.false
 
 shut : (c : In-Ok) → is_open (core_state c.self.inside) c.args.stamp ≡ false
 shut c = ap (λ (v : CoreState). is_open v c.args.stamp) c.self.view_is ∙ sym c.is_open.ensures.opened

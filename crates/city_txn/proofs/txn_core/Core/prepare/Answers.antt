@@ -19,14 +19,19 @@ returns-in-Some-clause-prepared c =
     let id = c.in-Ok-copy.id in
     let least : IsLeastOrphan (found_in (objects_in c.in-Ok.change)) id =
     subst (λ id. IsLeastOrphan (found_in (objects_in c.in-Ok.change)) id) (sym c.in-Ok-copy.ensures)
-    (subst (λ (change : Change). IsLeastOrphan (found_in (objects_in change)) c.in-Some.id.now) c.as_slice.ensures c.in-Some.ensures.least) in
+    (subst (λ (change : Change). IsLeastOrphan (found_in (objects_in change)) c.in-Some.id.now) c.as_slice.ensures
+    c.in-Some.ensures.least) in
     subst (λ (v : CoreState). RefusesCommit v c.args.stamp (Orphan id)) c.self.view_is
-    (commit_refused (snapshot v c.args.stamp) id (least_of_view v c.args.stamp c.in-Ok.change c.in-Ok.ensures.lists c.in-Ok.ensures.ordered c.self.invariant.state.city.1 id least))
+    (commit_refused (snapshot v c.args.stamp) id
+    (least_of_view v c.args.stamp c.in-Ok.change c.in-Ok.ensures.lists c.in-Ok.ensures.ordered
+    c.self.invariant.state.city.1 id least))
 
 pub returns-clause-prepared : goal.returns-clause-prepared
 returns-clause-prepared c =
     let a = c.self.inside in
     let none : HasNoOrphan (found_in (objects_in c.in-Ok.change)) =
-    subst (λ (change : Change). HasNoOrphan (found_in (objects_in change))) c.as_slice.ensures c.in_default-orphan_in.ensures.none in
+    subst (λ (change : Change). HasNoOrphan (found_in (objects_in change))) c.as_slice.ensures
+    c.in_default-orphan_in.ensures.none in
     subst (λ (v : CoreState). IsChangeOf v c.args.stamp c.in-Ok.change) c.self.view_is
-    (is_change_of (core_state a) c.args.stamp c.in-Ok.change c.in-Ok.ensures.lists c.in-Ok.ensures.ordered c.self.invariant.state.city.1 (sound_view (core_state a) c.args.stamp c.self.invariant.state) none)
+    (is_change_of (core_state a) c.args.stamp c.in-Ok.change c.in-Ok.ensures.lists c.in-Ok.ensures.ordered
+    c.self.invariant.state.city.1 (sound_view (core_state a) c.args.stamp c.self.invariant.state) none)

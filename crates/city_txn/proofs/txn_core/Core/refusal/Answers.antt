@@ -22,8 +22,10 @@ returns-in-Ok-Ready-clause-allowed c =
     let v = core_state c.self.inside in
     let e = c.has_orphan.ensures in
     let ready : IsChangeOf c.args.self.now c.args.stamp c.in-Ok-Ready.field-0-0 =
-    subst (λ (p : Prepared). IsPrepared c.args.self.now c.args.stamp p) c.in-Ok-Ready.field-0-is c.in-Ok-Ready.ensures.prepared in
+    subst (λ (p : Prepared). IsPrepared c.args.self.now c.args.stamp p) c.in-Ok-Ready.field-0-is
+    c.in-Ok-Ready.ensures.prepared in
     let seen : IsChangeOf v c.args.stamp c.in-Ok-Ready.field-0-0 =
     subst (λ (v : CoreState). IsChangeOf v c.args.stamp c.in-Ok-Ready.field-0-0) (sym c.self.view_is) ready in
     subst (λ (v : CoreState). IsChangeOf v c.args.stamp (change_in v.writes c.args.stamp)) c.self.view_is
-    (is_change_to v c.args.stamp (change_in v.writes c.args.stamp) e.lists e.ordered c.self.invariant.state.city.1 seen.lawful)
+    (is_change_to v c.args.stamp (change_in v.writes c.args.stamp) e.lists e.ordered c.self.invariant.state.city.1
+    seen.lawful)

@@ -17,11 +17,17 @@ pub returns-in_default-clause-err : goal.returns-in_default-clause-err
 returns-in_default-clause-err c =
     let a = c.self.inside in
     let id = c.args.id.now in
-    let added : (q : List ℕ) → get (slice_cmp nat_cmp) c.insert.new.self q ≡ (if same_id id q then Some (unwritten_image c.args.stamp c.args.deleted) else get (slice_cmp nat_cmp) a.images q) = search rules in
-    let none : get (slice_cmp nat_cmp) a.images id ≡ None = held_at a.images c.self.invariant c.args.self.now (ap (λ (u : UndoState). u.images) c.self.view_is) id ∙ c.requires.absent in
+    let added : (q : List ℕ)
+    → get (slice_cmp nat_cmp) c.insert.new.self q
+    ≡ (if same_id id q then Some (unwritten_image c.args.stamp c.args.deleted)
+    else get (slice_cmp nat_cmp) a.images q) = search rules in
+    let none : get (slice_cmp nat_cmp) a.images id ≡ None =
+    held_at a.images c.self.invariant c.args.self.now (ap (λ (u : UndoState). u.images) c.self.view_is) id
+    ∙ c.requires.absent in
     let same : c.remove.new.self.entries ≡ a.images.entries =
     btree_map_from_get nat_list_cmp_total c.remove.new.self a.images c.remove.ensures.ordered c.self.invariant
-    (added_and_forgotten (get (slice_cmp nat_cmp) a.images) (get (slice_cmp nat_cmp) c.insert.new.self) (get (slice_cmp nat_cmp) c.remove.new.self) id (unwritten_image c.args.stamp c.args.deleted)
+    (added_and_forgotten (get (slice_cmp nat_cmp) a.images) (get (slice_cmp nat_cmp) c.insert.new.self)
+    (get (slice_cmp nat_cmp) c.remove.new.self) id (unwritten_image c.args.stamp c.args.deleted)
     none added c.remove.ensures.updates.0) exact_bytes in
     (λ i. record { images = from_sorted (same i); reservations = c.in_default.ensures.err i }) ∙ c.self.view_is
 
@@ -29,6 +35,10 @@ pub returns-clause-images : goal.returns-clause-images
 returns-clause-images c =
     let a = c.self.inside in
     let id = c.args.id.now in
-    let added : (q : List ℕ) → get (slice_cmp nat_cmp) c.insert.new.self q ≡ (if same_id id q then Some (unwritten_image c.args.stamp c.args.deleted) else get (slice_cmp nat_cmp) a.images q) = search rules in
-    one_changed a.images c.self.invariant c.args.self.now (ap (λ (u : UndoState). u.images) c.self.view_is) c.insert.new.self c.in_ok-insert.ensures.ordered id
+    let added : (q : List ℕ)
+    → get (slice_cmp nat_cmp) c.insert.new.self q
+    ≡ (if same_id id q then Some (unwritten_image c.args.stamp c.args.deleted)
+    else get (slice_cmp nat_cmp) a.images q) = search rules in
+    one_changed a.images c.self.invariant c.args.self.now (ap (λ (u : UndoState). u.images) c.self.view_is)
+    c.insert.new.self c.in_ok-insert.ensures.ordered id
     (Some (unwritten_image c.args.stamp c.args.deleted)) added

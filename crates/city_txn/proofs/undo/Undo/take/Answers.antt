@@ -8,7 +8,9 @@ returns-clause-key c = key_is c.args.id.now c.remove_entry.result c.remove_entry
 
 pub returns-clause-image : goal.returns-clause-image
 returns-clause-image c =
-    c.remove_entry.ensures.value ∙ held_at c.self.inside.images c.self.invariant c.args.self.now (ap (λ (u : UndoState). u.images) c.self.view_is) c.args.id.now
+    c.remove_entry.ensures.value
+    ∙ held_at c.self.inside.images c.self.invariant c.args.self.now
+    (ap (λ (u : UndoState). u.images) c.self.view_is) c.args.id.now
 
 pub returns-clause-images : goal.returns-clause-images
 returns-clause-images c =

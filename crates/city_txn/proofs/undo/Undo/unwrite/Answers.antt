@@ -12,7 +12,8 @@ use Rattle.city_txn.proofs.undo.Undo.unwrite.Goals as goal
 pub unreachable-requires : goal.unreachable-requires
 unreachable-requires c =
     let there : is_some (get (slice_cmp nat_cmp) c.self.inside.images c.args.id) ≡ true =
-    ap is_some (held_at c.self.inside.images c.self.invariant c.args.self.now (ap (λ (u : UndoState). u.images) c.self.view_is) c.args.id) ∙ c.requires.there in
+    ap is_some (held_at c.self.inside.images c.self.invariant c.args.self.now
+    (ap (λ (u : UndoState). u.images) c.self.view_is) c.args.id) ∙ c.requires.there in
     search rules
 
 pub returns-clause-city : goal.returns-clause-city
@@ -22,7 +23,8 @@ returns-clause-city c =
     let was = held_at a.images c.self.invariant c.args.self.now seen c.args.id in
     let object : c.unwrite-before.result ≡ put_back_at (get (slice_cmp nat_cmp) a.images c.args.id) = search rules in
     c.refill.ensures.after
-    ∙ ap (λ o. changed (object_at c.args.city.now.1) c.args.id (or_else o (object_at c.args.city.now.1 c.args.id))) (object ∙ ap put_back_at was)
+    ∙ ap (λ o. changed (object_at c.args.city.now.1) c.args.id (or_else o (object_at c.args.city.now.1 c.args.id)))
+    (object ∙ ap put_back_at was)
 
 pub returns-clause-images : goal.returns-clause-images
 returns-clause-images c =
@@ -30,8 +32,12 @@ returns-clause-images c =
     let seen = ap (λ (u : UndoState). u.images) c.self.view_is in
     let was = held_at a.images c.self.invariant c.args.self.now seen c.args.id in
     let step : (q : List ℕ) → get (slice_cmp nat_cmp) (c.get_mut.follows.lender c.unwrite-before.new.self) q
-    ≡ (if same_id c.args.id q then option_map image_unwritten (get (slice_cmp nat_cmp) a.images c.args.id) else get (slice_cmp nat_cmp) a.images q) = search rules in
+    ≡ (if same_id c.args.id q then option_map image_unwritten (get (slice_cmp nat_cmp) a.images c.args.id)
+    else get (slice_cmp nat_cmp) a.images q) = search rules in
     let still : IsOrdered (slice_cmp nat_cmp) (c.get_mut.follows.lender c.unwrite-before.new.self) = search rules in
-    one_changed a.images c.self.invariant c.args.self.now seen (c.get_mut.follows.lender c.unwrite-before.new.self) still c.args.id
+    one_changed a.images c.self.invariant c.args.self.now seen (c.get_mut.follows.lender c.unwrite-before.new.self)
+    still c.args.id
     (option_map image_unwritten (image_at c.args.self.now c.args.id))
-    (λ q. step q ∙ ap (λ i. if same_id c.args.id q then option_map image_unwritten i else get (slice_cmp nat_cmp) a.images q) was)
+    (λ q. step q
+    ∙ ap (λ i. if same_id c.args.id q then option_map image_unwritten i else get (slice_cmp nat_cmp) a.images q)
+    was)

@@ -6,5 +6,6 @@ use Rattle.city_txn.proofs.undo_log.UndoLogs.has_mark.Goals as goal
 pub returns : goal.returns
 returns c =
     let entries = c.entries.result.now in
-    c.any_is_mark.ensures ∙ list_any-IsPermutation (is_mark c.args.name.now) entries (reverse entries) (IsPermutation-reverse entries)
+    c.any_is_mark.ensures
+    ∙ list_any-IsPermutation (is_mark c.args.name.now) entries (reverse entries) (IsPermutation-reverse entries)
     ∙ ap (λ es. has_mark es c.args.name.now) c.entries.ensures

@@ -11,8 +11,11 @@ pub returns-clause-tokens : goal.returns-clause-tokens
 returns-clause-tokens c =
     let p = c.args.self.now in
     on_ok_weaker c.u64.result (λ e later.
-    e ∙ ap (λ n. c.args.out.now.tokens ++ number (decimal n) ∷ []) (c.in_ok-number.ensures.number ∙ sym (number_kept c.args.pool.now p later) ∙ ap (λ ps. number_of (with_points ps later) p) (sym c.in_ok-number.ensures.added))) c.u64.ensures.ok
+    e ∙ ap (λ n. c.args.out.now.tokens ++ number (decimal n) ∷ []) (c.in_ok-number.ensures.number
+    ∙ sym (number_kept c.args.pool.now p later)
+    ∙ ap (λ ps. number_of (with_points ps later) p) (sym c.in_ok-number.ensures.added))) c.u64.ensures.ok
 
 pub returns-clause-reads : goal.returns-clause-reads
 returns-clause-reads c =
-    on_ok_weaker c.u64.result (λ e pool small. unsigned_reads _ (number_within pool c.args.self.now small)) c.u64.ensures.ok
+    on_ok_weaker c.u64.result (λ e pool small. unsigned_reads _ (number_within pool c.args.self.now small))
+    c.u64.ensures.ok

@@ -9,5 +9,7 @@ use Rattle.city_doc.proofs.stream.command.CommandFromTokens.from_tokens.Goals as
 pub returns-in-String : goal.returns-in-String
 returns-in-String c =
     let word = c.in-String.word.now in
-    let first : c.args.reader.now ≡ Token.string word ∷ c.next.new.self = c.in_ok-word.ensures.value ∙ ap (λ k. token_of k ∷ c.next.new.self) c.in-String.is in
-    IfSome_then c.word_command.result c.word_command.ensures (λ x is. (string word, seen_value first refl (string_value c.args.depth word c.next.new.self), is))
+    let first : c.args.reader.now ≡ Token.string word ∷ c.next.new.self = c.in_ok-word.ensures.value
+    ∙ ap (λ k. token_of k ∷ c.next.new.self) c.in-String.is in
+    IfSome_then c.word_command.result c.word_command.ensures
+    (λ x is. (string word, seen_value first refl (string_value c.args.depth word c.next.new.self), is))

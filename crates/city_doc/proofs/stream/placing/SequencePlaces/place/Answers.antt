@@ -11,4 +11,5 @@ returns g c =
     let reads = g.T.Places.reads (points_of c.args.vertices.now) in
     let old : c.into_vec-unplaced.result.items ≡ c.args.self.now = grind arith in
     subst (λ ys. IsPlaced (IsArrayOf R) (list_of reads) c.args.self.now ys) (sym c.from_vec.ensures)
-    (subst (λ xs. IsPlaced (IsArrayOf R) (list_of reads) xs c.in_ok-items.items.items) old (array_placed R reads c.into_vec-unplaced.result.items c.in_ok-items.items.items c.in_ok-items.ensures))
+    (subst (λ xs. IsPlaced (IsArrayOf R) (list_of reads) xs c.in_ok-items.items.items) old
+    (array_placed R reads c.into_vec-unplaced.result.items c.in_ok-items.items.items c.in_ok-items.ensures))

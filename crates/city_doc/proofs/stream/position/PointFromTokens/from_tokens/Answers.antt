@@ -6,5 +6,9 @@ use Rattle.city_doc.proofs.stream.position.PointFromTokens.from_tokens.Goals as 
 
 pub returns : goal.returns
 returns c =
-    let same : to_z w64 (of_z w64 c.in_ok-x.x) ≡ c.in_ok-x.x = search rules in
-    (number (of_integer c.in_ok-x.x), c.in_ok-x.ensures.value c.args._depth, c.in_ok-x.ensures.in_range ∙ ap Some (sym same))
+    let same : to_z w64 (of_z w64 c.in_ok-x.x) ≡ c.in_ok-x.x = search rules in (
+      number (of_integer c.in_ok-x.x),
+      c.in_ok-x.ensures.value c.args._depth,
+      c.in_ok-x.ensures.in_range
+          ∙ ap Some (sym same),
+    )
