@@ -5,4 +5,5 @@ pub mod DataCode
 pub mod Faultless
 pub mod Plans
 pub mod RelationTests
+pub mod RingFaults
 pub mod RisingEdges

@@ -2,10 +2,11 @@
 ghost use Rattle.std.specs.Prelude.{◌≡◌, false, IfOk, OnErr};
 ghost use Rattle.std.specs.List.{list_any};
 ghost use Rattle.city_model.specs.Shells.{has_short_ring, has_same_twice, has_open_shell, some_shape, body_fault};
+ghost use Rattle.city_model.specs.inside.RingFaults.{has_ring_fault};
 
 use crate::command::Cause;
 use crate::object::{Body, Geometry};
-use crate::rings::{has_same_twice, has_short_ring};
+use crate::rings::{RingFault, has_ring_fault};
 use crate::shells::has_open_shell;
 use std::alloc::{AllocError, Global};
 
@@ -34,14 +35,25 @@ pub fn body_fault(alloc: Global, body: &Body) -> Result<Option<Cause>, AllocErro
 pub fn any_short_ring(geometry: &[Geometry]) -> bool
     ensures { result ≡ list_any (λ g. has_short_ring g.shape) geometry.now }
 {
-    geometry.iter().any(|g| has_short_ring(&g.shape))
+    any_faulty(RingFault::Short, geometry)
 }
 
 /// Whether a ring of some geometry has two equal neighbours. Doesn't allocate.
 pub fn any_same_twice(geometry: &[Geometry]) -> bool
     ensures { result ≡ list_any (λ g. has_same_twice g.shape) geometry.now }
 {
-    geometry.iter().any(|g| has_same_twice(&g.shape))
+    any_faulty(RingFault::SameTwice, geometry)
+}
+
+fn any_faulty(fault: RingFault, geometry: &[Geometry]) -> bool
+    ensures { result ≡ list_any (λ g. has_ring_fault fault g.shape) geometry.now }
+{
+    for g in geometry {
+        if has_ring_fault(fault, &g.shape) {
+            return true;
+        }
+    }
+    false
 }
 
 /// Whether a shell of some geometry is open.

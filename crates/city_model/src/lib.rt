@@ -29,7 +29,7 @@ pub mod object_type;
 pub mod orphans;
 pub mod plan;
 pub mod relations;
-pub mod rings;
+mod rings;
 pub mod script;
 pub mod sequence;
 pub mod shape;

@@ -1,39 +1,72 @@
 //! What is wrong with a ring (CityJSON 2.0, section 3.2).
 ghost use Rattle.std.specs.Prelude.{◌≡◌};
 ghost use Rattle.std.specs.List.{list_any};
-ghost use Rattle.city_model.specs.Shells.{is_short_ring, is_short_surface, has_same_neighbours, has_short_ring, has_same_twice};
+ghost use Rattle.city_model.specs.Shells.{is_short_ring, is_short_surface, has_same_neighbours};
+ghost use Rattle.city_model.specs.inside.RingFaults.{is_faulty, has_ring_fault};
 
 use crate::object::{Ring, Shape, Shell, Solid, Surface};
 use crate::shape::Bounds;
 
-/// Whether a surface of the shape has no ring, or has a ring of fewer than
-/// three points. Doesn't allocate.
-pub fn has_short_ring(shape: &Shape) -> bool
-    ensures { result ≡ has_short_ring shape.now }
+/// What may be wrong with the rings of a surface.
+#[derive(Clone, Copy)]
+pub(crate) enum RingFault {
+    /// There is no ring, or one of fewer than three points.
+    Short,
+    /// A ring has two equal neighbours, the last and the first point among them.
+    SameTwice,
+}
+
+/// Whether a surface of the shape has the fault. Doesn't allocate.
+pub(crate) fn has_ring_fault(fault: RingFault, shape: &Shape) -> bool
+    ensures { result ≡ has_ring_fault fault shape.now }
 {
     match shape.bounds() {
-        Bounds::Surfaces(surfaces) => any_short(surfaces.as_slice()),
-        Bounds::Shells(shells) => any_short_in(shells.as_slice()),
-        Bounds::Solids(solids) => any_short_in_some(solids.as_slice()),
+        Bounds::Surfaces(surfaces) => any_surface(fault, surfaces.as_slice()),
+        Bounds::Shells(shells) => any_shell(fault, shells.as_slice()),
+        Bounds::Solids(solids) => any_solid(fault, solids.as_slice()),
     }
 }
 
-fn any_short_in_some(solids: &[Solid]) -> bool
-    ensures { result ≡ list_any (list_any (list_any is_short_surface)) solids.now }
+fn any_solid(fault: RingFault, solids: &[Solid]) -> bool
+    ensures { result ≡ list_any (list_any (list_any (is_faulty fault))) solids.now }
 {
-    solids.iter().any(|solid| any_short_in(solid.as_slice()))
+    for solid in solids {
+        if any_shell(fault, solid.as_slice()) {
+            return true;
+        }
+    }
+    false
 }
 
-fn any_short_in(shells: &[Shell]) -> bool
-    ensures { result ≡ list_any (list_any is_short_surface) shells.now }
+fn any_shell(fault: RingFault, shells: &[Shell]) -> bool
+    ensures { result ≡ list_any (list_any (is_faulty fault)) shells.now }
 {
-    shells.iter().any(|shell| any_short(shell.as_slice()))
+    for shell in shells {
+        if any_surface(fault, shell.as_slice()) {
+            return true;
+        }
+    }
+    false
 }
 
-fn any_short(surfaces: &[Surface]) -> bool
-    ensures { result ≡ list_any is_short_surface surfaces.now }
+fn any_surface(fault: RingFault, surfaces: &[Surface]) -> bool
+    ensures { result ≡ list_any (is_faulty fault) surfaces.now }
 {
-    surfaces.iter().any(|surface| is_short_surface(surface))
+    for surface in surfaces {
+        if is_faulty(fault, surface) {
+            return true;
+        }
+    }
+    false
+}
+
+fn is_faulty(fault: RingFault, surface: &Surface) -> bool
+    ensures { result ≡ is_faulty fault surface.now }
+{
+    match fault {
+        RingFault::Short => is_short_surface(surface),
+        RingFault::SameTwice => any_same_ring(surface.as_slice()),
+    }
 }
 
 fn is_short_surface(surface: &Surface) -> bool
@@ -45,45 +78,23 @@ fn is_short_surface(surface: &Surface) -> bool
 fn any_short_ring(rings: &[Ring]) -> bool
     ensures { result ≡ list_any is_short_ring rings.now }
 {
-    rings.iter().any(|ring| ring.len() < 3)
-}
-
-/// Whether a ring of the shape has two equal neighbours, the last and the first point
-/// among them. Doesn't allocate.
-pub fn has_same_twice(shape: &Shape) -> bool
-    ensures { result ≡ has_same_twice shape.now }
-{
-    match shape.bounds() {
-        Bounds::Surfaces(surfaces) => any_same(surfaces.as_slice()),
-        Bounds::Shells(shells) => any_same_in(shells.as_slice()),
-        Bounds::Solids(solids) => any_same_in_some(solids.as_slice()),
+    for ring in rings {
+        if ring.len() < 3 {
+            return true;
+        }
     }
-}
-
-fn any_same_in_some(solids: &[Solid]) -> bool
-    ensures { result ≡ list_any (list_any (list_any (list_any has_same_neighbours))) solids.now }
-{
-    solids.iter().any(|solid| any_same_in(solid.as_slice()))
-}
-
-fn any_same_in(shells: &[Shell]) -> bool
-    ensures { result ≡ list_any (list_any (list_any has_same_neighbours)) shells.now }
-{
-    shells.iter().any(|shell| any_same(shell.as_slice()))
-}
-
-fn any_same(surfaces: &[Surface]) -> bool
-    ensures { result ≡ list_any (list_any has_same_neighbours) surfaces.now }
-{
-    surfaces
-        .iter()
-        .any(|surface| any_same_ring(surface.as_slice()))
+    false
 }
 
 fn any_same_ring(rings: &[Ring]) -> bool
     ensures { result ≡ list_any has_same_neighbours rings.now }
 {
-    rings.iter().any(|ring| has_same_neighbours(ring))
+    for ring in rings {
+        if has_same_neighbours(ring) {
+            return true;
+        }
+    }
+    false
 }
 
 fn has_same_neighbours(ring: &Ring) -> bool

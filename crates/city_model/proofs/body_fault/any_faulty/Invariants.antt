@@ -1,0 +1,9 @@
+use Rattle.std.proofs.Common.{◌≡◌, drop}
+use Rattle.std.specs.List.{list_any}
+use Rattle.city_model.specs.inside.RingFaults.{has_ring_fault}
+use Rattle.city_model.proofs.body_fault.any_faulty.Given as goal
+
+abbrev pub invariant-loop-g : goal.invariant-loop-g
+invariant-loop-g l =
+    list_any (λ g. has_ring_fault l.fault g.shape) l.geometry ≡ list_any (λ g. has_ring_fault l.fault g.shape)
+    (drop l.g-index l.geometry)

@@ -1,0 +1,8 @@
+use Rattle.std.proofs.Common.{◌≡◌, drop}
+use Rattle.std.specs.List.{list_any}
+use Rattle.city_model.specs.inside.RingFaults.{is_faulty}
+use Rattle.city_model.proofs.rings.any_solid.Given as goal
+
+abbrev pub invariant-loop-solid : goal.invariant-loop-solid
+invariant-loop-solid l =
+    list_any (list_any (list_any (is_faulty l.fault))) l.solids ≡ list_any (list_any (list_any (is_faulty l.fault))) (drop l.solid-index l.solids)

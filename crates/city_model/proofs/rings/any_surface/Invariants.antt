@@ -1,0 +1,8 @@
+use Rattle.std.proofs.Common.{◌≡◌, drop}
+use Rattle.std.specs.List.{list_any}
+use Rattle.city_model.specs.inside.RingFaults.{is_faulty}
+use Rattle.city_model.proofs.rings.any_surface.Given as goal
+
+abbrev pub invariant-loop-surface : goal.invariant-loop-surface
+invariant-loop-surface l =
+    list_any (is_faulty l.fault) l.surfaces ≡ list_any (is_faulty l.fault) (drop l.surface-index l.surfaces)
