@@ -3,8 +3,7 @@ use denote.RattleType.{RattleType}
 use denote.Struct.Declared.{shape}
 use denote.Param.Send.{IsSend, IsSync, struct_send, view_send, sendable}
 use Rattle.std.proofs.Crossing as values
-use Rattle.std.proofs.MapsCrossing as maps
-use Rattle.city_model.proofs.Crossing.{text_sends, object_sends, city_field_sends, city_field_syncs}
+use Rattle.city_model.proofs.Crossing.{change_sends, city_field_sends, city_field_syncs}
 use Rattle.std.below.std_heap.specs.contracts.Global as Heap
 use Rattle.std.below.std_heap.specs.contracts.GlobalAllocator.TheImpl.{ghosts}
 use Rattle.std.specs.contracts.collections.VecDeque as VecDeque
@@ -40,8 +39,7 @@ version_syncs =
     search (city_field_syncs, opening.the_sync, history.the_sync, values.crosses, sendable) depth 60 fits 20000
 
 edit_sends : IsSend Edit.the_row
-edit_sends = search (text_sends, object_sends, history.the_send, maps.crosses, values.crosses, sendable) depth 60 fits
-    20000
+edit_sends = search (change_sends, history.the_send, values.crosses, sendable) depth 60 fits 20000
 
 pub viewer_sends : IsSend Viewer.the_row
 viewer_sends =
@@ -76,11 +74,8 @@ maybe_own_sends R s = option.the_field_send (OwnWriter.the_row R) (own_sends R s
 poster_inside_sends : (R : RattleType) → IsSend R → IsSend (PosterInside.the_field R).row
 poster_inside_sends R s =
     struct_send (shape (PosterInside.the_type R)) (
-      search sendable depth 20,
-      (
-        maybe_own_sends R s,
-        (head.the_send, (opening.the_send, (history.the_send, (history.the_send, (waiting_sends, tt))))),
-      ),
+      maybe_own_sends R s,
+      (head.the_send, (opening.the_send, (history.the_send, (history.the_send, (waiting_sends, tt))))),
     )
 
 pub poster_sends : (R : RattleType) → IsSend R → IsSend (Poster.the_row R)

@@ -2,7 +2,7 @@
 use Rattle.std.proofs.Common.{◌≡◌, List, [], ◌∷◌, ◌++◌, fold, ap, sym, ◌∙◌, subst, append_assoc}
 use Rattle.city_model.specs.CityMap.{CityMap, CityValue, object_at}
 use Rattle.city_model.specs.Relations.{IsLawful}
-use Rattle.city_model.specs.Runs.{Change, after_change, after_changes}
+use Rattle.city_model.specs.Runs.{after_change, after_changes}
 use Rattle.city_model.proofs.Writing.{shown_more}
 use Rattle.city_crew.specs.inside.BoardRule.{HoldsEdits, known_from}
 use Rattle.city_crew.specs.HistoryValue.{HistoryValue, history_of}
@@ -22,25 +22,22 @@ holds_none x known es opening history faithful met o h none =
 
 -- one edit more
 holds_more : (x : Version) (known : Known) (es : List Edit) (opening : CityValue) (published taken : HistoryValue)
-    (e : Edit) (change : Change)
-    → e.history ≡ history_of taken.name (taken.changes ++ change ∷ [])
-    → ((m : CityMap) → after_change m e.writes.entries ≡ after_change m change)
-    → IsLawful (after_changes (object_at opening.1) (taken.changes ++ change ∷ []))
+    (e : Edit)
+    → e.history ≡ history_of taken.name (taken.changes ++ e.change ∷ [])
+    → IsLawful (after_changes (object_at opening.1) (taken.changes ++ e.change ∷ []))
     → HoldsEdits x known es opening published taken → HoldsEdits x known (es ++ e ∷ []) opening published e.history
-holds_more x known es opening published taken e change history writes lawful held =
+holds_more x known es opening published taken e history lawful held =
     let y = fold edited x es in
     let all = all_later x es taken held.faithful held.lead in
     let opened = all.0.1.opening ∙ held.opening_is in
-    let city : after_change (object_at y.city.1) change ≡ after_changes (object_at opening.1)
-    (taken.changes ++ change ∷ []) =
-    ap (λ (m : CityMap). after_change m change) (all.0.0.objects
+    let city : after_change (object_at y.city.1) e.change ≡ after_changes (object_at opening.1)
+    (taken.changes ++ e.change ∷ []) =
+    ap (λ (m : CityMap). after_change m e.change) (all.0.0.objects
     ∙ (ap (λ l. after_changes (object_at y.opening.1) l) (ap (λ (p : HistoryValue). p.changes) all.1)
     ∙ ap (λ (o : CityValue). after_changes (object_at o.1) taken.changes) opened))
-    ∙ sym (shown_more (object_at opening.1) taken.changes change) in
+    ∙ sym (shown_more (object_at opening.1) taken.changes e.change) in
     let next : IsNextEdit y e = record {
-      change = change;
-      history = history ∙ ap (λ (p : HistoryValue). history_of p.name (p.changes ++ change ∷ [])) (sym all.1);
-      writes = writes;
+      history = history ∙ ap (λ (p : HistoryValue). history_of p.name (p.changes ++ e.change ∷ [])) (sym all.1);
       lawful = subst IsLawful (sym city) lawful;
     } in
     record {
@@ -53,15 +50,14 @@ holds_more x known es opening published taken e change history writes lawful hel
 
 -- one edit more waits behind those that the writer has
 pub holds_waiting : (x : Version) (known : Known) (ds ws : List Edit) (opening : CityValue)
-    (published taken : HistoryValue) (e : Edit) (change : Change)
-    → e.history ≡ history_of taken.name (taken.changes ++ change ∷ [])
-    → ((m : CityMap) → after_change m e.writes.entries ≡ after_change m change)
-    → IsLawful (after_changes (object_at opening.1) (taken.changes ++ change ∷ []))
+    (published taken : HistoryValue) (e : Edit)
+    → e.history ≡ history_of taken.name (taken.changes ++ e.change ∷ [])
+    → IsLawful (after_changes (object_at opening.1) (taken.changes ++ e.change ∷ []))
     → HoldsEdits x known (ds ++ ws) opening published taken
     → HoldsEdits x known (ds ++ (ws ++ e ∷ [])) opening published e.history
-holds_waiting x known ds ws opening published taken e change history writes lawful held =
+holds_waiting x known ds ws opening published taken e history lawful held =
     subst (λ (es : List Edit). HoldsEdits x known es opening published e.history) (append_assoc ds ws (e ∷ []))
-    (holds_more x known (ds ++ ws) opening published taken e change history writes lawful held)
+    (holds_more x known (ds ++ ws) opening published taken e history lawful held)
 
 -- all edits were published
 pub holds_published : (x y : Version) (known after : Known) (es : List Edit) (opening : CityValue)

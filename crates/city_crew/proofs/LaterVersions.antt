@@ -41,22 +41,18 @@ no_edits x es faithful none =
 
 -- ---- the next ones
 
-next_objects : (x : Version) (e : Edit) (next : IsNextEdit x e)
-    → object_at (edited x e).city.1 ≡ after_change (object_at x.city.1) next.change
-next_objects x e next = at_after x.city.1 e.writes.entries ∙ next.writes (object_at x.city.1)
-
 pub next_later : (x : Version) (e : Edit) → IsFaithful x → IsNextEdit x e → IsLater x (edited x e)
 next_later x e faithful next =
-    let changes : e.history.changes ≡ x.history.changes ++ next.change ∷ [] = ap (λ h. h.changes) next.history in
-    let objects = next_objects x e next in (
+    let changes : e.history.changes ≡ x.history.changes ++ e.change ∷ [] = ap (λ h. h.changes) next.history in
+    let objects = at_after x.city.1 e.change in (
       record {
         frame = faithful.frame;
-        objects = objects ∙ (ap (λ (m : CityMap). after_change m next.change) faithful.objects
-            ∙ (sym (shown_more (object_at x.opening.1) x.history.changes next.change)
+        objects = objects ∙ (ap (λ (m : CityMap). after_change m e.change) faithful.objects
+            ∙ (sym (shown_more (object_at x.opening.1) x.history.changes e.change)
             ∙ ap (λ l. after_changes (object_at x.opening.1) l) (sym changes)));
         lawful = subst IsLawful (sym objects) next.lawful;
       },
-      record { name = ap (λ h. h.name) next.history; opening = refl; later = (next.change ∷ [], sym changes) },
+      record { name = ap (λ h. h.name) next.history; opening = refl; later = (e.change ∷ [], sym changes) },
     )
 
 pub all_later : (x : Version) (es : List Edit) (to : HistoryValue) → IsFaithful x → LeadTo x es to

@@ -13,4 +13,3 @@ pub mod Prefixes
 pub mod Results
 pub mod Risen
 pub mod StateCrossing
-pub mod WritesOnce

@@ -6,35 +6,35 @@ ghost use Rattle.city_model.specs.Runs.{after_change};
 ghost use Rattle.city_crew.specs.inside.Versions.{city_with};
 
 use crate::places::make_places;
-use crate::writes::Writes;
+use city_model::change::Change;
 use city_model::city::City;
 use city_model::object::Object;
 use city_model::text::Id;
 use std::alloc::Global;
 
-/// Makes the writes in the city. If memory runs out, the city is unchanged, and
-/// the writes come back.
+/// Writes the change into the city. If memory runs out, the city is unchanged, and
+/// the change comes back.
 ///
 /// The city isn't copied; it allocates only for the places of new ids.
-pub fn apply(alloc: Global, city: &mut City, writes: Writes) -> Result<(), Writes>
+pub fn apply(alloc: Global, city: &mut City, change: Change) -> Result<(), Change>
     ensures { MatchResult result
-        (λ _. city.new ≡ city_with city.old writes.entries)
-        (λ back. (back ≡ writes) × (city.new ≡ city.old)) }
+        (λ _. city.new ≡ city_with city.old change)
+        (λ back. (back ≡ change) × (city.new ≡ city.old)) }
 {
-    if make_places(alloc, city, &writes).is_err() {
-        return Err(writes);
+    if make_places(alloc, city, &change).is_err() {
+        return Err(change);
     }
-    write_all(city, writes);
+    write_all(city, change);
     Ok(())
 }
 
-/// Makes the writes in the city, in which each id has a place. Doesn't allocate.
-fn write_all(city: &mut City, mut writes: Writes)
-    requires { (q : List ℕ) → has_id (keys_of writes.entries) q ≡ true → is_some (object_at city.old.1 q) ≡ true }
+/// Writes the change into the city, in which each of its ids has a place. Doesn't allocate.
+fn write_all(city: &mut City, mut change: Change)
+    requires { (q : List ℕ) → has_id (keys_of change) q ≡ true → is_some (object_at city.old.1 q) ≡ true }
     ensures frame { city.new.0 ≡ city.old.0 }
-    ensures objects { object_at city.new.1 ≡ after_change (object_at city.old.1) writes.entries }
+    ensures objects { object_at city.new.1 ≡ after_change (object_at city.old.1) change }
 {
-    while let Some((id, object)) = writes.pop_first() {
+    while let Some((id, object)) = change.pop_first() {
         write(city, id, object);
     }
 }

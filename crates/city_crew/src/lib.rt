@@ -6,7 +6,7 @@
 //! - `board`, `rule`, `history`: a new board, and what holds of every board
 //! - `poster`, `writer`, `note`: what writes versions and tells of them
 //! - `viewer`, `look`, `version`: what looks at them
-//! - `writes`, `places`, `apply`: a change written into a version
+//! - `places`, `apply`: a change written into a version
 //! - `shelf`, `crew_shelf`: the poster as the shelf of a desk
 #![tactic(auto)]
 
@@ -32,7 +32,6 @@ mod viewer;
 mod watcher;
 mod work;
 mod writer;
-mod writes;
 
 pub use board::MAX_VIEWERS;
 pub use gate::{Gate, OpenGate};

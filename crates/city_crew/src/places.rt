@@ -3,23 +3,23 @@ ghost use Rattle.std.specs.Prelude.{◌≡◌, ◌&&◌, ℕ, List, None, true, 
 ghost use Rattle.std.specs.Map.{keys_of};
 ghost use Rattle.city_model.specs.CityMap.{object_at, has_id};
 
-use crate::writes::Writes;
 use city_model::OutOfMemory;
+use city_model::change::Change;
 use city_model::city::City;
 use city_model::copied::Copied;
 use city_model::text::Id;
 use city_txn::placeholder::placeholder;
 use std::alloc::Global;
 
-/// Gives each id of the writes a place in the city: a placeholder if no object is there. If memory
+/// Gives each id of the change a place in the city: a placeholder if no object is there. If memory
 /// runs out, the city is unchanged.
-pub fn make_places(alloc: Global, city: &mut City, writes: &Writes) -> Result<(), OutOfMemory>
+pub fn make_places(alloc: Global, city: &mut City, change: &Change) -> Result<(), OutOfMemory>
     ensures frame { city.new.0 ≡ city.old.0 }
-    ensures others { OnOk result ((q : List ℕ) → has_id (keys_of writes.now.entries) q ≡ false → object_at city.new.1 q ≡ object_at city.old.1 q) }
-    ensures there { OnOk result ((q : List ℕ) → has_id (keys_of writes.now.entries) q ≡ true → is_some (object_at city.new.1 q) ≡ true) }
+    ensures others { OnOk result ((q : List ℕ) → has_id (keys_of change.now) q ≡ false → object_at city.new.1 q ≡ object_at city.old.1 q) }
+    ensures there { OnOk result ((q : List ℕ) → has_id (keys_of change.now) q ≡ true → is_some (object_at city.new.1 q) ≡ true) }
     ensures err { OnErr result (city.new ≡ city.old) }
 {
-    let ids = missing(alloc, city, writes)?;
+    let ids = missing(alloc, city, change)?;
     if fill(alloc, city, &ids).is_err() {
         clear(city, &ids);
         return Err(OutOfMemory);
@@ -27,12 +27,12 @@ pub fn make_places(alloc: Global, city: &mut City, writes: &Writes) -> Result<()
     Ok(())
 }
 
-/// The ids of the writes for which no object is there.
-fn missing(alloc: Global, city: &City, writes: &Writes) -> Result<Vec<Id>, OutOfMemory>
-    ensures { IfOk result (λ ids. (q : List ℕ) → has_id ids.items q ≡ (has_id (keys_of writes.now.entries) q && not (is_some (object_at city.now.1 q)))) }
+/// The ids of the change for which no object is there.
+fn missing(alloc: Global, city: &City, change: &Change) -> Result<Vec<Id>, OutOfMemory>
+    ensures { IfOk result (λ ids. (q : List ℕ) → has_id ids.items q ≡ (has_id (keys_of change.now) q && not (is_some (object_at city.now.1 q)))) }
 {
     let mut ids = Vec::new(alloc);
-    for (id, _) in writes {
+    for (id, _) in change.iter() {
         if city.get(id).is_none() {
             ids.push(id.copy(alloc)?)?;
         }

@@ -12,7 +12,6 @@ use crate::note::Note;
 use crate::rule::SeesVersion;
 use crate::version::Edit;
 use crate::writer::{OwnWriter, append_all};
-use crate::writes::writes_of;
 use city_desk::OpeningCity;
 use city_model::OutOfMemory;
 use city_model::change::Change;
@@ -28,7 +27,6 @@ use std::sync::Wait;
 /// until each look has been left.
 #[derive(Drop)]
 pub struct Poster<R: Wait + Drop> {
-    alloc: Global,
     /// None only while `publish` runs.
     writer: Option<OwnWriter<R>>,
     head: Head,
@@ -76,7 +74,6 @@ impl<R: Wait + Drop> Poster<R> {
         ensures taken { result.taken ≡ history.changes }
     {
         Poster {
-            alloc,
             writer: Some(writer),
             head,
             opening,
@@ -97,12 +94,11 @@ impl<R: Wait + Drop> Poster<R> {
             return Err(OutOfMemory);
         }
         let addition = self.taken.with(&change);
-        let writes = writes_of(self.alloc, change)?;
         let Some(history) = addition.add(&self.head) else {
             return Err(OutOfMemory);
         };
         self.taken = history.again();
-        self.waiting.push_back_reserved(Edit { writes, history });
+        self.waiting.push_back_reserved(Edit { change, history });
         Ok(())
     }
 

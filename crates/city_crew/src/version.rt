@@ -1,10 +1,10 @@
 //! A version of the city, as viewers look at it, and what the poster does to it.
 use crate::apply::apply;
 use crate::history::History;
-use crate::writes::Writes;
 use city_desk::OpeningCity;
+use city_model::change::Change;
 use city_model::city::City;
-use city_model::copied::copy_map;
+use city_model::copied::Copied;
 use left_right::Absorb;
 use std::alloc::{AllocError, Global};
 
@@ -17,10 +17,10 @@ pub struct Version {
     pub history: History,
 }
 
-/// What a change writes, and the history up to it.
+/// A change, and the history up to it.
 #[derive(Drop)]
 pub struct Edit {
-    pub writes: Writes,
+    pub change: Change,
     pub history: History,
 }
 
@@ -34,8 +34,8 @@ impl Absorb<Edit> for Version {
     ghost applied = { edited };
 
     fn absorb_first(&mut self, edit: &Edit, _other: &Version) -> Result<(), AllocError> {
-        let writes = copy_map(self.alloc, &edit.writes)?;
-        if apply(self.alloc, &mut self.city, writes).is_err() {
+        let change = edit.change.copy(self.alloc)?;
+        if apply(self.alloc, &mut self.city, change).is_err() {
             return Err(AllocError);
         }
         self.history = edit.history.again();
@@ -43,13 +43,13 @@ impl Absorb<Edit> for Version {
     }
 
     fn absorb_second(&mut self, edit: Edit, _other: &Version) -> Result<(), Edit> {
-        let Edit { writes, history } = edit;
-        match apply(self.alloc, &mut self.city, writes) {
+        let Edit { change, history } = edit;
+        match apply(self.alloc, &mut self.city, change) {
             Ok(()) => {
                 self.history = history;
                 Ok(())
             }
-            Err(writes) => Err(Edit { writes, history }),
+            Err(change) => Err(Edit { change, history }),
         }
     }
 }

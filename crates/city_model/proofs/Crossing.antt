@@ -1,19 +1,16 @@
 -- Texts, objects, cities and changes may go to another thread, and be read from one.
 use denote.Param.Send.{IsSend, IsSync, sendable}
-use denote.Struct.Tuple.{Tuple}
-use Rattle.std.proofs.Common.{[], ◌∷◌}
-use Rattle.std.specs.contracts.option.Option as Option
 use Rattle.std.proofs.Crossing as values
 use Rattle.std.proofs.MapsCrossing as maps
 use Rattle.serde_json.proofs.value.Value.TheLaws.TheKnot as json
 use Rattle.city_model.proofs.object.Shape.TheSendSync as shape
 use Rattle.city_model.proofs.object_type.ObjectType.TheSendSync as object_type
+use Rattle.city_model.specs.contracts.change.Change as Change
 use Rattle.city_model.specs.contracts.city.City as City
 use Rattle.city_model.specs.contracts.frame.Frame as Frame
 use Rattle.city_model.specs.contracts.object.Body as Body
 use Rattle.city_model.specs.contracts.object.Geometry as Geometry
 use Rattle.city_model.specs.contracts.object.Object as Object
-use Rattle.city_model.specs.contracts.sequence.Sequence as Sequence
 use Rattle.city_model.specs.contracts.text.Text as Text
 
 pub text_sends : IsSend Text.the_field.row
@@ -63,8 +60,5 @@ city_field_sends = search (text_sends, object_sends, frame_sends, maps.crosses, 
 pub city_field_syncs : IsSync City.the_field.row
 city_field_syncs = search (text_syncs, object_syncs, frame_syncs, maps.crosses, sendable) depth 60 fits 20000
 
-pub change_sends : IsSend (Sequence.the_row (Tuple (Text.the_row ∷ Option.the_row Object.the_row ∷ [])))
-change_sends = search (text_sends, object_sends, values.crosses, sendable) depth 60 fits 20000
-
-pub change_syncs : IsSync (Sequence.the_row (Tuple (Text.the_row ∷ Option.the_row Object.the_row ∷ [])))
-change_syncs = search (text_syncs, object_syncs, values.crosses, sendable) depth 60 fits 20000
+pub change_sends : IsSend Change.the_field.row
+change_sends = search (text_sends, object_sends, maps.crosses, values.crosses, sendable) depth 60 fits 20000

@@ -1,9 +1,21 @@
--- A change written into the objects of a city, one id after another.
+-- What a change writes at an id, and a change written into the objects of a city, one id after another.
 use Rattle.std.specs.Prelude.{ℕ, List, [], ◌∷◌, Option, Some, None}
+use Rattle.std.specs.Map.{lookup}
+use Rattle.std.specs.Ordering.{nat_cmp}
+use Rattle.std.specs.Cmp.Lexicographic.{slice_cmp}
+use Rattle.std.specs.BTreeMap.{is_at}
 use Rattle.std.specs.FinMap.{insert, remove}
 use Rattle.city_model.specs.declared.object.Object.{Object}
-use Rattle.city_model.specs.CityMap.{Objects}
-use Rattle.city_model.specs.Runs.{Change}
+use Rattle.city_model.specs.CityMap.{CityMap, Objects}
+use Rattle.city_model.specs.Runs.{Change, after_change}
+
+-- what it writes at the id: an object, or that none is there; or nothing
+abbrev pub write_in : Change → List ℕ → Option (Option Object)
+write_in change id = lookup (is_at (slice_cmp nat_cmp id)) change
+
+-- the objects that it sets
+abbrev pub set_by : Change → CityMap
+set_by change = after_change (λ id. None) change
 
 -- the objects with another one, or none, at an id
 abbrev pub objects_with : Objects → List ℕ → Option Object → Objects

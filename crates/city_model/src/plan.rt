@@ -6,7 +6,6 @@ ghost use Rattle.city_model.specs.Relations.{IsSound};
 ghost use Rattle.city_model.specs.Scripts.{is_end, is_mark};
 
 use crate::OutOfMemory;
-use crate::change::Change;
 use crate::command::{Cause, Command, Reply};
 use crate::plan::deleting::plan_delete;
 use crate::plan::putting::{plan_put, plan_read};
@@ -23,14 +22,15 @@ mod writes;
 
 pub use crate::plan::deleting::only_parent;
 pub use crate::plan::relating::{attached_child, detached_child};
+pub use crate::plan::writes::Writes;
 
 /// The plan of a command.
 #[derive(Drop)]
 pub enum Plan {
     /// It is refused.
     Refused(Cause),
-    /// It gets this reply, and writes this change.
-    Writes(Reply, Change),
+    /// It gets this reply, and writes these.
+    Writes(Reply, Writes),
 }
 
 /// The plan, at a sound city, of a command that neither ends its script nor is about

@@ -98,7 +98,7 @@ fn done_text(alloc: Global, done: Result<(), TxnFault>) -> Result<String, AllocE
 /// Whether a transaction may commit: what it would change, or why not.
 fn prepare(core: &Core, alloc: Global, stamp: u64) -> Result<String, AllocError> {
     match core.prepare(stamp) {
-        Ok(Prepared::Ready(change)) => change_text(alloc, "ready", change.as_slice()),
+        Ok(Prepared::Ready(change)) => change_text(alloc, "ready", &change),
         Ok(Prepared::Refused(cause)) => cause_text(alloc, cause),
         Err(fault) => fault_text(alloc, fault),
     }
@@ -122,7 +122,7 @@ fn commit(core: &mut Core, alloc: Global, stamp: u64) -> Result<String, AllocErr
         Ok(Prepared::Refused(cause)) => cause_text(alloc, cause),
         Ok(Prepared::Ready(change)) => {
             core.commit(stamp);
-            change_text(alloc, "committed", change.as_slice())
+            change_text(alloc, "committed", &change)
         }
     }
 }

@@ -72,7 +72,7 @@ fn add_output(
     let bytes = output_bytes(alloc, city, ends, 0)?;
     answer.extend_from_slice(bytes.as_slice())?;
     for change in shelf.changes() {
-        let line = change_text(alloc, "committed", change.as_slice())?;
+        let line = change_text(alloc, "committed", change)?;
         add_line(answer, line.as_str())?;
     }
     Ok(())

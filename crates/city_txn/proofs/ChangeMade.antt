@@ -1,37 +1,33 @@
 -- What a transaction wrote, listed as a change, makes its view of the committed map.
-use Rattle.std.proofs.Common.{◌≡◌, ◌||◌, ◌==◌, ℕ, ◌+◌, ◌<◌, ◌≤◌, List, [], ◌∷◌, length, take, get_or, Bool, true, false}
-use Rattle.std.proofs.Common.{Option, None, Some, is_some, Result, Ok, Err, refl, ap, sym, subst, ◌∙◌, arith}
+use Rattle.std.proofs.Common.{◌≡◌, ◌||◌, ◌==◌, ℕ, ◌+◌, ◌<◌, List, [], ◌∷◌, length, take, get_or, Bool, true, false}
+use Rattle.std.proofs.Common.{Option, None, Some, is_some, Result, Ok, Err, refl, ap, sym, ◌∙◌}
 use Rattle.std.specs.Prelude.{if◌then◌else◌, IfOk}
 use Rattle.std.specs.Map.{lookup, keys_of}
-use Rattle.std.specs.Cmp.{eq_by_cmp_equiv}
-use Rattle.std.specs.Ordering.{nat_cmp, eq_by_cmp}
+use Rattle.std.specs.Option.{unwrap_or}
+use Rattle.std.specs.Ordering.{nat_cmp}
 use Rattle.std.specs.Cmp.Lexicographic.{slice_cmp}
 use Rattle.std.specs.BTreeMap.{is_at}
-use Rattle.std.specs.FinMap.{entries, from_sorted}
+use Rattle.std.specs.FinMap.{entries}
 use Rattle.std.specs.List.{list_any}
 use Rattle.std.proofs.lemmas.Bool.{false≢true, or_parts}
 use Rattle.std.specs.List.Sorted.{IsStrictlySortedBy}
 use Rattle.std.proofs.lemmas.List.Folds.{list_any_more}
-use Rattle.std.proofs.lemmas.Cmp.{nat_list_cmp_total}
-use Rattle.std.proofs.lemmas.Map.{lookup-none}
-use Rattle.std.proofs.lemmas.Map.Keys.{IsDistinct-from_sorted, sorted_tail}
-use Rattle.std.proofs.lemmas.Map.Entries.{none_past_head}
 use Rattle.city_model.specs.declared.object.Object.{Object}
-use Rattle.city_model.specs.CityMap.{CityMap, found_in, same_id, has_id, changed}
+use Rattle.city_model.specs.CityMap.{same_id, has_id}
 use Rattle.city_model.specs.Relations.{is_orphan, is_orphan_there, HasNoOrphan, IsLeastOrphan, IsSound, IsLawful}
-use Rattle.city_model.specs.Runs.{Change, after_change}
+use Rattle.city_model.specs.Runs.{Change}
+use Rattle.city_model.specs.Writing.{write_in, set_by}
 use Rattle.city_model.proofs.Ids.{same_id_true, same_id_back}
 use Rattle.city_model.proofs.IdLists.{bool_cases}
-use Rattle.city_model.proofs.FirstOrphan.{first_orphan, is_least_orphan, has_no_orphan}
-use Rattle.city_model.proofs.Objects.{entries_of, at_sorted}
+use Rattle.city_model.proofs.ChangeLaws.{at_change, set_at}
 use Rattle.city_txn.specs.declared.image.UndoImage.{UndoImage}
 use Rattle.city_txn.specs.declared.store.Store.TheInside.{Inside}
 use Rattle.city_txn.specs.inside.Images.{written_at, write_at, writer_of, or_else}
-use Rattle.city_txn.specs.Writes.{Write, write_of, own_or, own_write, is_by, with_some}
+use Rattle.city_txn.specs.Writes.{Write, write_of, own_or, own_write, is_by}
 use Rattle.city_txn.specs.CoreState.{CoreState, committed, view}
 use Rattle.city_txn.specs.inside.InPlace.{state_of, is_writer, IsInPlace}
 use Rattle.city_txn.specs.inside.UndoState.{image_at, reservations_of}
-use Rattle.city_txn.specs.inside.Orphans.{objects_in, is_orphan_written}
+use Rattle.city_txn.specs.inside.Orphans.{is_orphan_written}
 use Rattle.city_txn.specs.Changing.{change_in, IsChangeOf}
 use Rattle.city_txn.proofs.AtOneId.{through, at_made, sorted_made, here, writes_is}
 use Rattle.city_txn.proofs.ImagesHeld.{images_ascend}
@@ -97,7 +93,7 @@ own_through s (Some w) = refl
 
 pub own_listed : (s : ℕ) (ws : List (List ℕ × Write)) (q : List ℕ) → IsStrictlySortedBy (slice_cmp nat_cmp) (keys_of ws)
     →
-    lookup (is_at (slice_cmp nat_cmp q)) (change_in ws s) ≡ own_write s (write_of ws q)
+    write_in (change_in ws s) q ≡ own_write s (write_of ws q)
 own_listed s ws q sorted = at_made (λ id w. own_write s (Some w)) ws q sorted ∙ own_through s (write_of ws q)
 
 pub own_ascend : (s : ℕ) (ws : List (List ℕ × Write)) → IsStrictlySortedBy (slice_cmp nat_cmp) (keys_of ws)
@@ -120,66 +116,14 @@ no_orphan_at ids f q h = bool_cases (has_id ids q)
     (λ e. ap (λ b. is_orphan_written (if b then f q else None)) e ∙ none_at (λ id. is_orphan_written (f id)) ids q h e)
     (λ e. ap (λ b. is_orphan_written (if b then f q else None)) e)
 
--- ---- its objects
-
-orphan_here : (id : List ℕ) (x : Option Object) (es : List (List ℕ × Object)) → is_orphan_there x ≡ true
-    → first_orphan (with_some id x es) ≡ Some id
-orphan_here id None es h = cc
-orphan_here id (Some o) es h = ap (λ b. if b then Some id else first_orphan es) h
-
--- the first of what is left is an orphan
-pub orphan_first : (left : Change) (w : List ℕ × Option Object) → 1 ≤ length left → w ≡ get_or left 0 w
-    → is_orphan_there w.1 ≡ true → first_orphan (objects_in left) ≡ Some w.0
-orphan_first [] w some is h = absurd (omega arith)
-orphan_first (x ∷ xs) w some is h = orphan_here x.0 x.1 (objects_in xs) (ap (λ y. is_orphan_there y.1) (sym is) ∙ h)
-    ∙ ap (λ y. Some y.0) (sym is)
-
-pub none_left : (left : Change) → length left < 1 → first_orphan (objects_in left) ≡ None
-none_left [] none = refl
-none_left (x ∷ xs) none = absurd (omega arith)
-
-objects_ascend : (c : Change) → IsStrictlySortedBy (slice_cmp nat_cmp) (keys_of c)
-    → IsStrictlySortedBy (slice_cmp nat_cmp) (keys_of (objects_in c))
-objects_ascend c s = sorted_made (λ id object. object) c s
-
-pub least_in_change : (c : Change) (id : List ℕ) → IsStrictlySortedBy (slice_cmp nat_cmp) (keys_of c)
-    → first_orphan (objects_in c) ≡ Some id → IsLeastOrphan (found_in (objects_in c)) id
-least_in_change c id s e = subst (λ (m : CityMap). IsLeastOrphan m id) (at_sorted (objects_in c) (objects_ascend c s))
-    (is_least_orphan (from_sorted (objects_in c)) id (ap first_orphan (entries_of (objects_in c) (objects_ascend c s))
-    ∙ e))
-
-pub none_in_change : (c : Change) → IsStrictlySortedBy (slice_cmp nat_cmp) (keys_of c)
-    → first_orphan (objects_in c) ≡ None → HasNoOrphan (found_in (objects_in c))
-none_in_change c s e = subst (λ (m : CityMap). HasNoOrphan m) (at_sorted (objects_in c) (objects_ascend c s))
-    (has_no_orphan (from_sorted (objects_in c)) (ap first_orphan (entries_of (objects_in c) (objects_ascend c s)) ∙ e))
-
 -- ---- the map with the change
-
--- what was written, or else what was there
-abbrev over : Option (Option Object) → Option Object → Option Object
-over None o = o
-over (Some w) o = w
-
-changed_by : (c : Change) (m : CityMap) (q : List ℕ) → IsStrictlySortedBy (slice_cmp nat_cmp) (keys_of c)
-    → after_change m c q ≡ over (lookup (is_at (slice_cmp nat_cmp q)) c) (m q)
-changed_by [] m q s = refl
-changed_by (w ∷ ws) m q s =
-    let rest = lookup (is_at (slice_cmp nat_cmp q)) ws in
-    changed_by ws (changed m w.0 w.1) q (sorted_tail (slice_cmp nat_cmp) w.0 (keys_of ws) s)
-    ∙ bool_cases (same_id q w.0)
-    (λ t. let none : rest ≡ None =
-    lookup-none (is_at (slice_cmp nat_cmp q)) ws
-    (none_past_head {eq = eq_by_cmp (slice_cmp nat_cmp)} (eq_by_cmp_equiv nat_list_cmp_total) q w ws
-    (IsDistinct-from_sorted (slice_cmp nat_cmp) (keys_of (w ∷ ws)) s) t) in
-    rw (none, same_id_back w.0 q, t) refl)
-    (λ t. rw (same_id_back w.0 q, t) refl)
 
 key_listed : {Y : Type 0} (es : List (List ℕ × Y)) (q : List ℕ)
     → has_id (keys_of es) q ≡ is_some (lookup (is_at (slice_cmp nat_cmp q)) es)
 key_listed [] q = refl
 key_listed (e ∷ es) q = bool_cases (same_id q e.0) (λ t. rw t refl) (λ t. rw t (key_listed es q))
 
-own_over : (s : ℕ) (w : Option Write) (o : Option Object) → own_or s w o ≡ over (own_write s w) o
+own_over : (s : ℕ) (w : Option Write) (o : Option Object) → own_or s w o ≡ unwrap_or (own_write s w) o
 own_over s None o = refl
 own_over s (Some w) o = bool_cases (w.0 == s) (λ e. rw e refl) (λ e. rw e refl)
 
@@ -189,62 +133,57 @@ own_by s (Some w) = bool_cases (w.0 == s) (λ e. rw e refl) (λ e. rw e refl)
 
 -- ---- orphans
 
-over_cases : {A : Type 0} (x : Option (Option Object)) (y : Option Object) (o : Object) → over x y ≡ Some o
-    → (through (λ z. z) x ≡ Some o → A) → (y ≡ Some o → A) → A
+over_cases : {A : Type 0} (x : Option (Option Object)) (y : Option Object) (o : Object) → unwrap_or x y ≡ Some o
+    → (unwrap_or x None ≡ Some o → A) → (y ≡ Some o → A) → A
 over_cases None y o h f g = g h
 over_cases (Some w) y o h f g = f h
 
-over_written : (x : Option (Option Object)) (y : Option Object) (o : Object) → through (λ z. z) x ≡ Some o
-    → over x y ≡ Some o
+over_written : (x : Option (Option Object)) (y : Option Object) (o : Object) → unwrap_or x None ≡ Some o
+    → unwrap_or x y ≡ Some o
 over_written None y o h = absurd (cc)
 over_written (Some w) y o h = h
 
-orphan_through : (x : Option (Option Object)) (o : Object) → through (λ z. z) x ≡ Some o → is_orphan_written x ≡ false
+orphan_set : (x : Option (Option Object)) (o : Object) → unwrap_or x None ≡ Some o → is_orphan_written x ≡ false
     → is_orphan o ≡ false
-orphan_through None o is h = absurd (cc)
-orphan_through (Some y) o is h = sym (ap is_orphan_there is) ∙ h
+orphan_set None o is h = absurd (cc)
+orphan_set (Some y) o is h = sym (ap is_orphan_there is) ∙ h
 
 -- the change has what the transaction wrote, in byte order; no object of the committed map is an orphan
-module _ (v : CoreState) (s : ℕ) (c : Change) (lists : (q : List ℕ)
-    → lookup (is_at (slice_cmp nat_cmp q)) c ≡ own_write s (write_of v.writes q))
+module _ (v : CoreState) (s : ℕ) (c : Change) (lists : (q : List ℕ) → write_in c q ≡ own_write s (write_of v.writes q))
     (sorted : IsStrictlySortedBy (slice_cmp nat_cmp) (keys_of c)) (none : HasNoOrphan (committed v)) where
-  view_over : (q : List ℕ) → view v s q ≡ over (lookup (is_at (slice_cmp nat_cmp q)) c) (committed v q)
-  view_over q = own_over s (write_of v.writes q) (committed v q) ∙ sym (ap (λ x. over x (committed v q)) (lists q))
+  view_over : (q : List ℕ) → view v s q ≡ unwrap_or (write_in c q) (committed v q)
+  view_over q = own_over s (write_of v.writes q) (committed v q) ∙ sym (ap (λ x. unwrap_or x (committed v q)) (lists q))
 
-  objects_at : (q : List ℕ) → found_in (objects_in c) q ≡ through (λ z. z) (lookup (is_at (slice_cmp nat_cmp q)) c)
-  objects_at q = at_made (λ id object. object) c q sorted
-
-  not_orphan : (q : List ℕ) (o : Object) → view v s q ≡ Some o
-      → (found_in (objects_in c) q ≡ Some o → is_orphan o ≡ false) → is_orphan o ≡ false
+  not_orphan : (q : List ℕ) (o : Object) → view v s q ≡ Some o → (set_by c q ≡ Some o → is_orphan o ≡ false)
+      → is_orphan o ≡ false
   not_orphan q o is f =
-      over_cases (lookup (is_at (slice_cmp nat_cmp q)) c) (committed v q) o (sym (view_over q) ∙ is)
-      (λ h. f (objects_at q ∙ h)) (λ h. none q o h)
+      over_cases (write_in c q) (committed v q) o (sym (view_over q) ∙ is) (λ h. f (set_at c sorted q ∙ h))
+      (λ h. none q o h)
 
-  pub least_of_view : (id : List ℕ) → IsLeastOrphan (found_in (objects_in c)) id → IsLeastOrphan (view v s) id
+  pub least_of_view : (id : List ℕ) → IsLeastOrphan (set_by c) id → IsLeastOrphan (view v s) id
   least_of_view id l = (
     (
       l.0.0,
       view_over id
-          ∙ over_written (lookup (is_at (slice_cmp nat_cmp id)) c) (committed v id) l.0.0 (sym (objects_at id) ∙ l.0.1),
+          ∙ over_written (write_in c id) (committed v id) l.0.0 (sym (set_at c sorted id) ∙ l.0.1),
       l.0.2,
     ),
-    λ q less h. over_cases (lookup (is_at (slice_cmp nat_cmp q)) c) (committed v q) h.0 (sym (view_over q) ∙ h.1)
-        (λ t. l.1 q less (h.0, objects_at q ∙ t, h.2)) (λ t. false≢true (sym (none q h.0 t) ∙ h.2)),
+    λ q less h. over_cases (write_in c q) (committed v q) h.0 (sym (view_over q) ∙ h.1)
+        (λ t. l.1 q less (h.0, set_at c sorted q ∙ t, h.2)) (λ t. false≢true (sym (none q h.0 t) ∙ h.2)),
   )
 
   pub no_orphan_listed : ((q : List ℕ) → is_orphan_written (own_write s (write_of v.writes q)) ≡ false)
-      → HasNoOrphan (found_in (objects_in c))
+      → HasNoOrphan (set_by c)
   no_orphan_listed h q o is =
-      orphan_through (lookup (is_at (slice_cmp nat_cmp q)) c) o (sym (objects_at q) ∙ is)
-      (ap is_orphan_written (lists q) ∙ h q)
+      orphan_set (write_in c q) o (sym (set_at c sorted q) ∙ is) (ap is_orphan_written (lists q) ∙ h q)
 
   pub is_change_to : IsLawful (view v s) → IsChangeOf v s c
   is_change_to lawful = record {
-    makes_view = λ i q. (changed_by c (committed v) q sorted ∙ sym (view_over q)) i;
+    makes_view = λ i q. (at_change c (committed v) q sorted ∙ sym (view_over q)) i;
     ids = λ q. key_listed c q ∙ ap is_some (lists q) ∙ own_by s (write_of v.writes q);
     in_byte_order = sorted;
     lawful = lawful;
   }
 
-  pub is_change_of : IsSound (view v s) → HasNoOrphan (found_in (objects_in c)) → IsChangeOf v s c
+  pub is_change_of : IsSound (view v s) → HasNoOrphan (set_by c) → IsChangeOf v s c
   is_change_of sound h = is_change_to (sound, λ q o is. not_orphan q o is (h q o))

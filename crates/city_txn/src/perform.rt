@@ -56,8 +56,8 @@ impl Store {
     {
         match plan_of(self.alloc(), &Seen { store: self, stamp }, command)? {
             Plan::Refused(cause) => Ok(Reply::Refused(cause)),
-            Plan::Writes(reply, change) => {
-                self.write_all(stamp, change)?;
+            Plan::Writes(reply, writes) => {
+                self.write_all(stamp, writes)?;
                 Ok(reply)
             }
         }

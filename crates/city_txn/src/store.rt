@@ -2,11 +2,11 @@
 ghost use Rattle.std.specs.Prelude.{◌≡◌, ◌↔◌, IsTrue, ℕ, List, [], None, Some, OnOk, OnErr, IfOk, true, false, ◌==◌, ◌&&◌, ◌||◌, is_some, option_copied, option_map, if◌then◌else◌};
 ghost use Rattle.std.specs.Ordering.{nat_cmp};
 ghost use Rattle.std.specs.Cmp.Lexicographic.{slice_cmp};
-ghost use Rattle.std.specs.Map.{keys_of, lookup};
+ghost use Rattle.std.specs.Map.{keys_of};
 ghost use Rattle.std.specs.List.Sorted.{IsStrictlySortedBy};
-ghost use Rattle.std.specs.BTreeMap.{is_at};
 ghost use Rattle.city_model.specs.CityMap.{same_id};
 ghost use Rattle.city_model.specs.Meaning.{with_child, without_child};
+ghost use Rattle.city_model.specs.Writing.{write_in};
 ghost use Rattle.city_txn.specs.Changing.{change_in};
 ghost use Rattle.city_txn.specs.inside.Orphans.{is_orphan_written};
 ghost use Rattle.city_txn.specs.inside.Ending.{map_at_end};
@@ -205,9 +205,9 @@ impl Store {
         self.undo.unwrite(&mut self.city, id);
     }
 
-    /// What the stamp wrote, ids in byte order. It copies the objects.
+    /// What the stamp wrote. It copies the objects.
     pub fn change(&self, stamp: u64) -> Result<Change, OutOfMemory>
-        ensures lists { IfOk result (λ change. (q : List ℕ) → lookup (is_at (slice_cmp nat_cmp q)) change ≡ own_write stamp (write_of self.now.writes q)) }
+        ensures lists { IfOk result (λ change. (q : List ℕ) → write_in change q ≡ own_write stamp (write_of self.now.writes q)) }
         ensures ordered { IfOk result (λ change. IsStrictlySortedBy (slice_cmp nat_cmp) (keys_of change)) }
     {
         let ids = self.undo.reserved(stamp);
@@ -217,7 +217,7 @@ impl Store {
     /// Whether an object that the stamp wrote is an orphan. Doesn't allocate.
     pub fn has_orphan(&self, stamp: u64) -> bool
         ensures none { result ≡ false → (q : List ℕ) → is_orphan_written (own_write stamp (write_of self.now.writes q)) ≡ false }
-        ensures lists { (q : List ℕ) → lookup (is_at (slice_cmp nat_cmp q)) (change_in self.now.writes stamp) ≡ own_write stamp (write_of self.now.writes q) }
+        ensures lists { (q : List ℕ) → write_in (change_in self.now.writes stamp) q ≡ own_write stamp (write_of self.now.writes q) }
         ensures ordered { IsStrictlySortedBy (slice_cmp nat_cmp) (keys_of (change_in self.now.writes stamp)) }
     {
         has_orphan(&self.city, &self.undo, self.undo.reserved(stamp))

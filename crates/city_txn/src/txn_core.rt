@@ -13,7 +13,6 @@ ghost use Rattle.city_txn.specs.Acting.{answer_in, IsAct, RefusesCommit};
 ghost use Rattle.city_txn.specs.Changing.{IsPrepared, IsChangeOf, change_in};
 ghost use Rattle.city_txn.specs.Locking.{is_wait};
 
-use crate::changing::orphan_in;
 use crate::lock::{lock, would_lock};
 use crate::step::{Prepared, Step, TxnFault};
 use crate::store::Store;
@@ -21,6 +20,7 @@ use city_locks::{Answer, LockTable};
 use city_model::city::City;
 use city_model::command::{Cause, Command};
 use city_model::copied::Copied;
+use city_model::orphans::least_orphan_set;
 use std::alloc::Global;
 use std::marker::Model;
 
@@ -153,7 +153,7 @@ impl Core {
         let Ok(change) = self.store.change(stamp) else {
             return Err(TxnFault::OutOfMemory);
         };
-        if let Some(id) = orphan_in(change.as_slice()) {
+        if let Some(id) = least_orphan_set(&change) {
             let Ok(id) = id.copy(self.store.alloc()) else {
                 return Err(TxnFault::OutOfMemory);
             };

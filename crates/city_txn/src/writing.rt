@@ -13,25 +13,25 @@ ghost use Rattle.city_txn.specs.inside.Performing.{plans};
 use crate::store::Store;
 use crate::undo_log::Entry;
 use city_model::OutOfMemory;
-use city_model::change::Change;
 use city_model::copied::Copied;
 use city_model::object::Object;
+use city_model::plan::Writes;
 use city_model::text::Id;
 
 impl Store {
     /// Writes all that is planned, or nothing if memory runs out. Marks stay as they are.
-    pub fn write_all(&mut self, stamp: u64, change: Change) -> Result<(), OutOfMemory>
-        requires { MayReserve self.old stamp (plans change) }
-        ensures touches { Touches stamp (plans change) self.old self.new }
+    pub fn write_all(&mut self, stamp: u64, writes: Writes) -> Result<(), OutOfMemory>
+        requires { MayReserve self.old stamp (plans writes) }
+        ensures touches { Touches stamp (plans writes) self.old self.new }
         ensures marks { (written self.new stamp).1 ≡ (written self.old stamp).1 }
-        ensures ok { OnOk result ((f : CityMap) → AreOf f change → (id : List ℕ) →
+        ensures ok { OnOk result ((f : CityMap) → AreOf f writes → (id : List ℕ) →
             write_of self.new.writes id
-            ≡ (if plans change id then Some (stamp, f id) else write_of self.old.writes id)) }
+            ≡ (if plans writes id then Some (stamp, f id) else write_of self.old.writes id)) }
         ensures err { OnErr result ((id : List ℕ) → write_of self.new.writes id ≡ write_of self.old.writes id) }
     {
-        self.reserve_all(stamp, change.as_slice())?;
-        self.note_all(stamp, change.as_slice())?;
-        self.set_all(stamp, change.into_vec());
+        self.reserve_all(stamp, writes.as_slice())?;
+        self.note_all(stamp, writes.as_slice())?;
+        self.set_all(stamp, writes.into_vec());
         Ok(())
     }
 

@@ -1,6 +1,6 @@
 -- Versions of a city, each made from the one before by an edit.
 use Rattle.std.specs.Prelude.{◌≡◌, List, [], ◌∷◌, ◌++◌}
-use Rattle.city_model.specs.CityMap.{CityMap, CityValue, object_at}
+use Rattle.city_model.specs.CityMap.{CityValue, object_at}
 use Rattle.city_model.specs.Relations.{IsLawful}
 use Rattle.city_model.specs.Runs.{Change, after_change, after_changes}
 use Rattle.city_model.specs.Writing.{objects_after}
@@ -14,7 +14,7 @@ city_with city change = (city.0, objects_after city.1 change)
 
 -- the version after an edit
 abbrev pub edited : Version → Edit → Version
-edited x e = record x { city = city_with x.city e.writes.entries; history = e.history }
+edited x e = record x { city = city_with x.city e.change; history = e.history }
 
 -- its city is the opening city after the changes of its history, and lawful
 pub record IsFaithful (x : Version) : Type 0 where
@@ -24,10 +24,8 @@ pub record IsFaithful (x : Version) : Type 0 where
 
 -- the edit writes one change more, after which the city is lawful
 pub record IsNextEdit (x : Version) (e : Edit) : Type 0 where
-  pub change : Change
-  pub history : e.history ≡ history_of x.history.name (x.history.changes ++ change ∷ [])
-  pub writes : (m : CityMap) → after_change m e.writes.entries ≡ after_change m change
-  pub lawful : IsLawful (after_change (object_at x.city.1) change)
+  pub history : e.history ≡ history_of x.history.name (x.history.changes ++ e.change ∷ [])
+  pub lawful : IsLawful (after_change (object_at x.city.1) e.change)
 
 -- the edits, each next to those before it, lead from the version to this history
 abbrev pub LeadTo : Version → List Edit → HistoryValue → Type 0

@@ -5,14 +5,13 @@ ghost use Rattle.city_model.specs.Relations.{IsSound};
 ghost use Rattle.city_model.specs.declared.command.Command.{Command};
 
 use crate::OutOfMemory;
-use crate::change::Change;
 use crate::command::{Cause, Reply};
 use crate::copied::Copied;
 use crate::object::Object;
 use crate::plan::Plan;
 use crate::plan::objects::without_child;
 use crate::plan::view::View;
-use crate::plan::writes::no_object;
+use crate::plan::writes::{Writes, no_object};
 use crate::text::Id;
 use std::alloc::Global;
 
@@ -27,10 +26,10 @@ pub fn plan_delete<V: View>(alloc: Global, view: &V, id: &Id) -> Result<Plan, Ou
     if object.children.len() != 0 {
         return Ok(Plan::Refused(Cause::HasChildren(id.copy(alloc)?)));
     }
-    let mut change = Change::new(alloc);
-    change.push((id.copy(alloc)?, None))?;
-    unlink_each(alloc, view, id, object.parents.as_slice(), &mut change)?;
-    Ok(Plan::Writes(Reply::Deleted, change))
+    let mut writes = Writes::new(alloc);
+    writes.push((id.copy(alloc)?, None))?;
+    unlink_each(alloc, view, id, object.parents.as_slice(), &mut writes)?;
+    Ok(Plan::Writes(Reply::Deleted, writes))
 }
 
 /// The parent of an object that has no children and just one parent. Doesn't allocate.
@@ -49,19 +48,19 @@ pub fn only_parent<'v, V: View>(view: &'v V, id: &Id) -> Option<&'v Id>
     }
 }
 
-/// Adds each parent, without the child, to the change.
+/// Adds each parent, without the child, to the writes.
 fn unlink_each<V: View>(
     alloc: Global,
     view: &V,
     child: &Id,
     parents: &[Id],
-    change: &mut Change,
+    writes: &mut Writes,
 ) -> Result<(), OutOfMemory>
-    ensures { OnOk result (change.new
-        ≡ change.old ++ map (unlinked (V.map view.now) child.now) parents.now) }
+    ensures { OnOk result (writes.new
+        ≡ writes.old ++ map (unlinked (V.map view.now) child.now) parents.now) }
 {
     for parent in parents {
-        change.push(unlink(alloc, view, child, parent)?)?;
+        writes.push(unlink(alloc, view, child, parent)?)?;
     }
     Ok(())
 }

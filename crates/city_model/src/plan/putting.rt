@@ -5,7 +5,6 @@ ghost use Rattle.city_model.specs.declared.command.Command.{Command};
 
 use crate::OutOfMemory;
 use crate::body_fault::body_fault;
-use crate::change::Change;
 use crate::command::{Cause, Reply};
 use crate::copied::Copied;
 use crate::object::Body;
@@ -13,7 +12,7 @@ use crate::object_type::is_same;
 use crate::plan::Plan;
 use crate::plan::objects::{new_object, with_body};
 use crate::plan::view::View;
-use crate::plan::writes::one;
+use crate::plan::writes::{Writes, one};
 use crate::text::Id;
 use std::alloc::Global;
 
@@ -25,7 +24,7 @@ pub fn plan_read<V: View>(alloc: Global, view: &V, id: &Id) -> Result<Plan, OutO
         None => Reply::Absent,
         Some(object) => Reply::Found(object.copy(alloc)?),
     };
-    Ok(Plan::Writes(reply, Change::new(alloc)))
+    Ok(Plan::Writes(reply, Writes::new(alloc)))
 }
 
 /// The plan of a put.
@@ -38,16 +37,16 @@ pub fn plan_put<V: View>(alloc: Global, view: &V, id: &Id, body: &Body) -> Resul
     match view.look(id) {
         None => {
             let object = new_object(alloc, body)?;
-            let change = one(alloc, id, object)?;
-            Ok(Plan::Writes(Reply::Added, change))
+            let writes = one(alloc, id, object)?;
+            Ok(Plan::Writes(Reply::Added, writes))
         }
         Some(there) => {
             if !is_same(there.body.kind, body.kind) {
                 return Ok(Plan::Refused(Cause::TypeFixed(id.copy(alloc)?)));
             }
             let object = with_body(alloc, there, body)?;
-            let change = one(alloc, id, object)?;
-            Ok(Plan::Writes(Reply::Replaced, change))
+            let writes = one(alloc, id, object)?;
+            Ok(Plan::Writes(Reply::Replaced, writes))
         }
     }
 }

@@ -37,8 +37,8 @@ pub fn plan_attach<V: View>(
         unreachable!()
     };
     let above = with_child(alloc, child, parent_object)?;
-    let change = two(alloc, child, below, parent, above)?;
-    Ok(Plan::Writes(Reply::Attached, change))
+    let writes = two(alloc, child, below, parent, above)?;
+    Ok(Plan::Writes(Reply::Attached, writes))
 }
 
 /// The child as an attach leaves it, or why the attach is refused.
@@ -88,8 +88,8 @@ pub fn plan_detach<V: View>(
         unreachable!()
     };
     let above = without_child(alloc, child, parent_object)?;
-    let change = two(alloc, child, below, parent, above)?;
-    Ok(Plan::Writes(Reply::Detached, change))
+    let writes = two(alloc, child, below, parent, above)?;
+    Ok(Plan::Writes(Reply::Detached, writes))
 }
 
 /// The child as a detach leaves it, or why the detach is refused.

@@ -1,16 +1,19 @@
-//! Short plans, and changes of one or two ids.
+//! What a plan writes, and short plans.
 ghost use Rattle.std.specs.Prelude.{◌≡◌, [], ◌∷◌, Some, IfOk};
 ghost use Rattle.city_model.specs.declared.command.Cause.{Cause};
 ghost use Rattle.city_model.specs.declared.plan.Plan.{Plan};
 
 use crate::OutOfMemory;
-use crate::change::Change;
 use crate::command::Cause;
 use crate::copied::Copied;
 use crate::object::Object;
 use crate::plan::Plan;
+use crate::sequence::Sequence;
 use crate::text::Id;
 use std::alloc::Global;
+
+/// What a command writes: ids, each with the object that it has afterwards, or None if the object is removed.
+pub type Writes = Sequence<(Id, Option<Object>)>;
 
 /// The refusal of a command that finds no object of the id.
 pub fn no_object(alloc: Global, id: &Id) -> Result<Plan, OutOfMemory>
@@ -19,28 +22,28 @@ pub fn no_object(alloc: Global, id: &Id) -> Result<Plan, OutOfMemory>
     Ok(Plan::Refused(Cause::NoObject(id.copy(alloc)?)))
 }
 
-/// The change of one id to an object.
-pub fn one(alloc: Global, id: &Id, object: Object) -> Result<Change, OutOfMemory>
-    ensures { IfOk result (λ change. change ≡ (id.now, Some object) ∷ []) }
+/// An object written at one id.
+pub fn one(alloc: Global, id: &Id, object: Object) -> Result<Writes, OutOfMemory>
+    ensures { IfOk result (λ writes. writes ≡ (id.now, Some object) ∷ []) }
 {
     let copy = id.copy(alloc)?;
-    let mut change = Change::new(alloc);
-    change.push((copy, Some(object)))?;
-    Ok(change)
+    let mut writes = Writes::new(alloc);
+    writes.push((copy, Some(object)))?;
+    Ok(writes)
 }
 
-/// The change of two ids to objects.
+/// Objects written at two ids.
 pub fn two(
     alloc: Global,
     first: &Id,
     object: Object,
     second: &Id,
     other: Object,
-) -> Result<Change, OutOfMemory>
-    ensures { IfOk result (λ change. change
+) -> Result<Writes, OutOfMemory>
+    ensures { IfOk result (λ writes. writes
         ≡ (first.now, Some object) ∷ (second.now, Some other) ∷ []) }
 {
-    let mut change = one(alloc, first, object)?;
-    change.push((second.copy(alloc)?, Some(other)))?;
-    Ok(change)
+    let mut writes = one(alloc, first, object)?;
+    writes.push((second.copy(alloc)?, Some(other)))?;
+    Ok(writes)
 }

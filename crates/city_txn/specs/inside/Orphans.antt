@@ -1,14 +1,7 @@
 -- Orphans among what a transaction wrote.
 use Rattle.std.specs.Prelude.{Bool, false, Option, None, Some}
 use Rattle.city_model.specs.declared.object.Object.{Object}
-use Rattle.city_model.specs.CityMap.{Entries}
 use Rattle.city_model.specs.Relations.{is_orphan_there}
-use Rattle.city_model.specs.Runs.{Change}
-use Rattle.city_txn.specs.Writes.{made_by}
-
--- the objects that the change sets
-abbrev pub objects_in : Change → Entries
-objects_in change = made_by (λ id object. object) change
 
 -- an orphan was written there
 abbrev pub is_orphan_written : Option (Option Object) → Bool

@@ -1,11 +1,10 @@
-use Rattle.std.proofs.Common.{◌≡◌, ◌∷◌, ◌∙◌, ap, sym, is_some}
+use Rattle.std.proofs.Common.{◌≡◌, ◌∷◌, ◌∙◌, ap, sym, subst, is_some}
 use Rattle.std.specs.Map.{keys_of}
 use Rattle.std.proofs.lemmas.Bool.{or_right}
-use Rattle.std.proofs.lemmas.List.Elements.{recursion_from_All}
 use Rattle.city_model.specs.CityMap.{CityMap, object_at, same_id, has_id}
-use Rattle.city_model.specs.Runs.{after_change}
+use Rattle.city_model.specs.Runs.{Change, after_change}
 use Rattle.city_model.proofs.Changed.{changed_apart}
-use Rattle.city_crew.proofs.WritesOnce.{apart_below}
+use Rattle.city_model.proofs.ChangeLaws.{Ascends, first_once}
 use Rattle.city_crew.proofs.apply.write_all.Goals as goal
 
 pub loop-id-preserved : goal.loop-id-preserved
@@ -13,8 +12,10 @@ loop-id-preserved c =
     let m = object_at c.loop-id.city.1 in
     let id = c.in-Some.id in
     let object = c.in-Some.object in
-    let rest = c.pop_first.new.self.entries in
-    let split : c.loop-id.writes.entries ≡ (id, object) ∷ rest = c.in-Some.ensures.removal in
+    let rest = c.pop_first.new.self in
+    let split : c.loop-id.change ≡ (id, object) ∷ rest = c.in-Some.ensures.pairs in
+    let ascends : Ascends ((id, object) ∷ rest) =
+    subst (λ (ws : Change). Ascends ws) split c.in-Some.ensures.in_byte_order in
     record {
       frame = c.write.ensures.frame ∙ c.loop-id.invariant.frame;
       objects = ap (λ (n : CityMap). after_change n rest) c.write.ensures.objects
@@ -25,7 +26,6 @@ loop-id-preserved c =
           ∙ or_right (same_id q id) (has_id (keys_of rest) q) h) in
           ap (λ (n : CityMap). is_some (n q)) c.write.ensures.objects
           ∙ ap is_some
-          (changed_apart m id object q
-          (apart_below id (keys_of rest) q (recursion_from_All _ (keys_of rest) c.in-Some.ensures.all_above) h))
+          (changed_apart m id object q (first_once (id, object) rest q ascends h))
           ∙ before;
     }

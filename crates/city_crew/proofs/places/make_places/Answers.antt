@@ -15,6 +15,6 @@ returns-then-is_err-clause-err c =
     let cleared : c.deref-then-is_err.result.now ≡ ids = search rules in
     same_city old c.clear.new.city (c.clear.ensures.frame ∙ c.fill.ensures.frame) (same_map _ _
     (λ q. put_back (object_at old.1 q) (object_at c.fill.new.city.1 q) (object_at c.clear.new.city.1 q) (has_id ids q)
-    (has_id (keys_of c.args.writes.now.entries) q) (c.in_ok-ids.ensures q)
+    (has_id (keys_of c.args.change.now) q) (c.in_ok-ids.ensures q)
     (λ none. c.fill.ensures.others q (ap (λ xs. has_id xs q) filled ∙ none))
     (c.clear.ensures.objects q ∙ ap (λ xs. if has_id xs q then None else object_at c.fill.new.city.1 q) cleared)))

@@ -10,7 +10,7 @@ loop-id-preserved-in_ok-push c q =
     let id = c.in-Some.id.now in
     let absent : is_some (m id) ≡ false = search rules in
     let items : c.push.new.self.items ≡ c.loop-id.ids.items ++ id ∷ [] = search rules in
-    let all = has_id (keys_of c.args.writes.now.entries) q && not (is_some (m q)) in
+    let all = has_id (keys_of c.args.change.now) q && not (is_some (m q)) in
     let before =
     subst (λ es. all ≡ (has_id c.loop-id.ids.items q || (has_id (keys_of es) q && not (is_some (m q)))))
     c.in-Some.ensures.steps (c.loop-id.invariant q) in
@@ -21,7 +21,7 @@ loop-id-preserved c q =
     let m = object_at c.args.city.now.1 in
     let id = c.in-Some.id.now in
     let there : is_some (m id) ≡ true = search rules in
-    let all = has_id (keys_of c.args.writes.now.entries) q && not (is_some (m q)) in
+    let all = has_id (keys_of c.args.change.now) q && not (is_some (m q)) in
     let before =
     subst (λ es. all ≡ (has_id c.loop-id.ids.items q || (has_id (keys_of es) q && not (is_some (m q)))))
     c.in-Some.ensures.steps (c.loop-id.invariant q) in

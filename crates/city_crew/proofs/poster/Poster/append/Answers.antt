@@ -14,7 +14,7 @@ use Rattle.city_crew.proofs.poster.Poster.append.Goals as goal
 pub invariant_of-self-2 : goal.invariant_of-self-2
 invariant_of-self-2 g c =
     let p = c.self.inside in
-    let e : Edit = record { writes = c.in_ok-writes.writes; history = c.in-Some.history } in
+    let e : Edit = record { change = c.args.change; history = c.in-Some.history } in
     let history : c.in-Some.history ≡ history_of p.taken.name (p.taken.changes ++ c.args.change ∷ []) =
     c.in-Some.ensures ∙ c.with-addition.ensures in
     let again : c.again.result ≡ c.in-Some.history = c.again.ensures in
@@ -29,7 +29,7 @@ invariant_of-self-2 g c =
           (c.args.change ∷ [], sym (ap (λ (q : HistoryValue). q.changes) history)),
       if_some_to p.writer _ _
           (λ w. holds_waiting w.writer.desk.shown.value (view w.writer.desk.place)
-          (drop w.writer.behind w.writer.log.items) p.waiting.items p.opening p.published p.taken e c.args.change
-          history c.in_ok-writes.ensures lawful)
+          (drop w.writer.behind w.writer.log.items) p.waiting.items p.opening p.published p.taken e
+          history lawful)
           c.self.invariant.3,
     )

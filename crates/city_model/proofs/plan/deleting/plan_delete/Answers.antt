@@ -13,7 +13,7 @@ returns g c =
     let m = g.V.View.map c.args.view.now in
     let none : (length c.in-Some.object.now.children == 0) ≡ true = search rules in
     let first : c.push.new.self ≡ first_write c.args.id.now ∷ [] = search rules in
-    delete_writes m c.args.id.now c.in-Some.object.now c.unlink_each.new.change c.requires.sound (sym c.in-Some.ensures)
+    delete_writes m c.args.id.now c.in-Some.object.now c.unlink_each.new.writes c.requires.sound (sym c.in-Some.ensures)
     none
     (c.in_ok-unlink_each.ensures
     ∙ ap (λ (ws : Change). ws ++ map (unlinked m c.args.id.now) c.as_slice.result.now) first

@@ -8,7 +8,7 @@ use Rattle.city_txn.proofs.store.Store.carry_out.Goals as goal
 use Rattle.city_txn.proofs.store.Store.carry_out.Goals.{In-Writes}
 
 planned : (c : In-Writes)
-    → AreWritesOf (view c.args.self.now c.args.stamp) c.args.command.now c.in-Writes.reply c.in-Writes.change
+    → AreWritesOf (view c.args.self.now c.args.stamp) c.args.command.now c.in-Writes.reply c.in-Writes.writes
 planned c = subst (IsPlan (view c.args.self.now c.args.stamp) c.args.command.now) c.in-Writes.is
     c.in_ok-cause.ensures.plan
 
@@ -31,7 +31,7 @@ returns-in-Refused c =
 pub returns-in_err-write_all-in-Writes : goal.returns-in_err-write_all-in-Writes
 returns-in_err-write_all-in-Writes c =
     let e = c.in_err-write_all-in-Writes.ensures in
-    unwritten_performed c.args.stamp c.args.command.now c.in-Writes.reply c.in-Writes.change c.args.self.now
+    unwritten_performed c.args.stamp c.args.command.now c.in-Writes.reply c.in-Writes.writes c.args.self.now
     c.write_all.new.self
     c.requires.no_mark (planned (goal.at.returns-in_err-write_all-in-Writes c).In-Writes) e.touches e.marks
     c.from_residual-in_err-write_all-in-Writes.result c.from_residual-in_err-write_all-in-Writes.ensures.0 e.err
@@ -39,6 +39,6 @@ returns-in_err-write_all-in-Writes c =
 pub returns-in_ok-write_all-in-Writes : goal.returns-in_ok-write_all-in-Writes
 returns-in_ok-write_all-in-Writes c =
     let e = c.in_ok-write_all-in-Writes.ensures in
-    written_performed c.args.stamp c.args.command.now c.in-Writes.reply c.in-Writes.change c.args.self.now
+    written_performed c.args.stamp c.args.command.now c.in-Writes.reply c.in-Writes.writes c.args.self.now
     c.write_all.new.self
     c.requires.no_mark (planned (goal.at.returns-in_ok-write_all-in-Writes c).In-Writes) e.touches e.marks e.ok

@@ -14,7 +14,7 @@ use Rattle.city_txn.proofs.store.Store.write_all.Goals.{After-reserve_all, After
 
 pub returns-in_err-reserve_all-clause-touches : goal.returns-in_err-reserve_all-clause-touches
 returns-in_err-reserve_all-clause-touches c =
-    let listed : c.as_slice.result.now ≡ c.args.change = search rules in
+    let listed : c.as_slice.result.now ≡ c.args.writes = search rules in
     subst (λ (ws : Change). Touches c.args.stamp (plans ws) c.args.self.now c.reserve_all.new.self) listed
     (touches_seen c.args.stamp (plans c.as_slice.result.now) c.args.self.now c.reserve_all.new.self
     c.reserve_all.ensures.same c.reserve_all.ensures.reserved)
@@ -25,14 +25,14 @@ returns-in_err-reserve_all-clause-marks c =
     (written_seen c.args.self.now c.reserve_all.new.self c.args.stamp c.reserve_all.ensures.same)
 
 -- reserved and noted
-touched : (c : After-note_all) → Touches c.args.stamp (plans c.args.change) c.args.self.now c.note_all.new.self
+touched : (c : After-note_all) → Touches c.args.stamp (plans c.args.writes) c.args.self.now c.note_all.new.self
 touched c =
     let s = c.args.stamp in
     let v = c.args.self.now in
     let u = c.reserve_all.new.self in
-    let listed : c.as_slice.result.now ≡ c.args.change = search rules in
-    let listed_again : c.as_slice-2.result.now ≡ c.args.change = search rules in
-    touches_on s (plans c.args.change) v u c.note_all.new.self
+    let listed : c.as_slice.result.now ≡ c.args.writes = search rules in
+    let listed_again : c.as_slice-2.result.now ≡ c.args.writes = search rules in
+    touches_on s (plans c.args.writes) v u c.note_all.new.self
     (subst (λ (ws : Change). Touches s (plans ws) v u) listed
     (touches_seen s (plans c.as_slice.result.now) v u c.reserve_all.ensures.same c.reserve_all.ensures.reserved))
     (subst (λ (ws : Change). Touches s (plans ws) u c.note_all.new.self) listed_again c.note_all.ensures.touches)
@@ -50,9 +50,9 @@ returns-in_err-note_all-clause-marks c = marks (goal.at.returns-in_err-note_all-
 
 pub returns-clause-touches : goal.returns-clause-touches
 returns-clause-touches c =
-    touches_on c.args.stamp (plans c.args.change) c.args.self.now c.note_all.new.self c.set_all.new.self
+    touches_on c.args.stamp (plans c.args.writes) c.args.self.now c.note_all.new.self c.set_all.new.self
     (touched (goal.at.returns-clause-touches c).After-note_all)
-    (touches_writes c.args.stamp (plans c.args.change) c.note_all.new.self c.set_all.new.self c.set_all.ensures.only
+    (touches_writes c.args.stamp (plans c.args.writes) c.note_all.new.self c.set_all.new.self c.set_all.ensures.only
     c.set_all.ensures.others)
 
 pub returns-clause-marks : goal.returns-clause-marks
