@@ -1,6 +1,6 @@
 -- A geometry that was read of an encoded one, and is written, is the same.
 use Rattle.std.proofs.Common.{◌≡◌, ℕ, ◌<◌, List, [], ◌∷◌, length, true, false, Some, codes, refl, sym, ap, subst, ◌∙◌}
-use Rattle.std.specs.Prelude.{◌^◌, map, flat_map, option_map, option_and_then}
+use Rattle.std.specs.Prelude.{◌^◌, map, flat_map, option_map}
 use Rattle.std.proofs.lemmas.Bool.{or_parts, and_parts}
 use Rattle.std.proofs.lemmas.List.Folds.{list_all-append}
 use Rattle.std.proofs.lemmas.Slice.Eq.{bytes_eq-Decides}
@@ -9,7 +9,7 @@ use Rattle.json.specs.Find as look
 use Rattle.json.specs.Tree.{HasNumbers, ItemsHaveNumbers}
 use Rattle.json.proofs.Found.{Some_inj}
 use Rattle.serde_json.specs.Data.{Data, string, object, Items, item, Members, no_members, put}
-use Rattle.serde_json.specs.Find.{get, get_member, as_str, as_object}
+use Rattle.serde_json.specs.Find.{get, get_member, as_str}
 use Rattle.serde_json.specs.Read.{of_json, of_items, of_members}
 use Rattle.serde_json.specs.View.{items_of}
 use Rattle.serde_json.specs.Written.{outline, items_outline, members_outline}
@@ -26,13 +26,11 @@ use Rattle.city_decimals.specs.Decoded.{decoded, decoded_items, decoded_members}
 use Rattle.city_decimals.proofs.Wholes.{mapped, bound}
 use Rattle.city_doc.specs.Pool.{geometry_points}
 use Rattle.city_doc.specs.shape.Canonical.{boundaries_data, geometry_data}
-use Rattle.city_doc.specs.shape.Geometries.{nested_of, shape_of, shape_in, without_geometry_members, geometry_with}
-use Rattle.city_doc.specs.shape.Geometries.{geometry_of}
+use Rattle.city_doc.specs.shape.Geometries.{nested_of, without_geometry_members, geometry_of}
 use Rattle.city_doc.specs.shape.Nesting.{geometry_type, shape_name}
 use Rattle.city_doc.specs.tree.Lists.{read_items}
-use Rattle.city_doc.specs.tree.Members.{kept_if, text_at}
 use Rattle.city_doc.proofs.Options.{and_then_some, map_some}
-use Rattle.city_doc.proofs.Laws.{is_in, are_in, get_member-put_apart, ordered_put}
+use Rattle.city_doc.proofs.Laws.{geometry_parts, is_in, are_in, get_member-put_apart, ordered_put}
 use Rattle.city_canonical.specs.Placed.{placed}
 use Rattle.city_canonical.specs.Same.{IsSameGeometry, AreSameGeometries}
 use Rattle.city_canonical.proofs.Members.{value_at, decoded_members_at, no_number, member_same}
@@ -62,35 +60,28 @@ member_of d ms name x is h = ap (get name) (sym is) ∙ h
 
 geometry_read : (ps : List Point) (d : Data) (g : Geometry) → geometry_of ps d ≡ Some g → IsGeometryOf ps d g
 geometry_read ps d g h =
-    let shape = and_then_some (λ s. option_and_then (geometry_with s) (as_object d)) (shape_in ps d) g h in
-    let kind = and_then_some (λ k. option_and_then (shape_of ps k) (get (codes "boundaries") d))
-    (text_at (codes "type") d) shape.0 shape.1 in
-    let bounds = and_then_some (shape_of ps kind.0) (get (codes "boundaries") d) shape.0 kind.2 in
-    let t = and_then_some (λ t. option_map t.shape (nested_of ps t.depth bounds.0)) (geometry_type kind.0) shape.0
-    bounds.2 in
-    let x = map_some t.0.shape (nested_of ps t.0.depth bounds.0) shape.0 t.2 in
-    let type = and_then_some as_str (get (codes "type") d) kind.0 kind.1 in
-    let ms = and_then_some (geometry_with shape.0) (as_object d) g shape.2 in
-    let lod = and_then_some _ (option_and_then as_str (get_member (codes "lod") ms.0)) g ms.2 in
-    let level = and_then_some as_str (get_member (codes "lod") ms.0) lod.0 lod.1 in
-    let kept = map_some _ (kept_if kept_at_geometry (without_geometry_members ms.0)) g lod.2 in
-    let named = type_is kind.0 t.0 t.1 in
-    let is = object_is d ms.0 ms.1 in
-    let shaped : g.shape ≡ t.0.shape x.0 = ap (λ g. g.shape) kept.2 ∙ x.2 in
-    let same_name : shape_name g.shape ≡ kind.0 = ap shape_name shaped ∙ (named.1 x.0).0
-    ∙ sym ((bytes_eq-Decides kind.0 t.0.name).0 named.0) in
+    let p = geometry_parts ps d g h in
+    let t = and_then_some (λ t. option_map t.shape (nested_of ps t.depth p.boundaries)) (geometry_type p.kind) g.shape
+    p.shaped in
+    let x = map_some t.0.shape (nested_of ps t.0.depth p.boundaries) g.shape t.2 in
+    let type = and_then_some as_str (get (codes "type") d) p.kind p.typed in
+    let level = and_then_some as_str (get (codes "lod") d) g.lod p.detailed in
+    let named = type_is p.kind t.0 t.1 in
+    let is = object_is d p.members p.is_object in
+    let same_name : shape_name g.shape ≡ p.kind = ap shape_name x.2 ∙ (named.1 x.0).0
+    ∙ sym ((bytes_eq-Decides p.kind t.0.name).0 named.0) in
     record {
-      ms = ms.0;
+      ms = p.members;
       is = is;
-      type = member_of d ms.0 (codes "type") type.0 is type.1 ∙ ap Some (string_is type.0 kind.0 type.2)
+      type = member_of d p.members (codes "type") type.0 is type.1 ∙ ap Some (string_is type.0 p.kind type.2)
           ∙ ap (λ s. Some (string s)) (sym same_name);
-      lod = level.1 ∙ ap Some (string_is level.0 lod.0 level.2) ∙ ap (λ g. Some (string g.lod)) (sym kept.2);
-      extra = ap (λ g. g.extra) kept.2 ∙ kept_is kept_at_geometry (without_geometry_members ms.0) kept.0 kept.1;
-      bounds = bounds.0;
-      boundaries = member_of d ms.0 (codes "boundaries") bounds.0 is bounds.1;
-      plain = nested_plain ps t.0.depth bounds.0 x.0 x.1;
-      shows = λ vs show j read. nested_placed vs ps show t.0.depth j bounds.0 x.0 read x.1 ∙ (named.1 x.0).1
-          ∙ ap shown_shape (sym shaped);
+      lod = member_of d p.members (codes "lod") level.0 is level.1 ∙ ap Some (string_is level.0 g.lod level.2);
+      extra = kept_is kept_at_geometry (without_geometry_members p.members) g.extra p.kept;
+      bounds = p.boundaries;
+      boundaries = member_of d p.members (codes "boundaries") p.boundaries is p.bounded;
+      plain = nested_plain ps t.0.depth p.boundaries x.0 x.1;
+      shows = λ vs show j read. nested_placed vs ps show t.0.depth j p.boundaries x.0 read x.1 ∙ (named.1 x.0).1
+          ∙ ap shown_shape (sym x.2);
     }
 
 -- ---- what its boundaries show

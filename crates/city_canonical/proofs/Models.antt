@@ -31,12 +31,12 @@ use Rattle.city_doc.specs.Pool.{geometry_points, object_points, city_points, poo
 use Rattle.city_doc.specs.document.Ranges.{IsInRange}
 use Rattle.city_doc.specs.document.Canonical.{transform_data, vertex_data, vertices_data, tree_of}
 use Rattle.city_doc.specs.document.Cities.{entries_of, objects_of, city_of}
-use Rattle.city_doc.specs.document.Top.{same_text, is_text, frame_of_rest, without_top_members}
+use Rattle.city_doc.specs.document.Top.{same_text, is_text, without_top_members}
 use Rattle.city_doc.specs.object.Canonical.{objects_data}
 use Rattle.city_doc.specs.tree.Lists.{read_items}
 use Rattle.city_doc.specs.tree.Triples.{point_of, points_of}
 use Rattle.city_doc.proofs.Options.{and_then_some}
-use Rattle.city_doc.proofs.Laws.{in_turn, get_member-put_apart, ordered_put, stands_for}
+use Rattle.city_doc.proofs.Laws.{frame_parts, in_turn, get_member-put_apart, ordered_put, stands_for}
 use Rattle.city_canonical.specs.Placed.{or_empty, list_at}
 use Rattle.city_canonical.specs.Members.{IsInOrder, IsSameAt}
 use Rattle.city_canonical.specs.Same.{IsEachOnce, IsPart, IsUsed, IsSameObjectOrNone, object_at, IsSameModel}
@@ -49,7 +49,7 @@ use Rattle.city_canonical.proofs.Places.{Show, shown_shape, shows_read, shows_wr
 use Rattle.city_canonical.proofs.Plain.{ArePlain, vertices_plain, itself, plain_decoded}
 use Rattle.city_canonical.proofs.Vertices.{vertex_at, vertices_once}
 use Rattle.city_canonical.proofs.Used.{has_repeats, has_flat, shape_part, shown_at, entry_found}
-use Rattle.city_canonical.proofs.Transforms.{IsFrameOf, frame_parts, transform_same}
+use Rattle.city_canonical.proofs.Transforms.{IsFrameOf, frame_read, transform_same}
 
 -- ---- what a city was read of
 
@@ -82,19 +82,19 @@ text_is text (Some d) h = ap Some (text_same text d h)
 city_parts : (d : Data) (c : CityValue) → city_of d ≡ Some c → (ms : Members) × (d ≡ object ms) × IsCityOf ms c
 city_parts d c h =
     let s = stands_for d c h in
-    let top = and_then_some (λ top. frame_of_rest (without (codes "CityObjects") top)) (as_object d) c.0 s.frame in
-    let is = object_is d top.0 top.1 in
+    let frame = frame_parts d c.0 s.frame in
+    let is = object_is d frame.top frame.is_top in
     let texts = and_parts (is_text (codes "CityJSON") (get (codes "type") d))
     (is_text (codes "2.0") (get (codes "version") d)) s.json in
     let objects = and_then_some as_object (get (codes "CityObjects") d) _ s.objects in
     let vertices = and_then_some points_of (get (codes "vertices") d) _ s.points in
     let items = and_then_some (read_items point_of) (as_array vertices.0) _ vertices.2 in (
-      top.0,
+      frame.top,
       is,
       record {
         type = ap (get (codes "type")) (sym is) ∙ text_is (codes "CityJSON") (get (codes "type") d) texts.0;
         version = ap (get (codes "version")) (sym is) ∙ text_is (codes "2.0") (get (codes "version") d) texts.1;
-        frame = frame_parts top.0 c.0 top.2;
+        frame = frame_read d c.0 frame;
         objs = _;
         objects = ap (get (codes "CityObjects")) (sym is) ∙ objects.1 ∙ ap Some (object_is objects.0 _ objects.2);
         dvs = items.0;
@@ -129,7 +129,7 @@ top_read (json.object js) ms d is h =
 left_other : (name : List ℕ) (ms : Members) → same_id name (codes "CityObjects") ≡ false
     → same_id name (codes "vertices") ≡ false → same_id name (codes "transform") ≡ false
     → same_id name (codes "version") ≡ false → same_id name (codes "type") ≡ false
-    → get_member name (without_top_members (without (codes "CityObjects") ms)) ≡ get_member name ms
+    → get_member name (without_top_members ms) ≡ get_member name ms
 left_other name ms a b t v y =
     let rest = without (codes "CityObjects") ms in
     get_member-without name (codes "vertices")
@@ -138,7 +138,7 @@ left_other name ms a b t v y =
     ∙ get_member-without name (codes "type") (without (codes "transform") rest) y
     ∙ get_member-without name (codes "transform") rest t ∙ get_member-without name (codes "CityObjects") ms a
 
-left_ordered : (ms : Members) → AreOrdered ms → AreOrdered (without_top_members (without (codes "CityObjects") ms))
+left_ordered : (ms : Members) → AreOrdered ms → AreOrdered (without_top_members ms)
 left_ordered ms h =
     ordered_without (codes "vertices") _
     (ordered_without (codes "version") _

@@ -15,19 +15,17 @@ use Rattle.serde_json.specs.Written.{outline}
 use Rattle.serde_json.proofs.Numbers.{number_of-decimal}
 use Rattle.city_model.specs.declared.frame.Frame.{Frame}
 use Rattle.city_model.specs.Kept.{kept_at_top, kept_at_transform}
-use Rattle.city_model.specs.Members.{without}
-use Rattle.city_model.proofs.MemberLaws.{get_member-without}
 use Rattle.city_decimals.specs.Shapes.{is_tag, is_triple, is_frame, three, framed}
 use Rattle.city_decimals.specs.Encoded.{encoded}
 use Rattle.city_decimals.specs.Decoded.{decoded, out_of_form}
 use Rattle.city_decimals.specs.Arranged.{arranged}
 use Rattle.city_decimals.proofs.Kept.{kept, transform_kept}
 use Rattle.city_doc.specs.document.Canonical.{transform_data}
-use Rattle.city_doc.specs.document.Top.{triple_at, without_transform_members, more_of, without_top_members, frame_with}
-use Rattle.city_doc.specs.document.Top.{frame_of_rest}
+use Rattle.city_doc.specs.document.Top.{triple_at, without_transform_members, without_top_members}
 use Rattle.city_doc.specs.tree.Members.{kept_if}
 use Rattle.city_doc.specs.tree.Triples.{triple_of, triple_data}
-use Rattle.city_doc.proofs.Options.{and_then_some, map_some}
+use Rattle.city_doc.proofs.Options.{and_then_some}
+use Rattle.city_doc.proofs.Laws.{HasFrameParts}
 use Rattle.city_canonical.proofs.Members.{member_read, in_frame, in_plain, value_at}
 use Rattle.city_canonical.proofs.Objects.{object_is, kept_is, object_inj, object_read, found_read}
 use Rattle.city_canonical.proofs.Plain.{triple_is, itself}
@@ -42,28 +40,22 @@ pub record IsFrameOf (ms : Members) (f : Frame) : Type 0 where
   pub scale : triple_at (codes "scale") transform ≡ Some f.scale
   pub translate : triple_at (codes "translate") transform ≡ Some f.translate
   pub more : f.more ≡ without_transform_members members
-  pub extra : f.extra ≡ without_top_members (without (codes "CityObjects") ms)
+  pub extra : f.extra ≡ without_top_members ms
 
-pub frame_parts : (ms : Members) (f : Frame) → frame_of_rest (without (codes "CityObjects") ms) ≡ Some f
-    → IsFrameOf ms f
-frame_parts ms f h =
-    let rest = without (codes "CityObjects") ms in
-    let kept = and_then_some _ (kept_if kept_at_top (without_top_members rest)) f h in
-    let t = and_then_some (frame_with kept.0) (get_member (codes "transform") rest) f kept.2 in
-    let scale = and_then_some _ (triple_at (codes "scale") t.0) f t.2 in
-    let translate = and_then_some _ (triple_at (codes "translate") t.0) f scale.2 in
-    let more = map_some _ (more_of t.0) f translate.2 in
+pub frame_read : (d : Data) (f : Frame) (p : HasFrameParts d f) → IsFrameOf p.top f
+frame_read d f p =
     let members =
-    and_then_some (λ ms. kept_if kept_at_transform (without_transform_members ms)) (as_object t.0) more.0 more.1 in
+    and_then_some (λ ms. kept_if kept_at_transform (without_transform_members ms)) (as_object p.transform) f.more p.more
+    in
     record {
-      transform = t.0;
-      there = sym (get_member-without (codes "transform") (codes "CityObjects") ms refl) ∙ t.1;
+      transform = p.transform;
+      there = ap (get (codes "transform")) (sym (object_is d p.top p.is_top)) ∙ p.there;
       members = members.0;
-      is = object_is t.0 members.0 members.1;
-      scale = scale.1 ∙ ap (λ f. Some f.scale) (sym more.2);
-      translate = translate.1 ∙ ap (λ f. Some f.translate) (sym more.2);
-      more = ap (λ f. f.more) more.2 ∙ kept_is kept_at_transform (without_transform_members members.0) more.0 members.2;
-      extra = ap (λ f. f.extra) more.2 ∙ kept_is kept_at_top (without_top_members rest) kept.0 kept.1;
+      is = object_is p.transform members.0 members.1;
+      scale = p.scale;
+      translate = p.translate;
+      more = kept_is kept_at_transform (without_transform_members members.0) f.more members.2;
+      extra = kept_is kept_at_top (without_top_members p.top) f.extra p.extra;
     }
 
 -- ---- in a frame

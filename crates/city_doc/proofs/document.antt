@@ -1,9 +1,11 @@
 -- What the proofs of several functions of src/document/ use.
 mod ArrangedCities
+pub mod BuiltFrames
 mod BuiltObjects
 pub mod Cities
 mod CityNests
 pub mod EntriesRead
+pub mod FrameParts
 mod FramesRead
 mod IntegralTrees
 pub mod KeptMembers

@@ -1,17 +1,36 @@
--- Which members are kept at each place of a document: those that this profile doesn't read
+-- Which members are read at each place of a document, and which are kept: those that this profile doesn't read
 -- (CityJSON 2.0, sections 2, 3 and 5).
-use Rattle.std.specs.Prelude.{ℕ, List, Bool, true, false, ◌&&◌, ◌||◌, not, Option, Some, None, codes, is_some}
-use Rattle.std.specs.Prelude.{is_none}
+use Rattle.std.specs.Prelude.{ℕ, List, [], ◌∷◌, Bool, true, false, ◌&&◌, ◌||◌, not, Option, Some, None, codes}
+use Rattle.std.specs.Prelude.{is_some, is_none}
+use Rattle.std.specs.List.{list_all}
 use Rattle.serde_json.specs.Data.{Data, Items, no_items, item, Members, no_members, member}
 use Rattle.serde_json.specs.Find.{get, get_member, as_array, as_object}
 use Rattle.city_model.specs.Integral.{members_integral}
+
+-- ---- the names of the members that are read; all others are kept
+
+abbrev pub top_members : List (List ℕ)
+top_members =
+    codes "CityObjects" ∷ codes "transform" ∷ codes "type" ∷ codes "version" ∷ codes "vertices" ∷ []
+
+abbrev pub transform_members : List (List ℕ)
+transform_members = codes "scale" ∷ codes "translate" ∷ []
+
+abbrev pub object_members : List (List ℕ)
+object_members = codes "type" ∷ codes "geometry" ∷ codes "parents" ∷ codes "children" ∷ []
+
+abbrev pub geometry_members : List (List ℕ)
+geometry_members = codes "type" ∷ codes "lod" ∷ codes "boundaries" ∷ []
 
 -- no member has this name
 abbrev pub lacks : List ℕ → Members → Bool
 lacks name ms = is_none (get_member name ms)
 
-abbrev pub lacks_both : List ℕ → List ℕ → Members → Bool
-lacks_both name other ms = lacks name ms && lacks other ms
+-- no member has one of these names
+abbrev pub lacks_each : List (List ℕ) → Members → Bool
+lacks_each names ms = list_all (λ name. lacks name ms) names
+
+-- ---- `extensions` and `address`, which are kept under a condition
 
 abbrev pub has_no_member : Members → Bool
 has_no_member no_members = true
@@ -45,21 +64,19 @@ abbrev pub has_location : Option Data → Bool
 has_location None = false
 has_location (Some d) = is_located d || any_located_in (as_array d)
 
+-- ---- the members that are kept
+
 abbrev pub kept_at_top : Members → Bool
 kept_at_top ms =
-    members_integral ms && lacks_both (codes "type") (codes "version") ms
-    && lacks_both (codes "transform") (codes "CityObjects") ms && lacks (codes "vertices") ms
+    members_integral ms && lacks_each top_members ms
     && is_empty_object_or_absent (get_member (codes "extensions") ms)
 
 abbrev pub kept_at_transform : Members → Bool
-kept_at_transform ms = members_integral ms && lacks_both (codes "scale") (codes "translate") ms
+kept_at_transform ms = members_integral ms && lacks_each transform_members ms
 
 abbrev pub kept_at_object : Members → Bool
 kept_at_object ms =
-    members_integral ms && lacks_both (codes "type") (codes "geometry") ms
-    && lacks_both (codes "parents") (codes "children") ms
-    && not (has_location (get_member (codes "address") ms))
+    members_integral ms && lacks_each object_members ms && not (has_location (get_member (codes "address") ms))
 
 abbrev pub kept_at_geometry : Members → Bool
-kept_at_geometry ms =
-    members_integral ms && lacks_both (codes "type") (codes "lod") ms && lacks (codes "boundaries") ms
+kept_at_geometry ms = members_integral ms && lacks_each geometry_members ms

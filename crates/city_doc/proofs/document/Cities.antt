@@ -9,7 +9,9 @@ use Rattle.city_model.specs.CityMap.{Entries}
 use Rattle.city_model.specs.Members.{without}
 use Rattle.city_doc.specs.document.Cities.{city_of, is_city_json, points_in, entries_of, entries_in, objects_of}
 use Rattle.city_doc.specs.document.Faults.{members_of, objects_in}
-use Rattle.city_doc.specs.document.Top.{frame_of, frame_of_rest}
+use Rattle.city_doc.specs.document.Top.{frame_of}
+use Rattle.city_doc.specs.inside.document.Frames.{frame_of_rest}
+use Rattle.city_doc.proofs.document.BuiltFrames.{frame_is}
 use Rattle.city_doc.proofs.document.Right.{IsRight, city_json}
 use Rattle.city_doc.proofs.tree.Trees.{object_is}
 
@@ -33,7 +35,7 @@ module _ {P E F O : Type 0} (made : E → O) where
 
 module _ (d : Data) (top : Members) (is_top : as_object d ≡ Some top) where
   frame_at : frame_of d ≡ frame_of_rest (without (codes "CityObjects") top)
-  frame_at = ap (option_and_then (λ ms. frame_of_rest (without (codes "CityObjects") ms))) is_top
+  frame_at = frame_is d ∙ ap (option_and_then (λ ms. frame_of_rest (without (codes "CityObjects") ms))) is_top
 
   entries_at : (points : List Point) (o : Option Members)
       → option_and_then as_object (get_member (codes "CityObjects") top) ≡ o

@@ -1,17 +1,15 @@
 -- A city that a text stands for is written so that it nests no deeper than what is read.
-use Rattle.std.proofs.Common.{◌≡◌, ℕ, suc, ◌≤◌, List, [], ◌∷◌, ℤ, Bool, true, false, Option, Some, None, codes, subst}
-use Rattle.std.proofs.Common.{arith}
+use Rattle.std.proofs.Common.{◌≡◌, ℕ, suc, ◌≤◌, List, [], ◌∷◌, ℤ, Bool, true, false, Option, Some, None, codes, arith}
 use Rattle.std.specs.Prelude.{option_map, option_and_then, if◌then◌else◌}
 use Rattle.std.specs.FinMap.{entries}
 use Rattle.serde_json.specs.Data.{Data, string, Members, no_members, put, depth, members_depth}
-use Rattle.serde_json.specs.Find.{get_member, as_object}
+use Rattle.serde_json.specs.Find.{as_object, get}
 use Rattle.serde_json.specs.Read.{max_depth}
 use Rattle.serde_json.proofs.Nesting.{depth-read}
 use Rattle.city_model.specs.CityMap.{Entries, CityValue}
 use Rattle.city_model.specs.declared.frame.Frame.{Frame}
 use Rattle.city_model.specs.declared.object.Point.{Point}
-use Rattle.city_model.specs.Kept.{kept_at_top, kept_at_transform}
-use Rattle.city_model.specs.Members.{without}
+use Rattle.city_model.specs.Kept.{kept_at_top, kept_at_transform, top_members, transform_members}
 use Rattle.city_model.specs.declared.object.Object.{Object}
 use Rattle.city_doc.specs.tree.Members.{kept_if}
 use Rattle.city_doc.specs.tree.Triples.{integer_data, triple_data}
@@ -19,12 +17,13 @@ use Rattle.city_doc.specs.object.Canonical.{object_data, with_objects, objects_d
 use Rattle.city_doc.specs.document.Canonical.{transform_data, vertex_data, vertices_data, frame_members, numbered_tree}
 use Rattle.city_doc.specs.document.Canonical.{tree_of}
 use Rattle.city_doc.specs.document.Cities.{is_city_json, points_in, entries_in, objects_of, city_of, IsTextOfCity}
-use Rattle.city_doc.specs.document.Top.{triple_at, without_transform_members, without_top_members, more_of, frame_with}
-use Rattle.city_doc.specs.document.Top.{frame_of_rest, frame_of}
+use Rattle.city_doc.specs.document.Top.{without_transform_members, more_of, frame_of, without_top_members}
 use Rattle.city_doc.specs.Pool.{pool_of}
-use Rattle.city_doc.proofs.document.NestsNoDeeper.{Holds, holds_then, holds_map, put_depth, without_depth, kept_depth}
-use Rattle.city_doc.proofs.document.NestsNoDeeper.{member_depth, object_members_depth, list_depth, objects_within}
+use Rattle.city_doc.proofs.document.NestsNoDeeper.{Holds, holds_then, holds_map, put_depth, kept_depth}
+use Rattle.city_doc.proofs.document.NestsNoDeeper.{object_members_depth, list_depth, objects_within, get_depth}
+use Rattle.city_doc.proofs.document.NestsNoDeeper.{held, holds_where, without_each_depth}
 use Rattle.city_doc.proofs.document.Listings.{OfEach, of_each_listed}
+use Rattle.city_doc.proofs.document.FrameParts.{frame_parts}
 
 triple_depth : (zs : List ℤ) → depth (triple_data zs) ≤ 1
 triple_depth zs = omega (arith, list_depth integer_data 0 (λ z. omega arith) zs)
@@ -38,48 +37,26 @@ module _ (k : ℕ) (deep : 1 ≤ k) where
   abbrev IsFrameWithin : Frame → Type 0
   IsFrameWithin f = (members_depth f.extra ≤ suc k) × (members_depth f.more ≤ k)
 
-  frame_parts : (extra : Members) (scale translate : Option (List ℤ)) (more : Option Members)
-      → members_depth extra ≤ suc k → Holds (λ ms. members_depth ms ≤ k) more
-      → Holds IsFrameWithin
-      (option_and_then
-      (λ scale.
-      option_and_then
-      (λ translate. option_map (λ more. record { scale = scale; translate = translate; more = more; extra = extra })
-      more) translate) scale)
-  frame_parts extra None translate more h r = tt
-  frame_parts extra (Some s) None more h r = tt
-  frame_parts extra (Some s) (Some t) None h r = tt
-  frame_parts extra (Some s) (Some t) (Some ms) h r = (h, r)
-
-  frame_with_within : (extra : Members) → members_depth extra ≤ suc k → (transform : Data) → depth transform ≤ suc k
-      → Holds IsFrameWithin (frame_with extra transform)
-  frame_with_within extra h transform within =
-      frame_parts extra (triple_at (codes "scale") transform) (triple_at (codes "translate") transform)
-      (more_of transform) h
-      (holds_then (λ ms. members_depth ms ≤ k) (λ ms. members_depth ms ≤ k)
+  more_within : (transform : Data) → depth transform ≤ suc k → Holds (λ ms. members_depth ms ≤ k) (more_of transform)
+  more_within transform within =
+      holds_then (λ ms. members_depth ms ≤ k) (λ ms. members_depth ms ≤ k)
       (λ ms. kept_if kept_at_transform (without_transform_members ms))
       (λ ms below. kept_depth kept_at_transform (without_transform_members ms) k
-      (without_depth (codes "translate") _ k (without_depth (codes "scale") ms k below)))
-      (as_object transform) (object_members_depth transform k within))
-
-  frame_of_rest_within : (rest : Members) → members_depth rest ≤ suc k → Holds IsFrameWithin (frame_of_rest rest)
-  frame_of_rest_within rest h =
-      holds_then (λ extra. members_depth extra ≤ suc k) IsFrameWithin
-      (λ extra. option_and_then (frame_with extra) (get_member (codes "transform") rest))
-      (λ extra below. holds_then (λ d. depth d ≤ suc k) IsFrameWithin (frame_with extra) (frame_with_within extra below)
-      (get_member (codes "transform") rest) (member_depth (codes "transform") rest (suc k) h))
-      (kept_if kept_at_top (without_top_members rest))
-      (kept_depth kept_at_top (without_top_members rest) (suc k)
-      (without_depth (codes "vertices") _ (suc k)
-      (without_depth (codes "version") _ (suc k)
-      (without_depth (codes "type") _ (suc k) (without_depth (codes "transform") rest (suc k) h)))))
+      (without_each_depth transform_members ms k below))
+      (as_object transform) (object_members_depth transform k within)
 
   frame_within : (d : Data) → depth d ≤ suc (suc k) → Holds IsFrameWithin (frame_of d)
   frame_within d h =
-      holds_then (λ ms. members_depth ms ≤ suc k) IsFrameWithin
-      (λ top. frame_of_rest (without (codes "CityObjects") top))
-      (λ top within. frame_of_rest_within (without (codes "CityObjects") top)
-      (without_depth (codes "CityObjects") top (suc k) within)) (as_object d) (object_members_depth d (suc k) h)
+      holds_where IsFrameWithin (frame_of d) (λ f is.
+      let p = frame_parts d f is in
+      let top = held (λ ms. members_depth ms ≤ suc k) (as_object d) p.top p.is_top (object_members_depth d (suc k) h) in
+      let transform = held (λ e. depth e ≤ suc k) (get (codes "transform") d) p.transform p.there
+      (get_depth (codes "transform") d (suc k) h) in (
+        held (λ kept. members_depth kept ≤ suc k) _ f.extra p.extra
+            (kept_depth kept_at_top (without_top_members p.top) (suc k)
+            (without_each_depth top_members p.top (suc k) top)),
+        held (λ ms. members_depth ms ≤ k) _ f.more p.more (more_within p.transform transform),
+      ))
 
   transform_depth : (f : Frame) → IsFrameWithin f → depth (transform_data f) ≤ suc k
   transform_depth f h =
@@ -145,9 +122,6 @@ module _ (m : ℕ) (deep : 5 ≤ m) (pool : List Point) where
   city_within d h =
       city_parts (is_city_json d) (points_in d) (λ ps. entries_in ps d) (frame_of d)
       (λ ps. objects_within pool ps m deep d h) (frame_within (suc (suc (suc m))) (omega arith) d h)
-
-held : {A : Type 0} (P : A → Type 0) (o : Option A) (x : A) → o ≡ Some x → Holds P o → P x
-held P o x e h = subst (Holds P) e h
 
 -- the canonical tree of a city that was read may be read
 pub written_within : (text : List ℕ) (c : CityValue) → IsTextOfCity text c → depth (tree_of c) ≤ max_depth

@@ -6,17 +6,18 @@ use Rattle.serde_json.specs.Data.{Data, string, Members, put}
 use Rattle.serde_json.specs.Find.{get_member}
 use Rattle.serde_json.proofs.Views.{get_member-put}
 use Rattle.city_model.specs.declared.frame.Frame.{Frame}
-use Rattle.city_model.specs.Kept.{lacks, lacks_both, is_empty_object_or_absent, kept_at_top, kept_at_transform}
+use Rattle.city_model.specs.Kept.{top_members, transform_members, lacks_each, is_empty_object_or_absent, kept_at_top}
+use Rattle.city_model.specs.Kept.{kept_at_transform}
 use Rattle.city_model.specs.Members.{without}
 use Rattle.city_model.specs.Integral.{members_integral}
-use Rattle.city_doc.specs.document.Top.{without_transform_members, without_top_members, frame_with, frame_of_rest}
+use Rattle.city_doc.specs.document.Top.{without_transform_members}
+use Rattle.city_doc.specs.inside.document.Frames.{without_rest_members, frame_with, frame_of_rest}
 use Rattle.city_doc.specs.tree.Triples.{triple_data}
 use Rattle.city_doc.specs.document.Canonical.{transform_data, frame_members}
 use Rattle.city_doc.specs.document.Ranges.{is_i64_triple}
 use Rattle.city_doc.proofs.document.KeptMembers.{kept_all}
-use Rattle.city_doc.proofs.object.ObjectsRead.{none_of}
 use Rattle.city_doc.proofs.tree.PutMembers.{get_member-put_apart, without-three, without-four, without-put}
-use Rattle.city_doc.proofs.tree.WithoutMembers.{without-swap}
+use Rattle.city_doc.proofs.tree.WithoutMembers.{without-swap, each_lacking}
 use Rattle.city_doc.proofs.tree.TriplesRead.{triple_read}
 
 -- ---- the transform
@@ -27,9 +28,8 @@ pub record LacksTransformMembers (ms : Members) : Type 0 where
 
 pub transform_members_lacking : (ms : Members) → kept_at_transform ms ≡ true → LacksTransformMembers ms
 transform_members_lacking ms h =
-    let both = and_parts (lacks (codes "scale") ms) (lacks (codes "translate") ms)
-    (and_parts (members_integral ms) (lacks_both (codes "scale") (codes "translate") ms) h).1 in
-    record { no_scale = none_of _ both.0; no_translate = none_of _ both.1 }
+    let all = each_lacking transform_members ms (and_parts (members_integral ms) (lacks_each transform_members ms) h).1 in
+    record { no_scale = all.0; no_translate = all.1.0 }
 
 transform_left : (more : Members) (scale translate : Data) → kept_at_transform more ≡ true
     → without_transform_members (put (codes "translate") translate (put (codes "scale") scale more)) ≡ more
@@ -64,29 +64,23 @@ transform_read f in_scale in_translate keeps =
 -- ---- the top
 
 pub record LacksTopMembers (ms : Members) : Type 0 where
+  pub no_objects : get_member (codes "CityObjects") ms ≡ None
+  pub no_transform : get_member (codes "transform") ms ≡ None
   pub no_type : get_member (codes "type") ms ≡ None
   pub no_version : get_member (codes "version") ms ≡ None
-  pub no_transform : get_member (codes "transform") ms ≡ None
-  pub no_objects : get_member (codes "CityObjects") ms ≡ None
   pub no_vertices : get_member (codes "vertices") ms ≡ None
 
 pub top_members_lacking : (ms : Members) → kept_at_top ms ≡ true → LacksTopMembers ms
 top_members_lacking ms h =
-    let extensions = is_empty_object_or_absent (get_member (codes "extensions") ms) in
-    let named = lacks_both (codes "type") (codes "version") ms in
-    let placed = lacks_both (codes "transform") (codes "CityObjects") ms in
-    let all = and_parts (members_integral ms && named && placed && lacks (codes "vertices") ms) extensions h in
-    let three = and_parts (members_integral ms && named && placed) (lacks (codes "vertices") ms) all.0 in
-    let two = and_parts (members_integral ms && named) placed three.0 in
-    let one = and_parts (members_integral ms) named two.0 in
-    let first = and_parts (lacks (codes "type") ms) (lacks (codes "version") ms) one.1 in
-    let second = and_parts (lacks (codes "transform") ms) (lacks (codes "CityObjects") ms) two.1 in
+    let empty = is_empty_object_or_absent (get_member (codes "extensions") ms) in
+    let both = and_parts (members_integral ms && lacks_each top_members ms) empty h in
+    let all = each_lacking top_members ms (and_parts (members_integral ms) (lacks_each top_members ms) both.0).1 in
     record {
-      no_type = none_of _ first.0;
-      no_version = none_of _ first.1;
-      no_transform = none_of _ second.0;
-      no_objects = none_of _ second.1;
-      no_vertices = none_of _ three.1;
+      no_objects = all.0;
+      no_transform = all.1.0;
+      no_type = all.1.1.0;
+      no_version = all.1.1.1.0;
+      no_vertices = all.1.1.1.1.0;
     }
 
 module _ (f : Frame) (vertices : Data) where
@@ -146,7 +140,7 @@ module _ (f : Frame) (vertices : Data) where
         ∙ absent.no_objects
 
     -- what is left of them are the kept ones
-    top_left : without_top_members pooled ≡ f.extra
+    top_left : without_rest_members pooled ≡ f.extra
     top_left =
         without-four (codes "vertices") (codes "version") (codes "type") (codes "transform") pooled
         ∙ ap (λ ms. without (codes "transform") (without (codes "type") (without (codes "version") ms)))

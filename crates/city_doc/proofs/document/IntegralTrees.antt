@@ -15,8 +15,9 @@ use Rattle.city_model.specs.declared.object.Geometry.{Geometry}
 use Rattle.city_model.specs.declared.object.Object.{Object}
 use Rattle.city_model.specs.declared.object.Point.{Point}
 use Rattle.city_model.specs.declared.object.Shape.{Shape}
-use Rattle.city_model.specs.Kept.{lacks, lacks_both, has_location, is_empty_object_or_absent, kept_at_top}
-use Rattle.city_model.specs.Kept.{kept_at_transform, kept_at_object, kept_at_geometry}
+use Rattle.city_model.specs.Kept.{top_members, transform_members, object_members, geometry_members, lacks_each}
+use Rattle.city_model.specs.Kept.{has_location, is_empty_object_or_absent, kept_at_top, kept_at_transform}
+use Rattle.city_model.specs.Kept.{kept_at_object, kept_at_geometry}
 use Rattle.city_model.specs.Shells.{same_point}
 use Rattle.city_model.specs.Types.{name_of}
 use Rattle.city_model.specs.Integral.{is_integral, items_integral, members_integral}
@@ -70,19 +71,13 @@ vertex_integral p h =
 -- ---- geometries and objects
 
 pub at_geometry : (ms : Members) → kept_at_geometry ms ≡ true → members_integral ms ≡ true
-at_geometry ms h =
-    (and_parts (members_integral ms) (lacks_both (codes "type") (codes "lod") ms)
-    (and_parts (members_integral ms && lacks_both (codes "type") (codes "lod") ms) (lacks (codes "boundaries") ms)
-    h).0).0
+at_geometry ms h = (and_parts (members_integral ms) (lacks_each geometry_members ms) h).0
 
 pub at_object : (ms : Members) → kept_at_object ms ≡ true → members_integral ms ≡ true
 at_object ms h =
-    let own = lacks_both (codes "type") (codes "geometry") ms in
-    let relations = lacks_both (codes "parents") (codes "children") ms in
-    (and_parts (members_integral ms) own
-    (and_parts (members_integral ms && own) relations
-    (and_parts (members_integral ms && own && relations) (not (has_location (get_member (codes "address") ms)))
-    h).0).0).0
+    (and_parts (members_integral ms) (lacks_each object_members ms)
+    (and_parts (members_integral ms && lacks_each object_members ms)
+    (not (has_location (get_member (codes "address") ms))) h).0).0
 
 module _ (pool : List Point) (fewer : length pool < 2 ^ 63) where
   point_integral : (p : Point) → is_integral (point_data pool p) ≡ true
@@ -131,17 +126,13 @@ module _ (pool : List Point) (fewer : length pool < 2 ^ 63) where
 -- ---- the top
 
 pub at_transform : (ms : Members) → kept_at_transform ms ≡ true → members_integral ms ≡ true
-at_transform ms h = (and_parts (members_integral ms) (lacks_both (codes "scale") (codes "translate") ms) h).0
+at_transform ms h = (and_parts (members_integral ms) (lacks_each transform_members ms) h).0
 
 pub at_top : (ms : Members) → kept_at_top ms ≡ true → members_integral ms ≡ true
 at_top ms h =
-    let named = lacks_both (codes "type") (codes "version") ms in
-    let placed = lacks_both (codes "transform") (codes "CityObjects") ms in
-    let three = and_parts (members_integral ms && named && placed && lacks (codes "vertices") ms)
-    (is_empty_object_or_absent (get_member (codes "extensions") ms)) h in
-    (and_parts (members_integral ms) named
-    (and_parts (members_integral ms && named) placed
-    (and_parts (members_integral ms && named && placed) (lacks (codes "vertices") ms) three.0).0).0).0
+    (and_parts (members_integral ms) (lacks_each top_members ms)
+    (and_parts (members_integral ms && lacks_each top_members ms)
+    (is_empty_object_or_absent (get_member (codes "extensions") ms)) h).0).0
 
 triple_numbers : (zs : List ℤ) → is_i64_triple zs ≡ true → list_all is_i64 zs ≡ true
 triple_numbers zs h = (and_parts _ (list_all is_i64 zs) h).1

@@ -1,18 +1,15 @@
 -- A tree of whole numbers that stands for a lawful city has no fault, from its top to its objects.
-use Rattle.std.proofs.Common.{◌≡◌, ◌⊎◌, inl, inr, ℕ, List, [], ◌∷◌, Bool, true, true≢false, Option, Some, None, Result}
-use Rattle.std.proofs.Common.{Ok, Err, refl, sym, ap, subst, ◌∙◌, arith}
+use Rattle.std.proofs.Common.{◌≡◌, true≢false, ◌⊎◌, inl, inr, ℕ, List, [], ◌∷◌, Bool, true, Option, Some, None, Result, Ok, Err}
+use Rattle.std.proofs.Common.{refl, sym, ap, subst, ◌∙◌, arith}
 use Rattle.std.specs.Prelude.{◌&&◌, IfErr, length, option_and_then, option_map, is_some, codes}
 use Rattle.std.proofs.lemmas.Bool.{and_from, and_parts}
 use Rattle.serde_json.specs.Data.{Data, Items, no_items, item, Members, no_members, member}
 use Rattle.serde_json.specs.Find.{get, get_member, at, as_array, as_object}
-use Rattle.city_model.specs.declared.frame.Frame.{Frame}
 use Rattle.city_model.specs.declared.object.Point.{Point}
 use Rattle.city_model.specs.CityMap as city
-use Rattle.city_model.specs.Kept.{lacks, lacks_both, kept_at_top, is_empty_object_or_absent}
-use Rattle.city_model.specs.Members.{without}
+use Rattle.city_model.specs.Kept.{kept_at_top, is_empty_object_or_absent, lacks_each, top_members}
 use Rattle.city_model.specs.Relations.{IsLawful}
 use Rattle.city_model.specs.Integral.{is_integral, members_integral}
-use Rattle.city_model.proofs.MemberLaws.{get_member-without}
 use Rattle.city_model.specs.CityMap.{CityValue}
 use Rattle.city_doc.specs.declared.fault.ReadFault.{ReadFault}
 use Rattle.city_doc.specs.declared.fault.ReadFault.TheVariants.{OutOfMemory, TooLong, NotJson, NotWhole, NotCityJson}
@@ -24,9 +21,8 @@ use Rattle.city_doc.specs.document.CityFaults.{or_empty}
 use Rattle.city_doc.specs.document.Cities.{is_city_json, points_in, entries_of, entries_in, city_of, objects_of}
 use Rattle.city_doc.specs.document.Cities.{IsAdmitted}
 use Rattle.city_doc.specs.document.Faults.{members_of, objects_in, vertices_in, is_unsupported, StandsIn, DocumentFault}
-use Rattle.city_doc.specs.document.Top.{is_text, has_triple, triple_at, is_transform, all_objects, are_all_objects}
-use Rattle.city_doc.specs.document.Top.{are_objects, are_vertices, first_wrong, wrong_member, frame_with, frame_of_rest}
-use Rattle.city_doc.specs.document.Top.{frame_of, without_top_members}
+use Rattle.city_doc.specs.document.Top.{is_text, has_triple, is_transform, all_objects, are_all_objects, are_objects}
+use Rattle.city_doc.specs.document.Top.{are_vertices, first_wrong, wrong_member, frame_of, without_top_members}
 use Rattle.city_doc.specs.object.Faults.{is_unknown_type, is_bad_geometry, has_bad_vertex}
 use Rattle.city_doc.specs.tree.Triples.{integral_at, triple_of, point_of, points_of, all_triples, are_all_triples}
 use Rattle.city_doc.proofs.document.Cities.{get-object}
@@ -37,6 +33,8 @@ use Rattle.city_doc.proofs.document.NoFault.{read_as, no_object, no_bad_ring, no
 use Rattle.city_doc.proofs.OneValue.{one_tree}
 use Rattle.city_doc.proofs.Options.{and_then_some, map_some, if_some}
 use Rattle.city_doc.proofs.document.Right.{three_some}
+use Rattle.city_doc.proofs.document.FrameParts.{frame_parts}
+use Rattle.city_doc.proofs.tree.WithoutMembers.{get_member-without_each}
 
 -- ---- the parts of a city's tree
 
@@ -97,49 +95,14 @@ vertices_right None ps h = absurd (let no : ⊥ = cc in no)
 vertices_right (Some v) ps h = let ds = and_then_some (read_items point_of) (as_array v) ps h in ap are_all_triples ds.1
     ∙ triples ds.0 ps ds.2
 
--- the members of the top that a frame is read of
-record HasFrameParts (top : Members) : Type 0 where
-  transform : is_transform (get_member (codes "transform") top) ≡ true
-  extensions : is_empty_object_or_absent (get_member (codes "extensions") top) ≡ true
-
-last_of_five : (a b c e f : Bool) → (a && b && c && e && f) ≡ true → f ≡ true
-last_of_five a b c e f h = (and_parts (a && b && c && e) f h).1
-
-extensions_stay : (top : Members)
-    → get_member (codes "extensions") (without_top_members (without (codes "CityObjects") top))
-    ≡ get_member (codes "extensions") top
-extensions_stay top =
-    let a = without (codes "CityObjects") top in
-    let b = without (codes "transform") a in
-    let c = without (codes "type") b in
-    let e = without (codes "version") c in
-    let name = codes "extensions" in
-    get_member-without name (codes "vertices") e refl ∙ get_member-without name (codes "version") c refl
-    ∙ get_member-without name (codes "type") b refl
-    ∙ get_member-without name (codes "transform") a refl ∙ get_member-without name (codes "CityObjects") top refl
-
-frame_parts : (top : Members) (f : Frame) → frame_of_rest (without (codes "CityObjects") top) ≡ Some f
-    → HasFrameParts top
-frame_parts top f h =
-    let rest = without (codes "CityObjects") top in
-    let kept = and_then_some _ (kept_if kept_at_top (without_top_members rest)) f h in
-    let t = and_then_some (frame_with kept.0) (get_member (codes "transform") rest) f kept.2 in
-    let scale = and_then_some _ (triple_at (codes "scale") t.0) f t.2 in
-    let translate = and_then_some _ (triple_at (codes "translate") t.0) f scale.2 in
-    let there : get_member (codes "transform") top ≡ Some t.0 =
-    sym (get_member-without (codes "transform") (codes "CityObjects") top refl) ∙ t.1 in
-    let keeps = kept_passes kept_at_top (without_top_members rest) kept.0 kept.1 in
-    record {
-      transform = ap is_transform there
-          ∙ and_from (has_triple (codes "scale") t.0) (has_triple (codes "translate") t.0) (ap is_some scale.1)
-          (ap is_some translate.1);
-      extensions = ap is_empty_object_or_absent (sym (extensions_stay top))
-          ∙ last_of_five (members_integral (without_top_members rest))
-          (lacks_both (codes "type") (codes "version") (without_top_members rest))
-          (lacks_both (codes "transform") (codes "CityObjects") (without_top_members rest))
-          (lacks (codes "vertices") (without_top_members rest))
-          (is_empty_object_or_absent (get_member (codes "extensions") (without_top_members rest))) keeps;
-    }
+-- the kept members of the top have no other `extensions` than it has
+extensions_right : (top kept : Members) → kept_if kept_at_top (without_top_members top) ≡ Some kept
+    → is_empty_object_or_absent (get_member (codes "extensions") top) ≡ true
+extensions_right top kept h =
+    let left = without_top_members top in
+    ap is_empty_object_or_absent (sym (get_member-without_each top_members (codes "extensions") top refl))
+    ∙ (and_parts (members_integral left && lacks_each top_members left)
+    (is_empty_object_or_absent (get_member (codes "extensions") left)) (kept_passes kept_at_top left kept h)).1
 
 none_wrong : (a b c e f g : Bool) → a ≡ true → b ≡ true → c ≡ true → e ≡ true → f ≡ true → g ≡ true
     → first_wrong
@@ -151,14 +114,16 @@ right : (d : Data) (c : CityValue) → StandsFor d c → wrong_member d ≡ None
 right d c h =
     let json = and_parts (is_text (codes "CityJSON") (get (codes "type") d))
     (is_text (codes "2.0") (get (codes "version") d)) h.json in
-    let top = and_then_some (λ ms. frame_of_rest (without (codes "CityObjects") ms)) (as_object d) c.0 h.frame in
-    let parts = frame_parts top.0 c.0 top.2 in
+    let p = frame_parts d c.0 h.frame in
     none_wrong _ _ (is_transform (get (codes "transform") d)) (are_objects (get (codes "CityObjects") d))
     (are_vertices (get (codes "vertices") d)) (is_empty_object_or_absent (get (codes "extensions") d)) json.0 json.1
-    (ap is_transform (get-object (codes "transform") d top.0 top.1) ∙ parts.transform) (ap are_all_objects h.objects
+    (ap is_transform p.there ∙ and_from (has_triple (codes "scale") p.transform)
+    (has_triple (codes "translate") p.transform) (ap is_some p.scale) (ap is_some p.translate))
+    (ap are_all_objects h.objects
     ∙ all_are_objects (vertices_in d) (objects_in d) h.list h.entries)
     (vertices_right (get (codes "vertices") d) (vertices_in d) h.points)
-    (ap is_empty_object_or_absent (get-object (codes "extensions") d top.0 top.1) ∙ parts.extensions)
+    (ap is_empty_object_or_absent (get-object (codes "extensions") d p.top p.is_top)
+    ∙ extensions_right p.top c.0.extra p.extra)
 
 -- ---- no fault
 

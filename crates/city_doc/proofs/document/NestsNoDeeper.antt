@@ -1,12 +1,12 @@
 -- The canonical tree of the city that a tree stands for nests no deeper than that tree, or than the deepest boundaries.
 use Rattle.std.proofs.Common.{ℕ, zero, suc, ◌≤◌, List, [], ◌∷◌, map, Bool, true, false, Option, Some, None, Ordering}
-use Rattle.std.proofs.Common.{Less, Equal, Greater, nat_cmp, codes, arith}
+use Rattle.std.proofs.Common.{◌≡◌, Less, Equal, Greater, nat_cmp, codes, refl, subst, arith}
 use Rattle.std.specs.Prelude.{⊤, option_map, option_and_then, if◌then◌else◌}
 use Rattle.std.specs.Cmp.Lexicographic.{slice_cmp}
 use Rattle.std.specs.Ordering.{match_ordering}
 use Rattle.serde_json.specs.Data.{Data, null, boolean, number, string, array, object, Items, no_items, item, Members}
 use Rattle.serde_json.specs.Data.{no_members, member, put, depth, items_depth, members_depth}
-use Rattle.serde_json.specs.Find.{get, get_member, as_str, as_array, as_object}
+use Rattle.serde_json.specs.Find.{get, get_member, as_array, as_object}
 use Rattle.serde_json.specs.View.{items_of}
 use Rattle.city_model.specs.CityMap.{Entries, same_id}
 use Rattle.city_model.specs.declared.object.Body.{Body}
@@ -14,21 +14,22 @@ use Rattle.city_model.specs.declared.object.Geometry.{Geometry}
 use Rattle.city_model.specs.declared.object.Object.{Object}
 use Rattle.city_model.specs.declared.object.Point.{Point}
 use Rattle.city_model.specs.declared.object.Shape.{Shape}
-use Rattle.city_model.specs.declared.object.Shape.TheVariants.{MultiSurface, CompositeSurface, Solid}
-use Rattle.city_model.specs.declared.object.Shape.TheVariants.{MultiSolid, CompositeSolid}
-use Rattle.city_model.specs.Kept.{kept_at_object, kept_at_geometry}
+use Rattle.city_model.specs.declared.object.Shape.TheVariants.{MultiSurface, CompositeSurface, Solid, MultiSolid}
+use Rattle.city_model.specs.declared.object.Shape.TheVariants.{CompositeSolid}
+use Rattle.city_model.specs.Kept.{object_members, geometry_members, kept_at_object, kept_at_geometry}
 use Rattle.city_model.specs.declared.object_type.ObjectType.{ObjectType}
-use Rattle.city_model.specs.Members.{without}
+use Rattle.city_model.specs.Members.{without, without_each}
 use Rattle.city_model.specs.Types.{name_of}
 use Rattle.city_doc.specs.tree.Lists.{read_items, list_of, list_or_absent, list_data, put_list}
 use Rattle.city_doc.specs.tree.Members.{kept_if}
-use Rattle.city_doc.specs.shape.Geometries.{without_geometry_members, geometry_of, geometry_with, shape_in}
+use Rattle.city_doc.specs.shape.Geometries.{without_geometry_members, geometry_of}
 use Rattle.city_doc.specs.object.Bodies.{without_object_members, type_of, ids_at, body_of, object_of}
 use Rattle.city_doc.specs.shape.Canonical.{nested_data, boundaries_data, geometry_data}
 use Rattle.city_doc.specs.object.Canonical.{object_data}
 use Rattle.city_doc.specs.shape.Nesting.{Nested, nested, shape_name}
 use Rattle.city_doc.specs.document.Cities.{entries_of, entries_in}
 use Rattle.city_doc.proofs.document.Listings.{OfEach}
+use Rattle.city_doc.proofs.shape.GeometryParts.{geometry_parts}
 
 -- ---- what holds of an answer
 
@@ -46,9 +47,12 @@ pub holds_then : {A B : Type 0} (P : A → Type 0) (Q : B → Type 0) (f : A →
 holds_then P Q f each None h = tt
 holds_then P Q f each (Some x) h = each x h
 
-always : {A : Type 0} (o : Option A) → Holds (λ x. ⊤) o
-always None = tt
-always (Some x) = tt
+pub holds_where : {A : Type 0} (P : A → Type 0) (o : Option A) → ((x : A) → o ≡ Some x → P x) → Holds P o
+holds_where P None each = tt
+holds_where P (Some x) each = each x refl
+
+pub held : {A : Type 0} (P : A → Type 0) (o : Option A) (x : A) → o ≡ Some x → Holds P o → P x
+held P o x e h = subst (Holds P) e h
 
 -- ---- members
 
@@ -80,6 +84,11 @@ without_depth name no_members n h = h
 without_depth name (member k d ms) n h =
     without_step (same_id name k) k d (without name ms) n (omega arith) (without_depth name ms n (omega arith))
 
+pub without_each_depth : (names : List (List ℕ)) (ms : Members) (n : ℕ) → members_depth ms ≤ n
+    → members_depth (without_each names ms) ≤ n
+without_each_depth [] ms n h = h
+without_each_depth (name ∷ names) ms n h = without_each_depth names (without name ms) n (without_depth name ms n h)
+
 pub kept_depth : (test : Members → Bool) (ms : Members) (n : ℕ) → members_depth ms ≤ n
     → Holds (λ kept. members_depth kept ≤ n) (kept_if test ms)
 kept_depth test ms n h =
@@ -108,7 +117,7 @@ object_members_depth (string s) n h = tt
 object_members_depth (array ds) n h = tt
 object_members_depth (object ms) n h = omega arith
 
-get_depth : (name : List ℕ) (d : Data) (n : ℕ) → depth d ≤ suc n → Holds (λ e. depth e ≤ n) (get name d)
+pub get_depth : (name : List ℕ) (d : Data) (n : ℕ) → depth d ≤ suc n → Holds (λ e. depth e ≤ n) (get name d)
 get_depth name null n h = tt
 get_depth name (boolean b) n h = tt
 get_depth name (number x) n h = tt
@@ -188,32 +197,16 @@ rest_within : (test : Members → Bool) (rest : Members → Members) (n : ℕ)
 rest_within test rest n each None h = tt
 rest_within test rest n each (Some ms) h = kept_depth test (rest ms) n (each ms h)
 
--- a geometry of these members
-geometry_with_within : (pool : List Point) (n : ℕ) → 5 ≤ n → (shape : Shape) (ms : Members) → members_depth ms ≤ n
-    → Holds (λ g. depth (geometry_data pool g) ≤ suc n) (geometry_with shape ms)
-geometry_with_within pool n deep shape ms h =
-    let kept = kept_depth kept_at_geometry (without_geometry_members ms) n
-    (without_depth (codes "boundaries") _ n (without_depth (codes "lod") _ n (without_depth (codes "type") ms n h)))
-    in
-    holds_then (λ lod. ⊤) (λ g. depth (geometry_data pool g) ≤ suc n)
-    (λ lod. option_map (λ rest. record { lod = lod; shape = shape; extra = rest })
-    (kept_if kept_at_geometry (without_geometry_members ms)))
-    (λ lod _. holds_map (λ rest. members_depth rest ≤ n) (λ g. depth (geometry_data pool g) ≤ suc n)
-    (λ rest. record { lod = lod; shape = shape; extra = rest })
-    (λ rest within. geometry_data_depth pool (record { lod = lod; shape = shape; extra = rest }) n deep within)
-    (kept_if kept_at_geometry (without_geometry_members ms)) kept)
-    (option_and_then as_str (get_member (codes "lod") ms))
-    (always (option_and_then as_str (get_member (codes "lod") ms)))
-
 module _ (pool points : List Point) where
   geometry_within : (n : ℕ) → 5 ≤ n → (d : Data) → depth d ≤ suc n
       → Holds (λ g. depth (geometry_data pool g) ≤ suc n) (geometry_of points d)
   geometry_within n deep d h =
-      let Q : Geometry → Type 0 = λ g. depth (geometry_data pool g) ≤ suc n in
-      holds_then (λ shape. ⊤) Q (λ shape. option_and_then (geometry_with shape) (as_object d))
-      (λ shape _. holds_then (λ ms. members_depth ms ≤ n) Q (geometry_with shape)
-      (geometry_with_within pool n deep shape) (as_object d) (object_members_depth d n h))
-      (shape_in points d) (always (shape_in points d))
+      holds_where (λ g. depth (geometry_data pool g) ≤ suc n) (geometry_of points d) (λ g is.
+      let p = geometry_parts points d g is in
+      let below = held (λ ms. members_depth ms ≤ n) (as_object d) p.members p.is_object (object_members_depth d n h) in
+      geometry_data_depth pool g n deep (held (λ kept. members_depth kept ≤ n) _ g.extra p.kept
+      (kept_depth kept_at_geometry (without_geometry_members p.members) n
+      (without_each_depth geometry_members p.members n below))))
 
 -- ---- objects
 
@@ -279,10 +272,7 @@ module _ (pool points : List Point) (m : ℕ) (deep : 5 ≤ m) where
       (type_of d) (as_object d) (list_or_absent (geometry_of points) (get (codes "geometry") d))
       (λ k g kept within r. (within, r))
       (rest_within kept_at_object without_object_members (suc (suc m))
-      (λ ms within.
-      without_depth (codes "children") _ (suc (suc m))
-      (without_depth (codes "parents") _ (suc (suc m))
-      (without_depth (codes "geometry") _ (suc (suc m)) (without_depth (codes "type") ms (suc (suc m)) within))))
+      (λ ms within. without_each_depth object_members ms (suc (suc m)) within)
       (as_object d) (object_members_depth d (suc (suc m)) h))
       (list_or_absent_within (geometry_of points) (geometry_data pool) (suc m) (geometry_within pool points m deep)
       (get (codes "geometry") d) (get_depth (codes "geometry") d (suc (suc m)) h)))

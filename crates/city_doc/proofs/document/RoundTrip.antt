@@ -8,13 +8,15 @@ use Rattle.serde_json.proofs.Views.{get_member-put}
 use Rattle.city_model.specs.CityMap.{CityValue}
 use Rattle.city_model.proofs.Objects.{entries_ascend}
 use Rattle.city_doc.specs.document.Cities.{is_city_json, points_in, entries_of, entries_in, city_of}
-use Rattle.city_doc.specs.document.Top.{frame_of, frame_of_rest}
+use Rattle.city_doc.specs.document.Top.{frame_of}
+use Rattle.city_doc.specs.inside.document.Frames.{frame_of_rest}
 use Rattle.city_doc.specs.document.Canonical.{vertices_data, frame_members, tree_of}
 use Rattle.city_doc.specs.object.Canonical.{objects_data}
 use Rattle.city_doc.specs.inside.document.KeptMembers.{IsKeptCity}
 use Rattle.city_doc.specs.Pool.{city_points, pool_of}
 use Rattle.city_doc.specs.document.Ranges.{IsInRange}
 use Rattle.city_doc.specs.tree.Triples.{points_of}
+use Rattle.city_doc.proofs.document.BuiltFrames.{frame_is}
 use Rattle.city_doc.proofs.document.EntriesRead.{written_in_turn, entries_read}
 use Rattle.city_doc.proofs.document.FramesRead.{pooled, get_type, get_version, no_objects_pooled, top_members_lacking}
 use Rattle.city_doc.proofs.document.FramesRead.{frame_read}
@@ -54,7 +56,8 @@ module _ (c : CityValue) (kept : IsKeptCity c) (numbers : IsInRange (pool_of c) 
 
   top_read : frame_of (tree_of c) ≡ Some c.0
   top_read =
-      ap frame_of_rest
+      frame_is (tree_of c)
+      ∙ ap frame_of_rest
       (without-put (codes "CityObjects") objects (pooled c.0 vertices)
       (no_objects_pooled c.0 vertices (top_members_lacking c.0.extra kept.at_top)))
       ∙ frame_read c.0 vertices numbers.scale numbers.translate kept.at_top kept.at_transform

@@ -1,5 +1,5 @@
 -- A tree of whole numbers that has the form of a document has a city.
-use Rattle.std.proofs.Common.{◌≡◌, ℕ, ℤ, List, [], ◌∷◌, true, true≢false, Option, Some, None, refl, sym, ap, subst, ◌∙◌}
+use Rattle.std.proofs.Common.{◌≡◌, true≢false, ℕ, ℤ, List, [], ◌∷◌, true, Option, Some, None, refl, sym, ap, subst, ◌∙◌}
 use Rattle.std.specs.Prelude.{length, MatchOption, option_and_then, codes, is_some}
 use Rattle.std.proofs.lemmas.Bool.{and_parts}
 use Rattle.std.specs.FinMap.{entries}
@@ -22,9 +22,9 @@ use Rattle.city_doc.specs.document.CityFaults.{or_empty}
 use Rattle.city_doc.specs.document.Cities.{city_of, objects_of, points_in}
 use Rattle.city_doc.specs.document.Faults.{objects_in, vertices_in, is_unsupported, StandsAmong, StandsIn, IsFirst}
 use Rattle.city_doc.specs.inside.document.Forms.{AreReadable, HasForm}
-use Rattle.city_doc.specs.document.Top.{triple_at, has_triple, wrong_member, more_of, frame_with, frame_of_rest}
-use Rattle.city_doc.specs.document.Top.{is_transform, all_objects, are_all_objects, are_objects}
-use Rattle.city_doc.specs.document.Top.{without_transform_members, without_top_members}
+use Rattle.city_doc.specs.document.Top.{triple_at, has_triple, wrong_member, more_of, is_transform, all_objects}
+use Rattle.city_doc.specs.document.Top.{are_all_objects, are_objects, without_transform_members}
+use Rattle.city_doc.specs.inside.document.Frames.{frame_with, frame_of_rest, without_rest_members}
 use Rattle.city_doc.specs.inside.document.LenientCities.{listed, lenient_entries_of, lenient_city_of, IsReadOf}
 use Rattle.city_doc.specs.object.Faults.{is_unknown_type, is_bad_geometry, has_bad_vertex, has_bad_list}
 use Rattle.city_doc.specs.inside.document.Searches.{first_with}
@@ -71,7 +71,7 @@ there : (o : Option Data) → is_transform o ≡ true → (t : Data) × (o ≡ S
 there None h = absurd (true≢false (sym h))
 there (Some t) h = (t, refl)
 
-rest_read : (rest extra : Members) (t : Data) (f : Frame) → kept_if kept_at_top (without_top_members rest) ≡ Some extra
+rest_read : (rest extra : Members) (t : Data) (f : Frame) → kept_if kept_at_top (without_rest_members rest) ≡ Some extra
     → get_member (codes "transform") rest ≡ Some t → frame_with extra t ≡ Some f → frame_of_rest rest ≡ Some f
 rest_read rest extra t f kept is_there read = rw (kept, is_there) read
 
@@ -81,12 +81,12 @@ frame_read : (top : Members) → members_integral top ≡ true
     → (f : Frame) × (frame_of_rest (without (codes "CityObjects") top) ≡ Some f)
 frame_read top integral extensions transform =
     let rest = without (codes "CityObjects") top in
-    let extra = kept_all kept_at_top (without_top_members rest) (top_admitted top integral extensions) in
+    let extra = kept_all kept_at_top (without_rest_members rest) (top_admitted top integral extensions) in
     let t = there (get_member (codes "transform") top) transform in
     let stays = get_member-without (codes "transform") (codes "CityObjects") top refl ∙ t.1 in
-    let f = transform_read (without_top_members rest) t.0 (get_member-integral (codes "transform") top t.0 integral t.1)
+    let f = transform_read (without_rest_members rest) t.0 (get_member-integral (codes "transform") top t.0 integral t.1)
     (ap is_transform (sym t.1) ∙ transform) in
-    (f.0, rest_read rest (without_top_members rest) t.0 f.0 extra stays f.1)
+    (f.0, rest_read rest (without_rest_members rest) t.0 f.0 extra stays f.1)
 
 -- ---- the objects
 

@@ -1,7 +1,7 @@
 -- A tree that was read from a text and that has a city is a tree of whole numbers: the members that are kept are
 -- tested, and what else the city is made of are positions, vertices and texts.
-use Rattle.std.proofs.Common.{◌≡◌, ℕ, zero, suc, ℤ, List, [], ◌∷◌, Bool, true, false, true≢false, Option, Some, None}
-use Rattle.std.proofs.Common.{refl, sym, ap, subst, ◌∙◌}
+use Rattle.std.proofs.Common.{◌≡◌, true≢false, ℕ, zero, suc, ℤ, List, [], ◌∷◌, Bool, true, false, Option, Some, None, refl, sym, ap}
+use Rattle.std.proofs.Common.{subst, ◌∙◌}
 use Rattle.std.specs.Prelude.{option_and_then, option_map, codes, is_some, if◌then◌else◌}
 use Rattle.std.specs.List.{AllByRecursion}
 use Rattle.std.proofs.lemmas.Bool.{and_from, and_parts}
@@ -11,8 +11,10 @@ use Rattle.serde_json.specs.Find.{get, get_member, get_item, as_str, as_object, 
 use Rattle.city_model.specs.CityMap.{CityValue, Entries}
 use Rattle.city_model.specs.declared.object.Point.{Point}
 use Rattle.city_model.specs.Integral.{is_integral, items_integral, members_integral}
-use Rattle.city_model.specs.Kept.{kept_at_top, kept_at_transform, kept_at_geometry}
-use Rattle.city_model.specs.Members.{without, AreOrdered}
+use Rattle.city_model.specs.Kept.{top_members, transform_members, object_members, geometry_members, kept_at_top}
+use Rattle.city_model.specs.Kept.{kept_at_transform, kept_at_geometry}
+use Rattle.city_model.specs.Members.{without, without_each, AreOrdered}
+use Rattle.city_model.specs.declared.frame.Frame.{Frame}
 use Rattle.city_model.specs.Types.{type_named}
 use Rattle.city_model.proofs.Ids.{by_id}
 use Rattle.city_model.proofs.MemberLaws.{get_member-without}
@@ -20,22 +22,23 @@ use Rattle.city_doc.specs.tree.Lists.{read_items, list_of, list_or_absent}
 use Rattle.city_doc.specs.tree.Members.{kept_if, text_at}
 use Rattle.city_doc.specs.tree.Texts.{IsText}
 use Rattle.city_doc.specs.tree.Triples.{integral_at, three_of, triple_of, point_of, points_of}
-use Rattle.city_doc.specs.shape.Geometries.{point_at_position, point_at, nested_of, shape_of, shape_in}
-use Rattle.city_doc.specs.shape.Geometries.{without_geometry_members, geometry_with, geometry_of}
+use Rattle.city_doc.specs.shape.Geometries.{point_at_position, point_at, nested_of, shape_of, without_geometry_members}
+use Rattle.city_doc.specs.shape.Geometries.{geometry_of}
 use Rattle.city_doc.specs.shape.Nesting.{geometry_type}
 use Rattle.city_doc.specs.object.Bodies.{without_object_members, object_of}
 use Rattle.city_doc.specs.document.Cities.{city_of, entries_of}
 use Rattle.city_doc.specs.document.Faults.{objects_in, vertices_in}
-use Rattle.city_doc.specs.document.Top.{triple_at, without_transform_members, more_of, without_top_members, frame_with}
-use Rattle.city_doc.specs.document.Top.{frame_of_rest, same_text, is_text}
+use Rattle.city_doc.specs.document.Top.{triple_at, without_transform_members, more_of, without_top_members, same_text}
+use Rattle.city_doc.specs.document.Top.{is_text}
 use Rattle.city_doc.proofs.Options.{and_then_some, map_some}
-use Rattle.city_doc.proofs.document.Cities.{get-object}
+use Rattle.city_doc.proofs.document.FrameParts.{frame_parts}
 use Rattle.city_doc.proofs.document.IntegralTrees.{at_geometry, at_object, at_transform, at_top}
 use Rattle.city_doc.proofs.document.KeptMembers.{kept_passes}
 use Rattle.city_doc.proofs.document.LawfulTrees.{StandsFor, stands_for}
 use Rattle.city_doc.proofs.document.NoFault.{read_as}
 use Rattle.city_doc.proofs.document.Searches.{here, there}
 use Rattle.city_doc.proofs.object.FaultlessBodies.{body_parts}
+use Rattle.city_doc.proofs.shape.GeometryParts.{geometry_parts}
 use Rattle.city_doc.proofs.tree.IntegralParts.{get_member-integral}
 use Rattle.city_doc.proofs.tree.OrderedTrees.{IsOrdered, AreItemsOrdered, AreValuesOrdered, value_ordered, read_ordered}
 use Rattle.city_doc.proofs.tree.Trees.{object_is}
@@ -50,17 +53,13 @@ all_whole (member l e ms) ordered each =
     and_from (is_integral e) (members_integral ms) (each l e (here l e ms))
     (all_whole ms ordered.1 (λ k d is. each k d (there l k e d ms ordered.0 is)))
 
-abbrev without_all : List (List ℕ) → Members → Members
-without_all [] ms = ms
-without_all (n ∷ names) ms = without_all names (without n ms)
-
 -- what stands at each of the names is whole
 abbrev AreWholeAt : Data → List (List ℕ) → Type 0
 AreWholeAt d names = AllByRecursion (λ n. (e : Data) → IsOrdered e → get n d ≡ Some e → is_integral e ≡ true) names
 
 -- a member is at one of the names, or is left
 taken_or_left : (names : List (List ℕ)) (ms rest : Members) (k : List ℕ) (d : Data) → IsOrdered d
-    → AreWholeAt (object ms) names → members_integral (without_all names rest) ≡ true → get_member k ms ≡ Some d
+    → AreWholeAt (object ms) names → members_integral (without_each names rest) ≡ true → get_member k ms ≡ Some d
     → get_member k rest ≡ Some d
     → is_integral d ≡ true
 taken_or_left [] ms rest k d ordered taken left is still = get_member-integral k rest d left still
@@ -70,14 +69,14 @@ taken_or_left (n ∷ names) ms rest k d ordered taken left is still =
     ∙ still))
 
 members_whole : (names : List (List ℕ)) (ms : Members) → IsOrdered (object ms) → AreWholeAt (object ms) names
-    → members_integral (without_all names ms) ≡ true → members_integral ms ≡ true
+    → members_integral (without_each names ms) ≡ true → members_integral ms ≡ true
 members_whole names ms ordered taken left =
     all_whole ms ordered.0
     (λ k d is. taken_or_left names ms ms k d (value_ordered k ms d ordered.1 is) taken left is is)
 
 -- an object is whole where the members of some names are, and those that are left
 object_whole : (names : List (List ℕ)) (d : Data) (ms : Members) → as_object d ≡ Some ms → IsOrdered d
-    → AreWholeAt d names → members_integral (without_all names ms) ≡ true → is_integral d ≡ true
+    → AreWholeAt d names → members_integral (without_each names ms) ≡ true → is_integral d ≡ true
 object_whole names d ms is ordered taken left =
     let same : d ≡ object ms = object_is d ms is in
     subst (λ x. IsOrdered x → AreWholeAt x names → is_integral x ≡ true) (sym same)
@@ -187,20 +186,15 @@ module _ (points : List Point) where
 
   geometry_whole : ReadsWhole (geometry_of points)
   geometry_whole d g o h =
-      let shape = and_then_some (λ s. option_and_then (geometry_with s) (as_object d)) (shape_in points d) g h in
-      let kind = and_then_some (λ k. option_and_then (shape_of points k) (get (codes "boundaries") d))
-      (text_at (codes "type") d) shape.0 shape.1 in
-      let ms = and_then_some (geometry_with shape.0) (as_object d) g shape.2 in
-      let lod = and_then_some _ (option_and_then as_str (get_member (codes "lod") ms.0)) g ms.2 in
-      let left = without_geometry_members ms.0 in
-      let kept = map_some _ (kept_if kept_at_geometry left) g lod.2 in
-      let typed = at_read as_str text_whole (get (codes "type") d) kind.0 kind.1 in
-      let detailed =
-      at_read as_str text_whole (get (codes "lod") d) lod.0
-      (ap (option_and_then as_str) (get-object (codes "lod") d ms.0 ms.1) ∙ lod.1) in
-      let bounded = at_read (shape_of points kind.0) (shape_whole kind.0) (get (codes "boundaries") d) shape.0 kind.2 in
-      object_whole (codes "type" ∷ codes "lod" ∷ codes "boundaries" ∷ []) d ms.0 ms.1 o
-      (typed, (detailed, (bounded, tt))) (at_geometry left (kept_passes kept_at_geometry left kept.0 kept.1))
+      let p = geometry_parts points d g h in
+      let left = without_geometry_members p.members in
+      let typed = at_read as_str text_whole (get (codes "type") d) p.kind p.typed in
+      let detailed = at_read as_str text_whole (get (codes "lod") d) g.lod p.detailed in
+      let bounded =
+      at_read (shape_of points p.kind) (shape_whole p.kind) (get (codes "boundaries") d) g.shape
+      (ap (option_and_then (shape_of points p.kind)) p.bounded ∙ p.shaped) in
+      object_whole geometry_members d p.members p.is_object o (typed, (detailed, (bounded, tt)))
+      (at_geometry left (kept_passes kept_at_geometry left g.extra p.kept))
 
   city_object_whole : ReadsWhole (object_of points)
   city_object_whole d x o h =
@@ -212,7 +206,7 @@ module _ (points : List Point) where
       or_absent_whole (geometry_of points) geometry_whole (get (codes "geometry") d) (x.body).geometry b.geometry in
       let below = or_absent_whole as_str text_whole (get (codes "parents") d) x.parents r.parents in
       let above = or_absent_whole as_str text_whole (get (codes "children") d) x.children r.children in
-      object_whole (codes "type" ∷ codes "geometry" ∷ codes "parents" ∷ codes "children" ∷ []) d b.members b.is_object o
+      object_whole object_members d b.members b.is_object o
       (typed, (shaped, (below, (above, tt)))) (at_object (without_object_members b.members) b.kept)
 
   entries_whole : (ms : Members) (es : Entries) → AreValuesOrdered ms → entries_of points ms ≡ Some es
@@ -235,18 +229,15 @@ module _ (points : List Point) where
 triple_whole : ReadsWhole triple_of
 triple_whole = three_whole (λ x y z. x ∷ y ∷ z ∷ [])
 
-transform_whole : (extra : Members) → ReadsWhole (frame_with extra)
-transform_whole extra d f o h =
-    let scale = and_then_some _ (triple_at (codes "scale") d) f h in
-    let translate = and_then_some _ (triple_at (codes "translate") d) f scale.2 in
-    let more = map_some _ (more_of d) f translate.2 in
-    let ms = and_then_some (λ ms. kept_if kept_at_transform (without_transform_members ms)) (as_object d) more.0 more.1
-    in
+transform_whole : (d : Data) (f : Frame) → IsOrdered d → triple_at (codes "scale") d ≡ Some f.scale
+    → triple_at (codes "translate") d ≡ Some f.translate → more_of d ≡ Some f.more → is_integral d ≡ true
+transform_whole d f o scale translate more =
+    let ms = and_then_some (λ ms. kept_if kept_at_transform (without_transform_members ms)) (as_object d) f.more more in
     let left = without_transform_members ms.0 in
-    let scaled = at_read triple_of triple_whole (get (codes "scale") d) scale.0 scale.1 in
-    let translated = at_read triple_of triple_whole (get (codes "translate") d) translate.0 translate.1 in
-    object_whole (codes "scale" ∷ codes "translate" ∷ []) d ms.0 ms.1 o (scaled, (translated, tt))
-    (at_transform left (kept_passes kept_at_transform left more.0 ms.2))
+    let scaled = at_read triple_of triple_whole (get (codes "scale") d) f.scale scale in
+    let translated = at_read triple_of triple_whole (get (codes "translate") d) f.translate translate in
+    object_whole transform_members d ms.0 ms.1 o (scaled, (translated, tt))
+    (at_transform left (kept_passes kept_at_transform left f.more ms.2))
 
 top_whole : (d : Data) (c : CityValue) → IsOrdered d → StandsFor d c → is_integral d ≡ true
 top_whole d c o s =
@@ -254,24 +245,22 @@ top_whole d c o s =
     (is_text (codes "2.0") (get (codes "version") d)) s.json in
     let kind = compared (codes "CityJSON") (option_and_then as_str (get (codes "type") d)) json.0 in
     let version = compared (codes "2.0") (option_and_then as_str (get (codes "version") d)) json.1 in
-    let top = and_then_some (λ ms. frame_of_rest (without (codes "CityObjects") ms)) (as_object d) c.0 s.frame in
-    let rest = without (codes "CityObjects") top.0 in
-    let left = without_top_members rest in
-    let kept = and_then_some _ (kept_if kept_at_top left) c.0 top.2 in
-    let placed = get-object (codes "transform") d top.0 top.1
-    ∙ sym (get_member-without (codes "transform") (codes "CityObjects") top.0 refl) in
+    let p = frame_parts d c.0 s.frame in
+    let left = without_top_members p.top in
     let objects = objects_whole (vertices_in d) (objects_in d) s.list s.entries (get (codes "CityObjects") d) s.objects
     in
-    let transformed =
-    at_read (frame_with kept.0) (transform_whole kept.0) (get (codes "transform") d) c.0
-    (ap (option_and_then (frame_with kept.0)) placed ∙ kept.2) in
+    let transformed : (e : Data) → IsOrdered e → get (codes "transform") d ≡ Some e → is_integral e ≡ true =
+    λ e ordered is.
+    let both : Some p.transform ≡ Some e = sym p.there ∙ is in
+    let same : p.transform ≡ e = cc in
+    subst (λ t. IsOrdered t → is_integral t ≡ true) same
+    (λ o. transform_whole p.transform c.0 o p.scale p.translate p.more) ordered in
     let typed = at_read as_str text_whole (get (codes "type") d) kind.0 kind.1 in
     let versioned = at_read as_str text_whole (get (codes "version") d) version.0 version.1 in
     let vertices =
     at_read points_of (list_whole point_of (three_whole _)) (get (codes "vertices") d) (vertices_in d) s.points in
-    object_whole (codes "CityObjects" ∷ codes "transform" ∷ codes "type" ∷ codes "version" ∷ codes "vertices" ∷ []) d
-    top.0 top.1 o (objects, (transformed, (typed, (versioned, (vertices, tt)))))
-    (at_top left (kept_passes kept_at_top left kept.0 kept.1))
+    object_whole top_members d p.top p.is_top o (objects, (transformed, (typed, (versioned, (vertices, tt)))))
+    (at_top left (kept_passes kept_at_top left c.0.extra p.extra))
 
 pub text_is_whole : (text : List ℕ) (d : Data) (c : CityValue) → IsText text d → city_of d ≡ Some c
     → is_integral d ≡ true

@@ -6,9 +6,7 @@ use Rattle.serde_json.specs.Data.{Data, Members}
 use Rattle.serde_json.specs.Find.{get, get_member, as_object}
 use Rattle.city_model.specs.declared.object.Body.{Body}
 use Rattle.city_model.specs.declared.object.Point.{Point}
-use Rattle.city_model.specs.Kept.{kept_at_object, has_location}
-use Rattle.city_model.specs.Members.{without}
-use Rattle.city_model.proofs.MemberLaws.{get_member-without}
+use Rattle.city_model.specs.Kept.{object_members, kept_at_object, has_location}
 use Rattle.city_doc.specs.object.Bodies.{type_of, without_object_members, body_of}
 use Rattle.city_doc.specs.tree.Members.{kept_if}
 use Rattle.city_doc.specs.tree.Lists.{list_or_absent}
@@ -18,6 +16,7 @@ use Rattle.city_doc.specs.object.Faults.{is_unknown_type, is_bad_geometry, has_b
 use Rattle.city_doc.proofs.document.Cities.{get-object}
 use Rattle.city_doc.proofs.document.KeptMembers.{kept_passes}
 use Rattle.city_doc.proofs.Options.{and_then_some, map_some}
+use Rattle.city_doc.proofs.tree.WithoutMembers.{get_member-without_each}
 use Rattle.city_doc.proofs.shape.ReadForms.{geometries_fit, position_fits, number_fits, geometries_supported}
 
 -- the parts of a body's tree
@@ -42,23 +41,12 @@ body_parts points d b h =
       geometry = gs.1 ∙ ap (λ x. Some x.geometry) (sym kept.2);
     }
 
-address_stays : (ms : Members)
-    → get_member (codes "address") (without_object_members ms) ≡ get_member (codes "address") ms
-address_stays ms =
-    let a = without (codes "type") ms in
-    let b = without (codes "geometry") a in
-    let c = without (codes "parents") b in
-    get_member-without (codes "address") (codes "children") c refl
-    ∙ get_member-without (codes "address") (codes "parents") b refl
-    ∙ get_member-without (codes "address") (codes "geometry") a refl
-    ∙ get_member-without (codes "address") (codes "type") ms refl
-
 -- a kept address has no location
 no_location : (d : Data) (ms : Members) → as_object d ≡ Some ms → kept_at_object (without_object_members ms) ≡ true
     → has_location (get (codes "address") d) ≡ false
 no_location d ms is_object kept =
     let name = codes "address" in
-    let stays : get_member name (without_object_members ms) ≡ get_member name ms = address_stays ms in
+    let stays = get_member-without_each object_members name ms refl in
     ap has_location (get-object name d ms is_object ∙ sym stays)
     ∙ not-true (has_location (get_member name (without_object_members ms))) (and_parts _ _ kept).1
 

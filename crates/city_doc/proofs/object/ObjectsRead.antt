@@ -1,7 +1,6 @@
 -- The tree of an object is read as that object.
-use Rattle.std.proofs.Common.{◌≡◌, ℕ, ◌<◌, List, [], ◌∷◌, length, Bool, true, false, Option, Some, None, codes, refl}
-use Rattle.std.proofs.Common.{ap, ◌∙◌}
-use Rattle.std.specs.Prelude.{◌&&◌, ◌^◌, not, is_none, option_and_then}
+use Rattle.std.proofs.Common.{◌≡◌, ℕ, ◌<◌, List, [], ◌∷◌, length, Bool, true, false, Some, None, codes, refl, ap, ◌∙◌}
+use Rattle.std.specs.Prelude.{◌&&◌, ◌^◌, not, option_and_then}
 use Rattle.std.specs.List.{list_all}
 use Rattle.std.proofs.lemmas.Bool.{and_parts}
 use Rattle.serde_json.specs.Data.{Data, string, object, Members, put}
@@ -11,7 +10,8 @@ use Rattle.city_model.specs.declared.object.Point.{Point}
 use Rattle.city_model.specs.declared.object.Geometry.{Geometry}
 use Rattle.city_model.specs.declared.object.Object.{Object}
 use Rattle.city_model.specs.CityMap.{same_id}
-use Rattle.city_model.specs.Kept.{lacks, lacks_both, has_location, kept_at_object, kept_at_geometry}
+use Rattle.city_model.specs.Kept.{object_members, geometry_members, lacks_each, has_location, kept_at_object}
+use Rattle.city_model.specs.Kept.{kept_at_geometry}
 use Rattle.city_model.specs.Members.{without}
 use Rattle.city_model.specs.Types.{name_of, type_named}
 use Rattle.city_model.specs.Integral.{members_integral}
@@ -29,10 +29,7 @@ use Rattle.city_doc.proofs.tree.ListsRead.{put_list_read, all_pass}
 use Rattle.city_doc.proofs.pool.NumberedPoints.{are_in, parts_in, shape_read}
 use Rattle.city_doc.proofs.tree.PutMembers.{get_member-put_apart, get_member-put_list_apart, without-three}
 use Rattle.city_doc.proofs.tree.PutMembers.{without-four, without-put, without-put_list}
-
-pub none_of : {A : Type 0} (o : Option A) → is_none o ≡ true → o ≡ None
-none_of None h = refl
-none_of (Some x) h = absurd (let no : ⊥ = cc in no)
+use Rattle.city_doc.proofs.tree.WithoutMembers.{each_lacking}
 
 -- ---- geometries
 
@@ -43,11 +40,8 @@ pub record LacksGeometryMembers (ms : Members) : Type 0 where
 
 pub geometry_members_lacking : (ms : Members) → kept_at_geometry ms ≡ true → LacksGeometryMembers ms
 geometry_members_lacking ms h =
-    let all = and_parts (members_integral ms && lacks_both (codes "type") (codes "lod") ms)
-    (lacks (codes "boundaries") ms) h in
-    let two = and_parts (members_integral ms) (lacks_both (codes "type") (codes "lod") ms) all.0 in
-    let first = and_parts (lacks (codes "type") ms) (lacks (codes "lod") ms) two.1 in
-    record { no_type = none_of _ first.0; no_lod = none_of _ first.1; no_boundaries = none_of _ all.1 }
+    let all = each_lacking geometry_members ms (and_parts (members_integral ms) (lacks_each geometry_members ms) h).1 in
+    record { no_type = all.0; no_lod = all.1.0; no_boundaries = all.1.1.0 }
 
 -- what is left of a geometry's members are the kept ones
 geometry_left : (kept : Members) (kind lod boundaries : Data) → LacksGeometryMembers kept
@@ -97,20 +91,10 @@ pub record LacksObjectMembers (ms : Members) : Type 0 where
 
 pub object_members_lacking : (ms : Members) → kept_at_object ms ≡ true → LacksObjectMembers ms
 object_members_lacking ms h =
-    let all = and_parts
-    (members_integral ms && lacks_both (codes "type") (codes "geometry") ms && lacks_both (codes "parents")
-    (codes "children") ms) (not (has_location (get_member (codes "address") ms))) h in
-    let two = and_parts (members_integral ms && lacks_both (codes "type") (codes "geometry") ms)
-    (lacks_both (codes "parents") (codes "children") ms) all.0 in
-    let one = and_parts (members_integral ms) (lacks_both (codes "type") (codes "geometry") ms) two.0 in
-    let own = and_parts (lacks (codes "type") ms) (lacks (codes "geometry") ms) one.1 in
-    let relations = and_parts (lacks (codes "parents") ms) (lacks (codes "children") ms) two.1 in
-    record {
-      no_type = none_of _ own.0;
-      no_geometry = none_of _ own.1;
-      no_parents = none_of _ relations.0;
-      no_children = none_of _ relations.1;
-    }
+    let unlocated = not (has_location (get_member (codes "address") ms)) in
+    let both = and_parts (members_integral ms && lacks_each object_members ms) unlocated h in
+    let all = each_lacking object_members ms (and_parts (members_integral ms) (lacks_each object_members ms) both.0).1 in
+    record { no_type = all.0; no_geometry = all.1.0; no_parents = all.1.1.0; no_children = all.1.1.1.0 }
 
 module _ (pool : List Point) (o : Object) where
   -- the members of an object's tree, as they are put in

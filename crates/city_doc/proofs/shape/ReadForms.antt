@@ -1,28 +1,26 @@
 -- What is read of a tree has the form that is judged.
 use Rattle.std.proofs.Common.{◌≡◌, ℕ, zero, suc, ℤ, pos, negsuc, List, [], ◌∷◌, Bool, true, false, Option, Some, None}
-use Rattle.std.proofs.Common.{refl, ap, ◌∙◌}
-use Rattle.std.specs.Prelude.{length, option_and_then, option_map, codes, is_some, not, find, cond}
+use Rattle.std.proofs.Common.{refl, ap, ap₂, ◌∙◌}
+use Rattle.std.specs.Prelude.{length, option_and_then, option_map, is_some, not, find, cond}
 use Rattle.std.specs.List.{list_any, list_all}
 use Rattle.std.specs.Str.{bytes_eq}
 use Rattle.std.proofs.lemmas.Bool.{lt-ltb, and_from, and_parts, not-true}
 use Rattle.std.proofs.lemmas.Option.{slice_get_within}
 use Rattle.std.proofs.lemmas.Slice.Eq.{bytes_eq-Decides}
 use Rattle.serde_json.specs.Data.{Data, Num, Items, no_items, item}
-use Rattle.serde_json.specs.Find.{get, get_member, as_str, as_array, as_object, as_number, as_i64}
+use Rattle.serde_json.specs.Find.{as_array, as_number, as_i64}
 use Rattle.city_model.specs.declared.object.Geometry.{Geometry}
 use Rattle.city_model.specs.declared.object.Point.{Point}
 use Rattle.city_model.specs.declared.object.Shape.{Shape}
 use Rattle.city_doc.specs.tree.Lists.{read_items, list_of, list_or_absent}
-use Rattle.city_doc.specs.shape.Geometries.{point_at_position, point_at, nested_of, shape_of, shape_in, geometry_with}
-use Rattle.city_doc.specs.shape.Geometries.{geometry_of}
-use Rattle.city_doc.specs.tree.Members.{text_at}
+use Rattle.city_doc.specs.shape.Geometries.{point_at_position, point_at, nested_of, shape_of, geometry_of}
 use Rattle.city_doc.specs.shape.Forms.{natural, is_below, is_number, is_position, all_items, are_items, is_list_of}
 use Rattle.city_doc.specs.shape.Forms.{is_nested, are_nested_for, is_boundaries, are_boundaries_of, is_geometry}
 use Rattle.city_doc.specs.shape.Forms.{are_geometries}
 use Rattle.city_doc.specs.shape.Nesting.{Nested, GeometryType, geometry_types, geometry_type}
-use Rattle.city_doc.specs.object.Faults.{unsupported_types, only_if, unsupported_type, first_unsupported}
-use Rattle.city_doc.proofs.document.Cities.{get-object}
+use Rattle.city_doc.specs.object.Faults.{unsupported_types, unsupported_type, first_unsupported}
 use Rattle.city_doc.proofs.Options.{and_then_some, map_some}
+use Rattle.city_doc.proofs.shape.GeometryParts.{geometry_parts}
 
 -- ---- lists
 
@@ -76,21 +74,11 @@ module _ (points : List Point) (leaf : Data → Bool) (fits : (d : Data) (p : Po
       let x = map_some t.0.shape (nested_of points t.0.depth d) s t.2 in
       ap (λ o. are_nested_for leaf o d) t.1 ∙ nested_fits t.0.depth d x.0 x.1
 
-  bounded : (kind : Option (List ℕ)) (o : Option Data) (s : Shape)
-      → option_and_then (λ k. option_and_then (shape_of points k) o) kind ≡ Some s
-      → are_boundaries_of leaf kind o ≡ true
-  bounded None o s h = absurd (let no : ⊥ = cc in no)
-  bounded (Some kind) None s h = absurd (let no : ⊥ = cc in no)
-  bounded (Some kind) (Some d) s h = shape_fits kind d s h
-
   geometry_fits : (d : Data) (g : Geometry) → geometry_of points d ≡ Some g → is_geometry leaf d ≡ true
   geometry_fits d g h =
-      let shape = and_then_some (λ s. option_and_then (geometry_with s) (as_object d)) (shape_in points d) g h in
-      let ms = and_then_some (geometry_with shape.0) (as_object d) g shape.2 in
-      let lod = and_then_some _ (option_and_then as_str (get_member (codes "lod") ms.0)) g ms.2 in
-      and_from _ _ (ap (λ o. is_some (option_and_then as_str o)) (get-object (codes "lod") d ms.0 ms.1)
-      ∙ ap is_some lod.1)
-      (bounded (text_at (codes "type") d) (get (codes "boundaries") d) shape.0 shape.1)
+      let p = geometry_parts points d g h in
+      and_from _ _ (ap is_some p.detailed) (ap₂ (are_boundaries_of leaf) p.typed p.bounded
+      ∙ shape_fits p.kind p.boundaries g.shape p.shaped)
 
   -- geometries that are read have their form
   pub geometries_fit : (o : Option Data) (gs : List Geometry) → list_or_absent (geometry_of points) o ≡ Some gs
@@ -119,21 +107,14 @@ among_supported kind (u ∷ ts) t all h =
       | false ↦ λ is found. among_supported kind ts t hs.1 found
     ] refl h
 
-typed : (points : List Point) (kind : Option (List ℕ)) (o : Option Data) (s : Shape)
-    → option_and_then (λ k. option_and_then (shape_of points k) o) kind ≡ Some s
-    → option_and_then (only_if (λ k. list_any (bytes_eq k) unsupported_types)) kind ≡ None
-typed points None o s h = refl
-typed points (Some kind) o s h =
-    let d = and_then_some (shape_of points kind) o s h in
-    let t = and_then_some (λ t. option_map t.shape (nested_of points t.depth d.0)) (geometry_type kind) s d.2 in
-    let supported = among_supported kind geometry_types t.0 refl t.1 in
-    rw supported refl
-
 geometry_supported : (points : List Point) (d : Data) (g : Geometry) → geometry_of points d ≡ Some g
     → unsupported_type d ≡ None
 geometry_supported points d g h =
-    let shape = and_then_some (λ s. option_and_then (geometry_with s) (as_object d)) (shape_in points d) g h in
-    typed points (text_at (codes "type") d) (get (codes "boundaries") d) shape.0 shape.1
+    let p = geometry_parts points d g h in
+    let t = and_then_some (λ t. option_map t.shape (nested_of points t.depth p.boundaries)) (geometry_type p.kind)
+    g.shape p.shaped in
+    let supported = among_supported p.kind geometry_types t.0 refl t.1 in
+    rw (p.typed, supported) refl
 
 items_supported : (points : List Point) (ds : Items) (gs : List Geometry) → read_items (geometry_of points) ds ≡ Some gs
     → first_unsupported ds ≡ None

@@ -1,22 +1,23 @@
 -- Geometries that have their form, and whose positions name points, are read.
-use Rattle.std.proofs.Common.{◌≡◌, ℕ, zero, suc, ℤ, pos, negsuc, ◌<◌, List, [], ◌∷◌, Bool, true, true≢false, Option}
+use Rattle.std.proofs.Common.{◌≡◌, true≢false, ℕ, zero, suc, ℤ, pos, negsuc, ◌<◌, List, [], ◌∷◌, Bool, true, Option}
 use Rattle.std.proofs.Common.{Some, None, refl, sym, ap, ◌∙◌, arith}
 use Rattle.std.specs.Prelude.{length, option_and_then, option_map, slice_get, codes, is_some}
 use Rattle.std.proofs.lemmas.Bool.{ltb-true, and_parts}
 use Rattle.serde_json.specs.Data.{Data, null, boolean, number, string, array, object, Items, no_items, item, Members}
-use Rattle.serde_json.specs.Find.{get, get_member, as_str, as_object, as_number, as_i64}
+use Rattle.serde_json.specs.Find.{get, as_str, as_object, as_number, as_i64}
 use Rattle.city_model.specs.declared.object.Geometry.{Geometry}
 use Rattle.city_model.specs.declared.object.Point.{Point}
 use Rattle.city_model.specs.declared.object.Shape.{Shape}
 use Rattle.city_model.specs.Kept.{kept_at_geometry}
 use Rattle.city_model.specs.Integral.{is_integral, items_integral}
 use Rattle.city_doc.specs.tree.Lists.{read_items, list_of, list_or_absent}
-use Rattle.city_doc.specs.shape.Geometries.{point_at_position, point_at, nested_of, shape_of, shape_in}
-use Rattle.city_doc.specs.shape.Geometries.{without_geometry_members, geometry_with, geometry_of}
+use Rattle.city_doc.specs.shape.Geometries.{point_at_position, point_at, nested_of, shape_of, without_geometry_members}
+use Rattle.city_doc.specs.shape.Geometries.{geometry_of}
 use Rattle.city_doc.specs.tree.Members.{text_at, kept_if}
 use Rattle.city_doc.specs.shape.Forms.{natural, is_below, is_position, all_items, is_list_of, is_nested, are_nested_for}
 use Rattle.city_doc.specs.shape.Forms.{is_boundaries, are_boundaries_of, is_geometry, are_geometries}
 use Rattle.city_doc.specs.shape.Nesting.{Nested, GeometryType, geometry_type}
+use Rattle.city_doc.proofs.Options.{and_then_some}
 use Rattle.city_doc.proofs.document.Cities.{get-object}
 use Rattle.city_doc.proofs.document.KeptMembers.{kept_all, geometry_admitted}
 use Rattle.city_doc.proofs.document.Right.{some_of, item_read}
@@ -94,15 +95,14 @@ module _ (points : List Point) where
   bounded (Some kind) None integral h = absurd (true≢false (sym h))
   bounded (Some kind) (Some d) integral h = shape_some kind d (integral d refl) h
 
-  geometry_made : (shape : Shape) (ms : Members) (lod : List ℕ)
-      → option_and_then as_str (get_member (codes "lod") ms) ≡ Some lod
+  geometry_made : (d : Data) (kind lod : List ℕ) (boundaries : Data) (shape : Shape) (ms : Members)
+      → text_at (codes "type") d ≡ Some kind → text_at (codes "lod") d ≡ Some lod
+      → get (codes "boundaries") d ≡ Some boundaries → shape_of points kind boundaries ≡ Some shape
+      → as_object d ≡ Some ms
       → kept_if kept_at_geometry (without_geometry_members ms) ≡ Some (without_geometry_members ms)
-      → geometry_with shape ms ≡ Some (record { lod = lod; shape = shape; extra = without_geometry_members ms })
-  geometry_made shape ms lod is_lod kept = rw (is_lod, kept) refl
-
-  geometry_joined : (d : Data) (shape : Shape) (ms : Members) (g : Geometry) → shape_in points d ≡ Some shape
-      → as_object d ≡ Some ms → geometry_with shape ms ≡ Some g → geometry_of points d ≡ Some g
-  geometry_joined d shape ms g is_shape is_object made = rw (is_shape, is_object) made
+      → geometry_of points d ≡ Some (record { lod = lod; shape = shape; extra = without_geometry_members ms })
+  geometry_made d kind lod boundaries shape ms typed detailed bounded shaped is_object kept =
+      rw (typed, detailed, bounded, shaped, is_object, kept) refl
 
   geometry_some : (d : Data) → is_integral d ≡ true → is_geometry fits d ≡ true
       → (g : Geometry) × (geometry_of points d ≡ Some g)
@@ -114,10 +114,12 @@ module _ (points : List Point) where
       let boundaries = get-object (codes "boundaries") d ms.0 ms.1 in
       let shape = bounded (text_at (codes "type") d) (get (codes "boundaries") d)
       (λ b is. get_member-integral (codes "boundaries") ms.0 b integral_members (sym boundaries ∙ is)) hs.1 in
+      let kind = and_then_some (λ k. option_and_then (shape_of points k) (get (codes "boundaries") d))
+      (text_at (codes "type") d) shape.0 shape.1 in
+      let bounds = and_then_some (shape_of points kind.0) (get (codes "boundaries") d) shape.0 kind.2 in
       let lod = some_of (text_at (codes "lod") d) hs.0 in
-      let is_lod = ap (option_and_then as_str) (sym (get-object (codes "lod") d ms.0 ms.1)) ∙ lod.1 in
       let kept = kept_all kept_at_geometry (without_geometry_members ms.0) (geometry_admitted ms.0 integral_members) in
-      (_, geometry_joined d shape.0 ms.0 _ shape.1 ms.1 (geometry_made shape.0 ms.0 lod.0 is_lod kept))
+      (_, geometry_made d kind.0 lod.0 bounds.0 shape.0 ms.0 kind.1 lod.1 bounds.1 bounds.2 ms.1 kept)
 
   -- a list of geometries, or none
   pub geometries_some : (o : Option Data) → ((d : Data) → o ≡ Some d → is_integral d ≡ true)

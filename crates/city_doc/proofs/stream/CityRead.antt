@@ -13,12 +13,14 @@ use Rattle.city_model.specs.Members.{without}
 use Rattle.city_model.proofs.MemberLaws.{get_member-without}
 use Rattle.city_doc.specs.declared.stream.vertices.Vertex.{Vertex}
 use Rattle.city_doc.specs.document.Cities.{city_of, entries_of, objects_of}
-use Rattle.city_doc.specs.document.Top.{is_text, frame_with, frame_of_rest, without_top_members}
+use Rattle.city_doc.specs.document.Top.{is_text, frame_of}
+use Rattle.city_doc.specs.inside.document.Frames.{frame_with, frame_of_rest, without_rest_members}
 use Rattle.city_doc.specs.inside.stream.Positions.{IsVertex, points_of}
 use Rattle.city_doc.specs.inside.stream.Standing.{Pairs, IsArrayOf}
 use Rattle.city_doc.specs.tree.Lists.{read_items}
 use Rattle.city_doc.specs.tree.Members.{kept_if}
 use Rattle.city_doc.specs.tree.Triples as triples
+use Rattle.city_doc.proofs.document.BuiltFrames.{frame_is}
 use Rattle.city_doc.proofs.tree.WithoutMembers.{without-swap, without-twice}
 
 -- ---- the other members
@@ -26,7 +28,7 @@ use Rattle.city_doc.proofs.tree.WithoutMembers.{without-swap, without-twice}
 abbrev others : Members → Members
 others found = without (codes "vertices") (without (codes "CityObjects") found)
 
-top_without : (rest : Members) → without_top_members (without (codes "vertices") rest) ≡ without_top_members rest
+top_without : (rest : Members) → without_rest_members (without (codes "vertices") rest) ≡ without_rest_members rest
 top_without rest =
     let v = codes "vertices" in
     let t = without-swap (codes "transform") v rest in
@@ -43,7 +45,7 @@ frame_same rest =
     (λ extra. option_and_then (frame_with extra) (get_member (codes "transform") (without (codes "vertices") rest)))
     (kept_if kept_at_top ms)) (top_without rest)
     ∙ ap (λ o. option_and_then (λ extra. option_and_then (frame_with extra) o)
-    (kept_if kept_at_top (without_top_members rest)))
+    (kept_if kept_at_top (without_rest_members rest)))
     (get_member-without (codes "transform") (codes "vertices") rest refl)
 
 -- ---- the points
@@ -76,8 +78,8 @@ city_read found rest objects vertices points es frame is right at_vertices has_p
     ap (get_member (codes "version")) is
     ∙ get_member-without (codes "version") (codes "vertices") (without (codes "CityObjects") found) refl
     ∙ get_member-without (codes "version") (codes "CityObjects") found refl in
-    let framed : frame_of_rest (without (codes "CityObjects") found) ≡ Some frame =
-    sym (frame_same (without (codes "CityObjects") found)) ∙ sym (ap frame_of_rest is) ∙ has_frame in
+    let framed : frame_of (object found) ≡ Some frame =
+    frame_is (object found) ∙ sym (frame_same (without (codes "CityObjects") found)) ∙ sym (ap frame_of_rest is) ∙ has_frame in
     let both = and_parts (is_text (codes "CityJSON") (get_member (codes "type") rest))
     (is_text (codes "2.0") (get_member (codes "version") rest)) right in
     let typed : is_text (codes "CityJSON") (get_member (codes "type") found) ≡ true =

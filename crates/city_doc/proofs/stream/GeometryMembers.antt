@@ -2,6 +2,7 @@
 use Rattle.std.proofs.Common.{◌≡◌, ℕ, List, [], ◌∷◌, false, Some, codes, refl, sym, ap, ◌∙◌, subst}
 use Rattle.serde_json.specs.Data.{Data, Members, put}
 use Rattle.city_model.specs.CityMap.{has_id}
+use Rattle.city_model.specs.Kept.{geometry_members}
 use Rattle.city_model.proofs.Ids.{same_id_back}
 use Rattle.city_doc.specs.declared.stream.boundaries.Boundaries.{Boundaries}
 use Rattle.city_doc.specs.declared.stream.geometry.Kind.{Kind}
@@ -10,9 +11,6 @@ use Rattle.city_doc.specs.inside.stream.Geometries.{IsKind, AreBoundaries, IsGeo
 use Rattle.city_doc.specs.inside.stream.Standing.{IsString}
 use Rattle.city_doc.proofs.tree.Puts.{ordered_put}
 use Rattle.city_doc.proofs.stream.Members.{put_own, put_kept, other_name, slot_here, slot_other}
-
-abbrev names : List (List ℕ)
-names = codes "type" ∷ codes "lod" ∷ codes "boundaries" ∷ []
 
 pub with_kind : (parts : GeometryParts) (k : Kind) (name : List ℕ) (d : Data) (found kept : Members)
     → name ≡ codes "type" → IsKind k d → IsGeometrySoFar parts found kept
@@ -25,7 +23,7 @@ with_kind parts k name d found kept named is h =
       boundaries =
           slot_other AreBoundaries parts.boundaries (codes "boundaries") (codes "type") d found refl h.boundaries;
       ordered = ordered_put (codes "type") d found h.ordered;
-      extra = h.extra ∙ sym (put_own names (codes "type") d found h.ordered refl);
+      extra = h.extra ∙ sym (put_own geometry_members (codes "type") d found h.ordered refl);
     })
 
 pub with_lod : (parts : GeometryParts) (lod : List ℕ) (name : List ℕ) (d : Data) (found kept : Members)
@@ -40,7 +38,7 @@ with_lod parts lod name d found kept named is h =
       boundaries =
           slot_other AreBoundaries parts.boundaries (codes "boundaries") (codes "lod") d found refl h.boundaries;
       ordered = ordered_put (codes "lod") d found h.ordered;
-      extra = h.extra ∙ sym (put_own names (codes "lod") d found h.ordered refl);
+      extra = h.extra ∙ sym (put_own geometry_members (codes "lod") d found h.ordered refl);
     })
 
 pub with_boundaries : (parts : GeometryParts) (b : Boundaries) (name : List ℕ) (d : Data) (found kept : Members)
@@ -53,7 +51,7 @@ with_boundaries parts b name d found kept named is h =
       lod = slot_other IsString parts.lod (codes "lod") (codes "boundaries") d found refl h.lod;
       boundaries = slot_here AreBoundaries b (codes "boundaries") d found is;
       ordered = ordered_put (codes "boundaries") d found h.ordered;
-      extra = h.extra ∙ sym (put_own names (codes "boundaries") d found h.ordered refl);
+      extra = h.extra ∙ sym (put_own geometry_members (codes "boundaries") d found h.ordered refl);
     })
 
 pub with_kept : (parts : GeometryParts) (name : List ℕ) (d : Data) (found kept : Members) → (name ≡ codes "type" → ⊥)
@@ -63,7 +61,7 @@ with_kept parts name d found kept type lod boundaries h =
     let t = other_name name (codes "type") type in
     let l = other_name name (codes "lod") lod in
     let b = other_name name (codes "boundaries") boundaries in
-    let others : has_id names name ≡ false = rw (t, l, b) refl in
+    let others : has_id geometry_members name ≡ false = rw (t, l, b) refl in
     record {
       kind = slot_other IsKind parts.kind (codes "type") name d found (same_id_back (codes "type") name ∙ t) h.kind;
       lod = slot_other IsString parts.lod (codes "lod") name d found (same_id_back (codes "lod") name ∙ l) h.lod;
@@ -71,5 +69,5 @@ with_kept parts name d found kept type lod boundaries h =
           slot_other AreBoundaries parts.boundaries (codes "boundaries") name d found
           (same_id_back (codes "boundaries") name ∙ b) h.boundaries;
       ordered = ordered_put name d found h.ordered;
-      extra = ap (put name d) h.extra ∙ sym (put_kept names name d found h.ordered others);
+      extra = ap (put name d) h.extra ∙ sym (put_kept geometry_members name d found h.ordered others);
     }

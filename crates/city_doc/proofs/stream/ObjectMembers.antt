@@ -2,6 +2,7 @@
 use Rattle.std.proofs.Common.{◌≡◌, ℕ, List, [], ◌∷◌, false, Some, codes, refl, sym, ap, ◌∙◌, subst}
 use Rattle.serde_json.specs.Data.{Data, Members, put}
 use Rattle.city_model.specs.CityMap.{has_id}
+use Rattle.city_model.specs.Kept.{object_members}
 use Rattle.city_model.specs.declared.object.Geometry.{Geometry}
 use Rattle.city_model.specs.declared.object_type.ObjectType.{ObjectType}
 use Rattle.city_model.proofs.Ids.{same_id_back}
@@ -11,9 +12,6 @@ use Rattle.city_doc.specs.inside.stream.Objects.{IsType, IsObjectSoFar}
 use Rattle.city_doc.specs.inside.stream.Standing.{IsString, IsArrayOf}
 use Rattle.city_doc.proofs.tree.Puts.{ordered_put}
 use Rattle.city_doc.proofs.stream.Members.{put_own, put_kept, other_name, slot_here, slot_other, list_here, list_other}
-
-abbrev names : List (List ℕ)
-names = codes "type" ∷ codes "geometry" ∷ codes "parents" ∷ codes "children" ∷ []
 
 pub with_kind : (parts : ObjectParts) (k : ObjectType) (name : List ℕ) (d : Data) (found kept : Members)
     → name ≡ codes "type" → IsType k d → IsObjectSoFar parts found kept
@@ -29,7 +27,7 @@ with_kind parts k name d found kept named is h =
       parents = list_other IsString parts.parents (codes "parents") (codes "type") d found refl h.parents;
       children = list_other IsString parts.children (codes "children") (codes "type") d found refl h.children;
       ordered = ordered_put (codes "type") d found h.ordered;
-      extra = h.extra ∙ sym (put_own names (codes "type") d found h.ordered refl);
+      extra = h.extra ∙ sym (put_own object_members (codes "type") d found h.ordered refl);
     })
 
 pub with_geometry : (parts : ObjectParts) (gs : List Geometry) (name : List ℕ) (d : Data) (found kept : Members)
@@ -45,7 +43,7 @@ with_geometry parts gs name d found kept named is h =
       parents = list_other IsString parts.parents (codes "parents") (codes "geometry") d found refl h.parents;
       children = list_other IsString parts.children (codes "children") (codes "geometry") d found refl h.children;
       ordered = ordered_put (codes "geometry") d found h.ordered;
-      extra = h.extra ∙ sym (put_own names (codes "geometry") d found h.ordered refl);
+      extra = h.extra ∙ sym (put_own object_members (codes "geometry") d found h.ordered refl);
     })
 
 pub with_parents : (parts : ObjectParts) (ids : List (List ℕ)) (name : List ℕ) (d : Data) (found kept : Members)
@@ -61,7 +59,7 @@ with_parents parts ids name d found kept named is h =
       parents = list_here IsString ids (codes "parents") d found is;
       children = list_other IsString parts.children (codes "children") (codes "parents") d found refl h.children;
       ordered = ordered_put (codes "parents") d found h.ordered;
-      extra = h.extra ∙ sym (put_own names (codes "parents") d found h.ordered refl);
+      extra = h.extra ∙ sym (put_own object_members (codes "parents") d found h.ordered refl);
     })
 
 pub with_children : (parts : ObjectParts) (ids : List (List ℕ)) (name : List ℕ) (d : Data) (found kept : Members)
@@ -77,7 +75,7 @@ with_children parts ids name d found kept named is h =
       parents = list_other IsString parts.parents (codes "parents") (codes "children") d found refl h.parents;
       children = list_here IsString ids (codes "children") d found is;
       ordered = ordered_put (codes "children") d found h.ordered;
-      extra = h.extra ∙ sym (put_own names (codes "children") d found h.ordered refl);
+      extra = h.extra ∙ sym (put_own object_members (codes "children") d found h.ordered refl);
     })
 
 pub with_kept : (parts : ObjectParts) (name : List ℕ) (d : Data) (found kept : Members) → (name ≡ codes "type" → ⊥)
@@ -89,7 +87,7 @@ with_kept parts name d found kept type geometry parents children h =
     let g = other_name name (codes "geometry") geometry in
     let p = other_name name (codes "parents") parents in
     let c = other_name name (codes "children") children in
-    let others : has_id names name ≡ false = rw (t, g, p, c) refl in
+    let others : has_id object_members name ≡ false = rw (t, g, p, c) refl in
     record {
       kind = slot_other IsType parts.kind (codes "type") name d found (same_id_back (codes "type") name ∙ t) h.kind;
       geometry = list_other IsGeometry parts.geometry (codes "geometry") name d found
@@ -99,5 +97,5 @@ with_kept parts name d found kept type geometry parents children h =
       children = list_other IsString parts.children (codes "children") name d found
           (same_id_back (codes "children") name ∙ c) h.children;
       ordered = ordered_put name d found h.ordered;
-      extra = ap (put name d) h.extra ∙ sym (put_kept names name d found h.ordered others);
+      extra = ap (put name d) h.extra ∙ sym (put_kept object_members name d found h.ordered others);
     }

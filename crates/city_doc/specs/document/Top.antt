@@ -1,12 +1,13 @@
 -- The top of a document: its frame, and which of its members is wrong (CityJSON 2.0, sections 2 and 4).
-use Rattle.std.specs.Prelude.{◌&&◌, ℕ, ℤ, List, [], ◌∷◌, Bool, true, false, Option, Some, None}
-use Rattle.std.specs.Prelude.{option_and_then, option_map, codes, is_some, if◌then◌else◌}
+use Rattle.std.specs.Prelude.{◌&&◌, ℕ, ℤ, List, [], ◌∷◌, Bool, true, false, Option, Some, None, option_and_then}
+use Rattle.std.specs.Prelude.{option_map, codes, is_some, if◌then◌else◌}
 use Rattle.std.specs.Str.{bytes_eq}
 use Rattle.serde_json.specs.Data.{Data, Members, no_members, member}
-use Rattle.serde_json.specs.Find.{get, get_member, as_str, as_object}
+use Rattle.serde_json.specs.Find.{get, as_str, as_object}
 use Rattle.city_model.specs.declared.frame.Frame.{Frame}
-use Rattle.city_model.specs.Kept.{kept_at_top, kept_at_transform, is_empty_object_or_absent}
-use Rattle.city_model.specs.Members.{without, without_each}
+use Rattle.city_model.specs.Kept.{top_members, transform_members, kept_at_top, kept_at_transform}
+use Rattle.city_model.specs.Kept.{is_empty_object_or_absent}
+use Rattle.city_model.specs.Members.{without_each}
 use Rattle.city_doc.specs.tree.Members.{kept_if}
 use Rattle.city_doc.specs.tree.Steps.{◌>>=◌}
 use Rattle.city_doc.specs.tree.Triples.{triple_of, are_triples}
@@ -16,10 +17,7 @@ use Rattle.city_doc.specs.tree.Triples.{triple_of, are_triples}
 abbrev pub triple_at : List ℕ → Data → Option (List ℤ)
 triple_at name d = option_and_then triple_of (get name d)
 
--- the members that are read of a transform; all others are kept
-abbrev pub transform_members : List (List ℕ)
-transform_members = codes "scale" ∷ codes "translate" ∷ []
-
+-- all members of a transform but those that are read
 abbrev pub without_transform_members : Members → Members
 without_transform_members ms = without_each transform_members ms
 
@@ -29,32 +27,19 @@ more_of transform = do
   members ← as_object transform
   kept_if kept_at_transform (without_transform_members members)
 
--- the members that are read at the top beside `CityObjects`; all others are kept
-abbrev pub top_members : List (List ℕ)
-top_members = codes "transform" ∷ codes "type" ∷ codes "version" ∷ codes "vertices" ∷ []
-
+-- all members of the top but those that are read
 abbrev pub without_top_members : Members → Members
 without_top_members ms = without_each top_members ms
 
--- the frame of a transform, and of the kept members of the top
-abbrev pub frame_with : Members → Data → Option Frame
-frame_with extra transform = do
-  scale ← triple_at (codes "scale") transform
-  translate ← triple_at (codes "translate") transform
-  option_map (λ more. record { scale = scale; translate = translate; more = more; extra = extra })
-      (more_of transform)
-
--- of the members but `CityObjects`
-abbrev pub frame_of_rest : Members → Option Frame
-frame_of_rest rest = do
-  extra ← kept_if kept_at_top (without_top_members rest)
-  transform ← get_member (codes "transform") rest
-  frame_with extra transform
-
 abbrev pub frame_of : Data → Option Frame
 frame_of d = do
+  transform ← get (codes "transform") d
+  scale ← triple_at (codes "scale") transform
+  translate ← triple_at (codes "translate") transform
+  more ← more_of transform
   top ← as_object d
-  frame_of_rest (without (codes "CityObjects") top)
+  option_map (λ extra. record { scale = scale; translate = translate; more = more; extra = extra })
+      (kept_if kept_at_top (without_top_members top))
 
 -- ---- the members that are read
 

@@ -1,5 +1,5 @@
 -- The object that a tree stands for, its positions replaced by points (CityJSON 2.0, sections 2 and 3).
-use Rattle.std.specs.Prelude.{ℕ, List, [], ◌∷◌, Option, option_map, option_and_then, codes}
+use Rattle.std.specs.Prelude.{ℕ, List, Option, option_map, option_and_then, codes}
 use Rattle.serde_json.specs.Data.{Data, Members}
 use Rattle.serde_json.specs.Find.{get, as_str, as_object}
 use Rattle.city_model.specs.declared.object.Point.{Point}
@@ -7,17 +7,14 @@ use Rattle.city_model.specs.declared.object.Body.{Body}
 use Rattle.city_model.specs.declared.object.Object.{Object}
 use Rattle.city_model.specs.declared.object_type.ObjectType.{ObjectType}
 use Rattle.city_model.specs.Types.{type_named}
-use Rattle.city_model.specs.Kept.{kept_at_object}
+use Rattle.city_model.specs.Kept.{object_members, kept_at_object}
 use Rattle.city_model.specs.Members.{without_each}
 use Rattle.city_doc.specs.tree.Lists.{list_or_absent}
 use Rattle.city_doc.specs.tree.Members.{kept_if, text_at}
 use Rattle.city_doc.specs.tree.Steps.{◌>>=◌}
 use Rattle.city_doc.specs.shape.Geometries.{geometry_of}
 
--- the members that are read of an object; all others are kept
-abbrev pub object_members : List (List ℕ)
-object_members = codes "type" ∷ codes "geometry" ∷ codes "parents" ∷ codes "children" ∷ []
-
+-- all members but those that are read
 abbrev pub without_object_members : Members → Members
 without_object_members ms = without_each object_members ms
 

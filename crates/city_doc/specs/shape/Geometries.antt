@@ -1,12 +1,12 @@
 -- The geometry that a tree stands for, its positions replaced by points (CityJSON 2.0, section 3).
-use Rattle.std.specs.Prelude.{ℕ, zero, suc, ℤ, pos, negsuc, List, [], ◌∷◌, Option, None, option_map, option_and_then}
-use Rattle.std.specs.Prelude.{slice_get, codes}
+use Rattle.std.specs.Prelude.{ℕ, zero, suc, ℤ, pos, negsuc, List, Option, None, option_map, option_and_then, slice_get}
+use Rattle.std.specs.Prelude.{codes}
 use Rattle.serde_json.specs.Data.{Data, Members}
-use Rattle.serde_json.specs.Find.{get, get_member, as_str, as_object, as_number, as_i64}
+use Rattle.serde_json.specs.Find.{get, as_object, as_number, as_i64}
 use Rattle.city_model.specs.declared.object.Point.{Point}
 use Rattle.city_model.specs.declared.object.Shape.{Shape}
 use Rattle.city_model.specs.declared.object.Geometry.{Geometry}
-use Rattle.city_model.specs.Kept.{kept_at_geometry}
+use Rattle.city_model.specs.Kept.{geometry_members, kept_at_geometry}
 use Rattle.city_model.specs.Members.{without_each}
 use Rattle.city_doc.specs.shape.Nesting.{Nested, geometry_type}
 use Rattle.city_doc.specs.tree.Lists.{list_of}
@@ -31,31 +31,18 @@ shape_of points kind d = do
   t ← geometry_type kind
   option_map t.shape (nested_of points t.depth d)
 
--- ---- geometries, bodies and objects
+-- ---- geometries
 
--- the members that are read of a geometry; all others are kept
-abbrev pub geometry_members : List (List ℕ)
-geometry_members = codes "type" ∷ codes "lod" ∷ codes "boundaries" ∷ []
-
+-- all members but those that are read
 abbrev pub without_geometry_members : Members → Members
 without_geometry_members ms = without_each geometry_members ms
 
--- the geometry of this shape, of the members of its tree
-abbrev pub geometry_with : Shape → Members → Option Geometry
-geometry_with shape ms = do
-  lod ← option_and_then as_str (get_member (codes "lod") ms)
-  option_map (λ kept. record { lod = lod; shape = shape; extra = kept })
-      (kept_if kept_at_geometry (without_geometry_members ms))
-
--- the shape of the type and the boundaries of a tree
-abbrev pub shape_in : List Point → Data → Option Shape
-shape_in points d = do
-  kind ← text_at (codes "type") d
-  boundaries ← get (codes "boundaries") d
-  shape_of points kind boundaries
-
 abbrev pub geometry_of : List Point → Data → Option Geometry
 geometry_of points d = do
-  shape ← shape_in points d
+  kind ← text_at (codes "type") d
+  lod ← text_at (codes "lod") d
+  boundaries ← get (codes "boundaries") d
+  shape ← shape_of points kind boundaries
   members ← as_object d
-  geometry_with shape members
+  option_map (λ kept. record { lod = lod; shape = shape; extra = kept })
+      (kept_if kept_at_geometry (without_geometry_members members))

@@ -4,7 +4,8 @@ ghost use Rattle.serde_json.specs.View.{view, members_view};
 ghost use Rattle.city_model.specs.Kept.{kept_at_top, kept_at_transform};
 ghost use Rattle.city_model.specs.Members.{without};
 ghost use Rattle.city_doc.specs.tree.Members.{kept_if};
-ghost use Rattle.city_doc.specs.document.Top.{triple_at, more_of, frame_with, frame_of_rest, is_text, is_transform};
+ghost use Rattle.city_doc.specs.document.Top.{triple_at, more_of, is_text, is_transform};
+ghost use Rattle.city_doc.specs.inside.document.Frames.{frame_with, frame_of_rest};
 ghost use Rattle.city_doc.specs.document.Top.{all_objects, are_all_objects, are_objects, are_vertices, wrong_member};
 ghost use Rattle.city_doc.specs.document.Top.{without_transform_members};
 

@@ -4,23 +4,16 @@ ghost use Rattle.std.specs.List.{list_any};
 ghost use Rattle.std.specs.Str.{bytes_eq};
 ghost use Rattle.serde_json.specs.Find.{get, as_array};
 ghost use Rattle.serde_json.specs.View.{view, items_view};
-ghost use Rattle.city_doc.specs.tree.Members.{text_at};
 ghost use Rattle.city_doc.specs.object.Bodies.{type_of};
 ghost use Rattle.city_doc.specs.object.Faults.{unsupported_types, unsupported_type, first_unsupported};
 ghost use Rattle.city_doc.specs.object.Faults.{unsupported_name, is_bad_geometry, has_bad_vertex};
 
 use crate::shape::form::are_geometries;
 use crate::shape::nested::{AnyNumber, PositionBelow};
+use crate::tree::values::text_at;
 use city_model::kept::site::has_location;
 use city_model::object_type::{self, ObjectType};
 use serde_json::Value;
-
-/// The text of a member, where it is one.
-pub fn text_at<'v>(object: &'v Value, name: &str) -> Option<&'v str>
-    ensures { option_map (λ s. s.now) result ≡ text_at name.now (view object.now) }
-{
-    object.get(name).and_then(Value::as_str)
-}
 
 /// The type of an object, where it is a known one.
 pub fn type_of(object: &Value) -> Option<ObjectType>

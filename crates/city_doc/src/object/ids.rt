@@ -54,7 +54,7 @@ pub fn has_bad_list(object: &Value) -> bool
 fn read_ids(alloc: Global, items: Vec<Value>) -> Result<Option<Sequence<Id>>, AllocError>
     ensures { IfOk result (λ o. o ≡ read_items as_str (items_view items.items)) }
 {
-    let mut ids = Sequence::from_vec(Vec::with_capacity(alloc, items.len())?);
+    let mut ids = Sequence::with_capacity(alloc, items.len())?;
     for item in items {
         match into_text(item) {
             Some(id) => ids.push(id)?,

@@ -79,7 +79,7 @@ fn scripts_of_items(
 ) -> Result<Option<Sequence<Script>>, AllocError>
     ensures { IfOk result (λ o. o ≡ all_read script_of_item (map view items.items)) }
 {
-    let mut scripts = Sequence::from_vec(Vec::with_capacity(alloc, items.len())?);
+    let mut scripts = Sequence::with_capacity(alloc, items.len())?;
     for item in items {
         let Some(script) = script_of_item(alloc, item)? else {
             return Ok(None);
@@ -145,7 +145,7 @@ fn commands_of(
 ) -> Result<Option<Sequence<Command>>, AllocError>
     ensures { IfOk result (λ o. o ≡ all_read (command_of points.now) (map view items.items)) }
 {
-    let mut commands = Sequence::from_vec(Vec::with_capacity(alloc, items.len())?);
+    let mut commands = Sequence::with_capacity(alloc, items.len())?;
     for item in items {
         let Some(command) = command_of(alloc, points, item)? else {
             return Ok(None);

@@ -3,8 +3,8 @@ ghost use Rattle.std.specs.Prelude.{◌≡◌, option_map};
 ghost use Rattle.serde_json.specs.View.{view};
 ghost use Rattle.city_doc.specs.shape.Forms.{is_boundaries, are_boundaries_of, is_geometry, are_geometries};
 
-use crate::object::faults::text_at;
 use crate::shape::nested::{Formed, Leaf};
+use crate::tree::values::text_at;
 use city_model::object::{Geometry, Shell, Solid, Surface};
 use city_model::sequence::Sequence;
 use serde_json::Value;

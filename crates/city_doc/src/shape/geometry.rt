@@ -5,12 +5,12 @@ ghost use Rattle.serde_json.specs.View.{view, items_view, members_view};
 ghost use Rattle.city_model.specs.Kept.{kept_at_geometry};
 ghost use Rattle.city_model.specs.Members.{without};
 ghost use Rattle.city_doc.specs.tree.Lists.{read_items, list_or_absent};
-ghost use Rattle.city_doc.specs.shape.Geometries.{shape_of, shape_in, geometry_with, geometry_of};
+ghost use Rattle.city_doc.specs.shape.Geometries.{shape_of, geometry_of};
+ghost use Rattle.city_doc.specs.inside.shape.Geometries.{shape_in, geometry_with};
 ghost use Rattle.city_doc.specs.tree.Members.{kept_if};
 
-use crate::object::faults::text_at;
 use crate::shape::nested::Nested;
-use crate::tree::values::{into_array, into_text};
+use crate::tree::values::{into_array, into_text, text_at};
 use city_model::kept::extra::Extra;
 use city_model::kept::site::AtGeometry;
 use city_model::members::{into_object, take};
@@ -113,7 +113,7 @@ fn read_geometries(
 ) -> Result<Option<Sequence<Geometry>>, AllocError>
     ensures { IfOk result (λ o. o ≡ read_items (geometry_of points.now) (items_view items.items)) }
 {
-    let mut found = Sequence::from_vec(Vec::with_capacity(alloc, items.len())?);
+    let mut found = Sequence::with_capacity(alloc, items.len())?;
     for item in items {
         match geometry_of(alloc, points, item)? {
             Some(geometry) => found.push(geometry)?,

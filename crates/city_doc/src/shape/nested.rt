@@ -142,7 +142,7 @@ fn read_items<T: Nested + Drop>(
 ) -> Result<Option<Sequence<T>>, AllocError>
     ensures { IfOk result (λ o. o ≡ read_items (T.reads points.now) (items_view items.now.items)) }
 {
-    let mut found = Sequence::from_vec(Vec::with_capacity(alloc, items.len())?);
+    let mut found = Sequence::with_capacity(alloc, items.len())?;
     for item in items {
         match T::read(alloc, points, item)? {
             Some(one) => found.push(one)?,

@@ -23,7 +23,7 @@ fn point_of(value: &Value) -> Option<Point>
 fn read_points(alloc: Global, items: &Vec<Value>) -> Result<Option<Sequence<Point>>, AllocError>
     ensures { IfOk result (λ o. o ≡ read_items point_of (items_view items.now.items)) }
 {
-    let mut points = Sequence::from_vec(Vec::with_capacity(alloc, items.len())?);
+    let mut points = Sequence::with_capacity(alloc, items.len())?;
     for item in items {
         match point_of(item) {
             Some(point) => points.push(point)?,

@@ -1,12 +1,20 @@
-//! Takes out of values the texts and the items that they are, and copies names.
+//! Texts and items of values: looked up, taken out, and copied.
 ghost use Rattle.std.specs.Prelude.{◌≡◌, IfOk, map, option_map};
 ghost use Rattle.serde_json.specs.Find.{as_str, as_array};
 ghost use Rattle.serde_json.specs.View.{view, items_view};
 ghost use Rattle.city_doc.specs.tree.Lists.{array_of};
+ghost use Rattle.city_doc.specs.tree.Members.{text_at};
 
 use city_model::text::Text;
 use serde_json::Value;
 use std::alloc::{AllocError, Global};
+
+/// The text of a member, where it is one.
+pub fn text_at<'v>(object: &'v Value, name: &str) -> Option<&'v str>
+    ensures { option_map (λ s. s.now) result ≡ text_at name.now (view object.now) }
+{
+    object.get(name).and_then(Value::as_str)
+}
 
 /// The text that a value is, which is consumed.
 pub fn into_text(value: Value) -> Option<Text>

@@ -2,7 +2,7 @@
 ghost use Rattle.std.specs.Prelude.{◌≡◌, Bool, codes};
 ghost use Rattle.serde_json.specs.Data.{Members};
 ghost use Rattle.serde_json.specs.View.{view, members_view};
-ghost use Rattle.city_model.specs.Kept.{lacks, lacks_both, kept_at_top, kept_at_transform, kept_at_object, kept_at_geometry, is_empty_object_or_absent, has_location, is_located, any_located, any_located_in, has_no_member};
+ghost use Rattle.city_model.specs.Kept.{lacks, kept_at_top, kept_at_transform, kept_at_object, kept_at_geometry, is_empty_object_or_absent, has_location, is_located, any_located, any_located_in, has_no_member};
 
 use crate::integral::have_integral;
 use crate::members::member;
@@ -43,17 +43,11 @@ fn lacks(members: &Map<String, Value>, name: &str) -> bool
     }
 }
 
-fn lacks_both(members: &Map<String, Value>, name: &str, other: &str) -> bool
-    ensures { result ≡ lacks_both name.now other.now (members_view members.now.entries) }
-{
-    lacks(members, name) && lacks(members, other)
-}
-
 impl Site for AtTransform {
     ghost keeps = { kept_at_transform };
 
     fn admits(members: &Map<String, Value>) -> bool {
-        have_integral(members) && lacks_both(members, "scale", "translate")
+        have_integral(members) && lacks(members, "scale") && lacks(members, "translate")
     }
 }
 
@@ -61,7 +55,10 @@ impl Site for AtGeometry {
     ghost keeps = { kept_at_geometry };
 
     fn admits(members: &Map<String, Value>) -> bool {
-        have_integral(members) && lacks_both(members, "type", "lod") && lacks(members, "boundaries")
+        have_integral(members)
+            && lacks(members, "type")
+            && lacks(members, "lod")
+            && lacks(members, "boundaries")
     }
 }
 
@@ -70,8 +67,10 @@ impl Site for AtObject {
 
     fn admits(members: &Map<String, Value>) -> bool {
         have_integral(members)
-            && lacks_both(members, "type", "geometry")
-            && lacks_both(members, "parents", "children")
+            && lacks(members, "type")
+            && lacks(members, "geometry")
+            && lacks(members, "parents")
+            && lacks(members, "children")
             && !has_location(member(members, "address"))
     }
 }
@@ -81,8 +80,10 @@ impl Site for AtTop {
 
     fn admits(members: &Map<String, Value>) -> bool {
         have_integral(members)
-            && lacks_both(members, "type", "version")
-            && lacks_both(members, "transform", "CityObjects")
+            && lacks(members, "CityObjects")
+            && lacks(members, "transform")
+            && lacks(members, "type")
+            && lacks(members, "version")
             && lacks(members, "vertices")
             && is_empty_object_or_absent(member(members, "extensions"))
     }

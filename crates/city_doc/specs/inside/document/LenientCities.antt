@@ -1,6 +1,6 @@
 -- The city of a tree, where a list of ids that isn't an array of texts counts as empty.
-use Rattle.std.specs.Prelude.{◌≡◌, ℕ, List, [], ◌∷◌, length, Bool, Option, Some, None, option_and_then}
-use Rattle.std.specs.Prelude.{option_map, codes, if◌then◌else◌}
+use Rattle.std.specs.Prelude.{◌≡◌, ℕ, List, [], ◌∷◌, length, Bool, Option, Some, None, option_and_then, option_map}
+use Rattle.std.specs.Prelude.{codes, if◌then◌else◌}
 use Rattle.std.specs.Ordering.{nat_cmp, is_lt}
 use Rattle.std.specs.Cmp.Lexicographic.{slice_cmp}
 use Rattle.std.specs.FinMap.{entries}
@@ -13,7 +13,7 @@ use Rattle.city_model.specs.Members.{without, AreOrdered}
 use Rattle.city_model.specs.declared.frame.Frame.{Frame}
 use Rattle.city_doc.specs.document.CityFaults.{lenient_object_of}
 use Rattle.city_doc.specs.inside.document.Forms.{AreReadable}
-use Rattle.city_doc.specs.document.Top.{frame_of_rest}
+use Rattle.city_doc.specs.inside.document.Frames.{frame_of_rest}
 use Rattle.city_doc.specs.object.Faults.{has_bad_list}
 use Rattle.city_doc.specs.inside.document.Searches.{first_with}
 

@@ -3,7 +3,8 @@ use Rattle.std.specs.Prelude.{codes, ◌&&◌}
 use Rattle.serde_json.specs.Find.{get_member}
 use Rattle.serde_json.specs.View.{members_view}
 use Rattle.city_doc.specs.document.Cities.{objects_of, entries_of}
-use Rattle.city_doc.specs.document.Top.{is_text, frame_of_rest}
+use Rattle.city_doc.specs.document.Top.{is_text}
+use Rattle.city_doc.specs.inside.document.Frames.{frame_of_rest}
 use Rattle.city_doc.specs.inside.stream.Objects.{AreObjects}
 use Rattle.city_doc.specs.inside.stream.Positions.{IsVertex, points_of}
 use Rattle.city_doc.specs.inside.stream.Standing.{IsArrayOf, IsSlot}

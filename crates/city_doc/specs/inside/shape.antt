@@ -1,0 +1,2 @@
+-- Words for how geometries are built.
+pub mod Geometries
