@@ -1,4 +1,5 @@
 pub mod DeskState
+pub mod FaultTexts
 pub mod InTurn
 pub mod Opening
 pub mod RepliesValue

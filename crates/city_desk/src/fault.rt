@@ -1,27 +1,45 @@
 //! Why a run ends without an answer.
 use city_doc::{ReadFault, ScriptFault};
 use std::alloc::AllocError;
-use thiserror::Error;
+use std::error::Error;
+use std::fmt::{self, Display, Formatter, Write};
 
-/// Why a run has no output.
-#[derive(Debug, Drop, Error)]
+/// Why a run has no output. A fault of a text shows as that fault does.
+#[derive(Debug, Drop)]
 pub enum RunFault {
-    #[error("the document is refused: {0}")]
+    /// The document is refused.
     Read(ReadFault),
-    #[error("the scripts are refused: {0}")]
+    /// The scripts are refused.
     Script(ScriptFault),
-    #[error("out of memory")]
+    /// Memory ran out.
     OutOfMemory,
     /// A viewer's seat was refused.
-    #[error("no viewer place")]
     NoPlace,
     /// A script had not ended when the workers had.
-    #[error("a script had not ended")]
     Unfinished,
     /// What was gathered isn't of this run.
-    #[error("the state gathered isn't of this run")]
     Mixed,
 }
+
+impl Display for RunFault {
+    ghost use Rattle.std.specs.Prelude.{Some};
+    ghost use Rattle.city_desk.specs.FaultTexts.{run_fault_text};
+
+    ghost output = { λ fault. Some (run_fault_text fault) };
+
+    fn fmt<W: Write>(&self, f: &mut Formatter<W>) -> fmt::Result {
+        match self {
+            RunFault::Read(fault) => fault.fmt(f),
+            RunFault::Script(fault) => fault.fmt(f),
+            RunFault::OutOfMemory => f.write_str("out of memory"),
+            RunFault::NoPlace => f.write_str("no viewer place"),
+            RunFault::Unfinished => f.write_str("unfinished"),
+            RunFault::Mixed => f.write_str("mixed"),
+        }
+    }
+}
+
+impl Error for RunFault {}
 
 impl From<AllocError> for RunFault {
     ghost use Rattle.std.specs.Prelude.{◌≡◌};

@@ -1,62 +1,116 @@
-//! Why a text is refused.
+//! Why a text is refused, and how that is told: by number, name and what the fault names, texts as JSON texts.
+mod quoted;
+
 use city_model::text::{Id, Text};
+use quoted::Quoted;
 use std::alloc::AllocError;
-use thiserror::Error;
+use std::error::Error;
+use std::fmt::{self, Display, Formatter, Write};
 
 /// Why a document is refused: the first fault of this list that stands in it, at the least id.
-#[derive(Debug, Drop, Error)]
+/// It shows as `model: 5 UnknownType "b12"`.
+#[derive(Debug, Drop)]
 pub enum ReadFault {
     /// Memory ran out; this has no place in the order.
-    #[error("out of memory")]
     OutOfMemory,
-    #[error("the text is longer than 67,108,864 bytes")]
+    /// The text is longer than 67,108,864 bytes.
     TooLong,
-    #[error("the text isn't JSON")]
+    /// The text isn't JSON.
     NotJson,
-    #[error("a number isn't a whole number of 64 bits")]
+    /// A number isn't a whole number of 64 bits.
     NotWhole,
-    #[error("`{0}` isn't that of a CityJSON 2.0 document")]
+    /// This member isn't that of a CityJSON 2.0 document.
     NotCityJson(Text),
-    #[error("the object {0} has no type, or an unknown one")]
+    /// This object has no type, or an unknown one.
     UnknownType(Id),
-    #[error("the object {0} has a {1}, which isn't supported")]
+    /// This object has something of this name, which isn't supported.
     Unsupported(Id, Text),
-    #[error("the object {0} has a malformed geometry")]
+    /// This object has a malformed geometry.
     BadGeometry(Id),
-    #[error("the object {0} names a vertex that isn't there")]
+    /// This object names a vertex that isn't there.
     BadVertex(Id),
-    #[error("the object {0} has a ring that is too short or has equal neighbours")]
+    /// This object has a ring that is too short or has equal neighbours.
     BadRing(Id),
-    #[error("the parents and children of the object {0} don't agree")]
+    /// The parents and children of this object don't agree.
     Relations(Id),
-    #[error("the object {0} has a solid with an open shell")]
+    /// This object has a solid with an open shell.
     OpenShell(Id),
 }
 
 /// Why a text of scripts is refused: the first fault of this list that stands in it, at the first
-/// script and then the first command.
-#[derive(Debug, Drop, Error)]
+/// script and then the first command. It shows as `scripts: 7 BadCommand 0 3`.
+#[derive(Debug, Drop)]
 pub enum ScriptFault {
     /// Memory ran out; this has no place in the order.
-    #[error("out of memory")]
     OutOfMemory,
-    #[error("the text is longer than 67,108,864 bytes")]
+    /// The text is longer than 67,108,864 bytes.
     TooLong,
-    #[error("the text isn't JSON")]
+    /// The text isn't JSON.
     NotJson,
-    #[error("a number isn't a whole number of 64 bits")]
+    /// A number isn't a whole number of 64 bits.
     NotWhole,
-    #[error("the text isn't an array of scripts")]
+    /// The text isn't an array of scripts.
     NotScripts,
-    #[error("item {0} isn't a script")]
+    /// This item isn't a script.
     BadScript(usize),
-    #[error("there are too many scripts, or too many commands in one")]
+    /// There are too many scripts, or too many commands in one.
     TooMany,
-    #[error("command {1} of script {0} is malformed")]
+    /// In this script, this command is malformed.
     BadCommand(usize, usize),
-    #[error("command {1} of script {0} names a vertex that isn't there")]
+    /// In this script, this command names a vertex that isn't there.
     BadVertex(usize, usize),
 }
+
+impl Display for ReadFault {
+    ghost use Rattle.std.specs.Prelude.{Some};
+    ghost use Rattle.city_doc.specs.FaultTexts.{read_fault_text};
+
+    ghost output = { λ fault. Some (read_fault_text fault) };
+
+    fn fmt<W: Write>(&self, f: &mut Formatter<W>) -> fmt::Result {
+        match self {
+            ReadFault::OutOfMemory => f.write_str("out of memory"),
+            ReadFault::TooLong => f.write_str("model: 1 TooLong"),
+            ReadFault::NotJson => f.write_str("model: 2 NotJson"),
+            ReadFault::NotWhole => f.write_str("model: 3 NotWhole"),
+            ReadFault::NotCityJson(member) => write!(f, "model: 4 NotCityJson {}", Quoted(member)),
+            ReadFault::UnknownType(id) => write!(f, "model: 5 UnknownType {}", Quoted(id)),
+            ReadFault::Unsupported(id, name) => {
+                write!(f, "model: 6 Unsupported {} {}", Quoted(id), Quoted(name))
+            }
+            ReadFault::BadGeometry(id) => write!(f, "model: 7 BadGeometry {}", Quoted(id)),
+            ReadFault::BadVertex(id) => write!(f, "model: 8 BadVertex {}", Quoted(id)),
+            ReadFault::BadRing(id) => write!(f, "model: 9 BadRing {}", Quoted(id)),
+            ReadFault::Relations(id) => write!(f, "model: 10 Relations {}", Quoted(id)),
+            ReadFault::OpenShell(id) => write!(f, "model: 11 OpenShell {}", Quoted(id)),
+        }
+    }
+}
+
+impl Error for ReadFault {}
+
+impl Display for ScriptFault {
+    ghost use Rattle.std.specs.Prelude.{Some};
+    ghost use Rattle.city_doc.specs.FaultTexts.{script_fault_text};
+
+    ghost output = { λ fault. Some (script_fault_text fault) };
+
+    fn fmt<W: Write>(&self, f: &mut Formatter<W>) -> fmt::Result {
+        match self {
+            ScriptFault::OutOfMemory => f.write_str("out of memory"),
+            ScriptFault::TooLong => f.write_str("scripts: 1 TooLong"),
+            ScriptFault::NotJson => f.write_str("scripts: 2 NotJson"),
+            ScriptFault::NotWhole => f.write_str("scripts: 3 NotWhole"),
+            ScriptFault::NotScripts => f.write_str("scripts: 4 NotScripts"),
+            ScriptFault::BadScript(n) => write!(f, "scripts: 5 BadScript {n}"),
+            ScriptFault::TooMany => f.write_str("scripts: 6 TooMany"),
+            ScriptFault::BadCommand(n, i) => write!(f, "scripts: 7 BadCommand {n} {i}"),
+            ScriptFault::BadVertex(n, i) => write!(f, "scripts: 8 BadVertex {n} {i}"),
+        }
+    }
+}
+
+impl Error for ScriptFault {}
 
 impl From<AllocError> for ReadFault {
     ghost use Rattle.std.specs.Prelude.{◌≡◌};

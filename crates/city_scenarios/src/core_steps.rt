@@ -82,9 +82,8 @@ fn said(core: &mut Core, alloc: Global, step: &str) -> Result<String, AllocError
 
 fn fault_text(alloc: Global, fault: TxnFault) -> Result<String, AllocError> {
     match fault {
-        TxnFault::NotOpen(stamp) => format!(in alloc; "NotOpen {stamp}"),
-        TxnFault::StampOpen(stamp) => format!(in alloc; "StampOpen {stamp}"),
         TxnFault::OutOfMemory => Err(AllocError),
+        fault => fault.to_string(alloc),
     }
 }
 

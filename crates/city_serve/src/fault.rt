@@ -1,20 +1,36 @@
 //! Why bytes were not served.
 use city_desk::RunFault;
 use std::alloc::AllocError;
-use thiserror::Error;
+use std::error::Error;
+use std::fmt::{self, Display, Formatter, Write};
 
-/// Why bytes were not served.
-#[derive(Debug, Drop, Error)]
+/// Why bytes were not served. A fault of the run shows as that fault does.
+#[derive(Debug, Drop)]
 pub enum ServeFault {
     /// The reader failed.
-    #[error("cannot read")]
     Read,
-    #[error("{0}")]
+    /// The run has no output.
     Run(RunFault),
     /// The writer failed, or took no byte.
-    #[error("cannot write")]
     Write,
 }
+
+impl Display for ServeFault {
+    ghost use Rattle.std.specs.Prelude.{Some};
+    ghost use Rattle.city_serve.specs.FaultTexts.{serve_fault_text};
+
+    ghost output = { λ fault. Some (serve_fault_text fault) };
+
+    fn fmt<W: Write>(&self, f: &mut Formatter<W>) -> fmt::Result {
+        match self {
+            ServeFault::Read => f.write_str("cannot read"),
+            ServeFault::Run(fault) => fault.fmt(f),
+            ServeFault::Write => f.write_str("cannot write"),
+        }
+    }
+}
+
+impl Error for ServeFault {}
 
 impl From<AllocError> for ServeFault {
     ghost use Rattle.std.specs.Prelude.{◌≡◌};

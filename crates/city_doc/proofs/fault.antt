@@ -1,0 +1,2 @@
+-- What the proofs of src/fault/ use.
+mod Escapes
