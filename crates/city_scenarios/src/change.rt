@@ -1,18 +1,18 @@
 //! A change, written as its ids.
 use city_model::object::Object;
 use city_model::text::Text;
-use std::alloc::{AllocError, Global};
+use std::alloc::AllocError;
 
-/// A word, and the ids that a change sets, each after a `+`, and takes out, each after a `-`.
-pub fn change_text(
-    alloc: Global,
+/// Adds a line of a word, and the ids that a change sets, each after a `+`, and takes out, each after a `-`.
+pub fn add_change(
+    answer: &mut Vec<u8>,
     word: &str,
     change: &[(Text, Option<Object>)],
-) -> Result<String, AllocError> {
-    let mut all = word.to_string(alloc)?;
+) -> Result<(), AllocError> {
+    answer.extend_from_slice(word.as_bytes())?;
     for (id, object) in change {
-        all.push_str(if object.is_some() { " +" } else { " -" })?;
-        all.push_str(id.as_str())?;
+        answer.extend_from_slice(if object.is_some() { b" +" } else { b" -" })?;
+        answer.extend_from_slice(id.as_str().as_bytes())?;
     }
-    Ok(all)
+    answer.extend_from_slice(b"\n")
 }
