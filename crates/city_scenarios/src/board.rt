@@ -1,14 +1,14 @@
 //! The verb `board`: viewers of a board whose poster is a desk's shelf.
-ghost use Rattle.std.specs.Prelude.{◌≡◌, ◌≤◌, [], All, IfOk, IfSome};
+ghost use Rattle.std.specs.Prelude.{◌≡◌, ◌≤◌, []};
 ghost use Rattle.city_model.specs.CityMap.{object_at};
 ghost use Rattle.city_model.specs.Relations.{IsLawful};
 ghost use Rattle.city_crew.specs.Limits.{max_viewers};
 
 use crate::document::add_city;
 use crate::line::{add_line, add_run_fault};
-use crate::steps::{add_step, step_of};
+use crate::steps::add_step;
 use city_crew::board::board;
-use city_crew::{MAX_VIEWERS, Note, Poster, Viewer};
+use city_crew::{MAX_VIEWERS, Poster, Viewer};
 use city_desk::{Desk, Shelf, Turn, read_texts};
 use city_model::city::City;
 use city_model::copied::Copied;
@@ -24,98 +24,71 @@ pub fn play_board<R: Wait>(
     seats: &str,
     document: &[u8],
     scripts: &[u8],
-    lines: &str,
+    steps: &[&str],
     answer: &mut Vec<u8>,
 ) -> Result<(), AllocError> {
     let seats = seats.parse::<usize>().unwrap_or(0).min(MAX_VIEWERS);
     match read_texts(alloc, document, scripts) {
-        Ok((city, scripts)) => play_over(rt, alloc, city, scripts, seats, lines, answer),
+        Ok((city, scripts)) => play_over(rt, alloc, city, scripts, seats, steps, answer),
         Err(fault) => add_run_fault(alloc, answer, fault),
     }
 }
 
+/// The same over a city: at a board over a copy of it.
 fn play_over<R: Wait>(
     rt: &R,
     alloc: Global,
     city: City,
     scripts: Sequence<Script>,
     seats: usize,
-    lines: &str,
+    steps: &[&str],
     answer: &mut Vec<u8>,
 ) -> Result<(), AllocError>
     requires lawful { IsLawful (object_at city.1) }
     requires seats { seats ≤ max_viewers }
 {
-    match opened(rt, alloc, scripts, city, seats) {
-        Some((desk, viewers)) => play_at(rt, alloc, desk, viewers, lines, answer),
-        None => add_line(answer, "no board"),
+    let copy = city.copy(alloc)?;
+    match board(rt, alloc, copy, seats) {
+        Ok((poster, viewers)) => open_desk(
+            rt, alloc, city, scripts, poster, viewers, steps, answer,
+        ),
+        Err(_) => add_line(answer, "no board"),
     }
 }
 
-/// A board over a city, and its viewers.
-fn board_over<'r, R: Wait>(
-    rt: &'r R,
+/// The same at a board over the city: at a desk whose shelf is the board's poster.
+fn open_desk<R: Wait + Drop, Q: Wait>(
+    rt: &Q,
     alloc: Global,
-    city: &City,
-    seats: usize,
-) -> Option<(Poster<&'r R>, Vec<Viewer>)>
-    requires lawful { IsLawful (object_at city.now.1) }
-    requires seats { seats ≤ max_viewers }
-    ensures opening { IfSome result (λ r. r.0.opening ≡ city.now) }
-    ensures taken { IfSome result (λ r. r.0.taken ≡ []) }
-{
-    let Ok(copy) = city.copy(alloc) else {
-        return None;
-    };
-    board(rt, alloc, copy, seats).ok()
-}
-
-/// A desk over the city of a board, whose shelf is the board's poster.
-fn desk_over<'r, R: Wait>(
-    alloc: Global,
-    scripts: Sequence<Script>,
     city: City,
-    poster: Poster<&'r R>,
-) -> Option<Desk<Poster<&'r R>>>
+    scripts: Sequence<Script>,
+    poster: Poster<R>,
+    viewers: Vec<Viewer>,
+    steps: &[&str],
+    answer: &mut Vec<u8>,
+) -> Result<(), AllocError>
     requires lawful { IsLawful (object_at city.1) }
     requires opening { poster.opening ≡ city }
     requires taken { poster.taken ≡ [] }
 {
-    let desk = Desk::open(alloc, city, scripts, poster).ok()?;
-    Some(desk)
+    match Desk::open(alloc, city, scripts, poster) {
+        Ok(desk) => play_at(rt, alloc, desk, viewers, steps, answer),
+        Err(_) => Err(AllocError),
+    }
 }
 
-/// A desk over a city, whose shelf is the poster of a board over it, and the board's viewers.
-fn opened<'r, R: Wait>(
-    rt: &'r R,
-    alloc: Global,
-    scripts: Sequence<Script>,
-    city: City,
-    seats: usize,
-) -> Option<(Desk<Poster<&'r R>>, Vec<Viewer>)>
-    requires lawful { IsLawful (object_at city.1) }
-    requires seats { seats ≤ max_viewers }
-{
-    let (poster, viewers) = board_over(rt, alloc, &city, seats)?;
-    let desk = desk_over(alloc, scripts, city, poster)?;
-    Some((desk, viewers))
-}
-
-/// Takes the steps at a desk, which is dropped in one place only.
+/// The same at a desk.
 fn play_at<R: Wait + Drop, Q: Wait>(
     rt: &Q,
     alloc: Global,
-    desk: Desk<Poster<R>>,
-    viewers: Vec<Viewer>,
-    lines: &str,
+    mut desk: Desk<Poster<R>>,
+    mut viewers: Vec<Viewer>,
+    steps: &[&str],
     answer: &mut Vec<u8>,
 ) -> Result<(), AllocError> {
-    let mut desk = desk;
-    let mut viewers = viewers;
-    let taken = take_steps(rt, alloc, &mut desk, &mut viewers, lines, answer);
+    let taken = take_steps(rt, alloc, &mut desk, &mut viewers, steps, answer);
     let left = add_left(desk, alloc, answer);
-    taken?;
-    left
+    taken.and(left)
 }
 
 /// Adds the model that a desk leaves.
@@ -133,18 +106,16 @@ fn take_steps<R: Wait + Drop, Q: Wait>(
     alloc: Global,
     desk: &mut Desk<Poster<R>>,
     viewers: &mut Vec<Viewer>,
-    lines: &str,
+    steps: &[&str],
     answer: &mut Vec<u8>,
 ) -> Result<(), AllocError> {
-    for line in lines.lines() {
-        if let Some(step) = step_of(line) {
-            take_step(rt, alloc, desk, viewers, step, answer)?;
-        }
+    for step in steps {
+        add_step(answer, step)?;
+        take_step(rt, alloc, desk, viewers, step, answer)?;
     }
     Ok(())
 }
 
-/// Takes a step, and adds what it is answered.
 fn take_step<R: Wait + Drop, Q: Wait>(
     rt: &Q,
     alloc: Global,
@@ -154,10 +125,10 @@ fn take_step<R: Wait + Drop, Q: Wait>(
     answer: &mut Vec<u8>,
 ) -> Result<(), AllocError> {
     match step {
-        "commit" => add_step(answer, step, end_next(desk)),
+        "commit" => add_line(answer, end_next(desk)),
         "show" => {
             let _note = desk.show(rt)?;
-            add_step(answer, step, "done")
+            add_line(answer, "done")
         }
         _ => look_at(alloc, viewers, step, answer),
     }
@@ -193,37 +164,36 @@ fn look_at(
 ) -> Result<(), AllocError> {
     match seat_of(step) {
         Some(seat) if seat < viewers.len() => {
-            let mut said = String::new(alloc);
-            let viewer = looked(alloc, viewers.remove(seat), &mut said)?;
+            let (viewer, told) = look(alloc, viewers.remove(seat), answer);
             viewers.insert(seat, viewer)?;
-            add_step(answer, step, said.as_str())
+            told
         }
-        _ => add_step(answer, step, "no such step"),
+        _ => add_line(answer, "no such step"),
     }
 }
 
-/// Writes down how many edits a viewer sees, and which objects.
-fn looked(alloc: Global, viewer: Viewer, said: &mut String) -> Result<Viewer, AllocError> {
+/// Adds how many edits a viewer sees, and which objects, and gives it back.
+fn look(alloc: Global, viewer: Viewer, answer: &mut Vec<u8>) -> (Viewer, Result<(), AllocError>) {
     match viewer.look() {
         Ok(look) => {
-            let told = add_seen(alloc, look.edits(), look.city(), said);
-            let viewer = look.leave();
-            told?;
-            Ok(viewer)
+            let told = add_seen(alloc, look.edits(), look.city(), answer);
+            (look.leave(), told)
         }
-        Err(viewer) => {
-            said.push_str("no look")?;
-            Ok(viewer)
-        }
+        Err(viewer) => (viewer, add_line(answer, "no look")),
     }
 }
 
 /// Adds how many edits there are, and the ids of a city's objects, a space before each.
-fn add_seen(alloc: Global, edits: u64, city: &City, said: &mut String) -> Result<(), AllocError> {
-    said.push_str(edits.to_string(alloc)?.as_str())?;
+fn add_seen(
+    alloc: Global,
+    edits: u64,
+    city: &City,
+    answer: &mut Vec<u8>,
+) -> Result<(), AllocError> {
+    answer.extend_from_slice(edits.to_string(alloc)?.as_bytes())?;
     for (id, _) in city.iter() {
-        said.push_str(" ")?;
-        said.push_str(id.as_str())?;
+        answer.push(b' ')?;
+        answer.extend_from_slice(id.as_str().as_bytes())?;
     }
-    Ok(())
+    answer.extend_from_slice(b"\n")
 }

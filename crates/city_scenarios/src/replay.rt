@@ -21,6 +21,7 @@ use city_model::script::{Script, is_end};
 use city_model::sequence::Sequence;
 use city_model::text::Text;
 use std::alloc::Global;
+use std::mem::swap;
 
 /// Writes a change into the city.
 fn write(city: &mut City, change: Writes) -> Result<(), OutOfMemory>
@@ -64,16 +65,24 @@ fn redo(alloc: Global, city: &mut City, command: &Command) -> Result<(), OutOfMe
     Ok(())
 }
 
-/// The city after these commands.
-fn redone(alloc: Global, opening: &City, commands: &[&Command]) -> Result<City, OutOfMemory>
-    requires { IsSound (object_at opening.now.1) }
-    ensures { IfOk result (λ city. IsSound (object_at city.1)) }
+/// Does these commands anew.
+fn redo_all(alloc: Global, city: &mut City, commands: &[&Command]) -> Result<(), OutOfMemory>
+    requires { IsSound (object_at city.old.1) }
+    ensures { OnOk result (IsSound (object_at city.new.1)) }
 {
-    let mut city = opening.copy(alloc)?;
     for command in commands {
-        redo(alloc, &mut city, command)?;
+        redo(alloc, city, command)?;
     }
-    Ok(city)
+    Ok(())
+}
+
+/// Makes the city a copy of the opening one.
+fn reopen(alloc: Global, opening: &City, city: &mut City) -> Result<(), OutOfMemory>
+    requires { IsSound (object_at opening.now.1) }
+    ensures { OnOk result (IsSound (object_at city.new.1)) }
+{
+    *city = opening.copy(alloc)?;
+    Ok(())
 }
 
 fn is_mark_of(command: &Command, name: &Text) -> bool {
@@ -108,11 +117,16 @@ fn go_back(
     ensures { OnOk result (IsSound (object_at city.new.1)) }
 {
     let Some(place) = newest_mark(counted.as_slice(), name) else {
-        return Ok(Reply::Refused(Cause::NoMark(name.copy(alloc)?)));
+        return no_mark(alloc, name);
     };
     counted.truncate(place.saturating_add(1));
-    *city = redone(alloc, opening, counted.as_slice())?;
+    reopen(alloc, opening, city)?;
+    redo_all(alloc, city, counted.as_slice())?;
     Ok(Reply::WentBack)
+}
+
+fn no_mark(alloc: Global, name: &Text) -> Result<Reply, OutOfMemory> {
+    Ok(Reply::Refused(Cause::NoMark(name.copy(alloc)?)))
 }
 
 /// The reply to a command that doesn't end its script, after those that count of it.
@@ -151,15 +165,42 @@ fn ended(
     }
 }
 
-/// Plays the commands on a copy of the opening city, and returns how they end: if none of them ends the script, out of
-/// memory at the next one.
+/// Plays the command, which is number `number` and doesn't end its script, and writes down its reply, or the end where it
+/// is refused: whether it is.
+fn is_refused(
+    alloc: Global,
+    opening: &City,
+    city: &mut City,
+    counted: &mut Vec<&Command>,
+    command: &Command,
+    number: usize,
+    end: &mut End,
+) -> Result<bool, OutOfMemory>
+    requires no_end { is_end command.now ≡ false }
+    requires opening { IsSound (object_at opening.now.1) }
+    requires sound { IsSound (object_at city.old.1) }
+    ensures { OnOk result (IsSound (object_at city.new.1)) }
+{
+    match reply_to(alloc, opening, city, counted, command)? {
+        Reply::Refused(cause) => {
+            end.outcome = Outcome::Refused(number, cause);
+            Ok(true)
+        }
+        reply => {
+            end.replies.push(reply)?;
+            Ok(false)
+        }
+    }
+}
+
+/// Plays the commands on a copy of the opening city, and writes down the replies and how they end, if they do.
 fn play(
     alloc: Global,
     opening: &City,
     city: &mut City,
     commands: &[Command],
-    replies: &mut Sequence<Reply>,
-) -> Result<Outcome, OutOfMemory>
+    end: &mut End,
+) -> Result<(), OutOfMemory>
     requires opening { IsSound (object_at opening.now.1) }
     requires sound { IsSound (object_at city.old.1) }
     ensures { OnOk result (IsSound (object_at city.new.1)) }
@@ -167,15 +208,15 @@ fn play(
     let mut counted = Vec::new(alloc);
     for (number, command) in commands.iter().enumerate() {
         if is_end(command) {
-            return ended(alloc, city, command, number);
+            end.outcome = ended(alloc, city, command, number)?;
+            return Ok(());
         }
-        match reply_to(alloc, opening, city, &mut counted, command)? {
-            Reply::Refused(cause) => return Ok(Outcome::Refused(number, cause)),
-            reply => replies.push(reply)?,
+        if is_refused(alloc, opening, city, &mut counted, command, number, end)? {
+            return Ok(());
         }
         counted.push(command)?;
     }
-    Ok(Outcome::NoMemory(commands.len()))
+    Ok(())
 }
 
 /// The commands of the script that were tried before it ended: all of them, unless it
@@ -188,24 +229,38 @@ fn tried<'a>(script: &'a Script, outcome: &Outcome) -> &'a [Command] {
     }
 }
 
-/// Plays the commands on a copy of the city, which is kept where they commit.
+/// Plays the commands on a copy of the city, which is kept where they commit, and writes down their end.
 fn play_on_copy(
     alloc: Global,
     city: &mut City,
     commands: &[Command],
-    replies: &mut Sequence<Reply>,
-) -> Result<Outcome, OutOfMemory>
+    end: &mut End,
+) -> Result<(), OutOfMemory>
     requires { IsSound (object_at city.old.1) }
     ensures { IsSound (object_at city.new.1) }
 {
     let mut copy = city.copy(alloc)?;
-    match play(alloc, city, &mut copy, commands, replies) {
-        Ok(Outcome::Committed) => {
-            *city = copy;
-            Ok(Outcome::Committed)
-        }
-        other => other,
+    play(alloc, city, &mut copy, commands, end)?;
+    if matches!(end.outcome, Outcome::Committed) {
+        swap(city, &mut copy);
     }
+    Ok(())
+}
+
+/// The end of a script of so many commands, if it runs out of memory after all of them.
+fn end_after(
+    alloc: Global,
+    script: &Script,
+    commands: usize,
+    end: &End,
+) -> Result<End, OutOfMemory> {
+    Ok(End {
+        script: end.script,
+        name: script.name().copy(alloc)?,
+        since: end.since,
+        replies: Sequence::new(alloc),
+        outcome: Outcome::NoMemory(commands),
+    })
 }
 
 /// The end of the script of this end when it is played on the city, which changes where the script
@@ -215,17 +270,10 @@ fn end_again(alloc: Global, city: &mut City, scripts: &[Script], end: &End) -> O
     ensures { IsSound (object_at city.new.1) }
 {
     let script = scripts.get(end.script)?;
-    let name = script.name().copy(alloc).ok()?;
     let commands = tried(script, &end.outcome);
-    let mut replies = Sequence::new(alloc);
-    let outcome = play_on_copy(alloc, city, commands, &mut replies).ok()?;
-    Some(End {
-        script: end.script,
-        name,
-        since: end.since,
-        replies,
-        outcome,
-    })
+    let mut again = end_after(alloc, script, commands.len(), end).ok()?;
+    play_on_copy(alloc, city, commands, &mut again).ok()?;
+    Some(again)
 }
 
 /// The ends of the scripts of these ends, when they are played one after the other on the city.
@@ -254,14 +302,21 @@ fn replay_scripts(
 
 /// Whether each script ends once, and none since more ends than there were before it.
 fn are_placed(ends: &[End]) -> bool {
-    ends.iter().enumerate().all(|(place, end)| {
-        let once = ends
-            .iter()
-            .filter(|other| other.script == end.script)
-            .count()
-            == 1;
-        once && end.since <= place
-    })
+    for (place, end) in ends.iter().enumerate() {
+        if end.since > place || count_ends(ends, end.script) > 1 {
+            return false;
+        }
+    }
+    true
+}
+
+/// How often a script ends.
+fn count_ends(ends: &[End], script: usize) -> u64 {
+    let mut count = 0u64;
+    for end in ends {
+        count = count.saturating_add(u64::from(end.script == script));
+    }
+    count
 }
 
 /// What the scripts of these ends give, played one at a time in this order: the report, then the model's text and a

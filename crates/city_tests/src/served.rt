@@ -23,17 +23,22 @@ pub const TWO: &str = concat!(
 pub fn scripts_of_roads(alloc: Global, count: usize) -> Result<String, AllocError> {
     let mut text = String::new(alloc);
     for number in 0..count {
-        let before = if number == 0 { "[" } else { "," };
-        let put = format!(in alloc; r#"{{"put":"r{number}","object":{{"type":"Road"}}}}"#)?;
-        let script = format!(in alloc; r#"{{"name":"r{number}","commands":[{put},"commit"]}}"#)?;
-        text.push_str(before)?;
-        text.push_str(script.as_str())?;
+        add_script_of_road(&mut text, number)?;
     }
     text.push(']')?;
     Ok(text)
 }
 
-/// What is written of a run and what each viewer saw, as `[[0, 1]]`; none where it isn't served.
+fn add_script_of_road(text: &mut String, number: usize) -> Result<(), AllocError> {
+    text.push_str(if number == 0 { "[" } else { "," })?;
+    write!(
+        text,
+        r#"{{"name":"r{number}","commands":[{{"put":"r{number}","#
+    )?;
+    text.push_str(r#""object":{"type":"Road"}},"commit"]}"#)
+}
+
+/// What each viewer of a run saw, which is written; none where it isn't served.
 pub fn served<R: Threads + Wait + Sync, G: Gate + Sync>(
     rt: &R,
     alloc: Global,
@@ -41,36 +46,38 @@ pub fn served<R: Threads + Wait + Sync, G: Gate + Sync>(
     texts: (&str, &str),
     workers: usize,
     viewers: usize,
-) -> Option<(String, String)>
+    written: &mut Vec<u8>,
+) -> Option<Vec<Vec<u64>>>
     requires workers { (1 ≤ workers) × (workers ≤ 16) }
     requires viewers { viewers ≤ 4 }
 {
-    let (document, scripts) = (texts.0.as_bytes(), texts.1.as_bytes());
-    let mut written = Vec::new(alloc);
-    let mut writer = Device::new(&mut written);
-    let seen = serve_texts_through(
-        rt,
-        alloc,
-        gate,
-        document,
-        scripts,
-        &mut writer,
-        workers,
-        viewers,
-    );
-    drop(writer);
-    told(alloc, written.as_slice(), seen.ok()?.as_slice())
+    let (model, scripts) = (texts.0.as_bytes(), texts.1.as_bytes());
+    let mut out = Device::new(written);
+    serve_texts_through(rt, alloc, gate, model, scripts, &mut out, workers, viewers).ok()
 }
 
-fn told(alloc: Global, written: &[u8], seen: &[Vec<u64>]) -> Option<(String, String)> {
-    let text = str::from_utf8(written).ok()?.to_string(alloc).ok()?;
-    let seen = format!(in alloc; "{seen:?}").ok()?;
-    Some((text, seen))
+/// How many scripts of a run without viewers have committed; none where it isn't served.
+pub fn committed<R: Threads + Wait + Sync, G: Gate + Sync>(
+    rt: &R,
+    alloc: Global,
+    gate: &G,
+    texts: (&str, &str),
+    workers: usize,
+) -> Option<usize>
+    requires { (1 ≤ workers) × (workers ≤ 16) }
+{
+    let mut written = Vec::new(alloc);
+    let _seen = served(rt, alloc, gate, texts, workers, 0, &mut written)?;
+    Some(commits(written.as_slice()))
 }
 
 /// How many scripts have committed, by the report.
-pub fn commits(text: &str) -> usize {
-    text.lines()
-        .filter(|line| line.contains(r#""outcome":"committed""#))
-        .count()
+pub fn commits(written: &[u8]) -> usize {
+    let mut commits = 0usize;
+    for line in str::from_utf8(written).unwrap_or("").lines() {
+        if line.contains(r#""outcome":"committed""#) {
+            commits = commits.saturating_add(1);
+        }
+    }
+    commits
 }
