@@ -90,8 +90,8 @@ module _ (c : Change) (ascends : Ascends c) where
   written : (q : List ℕ) (o : Object) → set_by c q ≡ Some o → write_in c q ≡ Some (Some o)
   written q o h = set_there (write_in c q) o (sym (set_at q) ∙ h)
 
-  pub is_least_orphan_set : (id : List ℕ) → first_orphan_in c ≡ Some id → IsLeastOrphan (set_by c) id
-  is_least_orphan_set id first =
+  pub is_least_orphan_in : (id : List ℕ) → first_orphan_in c ≡ Some id → IsLeastOrphan (set_by c) id
+  is_least_orphan_in id first =
       let least = least_that (λ _ object. is_orphan_there object) c id ascends first in (
         orphan_there (set_by c) id least.0.0 (set_at id ∙ ap (λ x. unwrap_or x None) least.0.1) least.0.2,
         λ q below h. least.1 q below (Some h.0, written q h.0 h.1, h.2),

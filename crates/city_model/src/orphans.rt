@@ -32,7 +32,7 @@ pub fn least_orphan(city: &City) -> Option<&Id>
 
 /// The least id of an orphan among the objects that a change sets, in byte order; none where no object is one. Doesn't
 /// allocate.
-pub fn least_orphan_set(change: &Change) -> Option<&Id>
+pub fn least_orphan_in(change: &Change) -> Option<&Id>
     ensures least { IfSome result (λ id. IsLeastOrphan (set_by change.now) id.now) }
     ensures none { IfNone result (HasNoOrphan (set_by change.now)) }
 {

@@ -20,7 +20,7 @@ use city_locks::{Answer, LockTable};
 use city_model::city::City;
 use city_model::command::{Cause, Command};
 use city_model::copied::Copied;
-use city_model::orphans::least_orphan_set;
+use city_model::orphans::least_orphan_in;
 use std::alloc::Global;
 use std::marker::Model;
 
@@ -153,7 +153,7 @@ impl Core {
         let Ok(change) = self.store.change(stamp) else {
             return Err(TxnFault::OutOfMemory);
         };
-        if let Some(id) = least_orphan_set(&change) {
+        if let Some(id) = least_orphan_in(&change) {
             let Ok(id) = id.copy(self.store.alloc()) else {
                 return Err(TxnFault::OutOfMemory);
             };

@@ -28,4 +28,4 @@ returns-clause-prepared c =
     subst (λ (v : CoreState). IsChangeOf v c.args.stamp c.in-Ok.change) c.self.view_is
     (is_change_of (core_state a) c.args.stamp c.in-Ok.change c.in-Ok.ensures.lists c.in-Ok.ensures.ordered
     c.self.invariant.state.city.1 (sound_view (core_state a) c.args.stamp c.self.invariant.state)
-    c.in_default-least_orphan_set.ensures.none)
+    c.in_default-least_orphan_in.ensures.none)

@@ -1,10 +1,10 @@
 use Rattle.std.proofs.Common.{cond, Some, ap, sym, ◌∙◌}
-use Rattle.city_model.proofs.ChangeLaws.{first_orphan_in, is_least_orphan_set, has_no_orphan_set}
-use Rattle.city_model.proofs.orphans.least_orphan_set.Goals as goal
+use Rattle.city_model.proofs.ChangeLaws.{first_orphan_in, is_least_orphan_in, has_no_orphan_set}
+use Rattle.city_model.proofs.orphans.least_orphan_in.Goals as goal
 
 pub returns-then-is_orphan_there-clause-least : goal.returns-then-is_orphan_there-clause-least
 returns-then-is_orphan_there-clause-least c =
-    is_least_orphan_set c.args.change.now c.iter-id-items.ensures.in_byte_order c.in-Some.id.now
+    is_least_orphan_in c.args.change.now c.iter-id-items.ensures.in_byte_order c.in-Some.id.now
     (c.loop-id.invariant ∙ (ap first_orphan_in c.in-Some.ensures.steps
     ∙ ap (λ b. cond b (Some c.in-Some.id.now) (first_orphan_in c.next.new.self)) (sym c.is_orphan_there.ensures
     ∙ c.if-is_orphan_there.true)))
