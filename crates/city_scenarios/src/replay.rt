@@ -165,8 +165,8 @@ fn ended(
     }
 }
 
-/// Plays the command, which is number `number` and doesn't end its script, and writes down its reply, or the end where it
-/// is refused: whether it is.
+/// Plays the command, which is number `number` and doesn't end its script, and writes down its reply, or the end
+/// where it is refused: whether it is.
 fn is_refused(
     alloc: Global,
     opening: &City,

@@ -25,7 +25,7 @@ use Rattle.city_txn.specs.declared.store.Store.TheInside.{Inside}
 use Rattle.city_txn.specs.inside.Images.{seen_under, seen_by, committed_at, write_at, writer_of, or_else}
 use Rattle.city_txn.specs.UndoLog.{log_of, has_before}
 use Rattle.city_txn.specs.Writes.{write_of, own_or, with_some, made_by}
-use Rattle.city_txn.specs.inside.State.{committed, view}
+use Rattle.city_txn.specs.inside.State.{store_committed, store_view}
 use Rattle.city_txn.specs.inside.InPlace.{state_of, is_writer, IsInPlace}
 use Rattle.city_txn.specs.inside.UndoState.{Images, image_at, reservations_of}
 use Rattle.city_txn.proofs.ImagesHeld.{images_ascend, image_listed}
@@ -115,7 +115,7 @@ abbrev pub here : Inside → List ℕ → Option Object
 here a q = object_at a.city.1 q
 
 module _ (a : Inside) (k : IsInPlace a) (q : List ℕ) where
-  pub city_is : committed (state_of a) q ≡ committed_at (here a q) (image_at a.undo q)
+  pub city_is : store_committed (state_of a) q ≡ committed_at (here a q) (image_at a.undo q)
   city_is =
       ap (λ f. f q)
       (at_sorted (made_by (λ r o. committed_at (Some o) (image_at a.undo r)) (entries a.city.1))
@@ -130,9 +130,9 @@ module _ (a : Inside) (k : IsInPlace a) (q : List ℕ) where
       ∙ write_point (here a q) (image_at a.undo q)
 
   pub view_is : (s : ℕ)
-      → view (state_of a) s q ≡ own_or s (write_at (here a q) (image_at a.undo q))
+      → store_view (state_of a) s q ≡ own_or s (write_at (here a q) (image_at a.undo q))
       (committed_at (here a q) (image_at a.undo q))
-  view_is s = ap (λ w. own_or s w (committed (state_of a) q)) writes_is
+  view_is s = ap (λ w. own_or s w (store_committed (state_of a) q)) writes_is
       ∙ ap (own_or s (write_at (here a q) (image_at a.undo q))) city_is
 
 -- ---- what a transaction sees, from its image

@@ -46,10 +46,10 @@ listed_open (e ∷ es) s =
     ∙ ap (λ b. is_at (nat_cmp s) e.0 || b) (listed_open es s)
     ∙ either (is_at (nat_cmp s) e.0) e.1 (lookup (is_at (nat_cmp s)) es)
 
-pub open_is : (a : Inside) (s : ℕ) → is_open (core_state a) s ≡ store.is_open a.store s
+pub open_is : (a : Inside) (s : ℕ) → is_open (core_state a) s ≡ store.is_begun a.store s
 open_is a s = listed_open a.store.opened s
 
-pub open_stored : (a : Inside) {v : CoreState} → core_state a ≡ v → (s : ℕ) → store.is_open a.store s ≡ is_open v s
+pub open_stored : (a : Inside) {v : CoreState} → core_state a ≡ v → (s : ℕ) → store.is_begun a.store s ≡ is_open v s
 open_stored a snapshot s = sym (open_is a s) ∙ ap (λ u. is_open u s) snapshot
 
 -- ---- opened
@@ -204,7 +204,7 @@ module _ (a b : Inside) (k : IsCore a) (s : ℕ) (f : Forgets s a.store b.store)
       let left = none_left (s == t) (is_reserved a.store t q) (sym (f.reserved t q) ∙ h) in
       modes t q ∙ ap (λ c. cond c None (mode_of a.locks t q)) left.0 ∙ k.reserved t q left.1
 
-  module _ (city : store.committed b.store ≡ store.view a.store s) where
+  module _ (city : store.store_committed b.store ≡ store.store_view a.store s) where
     pub committed_over : IsTransactionEnd s (core_state a) (core_state b)
     committed_over =
         is_over s (core_state a) (core_state b) ended f.frame
@@ -218,7 +218,7 @@ module _ (a b : Inside) (k : IsCore a) (s : ℕ) (f : Forgets s a.store b.store)
               reserved_left;
         }
 
-  module _ (city : store.committed b.store ≡ store.committed a.store) where
+  module _ (city : store.store_committed b.store ≡ store.store_committed a.store) where
     pub undone : IsRolledBack s (core_state a) (core_state b)
     undone = record {
       city = city;

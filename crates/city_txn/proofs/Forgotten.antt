@@ -15,7 +15,7 @@ use Rattle.city_txn.specs.declared.ending.End.{End}
 use Rattle.city_txn.specs.declared.ending.End.TheVariants.{Commit, RollBack}
 use Rattle.city_txn.specs.inside.Ending.{left_at_end, map_at_end, AreEnded}
 use Rattle.city_txn.specs.inside.Images.{committed_at, write_at, writer_of}
-use Rattle.city_txn.specs.inside.State.{is_open, is_reserved, committed, Forgets}
+use Rattle.city_txn.specs.inside.State.{is_begun, is_reserved, store_committed, Forgets}
 use Rattle.city_txn.specs.UndoLog.{log_of, has_before}
 use Rattle.city_txn.specs.Writes.{own_or, unless_by}
 use Rattle.city_txn.specs.inside.InPlace.{state_of, is_writer, IsInPlace}
@@ -87,7 +87,7 @@ others_stay s t (Some i) = bool_cases (i.by == s)
 pub record Ending (s : ℕ) (end : End) (a b : Inside) : Type 0 where
   pub in_place : IsInPlace b
   pub forgets : Forgets s (state_of a) (state_of b)
-  pub city : committed (state_of b) ≡ map_at_end end (state_of a) s
+  pub city : store_committed (state_of b) ≡ map_at_end end (state_of a) s
 
 -- the stamp s is closed, and then each of its ids is ended
 module _ (a b : Inside) (k : IsInPlace a) (s : ℕ) (ids : List (List ℕ))
@@ -120,7 +120,7 @@ module _ (a b : Inside) (k : IsInPlace a) (s : ℕ) (ids : List (List ℕ))
   reserved_left t q = ap (λ o. has_id (unwrap_or o []) q) (reservations t)
       ∙ bool_cases (s == t) (λ e. rw (tied s t ∙ e, e) refl) (λ e. rw (tied s t ∙ e, e) refl)
 
-  open_left : (t : ℕ) → is_open (state_of b) t ≡ (if s == t then false else is_open (state_of a) t)
+  open_left : (t : ℕ) → is_begun (state_of b) t ≡ (if s == t then false else is_begun (state_of a) t)
   open_left t = ap is_some (reservations t)
       ∙ bool_cases (s == t) (λ e. rw (tied s t ∙ e, e) refl) (λ e. rw (tied s t ∙ e, e) refl)
 
@@ -152,7 +152,7 @@ module _ (a b : Inside) (k : IsInPlace a) (s : ℕ) (ids : List (List ℕ))
     logs = logs;
   }
 
-  ended_at : (q : List ℕ) → committed (state_of b) q ≡ map_at_end end (state_of a) s q
+  ended_at : (q : List ℕ) → store_committed (state_of b) q ≡ map_at_end end (state_of a) s q
   ended_at q = city_is b forgotten_in_place q ∙ ap (λ x. committed_at x (image_at b.undo q)) (city_at q)
       ∙ ap (committed_at
       (if is_writer s (writer_of (image_at a.undo q)) then left_at_end end (here a q) (image_at a.undo q)

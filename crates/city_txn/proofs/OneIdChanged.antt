@@ -11,7 +11,7 @@ use Rattle.city_txn.specs.inside.Images.{committed_at, write_at, writer_of}
 use Rattle.city_txn.specs.inside.InPlace.{state_of, is_writer, IsInPlace}
 use Rattle.city_txn.specs.UndoLog.{log_of, has_before}
 use Rattle.city_txn.specs.Writes.{Write, write_of}
-use Rattle.city_txn.specs.inside.State.{committed, WritesOne}
+use Rattle.city_txn.specs.inside.State.{store_committed, WritesOne}
 use Rattle.city_txn.specs.inside.UndoState.{image_at, reservations_of}
 use Rattle.city_txn.proofs.AtOneId.{here, city_is, writes_is}
 
@@ -42,7 +42,7 @@ module _ (a b : Inside) (k : IsInPlace a) (id : List ℕ) (x : Option Object) (i
       ∙ k.has_slot q (sym (ap is_some (image_beside q e)) ∙ h))
 
   pub committed_kept : IsInPlace b → committed_at x i ≡ committed_at (here a id) (image_at a.undo id)
-      → committed (state_of b) ≡ committed (state_of a)
+      → store_committed (state_of b) ≡ store_committed (state_of a)
   committed_kept l same =
       λ j q. (city_is b l q
       ∙ at_each {P = λ r. committed_at (here b r) (image_at b.undo r) ≡ committed_at (here a r) (image_at a.undo r)} id

@@ -13,7 +13,7 @@ use Rattle.city_txn.specs.inside.Images.{seen_under, committed_at, write_at, wri
 use Rattle.city_txn.specs.inside.Images.{written_at, image_unwritten, put_back, put_back_at}
 use Rattle.city_txn.specs.inside.InPlace.{state_of, IsInPlace, is_writer}
 use Rattle.city_txn.specs.Writes.{Write, write_of, is_by, own_write, unless_by}
-use Rattle.city_txn.specs.inside.State.{rewritten, is_reserved, own}
+use Rattle.city_txn.specs.inside.State.{rewritten, is_reserved, store_own}
 use Rattle.city_txn.specs.inside.UndoState.{image_at}
 use Rattle.city_txn.proofs.AtOneId.{here, writes_is}
 use Rattle.city_txn.proofs.OneIdChanged.{at_each, OneWritten, one_written}
@@ -174,7 +174,7 @@ module _ (a : Inside) (k_a : IsInPlace a) (s : ℕ) (id : List ℕ) (reserved : 
   writer : is_writer s (writer_of (image_at a.undo id)) ≡ true
   writer = sym (k_a.listed s id) ∙ reserved
 
-  pub own_there : written_at (here a id) (image_at a.undo id) ≡ own (state_of a) s id
+  pub own_there : written_at (here a id) (image_at a.undo id) ≡ store_own (state_of a) s id
   own_there = own_is s (here a id) (image_at a.undo id) writer ∙ ap (own_write s) (sym (writes_is a k_a id))
 
   -- no other has written it, so whatever s makes of its own write, the others' writes stay

@@ -20,7 +20,7 @@ use Rattle.city_model.specs.Standing.{locks_id_exclusively}
 use Rattle.city_model.specs.inside.CommandParts.{back_cause, cause_of, effect_of, done_reply, map_unless, refused_or}
 use Rattle.city_model.specs.inside.CommandParts.{after}
 use Rattle.city_model.proofs.MarksKept.{from_mapped, plain, plain_answer}
-use Rattle.city_txn.specs.inside.State.{State, own, written, committed, view, Touches}
+use Rattle.city_txn.specs.inside.State.{State, store_own, store_written, store_committed, store_view, Touches}
 use Rattle.city_txn.specs.Writes.{Write, write_of, own_write}
 use Rattle.city_txn.specs.UndoLog.{OwnWrites, Written, log_of, marked, written_at_mark, written_after, map_with}
 use Rattle.city_txn.specs.UndoLog.{marks_with}
@@ -40,8 +40,8 @@ seen_from m name ks = from_mapped (map_with m) name ks
 lost_back : (s : ℕ) (name : List ℕ) (v : State) → has_mark (log_of v.logs s) name ≡ false
     → finds_mark (seen v s) (commands.Back name) ≡ false
 lost_back s name v missing = ap (λ ks. is_none (back_cause name ks))
-    (seen_from (committed v) name (marked (log_of v.logs s) (own v s))
-    ∙ ap (marks_with (committed v)) (no_mark_from (log_of v.logs s) (own v s) name missing))
+    (seen_from (store_committed v) name (marked (log_of v.logs s) (store_own v s))
+    ∙ ap (marks_with (store_committed v)) (no_mark_from (log_of v.logs s) (store_own v s) name missing))
 
 pub back_failed : {E : Type 0} (s : ℕ) (name : List ℕ) (v : State) → has_mark (log_of v.logs s) name ≡ false
     → (result : Result Reply E) → IsErr result → IsPerform s (commands.Back name) result v v
@@ -57,25 +57,28 @@ pub back_refused : {E : Type 0} (s : ℕ) (name copy : List ℕ) (v : State) →
     → copy ≡ name
     → IsPerform {E = E} s (commands.Back name) (Ok (Refused (NoMark copy))) v v
 back_refused s name copy v missing is =
-    let none : marks_from name (marked (log_of v.logs s) (own v s))
-    ≡ [] = no_mark_from (log_of v.logs s) (own v s) name missing in
+    let none : marks_from name (marked (log_of v.logs s) (store_own v s))
+    ≡ [] = no_mark_from (log_of v.logs s) (store_own v s) name missing in
     record {
       reply = ap (λ n. Refused (NoMark n)) is
           ∙ sym (ap (λ ks. refused_or (back_cause name ks) WentBack)
-          (seen_from (committed v) name (marked (log_of v.logs s) (own v s)) ∙ ap (marks_with (committed v)) none));
+          (seen_from (store_committed v) name (marked (log_of v.logs s) (store_own v s))
+          ∙ ap (marks_with (store_committed v)) none));
       found = λ h. refl;
-      written = sym (ap (written_at_mark (written v s)) none);
+      written = sym (ap (written_at_mark (store_written v s)) none);
       touches = touches_itself s (λ id. false) v;
     }
 
 pub back_performed : {E : Type 0} (s : ℕ) (name : List ℕ) (v w : State) → has_mark (log_of v.logs s) name ≡ true
-    → written w s ≡ written_at_mark (written v s) (marks_from name (written v s).1) → Touches s (λ id. false) v w
+    → store_written w s ≡ written_at_mark (store_written v s) (marks_from name (store_written v s).1)
+    → Touches s (λ id. false) v w
     → IsPerform {E = E} s (commands.Back name) (Ok WentBack) v w
 back_performed s name v w there at_mark touches =
-    let found = mark_is_there (log_of v.logs s) (own v s) name there in
+    let found = mark_is_there (log_of v.logs s) (store_own v s) name there in
     record {
       reply = sym (ap (λ xs. refused_or (back_cause name xs) WentBack)
-          (seen_from (committed v) name (marked (log_of v.logs s) (own v s)) ∙ ap (marks_with (committed v)) found.2));
+          (seen_from (store_committed v) name (marked (log_of v.logs s) (store_own v s))
+          ∙ ap (marks_with (store_committed v)) found.2));
       found = λ h. refl;
       written = at_mark;
       touches = touches;
@@ -95,16 +98,18 @@ leaves commands.Commit g w h = refl
 leaves commands.Abort g w h = refl
 
 pub refused_performed : {E : Type 0} (s : ℕ) (c : Command) (cause : Cause) (v : State) → is_mark c ≡ false
-    → cause_of (view v s) c ≡ Some cause → IsPerform {E = E} s c (Ok (Refused cause)) v v
+    → cause_of (store_view v s) c ≡ Some cause → IsPerform {E = E} s c (Ok (Refused cause)) v v
 refused_performed s c cause v plain_one why =
-    let m = view v s in
-    let same : (q : List ℕ) → own_done m (own v s) c q ≡ own v s q =
-    λ q. ap (λ x. if is_none x && locks_id_exclusively (locks_of m c) q then Some (after m c q) else own v s q) why in
-    let kept : own_done m (own v s) c ≡ own v s = λ i q. same q i in
+    let m = store_view v s in
+    let same : (q : List ℕ) → own_done m (store_own v s) c q ≡ store_own v s q =
+    λ q. ap
+    (λ x. if is_none x && locks_id_exclusively (locks_of m c) q then Some (after m c q) else store_own v s q) why in
+    let kept : own_done m (store_own v s) c ≡ store_own v s = λ i q. same q i in
     record {
       reply = sym (plain_answer (seen v s) c plain_one ∙ ap (λ x. refused_or x (done_reply m c)) why);
       found = λ h. refl;
-      written = sym (leaves c (own_done m (own v s) c) (written v s) plain_one ∙ ap (λ g. (g, (written v s).1)) kept);
+      written = sym (leaves c (own_done m (store_own v s) c) (store_written v s) plain_one
+          ∙ ap (λ g. (g, (store_written v s).1)) kept);
       touches = touches_itself s (locks_id_exclusively (locks_of m c)) v;
     }
 
@@ -119,10 +124,10 @@ own_written s false x y = refl
 
 -- v was the store, and w is the store with the plan written, or for want of memory without it
 module _ (s : ℕ) (c : Command) (r : Reply) (change : Change) (v w : State) (plain_one : is_mark c ≡ false)
-    (is : AreWritesOf (view v s) c r change) (planned : Touches s (plans change) v w)
-    (marks : (written w s).1 ≡ (written v s).1) where
-  touched : Touches s (locks_id_exclusively (locks_of (view v s) c)) v w
-  touched = touches_more s (plans change) (locks_id_exclusively (locks_of (view v s) c)) v w
+    (is : AreWritesOf (store_view v s) c r change) (planned : Touches s (plans change) v w)
+    (marks : (store_written w s).1 ≡ (store_written v s).1) where
+  touched : Touches s (locks_id_exclusively (locks_of (store_view v s) c)) v w
+  touched = touches_more s (plans change) (locks_id_exclusively (locks_of (store_view v s) c)) v w
       (λ q h. sym (is.ids q) ∙ h) planned
 
   pub unwritten_performed : {E : Type 0} (result : Result Reply E) → IsErr result
@@ -140,19 +145,20 @@ module _ (s : ℕ) (c : Command) (r : Reply) (change : Change) (v w : State) (pl
       → write_of w.writes q ≡ (if plans change q then Some (s, f q) else write_of v.writes q))
       → IsPerform {E = E} s c (Ok r) v w
   written_performed done =
-      let m = view v s in
+      let m = store_view v s in
       let made : effect_of m c ≡ after m c = sym (ap (λ x. map_unless x m (effect_of m c)) is.allowed) in
       let all : AreOf (after m c) change = subst (λ (n : CityMap). AreOf n change) made is.objects in
       let writes : (q : List ℕ) → plans change q ≡ writes_id m c q = λ q. is.ids q
       ∙ sym (ap (λ x. is_none x && locks_id_exclusively (locks_of m c) q) is.allowed) in
-      let at_one : (q : List ℕ) → own w s q ≡ own_done m (own v s) c q =
+      let at_one : (q : List ℕ) → store_own w s q ≡ own_done m (store_own v s) c q =
       λ q. ap (own_write s) (done (after m c) all q)
       ∙ own_written s (plans change q) (after m c q) (write_of v.writes q)
-      ∙ ap (λ b. if b then Some (after m c q) else own v s q) (writes q) in
+      ∙ ap (λ b. if b then Some (after m c q) else store_own v s q) (writes q) in
       record {
         reply = sym is.reply
             ∙ sym (plain_answer (seen v s) c plain_one ∙ ap (λ x. refused_or x (done_reply m c)) is.allowed);
         found = λ h. refl;
-        written = (λ i. (λ q. at_one q i, marks i)) ∙ sym (leaves c (own_done m (own v s) c) (written v s) plain_one);
+        written = (λ i. (λ q. at_one q i, marks i))
+            ∙ sym (leaves c (own_done m (store_own v s) c) (store_written v s) plain_one);
         touches = touched;
       }

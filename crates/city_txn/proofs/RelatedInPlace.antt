@@ -13,7 +13,7 @@ use Rattle.city_model.specs.Scripts.{is_mark}
 use Rattle.city_model.proofs.Ids.{same_id_itself, same_id_back}
 use Rattle.city_model.proofs.IdLists.{not_both}
 use Rattle.city_model.proofs.Planned.{related}
-use Rattle.city_txn.specs.inside.State.{State, rewritten, own, is_reserved, committed, view}
+use Rattle.city_txn.specs.inside.State.{State, rewritten, store_own, is_reserved, store_committed, store_view}
 use Rattle.city_txn.specs.inside.State.{ReservesAmong, SeesSame, WritesOne, OthersWritesStay, Touches}
 use Rattle.city_txn.specs.Writes.{Write, write_of, is_by, own_or, unless_by}
 use Rattle.city_txn.specs.UndoLog.{log_of, marked}
@@ -41,11 +41,12 @@ edited_unless s f (Some w) h = ap (λ b. if b then None else Some (w.0, option_m
 
 module _ (s : ℕ) (c : Command) (r : Reply) (child parent : List ℕ) (below : Option Object) (f : Object → Object)
     (v u : State)
-    (plain_one : is_mark c ≡ false) (is : AreWritesOf (view v s) c r (related (view v s) child below parent f))
+    (plain_one : is_mark c ≡ false)
+    (is : AreWritesOf (store_view v s) c r (related (store_view v s) child below parent f))
     (in_place : edits_in_place v s parent ≡ true) (same : SeesSame v u)
     (made : (t : ℕ) (q : List ℕ) → is_reserved u t q ≡ (((s == t) && same_id child q) || is_reserved v t q)) where
   abbrev change : Change
-  change = related (view v s) child below parent f
+  change = related (store_view v s) child below parent f
 
   among : ReservesAmong (plans change) s v u
   among = reserves_more s (same_id child) (plans change) v u
@@ -61,9 +62,10 @@ module _ (s : ℕ) (c : Command) (r : Reply) (child parent : List ℕ) (below : 
   both = and_parts (is_by s (write_of v.writes parent)) (length (log_of v.logs s) == 0) in_place
 
   -- there are no marks to change
-  unmarked : (w : State) → w.logs ≡ v.logs → marked (log_of w.logs s) (own w s) ≡ marked (log_of v.logs s) (own v s)
-  unmarked w e = ap (λ ls. marked (log_of ls s) (own w s)) e
-      ∙ marked_same (log_of v.logs s) (own w s) (own v s)
+  unmarked : (w : State) → w.logs ≡ v.logs
+      → marked (log_of w.logs s) (store_own w s) ≡ marked (log_of v.logs s) (store_own v s)
+  unmarked w e = ap (λ ls. marked (log_of ls s) (store_own w s)) e
+      ∙ marked_same (log_of v.logs s) (store_own w s) (store_own v s)
       (λ q h. absurd (not_both _ (noted_if_empty (log_of v.logs s) q both.1) h))
 
   pub related_unwritten : {E : Type 0} (result : Result Reply E) → IsErr result → IsPerform s c result v u
@@ -103,7 +105,8 @@ module _ (s : ℕ) (c : Command) (r : Reply) (child parent : List ℕ) (below : 
           (at_each {P = λ q. write_of x.writes q
           ≡ (if same_id q parent || false then Some (s, g q) else write_of v.writes q)} parent
           (rw (same_id_itself parent) (at_parent ∙ ap (option_map (rewritten f)) (same.writes parent)
-          ∙ edited_write s f (write_of v.writes parent) (committed v parent) both.0 ∙ ap (λ o. Some (s, o)) of.1.0))
+          ∙ edited_write s f (write_of v.writes parent) (store_committed v parent) both.0
+          ∙ ap (λ o. Some (s, o)) of.1.0))
           (λ q e. rw (same_id_back q parent ∙ e) (beside q e)) q))
 
       pub related_performed : {E : Type 0} → IsPerform {E = E} s c (Ok r) v w

@@ -18,7 +18,7 @@ use Rattle.city_txn.specs.declared.store.Store.TheInside.{Inside}
 use Rattle.city_txn.specs.inside.Images.{committed_at, write_at, writer_of, unwritten_image}
 use Rattle.city_txn.specs.UndoLog.{log_of, has_before}
 use Rattle.city_txn.specs.Writes.{write_of}
-use Rattle.city_txn.specs.inside.State.{is_open, is_reserved, MayReserve, SeesSame}
+use Rattle.city_txn.specs.inside.State.{is_begun, is_reserved, MayReserve, SeesSame}
 use Rattle.city_txn.specs.inside.InPlace.{state_of, is_writer, IsInPlace}
 use Rattle.city_txn.specs.inside.UndoState.{UndoState, image_at, listed_by, reservations_of}
 use Rattle.city_txn.specs.Placeholder.{placeholder}
@@ -40,7 +40,7 @@ unwritten_committed s (Some o) = refl
 
 module _ (a b : Inside) (k : IsInPlace a) (s : ℕ) (id : List ℕ) (deleted : Bool)
     (is : deleted ≡ not (is_some (here a id)))
-    (is_opened : is_open (state_of a) s ≡ true) (absent : image_at a.undo id ≡ None) (frame : b.city.0 ≡ a.city.0)
+    (is_opened : is_begun (state_of a) s ≡ true) (absent : image_at a.undo id ≡ None) (frame : b.city.0 ≡ a.city.0)
     (city : object_at b.city.1 ≡ with_slot (object_at a.city.1) id)
     (images : (q : List ℕ)
     → image_at b.undo q ≡ (if same_id id q then Some (unwritten_image s deleted) else image_at a.undo q))
@@ -73,9 +73,9 @@ module _ (a b : Inside) (k : IsInPlace a) (s : ℕ) (id : List ℕ) (deleted : B
     | inr e ↦ rw (ne_eqb s t e) (ap (λ o. has_id (unwrap_or o []) q) (listed_beside t (ne_eqb s t e)))
   ]
 
-  still_open : (t : ℕ) → is_open (state_of b) t ≡ is_open (state_of a) t
+  still_open : (t : ℕ) → is_begun (state_of b) t ≡ is_begun (state_of a) t
   still_open t = elim (cases_eq s t) [
-    | inl e ↦ subst (λ r. is_open (state_of b) r ≡ is_open (state_of a) r) e (ap is_some listed_there ∙ sym is_opened)
+    | inl e ↦ subst (λ r. is_begun (state_of b) r ≡ is_begun (state_of a) r) e (ap is_some listed_there ∙ sym is_opened)
     | inr e ↦ ap is_some (listed_beside t (ne_eqb s t e))
   ]
 
@@ -113,7 +113,7 @@ module _ (a b : Inside) (k : IsInPlace a) (s : ℕ) (id : List ℕ) (deleted : B
 
 -- ---- a stamp opened, which wasn't open
 
-module _ (a : Inside) (k : IsInPlace a) (s : ℕ) (shut : is_open (state_of a) s ≡ false) (u : UndoState)
+module _ (a : Inside) (k : IsInPlace a) (s : ℕ) (shut : is_begun (state_of a) s ≡ false) (u : UndoState)
     (images : u.images ≡ a.undo.images)
     (opened : (t : ℕ) → listed_by u.reservations t
     ≡ (if is_at (nat_cmp s) t then Some [] else listed_by a.undo.reservations t)) where
@@ -121,7 +121,7 @@ module _ (a : Inside) (k : IsInPlace a) (s : ℕ) (shut : is_open (state_of a) s
       ≡ has_id (reservations_of a.undo.reservations t) q
   reserved_still t q = ap (λ o. has_id (unwrap_or o []) q) (opened t) ∙ bool_cases (s == t)
       (λ e. rw (tied s t ∙ e) (sym (ap (λ o. has_id (unwrap_or o []) q)
-      (absent_from (listed_by a.undo.reservations t) (ap (is_open (state_of a)) (sym (eqb-true s t e)) ∙ shut)))))
+      (absent_from (listed_by a.undo.reservations t) (ap (is_begun (state_of a)) (sym (eqb-true s t e)) ∙ shut)))))
       (λ e. rw (tied s t ∙ e) refl)
 
   pub opened_in_place : IsInPlace (record a { undo = u })

@@ -7,7 +7,7 @@ use Rattle.city_model.specs.Meaning.{locks_of}
 use Rattle.city_model.specs.Standing.{locks_id}
 use Rattle.city_model.proofs.Ids.{same_id_true}
 use Rattle.city_txn.specs.inside.Performing.{MayPerform}
-use Rattle.city_txn.specs.inside.State.{State, written, is_reserved, is_open, view}
+use Rattle.city_txn.specs.inside.State.{State, store_written, is_reserved, is_begun, store_view}
 use Rattle.city_txn.specs.inside.State.{MayReserve, ReservesAmong, SeesSame, ChangesWrites, Touches}
 use Rattle.city_txn.specs.inside.UndoState.{listed_by, reservations_of}
 use Rattle.city_txn.specs.UndoLog.{OwnWrites, Logs, log_of, marked, has_before}
@@ -22,15 +22,15 @@ or_cases false b h f g = g h
 pub reserved_by : (v w : State) (s : ℕ) (q : List ℕ) → w.opened ≡ v.opened → is_reserved w s q ≡ is_reserved v s q
 reserved_by v w s q e = ap (λ o. has_id (reservations_of o s) q) e
 
-opened_by : (v w : State) (t : ℕ) → w.opened ≡ v.opened → is_open w t ≡ is_open v t
+opened_by : (v w : State) (t : ℕ) → w.opened ≡ v.opened → is_begun w t ≡ is_begun v t
 opened_by v w t e = ap (λ o. is_some (listed_by o t)) e
 
 -- an id that the command locks may be reserved
 pub may_reserve : (v : State) (s : ℕ) (c : Command) (id : List ℕ) → MayPerform v s c
-    → locks_id (locks_of (view v s) c) id ≡ true → MayReserve v s (same_id id)
+    → locks_id (locks_of (store_view v s) c) id ≡ true → MayReserve v s (same_id id)
 may_reserve v s c id may named = record {
   opened = may.locked.opened;
-  alone = λ q e. may.locked.alone q (ap (locks_id (locks_of (view v s) c)) (sym (same_id_true id q e)) ∙ named);
+  alone = λ q e. may.locked.alone q (ap (locks_id (locks_of (store_view v s) c)) (sym (same_id_true id q e)) ∙ named);
 }
 
 -- ---- touched
@@ -137,7 +137,7 @@ changes_on v u w a b = record {
 }
 
 -- and what it wrote stays
-pub written_seen : (v w : State) (s : ℕ) → SeesSame v w → written w s ≡ written v s
+pub written_seen : (v w : State) (s : ℕ) → SeesSame v w → store_written w s ≡ store_written v s
 written_seen v w s a = λ i.
     let f : OwnWrites = λ q. own_write s (a.writes q i) in
     (f, marked (log_of (a.logs i) s) f)

@@ -2,7 +2,7 @@
 ghost use Rattle.std.specs.Prelude.{◌≡◌, [], ◌∷◌, IfSome, IfNone, drop};
 ghost use Rattle.city_model.specs.CityMap.{CityMap};
 ghost use Rattle.city_model.specs.Meaning.{delete_locks, exclusively, locks_of};
-ghost use Rattle.city_txn.specs.inside.State.{view};
+ghost use Rattle.city_txn.specs.inside.State.{store_view};
 
 use crate::store::Store;
 use city_locks::Mode;
@@ -27,7 +27,7 @@ pub fn first_lock(command: &Command) -> Option<(&Id, Mode)>
 /// The ids that a command locks after the first, exclusively. Once the first is locked, no other
 /// transaction can change which ids these are.
 pub fn further_locks<'a>(store: &'a Store, stamp: u64, command: &'a Command) -> &'a [Id]
-    ensures { drop 1 (locks_of (view store.now stamp) command.now) ≡ exclusively result.now }
+    ensures { drop 1 (locks_of (store_view store.now stamp) command.now) ≡ exclusively result.now }
 {
     match command {
         Command::Delete(id) => parents_to_lock(store, stamp, id),
@@ -39,7 +39,7 @@ pub fn further_locks<'a>(store: &'a Store, stamp: u64, command: &'a Command) -> 
 
 /// The parents that a delete of the id locks: those of an object without children.
 fn parents_to_lock<'a>(store: &'a Store, stamp: u64, id: &Id) -> &'a [Id]
-    ensures { delete_locks (view store.now stamp id.now) ≡ exclusively result.now }
+    ensures { delete_locks (store_view store.now stamp id.now) ≡ exclusively result.now }
 {
     match store.read(stamp, id) {
         Some(object) if object.children.len() == 0 => object.parents.as_slice(),

@@ -1,7 +1,7 @@
 //! The locks of a command, asked for, and what the answer would be.
 ghost use Rattle.std.specs.Prelude.{◌≡◌};
 ghost use Rattle.city_model.specs.Meaning.{exclusively, locks_of};
-ghost use Rattle.city_txn.specs.inside.State.{view};
+ghost use Rattle.city_txn.specs.inside.State.{store_view};
 ghost use Rattle.city_txn.specs.Locking.{first_answer};
 ghost use Rattle.city_txn.specs.inside.Asking.{Asked};
 
@@ -20,7 +20,7 @@ pub fn lock(
     stamp: u64,
     command: &Command,
 ) -> Result<Answer, OutOfMemory>
-    ensures { Asked stamp (locks_of (view store.now stamp) command.now) result locks.old locks.new }
+    ensures { Asked stamp (locks_of (store_view store.now stamp) command.now) result locks.old locks.new }
 {
     let Some(first) = first_lock(command) else {
         return Ok(Answer::Granted);
@@ -49,7 +49,7 @@ fn lock_each(locks: &mut LockTable, stamp: u64, ids: &[Id]) -> Result<Answer, Ou
 
 /// What `lock` would answer, unless memory runs out. Doesn't allocate.
 pub fn would_lock(locks: &LockTable, store: &Store, stamp: u64, command: &Command) -> Answer
-    ensures { result ≡ first_answer locks.now stamp (locks_of (view store.now stamp) command.now) }
+    ensures { result ≡ first_answer locks.now stamp (locks_of (store_view store.now stamp) command.now) }
 {
     let Some((id, mode)) = first_lock(command) else {
         return Answer::Granted;

@@ -2,7 +2,7 @@
 ghost use Rattle.std.specs.Prelude.{◌≡◌, true, false, drop};
 ghost use Rattle.city_model.specs.Marks.{marks_from};
 ghost use Rattle.city_model.specs.declared.command.Command.{Command};
-ghost use Rattle.city_txn.specs.inside.State.{own, written, Touches};
+ghost use Rattle.city_txn.specs.inside.State.{store_own, store_written, Touches};
 ghost use Rattle.city_txn.specs.UndoLog.{log_of, written_at_mark};
 ghost use Rattle.city_txn.specs.inside.Performing.{IsPerform};
 ghost use Rattle.city_txn.specs.inside.LogTests.{has_mark, newest_undone};
@@ -39,8 +39,8 @@ impl Store {
     /// those that it had at the mark, newer marks are gone, and the mark stays. Doesn't allocate.
     fn go_back(&mut self, stamp: u64, name: &Text)
         requires { has_mark (log_of self.old.logs stamp) name.now ≡ true }
-        ensures written { written self.new stamp
-            ≡ written_at_mark (written self.old stamp) (marks_from name.now (written self.old stamp).1) }
+        ensures written { store_written self.new stamp
+            ≡ written_at_mark (store_written self.old stamp) (marks_from name.now (store_written self.old stamp).1) }
         ensures touches { Touches stamp (λ id. false) self.old self.new }
     {
         while !self.logs().is_at_mark(stamp, name) {
@@ -50,7 +50,7 @@ impl Store {
 
     /// Undoes the newest entry of the transaction's log. Doesn't allocate.
     fn undo_newest(&mut self, stamp: u64)
-        ensures own { own self.new stamp ≡ newest_undone (log_of self.old.logs stamp) (own self.old stamp) }
+        ensures own { store_own self.new stamp ≡ newest_undone (log_of self.old.logs stamp) (store_own self.old stamp) }
         ensures log { log_of self.new.logs stamp ≡ drop 1 (log_of self.old.logs stamp) }
         ensures touches { Touches stamp (λ id. false) self.old self.new }
     {

@@ -3,7 +3,7 @@ ghost use Rattle.std.specs.Prelude.{◌≡◌, Some, true};
 ghost use Rattle.city_model.specs.inside.Plans.{only_parent};
 ghost use Rattle.city_model.specs.declared.command.Command.{Command};
 ghost use Rattle.city_txn.specs.inside.Performing.{MayPerform, IsPerform, edits_in_place};
-ghost use Rattle.city_txn.specs.inside.State.{view};
+ghost use Rattle.city_txn.specs.inside.State.{store_view};
 
 use crate::store::{Seen, Store};
 use city_model::OutOfMemory;
@@ -76,7 +76,7 @@ impl Store {
         id: &Id,
         parent: &Id,
     ) -> Result<Reply, OutOfMemory>
-        requires only { only_parent (view self.old stamp id.now) ≡ Some parent.now }
+        requires only { only_parent (store_view self.old stamp id.now) ≡ Some parent.now }
         requires in_place { edits_in_place self.old stamp parent.now ≡ true }
         requires may { MayPerform self.old stamp (Command.Delete id.now) }
         ensures { IsPerform stamp (Command.Delete id.now) result self.old self.new }

@@ -10,7 +10,7 @@ ghost use Rattle.city_model.specs.Writing.{write_in};
 ghost use Rattle.city_txn.specs.Changing.{change_in};
 ghost use Rattle.city_txn.specs.inside.Orphans.{is_orphan_written};
 ghost use Rattle.city_txn.specs.inside.Ending.{map_at_end};
-ghost use Rattle.city_txn.specs.inside.State.{State, rewritten, is_reserved, is_open, committed, view, own, MayReserve};
+ghost use Rattle.city_txn.specs.inside.State.{State, rewritten, is_reserved, is_begun, store_committed, store_view, store_own, MayReserve};
 ghost use Rattle.city_txn.specs.inside.State.{SeesSame, WritesOne, OthersWritesStay, Begins, Forgets};
 ghost use Rattle.city_txn.specs.Writes.{write_of, is_by, own_write, unless_by};
 
@@ -86,7 +86,7 @@ impl Store {
 
     /// Whether the stamp is open. Doesn't allocate.
     pub fn is_open(&self, stamp: u64) -> bool
-        ensures { result ≡ is_open self.now stamp }
+        ensures { result ≡ is_begun self.now stamp }
     {
         self.undo.is_open(stamp)
     }
@@ -94,7 +94,7 @@ impl Store {
     /// Opens the stamp, which must not be open, with no writes and nothing reserved. If memory runs
     /// out, the store is unchanged.
     pub fn begin(&mut self, stamp: u64) -> Result<(), OutOfMemory>
-        requires { is_open self.old stamp ≡ false }
+        requires { is_begun self.old stamp ≡ false }
         ensures begins { OnOk result (Begins stamp self.old self.new) }
         ensures err { OnErr result (self.new ≡ self.old) }
     {
@@ -104,7 +104,7 @@ impl Store {
 
     /// What the stamp sees at an id. Doesn't allocate.
     pub fn read(&self, stamp: u64, id: &Id) -> Option<&Object>
-        ensures { option_copied result ≡ view self.now stamp id.now }
+        ensures { option_copied result ≡ store_view self.now stamp id.now }
     {
         match self.undo.image(id) {
             Some(image) => image.seen_by(stamp, self.city.get(id)),
@@ -177,7 +177,7 @@ impl Store {
     /// What the stamp wrote at an id that it has reserved. It copies the object.
     pub fn written(&self, stamp: u64, id: &Id) -> Result<OwnWrite, OutOfMemory>
         requires { is_reserved self.now stamp id.now ≡ true }
-        ensures { IfOk result (λ write. write ≡ own self.now stamp id.now) }
+        ensures { IfOk result (λ write. write ≡ store_own self.now stamp id.now) }
     {
         let write = written_copy(&self.city, &self.undo, self.alloc, id)?;
         Ok(write)
@@ -241,7 +241,7 @@ impl Store {
     /// Makes what the stamp wrote the committed city, and closes the stamp. It visits the ids that
     /// the stamp has reserved, and doesn't allocate.
     pub fn commit(&mut self, stamp: u64)
-        ensures city { committed self.new ≡ view self.old stamp }
+        ensures city { store_committed self.new ≡ store_view self.old stamp }
         ensures forgets { Forgets stamp self.old self.new }
     {
         self.end(stamp, End::Commit);
@@ -250,7 +250,7 @@ impl Store {
     /// Undoes what the stamp wrote, and closes the stamp. It visits the ids that the stamp has
     /// reserved, and doesn't allocate.
     pub fn roll_back(&mut self, stamp: u64)
-        ensures city { committed self.new ≡ committed self.old }
+        ensures city { store_committed self.new ≡ store_committed self.old }
         ensures forgets { Forgets stamp self.old self.new }
     {
         self.end(stamp, End::RollBack);
@@ -259,7 +259,7 @@ impl Store {
     /// Ends the transaction at each id that the stamp has reserved, and closes
     /// the stamp. Doesn't allocate.
     fn end(&mut self, stamp: u64, end: End)
-        ensures city { committed self.new ≡ map_at_end end self.old stamp }
+        ensures city { store_committed self.new ≡ map_at_end end self.old stamp }
         ensures forgets { Forgets stamp self.old self.new }
     {
         self.logs.close(stamp);
@@ -276,7 +276,7 @@ pub struct Seen<'a> {
 }
 
 impl View for Seen<'_> {
-    ghost map = { λ seen. view seen.store.now seen.stamp };
+    ghost map = { λ seen. store_view seen.store.now seen.stamp };
 
     fn look(&self, id: &Id) -> Option<&Object> {
         self.store.read(self.stamp, id)

@@ -4,7 +4,7 @@ ghost use Rattle.city_model.specs.CityMap.{CityMap, same_id};
 ghost use Rattle.city_model.specs.inside.Plans.{AreOf};
 ghost use Rattle.city_txn.specs.Writes.{write_of, unless_by};
 ghost use Rattle.city_txn.specs.UndoLog.{log_of};
-ghost use Rattle.city_txn.specs.inside.State.{written, is_reserved, MayReserve, ReservesAmong, SeesSame, ChangesWrites};
+ghost use Rattle.city_txn.specs.inside.State.{store_written, is_reserved, MayReserve, ReservesAmong, SeesSame, ChangesWrites};
 ghost use Rattle.city_txn.specs.inside.State.{OthersWritesStay};
 ghost use Rattle.city_txn.specs.inside.State.{Touches};
 ghost use Rattle.city_txn.specs.inside.LogTests.{is_noted};
@@ -23,7 +23,7 @@ impl Store {
     pub fn write_all(&mut self, stamp: u64, writes: Writes) -> Result<(), OutOfMemory>
         requires { MayReserve self.old stamp (plans writes) }
         ensures touches { Touches stamp (plans writes) self.old self.new }
-        ensures marks { (written self.new stamp).1 ≡ (written self.old stamp).1 }
+        ensures marks { (store_written self.new stamp).1 ≡ (store_written self.old stamp).1 }
         ensures ok { OnOk result ((f : CityMap) → AreOf f writes → (id : List ℕ) →
             write_of self.new.writes id
             ≡ (if plans writes id then Some (stamp, f id) else write_of self.old.writes id)) }
@@ -59,7 +59,7 @@ impl Store {
         ensures touches { Touches stamp (plans writes.now) self.old self.new }
         ensures writes { self.new.writes ≡ self.old.writes }
         ensures opened { self.new.opened ≡ self.old.opened }
-        ensures marks { written self.new stamp ≡ written self.old stamp }
+        ensures marks { store_written self.new stamp ≡ store_written self.old stamp }
         ensures ok { OnOk result
             ((id : List ℕ) → plans writes.now id ≡ true → is_noted (log_of self.new.logs stamp) id ≡ true) }
     {
@@ -75,7 +75,7 @@ impl Store {
         ensures touches { Touches stamp (same_id id.now) self.old self.new }
         ensures writes { self.new.writes ≡ self.old.writes }
         ensures opened { self.new.opened ≡ self.old.opened }
-        ensures marks { written self.new stamp ≡ written self.old stamp }
+        ensures marks { store_written self.new stamp ≡ store_written self.old stamp }
         ensures ok { OnOk result (is_noted (log_of self.new.logs stamp) id.now ≡ true) }
         ensures more { (q : List ℕ) → is_noted (log_of self.old.logs stamp) q ≡ true
             → is_noted (log_of self.new.logs stamp) q ≡ true }

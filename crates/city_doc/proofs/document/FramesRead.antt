@@ -28,7 +28,8 @@ pub record LacksTransformMembers (ms : Members) : Type 0 where
 
 pub transform_members_lacking : (ms : Members) → kept_at_transform ms ≡ true → LacksTransformMembers ms
 transform_members_lacking ms h =
-    let all = each_lacking transform_members ms (and_parts (members_integral ms) (lacks_each transform_members ms) h).1 in
+    let all = each_lacking transform_members ms
+    (and_parts (members_integral ms) (lacks_each transform_members ms) h).1 in
     record { no_scale = all.0; no_translate = all.1.0 }
 
 transform_left : (more : Members) (scale translate : Data) → kept_at_transform more ≡ true

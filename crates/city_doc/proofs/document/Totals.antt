@@ -84,7 +84,8 @@ frame_read top integral extensions transform =
     let extra = kept_all kept_at_top (without_rest_members rest) (top_admitted top integral extensions) in
     let t = there (get_member (codes "transform") top) transform in
     let stays = get_member-without (codes "transform") (codes "CityObjects") top refl ∙ t.1 in
-    let f = transform_read (without_rest_members rest) t.0 (get_member-integral (codes "transform") top t.0 integral t.1)
+    let f = transform_read (without_rest_members rest) t.0
+    (get_member-integral (codes "transform") top t.0 integral t.1)
     (ap is_transform (sym t.1) ∙ transform) in
     (f.0, rest_read rest (without_rest_members rest) t.0 f.0 extra stays f.1)
 

@@ -1,6 +1,7 @@
 -- A tree that was read from a text and that has a city is a tree of whole numbers: the members that are kept are
 -- tested, and what else the city is made of are positions, vertices and texts.
-use Rattle.std.proofs.Common.{◌≡◌, true≢false, ℕ, zero, suc, ℤ, List, [], ◌∷◌, Bool, true, false, Option, Some, None, refl, sym, ap}
+use Rattle.std.proofs.Common.{◌≡◌, true≢false, ℕ, zero, suc, ℤ, List, [], ◌∷◌, Bool, true, false, Option, Some}
+use Rattle.std.proofs.Common.{None, refl, sym, ap}
 use Rattle.std.proofs.Common.{subst, ◌∙◌}
 use Rattle.std.specs.Prelude.{option_and_then, option_map, codes, is_some, if◌then◌else◌}
 use Rattle.std.specs.List.{AllByRecursion}

@@ -93,7 +93,8 @@ pub object_members_lacking : (ms : Members) → kept_at_object ms ≡ true → L
 object_members_lacking ms h =
     let unlocated = not (has_location (get_member (codes "address") ms)) in
     let both = and_parts (members_integral ms && lacks_each object_members ms) unlocated h in
-    let all = each_lacking object_members ms (and_parts (members_integral ms) (lacks_each object_members ms) both.0).1 in
+    let all = each_lacking object_members ms
+    (and_parts (members_integral ms) (lacks_each object_members ms) both.0).1 in
     record { no_type = all.0; no_geometry = all.1.0; no_parents = all.1.1.0; no_children = all.1.1.1.0 }
 
 module _ (pool : List Point) (o : Object) where

@@ -79,7 +79,8 @@ city_read found rest objects vertices points es frame is right at_vertices has_p
     ∙ get_member-without (codes "version") (codes "vertices") (without (codes "CityObjects") found) refl
     ∙ get_member-without (codes "version") (codes "CityObjects") found refl in
     let framed : frame_of (object found) ≡ Some frame =
-    frame_is (object found) ∙ sym (frame_same (without (codes "CityObjects") found)) ∙ sym (ap frame_of_rest is) ∙ has_frame in
+    frame_is (object found) ∙ sym (frame_same (without (codes "CityObjects") found))
+    ∙ sym (ap frame_of_rest is) ∙ has_frame in
     let both = and_parts (is_text (codes "CityJSON") (get_member (codes "type") rest))
     (is_text (codes "2.0") (get_member (codes "version") rest)) right in
     let typed : is_text (codes "CityJSON") (get_member (codes "type") found) ≡ true =

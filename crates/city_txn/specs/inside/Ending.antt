@@ -6,7 +6,7 @@ use Rattle.city_txn.specs.declared.ending.End.{End}
 use Rattle.city_txn.specs.declared.ending.End.TheVariants.{Commit, RollBack}
 use Rattle.city_txn.specs.declared.image.UndoImage.{UndoImage}
 use Rattle.city_txn.specs.inside.Images.{seen_at, committed_at}
-use Rattle.city_txn.specs.inside.State.{State, committed, view}
+use Rattle.city_txn.specs.inside.State.{State, store_committed, store_view}
 use Rattle.city_txn.specs.inside.UndoState.{UndoState, image_at}
 
 -- what the end leaves of the object and the image at an id: what the transaction sees, or what stood there
@@ -17,8 +17,8 @@ left_at_end RollBack x i = committed_at x i
 
 -- the committed city after the end
 abbrev pub map_at_end : End → State → ℕ → CityMap
-map_at_end Commit v stamp = view v stamp
-map_at_end RollBack v stamp = committed v
+map_at_end Commit v stamp = store_view v stamp
+map_at_end RollBack v stamp = store_committed v
 
 -- from this city and these images to those: at the ids the image is gone, and what the end leaves stands
 -- there; at all others nothing changes

@@ -11,7 +11,8 @@ use Rattle.city_model.specs.Meaning.{locks_of}
 use Rattle.city_model.specs.Relations.{IsSound}
 use Rattle.city_model.specs.Standing.{locks_id, locks_id_exclusively}
 use Rattle.city_model.specs.inside.CommandParts.{answer}
-use Rattle.city_txn.specs.inside.State.{State, own, written, committed, view, MayReserve, Touches}
+use Rattle.city_txn.specs.inside.State.{State, store_own, store_written, store_committed, store_view}
+use Rattle.city_txn.specs.inside.State.{MayReserve, Touches}
 use Rattle.city_txn.specs.Writes.{write_of, is_by}
 use Rattle.city_txn.specs.UndoLog.{log_of, written_after, marks_with}
 use Rattle.city_txn.specs.inside.Done.{own_done, finds_mark}
@@ -22,7 +23,7 @@ plans change id = has_id (keys_of change) id
 
 -- what the transaction sees
 abbrev pub seen : State → ℕ → View
-seen v stamp = record { map = view v stamp; marks = marks_with (committed v) (written v stamp).1 }
+seen v stamp = record { map = store_view v stamp; marks = marks_with (store_committed v) (store_written v stamp).1 }
 
 -- whether the transaction has written the id, and no mark needs that write as it is
 abbrev pub edits_in_place : State → ℕ → List ℕ → Bool
@@ -30,8 +31,8 @@ edits_in_place v stamp id = is_by stamp (write_of v.writes id) && (length (log_o
 
 -- the transaction is open and sees a sound city, and no other has reserved an id that the command locks
 pub record MayPerform (v : State) (stamp : ℕ) (command : Command) : Type 0 where
-  pub sound : IsSound (view v stamp)
-  pub locked : MayReserve v stamp (locks_id (locks_of (view v stamp) command))
+  pub sound : IsSound (store_view v stamp)
+  pub locked : MayReserve v stamp (locks_id (locks_of (store_view v stamp) command))
 
 pub record IsPerform {E : Type 0} (stamp : ℕ) (command : Command) (result : Result Reply E)
     (old new : State) : Type 0 where
@@ -40,7 +41,8 @@ pub record IsPerform {E : Type 0} (stamp : ℕ) (command : Command) (result : Re
   pub found : finds_mark (seen old stamp) command ≡ true → IsOk result
   -- what the command writes stands there as the command leaves it, and so with marks; if memory runs out,
   -- nothing is written
-  pub written : written new stamp ≡ (if is_ok result
-      then written_after command (own_done (view old stamp) (own old stamp) command) (written old stamp)
-      else written old stamp)
-  pub touches : Touches stamp (locks_id_exclusively (locks_of (view old stamp) command)) old new
+  pub written : store_written new stamp ≡ (if is_ok result
+      then written_after command (own_done (store_view old stamp) (store_own old stamp) command)
+      (store_written old stamp)
+      else store_written old stamp)
+  pub touches : Touches stamp (locks_id_exclusively (locks_of (store_view old stamp) command)) old new

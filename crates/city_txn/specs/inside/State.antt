@@ -19,8 +19,8 @@ pub record State : Type 0 where
   -- their undo logs
   pub logs : Logs
 
-abbrev pub is_open : State → ℕ → Bool
-is_open v stamp = is_some (listed_by v.opened stamp)
+abbrev pub is_begun : State → ℕ → Bool
+is_begun v stamp = is_some (listed_by v.opened stamp)
 
 -- whether the transaction has reserved the id
 abbrev pub is_reserved : State → ℕ → List ℕ → Bool
@@ -31,23 +31,23 @@ abbrev pub rewritten : (Object → Object) → Write → Write
 rewritten f w = (w.0, option_map f w.1)
 
 -- what the transaction wrote at each id
-abbrev pub own : State → ℕ → OwnWrites
-own v stamp id = own_write stamp (write_of v.writes id)
+abbrev pub store_own : State → ℕ → OwnWrites
+store_own v stamp id = own_write stamp (write_of v.writes id)
 
 -- and at each of its marks
-abbrev pub written : State → ℕ → Written
-written v stamp = (own v stamp, marked (log_of v.logs stamp) (own v stamp))
+abbrev pub store_written : State → ℕ → Written
+store_written v stamp = (store_own v stamp, marked (log_of v.logs stamp) (store_own v stamp))
 
-abbrev pub committed : State → CityMap
-committed v id = object_at v.city id
+abbrev pub store_committed : State → CityMap
+store_committed v id = object_at v.city id
 
 -- what the transaction sees: the committed map with its own writes
-abbrev pub view : State → ℕ → CityMap
-view v stamp id = own_or stamp (write_of v.writes id) (object_at v.city id)
+abbrev pub store_view : State → ℕ → CityMap
+store_view v stamp id = own_or stamp (write_of v.writes id) (object_at v.city id)
 
 -- the transaction is open, and no other has reserved one of these ids
 pub record MayReserve (v : State) (stamp : ℕ) (ids : List ℕ → Bool) : Type 0 where
-  pub opened : is_open v stamp ≡ true
+  pub opened : is_begun v stamp ≡ true
   pub alone : (id : List ℕ) → ids id ≡ true → (t : ℕ) → is_reserved v t id ≡ true → t ≡ stamp
 
 -- the transaction has newly reserved none but these ids, and no other has reserved any
@@ -63,15 +63,15 @@ OthersWritesStay stamp v w =
 -- what anyone sees is the same
 pub record SeesSame (v w : State) : Type 0 where
   pub frame : w.frame ≡ v.frame
-  pub city : committed w ≡ committed v
+  pub city : store_committed w ≡ store_committed v
   pub writes : (id : List ℕ) → write_of w.writes id ≡ write_of v.writes id
-  pub opened : (stamp : ℕ) → is_open w stamp ≡ is_open v stamp
+  pub opened : (stamp : ℕ) → is_begun w stamp ≡ is_begun v stamp
   pub logs : w.logs ≡ v.logs
 
 -- nothing but writes has changed
 pub record ChangesWrites (v w : State) : Type 0 where
   pub frame : w.frame ≡ v.frame
-  pub city : committed w ≡ committed v
+  pub city : store_committed w ≡ store_committed v
   pub opened : w.opened ≡ v.opened
   pub logs : w.logs ≡ v.logs
 
@@ -84,8 +84,8 @@ pub record WritesOne (id : List ℕ) (write : Option Write) (v w : State) : Type
 -- ids at most
 pub record Touches (stamp : ℕ) (ids : List ℕ → Bool) (v w : State) : Type 0 where
   pub frame : w.frame ≡ v.frame
-  pub city : committed w ≡ committed v
-  pub opened : (t : ℕ) → is_open w t ≡ is_open v t
+  pub city : store_committed w ≡ store_committed v
+  pub opened : (t : ℕ) → is_begun w t ≡ is_begun v t
   pub writes : OthersWritesStay stamp v w
   pub logs : (t : ℕ) → (stamp == t) ≡ false → log_of w.logs t ≡ log_of v.logs t
   pub reserved : ReservesAmong ids stamp v w
@@ -97,7 +97,7 @@ pub record Begins (stamp : ℕ) (v w : State) : Type 0 where
   pub frame : w.frame ≡ v.frame
   pub city : w.city ≡ v.city
   pub writes : w.writes ≡ v.writes
-  pub opened : (t : ℕ) → is_open w t ≡ ((stamp == t) || is_open v t)
+  pub opened : (t : ℕ) → is_begun w t ≡ ((stamp == t) || is_begun v t)
   pub reserved : (t : ℕ) (id : List ℕ) → is_reserved w t id ≡ is_reserved v t id
   pub logs : w.logs ≡ v.logs
 
@@ -105,7 +105,7 @@ pub record Begins (stamp : ℕ) (v w : State) : Type 0 where
 pub record Forgets (stamp : ℕ) (v w : State) : Type 0 where
   pub frame : w.frame ≡ v.frame
   pub writes : (id : List ℕ) → write_of w.writes id ≡ unless_by stamp (write_of v.writes id)
-  pub opened : (t : ℕ) → is_open w t ≡ (if stamp == t then false else is_open v t)
+  pub opened : (t : ℕ) → is_begun w t ≡ (if stamp == t then false else is_begun v t)
   pub reserved : (t : ℕ) (id : List ℕ)
       → is_reserved w t id ≡ (if stamp == t then false else is_reserved v t id)
   pub logs : (t : ℕ) → log_of w.logs t ≡ (if stamp == t then [] else log_of v.logs t)

@@ -1,14 +1,14 @@
 use Rattle.std.proofs.Common.{◌≢◌, ◌∙◌, sym, rules, drop, subst}
 use Rattle.city_model.specs.Meaning.{locks_of}
 use Rattle.city_locks.specs.declared.answer.Answer.TheVariants.{Granted}
-use Rattle.city_txn.specs.inside.State.{view}
+use Rattle.city_txn.specs.inside.State.{store_view}
 use Rattle.city_txn.specs.inside.Asking.{Asked}
 use Rattle.city_txn.proofs.LocksAsked.{asked_granted, asked_refused, asked_failed}
 use Rattle.city_txn.proofs.lock.lock.Goals as goal
 
 pub returns-in_err-answer : goal.returns-in_err-answer
 returns-in_err-answer c =
-    let m = view c.args.store.now c.args.stamp in
+    let m = store_view c.args.store.now c.args.stamp in
     let first = c.in-Some.first in
     let failed = c.in_err-answer.ensures in
     subst (λ ls. Asked c.args.stamp ls c.from_residual.result c.args.locks.now c.ask.new.self)
@@ -19,7 +19,7 @@ returns-in_err-answer c =
 
 pub returns-in-Wait : goal.returns-in-Wait
 returns-in-Wait c =
-    let m = view c.args.store.now c.args.stamp in
+    let m = store_view c.args.store.now c.args.stamp in
     let first = c.in-Some.first in
     let told = c.in_ok-answer.ensures in
     let refused : c.in_ok-answer.answer ≢ Granted = search rules in
@@ -29,7 +29,7 @@ returns-in-Wait c =
 
 pub returns-in-Granted : goal.returns-in-Granted
 returns-in-Granted c =
-    let m = view c.args.store.now c.args.stamp in
+    let m = store_view c.args.store.now c.args.stamp in
     let first = c.in-Some.first in
     let told = c.in_ok-answer.ensures in
     let granted = sym told.answer ∙ c.in-Granted.is in

@@ -10,7 +10,7 @@ use Rattle.city_model.specs.declared.command.Command.TheVariants.{Attach}
 use Rattle.city_model.specs.declared.command.Reply.TheVariants.{Attached}
 use Rattle.city_model.proofs.Ids.{same_id_itself}
 use Rattle.city_model.proofs.Planned.{related}
-use Rattle.city_txn.specs.inside.State.{State, rewritten, view, WritesOne}
+use Rattle.city_txn.specs.inside.State.{State, rewritten, store_view, WritesOne}
 use Rattle.city_txn.specs.Writes.{write_of}
 use Rattle.city_txn.specs.inside.Performing.{IsPerform}
 use Rattle.city_txn.proofs.RelatedInPlace.{copy_reserved, related_unwritten, related_performed}
@@ -24,11 +24,12 @@ reserve-requires c =
     may_reserve c.args.self.now c.args.stamp (Attach child c.args.parent.now) child c.requires.may
     (or_left (same_id child child) _ (same_id_itself child))
 
-is : (c : In-Ok) → AreWritesOf (view c.args.self.now c.args.stamp) (Attach c.args.child.now c.args.parent.now) Attached
-    (related (view c.args.self.now c.args.stamp) c.args.child.now (Some c.in-Ok.below) c.args.parent.now
+is : (c : In-Ok)
+    → AreWritesOf (store_view c.args.self.now c.args.stamp) (Attach c.args.child.now c.args.parent.now) Attached
+    (related (store_view c.args.self.now c.args.stamp) c.args.child.now (Some c.in-Ok.below) c.args.parent.now
     (with_child c.args.child.now))
 is c =
-    let m = view c.args.self.now c.args.stamp in
+    let m = store_view c.args.self.now c.args.stamp in
     let child = c.args.child.now in
     let parent = c.args.parent.now in
     subst (λ (x : Result Object Cause). IfOk x (λ o. AreWritesOf m (Attach child parent) Attached

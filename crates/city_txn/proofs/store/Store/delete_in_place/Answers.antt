@@ -6,7 +6,7 @@ use Rattle.city_model.specs.declared.command.Command.TheVariants.{Delete}
 use Rattle.city_model.specs.declared.command.Reply.TheVariants.{Deleted}
 use Rattle.city_model.proofs.Ids.{same_id_itself}
 use Rattle.city_model.proofs.Planned.{only_parent_writes}
-use Rattle.city_txn.specs.inside.State.{view}
+use Rattle.city_txn.specs.inside.State.{store_view}
 use Rattle.city_txn.proofs.RelatedInPlace.{copy_reserved, related_performed}
 use Rattle.city_txn.proofs.Touched.{may_reserve}
 use Rattle.city_txn.proofs.store.Store.delete_in_place.Goals as goal
@@ -18,7 +18,7 @@ reserve-requires c =
 
 pub set-requires : goal.set-requires
 set-requires c =
-    let is = only_parent_writes (view c.args.self.now c.args.stamp) c.args.id.now c.args.parent.now
+    let is = only_parent_writes (store_view c.args.self.now c.args.stamp) c.args.id.now c.args.parent.now
     c.requires.may.sound c.requires.only in
     copy_reserved c.args.stamp (Delete c.args.id.now) Deleted c.args.id.now c.args.parent.now None
     (without_child c.args.id.now) c.args.self.now c.reserve.new.self refl is c.requires.in_place
@@ -27,7 +27,7 @@ set-requires c =
 
 pub returns : goal.returns
 returns c =
-    let is = only_parent_writes (view c.args.self.now c.args.stamp) c.args.id.now c.args.parent.now
+    let is = only_parent_writes (store_view c.args.self.now c.args.stamp) c.args.id.now c.args.parent.now
     c.requires.may.sound c.requires.only in
     let w = c.set.ensures in
     related_performed c.args.stamp (Delete c.args.id.now) Deleted c.args.id.now c.args.parent.now None

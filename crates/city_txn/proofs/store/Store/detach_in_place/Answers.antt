@@ -10,7 +10,7 @@ use Rattle.city_model.specs.declared.command.Command.TheVariants.{Detach}
 use Rattle.city_model.specs.declared.command.Reply.TheVariants.{Detached}
 use Rattle.city_model.proofs.Ids.{same_id_itself}
 use Rattle.city_model.proofs.Planned.{related}
-use Rattle.city_txn.specs.inside.State.{view}
+use Rattle.city_txn.specs.inside.State.{store_view}
 use Rattle.city_txn.proofs.RelatedInPlace.{copy_reserved, related_performed}
 use Rattle.city_txn.proofs.Touched.{may_reserve}
 use Rattle.city_txn.proofs.store.Store.detach_in_place.Goals as goal
@@ -21,11 +21,12 @@ reserve-requires c =
     may_reserve c.args.self.now c.args.stamp (Detach c.args.child.now c.args.parent.now) c.args.child.now c.requires.may
     (or_left (same_id c.args.child.now c.args.child.now) _ (same_id_itself c.args.child.now))
 
-is : (c : In-Ok) → AreWritesOf (view c.args.self.now c.args.stamp) (Detach c.args.child.now c.args.parent.now) Detached
-    (related (view c.args.self.now c.args.stamp) c.args.child.now (Some c.in-Ok.below) c.args.parent.now
+is : (c : In-Ok)
+    → AreWritesOf (store_view c.args.self.now c.args.stamp) (Detach c.args.child.now c.args.parent.now) Detached
+    (related (store_view c.args.self.now c.args.stamp) c.args.child.now (Some c.in-Ok.below) c.args.parent.now
     (without_child c.args.child.now))
 is c =
-    let m = view c.args.self.now c.args.stamp in
+    let m = store_view c.args.self.now c.args.stamp in
     subst (λ (x : Result Object Cause). IfOk x (λ o. AreWritesOf m (Detach c.args.child.now c.args.parent.now) Detached
     (related m c.args.child.now (Some o) c.args.parent.now (without_child c.args.child.now)))) c.in-Ok.is
     c.in_ok-below.ensures.writes

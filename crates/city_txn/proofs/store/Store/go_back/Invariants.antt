@@ -1,6 +1,6 @@
 use Rattle.std.proofs.Common.{◌≡◌, true, false, length}
 use Rattle.city_model.specs.Marks.{marks_from}
-use Rattle.city_txn.specs.inside.State.{written, Touches}
+use Rattle.city_txn.specs.inside.State.{store_written, Touches}
 use Rattle.city_txn.specs.UndoLog.{log_of}
 use Rattle.city_txn.specs.inside.LogTests.{has_mark}
 use Rattle.city_txn.proofs.store.Store.go_back.Given as goal
@@ -8,7 +8,8 @@ use Rattle.city_txn.proofs.store.Store.go_back.Given as goal
 abbrev pub invariant-loop-self : goal.invariant-loop-self
 invariant-loop-self l = record {
   has : has_mark (log_of l.self.logs l.stamp) l.name ≡ true;
-  marks : marks_from l.name (written l.self l.stamp).1 ≡ marks_from l.name (written l.initial.self l.stamp).1;
+  marks : marks_from l.name (store_written l.self l.stamp).1
+      ≡ marks_from l.name (store_written l.initial.self l.stamp).1;
   touches : Touches l.stamp (λ id. false) l.initial.self l.self;
 }
 

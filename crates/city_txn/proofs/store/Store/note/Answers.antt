@@ -6,7 +6,7 @@ use Rattle.city_model.proofs.Ids.{same_id_true}
 use Rattle.city_model.proofs.IdLists.{bool_cases}
 use Rattle.city_txn.specs.declared.undo_log.Entry.TheVariants.{BeforeImage}
 use Rattle.city_txn.specs.inside.InPlace.{state_of}
-use Rattle.city_txn.specs.inside.State.{State, own, written, is_reserved}
+use Rattle.city_txn.specs.inside.State.{State, store_own, store_written, is_reserved}
 use Rattle.city_txn.specs.UndoLog.{log_of, marked, has_before}
 use Rattle.city_txn.specs.inside.LogTests.{is_noted}
 use Rattle.city_txn.proofs.Touched.{or_cases}
@@ -54,11 +54,11 @@ returns-clause-marks c =
     let v = state_of c.self.inside in
     let x = c.in_ok-copy.field-0 in
     let w = c.in_ok-write.write in
-    ap (λ ms. (own v s, ms)) (ap (λ l. marked l (own v s)) (log (goal.at.returns-clause-marks c).In_ok-push)
-    ∙ noted_marked (log_of c.self.inside.logs s) (own v s) x w
-    (c.in_ok-write.ensures ∙ ap (λ (u : State). own u s c.args.id.now) (sym c.self.view_is)
-    ∙ ap (own v s) (sym c.in_ok-copy.ensures)))
-    ∙ ap (λ (u : State). written u s) c.self.view_is
+    ap (λ ms. (store_own v s, ms)) (ap (λ l. marked l (store_own v s)) (log (goal.at.returns-clause-marks c).In_ok-push)
+    ∙ noted_marked (log_of c.self.inside.logs s) (store_own v s) x w
+    (c.in_ok-write.ensures ∙ ap (λ (u : State). store_own u s c.args.id.now) (sym c.self.view_is)
+    ∙ ap (store_own v s) (sym c.in_ok-copy.ensures)))
+    ∙ ap (λ (u : State). store_written u s) c.self.view_is
 
 pub returns-clause-ok : goal.returns-clause-ok
 returns-clause-ok c =

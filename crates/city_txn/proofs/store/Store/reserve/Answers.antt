@@ -1,7 +1,7 @@
 use Rattle.std.proofs.Common.{◌≡◌, ◌∙◌, sym, ap, subst, None, true, is_some, ◌==◌, ◌&&◌, ◌||◌, refl}
 use Rattle.std.specs.Prelude.{if◌then◌else◌}
 use Rattle.city_model.specs.CityMap.{object_at, changed, same_id}
-use Rattle.city_txn.specs.inside.State.{State, is_reserved, is_open, MayReserve, SeesSame}
+use Rattle.city_txn.specs.inside.State.{State, is_reserved, is_begun, MayReserve, SeesSame}
 use Rattle.city_txn.specs.inside.InPlace.{state_of, IsInPlace}
 use Rattle.city_txn.specs.inside.UndoState.{image_at}
 use Rattle.city_txn.proofs.Slots.{slot_cleared, absent_from}
@@ -42,8 +42,8 @@ returns-in_default-clause-err c =
 none : (c : In-Ok) → image_at c.self.inside.undo c.args.id.now ≡ None
 none c = absent_from (image_at c.self.inside.undo c.args.id.now) (sym c.has_image.ensures ∙ c.if-has_image.false)
 
-opened : (c : In-Ok) → is_open (state_of c.self.inside) c.args.stamp ≡ true
-opened c = ap (λ (v : State). is_open v c.args.stamp) c.self.view_is ∙ c.requires.opened
+opened : (c : In-Ok) → is_begun (state_of c.self.inside) c.args.stamp ≡ true
+opened c = ap (λ (v : State). is_begun v c.args.stamp) c.self.view_is ∙ c.requires.opened
 
 pub invariant_of-self-in-Ok : goal.invariant_of-self-in-Ok
 invariant_of-self-in-Ok c =

@@ -2,7 +2,7 @@ use Rattle.std.proofs.Common.{◌≡◌, ◌∙◌, ap, rules, ℕ, List, false,
 use Rattle.std.proofs.lemmas.Bool.{false_from_ne_true}
 use Rattle.city_model.proofs.IdLists.{not_both}
 use Rattle.city_model.specs.Runs.{Change}
-use Rattle.city_txn.specs.inside.State.{own, written, Touches}
+use Rattle.city_txn.specs.inside.State.{store_own, store_written, Touches}
 use Rattle.city_txn.specs.Writes.{own_write}
 use Rattle.city_txn.specs.UndoLog.{Written, log_of, marked}
 use Rattle.city_txn.specs.inside.LogTests.{is_noted}
@@ -37,7 +37,8 @@ touched c =
     (touches_seen s (plans c.as_slice.result.now) v u c.reserve_all.ensures.same c.reserve_all.ensures.reserved))
     (subst (λ (ws : Change). Touches s (plans ws) u c.note_all.new.self) listed_again c.note_all.ensures.touches)
 
-marks : (c : After-note_all) → (written c.note_all.new.self c.args.stamp).1 ≡ (written c.args.self.now c.args.stamp).1
+marks : (c : After-note_all)
+    → (store_written c.note_all.new.self c.args.stamp).1 ≡ (store_written c.args.self.now c.args.stamp).1
 marks c = ap (λ (x : Written). x.1)
     (c.note_all.ensures.marks
     ∙ written_seen c.args.self.now c.reserve_all.new.self c.args.stamp c.reserve_all.ensures.same)
@@ -65,7 +66,7 @@ returns-clause-marks c =
     λ q e. false_from_ne_true (plans c.into_vec.result.items q)
     (λ h. not_both (is_noted (log_of n.logs s) q)
     (c.in_ok-note_all.ensures.ok q (ap (λ (ws : Change). plans ws q) listed ∙ h)) e) in
-    ap (λ ls. marked (log_of ls s) (own w s)) c.set_all.ensures.only.logs
-    ∙ marked_same (log_of n.logs s) (own w s) (own n s)
+    ap (λ ls. marked (log_of ls s) (store_own w s)) c.set_all.ensures.only.logs
+    ∙ marked_same (log_of n.logs s) (store_own w s) (store_own n s)
     (λ q e. ap (own_write s) (c.set_all.ensures.apart q (apart q e)))
     ∙ marks (goal.at.returns-clause-marks c).After-note_all
