@@ -25,10 +25,10 @@ use Rattle.city_decimals.specs.Encoded.{tagged, encoded, encoded_items, encoded_
 use Rattle.city_decimals.specs.Decoded.{number_in, decoded, decoded_members}
 use Rattle.city_decimals.proofs.Wholes.{mapped}
 use Rattle.city_doc.specs.Pool.{object_points, city_points, pool_of}
-use Rattle.city_doc.specs.document.Cities.{entries_of, objects_of}
-use Rattle.city_doc.specs.object.Bodies.{object_of}
+use Rattle.city_tokens.specs.document.Cities.{entries_of, objects_of}
+use Rattle.city_tokens.specs.object.Bodies.{object_of}
 use Rattle.city_doc.specs.object.Canonical.{object_data, objects_data}
-use Rattle.city_doc.proofs.Options.{and_then_some, map_some}
+use Rattle.city_tokens.proofs.Options.{and_then_some, map_some}
 use Rattle.city_doc.proofs.Laws.{is_in, are_in, points_in_pool, in_turn, written_in_turn, ordered_in_turn, at_listed}
 use Rattle.city_doc.proofs.Laws.{found}
 use Rattle.city_canonical.specs.Members.{Ascend}

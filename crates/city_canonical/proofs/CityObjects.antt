@@ -32,14 +32,14 @@ use Rattle.city_decimals.specs.Encoded.{tagged, encoded, encoded_items, encoded_
 use Rattle.city_decimals.specs.Decoded.{decoded, decoded_items, decoded_members}
 use Rattle.city_decimals.proofs.Wholes.{mapped}
 use Rattle.city_doc.specs.Pool.{geometry_points, object_points}
-use Rattle.city_doc.specs.object.Bodies.{type_of, without_object_members, object_of}
+use Rattle.city_tokens.specs.object.Bodies.{type_of, without_object_members, object_of}
 use Rattle.city_doc.specs.object.Canonical.{object_data}
 use Rattle.city_doc.specs.shape.Canonical.{geometry_data}
-use Rattle.city_doc.specs.shape.Geometries.{geometry_of}
-use Rattle.city_doc.specs.tree.Lists.{read_items, list_of, list_or_absent, list_data, put_list}
-use Rattle.city_doc.specs.tree.Members.{kept_if, text_at}
+use Rattle.city_tokens.specs.shape.Geometries.{geometry_of}
+use Rattle.city_tokens.specs.tree.Lists.{read_items, list_of, list_or_absent, list_data, put_list}
+use Rattle.city_tokens.specs.tree.Members.{kept_if, text_at}
 use Rattle.city_doc.specs.inside.tree.PartTokens.{listed}
-use Rattle.city_doc.proofs.Options.{and_then_some, map_some}
+use Rattle.city_tokens.proofs.Options.{and_then_some, map_some}
 use Rattle.city_doc.proofs.Laws.{are_in, get_member-put_apart, get_member-put_list_apart, ordered_put, read_as}
 use Rattle.city_canonical.specs.Placed.{or_empty, list_at}
 use Rattle.city_canonical.specs.Members.{unless_empty}

@@ -26,10 +26,10 @@ use Rattle.city_decimals.specs.Decoded.{decoded, decoded_items, decoded_members}
 use Rattle.city_decimals.proofs.Wholes.{mapped, bound}
 use Rattle.city_doc.specs.Pool.{geometry_points}
 use Rattle.city_doc.specs.shape.Canonical.{boundaries_data, geometry_data}
-use Rattle.city_doc.specs.shape.Geometries.{nested_of, without_geometry_members, geometry_of}
-use Rattle.city_doc.specs.shape.Nesting.{geometry_type, shape_name}
-use Rattle.city_doc.specs.tree.Lists.{read_items}
-use Rattle.city_doc.proofs.Options.{and_then_some, map_some}
+use Rattle.city_tokens.specs.shape.Geometries.{nested_of, without_geometry_members, geometry_of}
+use Rattle.city_tokens.specs.shape.Nesting.{geometry_type, shape_name}
+use Rattle.city_tokens.specs.tree.Lists.{read_items}
+use Rattle.city_tokens.proofs.Options.{and_then_some, map_some}
 use Rattle.city_doc.proofs.Laws.{geometry_parts, is_in, are_in, get_member-put_apart, ordered_put}
 use Rattle.city_canonical.specs.Placed.{placed}
 use Rattle.city_canonical.specs.Same.{IsSameGeometry, AreSameGeometries}

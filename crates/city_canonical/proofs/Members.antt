@@ -26,7 +26,7 @@ use Rattle.city_decimals.specs.Arranged.{arranged}
 use Rattle.city_decimals.proofs.Bools.{and_left}
 use Rattle.city_decimals.proofs.Kept.{kept, same_kind}
 use Rattle.city_decimals.proofs.RoundTrip.{only_other}
-use Rattle.city_doc.proofs.Options.{and_then_some}
+use Rattle.city_tokens.proofs.Options.{and_then_some}
 
 -- ---- what is read
 

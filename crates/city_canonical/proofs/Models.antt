@@ -30,12 +30,13 @@ use Rattle.city_decimals.proofs.Wholes.{mapped}
 use Rattle.city_doc.specs.Pool.{geometry_points, object_points, city_points, pool_of}
 use Rattle.city_doc.specs.document.Ranges.{IsInRange}
 use Rattle.city_doc.specs.document.Canonical.{transform_data, vertex_data, vertices_data, tree_of}
-use Rattle.city_doc.specs.document.Cities.{entries_of, objects_of, city_of}
-use Rattle.city_doc.specs.document.Top.{same_text, is_text, without_top_members}
+use Rattle.city_tokens.specs.document.Cities.{entries_of, objects_of, city_of}
+use Rattle.city_tokens.specs.tree.Members.{same_text, is_text}
+use Rattle.city_tokens.specs.document.Frames.{without_top_members}
 use Rattle.city_doc.specs.object.Canonical.{objects_data}
-use Rattle.city_doc.specs.tree.Lists.{read_items}
-use Rattle.city_doc.specs.tree.Triples.{point_of, points_of}
-use Rattle.city_doc.proofs.Options.{and_then_some}
+use Rattle.city_tokens.specs.tree.Lists.{read_items}
+use Rattle.city_tokens.specs.tree.Triples.{point_of, points_of}
+use Rattle.city_tokens.proofs.Options.{and_then_some}
 use Rattle.city_doc.proofs.Laws.{frame_parts, in_turn, get_member-put_apart, ordered_put, stands_for}
 use Rattle.city_canonical.specs.Placed.{or_empty, list_at}
 use Rattle.city_canonical.specs.Members.{IsInOrder, IsSameAt}

@@ -9,7 +9,7 @@ use Rattle.serde_json.specs.Data.{Data, null, boolean, number, string, array, ob
 use Rattle.serde_json.specs.Find.{get_member, as_str}
 use Rattle.serde_json.specs.Read.{number_of, of_json, of_items, of_members}
 use Rattle.serde_json.specs.Written.{outline, members_outline}
-use Rattle.city_doc.specs.tree.Members.{kept_if}
+use Rattle.city_tokens.specs.tree.Members.{kept_if}
 use Rattle.city_model.specs.CityMap.{same_id}
 use Rattle.city_model.specs.Members.{without, AllAbove, AreOrdered}
 use Rattle.city_decimals.specs.Numbers.{is_whole}
@@ -17,7 +17,7 @@ use Rattle.city_decimals.specs.Shapes.{is_tag, is_text_or_array, is_frame}
 use Rattle.city_decimals.specs.Encoded.{tagged, encoded, encoded_items, encoded_members}
 use Rattle.city_decimals.specs.Decoded.{number_in, decoded, decoded_members}
 use Rattle.city_decimals.proofs.Wholes.{mapped}
-use Rattle.city_doc.proofs.Options.{and_then_some, if_some}
+use Rattle.city_tokens.proofs.Options.{and_then_some, if_some}
 use Rattle.city_doc.proofs.Laws.{ordered_put}
 pub use Rattle.city_doc.proofs.Laws.{array_is, object_is}
 use Rattle.city_canonical.specs.Members.{IsBelow, Ascend}

@@ -22,11 +22,11 @@ use Rattle.city_doc.specs.Pool.{nested_points, shape_points, number_of}
 use Rattle.city_doc.specs.document.Canonical.{vertex_data}
 use Rattle.city_doc.specs.shape.Canonical.{point_data, nested_data, boundaries_data}
 use Rattle.city_doc.specs.shape.Forms.{natural}
-use Rattle.city_doc.specs.shape.Geometries.{point_at_position, point_at, nested_of}
-use Rattle.city_doc.specs.shape.Nesting.{Nested, nested, GeometryType, geometry_type, geometry_types, shape_name}
-use Rattle.city_doc.specs.tree.Lists.{read_items, list_of}
-use Rattle.city_doc.specs.tree.Triples.{point_of}
-use Rattle.city_doc.proofs.Options.{and_then_some, map_some}
+use Rattle.city_tokens.specs.shape.Geometries.{point_at_position, point_at, nested_of}
+use Rattle.city_tokens.specs.shape.Nesting.{Nested, nested, GeometryType, geometry_type, geometry_types, shape_name}
+use Rattle.city_tokens.specs.tree.Lists.{read_items, list_of}
+use Rattle.city_tokens.specs.tree.Triples.{point_of}
+use Rattle.city_tokens.proofs.Options.{and_then_some, map_some}
 use Rattle.city_doc.proofs.Laws.{are_in, nested_read}
 use Rattle.city_canonical.specs.Placed.{or_number, placed, placed_items}
 use Rattle.city_canonical.proofs.Plain.{IsPlain, nested_plain, vertex_itself}

@@ -17,10 +17,10 @@ use Rattle.city_decimals.specs.Encoded.{tagged, encoded, encoded_items, encoded_
 use Rattle.city_decimals.specs.Decoded.{decoded, decoded_items}
 use Rattle.city_decimals.proofs.Wholes.{mapped, bound}
 use Rattle.city_doc.specs.document.Canonical.{vertex_data}
-use Rattle.city_doc.specs.shape.Geometries.{point_at, nested_of}
-use Rattle.city_doc.specs.tree.Lists.{read_items, list_of}
-use Rattle.city_doc.specs.tree.Triples.{integral_at, three_of, triple_of, point_of, points_of, integer_data}
-use Rattle.city_doc.proofs.Options.{and_then_some, map_some}
+use Rattle.city_tokens.specs.shape.Geometries.{point_at, nested_of}
+use Rattle.city_tokens.specs.tree.Lists.{read_items, list_of}
+use Rattle.city_tokens.specs.tree.Triples.{integral_at, three_of, triple_of, point_of, points_of, integer_data}
+use Rattle.city_tokens.proofs.Options.{and_then_some, map_some}
 
 abbrev mutual
   pub IsPlain : Data → Type 0

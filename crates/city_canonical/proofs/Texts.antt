@@ -28,9 +28,9 @@ use Rattle.city_decimals.proofs.Texts.{top_numbers, one_value}
 use Rattle.city_doc.specs.Pool.{pool_of}
 use Rattle.city_doc.specs.document.Canonical.{tree_of}
 use Rattle.city_doc.specs.document.Ranges.{IsInRange}
-use Rattle.city_doc.specs.document.Cities.{IsTextOfCity}
+use Rattle.city_tokens.specs.document.Cities.{IsTextOfCity}
 use Rattle.city_doc.specs.tree.Tokens.{tokens_of}
-use Rattle.city_doc.proofs.Options.{and_then_some}
+use Rattle.city_tokens.proofs.Options.{and_then_some}
 use Rattle.city_canonical.specs.Faults.{fault_of, read_fault_of}
 use Rattle.city_canonical.specs.Texts.{IsSameText, IsCanonicalFault}
 use Rattle.city_canonical.proofs.Decoded.{top_numbered, top_nests}

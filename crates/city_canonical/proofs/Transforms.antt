@@ -21,10 +21,10 @@ use Rattle.city_decimals.specs.Decoded.{decoded, out_of_form}
 use Rattle.city_decimals.specs.Arranged.{arranged}
 use Rattle.city_decimals.proofs.Kept.{kept, transform_kept}
 use Rattle.city_doc.specs.document.Canonical.{transform_data}
-use Rattle.city_doc.specs.document.Top.{triple_at, without_transform_members, without_top_members}
-use Rattle.city_doc.specs.tree.Members.{kept_if}
-use Rattle.city_doc.specs.tree.Triples.{triple_of, triple_data}
-use Rattle.city_doc.proofs.Options.{and_then_some}
+use Rattle.city_tokens.specs.document.Frames.{triple_at, without_transform_members, without_top_members}
+use Rattle.city_tokens.specs.tree.Members.{kept_if}
+use Rattle.city_tokens.specs.tree.Triples.{triple_of, triple_data}
+use Rattle.city_tokens.proofs.Options.{and_then_some}
 use Rattle.city_doc.proofs.Laws.{HasFrameParts}
 use Rattle.city_canonical.proofs.Members.{member_read, in_frame, in_plain, value_at}
 use Rattle.city_canonical.proofs.Objects.{object_is, kept_is, object_inj, object_read, found_read}

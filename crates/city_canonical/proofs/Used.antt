@@ -18,7 +18,7 @@ use Rattle.city_model.specs.declared.object.Point.{Point}
 use Rattle.city_model.specs.declared.object.Shape.{Shape}
 use Rattle.city_model.specs.Shells.{same_point}
 use Rattle.city_doc.specs.Pool.{nested_points, shape_points, without_repeats}
-use Rattle.city_doc.specs.shape.Nesting.{Nested, nested}
+use Rattle.city_tokens.specs.shape.Nesting.{Nested, nested}
 use Rattle.city_canonical.specs.Same.{IsPart, IsPartOfOne}
 use Rattle.city_canonical.proofs.Geometries.{IsShown, AreShown}
 use Rattle.city_canonical.proofs.Places.{shown_point, shown, shown_list, shown_shape}

@@ -9,8 +9,8 @@ use Rattle.city_model.specs.SerialEnds.{is_no_memory, IsSerialFrom}
 use Rattle.city_model.proofs.Results.{serial_ends_are_unique}
 use Rattle.city_model.proofs.Objects.{same_objects}
 use Rattle.city_doc.specs.document.Canonical.{city_text}
-use Rattle.city_doc.specs.document.Cities.{IsAdmitted}
-use Rattle.city_doc.specs.script.Scripts.{IsReadAs}
+use Rattle.city_tokens.specs.document.Cities.{IsAdmitted}
+use Rattle.city_tokens.specs.script.Scripts.{IsReadAs}
 use Rattle.city_doc.specs.Outputs.{IsOutput}
 use Rattle.city_doc.specs.report.Reports.{report_text}
 use Rattle.city_doc.proofs.OneValue.{one_city, one_list}

@@ -4,7 +4,7 @@ use Rattle.std.specs.Result.{IfErr, IsErrAnd}
 use Rattle.city_doc.specs.declared.fault.ReadFault.{ReadFault}
 use Rattle.city_doc.specs.declared.fault.ScriptFault.{ScriptFault}
 use Rattle.city_model.specs.CityMap.{CityValue}
-use Rattle.city_doc.specs.document.Cities.{IsAdmitted}
+use Rattle.city_tokens.specs.document.Cities.{IsAdmitted}
 use Rattle.city_doc.specs.document.Faults.{DocumentFault}
 use Rattle.city_doc.specs.script.Faults.{ScriptTextFault}
 use Rattle.city_desk.specs.declared.fault.RunFault.{RunFault}

@@ -4,8 +4,8 @@ use Rattle.city_model.specs.declared.end.End.{End}
 use Rattle.city_model.specs.CityMap.{CityValue, object_at}
 use Rattle.city_model.specs.Relations.{IsLawful}
 use Rattle.city_model.specs.Runs.{Scripted, IsSerialHistory, model_after}
-use Rattle.city_doc.specs.document.Cities.{IsAdmitted}
-use Rattle.city_doc.specs.script.Scripts.{IsReadAs}
+use Rattle.city_tokens.specs.document.Cities.{IsAdmitted}
+use Rattle.city_tokens.specs.script.Scripts.{IsReadAs}
 use Rattle.city_doc.specs.Outputs.{IsOutput}
 
 -- the document stands for the city, which is lawful, and the text for the scripts

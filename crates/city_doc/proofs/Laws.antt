@@ -1,7 +1,6 @@
 -- Laws over the definitions of documents, for the crates above.
-pub use Rattle.city_doc.proofs.tree.Puts.{ordered_put}
-pub use Rattle.city_doc.proofs.tree.PutMembers.{get_member-put_apart, get_member-put_list_apart}
-pub use Rattle.city_doc.proofs.tree.Trees.{array_is, object_is}
+pub use Rattle.city_tokens.proofs.Laws.{ordered_put, get_member-put_apart, get_member-put_list_apart, array_is}
+pub use Rattle.city_tokens.proofs.Laws.{object_is, at_listed}
 pub use Rattle.city_doc.proofs.tree.Integers.{text_of_integer}
 pub use Rattle.city_doc.proofs.pool.KeptNumbers.{same_itself}
 pub use Rattle.city_doc.proofs.pool.NumberedPoints.{is_in, are_in, points_in_pool, parts_in, nested_read}
@@ -9,7 +8,6 @@ pub use Rattle.city_doc.proofs.document.EntriesRead.{in_turn, written_in_turn}
 pub use Rattle.city_doc.proofs.document.FrameParts.{HasFrameParts, frame_parts}
 pub use Rattle.city_doc.proofs.document.KeptMembers.{kept_passes}
 pub use Rattle.city_doc.proofs.document.LawfulTrees.{StandsFor, stands_for}
-pub use Rattle.city_doc.proofs.document.Listings.{at_listed}
 pub use Rattle.city_doc.proofs.document.NoFault.{IsReadAs, read_as, found}
 pub use Rattle.city_doc.proofs.object.WrittenObjects.{ordered_in_turn}
 pub use Rattle.city_doc.proofs.shape.GeometryParts.{HasGeometryParts, geometry_parts}

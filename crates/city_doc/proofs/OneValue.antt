@@ -3,9 +3,9 @@ use Rattle.std.proofs.Common.{◌≡◌, ℕ, List, Some, sym, ap, ◌∙◌}
 use Rattle.serde_json.specs.Data.{Data}
 use Rattle.city_model.specs.Runs.{Scripted}
 use Rattle.city_model.specs.CityMap.{CityValue}
-use Rattle.city_doc.specs.document.Cities.{city_of, IsTextOfCity}
-use Rattle.city_doc.specs.script.Scripts.{scripts_of}
-use Rattle.city_doc.specs.tree.Texts.{IsText}
+use Rattle.city_tokens.specs.document.Cities.{city_of, IsTextOfCity}
+use Rattle.city_tokens.specs.script.Scripts.{scripts_of}
+use Rattle.city_tokens.specs.tree.Texts.{IsText}
 
 pub one_tree : (text : List ℕ) (d e : Data) → IsText text d → IsText text e → d ≡ e
 one_tree text d e h k = let both : Some d ≡ Some e = sym h.1 ∙ k.1 in cc

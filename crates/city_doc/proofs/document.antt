@@ -1,6 +1,5 @@
 -- What the proofs of several functions of src/document/ use.
 mod ArrangedCities
-pub mod BuiltFrames
 mod BuiltObjects
 pub mod Cities
 mod CityNests
@@ -13,7 +12,6 @@ mod LawfulCities
 pub mod LawfulTrees
 mod Least
 mod LenientEntries
-pub mod Listings
 mod NestsNoDeeper
 pub mod NoFault
 mod Objects

@@ -1,6 +1,4 @@
 -- What the proofs of several functions of src/script/ use.
-pub mod BuiltScripts
-mod CommandLaws
 pub mod CommandLists
 mod CommandMeanings
 mod FirstAt

@@ -9,7 +9,7 @@ use Rattle.city_model.specs.declared.object.Geometry.{Geometry}
 use Rattle.city_model.specs.declared.object.Object.{Object}
 use Rattle.city_model.specs.Shells.{same_point}
 use Rattle.city_model.specs.CityMap.{CityValue}
-use Rattle.city_doc.specs.shape.Nesting.{Nested, nested}
+use Rattle.city_tokens.specs.shape.Nesting.{Nested, nested}
 
 -- ---- the walk: ids in byte order, then geometries, solids, shells, surfaces, rings and points, each in order
 

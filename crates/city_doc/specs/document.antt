@@ -2,7 +2,6 @@
 pub mod Accepted
 pub mod Canonical
 pub mod CanonicalTexts
-pub mod Cities
 pub mod CityFaults
 pub mod Faults
 pub mod Least

@@ -3,5 +3,4 @@ pub mod Pool
 pub mod document
 pub mod script
 pub mod shape
-pub mod stream
 pub mod tree

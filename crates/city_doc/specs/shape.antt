@@ -1,5 +1,3 @@
 -- Definitions of geometries and their trees.
 pub mod Canonical
 pub mod Forms
-pub mod Geometries
-pub mod Nesting

@@ -1,7 +1,2 @@
 -- Definitions of JSON trees and their parts.
-pub mod Lists
-pub mod Members
-pub mod Steps
-pub mod Texts
 pub mod Tokens
-pub mod Triples

@@ -9,7 +9,6 @@
 //! - `document`: whole documents: their tops, their cities, their faults, the canonical text
 //! - `script`: texts of scripts: the forms of commands, commands, faults
 //! - `report`: the report of a run: ends and replies
-//! - `stream`: documents and scripts read from the tokens of their texts
 //! - `pool`: points, each with a number
 //! - `fault`: why a text is refused
 #![tactic(auto)]
@@ -21,13 +20,12 @@ mod pool;
 mod report;
 mod script;
 mod shape;
-mod stream;
 mod tree;
 
+pub use city_tokens::MAX_TEXT;
 pub use document::read::read_city;
 pub use document::write::{append_city, write_city};
 pub use fault::{ReadFault, ScriptFault};
 pub use pool::VertexPool;
 pub use report::write::write_report;
 pub use script::read::read_scripts;
-pub use tree::parse::MAX_TEXT;

@@ -3,5 +3,4 @@
 pub mod kept_members;
 pub mod parse;
 pub mod text;
-pub mod triples;
 pub mod values;

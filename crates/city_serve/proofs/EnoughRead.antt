@@ -3,7 +3,7 @@ use Rattle.std.proofs.Common.{◌≡◌, ℕ, ◌+◌, ◌<◌, ◌≤◌, Bool,
 use Rattle.std.proofs.Common.{nat_lt, inl, inr, refl, ap, ◌∙◌, arith}
 use Rattle.std.proofs.lemmas.Bool.Decides.{nat_tests}
 use Rattle.std.proofs.lemmas.List.{take_all, length-take-le}
-use Rattle.city_doc.specs.tree.Texts.{max_text}
+use Rattle.city_tokens.specs.tree.Texts.{max_text}
 use Rattle.city_serve.specs.ServedTexts.{IsEnoughOf}
 
 module _ (all read : List ℕ) (is : read ≡ take (max_text + 1) all) where

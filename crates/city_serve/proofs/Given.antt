@@ -18,9 +18,9 @@ use Rattle.city_model.specs.Integral as model
 use Rattle.city_decimals.specs.Whole as decimals
 use Rattle.city_doc.specs.declared.fault.ReadFault.{ReadFault}
 use Rattle.city_doc.specs.declared.fault.ScriptFault.{ScriptFault}
-use Rattle.city_doc.specs.tree.Texts.{HasTree}
+use Rattle.city_tokens.specs.tree.Texts.{HasTree}
 use Rattle.city_doc.specs.document.Faults.{DocumentFault}
-use Rattle.city_doc.specs.script.Scripts.{ScriptParts}
+use Rattle.city_tokens.specs.script.Scripts.{ScriptParts}
 use Rattle.city_doc.specs.script.Faults.{ScriptTextFault, TreeFault, ItemsFault, PartsFault}
 use Rattle.city_desk.specs.declared.fault.RunFault.{RunFault}
 use Rattle.city_desk.specs.RunFaults.{IsRunFault}

@@ -3,7 +3,7 @@ use Rattle.std.specs.Prelude.{◌==◌, ◌≡◌, ◌⊎◌, ◌+◌, ◌*◌, 
 use Rattle.std.specs.Global.{Vec}
 use Rattle.std.specs.List.{before_first, after_first}
 use Rattle.std.specs.Io.KnownBytes.{Keeps}
-use Rattle.city_doc.specs.tree.Texts.{max_text}
+use Rattle.city_tokens.specs.tree.Texts.{max_text}
 use Rattle.city_desk.specs.TextRuns.{IsRun}
 use Rattle.city_serve.specs.ServedTexts.{Written, Faults, AreServedBy, AreCutShortBy, IsFaultOfRun}
 use Rattle.city_desk.specs.declared.fault.RunFault.{RunFault}

@@ -4,7 +4,7 @@ use Rattle.std.specs.Global.{Vec}
 use Rattle.std.specs.Io.KnownBytes.{Keeps, Appends, Consumes}
 use Rattle.city_model.specs.declared.end.End.{End}
 use Rattle.city_model.specs.SerialEnds.{commits_in}
-use Rattle.city_doc.specs.tree.Texts.{max_text}
+use Rattle.city_tokens.specs.tree.Texts.{max_text}
 use Rattle.city_desk.specs.declared.fault.RunFault.{RunFault}
 use Rattle.city_desk.specs.InTurn.{AreInTurn}
 use Rattle.city_desk.specs.RunFaults.{IsRunFault, is_of_crew}

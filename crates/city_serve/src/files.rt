@@ -1,6 +1,6 @@
 //! Reads a text from a file.
 ghost use Rattle.std.specs.Prelude.{◌≡◌, ◌+◌, true, take, IfOk, IfErr, IfSome, OnOk};
-ghost use Rattle.city_doc.specs.tree.Texts.{max_text};
+ghost use Rattle.city_tokens.specs.tree.Texts.{max_text};
 ghost use Rattle.city_serve.specs.Served.{IsDeviceFault};
 ghost use Rattle.city_serve.specs.ServedTexts.{IsEnoughOf, LosesAtMost};
 

@@ -8,17 +8,17 @@ use Rattle.city_model.specs.declared.object.Body.{Body}
 use Rattle.city_model.specs.declared.object.Point.{Point}
 use Rattle.city_model.specs.CityMap.{Entries}
 use Rattle.city_model.specs.Members.{without}
-use Rattle.city_doc.specs.object.Bodies.{body_of}
+use Rattle.city_tokens.specs.object.Bodies.{body_of}
 use Rattle.city_doc.specs.document.Faults.{objects_in, vertices_in}
 use Rattle.city_doc.specs.inside.document.Forms.{AreReadable, HasForm}
 use Rattle.city_doc.specs.document.Top.{wrong_member}
-use Rattle.city_doc.specs.inside.document.Frames.{frame_of_rest}
+use Rattle.city_tokens.specs.inside.Frames.{frame_of_rest}
 use Rattle.city_doc.specs.inside.document.LenientCities.{lenient_entries_of, lenient_city_at, lenient_city_of}
 use Rattle.city_doc.specs.inside.document.Searches.{first_with}
 use Rattle.city_doc.proofs.document.Cities.{objects_at}
 use Rattle.city_doc.proofs.object.FaultlessBodies.{known, supported, formed, placed}
 use Rattle.city_doc.proofs.document.LenientEntries.{starts_read, lenient_body}
-use Rattle.city_doc.proofs.Options.{and_then_some, map_some}
+use Rattle.city_tokens.proofs.Options.{and_then_some, map_some}
 
 -- a test that no tree of a body passes finds nothing
 none_with : (test : Data → Bool) (points : List Point)

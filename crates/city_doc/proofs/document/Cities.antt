@@ -7,13 +7,12 @@ use Rattle.city_model.specs.declared.frame.Frame.{Frame}
 use Rattle.city_model.specs.declared.object.Point.{Point}
 use Rattle.city_model.specs.CityMap.{Entries}
 use Rattle.city_model.specs.Members.{without}
-use Rattle.city_doc.specs.document.Cities.{city_of, is_city_json, points_in, entries_of, entries_in, objects_of}
+use Rattle.city_tokens.specs.document.Cities.{city_of, is_city_json, points_in, entries_of, entries_in, objects_of}
 use Rattle.city_doc.specs.document.Faults.{members_of, objects_in}
-use Rattle.city_doc.specs.document.Top.{frame_of}
-use Rattle.city_doc.specs.inside.document.Frames.{frame_of_rest}
-use Rattle.city_doc.proofs.document.BuiltFrames.{frame_is}
+use Rattle.city_tokens.specs.document.Frames.{frame_of}
+use Rattle.city_tokens.specs.inside.Frames.{frame_of_rest}
+use Rattle.city_tokens.proofs.Laws.{frame_is, object_is}
 use Rattle.city_doc.proofs.document.Right.{IsRight, city_json}
-use Rattle.city_doc.proofs.tree.Trees.{object_is}
 
 pub get-object : (name : List ℕ) (d : Data) (ms : Members) → as_object d ≡ Some ms → get name d ≡ get_member name ms
 get-object name d ms e = ap (get name) (object_is d ms e)

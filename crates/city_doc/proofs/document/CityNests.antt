@@ -11,18 +11,18 @@ use Rattle.city_model.specs.declared.frame.Frame.{Frame}
 use Rattle.city_model.specs.declared.object.Point.{Point}
 use Rattle.city_model.specs.Kept.{kept_at_top, kept_at_transform, top_members, transform_members}
 use Rattle.city_model.specs.declared.object.Object.{Object}
-use Rattle.city_doc.specs.tree.Members.{kept_if}
-use Rattle.city_doc.specs.tree.Triples.{integer_data, triple_data}
+use Rattle.city_tokens.specs.tree.Members.{kept_if}
+use Rattle.city_tokens.specs.tree.Triples.{integer_data, triple_data}
 use Rattle.city_doc.specs.object.Canonical.{object_data, with_objects, objects_data}
 use Rattle.city_doc.specs.document.Canonical.{transform_data, vertex_data, vertices_data, frame_members, numbered_tree}
 use Rattle.city_doc.specs.document.Canonical.{tree_of}
-use Rattle.city_doc.specs.document.Cities.{is_city_json, points_in, entries_in, objects_of, city_of, IsTextOfCity}
-use Rattle.city_doc.specs.document.Top.{without_transform_members, more_of, frame_of, without_top_members}
+use Rattle.city_tokens.specs.document.Cities.{is_city_json, points_in, entries_in, objects_of, city_of, IsTextOfCity}
+use Rattle.city_tokens.specs.document.Frames.{without_transform_members, more_of, frame_of, without_top_members}
 use Rattle.city_doc.specs.Pool.{pool_of}
 use Rattle.city_doc.proofs.document.NestsNoDeeper.{Holds, holds_then, holds_map, put_depth, kept_depth}
 use Rattle.city_doc.proofs.document.NestsNoDeeper.{object_members_depth, list_depth, objects_within, get_depth}
 use Rattle.city_doc.proofs.document.NestsNoDeeper.{held, holds_where, without_each_depth}
-use Rattle.city_doc.proofs.document.Listings.{OfEach, of_each_listed}
+use Rattle.city_tokens.proofs.Laws.{OfEach, of_each_listed}
 use Rattle.city_doc.proofs.document.FrameParts.{frame_parts}
 
 triple_depth : (zs : List ℤ) → depth (triple_data zs) ≤ 1

@@ -13,7 +13,7 @@ use Rattle.serde_json.specs.Data.{Members, no_members, member, put}
 use Rattle.city_model.specs.CityMap.{Entries}
 use Rattle.city_model.specs.declared.object.Object.{Object}
 use Rattle.city_model.specs.declared.object.Point.{Point}
-use Rattle.city_doc.specs.document.Cities.{entries_of}
+use Rattle.city_tokens.specs.document.Cities.{entries_of}
 use Rattle.city_doc.specs.object.Canonical.{object_data, with_objects}
 use Rattle.city_doc.specs.inside.document.KeptMembers.{is_kept_object, are_kept_objects}
 use Rattle.city_doc.specs.Pool.{object_points}

@@ -4,9 +4,9 @@ use Rattle.serde_json.specs.Data.{Data, Members}
 use Rattle.serde_json.specs.Find.{get, as_object}
 use Rattle.city_model.specs.declared.frame.Frame.{Frame}
 use Rattle.city_model.specs.Kept.{kept_at_top}
-use Rattle.city_doc.specs.document.Top.{triple_at, more_of, without_top_members, frame_of}
-use Rattle.city_doc.specs.tree.Members.{kept_if}
-use Rattle.city_doc.proofs.Options.{and_then_some, map_some}
+use Rattle.city_tokens.specs.document.Frames.{triple_at, more_of, without_top_members, frame_of}
+use Rattle.city_tokens.specs.tree.Members.{kept_if}
+use Rattle.city_tokens.proofs.Options.{and_then_some, map_some}
 
 pub record HasFrameParts (d : Data) (f : Frame) : Type 0 where
   pub transform : Data

@@ -9,13 +9,12 @@ use Rattle.city_model.specs.Kept.{top_members, transform_members, object_members
 use Rattle.city_model.specs.Kept.{kept_at_top, kept_at_transform, kept_at_object, kept_at_geometry, has_location}
 use Rattle.city_model.specs.Kept.{is_empty_object_or_absent}
 use Rattle.city_model.specs.Members.{without_each}
-use Rattle.city_doc.specs.tree.Members.{kept_if}
-use Rattle.city_doc.specs.shape.Geometries.{without_geometry_members}
-use Rattle.city_doc.specs.object.Bodies.{without_object_members}
-use Rattle.city_doc.specs.document.Top.{without_transform_members, without_top_members}
-use Rattle.city_doc.proofs.Options.{if_some}
-use Rattle.city_doc.proofs.tree.WithoutMembers.{lacks_each-without_each, get_member-without_each}
-use Rattle.city_doc.proofs.tree.WithoutMembers.{members_integral-without_each}
+use Rattle.city_tokens.specs.tree.Members.{kept_if}
+use Rattle.city_tokens.specs.shape.Geometries.{without_geometry_members}
+use Rattle.city_tokens.specs.object.Bodies.{without_object_members}
+use Rattle.city_tokens.specs.document.Frames.{without_transform_members, without_top_members}
+use Rattle.city_tokens.proofs.Options.{if_some}
+use Rattle.city_tokens.proofs.Laws.{lacks_each-without_each, get_member-without_each, members_integral-without_each}
 
 pub kept_all : (test : Members → Bool) (ms : Members) → test ms ≡ true → kept_if test ms ≡ Some ms
 kept_all test ms h = rw h refl

@@ -1,11 +1,10 @@
 -- A tree of whole numbers that stands for a lawful city has no fault, from its top to its objects.
-use Rattle.std.proofs.Common.{◌≡◌, true≢false, ◌⊎◌, inl, inr, ℕ, List, [], ◌∷◌, Bool, true, Option, Some, None}
-use Rattle.std.proofs.Common.{Result, Ok, Err}
-use Rattle.std.proofs.Common.{refl, sym, ap, subst, ◌∙◌, arith}
+use Rattle.std.proofs.Common.{◌≡◌, true≢false, ◌⊎◌, inl, inr, ℕ, List, [], ◌∷◌, Bool, true, Option, Some, None, Result}
+use Rattle.std.proofs.Common.{Ok, Err, refl, sym, ap, subst, ◌∙◌, arith}
 use Rattle.std.specs.Prelude.{◌&&◌, IfErr, length, option_and_then, option_map, is_some, codes}
 use Rattle.std.proofs.lemmas.Bool.{and_from, and_parts}
-use Rattle.serde_json.specs.Data.{Data, Items, no_items, item, Members, no_members, member}
-use Rattle.serde_json.specs.Find.{get, get_member, at, as_array, as_object}
+use Rattle.serde_json.specs.Data.{Data, Members, no_members, member}
+use Rattle.serde_json.specs.Find.{get, get_member, as_object}
 use Rattle.city_model.specs.declared.object.Point.{Point}
 use Rattle.city_model.specs.CityMap as city
 use Rattle.city_model.specs.Kept.{kept_at_top, is_empty_object_or_absent, lacks_each, top_members}
@@ -16,26 +15,24 @@ use Rattle.city_doc.specs.declared.fault.ReadFault.{ReadFault}
 use Rattle.city_doc.specs.declared.fault.ReadFault.TheVariants.{OutOfMemory, TooLong, NotJson, NotWhole, NotCityJson}
 use Rattle.city_doc.specs.declared.fault.ReadFault.TheVariants.{UnknownType, Unsupported, BadGeometry, BadVertex}
 use Rattle.city_doc.specs.declared.fault.ReadFault.TheVariants.{BadRing, Relations, OpenShell}
-use Rattle.city_doc.specs.tree.Lists.{read_items}
-use Rattle.city_doc.specs.tree.Members.{kept_if}
+use Rattle.city_tokens.specs.tree.Members.{kept_if, is_text}
 use Rattle.city_doc.specs.document.CityFaults.{or_empty}
-use Rattle.city_doc.specs.document.Cities.{is_city_json, points_in, entries_of, entries_in, city_of, objects_of}
-use Rattle.city_doc.specs.document.Cities.{IsAdmitted}
+use Rattle.city_tokens.specs.document.Cities.{is_city_json, points_in, entries_of, entries_in, city_of, objects_of}
+use Rattle.city_tokens.specs.document.Cities.{IsAdmitted}
 use Rattle.city_doc.specs.document.Faults.{members_of, objects_in, vertices_in, is_unsupported, StandsIn, DocumentFault}
-use Rattle.city_doc.specs.document.Top.{is_text, has_triple, is_transform, all_objects, are_all_objects, are_objects}
-use Rattle.city_doc.specs.document.Top.{are_vertices, first_wrong, wrong_member, frame_of, without_top_members}
+use Rattle.city_doc.specs.document.Top.{has_triple, is_transform, all_objects, are_all_objects, are_objects}
+use Rattle.city_doc.specs.document.Top.{are_vertices, first_wrong, wrong_member}
+use Rattle.city_tokens.specs.document.Frames.{frame_of, without_top_members}
 use Rattle.city_doc.specs.object.Faults.{is_unknown_type, is_bad_geometry, has_bad_vertex}
-use Rattle.city_doc.specs.tree.Triples.{integral_at, triple_of, point_of, points_of, all_triples, are_all_triples}
+use Rattle.city_tokens.specs.tree.Triples.{points_of}
 use Rattle.city_doc.proofs.document.Cities.{get-object}
 use Rattle.city_doc.proofs.document.KeptMembers.{kept_passes}
-use Rattle.city_doc.proofs.document.Listings.{at_listed}
+use Rattle.city_tokens.proofs.Laws.{at_listed, are_triples-read, get_member-without_each}
 use Rattle.city_doc.proofs.object.FaultlessBodies.{known, supported, formed, placed, is_object}
 use Rattle.city_doc.proofs.document.NoFault.{read_as, no_object, no_bad_ring, no_open_shell, no_badly_related}
 use Rattle.city_doc.proofs.OneValue.{one_tree}
-use Rattle.city_doc.proofs.Options.{and_then_some, map_some, if_some}
-use Rattle.city_doc.proofs.document.Right.{three_some}
+use Rattle.city_tokens.proofs.Options.{and_then_some, map_some, if_some}
 use Rattle.city_doc.proofs.document.FrameParts.{frame_parts}
-use Rattle.city_doc.proofs.tree.WithoutMembers.{get_member-without_each}
 
 -- ---- the parts of a city's tree
 
@@ -79,22 +76,9 @@ all_are_objects points (member k x ms) es h =
     and_from (is_some (as_object x)) (all_objects ms) (is_object points x (o.0).body (read_as points x o.0 o.1).body)
     (all_are_objects points ms r.0 r.1)
 
-triple_some : (d : Data) (p : Point) → point_of d ≡ Some p → is_some (triple_of d) ≡ true
-triple_some d p h =
-    three_some (λ x y z. record { x = x; y = y; z = z }) (λ x y z. x ∷ y ∷ z ∷ []) (is_some (at 3 d)) (integral_at 0 d)
-    (integral_at 1 d) (integral_at 2 d) (ap is_some h)
-
-triples : (ds : Items) (ps : List Point) → read_items point_of ds ≡ Some ps → all_triples ds ≡ true
-triples no_items ps h = refl
-triples (item d ds) ps h =
-    let p = and_then_some (λ y. option_map (λ ys. y ∷ ys) (read_items point_of ds)) (point_of d) ps h in
-    let r = map_some (λ ys. p.0 ∷ ys) (read_items point_of ds) ps p.2 in
-    and_from (is_some (triple_of d)) (all_triples ds) (triple_some d p.0 p.1) (triples ds r.0 r.1)
-
 pub vertices_right : (o : Option Data) (ps : List Point) → option_and_then points_of o ≡ Some ps → are_vertices o ≡ true
 vertices_right None ps h = absurd (let no : ⊥ = cc in no)
-vertices_right (Some v) ps h = let ds = and_then_some (read_items point_of) (as_array v) ps h in ap are_all_triples ds.1
-    ∙ triples ds.0 ps ds.2
+vertices_right (Some v) ps h = are_triples-read v ps h
 
 -- the kept members of the top have no other `extensions` than it has
 extensions_right : (top kept : Members) → kept_if kept_at_top (without_top_members top) ≡ Some kept

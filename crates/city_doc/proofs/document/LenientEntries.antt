@@ -11,9 +11,9 @@ use Rattle.city_model.specs.declared.object.Body.{Body}
 use Rattle.city_model.specs.declared.object.Object.{Object}
 use Rattle.city_model.specs.declared.object.Point.{Point}
 use Rattle.city_model.specs.CityMap.{Entries, found_in}
-use Rattle.city_doc.specs.object.Bodies.{body_of, object_of, ids_at}
+use Rattle.city_tokens.specs.object.Bodies.{body_of, object_of, ids_at}
 use Rattle.city_doc.specs.document.CityFaults.{body_has, or_empty, lenient_object_of, lenient_map_of}
-use Rattle.city_doc.specs.document.Cities.{entries_of}
+use Rattle.city_tokens.specs.document.Cities.{entries_of}
 use Rattle.city_doc.specs.inside.document.LenientCities.{lenient_entries_of, first_body}
 use Rattle.city_doc.specs.object.Faults.{has_bad_list}
 use Rattle.city_doc.specs.inside.document.Searches.{first_with}

@@ -20,15 +20,15 @@ use Rattle.city_model.specs.Kept.{object_members, geometry_members, kept_at_obje
 use Rattle.city_model.specs.declared.object_type.ObjectType.{ObjectType}
 use Rattle.city_model.specs.Members.{without, without_each}
 use Rattle.city_model.specs.Types.{name_of}
-use Rattle.city_doc.specs.tree.Lists.{read_items, list_of, list_or_absent, list_data, put_list}
-use Rattle.city_doc.specs.tree.Members.{kept_if}
-use Rattle.city_doc.specs.shape.Geometries.{without_geometry_members, geometry_of}
-use Rattle.city_doc.specs.object.Bodies.{without_object_members, type_of, ids_at, body_of, object_of}
+use Rattle.city_tokens.specs.tree.Lists.{read_items, list_of, list_or_absent, list_data, put_list}
+use Rattle.city_tokens.specs.tree.Members.{kept_if}
+use Rattle.city_tokens.specs.shape.Geometries.{without_geometry_members, geometry_of}
+use Rattle.city_tokens.specs.object.Bodies.{without_object_members, type_of, ids_at, body_of, object_of}
 use Rattle.city_doc.specs.shape.Canonical.{nested_data, boundaries_data, geometry_data}
 use Rattle.city_doc.specs.object.Canonical.{object_data}
-use Rattle.city_doc.specs.shape.Nesting.{Nested, nested, shape_name}
-use Rattle.city_doc.specs.document.Cities.{entries_of, entries_in}
-use Rattle.city_doc.proofs.document.Listings.{OfEach}
+use Rattle.city_tokens.specs.shape.Nesting.{Nested, nested, shape_name}
+use Rattle.city_tokens.specs.document.Cities.{entries_of, entries_in}
+use Rattle.city_tokens.proofs.Laws.{OfEach}
 use Rattle.city_doc.proofs.shape.GeometryParts.{geometry_parts}
 
 -- ---- what holds of an answer

@@ -15,15 +15,15 @@ use Rattle.city_model.specs.declared.object.Point.{Point}
 use Rattle.city_model.specs.CityMap.{Entries, found_in}
 use Rattle.city_model.specs.Relations.{IsRelated, IsLawful}
 use Rattle.city_model.specs.Shells.{body_fault, some_shape, has_short_ring, has_same_twice, has_open_shell}
-use Rattle.city_doc.specs.object.Bodies.{body_of, ids_at, object_of}
+use Rattle.city_tokens.specs.object.Bodies.{body_of, ids_at, object_of}
 use Rattle.city_doc.specs.document.CityFaults as faults
-use Rattle.city_doc.specs.document.Cities.{entries_of}
+use Rattle.city_tokens.specs.document.Cities.{entries_of}
 use Rattle.city_doc.specs.inside.document.LenientCities.{lenient_entries_of}
 use Rattle.city_doc.specs.object.Faults.{has_bad_list}
 use Rattle.city_doc.specs.document.Least.{Has}
 use Rattle.city_doc.proofs.document.Least.{none_misrelated}
 use Rattle.city_doc.proofs.document.LenientEntries.{found-lenient}
-use Rattle.city_doc.proofs.Options.{and_then_some, map_some}
+use Rattle.city_tokens.proofs.Options.{and_then_some, map_some}
 
 -- ---- an object that is read
 

@@ -17,7 +17,7 @@ use Rattle.city_model.specs.declared.object.Object.{Object}
 use Rattle.city_model.specs.declared.object.Point.{Point}
 use Rattle.city_doc.specs.document.CityFaults.{lenient_object_of}
 use Rattle.city_doc.specs.inside.document.LenientCities.{lenient_entries_of}
-use Rattle.city_doc.proofs.Options.{map_grown}
+use Rattle.city_tokens.proofs.Options.{map_grown}
 
 module _ {K X : Type 0} {R : K → K → Ordering} (total : IsTotalOrder R) where
   -- a key in the middle is above the first

@@ -9,15 +9,15 @@ use Rattle.city_model.specs.declared.frame.Frame.{Frame}
 use Rattle.city_model.specs.declared.object.Point.{Point}
 use Rattle.city_model.specs.declared.object.Object.{Object}
 use Rattle.city_model.specs.declared.object.Geometry.{Geometry}
-use Rattle.city_doc.specs.shape.Nesting.{shape_name}
-use Rattle.city_doc.specs.tree.Triples.{triple_data}
+use Rattle.city_tokens.specs.shape.Nesting.{shape_name}
+use Rattle.city_tokens.specs.tree.Triples.{triple_data}
 use Rattle.city_doc.specs.document.Canonical.{transform_data, vertices_data, numbered_tree}
 use Rattle.city_doc.specs.shape.Canonical.{boundaries_data, geometry_data}
-use Rattle.city_doc.specs.tree.Lists.{put_list}
+use Rattle.city_tokens.specs.tree.Lists.{put_list}
 use Rattle.city_doc.specs.object.Canonical.{object_data, objects_data}
 use Rattle.city_doc.specs.inside.tree.PartTokens.{listed}
 use Rattle.city_doc.proofs.tree.Among.{puts, put_if}
-use Rattle.city_doc.proofs.tree.Puts.{put-swap}
+use Rattle.city_tokens.proofs.Laws.{put-swap}
 
 abbrev pub Own : Type 0
 Own = List (List ℕ × Option Data)

@@ -1,16 +1,17 @@
 -- What holds of a tree whose members are all as a document has them.
-use Rattle.std.proofs.Common.{◌≡◌, ℕ, ℤ, List, [], ◌∷◌, Bool, true, false, true≢false, Option, Some, None, refl, sym}
-use Rattle.std.specs.Prelude.{option_and_then, option_map, codes, is_some, if◌then◌else◌}
+use Rattle.std.proofs.Common.{◌≡◌, ℕ, List, [], ◌∷◌, Bool, true, false, true≢false, Option, Some, None, refl, sym}
+use Rattle.std.specs.Prelude.{option_and_then, codes, is_some, if◌then◌else◌}
 use Rattle.std.proofs.lemmas.Bool.{and_parts}
 use Rattle.serde_json.specs.Data.{Data, Items, no_items, item}
 use Rattle.serde_json.specs.Find.{get, at, as_array}
 use Rattle.city_model.specs.declared.object.Point.{Point}
 use Rattle.city_model.specs.Kept.{is_empty_object_or_absent}
-use Rattle.city_doc.specs.tree.Lists.{read_items}
-use Rattle.city_doc.specs.document.Cities.{is_city_json, points_in}
-use Rattle.city_doc.specs.document.Top.{is_text, is_transform, are_objects, are_vertices, judged, first_wrong}
-use Rattle.city_doc.specs.document.Top.{wrong_member}
-use Rattle.city_doc.specs.tree.Triples.{integral_at, triple_of, point_of, points_of, all_triples, are_all_triples}
+use Rattle.city_tokens.specs.tree.Lists.{read_items}
+use Rattle.city_tokens.specs.document.Cities.{is_city_json, points_in}
+use Rattle.city_tokens.specs.tree.Members.{is_text}
+use Rattle.city_doc.specs.document.Top.{is_transform, are_objects, are_vertices, judged, first_wrong, wrong_member}
+use Rattle.city_tokens.specs.tree.Triples.{integral_at, triple_of, point_of, points_of, all_triples, are_all_triples}
+use Rattle.city_tokens.proofs.Laws.{three_some}
 
 pub some_of : {X : Type 0} (o : Option X) → is_some o ≡ true → (x : X) × (o ≡ Some x)
 some_of None h = absurd (true≢false (sym h))
@@ -55,26 +56,6 @@ is_right d h =
 
 pub city_json : (d : Data) → IsRight d → is_city_json d ≡ true
 city_json d h = rw (h.type_is, h.version_is) refl
-
-last_some : {A B : Type 0} (make : ℤ → ℤ → ℤ → A) (other : ℤ → ℤ → ℤ → B) (x y : ℤ) (c : Option ℤ)
-    → is_some (option_map (λ z. make x y z) c) ≡ true → is_some (option_map (λ z. other x y z) c) ≡ true
-last_some make other x y None h = h
-last_some make other x y (Some z) h = refl
-
-middle_some : {A B : Type 0} (make : ℤ → ℤ → ℤ → A) (other : ℤ → ℤ → ℤ → B) (x : ℤ) (b c : Option ℤ)
-    → is_some (option_and_then (λ y. option_map (λ z. make x y z) c) b) ≡ true
-    → is_some (option_and_then (λ y. option_map (λ z. other x y z) c) b) ≡ true
-middle_some make other x None c h = h
-middle_some make other x (Some y) c h = last_some make other x y c h
-
-pub three_some : {A B : Type 0} (make : ℤ → ℤ → ℤ → A) (other : ℤ → ℤ → ℤ → B) (long : Bool) (a b c : Option ℤ)
-    → is_some (if long then None else option_and_then (λ x. option_and_then (λ y. option_map (λ z. make x y z) c) b) a)
-    ≡ true
-    → is_some (if long then None else option_and_then (λ x. option_and_then (λ y. option_map (λ z. other x y z) c) b) a)
-    ≡ true
-three_some make other true a b c h = h
-three_some make other false None b c h = h
-three_some make other false (Some x) b c h = middle_some make other x b c h
 
 point_some : (d : Data) → is_some (triple_of d) ≡ true → is_some (point_of d) ≡ true
 point_some d h =

@@ -16,15 +16,16 @@ use Rattle.city_model.specs.Relations.{IsLawful}
 use Rattle.city_model.specs.Integral.{is_integral, members_integral}
 use Rattle.city_model.proofs.MemberLaws.{get_member-without}
 use Rattle.city_doc.specs.declared.fault.ReadFault.{ReadFault}
-use Rattle.city_doc.specs.tree.Members.{kept_if}
-use Rattle.city_doc.specs.object.Bodies.{body_of, ids_at}
+use Rattle.city_tokens.specs.tree.Members.{kept_if}
+use Rattle.city_tokens.specs.object.Bodies.{body_of, ids_at}
 use Rattle.city_doc.specs.document.CityFaults.{or_empty}
-use Rattle.city_doc.specs.document.Cities.{city_of, objects_of, points_in}
+use Rattle.city_tokens.specs.document.Cities.{city_of, objects_of, points_in}
 use Rattle.city_doc.specs.document.Faults.{objects_in, vertices_in, is_unsupported, StandsAmong, StandsIn, IsFirst}
 use Rattle.city_doc.specs.inside.document.Forms.{AreReadable, HasForm}
-use Rattle.city_doc.specs.document.Top.{triple_at, has_triple, wrong_member, more_of, is_transform, all_objects}
-use Rattle.city_doc.specs.document.Top.{are_all_objects, are_objects, without_transform_members}
-use Rattle.city_doc.specs.inside.document.Frames.{frame_with, frame_of_rest, without_rest_members}
+use Rattle.city_tokens.specs.document.Frames.{triple_at, more_of, without_transform_members}
+use Rattle.city_doc.specs.document.Top.{has_triple, wrong_member, is_transform, all_objects, are_all_objects}
+use Rattle.city_doc.specs.document.Top.{are_objects}
+use Rattle.city_tokens.specs.inside.Frames.{frame_with, frame_of_rest, without_rest_members}
 use Rattle.city_doc.specs.inside.document.LenientCities.{listed, lenient_entries_of, lenient_city_of, IsReadOf}
 use Rattle.city_doc.specs.object.Faults.{is_unknown_type, is_bad_geometry, has_bad_vertex, has_bad_list}
 use Rattle.city_doc.specs.inside.document.Searches.{first_with}
@@ -35,10 +36,8 @@ use Rattle.city_doc.proofs.document.LenientEntries.{none_first, entries_of-lenie
 use Rattle.city_doc.proofs.document.Order.{first_in}
 use Rattle.city_doc.proofs.object.ReadBodies.{IsReadable, body_of-some}
 use Rattle.city_doc.proofs.document.Right.{IsRight, is_right, some_of, has_points}
-use Rattle.city_doc.proofs.tree.IntegralParts.{as_object-integral, get_member-integral}
-use Rattle.city_doc.proofs.document.Listings.{listed_again}
-use Rattle.city_doc.proofs.tree.Trees.{object_with}
-use Rattle.city_doc.specs.tree.Triples.{triple_of}
+use Rattle.city_tokens.proofs.Laws.{as_object-integral, get_member-integral, listed_again, object_with}
+use Rattle.city_tokens.specs.tree.Triples.{triple_of}
 
 -- ---- the frame
 

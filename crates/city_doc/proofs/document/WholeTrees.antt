@@ -19,19 +19,18 @@ use Rattle.city_model.specs.declared.frame.Frame.{Frame}
 use Rattle.city_model.specs.Types.{type_named}
 use Rattle.city_model.proofs.Ids.{by_id}
 use Rattle.city_model.proofs.MemberLaws.{get_member-without}
-use Rattle.city_doc.specs.tree.Lists.{read_items, list_of, list_or_absent}
-use Rattle.city_doc.specs.tree.Members.{kept_if, text_at}
-use Rattle.city_doc.specs.tree.Texts.{IsText}
-use Rattle.city_doc.specs.tree.Triples.{integral_at, three_of, triple_of, point_of, points_of}
-use Rattle.city_doc.specs.shape.Geometries.{point_at_position, point_at, nested_of, shape_of, without_geometry_members}
-use Rattle.city_doc.specs.shape.Geometries.{geometry_of}
-use Rattle.city_doc.specs.shape.Nesting.{geometry_type}
-use Rattle.city_doc.specs.object.Bodies.{without_object_members, object_of}
-use Rattle.city_doc.specs.document.Cities.{city_of, entries_of}
+use Rattle.city_tokens.specs.tree.Lists.{read_items, list_of, list_or_absent}
+use Rattle.city_tokens.specs.tree.Members.{kept_if, text_at, same_text, is_text}
+use Rattle.city_tokens.specs.tree.Texts.{IsText}
+use Rattle.city_tokens.specs.tree.Triples.{integral_at, three_of, triple_of, point_of, points_of}
+use Rattle.city_tokens.specs.shape.Geometries.{point_at_position, point_at, nested_of, shape_of}
+use Rattle.city_tokens.specs.shape.Geometries.{without_geometry_members, geometry_of}
+use Rattle.city_tokens.specs.shape.Nesting.{geometry_type}
+use Rattle.city_tokens.specs.object.Bodies.{without_object_members, object_of}
+use Rattle.city_tokens.specs.document.Cities.{city_of, entries_of}
 use Rattle.city_doc.specs.document.Faults.{objects_in, vertices_in}
-use Rattle.city_doc.specs.document.Top.{triple_at, without_transform_members, more_of, without_top_members, same_text}
-use Rattle.city_doc.specs.document.Top.{is_text}
-use Rattle.city_doc.proofs.Options.{and_then_some, map_some}
+use Rattle.city_tokens.specs.document.Frames.{triple_at, without_transform_members, more_of, without_top_members}
+use Rattle.city_tokens.proofs.Options.{and_then_some, map_some}
 use Rattle.city_doc.proofs.document.FrameParts.{frame_parts}
 use Rattle.city_doc.proofs.document.IntegralTrees.{at_geometry, at_object, at_transform, at_top}
 use Rattle.city_doc.proofs.document.KeptMembers.{kept_passes}
@@ -40,9 +39,8 @@ use Rattle.city_doc.proofs.document.NoFault.{read_as}
 use Rattle.city_doc.proofs.document.Searches.{here, there}
 use Rattle.city_doc.proofs.object.FaultlessBodies.{body_parts}
 use Rattle.city_doc.proofs.shape.GeometryParts.{geometry_parts}
-use Rattle.city_doc.proofs.tree.IntegralParts.{get_member-integral}
+use Rattle.city_tokens.proofs.Laws.{get_member-integral, object_is}
 use Rattle.city_doc.proofs.tree.OrderedTrees.{IsOrdered, AreItemsOrdered, AreValuesOrdered, value_ordered, read_ordered}
-use Rattle.city_doc.proofs.tree.Trees.{object_is}
 
 -- ---- members that are taken out
 

@@ -7,16 +7,16 @@ use Rattle.serde_json.specs.Find.{get, get_member, as_object}
 use Rattle.city_model.specs.declared.object.Body.{Body}
 use Rattle.city_model.specs.declared.object.Point.{Point}
 use Rattle.city_model.specs.Kept.{object_members, kept_at_object, has_location}
-use Rattle.city_doc.specs.object.Bodies.{type_of, without_object_members, body_of}
-use Rattle.city_doc.specs.tree.Members.{kept_if}
-use Rattle.city_doc.specs.tree.Lists.{list_or_absent}
-use Rattle.city_doc.specs.shape.Geometries.{geometry_of}
+use Rattle.city_tokens.specs.object.Bodies.{type_of, without_object_members, body_of}
+use Rattle.city_tokens.specs.tree.Members.{kept_if}
+use Rattle.city_tokens.specs.tree.Lists.{list_or_absent}
+use Rattle.city_tokens.specs.shape.Geometries.{geometry_of}
 use Rattle.city_doc.specs.document.Faults.{is_unsupported}
 use Rattle.city_doc.specs.object.Faults.{is_unknown_type, is_bad_geometry, has_bad_vertex}
 use Rattle.city_doc.proofs.document.Cities.{get-object}
 use Rattle.city_doc.proofs.document.KeptMembers.{kept_passes}
-use Rattle.city_doc.proofs.Options.{and_then_some, map_some}
-use Rattle.city_doc.proofs.tree.WithoutMembers.{get_member-without_each}
+use Rattle.city_tokens.proofs.Options.{and_then_some, map_some}
+use Rattle.city_tokens.proofs.Laws.{get_member-without_each}
 use Rattle.city_doc.proofs.shape.ReadForms.{geometries_fit, position_fits, number_fits, geometries_supported}
 
 -- the parts of a body's tree

@@ -8,11 +8,11 @@ use Rattle.city_model.specs.declared.object.Point.{Point}
 use Rattle.city_model.specs.CityMap.{same_id}
 use Rattle.city_model.specs.Members.{without}
 use Rattle.city_model.proofs.MemberLaws.{get_member-without}
-use Rattle.city_doc.specs.tree.Lists.{list_or_absent}
-use Rattle.city_doc.specs.object.Bodies.{without_object_members, body_of}
+use Rattle.city_tokens.specs.tree.Lists.{list_or_absent}
+use Rattle.city_tokens.specs.object.Bodies.{without_object_members, body_of}
 use Rattle.city_doc.specs.document.CityFaults.{or_empty, lenient_object_of}
 use Rattle.city_doc.proofs.document.Cities.{get-object}
-use Rattle.city_doc.proofs.tree.WithoutMembers.{without-swap, without-twice}
+use Rattle.city_tokens.proofs.Laws.{without-swap, without-twice}
 
 -- the members but both lists
 abbrev unlisted : Members → Members

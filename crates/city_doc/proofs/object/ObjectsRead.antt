@@ -16,20 +16,19 @@ use Rattle.city_model.specs.Members.{without}
 use Rattle.city_model.specs.Types.{name_of, type_named}
 use Rattle.city_model.specs.Integral.{members_integral}
 use Rattle.city_model.proofs.TypeNames.{named}
-use Rattle.city_doc.specs.shape.Geometries.{without_geometry_members, geometry_of}
-use Rattle.city_doc.specs.object.Bodies.{type_of, without_object_members, ids_at, object_of}
-use Rattle.city_doc.specs.tree.Lists.{list_or_absent, put_list}
+use Rattle.city_tokens.specs.shape.Geometries.{without_geometry_members, geometry_of}
+use Rattle.city_tokens.specs.object.Bodies.{type_of, without_object_members, ids_at, object_of}
+use Rattle.city_tokens.specs.tree.Lists.{list_or_absent, put_list}
 use Rattle.city_doc.specs.Pool.{geometry_points, object_points}
 use Rattle.city_doc.specs.shape.Canonical.{boundaries_data, geometry_data}
 use Rattle.city_doc.specs.object.Canonical.{object_data}
-use Rattle.city_doc.specs.shape.Nesting.{shape_name}
+use Rattle.city_tokens.specs.shape.Nesting.{shape_name}
 use Rattle.city_doc.specs.inside.document.KeptMembers.{is_kept_geometry, is_kept_object}
 use Rattle.city_doc.proofs.document.KeptMembers.{kept_all}
 use Rattle.city_doc.proofs.tree.ListsRead.{put_list_read, all_pass}
 use Rattle.city_doc.proofs.pool.NumberedPoints.{are_in, parts_in, shape_read}
-use Rattle.city_doc.proofs.tree.PutMembers.{get_member-put_apart, get_member-put_list_apart, without-three}
-use Rattle.city_doc.proofs.tree.PutMembers.{without-four, without-put, without-put_list}
-use Rattle.city_doc.proofs.tree.WithoutMembers.{each_lacking}
+use Rattle.city_tokens.proofs.Laws.{get_member-put_apart, get_member-put_list_apart, without-three, without-four}
+use Rattle.city_tokens.proofs.Laws.{without-put, without-put_list, each_lacking}
 
 -- ---- geometries
 

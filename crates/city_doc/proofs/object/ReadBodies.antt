@@ -12,17 +12,17 @@ use Rattle.city_model.specs.Kept.{kept_at_object, has_location}
 use Rattle.city_model.specs.Members.{without}
 use Rattle.city_model.specs.Integral.{is_integral}
 use Rattle.city_model.proofs.MemberLaws.{get_member-without}
-use Rattle.city_doc.specs.object.Bodies.{type_of, without_object_members, body_of}
-use Rattle.city_doc.specs.tree.Members.{kept_if}
-use Rattle.city_doc.specs.tree.Lists.{list_or_absent}
-use Rattle.city_doc.specs.shape.Geometries.{geometry_of}
+use Rattle.city_tokens.specs.object.Bodies.{type_of, without_object_members, body_of}
+use Rattle.city_tokens.specs.tree.Members.{kept_if}
+use Rattle.city_tokens.specs.tree.Lists.{list_or_absent}
+use Rattle.city_tokens.specs.shape.Geometries.{geometry_of}
 use Rattle.city_doc.specs.document.Faults.{is_unsupported}
 use Rattle.city_doc.specs.object.Faults.{is_unknown_type, has_bad_vertex}
 use Rattle.city_doc.proofs.document.Cities.{get-object}
 use Rattle.city_doc.proofs.document.KeptMembers.{kept_all, object_admitted}
 use Rattle.city_doc.proofs.shape.Readable.{geometries_some}
 use Rattle.city_doc.proofs.document.Right.{some_of}
-use Rattle.city_doc.proofs.tree.IntegralParts.{as_object-integral, get_member-integral}
+use Rattle.city_tokens.proofs.Laws.{as_object-integral, get_member-integral}
 
 -- the member `geometry`, after `type` was taken out
 pub geometry_stays : (d : Data) (ms left : Members) (found : Option Data) → as_object d ≡ Some ms

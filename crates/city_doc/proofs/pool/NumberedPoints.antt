@@ -13,10 +13,10 @@ use Rattle.city_model.specs.declared.object.Shape.{Shape}
 use Rattle.city_model.specs.declared.object.Shape.TheVariants.{MultiSurface, CompositeSurface, Solid, MultiSolid}
 use Rattle.city_model.specs.declared.object.Shape.TheVariants.{CompositeSolid}
 use Rattle.city_model.specs.Shells.{same_point}
-use Rattle.city_doc.specs.shape.Geometries.{point_at, nested_of, shape_of}
+use Rattle.city_tokens.specs.shape.Geometries.{point_at, nested_of, shape_of}
 use Rattle.city_doc.specs.Pool.{nested_points, shape_points, without_repeats, number_of}
 use Rattle.city_doc.specs.shape.Canonical.{point_data, nested_data, boundaries_data}
-use Rattle.city_doc.specs.shape.Nesting.{Nested, shape_name}
+use Rattle.city_tokens.specs.shape.Nesting.{Nested, shape_name}
 use Rattle.city_doc.proofs.tree.ListsRead.{list_read}
 use Rattle.city_doc.proofs.shape.Points.{same_point-symm, same_point-congr}
 

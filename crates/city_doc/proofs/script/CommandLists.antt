@@ -5,18 +5,12 @@ use Rattle.std.specs.Prelude.{◌==◌, option_and_then, codes}
 use Rattle.std.proofs.Math.Seq.{drop-cons}
 use Rattle.serde_json.specs.Data.{Data, Members}
 use Rattle.serde_json.specs.Find.{get_member}
-use Rattle.city_model.specs.declared.object.Point.{Point}
-use Rattle.city_model.specs.declared.command.Command.{Command}
 use Rattle.city_model.specs.Members.{without}
-use Rattle.city_model.specs.Scripts.{is_end, is_empty_list, ends_once}
 use Rattle.city_model.proofs.MemberLaws.{get_member-without}
-use Rattle.city_doc.specs.script.CommandForms.{text_in}
-use Rattle.city_doc.specs.script.Commands.{command_of}
-use Rattle.city_doc.specs.tree.Lists.{array_of, all_read}
-use Rattle.city_doc.specs.script.Scripts.{ended, is_end_word, is_last, word_ends, commands_in, parts_in}
+use Rattle.city_tokens.specs.script.CommandForms.{text_in}
+use Rattle.city_tokens.specs.tree.Lists.{array_of}
+use Rattle.city_tokens.specs.script.Scripts.{ended, is_end_word, is_last, word_ends, commands_in, parts_in}
 use Rattle.city_model.proofs.Endings.{zero_rest}
-use Rattle.city_doc.proofs.tree.AllRead.{all_read-cons, all_read-nil}
-use Rattle.city_doc.proofs.script.CommandMeanings.{command_of-end}
 
 -- ---- the index of the first word that ends a script
 
@@ -31,23 +25,6 @@ pub word_ends-drop : {A : Type 0} (f : A → Data) (xs : List A) (i : ℕ) (x : 
 word_ends-drop f xs i x h at end =
     rw (drop-cons xs i x h, ← at, end) (is_last-length f (drop (suc i) xs) _ refl
     ∙ zero_rest (i + 1) (length xs) (length (drop (suc i) xs)) (omega arith) (length-drop (suc i) xs ∙ omega arith))
-
--- ---- the commands that are read end as their trees do
-
-is_empty-read : (points : List Point) (ds : List Data) (cs : List Command) → all_read (command_of points) ds ≡ Some cs
-    → is_empty_list cs ≡ is_last ds
-is_empty-read points [] cs h = ap is_empty_list (all_read-nil (command_of points) cs h)
-is_empty-read points (d ∷ ds) cs h = let r = all_read-cons (command_of points) d ds cs h in ap is_empty_list r.4
-
-pub ends_once-read : (points : List Point) (ds : List Data) (cs : List Command)
-    → all_read (command_of points) ds ≡ Some cs → ends_once cs ≡ word_ends ds
-ends_once-read points [] cs h = ap ends_once (all_read-nil (command_of points) cs h)
-ends_once-read points (d ∷ ds) cs h =
-    let r = all_read-cons (command_of points) d ds cs h in
-    let end : is_end r.0 ≡ is_end_word d = command_of-end points d r.0 r.2 in
-    let last : is_empty_list r.1 ≡ is_last ds = is_empty-read points ds r.1 r.3 in
-    let rest : ends_once r.1 ≡ word_ends ds = ends_once-read points ds r.1 r.3 in
-    ap ends_once r.4 ∙ rw (end, last, rest) refl
 
 -- ---- members taken out one after another
 

@@ -1,56 +1,23 @@
 -- What commands stand for: how they end, and which stand for any.
-use Rattle.std.proofs.Common.{◌≡◌, ℕ, List, length, Bool, true, false, true≢false, Option, Some, None, option_map, refl}
-use Rattle.std.proofs.Common.{sym, ap, ◌∙◌}
-use Rattle.std.specs.Prelude.{option_and_then, codes, if◌then◌else◌}
+use Rattle.std.proofs.Common.{◌≡◌, ℕ, List, length, true, false, true≢false, Option, Some, None, refl, sym, ap, ◌∙◌}
+use Rattle.std.specs.Prelude.{option_and_then, codes}
 use Rattle.serde_json.specs.Data.{Data}
 use Rattle.serde_json.specs.Find.{get}
 use Rattle.city_model.specs.declared.object.Point.{Point}
-use Rattle.city_model.specs.declared.object.Body.{Body}
 use Rattle.city_model.specs.declared.command.Command.{Command}
 use Rattle.city_model.specs.declared.command.Command.TheVariants.{Read, Put, Delete, Attach, Detach, Mark, Back, Commit}
 use Rattle.city_model.specs.declared.command.Command.TheVariants.{Abort}
-use Rattle.city_model.specs.Scripts.{is_end}
 use Rattle.city_model.specs.Integral.{is_integral}
-use Rattle.city_doc.specs.object.Bodies.{body_of}
 use Rattle.city_doc.specs.object.Faults.{has_bad_vertex}
-use Rattle.city_doc.specs.script.CommandFaults.{is_bad_object, put_tree, is_bad_put, is_no_good_form, is_bad_command}
+use Rattle.city_doc.specs.script.CommandFaults.{is_bad_object, is_bad_put, is_no_good_form, is_bad_command}
 use Rattle.city_doc.specs.script.CommandFaults.{put_names_bad_vertex, names_bad_vertex}
-use Rattle.city_doc.specs.script.CommandForms.{CommandForm, ReadForm, PutForm, DeleteForm, AttachForm, DetachForm}
-use Rattle.city_doc.specs.script.CommandForms.{MarkForm, BackForm, CommitForm, AbortForm, form_of}
-use Rattle.city_doc.specs.script.Commands.{names_relations, put_of, command_of_form, command_of}
-use Rattle.city_doc.specs.script.Scripts.{is_end_word}
-use Rattle.city_doc.proofs.script.CommandLaws.{is_end_form, puts_own, form_fit}
-use Rattle.city_doc.proofs.Options.{and_then_some}
+use Rattle.city_tokens.specs.script.CommandForms.{put_tree, CommandForm, ReadForm, PutForm, DeleteForm, AttachForm}
+use Rattle.city_tokens.specs.script.CommandForms.{DetachForm, MarkForm, BackForm, CommitForm, AbortForm, form_of}
+use Rattle.city_tokens.specs.script.Commands.{put_of, command_of_form, command_of}
+use Rattle.city_tokens.proofs.Laws.{puts_own, form_fit, get-integral}
 use Rattle.city_doc.proofs.script.PutBodies.{good, body_of-good}
-use Rattle.city_doc.proofs.tree.IntegralParts.{get-integral}
 
 -- ---- the parts of a command
-
-put_parts : (b : Bool) (o : Option Body) (id : List ℕ) (c : Command)
-    → (if b then None else option_map (Put id) o) ≡ Some c
-    → (b ≡ false) × ((body : Body) × (o ≡ Some body) × (c ≡ Put id body))
-put_parts true o id c h = absurd (let no : ⊥ = cc in no)
-put_parts false None id c h = absurd (let no : ⊥ = cc in no)
-put_parts false (Some body) id c h = let is : c ≡ Put id body = cc in (refl, (body, refl, is))
-
-command_end : (points : List Point) (f : CommandForm) (c : Command) → command_of_form points f ≡ Some c
-    → is_end c ≡ is_end_form f
-command_end points (ReadForm id) c h = let is : c ≡ Read id = cc in ap is_end is
-command_end points (PutForm id tree) c h = let r = put_parts (names_relations tree) (body_of points tree) id c h in
-    ap is_end r.1.2
-command_end points (DeleteForm id) c h = let is : c ≡ Delete id = cc in ap is_end is
-command_end points (AttachForm child parent) c h = let is : c ≡ Attach child parent = cc in ap is_end is
-command_end points (DetachForm child parent) c h = let is : c ≡ Detach child parent = cc in ap is_end is
-command_end points (MarkForm name) c h = let is : c ≡ Mark name = cc in ap is_end is
-command_end points (BackForm name) c h = let is : c ≡ Back name = cc in ap is_end is
-command_end points CommitForm c h = let is : c ≡ Commit = cc in ap is_end is
-command_end points AbortForm c h = let is : c ≡ Abort = cc in ap is_end is
-
--- a command ends its script where its tree is a word that does
-pub command_of-end : (points : List Point) (d : Data) (c : Command) → command_of points d ≡ Some c
-    → is_end c ≡ is_end_word d
-command_of-end points d c h = let r = and_then_some (command_of_form points) (form_of d) c h in
-    command_end points r.0 c r.2 ∙ (form_fit d r.0 r.1).0
 
 -- a put is that of the object in its tree
 pub put_read : (points : List Point) (d tree : Data) (id given : List ℕ) (o : Option Command)

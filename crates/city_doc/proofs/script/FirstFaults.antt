@@ -6,7 +6,7 @@ use Rattle.serde_json.specs.Data.{Data}
 use Rattle.city_doc.specs.declared.fault.ScriptFault.{ScriptFault}
 use Rattle.city_doc.specs.declared.fault.ScriptFault.TheVariants.{OutOfMemory, BadScript, BadCommand, BadVertex}
 use Rattle.city_doc.specs.script.CommandFaults.{is_bad_command, names_bad_vertex}
-use Rattle.city_doc.specs.script.Scripts.{ScriptParts, vertex_count, parts_of, are_too_many}
+use Rattle.city_tokens.specs.script.Scripts.{ScriptParts, vertex_count, parts_of, are_too_many}
 use Rattle.city_doc.specs.script.Faults.{HasAt, IsBefore, IsFirstAt, PartsFault, ItemsFault}
 use Rattle.city_doc.specs.inside.script.Searches.{first_at, unless, bad_script, index_if, first_in, index_in}
 use Rattle.city_doc.specs.inside.script.Searches.{first_command}

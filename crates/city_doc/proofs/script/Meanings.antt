@@ -10,20 +10,20 @@ use Rattle.city_model.specs.declared.object.Point.{Point}
 use Rattle.city_model.specs.declared.command.Command.{Command}
 use Rattle.city_model.specs.Runs.{Scripted}
 use Rattle.city_model.specs.Integral.{is_integral}
-use Rattle.city_doc.specs.tree.Lists.{read_items, items_list, array_of, all_read}
-use Rattle.city_doc.specs.tree.Triples.{point_of}
+use Rattle.city_tokens.specs.tree.Lists.{read_items, items_list, array_of, all_read}
+use Rattle.city_tokens.specs.tree.Triples.{point_of}
 use Rattle.city_doc.specs.script.CommandFaults.{is_bad_command, names_bad_vertex}
-use Rattle.city_doc.specs.script.CommandForms.{text_in}
-use Rattle.city_doc.specs.script.Commands.{command_of}
+use Rattle.city_tokens.specs.script.CommandForms.{text_in}
+use Rattle.city_tokens.specs.script.Commands.{command_of}
 use Rattle.city_doc.specs.inside.script.Faultless.{AreFaultlessParts}
-use Rattle.city_doc.specs.script.Scripts.{ScriptParts, ended, word_ends, are_vertices, commands_in, has_script_members}
-use Rattle.city_doc.specs.script.Scripts.{parts_in, parts_if, parts_of, vertex_points, count_of, vertex_count}
-use Rattle.city_doc.specs.script.Scripts.{script_of, scripts_of_parts}
-use Rattle.city_doc.proofs.tree.AllRead.{in_all, all_read-all, all_read-some}
+use Rattle.city_tokens.specs.script.Scripts.{ScriptParts, ended, word_ends, are_vertices, commands_in}
+use Rattle.city_tokens.specs.script.Scripts.{has_script_members, parts_in, parts_if, parts_of, vertex_points, count_of}
+use Rattle.city_tokens.specs.script.Scripts.{vertex_count, script_of, scripts_of_parts}
+use Rattle.city_tokens.proofs.Laws.{in_all, all_read-all, all_read-some, array_of-integral, as_object-integral}
+use Rattle.city_tokens.proofs.Laws.{get_member-integral}
 use Rattle.city_doc.proofs.script.CommandMeanings.{command_of-some}
-use Rattle.city_doc.proofs.Options.{and_then_some, map_some, if_some}
+use Rattle.city_tokens.proofs.Options.{and_then_some, map_some, if_some}
 use Rattle.city_doc.proofs.document.Right.{array_some}
-use Rattle.city_doc.proofs.tree.IntegralParts.{array_of-integral, as_object-integral, get_member-integral}
 
 -- ---- the points of vertices
 

@@ -7,9 +7,9 @@ use Rattle.serde_json.specs.Find.{as_object}
 use Rattle.city_model.specs.declared.object.Point.{Point}
 use Rattle.city_model.specs.declared.object.Body.{Body}
 use Rattle.city_model.specs.Integral.{is_integral}
-use Rattle.city_doc.specs.object.Bodies.{body_of}
+use Rattle.city_tokens.specs.object.Bodies.{body_of}
 use Rattle.city_doc.specs.script.CommandFaults.{is_unreadable, is_bad_object}
-use Rattle.city_doc.specs.script.Commands.{names_relations}
+use Rattle.city_tokens.specs.script.Commands.{names_relations}
 use Rattle.city_doc.specs.object.Faults.{is_unknown_type, unsupported_name, is_bad_geometry, has_bad_vertex}
 use Rattle.city_doc.proofs.object.ReadBodies.{body_of-some}
 

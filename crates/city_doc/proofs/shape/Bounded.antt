@@ -4,7 +4,7 @@ use Rattle.city_model.specs.declared.object.Shape.{Shape}
 use Rattle.city_model.specs.declared.object.Shape.TheVariants.{MultiSurface, CompositeSurface, Solid}
 use Rattle.city_model.specs.declared.object.Shape.TheVariants.{MultiSolid, CompositeSolid}
 use Rattle.city_model.specs.inside.BorrowedBounds.{Boundaries, Surfaces, Shells, Solids, boundaries_of}
-use Rattle.city_doc.specs.shape.Nesting.{Nested, nested}
+use Rattle.city_tokens.specs.shape.Nesting.{Nested, nested}
 
 abbrev pub nested_within : Boundaries → (n : ℕ) × Nested n
 nested_within (Surfaces surfaces) = (3, surfaces)

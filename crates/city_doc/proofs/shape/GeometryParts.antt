@@ -5,9 +5,9 @@ use Rattle.serde_json.specs.Find.{get, as_object}
 use Rattle.city_model.specs.declared.object.Geometry.{Geometry}
 use Rattle.city_model.specs.declared.object.Point.{Point}
 use Rattle.city_model.specs.Kept.{kept_at_geometry}
-use Rattle.city_doc.specs.shape.Geometries.{shape_of, without_geometry_members, geometry_of}
-use Rattle.city_doc.specs.tree.Members.{kept_if, text_at}
-use Rattle.city_doc.proofs.Options.{and_then_some, map_some}
+use Rattle.city_tokens.specs.shape.Geometries.{shape_of, without_geometry_members, geometry_of}
+use Rattle.city_tokens.specs.tree.Members.{kept_if, text_at}
+use Rattle.city_tokens.proofs.Options.{and_then_some, map_some}
 
 pub record HasGeometryParts (points : List Point) (d : Data) (g : Geometry) : Type 0 where
   pub kind : List ℕ

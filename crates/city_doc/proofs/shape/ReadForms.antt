@@ -12,14 +12,14 @@ use Rattle.serde_json.specs.Find.{as_array, as_number, as_i64}
 use Rattle.city_model.specs.declared.object.Geometry.{Geometry}
 use Rattle.city_model.specs.declared.object.Point.{Point}
 use Rattle.city_model.specs.declared.object.Shape.{Shape}
-use Rattle.city_doc.specs.tree.Lists.{read_items, list_of, list_or_absent}
-use Rattle.city_doc.specs.shape.Geometries.{point_at_position, point_at, nested_of, shape_of, geometry_of}
+use Rattle.city_tokens.specs.tree.Lists.{read_items, list_of, list_or_absent}
+use Rattle.city_tokens.specs.shape.Geometries.{point_at_position, point_at, nested_of, shape_of, geometry_of}
 use Rattle.city_doc.specs.shape.Forms.{natural, is_below, is_number, is_position, all_items, are_items, is_list_of}
 use Rattle.city_doc.specs.shape.Forms.{is_nested, are_nested_for, is_boundaries, are_boundaries_of, is_geometry}
 use Rattle.city_doc.specs.shape.Forms.{are_geometries}
-use Rattle.city_doc.specs.shape.Nesting.{Nested, GeometryType, geometry_types, geometry_type}
+use Rattle.city_tokens.specs.shape.Nesting.{Nested, GeometryType, geometry_types, geometry_type}
 use Rattle.city_doc.specs.object.Faults.{unsupported_types, unsupported_type, first_unsupported}
-use Rattle.city_doc.proofs.Options.{and_then_some, map_some}
+use Rattle.city_tokens.proofs.Options.{and_then_some, map_some}
 use Rattle.city_doc.proofs.shape.GeometryParts.{geometry_parts}
 
 -- ---- lists

@@ -10,19 +10,18 @@ use Rattle.city_model.specs.declared.object.Point.{Point}
 use Rattle.city_model.specs.declared.object.Shape.{Shape}
 use Rattle.city_model.specs.Kept.{kept_at_geometry}
 use Rattle.city_model.specs.Integral.{is_integral, items_integral}
-use Rattle.city_doc.specs.tree.Lists.{read_items, list_of, list_or_absent}
-use Rattle.city_doc.specs.shape.Geometries.{point_at_position, point_at, nested_of, shape_of, without_geometry_members}
-use Rattle.city_doc.specs.shape.Geometries.{geometry_of}
-use Rattle.city_doc.specs.tree.Members.{text_at, kept_if}
+use Rattle.city_tokens.specs.tree.Lists.{read_items, list_of, list_or_absent}
+use Rattle.city_tokens.specs.shape.Geometries.{point_at_position, point_at, nested_of, shape_of}
+use Rattle.city_tokens.specs.shape.Geometries.{without_geometry_members, geometry_of}
+use Rattle.city_tokens.specs.tree.Members.{text_at, kept_if}
 use Rattle.city_doc.specs.shape.Forms.{natural, is_below, is_position, all_items, is_list_of, is_nested, are_nested_for}
 use Rattle.city_doc.specs.shape.Forms.{is_boundaries, are_boundaries_of, is_geometry, are_geometries}
-use Rattle.city_doc.specs.shape.Nesting.{Nested, GeometryType, geometry_type}
-use Rattle.city_doc.proofs.Options.{and_then_some}
+use Rattle.city_tokens.specs.shape.Nesting.{Nested, GeometryType, geometry_type}
+use Rattle.city_tokens.proofs.Options.{and_then_some}
 use Rattle.city_doc.proofs.document.Cities.{get-object}
 use Rattle.city_doc.proofs.document.KeptMembers.{kept_all, geometry_admitted}
 use Rattle.city_doc.proofs.document.Right.{some_of, item_read}
-use Rattle.city_doc.proofs.tree.IntegralParts.{as_object-integral, get_member-integral}
-use Rattle.city_doc.proofs.tree.Trees.{object_with}
+use Rattle.city_tokens.proofs.Laws.{as_object-integral, get_member-integral, object_with}
 
 -- ---- lists
 

@@ -14,7 +14,7 @@ use Rattle.city_model.specs.Members.{AllAbove, AreOrdered}
 use Rattle.city_doc.specs.tree.Tokens.{tokens_of}
 use Rattle.city_doc.specs.inside.tree.PartTokens.{tokens_of_members, tokens_of_own, closing_members}
 use Rattle.city_doc.specs.inside.tree.ReadsBack.{ReadsBack, OwnReadsBack, MembersReadBack}
-use Rattle.city_doc.proofs.tree.Puts.{turned, back, all_above_lower, above_put, ordered_put, reads_put, put_first}
+use Rattle.city_tokens.proofs.Laws.{turned, back, all_above_lower, above_put, ordered_put, put_first, all_put}
 use Rattle.city_doc.proofs.tree.ReadBack.{and_then, and_then-none, object_reads}
 
 abbrev cmp : List ℕ → List ℕ → Ordering
@@ -225,6 +225,9 @@ reads_all ms h = subst MembersReadBack (all_between ms) h
 ordered_if : (m : List ℕ) (o : Option Data) (ms : Members) → AreOrdered ms → AreOrdered (put_if m o ms)
 ordered_if m None ms h = h
 ordered_if m (Some d) ms h = ordered_put m d ms h
+
+reads_put : (k : List ℕ) (d : Data) (ms : Members) → ReadsBack d → MembersReadBack ms → MembersReadBack (put k d ms)
+reads_put = all_put ReadsBack MembersReadBack tt (λ k d ms one rest. (one, rest)) (λ k d ms h. h)
 
 reads_if : (m : List ℕ) (o : Option Data) (ms : Members) → OwnReadsBack o → MembersReadBack ms
     → MembersReadBack (put_if m o ms)

@@ -6,7 +6,7 @@ use Rattle.serde_json.specs.Data.{Data, Members}
 use Rattle.serde_json.specs.Find.{get_member}
 use Rattle.serde_json.specs.View.{items_of}
 use Rattle.serde_json.proofs.Views.{get_member-put}
-use Rattle.city_doc.specs.tree.Lists.{read_items, list_of, list_or_absent, list_data, put_list}
+use Rattle.city_tokens.specs.tree.Lists.{read_items, list_of, list_or_absent, list_data, put_list}
 
 module _ {A : Type 0} (read : Data → Option A) (f : A → Data) (ok : A → Bool) (each : (x : A) → ok x ≡ true
     → read (f x) ≡ Some x) where

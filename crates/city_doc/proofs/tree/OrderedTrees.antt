@@ -8,9 +8,8 @@ use Rattle.serde_json.specs.Data.{no_members, member, put}
 use Rattle.serde_json.specs.Find.{get_member}
 use Rattle.serde_json.specs.Read.{read, max_depth, number_of, of_json, of_items, of_members}
 use Rattle.city_model.specs.Members.{AreOrdered}
-use Rattle.city_doc.proofs.Options.{and_then_some, map_some}
-use Rattle.city_doc.proofs.tree.AllMembers.{all_put, all_found}
-use Rattle.city_doc.proofs.tree.Puts.{ordered_put}
+use Rattle.city_tokens.proofs.Options.{and_then_some, map_some}
+use Rattle.city_tokens.proofs.Laws.{all_put, all_found, ordered_put}
 
 abbrev mutual
   -- the names in each object of the tree ascend

@@ -1,8 +1,8 @@
 -- Lists that are read from the items of an array.
 use Rattle.std.proofs.Common.{◌≡◌, List, [], ◌∷◌, ◌++◌, Option, Some, option_map, refl, sym, ap, ◌∙◌}
 use Rattle.serde_json.specs.Data.{Data, Items, item}
-use Rattle.city_doc.specs.tree.Lists.{read_items, all_read}
-use Rattle.city_doc.proofs.Options.{map_grown}
+use Rattle.city_tokens.specs.tree.Lists.{read_items, all_read}
+use Rattle.city_tokens.proofs.Options.{map_grown}
 
 -- one more item of what is left has been read
 pub read_items-step : {X : Type 0} (read : Data → Option X) (all : Option (List X)) (done next : List X)

@@ -6,7 +6,7 @@ use Rattle.std.proofs.lemmas.Bool.Decides.{nat_tests}
 use Rattle.std.proofs.lemmas.Bool.{and_parts}
 use Rattle.serde_json.specs.Find.{as_i64, of_integer}
 use Rattle.city_model.specs.declared.object.Point.{Point}
-use Rattle.city_doc.specs.tree.Triples.{triple_of, point_of, points_of, triple_data}
+use Rattle.city_tokens.specs.tree.Triples.{triple_of, point_of, points_of, triple_data}
 use Rattle.city_doc.specs.document.Canonical.{vertex_data, vertices_data}
 use Rattle.city_doc.specs.document.Ranges.{is_i64, is_i64_triple, is_i64_point}
 use Rattle.city_doc.proofs.tree.ListsRead.{list_read}

@@ -8,8 +8,8 @@ use Rattle.city_model.specs.declared.frame.Frame.{Frame}
 use Rattle.city_model.specs.declared.object.Point.{Point}
 use Rattle.city_model.specs.CityMap.{CityValue}
 use Rattle.city_doc.specs.Pool.{pool_of}
-use Rattle.city_doc.specs.tree.Lists.{list_data}
-use Rattle.city_doc.specs.tree.Triples.{triple_data}
+use Rattle.city_tokens.specs.tree.Lists.{list_data}
+use Rattle.city_tokens.specs.tree.Triples.{triple_data}
 use Rattle.city_doc.specs.object.Canonical.{objects_data}
 
 abbrev pub transform_data : Frame → Data

@@ -8,8 +8,8 @@ use Rattle.city_model.specs.Relations.{IsLawful}
 use Rattle.city_doc.specs.document.Accepted.{IsAccepted}
 use Rattle.city_doc.specs.document.Canonical.{tree_of, city_text}
 use Rattle.city_doc.specs.document.Ranges.{IsInRange}
-use Rattle.city_doc.specs.document.Cities.{IsTextOfCity}
-use Rattle.city_doc.specs.tree.Texts.{IsReadable}
+use Rattle.city_tokens.specs.document.Cities.{IsTextOfCity}
+use Rattle.city_tokens.specs.tree.Texts.{IsReadable}
 use Rattle.city_doc.specs.tree.Tokens.{tokens_of}
 use Rattle.city_doc.specs.Pool.{pool_of}
 

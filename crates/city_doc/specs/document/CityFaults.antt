@@ -10,7 +10,7 @@ use Rattle.city_model.specs.declared.object.Object.{Object}
 use Rattle.city_model.specs.CityMap.{CityMap}
 use Rattle.city_model.specs.Misrelated.{IsMisrelatedAt}
 use Rattle.city_model.specs.Shells as shells
-use Rattle.city_doc.specs.object.Bodies.{body_of, ids_at}
+use Rattle.city_tokens.specs.object.Bodies.{body_of, ids_at}
 use Rattle.city_doc.specs.object.Faults.{has_bad_list}
 use Rattle.city_doc.specs.document.Least.{Has}
 use Rattle.city_model.specs.Least.{IsLeast}

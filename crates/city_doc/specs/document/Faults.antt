@@ -14,8 +14,8 @@ use Rattle.city_doc.specs.document.CityFaults.{or_empty, has_bad_ring, has_open_
 use Rattle.city_doc.specs.document.Top.{wrong_member}
 use Rattle.city_doc.specs.object.Faults.{is_unknown_type, unsupported_name, is_bad_geometry, has_bad_vertex}
 use Rattle.city_doc.specs.document.Least.{IsLeastWith}
-use Rattle.city_doc.specs.tree.Texts.{IsTooLong, IsNoJson, HasTree}
-use Rattle.city_doc.specs.document.Cities.{points_in}
+use Rattle.city_tokens.specs.tree.Texts.{IsTooLong, IsNoJson, HasTree}
+use Rattle.city_tokens.specs.document.Cities.{points_in}
 
 abbrev pub members_of : Option Members → Members
 members_of None = no_members

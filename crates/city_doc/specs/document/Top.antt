@@ -1,55 +1,12 @@
--- The top of a document: its frame, and which of its members is wrong (CityJSON 2.0, sections 2 and 4).
-use Rattle.std.specs.Prelude.{◌&&◌, ℕ, ℤ, List, [], ◌∷◌, Bool, true, false, Option, Some, None, option_and_then}
-use Rattle.std.specs.Prelude.{option_map, codes, is_some, if◌then◌else◌}
-use Rattle.std.specs.Str.{bytes_eq}
+-- The top of a document: which of its members is wrong (CityJSON 2.0, sections 2 and 4).
+use Rattle.std.specs.Prelude.{◌&&◌, ℕ, List, [], ◌∷◌, Bool, true, false, Option, Some, None, option_and_then, codes}
+use Rattle.std.specs.Prelude.{is_some, if◌then◌else◌}
 use Rattle.serde_json.specs.Data.{Data, Members, no_members, member}
-use Rattle.serde_json.specs.Find.{get, as_str, as_object}
-use Rattle.city_model.specs.declared.frame.Frame.{Frame}
-use Rattle.city_model.specs.Kept.{top_members, transform_members, kept_at_top, kept_at_transform}
+use Rattle.serde_json.specs.Find.{get, as_object}
 use Rattle.city_model.specs.Kept.{is_empty_object_or_absent}
-use Rattle.city_model.specs.Members.{without_each}
-use Rattle.city_doc.specs.tree.Members.{kept_if}
-use Rattle.city_doc.specs.tree.Steps.{◌>>=◌}
-use Rattle.city_doc.specs.tree.Triples.{triple_of, are_triples}
-
--- ---- the frame
-
-abbrev pub triple_at : List ℕ → Data → Option (List ℤ)
-triple_at name d = option_and_then triple_of (get name d)
-
--- all members of a transform but those that are read
-abbrev pub without_transform_members : Members → Members
-without_transform_members ms = without_each transform_members ms
-
--- the kept members of a transform
-abbrev pub more_of : Data → Option Members
-more_of transform = do
-  members ← as_object transform
-  kept_if kept_at_transform (without_transform_members members)
-
--- all members of the top but those that are read
-abbrev pub without_top_members : Members → Members
-without_top_members ms = without_each top_members ms
-
-abbrev pub frame_of : Data → Option Frame
-frame_of d = do
-  transform ← get (codes "transform") d
-  scale ← triple_at (codes "scale") transform
-  translate ← triple_at (codes "translate") transform
-  more ← more_of transform
-  top ← as_object d
-  option_map (λ extra. record { scale = scale; translate = translate; more = more; extra = extra })
-      (kept_if kept_at_top (without_top_members top))
-
--- ---- the members that are read
-
-abbrev pub same_text : List ℕ → Option (List ℕ) → Bool
-same_text text None = false
-same_text text (Some s) = bytes_eq s text
-
--- the member is there and is this text
-abbrev pub is_text : List ℕ → Option Data → Bool
-is_text text o = same_text text (option_and_then as_str o)
+use Rattle.city_tokens.specs.tree.Members.{is_text}
+use Rattle.city_tokens.specs.tree.Triples.{are_triples}
+use Rattle.city_tokens.specs.document.Frames.{triple_at}
 
 abbrev pub has_triple : List ℕ → Data → Bool
 has_triple name d = is_some (triple_at name d)

@@ -1,7 +1,6 @@
 -- Words for how documents are read and judged.
 pub mod Arranged
 pub mod Forms
-pub mod Frames
 pub mod KeptMembers
 pub mod LenientCities
 pub mod Searches

@@ -6,7 +6,7 @@ use Rattle.city_model.specs.declared.object.Object.{Object}
 use Rattle.city_model.specs.CityMap.{Entries}
 use Rattle.city_model.specs.Types.{name_of}
 use Rattle.city_doc.specs.shape.Canonical.{geometry_data}
-use Rattle.city_doc.specs.tree.Lists.{put_list}
+use Rattle.city_tokens.specs.tree.Lists.{put_list}
 
 abbrev pub object_data : List Point → Object → Data
 object_data pool o =

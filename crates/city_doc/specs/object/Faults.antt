@@ -7,8 +7,8 @@ use Rattle.std.specs.Str.{bytes_eq}
 use Rattle.serde_json.specs.Data.{Data, Items, no_items, item}
 use Rattle.serde_json.specs.Find.{get, as_array}
 use Rattle.city_model.specs.Kept.{has_location}
-use Rattle.city_doc.specs.tree.Members.{text_at}
-use Rattle.city_doc.specs.object.Bodies.{type_of, ids_at}
+use Rattle.city_tokens.specs.tree.Members.{text_at}
+use Rattle.city_tokens.specs.object.Bodies.{type_of, ids_at}
 use Rattle.city_doc.specs.shape.Forms.{is_number, is_position, are_geometries}
 
 -- the type is missing, is no text, or is unknown

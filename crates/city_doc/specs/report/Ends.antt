@@ -7,7 +7,7 @@ use Rattle.city_model.specs.declared.command.Cause.TheVariants.{AlreadyAttached,
 use Rattle.city_model.specs.declared.command.Cause.TheVariants.{SameTwice, OpenShell, Orphan, NoMark}
 use Rattle.city_model.specs.declared.end.End.{End}
 use Rattle.city_model.specs.declared.end.Outcome.{Outcome}
-use Rattle.city_doc.specs.tree.Lists.{list_data}
+use Rattle.city_tokens.specs.tree.Lists.{list_data}
 use Rattle.city_doc.specs.report.Replies.{reply_data}
 
 abbrev pub count_data : ℕ → Data

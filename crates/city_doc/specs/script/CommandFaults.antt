@@ -3,9 +3,8 @@ use Rattle.std.specs.Prelude.{◌||◌, ℕ, Bool, true, false, Option, Some, No
 use Rattle.serde_json.specs.Data.{Data}
 use Rattle.serde_json.specs.Find.{as_object}
 use Rattle.city_doc.specs.object.Faults.{is_unknown_type, unsupported_name, is_bad_geometry, has_bad_vertex}
-use Rattle.city_doc.specs.script.CommandForms.{CommandForm, ReadForm, PutForm, DeleteForm, AttachForm}
-use Rattle.city_doc.specs.script.CommandForms.{DetachForm, MarkForm, BackForm, CommitForm, AbortForm, form_of}
-use Rattle.city_doc.specs.script.Commands.{names_relations}
+use Rattle.city_tokens.specs.script.CommandForms.{CommandForm, form_of, put_tree}
+use Rattle.city_tokens.specs.script.Commands.{names_relations}
 
 -- ---- commands without a meaning
 
@@ -16,18 +15,6 @@ is_unreadable d = is_unknown_type d || is_some (unsupported_name d) || is_bad_ge
 -- what is put isn't an object, names parents or children, or can't be read
 abbrev pub is_bad_object : Data → Bool
 is_bad_object d = is_none (as_object d) || names_relations d || is_unreadable d
-
--- the object that the form of a put has
-abbrev pub put_tree : CommandForm → Option Data
-put_tree (ReadForm id) = None
-put_tree (PutForm id tree) = Some tree
-put_tree (DeleteForm id) = None
-put_tree (AttachForm child parent) = None
-put_tree (DetachForm child parent) = None
-put_tree (MarkForm name) = None
-put_tree (BackForm name) = None
-put_tree CommitForm = None
-put_tree AbortForm = None
 
 abbrev pub is_bad_put : Option Data → Bool
 is_bad_put None = false

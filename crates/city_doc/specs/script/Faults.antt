@@ -3,9 +3,9 @@ use Rattle.std.specs.Prelude.{◌≡◌, ◌⊎◌, ◌<◌, ℕ, List, Bool, tr
 use Rattle.serde_json.specs.Data.{Data}
 use Rattle.city_model.specs.Integral.{is_integral}
 use Rattle.city_doc.specs.declared.fault.ScriptFault.{ScriptFault}
-use Rattle.city_doc.specs.tree.Texts.{IsTooLong, IsNoJson, HasTree, HasOtherNumber}
-use Rattle.city_doc.specs.script.Scripts.{ScriptParts, parts_of, are_too_many, vertex_count}
-use Rattle.city_doc.specs.tree.Lists.{array_of, all_read}
+use Rattle.city_tokens.specs.tree.Texts.{IsTooLong, IsNoJson, HasTree, HasOtherNumber}
+use Rattle.city_tokens.specs.script.Scripts.{ScriptParts, parts_of, are_too_many, vertex_count}
+use Rattle.city_tokens.specs.tree.Lists.{array_of, all_read}
 use Rattle.city_doc.specs.script.CommandFaults.{is_bad_command, names_bad_vertex}
 
 -- item n isn't a script

@@ -4,9 +4,9 @@ use Rattle.serde_json.specs.Data.{Data, number, unsigned, string, object, put}
 use Rattle.city_model.specs.declared.object.Point.{Point}
 use Rattle.city_model.specs.declared.object.Shape.{Shape}
 use Rattle.city_model.specs.declared.object.Geometry.{Geometry}
-use Rattle.city_doc.specs.shape.Nesting.{Nested, nested, shape_name}
+use Rattle.city_tokens.specs.shape.Nesting.{Nested, nested, shape_name}
 use Rattle.city_doc.specs.Pool.{number_of}
-use Rattle.city_doc.specs.tree.Lists.{list_data}
+use Rattle.city_tokens.specs.tree.Lists.{list_data}
 
 abbrev pub point_data : List Point → Point → Data
 point_data pool p = number (unsigned (number_of pool p))

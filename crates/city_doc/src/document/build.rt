@@ -6,13 +6,13 @@ ghost use Rattle.city_model.specs.Members.{without};
 ghost use Rattle.city_doc.specs.document.CityFaults.{lenient_object_of};
 ghost use Rattle.city_doc.specs.inside.document.LenientCities.{listed, lenient_entries_of, lenient_city_of};
 
-use crate::document::top::frame_of_rest;
 use crate::object::body::body_of;
 use crate::object::ids::ids_or_none;
 use city_model::city::City;
 use city_model::members::{into_object, take};
 use city_model::object::{Object, Point};
 use city_model::text::Id;
+use city_tokens::frame_of_rest;
 use serde_json::{Map, Value};
 use std::alloc::{AllocError, Global};
 use std::collections::BTreeMap;

@@ -12,7 +12,7 @@ ghost use Rattle.city_doc.specs.document.Top.{wrong_member};
 ghost use Rattle.city_doc.specs.inside.document.LenientCities.{lenient_city_of};
 ghost use Rattle.city_doc.specs.object.Faults.{is_unknown_type, is_bad_geometry, has_bad_vertex, has_bad_list};
 ghost use Rattle.city_doc.specs.inside.document.Searches.{first_with};
-ghost use Rattle.city_doc.specs.tree.Texts.{HasTree};
+ghost use Rattle.city_tokens.specs.tree.Texts.{HasTree};
 
 use crate::fault::ReadFault;
 use crate::object::faults::{has_bad_vertex, is_bad_geometry, type_of, unsupported_name};

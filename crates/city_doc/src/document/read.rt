@@ -6,11 +6,11 @@ ghost use Rattle.serde_json.specs.View.{view};
 ghost use Rattle.city_model.specs.CityMap.{object_at, CityValue};
 ghost use Rattle.city_model.specs.Relations.{IsLawful};
 ghost use Rattle.city_model.specs.Integral.{is_integral};
-ghost use Rattle.city_doc.specs.document.Cities.{city_of, IsAdmitted};
+ghost use Rattle.city_tokens.specs.document.Cities.{city_of, IsAdmitted};
 ghost use Rattle.city_doc.specs.document.Faults.{vertices_in, StandsIn, IsFirst, DocumentFault};
 ghost use Rattle.city_doc.specs.document.Top.{wrong_member};
 ghost use Rattle.city_doc.specs.inside.document.LenientCities.{lenient_city_of};
-ghost use Rattle.city_doc.specs.tree.Texts.{IsReadable, HasTree};
+ghost use Rattle.city_tokens.specs.tree.Texts.{IsReadable, HasTree};
 
 use crate::document::arranged::least_misrelated;
 use crate::document::build::lenient_city_of;
@@ -19,10 +19,10 @@ use crate::document::faults::{first_bad_list, objects_fault};
 use crate::document::top::wrong_member;
 use crate::fault::ReadFault;
 use crate::shape::vertices::vertices_in;
-use crate::stream::whole_text::read_whole_text;
 use crate::tree::parse::{parse, tree_of};
 use crate::tree::values::named;
 use city_model::city::City;
+use city_tokens::streamed_city;
 use serde_json::Value;
 use std::alloc::Global;
 
@@ -51,7 +51,7 @@ pub fn read_city(alloc: Global, bytes: &[u8]) -> Result<City, ReadFault>
 fn lawful_city(alloc: Global, bytes: &[u8]) -> Option<City>
     ensures { IfSome result (λ c. IsAdmitted bytes.now c) }
 {
-    let city = read_whole_text::<City>(alloc, bytes)?;
+    let city = streamed_city(alloc, bytes)?;
     match least_misrelated(alloc, &city).ok()? {
         None => Some(city),
         Some(_) => None,

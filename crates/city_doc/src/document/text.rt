@@ -2,7 +2,7 @@
 ghost use Rattle.std.specs.Prelude.{◌≡◌, ◌++◌, ◌∷◌, [], ◌<◌, ◌^◌, OnOk, true, length};
 ghost use Rattle.std.specs.List.{list_all};
 ghost use Rattle.city_model.specs.Kept.{kept_at_transform};
-ghost use Rattle.city_doc.specs.tree.Triples.{integer_data, triple_data};
+ghost use Rattle.city_tokens.specs.tree.Triples.{integer_data, triple_data};
 ghost use Rattle.city_doc.specs.document.Canonical.{transform_data, vertex_data, vertices_data, tree_of};
 ghost use Rattle.city_doc.specs.inside.document.KeptMembers.{IsKeptCity};
 ghost use Rattle.city_doc.specs.Pool.{pool_of};

@@ -8,9 +8,9 @@ ghost use Rattle.city_model.specs.Relations.{IsLawful};
 ghost use Rattle.city_doc.specs.document.Accepted.{IsAccepted};
 ghost use Rattle.city_doc.specs.document.Canonical.{tree_of, city_text};
 ghost use Rattle.city_doc.specs.document.CanonicalTexts.{IsCanonicalText};
-ghost use Rattle.city_doc.specs.document.Cities.{IsTextOfCity};
+ghost use Rattle.city_tokens.specs.document.Cities.{IsTextOfCity};
 ghost use Rattle.city_doc.specs.document.Ranges.{IsInRange};
-ghost use Rattle.city_doc.specs.tree.Texts.{IsReadable};
+ghost use Rattle.city_tokens.specs.tree.Texts.{IsReadable};
 ghost use Rattle.city_doc.specs.tree.Tokens.{tokens_of};
 ghost use Rattle.city_doc.specs.Pool.{pool_of};
 

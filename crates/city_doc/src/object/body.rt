@@ -3,8 +3,8 @@ ghost use Rattle.std.specs.Prelude.{◌≡◌, IfOk, codes};
 ghost use Rattle.serde_json.specs.View.{view, members_view};
 ghost use Rattle.city_model.specs.Kept.{kept_at_object};
 ghost use Rattle.city_model.specs.Members.{without};
-ghost use Rattle.city_doc.specs.object.Bodies.{body_of};
-ghost use Rattle.city_doc.specs.tree.Members.{kept_if};
+ghost use Rattle.city_tokens.specs.object.Bodies.{body_of};
+ghost use Rattle.city_tokens.specs.tree.Members.{kept_if};
 
 use crate::object::faults::type_of;
 use crate::shape::geometry::geometries_of;

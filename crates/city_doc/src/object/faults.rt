@@ -4,7 +4,7 @@ ghost use Rattle.std.specs.List.{list_any};
 ghost use Rattle.std.specs.Str.{bytes_eq};
 ghost use Rattle.serde_json.specs.Find.{get, as_array};
 ghost use Rattle.serde_json.specs.View.{view, items_view};
-ghost use Rattle.city_doc.specs.object.Bodies.{type_of};
+ghost use Rattle.city_tokens.specs.object.Bodies.{type_of};
 ghost use Rattle.city_doc.specs.object.Faults.{unsupported_types, unsupported_type, first_unsupported};
 ghost use Rattle.city_doc.specs.object.Faults.{unsupported_name, is_bad_geometry, has_bad_vertex};
 

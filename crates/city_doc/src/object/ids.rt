@@ -2,7 +2,7 @@
 ghost use Rattle.std.specs.Prelude.{◌≡◌, IfOk, option_map, option_and_then, is_none};
 ghost use Rattle.serde_json.specs.Find.{as_str};
 ghost use Rattle.serde_json.specs.View.{view, items_view};
-ghost use Rattle.city_doc.specs.tree.Lists.{read_items, list_or_absent};
+ghost use Rattle.city_tokens.specs.tree.Lists.{read_items, list_or_absent};
 ghost use Rattle.city_doc.specs.document.CityFaults.{or_empty};
 ghost use Rattle.city_doc.specs.object.Faults.{has_bad_list};
 

@@ -1,6 +1,6 @@
 //! Writes replies.
 ghost use Rattle.std.specs.Prelude.{◌≡◌, ◌++◌, [], OnOk};
-ghost use Rattle.city_doc.specs.tree.Lists.{list_data};
+ghost use Rattle.city_tokens.specs.tree.Lists.{list_data};
 ghost use Rattle.city_doc.specs.report.Replies.{found_data, found_reply, reply_data};
 ghost use Rattle.city_doc.specs.tree.Tokens.{tokens_of};
 

@@ -2,7 +2,7 @@
 ghost use Rattle.std.specs.Prelude.{◌≡◌, IfOk, option_and_then, codes};
 ghost use Rattle.serde_json.specs.Find.{get};
 ghost use Rattle.serde_json.specs.View.{view};
-ghost use Rattle.city_doc.specs.script.Commands.{put_of, command_of};
+ghost use Rattle.city_tokens.specs.script.Commands.{put_of, command_of};
 
 use crate::object::body::body_of;
 use crate::script::command_faults::names_relations;

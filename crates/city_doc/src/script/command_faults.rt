@@ -1,7 +1,7 @@
 //! Says which commands are refused.
 ghost use Rattle.std.specs.Prelude.{◌≡◌};
 ghost use Rattle.serde_json.specs.View.{view};
-ghost use Rattle.city_doc.specs.script.Commands.{names_relations};
+ghost use Rattle.city_tokens.specs.script.Commands.{names_relations};
 ghost use Rattle.city_doc.specs.script.CommandFaults.{is_unreadable, is_bad_object, is_bad_command, names_bad_vertex};
 
 use crate::object::faults::{has_bad_vertex, is_bad_geometry, type_of, unsupported_name};

@@ -2,8 +2,8 @@
 ghost use Rattle.std.specs.Prelude.{◌≡◌, option_map};
 ghost use Rattle.std.specs.Option.{option_or};
 ghost use Rattle.serde_json.specs.View.{view, members_view};
-ghost use Rattle.city_doc.specs.script.CommandForms.{text_in, word_form, first_named, of_one_text};
-ghost use Rattle.city_doc.specs.script.CommandForms.{put_form, relation_form, members_form, form_of};
+ghost use Rattle.city_tokens.specs.script.CommandForms.{text_in, word_form, first_named, of_one_text, put_form};
+ghost use Rattle.city_tokens.specs.script.CommandForms.{relation_form, members_form, form_of};
 ghost use Rattle.city_doc.specs.inside.script.Forms.{form_view};
 
 use city_model::members::{member, members_count};

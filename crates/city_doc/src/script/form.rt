@@ -1,7 +1,7 @@
 //! The form of a script, whose commands aren't read yet.
 ghost use Rattle.std.specs.Prelude.{◌≡◌, true, map};
 ghost use Rattle.serde_json.specs.View.{view};
-ghost use Rattle.city_doc.specs.script.Scripts.{word_ends};
+ghost use Rattle.city_tokens.specs.script.Scripts.{word_ends};
 
 use city_model::text::Text;
 use serde_json::Value;

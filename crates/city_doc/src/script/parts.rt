@@ -2,28 +2,23 @@
 ghost use Rattle.std.specs.Prelude.{◌≡◌, ◌⊎◌, true, map, Some, IfOk, IfErr, IfSome, codes, option_map};
 ghost use Rattle.city_model.specs.Members.{without};
 ghost use Rattle.serde_json.specs.View.{view, members_view};
-ghost use Rattle.city_doc.specs.script.CommandForms.{text_in};
-ghost use Rattle.city_doc.specs.tree.Lists.{all_read};
-ghost use Rattle.city_doc.specs.script.Scripts.{is_end_text, is_end_word, word_ends, are_vertices, has_script_members};
-ghost use Rattle.city_doc.specs.script.Scripts.{commands_in, parts_of, parts_in, are_too_many};
-ghost use Rattle.city_doc.specs.inside.script.Forms.{parts_view, parts_views, has_too_many_commands};
+ghost use Rattle.city_tokens.specs.script.CommandForms.{text_in};
+ghost use Rattle.city_tokens.specs.tree.Lists.{all_read};
+ghost use Rattle.city_tokens.specs.script.Scripts.{is_end_text, is_end_word, word_ends, are_vertices};
+ghost use Rattle.city_tokens.specs.script.Scripts.{has_script_members, commands_in, parts_of, parts_in, are_too_many};
+ghost use Rattle.city_doc.specs.inside.script.Forms.{parts_view, parts_views};
+ghost use Rattle.city_tokens.specs.inside.ScriptItems.{has_too_many_commands};
 ghost use Rattle.city_doc.specs.inside.script.Searches.{first_at, bad_script};
 
 use crate::fault::ScriptFault;
 use crate::script::form::ScriptForm;
-use crate::tree::triples::are_triples;
 use crate::tree::values::{into_array, into_text};
 use city_model::members::{into_object, member, members_count, take};
 use city_model::sequence::Sequence;
 use city_model::text::Text;
+use city_tokens::{MAX_COMMANDS, MAX_SCRIPTS, are_triples};
 use serde_json::{Map, Value};
 use std::alloc::Global;
-
-/// How many scripts a text may have.
-pub const MAX_SCRIPTS: usize = 4_096;
-
-/// How many commands a script may have.
-pub const MAX_COMMANDS: usize = 1_024;
 
 fn is_end_text(text: Option<&str>) -> bool
     ensures { result ≡ is_end_text (option_map (λ s. s.now) text.entry) }

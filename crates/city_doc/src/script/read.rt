@@ -2,26 +2,27 @@
 ghost use Rattle.std.specs.Prelude.{◌≡◌, ◌⊎◌, List, map, IfOk, IfErr, OnOk, option_map};
 ghost use Rattle.serde_json.specs.View.{view};
 ghost use Rattle.city_model.specs.Runs.{Scripted};
-ghost use Rattle.city_doc.specs.tree.Texts.{IsReadable};
-ghost use Rattle.city_doc.specs.script.Scripts.{IsReadAs, vertex_points, script_of, scripts_of};
+ghost use Rattle.city_tokens.specs.tree.Texts.{IsReadable};
+ghost use Rattle.city_tokens.specs.script.Scripts.{IsReadAs, vertex_points, script_of, scripts_of};
 ghost use Rattle.city_doc.specs.script.Faults.{ScriptTextFault};
-ghost use Rattle.city_doc.specs.script.Commands.{command_of};
-ghost use Rattle.city_doc.specs.tree.Lists.{all_read};
-ghost use Rattle.city_doc.specs.inside.script.Forms.{parts_view, script_of_item};
+ghost use Rattle.city_tokens.specs.script.Commands.{command_of};
+ghost use Rattle.city_tokens.specs.tree.Lists.{all_read};
+ghost use Rattle.city_doc.specs.inside.script.Forms.{parts_view};
+ghost use Rattle.city_tokens.specs.inside.ScriptItems.{script_of_item};
 
 use crate::fault::ScriptFault;
 use crate::script::command::command_of;
 use crate::script::faults::first_fault;
 use crate::script::form::ScriptForm;
-use crate::script::parts::{MAX_SCRIPTS, has_too_many_commands, parts_of};
+use crate::script::parts::{has_too_many_commands, parts_of};
 use crate::shape::vertices::points_of;
-use crate::stream::scripts::streamed_scripts;
 use crate::tree::parse::parse;
 use crate::tree::values::into_array;
 use city_model::command::Command;
 use city_model::object::Point;
 use city_model::script::Script;
 use city_model::sequence::Sequence;
+use city_tokens::{MAX_SCRIPTS, streamed_scripts};
 use serde_json::Value;
 use std::alloc::{AllocError, Global};
 

@@ -4,10 +4,10 @@ ghost use Rattle.serde_json.specs.Find.{as_str, get_member};
 ghost use Rattle.serde_json.specs.View.{view, items_view, members_view};
 ghost use Rattle.city_model.specs.Kept.{kept_at_geometry};
 ghost use Rattle.city_model.specs.Members.{without};
-ghost use Rattle.city_doc.specs.tree.Lists.{read_items, list_or_absent};
-ghost use Rattle.city_doc.specs.shape.Geometries.{shape_of, geometry_of};
+ghost use Rattle.city_tokens.specs.tree.Lists.{read_items, list_or_absent};
+ghost use Rattle.city_tokens.specs.shape.Geometries.{shape_of, geometry_of};
 ghost use Rattle.city_doc.specs.inside.shape.Geometries.{shape_in, geometry_with};
-ghost use Rattle.city_doc.specs.tree.Members.{kept_if};
+ghost use Rattle.city_tokens.specs.tree.Members.{kept_if};
 
 use crate::shape::nested::Nested;
 use crate::tree::values::{into_array, into_text, text_at};

@@ -4,8 +4,8 @@ ghost use Rattle.std.specs.Prelude.{◌≡◌, Bool, List, Option, IfOk};
 ghost use Rattle.serde_json.specs.Data.{Data};
 ghost use Rattle.serde_json.specs.View.{view, items_view};
 ghost use Rattle.city_model.specs.declared.object.Point as p;
-ghost use Rattle.city_doc.specs.tree.Lists.{read_items, list_of};
-ghost use Rattle.city_doc.specs.shape.Geometries.{point_at};
+ghost use Rattle.city_tokens.specs.tree.Lists.{read_items, list_of};
+ghost use Rattle.city_tokens.specs.shape.Geometries.{point_at};
 ghost use Rattle.city_doc.specs.shape.Forms.{is_number, is_position, position_of, all_items, is_list_of};
 
 use city_model::object::Point;

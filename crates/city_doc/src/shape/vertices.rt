@@ -1,14 +1,14 @@
 //! Reads lists of vertices.
 ghost use Rattle.std.specs.Prelude.{◌≡◌, IfOk};
 ghost use Rattle.serde_json.specs.View.{view, items_view};
-ghost use Rattle.city_doc.specs.tree.Lists.{read_items};
-ghost use Rattle.city_doc.specs.document.Cities.{points_in};
+ghost use Rattle.city_tokens.specs.tree.Lists.{read_items};
+ghost use Rattle.city_tokens.specs.document.Cities.{points_in};
 ghost use Rattle.city_doc.specs.document.Faults.{vertices_in};
-ghost use Rattle.city_doc.specs.tree.Triples.{point_of, points_of};
+ghost use Rattle.city_tokens.specs.tree.Triples.{point_of, points_of};
 
-use crate::tree::triples::triple_of;
 use city_model::object::Point;
 use city_model::sequence::Sequence;
+use city_tokens::triple_of;
 use serde_json::Value;
 use std::alloc::{AllocError, Global};
 

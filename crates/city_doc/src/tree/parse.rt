@@ -2,16 +2,14 @@
 ghost use Rattle.std.specs.Prelude.{◌≡◌, true, IfOk, IfErr};
 ghost use Rattle.serde_json.specs.View.{view};
 ghost use Rattle.city_model.specs.Integral.{is_integral};
-ghost use Rattle.city_doc.specs.tree.Texts.{HasTree};
+ghost use Rattle.city_tokens.specs.tree.Texts.{HasTree};
 ghost use Rattle.city_doc.specs.inside.tree.TextFaults.{IsRefused};
 
 use crate::fault::{ReadFault, ScriptFault};
 use city_model::integral::is_integral;
+use city_tokens::MAX_TEXT;
 use serde_json::Value;
 use std::alloc::Global;
-
-/// How many bytes a text may have.
-pub const MAX_TEXT: usize = 67_108_864;
 
 /// Why a text has no tree of whole numbers: the first of this list that stands in it.
 #[derive(Drop)]

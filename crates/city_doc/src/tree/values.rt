@@ -2,8 +2,8 @@
 ghost use Rattle.std.specs.Prelude.{◌≡◌, IfOk, map, option_map};
 ghost use Rattle.serde_json.specs.Find.{as_str, as_array};
 ghost use Rattle.serde_json.specs.View.{view, items_view};
-ghost use Rattle.city_doc.specs.tree.Lists.{array_of};
-ghost use Rattle.city_doc.specs.tree.Members.{text_at};
+ghost use Rattle.city_tokens.specs.tree.Lists.{array_of};
+ghost use Rattle.city_tokens.specs.tree.Members.{text_at};
 
 use city_model::text::Text;
 use serde_json::Value;

@@ -2,7 +2,7 @@
 use Rattle.std.specs.Prelude.{◌≡◌, ℕ, true, List}
 use Rattle.serde_json.specs.Data.{Data}
 use Rattle.city_model.specs.Integral.{is_integral}
-use Rattle.city_doc.specs.tree.Texts.{HasTree}
+use Rattle.city_tokens.specs.tree.Texts.{HasTree}
 
 -- each tree that the editor may read from the text has only whole numbers
 abbrev pub HasWholeNumbers : List ℕ → Type 0

@@ -1,7 +1,7 @@
 use Rattle.std.proofs.Common.{subst}
 use Rattle.std.proofs.lemmas.Result.{err_from_is_err_and}
 use Rattle.city_doc.specs.document.Faults.{DocumentFault}
-use Rattle.city_doc.specs.document.Cities.{IsTextOfCity}
+use Rattle.city_tokens.specs.document.Cities.{IsTextOfCity}
 use Rattle.city_decimals.specs.Texts.{IsDecoded, IsDecimalsFault}
 use Rattle.city_canonical.proofs.Texts.{same_text, read_fault, decode_fault}
 use Rattle.city_canonical.proofs.canonical_form.canonical.Goals as goal

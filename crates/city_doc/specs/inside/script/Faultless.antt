@@ -2,7 +2,7 @@
 use Rattle.std.specs.Prelude.{◌≡◌, ℕ, List, false}
 use Rattle.city_doc.specs.script.CommandFaults.{names_bad_vertex}
 use Rattle.city_doc.specs.script.Faults.{HasAt, IsBadCommand}
-use Rattle.city_doc.specs.script.Scripts.{ScriptParts, are_too_many}
+use Rattle.city_tokens.specs.script.Scripts.{ScriptParts, are_too_many}
 
 -- a position in command i of script n is negative, or not less than the number of the script's vertices
 abbrev pub IsBadVertex : List ScriptParts → ℕ → ℕ → Type 0

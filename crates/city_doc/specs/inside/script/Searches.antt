@@ -4,7 +4,7 @@ use Rattle.std.specs.Option.{option_or}
 use Rattle.serde_json.specs.Data.{Data}
 use Rattle.city_doc.specs.declared.fault.ScriptFault.{ScriptFault}
 use Rattle.city_doc.specs.declared.fault.ScriptFault.TheVariants.{BadScript}
-use Rattle.city_doc.specs.script.Scripts.{ScriptParts, parts_of, vertex_count}
+use Rattle.city_tokens.specs.script.Scripts.{ScriptParts, parts_of, vertex_count}
 
 -- what is found at the first item where anything is; the items are numbered from n on
 abbrev pub first_at : {A B : Type 0} → (ℕ → A → Option B) → ℕ → List A → Option B

@@ -6,9 +6,9 @@ use Rattle.city_model.specs.declared.object.Geometry.{Geometry}
 use Rattle.city_model.specs.declared.object.Point.{Point}
 use Rattle.city_model.specs.declared.object.Shape.{Shape}
 use Rattle.city_model.specs.Kept.{kept_at_geometry}
-use Rattle.city_doc.specs.shape.Geometries.{shape_of, without_geometry_members}
-use Rattle.city_doc.specs.tree.Members.{kept_if, text_at}
-use Rattle.city_doc.specs.tree.Steps.{◌>>=◌}
+use Rattle.city_tokens.specs.shape.Geometries.{shape_of, without_geometry_members}
+use Rattle.city_tokens.specs.tree.Members.{kept_if, text_at}
+use Rattle.city_tokens.specs.tree.Steps.{◌>>=◌}
 
 -- the shape of the type and the boundaries of a tree
 abbrev pub shape_in : List Point → Data → Option Shape

@@ -4,7 +4,7 @@ use Rattle.json.specs.Token.{Token, key}
 use Rattle.json.specs.Tree.{items_tokens, members_tokens}
 use Rattle.serde_json.specs.Data.{Data, Items, Members, no_members, member}
 use Rattle.serde_json.specs.Written.{items_outline, members_outline}
-use Rattle.city_doc.specs.tree.Lists.{list_data}
+use Rattle.city_tokens.specs.tree.Lists.{list_data}
 use Rattle.city_doc.specs.tree.Tokens.{tokens_of}
 
 -- the items, and the bracket that closes them

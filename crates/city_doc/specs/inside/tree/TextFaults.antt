@@ -4,7 +4,7 @@ use Rattle.city_doc.specs.declared.fault.ReadFault.{ReadFault}
 use Rattle.city_doc.specs.declared.fault.ScriptFault.{ScriptFault}
 use Rattle.city_doc.specs.declared.tree.parse.TextFault.{TextFault}
 use Rattle.city_doc.specs.declared.tree.parse.TextFault.TheVariants.{OutOfMemory, TooLong, NotJson, NotWhole}
-use Rattle.city_doc.specs.tree.Texts.{IsTooLong, IsNoJson, HasOtherNumber}
+use Rattle.city_tokens.specs.tree.Texts.{IsTooLong, IsNoJson, HasOtherNumber}
 
 -- why a text has no tree of whole numbers; `OutOfMemory` may be answered for any text
 abbrev pub IsRefused : List ℕ → TextFault → Type 0

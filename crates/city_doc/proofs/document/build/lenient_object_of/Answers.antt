@@ -1,7 +1,7 @@
 use Rattle.std.proofs.Common.{option_map, sym, ap, ◌∙◌}
 use Rattle.serde_json.specs.View.{view, members_view}
 use Rattle.serde_json.proofs.Views.{view-Object}
-use Rattle.city_doc.specs.object.Bodies.{body_of}
+use Rattle.city_tokens.specs.object.Bodies.{body_of}
 use Rattle.city_doc.proofs.object.LenientObjects.{lenient_missing, lenient_read}
 use Rattle.city_doc.proofs.document.build.lenient_object_of.Goals as goal
 

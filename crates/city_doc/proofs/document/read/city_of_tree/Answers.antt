@@ -6,7 +6,7 @@ use Rattle.city_model.specs.CityMap.{object_at, CityValue}
 use Rattle.city_model.specs.Integral.{is_integral}
 use Rattle.city_model.specs.Relations.{IsLawful}
 use Rattle.city_doc.specs.declared.fault.ReadFault.{ReadFault}
-use Rattle.city_doc.specs.document.Cities.{city_of}
+use Rattle.city_tokens.specs.document.Cities.{city_of}
 use Rattle.city_doc.specs.document.Faults.{vertices_in, IsFirst, StandsIn}
 use Rattle.city_doc.specs.document.Top.{wrong_member}
 use Rattle.city_doc.specs.inside.document.LenientCities.{listed, lenient_city_of}

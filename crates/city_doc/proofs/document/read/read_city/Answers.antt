@@ -1,8 +1,8 @@
 use Rattle.std.proofs.lemmas.Result.{IfOk-weaker}
 use Rattle.city_model.specs.CityMap.{object_at}
 use Rattle.city_model.specs.Relations.{IsLawful}
-use Rattle.city_doc.specs.document.Cities.{IsAdmitted}
-use Rattle.city_doc.specs.tree.Texts.{IsReadable}
+use Rattle.city_tokens.specs.document.Cities.{IsAdmitted}
+use Rattle.city_tokens.specs.tree.Texts.{IsReadable}
 use Rattle.city_doc.proofs.document.read.read_city.Goals as goal
 
 pub returns-in-None-clause-lawful : goal.returns-in-None-clause-lawful

@@ -2,7 +2,7 @@ use Rattle.std.proofs.Common.{◌≡◌, ℤ, List, ◌++◌, ◌∷◌, [], to_
 use Rattle.std.proofs.lemmas.Result.{on_ok_weaker}
 use Rattle.json.specs.Token.{Token, begin_array, end_array}
 use Rattle.serde_json.specs.Data.{item, no_items}
-use Rattle.city_doc.specs.tree.Triples.{integer_data, triple_data}
+use Rattle.city_tokens.specs.tree.Triples.{integer_data, triple_data}
 use Rattle.city_doc.specs.tree.Tokens.{tokens_of}
 use Rattle.city_doc.proofs.tree.Integers.{integer_reads}
 use Rattle.city_doc.proofs.tree.ReadBack.{array_reads}

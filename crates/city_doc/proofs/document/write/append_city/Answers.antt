@@ -11,8 +11,8 @@ use Rattle.city_model.specs.CityMap.{CityValue}
 use Rattle.city_doc.specs.Pool.{pool_of}
 use Rattle.city_doc.specs.document.Canonical.{tree_of, city_text}
 use Rattle.city_doc.specs.document.CanonicalTexts.{IsCanonicalText}
-use Rattle.city_doc.specs.document.Cities.{IsTextOfCity}
-use Rattle.city_doc.specs.tree.Texts.{IsText}
+use Rattle.city_tokens.specs.document.Cities.{IsTextOfCity}
+use Rattle.city_tokens.specs.tree.Texts.{IsText}
 use Rattle.city_doc.specs.tree.Tokens.{tokens_of}
 use Rattle.city_doc.specs.inside.tree.ReadsBack.{ReadsBack}
 use Rattle.city_doc.proofs.document.CityNests.{written_within}

@@ -3,9 +3,9 @@ use Rattle.serde_json.specs.View.{view, members_view}
 use Rattle.city_model.specs.Kept.{kept_at_object}
 use Rattle.city_model.specs.Members.{without}
 use Rattle.std.specs.Prelude.{codes}
-use Rattle.city_doc.specs.shape.Geometries.{geometry_of}
-use Rattle.city_doc.specs.tree.Lists.{list_or_absent}
-use Rattle.city_doc.specs.tree.Members.{kept_if}
+use Rattle.city_tokens.specs.shape.Geometries.{geometry_of}
+use Rattle.city_tokens.specs.tree.Lists.{list_or_absent}
+use Rattle.city_tokens.specs.tree.Members.{kept_if}
 use Rattle.city_doc.proofs.object.ReadBodies.{geometry_stays, body_missing, body_read}
 use Rattle.city_doc.proofs.object.body.body_of.Goals as goal
 

@@ -5,7 +5,7 @@ use Rattle.json.specs.Token.{key}
 use Rattle.serde_json.specs.Data.{Data}
 use Rattle.serde_json.specs.View.{members_view}
 use Rattle.city_doc.specs.inside.tree.Between.{members_between}
-use Rattle.city_doc.specs.tree.Lists.{list_data}
+use Rattle.city_tokens.specs.tree.Lists.{list_data}
 use Rattle.city_doc.specs.tree.Tokens.{tokens_of}
 use Rattle.city_doc.specs.inside.tree.PartTokens.{tokens_of_members, tokens_of_own, listed}
 use Rattle.city_doc.specs.inside.Pool.{with_points}

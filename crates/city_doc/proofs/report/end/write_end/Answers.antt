@@ -7,7 +7,7 @@ use Rattle.city_model.specs.declared.command.Cause.TheVariants.{NoObject, TypeFi
 use Rattle.city_model.specs.declared.command.Cause.TheVariants.{AlreadyAttached, NotAttached, ShortRing, SameTwice}
 use Rattle.city_model.specs.declared.command.Cause.TheVariants.{OpenShell, Orphan, NoMark}
 use Rattle.city_model.specs.declared.end.Outcome.{Outcome}
-use Rattle.city_doc.specs.tree.Lists.{list_data}
+use Rattle.city_tokens.specs.tree.Lists.{list_data}
 use Rattle.city_doc.specs.report.Ends.{count_data, outcome_name, put_refusal, put_ending}
 use Rattle.city_doc.specs.report.Replies.{reply_data}
 use Rattle.city_doc.specs.tree.Tokens.{tokens_of}

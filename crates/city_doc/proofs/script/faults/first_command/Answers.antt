@@ -5,7 +5,7 @@ use Rattle.serde_json.specs.View.{view}
 use Rattle.serde_json.specs.declared.value.Value.{Value}
 use Rattle.city_doc.specs.declared.script.form.ScriptForm.{ScriptForm}
 use Rattle.city_doc.specs.inside.script.Forms.{parts_view}
-use Rattle.city_doc.specs.script.Scripts.{vertex_count}
+use Rattle.city_tokens.specs.script.Scripts.{vertex_count}
 use Rattle.city_doc.specs.inside.script.Searches.{first_in, index_in}
 use Rattle.city_doc.proofs.script.FirstAt.{first_at-drop, first_at-found, first_at-end}
 use Rattle.city_doc.proofs.script.faults.first_command.Goals as goal

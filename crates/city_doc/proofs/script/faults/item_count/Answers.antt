@@ -1,6 +1,6 @@
 use Rattle.std.proofs.Common.{◌∙◌, sym, ap, length}
 use Rattle.serde_json.specs.View.{view}
-use Rattle.city_doc.proofs.tree.IntegralParts.{count_of-items}
+use Rattle.city_tokens.proofs.Laws.{count_of-items}
 use Rattle.city_doc.proofs.script.faults.item_count.Goals as goal
 
 pub returns-in-Some : goal.returns-in-Some

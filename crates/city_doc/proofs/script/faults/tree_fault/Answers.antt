@@ -1,6 +1,6 @@
 use Rattle.std.proofs.Common.{sym, map}
 use Rattle.serde_json.specs.View.{view}
-use Rattle.city_doc.proofs.tree.IntegralParts.{array_of-integral}
+use Rattle.city_tokens.proofs.Laws.{array_of-integral}
 use Rattle.city_doc.proofs.script.faults.tree_fault.Goals as goal
 
 pub items_fault-requires-clause-whole : goal.items_fault-requires-clause-whole

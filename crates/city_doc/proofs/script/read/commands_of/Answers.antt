@@ -1,6 +1,6 @@
 use Rattle.std.proofs.Common.{map, ap, sym, ◌∙◌}
 use Rattle.serde_json.specs.View.{view}
-use Rattle.city_doc.specs.script.Commands.{command_of}
+use Rattle.city_tokens.specs.script.Commands.{command_of}
 use Rattle.city_doc.proofs.tree.ReadLists.{all_read-step}
 use Rattle.city_doc.proofs.script.read.commands_of.Goals as goal
 

@@ -1,6 +1,6 @@
 use Rattle.std.proofs.Common.{◌∙◌}
 use Rattle.serde_json.specs.View.{view}
-use Rattle.city_doc.proofs.script.BuiltScripts.{built_many, built_few}
+use Rattle.city_tokens.proofs.Laws.{built_many, built_few}
 use Rattle.city_doc.proofs.script.read.scripts_of.Goals as goal
 
 pub returns-then-len-gt-MAX_SCRIPTS : goal.returns-then-len-gt-MAX_SCRIPTS

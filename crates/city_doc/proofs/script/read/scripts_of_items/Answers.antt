@@ -1,6 +1,6 @@
 use Rattle.std.proofs.Common.{map, ap, sym, ◌∙◌}
 use Rattle.serde_json.specs.View.{view}
-use Rattle.city_doc.specs.inside.script.Forms.{script_of_item}
+use Rattle.city_tokens.specs.inside.ScriptItems.{script_of_item}
 use Rattle.city_doc.proofs.tree.ReadLists.{all_read-step}
 use Rattle.city_doc.proofs.script.read.scripts_of_items.Goals as goal
 

@@ -1,6 +1,6 @@
 use Rattle.std.proofs.Common.{ap, sym, ◌∙◌}
 use Rattle.serde_json.specs.View.{view, items_view}
-use Rattle.city_doc.specs.shape.Geometries.{geometry_of}
+use Rattle.city_tokens.specs.shape.Geometries.{geometry_of}
 use Rattle.city_doc.proofs.tree.ReadLists.{read_items-step}
 use Rattle.city_doc.proofs.shape.geometry.read_geometries.Goals as goal
 

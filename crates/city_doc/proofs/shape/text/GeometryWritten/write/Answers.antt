@@ -3,7 +3,7 @@ use Rattle.std.proofs.lemmas.Result.{on_ok_weaker}
 use Rattle.serde_json.specs.Data.{object}
 use Rattle.serde_json.specs.View.{members_view}
 use Rattle.city_model.specs.Members.{AreOrdered}
-use Rattle.city_doc.specs.shape.Nesting.{shape_name}
+use Rattle.city_tokens.specs.shape.Nesting.{shape_name}
 use Rattle.city_doc.specs.tree.Tokens.{tokens_of}
 use Rattle.city_doc.specs.inside.tree.ReadsBack.{ReadsBack}
 use Rattle.city_doc.specs.inside.Pool.{with_points}

@@ -6,7 +6,7 @@ use Rattle.std.proofs.lemmas.Result.{on_ok_weaker}
 use Rattle.json.specs.Token.{begin_array}
 use Rattle.serde_json.specs.View.{items_of}
 use Rattle.city_model.specs.declared.object.Point.{Point}
-use Rattle.city_doc.specs.tree.Lists.{list_data}
+use Rattle.city_tokens.specs.tree.Lists.{list_data}
 use Rattle.city_doc.specs.inside.tree.ReadsBack.{ReadsBack}
 use Rattle.city_doc.specs.inside.Pool.{with_points}
 use Rattle.city_doc.proofs.tree.ReadBack.{array_reads}

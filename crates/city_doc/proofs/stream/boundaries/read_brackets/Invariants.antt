@@ -1,6 +1,0 @@
-use Rattle.std.proofs.Common.{◌≡◌}
-use Rattle.city_doc.specs.inside.stream.Positions.{opened}
-use Rattle.city_doc.proofs.stream.boundaries.read_brackets.Given as goal
-
-abbrev pub invariant-loop-brackets : goal.invariant-loop-brackets
-invariant-loop-brackets l = l.initial.reader ≡ opened l.brackets l.reader

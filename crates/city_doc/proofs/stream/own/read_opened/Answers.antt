@@ -1,8 +1,0 @@
-use Rattle.std.proofs.Common.{arith}
-use Rattle.city_doc.proofs.stream.Reading.{object_value}
-use Rattle.city_doc.proofs.stream.own.read_opened.Goals as goal
-
-pub returns : goal.returns
-returns g c =
-    let rest = c.in_ok-read.ensures in
-    (rest.0, object_value c.args.depth c.args.reader.now c.read_rest.new.reader rest.0 (omega arith) rest.1, rest.2)

@@ -1,8 +1,0 @@
-use Rattle.std.proofs.Common.{◌≡◌, drop}
-use Rattle.serde_json.specs.View.{items_view}
-use Rattle.city_doc.specs.tree.Triples.{all_triples}
-use Rattle.city_doc.proofs.tree.triples.all_triples.Given as goal
-
-abbrev pub invariant-loop-item : goal.invariant-loop-item
-invariant-loop-item l =
-    all_triples (items_view l.items.items) ≡ all_triples (items_view (drop l.item-index l.items.items))

@@ -1,0 +1,6 @@
+use Rattle.std.proofs.Common.{◌≡◌}
+use Rattle.city_tokens.specs.inside.Positions.{opened}
+use Rattle.city_tokens.proofs.boundaries.read_brackets.Given as goal
+
+abbrev pub invariant-loop-brackets : goal.invariant-loop-brackets
+invariant-loop-brackets l = l.initial.reader ≡ opened l.brackets l.reader

@@ -1,0 +1,3 @@
+-- Laws of documents.
+pub mod BuiltFrames
+pub mod Listings

@@ -1,0 +1,14 @@
+use Rattle.std.proofs.Common.{◌≡◌, ◌++◌, List, length}
+use Rattle.serde_json.specs.Data.{Data}
+use Rattle.city_tokens.specs.inside.Standing.{Pairs}
+use Rattle.city_tokens.proofs.Reading.{AreRead}
+use Rattle.city_tokens.proofs.list.read_rest.Given as goal
+
+abbrev pub invariant-items : goal.invariant-items
+invariant-items g l =
+    (more : List g.row.T.Denot) × (ds : List Data) × (l.all.items ≡ l.fn.read.items ++ more)
+    × Pairs g.T.FromTokens.stands more ds
+    × AreRead l.depth l.initial.reader l.reader ds
+
+abbrev pub decreases-items : goal.decreases-items
+decreases-items g l = length l.reader

@@ -1,0 +1,13 @@
+use Rattle.std.proofs.Common.{◌<◌, length, sym, ◌∙◌, arith}
+use Rattle.city_tokens.proofs.Digits.{digits_scanned}
+use Rattle.city_tokens.proofs.number.few_digits.Goals as goal
+
+pub returns-clause-integer : goal.returns-clause-integer
+returns-clause-integer c =
+    let some : 0 < length c.args.bytes.now = grind arith in
+    (digits_scanned c.args.bytes.now c.in_ok-n.ensures.digits some).0
+
+pub returns-clause-value : goal.returns-clause-value
+returns-clause-value c =
+    let some : 0 < length c.args.bytes.now = grind arith in
+    (digits_scanned c.args.bytes.now c.in_ok-n.ensures.digits some).1 ∙ sym c.in_ok-n.ensures.value

@@ -1,0 +1,18 @@
+use Rattle.std.proofs.Common.{refl}
+use Rattle.serde_json.specs.Data.{object}
+use Rattle.city_tokens.proofs.object.read_object.Goals as goal
+
+pub returns : goal.returns
+returns c =
+    let read = c.in_ok-read.ensures in (
+      object read.0,
+      read.1,
+      c.in_ok-object.ensures read.0 (read.2 (record {
+        kind = tt;
+        geometry = c.new.ensures;
+        parents = c.new-2.ensures;
+        children = c.new-3.ensures;
+        ordered = tt;
+        extra = refl;
+      })),
+    )

@@ -1,0 +1,13 @@
+use Rattle.std.proofs.Common.{length}
+use Rattle.serde_json.specs.Data.{Members, no_members}
+use Rattle.serde_json.specs.View.{members_view}
+use Rattle.city_tokens.proofs.Reading.{AreFound}
+use Rattle.city_tokens.proofs.own.read_rest.Given as goal
+
+abbrev pub invariant-members : goal.invariant-members
+invariant-members g l =
+    (found : Members) × AreFound l.depth l.initial.reader l.reader found
+    × (g.O.Own.stands l.fn.start no_members no_members → g.O.Own.stands l.own found (members_view l.kept.entries))
+
+abbrev pub decreases-members : goal.decreases-members
+decreases-members g l = length l.reader

@@ -1,0 +1,26 @@
+use Rattle.std.proofs.Common.{◌≡◌, suc, ◌+◌, ◌<◌, ◌∷◌, ◌++◌, [], drop, take, length, get_or, sym, ap, ◌∙◌, subst, arith}
+use Rattle.std.specs.Prelude.{slice_set}
+use Rattle.city_tokens.specs.inside.Positions.{IsPlaced, points_of}
+use Rattle.city_tokens.specs.inside.Standing.{Pairs}
+use Rattle.city_tokens.proofs.Written.{item_written}
+use Rattle.city_tokens.proofs.placing.place_all.Goals as goal
+
+pub loop-item-preserved : goal.loop-item-preserved
+loop-item-preserved g c =
+    let l = c.loop-item in
+    let i = l.item-index in
+    let start = c.deref_mut-item-items.result.now in
+    let done = l.invariant.0 in
+    let x = c.item-item.result in
+    let y = c.place.new.self in
+    let R = IsPlaced g.T.Places.stands (g.T.Places.reads (points_of c.args.vertices.now)) in
+    let within : i < length l.item-items = grind arith in
+    let below : i < length (done ++ drop i start) = subst (λ zs. i < length zs) l.invariant.1 within in
+    let is : x ≡ get_or (done ++ drop i start) i x = c.item-item.is ∙ ap (λ zs. get_or zs i x) l.invariant.1 in
+    let one : R x y = subst (λ z. R z y) (sym c.item-item.is) c.in_ok-place.ensures in
+    let step = item_written R i start done x y l.invariant.2 below is one in
+    let next : suc i ≡ i + 1 = omega arith in (
+      done ++ y ∷ [],
+      ap (λ zs. slice_set zs i y) l.invariant.1 ∙ step.0 ∙ ap (λ k. (done ++ y ∷ []) ++ drop k start) next,
+      subst (λ k. Pairs R (take k start) (done ++ y ∷ [])) next step.1,
+    )

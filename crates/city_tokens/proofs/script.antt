@@ -1,0 +1,4 @@
+-- Laws of scripts and commands.
+pub mod BuiltScripts
+pub mod CommandEnds
+pub mod CommandLaws

@@ -1,0 +1,6 @@
+use Rattle.std.proofs.Common.{Some, sym, ap}
+use Rattle.serde_json.specs.Data.{string}
+use Rattle.city_tokens.proofs.text.IdFromTokens.from_tokens.Goals as goal
+
+pub returns : goal.returns
+returns c = (string c.in_ok-text.text.now, c.in_ok-text.ensures c.args._depth, ap Some (sym c.in_ok-copy.ensures))

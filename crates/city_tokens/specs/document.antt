@@ -1,0 +1,3 @@
+-- Definitions of documents.
+pub mod Cities
+pub mod Frames

@@ -1,0 +1,12 @@
+-- What only private clauses and proofs use: nothing here has to be believed.
+pub mod Commands
+pub mod Faultless
+pub mod Frames
+pub mod Geometries
+pub mod Objects
+pub mod Positions
+pub mod ScriptItems
+pub mod Scripts
+pub mod Standing
+pub mod Taken
+pub mod Tops

@@ -1,0 +1,22 @@
+-- What was read of a document's top, so far and whole.
+use Rattle.std.specs.Prelude.{◌≡◌, Some, codes}
+use Rattle.serde_json.specs.Data.{Data, Members}
+use Rattle.serde_json.specs.Find.{get_member}
+use Rattle.city_model.specs.CityMap.{CityValue, object_at}
+use Rattle.city_model.specs.inside.Faultless.{IsFaultless}
+use Rattle.city_model.specs.Members.{without, AreOrdered}
+use Rattle.city_tokens.specs.declared.document.TopParts.{TopParts}
+use Rattle.city_tokens.specs.document.Cities.{city_of}
+use Rattle.city_tokens.specs.inside.Objects.{AreObjects}
+use Rattle.city_tokens.specs.inside.Positions.{IsVertex}
+use Rattle.city_tokens.specs.inside.Standing.{IsArrayOf, IsSlot}
+
+pub record IsTopSoFar (parts : TopParts) (found kept : Members) : Type 0 where
+  pub objects : IsSlot AreObjects parts.objects (get_member (codes "CityObjects") found)
+  pub vertices : IsSlot (IsArrayOf IsVertex) parts.vertices (get_member (codes "vertices") found)
+  pub ordered : AreOrdered found
+  pub extra : kept ≡ without (codes "vertices") (without (codes "CityObjects") found)
+
+-- the city that a document's tree stands for, none of whose bodies has a fault
+abbrev pub IsCity : CityValue → Data → Type 0
+IsCity c d = (city_of d ≡ Some c) × IsFaultless (object_at c.1)

@@ -1,0 +1,2 @@
+-- Definitions of city objects.
+pub mod Bodies

@@ -1,0 +1,4 @@
+-- Definitions of texts of scripts.
+pub mod CommandForms
+pub mod Commands
+pub mod Scripts

@@ -1,0 +1,3 @@
+-- Definitions of geometries.
+pub mod Geometries
+pub mod Nesting

@@ -1,0 +1,51 @@
+//! Reads the bodies that are put: objects that name no relations.
+ghost use Rattle.std.specs.Prelude.{IfSome};
+ghost use Rattle.city_tokens.specs.inside.Commands.{IsBody, IsBodySoFar};
+ghost use Rattle.city_tokens.specs.inside.Standing.{IsReadAs};
+
+use crate::object::{ObjectParts, object_of};
+use crate::own::{Own, read_object};
+use city_model::object::Body;
+use city_model::sequence::Sequence;
+use json::Reader;
+use std::alloc::Global;
+
+/// What was read of an object that may name neither parents nor children.
+#[derive(Drop)]
+pub struct BodyParts {
+    pub object: ObjectParts,
+}
+
+impl Own for BodyParts {
+    ghost stands = { IsBodySoFar };
+
+    fn take(
+        &mut self,
+        alloc: Global,
+        name: &str,
+        reader: &mut Reader<'_>,
+        depth: usize,
+    ) -> Option<bool> {
+        match name {
+            "parents" | "children" => None,
+            _ => self.object.take(alloc, name, reader, depth),
+        }
+    }
+}
+
+/// The next value, which is an object without relations, as a put has it.
+pub fn read_body(alloc: Global, reader: &mut Reader<'_>, depth: usize) -> Option<Body>
+    ensures { IfSome result (λ b. IsReadAs IsBody b depth reader.old reader.new) }
+{
+    let start = BodyParts {
+        object: ObjectParts {
+            kind: None,
+            geometry: Sequence::new(alloc),
+            parents: Sequence::new(alloc),
+            children: Sequence::new(alloc),
+        },
+    };
+    let (parts, kept) = read_object(alloc, reader, depth, start)?;
+    let object = object_of(parts.object, kept)?;
+    Some(object.body)
+}

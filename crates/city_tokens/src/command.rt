@@ -1,0 +1,186 @@
+//! Reads commands, whose positions aren't replaced by points yet.
+ghost use Rattle.std.specs.Prelude.{◌≡◌, Some, None, IfSome};
+ghost use Rattle.serde_json.specs.Data.{Members, object, string};
+ghost use Rattle.city_tokens.specs.script.Commands.{command_of};
+ghost use Rattle.city_tokens.specs.inside.Commands.{verb_name, with_verb, AreOthers, IsCommand, IsCommandSoFar};
+
+use crate::body::read_body;
+use crate::list::FromTokens;
+use crate::own::{Own, read_opened};
+use crate::placing::Places;
+use crate::text::{read_str, text_of};
+use crate::vertices::Vertex;
+use city_model::command::Command;
+use city_model::object::Body;
+use city_model::text::{Id, Text};
+use json::{Reader, Token};
+use std::alloc::Global;
+
+/// What a command does with the id or the name that it has.
+#[derive(Clone, Copy)]
+pub enum Verb {
+    Read,
+    Put,
+    Delete,
+    Attach,
+    Detach,
+    Mark,
+    Back,
+}
+
+/// What a command has beside its id.
+#[derive(Drop)]
+pub enum Other {
+    Object(Body),
+    Parent(Id),
+}
+
+/// What was read of a command's members so far.
+#[derive(Drop)]
+pub struct CommandParts {
+    pub verb: Option<(Verb, Text)>,
+    pub other: Option<Other>,
+}
+
+fn verb_named(name: &str) -> Option<Verb>
+    ensures { IfSome result (λ verb. name.now ≡ verb_name verb) }
+{
+    match name {
+        "put" => Some(Verb::Put),
+        "read" => Some(Verb::Read),
+        "delete" => Some(Verb::Delete),
+        "attach" => Some(Verb::Attach),
+        "detach" => Some(Verb::Detach),
+        "mark" => Some(Verb::Mark),
+        "back" => Some(Verb::Back),
+        _ => None,
+    }
+}
+
+impl Own for CommandParts {
+    ghost stands = { IsCommandSoFar };
+
+    fn take(
+        &mut self,
+        alloc: Global,
+        name: &str,
+        reader: &mut Reader<'_>,
+        depth: usize,
+    ) -> Option<bool> {
+        match name {
+            "object" => {
+                if self.other.is_some() {
+                    return None;
+                }
+                let body = read_body(alloc, reader, depth)?;
+                self.other = Some(Other::Object(body));
+            }
+            "parent" => {
+                if self.other.is_some() {
+                    return None;
+                }
+                let parent = Id::from_tokens(alloc, reader, depth)?;
+                self.other = Some(Other::Parent(parent));
+            }
+            _ => {
+                let verb = verb_named(name)?;
+                if self.verb.is_some() {
+                    return None;
+                }
+                let text = read_str(reader)?;
+                let copy = text_of(alloc, text)?;
+                self.verb = Some((verb, copy));
+            }
+        }
+        Some(true)
+    }
+}
+
+/// The command of one member.
+fn single_command(verb: Verb, text: Text) -> Option<Command>
+    ensures { IfSome result (λ c. (others : Members) → AreOthers None others
+        → IsCommand c (object (with_verb (Some (verb, text)) others))) }
+{
+    match verb {
+        Verb::Read => Some(Command::Read(text)),
+        Verb::Delete => Some(Command::Delete(text)),
+        Verb::Mark => Some(Command::Mark(text)),
+        Verb::Back => Some(Command::Back(text)),
+        _ => None,
+    }
+}
+
+/// The command of two members.
+fn pair_command(verb: Verb, id: Id, other: Other) -> Option<Command>
+    ensures { IfSome result (λ c. (others : Members) → AreOthers (Some other) others
+        → IsCommand c (object (with_verb (Some (verb, id)) others))) }
+{
+    match other {
+        Other::Object(body) => match verb {
+            Verb::Put => Some(Command::Put(id, body)),
+            _ => None,
+        },
+        Other::Parent(parent) => match verb {
+            Verb::Attach => Some(Command::Attach(id, parent)),
+            Verb::Detach => Some(Command::Detach(id, parent)),
+            _ => None,
+        },
+    }
+}
+
+/// The command of what was read of all its members.
+fn command_of(parts: CommandParts) -> Option<Command>
+    ensures { IfSome result (λ c. (found kept : Members)
+        → IsCommandSoFar parts found kept → IsCommand c (object found)) }
+{
+    let (verb, text) = parts.verb?;
+    match parts.other {
+        None => single_command(verb, text),
+        Some(other) => pair_command(verb, text, other),
+    }
+}
+
+/// The command that a word is.
+fn word_command(word: &str) -> Option<Command>
+    ensures { IfSome result (λ c. IsCommand c (string word.now)) }
+{
+    match word {
+        "commit" => Some(Command::Commit),
+        "abort" => Some(Command::Abort),
+        _ => None,
+    }
+}
+
+impl FromTokens for Command {
+    const ROOM: usize = 8;
+
+    ghost stands = { IsCommand };
+
+    fn from_tokens(alloc: Global, reader: &mut Reader<'_>, depth: usize) -> Option<Command> {
+        match reader.next()? {
+            Token::String(word) => word_command(word),
+            Token::BeginObject => {
+                let start = CommandParts {
+                    verb: None,
+                    other: None,
+                };
+                let (parts, _kept) = read_opened(alloc, reader, depth, start)?;
+                command_of(parts)
+            }
+            _ => None,
+        }
+    }
+}
+
+impl Places for Command {
+    ghost stands = { IsCommand };
+
+    ghost reads = { command_of };
+
+    fn place(&mut self, alloc: Global, vertices: &[Vertex]) -> Option<()> {
+        if let Command::Put(_, body) = self {
+            body.geometry.place(alloc, vertices)?;
+        }
+        Some(())
+    }
+}

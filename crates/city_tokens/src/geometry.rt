@@ -1,0 +1,127 @@
+//! Reads geometries, whose positions aren't replaced by points yet.
+ghost use Rattle.std.specs.Prelude.{◌≡◌, ℕ, Some, IfSome};
+ghost use Rattle.serde_json.specs.Data.{Data, Members, object};
+ghost use Rattle.serde_json.specs.View.{members_view};
+ghost use Rattle.city_tokens.specs.inside.Geometries.{kind_name, AreBoundaries, IsShape, IsGeometry, IsGeometrySoFar};
+
+use crate::boundaries::{Boundaries, read_boundaries};
+use crate::list::FromTokens;
+use crate::own::{Own, read_object};
+use crate::text::{read_str, text_of};
+use city_model::kept::extra::Extra;
+use city_model::object::{Geometry, Shape};
+use city_model::text::Text;
+use json::Reader;
+use serde_json::{Map, Value};
+use std::alloc::Global;
+
+/// The type of a geometry.
+#[derive(Clone, Copy)]
+pub enum Kind {
+    MultiSurface,
+    CompositeSurface,
+    Solid,
+    MultiSolid,
+    CompositeSolid,
+}
+
+fn kind_named(name: &str) -> Option<Kind>
+    ensures { IfSome result (λ kind. name.now ≡ kind_name kind) }
+{
+    match name {
+        "MultiSurface" => Some(Kind::MultiSurface),
+        "CompositeSurface" => Some(Kind::CompositeSurface),
+        "Solid" => Some(Kind::Solid),
+        "MultiSolid" => Some(Kind::MultiSolid),
+        "CompositeSolid" => Some(Kind::CompositeSolid),
+        _ => None,
+    }
+}
+
+/// The shape of this type and these boundaries, if they fit each other.
+fn shape_of(kind: Kind, boundaries: Boundaries) -> Option<Shape>
+    ensures { IfSome result (λ shape. (d : Data) → AreBoundaries boundaries d
+        → IsShape shape (kind_name kind) d) }
+{
+    match boundaries {
+        Boundaries::Surfaces(surfaces) => match kind {
+            Kind::MultiSurface => Some(Shape::MultiSurface(surfaces)),
+            Kind::CompositeSurface => Some(Shape::CompositeSurface(surfaces)),
+            _ => None,
+        },
+        Boundaries::Shells(shells) => match kind {
+            Kind::Solid => Some(Shape::Solid(shells)),
+            _ => None,
+        },
+        Boundaries::Solids(solids) => match kind {
+            Kind::MultiSolid => Some(Shape::MultiSolid(solids)),
+            Kind::CompositeSolid => Some(Shape::CompositeSolid(solids)),
+            _ => None,
+        },
+    }
+}
+
+/// What was read of a geometry so far.
+#[derive(Drop)]
+pub struct GeometryParts {
+    pub kind: Option<Kind>,
+    pub lod: Option<Text>,
+    pub boundaries: Option<Boundaries>,
+}
+
+impl Own for GeometryParts {
+    ghost stands = { IsGeometrySoFar };
+
+    fn take(
+        &mut self,
+        alloc: Global,
+        name: &str,
+        reader: &mut Reader<'_>,
+        depth: usize,
+    ) -> Option<bool> {
+        match name {
+            "type" => {
+                let name = read_str(reader)?;
+                self.kind = Some(kind_named(name)?);
+            }
+            "lod" => {
+                let lod = Text::from_tokens(alloc, reader, depth)?;
+                self.lod = Some(lod);
+            }
+            "boundaries" => {
+                let boundaries = read_boundaries(alloc, reader, depth)?;
+                self.boundaries = Some(boundaries);
+            }
+            _ => return Some(false),
+        }
+        Some(true)
+    }
+}
+
+/// The geometry of what was read of all its members, and of the kept ones.
+fn geometry_of(parts: GeometryParts, kept: Map<String, Value>) -> Option<Geometry>
+    ensures { IfSome result (λ g. (found : Members)
+        → IsGeometrySoFar parts found (members_view kept.entries) → IsGeometry g (object found)) }
+{
+    let kind = parts.kind?;
+    let lod = parts.lod?;
+    let shape = shape_of(kind, parts.boundaries?)?;
+    let extra = Extra::new(kept).ok()?;
+    Some(Geometry { lod, shape, extra })
+}
+
+impl FromTokens for Geometry {
+    const ROOM: usize = 1;
+
+    ghost stands = { IsGeometry };
+
+    fn from_tokens(alloc: Global, reader: &mut Reader<'_>, depth: usize) -> Option<Geometry> {
+        let start = GeometryParts {
+            kind: None,
+            lod: None,
+            boundaries: None,
+        };
+        let (parts, kept) = read_object(alloc, reader, depth, start)?;
+        geometry_of(parts, kept)
+    }
+}

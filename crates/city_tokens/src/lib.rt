@@ -1,0 +1,41 @@
+//! Reads lawful texts of city models from their tokens, straight into cities and scripts.
+//!
+//! `specs/` has what a document and a text of scripts stand for; no word is said here of faults. Where anything about
+//! a text is odd there is no answer, and the text has to be read from its tree.
+//!
+//! - `value`, `number`, `text`, `list`: values, whole numbers, texts and arrays
+//! - `own`: objects some of whose members have places of their own, while the others are kept
+//! - `position`, `vertices`, `boundaries`, `placing`: positions, and the points that take their places
+//! - `geometry`, `object`, `objects`, `document`: what a city is made of, and the city
+//! - `body`, `command`, `script`, `scripts`: bodies that are put, commands and scripts
+//! - `frame`, `triples`: the frame of a document, three whole numbers, both of trees
+//! - `whole_text`, `limits`: whole texts, and how large they may be
+#![tactic(auto)]
+
+mod body;
+mod boundaries;
+mod command;
+mod document;
+mod frame;
+mod geometry;
+mod limits;
+mod list;
+mod number;
+mod object;
+mod objects;
+mod own;
+mod placing;
+mod position;
+mod script;
+mod scripts;
+mod text;
+mod triples;
+mod value;
+mod vertices;
+mod whole_text;
+
+pub use document::{is_text, streamed_city};
+pub use frame::{frame_of_rest, triple_at};
+pub use limits::{MAX_COMMANDS, MAX_SCRIPTS, MAX_TEXT};
+pub use scripts::streamed_scripts;
+pub use triples::{are_triples, triple_of};

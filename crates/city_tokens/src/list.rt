@@ -1,0 +1,60 @@
+//! Reads arrays into lists.
+ghost use Rattle.std.specs.Prelude.{◌≡◌, ◌++◌, ◌∷◌, List, IfSome};
+ghost use Rattle.serde_json.specs.Data.{Data, item, array};
+ghost use Rattle.serde_json.specs.View.{items_of};
+ghost use Rattle.city_tokens.specs.inside.Standing.{Pairs, IsArrayOf, IsReadAs};
+ghost use Rattle.city_tokens.specs.inside.Taken.{IsRestOfArray};
+
+use city_model::sequence::Sequence;
+use json::{Reader, Token};
+use std::alloc::Global;
+
+/// What is made of the tokens of a value, without a tree.
+pub trait FromTokens: Sized + Drop {
+    ghost stands: { Self → Data → Type 0 };
+
+    /// For how many items a list has room at first.
+    const ROOM: usize;
+
+    /// What stands for the next value; none where it is of another form.
+    fn from_tokens(alloc: Global, reader: &mut Reader<'_>, depth: usize) -> Option<Self>
+        ensures { IfSome result (λ x. IsReadAs stands x depth reader.old reader.new) };
+}
+
+/// Reads the items up to the bracket that closes them, after those that are read already.
+pub fn read_rest<T: FromTokens>(
+    alloc: Global,
+    reader: &mut Reader<'_>,
+    depth: usize,
+    read: Vec<T>,
+) -> Option<Vec<T>>
+    ensures { IfSome result (λ all. (more : List T) × (ds : List Data)
+        × (all.items ≡ read.items ++ more) × Pairs T.stands more ds
+        × IsRestOfArray depth reader.old (items_of ds) reader.new) }
+{
+    let mut all = read;
+    'items: while !reader.take_end_array() {
+        let one = T::from_tokens(alloc, reader, depth)?;
+        all.push(one).ok()?;
+    }
+    Some(all)
+}
+
+impl<T: FromTokens> FromTokens for Sequence<T> {
+    const ROOM: usize = if T::ROOM == 4 { 1 } else { 8 };
+
+    ghost stands = { IsArrayOf T.stands };
+
+    fn from_tokens(alloc: Global, reader: &mut Reader<'_>, depth: usize) -> Option<Sequence<T>> {
+        let Token::BeginArray = reader.next()? else {
+            return None;
+        };
+        if depth == 0 {
+            return None;
+        }
+        let room = Vec::with_capacity(alloc, T::ROOM).ok()?;
+        let mut all = read_rest(alloc, reader, depth - 1, room)?;
+        all.shrink_to_fit();
+        Some(Sequence::from_vec(all))
+    }
+}

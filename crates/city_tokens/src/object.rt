@@ -1,0 +1,93 @@
+//! Reads city objects, whose positions aren't replaced by points yet.
+ghost use Rattle.std.specs.Prelude.{◌≡◌, ℕ, Some, IfSome};
+ghost use Rattle.serde_json.specs.Data.{Members, object};
+ghost use Rattle.serde_json.specs.View.{members_view};
+ghost use Rattle.city_tokens.specs.inside.Objects.{IsObject, IsObjectSoFar};
+ghost use Rattle.city_tokens.specs.inside.Standing.{IsReadAs};
+
+use crate::list::FromTokens;
+use crate::own::{Own, read_object as read_members};
+use crate::text::read_str;
+use city_model::kept::extra::Extra;
+use city_model::object::{Body, Geometry, Object};
+use city_model::object_type::{ObjectType, type_named};
+use city_model::sequence::Sequence;
+use city_model::text::Id;
+use json::Reader;
+use serde_json::{Map, Value};
+use std::alloc::Global;
+
+/// What was read of an object so far.
+#[derive(Drop)]
+pub struct ObjectParts {
+    pub kind: Option<ObjectType>,
+    pub geometry: Sequence<Geometry>,
+    pub parents: Sequence<Id>,
+    pub children: Sequence<Id>,
+}
+
+impl Own for ObjectParts {
+    ghost stands = { IsObjectSoFar };
+
+    fn take(
+        &mut self,
+        alloc: Global,
+        name: &str,
+        reader: &mut Reader<'_>,
+        depth: usize,
+    ) -> Option<bool> {
+        match name {
+            "type" => {
+                let name = read_str(reader)?;
+                self.kind = Some(type_named(name)?);
+            }
+            "geometry" => {
+                let geometry = Sequence::<Geometry>::from_tokens(alloc, reader, depth)?;
+                self.geometry = geometry;
+            }
+            "parents" => {
+                let parents = Sequence::<Id>::from_tokens(alloc, reader, depth)?;
+                self.parents = parents;
+            }
+            "children" => {
+                let children = Sequence::<Id>::from_tokens(alloc, reader, depth)?;
+                self.children = children;
+            }
+            _ => return Some(false),
+        }
+        Some(true)
+    }
+}
+
+/// The object of what was read of all its members, and of the kept ones.
+pub fn object_of(parts: ObjectParts, kept: Map<String, Value>) -> Option<Object>
+    ensures { IfSome result (λ o. (found : Members)
+        → IsObjectSoFar parts found (members_view kept.entries) → IsObject o (object found)) }
+{
+    let kind = parts.kind?;
+    let extra = Extra::new(kept).ok()?;
+    Some(Object {
+        body: Body {
+            kind,
+            geometry: parts.geometry,
+            extra,
+        },
+        parents: parts.parents,
+        children: parts.children,
+    })
+}
+
+/// The next value, which is an object of a city.
+pub fn read_object(alloc: Global, reader: &mut Reader<'_>, depth: usize) -> Option<Object>
+    ensures { IfSome result (λ o. IsReadAs IsObject o depth reader.old reader.new) }
+{
+    let start = ObjectParts {
+        kind: None,
+        geometry: Sequence::new(alloc),
+        parents: Sequence::new(alloc),
+        children: Sequence::new(alloc),
+    };
+    let read = read_members(alloc, reader, depth, start)?;
+    let object = object_of(read.0, read.1)?;
+    Some(object)
+}

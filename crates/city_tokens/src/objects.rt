@@ -1,0 +1,51 @@
+//! Reads the objects of a document by their ids.
+ghost use Rattle.std.specs.Prelude.{◌≡◌, IfSome};
+ghost use Rattle.city_tokens.specs.inside.Objects.{AreObjects, IsListingSoFar};
+ghost use Rattle.city_tokens.specs.inside.Standing.{IsReadAs};
+
+use crate::object::read_object;
+use crate::own::{Own, read_object as read_members};
+use crate::text::text_of;
+use city_model::object::Object;
+use city_model::sequence::Sequence;
+use city_model::text::Id;
+use json::Reader;
+use std::alloc::Global;
+
+/// The objects so far, one after another as the text has them.
+#[derive(Drop)]
+pub struct Listing {
+    pub objects: Sequence<(Id, Object)>,
+}
+
+impl Own for Listing {
+    ghost stands = { IsListingSoFar };
+
+    fn take(
+        &mut self,
+        alloc: Global,
+        name: &str,
+        reader: &mut Reader<'_>,
+        depth: usize,
+    ) -> Option<bool> {
+        let id = text_of(alloc, name)?;
+        let object = read_object(alloc, reader, depth)?;
+        self.objects.push((id, object)).ok()?;
+        Some(true)
+    }
+}
+
+/// The next value, an object whose members are city objects.
+pub fn read_objects(
+    alloc: Global,
+    reader: &mut Reader<'_>,
+    depth: usize,
+) -> Option<Sequence<(Id, Object)>>
+    ensures { IfSome result (λ es. IsReadAs AreObjects es depth reader.old reader.new) }
+{
+    let start = Listing {
+        objects: Sequence::new(alloc),
+    };
+    let (listing, _kept) = read_members(alloc, reader, depth, start)?;
+    Some(listing.objects)
+}

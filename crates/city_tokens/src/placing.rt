@@ -1,0 +1,159 @@
+//! Replaces positions by their points.
+ghost use Rattle.std.specs.Prelude.{◌≡◌, ℕ, List, Option, Some, None, IfSome};
+ghost use Rattle.serde_json.specs.Data.{Data, Members};
+ghost use Rattle.city_model.specs.declared.object.Point as p;
+ghost use Rattle.city_model.specs.Shells.{body_fault};
+ghost use Rattle.city_tokens.specs.document.Cities.{entries_of};
+ghost use Rattle.city_tokens.specs.object.Bodies.{object_of};
+ghost use Rattle.city_tokens.specs.shape.Geometries.{point_at, shape_of, geometry_of};
+ghost use Rattle.city_tokens.specs.inside.Faultless.{AreFaultless};
+ghost use Rattle.city_tokens.specs.inside.Geometries.{IsShape, IsGeometry};
+ghost use Rattle.city_tokens.specs.inside.Objects.{IsObject, IsListing};
+ghost use Rattle.city_tokens.specs.inside.Positions.{IsPlaced, IsPosition, points_of};
+ghost use Rattle.city_tokens.specs.inside.Standing.{Pairs, IsArrayOf};
+ghost use Rattle.city_tokens.specs.tree.Lists.{list_of};
+
+use crate::vertices::Vertex;
+use city_model::body_fault::body_fault;
+use city_model::object::{Geometry, Object, Point, Shape};
+use city_model::sequence::Sequence;
+use city_model::text::Id;
+use std::alloc::Global;
+use std::collections::BTreeMap;
+use std::mem::replace;
+
+/// What has positions, each to be replaced by its point.
+pub trait Places: Sized + Drop {
+    ghost stands: { Self → Data → Type 0 };
+
+    ghost reads: { List p.Point → Data → Option Self };
+
+    /// Replaces each position by the point of its vertex; none where a position names no vertex.
+    fn place(&mut self, alloc: Global, vertices: &[Vertex]) -> Option<()>
+        ensures { IfSome result
+            (λ _. IsPlaced stands (reads (points_of vertices.now)) self.old self.new) };
+}
+
+impl Places for Point {
+    ghost stands = { IsPosition };
+
+    ghost reads = { point_at };
+
+    fn place(&mut self, _alloc: Global, vertices: &[Vertex]) -> Option<()> {
+        let position = self.x;
+        if position < 0 {
+            return None;
+        }
+        let vertex = vertices.get(position as usize)?;
+        *self = vertex.point;
+        Some(())
+    }
+}
+
+fn place_all<T: Places>(alloc: Global, vertices: &[Vertex], unplaced: Vec<T>) -> Option<Vec<T>>
+    ensures { IfSome result (λ placed. Pairs (IsPlaced T.stands (T.reads (points_of vertices.now)))
+        unplaced.items placed.items) }
+{
+    let mut items = unplaced;
+    for item in items.iter_mut() {
+        item.place(alloc, vertices)?;
+    }
+    Some(items)
+}
+
+impl<T: Places> Places for Sequence<T> {
+    ghost stands = { IsArrayOf T.stands };
+
+    ghost reads = { λ points. list_of (T.reads points) };
+
+    fn place(&mut self, alloc: Global, vertices: &[Vertex]) -> Option<()> {
+        let unplaced = replace(self, Sequence::new(alloc)).into_vec();
+        let items = place_all(alloc, vertices, unplaced)?;
+        *self = Sequence::from_vec(items);
+        Some(())
+    }
+}
+
+fn placed<T: Places>(alloc: Global, vertices: &[Vertex], unplaced: T) -> Option<T>
+    ensures { IfSome result
+        (λ x. IsPlaced T.stands (T.reads (points_of vertices.now)) unplaced x) }
+{
+    let mut x = unplaced;
+    x.place(alloc, vertices)?;
+    Some(x)
+}
+
+fn placed_shape(alloc: Global, vertices: &[Vertex], shape: Shape) -> Option<Shape>
+    ensures { IfSome result (λ new. (name : List ℕ) (d : Data) → IsShape shape name d
+        → shape_of (points_of vertices.now) name d ≡ Some new) }
+{
+    match shape {
+        Shape::MultiSurface(surfaces) => {
+            let surfaces = placed(alloc, vertices, surfaces)?;
+            Some(Shape::MultiSurface(surfaces))
+        }
+        Shape::CompositeSurface(surfaces) => {
+            let surfaces = placed(alloc, vertices, surfaces)?;
+            Some(Shape::CompositeSurface(surfaces))
+        }
+        Shape::Solid(shells) => {
+            let shells = placed(alloc, vertices, shells)?;
+            Some(Shape::Solid(shells))
+        }
+        Shape::MultiSolid(solids) => {
+            let solids = placed(alloc, vertices, solids)?;
+            Some(Shape::MultiSolid(solids))
+        }
+        Shape::CompositeSolid(solids) => {
+            let solids = placed(alloc, vertices, solids)?;
+            Some(Shape::CompositeSolid(solids))
+        }
+    }
+}
+
+impl Places for Geometry {
+    ghost stands = { IsGeometry };
+
+    ghost reads = { geometry_of };
+
+    fn place(&mut self, alloc: Global, vertices: &[Vertex]) -> Option<()> {
+        let unplaced = replace(&mut self.shape, Shape::MultiSurface(Sequence::new(alloc)));
+        let shape = placed_shape(alloc, vertices, unplaced)?;
+        self.shape = shape;
+        Some(())
+    }
+}
+
+/// The object, with points in the places of its positions; none where a position names no vertex, or
+/// where its body has a fault, which is judged at once.
+fn placed_object(alloc: Global, vertices: &[Vertex], unplaced: Object) -> Option<Object>
+    ensures placed { IfSome result (λ o. (d : Data) → IsObject unplaced d
+        → object_of (points_of vertices.now) d ≡ Some o) }
+    ensures faultless { IfSome result (λ o. body_fault o.body ≡ None) }
+{
+    let mut object = unplaced;
+    object.body.geometry.place(alloc, vertices)?;
+    match body_fault(alloc, &object.body).ok()? {
+        None => Some(object),
+        Some(_) => None,
+    }
+}
+
+/// The objects by their ids, with each position replaced by its point; none where a position names
+/// no vertex, or where a body has a fault.
+pub fn placed_objects(
+    alloc: Global,
+    vertices: &[Vertex],
+    listed: Sequence<(Id, Object)>,
+) -> Option<BTreeMap<Id, Object>>
+    ensures placed { IfSome result (λ objects. (found : Members) → IsListing listed found
+        → entries_of (points_of vertices.now) found ≡ Some objects.entries) }
+    ensures faultless { IfSome result (λ objects. AreFaultless objects.entries) }
+{
+    let mut objects = BTreeMap::new(alloc);
+    for (id, unplaced) in listed.into_vec() {
+        let object = placed_object(alloc, vertices, unplaced)?;
+        drop(objects.insert(id, object).ok()?);
+    }
+    Some(objects)
+}

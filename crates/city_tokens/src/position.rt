@@ -1,0 +1,20 @@
+//! Reads positions, whose points may not be known yet.
+ghost use Rattle.city_tokens.specs.inside.Positions.{IsPosition};
+
+use crate::list::FromTokens;
+use crate::vertices::read_whole;
+use city_model::object::Point;
+use json::Reader;
+use std::alloc::Global;
+
+impl FromTokens for Point {
+    const ROOM: usize = 4;
+
+    ghost stands = { IsPosition };
+
+    #[inline(always)]
+    fn from_tokens(_alloc: Global, reader: &mut Reader<'_>, _depth: usize) -> Option<Point> {
+        let x = read_whole(reader)?;
+        Some(Point { x, y: 0, z: 0 })
+    }
+}

@@ -1,0 +1,84 @@
+//! Reads scripts.
+ghost use Rattle.std.specs.Prelude.{Some, IfSome};
+ghost use Rattle.serde_json.specs.Data.{Members, object};
+ghost use Rattle.city_tokens.specs.inside.Scripts.{IsScript, IsScriptSoFar};
+
+use crate::limits::MAX_COMMANDS;
+use crate::list::FromTokens;
+use crate::own::{Own, read_object};
+use crate::placing::Places;
+use crate::vertices::Vertex;
+use city_model::command::Command;
+use city_model::script::Script;
+use city_model::sequence::Sequence;
+use city_model::text::Text;
+use json::Reader;
+use std::alloc::Global;
+
+/// What was read of a script's members so far.
+#[derive(Drop)]
+pub struct ScriptParts {
+    pub name: Option<Text>,
+    pub commands: Option<Sequence<Command>>,
+    pub vertices: Sequence<Vertex>,
+}
+
+impl Own for ScriptParts {
+    ghost stands = { IsScriptSoFar };
+
+    fn take(
+        &mut self,
+        alloc: Global,
+        name: &str,
+        reader: &mut Reader<'_>,
+        depth: usize,
+    ) -> Option<bool> {
+        match name {
+            "name" => {
+                let name = Text::from_tokens(alloc, reader, depth)?;
+                self.name = Some(name);
+            }
+            "commands" => {
+                let commands = Sequence::<Command>::from_tokens(alloc, reader, depth)?;
+                self.commands = Some(commands);
+            }
+            "vertices" => {
+                let vertices = Sequence::<Vertex>::from_tokens(alloc, reader, depth)?;
+                self.vertices = vertices;
+            }
+            _ => return None,
+        }
+        Some(true)
+    }
+}
+
+/// The script of what was read of all its members.
+fn script_of(alloc: Global, parts: ScriptParts) -> Option<Script>
+    ensures { IfSome result (λ s. (found kept : Members)
+        → IsScriptSoFar parts found kept → IsScript s (object found)) }
+{
+    let name = parts.name?;
+    let mut commands = parts.commands?;
+    commands.place(alloc, parts.vertices.as_slice())?;
+    if commands.len() > MAX_COMMANDS {
+        return None;
+    }
+    Script::new(name, commands).ok()
+}
+
+impl FromTokens for Script {
+    const ROOM: usize = 8;
+
+    ghost stands = { IsScript };
+
+    fn from_tokens(alloc: Global, reader: &mut Reader<'_>, depth: usize) -> Option<Script> {
+        let start = ScriptParts {
+            name: None,
+            commands: None,
+            vertices: Sequence::new(alloc),
+        };
+        let read = read_object(alloc, reader, depth, start)?;
+        let script = script_of(alloc, read.0)?;
+        Some(script)
+    }
+}

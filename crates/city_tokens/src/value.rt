@@ -1,0 +1,72 @@
+//! Reads the JSON values that are kept.
+ghost use Rattle.std.specs.Prelude.{◌≡◌, IfSome};
+ghost use Rattle.serde_json.specs.View.{view, items_view, members_view};
+ghost use Rattle.city_tokens.specs.inside.Taken.{IsValue, IsRestOfArray, IsRestOfObject};
+
+use crate::number::whole_of;
+use json::{Reader, Token};
+use serde_json::{Map, Value};
+use std::alloc::Global;
+
+/// The next value, if its arrays and objects nest no deeper than `depth`.
+#[cycle(value)]
+pub fn read_value(alloc: Global, reader: &mut Reader<'_>, depth: usize) -> Option<Value>
+    ensures { IfSome result (λ v. IsValue depth reader.old (view v) reader.new) }
+{
+    match reader.next()? {
+        Token::Null => Some(Value::Null),
+        Token::Bool(b) => Some(Value::Bool(b)),
+        Token::Number(text) => {
+            let n = whole_of(text)?;
+            Some(Value::from(n))
+        }
+        Token::String(text) => {
+            let copy = String::from_str(alloc, text).ok()?;
+            Some(Value::String(copy))
+        }
+        Token::BeginArray => {
+            if depth == 0 {
+                return None;
+            }
+            let items = read_items(alloc, reader, depth - 1)?;
+            Some(Value::Array(items))
+        }
+        Token::BeginObject => {
+            if depth == 0 {
+                return None;
+            }
+            let members = read_members(alloc, reader, depth - 1)?;
+            Some(Value::Object(members))
+        }
+        Token::EndObject | Token::EndArray | Token::Key(_) | Token::Bad => None,
+    }
+}
+
+/// The items up to the bracket that closes them.
+#[cycle(value)]
+fn read_items(alloc: Global, reader: &mut Reader<'_>, depth: usize) -> Option<Vec<Value>>
+    ensures { IfSome result (λ v. IsRestOfArray depth reader.old (items_view v.items) reader.new) }
+{
+    let mut found = Vec::new(alloc);
+    'items: while !reader.take_end_array() {
+        let item = read_value(alloc, reader, depth)?;
+        found.push(item).ok()?;
+    }
+    found.shrink_to_fit();
+    Some(found)
+}
+
+/// The members up to the brace that closes them.
+#[cycle(value)]
+fn read_members(alloc: Global, reader: &mut Reader<'_>, depth: usize) -> Option<Map<String, Value>>
+    ensures { IfSome result
+        (λ m. IsRestOfObject depth reader.old (members_view m.entries) reader.new) }
+{
+    let mut found = Map::new(alloc);
+    'members: while let Some(name) = reader.next_key().ok()? {
+        let key = String::from_str(alloc, name).ok()?;
+        let member = read_value(alloc, reader, depth)?;
+        drop(found.insert(key, member).ok()?);
+    }
+    Some(found)
+}

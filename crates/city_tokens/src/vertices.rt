@@ -1,0 +1,58 @@
+//! Reads vertices.
+ghost use Rattle.std.specs.Prelude.{◌≡◌, ℕ, Some, IfSome};
+ghost use Rattle.serde_json.specs.Data.{number};
+ghost use Rattle.serde_json.specs.Find.{of_integer, as_i64};
+ghost use Rattle.city_tokens.specs.inside.Positions.{IsVertex};
+ghost use Rattle.city_tokens.specs.inside.Taken.{IsValue};
+
+use crate::list::FromTokens;
+use crate::number::whole_of;
+use city_model::object::Point;
+use json::{Reader, Token};
+use std::alloc::Global;
+
+/// The point of a vertex.
+#[derive(Clone, Copy)]
+pub struct Vertex {
+    pub point: Point,
+}
+
+/// The next value, which is a whole number.
+#[inline(always)]
+pub fn read_whole(reader: &mut Reader<'_>) -> Option<i64>
+    ensures value { IfSome result
+        (λ n. (depth : ℕ) → IsValue depth reader.old (number (of_integer n)) reader.new) }
+    ensures in_range { IfSome result (λ n. as_i64 (of_integer n) ≡ Some n) }
+{
+    match reader.next()? {
+        Token::Number(text) => {
+            let n = whole_of(text)?;
+            Some(n)
+        }
+        _ => None,
+    }
+}
+
+impl FromTokens for Vertex {
+    const ROOM: usize = 8;
+
+    ghost stands = { IsVertex };
+
+    fn from_tokens(_alloc: Global, reader: &mut Reader<'_>, depth: usize) -> Option<Vertex> {
+        let Token::BeginArray = reader.next()? else {
+            return None;
+        };
+        if depth == 0 {
+            return None;
+        }
+        let x = read_whole(reader)?;
+        let y = read_whole(reader)?;
+        let z = read_whole(reader)?;
+        if !reader.take_end_array() {
+            return None;
+        }
+        Some(Vertex {
+            point: Point { x, y, z },
+        })
+    }
+}

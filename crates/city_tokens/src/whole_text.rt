@@ -1,0 +1,43 @@
+//! Reads whole texts.
+ghost use Rattle.std.specs.Prelude.{◌≡◌, [], true, IfSome};
+ghost use Rattle.serde_json.specs.Data.{Data};
+ghost use Rattle.city_model.specs.Integral.{is_integral};
+ghost use Rattle.city_tokens.specs.inside.Standing.{IsReadAs};
+ghost use Rattle.city_tokens.specs.tree.Texts.{HasTree};
+
+use crate::limits::MAX_TEXT;
+use crate::list::FromTokens;
+use json::{Reader, Scratch};
+use std::alloc::Global;
+
+/// How deep a text's arrays and objects may nest.
+const DEPTH: usize = 127;
+
+/// What stands for all the tokens.
+fn read_tokens<T: FromTokens>(alloc: Global, reader: &mut Reader<'_>) -> Option<T>
+    ensures { IfSome result (λ x. IsReadAs T.stands x 127 reader.old []) }
+{
+    let read = T::from_tokens(alloc, reader, DEPTH)?;
+    if reader.next().is_some() {
+        return None;
+    }
+    Some(read)
+}
+
+/// What stands for a text; none where anything about the text is odd, or memory runs out.
+pub fn read_whole_text<T: FromTokens>(alloc: Global, bytes: &[u8]) -> Option<T>
+    ensures { IfSome result (λ x. (d : Data) × HasTree bytes.now d × (is_integral d ≡ true) × T.stands x d) }
+{
+    if bytes.len() > MAX_TEXT {
+        return None;
+    }
+    let Ok(text) = simdutf8::compat::from_utf8(bytes) else {
+        return None;
+    };
+    let mut scratch = Scratch::new(alloc);
+    let Ok(mut reader) = Reader::new(text, &mut scratch) else {
+        return None;
+    };
+    let read = read_tokens::<T>(alloc, &mut reader)?;
+    Some(read)
+}
