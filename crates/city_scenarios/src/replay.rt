@@ -104,28 +104,32 @@ fn newest_mark(commands: &[&Command], name: &Text) -> Option<usize> {
 }
 
 /// Goes back: the commands since the newest mark of the name no longer count, and the others are done
-/// anew.
+/// anew. Whether there is such a mark.
 fn go_back(
     alloc: Global,
     opening: &City,
     city: &mut City,
     counted: &mut Vec<&Command>,
     name: &Text,
-) -> Result<Reply, OutOfMemory>
+) -> Result<bool, OutOfMemory>
     requires opening { IsSound (object_at opening.now.1) }
     requires sound { IsSound (object_at city.old.1) }
     ensures { OnOk result (IsSound (object_at city.new.1)) }
 {
     let Some(place) = newest_mark(counted.as_slice(), name) else {
-        return no_mark(alloc, name);
+        return Ok(false);
     };
     counted.truncate(place.saturating_add(1));
     reopen(alloc, opening, city)?;
     redo_all(alloc, city, counted.as_slice())?;
-    Ok(Reply::WentBack)
+    Ok(true)
 }
 
-fn no_mark(alloc: Global, name: &Text) -> Result<Reply, OutOfMemory> {
+/// The reply to a way back.
+fn back_reply(alloc: Global, name: &Text, went: bool) -> Result<Reply, OutOfMemory> {
+    if went {
+        return Ok(Reply::WentBack);
+    }
     Ok(Reply::Refused(Cause::NoMark(name.copy(alloc)?)))
 }
 
@@ -144,7 +148,10 @@ fn reply_to(
 {
     match command {
         Command::Mark(_) => Ok(Reply::Marked),
-        Command::Back(name) => go_back(alloc, opening, city, counted, name),
+        Command::Back(name) => {
+            let went = go_back(alloc, opening, city, counted, name)?;
+            back_reply(alloc, name, went)
+        }
         _ => perform(alloc, city, command),
     }
 }
@@ -163,6 +170,18 @@ fn ended(
         None => Ok(Outcome::Committed),
         Some(id) => Ok(Outcome::Refused(number, Cause::Orphan(id.copy(alloc)?))),
     }
+}
+
+/// Writes down how the command, which is number `number` and ends its script, ends it.
+fn end_with(
+    alloc: Global,
+    city: &City,
+    command: &Command,
+    number: usize,
+    end: &mut End,
+) -> Result<(), OutOfMemory> {
+    end.outcome = ended(alloc, city, command, number)?;
+    Ok(())
 }
 
 /// Plays the command, which is number `number` and doesn't end its script, and writes down its reply, or the end
@@ -208,8 +227,7 @@ fn play(
     let mut counted = Vec::new(alloc);
     for (number, command) in commands.iter().enumerate() {
         if is_end(command) {
-            end.outcome = ended(alloc, city, command, number)?;
-            return Ok(());
+            return end_with(alloc, city, command, number, end);
         }
         if is_refused(alloc, opening, city, &mut counted, command, number, end)? {
             return Ok(());
@@ -229,7 +247,27 @@ fn tried<'a>(script: &'a Script, outcome: &Outcome) -> &'a [Command] {
     }
 }
 
-/// Plays the commands on a copy of the city, which is kept where they commit, and writes down their end.
+/// Plays the commands on a copy of the city, which takes its place where they commit, and writes down their end.
+fn play_on(
+    alloc: Global,
+    city: &mut City,
+    copy: &mut City,
+    commands: &[Command],
+    end: &mut End,
+) -> Result<(), OutOfMemory>
+    requires city { IsSound (object_at city.old.1) }
+    requires copy { IsSound (object_at copy.old.1) }
+    ensures { IsSound (object_at city.new.1) }
+{
+    play(alloc, city, copy, commands, end)?;
+    if !matches!(end.outcome, Outcome::Committed) {
+        return Ok(());
+    }
+    swap(city, copy);
+    Ok(())
+}
+
+/// Plays the commands on the city, which changes where they commit, and writes down their end.
 fn play_on_copy(
     alloc: Global,
     city: &mut City,
@@ -240,51 +278,66 @@ fn play_on_copy(
     ensures { IsSound (object_at city.new.1) }
 {
     let mut copy = city.copy(alloc)?;
-    play(alloc, city, &mut copy, commands, end)?;
-    if matches!(end.outcome, Outcome::Committed) {
-        swap(city, &mut copy);
-    }
-    Ok(())
+    play_on(alloc, city, &mut copy, commands, end)
 }
 
-/// The end of a script of so many commands, if it runs out of memory after all of them.
-fn end_after(
+/// Adds the end of a script that has so many commands and runs out of memory after them.
+fn add_end(
     alloc: Global,
     script: &Script,
     commands: usize,
     end: &End,
-) -> Result<End, OutOfMemory> {
-    Ok(End {
+    ends: &mut Vec<End>,
+) -> Result<(), OutOfMemory> {
+    let name = script.name().copy(alloc)?;
+    ends.push(End {
         script: end.script,
-        name: script.name().copy(alloc)?,
+        name,
         since: end.since,
         replies: Sequence::new(alloc),
         outcome: Outcome::NoMemory(commands),
-    })
+    })?;
+    Ok(())
 }
 
-/// The end of the script of this end when it is played on the city, which changes where the script
-/// commits; none if there is no such script, or memory runs out.
-fn end_again(alloc: Global, city: &mut City, scripts: &[Script], end: &End) -> Option<End>
+/// Plays a script on the city, which changes where it commits, and adds its end.
+fn play_again(
+    alloc: Global,
+    city: &mut City,
+    script: &Script,
+    end: &End,
+    again: &mut Vec<End>,
+) -> Result<(), OutOfMemory>
     requires { IsSound (object_at city.old.1) }
     ensures { IsSound (object_at city.new.1) }
 {
-    let script = scripts.get(end.script)?;
     let commands = tried(script, &end.outcome);
-    let mut again = end_after(alloc, script, commands.len(), end).ok()?;
-    play_on_copy(alloc, city, commands, &mut again).ok()?;
-    Some(again)
+    add_end(alloc, script, commands.len(), end, again)?;
+    match again.last_mut() {
+        Some(end) => play_on_copy(alloc, city, commands, end),
+        None => Ok(()),
+    }
 }
 
-/// The ends of the scripts of these ends, when they are played one after the other on the city.
-fn ends_again(alloc: Global, city: &mut City, scripts: &[Script], ends: &[End]) -> Option<Vec<End>>
+/// Plays the scripts of these ends one after the other on the city, and adds their ends: whether all could be played.
+fn are_played(
+    alloc: Global,
+    city: &mut City,
+    scripts: &[Script],
+    ends: &[End],
+    again: &mut Vec<End>,
+) -> bool
     requires { IsSound (object_at city.old.1) }
 {
-    let mut again = Vec::new(alloc);
     for end in ends {
-        again.push(end_again(alloc, city, scripts, end)?).ok()?;
+        let Some(script) = scripts.get(end.script) else {
+            return false;
+        };
+        if play_again(alloc, city, script, end, again).is_err() {
+            return false;
+        }
     }
-    Some(again)
+    true
 }
 
 /// What the scripts of these ends give on the city, played one at a time in this order.
@@ -296,7 +349,10 @@ fn replay_scripts(
 ) -> Option<Vec<u8>>
     requires { IsSound (object_at city.old.1) }
 {
-    let again = ends_again(alloc, city, scripts, ends)?;
+    let mut again = Vec::new(alloc);
+    if !are_played(alloc, city, scripts, ends, &mut again) {
+        return None;
+    }
     output_bytes(alloc, city, again.as_slice(), 0).ok()
 }
 
