@@ -1,5 +1,5 @@
 -- What was read of a geometry's members, with one more.
-use Rattle.std.proofs.Common.{◌≡◌, ℕ, List, [], ◌∷◌, false, Some, codes, refl, sym, ap, ◌∙◌, subst}
+use Rattle.std.proofs.Common.{◌≡◌, ℕ, List, false, Some, codes, refl, sym, ap, ◌∙◌, subst}
 use Rattle.serde_json.specs.Data.{Data, Members, put}
 use Rattle.city_model.specs.CityMap.{has_id}
 use Rattle.city_model.specs.Kept.{geometry_members}

@@ -1,5 +1,5 @@
 -- A city that a text stands for is written so that it nests no deeper than what is read.
-use Rattle.std.proofs.Common.{◌≡◌, ℕ, suc, ◌≤◌, List, [], ◌∷◌, ℤ, Bool, true, false, Option, Some, None, codes, arith}
+use Rattle.std.proofs.Common.{ℕ, suc, ◌≤◌, List, [], ◌∷◌, ℤ, Bool, true, false, Option, Some, None, codes, arith}
 use Rattle.std.specs.Prelude.{option_map, option_and_then, if◌then◌else◌}
 use Rattle.std.specs.FinMap.{entries}
 use Rattle.serde_json.specs.Data.{Data, string, Members, no_members, put, depth, members_depth}
