@@ -1,14 +1,14 @@
 //! The verb `board`: viewers of a board whose poster is a desk's shelf.
-ghost use Rattle.std.specs.Prelude.{◌≡◌, ◌≤◌, []};
+ghost use Rattle.std.specs.Prelude.{◌≡◌, ◌≤◌, [], All, IfOk, IfSome};
 ghost use Rattle.city_model.specs.CityMap.{object_at};
 ghost use Rattle.city_model.specs.Relations.{IsLawful};
 ghost use Rattle.city_crew.specs.Limits.{max_viewers};
 
 use crate::document::add_city;
 use crate::line::{add_line, add_run_fault};
-use crate::steps::add_step;
+use crate::steps::{add_step, step_of};
 use city_crew::board::board;
-use city_crew::{MAX_VIEWERS, Poster, Viewer};
+use city_crew::{MAX_VIEWERS, Note, Poster, Viewer};
 use city_desk::{Desk, Shelf, Turn, read_texts};
 use city_model::city::City;
 use city_model::copied::Copied;
@@ -24,71 +24,98 @@ pub fn play_board<R: Wait>(
     seats: &str,
     document: &[u8],
     scripts: &[u8],
-    steps: &[&str],
+    lines: &str,
     answer: &mut Vec<u8>,
 ) -> Result<(), AllocError> {
     let seats = seats.parse::<usize>().unwrap_or(0).min(MAX_VIEWERS);
     match read_texts(alloc, document, scripts) {
-        Ok((city, scripts)) => play_over(rt, alloc, city, scripts, seats, steps, answer),
+        Ok((city, scripts)) => play_over(rt, alloc, city, scripts, seats, lines, answer),
         Err(fault) => add_run_fault(alloc, answer, fault),
     }
 }
 
-/// The same over a city: at a board over a copy of it.
 fn play_over<R: Wait>(
     rt: &R,
     alloc: Global,
     city: City,
     scripts: Sequence<Script>,
     seats: usize,
-    steps: &[&str],
+    lines: &str,
     answer: &mut Vec<u8>,
 ) -> Result<(), AllocError>
     requires lawful { IsLawful (object_at city.1) }
     requires seats { seats ≤ max_viewers }
 {
-    let copy = city.copy(alloc)?;
-    match board(rt, alloc, copy, seats) {
-        Ok((poster, viewers)) => open_desk(
-            rt, alloc, city, scripts, poster, viewers, steps, answer,
-        ),
-        Err(_) => add_line(answer, "no board"),
+    match opened(rt, alloc, scripts, city, seats) {
+        Some((desk, viewers)) => play_at(rt, alloc, desk, viewers, lines, answer),
+        None => add_line(answer, "no board"),
     }
 }
 
-/// The same at a board over the city: at a desk whose shelf is the board's poster.
-fn open_desk<R: Wait + Drop, Q: Wait>(
-    rt: &Q,
+/// A board over a city, and its viewers.
+fn board_over<'r, R: Wait>(
+    rt: &'r R,
     alloc: Global,
-    city: City,
+    city: &City,
+    seats: usize,
+) -> Option<(Poster<&'r R>, Vec<Viewer>)>
+    requires lawful { IsLawful (object_at city.now.1) }
+    requires seats { seats ≤ max_viewers }
+    ensures opening { IfSome result (λ r. r.0.opening ≡ city.now) }
+    ensures taken { IfSome result (λ r. r.0.taken ≡ []) }
+{
+    let Ok(copy) = city.copy(alloc) else {
+        return None;
+    };
+    board(rt, alloc, copy, seats).ok()
+}
+
+/// A desk over the city of a board, whose shelf is the board's poster.
+fn desk_over<'r, R: Wait>(
+    alloc: Global,
     scripts: Sequence<Script>,
-    poster: Poster<R>,
-    viewers: Vec<Viewer>,
-    steps: &[&str],
-    answer: &mut Vec<u8>,
-) -> Result<(), AllocError>
+    city: City,
+    poster: Poster<&'r R>,
+) -> Option<Desk<Poster<&'r R>>>
     requires lawful { IsLawful (object_at city.1) }
     requires opening { poster.opening ≡ city }
     requires taken { poster.taken ≡ [] }
 {
-    match Desk::open(alloc, city, scripts, poster) {
-        Ok(desk) => play_at(rt, alloc, desk, viewers, steps, answer),
-        Err(_) => Err(AllocError),
-    }
+    let desk = Desk::open(alloc, city, scripts, poster).ok()?;
+    Some(desk)
 }
 
-/// The same at a desk.
+/// A desk over a city, whose shelf is the poster of a board over it, and the board's viewers.
+fn opened<'r, R: Wait>(
+    rt: &'r R,
+    alloc: Global,
+    scripts: Sequence<Script>,
+    city: City,
+    seats: usize,
+) -> Option<(Desk<Poster<&'r R>>, Vec<Viewer>)>
+    requires lawful { IsLawful (object_at city.1) }
+    requires seats { seats ≤ max_viewers }
+{
+    let (poster, viewers) = board_over(rt, alloc, &city, seats)?;
+    let desk = desk_over(alloc, scripts, city, poster)?;
+    Some((desk, viewers))
+}
+
+/// Takes the steps at a desk, which is dropped in one place only.
 fn play_at<R: Wait + Drop, Q: Wait>(
     rt: &Q,
     alloc: Global,
-    mut desk: Desk<Poster<R>>,
-    mut viewers: Vec<Viewer>,
-    steps: &[&str],
+    desk: Desk<Poster<R>>,
+    viewers: Vec<Viewer>,
+    lines: &str,
     answer: &mut Vec<u8>,
 ) -> Result<(), AllocError> {
-    let taken = take_steps(rt, alloc, &mut desk, &mut viewers, steps, answer);
+    let mut desk = desk;
+    let mut viewers = viewers;
+    let taken = take_steps(rt, alloc, &mut desk, &mut viewers, lines, answer);
     let left = add_left(desk, alloc, answer);
-    taken.and(left)
+    taken?;
+    left
 }
 
 /// Adds the model that a desk leaves.
@@ -106,16 +133,18 @@ fn take_steps<R: Wait + Drop, Q: Wait>(
     alloc: Global,
     desk: &mut Desk<Poster<R>>,
     viewers: &mut Vec<Viewer>,
-    steps: &[&str],
+    lines: &str,
     answer: &mut Vec<u8>,
 ) -> Result<(), AllocError> {
-    for step in steps {
-        add_step(answer, step)?;
-        take_step(rt, alloc, desk, viewers, step, answer)?;
+    for line in lines.lines() {
+        if let Some(step) = step_of(line) {
+            take_step(rt, alloc, desk, viewers, step, answer)?;
+        }
     }
     Ok(())
 }
 
+/// Takes a step, and adds what it is answered.
 fn take_step<R: Wait + Drop, Q: Wait>(
     rt: &Q,
     alloc: Global,
@@ -125,10 +154,10 @@ fn take_step<R: Wait + Drop, Q: Wait>(
     answer: &mut Vec<u8>,
 ) -> Result<(), AllocError> {
     match step {
-        "commit" => add_line(answer, end_next(desk)),
+        "commit" => add_step(answer, step, end_next(desk)),
         "show" => {
             let _note = desk.show(rt)?;
-            add_line(answer, "done")
+            add_step(answer, step, "done")
         }
         _ => look_at(alloc, viewers, step, answer),
     }
@@ -164,36 +193,37 @@ fn look_at(
 ) -> Result<(), AllocError> {
     match seat_of(step) {
         Some(seat) if seat < viewers.len() => {
-            let (viewer, told) = look(alloc, viewers.remove(seat), answer);
+            let mut said = String::new(alloc);
+            let viewer = looked(alloc, viewers.remove(seat), &mut said)?;
             viewers.insert(seat, viewer)?;
-            told
+            add_step(answer, step, said.as_str())
         }
-        _ => add_line(answer, "no such step"),
+        _ => add_step(answer, step, "no such step"),
     }
 }
 
-/// Adds how many edits a viewer sees, and which objects, and gives it back.
-fn look(alloc: Global, viewer: Viewer, answer: &mut Vec<u8>) -> (Viewer, Result<(), AllocError>) {
+/// Writes down how many edits a viewer sees, and which objects.
+fn looked(alloc: Global, viewer: Viewer, said: &mut String) -> Result<Viewer, AllocError> {
     match viewer.look() {
         Ok(look) => {
-            let told = add_seen(alloc, look.edits(), look.city(), answer);
-            (look.leave(), told)
+            let told = add_seen(alloc, look.edits(), look.city(), said);
+            let viewer = look.leave();
+            told?;
+            Ok(viewer)
         }
-        Err(viewer) => (viewer, add_line(answer, "no look")),
+        Err(viewer) => {
+            said.push_str("no look")?;
+            Ok(viewer)
+        }
     }
 }
 
 /// Adds how many edits there are, and the ids of a city's objects, a space before each.
-fn add_seen(
-    alloc: Global,
-    edits: u64,
-    city: &City,
-    answer: &mut Vec<u8>,
-) -> Result<(), AllocError> {
-    answer.extend_from_slice(edits.to_string(alloc)?.as_bytes())?;
+fn add_seen(alloc: Global, edits: u64, city: &City, said: &mut String) -> Result<(), AllocError> {
+    said.push_str(edits.to_string(alloc)?.as_str())?;
     for (id, _) in city.iter() {
-        answer.push(b' ')?;
-        answer.extend_from_slice(id.as_str().as_bytes())?;
+        said.push_str(" ")?;
+        said.push_str(id.as_str())?;
     }
-    answer.extend_from_slice(b"\n")
+    Ok(())
 }

@@ -8,7 +8,6 @@ use city_model::object::{Body, Geometry, Shell, Solid};
 use city_model::script::Script;
 use city_model::shape::Bounds;
 use city_model::shells::shell_closed;
-use city_model::text::Text;
 use std::alloc::{AllocError, Global};
 
 /// Answers what is wrong with each body that a text of scripts puts, and whether each shell of it is closed.
@@ -23,32 +22,23 @@ fn add_bodies(alloc: Global, scripts: &[Script], answer: &mut Vec<u8>) -> Result
     for script in scripts {
         for command in script.commands() {
             if let Command::Put(id, body) = command {
-                add_body(alloc, id, body, answer)?;
+                let cause = cause_name(body_fault(alloc, body)?);
+                add_line(answer, format!(in alloc; "{id} {cause}")?.as_str())?;
+                add_shells(alloc, body, answer)?;
             }
         }
     }
     Ok(())
 }
 
-fn add_body(alloc: Global, id: &Text, body: &Body, answer: &mut Vec<u8>) -> Result<(), AllocError> {
-    answer.extend_from_slice(id.as_str().as_bytes())?;
-    add_cause(alloc, body, answer)?;
-    add_shells(alloc, body, answer)
-}
-
-/// Adds what is wrong with a body, after a space.
-fn add_cause(alloc: Global, body: &Body, answer: &mut Vec<u8>) -> Result<(), AllocError> {
-    let cause = body_fault(alloc, body)?;
-    add_line(answer, cause_name(&cause))
-}
-
-fn cause_name(cause: &Option<Cause>) -> &'static str {
+/// The name of a cause that a body has.
+fn cause_name(cause: Option<Cause>) -> &'static str {
     match cause {
-        None => " none",
-        Some(Cause::ShortRing) => " ShortRing",
-        Some(Cause::SameTwice) => " SameTwice",
-        Some(Cause::OpenShell) => " OpenShell",
-        Some(_) => " another cause",
+        None => "none",
+        Some(Cause::ShortRing) => "ShortRing",
+        Some(Cause::SameTwice) => "SameTwice",
+        Some(Cause::OpenShell) => "OpenShell",
+        Some(_) => "another cause",
     }
 }
 

@@ -1,13 +1,13 @@
 //! A change, written as its ids.
 use city_model::change::Change;
-use std::alloc::AllocError;
+use std::alloc::{AllocError, Global};
 
-/// Adds a line of a word, and the ids that a change sets, each after a `+`, and takes out, each after a `-`.
-pub fn add_change(answer: &mut Vec<u8>, word: &str, change: &Change) -> Result<(), AllocError> {
-    answer.extend_from_slice(word.as_bytes())?;
+/// A word, and the ids that a change sets, each after a `+`, and takes out, each after a `-`.
+pub fn change_text(alloc: Global, word: &str, change: &Change) -> Result<String, AllocError> {
+    let mut all = word.to_string(alloc)?;
     for (id, object) in change.iter() {
-        answer.extend_from_slice(if object.is_some() { b" +" } else { b" -" })?;
-        answer.extend_from_slice(id.as_str().as_bytes())?;
+        all.push_str(if object.is_some() { " +" } else { " -" })?;
+        all.push_str(id.as_str())?;
     }
-    answer.extend_from_slice(b"\n")
+    Ok(all)
 }

@@ -4,11 +4,11 @@ ghost use Rattle.city_model.specs.CityMap.{object_at};
 ghost use Rattle.city_model.specs.Relations.{IsLawful};
 ghost use Rattle.city_model.specs.Scripts.{is_end};
 
-use crate::change::add_change;
+use crate::change::change_text;
 use crate::document::add_city;
 use crate::line::{add_line, add_run_fault};
-use crate::reply::{add_cause, add_reply};
-use crate::steps::{add_step, first_word};
+use crate::reply::{cause_text, reply_text};
+use crate::steps::{add_step, step_of};
 use city_desk::RunFault;
 use city_doc::{read_city, read_scripts};
 use city_model::city::City;
@@ -21,27 +21,23 @@ use std::alloc::{AllocError, Global};
 pub fn play_core(
     alloc: Global,
     document: &[u8],
-    steps: &[&str],
+    lines: &str,
     answer: &mut Vec<u8>,
 ) -> Result<(), AllocError> {
     match read_city(alloc, document) {
-        Ok(city) => play_over(alloc, city, steps, answer),
+        Ok(city) => play_over(alloc, city, lines, answer),
         Err(fault) => add_run_fault(alloc, answer, RunFault::from(fault)),
     }
 }
 
-fn play_over(
-    alloc: Global,
-    city: City,
-    steps: &[&str],
-    answer: &mut Vec<u8>,
-) -> Result<(), AllocError>
+fn play_over(alloc: Global, city: City, lines: &str, answer: &mut Vec<u8>) -> Result<(), AllocError>
     requires { IsLawful (object_at city.1) }
 {
     let mut core = Core::open(alloc, city);
-    let taken = take_steps(&mut core, alloc, steps, answer);
+    let taken = take_steps(&mut core, alloc, lines, answer);
     let left = add_left(core, alloc, answer);
-    taken.and(left)
+    taken?;
+    left
 }
 
 /// Adds the model that a core leaves.
@@ -55,156 +51,123 @@ fn add_left(core: Core, alloc: Global, answer: &mut Vec<u8>) -> Result<(), Alloc
 fn take_steps(
     core: &mut Core,
     alloc: Global,
-    steps: &[&str],
+    lines: &str,
     answer: &mut Vec<u8>,
 ) -> Result<(), AllocError> {
-    for step in steps {
-        add_step(answer, step)?;
-        take_step(core, alloc, step, answer)?;
+    for line in lines.lines() {
+        if let Some(step) = step_of(line) {
+            let said = said(core, alloc, step)?;
+            add_step(answer, step, said.as_str())?;
+        }
     }
     Ok(())
 }
 
-/// Takes a step: a stamp, and a word or a command.
-fn take_step(
-    core: &mut Core,
-    alloc: Global,
-    step: &str,
-    answer: &mut Vec<u8>,
-) -> Result<(), AllocError> {
-    let (stamp, does) = first_word(step);
+/// What a step is answered: a stamp, and a word or a command.
+fn said(core: &mut Core, alloc: Global, step: &str) -> Result<String, AllocError> {
+    let (stamp, does) = step.split_once(" ").unwrap_or((step, ""));
     let Ok(stamp) = stamp.parse::<u64>() else {
-        return add_line(answer, "no stamp");
+        return "no stamp".to_string(alloc);
     };
     match does {
-        "begin" => add_done(alloc, core.begin(stamp), answer),
-        "abort" => add_done(alloc, core.abort(stamp), answer),
-        "open" => add_line(answer, if core.is_open(stamp) { "true" } else { "false" }),
-        "prepare" => prepare(core, alloc, stamp, answer),
-        "refusal" => refusal(core, alloc, stamp, answer),
-        "commit" => commit(core, alloc, stamp, answer),
-        _ => act_by(core, alloc, stamp, does, answer),
+        "begin" => done_text(alloc, core.begin(stamp)),
+        "abort" => done_text(alloc, core.abort(stamp)),
+        "open" => core.is_open(stamp).to_string(alloc),
+        "prepare" => prepare(core, alloc, stamp),
+        "refusal" => refusal(core, alloc, stamp),
+        "commit" => commit(core, alloc, stamp),
+        _ => act_by(core, alloc, stamp, does),
     }
 }
 
-fn add_fault(alloc: Global, fault: TxnFault, answer: &mut Vec<u8>) -> Result<(), AllocError> {
+fn fault_text(alloc: Global, fault: TxnFault) -> Result<String, AllocError> {
     match fault {
         TxnFault::OutOfMemory => Err(AllocError),
-        fault => add_line(answer, fault.to_string(alloc)?.as_str()),
+        fault => fault.to_string(alloc),
     }
 }
 
-fn add_done(
-    alloc: Global,
-    done: Result<(), TxnFault>,
-    answer: &mut Vec<u8>,
-) -> Result<(), AllocError> {
+fn done_text(alloc: Global, done: Result<(), TxnFault>) -> Result<String, AllocError> {
     match done {
-        Ok(()) => add_line(answer, "done"),
-        Err(fault) => add_fault(alloc, fault, answer),
+        Ok(()) => "done".to_string(alloc),
+        Err(fault) => fault_text(alloc, fault),
     }
 }
 
 /// Whether a transaction may commit: what it would change, or why not.
-fn prepare(core: &Core, alloc: Global, stamp: u64, answer: &mut Vec<u8>) -> Result<(), AllocError> {
+fn prepare(core: &Core, alloc: Global, stamp: u64) -> Result<String, AllocError> {
     match core.prepare(stamp) {
-        Ok(Prepared::Ready(change)) => add_change(answer, "ready", &change),
-        Ok(Prepared::Refused(cause)) => add_cause(alloc, answer, cause),
-        Err(fault) => add_fault(alloc, fault, answer),
+        Ok(Prepared::Ready(change)) => change_text(alloc, "ready", &change),
+        Ok(Prepared::Refused(cause)) => cause_text(alloc, cause),
+        Err(fault) => fault_text(alloc, fault),
     }
 }
 
-fn refusal(core: &Core, alloc: Global, stamp: u64, answer: &mut Vec<u8>) -> Result<(), AllocError> {
+fn refusal(core: &Core, alloc: Global, stamp: u64) -> Result<String, AllocError> {
     match core.refusal(stamp) {
-        Ok(None) => add_line(answer, "none"),
-        Ok(Some(cause)) => add_cause(alloc, answer, cause),
-        Err(fault) => add_fault(alloc, fault, answer),
+        Ok(None) => "none".to_string(alloc),
+        Ok(Some(cause)) => cause_text(alloc, cause),
+        Err(fault) => fault_text(alloc, fault),
     }
 }
 
 /// What a commit changes, or why it is refused.
-fn commit(
-    core: &mut Core,
-    alloc: Global,
-    stamp: u64,
-    answer: &mut Vec<u8>,
-) -> Result<(), AllocError> {
+fn commit(core: &mut Core, alloc: Global, stamp: u64) -> Result<String, AllocError> {
     if !core.is_open(stamp) {
-        return add_fault(alloc, TxnFault::NotOpen(stamp), answer);
+        return fault_text(alloc, TxnFault::NotOpen(stamp));
     }
     match core.prepare(stamp) {
-        Err(fault) => add_fault(alloc, fault, answer),
-        Ok(Prepared::Refused(cause)) => add_cause(alloc, answer, cause),
+        Err(fault) => fault_text(alloc, fault),
+        Ok(Prepared::Refused(cause)) => cause_text(alloc, cause),
         Ok(Prepared::Ready(change)) => {
             core.commit(stamp);
-            add_change(answer, "committed", &change)
+            change_text(alloc, "committed", &change)
         }
     }
 }
 
-/// Does the command of a text.
-fn act_by(
-    core: &mut Core,
-    alloc: Global,
-    stamp: u64,
-    command: &str,
-    answer: &mut Vec<u8>,
-) -> Result<(), AllocError> {
+/// A script of the command of this text and a commit.
+fn script_of(alloc: Global, command: &str) -> Result<Option<Script>, AllocError> {
     let text = format!(in alloc; "[{{\"name\":\"s\",\"commands\":[{command},\"commit\"]}}]")?;
     match read_scripts(alloc, text.as_bytes()) {
-        Ok(scripts) => act_first(core, alloc, stamp, scripts.as_slice(), answer),
-        Err(_) => add_line(answer, "no command"),
+        Ok(mut scripts) => Ok(scripts.pop()),
+        Err(_) => Ok(None),
     }
 }
 
-/// The first command of the first of these scripts.
-fn first_command(scripts: &[Script]) -> Option<&Command> {
-    scripts.first()?.commands().first()
+/// What the command of a text is answered.
+fn act_by(core: &mut Core, alloc: Global, stamp: u64, command: &str) -> Result<String, AllocError> {
+    match script_of(alloc, command)? {
+        Some(script) => act_first(core, alloc, stamp, script.commands()),
+        None => "no command".to_string(alloc),
+    }
 }
 
-/// Does the first command of the first of these scripts.
+/// What the first of these commands is answered.
 fn act_first(
     core: &mut Core,
     alloc: Global,
     stamp: u64,
-    scripts: &[Script],
-    answer: &mut Vec<u8>,
-) -> Result<(), AllocError> {
-    match first_command(scripts) {
-        Some(command) if !is_end(command) => act(core, alloc, stamp, command, answer),
-        _ => add_line(answer, "no command"),
+    commands: &[Command],
+) -> Result<String, AllocError> {
+    match commands.first() {
+        Some(command) if !is_end(command) => act(core, alloc, stamp, command),
+        _ => "no command".to_string(alloc),
     }
 }
 
-/// Does a command, and answers it, or says that `would_wait` foretold otherwise.
-fn act(
-    core: &mut Core,
-    alloc: Global,
-    stamp: u64,
-    command: &Command,
-    answer: &mut Vec<u8>,
-) -> Result<(), AllocError>
+/// The answer to a command, or a line that says that `would_wait` foretold another.
+fn act(core: &mut Core, alloc: Global, stamp: u64, command: &Command) -> Result<String, AllocError>
     requires { is_end command.now ≡ false }
 {
     let foretold = core.would_wait(stamp, command);
     match core.act(stamp, command) {
-        Ok(done) => add_acted(alloc, done, foretold, answer),
-        Err(fault) => add_fault(alloc, fault, answer),
-    }
-}
-
-fn add_acted(
-    alloc: Global,
-    done: Step,
-    foretold: bool,
-    answer: &mut Vec<u8>,
-) -> Result<(), AllocError> {
-    if foretold != matches!(done, Step::Wait) {
-        return add_line(answer, "foretold otherwise");
-    }
-    match done {
-        Step::Done(reply) => add_reply(alloc, answer, reply),
-        Step::Wait => add_line(answer, "wait"),
-        Step::Die => add_line(answer, "die"),
+        Err(fault) => fault_text(alloc, fault),
+        Ok(step) if foretold != matches!(step, Step::Wait) => {
+            "foretold otherwise".to_string(alloc)
+        }
+        Ok(Step::Done(reply)) => reply_text(alloc, reply),
+        Ok(Step::Wait) => "wait".to_string(alloc),
+        Ok(Step::Die) => "die".to_string(alloc),
     }
 }

@@ -15,7 +15,7 @@ use std::thread::Threads;
 
 /// What is reported of a run.
 #[derive(Clone, Copy)]
-enum Told {
+pub enum Told {
     /// The bytes.
     Bytes,
     /// That its scripts give the same when they are played one at a time in the order of their ends.
@@ -26,52 +26,24 @@ enum Told {
     Texts,
 }
 
-/// What a verb reports.
-fn told_by(verb: &str) -> Option<Told> {
-    match verb {
-        "crew" => Some(Told::Bytes),
-        "replay" => Some(Told::History),
-        "model" => Some(Told::Model),
-        "texts" => Some(Told::Texts),
-        _ => None,
-    }
-}
-
 /// Runs the scripts by each of the crews, written as `4x1` for four workers before one viewer, and answers what is
 /// reported of the run: once, where it is the same each time.
 pub fn play_crews<T: Threads + Wait + Sync>(
     rt: &T,
     alloc: Global,
-    verb: &str,
+    told: Told,
     crews: &str,
     document: &[u8],
     scripts: &[u8],
     answer: &mut Vec<u8>,
 ) -> Result<(), AllocError> {
-    let Some(told) = told_by(verb) else {
-        return add_line(answer, "no such verb of two texts");
-    };
     let mut last = Vec::new(alloc);
     for crew in crews.split_whitespace() {
-        play_next(rt, alloc, told, crew, document, scripts, &mut last, answer)?;
+        let mut now = Vec::new(alloc);
+        play_crew(rt, alloc, told, crew, document, scripts, &mut now)?;
+        add_told(answer, &mut last, crew, now)?;
     }
     Ok(())
-}
-
-/// Runs the scripts by one crew, and answers what is reported of the run where it isn't what was reported last.
-fn play_next<T: Threads + Wait + Sync>(
-    rt: &T,
-    alloc: Global,
-    told: Told,
-    crew: &str,
-    document: &[u8],
-    scripts: &[u8],
-    last: &mut Vec<u8>,
-    answer: &mut Vec<u8>,
-) -> Result<(), AllocError> {
-    let mut now = Vec::new(alloc);
-    let played = play_crew(rt, alloc, told, crew, document, scripts, &mut now);
-    played.and(add_told(answer, last, crew, &mut now))
 }
 
 /// Adds what is reported of a crew's run where it isn't what was reported last, after the crew where it isn't the
@@ -80,23 +52,12 @@ fn add_told(
     answer: &mut Vec<u8>,
     last: &mut Vec<u8>,
     crew: &str,
-    now: &mut Vec<u8>,
+    now: Vec<u8>,
 ) -> Result<(), AllocError> {
     if !last.is_empty() && now.as_slice() != last.as_slice() {
         add_line(answer, crew)?;
     }
     add_unlike(answer, last, now)
-}
-
-/// How many workers and viewers a crew has.
-fn size_of(crew: &str) -> (usize, usize)
-    ensures workers { (1 ≤ result.0) × (result.0 ≤ max_workers) }
-    ensures viewers { result.1 ≤ max_viewers }
-{
-    let (workers, viewers) = crew.split_once("x").unwrap_or((crew, "0"));
-    let workers = workers.parse::<usize>().unwrap_or(1).clamp(1, MAX_WORKERS);
-    let viewers = viewers.parse::<usize>().unwrap_or(0).min(MAX_VIEWERS);
-    (workers, viewers)
 }
 
 /// Runs the scripts by one crew, and answers what is reported of the run.
@@ -109,7 +70,9 @@ fn play_crew<T: Threads + Wait + Sync>(
     scripts: &[u8],
     answer: &mut Vec<u8>,
 ) -> Result<(), AllocError> {
-    let (workers, viewers) = size_of(crew);
+    let (workers, viewers) = crew.split_once("x").unwrap_or((crew, "0"));
+    let workers = workers.parse::<usize>().unwrap_or(1).clamp(1, MAX_WORKERS);
+    let viewers = viewers.parse::<usize>().unwrap_or(0).min(MAX_VIEWERS);
     if matches!(told, Told::Texts) {
         return run_texts(rt, alloc, workers, viewers, document, scripts, answer);
     }
@@ -133,8 +96,16 @@ fn run_texts<T: Threads + Wait + Sync>(
     requires viewers { viewers ≤ max_viewers }
 {
     let mut written = Vec::new(alloc);
-    let mut writer = Device::new(&mut written);
-    match serve_texts(rt, alloc, document, scripts, &mut writer, workers, viewers) {
+    let served = serve_texts(
+        rt,
+        alloc,
+        document,
+        scripts,
+        &mut Device::new(&mut written),
+        workers,
+        viewers,
+    );
+    match served {
         Ok(seen) if seen.len() == viewers => add_bytes(answer, written.as_slice()),
         Ok(_) => add_line(answer, "viewers are missing"),
         Err(fault) => add_fault(alloc, answer, fault),
@@ -152,14 +123,15 @@ fn add_output(
     answer: &mut Vec<u8>,
 ) -> Result<(), AllocError> {
     let (bytes, ends) = (output.bytes.as_slice(), output.ends.as_slice());
-    if output.seen.len() != viewers || !all_saw(output.seen.as_slice(), commits_in(ends)) {
-        return add_line(answer, "viewers who missed commits");
+    let seen = output.seen.as_slice();
+    if seen.len() != viewers || !seen.iter().all(|numbers| saw_all(numbers.as_slice(), ends)) {
+        return add_line(answer, format!(in alloc; "seen: {seen:?}")?.as_str());
     }
     if matches!(told, Told::Bytes) {
         return add_bytes(answer, bytes);
     }
     if is_replayed(alloc, document, scripts, ends, bytes) {
-        return add_history(alloc, told, ends.len(), bytes, answer);
+        return add_history(alloc, told, ends, bytes, answer);
     }
     add_line(answer, "no serial history")?;
     add_bytes(answer, bytes)
@@ -167,52 +139,31 @@ fn add_output(
 
 /// Whether the scripts of these ends give the same when they are played one at a time.
 fn is_replayed(alloc: Global, document: &[u8], scripts: &[u8], ends: &[End], bytes: &[u8]) -> bool {
-    match replay(alloc, document, scripts, ends) {
-        Some(again) => again.as_slice() == bytes,
-        None => false,
-    }
+    replay(alloc, document, scripts, ends).is_some_and(|again| again.as_slice() == bytes)
 }
 
 /// Adds how many ends a history has, or the model that it leaves.
 fn add_history(
     alloc: Global,
     told: Told,
-    ends: usize,
+    ends: &[End],
     bytes: &[u8],
     answer: &mut Vec<u8>,
 ) -> Result<(), AllocError> {
-    if matches!(told, Told::Model) {
-        let model = bytes.split(|b| *b == b'\n').nth(ends);
-        return add_bytes(answer, model.unwrap_or(b"no model"));
+    if !matches!(told, Told::Model) {
+        let count = ends.len();
+        let line = format!(in alloc; "a serial history of {count} ends")?;
+        return add_line(answer, line.as_str());
     }
-    add_line(
-        answer,
-        format!(in alloc; "a serial history of {ends} ends")?.as_str(),
-    )
+    let model = bytes.split(|b| *b == b'\n').nth(ends.len());
+    add_bytes(answer, model.unwrap_or(b"no model"))
 }
 
-/// How many of these ends are commits.
-fn commits_in(ends: &[End]) -> u64 {
-    let mut commits = 0u64;
-    for end in ends {
-        if matches!(end.outcome, Outcome::Committed) {
-            commits = commits.saturating_add(1);
-        }
-    }
-    commits
-}
-
-/// Whether each viewer's numbers rise, and the last is that of the commits.
-fn all_saw(seen: &[Vec<u64>], commits: u64) -> bool {
-    for numbers in seen {
-        if !rise_to(numbers.as_slice(), commits) {
-            return false;
-        }
-    }
-    true
-}
-
-/// Whether the numbers rise to the last.
-fn rise_to(numbers: &[u64], last: u64) -> bool {
-    numbers.is_sorted_by(|one, other| *one < *other) && numbers.last() == Some(&last)
+/// Whether a viewer's numbers rise, and the last is that of the commits.
+fn saw_all(numbers: &[u64], ends: &[End]) -> bool {
+    let commits = ends
+        .iter()
+        .filter(|end| matches!(end.outcome, Outcome::Committed))
+        .count();
+    numbers.is_sorted_by(|one, other| *one < *other) && numbers.last() == Some(&(commits as u64))
 }

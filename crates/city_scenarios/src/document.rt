@@ -1,5 +1,5 @@
-//! The verb `document`: a document read.
-use crate::line::{add_bytes, add_line, add_run_fault};
+//! The verbs `document` and `prefixes`: a document read.
+use crate::line::{add_line, add_run_fault, add_unlike};
 use city_desk::RunFault;
 use city_doc::{ReadFault, read_city, write_city};
 use city_model::city::City;
@@ -31,30 +31,42 @@ pub fn add_city(alloc: Global, city: &City, answer: &mut Vec<u8>) -> Result<(), 
         return add_line(answer, "not lawful");
     }
     let text = write_city(alloc, city)?;
-    add_text(alloc, city, text.as_slice(), answer)
-}
-
-/// Adds the text of a city, unless its copy has another.
-fn add_text(
-    alloc: Global,
-    city: &City,
-    text: &[u8],
-    answer: &mut Vec<u8>,
-) -> Result<(), AllocError> {
-    if is_copied(alloc, city, text)? {
-        add_bytes(answer, text)
-    } else {
-        add_line(answer, "another copy")
+    if !is_copied(alloc, city, text.as_slice())? {
+        return add_line(answer, "another copy");
     }
+    answer.extend_from_slice(text.as_slice())?;
+    answer.push(b'\n')?;
+    Ok(())
 }
 
 /// Whether a copy of the city has its text.
 fn is_copied(alloc: Global, city: &City, text: &[u8]) -> Result<bool, AllocError> {
     let copy = city.copy(alloc)?;
-    has_text(alloc, &copy, text)
+    Ok(write_city(alloc, &copy)?.as_slice() == text)
 }
 
-fn has_text(alloc: Global, city: &City, text: &[u8]) -> Result<bool, AllocError> {
-    let written = write_city(alloc, city)?;
-    Ok(written.as_slice() == text)
+/// Answers what each proper prefix of a document is answered, the empty one first: a line where it isn't what the
+/// prefix before it was.
+pub fn play_prefixes(
+    alloc: Global,
+    document: &[u8],
+    answer: &mut Vec<u8>,
+) -> Result<(), AllocError> {
+    let mut last = Vec::new(alloc);
+    for length in 0..document.len() {
+        play_prefix(alloc, &document[..length], &mut last, answer)?;
+    }
+    Ok(())
+}
+
+/// Answers what a prefix is answered, where that isn't what was answered last.
+fn play_prefix(
+    alloc: Global,
+    document: &[u8],
+    last: &mut Vec<u8>,
+    answer: &mut Vec<u8>,
+) -> Result<(), AllocError> {
+    let mut now = Vec::new(alloc);
+    play_document(alloc, document, &mut now)?;
+    add_unlike(answer, last, now)
 }

@@ -1,39 +1,55 @@
 //! A file of scenarios.
-use crate::named::{Named, meant_by_all, meant_by_each, names_of};
-use crate::play::play;
+use crate::named::{Named, name_text};
 use crate::scenario::{Scenario, scenario_of};
-use crate::steps::steps_of;
-use crate::wanted::add_difference;
+use crate::wanted::differing;
 use std::alloc::{AllocError, Global};
-use std::fmt::Write;
 use std::fs;
 use std::sync::Wait;
 use std::thread::Threads;
 
+/// What came of the parts of a file so far.
+enum Came {
+    /// All went as wanted: how many scenarios there were.
+    All(u64),
+    /// One failed: which, and how.
+    Otherwise(String),
+}
+
 /// Plays the scenarios of a file, and prints what came of it: whether all went as they say. `threads` is the runtime
 /// again, which is known to have threads only in `main`.
 pub fn play_file<T: Threads + Wait + Sync>(rt: &HostRuntime, threads: &T, name: &str) -> bool {
-    let mut told = String::new(rt.alloc());
-    let played = match fs::read_to_string(rt, name) {
-        Ok(text) => play_text(threads, rt.alloc(), text.as_str(), &mut told),
-        Err(_) => told.push_str("not read").and(Ok(false)),
+    let Ok(text) = fs::read_to_string(rt, name) else {
+        let _ = println!(rt; "{name}: not read");
+        return false;
     };
-    let line = match played {
-        Ok(_) => told.as_str(),
-        Err(AllocError) => "out of memory",
-    };
-    println!(rt; "{name}: {line}").is_ok() && played == Ok(true)
+    match play_text(threads, rt.alloc(), text.as_str()) {
+        Ok(Came::All(count)) => println!(rt; "{name}: {count} played").is_ok(),
+        Ok(Came::Otherwise(told)) => {
+            let _ = println!(rt; "{name}: {told}");
+            false
+        }
+        Err(AllocError) => {
+            let _ = println!(rt; "{name}: out of memory");
+            false
+        }
+    }
 }
 
-/// Plays the scenarios of a text.
+/// Plays the scenarios of a text up to the first that fails. Between two there is an empty line.
 fn play_text<T: Threads + Wait + Sync>(
     rt: &T,
     alloc: Global,
     text: &str,
-    told: &mut String,
-) -> Result<bool, AllocError> {
-    let names = names_of(alloc, text)?;
-    play_parts(rt, alloc, names.as_slice(), text, told)
+) -> Result<Came, AllocError> {
+    let mut names = Vec::new(alloc);
+    let mut count = 0u64;
+    for part in text.split("\n\n") {
+        if let Some(told) = play_part(rt, alloc, &mut names, part.trim())? {
+            return Ok(Came::Otherwise(told));
+        }
+        count = count.saturating_add(u64::from(is_scenario(part.trim())));
+    }
+    Ok(Came::All(count))
 }
 
 /// Whether a part of a file is a scenario: no comment, and no text that is named.
@@ -41,79 +57,39 @@ fn is_scenario(part: &str) -> bool {
     !(part.is_empty() || part.starts_with("#") || part.starts_with("let "))
 }
 
-/// Plays the scenarios of a text up to the first that fails: whether none does. Tells how many there are, or how the
-/// first fails.
-fn play_parts<T: Threads + Wait + Sync>(
+/// Plays a part of a file, and says how it fails, if it does.
+fn play_part<'a, T: Threads + Wait + Sync>(
     rt: &T,
     alloc: Global,
-    names: &[Named],
-    text: &str,
-    told: &mut String,
-) -> Result<bool, AllocError> {
-    let mut count = 0u64;
-    for part in text.split("\n\n") {
-        if is_scenario(part.trim()) {
-            if !play_part(rt, alloc, names, part.trim(), told)? {
-                return Ok(false);
-            }
-            count = count.saturating_add(1);
-        }
+    names: &mut Vec<Named<'a>>,
+    part: &'a str,
+) -> Result<Option<String>, AllocError> {
+    if let Some(rest) = part.strip_prefix("let ") {
+        let named = name_text(alloc, names.as_slice(), rest)?;
+        names.push(named)?;
+        return Ok(None);
     }
-    write!(told, "{count} played")?;
-    Ok(true)
+    if !is_scenario(part) {
+        return Ok(None);
+    }
+    match scenario_of(alloc, names.as_slice(), part)? {
+        Some(scenario) => play_scenario(rt, alloc, &scenario),
+        None => Ok(Some(format!(in alloc; "no scenario:\n{part}")?)),
+    }
 }
 
-/// Plays a part of a file that ought to be a scenario: whether it goes as it says. Tells how it fails.
-fn play_part<T: Threads + Wait + Sync>(
-    rt: &T,
-    alloc: Global,
-    names: &[Named],
-    part: &str,
-    told: &mut String,
-) -> Result<bool, AllocError> {
-    let Some(scenario) = scenario_of(part) else {
-        told.push_str("no scenario:\n")?;
-        told.push_str(part)?;
-        return Ok(false);
-    };
-    let mut came = Vec::new(alloc);
-    play_scenario(rt, alloc, names, scenario, &mut came)?;
-    is_wanted(alloc, names, scenario, came.as_slice(), told)
-}
-
-/// Plays a scenario, and adds what it answers.
+/// Plays a scenario, and says how it fails, if it does.
 fn play_scenario<T: Threads + Wait + Sync>(
     rt: &T,
     alloc: Global,
-    names: &[Named],
-    scenario: Scenario,
-    came: &mut Vec<u8>,
-) -> Result<(), AllocError> {
-    let texts = meant_by_each(alloc, names, scenario.texts)?;
-    let steps = steps_of(alloc, scenario.answer)?;
-    play(
-        rt,
+    scenario: &Scenario,
+) -> Result<Option<String>, AllocError> {
+    let mut came = Vec::new(alloc);
+    crate::play::play(rt, alloc, scenario, &mut came)?;
+    differing(
         alloc,
-        scenario.verb,
-        texts.as_slice(),
-        steps.as_slice(),
-        came,
+        scenario.title,
+        scenario.wanted.as_slice(),
+        came.as_slice(),
     )
-}
-
-/// Whether what came is a scenario's answer. Tells where it isn't.
-fn is_wanted(
-    alloc: Global,
-    names: &[Named],
-    scenario: Scenario,
-    came: &[u8],
-    told: &mut String,
-) -> Result<bool, AllocError> {
-    let wanted = meant_by_all(alloc, names, scenario.answer)?;
-    if wanted.as_slice() == came {
-        return Ok(true);
-    }
-    told.push_str(scenario.title)?;
-    add_difference(wanted.as_slice(), came, told)?;
-    Ok(false)
 }

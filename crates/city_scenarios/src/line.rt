@@ -3,32 +3,32 @@ use city_desk::RunFault;
 use city_serve::ServeFault;
 use city_serve::fault_line::fault_line;
 use std::alloc::{AllocError, Global};
-use std::mem::swap;
 
 /// Adds a line.
 pub fn add_line(answer: &mut Vec<u8>, line: &str) -> Result<(), AllocError> {
     answer.extend_from_slice(line.as_bytes())?;
-    answer.extend_from_slice(b"\n")
+    answer.push(b'\n')?;
+    Ok(())
 }
 
 /// Adds bytes, and a newline where they don't end with one.
 pub fn add_bytes(answer: &mut Vec<u8>, bytes: &[u8]) -> Result<(), AllocError> {
     answer.extend_from_slice(bytes)?;
-    if bytes.ends_with(b"\n") {
-        return Ok(());
+    if !bytes.ends_with(b"\n") {
+        answer.push(b'\n')?;
     }
-    answer.extend_from_slice(b"\n")
+    Ok(())
 }
 
-/// Adds what is answered now, where it isn't what was answered last, and makes it that.
+/// Adds what is answered now, where it isn't what was answered last.
 pub fn add_unlike(
     answer: &mut Vec<u8>,
     last: &mut Vec<u8>,
-    now: &mut Vec<u8>,
+    now: Vec<u8>,
 ) -> Result<(), AllocError> {
     if now.as_slice() != last.as_slice() {
         answer.extend_from_slice(now.as_slice())?;
-        swap(last, now);
+        *last = now;
     }
     Ok(())
 }

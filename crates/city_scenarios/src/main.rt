@@ -5,7 +5,7 @@
 //!
 //! - `file`, `scenario`, `named`: a file of scenarios, one of them, and texts that they name
 //! - `play`: which verb plays what; `line`, `wanted`: what verbs write, and how it is compared
-//! - `document`, `scripts`, `prefixes`: texts read; `body`: bodies judged; `members`: members kept
+//! - `document`, `scripts`: texts read; `body`: bodies judged; `members`: members kept
 //! - `run`, `crew`, `replay`: whole runs, by one worker, by several, and their scripts one at a time
 //! - `serve`, `reader`, `writer`: from a device to a device
 //! - `steps`, `turns`: what is taken step by step, a desk; `core_steps`, `reply`, `change`: transactions; `locks`: a
@@ -27,7 +27,6 @@ mod members;
 mod named;
 mod play;
 mod pool;
-mod prefixes;
 mod reader;
 mod replay;
 mod reply;

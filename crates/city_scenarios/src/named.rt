@@ -1,5 +1,4 @@
 //! Texts that a file names, and the pieces that they are made of.
-use crate::steps::first_word;
 use std::alloc::{AllocError, Global};
 
 /// A text with a name.
@@ -10,7 +9,7 @@ pub struct Named<'a> {
 }
 
 /// What a line stands for: `$NAME` for the text of that name, and any other line for itself.
-fn meant<'t>(names: &'t [Named], line: &'t str) -> &'t [u8] {
+pub fn meant<'t>(names: &'t [Named], line: &'t str) -> &'t [u8] {
     let Some(name) = line.strip_prefix("$") else {
         return line.as_bytes();
     };
@@ -22,59 +21,18 @@ fn meant<'t>(names: &'t [Named], line: &'t str) -> &'t [u8] {
     line.as_bytes()
 }
 
-/// What each of the lines stands for.
-pub fn meant_by_each<'t>(
-    alloc: Global,
-    names: &'t [Named],
-    lines: &'t str,
-) -> Result<Vec<&'t [u8]>, AllocError> {
-    let mut texts = Vec::new(alloc);
-    for line in lines.lines() {
-        texts.push(meant(names, line))?;
-    }
-    Ok(texts)
-}
-
-/// What the lines stand for, each ended by a newline.
-pub fn meant_by_all(alloc: Global, names: &[Named], lines: &str) -> Result<Vec<u8>, AllocError> {
-    let mut all = Vec::new(alloc);
-    for line in lines.lines() {
-        all.extend_from_slice(meant(&*names, line))?;
-        all.push(b'\n')?;
-    }
-    Ok(all)
-}
-
-/// The texts that a file names. A text may have pieces that are named before it.
-pub fn names_of<'t>(alloc: Global, file: &'t str) -> Result<Vec<Named<'t>>, AllocError> {
-    let mut names = Vec::new(alloc);
-    for part in file.split("\n\n") {
-        if let Some(lines) = part.trim().strip_prefix("let ") {
-            let named = name_text(alloc, names.as_slice(), lines)?;
-            names.push(named)?;
-        }
-    }
-    Ok(names)
-}
-
 /// The text of a name: the name stands in the first line, and each other line is a piece of the text.
-fn name_text<'a>(alloc: Global, names: &[Named], lines: &'a str) -> Result<Named<'a>, AllocError> {
-    let (name, pieces) = lines.split_once("\n").unwrap_or((lines, ""));
-    let mut text = Vec::new(alloc);
-    add_pieces(alloc, names, pieces, &mut text)?;
-    Ok(Named { name, text })
-}
-
-fn add_pieces(
+pub fn name_text<'a>(
     alloc: Global,
     names: &[Named],
-    pieces: &str,
-    text: &mut Vec<u8>,
-) -> Result<(), AllocError> {
+    lines: &'a str,
+) -> Result<Named<'a>, AllocError> {
+    let (name, pieces) = lines.split_once("\n").unwrap_or((lines, ""));
+    let mut text = Vec::new(alloc);
     for piece in pieces.lines() {
-        add_piece(alloc, names, piece, text)?;
+        add_piece(alloc, names, piece, &mut text)?;
     }
-    Ok(())
+    Ok(Named { name, text })
 }
 
 /// Adds a piece: `bytes 255 10` is those bytes, `repeat 128 [` is the rest of the line so often, and any other line
@@ -111,15 +69,13 @@ fn add_repeated(
     rest: &str,
     text: &mut Vec<u8>,
 ) -> Result<(), AllocError> {
-    let (count, line) = first_word(rest);
-    let count = count.parse::<u64>().unwrap_or(0);
+    let (count, line) = rest.split_once(" ").unwrap_or((rest, ""));
     let piece = meant(names, line);
-    if piece.contains(&b'%') {
-        for number in 0..count {
+    let numbered = piece.contains(&b'%');
+    for number in 0..count.parse::<u64>().unwrap_or(0) {
+        if numbered {
             add_numbered(alloc, piece, number, text)?;
-        }
-    } else {
-        for _ in 0..count {
+        } else {
             text.extend_from_slice(piece)?;
         }
     }

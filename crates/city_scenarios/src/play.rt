@@ -3,38 +3,36 @@ use crate::board::play_board;
 use crate::body::play_body;
 use crate::command_line::play_words;
 use crate::core_steps::play_core;
-use crate::crew::play_crews;
-use crate::document::play_document;
+use crate::crew::{Told, play_crews};
+use crate::document::{play_document, play_prefixes};
 use crate::line::add_line;
 use crate::locks::play_locks;
 use crate::members::play_members;
 use crate::pool::play_pool;
-use crate::prefixes::{ReadAs, play_prefixes};
 use crate::run::play_run;
-use crate::scripts::play_scripts;
+use crate::scenario::Scenario;
+use crate::scripts::{play_script_prefixes, play_scripts};
 use crate::serve::play_serve;
-use crate::steps::first_word;
 use crate::turns::play_turns;
 use std::alloc::{AllocError, Global};
 use std::sync::Wait;
 use std::thread::Threads;
 
-/// Plays a verb on texts, with the steps of its answer, and adds what it answers.
+/// Plays a scenario's verb on its texts, and adds what it answers.
 pub fn play<T: Threads + Wait + Sync>(
     rt: &T,
     alloc: Global,
-    verb: &str,
-    texts: &[&[u8]],
-    steps: &[&str],
+    scenario: &Scenario,
     answer: &mut Vec<u8>,
 ) -> Result<(), AllocError> {
-    let (verb, rest) = first_word(verb);
-    match texts {
+    let (verb, rest) = scenario.verb.split_once(" ").unwrap_or((scenario.verb, ""));
+    let lines = scenario.lines;
+    match scenario.texts.as_slice() {
         texts if verb == "serve" => play_serve(rt, alloc, rest, texts, answer),
-        [] => play_alone(alloc, verb, steps, answer),
-        [text] => play_text(alloc, verb, rest, text, steps, answer),
+        [] => play_alone(alloc, verb, lines, answer),
+        [text] => play_text(alloc, verb, rest, text, lines, answer),
         [document, scripts] => {
-            play_run_verb(rt, alloc, verb, rest, document, scripts, steps, answer)
+            play_run_verb(rt, alloc, verb, rest, document, scripts, lines, answer)
         }
         _ => add_line(answer, "too many texts"),
     }
@@ -44,13 +42,13 @@ pub fn play<T: Threads + Wait + Sync>(
 fn play_alone(
     alloc: Global,
     verb: &str,
-    steps: &[&str],
+    lines: &str,
     answer: &mut Vec<u8>,
 ) -> Result<(), AllocError> {
     match verb {
-        "locks" => play_locks(alloc, steps, answer),
-        "words" => play_words(alloc, steps, answer),
-        "pool" => play_pool(alloc, steps, answer),
+        "locks" => play_locks(alloc, lines, answer),
+        "words" => play_words(alloc, lines, answer),
+        "pool" => play_pool(alloc, lines, answer),
         _ => add_line(answer, "no such verb without texts"),
     }
 }
@@ -61,17 +59,17 @@ fn play_text(
     verb: &str,
     rest: &str,
     text: &[u8],
-    steps: &[&str],
+    lines: &str,
     answer: &mut Vec<u8>,
 ) -> Result<(), AllocError> {
     match verb {
         "document" => play_document(alloc, text, answer),
-        "prefixes" => play_prefixes(alloc, ReadAs::Document, text, answer),
+        "prefixes" => play_prefixes(alloc, text, answer),
         "scripts" => play_scripts(alloc, text, answer),
-        "scriptprefixes" => play_prefixes(alloc, ReadAs::Scripts, text, answer),
+        "scriptprefixes" => play_script_prefixes(alloc, text, answer),
         "body" => play_body(alloc, text, answer),
         "members" => play_members(alloc, rest, text, answer),
-        "core" => play_core(alloc, text, steps, answer),
+        "core" => play_core(alloc, text, lines, answer),
         _ => add_line(answer, "no such verb of one text"),
     }
 }
@@ -84,13 +82,18 @@ fn play_run_verb<T: Threads + Wait + Sync>(
     rest: &str,
     document: &[u8],
     scripts: &[u8],
-    steps: &[&str],
+    lines: &str,
     answer: &mut Vec<u8>,
 ) -> Result<(), AllocError> {
-    match verb {
-        "run" => play_run(alloc, document, scripts, answer),
-        "turns" => play_turns(alloc, document, scripts, steps, answer),
-        "board" => play_board(rt, alloc, rest, document, scripts, steps, answer),
-        _ => play_crews(rt, alloc, verb, rest, document, scripts, answer),
-    }
+    let told = match verb {
+        "run" => return play_run(alloc, document, scripts, answer),
+        "board" => return play_board(rt, alloc, rest, document, scripts, lines, answer),
+        "turns" => return play_turns(alloc, document, scripts, lines, answer),
+        "crew" => Told::Bytes,
+        "replay" => Told::History,
+        "model" => Told::Model,
+        "texts" => Told::Texts,
+        _ => return add_line(answer, "no such verb of two texts"),
+    };
+    play_crews(rt, alloc, told, rest, document, scripts, answer)
 }

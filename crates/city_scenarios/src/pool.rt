@@ -1,26 +1,17 @@
 //! The verb `pool`: points numbered.
-use crate::line::add_line;
-use crate::steps::add_step;
+use crate::steps::{add_step, step_of};
 use city_doc::VertexPool;
 use city_model::object::Point;
 use std::alloc::{AllocError, Global};
 
 /// Adds each point to a new pool, and answers its number.
-pub fn play_pool(alloc: Global, steps: &[&str], answer: &mut Vec<u8>) -> Result<(), AllocError> {
+pub fn play_pool(alloc: Global, lines: &str, answer: &mut Vec<u8>) -> Result<(), AllocError> {
     let mut pool = VertexPool::new(alloc);
-    add_points(&mut pool, alloc, steps, answer)
-}
-
-fn add_points(
-    pool: &mut VertexPool,
-    alloc: Global,
-    steps: &[&str],
-    answer: &mut Vec<u8>,
-) -> Result<(), AllocError> {
-    for step in steps {
-        let number = pool.add(point_of(step))?;
-        add_step(answer, step)?;
-        add_line(answer, number.to_string(alloc)?.as_str())?;
+    for line in lines.lines() {
+        if let Some(step) = step_of(line) {
+            let number = pool.add(point_of(step))?;
+            add_step(answer, step, number.to_string(alloc)?.as_str())?;
+        }
     }
     Ok(())
 }

@@ -1,5 +1,4 @@
 //! Readers with habits.
-use crate::steps::first_word;
 use std::io::{self, ErrorKind, Read};
 
 /// How a reader gives its bytes.
@@ -34,8 +33,7 @@ impl Reads {
 /// The number that stands behind a word.
 pub fn number_after(words: &str, word: &str) -> Option<usize> {
     let (_, rest) = words.split_once(word)?;
-    let (number, _) = first_word(rest);
-    number.parse::<usize>().ok()
+    rest.split_whitespace().next()?.parse::<usize>().ok()
 }
 
 /// A reader with habits.

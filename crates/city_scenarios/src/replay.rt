@@ -21,7 +21,6 @@ use city_model::script::{Script, is_end};
 use city_model::sequence::Sequence;
 use city_model::text::Text;
 use std::alloc::Global;
-use std::mem::swap;
 
 /// Writes a change into the city.
 fn write(city: &mut City, change: Writes) -> Result<(), OutOfMemory>
@@ -65,24 +64,16 @@ fn redo(alloc: Global, city: &mut City, command: &Command) -> Result<(), OutOfMe
     Ok(())
 }
 
-/// Does these commands anew.
-fn redo_all(alloc: Global, city: &mut City, commands: &[&Command]) -> Result<(), OutOfMemory>
-    requires { IsSound (object_at city.old.1) }
-    ensures { OnOk result (IsSound (object_at city.new.1)) }
-{
-    for command in commands {
-        redo(alloc, city, command)?;
-    }
-    Ok(())
-}
-
-/// Makes the city a copy of the opening one.
-fn reopen(alloc: Global, opening: &City, city: &mut City) -> Result<(), OutOfMemory>
+/// The city after these commands.
+fn redone(alloc: Global, opening: &City, commands: &[&Command]) -> Result<City, OutOfMemory>
     requires { IsSound (object_at opening.now.1) }
-    ensures { OnOk result (IsSound (object_at city.new.1)) }
+    ensures { IfOk result (λ city. IsSound (object_at city.1)) }
 {
-    *city = opening.copy(alloc)?;
-    Ok(())
+    let mut city = opening.copy(alloc)?;
+    for command in commands {
+        redo(alloc, &mut city, command)?;
+    }
+    Ok(city)
 }
 
 fn is_mark_of(command: &Command, name: &Text) -> bool {
@@ -104,33 +95,24 @@ fn newest_mark(commands: &[&Command], name: &Text) -> Option<usize> {
 }
 
 /// Goes back: the commands since the newest mark of the name no longer count, and the others are done
-/// anew. Whether there is such a mark.
+/// anew.
 fn go_back(
     alloc: Global,
     opening: &City,
     city: &mut City,
     counted: &mut Vec<&Command>,
     name: &Text,
-) -> Result<bool, OutOfMemory>
+) -> Result<Reply, OutOfMemory>
     requires opening { IsSound (object_at opening.now.1) }
     requires sound { IsSound (object_at city.old.1) }
     ensures { OnOk result (IsSound (object_at city.new.1)) }
 {
     let Some(place) = newest_mark(counted.as_slice(), name) else {
-        return Ok(false);
+        return Ok(Reply::Refused(Cause::NoMark(name.copy(alloc)?)));
     };
     counted.truncate(place.saturating_add(1));
-    reopen(alloc, opening, city)?;
-    redo_all(alloc, city, counted.as_slice())?;
-    Ok(true)
-}
-
-/// The reply to a way back.
-fn back_reply(alloc: Global, name: &Text, went: bool) -> Result<Reply, OutOfMemory> {
-    if went {
-        return Ok(Reply::WentBack);
-    }
-    Ok(Reply::Refused(Cause::NoMark(name.copy(alloc)?)))
+    *city = redone(alloc, opening, counted.as_slice())?;
+    Ok(Reply::WentBack)
 }
 
 /// The reply to a command that doesn't end its script, after those that count of it.
@@ -148,10 +130,7 @@ fn reply_to(
 {
     match command {
         Command::Mark(_) => Ok(Reply::Marked),
-        Command::Back(name) => {
-            let went = go_back(alloc, opening, city, counted, name)?;
-            back_reply(alloc, name, went)
-        }
+        Command::Back(name) => go_back(alloc, opening, city, counted, name),
         _ => perform(alloc, city, command),
     }
 }
@@ -172,54 +151,15 @@ fn ended(
     }
 }
 
-/// Writes down how the command, which is number `number` and ends its script, ends it.
-fn end_with(
-    alloc: Global,
-    city: &City,
-    command: &Command,
-    number: usize,
-    end: &mut End,
-) -> Result<(), OutOfMemory> {
-    end.outcome = ended(alloc, city, command, number)?;
-    Ok(())
-}
-
-/// Plays the command, which is number `number` and doesn't end its script, and writes down its reply, or the end
-/// where it is refused: whether it is.
-fn is_refused(
-    alloc: Global,
-    opening: &City,
-    city: &mut City,
-    counted: &mut Vec<&Command>,
-    command: &Command,
-    number: usize,
-    end: &mut End,
-) -> Result<bool, OutOfMemory>
-    requires no_end { is_end command.now ≡ false }
-    requires opening { IsSound (object_at opening.now.1) }
-    requires sound { IsSound (object_at city.old.1) }
-    ensures { OnOk result (IsSound (object_at city.new.1)) }
-{
-    match reply_to(alloc, opening, city, counted, command)? {
-        Reply::Refused(cause) => {
-            end.outcome = Outcome::Refused(number, cause);
-            Ok(true)
-        }
-        reply => {
-            end.replies.push(reply)?;
-            Ok(false)
-        }
-    }
-}
-
-/// Plays the commands on a copy of the opening city, and writes down the replies and how they end, if they do.
+/// Plays the commands on a copy of the opening city, and returns how they end: if none of them ends the script, out of
+/// memory at the next one.
 fn play(
     alloc: Global,
     opening: &City,
     city: &mut City,
     commands: &[Command],
-    end: &mut End,
-) -> Result<(), OutOfMemory>
+    replies: &mut Sequence<Reply>,
+) -> Result<Outcome, OutOfMemory>
     requires opening { IsSound (object_at opening.now.1) }
     requires sound { IsSound (object_at city.old.1) }
     ensures { OnOk result (IsSound (object_at city.new.1)) }
@@ -227,14 +167,15 @@ fn play(
     let mut counted = Vec::new(alloc);
     for (number, command) in commands.iter().enumerate() {
         if is_end(command) {
-            return end_with(alloc, city, command, number, end);
+            return ended(alloc, city, command, number);
         }
-        if is_refused(alloc, opening, city, &mut counted, command, number, end)? {
-            return Ok(());
+        match reply_to(alloc, opening, city, &mut counted, command)? {
+            Reply::Refused(cause) => return Ok(Outcome::Refused(number, cause)),
+            reply => replies.push(reply)?,
         }
         counted.push(command)?;
     }
-    Ok(())
+    Ok(Outcome::NoMemory(commands.len()))
 }
 
 /// The commands of the script that were tried before it ended: all of them, unless it
@@ -247,97 +188,55 @@ fn tried<'a>(script: &'a Script, outcome: &Outcome) -> &'a [Command] {
     }
 }
 
-/// Plays the commands on a copy of the city, which takes its place where they commit, and writes down their end.
-fn play_on(
-    alloc: Global,
-    city: &mut City,
-    copy: &mut City,
-    commands: &[Command],
-    end: &mut End,
-) -> Result<(), OutOfMemory>
-    requires city { IsSound (object_at city.old.1) }
-    requires copy { IsSound (object_at copy.old.1) }
-    ensures { IsSound (object_at city.new.1) }
-{
-    play(alloc, city, copy, commands, end)?;
-    if !matches!(end.outcome, Outcome::Committed) {
-        return Ok(());
-    }
-    swap(city, copy);
-    Ok(())
-}
-
-/// Plays the commands on the city, which changes where they commit, and writes down their end.
+/// Plays the commands on a copy of the city, which is kept where they commit.
 fn play_on_copy(
     alloc: Global,
     city: &mut City,
     commands: &[Command],
-    end: &mut End,
-) -> Result<(), OutOfMemory>
+    replies: &mut Sequence<Reply>,
+) -> Result<Outcome, OutOfMemory>
     requires { IsSound (object_at city.old.1) }
     ensures { IsSound (object_at city.new.1) }
 {
     let mut copy = city.copy(alloc)?;
-    play_on(alloc, city, &mut copy, commands, end)
+    match play(alloc, city, &mut copy, commands, replies) {
+        Ok(Outcome::Committed) => {
+            *city = copy;
+            Ok(Outcome::Committed)
+        }
+        other => other,
+    }
 }
 
-/// Adds the end of a script that has so many commands and runs out of memory after them.
-fn add_end(
-    alloc: Global,
-    script: &Script,
-    commands: usize,
-    end: &End,
-    ends: &mut Vec<End>,
-) -> Result<(), OutOfMemory> {
-    let name = script.name().copy(alloc)?;
-    ends.push(End {
-        script: end.script,
-        name,
-        since: end.since,
-        replies: Sequence::new(alloc),
-        outcome: Outcome::NoMemory(commands),
-    })?;
-    Ok(())
-}
-
-/// Plays a script on the city, which changes where it commits, and adds its end.
-fn play_again(
-    alloc: Global,
-    city: &mut City,
-    script: &Script,
-    end: &End,
-    again: &mut Vec<End>,
-) -> Result<(), OutOfMemory>
+/// The end of the script of this end when it is played on the city, which changes where the script
+/// commits; none if there is no such script, or memory runs out.
+fn end_again(alloc: Global, city: &mut City, scripts: &[Script], end: &End) -> Option<End>
     requires { IsSound (object_at city.old.1) }
     ensures { IsSound (object_at city.new.1) }
 {
+    let script = scripts.get(end.script)?;
+    let name = script.name().copy(alloc).ok()?;
     let commands = tried(script, &end.outcome);
-    add_end(alloc, script, commands.len(), end, again)?;
-    match again.last_mut() {
-        Some(end) => play_on_copy(alloc, city, commands, end),
-        None => Ok(()),
-    }
+    let mut replies = Sequence::new(alloc);
+    let outcome = play_on_copy(alloc, city, commands, &mut replies).ok()?;
+    Some(End {
+        script: end.script,
+        name,
+        since: end.since,
+        replies,
+        outcome,
+    })
 }
 
-/// Plays the scripts of these ends one after the other on the city, and adds their ends: whether all could be played.
-fn are_played(
-    alloc: Global,
-    city: &mut City,
-    scripts: &[Script],
-    ends: &[End],
-    again: &mut Vec<End>,
-) -> bool
+/// The ends of the scripts of these ends, when they are played one after the other on the city.
+fn ends_again(alloc: Global, city: &mut City, scripts: &[Script], ends: &[End]) -> Option<Vec<End>>
     requires { IsSound (object_at city.old.1) }
 {
+    let mut again = Vec::new(alloc);
     for end in ends {
-        let Some(script) = scripts.get(end.script) else {
-            return false;
-        };
-        if play_again(alloc, city, script, end, again).is_err() {
-            return false;
-        }
+        again.push(end_again(alloc, city, scripts, end)?).ok()?;
     }
-    true
+    Some(again)
 }
 
 /// What the scripts of these ends give on the city, played one at a time in this order.
@@ -349,30 +248,20 @@ fn replay_scripts(
 ) -> Option<Vec<u8>>
     requires { IsSound (object_at city.old.1) }
 {
-    let mut again = Vec::new(alloc);
-    if !are_played(alloc, city, scripts, ends, &mut again) {
-        return None;
-    }
+    let again = ends_again(alloc, city, scripts, ends)?;
     output_bytes(alloc, city, again.as_slice(), 0).ok()
 }
 
 /// Whether each script ends once, and none since more ends than there were before it.
 fn are_placed(ends: &[End]) -> bool {
-    for (place, end) in ends.iter().enumerate() {
-        if end.since > place || count_ends(ends, end.script) > 1 {
-            return false;
-        }
-    }
-    true
-}
-
-/// How often a script ends.
-fn count_ends(ends: &[End], script: usize) -> u64 {
-    let mut count = 0u64;
-    for end in ends {
-        count = count.saturating_add(u64::from(end.script == script));
-    }
-    count
+    ends.iter().enumerate().all(|(place, end)| {
+        let once = ends
+            .iter()
+            .filter(|other| other.script == end.script)
+            .count()
+            == 1;
+        once && end.since <= place
+    })
 }
 
 /// What the scripts of these ends give, played one at a time in this order: the report, then the model's text and a

@@ -1,5 +1,5 @@
 //! The verb `scripts`: a text of scripts read.
-use crate::line::{add_line, add_run_fault};
+use crate::line::{add_line, add_run_fault, add_unlike};
 use city_desk::RunFault;
 use city_doc::read_scripts;
 use city_model::script::Script;
@@ -15,13 +15,34 @@ pub fn play_scripts(alloc: Global, text: &[u8], answer: &mut Vec<u8>) -> Result<
 
 fn add_scripts(alloc: Global, scripts: &[Script], answer: &mut Vec<u8>) -> Result<(), AllocError> {
     for script in scripts {
-        add_script(alloc, script, answer)?;
+        let (name, length) = (script.name(), script.commands().len());
+        add_line(answer, format!(in alloc; "{name} {length}")?.as_str())?;
     }
     Ok(())
 }
 
-fn add_script(alloc: Global, script: &Script, answer: &mut Vec<u8>) -> Result<(), AllocError> {
-    answer.extend_from_slice(script.name().as_str().as_bytes())?;
-    answer.push(b' ')?;
-    add_line(answer, script.commands().len().to_string(alloc)?.as_str())
+/// Answers what each proper prefix of a text of scripts is answered, the empty one first: a line where it isn't what
+/// the prefix before it was.
+pub fn play_script_prefixes(
+    alloc: Global,
+    text: &[u8],
+    answer: &mut Vec<u8>,
+) -> Result<(), AllocError> {
+    let mut last = Vec::new(alloc);
+    for length in 0..text.len() {
+        play_script_prefix(alloc, &text[..length], &mut last, answer)?;
+    }
+    Ok(())
+}
+
+/// Answers what a prefix is answered, where that isn't what was answered last.
+fn play_script_prefix(
+    alloc: Global,
+    text: &[u8],
+    last: &mut Vec<u8>,
+    answer: &mut Vec<u8>,
+) -> Result<(), AllocError> {
+    let mut now = Vec::new(alloc);
+    play_scripts(alloc, text, &mut now)?;
+    add_unlike(answer, last, now)
 }

@@ -20,11 +20,14 @@ pub fn play_serve<T: Threads + Wait + Sync>(
     let input = joined(alloc, texts)?;
     let reads = Reads::told(words);
     let writes = Writes::told(words);
-    if words.contains(" each") {
-        serve_each(rt, alloc, reads, writes, input.as_slice(), answer)
-    } else {
-        serve_once(rt, alloc, reads, writes, input.as_slice(), answer)
+    if words.contains(" each") || words.ends_with(" each") {
+        return serve_each(rt, alloc, reads, writes, input.as_slice(), answer);
     }
+    let (written, line) = served(rt, alloc, reads, writes, input.as_slice())?;
+    if !written.is_empty() {
+        add_bytes(answer, written.as_slice())?;
+    }
+    answer.extend_from_slice(line.as_slice())
 }
 
 /// The texts with a newline between two.
@@ -37,6 +40,20 @@ fn joined(alloc: Global, texts: &[&[u8]]) -> Result<Vec<u8>, AllocError> {
         all.extend_from_slice(text)?;
     }
     Ok(all)
+}
+
+/// What the writer has, and the line that says why the rest wasn't served, if it wasn't.
+fn served<T: Threads + Wait + Sync>(
+    rt: &T,
+    alloc: Global,
+    reads: Reads,
+    writes: Writes,
+    input: &[u8],
+) -> Result<(Vec<u8>, Vec<u8>), AllocError> {
+    let mut taking = Taking::new(alloc, writes);
+    let mut line = Vec::new(alloc);
+    serve_to(rt, alloc, reads, &mut taking, input, &mut line)?;
+    Ok((taking.into_written(), line))
 }
 
 /// Serves the input to a writer, and adds the line that says why the rest wasn't served.
@@ -56,28 +73,6 @@ fn serve_to<T: Threads + Wait + Sync>(
     }
 }
 
-/// Serves to a writer, and answers what it has, and why the rest wasn't served.
-fn serve_once<T: Threads + Wait + Sync>(
-    rt: &T,
-    alloc: Global,
-    reads: Reads,
-    writes: Writes,
-    input: &[u8],
-    answer: &mut Vec<u8>,
-) -> Result<(), AllocError> {
-    let mut taking = Taking::new(alloc, writes);
-    let mut line = Vec::new(alloc);
-    let served = serve_to(rt, alloc, reads, &mut taking, input, &mut line);
-    served.and(add_served(taking.written(), line.as_slice(), answer))
-}
-
-fn add_served(written: &[u8], line: &[u8], answer: &mut Vec<u8>) -> Result<(), AllocError> {
-    if !written.is_empty() {
-        add_bytes(answer, written)?;
-    }
-    answer.extend_from_slice(line)
-}
-
 /// Serves to a writer that has room for each number of bytes below those of the output, and answers why the rest wasn't
 /// served: once, where it is the same each time and the writer has the first bytes.
 fn serve_each<T: Threads + Wait + Sync>(
@@ -88,42 +83,19 @@ fn serve_each<T: Threads + Wait + Sync>(
     input: &[u8],
     answer: &mut Vec<u8>,
 ) -> Result<(), AllocError> {
-    let mut taking = Taking::new(alloc, writes.with_room(usize::MAX));
-    let mut line = Vec::new(alloc);
-    let served = serve_to(rt, alloc, reads, &mut taking, input, &mut line);
-    served.and(serve_in_rooms(rt, alloc, reads, writes, input, taking.written(), answer))
-}
-
-/// The same where `whole` is the output.
-fn serve_in_rooms<T: Threads + Wait + Sync>(
-    rt: &T,
-    alloc: Global,
-    reads: Reads,
-    writes: Writes,
-    input: &[u8],
-    whole: &[u8],
-    answer: &mut Vec<u8>,
-) -> Result<(), AllocError> {
+    let (whole, _) = served(rt, alloc, reads, writes.with_room(usize::MAX), input)?;
     let mut last = Vec::new(alloc);
     for room in 0..whole.len() {
+        let wanted = &whole.as_slice()[..room];
         let writes = writes.with_room(room);
-        serve_in_room(
-            rt,
-            alloc,
-            reads,
-            writes,
-            input,
-            &whole[..room],
-            &mut last,
-            answer,
-        )?;
+        serve_one(rt, alloc, reads, writes, input, wanted, &mut last, answer)?;
     }
     Ok(())
 }
 
 /// Serves to a writer, and answers why the rest wasn't served where that isn't what was answered last, or that it has
 /// other bytes than those.
-fn serve_in_room<T: Threads + Wait + Sync>(
+fn serve_one<T: Threads + Wait + Sync>(
     rt: &T,
     alloc: Global,
     reads: Reads,
@@ -133,13 +105,15 @@ fn serve_in_room<T: Threads + Wait + Sync>(
     last: &mut Vec<u8>,
     answer: &mut Vec<u8>,
 ) -> Result<(), AllocError> {
-    let mut taking = Taking::new(alloc, writes);
-    let mut line = Vec::new(alloc);
-    let served = serve_to(rt, alloc, reads, &mut taking, input, &mut line);
-    let told = if taking.written() == wanted {
-        add_unlike(answer, last, &mut line)
+    let (written, line) = served(rt, alloc, reads, writes, input)?;
+    if written.as_slice() == wanted {
+        add_unlike(answer, last, line)
     } else {
-        add_line(answer, "other bytes")
-    };
-    served.and(told)
+        add_other_bytes(alloc, wanted.len(), answer)
+    }
+}
+
+/// Adds that a writer that had room for so many bytes has others.
+fn add_other_bytes(alloc: Global, room: usize, answer: &mut Vec<u8>) -> Result<(), AllocError> {
+    add_line(answer, format!(in alloc; "other bytes at {room}")?.as_str())
 }

@@ -2,9 +2,9 @@
 ghost use Rattle.city_model.specs.CityMap.{object_at};
 ghost use Rattle.city_model.specs.Relations.{IsLawful};
 
-use crate::change::add_change;
+use crate::change::change_text;
 use crate::line::{add_line, add_run_fault};
-use crate::steps::{add_number, add_step};
+use crate::steps::{add_step, number_or_none, step_of};
 use city_desk::{Desk, ListShelf, Turn, output_bytes, read_texts};
 use city_model::city::City;
 use city_model::end::End;
@@ -17,11 +17,11 @@ pub fn play_turns(
     alloc: Global,
     document: &[u8],
     scripts: &[u8],
-    steps: &[&str],
+    lines: &str,
     answer: &mut Vec<u8>,
 ) -> Result<(), AllocError> {
     match read_texts(alloc, document, scripts) {
-        Ok((city, scripts)) => play_over(alloc, city, scripts, steps, answer),
+        Ok((city, scripts)) => play_over(alloc, city, scripts, lines, answer),
         Err(fault) => add_run_fault(alloc, answer, fault),
     }
 }
@@ -30,15 +30,16 @@ fn play_over(
     alloc: Global,
     city: City,
     scripts: Sequence<Script>,
-    steps: &[&str],
+    lines: &str,
     answer: &mut Vec<u8>,
 ) -> Result<(), AllocError>
     requires { IsLawful (object_at city.1) }
 {
     let mut desk = Desk::open(alloc, city, scripts, ListShelf::new(alloc))?;
-    let taken = take_steps(&mut desk, alloc, steps, answer);
+    let taken = take_steps(&mut desk, alloc, lines, answer);
     let left = add_left(desk, alloc, answer);
-    taken.and(left)
+    taken?;
+    left
 }
 
 /// Adds what a desk leaves, which is closed where a script hasn't ended.
@@ -56,8 +57,8 @@ fn add_closed(
     answer: &mut Vec<u8>,
 ) -> Result<(), AllocError> {
     let (city, ends, shelf) = desk.close();
-    let begun = add_line(answer, "unfinished");
-    begun.and(add_output(alloc, &city, ends.as_slice(), &shelf, answer))
+    add_line(answer, "unfinished")?;
+    add_output(alloc, &city, ends.as_slice(), &shelf, answer)
 }
 
 /// Adds a report and a model, and what each change sets and takes out.
@@ -70,13 +71,9 @@ fn add_output(
 ) -> Result<(), AllocError> {
     let bytes = output_bytes(alloc, city, ends, 0)?;
     answer.extend_from_slice(bytes.as_slice())?;
-    add_changes(shelf, answer)
-}
-
-/// Adds what each change sets and takes out.
-fn add_changes(shelf: &ListShelf, answer: &mut Vec<u8>) -> Result<(), AllocError> {
     for change in shelf.changes() {
-        add_change(answer, "committed", change)?;
+        let line = change_text(alloc, "committed", change)?;
+        add_line(answer, line.as_str())?;
     }
     Ok(())
 }
@@ -84,46 +81,37 @@ fn add_changes(shelf: &ListShelf, answer: &mut Vec<u8>) -> Result<(), AllocError
 fn take_steps(
     desk: &mut Desk<ListShelf>,
     alloc: Global,
-    steps: &[&str],
+    lines: &str,
     answer: &mut Vec<u8>,
 ) -> Result<(), AllocError> {
-    for step in steps {
-        add_step(answer, step)?;
-        take_step(desk, alloc, step, answer)?;
+    for line in lines.lines() {
+        if let Some(step) = step_of(line) {
+            let said = said(desk, alloc, step)?;
+            add_step(answer, step, said.as_str())?;
+        }
     }
     Ok(())
 }
 
-/// Takes a step, and adds the number of a script whose turn it is, or a word.
-fn take_step(
-    desk: &mut Desk<ListShelf>,
-    alloc: Global,
-    step: &str,
-    answer: &mut Vec<u8>,
-) -> Result<(), AllocError> {
+/// What a step is answered: the number of a script whose turn it is, or a word.
+fn said(desk: &mut Desk<ListShelf>, alloc: Global, step: &str) -> Result<String, AllocError> {
     match step {
-        "ready" => add_number(alloc, answer, desk.ready()),
-        "take" => add_number(alloc, answer, desk.take()),
-        _ => {
-            let number = step.parse::<usize>().unwrap_or(usize::MAX);
-            add_line(answer, turn_name(desk, number))
-        }
+        "ready" => number_or_none(alloc, desk.ready()),
+        "take" => number_or_none(alloc, desk.take()),
+        _ => turn_text(desk, alloc, step),
     }
 }
 
-/// The name of what the turn of a script comes to. A script that was said to be ready doesn't wait.
-fn turn_name(desk: &mut Desk<ListShelf>, number: usize) -> &'static str {
+/// The answer to the turn of a script. A script that was said to be ready doesn't wait.
+fn turn_text(desk: &mut Desk<ListShelf>, alloc: Global, step: &str) -> Result<String, AllocError> {
+    let number = step.parse::<usize>().unwrap_or(usize::MAX);
     if number >= desk.scripts() {
-        return "no script";
+        return "no script".to_string(alloc);
     }
     let was_ready = desk.ready() == Some(number);
-    match desk.turn(number) {
-        Turn::Began => "Began",
-        Turn::Replied => "Replied",
-        Turn::Waits if was_ready => "waits though it was ready",
-        Turn::Waits => "Waits",
-        Turn::Died => "Died",
-        Turn::Ended => "Ended",
-        Turn::AlreadyEnded => "AlreadyEnded",
+    let turn = desk.turn(number);
+    if was_ready && turn == Turn::Waits {
+        return "waits though it was ready".to_string(alloc);
     }
+    format!(in alloc; "{turn:?}")
 }

@@ -1,41 +1,46 @@
 //! What came, compared with what was wanted.
-use std::alloc::AllocError;
-use std::fmt::Write;
+use std::alloc::{AllocError, Global};
 
 /// How much of a line is shown.
 const SHOWN: usize = 2000;
 
-/// Adds the first line that differs.
-pub fn add_difference(wanted: &[u8], came: &[u8], told: &mut String) -> Result<(), AllocError> {
-    let (number, start) = first_difference(wanted, came);
-    write!(told, "\nwanted in line {number}: ")?;
-    add_line_at(wanted, start, told)?;
-    told.push_str("\ncame: ")?;
-    add_line_at(came, start, told)
+/// The first line that differs, with a scenario's title; none where all are the same.
+pub fn differing(
+    alloc: Global,
+    title: &str,
+    wanted: &[u8],
+    came: &[u8],
+) -> Result<Option<String>, AllocError> {
+    if wanted == came {
+        return Ok(None);
+    }
+    let same = wanted
+        .split(|b| *b == b'\n')
+        .zip(came.split(|b| *b == b'\n'))
+        .take_while(|(one, other)| *one == *other)
+        .count();
+    let (wanted, came) = (line_at(alloc, wanted, same)?, line_at(alloc, came, same)?);
+    let number = same.saturating_add(1);
+    let told = format!(in alloc; "{title}\nwanted in line {number}: {wanted}\ncame: {came}")?;
+    Ok(Some(told))
 }
 
-/// The number of the first line that differs, from 1, and where it starts.
-fn first_difference(wanted: &[u8], came: &[u8]) -> (u64, usize) {
-    let (mut number, mut start) = (1u64, 0);
-    for at in 0..wanted.len() {
-        let byte = wanted.get(at);
-        if byte != came.get(at) {
-            break;
-        }
-        if byte == Some(&b'\n') {
-            number = number.saturating_add(1);
-            start = at.saturating_add(1);
-        }
+/// A line by its number, in text.
+fn line_at(alloc: Global, lines: &[u8], number: usize) -> Result<String, AllocError> {
+    match lines.split(|b| *b == b'\n').nth(number) {
+        Some(line) => shown(alloc, &line[..line.len().min(SHOWN)]),
+        None => "no line".to_string(alloc),
     }
-    (number, start)
 }
 
-/// Adds the line that starts there, as far as it is text.
-fn add_line_at(lines: &[u8], start: usize, told: &mut String) -> Result<(), AllocError> {
-    let (_, rest) = lines.split_at(start.min(lines.len()));
-    let line = rest.split(|b| *b == b'\n').next().unwrap_or(rest);
-    match line[..line.len().min(SHOWN)].utf8_chunks().next() {
-        Some(chunk) => told.push_str(chunk.valid()),
-        None => Ok(()),
+/// The bytes as text, each that is no text as `?`.
+fn shown(alloc: Global, bytes: &[u8]) -> Result<String, AllocError> {
+    let mut text = String::new(alloc);
+    for chunk in bytes.utf8_chunks() {
+        text.push_str(chunk.valid())?;
+        if !chunk.invalid().is_empty() {
+            text.push_str("?")?;
+        }
     }
+    Ok(text)
 }

@@ -70,8 +70,8 @@ impl Taking {
     }
 
     /// What it has.
-    pub fn written(&self) -> &[u8] {
-        self.written.as_slice()
+    pub fn into_written(self) -> Vec<u8> {
+        self.written
     }
 }
 

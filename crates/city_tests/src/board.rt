@@ -3,10 +3,11 @@ ghost use Rattle.std.specs.Prelude.{◌≡◌, [], All, IfSome};
 ghost use Rattle.city_model.specs.CityMap.{object_at};
 ghost use Rattle.city_model.specs.Relations.{IsLawful};
 
+use crate::runs::{city_of, scripts_of};
 use crate::served::{EMPTY, scripts_of_roads};
 use city_crew::board::board;
 use city_crew::{Note, Poster, Viewer};
-use city_desk::{Desk, Shelf, Turn, read_texts};
+use city_desk::{Desk, Shelf, Turn};
 use city_model::city::City;
 use city_model::copied::Copied;
 use city_model::script::Script;
@@ -32,37 +33,37 @@ fn board_over<'r, R: Wait>(
     board(rt, alloc, copy, 1).ok()
 }
 
-/// A desk over the city of a board, whose shelf is the board's poster, and the board's one viewer.
+/// The same with the viewer alone.
+fn board_for_one<'r, R: Wait>(
+    rt: &'r R,
+    alloc: Global,
+    city: &City,
+) -> Option<(Poster<&'r R>, Viewer)>
+    requires { IsLawful (object_at city.now.1) }
+    ensures name { IfSome result (λ r. r.1.name ≡ r.0.name) }
+    ensures opening { IfSome result (λ r. r.0.opening ≡ city.now) }
+    ensures taken { IfSome result (λ r. r.0.taken ≡ []) }
+{
+    let (poster, mut viewers) = board_over(rt, alloc, city)?;
+    let viewer = viewers.pop()?;
+    Some((poster, viewer))
+}
+
+/// A desk over the city of a board, whose shelf is the board's poster.
 fn desk_over<'r, R: Wait>(
     alloc: Global,
     scripts: Sequence<Script>,
     city: City,
     poster: Poster<&'r R>,
-    viewer: Viewer,
-) -> Option<(Desk<Poster<&'r R>>, Viewer)>
+) -> Option<Desk<Poster<&'r R>>>
     requires lawful { IsLawful (object_at city.1) }
     requires opening { poster.opening ≡ city }
     requires taken { poster.taken ≡ [] }
-    requires name { viewer.name ≡ poster.name }
-    ensures { IfSome result (λ r. r.1.name ≡ r.0.1.name) }
+    ensures { IfSome result (λ desk. desk.1.name ≡ poster.entry.name) }
 {
+    // taken out and put back, since the prover goes by what a `?` takes out
     let desk = Desk::open(alloc, city, scripts, poster).ok()?;
-    Some((desk, viewer))
-}
-
-/// The same over a city.
-fn opened_over<'r, R: Wait>(
-    rt: &'r R,
-    alloc: Global,
-    scripts: Sequence<Script>,
-    city: City,
-) -> Option<(Desk<Poster<&'r R>>, Viewer)>
-    requires { IsLawful (object_at city.1) }
-    ensures { IfSome result (λ r. r.1.name ≡ r.0.1.name) }
-{
-    let (poster, mut viewers) = board_over(rt, alloc, &city)?;
-    let viewer = viewers.pop()?;
-    desk_over(alloc, scripts, city, poster, viewer)
+    Some(desk)
 }
 
 /// A desk over a city without objects, with three scripts that put a road each, and its board's one viewer.
@@ -70,10 +71,11 @@ pub fn opened_to_one<'r, R: Wait>(rt: &'r R, alloc: Global) -> Option<(Desk<Post
     ensures { IfSome result (λ r. r.1.name ≡ r.0.1.name) }
 {
     let text = scripts_of_roads(alloc, 3).ok()?;
-    match read_texts(alloc, EMPTY.as_bytes(), text.as_bytes()) {
-        Ok((city, scripts)) => opened_over(rt, alloc, scripts, city),
-        Err(_) => None,
-    }
+    let scripts = scripts_of(alloc, text.as_str())?;
+    let city = city_of(alloc, EMPTY)?;
+    let (poster, viewer) = board_for_one(rt, alloc, &city)?;
+    let desk = desk_over(alloc, scripts, city, poster)?;
+    Some((desk, viewer))
 }
 
 /// The next turn of a script, if there is one.
@@ -88,7 +90,7 @@ pub fn turn<S: Shelf>(desk: &mut Desk<S>, script: usize) -> Option<Turn>
 }
 
 /// Runs the next script, which has two commands, to its end: whether it ended.
-pub fn commit_next<S: Shelf>(desk: &mut Desk<S>) -> bool
+fn end_next<S: Shelf>(desk: &mut Desk<S>) -> bool
     ensures { S.name desk.new.1 ≡ S.name desk.old.1 }
 {
     let Some(script) = desk.take() else {
@@ -97,6 +99,13 @@ pub fn commit_next<S: Shelf>(desk: &mut Desk<S>) -> bool
     let _began = turn(desk, script);
     let _replied = turn(desk, script);
     turn(desk, script) == Some(Turn::Ended)
+}
+
+/// The same at a desk whose shelf is a poster.
+pub fn commit_next<R: Wait + Drop>(desk: &mut Desk<Poster<R>>) -> bool
+    ensures { desk.new.1.name ≡ desk.old.1.name }
+{
+    end_next(desk)
 }
 
 /// Shows all commits so far, and gives a note of them.

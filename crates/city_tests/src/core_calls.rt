@@ -2,7 +2,7 @@
 ghost use Rattle.city_model.specs.CityMap.{object_at};
 ghost use Rattle.city_model.specs.Relations.{IsLawful};
 
-use city_desk::read_texts;
+use crate::runs::{city_of, scripts_of};
 use city_doc::write_city;
 use city_model::city::City;
 use city_model::command::{Command, Reply};
@@ -27,16 +27,15 @@ fn answer(core: &mut Core, stamp: u64, command: &Command) -> &'static str {
 
 /// Whether each of these commands is done or ends a script, at the second try at the latest.
 fn are_done(core: &mut Core, stamp: u64, commands: &[Command]) -> bool {
-    for command in commands {
-        let mut last = answer(core, stamp, command);
-        if last == "short" {
-            last = answer(core, stamp, command);
-        }
-        if last != "done" && last != "an end" {
-            return false;
-        }
-    }
-    true
+    commands.iter().all(|command| {
+        let first = answer(core, stamp, command);
+        let last = if first == "short" {
+            answer(core, stamp, command)
+        } else {
+            first
+        };
+        last == "done" || last == "an end"
+    })
 }
 
 /// How many objects a commit changes, at the second try at the latest; none where it is refused.
@@ -55,11 +54,11 @@ fn commit(core: &mut Core, stamp: u64) -> Option<usize> {
 
 /// Whether the core leaves the city of this text, which is written at the second try at the latest.
 fn leaves(core: Core, alloc: Global, wanted: &str) -> bool {
-    let Ok(city) = core.into_city() else {
-        return false;
-    };
-    match write_city(alloc, &city).or(write_city(alloc, &city)) {
-        Ok(text) => text.as_slice() == wanted.as_bytes(),
+    match core.into_city() {
+        Ok(city) => {
+            let text = write_city(alloc, &city).or(write_city(alloc, &city));
+            text.is_ok_and(|text| text.as_slice() == wanted.as_bytes())
+        }
         Err(_) => false,
     }
 }
@@ -107,11 +106,8 @@ pub fn is_done(
     count: usize,
     wanted: &str,
 ) -> Option<bool> {
-    match read_texts(alloc, document.as_bytes(), script.as_bytes()) {
-        Ok((city, scripts)) => match scripts.as_slice() {
-            [script] => Some(is_left(alloc, city, script.commands(), count, wanted)),
-            _ => None,
-        },
-        Err(_) => None,
-    }
+    let city = city_of(alloc, document)?;
+    let scripts = scripts_of(alloc, script)?;
+    let script = scripts.as_slice().first()?;
+    Some(is_left(alloc, city, script.commands(), count, wanted))
 }

@@ -2,7 +2,7 @@
 //! tests once for each growth that it makes, and refuses that one: a call that was refused can be
 //! made again, and what a run leaves is a serial history. A test that has no memory to begin with
 //! says so and does no more.
-ghost use Rattle.std.specs.Prelude.{◌≡◌};
+ghost use Rattle.std.specs.Prelude.{◌≡◌, IfSome};
 
 use crate::board::{commit_next, counted, opened_to_one, shown, turn};
 use crate::core_calls::is_done;
@@ -17,6 +17,7 @@ use city_model::text::Text;
 use std::alloc::Global;
 use std::sync::Wait;
 use std::test::Fail;
+use std::thread::Threads;
 
 /// Whether the mode is held once it was asked for, at the second try at the latest; a refused ask leaves what was held.
 fn is_held_at_last(table: &mut LockTable, stamp: u64, id: &Text, mode: Mode) -> bool {
@@ -91,20 +92,23 @@ pub fn end_all<S: Shelf>(desk: &mut Desk<S>) {
 
 /// Whether ends and the city that they leave are those of scripts played one at a time.
 fn are_replayed(alloc: Global, run: &Run, city: &City, ends: &[End]) -> bool {
-    match output_bytes(alloc, city, ends, 0).or(output_bytes(alloc, city, ends, 0)) {
-        Ok(bytes) => is_replayed(alloc, run, ends, bytes.as_slice()),
+    let bytes = output_bytes(alloc, city, ends, 0).or(output_bytes(alloc, city, ends, 0));
+    bytes.is_ok_and(|bytes| is_replayed(alloc, run, ends, bytes.as_slice()))
+}
+
+/// Whether the scripts of a desk, which take turns, leave what they leave one at a time.
+fn leaves_a_history(mut desk: Desk<ListShelf>, alloc: Global, run: &Run) -> bool {
+    end_all(&mut desk);
+    match desk.finish() {
+        Ok(left) => are_replayed(alloc, run, &left.city, left.ends.as_slice()),
         Err(_) => false,
     }
 }
 
-/// Whether the scripts of a run, which take turns, leave what they leave one at a time; none if memory ran out for it.
+/// The same of a new desk; none if memory ran out for it.
 fn turns_leave(alloc: Global, run: &Run) -> Option<bool> {
-    let mut desk = opened(alloc, run)?;
-    end_all(&mut desk);
-    match desk.finish() {
-        Ok(left) => Some(are_replayed(alloc, run, &left.city, left.ends.as_slice())),
-        Err(_) => Some(false),
-    }
+    let desk = opened(alloc, run)?;
+    Some(leaves_a_history(desk, alloc, run))
 }
 
 /// Runs that put, delete, attach, abort and go back, and that wait and die.
@@ -122,21 +126,12 @@ fn turns_leave_a_serial_history(rt: HostRuntime) -> Result<(), Fail> {
     Ok(())
 }
 
-/// Whether none of these ends is out of memory at command 3.
-fn none_ends_at_three(ends: &[End]) -> bool {
-    for end in ends {
-        if matches!(end.outcome, Outcome::NoMemory(3)) {
-            return false;
-        }
-    }
-    true
-}
-
 /// Whether no script of a run ends out of memory at its command 3.
 fn never_ends_at_three(alloc: Global, run: &Run) -> Option<bool> {
     let mut desk = opened(alloc, run)?;
     end_all(&mut desk);
-    Some(none_ends_at_three(desk.ends()))
+    let mut ends = desk.ends().iter();
+    Some(ends.all(|end| !matches!(end.outcome, Outcome::NoMemory(3))))
 }
 
 #[test]
@@ -155,6 +150,16 @@ fn commits<S: Shelf>(desk: &Desk<S>) -> u64 {
         }
     }
     commits
+}
+
+/// The viewer, where it sees no change.
+fn unseeing(viewer: Viewer) -> Option<Viewer>
+    ensures { IfSome result (λ v. v.name ≡ viewer.name) }
+{
+    match counted(viewer, 0) {
+        Some((viewer, 0)) => Some(viewer),
+        _ => None,
+    }
 }
 
 /// How many changes a viewer sees once it has learnt of a show.
@@ -176,11 +181,8 @@ fn seen_at_last<R: Wait + Drop, Q: Wait>(
     if let Some(note) = shown(rt, desk) {
         return seen_once_told(viewer, &note);
     }
-    let (viewer, seen) = counted(viewer, 0)?;
+    let viewer = unseeing(viewer)?;
     let note = shown(rt, desk)?;
-    if seen != 0 {
-        return None;
-    }
     seen_once_told(viewer, &note)
 }
 
@@ -215,10 +217,18 @@ fn a_serial_run_is_refused_or_leaves_a_serial_history(rt: HostRuntime) {
     }
 }
 
+/// The run by two workers, before a viewer.
+fn ran_by_two<R: Threads + Wait + Sync>(
+    rt: &R,
+    alloc: Global,
+    run: &Run,
+) -> Result<Output, RunFault> {
+    let (document, scripts) = (run.document.as_bytes(), run.scripts.as_bytes());
+    run_crew(rt, alloc, document, scripts, 2, 1, &OpenGate)
+}
+
 #[test]
 fn a_run_of_two_workers_is_refused_or_leaves_a_serial_history(rt: HostRuntime) {
-    let run = &TWO_READERS;
-    let (document, scripts) = (run.document.as_bytes(), run.scripts.as_bytes());
-    let ran = run_crew(&rt, rt.alloc(), document, scripts, 2, 1, &OpenGate);
-    assert!(&rt; is_serial_or_short(rt.alloc(), run, ran));
+    let ran = ran_by_two(&rt, rt.alloc(), &TWO_READERS);
+    assert!(&rt; is_serial_or_short(rt.alloc(), &TWO_READERS, ran));
 }

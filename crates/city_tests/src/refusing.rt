@@ -2,8 +2,8 @@
 ghost use Rattle.std.specs.Prelude.{◌≡◌, []};
 
 use crate::refused::end_all;
-use crate::runs::{ORPHAN, Run};
-use city_desk::{Desk, ListShelf, Shelf, output_bytes, read_texts};
+use crate::runs::{ORPHAN, Run, city_of, scripts_of};
+use city_desk::{Desk, ListShelf, Shelf, output_bytes};
 use city_model::OutOfMemory;
 use city_model::change::Change;
 use std::alloc::Global;
@@ -56,17 +56,11 @@ impl Shelf for Refusing {
     }
 }
 
-/// A desk over a run's city and scripts, whose shelf refuses a change.
-fn opened(alloc: Global, run: &Run) -> Option<Desk<Refusing>> {
-    match read_texts(alloc, run.document.as_bytes(), run.scripts.as_bytes()) {
-        Ok((city, scripts)) => Desk::open(alloc, city, scripts, Refusing::new(alloc)).ok(),
-        Err(_) => None,
-    }
-}
-
 /// What is written of a run whose shelf refuses a change.
 fn written(alloc: Global, run: &Run) -> Option<Vec<u8>> {
-    let mut desk = opened(alloc, run)?;
+    let scripts = scripts_of(alloc, run.scripts)?;
+    let city = city_of(alloc, run.document)?;
+    let mut desk = Desk::open(alloc, city, scripts, Refusing::new(alloc)).ok()?;
     end_all(&mut desk);
     let (city, ends, _shelf) = desk.close();
     output_bytes(alloc, &city, ends.as_slice(), 0).ok()

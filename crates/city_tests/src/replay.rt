@@ -2,7 +2,6 @@
 use crate::board::turn;
 use crate::runs::{Run, opened};
 use city_desk::{Desk, ListShelf, Turn, output_bytes};
-use city_model::city::City;
 use city_model::end::{End, Outcome};
 use std::alloc::Global;
 
@@ -24,51 +23,41 @@ fn end_each(desk: &mut Desk<ListShelf>, ends: &[End]) {
     }
 }
 
-/// What is written of a city and ends; none where a script ran out of memory, or memory runs out.
-fn written(alloc: Global, city: &City, ends: &[End]) -> Option<Vec<u8>> {
-    for one in ends {
-        if matches!(one.outcome, Outcome::NoMemory(_)) {
-            return None;
-        }
-    }
-    output_bytes(alloc, city, ends, 0).ok()
-}
-
 /// What is written if the scripts of these ends are played in this way; none if memory ran out.
 fn written_again(alloc: Global, run: &Run, ends: &[End]) -> Option<Vec<u8>> {
     let mut desk = opened(alloc, run)?;
     end_each(&mut desk, ends);
     let (city, ends, _shelf) = desk.close();
-    written(alloc, &city, ends.as_slice())
-}
-
-/// A line without `since`.
-fn without_since(line: &str) -> &str {
-    match line.rsplit_once(r#","since":"#) {
-        Some((kept, _)) => kept,
-        None => line,
-    }
-}
-
-/// Whether an output is that of scripts played again, but for `since` and for scripts that ran out of memory.
-fn are_alike(again: &str, output: &str) -> bool {
-    let mut again = again.lines();
-    for line in output.lines() {
-        if !line.contains(r#""outcome":"nomemory""#) {
-            match again.next() {
-                Some(other) if without_since(other) == without_since(line) => {}
-                _ => return false,
-            }
+    for one in ends.as_slice() {
+        if matches!(one.outcome, Outcome::NoMemory(_)) {
+            return None;
         }
     }
-    again.next().is_none()
+    output_bytes(alloc, &city, ends.as_slice(), 0).ok()
+}
+
+/// What is written of an output's lines, but for `since` and for scripts that ran out of memory.
+fn without_since(alloc: Global, bytes: &[u8]) -> Option<String> {
+    let mut text = String::new(alloc);
+    for line in str::from_utf8(bytes).ok()?.lines() {
+        if !line.contains(r#""outcome":"nomemory""#) {
+            let kept = match line.rsplit_once(r#","since":"#) {
+                Some((kept, _)) => kept,
+                None => line,
+            };
+            text.push_str(kept).ok()?;
+            text.push_str("\n").ok()?;
+        }
+    }
+    Some(text)
 }
 
 /// Whether the scripts of these ends of a run, played in this way, give the same; none if memory ran out.
 fn compared(alloc: Global, run: &Run, ends: &[End], bytes: &[u8]) -> Option<bool> {
     let again = written_again(alloc, run, ends)?;
-    let again = str::from_utf8(again.as_slice()).ok()?;
-    Some(are_alike(again, str::from_utf8(bytes).ok()?))
+    let wanted = without_since(alloc, again.as_slice())?;
+    let found = without_since(alloc, bytes)?;
+    Some(found.as_str() == wanted.as_str())
 }
 
 /// The same, where memory may run out the first time.

@@ -1,5 +1,13 @@
 //! Runs that growths are refused in.
-use city_desk::{Desk, ListShelf, read_texts};
+ghost use Rattle.std.specs.Prelude.{IfSome};
+ghost use Rattle.city_model.specs.CityMap.{object_at};
+ghost use Rattle.city_model.specs.Relations.{IsLawful};
+
+use city_desk::{Desk, ListShelf};
+use city_doc::{read_city, read_scripts};
+use city_model::city::City;
+use city_model::script::Script;
+use city_model::sequence::Sequence;
 use std::alloc::Global;
 
 /// A document and scripts.
@@ -9,12 +17,29 @@ pub struct Run {
     pub scripts: &'static str,
 }
 
-/// A desk over the city of a run's document, with the run's scripts.
-pub fn opened(alloc: Global, run: &Run) -> Option<Desk<ListShelf>> {
-    match read_texts(alloc, run.document.as_bytes(), run.scripts.as_bytes()) {
-        Ok((city, scripts)) => Desk::open(alloc, city, scripts, ListShelf::new(alloc)).ok(),
+/// The city of a document.
+pub fn city_of(alloc: Global, document: &str) -> Option<City>
+    ensures { IfSome result (λ city. IsLawful (object_at city.1)) }
+{
+    match read_city(alloc, document.as_bytes()) {
+        Ok(city) => Some(city),
         Err(_) => None,
     }
+}
+
+/// The scripts of a text.
+pub fn scripts_of(alloc: Global, text: &str) -> Option<Sequence<Script>> {
+    match read_scripts(alloc, text.as_bytes()) {
+        Ok(scripts) => Some(scripts),
+        Err(_) => None,
+    }
+}
+
+/// A desk over the city of a run's document, with the run's scripts.
+pub fn opened(alloc: Global, run: &Run) -> Option<Desk<ListShelf>> {
+    let city = city_of(alloc, run.document)?;
+    let scripts = scripts_of(alloc, run.scripts)?;
+    Desk::open(alloc, city, scripts, ListShelf::new(alloc)).ok()
 }
 
 pub const CHILD_OF_TWO: Run = Run {

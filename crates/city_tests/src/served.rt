@@ -23,22 +23,17 @@ pub const TWO: &str = concat!(
 pub fn scripts_of_roads(alloc: Global, count: usize) -> Result<String, AllocError> {
     let mut text = String::new(alloc);
     for number in 0..count {
-        add_script_of_road(&mut text, number)?;
+        let before = if number == 0 { "[" } else { "," };
+        let put = format!(in alloc; r#"{{"put":"r{number}","object":{{"type":"Road"}}}}"#)?;
+        let script = format!(in alloc; r#"{{"name":"r{number}","commands":[{put},"commit"]}}"#)?;
+        text.push_str(before)?;
+        text.push_str(script.as_str())?;
     }
     text.push(']')?;
     Ok(text)
 }
 
-fn add_script_of_road(text: &mut String, number: usize) -> Result<(), AllocError> {
-    text.push_str(if number == 0 { "[" } else { "," })?;
-    write!(
-        text,
-        r#"{{"name":"r{number}","commands":[{{"put":"r{number}","#
-    )?;
-    text.push_str(r#""object":{"type":"Road"}},"commit"]}"#)
-}
-
-/// What each viewer of a run saw, which is written; none where it isn't served.
+/// What is written of a run and what each viewer saw, as `[[0, 1]]`; none where it isn't served.
 pub fn served<R: Threads + Wait + Sync, G: Gate + Sync>(
     rt: &R,
     alloc: Global,
@@ -46,38 +41,36 @@ pub fn served<R: Threads + Wait + Sync, G: Gate + Sync>(
     texts: (&str, &str),
     workers: usize,
     viewers: usize,
-    written: &mut Vec<u8>,
-) -> Option<Vec<Vec<u64>>>
+) -> Option<(String, String)>
     requires workers { (1 ≤ workers) × (workers ≤ 16) }
     requires viewers { viewers ≤ 4 }
 {
-    let (model, scripts) = (texts.0.as_bytes(), texts.1.as_bytes());
-    let mut out = Device::new(written);
-    serve_texts_through(rt, alloc, gate, model, scripts, &mut out, workers, viewers).ok()
+    let (document, scripts) = (texts.0.as_bytes(), texts.1.as_bytes());
+    let mut written = Vec::new(alloc);
+    let mut writer = Device::new(&mut written);
+    let seen = serve_texts_through(
+        rt,
+        alloc,
+        gate,
+        document,
+        scripts,
+        &mut writer,
+        workers,
+        viewers,
+    );
+    drop(writer);
+    told(alloc, written.as_slice(), seen.ok()?.as_slice())
 }
 
-/// How many scripts of a run without viewers have committed; none where it isn't served.
-pub fn committed<R: Threads + Wait + Sync, G: Gate + Sync>(
-    rt: &R,
-    alloc: Global,
-    gate: &G,
-    texts: (&str, &str),
-    workers: usize,
-) -> Option<usize>
-    requires { (1 ≤ workers) × (workers ≤ 16) }
-{
-    let mut written = Vec::new(alloc);
-    let _seen = served(rt, alloc, gate, texts, workers, 0, &mut written)?;
-    Some(commits(written.as_slice()))
+fn told(alloc: Global, written: &[u8], seen: &[Vec<u64>]) -> Option<(String, String)> {
+    let text = str::from_utf8(written).ok()?.to_string(alloc).ok()?;
+    let seen = format!(in alloc; "{seen:?}").ok()?;
+    Some((text, seen))
 }
 
 /// How many scripts have committed, by the report.
-pub fn commits(written: &[u8]) -> usize {
-    let mut commits = 0usize;
-    for line in str::from_utf8(written).unwrap_or("").lines() {
-        if line.contains(r#""outcome":"committed""#) {
-            commits = commits.saturating_add(1);
-        }
-    }
-    commits
+pub fn commits(text: &str) -> usize {
+    text.lines()
+        .filter(|line| line.contains(r#""outcome":"committed""#))
+        .count()
 }

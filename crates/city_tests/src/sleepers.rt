@@ -1,11 +1,13 @@
 //! Workers that sleep are woken, by each end and by each death. Each run has a limit of time.
 use crate::meeting::PATIENT;
-use crate::served::committed;
+use crate::served::{commits, served};
 use city_crew::Gate;
-use std::alloc::{AllocError, Global};
+use std::alloc::Global;
+use std::fmt::Write;
 use std::process::Abort;
 use std::sync::Wait;
 use std::sync::atomic::{AtomicBool, AtomicU64, Ordering};
+use std::test::Fail;
 use std::thread;
 use std::thread::{Threads, join};
 use std::time::{Clock, Duration};
@@ -108,9 +110,10 @@ fn run<R: Threads + Wait + Sync>(
     scripts: &str,
     over: &AtomicBool,
 ) -> Option<usize> {
-    let committed = committed(rt, alloc, gate, (LAND, scripts), 3);
+    let answer = served(rt, alloc, gate, (LAND, scripts), 3, 0);
     over.store(true, Ordering::SeqCst);
-    committed
+    let (text, _) = answer?;
+    Some(commits(text.as_str()))
 }
 
 /// The same within a limit of time.
@@ -130,39 +133,27 @@ fn run_in_time<R: Threads + Wait + Clock + Abort + Sync>(
     committed
 }
 
-/// Whether all wait as these steps say, and so many scripts commit.
-fn are_woken<R: Threads + Wait + Clock + Abort + Sync>(
-    rt: &R,
-    alloc: Global,
-    steps: &[Step],
-    open: bool,
-    scripts: &str,
-    commits: usize,
-) -> bool {
-    let gate = InSteps::of(steps, open);
-    let committed = run_in_time(rt, alloc, &gate, scripts);
-    committed == Some(commits) && gate.missed.load(Ordering::SeqCst) == 0
-}
-
 /// Two pieces of land.
 const LAND: &str = model!(r#"{"x":{"type":"LandUse"},"y":{"type":"LandUse"}}"#, "[]");
 
-const PUT: &str = r#"{"put":"x","object":{"type":"LandUse"}},"#;
-
-/// What comes after the first of three scripts.
-const OTHERS: &str = concat!(
-    r#"]},{"name":"b","commands":[{"put":"x","object":{"type":"LandUse"}},"commit"]},"#,
-    r#"{"name":"c","commands":[{"put":"x","object":{"type":"LandUse"}},"commit"]}]"#
-);
-
-/// Adds three scripts that put `x`: the first `count` times, before it ends with `end`.
-fn add_scripts(text: &mut String, count: usize, end: &str) -> Result<(), AllocError> {
-    text.push_str(r#"[{"name":"a","commands":["#)?;
+/// So many puts of `x` with a comma after each.
+fn puts(alloc: Global, count: usize) -> Option<String> {
+    let mut text = String::new(alloc);
     for _ in 0..count {
-        text.push_str(PUT)?;
+        text.push_str(r#"{"put":"x","object":{"type":"LandUse"}},"#)
+            .ok()?;
     }
-    text.push_str(end)?;
-    text.push_str(OTHERS)
+    Some(text)
+}
+
+/// Three scripts that put `x`: the first `count` times, before it ends with `end`.
+fn three_scripts(alloc: Global, count: usize, end: &str) -> Option<String> {
+    let (first, other) = (puts(alloc, count)?, puts(alloc, 1)?);
+    let mut text = String::new(alloc);
+    write!(text, r#"[{{"name":"a","commands":[{first}{end}]}},"#).ok()?;
+    write!(text, r#"{{"name":"b","commands":[{other}"commit"]}},"#).ok()?;
+    write!(text, r#"{{"name":"c","commands":[{other}"commit"]}}]"#).ok()?;
+    Some(text)
 }
 
 /// The first script has `x`; the others die, the last of them first, and sleep until it ends.
@@ -179,35 +170,29 @@ const LAST_SLEEPS_LAST: &[Step] = &[(0, 3, 2, 2, 3), (1, 1, 0, 3, 0), (2, 1, 1, 
 /// The same where a worker passes the gate before many turns alone.
 const MANY_TURNS: &[Step] = &[(0, 2, 2, 1, 3), (1, 1, 0, 2, 0), (2, 1, 1, 1, 1)];
 
-/// Steps, whether the gate says that it holds nobody, and how often the first script puts `x`.
-const CASES: &[(&[Step], bool, usize)] = &[
-    (LAST_SLEEPS_FIRST, false, 1),
-    (LAST_SLEEPS_LAST, false, 1),
-    (MANY_TURNS, true, 200),
+/// How the first script ends, and how many scripts commit then.
+const ENDS: &[(&str, usize)] = &[
+    (r#""commit""#, 3),
+    (r#""abort""#, 2),
+    (r#"{"delete":"z"},"commit""#, 2),
 ];
 
-/// Whether an end of the first script wakes the others, so that so many commit.
-fn wakes<R: Threads + Wait + Clock + Abort + Sync>(
-    rt: &R,
-    alloc: Global,
-    end: &str,
-    commits: usize,
-) -> bool {
-    for (steps, open, count) in CASES {
-        let mut scripts = String::new(alloc);
-        let added = add_scripts(&mut scripts, *count, end).is_ok();
-        if !(added && are_woken(rt, alloc, steps, *open, scripts.as_str(), commits)) {
-            return false;
+#[test]
+fn an_end_wakes_all_that_sleep(rt: HostRuntime) -> Result<(), Fail> {
+    for (end, commits) in ENDS {
+        for (steps, open, count) in [
+            (LAST_SLEEPS_FIRST, false, 1),
+            (LAST_SLEEPS_LAST, false, 1),
+            (MANY_TURNS, true, 200),
+        ] {
+            let gate = InSteps::of(steps, open);
+            let scripts = three_scripts(rt.alloc(), count, end).ok_or("no memory")?;
+            let committed = run_in_time(&rt, rt.alloc(), &gate, scripts.as_str());
+            assert_eq!(&rt; committed, Some(*commits), "{end} {count}");
+            assert_eq!(&rt; gate.missed.load(Ordering::SeqCst), 0, "{end} {count}");
         }
     }
-    true
-}
-
-#[test]
-fn an_end_wakes_all_that_sleep(rt: HostRuntime) {
-    assert!(&rt; wakes(&rt, rt.alloc(), r#""commit""#, 3));
-    assert!(&rt; wakes(&rt, rt.alloc(), r#""abort""#, 2));
-    assert!(&rt; wakes(&rt, rt.alloc(), r#"{"delete":"z"},"commit""#, 2));
+    Ok(())
 }
 
 /// Two scripts that put the same objects in opposite orders.
@@ -224,6 +209,9 @@ const SLEEPS_BEFORE_A_DEATH: &[Step] = &[(1, 1, 0, 2, 0), (0, 3, 1, 3, 0), (1, 3
 #[test]
 fn a_death_wakes_one_that_waits(rt: HostRuntime) {
     for _ in 0..5 {
-        assert!(&rt; are_woken(&rt, rt.alloc(), SLEEPS_BEFORE_A_DEATH, false, OPPOSITE, 2));
+        let gate = InSteps::of(SLEEPS_BEFORE_A_DEATH, false);
+        let committed = run_in_time(&rt, rt.alloc(), &gate, OPPOSITE);
+        assert_eq!(&rt; committed, Some(2));
+        assert_eq!(&rt; gate.missed.load(Ordering::SeqCst), 0);
     }
 }

@@ -3,6 +3,7 @@ use crate::meeting::PATIENT;
 use crate::served::{EMPTY, TWO, commits, scripts_of_roads, served};
 use city_crew::Gate;
 use std::alloc::Global;
+use std::fmt::Write;
 use std::sync::Wait;
 use std::sync::atomic::{AtomicU64, Ordering};
 use std::test::Fail;
@@ -68,45 +69,46 @@ impl Gate for EachSeesEach {
     }
 }
 
-/// Whether these are the numbers from 0 to the last.
-fn is_each_number(numbers: &[u64], last: usize) -> bool {
-    for (place, number) in numbers.iter().enumerate() {
-        if *number != place as u64 {
-            return false;
-        }
+/// A list of the numbers from 0 to the last for each viewer, as `[[0, 1], [0, 1]]`.
+fn each_number(alloc: Global, viewers: usize, last: usize) -> Option<String> {
+    let mut numbers = "0".to_string(alloc).ok()?;
+    for number in 1..=last {
+        write!(numbers, ", {number}").ok()?;
     }
-    numbers.len() == last.saturating_add(1)
+    let mut all = "[".to_string(alloc).ok()?;
+    for viewer in 0..viewers {
+        let between = if viewer == 0 { "" } else { ", " };
+        write!(all, "{between}[{numbers}]").ok()?;
+    }
+    all.push(']').ok()?;
+    Some(all)
 }
 
-/// Whether so many viewers saw the numbers from 0 to the last each.
-fn saw_each_number(seen: &[Vec<u64>], viewers: usize, last: usize) -> bool {
-    for numbers in seen {
-        if !is_each_number(numbers.as_slice(), last) {
-            return false;
-        }
-    }
-    seen.len() == viewers
-}
-
-/// Whether all of so many scripts commit, and the viewers see each commit, none of which they miss.
-fn all_see<R: Threads + Wait + Sync>(
+/// What the viewers of so many scripts saw, all of which have to commit.
+fn seen_of<R: Threads + Wait + Sync>(
     rt: &R,
     alloc: Global,
     gate: &EachSeesEach,
-    texts: &str,
     scripts: usize,
     workers: usize,
-) -> bool {
+) -> Option<String> {
     if workers == 0 || workers > 16 || gate.viewers > 4 {
-        return false;
+        return None;
     }
-    let (texts, mut written) = ((EMPTY, texts), Vec::new(alloc));
-    let Some(seen) = served(rt, alloc, gate, texts, workers, gate.viewers, &mut written) else {
-        return false;
-    };
-    saw_each_number(seen.as_slice(), gate.viewers, scripts)
-        && commits(written.as_slice()) == scripts
-        && gate.missed.load(Ordering::SeqCst) == 0
+    let texts = scripts_of_roads(alloc, scripts).ok()?;
+    let (text, seen) = served(
+        rt,
+        alloc,
+        gate,
+        (EMPTY, texts.as_str()),
+        workers,
+        gate.viewers,
+    )?;
+    if commits(text.as_str()) == scripts {
+        Some(seen)
+    } else {
+        None
+    }
 }
 
 /// Workers, viewers and scripts, and whether the gate says that it holds nobody.
@@ -122,16 +124,25 @@ const RUNS: &[(usize, usize, usize, bool)] = &[
 #[test]
 fn each_viewer_sees_each_commit_before_the_next_script_begins(rt: HostRuntime) -> Result<(), Fail> {
     for (workers, viewers, scripts, open) in RUNS {
-        let texts = scripts_of_roads(rt.alloc(), *scripts)?;
         let gate = EachSeesEach::of(*viewers, *open);
-        let seen = all_see(&rt, rt.alloc(), &gate, texts.as_str(), *scripts, *workers);
-        assert!(&rt; seen, "{workers} {viewers} {scripts}");
+        let seen = seen_of(&rt, rt.alloc(), &gate, *scripts, *workers).ok_or("not served")?;
+        let wanted = each_number(rt.alloc(), *viewers, *scripts).ok_or("no memory")?;
+        assert_eq!(&rt; seen.as_str(), wanted.as_str());
+        assert_eq!(&rt;
+            gate.missed.load(Ordering::SeqCst),
+            0,
+            "{workers} {viewers}"
+        );
     }
     Ok(())
 }
 
 #[test]
-fn a_viewer_sees_a_change_while_scripts_run(rt: HostRuntime) {
+fn a_viewer_sees_a_change_while_scripts_run(rt: HostRuntime) -> Result<(), Fail> {
     let gate = EachSeesEach::of(1, false);
-    assert!(&rt; all_see(&rt, rt.alloc(), &gate, TWO, 2, 1));
+    let (text, seen) = served(&rt, rt.alloc(), &gate, (EMPTY, TWO), 1, 1).ok_or("not served")?;
+    assert_eq!(rt; commits(text.as_str()), 2);
+    assert_eq!(rt; seen.as_str(), "[[0, 1, 2]]");
+    assert_eq!(rt; gate.missed.load(Ordering::SeqCst), 0);
+    Ok(())
 }

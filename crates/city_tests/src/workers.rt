@@ -1,10 +1,11 @@
 //! As many workers as are asked for run scripts at once: they meet at a gate, and one more doesn't come.
 use crate::meeting::{Meeting, PATIENT, SHORT};
-use crate::served::{EMPTY, TWO, commits, committed, scripts_of_roads, served};
+use crate::served::{EMPTY, TWO, commits, scripts_of_roads, served};
 use city_crew::{Gate, run_crew};
 use std::alloc::Global;
 use std::sync::Wait;
 use std::sync::atomic::{AtomicU64, Ordering};
+use std::test::Fail;
 use std::thread::Threads;
 
 /// The first scripts meet: before they begin, or after their first replies. The gate may say that it holds nobody:
@@ -61,42 +62,38 @@ fn met<R: Threads + Wait + Sync>(
         return None;
     }
     let texts = scripts_of_roads(alloc, scripts).ok()?;
-    committed(rt, alloc, gate, (EMPTY, texts.as_str()), workers)
-}
-
-/// Whether all scripts commit and so many workers meet.
-fn all_meet<R: Threads + Wait + Sync>(
-    rt: &R,
-    alloc: Global,
-    (workers, scripts): (u32, usize),
-    open: bool,
-) -> bool {
-    let gate = ScriptsMeet::of(workers, PATIENT, open);
-    met(rt, alloc, &gate, scripts, workers as usize) == Some(scripts) && gate.meeting.missed() == 0
+    let (text, _) = served(rt, alloc, gate, (EMPTY, texts.as_str()), workers, 0)?;
+    Some(commits(text.as_str()))
 }
 
 #[test]
-fn as_many_workers_as_are_asked_for_meet(rt: HostRuntime) {
-    for crew in [(2, 2), (3, 3), (3, 40), (16, 16), (16, 100)] {
-        assert!(&rt; all_meet(&rt, rt.alloc(), crew, false), "{}", crew.1);
-        assert!(&rt; all_meet(&rt, rt.alloc(), crew, true), "{}", crew.1);
+fn as_many_workers_as_are_asked_for_meet(rt: HostRuntime) -> Result<(), Fail> {
+    for (workers, scripts) in [(2, 2), (3, 3), (3, 40), (16, 16), (16, 100)] {
+        for open in [false, true] {
+            let gate = ScriptsMeet::of(workers, PATIENT, open);
+            let committed = met(&rt, rt.alloc(), &gate, scripts, workers as usize);
+            assert_eq!(&rt; committed, Some(scripts), "{workers} {open}");
+            assert_eq!(&rt; gate.meeting.missed(), 0, "{workers} {open}");
+        }
     }
-}
-
-/// Whether all scripts commit and no more workers come than are asked for, where one more is awaited.
-fn no_more_come<R: Threads + Wait + Sync>(rt: &R, alloc: Global, workers: u32, open: bool) -> bool {
-    let scripts = workers.saturating_add(1);
-    let gate = ScriptsMeet::of(scripts, SHORT, open);
-    let committed = met(rt, alloc, &gate, scripts as usize, workers as usize);
-    committed == Some(scripts as usize) && gate.most.load(Ordering::SeqCst) == u64::from(workers)
+    Ok(())
 }
 
 #[test]
-fn no_more_workers_come_than_are_asked_for(rt: HostRuntime) {
-    for workers in [2, 5, 15] {
-        assert!(&rt; no_more_come(&rt, rt.alloc(), workers, false), "{workers}");
-        assert!(&rt; no_more_come(&rt, rt.alloc(), workers, true), "{workers}");
+fn no_more_workers_come_than_are_asked_for(rt: HostRuntime) -> Result<(), Fail> {
+    for (workers, scripts) in [(2, 3), (5, 6), (15, 16)] {
+        for open in [false, true] {
+            let gate = ScriptsMeet::of(scripts, SHORT, open);
+            let committed = met(&rt, rt.alloc(), &gate, scripts as usize, workers);
+            assert_eq!(&rt; committed, Some(scripts as usize), "{workers} {open}");
+            assert_eq!(&rt;
+                gate.most.load(Ordering::SeqCst),
+                workers as u64,
+                "{workers} {open}"
+            );
+        }
     }
+    Ok(())
 }
 
 const TWO_LEFT: &str = model!(
@@ -105,13 +102,13 @@ const TWO_LEFT: &str = model!(
 );
 
 #[test]
-fn two_workers_run_two_scripts_at_once(rt: HostRuntime) {
+fn two_workers_run_two_scripts_at_once(rt: HostRuntime) -> Result<(), Fail> {
     let gate = ScriptsMeet::of(2, PATIENT, false);
-    let mut written = Vec::new(rt.alloc());
-    let seen = served(&rt, rt.alloc(), &gate, (EMPTY, TWO), 2, 0, &mut written);
-    let text = str::from_utf8(written.as_slice()).unwrap_or("");
-    assert!(&rt; seen.is_some() && text.trim_end().ends_with(TWO_LEFT));
-    assert!(&rt; commits(written.as_slice()) == 2 && gate.meeting.missed() == 0);
+    let (text, _) = served(&rt, rt.alloc(), &gate, (EMPTY, TWO), 2, 0).ok_or("not served")?;
+    assert!(rt; text.as_str().trim_end().ends_with(TWO_LEFT));
+    assert_eq!(rt; commits(text.as_str()), 2);
+    assert_eq!(rt; gate.meeting.missed(), 0);
+    Ok(())
 }
 
 /// The report of one worker of the crew.
@@ -122,20 +119,20 @@ const IN_TURN: &str = concat!(
     "\n"
 );
 
-/// Whether one worker of the crew reports so, and leaves the three roads.
-fn one_reports<R: Threads + Wait + Sync>(rt: &R, alloc: Global, gate: &ScriptsMeet) -> bool {
-    let Ok(output) = run_crew(rt, alloc, EMPTY.as_bytes(), TWO.as_bytes(), 1, 0, gate) else {
-        return false;
-    };
-    match output.bytes.as_slice().strip_prefix(IN_TURN.as_bytes()) {
-        Some(left) => left.strip_suffix(b"\n") == Some(TWO_LEFT.as_bytes()),
-        None => false,
-    }
-}
-
 #[test]
-fn one_worker_runs_one_script_after_the_other(rt: HostRuntime) {
+fn one_worker_runs_one_script_after_the_other(rt: HostRuntime) -> Result<(), Fail> {
     let gate = ScriptsMeet::of(2, SHORT, false);
-    assert!(&rt; one_reports(&rt, rt.alloc(), &gate));
+    let output = run_crew(
+        &rt,
+        rt.alloc(),
+        EMPTY.as_bytes(),
+        TWO.as_bytes(),
+        1,
+        0,
+        &gate,
+    );
+    let wanted = format!(in rt.alloc(); "{IN_TURN}{TWO_LEFT}\n")?;
+    assert!(&rt; output.is_ok_and(|output| output.bytes.as_slice() == wanted.as_bytes()));
     assert_eq!(&rt; gate.meeting.missed(), 1);
+    Ok(())
 }

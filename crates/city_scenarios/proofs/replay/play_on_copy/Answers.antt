@@ -3,9 +3,9 @@ use Rattle.city_model.specs.CityMap.{CityValue, object_at}
 use Rattle.city_model.specs.Relations.{IsSound}
 use Rattle.city_scenarios.proofs.replay.play_on_copy.Goals as goal
 
-pub play_on-requires : goal.play_on-requires
-play_on-requires c =
+pub play-requires : goal.play-requires
+play-requires c =
     record {
-      city = c.requires;
-      copy = subst (λ (city : CityValue). IsSound (object_at city.1)) (sym c.in_ok-copy.ensures) c.requires;
+      opening = c.requires;
+      sound = subst (λ (city : CityValue). IsSound (object_at city.1)) (sym c.in_ok-copy.ensures) c.requires;
     }

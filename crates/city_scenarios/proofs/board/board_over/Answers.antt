@@ -1,0 +1,5 @@
+use Rattle.city_crew.proofs.LawfulCopy.{lawful_copy}
+use Rattle.city_scenarios.proofs.board.board_over.Goals as goal
+
+pub board-requires-clause-lawful : goal.board-requires-clause-lawful
+board-requires-clause-lawful g c = lawful_copy _ _ c.in-Ok.ensures c.requires.lawful
