@@ -82,10 +82,12 @@ fn level_fits(object: &Object) -> bool
 fn parents_fit(city: &City, id: &Id, object: &Object) -> bool
     ensures { result ≡ parents_fit (object_at city.now.1) id.now object.now }
 {
-    let parents = object.parents.as_slice();
-    parents
-        .iter()
-        .all(|parent| parent_fits(city, id, object, parent))
+    for parent in object.parents.as_slice() {
+        if !parent_fits(city, id, object, parent) {
+            return false;
+        }
+    }
+    true
 }
 
 fn parent_fits(city: &City, id: &Id, object: &Object, parent: &Id) -> bool
@@ -105,8 +107,12 @@ fn parent_fits(city: &City, id: &Id, object: &Object, parent: &Id) -> bool
 fn children_fit(city: &City, id: &Id, object: &Object) -> bool
     ensures { result ≡ children_fit (object_at city.now.1) id.now object.now }
 {
-    let children = object.children.as_slice();
-    children.iter().all(|child| child_fits(city, id, child))
+    for child in object.children.as_slice() {
+        if !child_fits(city, id, child) {
+            return false;
+        }
+    }
+    true
 }
 
 fn child_fits(city: &City, id: &Id, child: &Id) -> bool

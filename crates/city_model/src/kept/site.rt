@@ -18,19 +18,19 @@ pub trait Site {
 }
 
 /// The top of a document.
-#[derive(Clone, Copy, Debug)]
+#[derive(Clone, Copy)]
 pub struct AtTop;
 
 /// The member `transform` of a document.
-#[derive(Clone, Copy, Debug)]
+#[derive(Clone, Copy)]
 pub struct AtTransform;
 
 /// A city object.
-#[derive(Clone, Copy, Debug)]
+#[derive(Clone, Copy)]
 pub struct AtObject;
 
 /// A geometry of a city object.
-#[derive(Clone, Copy, Debug)]
+#[derive(Clone, Copy)]
 pub struct AtGeometry;
 
 /// Whether no member has this name.
