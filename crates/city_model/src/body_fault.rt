@@ -4,15 +4,16 @@ ghost use Rattle.std.specs.List.{list_any};
 ghost use Rattle.city_model.specs.Shells.{has_short_ring, has_same_twice, has_open_shell, some_shape, body_fault};
 ghost use Rattle.city_model.specs.inside.RingFaults.{has_ring_fault};
 
+use crate::OutOfMemory;
 use crate::command::Cause;
 use crate::object::{Body, Geometry};
 use crate::rings::{RingFault, has_ring_fault};
 use crate::shells::has_open_shell;
-use std::alloc::{AllocError, Global};
+use std::alloc::Global;
 
 /// The first of ShortRing, SameTwice and OpenShell that some geometry of the body has, or None. It
 /// fails only when out of memory, and only if no ring is at fault: judging rings doesn't allocate.
-pub fn body_fault(alloc: Global, body: &Body) -> Result<Option<Cause>, AllocError>
+pub fn body_fault(alloc: Global, body: &Body) -> Result<Option<Cause>, OutOfMemory>
     ensures fault { IfOk result (λ f. f ≡ body_fault body.now) }
     ensures no_short_ring { OnErr result (some_shape has_short_ring body.now ≡ false) }
     ensures no_same_twice { OnErr result (some_shape has_same_twice body.now ≡ false) }
@@ -57,7 +58,7 @@ fn any_faulty(fault: RingFault, geometry: &[Geometry]) -> bool
 }
 
 /// Whether a shell of some geometry is open.
-pub fn any_open_shell(alloc: Global, geometry: &[Geometry]) -> Result<bool, AllocError>
+pub fn any_open_shell(alloc: Global, geometry: &[Geometry]) -> Result<bool, OutOfMemory>
     ensures { IfOk result (λ b. b ≡ list_any (λ g. has_open_shell g.shape) geometry.now) }
 {
     for g in geometry {

@@ -12,7 +12,7 @@ use crate::OutOfMemory;
 use crate::copied::{Copied, copy_map};
 use crate::object::Object;
 use crate::text::Id;
-use std::alloc::{AllocError, Global};
+use std::alloc::Global;
 use std::collections::{BTreeMap, btree_map};
 use std::marker::Model;
 
@@ -94,7 +94,7 @@ impl Change {
 }
 
 impl Copied for Change {
-    fn copy(&self, alloc: Global) -> Result<Change, AllocError> {
+    fn copy(&self, alloc: Global) -> Result<Change, OutOfMemory> {
         let writes = copy_map(alloc, &self.writes)?;
         Ok(Change { writes })
     }

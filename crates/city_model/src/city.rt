@@ -10,7 +10,7 @@ use crate::frame::Frame;
 use crate::id_list::is_same_id;
 use crate::object::Object;
 use crate::text::Id;
-use std::alloc::{AllocError, Global};
+use std::alloc::Global;
 use std::collections::{BTreeMap, btree_map};
 use std::marker::Model;
 
@@ -151,7 +151,7 @@ impl City {
 }
 
 impl Copied for City {
-    fn copy(&self, alloc: Global) -> Result<City, AllocError> {
+    fn copy(&self, alloc: Global) -> Result<City, OutOfMemory> {
         let frame = self.frame.copy(alloc)?;
         let objects = copy_map(alloc, &self.objects)?;
         Ok(City { frame, objects })

@@ -1,35 +1,36 @@
 //! Values that can be copied, unless memory runs out.
 ghost use Rattle.std.specs.Prelude.{◌≡◌, IfOk};
 
+use crate::OutOfMemory;
 use crate::frame::Frame;
 use crate::kept::extra::Extra;
 use crate::kept::site::Site;
 use crate::object::{Body, Geometry, Object, Point, Shape};
 use crate::sequence::Sequence;
 use crate::text::Text;
-use std::alloc::{AllocError, Global};
+use std::alloc::Global;
 use std::collections::BTreeMap;
 
 /// A value that can be copied.
 pub trait Copied {
-    fn copy(&self, alloc: Global) -> Result<Self, AllocError>
+    fn copy(&self, alloc: Global) -> Result<Self, OutOfMemory>
         ensures { IfOk result (λ c. c ≡ self.now) };
 }
 
 impl Copied for Point {
-    fn copy(&self, _alloc: Global) -> Result<Point, AllocError> {
+    fn copy(&self, _alloc: Global) -> Result<Point, OutOfMemory> {
         Ok(*self)
     }
 }
 
 impl Copied for Text {
-    fn copy(&self, alloc: Global) -> Result<Text, AllocError> {
+    fn copy(&self, alloc: Global) -> Result<Text, OutOfMemory> {
         Ok(Text::new(self.as_str().to_string(alloc)?))
     }
 }
 
 impl<T: Copied + Drop> Copied for Sequence<T> {
-    fn copy(&self, alloc: Global) -> Result<Sequence<T>, AllocError> {
+    fn copy(&self, alloc: Global) -> Result<Sequence<T>, OutOfMemory> {
         let items = self.as_slice();
         let mut copies = Vec::with_capacity(alloc, items.len())?;
         for item in items {
@@ -40,13 +41,13 @@ impl<T: Copied + Drop> Copied for Sequence<T> {
 }
 
 impl<P: Site> Copied for Extra<P> {
-    fn copy(&self, _alloc: Global) -> Result<Extra<P>, AllocError> {
+    fn copy(&self, _alloc: Global) -> Result<Extra<P>, OutOfMemory> {
         self.copy_members()
     }
 }
 
 impl Copied for Shape {
-    fn copy(&self, alloc: Global) -> Result<Shape, AllocError> {
+    fn copy(&self, alloc: Global) -> Result<Shape, OutOfMemory> {
         match self {
             Shape::MultiSurface(surfaces) => Ok(Shape::MultiSurface(surfaces.copy(alloc)?)),
             Shape::CompositeSurface(surfaces) => {
@@ -60,7 +61,7 @@ impl Copied for Shape {
 }
 
 impl Copied for Geometry {
-    fn copy(&self, alloc: Global) -> Result<Geometry, AllocError> {
+    fn copy(&self, alloc: Global) -> Result<Geometry, OutOfMemory> {
         Ok(Geometry {
             lod: self.lod.copy(alloc)?,
             shape: self.shape.copy(alloc)?,
@@ -70,7 +71,7 @@ impl Copied for Geometry {
 }
 
 impl Copied for Body {
-    fn copy(&self, alloc: Global) -> Result<Body, AllocError> {
+    fn copy(&self, alloc: Global) -> Result<Body, OutOfMemory> {
         Ok(Body {
             kind: self.kind,
             geometry: self.geometry.copy(alloc)?,
@@ -80,7 +81,7 @@ impl Copied for Body {
 }
 
 impl Copied for Object {
-    fn copy(&self, alloc: Global) -> Result<Object, AllocError> {
+    fn copy(&self, alloc: Global) -> Result<Object, OutOfMemory> {
         Ok(Object {
             body: self.body.copy(alloc)?,
             parents: self.parents.copy(alloc)?,
@@ -90,7 +91,7 @@ impl Copied for Object {
 }
 
 impl Copied for Frame {
-    fn copy(&self, alloc: Global) -> Result<Frame, AllocError> {
+    fn copy(&self, alloc: Global) -> Result<Frame, OutOfMemory> {
         Ok(Frame {
             scale: self.scale,
             translate: self.translate,
@@ -101,7 +102,7 @@ impl Copied for Frame {
 }
 
 impl<T: Copied> Copied for Option<T> {
-    fn copy(&self, alloc: Global) -> Result<Option<T>, AllocError> {
+    fn copy(&self, alloc: Global) -> Result<Option<T>, OutOfMemory> {
         match self {
             None => Ok(None),
             Some(item) => Ok(Some(item.copy(alloc)?)),
@@ -110,7 +111,7 @@ impl<T: Copied> Copied for Option<T> {
 }
 
 impl<A: Copied + Drop, B: Copied> Copied for (A, B) {
-    fn copy(&self, alloc: Global) -> Result<(A, B), AllocError> {
+    fn copy(&self, alloc: Global) -> Result<(A, B), OutOfMemory> {
         let first = self.0.copy(alloc)?;
         let second = self.1.copy(alloc)?;
         Ok((first, second))
@@ -121,7 +122,7 @@ impl<A: Copied + Drop, B: Copied> Copied for (A, B) {
 pub fn copy_map<K: Copied + Ord + Drop, V: Copied + Drop>(
     alloc: Global,
     map: &BTreeMap<K, V>,
-) -> Result<BTreeMap<K, V>, AllocError>
+) -> Result<BTreeMap<K, V>, OutOfMemory>
     ensures { IfOk result (λ c. c.entries ≡ map.now.entries) }
 {
     let mut copies = BTreeMap::new(alloc);

@@ -3,8 +3,9 @@ ghost use Rattle.std.specs.Prelude.{◌≡◌, [], ◌∷◌, ◌++◌, map, IfO
 ghost use Rattle.city_model.specs.Shells.{ring_edges, surface_edges, edges_of, flipped};
 ghost use Rattle.city_model.specs.inside.RisingEdges.{rising};
 
+use crate::OutOfMemory;
 use crate::object::{Point, Ring, Shell, Surface};
-use std::alloc::{AllocError, Global};
+use std::alloc::Global;
 use std::cmp::Ordering;
 
 /// A point of a ring and the next one.
@@ -21,7 +22,7 @@ pub struct Edges {
 
 impl Edges {
     /// Notes an edge, in both lists if its points are the same.
-    fn push(&mut self, from: Point, to: Point) -> Result<(), AllocError>
+    fn push(&mut self, from: Point, to: Point) -> Result<(), OutOfMemory>
         ensures up { OnOk result (self.new.up.items ≡ self.old.up.items ++ rising ((from, to) ∷ [])) }
         ensures down { OnOk result (self.new.down.items ≡ self.old.down.items ++ rising ((to, from) ∷ [])) }
     {
@@ -37,7 +38,7 @@ impl Edges {
     }
 }
 
-fn push_ring(edges: &mut Edges, ring: &Ring) -> Result<(), AllocError>
+fn push_ring(edges: &mut Edges, ring: &Ring) -> Result<(), OutOfMemory>
     ensures up { OnOk result (edges.new.up.items ≡ edges.old.up.items ++ rising (ring_edges ring.now)) }
     ensures down { OnOk result (edges.new.down.items ≡ edges.old.down.items ++ rising (map flipped (ring_edges ring.now))) }
 {
@@ -52,7 +53,7 @@ fn push_ring(edges: &mut Edges, ring: &Ring) -> Result<(), AllocError>
     edges.push(last, *first)
 }
 
-fn push_surface(edges: &mut Edges, surface: &Surface) -> Result<(), AllocError>
+fn push_surface(edges: &mut Edges, surface: &Surface) -> Result<(), OutOfMemory>
     ensures up { OnOk result (edges.new.up.items ≡ edges.old.up.items ++ rising (surface_edges surface.now)) }
     ensures down { OnOk result (edges.new.down.items ≡ edges.old.down.items ++ rising (map flipped (surface_edges surface.now))) }
 {
@@ -84,7 +85,7 @@ fn points_in(shell: &Shell) -> usize {
 }
 
 /// Notes the edges of all rings of the shell, one after another.
-pub fn edges_of(alloc: Global, shell: &Shell) -> Result<Edges, AllocError>
+pub fn edges_of(alloc: Global, shell: &Shell) -> Result<Edges, OutOfMemory>
     ensures up { IfOk result (λ es. es.up.items ≡ rising (edges_of shell.now)) }
     ensures down { IfOk result (λ es. es.down.items ≡ rising (map flipped (edges_of shell.now))) }
 {

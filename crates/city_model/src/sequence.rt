@@ -3,7 +3,8 @@ ghost use Rattle.std.specs.Prelude.{◌≡◌, [], ◌∷◌, ◌++◌, length, 
 ghost use Rattle.std.specs.Fn.{CalledAt};
 ghost use Rattle.std.specs.List.Retain.{IsFiltered};
 
-use std::alloc::{AllocError, Global};
+use crate::OutOfMemory;
+use std::alloc::Global;
 use std::marker::Model;
 
 /// A list of items, without its capacity.
@@ -31,7 +32,7 @@ impl<T> Sequence<T> {
     }
 
     /// A list of no items, with room for as many as are named. It fails only when out of memory.
-    pub fn with_capacity(alloc: Global, room: usize) -> Result<Self, AllocError>
+    pub fn with_capacity(alloc: Global, room: usize) -> Result<Self, OutOfMemory>
         ensures { IfOk result (λ s. s ≡ []) }
     {
         let items = Vec::with_capacity(alloc, room)?;
@@ -68,7 +69,7 @@ impl<T> Sequence<T> {
 
     /// Adds an item at the end. If memory runs out, the list stays as it was, and
     /// the item is dropped.
-    pub fn push(&mut self, item: T) -> Result<(), AllocError>
+    pub fn push(&mut self, item: T) -> Result<(), OutOfMemory>
     where
         T: Drop,
         ensures ok { OnOk result (self.new ≡ self.old ++ item ∷ []) }

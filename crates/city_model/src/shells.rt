@@ -5,10 +5,11 @@ ghost use Rattle.std.specs.List.Sorted.{IsSorted};
 ghost use Rattle.std.specs.Ordering.{eq_by_cmp};
 ghost use Rattle.city_model.specs.Shells.{occurs_once, is_closed, is_open_shell, has_open_shell};
 
+use crate::OutOfMemory;
 use crate::edges::edges_of;
 use crate::object::{Shape, Shell, Solid};
 use crate::shape::Bounds;
-use std::alloc::{AllocError, Global};
+use std::alloc::Global;
 
 /// Whether an item is repeated, where the items are in order.
 fn has_repeats<T: Ord>(items: &[T]) -> bool
@@ -25,7 +26,7 @@ fn has_repeats<T: Ord>(items: &[T]) -> bool
 
 /// Whether each edge of the shell is run once each way. For n edges it takes time in proportion to
 /// n log n. It fails only when out of memory.
-pub fn shell_closed(alloc: Global, shell: &Shell) -> Result<bool, AllocError>
+pub fn shell_closed(alloc: Global, shell: &Shell) -> Result<bool, OutOfMemory>
     ensures { IfOk result (λ b. b ≡ is_closed shell.now) }
 {
     let mut edges = edges_of(alloc, shell)?;
@@ -36,7 +37,7 @@ pub fn shell_closed(alloc: Global, shell: &Shell) -> Result<bool, AllocError>
 }
 
 /// Whether a shell of one of the shape's solids isn't closed. It fails only when out of memory.
-pub fn has_open_shell(alloc: Global, shape: &Shape) -> Result<bool, AllocError>
+pub fn has_open_shell(alloc: Global, shape: &Shape) -> Result<bool, OutOfMemory>
     ensures { IfOk result (λ b. b ≡ has_open_shell shape.now) }
 {
     match shape.bounds() {
@@ -46,7 +47,7 @@ pub fn has_open_shell(alloc: Global, shape: &Shape) -> Result<bool, AllocError>
     }
 }
 
-fn any_open_in(alloc: Global, solids: &[Solid]) -> Result<bool, AllocError>
+fn any_open_in(alloc: Global, solids: &[Solid]) -> Result<bool, OutOfMemory>
     ensures { IfOk result (λ b. b ≡ list_any (list_any is_open_shell) solids.now) }
 {
     for solid in solids {
@@ -57,7 +58,7 @@ fn any_open_in(alloc: Global, solids: &[Solid]) -> Result<bool, AllocError>
     Ok(false)
 }
 
-fn any_open(alloc: Global, shells: &[Shell]) -> Result<bool, AllocError>
+fn any_open(alloc: Global, shells: &[Shell]) -> Result<bool, OutOfMemory>
     ensures { IfOk result (λ b. b ≡ list_any is_open_shell shells.now) }
 {
     for shell in shells {

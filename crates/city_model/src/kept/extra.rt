@@ -1,10 +1,10 @@
 //! The kept members of a site.
 ghost use Rattle.std.specs.Prelude.{◌≡◌, true, false, IfOk, IfErr, IsTrue, is_ok};
 
+use crate::OutOfMemory;
 use crate::kept::site::Site;
 use crate::members::members_count;
 use serde_json::{Map, Value};
-use std::alloc::AllocError;
 use std::marker::{Model, PhantomData};
 
 /// The members that are kept at the site `P`, as JSON, value for value.
@@ -70,7 +70,7 @@ impl<P: Site> Extra<P> {
     }
 
     /// A copy of the members as a map, to which others may be added.
-    pub fn to_map(&self) -> Result<Map<String, Value>, AllocError>
+    pub fn to_map(&self) -> Result<Map<String, Value>, OutOfMemory>
         ensures members { IfOk result (λ m. members_view m.entries ≡ self.now) }
         ensures kept { P.keeps self.now ≡ true }
         ensures ordered { AreOrdered self.now }
@@ -80,7 +80,7 @@ impl<P: Site> Extra<P> {
     }
 
     /// A copy.
-    pub fn copy_members(&self) -> Result<Self, AllocError>
+    pub fn copy_members(&self) -> Result<Self, OutOfMemory>
         ensures { IfOk result (λ e. e ≡ self.now) }
     {
         Ok(Extra {
