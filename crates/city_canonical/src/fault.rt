@@ -3,7 +3,7 @@ ghost use Rattle.std.specs.Prelude.{◌≡◌};
 
 use city_decimals::DecimalsFault;
 use city_doc::ReadFault;
-use std::alloc::AllocError;
+use city_model::OutOfMemory;
 
 /// Why a text has no canonical form.
 #[derive(Debug, Drop)]
@@ -16,13 +16,13 @@ pub enum CanonicalFault {
     NotModel(ReadFault),
 }
 
-impl From<AllocError> for CanonicalFault {
+impl From<OutOfMemory> for CanonicalFault {
     ghost use Rattle.city_canonical.specs.declared.fault.CanonicalFault.TheVariants.{OutOfMemory};
     ghost use Rattle.std.specs.Prelude.{◌≡◌};
 
     ghost from_gives = { λ _ e. e ≡ OutOfMemory };
 
-    fn from(_refused: AllocError) -> CanonicalFault {
+    fn from(_refused: OutOfMemory) -> CanonicalFault {
         CanonicalFault::OutOfMemory
     }
 }

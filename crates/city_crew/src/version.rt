@@ -2,11 +2,12 @@
 use crate::apply::apply;
 use crate::history::History;
 use city_desk::OpeningCity;
+use city_model::OutOfMemory;
 use city_model::change::Change;
 use city_model::city::City;
 use city_model::copied::Copied;
 use left_right::Absorb;
-use std::alloc::{AllocError, Global};
+use std::alloc::Global;
 
 /// The city after the changes of `history`.
 #[derive(Drop)]
@@ -33,10 +34,10 @@ impl Absorb<Edit> for Version {
 
     ghost applied = { edited };
 
-    fn absorb_first(&mut self, edit: &Edit, _other: &Version) -> Result<(), AllocError> {
+    fn absorb_first(&mut self, edit: &Edit, _other: &Version) -> Result<(), OutOfMemory> {
         let change = edit.change.copy(self.alloc)?;
         if apply(self.alloc, &mut self.city, change).is_err() {
-            return Err(AllocError);
+            return Err(OutOfMemory);
         }
         self.history = edit.history.again();
         Ok(())

@@ -1,7 +1,7 @@
 //! Why a text is neither encoded nor decoded.
 ghost use Rattle.std.specs.Prelude.{◌≡◌};
 
-use std::alloc::AllocError;
+use crate::OutOfMemory;
 
 /// Why a text is neither encoded nor decoded.
 #[derive(Clone, Copy, Debug, Drop, PartialEq, Eq)]
@@ -12,13 +12,13 @@ pub enum DecimalsFault {
     NotJson,
 }
 
-impl From<AllocError> for DecimalsFault {
+impl From<OutOfMemory> for DecimalsFault {
     ghost use Rattle.city_decimals.specs.declared.fault.DecimalsFault.TheVariants.{OutOfMemory};
     ghost use Rattle.std.specs.Prelude.{◌≡◌};
 
     ghost from_gives = { λ _ e. e ≡ OutOfMemory };
 
-    fn from(_refused: AllocError) -> DecimalsFault {
+    fn from(_refused: OutOfMemory) -> DecimalsFault {
         DecimalsFault::OutOfMemory
     }
 }

@@ -25,3 +25,6 @@ pub use encoding::encode;
 pub use fault::DecimalsFault;
 pub use laws::what_is_kept;
 pub use lines::decode_lines;
+
+/// The one error for being out of memory, under the project's word for it.
+pub(crate) use std::alloc::AllocError as OutOfMemory;

@@ -1,6 +1,6 @@
 //! Why a run ends without an answer.
 use city_doc::{ReadFault, ScriptFault};
-use std::alloc::AllocError;
+use city_model::OutOfMemory;
 use std::error::Error;
 use std::fmt::{self, Display, Formatter, Write};
 
@@ -41,13 +41,13 @@ impl Display for RunFault {
 
 impl Error for RunFault {}
 
-impl From<AllocError> for RunFault {
+impl From<OutOfMemory> for RunFault {
     ghost use Rattle.std.specs.Prelude.{◌≡◌};
     ghost use Rattle.city_desk.specs.declared.fault.RunFault.{RunFault};
 
     ghost from_gives = { λ _ f. f ≡ RunFault.OutOfMemory };
 
-    fn from(_: AllocError) -> RunFault {
+    fn from(_: OutOfMemory) -> RunFault {
         RunFault::OutOfMemory
     }
 }

@@ -9,9 +9,10 @@ ghost use Rattle.city_serve.specs.inside.CommandShape.{cityed_command, files_com
 ghost use Rattle.city_serve.specs.inside.CommandShape.{AnswersPlaces};
 
 use city_crew::{MAX_VIEWERS, MAX_WORKERS};
+use city_model::OutOfMemory;
 use clap::error::ErrorKind;
 use clap::{Arg, ArgAction, Command, Error};
-use std::alloc::{AllocError, Global};
+use std::alloc::Global;
 
 const MODEL: &str = "MODEL";
 
@@ -85,13 +86,13 @@ pub enum LineFault {
     OutOfMemory,
 }
 
-impl From<AllocError> for LineFault {
+impl From<OutOfMemory> for LineFault {
     ghost use Rattle.std.specs.Prelude.{◌≡◌};
     ghost use Rattle.city_serve.specs.declared.command_line.LineFault.{LineFault};
 
     ghost from_gives = { λ _ f. f ≡ LineFault.OutOfMemory };
 
-    fn from(_: AllocError) -> LineFault {
+    fn from(_: OutOfMemory) -> LineFault {
         LineFault::OutOfMemory
     }
 }
@@ -128,7 +129,7 @@ pub fn asked_by<'a>(alloc: Global, words: &'a [String]) -> Result<Asked<'a>, Lin
 }
 
 /// The program's command line.
-fn command<'a>(alloc: Global) -> Result<Command<'a>, AllocError>
+fn command<'a>(alloc: Global) -> Result<Command<'a>, OutOfMemory>
     ensures { IfOk result (λ c. app_of c ≡ cityed_command) }
 {
     let decimals = "Take numbers of any form, and give them back as they were written";
@@ -141,7 +142,7 @@ fn command<'a>(alloc: Global) -> Result<Command<'a>, AllocError>
 }
 
 /// The command line without its options.
-fn files_command<'a>(alloc: Global) -> Result<Command<'a>, AllocError>
+fn files_command<'a>(alloc: Global) -> Result<Command<'a>, OutOfMemory>
     ensures { IfOk result (λ c. app_of c ≡ files_command) }
 {
     let model = Arg::new(alloc, MODEL).help("A file with a CityJSON 2.0 document");
@@ -226,7 +227,7 @@ fn mistake<'a>(
     alloc: Global,
     command: &mut Command<'a>,
     message: &str,
-) -> Result<LineFault, AllocError> {
+) -> Result<LineFault, OutOfMemory> {
     let error = command.error(ErrorKind::ValueValidation, message)?;
     Ok(LineFault::Refused(error.to_string(alloc)?))
 }

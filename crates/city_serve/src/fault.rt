@@ -1,6 +1,6 @@
 //! Why bytes were not served.
 use city_desk::RunFault;
-use std::alloc::AllocError;
+use city_model::OutOfMemory;
 use std::error::Error;
 use std::fmt::{self, Display, Formatter, Write};
 
@@ -32,14 +32,14 @@ impl Display for ServeFault {
 
 impl Error for ServeFault {}
 
-impl From<AllocError> for ServeFault {
+impl From<OutOfMemory> for ServeFault {
     ghost use Rattle.std.specs.Prelude.{◌≡◌};
     ghost use Rattle.city_desk.specs.declared.fault.RunFault.{RunFault};
     ghost use Rattle.city_serve.specs.declared.fault.ServeFault.{ServeFault};
 
     ghost from_gives = { λ _ f. f ≡ ServeFault.Run RunFault.OutOfMemory };
 
-    fn from(_: AllocError) -> ServeFault {
+    fn from(_: OutOfMemory) -> ServeFault {
         ServeFault::Run(RunFault::OutOfMemory)
     }
 }

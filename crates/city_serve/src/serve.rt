@@ -9,8 +9,9 @@ use crate::device::Device;
 use crate::fault::ServeFault;
 use crate::serve_texts::serve_owned_texts;
 use city_doc::MAX_TEXT;
+use city_model::OutOfMemory;
 use memchr::memchr;
-use std::alloc::{AllocError, Global};
+use std::alloc::Global;
 use std::io::{Read, Write};
 use std::sync::Wait;
 use std::thread::Threads;
@@ -77,7 +78,7 @@ pub(crate) fn read_at_most<R: Read>(
 }
 
 /// The document and the scripts of an input, each on its own.
-pub(crate) fn split(alloc: Global, input: Vec<u8>) -> Result<(Vec<u8>, Vec<u8>), AllocError>
+pub(crate) fn split(alloc: Global, input: Vec<u8>) -> Result<(Vec<u8>, Vec<u8>), OutOfMemory>
     ensures document { IfOk result (λ r. r.0.items ≡ document_part input.items) }
     ensures scripts { IfOk result (λ r. r.1.items ≡ scripts_part input.items) }
 {

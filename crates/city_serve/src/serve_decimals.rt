@@ -18,7 +18,8 @@ use crate::serve_texts::write_run;
 use city_decimals::{DecimalsFault, decode_lines, encode};
 use city_desk::{Output, RunFault};
 use city_doc::MAX_TEXT;
-use std::alloc::{AllocError, Global};
+use city_model::OutOfMemory;
+use std::alloc::Global;
 use std::io::{Read, Write};
 use std::sync::Wait;
 use std::thread::Threads;
@@ -103,7 +104,7 @@ fn run_decimals<R: Threads + Wait + Sync>(
 
 /// What the run is given of a text: the encoded text. A text that is too long or no JSON stays as it is: the run
 /// refuses it.
-fn encoded(alloc: Global, text: Vec<u8>) -> Result<Vec<u8>, AllocError>
+fn encoded(alloc: Global, text: Vec<u8>) -> Result<Vec<u8>, OutOfMemory>
     ensures given { IfOk result (λ v. IsGiven text.items v.items) }
     ensures whole { IfOk result (λ v. HasWholeNumbers v.items) }
 {
@@ -113,6 +114,6 @@ fn encoded(alloc: Global, text: Vec<u8>) -> Result<Vec<u8>, AllocError>
     match encode(alloc, text.as_slice()) {
         Ok(encoded) => Ok(encoded),
         Err(DecimalsFault::NotJson) => Ok(text),
-        Err(DecimalsFault::OutOfMemory) => Err(AllocError),
+        Err(DecimalsFault::OutOfMemory) => Err(OutOfMemory),
     }
 }

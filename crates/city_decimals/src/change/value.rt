@@ -13,13 +13,14 @@ ghost use Rattle.city_decimals.specs.inside.Ways.{changed, items_changed, member
 ghost use Rattle.city_decimals.specs.inside.Ways.{object_made, is_decode};
 ghost use Rattle.city_decimals.specs.declared.fault.DecimalsFault.TheVariants.{NotJson};
 
+use crate::OutOfMemory;
 use crate::decoding::{decode_first_member, decode_member_tree};
 use crate::encoding::{encode_member_tree, encode_number};
 use crate::fault::DecimalsFault;
 use crate::shapes::{can_have_form, is_tag};
 use crate::way::Way;
 use json::{MAX_DEPTH, Reader, Token, Writer};
-use std::alloc::{AllocError, Global};
+use std::alloc::Global;
 
 /// Writes the value of a whole text, changed.
 pub(crate) fn change_top(
@@ -280,7 +281,7 @@ fn change_member_tree(
 
 /// Writes a number, changed.
 #[inline(always)]
-fn write_number(way: Way, text: &str, out: &mut Writer) -> Result<(), AllocError>
+fn write_number(way: Way, text: &str, out: &mut Writer) -> Result<(), OutOfMemory>
     requires number { IsNumber text.now }
     ensures before { OnOk result (out.new.before ≡ out.old.before) }
     ensures tokens { OnOk result (out.new.tokens

@@ -10,14 +10,14 @@ ghost use Rattle.city_decimals.specs.Decoded.{number_in, number_under, decoded, 
 ghost use Rattle.city_decimals.specs.inside.Objects.{decoded_object};
 
 use super::inner::inner;
+use crate::OutOfMemory;
 use crate::numbers::is_number;
 use crate::shapes::is_tag;
 use json::{Value, Writer};
-use std::alloc::AllocError;
 
 /// Writes a decoded value.
 #[cycle(decode)]
-pub(super) fn decode_tree(value: &Value<'_>, out: &mut Writer) -> Result<(), AllocError>
+pub(super) fn decode_tree(value: &Value<'_>, out: &mut Writer) -> Result<(), OutOfMemory>
     requires numbers { HasNumbers (value_view value.now) }
     ensures before { OnOk result (out.new.before ≡ out.old.before) }
     ensures tokens { OnOk result (out.new.tokens
@@ -38,7 +38,7 @@ pub(super) fn decode_tree(value: &Value<'_>, out: &mut Writer) -> Result<(), All
 
 /// Writes decoded items, and the bracket that closes them.
 #[cycle(decode)]
-fn decode_tree_items(items: &Vec<Value<'_>>, out: &mut Writer) -> Result<(), AllocError>
+fn decode_tree_items(items: &Vec<Value<'_>>, out: &mut Writer) -> Result<(), OutOfMemory>
     requires numbers { ItemsHaveNumbers (items_view items.now.items) }
     ensures before { OnOk result (out.new.before ≡ out.old.before) }
     ensures tokens { OnOk result (out.new.tokens
@@ -55,7 +55,7 @@ fn decode_tree_items(items: &Vec<Value<'_>>, out: &mut Writer) -> Result<(), All
 fn decode_tree_object<'a>(
     members: &Vec<(&'a str, Value<'a>)>,
     out: &mut Writer,
-) -> Result<(), AllocError>
+) -> Result<(), OutOfMemory>
     requires numbers { MembersHaveNumbers (members_view members.now.items) }
     ensures before { OnOk result (out.new.before ≡ out.old.before) }
     ensures tokens { OnOk result (out.new.tokens
@@ -78,7 +78,7 @@ pub(super) fn decode_first(
     name: &str,
     value: &Value<'_>,
     out: &mut Writer,
-) -> Result<(), AllocError>
+) -> Result<(), OutOfMemory>
     requires numbers { HasNumbers (value_view value.now) }
     ensures before { OnOk result (out.new.before ≡ out.old.before) }
     ensures tokens { OnOk result (out.new.tokens ≡ out.old.tokens ++ begin_object ∷ key name.now
@@ -95,7 +95,7 @@ pub(super) fn decode_alone(
     name: &str,
     value: &Value<'_>,
     out: &mut Writer,
-) -> Result<(), AllocError>
+) -> Result<(), OutOfMemory>
     requires numbers { HasNumbers (value_view value.now) }
     ensures before { OnOk result (out.new.before ≡ out.old.before) }
     ensures tokens { OnOk result (out.new.tokens ≡ out.old.tokens

@@ -4,12 +4,12 @@ ghost use Rattle.json.specs.Tree.{json_tokens};
 ghost use Rattle.city_decimals.specs.Shapes.{three};
 ghost use Rattle.city_decimals.specs.inside.Forms.{tokens_before, tokens_after};
 
+use crate::OutOfMemory;
 use crate::shapes::{Form, TAG};
 use json::Writer;
-use std::alloc::AllocError;
 
 /// Writes what a form has before its value.
-pub(super) fn begin_form(form: Form, out: &mut Writer) -> Result<(), AllocError>
+pub(super) fn begin_form(form: Form, out: &mut Writer) -> Result<(), OutOfMemory>
     ensures before { OnOk result (out.new.before ≡ out.old.before) }
     ensures tokens { OnOk result (out.new.tokens ≡ out.old.tokens ++ tokens_before form) }
 {
@@ -24,7 +24,7 @@ pub(super) fn begin_form(form: Form, out: &mut Writer) -> Result<(), AllocError>
 }
 
 /// Writes what a form has after its value.
-pub(super) fn end_form(form: Form, out: &mut Writer) -> Result<(), AllocError>
+pub(super) fn end_form(form: Form, out: &mut Writer) -> Result<(), OutOfMemory>
     ensures before { OnOk result (out.new.before ≡ out.old.before) }
     ensures tokens { OnOk result (out.new.tokens ≡ out.old.tokens ++ tokens_after form) }
 {
@@ -42,7 +42,7 @@ pub(super) fn end_form(form: Form, out: &mut Writer) -> Result<(), AllocError>
 }
 
 /// Writes an array of three equal numbers.
-fn write_three(n: u64, out: &mut Writer) -> Result<(), AllocError>
+fn write_three(n: u64, out: &mut Writer) -> Result<(), OutOfMemory>
     ensures before { OnOk result (out.new.before ≡ out.old.before) }
     ensures tokens { OnOk result (out.new.tokens ≡ out.old.tokens ++ json_tokens (three (decimal n))) }
 {

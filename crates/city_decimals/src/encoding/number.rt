@@ -5,14 +5,14 @@ ghost use Rattle.json.specs.Print.{IsNumber};
 ghost use Rattle.json.specs.Tree.{json_tokens};
 ghost use Rattle.city_decimals.specs.Encoded.{encoded};
 
+use crate::OutOfMemory;
 use crate::numbers::is_whole;
 use crate::shapes::TAG;
 use json::Writer;
-use std::alloc::AllocError;
 
 /// Writes an encoded number.
 #[inline(always)]
-pub(crate) fn encode_number(text: &str, out: &mut Writer) -> Result<(), AllocError>
+pub(crate) fn encode_number(text: &str, out: &mut Writer) -> Result<(), OutOfMemory>
     requires number { IsNumber text.now }
     ensures before { OnOk result (out.new.before ≡ out.old.before) }
     ensures tokens { OnOk result (out.new.tokens

@@ -7,13 +7,13 @@ ghost use Rattle.city_decimals.specs.Encoded.{encoded, encoded_items, encoded_me
 
 use super::form::{begin_form, end_form};
 use super::number::encode_number;
+use crate::OutOfMemory;
 use crate::shapes::form_of;
 use json::{Value, Writer};
-use std::alloc::AllocError;
 
 /// Writes an encoded value.
 #[cycle(encode)]
-pub(super) fn encode_tree(value: &Value<'_>, out: &mut Writer) -> Result<(), AllocError>
+pub(super) fn encode_tree(value: &Value<'_>, out: &mut Writer) -> Result<(), OutOfMemory>
     requires numbers { HasNumbers (value_view value.now) }
     ensures before { OnOk result (out.new.before ≡ out.old.before) }
     ensures tokens { OnOk result (out.new.tokens
@@ -37,7 +37,7 @@ pub(super) fn encode_tree(value: &Value<'_>, out: &mut Writer) -> Result<(), All
 
 /// Writes encoded items, and the bracket that closes them.
 #[cycle(encode)]
-fn encode_tree_items(items: &Vec<Value<'_>>, out: &mut Writer) -> Result<(), AllocError>
+fn encode_tree_items(items: &Vec<Value<'_>>, out: &mut Writer) -> Result<(), OutOfMemory>
     requires numbers { ItemsHaveNumbers (items_view items.now.items) }
     ensures before { OnOk result (out.new.before ≡ out.old.before) }
     ensures tokens { OnOk result (out.new.tokens
@@ -51,7 +51,10 @@ fn encode_tree_items(items: &Vec<Value<'_>>, out: &mut Writer) -> Result<(), All
 
 /// Writes encoded members, and the brace that closes them.
 #[cycle(encode)]
-fn encode_tree_members(members: &Vec<(&str, Value<'_>)>, out: &mut Writer) -> Result<(), AllocError>
+fn encode_tree_members(
+    members: &Vec<(&str, Value<'_>)>,
+    out: &mut Writer,
+) -> Result<(), OutOfMemory>
     requires numbers { MembersHaveNumbers (members_view members.now.items) }
     ensures before { OnOk result (out.new.before ≡ out.old.before) }
     ensures tokens { OnOk result (out.new.tokens
