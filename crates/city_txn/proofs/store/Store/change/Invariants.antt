@@ -4,15 +4,14 @@ use Rattle.std.specs.Map.{keys_of}
 use Rattle.std.specs.Ordering.{nat_cmp}
 use Rattle.std.specs.List.Sorted.{IsStrictlySortedBy}
 use Rattle.std.specs.Cmp.Lexicographic.{slice_cmp}
-use Rattle.city_model.specs.CityMap.{object_at, has_id}
+use Rattle.city_model.specs.CityMap.{has_id}
 use Rattle.city_model.specs.Writing.{write_in}
-use Rattle.city_txn.specs.inside.Images.{written_at}
-use Rattle.city_txn.specs.inside.UndoState.{image_at}
-use Rattle.city_txn.proofs.changing.change_of.Given as goal
+use Rattle.city_txn.specs.inside.State.{store_own}
+use Rattle.city_txn.proofs.store.Store.change.Given as goal
 
 abbrev pub invariant-loop-id : goal.invariant-loop-id
 invariant-loop-id l = record {
   lists : (q : List ℕ) → write_in l.change q
-      ≡ (if has_id (take l.id-index l.ids) q then written_at (object_at l.city.1 q) (image_at l.undo q) else None);
+      ≡ (if has_id (take l.id-index l.ids) q then store_own l.self l.stamp q else None);
   ordered : IsStrictlySortedBy (slice_cmp nat_cmp) (keys_of l.change);
 }
