@@ -1,10 +1,7 @@
 -- What a transaction wrote, listed as a change, makes its view of the committed map.
 use Rattle.std.proofs.Common.{◌≡◌, ◌||◌, ◌==◌, ℕ, ◌+◌, ◌<◌, List, [], ◌∷◌, length, take, get_or, Bool, true, false}
-use Rattle.std.proofs.Common.{Option, None, Some, is_some, refl, ap, sym, ◌∙◌}
-use Rattle.std.specs.Prelude.{if◌then◌else◌}
+use Rattle.std.proofs.Common.{Option, None, Some, is_some, refl, ap, sym, ◌∙◌, subst, if◌then◌else◌, unwrap_or, nat_cmp}
 use Rattle.std.specs.Map.{lookup, keys_of}
-use Rattle.std.specs.Option.{unwrap_or}
-use Rattle.std.specs.Ordering.{nat_cmp}
 use Rattle.std.specs.Cmp.Lexicographic.{slice_cmp}
 use Rattle.std.specs.BTreeMap.{is_at}
 use Rattle.std.specs.FinMap.{entries}
@@ -12,7 +9,7 @@ use Rattle.std.specs.List.{list_any}
 use Rattle.std.proofs.lemmas.Bool.{false≢true, or_parts}
 use Rattle.std.specs.List.Sorted.{IsStrictlySortedBy}
 use Rattle.city_model.specs.declared.object.Object.{Object}
-use Rattle.city_model.specs.CityMap.{same_id, has_id}
+use Rattle.city_model.specs.CityMap.{same_id, has_id, object_at}
 use Rattle.city_model.specs.Relations.{is_orphan, is_orphan_there, HasNoOrphan, IsLeastOrphan, IsSound, IsLawful}
 use Rattle.city_model.specs.Runs.{Change}
 use Rattle.city_model.specs.Writing.{write_in, set_by}
@@ -27,8 +24,6 @@ use Rattle.city_txn.specs.CoreState.{CoreState, committed, view}
 use Rattle.city_txn.specs.inside.InPlace.{state_of, is_writer, IsInPlace}
 use Rattle.city_txn.specs.inside.UndoState.{image_at, reservations_of}
 use Rattle.city_txn.specs.inside.Orphans.{is_orphan_written}
-use Rattle.city_model.specs.CityMap.{object_at}
-use Rattle.std.proofs.Common.{subst}
 use Rattle.city_txn.specs.inside.State.{State, store_own, store_view}
 use Rattle.city_txn.specs.Changing.{change_in, IsChangeOf}
 use Rattle.city_locks.proofs.Ids.{has_id_more}

@@ -1,7 +1,6 @@
 -- One id of a store written, edited where it stands, or its write taken back.
 use Rattle.std.proofs.Common.{◌≡◌, ◌==◌, ◌&&◌, ℕ, List, true, Option, None, Some, is_some, refl, ap, sym, ◌∙◌, Bool}
-use Rattle.std.proofs.Common.{false, not}
-use Rattle.std.specs.Prelude.{if◌then◌else◌, option_map, not, unwrap_or}
+use Rattle.std.proofs.Common.{false, not, if◌then◌else◌, option_map, unwrap_or}
 use Rattle.std.proofs.lemmas.Bool.{false≢true, eqb-true, eq-eqb}
 use Rattle.city_model.specs.declared.object.Object.{Object}
 use Rattle.city_model.specs.CityMap.{CityValue, object_at, changed, same_id}

@@ -1,5 +1,4 @@
-use Rattle.std.proofs.Common.{ap, sym, ◌∙◌, ◌≡◌, unwrap_or, cond, None, []}
-use Rattle.std.specs.Ordering.{nat_cmp}
+use Rattle.std.proofs.Common.{ap, sym, ◌∙◌, ◌≡◌, unwrap_or, cond, None, [], nat_cmp}
 use Rattle.std.specs.BTreeMap.{get}
 use Rattle.city_model.specs.CityMap.{has_id}
 use Rattle.city_locks.specs.Holders.{without}

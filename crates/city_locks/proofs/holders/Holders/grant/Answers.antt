@@ -1,6 +1,5 @@
 use Rattle.std.proofs.Common.{◌≡◌, ◌==◌, ◌∙◌, sym, ap, ◌∷◌, drop, ◌+◌, arith, ◌<◌, length, true, Some, add-one, suc}
-use Rattle.std.proofs.Common.{eq-eqb}
-use Rattle.std.proofs.Math.Seq.{drop-cons}
+use Rattle.std.proofs.Common.{eq-eqb, drop-cons}
 use Rattle.std.proofs.Math.ListN.{set}
 use Rattle.std.proofs.lemmas.List.{set_split}
 use Rattle.city_model.specs.declared.mode.Mode.{Mode}

@@ -1,6 +1,4 @@
-use Rattle.std.proofs.Common.{◌∙◌, length, ◌<◌, None, ap, arith}
-use Rattle.std.specs.Prelude.{if◌then◌else◌}
-use Rattle.std.proofs.lemmas.List.{take_all}
+use Rattle.std.proofs.Common.{◌∙◌, length, ◌<◌, None, ap, arith, if◌then◌else◌, take_all}
 use Rattle.city_model.specs.CityMap.{has_id}
 use Rattle.city_model.specs.Writing.{write_in}
 use Rattle.city_txn.specs.inside.State.{store_own}

@@ -1,7 +1,6 @@
-use Rattle.std.proofs.Common.{◌∙◌, ap, sym, arith}
+use Rattle.std.proofs.Common.{◌∙◌, ap, sym, arith, take_all}
 use Rattle.std.specs.List.{list_any}
 use Rattle.std.proofs.lemmas.Bool.{false≢true}
-use Rattle.std.proofs.lemmas.List.{take_all}
 use Rattle.city_model.specs.Relations.{is_orphan_there}
 use Rattle.city_txn.specs.inside.State.{store_view}
 use Rattle.city_txn.proofs.ChangeMade.{none_orphaned, own_change}

@@ -1,6 +1,4 @@
-use Rattle.std.proofs.Common.{◌≡◌, ◌==◌, ◌∙◌, ◌∷◌, ap, sym, refl}
-use Rattle.std.specs.Prelude.{if◌then◌else◌}
-use Rattle.std.proofs.lemmas.Bool.{eq-eqb, eqb-true}
+use Rattle.std.proofs.Common.{◌≡◌, ◌==◌, ◌∙◌, ◌∷◌, ap, sym, refl, if◌then◌else◌, eq-eqb, eqb-true}
 use Rattle.city_model.specs.CityMap.{same_id}
 use Rattle.city_model.proofs.Ids.{same_id_true}
 use Rattle.city_model.proofs.IdLists.{bool_cases}

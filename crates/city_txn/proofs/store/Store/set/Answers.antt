@@ -1,5 +1,4 @@
-use Rattle.std.proofs.Common.{None, ◌∙◌, ap, refl, Some, subst}
-use Rattle.std.specs.Prelude.{if◌then◌else◌, unwrap_or}
+use Rattle.std.proofs.Common.{None, ◌∙◌, ap, refl, Some, subst, if◌then◌else◌, unwrap_or}
 use Rattle.city_txn.specs.inside.State.{State, is_reserved, WritesOne, OthersWritesStay}
 use Rattle.city_txn.specs.inside.InPlace.{state_of}
 use Rattle.city_txn.proofs.OneIdWritten.{OwnWritten, not_deleted, set_written}
