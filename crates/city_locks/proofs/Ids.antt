@@ -1,5 +1,5 @@
 -- What a lookup by an id finds.
-use Rattle.std.proofs.Common.{◌≡◌, ℕ, cond, false, List, ◌||◌, ap, sym, ◌∙◌, ◌+◌, ◌<◌, ◌==◌, length, take, get_or}
+use Rattle.std.proofs.Common.{rules, true, ◌≡◌, ℕ, cond, false, List, ◌||◌, ap, sym, ◌∙◌, ◌+◌, ◌<◌, ◌==◌, length, take, get_or}
 use Rattle.std.specs.Ordering.{nat_cmp}
 use Rattle.std.specs.Cmp.{Equal-is}
 use Rattle.std.specs.BTreeMap.{is_at}
@@ -14,6 +14,9 @@ use Rattle.city_model.proofs.IdLists.{bool_cases}
 pub stamp_apart : (s t : ℕ) → (s == t) ≡ false → is_at (nat_cmp s) t ≡ false
 stamp_apart s t e =
     false_from_ne_true (is_at (nat_cmp s) t) (λ h. eqb-false s t e (exact_unsigned s t ((Equal-is (nat_cmp s t)).0 h)))
+
+pub stamp_here : (s : ℕ) → is_at (nat_cmp s) s ≡ true
+stamp_here s = search rules
 
 -- a choice at one id, where it is the old value anyway
 pub same_at_id : {A : Type 0} (f : List ℕ → A) (x : A) (id q : List ℕ) → x ≡ f id → f q ≡ cond (same_id id q) x (f q)

@@ -9,7 +9,7 @@ use Rattle.city_model.proofs.IdLists.{bool_cases}
 use Rattle.city_model.specs.declared.mode.Mode.{Mode}
 use Rattle.city_locks.specs.declared.answer.Answer.{Answer}
 use Rattle.city_locks.specs.declared.answer.Answer.TheVariants.{Granted, Wait, Die}
-use Rattle.city_locks.specs.declared.holder.Holder.{Holder}
+use Rattle.city_locks.specs.declared.holders.Holder.{Holder}
 use Rattle.city_model.specs.Mode.{is_exclusive}
 use Rattle.city_locks.specs.Mode.{stronger}
 use Rattle.city_locks.specs.Holders.{in_conflict, gives_way, mode_among, with_holder, without, Once}

@@ -1,22 +1,23 @@
 -- A lock added to a table, and the locks of a stamp taken out.
 use Rattle.std.proofs.Common.{◌≡◌, ℕ, ◌==◌, ◌&&◌, ◌||◌, cond, Bool, true, false, List, [], ◌∷◌, ◌++◌, None, Some}
-use Rattle.std.proofs.Common.{is_some, refl, ap, sym, subst, ◌∙◌, ◌+◌, ◌<◌, length, take, get_or}
-use Rattle.std.specs.BTreeMap.{BTreeMap}
-use Rattle.std.proofs.lemmas.Bool.{false≢true, eqb-true, eq-eqb, and_parts}
+use Rattle.std.proofs.Common.{is_some, refl, ap, sym, subst, ◌∙◌, ◌+◌, ◌<◌, length, take, get_or, unwrap_or, nat_cmp}
+use Rattle.std.specs.Prelude.{if◌then◌else◌}
+use Rattle.std.specs.BTreeMap.{BTreeMap, get, is_at}
+use Rattle.std.proofs.lemmas.Bool.{false≢true, eqb-true, and_parts}
 use Rattle.city_model.specs.declared.mode.Mode.{Mode}
 use Rattle.city_locks.specs.declared.answer.Answer.TheVariants.{Granted}
-use Rattle.city_locks.specs.declared.holder.Holder.{Holder}
+use Rattle.city_locks.specs.declared.holders.Holder.{Holder}
 use Rattle.city_locks.specs.Mode.{stronger}
 use Rattle.city_locks.specs.Holders.{answer_among, mode_among, with_holder, without, Once}
 use Rattle.city_model.specs.CityMap.{same_id, has_id}
-use Rattle.city_locks.specs.Locks.{Locks, holders_of, answer_of, mode_of, Lawful}
+use Rattle.city_locks.specs.Locks.{Locks, holders_of, answer_of, mode_of, Lawful, HoldOnce}
 use Rattle.city_locks.specs.inside.Listing.{ids_of, IsListed}
 use Rattle.city_locks.proofs.Among.{mode_with, mode_without, without_absent, without_twice, lawful_with, lawful_without}
 use Rattle.city_locks.proofs.Among.{own_answers, none_from}
 use Rattle.city_locks.proofs.Once.{once_with, once_without}
 use Rattle.city_model.proofs.IdLists.{bool_cases, more_has, more_has_last}
 use Rattle.city_model.proofs.Ids.{same_id_true, same_id_itself}
-use Rattle.city_locks.proofs.Ids.{has_id_more}
+use Rattle.city_locks.proofs.Ids.{has_id_more, stamp_apart, stamp_here}
 
 cond_and : {A : Type 0} (a b : Bool) (x y : A) → b ≡ true → cond a x y ≡ cond (a && b) x y
 cond_and true b x y e = ap (λ c. cond c x y) (sym e)
@@ -30,110 +31,96 @@ cond_not false b x y e = refl
 pub record Adds (v w : Locks) (s : ℕ) (id : List ℕ) (m : Mode) : Type 0 where
   pub holders : (q : List ℕ) → holders_of w q ≡ cond (same_id id q) (with_holder (holders_of v id) s m) (holders_of v q)
 
-there : (v w : Locks) (s : ℕ) (id : List ℕ) (m : Mode) (q : List ℕ) → Adds v w s id m → same_id id q ≡ true
-    → holders_of w q ≡ with_holder (holders_of v q) s m
-there v w s id m q h e = h.holders q ∙ ap (λ b. cond b (with_holder (holders_of v id) s m) (holders_of v q)) e
-    ∙ ap (λ i. with_holder (holders_of v i) s m) (same_id_true id q e)
+module _ (v w : Locks) (s : ℕ) (id : List ℕ) (m : Mode) (h : Adds v w s id m) where
+  there : (q : List ℕ) → same_id id q ≡ true → holders_of w q ≡ with_holder (holders_of v q) s m
+  there q e = h.holders q ∙ ap (λ b. cond b (with_holder (holders_of v id) s m) (holders_of v q)) e
+      ∙ ap (λ i. with_holder (holders_of v i) s m) (same_id_true id q e)
 
-elsewhere : (v w : Locks) (s : ℕ) (id : List ℕ) (m : Mode) (q : List ℕ) → Adds v w s id m → same_id id q ≡ false
-    → holders_of w q ≡ holders_of v q
-elsewhere v w s id m q h e = h.holders q ∙ ap (λ b. cond b (with_holder (holders_of v id) s m) (holders_of v q)) e
+  elsewhere : (q : List ℕ) → same_id id q ≡ false → holders_of w q ≡ holders_of v q
+  elsewhere q e = h.holders q ∙ ap (λ b. cond b (with_holder (holders_of v id) s m) (holders_of v q)) e
 
-pub mode_added : (v w : Locks) (s : ℕ) (id : List ℕ) (m : Mode) → Adds v w s id m → (t : ℕ) (q : List ℕ) →
-    mode_of w t q ≡ cond ((s == t) && same_id id q) (Some (stronger m (mode_of v s id))) (mode_of v t q)
-mode_added v w s id m h t q = bool_cases (same_id id q)
-    (λ e. ap (λ hs. mode_among hs t) (there v w s id m q h e) ∙ mode_with (holders_of v q) s m t
-    ∙ ap (λ i. cond (s == t) (Some (stronger m (mode_of v s i))) (mode_of v t q)) (sym (same_id_true id q e))
-    ∙ cond_and (s == t) (same_id id q) (Some (stronger m (mode_of v s id))) (mode_of v t q) e)
-    (λ e. ap (λ hs. mode_among hs t) (elsewhere v w s id m q h e)
-    ∙ cond_not (s == t) (same_id id q) (Some (stronger m (mode_of v s id))) (mode_of v t q) e)
+  pub mode_added : (t : ℕ) (q : List ℕ)
+      → mode_of w t q ≡ cond ((s == t) && same_id id q) (Some (stronger m (mode_of v s id))) (mode_of v t q)
+  mode_added t q = bool_cases (same_id id q)
+      (λ e. ap (λ hs. mode_among hs t) (there q e) ∙ mode_with (holders_of v q) s m t
+      ∙ ap (λ i. cond (s == t) (Some (stronger m (mode_of v s i))) (mode_of v t q)) (sym (same_id_true id q e))
+      ∙ cond_and (s == t) (same_id id q) (Some (stronger m (mode_of v s id))) (mode_of v t q) e)
+      (λ e. ap (λ hs. mode_among hs t) (elsewhere q e)
+      ∙ cond_not (s == t) (same_id id q) (Some (stronger m (mode_of v s id))) (mode_of v t q) e)
 
-pub lawful_added : (v w : Locks) (s : ℕ) (id : List ℕ) (m : Mode) → Adds v w s id m → Lawful v
-    → answer_of v s id m ≡ Granted → Lawful w
-lawful_added v w s id m h l g r t i ne x = bool_cases (same_id id i)
-    (λ e. let k = there v w s id m i h e in
-    let a : answer_among (holders_of v i) s m ≡ Granted = ap (λ j. answer_of v s j m) (sym (same_id_true id i e)) ∙ g in
-    ap (λ hs. mode_among hs t) k
-    ∙ lawful_with (holders_of v i) s m (λ a b. l a b i) a r t ne (sym (ap (λ hs. mode_among hs r) k) ∙ x))
-    (λ e. let k = elsewhere v w s id m i h e in
-    ap (λ hs. mode_among hs t) k ∙ l r t i ne (sym (ap (λ hs. mode_among hs r) k) ∙ x))
+  pub lawful_added : Lawful v → answer_of v s id m ≡ Granted → Lawful w
+  lawful_added l g r t i ne x = bool_cases (same_id id i)
+      (λ e. let k = there i e in
+      let a : answer_among (holders_of v i) s m ≡ Granted = ap (λ j. answer_of v s j m) (sym (same_id_true id i e)) ∙ g in
+      ap (λ hs. mode_among hs t) k
+      ∙ lawful_with (holders_of v i) s m (λ a b. l a b i) a r t ne (sym (ap (λ hs. mode_among hs r) k) ∙ x))
+      (λ e. let k = elsewhere i e in
+      ap (λ hs. mode_among hs t) k ∙ l r t i ne (sym (ap (λ hs. mode_among hs r) k) ∙ x))
 
-pub own_added : (v w : Locks) (s : ℕ) (id : List ℕ) (m : Mode) → Adds v w s id m → (q : List ℕ) (n : Mode)
-    → answer_of w s q n ≡ answer_of v s q n
-own_added v w s id m h q n = bool_cases (same_id id q)
-    (λ e. ap (λ hs. answer_among hs s n) (there v w s id m q h e) ∙ own_answers s n (holders_of v q) m)
-    (λ e. ap (λ hs. answer_among hs s n) (elsewhere v w s id m q h e))
+  pub own_added : (q : List ℕ) (n : Mode) → answer_of w s q n ≡ answer_of v s q n
+  own_added q n = bool_cases (same_id id q)
+      (λ e. ap (λ hs. answer_among hs s n) (there q e) ∙ own_answers s n (holders_of v q) m)
+      (λ e. ap (λ hs. answer_among hs s n) (elsewhere q e))
 
-pub once_added : (v w : Locks) (s : ℕ) (id : List ℕ) (m : Mode) → Adds v w s id m
-    → ((q : List ℕ) → Once (holders_of v q)) → (q : List ℕ) → Once (holders_of w q)
-once_added v w s id m h o q = bool_cases (same_id id q)
-    (λ e. subst (λ hs. Once hs) (sym (there v w s id m q h e)) (once_with (holders_of v q) s m (o q)))
-    (λ e. subst (λ hs. Once hs) (sym (elsewhere v w s id m q h e)) (o q))
+  pub once_added : HoldOnce v → HoldOnce w
+  once_added o q = bool_cases (same_id id q)
+      (λ e. subst (λ hs. Once hs) (sym (there q e)) (once_with (holders_of v q) s m (o q)))
+      (λ e. subst (λ hs. Once hs) (sym (elsewhere q e)) (o q))
 
--- each lock stays listed where the new one is
-pub listed_added : (v w : Locks) (l : BTreeMap ℕ (List (List ℕ))) (s : ℕ) (id : List ℕ) (m : Mode) → Adds v w s id m
-    → IsListed v l →
-    has_id (ids_of l s) id ≡ true → IsListed w l
-listed_added v w l s id m h i own = record {
-  listed = λ t q x. bool_cases ((s == t) && same_id id q)
-      (λ e. let p = and_parts (s == t) (same_id id q) e in
-      ap (λ r. has_id (ids_of l r) q) (sym (eqb-true s t p.0))
-      ∙ ap (λ j. has_id (ids_of l s) j) (sym (same_id_true id q p.1)) ∙ own)
-      (λ e. i.listed t q
-      (sym (ap is_some (mode_added v w s id m h t q
-      ∙ ap (λ b. cond b (Some (stronger m (mode_of v s id))) (mode_of v t q)) e)) ∙ x));
-}
+  -- each lock stays listed where the new one is
+  pub listed_added : (l : BTreeMap ℕ (List (List ℕ))) → IsListed v l → has_id (ids_of l s) id ≡ true → IsListed w l
+  listed_added l i own = record {
+    listed = λ t q x. bool_cases ((s == t) && same_id id q)
+        (λ e. let p = and_parts (s == t) (same_id id q) e in
+        ap (λ r. has_id (ids_of l r) q) (sym (eqb-true s t p.0))
+        ∙ ap (λ j. has_id (ids_of l s) j) (sym (same_id_true id q p.1)) ∙ own)
+        (λ e. i.listed t q
+        (sym (ap is_some (mode_added t q ∙ ap (λ b. cond b (Some (stronger m (mode_of v s id))) (mode_of v t q)) e)) ∙ x));
+  }
 
--- ---- the lists after an id was listed
-pub record Lists (l k : BTreeMap ℕ (List (List ℕ))) (s : ℕ) (id : List ℕ) : Type 0 where
-  pub ids : (t : ℕ) → ids_of k t ≡ cond (s == t) (ids_of l s ++ id ∷ []) (ids_of l t)
-
-listed_own : (l k : BTreeMap ℕ (List (List ℕ))) (s : ℕ) (id : List ℕ) → Lists l k s id
-    → ids_of k s ≡ ids_of l s ++ id ∷ []
-listed_own l k s id h = h.ids s ∙ ap (λ b. cond b (ids_of l s ++ id ∷ []) (ids_of l s)) (eq-eqb s s refl)
-
-pub listed_new : (l k : BTreeMap ℕ (List (List ℕ))) (s : ℕ) (id : List ℕ) → Lists l k s id
-    → has_id (ids_of k s) id ≡ true
-listed_new l k s id h = ap (λ ids. has_id ids id) (listed_own l k s id h)
-    ∙ more_has_last (ids_of l s) id id (same_id_itself id)
-
--- what is listed stays so
-pub still_listed : (v : Locks) (l k : BTreeMap ℕ (List (List ℕ))) (s : ℕ) (id : List ℕ) → Lists l k s id → IsListed v l
-    → IsListed v k
-still_listed v l k s id h i = record {
-  listed = λ t q x. bool_cases (s == t)
-      (λ e. ap (λ r. has_id (ids_of k r) q) (sym (eqb-true s t e)) ∙ ap (λ ids. has_id ids q) (listed_own l k s id h)
-      ∙ more_has (ids_of l s) id q (ap (λ r. has_id (ids_of l r) q) (eqb-true s t e) ∙ i.listed t q x))
-      (λ e. ap (λ ids. has_id ids q) (h.ids t ∙ ap (λ b. cond b (ids_of l s ++ id ∷ []) (ids_of l t)) e)
-      ∙ i.listed t q x);
-}
+-- an id listed at its stamp, last: it is there, and what is listed stays so
+pub listed_last : (v : Locks) (l k : BTreeMap ℕ (List (List ℕ))) (s : ℕ) (id : List ℕ) →
+    ((t : ℕ) → get nat_cmp k t ≡ (if is_at (nat_cmp s) t then Some (ids_of l s ++ id ∷ []) else get nat_cmp l t))
+    → IsListed v l → (has_id (ids_of k s) id ≡ true) × IsListed v k
+listed_last v l k s id h i =
+    let own : ids_of k s ≡ ids_of l s ++ id ∷ [] = ap (λ o. unwrap_or o []) (h s
+    ∙ ap (λ b. if b then Some (ids_of l s ++ id ∷ []) else get nat_cmp l s) (stamp_here s)) in
+    let other : (t : ℕ) → (s == t) ≡ false → ids_of k t ≡ ids_of l t =
+    λ t e. ap (λ o. unwrap_or o []) (h t
+    ∙ ap (λ b. if b then Some (ids_of l s ++ id ∷ []) else get nat_cmp l t) (stamp_apart s t e)) in (
+      ap (λ ids. has_id ids id) own ∙ more_has_last (ids_of l s) id id (same_id_itself id),
+      record {
+        listed = λ t q x. bool_cases (s == t)
+            (λ e. ap (λ r. has_id (ids_of k r) q) (sym (eqb-true s t e)) ∙ ap (λ ids. has_id ids q) own
+            ∙ more_has (ids_of l s) id q (ap (λ r. has_id (ids_of l r) q) (eqb-true s t e) ∙ i.listed t q x))
+            (λ e. ap (λ ids. has_id ids q) (other t e) ∙ i.listed t q x);
+      },
+    )
 
 -- ---- the locks of a stamp taken out
 pub record Frees (v w : Locks) (s : ℕ) : Type 0 where
   pub holders : (q : List ℕ) → holders_of w q ≡ without (holders_of v q) s
 
-pub mode_freed : (v w : Locks) (s : ℕ) → Frees v w s → (t : ℕ) (q : List ℕ)
-    → mode_of w t q ≡ cond (s == t) None (mode_of v t q)
-mode_freed v w s h t q = ap (λ hs. mode_among hs t) (h.holders q) ∙ mode_without (holders_of v q) s t
+module _ (v w : Locks) (s : ℕ) (h : Frees v w s) where
+  pub mode_freed : (t : ℕ) (q : List ℕ) → mode_of w t q ≡ cond (s == t) None (mode_of v t q)
+  mode_freed t q = ap (λ hs. mode_among hs t) (h.holders q) ∙ mode_without (holders_of v q) s t
 
-pub lawful_freed : (v w : Locks) (s : ℕ) → Frees v w s → Lawful v → Lawful w
-lawful_freed v w s h l r t i ne x = ap (λ hs. mode_among hs t) (h.holders i)
-    ∙ lawful_without (holders_of v i) s (λ a b. l a b i) r t ne (sym (ap (λ hs. mode_among hs r) (h.holders i)) ∙ x)
+  pub lawful_freed : Lawful v → Lawful w
+  lawful_freed l r t i ne x = ap (λ hs. mode_among hs t) (h.holders i)
+      ∙ lawful_without (holders_of v i) s (λ a b. l a b i) r t ne (sym (ap (λ hs. mode_among hs r) (h.holders i)) ∙ x)
 
-pub once_freed : (v w : Locks) (s : ℕ) → Frees v w s → ((q : List ℕ) → Once (holders_of v q)) → (q : List ℕ)
-    → Once (holders_of w q)
-once_freed v w s h o q = subst (λ hs. Once hs) (sym (h.holders q)) (once_without (holders_of v q) s (o q))
+  pub once_freed : HoldOnce v → HoldOnce w
+  once_freed o q = subst (λ hs. Once hs) (sym (h.holders q)) (once_without (holders_of v q) s (o q))
 
--- the others' locks stay listed
-pub listed_freed : (v w : Locks) (l k : BTreeMap ℕ (List (List ℕ))) (s : ℕ) → Frees v w s → IsListed v l →
-    ((t : ℕ) → (s == t) ≡ false → ids_of k t ≡ ids_of l t) → IsListed w k
-listed_freed v w l k s h i others = record {
-  listed = λ t q x. bool_cases (s == t)
-      (λ e. absurd
-      (false≢true (sym (ap is_some (mode_freed v w s h t q ∙ ap (λ b. cond b None (mode_of v t q)) e)) ∙ x)))
-      (λ e. ap (λ ids. has_id ids q) (others t e)
-      ∙ i.listed t q (sym (ap is_some (mode_freed v w s h t q ∙ ap (λ b. cond b None (mode_of v t q)) e)) ∙ x));
-}
+  -- the others' locks stay listed
+  pub listed_freed : (l k : BTreeMap ℕ (List (List ℕ))) → IsListed v l
+      → ((t : ℕ) → (s == t) ≡ false → ids_of k t ≡ ids_of l t) → IsListed w k
+  listed_freed l k i others = record {
+    listed = λ t q x. bool_cases (s == t)
+        (λ e. absurd (false≢true (sym (ap is_some (mode_freed t q ∙ ap (λ b. cond b None (mode_of v t q)) e)) ∙ x)))
+        (λ e. ap (λ ids. has_id ids q) (others t e)
+        ∙ i.listed t q (sym (ap is_some (mode_freed t q ∙ ap (λ b. cond b None (mode_of v t q)) e)) ∙ x));
+  }
 
 -- where all ids of the stamp were in the list, it holds nothing more
 pub freed_listed : (v w : Locks) (l : BTreeMap ℕ (List (List ℕ))) (s : ℕ) → IsListed v l →

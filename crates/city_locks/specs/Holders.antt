@@ -5,7 +5,7 @@ use Rattle.std.specs.List.{list_any, list_all}
 use Rattle.city_model.specs.declared.mode.Mode.{Mode}
 use Rattle.city_locks.specs.declared.answer.Answer.{Answer}
 use Rattle.city_locks.specs.declared.answer.Answer.TheVariants.{Granted, Wait, Die}
-use Rattle.city_locks.specs.declared.holder.Holder.{Holder}
+use Rattle.city_locks.specs.declared.holders.Holder.{Holder}
 use Rattle.city_model.specs.Mode.{is_exclusive}
 use Rattle.city_locks.specs.Mode.{stronger}
 

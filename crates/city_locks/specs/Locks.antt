@@ -7,7 +7,7 @@ use Rattle.std.specs.BTreeMap.{is_at}
 use Rattle.city_model.specs.declared.mode.Mode.{Mode}
 use Rattle.city_model.specs.declared.mode.Mode.TheVariants.{Exclusive}
 use Rattle.city_locks.specs.declared.answer.Answer.{Answer}
-use Rattle.city_locks.specs.declared.holder.Holder.{Holder}
+use Rattle.city_locks.specs.declared.holders.Holder.{Holder}
 use Rattle.city_locks.specs.Holders.{answer_among, mode_among, Once}
 
 abbrev pub Locks : Type 0

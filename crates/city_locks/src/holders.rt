@@ -1,14 +1,28 @@
 //! The holders of one id.
 ghost use Rattle.std.specs.Prelude.{◌≡◌, ℕ, OnOk, OnErr, None, Some, [], length, true};
-ghost use Rattle.std.specs.List.{list_any, list_all};
-ghost use Rattle.city_locks.specs.Holders.{in_conflict, gives_way, answer_among, mode_among, with_holder, without};
+ghost use Rattle.city_locks.specs.Mode.{stronger};
+ghost use Rattle.city_locks.specs.Holders.{in_conflict, answer_among, mode_among, with_holder, without};
 
 use crate::answer::Answer;
-use crate::holder::Holder;
-use crate::mode::stronger;
 use city_model::mode::Mode;
 use std::alloc::{AllocError, Global};
 use std::marker::Model;
+
+/// A stamp that holds an id, and its mode.
+#[derive(Clone, Copy)]
+pub struct Holder {
+    pub stamp: u64,
+    pub mode: Mode,
+}
+
+impl Holder {
+    /// Whether this is another holder than the asker, and one of the two modes is exclusive.
+    fn conflicts(&self, stamp: u64, mode: Mode) -> bool
+        ensures { result ≡ in_conflict stamp mode self.now }
+    {
+        self.stamp != stamp && (mode.is_exclusive() || self.mode.is_exclusive())
+    }
+}
 
 /// The holders of one id, each stamp once.
 #[derive(Drop)]
@@ -18,7 +32,7 @@ pub struct Holders {
 
 impl Model for Holders {
     ghost use Rattle.std.specs.Prelude.{List};
-    ghost use Rattle.city_locks.specs.declared.holder.Holder.{Holder};
+    ghost use Rattle.city_locks.specs.declared.holders.Holder.{Holder};
 
     ghost Value = { List Holder };
 
@@ -47,20 +61,28 @@ impl Holders {
     pub fn answer(&self, stamp: u64, mode: Mode) -> Answer
         ensures { result ≡ answer_among self.now stamp mode }
     {
-        if !any_conflict(&self.list, stamp, mode) {
-            Answer::Granted
-        } else if all_give_way(&self.list, stamp, mode) {
-            Answer::Wait
-        } else {
-            Answer::Die
+        let mut waits = false;
+        for holder in &self.list {
+            if holder.conflicts(stamp, mode) {
+                if holder.stamp <= stamp {
+                    return Answer::Die;
+                }
+                waits = true;
+            }
         }
+        if waits { Answer::Wait } else { Answer::Granted }
     }
 
     /// The mode in which the stamp holds the id.
     pub fn mode(&self, stamp: u64) -> Option<Mode>
         ensures { result ≡ mode_among self.now stamp }
     {
-        held(&self.list, stamp)
+        for holder in &self.list {
+            if holder.stamp == stamp {
+                return Some(holder.mode);
+            }
+        }
+        None
     }
 
     /// Makes the stamp a holder, in the stronger of the mode and the one that it has. If
@@ -71,7 +93,15 @@ impl Holders {
         ensures err { OnErr result (self.new ≡ self.old) }
         ensures absent { OnErr result (mode_among self.old stamp ≡ None) }
     {
-        add(&mut self.list, stamp, mode)?;
+        for i in 0..self.list.len() {
+            let holder = self.list[i];
+            if holder.stamp == stamp {
+                let mode = stronger(mode, holder.mode);
+                self.list[i] = Holder { stamp, mode };
+                return Ok(());
+            }
+        }
+        self.list.push(Holder { stamp, mode })?;
         Ok(())
     }
 
@@ -79,52 +109,16 @@ impl Holders {
     pub fn release(&mut self, stamp: u64)
         ensures { self.new ≡ without self.old stamp }
     {
-        take_out(&mut self.list, stamp);
+        self.list.retain(|holder| holder.stamp != stamp);
     }
 }
 
-fn any_conflict(list: &[Holder], stamp: u64, mode: Mode) -> bool
-    ensures { result ≡ list_any (in_conflict stamp mode) list.now }
+/// The stronger of a mode that is asked for and one that is held already.
+fn stronger(mode: Mode, held: Mode) -> Mode
+    ensures { result ≡ stronger mode (Some held) }
 {
-    list.iter().any(|holder| holder.conflicts(stamp, mode))
-}
-
-fn all_give_way(list: &[Holder], stamp: u64, mode: Mode) -> bool
-    ensures { result ≡ list_all (gives_way stamp mode) list.now }
-{
-    list.iter().all(|holder| holder.gives_way(stamp, mode))
-}
-
-fn held(list: &[Holder], stamp: u64) -> Option<Mode>
-    ensures { result ≡ mode_among list.now stamp }
-{
-    for holder in list {
-        if holder.stamp == stamp {
-            return Some(holder.mode);
-        }
+    match mode {
+        Mode::Shared => held,
+        Mode::Exclusive => Mode::Exclusive,
     }
-    None
-}
-
-fn add(list: &mut Vec<Holder>, stamp: u64, mode: Mode) -> Result<(), AllocError>
-    ensures ok { OnOk result (list.new.items ≡ with_holder list.old.items stamp mode) }
-    ensures err { OnErr result (list.new.items ≡ list.old.items) }
-    ensures absent { OnErr result (mode_among list.old.items stamp ≡ None) }
-{
-    for i in 0..list.len() {
-        let holder = list[i];
-        if holder.stamp == stamp {
-            let mode = stronger(mode, holder.mode);
-            list[i] = Holder { stamp, mode };
-            return Ok(());
-        }
-    }
-    list.push(Holder { stamp, mode })?;
-    Ok(())
-}
-
-fn take_out(list: &mut Vec<Holder>, stamp: u64)
-    ensures { list.new.items ≡ without list.old.items stamp }
-{
-    list.retain(|holder| holder.stamp != stamp);
 }

@@ -12,10 +12,12 @@ ghost use Rattle.city_locks.specs.inside.Listing.{ids_of, IsListed};
 ghost use Rattle.city_locks.specs.WaitDie.{IsWaitDie, IsInConflict};
 
 use crate::answer::Answer;
+use crate::by_stamp::push;
+use crate::held;
 use crate::held::Standing;
 use crate::holders::Holders;
-use crate::{held, listing};
 use city_model::OutOfMemory;
+use city_model::copied::Copied;
 use city_model::mode::Mode;
 use city_model::sequence::Sequence;
 use city_model::text::Id;
@@ -173,7 +175,7 @@ fn list_unheld(
     match own {
         Some(_) => Ok(()),
         None => {
-            listing::list(locked, alloc, stamp, id)?;
+            push(locked, alloc, stamp, id.copy(alloc)?)?;
             Ok(())
         }
     }

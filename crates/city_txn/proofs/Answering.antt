@@ -1,12 +1,11 @@
 -- What a command is answered, and what it writes, said by its reply and by what is seen after it.
-use Rattle.std.proofs.Common.{◌≡◌, ◌&&◌, ℕ, List, [], ◌∷◌, true, false, not, Option, None, Some, refl}
-use Rattle.std.proofs.Common.{ap, sym, ◌∙◌}
+use Rattle.std.proofs.Common.{◌≡◌, ◌&&◌, ℕ, List, [], ◌∷◌, true, false, not, Option, None, Some, refl, ap, sym, ◌∙◌}
 use Rattle.std.specs.Prelude.{if◌then◌else◌, is_none}
 use Rattle.city_model.specs.declared.object.Object.{Object}
 use Rattle.city_model.specs.declared.command.Cause.{Cause}
 use Rattle.city_model.specs.declared.command.Command.{Command}
-use Rattle.city_model.specs.declared.command.Command.TheVariants.{Read, Put, Delete, Attach, Detach}
-use Rattle.city_model.specs.declared.command.Command.TheVariants.{Mark, Back, Commit, Abort}
+use Rattle.city_model.specs.declared.command.Command.TheVariants.{Read, Put, Delete, Attach, Detach, Mark, Back, Commit}
+use Rattle.city_model.specs.declared.command.Command.TheVariants.{Abort}
 use Rattle.city_model.specs.declared.command.Reply.{Reply}
 use Rattle.city_model.specs.declared.command.Reply.TheVariants.{WentBack}
 use Rattle.city_model.specs.CityMap.{CityMap}
@@ -14,8 +13,8 @@ use Rattle.city_model.specs.Marks.{View, Marked, marks_from}
 use Rattle.city_model.specs.Meaning.{read_reply, put_done, is_refusal, locks_of}
 use Rattle.city_model.specs.Scripts.{is_mark}
 use Rattle.city_model.specs.Standing.{locks_id_exclusively}
-use Rattle.city_model.specs.inside.CommandParts.{back_cause, step_as, seen_next, answer}
-use Rattle.city_model.specs.inside.CommandParts.{cause_of, done_reply, refused_or, after}
+use Rattle.city_model.specs.inside.CommandParts.{back_cause, step_as, seen_next, answer, cause_of, done_reply}
+use Rattle.city_model.specs.inside.CommandParts.{refused_or, after}
 use Rattle.city_model.proofs.MarksKept.{plain, plain_answer}
 use Rattle.city_model.proofs.Refused.{done_unrefused}
 use Rattle.city_txn.specs.Acting.{own_after}

@@ -1,7 +1,6 @@
 -- What a store's value has at an id, from what its city and its images have there; a new store, and one at rest.
 use Rattle.std.proofs.Common.{◌≡◌, ◌==◌, ℕ, List, [], ◌∷◌, Bool, true, false, Option, None, Some, is_some, Less, refl}
-use Rattle.std.proofs.Common.{ap, sym, ◌∙◌, ◌||◌}
-use Rattle.std.specs.Prelude.{if◌then◌else◌}
+use Rattle.std.proofs.Common.{ap, sym, ◌∙◌, ◌||◌, if◌then◌else◌}
 use Rattle.std.specs.Map.{lookup, keys_of}
 use Rattle.std.specs.Cmp.{unsigned_tied, eq_by_cmp_equiv}
 use Rattle.std.specs.Ordering.{nat_cmp, eq_by_cmp}

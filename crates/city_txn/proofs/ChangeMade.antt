@@ -1,34 +1,32 @@
 -- What a transaction wrote, listed as a change, makes its view of the committed map.
 use Rattle.std.proofs.Common.{◌≡◌, ◌||◌, ◌==◌, ℕ, ◌+◌, ◌<◌, List, [], ◌∷◌, length, take, get_or, Bool, true, false}
-use Rattle.std.proofs.Common.{Option, None, Some, is_some, Result, Ok, Err, refl, ap, sym, ◌∙◌}
-use Rattle.std.specs.Prelude.{if◌then◌else◌, IfOk}
+use Rattle.std.proofs.Common.{Option, None, Some, is_some, refl, ap, sym, ◌∙◌, subst, if◌then◌else◌, unwrap_or, nat_cmp}
 use Rattle.std.specs.Map.{lookup, keys_of}
-use Rattle.std.specs.Option.{unwrap_or}
-use Rattle.std.specs.Ordering.{nat_cmp}
 use Rattle.std.specs.Cmp.Lexicographic.{slice_cmp}
 use Rattle.std.specs.BTreeMap.{is_at}
 use Rattle.std.specs.FinMap.{entries}
 use Rattle.std.specs.List.{list_any}
 use Rattle.std.proofs.lemmas.Bool.{false≢true, or_parts}
 use Rattle.std.specs.List.Sorted.{IsStrictlySortedBy}
-use Rattle.std.proofs.lemmas.List.Folds.{list_any_more}
 use Rattle.city_model.specs.declared.object.Object.{Object}
-use Rattle.city_model.specs.CityMap.{same_id, has_id}
+use Rattle.city_model.specs.CityMap.{same_id, has_id, object_at}
 use Rattle.city_model.specs.Relations.{is_orphan, is_orphan_there, HasNoOrphan, IsLeastOrphan, IsSound, IsLawful}
 use Rattle.city_model.specs.Runs.{Change}
 use Rattle.city_model.specs.Writing.{write_in, set_by}
-use Rattle.city_model.proofs.Ids.{same_id_true, same_id_back}
+use Rattle.city_model.proofs.Ids.{same_id_true}
 use Rattle.city_model.proofs.IdLists.{bool_cases}
 use Rattle.city_model.proofs.ChangeLaws.{at_change, set_at}
 use Rattle.city_txn.specs.declared.image.UndoImage.{UndoImage}
 use Rattle.city_txn.specs.declared.store.Store.TheInside.{Inside}
-use Rattle.city_txn.specs.inside.Images.{written_at, write_at, writer_of, or_else}
+use Rattle.city_txn.specs.inside.Images.{write_at, writer_of, or_else}
 use Rattle.city_txn.specs.Writes.{Write, write_of, own_or, own_write, is_by}
 use Rattle.city_txn.specs.CoreState.{CoreState, committed, view}
 use Rattle.city_txn.specs.inside.InPlace.{state_of, is_writer, IsInPlace}
 use Rattle.city_txn.specs.inside.UndoState.{image_at, reservations_of}
 use Rattle.city_txn.specs.inside.Orphans.{is_orphan_written}
+use Rattle.city_txn.specs.inside.State.{State, store_own, store_view}
 use Rattle.city_txn.specs.Changing.{change_in, IsChangeOf}
+use Rattle.city_locks.proofs.Ids.{has_id_more}
 use Rattle.city_txn.proofs.AtOneId.{through, at_made, sorted_made, here, writes_is}
 use Rattle.city_txn.proofs.ImagesHeld.{images_ascend}
 
@@ -57,48 +55,28 @@ noted_more f x y ids i id lt is before step q =
     ∙ sym (ap (λ b. if b then or_else (f q) (x q) else x q) e))
     ∙ ap (λ z. if same_id id q then or_else (f q) z else z) (before q)
     ∙ note_point (same_id id q) (has_id (take i ids) q) (f q)
-    ∙ ap (λ b. if b then f q else None)
-    (ap (λ b. has_id (take i ids) q || b) (same_id_back id q ∙ ap (same_id q) is)
-    ∙ sym (list_any_more (same_id q) ids i id lt))
+    ∙ ap (λ b. if b then f q else None) (sym (has_id_more ids i id q lt is))
 
--- what is listed at the ids that the transaction has reserved is what it wrote
-either_none : {Y : Type 0} (b : Bool) → ◌≡◌ {A = Option Y} (if b then None else None) None
-either_none true = refl
-either_none false = refl
+-- ---- what a transaction wrote, from what it sees
 
-own_point : (s : ℕ) (x : Option Object) (i : Option UndoImage)
-    → (if is_writer s (writer_of i) then written_at x i else None) ≡ own_write s (write_at x i)
-own_point s x None = refl
-own_point s x (Some i) = bool_cases i.unwritten (λ e. rw e (either_none (i.by == s))) (λ e. rw e refl)
+pub own_none : (s : ℕ) (w : Option Write) → is_by s w ≡ false → own_write s w ≡ None
+own_none s None h = refl
+own_none s (Some w) h = rw h refl
 
-pub own_written : (a : Inside) → IsInPlace a → (s : ℕ) (q : List ℕ) →
-    (if has_id (reservations_of a.undo.reservations s) q then written_at (here a q) (image_at a.undo q) else None)
-    ≡ own_write s (write_of (state_of a).writes q)
-own_written a k s q = ap (λ b. if b then written_at (here a q) (image_at a.undo q) else None) (k.listed s q)
-    ∙ own_point s (here a q) (image_at a.undo q) ∙ sym (ap (own_write s) (writes_is a k q))
+pub own_sees : (s : ℕ) (w : Option Write) (o : Option Object) → is_by s w ≡ true → own_write s w ≡ Some (own_or s w o)
+own_sees s None o h = absurd (false≢true h)
+own_sees s (Some w) o h = rw h refl
 
-pub if_ok : {A E : Type 0} {P Q : A → Type 0} (r : Result A E) → ((x : A) → P x → Q x) → IfOk r P → IfOk r Q
-if_ok (Ok x) f p = f x p
-if_ok (Err e) f p = tt
+own_orphan : (s : ℕ) (w : Option Write) (o : Option Object) → is_orphan_there (own_or s w o) ≡ false
+    → is_orphan_written (own_write s w) ≡ false
+own_orphan s None o h = refl
+own_orphan s (Some w) o h = bool_cases (w.0 == s)
+    (λ e. rw e (sym (ap (λ b. is_orphan_there (if b then w.1 else o)) e) ∙ h)) (λ e. rw e refl)
 
--- ---- the writes of a transaction among all of them
-
-pub writes_ascend : (a : Inside) → IsStrictlySortedBy (slice_cmp nat_cmp) (keys_of (state_of a).writes)
-writes_ascend a =
-    sorted_made (λ id i. write_at (here a id) (Some i)) (entries a.undo.images) (images_ascend a.undo.images)
-
-own_through : (s : ℕ) (x : Option Write) → through (λ w. own_write s (Some w)) x ≡ own_write s x
-own_through s None = refl
-own_through s (Some w) = refl
-
-pub own_listed : (s : ℕ) (ws : List (List ℕ × Write)) (q : List ℕ) → IsStrictlySortedBy (slice_cmp nat_cmp) (keys_of ws)
-    →
-    write_in (change_in ws s) q ≡ own_write s (write_of ws q)
-own_listed s ws q sorted = at_made (λ id w. own_write s (Some w)) ws q sorted ∙ own_through s (write_of ws q)
-
-pub own_ascend : (s : ℕ) (ws : List (List ℕ × Write)) → IsStrictlySortedBy (slice_cmp nat_cmp) (keys_of ws)
-    → IsStrictlySortedBy (slice_cmp nat_cmp) (keys_of (change_in ws s))
-own_ascend s ws sorted = sorted_made (λ id w. own_write s (Some w)) ws sorted
+not_own : (s : ℕ) (x : Option Object) (i : Option UndoImage) → is_writer s (writer_of i) ≡ false
+    → own_write s (write_at x i) ≡ None
+not_own s x None h = refl
+not_own s x (Some i) h = bool_cases i.unwritten (λ e. rw e refl) (λ e. rw (e, h) refl)
 
 -- what holds of none holds of no one of them
 none_at : (p : List ℕ → Bool) (ids : List (List ℕ)) (q : List ℕ) → list_any p ids ≡ false → has_id ids q ≡ true
@@ -109,12 +87,39 @@ none_at p (x ∷ xs) q h k =
     bool_cases (same_id q x) (λ e. ap p (same_id_true q x e) ∙ parts.0)
     (λ e. none_at p xs q parts.1 (sym (ap (λ b. b || has_id xs q) e) ∙ k))
 
-pub no_orphan_at : (ids : List (List ℕ)) (f : List ℕ → Option (Option Object)) (q : List ℕ)
-    → list_any (λ id. is_orphan_written (f id)) ids ≡ false →
-    is_orphan_written (if has_id ids q then f q else None) ≡ false
-no_orphan_at ids f q h = bool_cases (has_id ids q)
-    (λ e. ap (λ b. is_orphan_written (if b then f q else None)) e ∙ none_at (λ id. is_orphan_written (f id)) ids q h e)
-    (λ e. ap (λ b. is_orphan_written (if b then f q else None)) e)
+-- the store is seen as v, and has these ids reserved for s: it wrote no others
+module _ (a : Inside) (k : IsInPlace a) (v : State) (seen : state_of a ≡ v) (s : ℕ) (ids : List (List ℕ))
+    (all : ids ≡ reservations_of a.undo.reservations s) where
+  unlisted : (q : List ℕ) → has_id ids q ≡ false → store_own v s q ≡ None
+  unlisted q h = subst (λ (u : State). store_own u s q ≡ None) seen (ap (own_write s) (writes_is a k q)
+      ∙ not_own s (here a q) (image_at a.undo q) (sym (k.listed s q) ∙ sym (ap (λ xs. has_id xs q) all) ∙ h))
+
+  pub all_listed : (q : List ℕ) → (if has_id ids q then store_own v s q else None) ≡ store_own v s q
+  all_listed q = bool_cases (has_id ids q) (ap (λ b. if b then store_own v s q else None))
+      (λ e. ap (λ b. if b then store_own v s q else None) e ∙ sym (unlisted q e))
+
+  pub none_orphaned : list_any (λ id. is_orphan_there (store_view v s id)) ids ≡ false → (q : List ℕ)
+      → is_orphan_written (store_own v s q) ≡ false
+  none_orphaned h q = bool_cases (has_id ids q)
+      (λ e. own_orphan s (write_of v.writes q) (object_at v.city q)
+      (none_at (λ id. is_orphan_there (store_view v s id)) ids q h e))
+      (λ e. ap is_orphan_written (unlisted q e))
+
+-- ---- the writes of a transaction among all of them
+
+own_through : (s : ℕ) (x : Option Write) → through (λ w. own_write s (Some w)) x ≡ own_write s x
+own_through s None = refl
+own_through s (Some w) = refl
+
+pub own_change : (a : Inside) (v : State) → state_of a ≡ v → (s : ℕ)
+    → ((q : List ℕ) → write_in (change_in v.writes s) q ≡ own_write s (write_of v.writes q))
+    × IsStrictlySortedBy (slice_cmp nat_cmp) (keys_of (change_in v.writes s))
+own_change a v seen s =
+    let ascend = subst (λ (u : State). IsStrictlySortedBy (slice_cmp nat_cmp) (keys_of u.writes)) seen
+    (sorted_made (λ id i. write_at (here a id) (Some i)) (entries a.undo.images) (images_ascend a.undo.images)) in (
+      λ q. at_made (λ id w. own_write s (Some w)) v.writes q ascend ∙ own_through s (write_of v.writes q),
+      sorted_made (λ id w. own_write s (Some w)) v.writes ascend,
+    )
 
 -- ---- the map with the change
 

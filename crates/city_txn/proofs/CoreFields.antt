@@ -1,10 +1,8 @@
 -- A core by its fields: opened, begun, and after a commit or an abort.
 use Rattle.std.proofs.Common.{◌≡◌, ◌==◌, ◌||◌, ℕ, List, [], ◌∷◌, Bool, true, false, Option, None, Some, is_some, refl}
-use Rattle.std.proofs.Common.{ap, sym, ◌∙◌, subst}
-use Rattle.std.specs.Prelude.{if◌then◌else◌, cond}
+use Rattle.std.proofs.Common.{ap, sym, ◌∙◌, subst, if◌then◌else◌, cond, nat_cmp}
 use Rattle.std.specs.List.{list_any}
 use Rattle.std.specs.Map.{keys_of, lookup}
-use Rattle.std.specs.Ordering.{nat_cmp}
 use Rattle.std.specs.BTreeMap.{is_at}
 use Rattle.std.proofs.lemmas.Option.{none-some}
 use Rattle.std.proofs.lemmas.Bool.{false≢true, eqb-true, eq-eqb, or_parts, or_right}
@@ -27,8 +25,7 @@ use Rattle.city_txn.specs.CoreState.{StandsUnderLocks, KeepsOthers, IsTransactio
 use Rattle.city_txn.specs.inside.Core.{core_state, IsCore, IsConsistent}
 use Rattle.city_txn.specs.declared.txn_core.Core.TheInside.{Inside}
 use Rattle.city_txn.proofs.AtOneId.{tied}
-use Rattle.city_txn.proofs.Ended.{Ended, own_not, is_over, stands_committed, committed_consistent, seen_undone}
-use Rattle.city_txn.proofs.Ended.{stands_aborted, aborted_consistent}
+use Rattle.city_txn.proofs.Ended.{Ended, own_not, over_committed, committed_consistent, rolled_back, undone_consistent}
 use Rattle.city_txn.proofs.SeenWrites.{written_same, seen_same}
 
 -- ---- which stamps are open
@@ -81,7 +78,7 @@ not_by s None h = refl
 not_by s (Some w) h = h w refl
 
 -- what isn't open holds nothing and wrote nothing
-pub shut_unlocked : (v : CoreState) (s : ℕ) (q : List ℕ) → IsConsistent v → is_open v s ≡ false
+shut_unlocked : (v : CoreState) (s : ℕ) (q : List ℕ) → IsConsistent v → is_open v s ≡ false
     → mode_of v.locks s q ≡ None
 shut_unlocked v s q c h = none_from (mode_of v.locks s q) (λ e. false≢true (sym h ∙ c.open_only s q e))
 
@@ -93,16 +90,14 @@ shut_writer v s q c h w e = bool_cases (w.0 == s)
     ∙ c.locked q w e)))
     (λ f. f)
 
-pub shut_unwritten : (v : CoreState) (s : ℕ) (q : List ℕ) → IsConsistent v → is_open v s ≡ false
-    → is_by s (write_of v.writes q) ≡ false
-shut_unwritten v s q c h = not_by s (write_of v.writes q) (shut_writer v s q c h)
-
 pub record Begun (s : ℕ) (v : CoreState) (b : Inside) : Type 0 where
   pub core : IsCore b
   pub opened : is_open (core_state b) s ≡ true
   pub unmarked : log_of b.store.logs s ≡ []
   pub own : StandsUnderLocks (core_state b) s []
   pub keeps : KeepsOthers s v (core_state b)
+  pub unlocked : (q : List ℕ) → mode_of b.locks s q ≡ None
+  pub unwritten : (q : List ℕ) → is_by s (write_of b.store.writes q) ≡ false
 
 module _ (a b : Inside) (k : IsCore a) {v : CoreState} (known : core_state a ≡ v) (s : ℕ) (shut : is_open v s ≡ false)
     (begins : Begins s a.store b.store) (locks : b.locks ≡ a.locks) where
@@ -177,8 +172,10 @@ module _ (a b : Inside) (k : IsCore a) {v : CoreState} (known : core_state a ≡
     opened = begun_opened;
     unmarked = begun_unmarked;
     own = begun_own;
-    keeps =
-        begun_keeps;
+    keeps = begun_keeps;
+    unlocked = λ q. ap (λ hs. mode_of hs s q) locks ∙ shut_unlocked (core_state a) s q k.state was_shut;
+    unwritten = λ q. ap (λ ws. is_by s (write_of ws q)) begins.writes
+        ∙ not_by s (write_of a.store.writes q) (shut_writer (core_state a) s q k.state was_shut);
   }
 
 -- ---- over
@@ -206,30 +203,20 @@ module _ (a b : Inside) (k : IsCore a) (s : ℕ) (f : Forgets s a.store b.store)
 
   module _ (city : store.store_committed b.store ≡ store.store_view a.store s) where
     pub committed_over : IsTransactionEnd s (core_state a) (core_state b)
-    committed_over =
-        is_over s (core_state a) (core_state b) ended f.frame
-        (λ t done ne g. stands_committed s t (core_state a) (core_state b) done k.state ended city ne g)
+    committed_over = over_committed s (core_state a) (core_state b) ended k.state city f.frame
 
     pub committed_core : HasNoOrphan (view (core_state a) s) → IsCore b
-    committed_core orphans =
-        record {
-          state = committed_consistent s (core_state a) (core_state b) k.state ended city orphans;
-          reserved =
-              reserved_left;
-        }
+    committed_core orphans = record {
+      state = committed_consistent s (core_state a) (core_state b) ended k.state city orphans;
+      reserved = reserved_left;
+    }
 
   module _ (city : store.store_committed b.store ≡ store.store_committed a.store) where
     pub undone : IsRolledBack s (core_state a) (core_state b)
-    undone = record {
-      city = city;
-      views = λ t ne. seen_undone s t (core_state a) (core_state b) ended city ne;
-      over = is_over s (core_state a) (core_state b) ended f.frame
-          (λ t done ne g. stands_aborted s t (core_state a) (core_state b) done ended city ne g);
-    }
+    undone = rolled_back s (core_state a) (core_state b) ended k.state city f.frame
 
     pub undone_core : IsCore b
     undone_core = record {
-      state = aborted_consistent s (core_state a) (core_state b) k.state ended city;
-      reserved =
-          reserved_left;
+      state = undone_consistent s (core_state a) (core_state b) ended k.state city;
+      reserved = reserved_left;
     }

@@ -1,25 +1,18 @@
 -- Ids worked through one after another, each the same way.
 use Rattle.std.proofs.Common.{◌≡◌, ℕ, ◌+◌, ◌<◌, List, [], length, take, get_or, Bool, true, false, ◌||◌, Option, None}
-use Rattle.std.proofs.Common.{Some, is_some, refl, ap, sym, ◌∙◌}
-use Rattle.std.specs.Prelude.{if◌then◌else◌}
+use Rattle.std.proofs.Common.{Some, is_some, refl, ap, sym, ◌∙◌, if◌then◌else◌}
 use Rattle.std.proofs.lemmas.Bool.{false≢true}
-use Rattle.std.proofs.lemmas.List.Folds.{list_any_more}
 use Rattle.city_model.specs.declared.object.Object.{Object}
 use Rattle.city_model.specs.CityMap.{CityValue, CityMap, object_at, same_id, has_id, changed}
-use Rattle.city_model.proofs.Ids.{same_id_back, same_id_of_equal, by_id}
+use Rattle.city_model.proofs.Ids.{same_id_of_equal, by_id}
 use Rattle.city_txn.specs.declared.image.UndoImage.{UndoImage}
 use Rattle.city_txn.specs.declared.ending.End.{End}
 use Rattle.city_txn.specs.declared.ending.End.TheVariants.{Commit, RollBack}
 use Rattle.city_txn.specs.inside.Ending.{left_at_end, AreEnded}
 use Rattle.city_txn.specs.inside.Images.{before_image}
 use Rattle.city_txn.specs.inside.UndoState.{UndoState, image_at}
+use Rattle.city_locks.proofs.Ids.{has_id_more}
 use Rattle.city_txn.proofs.Slots.{unchanged}
-
--- one more id of a list
-pub has_more : (ids : List (List ℕ)) (n : ℕ) (id q : List ℕ) → n < length ids → id ≡ get_or ids n id
-    → has_id (take (n + 1) ids) q ≡ (has_id (take n ids) q || same_id id q)
-has_more ids n id q lt is = list_any_more (same_id q) ids n id lt
-    ∙ ap (λ d. has_id (take n ids) q || same_id q d) (sym is) ∙ ap (λ b. has_id (take n ids) q || b) (same_id_back q id)
 
 -- ---- at one id
 
@@ -59,7 +52,7 @@ pub one_more_ended : (end : End) (a b c : CityValue) (u v w : UndoState) (ids : 
     → AreEnded end (same_id id) b v c w → AreEnded end (has_id (take (n + 1) ids)) a u c w
 one_more_ended end a b c u v w ids n id lt is before one =
     let more : (q : List ℕ) → has_id (take (n + 1) ids) q ≡ (has_id (take n ids) q || same_id id q) =
-    λ q. has_more ids n id q lt is in
+    λ q. has_id_more ids n id q lt is in
     record {
       frame = one.frame ∙ before.frame;
       city = λ q. rw (more q)

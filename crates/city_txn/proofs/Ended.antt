@@ -1,7 +1,6 @@
 -- What the end of a transaction leaves: a commit and an abort keep what the others' commands stand on.
 use Rattle.std.proofs.Common.{◌≡◌, ◌==◌, ℕ, List, [], true, false, Option, None, Some, is_some, refl, ap, sym, ◌∙◌}
-use Rattle.std.proofs.Common.{subst, inl, inr}
-use Rattle.std.specs.Prelude.{if◌then◌else◌, unwrap_or, cond}
+use Rattle.std.proofs.Common.{subst, inl, inr, if◌then◌else◌, unwrap_or, cond}
 use Rattle.std.proofs.lemmas.Option.{none-some}
 use Rattle.std.proofs.lemmas.Bool.{false≢true, eqb-true, eqb-false, eq-eqb, ne_eqb, cases_eq}
 use Rattle.city_model.specs.declared.object.Object.{Object}
@@ -20,7 +19,7 @@ use Rattle.city_txn.specs.UndoLog.{log_of, marked, has_before, map_with}
 use Rattle.city_txn.specs.inside.LogTests.{view_with}
 use Rattle.city_model.specs.Standing.{Held, Answered, IsTraceUnderLocks, covers}
 use Rattle.city_txn.specs.CoreState.{CoreState, committed, view, own, written, snapshot, is_open, held}
-use Rattle.city_txn.specs.CoreState.{StandsUnderLocks, IsTransactionEnd}
+use Rattle.city_txn.specs.CoreState.{StandsUnderLocks, IsTransactionEnd, IsRolledBack}
 use Rattle.city_txn.specs.inside.Core.{IsConsistent}
 use Rattle.city_txn.proofs.SeenWrites.{seen_with, seen_same, written_same, own_covered, marks_covered, view_carried}
 use Rattle.city_txn.proofs.SeenWrites.{own_left, own_gone}
@@ -67,140 +66,120 @@ pub record Ended (s : ℕ) (v w : CoreState) : Type 0 where
   pub opened : (t : ℕ) → is_open w t ≡ (if s == t then false else is_open v t)
   pub lawful : Lawful w.locks
 
-same_held : (s t : ℕ) (v w : CoreState) → Ended s v w → (s == t) ≡ false → held v t ≡ held w t
-same_held s t v w k ne = λ i q. sym (k.locks t q ∙ ap (λ b. cond b None (mode_of v.locks t q)) ne) i
+module _ (s : ℕ) (v w : CoreState) (k : Ended s v w) where
+  mode_there : (t : ℕ) (q : List ℕ) → (s == t) ≡ true → mode_of w.locks t q ≡ None
+  mode_there t q e = k.locks t q ∙ ap (λ b. cond b None (mode_of v.locks t q)) e
 
-ended_locked : (s : ℕ) (v w : CoreState) → IsConsistent v → Ended s v w → (q : List ℕ) (x : Write)
-    → write_of w.writes q ≡ Some x → mode_of w.locks x.0 q ≡ Some Exclusive
-ended_locked s v w c k q x e =
-    let l = left_over s (write_of v.writes q) x (sym (k.writes q) ∙ e) in
-    k.locks x.0 q ∙ ap (λ b. cond b None (mode_of v.locks x.0 q)) l.1 ∙ c.locked q x l.0
+  mode_beside : (t : ℕ) (q : List ℕ) → (s == t) ≡ false → mode_of w.locks t q ≡ mode_of v.locks t q
+  mode_beside t q ne = k.locks t q ∙ ap (λ b. cond b None (mode_of v.locks t q)) ne
 
-ended_open : (s : ℕ) (v w : CoreState) → IsConsistent v → Ended s v w → (t : ℕ) (q : List ℕ)
-    → is_some (mode_of w.locks t q) ≡ true → is_open w t ≡ true
-ended_open s v w c k t q h = bool_cases (s == t)
-    (λ e. absurd (false≢true (sym (ap is_some (k.locks t q ∙ ap (λ b. cond b None (mode_of v.locks t q)) e)) ∙ h)))
-    (λ e. k.opened t ∙ ap (λ b. if b then false else is_open v t) e
-    ∙ c.open_only t q (sym (ap is_some (k.locks t q ∙ ap (λ b. cond b None (mode_of v.locks t q)) e)) ∙ h))
+  marks_there : (t : ℕ) → (s == t) ≡ true → log_of w.logs t ≡ []
+  marks_there t e = k.marks t ∙ ap (λ b. if b then [] else log_of v.logs t) e
 
-ended_marks_locked : (s : ℕ) (v w : CoreState) → IsConsistent v → Ended s v w → (t : ℕ) (q : List ℕ)
-    → has_before (log_of w.logs t) q ≡ true → mode_of w.locks t q ≡ Some Exclusive
-ended_marks_locked s v w c k t q h = bool_cases (s == t)
-    (λ e. absurd
-    (false≢true (sym (ap (λ es. has_before es q) (k.marks t ∙ ap (λ b. if b then [] else log_of v.logs t) e)) ∙ h)))
-    (λ e. k.locks t q ∙ ap (λ b. cond b None (mode_of v.locks t q)) e
-    ∙ c.marks_locked t q (sym (ap (λ es. has_before es q) (k.marks t ∙ ap (λ b. if b then [] else log_of v.logs t) e))
-    ∙ h))
+  marks_beside : (t : ℕ) → (s == t) ≡ false → log_of w.logs t ≡ log_of v.logs t
+  marks_beside t ne = k.marks t ∙ ap (λ b. if b then [] else log_of v.logs t) ne
 
-ended_marks_open : (s : ℕ) (v w : CoreState) → IsConsistent v → Ended s v w → (t : ℕ) → is_open w t ≡ false
-    → log_of w.logs t ≡ []
-ended_marks_open s v w c k t h = bool_cases (s == t)
-    (λ e. k.marks t ∙ ap (λ b. if b then [] else log_of v.logs t) e)
-    (λ e. k.marks t ∙ ap (λ b. if b then [] else log_of v.logs t) e
-    ∙ c.marks_open t (sym (k.opened t ∙ ap (λ b. if b then false else is_open v t) e) ∙ h))
+  open_beside : (t : ℕ) → (s == t) ≡ false → is_open w t ≡ is_open v t
+  open_beside t ne = k.opened t ∙ ap (λ b. if b then false else is_open v t) ne
 
--- where another holds anything, s wrote nothing
-unwritten : (v : CoreState) (s t : ℕ) (q : List ℕ) → IsConsistent v → (s == t) ≡ false → is_some (held v t q) ≡ true
-    → (w : Write) → write_of v.writes q ≡ Some w → (w.0 == s) ≡ false
-unwritten v s t q c ne h w e = bool_cases (w.0 == s)
-    (λ f. let x : mode_of v.locks s q ≡ Some Exclusive = ap (λ k. mode_of v.locks k q) (sym (eqb-true w.0 s f))
-    ∙ c.locked q w e in
-    let none : mode_of v.locks t q ≡ None = c.lawful s t q (eqb-false s t ne) x in
-    absurd (false≢true (ap (λ o. is_some o) (sym none) ∙ h)))
-    (λ f. f)
+  -- s itself sees what is committed
+  nothing_done : StandsUnderLocks w s []
+  nothing_done =
+      let none : (q : List ℕ) → own w s q ≡ None =
+      λ q. own_gone s (write_of w.writes q) (write_of v.writes q) (k.writes q) in
+      let at_one : (q : List ℕ) → map_with (committed w) (own w s) q ≡ committed w q =
+      λ q. ap (λ o. unwrap_or o (committed w q)) (none q) in
+      seen_with w s
+      ∙ ap (λ es. view_with (committed w) (own w s, marked es (own w s))) (marks_there s (eq-eqb s s refl))
+      ∙ ap (λ (m : CityMap). unmarked m) (λ i q. at_one q i)
 
--- s itself sees what is committed
-nothing_done : (s : ℕ) (v w : CoreState) → Ended s v w → StandsUnderLocks w s []
-nothing_done s v w k =
-    let none : (q : List ℕ) → own w s q ≡ None =
-    λ q. own_gone s (write_of w.writes q) (write_of v.writes q) (k.writes q) in
-    let at_one : (q : List ℕ) → map_with (committed w) (own w s) q ≡ committed w q =
-    λ q. ap (λ o. unwrap_or o (committed w q)) (none q) in
-    let no_marks : log_of w.logs s ≡ [] = k.marks s ∙ ap (λ b. if b then [] else log_of v.logs s) (eq-eqb s s refl) in
-    seen_with w s ∙ ap (λ es. view_with (committed w) (own w s, marked es (own w s))) no_marks
-    ∙ ap (λ (m : CityMap). unmarked m) (λ i q. at_one q i)
+  -- what another wrote
+  others_written : (t : ℕ) → (s == t) ≡ false → written w t ≡ written v t
+  others_written t ne = written_same v w t
+      (λ q. own_left s t (write_of w.writes q) (write_of v.writes q) ne (k.writes q)) (marks_beside t ne)
 
--- what another wrote
-others_written : (s t : ℕ) (v w : CoreState) → Ended s v w → (s == t) ≡ false → written w t ≡ written v t
-others_written s t v w k ne = written_same v w t
-    (λ q. own_left s t (write_of w.writes q) (write_of v.writes q) ne (k.writes q))
-    (k.marks t ∙ ap (λ b. if b then [] else log_of v.logs t) ne)
+  is_over : w.frame ≡ v.frame
+      → ((t : ℕ) (done : List Answered) → (s == t) ≡ false → StandsUnderLocks v t done → StandsUnderLocks w t done)
+      → IsTransactionEnd s v w
+  is_over frame stands = record {
+    writes = k.writes;
+    marks = k.marks;
+    locks = k.locks;
+    closed = k.opened s ∙ ap (λ b. if b then false else is_open v s) (eq-eqb s s refl);
+    keeps = record { frame = frame; opened = open_beside; others = stands };
+  }
 
-pub is_over : (s : ℕ) (v w : CoreState) → Ended s v w → w.frame ≡ v.frame
-    → ((t : ℕ) (done : List Answered) → (s == t) ≡ false → StandsUnderLocks v t done → StandsUnderLocks w t done)
-    → IsTransactionEnd s v w
-is_over s v w k frame stands = record {
-  writes = k.writes;
-  marks = k.marks;
-  locks = k.locks;
-  closed = k.opened s ∙ ap (λ b. if b then false else is_open v s) (eq-eqb s s refl);
-  keeps = record {
-    frame = frame;
-    opened = λ t ne. k.opened t ∙ ap (λ b. if b then false else is_open v t) ne;
-    others = stands;
-  };
-}
+  module _ (c : IsConsistent v) where
+    consistent : IsLawful (committed w)
+        → ((t : ℕ) (done : List Answered) → (s == t) ≡ false → StandsUnderLocks v t done → StandsUnderLocks w t done)
+        → IsConsistent w
+    consistent city stands = record {
+      lawful = k.lawful;
+      locked = λ q x e. let l = left_over s (write_of v.writes q) x (sym (k.writes q) ∙ e) in mode_beside x.0 q l.1
+          ∙ c.locked q x l.0;
+      marks_locked = λ t q h. bool_cases (s == t)
+          (λ e. absurd (false≢true (sym (ap (λ es. has_before es q) (marks_there t e)) ∙ h)))
+          (λ e. mode_beside t q e ∙ c.marks_locked t q (sym (ap (λ es. has_before es q) (marks_beside t e)) ∙ h));
+      open_only = λ t q h. bool_cases (s == t)
+          (λ e. absurd (false≢true (sym (ap is_some (mode_there t q e)) ∙ h)))
+          (λ e. open_beside t e ∙ c.open_only t q (sym (ap is_some (mode_beside t q e)) ∙ h));
+      marks_open = λ t h. bool_cases (s == t) (marks_there t)
+          (λ e. marks_beside t e ∙ c.marks_open t (sym (open_beside t e) ∙ h));
+      city = city;
+      history = λ t. elim (cases_eq s t) [
+        | inl e ↦ ([], subst (λ r. StandsUnderLocks w r []) e nothing_done)
+        | inr e ↦ ((c.history t).0, stands t (c.history t).0 (ne_eqb s t e) (c.history t).1)
+      ];
+    }
 
--- ---- a commit
+    -- ---- a commit
 
-pub stands_committed : (s t : ℕ) (v w : CoreState) (done : List Answered) → IsConsistent v → Ended s v w
-    → committed w ≡ view v s →
-    (s == t) ≡ false → StandsUnderLocks v t done → StandsUnderLocks w t done
-stands_committed s t v w done c k city ne f =
-    let agree : (q : List ℕ) → is_some (held v t q) ≡ true → committed v q ≡ committed w q =
-    λ q h. sym (ap (λ (m : CityMap). m q) city
-    ∙ own_not s (write_of v.writes q) (object_at v.city q) (unwritten v s t q c ne h)) in
-    let same : carried (held v t) (committed w) (snapshot v t) ≡ snapshot w t =
-    ap (carried (held v t) (committed w)) (seen_with v t)
-    ∙ view_carried (held v t) (committed v) (committed w)
-    (λ q e. agree q (ap (λ o. is_some o) (held_exclusively (mode_of v.locks t q) e)))
-    (written v t) (own_covered v t c) (marks_covered v t c)
-    ∙ ap (view_with (committed w)) (sym (others_written s t v w k ne)) ∙ sym (seen_with w t) in
-    subst (λ (h : Held). IsTraceUnderLocks h (unmarked (committed w)) done (snapshot w t)) (same_held s t v w k ne)
-    (subst (λ (x : View). IsTraceUnderLocks (held v t) (unmarked (committed w)) done x) same
-    (history_kept (held v t) (committed v) (committed w) done (snapshot v t) c.city.0
-    (subst IsSound (sym city) (sound_view v s c)) agree f))
+    module _ (city : committed w ≡ view v s) where
+      -- where another holds anything, s wrote nothing
+      agree : (t : ℕ) → (s == t) ≡ false → (q : List ℕ) → is_some (held v t q) ≡ true → committed v q ≡ committed w q
+      agree t ne q h = sym (ap (λ (m : CityMap). m q) city
+          ∙ own_not s (write_of v.writes q) (object_at v.city q) (λ x e. bool_cases (x.0 == s)
+          (λ f. let mine : mode_of v.locks s q ≡ Some Exclusive =
+          ap (λ r. mode_of v.locks r q) (sym (eqb-true x.0 s f)) ∙ c.locked q x e in
+          absurd (false≢true (ap is_some (sym (c.lawful s t q (eqb-false s t ne) mine)) ∙ h)))
+          (λ f. f)))
 
-pub committed_consistent : (s : ℕ) (v w : CoreState) → IsConsistent v → Ended s v w → committed w ≡ view v s
-    → HasNoOrphan (view v s) → IsConsistent w
-committed_consistent s v w c k city orphans = record {
-  lawful = k.lawful;
-  locked = ended_locked s v w c k;
-  marks_locked = ended_marks_locked s v w c k;
-  open_only = ended_open s v w c k;
-  marks_open = ended_marks_open s v w c k;
-  city = subst IsLawful (sym city) (sound_view v s c, orphans);
-  history = λ t. elim (cases_eq s t) [
-    | inl e ↦ ([], subst (λ r. StandsUnderLocks w r []) e (nothing_done s v w k))
-    | inr e ↦ ((c.history t).0, stands_committed s t v w (c.history t).0 c k city (ne_eqb s t e) (c.history t).1)
-  ];
-}
+      stands_committed : (t : ℕ) (done : List Answered) → (s == t) ≡ false → StandsUnderLocks v t done
+          → StandsUnderLocks w t done
+      stands_committed t done ne f =
+          let same : carried (held v t) (committed w) (snapshot v t) ≡ snapshot w t =
+          ap (carried (held v t) (committed w)) (seen_with v t)
+          ∙ view_carried (held v t) (committed v) (committed w)
+          (λ q e. agree t ne q (ap (λ o. is_some o) (held_exclusively (mode_of v.locks t q) e)))
+          (written v t) (own_covered v t c) (marks_covered v t c)
+          ∙ ap (view_with (committed w)) (sym (others_written t ne)) ∙ sym (seen_with w t) in
+          subst (λ (h : Held). IsTraceUnderLocks h (unmarked (committed w)) done (snapshot w t))
+          (λ i q. sym (mode_beside t q ne) i)
+          (subst (λ (x : View). IsTraceUnderLocks (held v t) (unmarked (committed w)) done x) same
+          (history_kept (held v t) (committed v) (committed w) done (snapshot v t) c.city.0
+          (subst IsSound (sym city) (sound_view v s c)) (agree t ne) f))
 
--- ---- an abort
+      pub over_committed : w.frame ≡ v.frame → IsTransactionEnd s v w
+      over_committed frame = is_over frame stands_committed
 
-pub seen_undone : (s t : ℕ) (v w : CoreState) → Ended s v w → committed w ≡ committed v → (s == t) ≡ false
-    → snapshot w t ≡ snapshot v t
-seen_undone s t v w k city ne = seen_same v w t city (others_written s t v w k ne)
+      pub committed_consistent : HasNoOrphan (view v s) → IsConsistent w
+      committed_consistent orphans = consistent (subst IsLawful (sym city) (sound_view v s c, orphans)) stands_committed
 
-pub stands_aborted : (s t : ℕ) (v w : CoreState) (done : List Answered) → Ended s v w → committed w ≡ committed v →
-    (s == t) ≡ false → StandsUnderLocks v t done → StandsUnderLocks w t done
-stands_aborted s t v w done k city ne f =
-    follows_same (held v t) (held w t) (unmarked (committed v)) (unmarked (committed w)) done (snapshot v t)
-    (snapshot w t)
-    (λ q b h. ap (λ (g : Held). covers (g q) b) (sym (same_held s t v w k ne)) ∙ h)
-    (ap (λ (m : CityMap). unmarked m) (sym city)) (sym (seen_undone s t v w k city ne)) f
+    -- ---- an abort
 
-pub aborted_consistent : (s : ℕ) (v w : CoreState) → IsConsistent v → Ended s v w → committed w ≡ committed v
-    → IsConsistent w
-aborted_consistent s v w c k city = record {
-  lawful = k.lawful;
-  locked = ended_locked s v w c k;
-  marks_locked = ended_marks_locked s v w c k;
-  open_only = ended_open s v w c k;
-  marks_open = ended_marks_open s v w c k;
-  city = subst IsLawful (sym city) c.city;
-  history = λ t. elim (cases_eq s t) [
-    | inl e ↦ ([], subst (λ r. StandsUnderLocks w r []) e (nothing_done s v w k))
-    | inr e ↦ ((c.history t).0, stands_aborted s t v w (c.history t).0 k city (ne_eqb s t e) (c.history t).1)
-  ];
-}
+    module _ (city : committed w ≡ committed v) where
+      seen_undone : (t : ℕ) → (s == t) ≡ false → snapshot w t ≡ snapshot v t
+      seen_undone t ne = seen_same v w t city (others_written t ne)
+
+      stands_undone : (t : ℕ) (done : List Answered) → (s == t) ≡ false → StandsUnderLocks v t done
+          → StandsUnderLocks w t done
+      stands_undone t done ne f =
+          follows_same (held v t) (held w t) (unmarked (committed v)) (unmarked (committed w)) done (snapshot v t)
+          (snapshot w t) (λ q b h. ap (λ o. covers o b) (mode_beside t q ne) ∙ h)
+          (ap (λ (m : CityMap). unmarked m) (sym city)) (sym (seen_undone t ne)) f
+
+      pub rolled_back : w.frame ≡ v.frame → IsRolledBack s v w
+      rolled_back frame = record { city = city; views = seen_undone; over = is_over frame stands_undone }
+
+      pub undone_consistent : IsConsistent w
+      undone_consistent = consistent (subst IsLawful (sym city) c.city) stands_undone

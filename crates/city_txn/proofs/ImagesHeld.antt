@@ -1,7 +1,5 @@
 -- A map of undo images, and the finite map that contracts see of it.
-use Rattle.std.proofs.Common.{◌≡◌, ℕ, List, Option, None, Some, Equal, ap, sym, ◌∙◌}
-use Rattle.std.specs.Prelude.{if◌then◌else◌, IfSome}
-use Rattle.std.specs.Ordering.{nat_cmp}
+use Rattle.std.proofs.Common.{◌≡◌, ℕ, List, Option, None, Some, Equal, is_some, true, ap, sym, ◌∙◌, if◌then◌else◌, IfSome, nat_cmp}
 use Rattle.std.specs.Cmp.Lexicographic.{slice_cmp}
 use Rattle.std.specs.BTreeMap as tree
 use Rattle.std.specs.BTreeMap.{BTreeMap, IsOrdered, is_at}
@@ -37,13 +35,18 @@ module _ (m : BTreeMap (List ℕ) UndoImage) (ordered : IsOrdered (slice_cmp nat
   pub held_at : (q : List ℕ) → tree.get (slice_cmp nat_cmp) m q ≡ image_at u q
   held_at q = sym (get_held m ordered q) ∙ ap (λ images. get images q) seen
 
-  -- one image changed
+  pub there : (q : List ℕ) → is_some (image_at u q) ≡ true → is_some (tree.get (slice_cmp nat_cmp) m q) ≡ true
+  there q h = ap is_some (held_at q) ∙ h
+
+  -- f done to one image
   pub one_changed : (n : BTreeMap (List ℕ) UndoImage) → IsOrdered (slice_cmp nat_cmp) n
-      → (id : List ℕ) (w : Option UndoImage) →
-      ((q : List ℕ) → tree.get (slice_cmp nat_cmp) n q ≡ (if same_id id q then w else tree.get (slice_cmp nat_cmp) m q))
-      →
-      (q : List ℕ) → get (from_sorted {R = slice_cmp nat_cmp} n.entries) q ≡ (if same_id id q then w else image_at u q)
-  one_changed n still id w step q = get_held n still q ∙ step q ∙ ap (λ x. if same_id id q then w else x) (held_at q)
+      → (id : List ℕ) (f : Option UndoImage → Option UndoImage)
+      → ((q : List ℕ) → tree.get (slice_cmp nat_cmp) n q
+      ≡ (if same_id id q then f (tree.get (slice_cmp nat_cmp) m id) else tree.get (slice_cmp nat_cmp) m q))
+      → (q : List ℕ)
+      → get (from_sorted {R = slice_cmp nat_cmp} n.entries) q ≡ (if same_id id q then f (image_at u id) else image_at u q)
+  one_changed n still id f step q = get_held n still q ∙ step q
+      ∙ ap (λ (i : List ℕ → Option UndoImage). if same_id id q then f (i id) else i q) (λ j r. held_at r j)
 
 pub key_is : (id : List ℕ) (r : Option (List ℕ × UndoImage)) → IfSome r (λ e. slice_cmp nat_cmp id e.0 ≡ Equal)
     → IfSome r (λ e. e.0 ≡ id)

@@ -1,8 +1,7 @@
 -- Locks asked for in turn: one granted, and those after it.
-use Rattle.std.proofs.Common.{◌≡◌, ◌⊎◌, inl, inr, ◌==◌, ◌&&◌, ℕ, List, [], ◌∷◌, true, false, Option, None, Some}
-use Rattle.std.proofs.Common.{refl, ap, sym, ◌∙◌, subst, ◌≢◌, ◌+◌, ◌<◌, length, drop, get_or, is_some, Result, Ok, Err}
-use Rattle.std.proofs.Common.{add-one, drop-cons}
-use Rattle.std.specs.Prelude.{cond, IfOk, IsErr}
+use Rattle.std.proofs.Common.{◌≡◌, ◌⊎◌, inl, inr, ◌==◌, ◌&&◌, ℕ, List, [], ◌∷◌, true, false, Option, None, Some, refl}
+use Rattle.std.proofs.Common.{ap, sym, ◌∙◌, subst, ◌≢◌, ◌+◌, ◌<◌, length, drop, get_or, is_some, Result, Ok, Err}
+use Rattle.std.proofs.Common.{add-one, drop-cons, cond, IfOk, IsErr, ne_of_lt, ne_of_gt}
 use Rattle.std.proofs.lemmas.Bool.{false≢true, eq-eqb, or_parts, or_right, ne_eqb}
 use Rattle.city_model.specs.CityMap.{same_id}
 use Rattle.city_model.proofs.Ids.{same_id_itself, same_id_back, same_id_of_equal, by_id}
@@ -14,9 +13,7 @@ use Rattle.city_locks.specs.Mode.{stronger}
 use Rattle.city_locks.specs.Locks.{Locks, mode_of, answer_of, Lawful}
 use Rattle.city_model.specs.Standing.{Lock, covers, locks_id, locks_id_exclusively, AllHeld}
 use Rattle.city_txn.specs.CoreState.{held_in}
-use Rattle.city_txn.specs.Locking.{go_on, first_answer, first_if, granted_before, MoreLocks, GainsFirst}
-use Rattle.city_txn.specs.Locking.{IsBlocked}
-use Rattle.std.proofs.Math.Nat.{ne_of_lt, ne_of_gt}
+use Rattle.city_txn.specs.Locking.{go_on, first_answer, first_if, granted_before, MoreLocks, GainsFirst, IsBlocked}
 use Rattle.std.proofs.lemmas.Result.{on_ok_weaker, IfOk-weaker}
 use Rattle.city_model.specs.Meaning.{exclusively}
 use Rattle.city_locks.specs.WaitDie.{IsInConflict, IsWaitDie}

@@ -1,6 +1,5 @@
 -- A store of which the city and the images changed at one id.
-use Rattle.std.proofs.Common.{◌≡◌, ℕ, List, true, false, Option, is_some, refl, ap, sym, ◌∙◌, subst}
-use Rattle.std.specs.Prelude.{if◌then◌else◌}
+use Rattle.std.proofs.Common.{◌≡◌, ℕ, List, true, false, Option, is_some, refl, ap, sym, ◌∙◌, subst, if◌then◌else◌}
 use Rattle.std.proofs.lemmas.Map.{update_same, update_other}
 use Rattle.city_model.specs.declared.object.Object.{Object}
 use Rattle.city_model.specs.CityMap.{object_at, changed, has_id, same_id}

@@ -1,8 +1,7 @@
 -- One id of a store written, edited where it stands, or its write taken back.
 use Rattle.std.proofs.Common.{◌≡◌, ◌==◌, ◌&&◌, ℕ, List, true, Option, None, Some, is_some, refl, ap, sym, ◌∙◌, Bool}
-use Rattle.std.proofs.Common.{false, not}
-use Rattle.std.specs.Prelude.{if◌then◌else◌, option_map, not, unwrap_or}
-use Rattle.std.proofs.lemmas.Bool.{false≢true, eqb-true}
+use Rattle.std.proofs.Common.{false, not, if◌then◌else◌, option_map, unwrap_or}
+use Rattle.std.proofs.lemmas.Bool.{false≢true, eqb-true, eq-eqb}
 use Rattle.city_model.specs.declared.object.Object.{Object}
 use Rattle.city_model.specs.CityMap.{CityValue, object_at, changed, same_id}
 use Rattle.city_model.proofs.Ids.{same_id_itself}
@@ -10,10 +9,10 @@ use Rattle.city_model.proofs.IdLists.{bool_cases}
 use Rattle.city_txn.specs.declared.image.UndoImage.{UndoImage}
 use Rattle.city_txn.specs.declared.store.Store.TheInside.{Inside}
 use Rattle.city_txn.specs.inside.Images.{seen_under, committed_at, write_at, writer_of, written_over, or_else}
-use Rattle.city_txn.specs.inside.Images.{written_at, image_unwritten, put_back, put_back_at}
+use Rattle.city_txn.specs.inside.Images.{image_unwritten, put_back, put_back_at}
 use Rattle.city_txn.specs.inside.InPlace.{state_of, IsInPlace, is_writer}
-use Rattle.city_txn.specs.Writes.{Write, write_of, is_by, own_write, unless_by}
-use Rattle.city_txn.specs.inside.State.{rewritten, is_reserved, store_own}
+use Rattle.city_txn.specs.Writes.{Write, write_of, is_by, unless_by}
+use Rattle.city_txn.specs.inside.State.{rewritten, is_reserved, WritesOne, OthersWritesStay}
 use Rattle.city_txn.specs.inside.UndoState.{image_at}
 use Rattle.city_txn.proofs.AtOneId.{here, writes_is}
 use Rattle.city_txn.proofs.OneIdChanged.{at_each, OneWritten, one_written}
@@ -102,23 +101,6 @@ not_deleted None false e = absurd (false≢true e)
 not_deleted (Some o) true e = absurd (false≢true (sym e))
 not_deleted (Some o) false e = refl
 
--- ---- the whole
-
-pub set_written : (a b : Inside) → IsInPlace a → (s : ℕ) (id : List ℕ) → is_reserved (state_of a) s id ≡ true →
-    (deleted : Bool) (y : Object) (w : Option Object) → (if deleted then None else Some y) ≡ w →
-    b.city.0 ≡ a.city.0 → object_at b.city.1 ≡ changed (object_at a.city.1) id (Some y) →
-    ((q : List ℕ) → image_at b.undo q
-    ≡ (if same_id id q then option_map (written_over (here a id) deleted) (image_at a.undo id) else image_at a.undo q))
-    →
-    b.undo.reservations ≡ a.undo.reservations → b.logs ≡ a.logs → OneWritten a b id (Some (s, w))
-set_written a b k s id reserved deleted y w is frame city images reservations logs =
-    let i = image_at a.undo id in
-    let writer : is_writer s (writer_of i) ≡ true = sym (k.listed s id) ∙ reserved in
-    one_written a b k id (Some y) (option_map (written_over (here a id) deleted) i) frame city images reservations logs
-    refl
-    (writer_written (here a id) deleted i) (Some (s, w)) (write_written (here a id) (Some y) w deleted s i writer is)
-    (committed_written (here a id) (Some y) deleted i (some_writer s i writer))
-
 -- ---- at one id, where x stood in the city
 
 -- an image by its fields
@@ -157,12 +139,6 @@ still_some : (p x : Option Object) → is_some x ≡ true → is_some (or_else p
 still_some None x h = h
 still_some (Some o) x h = refl
 
--- what its transaction wrote at an id
-own_is : (s : ℕ) (x : Option Object) (i : Option UndoImage) → is_writer s (writer_of i) ≡ true → written_at x i
-    ≡ own_write s (write_at x i)
-own_is s x None h = absurd (false≢true h)
-own_is s x (Some i) h = bool_cases i.unwritten (λ f. rw f refl) (λ f. rw (f, h) refl)
-
 none_by_others : (s : ℕ) (x : Option Object) (i : Option UndoImage) → is_writer s (writer_of i) ≡ true
     → unless_by s (write_at x i) ≡ None
 none_by_others s x None h = refl
@@ -170,31 +146,53 @@ none_by_others s x (Some i) h = own_write_gone s x i h
 
 -- ---- an id that s has reserved
 
-module _ (a : Inside) (k_a : IsInPlace a) (s : ℕ) (id : List ℕ) (reserved : is_reserved (state_of a) s id ≡ true) where
-  writer : is_writer s (writer_of (image_at a.undo id)) ≡ true
-  writer = sym (k_a.listed s id) ∙ reserved
+-- what is left of the store where s wrote the id, or took its write back
+pub record OwnWritten (a b : Inside) (s : ℕ) (id : List ℕ) (w : Option Write) : Type 0 where
+  pub in_place : IsInPlace b
+  pub one : WritesOne id w (state_of a) (state_of b)
+  pub others : OthersWritesStay s (state_of a) (state_of b)
 
-  pub own_there : written_at (here a id) (image_at a.undo id) ≡ store_own (state_of a) s id
-  own_there = own_is s (here a id) (image_at a.undo id) writer ∙ ap (own_write s) (sym (writes_is a k_a id))
+module _ (a b : Inside) (k_a : IsInPlace a) (s : ℕ) (id : List ℕ) (reserved : is_reserved (state_of a) s id ≡ true)
+    (frame : b.city.0 ≡ a.city.0) (reservations : b.undo.reservations ≡ a.undo.reservations) (logs : b.logs ≡ a.logs)
+  where
+    writer : is_writer s (writer_of (image_at a.undo id)) ≡ true
+    writer = sym (k_a.listed s id) ∙ reserved
 
-  -- no other has written it, so whatever s makes of its own write, the others' writes stay
-  pub others_stay : (b : Inside) (w : Option Write) → unless_by s w ≡ None → OneWritten a b id w
-      → (q : List ℕ) → unless_by s (write_of (state_of b).writes q) ≡ unless_by s (write_of (state_of a).writes q)
-  others_stay b w none k = at_each id
-      (ap (unless_by s) (k.one.writes id
-      ∙ ap (λ b. if b then w else write_of (state_of a).writes id) (same_id_itself id))
-      ∙ none
-      ∙ sym (ap (unless_by s) (writes_is a k_a id) ∙ none_by_others s (here a id) (image_at a.undo id) writer))
-      (λ q e. ap (unless_by s) (k.one.writes q ∙ ap (λ b. if b then w else write_of (state_of a).writes q) e))
+    -- no other has written it, so whatever s makes of its own write, the others' writes stay
+    with_others : (w : Option Write) → unless_by s w ≡ None → OneWritten a b id w → OwnWritten a b s id w
+    with_others w none k = record {
+      in_place = k.in_place;
+      one = k.one;
+      others = at_each id
+          (ap (unless_by s) (k.one.writes id
+          ∙ ap (λ b. if b then w else write_of (state_of a).writes id) (same_id_itself id))
+          ∙ none
+          ∙ sym (ap (unless_by s) (writes_is a k_a id) ∙ none_by_others s (here a id) (image_at a.undo id) writer))
+          (λ q e. ap (unless_by s) (k.one.writes q ∙ ap (λ b. if b then w else write_of (state_of a).writes q) e));
+    }
 
-  pub unset_written : (b : Inside) → b.city.0 ≡ a.city.0
-      → object_at b.city.1 ≡ changed (object_at a.city.1) id (or_else (put_back_at (image_at a.undo id)) (here a id))
-      → ((q : List ℕ) → image_at b.undo q
-      ≡ (if same_id id q then option_map image_unwritten (image_at a.undo id) else image_at a.undo q))
-      → b.undo.reservations ≡ a.undo.reservations → b.logs ≡ a.logs → OneWritten a b id None
-  unset_written b frame city images reservations logs =
-      let i = image_at a.undo id in
-      let object = or_else (put_back_at i) (here a id) in
-      one_written a b k_a id object (option_map image_unwritten i) frame city images reservations logs
-      (still_some (put_back_at i) (here a id) (k_a.has_slot id (some_writer s i writer))) (writer_unwritten i)
-      None (write_unwritten object i) (committed_unwritten (here a id) i)
+    pub set_written : (deleted : Bool) (y : Object) (w : Option Object) → (if deleted then None else Some y) ≡ w
+        → object_at b.city.1 ≡ changed (object_at a.city.1) id (Some y)
+        → ((q : List ℕ) → image_at b.undo q
+        ≡ (if same_id id q then option_map (written_over (here a id) deleted) (image_at a.undo id)
+        else image_at a.undo q)) → OwnWritten a b s id (Some (s, w))
+    set_written deleted y w is city images =
+        let i = image_at a.undo id in
+        with_others (Some (s, w)) (ap (λ x. if x then None else Some (s, w)) (eq-eqb s s refl))
+        (one_written a b k_a id (Some y) (option_map (written_over (here a id) deleted) i) frame city images reservations
+        logs refl (writer_written (here a id) deleted i) (Some (s, w))
+        (write_written (here a id) (Some y) w deleted s i writer is)
+        (committed_written (here a id) (Some y) deleted i (some_writer s i writer)))
+
+    pub unset_written : object_at b.city.1
+        ≡ changed (object_at a.city.1) id (or_else (put_back_at (image_at a.undo id)) (here a id))
+        → ((q : List ℕ) → image_at b.undo q
+        ≡ (if same_id id q then option_map image_unwritten (image_at a.undo id) else image_at a.undo q))
+        → OwnWritten a b s id None
+    unset_written city images =
+        let i = image_at a.undo id in
+        let object = or_else (put_back_at i) (here a id) in
+        with_others None refl
+        (one_written a b k_a id object (option_map image_unwritten i) frame city images reservations logs
+        (still_some (put_back_at i) (here a id) (k_a.has_slot id (some_writer s i writer))) (writer_unwritten i)
+        None (write_unwritten object i) (committed_unwritten (here a id) i))

@@ -1,7 +1,6 @@
 -- A transaction that gained locks and may have written: nobody else sees a difference.
-use Rattle.std.proofs.Common.{◌≡◌, ◌==◌, ℕ, List, [], true, false, None, Some, is_some, refl, ap, sym, ◌∙◌, subst}
-use Rattle.std.proofs.Common.{inl, inr}
-use Rattle.std.specs.Prelude.{if◌then◌else◌}
+use Rattle.std.proofs.Common.{◌≡◌, ◌==◌, ℕ, List, [], true, false, None, Some, is_some, refl, ap, sym, ◌∙◌, subst, inl}
+use Rattle.std.proofs.Common.{inr, if◌then◌else◌}
 use Rattle.std.proofs.lemmas.Bool.{false≢true, eqb-true, ne_eqb, cases_eq}
 use Rattle.city_model.specs.CityMap.{CityMap}
 use Rattle.city_model.specs.Marks.{unmarked}

@@ -1,7 +1,6 @@
 -- A command done on the store, by its kind.
 use Rattle.std.proofs.Common.{◌≡◌, ◌&&◌, ℕ, List, [], Bool, true, false, Option, None, Some, Result, Ok, Err, refl, ap}
-use Rattle.std.proofs.Common.{sym, ◌∙◌, subst}
-use Rattle.std.specs.Prelude.{if◌then◌else◌, is_none, IsErr}
+use Rattle.std.proofs.Common.{sym, ◌∙◌, subst, if◌then◌else◌, is_none, IsErr}
 use Rattle.std.proofs.lemmas.Bool.{false≢true, eq-eqb}
 use Rattle.city_model.specs.declared.object.Object.{Object}
 use Rattle.city_model.specs.declared.command.Command.{Command}

@@ -1,7 +1,6 @@
 -- An attach, a detach and a delete in place: what was written at the parent is edited, and the child is written.
 use Rattle.std.proofs.Common.{◌≡◌, ◌==◌, ◌&&◌, ◌||◌, ℕ, List, length, true, false, Option, None, Some, Result, Ok, refl}
-use Rattle.std.proofs.Common.{ap, sym, ◌∙◌}
-use Rattle.std.specs.Prelude.{if◌then◌else◌, option_map, IsErr}
+use Rattle.std.proofs.Common.{ap, sym, ◌∙◌, if◌then◌else◌, option_map, IsErr}
 use Rattle.std.proofs.lemmas.Bool.{false≢true, eqb-true, eq-eqb, or_left, or_right, and_parts, and_from}
 use Rattle.city_model.specs.declared.object.Object.{Object}
 use Rattle.city_model.specs.declared.command.Command.{Command}

@@ -1,8 +1,6 @@
 -- An id reserved: an unwritten image, and a placeholder where no object is there. Nobody sees it.
 use Rattle.std.proofs.Common.{◌≡◌, ◌==◌, ℕ, List, [], ◌∷◌, ◌++◌, Bool, true, false, not, ◌&&◌, ◌||◌, Option, None, Some}
-use Rattle.std.proofs.Common.{is_some, refl, ap, sym, ◌∙◌, subst, inl, inr}
-use Rattle.std.specs.Prelude.{if◌then◌else◌, unwrap_or}
-use Rattle.std.specs.Ordering.{nat_cmp}
+use Rattle.std.proofs.Common.{is_some, refl, ap, sym, ◌∙◌, subst, inl, inr, if◌then◌else◌, unwrap_or, nat_cmp}
 use Rattle.std.specs.BTreeMap.{is_at}
 use Rattle.std.specs.FinMap.{get}
 use Rattle.std.proofs.lemmas.Bool.{false≢true, eqb-true, eq-eqb, ne_eqb, cases_eq, or_right}
@@ -38,6 +36,13 @@ unwritten_committed : (s : ℕ) (x : Option Object)
 unwritten_committed s None = refl
 unwritten_committed s (Some o) = refl
 
+-- what is left of the store where s has newly reserved the id
+pub record Reserved (a b : Inside) (s : ℕ) (id : List ℕ) : Type 0 where
+  pub in_place : IsInPlace b
+  pub same : SeesSame (state_of a) (state_of b)
+  pub more : (t : ℕ) (q : List ℕ)
+      → is_reserved (state_of b) t q ≡ (((s == t) && same_id id q) || is_reserved (state_of a) t q)
+
 module _ (a b : Inside) (k : IsInPlace a) (s : ℕ) (id : List ℕ) (deleted : Bool)
     (is : deleted ≡ not (is_some (here a id)))
     (is_opened : is_begun (state_of a) s ≡ true) (absent : image_at a.undo id ≡ None) (frame : b.city.0 ≡ a.city.0)
@@ -65,7 +70,7 @@ module _ (a b : Inside) (k : IsInPlace a) (s : ℕ) (id : List ℕ) (deleted : B
       ∙ list_any-append (same_id q) (reservations_of a.undo.reservations s) (id ∷ [])
       ∙ rw (or-false (same_id q id), same_id_back q id) (or_comm (is_reserved (state_of a) s q) (same_id id q))
 
-  pub more_reserved : (t : ℕ) (q : List ℕ)
+  more_reserved : (t : ℕ) (q : List ℕ)
       → is_reserved (state_of b) t q ≡ (((s == t) && same_id id q) || is_reserved (state_of a) t q)
   more_reserved t q = elim (cases_eq s t) [
     | inl e ↦ subst (λ r. is_reserved (state_of b) r q ≡ (((s == r) && same_id id q) || is_reserved (state_of a) r q)) e
@@ -79,7 +84,7 @@ module _ (a b : Inside) (k : IsInPlace a) (s : ℕ) (id : List ℕ) (deleted : B
     | inr e ↦ ap is_some (listed_beside t (ne_eqb s t e))
   ]
 
-  pub reserved_in_place : IsInPlace b
+  reserved_in_place : IsInPlace b
   reserved_in_place = record {
     has_slot = slots_kept a b k id object image city images refl;
     listed = λ t q. more_reserved t q
@@ -96,7 +101,7 @@ module _ (a b : Inside) (k : IsInPlace a) (s : ℕ) (id : List ℕ) (deleted : B
         (k.noted t q (ap (λ ls. has_before (log_of ls t) q) (sym logs) ∙ h));
   }
 
-  pub reserved_seen : SeesSame (state_of a) (state_of b)
+  reserved_seen : SeesSame (state_of a) (state_of b)
   reserved_seen = record {
     frame = frame;
     city = committed_kept a b k id object image city images reserved_in_place
@@ -110,6 +115,9 @@ module _ (a b : Inside) (k : IsInPlace a) (s : ℕ) (id : List ℕ) (deleted : B
     opened = still_open;
     logs = logs;
   }
+
+  pub reserved : Reserved a b s id
+  reserved = record { in_place = reserved_in_place; same = reserved_seen; more = more_reserved }
 
 -- ---- a stamp opened, which wasn't open
 

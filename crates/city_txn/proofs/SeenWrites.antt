@@ -1,7 +1,6 @@
 -- What a transaction sees, from what it wrote by now and at each of its marks.
 use Rattle.std.proofs.Common.{◌≡◌, ◌==◌, ◌&&◌, ℕ, List, [], ◌∷◌, Bool, true, false, Option, None, Some, is_some, refl}
-use Rattle.std.proofs.Common.{ap, sym, ◌∙◌, subst}
-use Rattle.std.specs.Prelude.{if◌then◌else◌, unwrap_or, is_none}
+use Rattle.std.proofs.Common.{ap, sym, ◌∙◌, subst, if◌then◌else◌, unwrap_or, is_none}
 use Rattle.std.specs.Map.{update}
 use Rattle.std.proofs.lemmas.Bool.{false≢true, eqb-true, or_left, or_right, false_from_ne_true}
 use Rattle.std.proofs.lemmas.Map.{update_other}

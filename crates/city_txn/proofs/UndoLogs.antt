@@ -1,7 +1,6 @@
 -- Undo logs: what an entry changes, and what is seen of marks.
 use Rattle.std.proofs.Common.{◌≡◌, ◌==◌, ◌||◌, ℕ, ◌<◌, List, [], ◌∷◌, length, drop, Bool, true, false, Option, refl, ap}
-use Rattle.std.proofs.Common.{sym, ◌∙◌, arith}
-use Rattle.std.specs.Prelude.{if◌then◌else◌}
+use Rattle.std.proofs.Common.{sym, ◌∙◌, arith, if◌then◌else◌}
 use Rattle.std.specs.Map.{update}
 use Rattle.std.proofs.lemmas.Bool.{false≢true, eqb-true, or_left, or_right, or_parts}
 use Rattle.std.proofs.lemmas.Map.{update_same, update_other}

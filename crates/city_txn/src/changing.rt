@@ -1,121 +1,87 @@
 //! What a transaction wrote, as a change.
-ghost use Rattle.std.specs.Prelude.{◌≡◌, ℕ, List, None, IfOk, OnOk, if◌then◌else◌};
+ghost use Rattle.std.specs.Prelude.{◌≡◌, ℕ, List, IfOk, OnOk, false, if◌then◌else◌};
 ghost use Rattle.std.specs.Map.{keys_of};
 ghost use Rattle.std.specs.Ordering.{nat_cmp};
 ghost use Rattle.std.specs.Cmp.Lexicographic.{slice_cmp};
-ghost use Rattle.std.specs.List.{list_any};
 ghost use Rattle.std.specs.List.Sorted.{IsStrictlySortedBy};
-ghost use Rattle.city_model.specs.CityMap.{object_at, has_id, same_id};
+ghost use Rattle.city_model.specs.CityMap.{same_id};
 ghost use Rattle.city_model.specs.Relations.{is_orphan_there};
 ghost use Rattle.city_model.specs.Writing.{write_in};
-ghost use Rattle.city_txn.specs.inside.Images.{written_at, or_else};
+ghost use Rattle.city_txn.specs.Changing.{change_in};
+ghost use Rattle.city_txn.specs.Writes.{write_of, own_write};
+ghost use Rattle.city_txn.specs.inside.Images.{or_else};
 ghost use Rattle.city_txn.specs.inside.Orphans.{is_orphan_written};
-ghost use Rattle.city_txn.specs.inside.UndoState.{image_at};
+ghost use Rattle.city_txn.specs.inside.State.{store_own, store_view};
 
-use crate::undo::Undo;
+use crate::store::Store;
 use crate::undo_log::OwnWrite;
 use city_model::OutOfMemory;
 use city_model::change::Change;
-use city_model::city::City;
 use city_model::copied::Copied;
-use city_model::object::Object;
 use city_model::orphans::is_orphan;
 use city_model::text::Id;
-use std::alloc::Global;
 
-/// What was written at the ids. It copies the objects.
-pub fn change_of(city: &City, undo: &Undo, alloc: Global, ids: &[Id]) -> Result<Change, OutOfMemory>
-    ensures lists { IfOk result (λ change. (q : List ℕ) → write_in change q
-        ≡ (if has_id ids.now q then written_at (object_at city.now.1 q) (image_at undo.now q) else None)) }
-    ensures ordered { IfOk result (λ change. IsStrictlySortedBy (slice_cmp nat_cmp) (keys_of change)) }
-{
-    let mut change = Change::new(alloc);
-    for id in ids {
-        note(&mut change, city, undo, alloc, id)?;
+impl Store {
+    /// What the stamp wrote. It copies the objects.
+    pub fn change(&self, stamp: u64) -> Result<Change, OutOfMemory>
+        ensures lists { IfOk result (λ change. (q : List ℕ) → write_in change q ≡ own_write stamp (write_of self.now.writes q)) }
+        ensures ordered { IfOk result (λ change. IsStrictlySortedBy (slice_cmp nat_cmp) (keys_of change)) }
+    {
+        let mut change = Change::new(self.alloc());
+        let ids = self.undo.reserved(stamp);
+        for id in ids {
+            self.add_written(&mut change, stamp, id)?;
+        }
+        Ok(change)
     }
-    Ok(change)
-}
 
-/// Notes what was written at the id, if anything was.
-fn note(
-    change: &mut Change,
-    city: &City,
-    undo: &Undo,
-    alloc: Global,
-    id: &Id,
-) -> Result<(), OutOfMemory>
-    ensures noted { OnOk result ((q : List ℕ) → write_in change.new q
-        ≡ (if same_id id.now q then or_else (written_at (object_at city.now.1 id.now) (image_at undo.now id.now)) (write_in change.old q) else write_in change.old q)) }
-    ensures ordered { IsStrictlySortedBy (slice_cmp nat_cmp) (keys_of change.old) → IsStrictlySortedBy (slice_cmp nat_cmp) (keys_of change.new) }
-{
-    if let Some(object) = written_copy(city, undo, alloc, id)? {
-        change.set(id.copy(alloc)?, object)?;
+    /// Adds to the change what the stamp wrote at the id, if it wrote it.
+    fn add_written(&self, change: &mut Change, stamp: u64, id: &Id) -> Result<(), OutOfMemory>
+        ensures added { OnOk result ((q : List ℕ) → write_in change.new q
+            ≡ (if same_id id.now q then or_else (store_own self.now stamp id.now) (write_in change.old q) else write_in change.old q)) }
+        ensures ordered { IsStrictlySortedBy (slice_cmp nat_cmp) (keys_of change.old) → IsStrictlySortedBy (slice_cmp nat_cmp) (keys_of change.new) }
+    {
+        if let Some(object) = self.written(stamp, id)? {
+            change.set(id.copy(self.alloc())?, object)?;
+        }
+        Ok(())
     }
-    Ok(())
-}
 
-/// A copy of what was written at the id: an object, or that none is there, or nothing.
-pub fn written_copy(
-    city: &City,
-    undo: &Undo,
-    alloc: Global,
-    id: &Id,
-) -> Result<OwnWrite, OutOfMemory>
-    ensures { IfOk result (λ write. write ≡ written_at (object_at city.now.1 id.now) (image_at undo.now id.now)) }
-{
-    let Some(image) = undo.image(id) else {
-        return Ok(None);
-    };
-    if image.unwritten {
-        return Ok(None);
-    }
-    if image.deleted {
-        return Ok(Some(None));
-    }
-    Ok(Some(copy_at(city, alloc, id)?))
-}
-
-/// A copy of the object at the id, if there is one.
-fn copy_at(city: &City, alloc: Global, id: &Id) -> Result<Option<Object>, OutOfMemory>
-    ensures { IfOk result (λ object. object ≡ object_at city.now.1 id.now) }
-{
-    match city.get(id) {
-        Some(object) => Ok(Some(object.copy(alloc)?)),
-        None => Ok(None),
-    }
-}
-
-/// Whether an object that was written at one of the ids is an orphan. Doesn't allocate.
-pub fn has_orphan(city: &City, undo: &Undo, ids: &[Id]) -> bool
-    ensures { result ≡ list_any (λ id. is_orphan_written (written_at (object_at city.now.1 id) (image_at undo.now id))) ids.now }
-{
-    for id in ids {
-        if is_orphan_written(city, undo, id) {
-            return true;
+    /// What the stamp wrote at the id: an object, or that none is there, or nothing. It copies the object.
+    pub fn written(&self, stamp: u64, id: &Id) -> Result<OwnWrite, OutOfMemory>
+        ensures { IfOk result (λ write. write ≡ store_own self.now stamp id.now) }
+    {
+        if !self.has_written(stamp, id) {
+            return Ok(None);
+        }
+        match self.read(stamp, id) {
+            Some(object) => Ok(Some(Some(object.copy(self.alloc())?))),
+            None => Ok(Some(None)),
         }
     }
-    false
-}
 
-/// Whether what was written at the id, if anything was, is an orphan.
-fn is_orphan_written(city: &City, undo: &Undo, id: &Id) -> bool
-    ensures { result ≡ is_orphan_written (written_at (object_at city.now.1 id.now) (image_at undo.now id.now)) }
-{
-    if !is_orphan_at(city, id) {
-        return false;
+    /// Whether the stamp sees an orphan at an id that it has reserved. Doesn't allocate.
+    pub fn has_orphan(&self, stamp: u64) -> bool
+        ensures none { result ≡ false → (q : List ℕ) → is_orphan_written (own_write stamp (write_of self.now.writes q)) ≡ false }
+        ensures lists { (q : List ℕ) → write_in (change_in self.now.writes stamp) q ≡ own_write stamp (write_of self.now.writes q) }
+        ensures ordered { IsStrictlySortedBy (slice_cmp nat_cmp) (keys_of (change_in self.now.writes stamp)) }
+    {
+        let ids = self.undo.reserved(stamp);
+        for id in ids {
+            if self.is_orphan_at(stamp, id) {
+                return true;
+            }
+        }
+        false
     }
-    match undo.image(id) {
-        Some(image) => !image.unwritten && !image.deleted,
-        None => false,
-    }
-}
 
-/// Whether the city has an orphan at the id.
-fn is_orphan_at(city: &City, id: &Id) -> bool
-    ensures { result ≡ is_orphan_there (object_at city.now.1 id.now) }
-{
-    match city.get(id) {
-        Some(object) => is_orphan(object),
-        None => false,
+    /// Whether the stamp sees an orphan at the id.
+    fn is_orphan_at(&self, stamp: u64, id: &Id) -> bool
+        ensures { result ≡ is_orphan_there (store_view self.now stamp id.now) }
+    {
+        match self.read(stamp, id) {
+            Some(object) => is_orphan(object),
+            None => false,
+        }
     }
 }

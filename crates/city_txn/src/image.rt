@@ -1,6 +1,6 @@
 //! Undo images: what stood at an id before a transaction wrote it.
 ghost use Rattle.std.specs.Prelude.{◌≡◌, Some, option_copied};
-ghost use Rattle.city_txn.specs.inside.Images.{seen_by, written_over, unwritten_image, image_unwritten, put_back};
+ghost use Rattle.city_txn.specs.inside.Images.{seen_by, written_over, image_unwritten, put_back};
 
 use city_model::object::Object;
 
@@ -18,18 +18,6 @@ pub struct UndoImage {
 }
 
 impl UndoImage {
-    /// The image of an id that nobody has written. Doesn't allocate.
-    pub fn unwritten(stamp: u64, deleted: bool) -> Self
-        ensures { result ≡ unwritten_image stamp deleted }
-    {
-        UndoImage {
-            by: stamp,
-            unwritten: true,
-            deleted,
-            before: None,
-        }
-    }
-
     /// What the stamp sees at the id of the image, where the city has `here`.
     pub fn seen_by<'a>(&'a self, stamp: u64, here: Option<&'a Object>) -> Option<&'a Object>
         ensures { option_copied result ≡ seen_by stamp (option_copied here.entry) self.now }

@@ -1,26 +1,18 @@
 //! The city as the open transactions have written it, and how it is put back.
-ghost use Rattle.std.specs.Prelude.{◌≡◌, ◌↔◌, IsTrue, ℕ, List, [], None, Some, OnOk, OnErr, IfOk, true, false, ◌==◌, ◌&&◌, ◌||◌, is_some, option_copied, option_map, if◌then◌else◌};
-ghost use Rattle.std.specs.Ordering.{nat_cmp};
-ghost use Rattle.std.specs.Cmp.Lexicographic.{slice_cmp};
-ghost use Rattle.std.specs.Map.{keys_of};
-ghost use Rattle.std.specs.List.Sorted.{IsStrictlySortedBy};
+ghost use Rattle.std.specs.Prelude.{◌≡◌, ◌↔◌, IsTrue, ℕ, List, [], None, Some, OnOk, OnErr, true, false, ◌==◌, ◌&&◌, ◌||◌, is_some, option_copied, option_map, if◌then◌else◌};
 ghost use Rattle.city_model.specs.CityMap.{same_id};
 ghost use Rattle.city_model.specs.Meaning.{with_child, without_child};
-ghost use Rattle.city_model.specs.Writing.{write_in};
-ghost use Rattle.city_txn.specs.Changing.{change_in};
-ghost use Rattle.city_txn.specs.inside.Orphans.{is_orphan_written};
 ghost use Rattle.city_txn.specs.inside.Ending.{map_at_end};
-ghost use Rattle.city_txn.specs.inside.State.{State, rewritten, is_reserved, is_begun, store_committed, store_view, store_own, MayReserve};
+ghost use Rattle.city_txn.specs.inside.State.{State, rewritten, is_reserved, is_begun, store_committed, store_view, MayReserve};
 ghost use Rattle.city_txn.specs.inside.State.{SeesSame, WritesOne, OthersWritesStay, Begins, Forgets};
-ghost use Rattle.city_txn.specs.Writes.{write_of, is_by, own_write, unless_by};
+ghost use Rattle.city_txn.specs.Writes.{write_of, is_by};
 
-use crate::changing::{change_of, has_orphan, written_copy};
 use crate::ending::{End, end_each};
+use crate::placeholder::placeholder;
 use crate::slot;
 use crate::undo::Undo;
 use crate::undo_log::{OwnWrite, UndoLogs};
 use city_model::OutOfMemory;
-use city_model::change::Change;
 use city_model::city::City;
 use city_model::object::Object;
 use city_model::plan::view::View;
@@ -37,7 +29,7 @@ use std::marker::Model;
 pub struct Store {
     alloc: Global,
     city: City,
-    undo: Undo,
+    pub(crate) undo: Undo,
     pub(crate) logs: UndoLogs,
 }
 
@@ -130,7 +122,7 @@ impl Store {
         ensures ok { OnOk result ((t : ℕ) (q : List ℕ) → is_reserved self.new t q ≡ (((stamp == t) && same_id id.now q) || is_reserved self.old t q)) }
         ensures err { OnErr result (self.new ≡ self.old) }
     {
-        if self.undo.has_image(id) {
+        if self.undo.image(id).is_some() {
             return Ok(());
         }
         let deleted = slot::make(&mut self.city, self.alloc, id)?;
@@ -149,7 +141,7 @@ impl Store {
         ensures others { OthersWritesStay stamp self.old self.new }
     {
         let deleted = object.is_none();
-        let standing = slot::standing(self.alloc, object);
+        let standing = object.unwrap_or(placeholder(self.alloc));
         self.undo.write(&mut self.city, id, standing, deleted);
     }
 
@@ -174,15 +166,6 @@ impl Store {
         self.city.remove_child(id, child);
     }
 
-    /// What the stamp wrote at an id that it has reserved. It copies the object.
-    pub fn written(&self, stamp: u64, id: &Id) -> Result<OwnWrite, OutOfMemory>
-        requires { is_reserved self.now stamp id.now ≡ true }
-        ensures { IfOk result (λ write. write ≡ store_own self.now stamp id.now) }
-    {
-        let write = written_copy(&self.city, &self.undo, self.alloc, id)?;
-        Ok(write)
-    }
-
     /// Sets what the stamp wrote at an id that it has reserved: an object, or that none is there,
     /// or nothing. Doesn't allocate.
     pub fn restore(&mut self, stamp: u64, id: Id, write: OwnWrite)
@@ -192,35 +175,8 @@ impl Store {
     {
         match write {
             Some(object) => self.set(stamp, id, object),
-            None => self.unset(stamp, id),
+            None => self.undo.unwrite(&mut self.city, id),
         }
-    }
-
-    /// Undoes the stamp's write of an id that it has reserved, if it wrote it. Doesn't allocate.
-    fn unset(&mut self, stamp: u64, id: Id)
-        requires { is_reserved self.old stamp id ≡ true }
-        ensures one { WritesOne id None self.old self.new }
-        ensures others { OthersWritesStay stamp self.old self.new }
-    {
-        self.undo.unwrite(&mut self.city, id);
-    }
-
-    /// What the stamp wrote. It copies the objects.
-    pub fn change(&self, stamp: u64) -> Result<Change, OutOfMemory>
-        ensures lists { IfOk result (λ change. (q : List ℕ) → write_in change q ≡ own_write stamp (write_of self.now.writes q)) }
-        ensures ordered { IfOk result (λ change. IsStrictlySortedBy (slice_cmp nat_cmp) (keys_of change)) }
-    {
-        let ids = self.undo.reserved(stamp);
-        change_of(&self.city, &self.undo, self.alloc, ids)
-    }
-
-    /// Whether an object that the stamp wrote is an orphan. Doesn't allocate.
-    pub fn has_orphan(&self, stamp: u64) -> bool
-        ensures none { result ≡ false → (q : List ℕ) → is_orphan_written (own_write stamp (write_of self.now.writes q)) ≡ false }
-        ensures lists { (q : List ℕ) → write_in (change_in self.now.writes stamp) q ≡ own_write stamp (write_of self.now.writes q) }
-        ensures ordered { IsStrictlySortedBy (slice_cmp nat_cmp) (keys_of (change_in self.now.writes stamp)) }
-    {
-        has_orphan(&self.city, &self.undo, self.undo.reserved(stamp))
     }
 
     /// The city, where no stamp is open. Doesn't allocate.
@@ -238,27 +194,9 @@ impl Store {
         self.undo.is_idle()
     }
 
-    /// Makes what the stamp wrote the committed city, and closes the stamp. It visits the ids that
-    /// the stamp has reserved, and doesn't allocate.
-    pub fn commit(&mut self, stamp: u64)
-        ensures city { store_committed self.new ≡ store_view self.old stamp }
-        ensures forgets { Forgets stamp self.old self.new }
-    {
-        self.end(stamp, End::Commit);
-    }
-
-    /// Undoes what the stamp wrote, and closes the stamp. It visits the ids that the stamp has
-    /// reserved, and doesn't allocate.
-    pub fn roll_back(&mut self, stamp: u64)
-        ensures city { store_committed self.new ≡ store_committed self.old }
-        ensures forgets { Forgets stamp self.old self.new }
-    {
-        self.end(stamp, End::RollBack);
-    }
-
-    /// Ends the transaction at each id that the stamp has reserved, and closes
-    /// the stamp. Doesn't allocate.
-    fn end(&mut self, stamp: u64, end: End)
+    /// Makes what the stamp wrote the committed city, or undoes it, and closes the stamp. It visits the
+    /// ids that the stamp has reserved, and doesn't allocate.
+    pub fn end(&mut self, stamp: u64, end: End)
         ensures city { store_committed self.new ≡ map_at_end end self.old stamp }
         ensures forgets { Forgets stamp self.old self.new }
     {

@@ -13,6 +13,7 @@ ghost use Rattle.city_txn.specs.Acting.{answer_in, IsAct, RefusesCommit};
 ghost use Rattle.city_txn.specs.Changing.{IsPrepared, IsChangeOf, change_in};
 ghost use Rattle.city_txn.specs.Locking.{is_wait};
 
+use crate::ending::End;
 use crate::lock::{lock, would_lock};
 use crate::step::{Prepared, Step, TxnFault};
 use crate::store::Store;
@@ -193,7 +194,7 @@ impl Core {
         ensures over { IsTransactionEnd stamp self.old self.new }
         ensures lawful { IsLawful (committed self.new) }
     {
-        self.store.commit(stamp);
+        self.store.end(stamp, End::Commit);
         self.locks.release_all(stamp);
     }
 
@@ -203,7 +204,7 @@ impl Core {
         requires { is_open self.old stamp ≡ true }
         ensures { IsRolledBack stamp self.old self.new }
     {
-        self.store.roll_back(stamp);
+        self.store.end(stamp, End::RollBack);
         self.locks.release_all(stamp);
     }
 

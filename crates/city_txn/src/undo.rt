@@ -81,13 +81,6 @@ impl Undo {
         self.reservations.is_empty()
     }
 
-    /// Whether the id is reserved. Doesn't allocate.
-    pub fn has_image(&self, id: &Id) -> bool
-        ensures { result ≡ is_some (image_at self.now id.now) }
-    {
-        self.images.contains_key(id)
-    }
-
     /// The image of the id, if it is reserved. Doesn't allocate.
     pub fn image(&self, id: &Id) -> Option<&UndoImage>
         ensures { option_copied result ≡ image_at self.now id.now }
@@ -129,7 +122,12 @@ impl Undo {
     {
         let key = id.copy(self.alloc)?;
         let listed = id.copy(self.alloc)?;
-        let image = UndoImage::unwritten(stamp, deleted);
+        let image = UndoImage {
+            by: stamp,
+            unwritten: true,
+            deleted,
+            before: None,
+        };
         self.images.insert(key, image)?;
         let Ok(()) = push(&mut self.reservations, self.alloc, stamp, listed) else {
             let _ = self.images.remove(id);

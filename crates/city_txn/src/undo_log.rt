@@ -126,7 +126,12 @@ impl UndoLogs {
 fn any_is_mark(entries: &[Entry], name: &Text) -> bool
     ensures { result ≡ list_any (is_mark name.now) entries.now }
 {
-    entries.iter().any(|entry| is_mark(entry, name))
+    for entry in entries {
+        if is_mark(entry, name) {
+            return true;
+        }
+    }
+    false
 }
 
 /// Whether the entry is a mark of the name.

@@ -83,9 +83,9 @@ impl Store {
         if self.logs().is_empty(stamp) {
             return Ok(());
         }
+        let key = id.copy(self.alloc())?;
         let write = self.written(stamp, id)?;
-        let entry = Entry::BeforeImage(id.copy(self.alloc())?, write);
-        self.logs.push(stamp, entry)?;
+        self.logs.push(stamp, Entry::BeforeImage(key, write))?;
         Ok(())
     }
 

@@ -1,15 +1,12 @@
-use Rattle.city_locks.proofs.Tables.{Lists, listed_new, still_listed}
+use Rattle.std.proofs.Common.{◌∙◌, ap, sym}
+use Rattle.city_model.specs.CityMap.{has_id}
+use Rattle.city_locks.specs.inside.Listing.{ids_of}
+use Rattle.city_locks.proofs.Tables.{listed_last}
 use Rattle.city_locks.proofs.table.list_unheld.Goals as goal
 
-pub returns-in_ok-list-in-None-clause-own : goal.returns-in_ok-list-in-None-clause-own
-returns-in_ok-list-in-None-clause-own c =
-    let more : Lists c.args.locked.now c.list.new.locked c.args.stamp c.args.id.now =
-    record { ids = c.in_ok-list-in-None.ensures.ok } in
-    listed_new c.args.locked.now c.list.new.locked c.args.stamp c.args.id.now more
-
-pub returns-in_ok-list-in-None-clause-listed : goal.returns-in_ok-list-in-None-clause-listed
-returns-in_ok-list-in-None-clause-listed c =
-    let more : Lists c.args.locked.now c.list.new.locked c.args.stamp c.args.id.now =
-    record { ids = c.in_ok-list-in-None.ensures.ok } in
-    still_listed c.args.holders.now.entries c.args.locked.now c.list.new.locked c.args.stamp c.args.id.now more
-    c.requires.listed
+pub returns-in_ok-push-in-None : goal.returns-in_ok-push-in-None
+returns-in_ok-push-in-None c =
+    let copy = c.in_ok-copy-in-None in
+    let l = listed_last c.args.holders.now.entries c.args.locked.now c.push.new.lists c.args.stamp copy.field-0
+    c.in_ok-push-in-None.ensures.ok c.requires.listed in
+    record { own = ap (has_id (ids_of c.push.new.lists c.args.stamp)) (sym copy.ensures) ∙ l.0; absent = tt; listed = l.1 }

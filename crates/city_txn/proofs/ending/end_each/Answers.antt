@@ -1,6 +1,4 @@
-use Rattle.std.proofs.Common.{take, length, ◌<◌, arith, subst}
-use Rattle.std.specs.Prelude.{List, ℕ}
-use Rattle.std.proofs.lemmas.List.{take_all}
+use Rattle.std.proofs.Common.{take, length, ◌<◌, arith, subst, List, ℕ, take_all}
 use Rattle.city_model.specs.CityMap.{object_at, has_id}
 use Rattle.city_txn.specs.inside.Ending.{left_at_end, AreEnded}
 use Rattle.city_txn.specs.inside.UndoState.{image_at}

@@ -1,20 +1,24 @@
-use Rattle.std.proofs.Common.{◌∙◌, None, ap}
-use Rattle.std.specs.Prelude.{if◌then◌else◌}
+use Rattle.std.proofs.Common.{◌∙◌, length, ◌<◌, None, ap, arith, if◌then◌else◌, take_all}
 use Rattle.city_model.specs.CityMap.{has_id}
-use Rattle.city_txn.specs.inside.Images.{written_at}
-use Rattle.city_txn.specs.inside.State.{State}
-use Rattle.city_txn.specs.Writes.{write_of, own_write}
-use Rattle.city_txn.specs.inside.UndoState.{image_at}
-use Rattle.city_txn.proofs.AtOneId.{here}
-use Rattle.city_txn.proofs.ChangeMade.{own_written, if_ok}
+use Rattle.city_model.specs.Writing.{write_in}
+use Rattle.city_txn.specs.inside.State.{store_own}
+use Rattle.city_txn.proofs.ChangeMade.{noted_more, all_listed}
 use Rattle.city_txn.proofs.store.Store.change.Goals as goal
 
+pub loop-id-preserved : goal.loop-id-preserved
+loop-id-preserved c =
+    let lt : c.loop-id.id-index < length c.reserved-ids.result.now = omega arith in
+    record {
+      lists = noted_more (store_own c.args.self.now c.args.stamp) (write_in c.loop-id.change)
+          (write_in c.add_written.new.change) c.reserved-ids.result.now c.loop-id.id-index c.id-item.result lt
+          c.id-item.is c.loop-id.invariant.lists c.in_ok-add_written.ensures.added;
+      ordered = c.add_written.ensures.ordered c.loop-id.invariant.ordered;
+    }
+
 pub returns-clause-lists : goal.returns-clause-lists
-returns-clause-lists c =
-    let a = c.self.inside in
-    if_ok c.change_of.result
-    (λ change lists q. lists q
-    ∙ ap (λ ids. if has_id ids q then written_at (here a q) (image_at a.undo q) else None) c.reserved-ids.ensures
-    ∙ own_written a c.self.invariant c.args.stamp q
-    ∙ ap (λ (v : State). own_write c.args.stamp (write_of v.writes q)) c.self.view_is)
-    c.change_of.ensures.lists
+returns-clause-lists c q =
+    let ids = c.reserved-ids.result.now in
+    c.loop-id.invariant.lists q
+    ∙ ap (λ xs. if has_id xs q then store_own c.args.self.now c.args.stamp q else None)
+    (take_all c.loop-id.id-index ids (omega arith))
+    ∙ all_listed c.self.inside c.self.invariant c.args.self.now c.self.view_is c.args.stamp ids c.reserved-ids.ensures q

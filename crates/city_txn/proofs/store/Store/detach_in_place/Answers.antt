@@ -1,5 +1,4 @@
-use Rattle.std.proofs.Common.{Some, Result, refl, subst}
-use Rattle.std.specs.Prelude.{IfOk}
+use Rattle.std.proofs.Common.{Some, Result, refl, subst, IfOk}
 use Rattle.std.proofs.lemmas.Bool.{or_left}
 use Rattle.city_model.specs.CityMap.{same_id}
 use Rattle.city_model.specs.Meaning.{without_child}

@@ -1,5 +1,4 @@
-use Rattle.std.proofs.Common.{◌==◌, ◌&&◌, ◌∙◌, sym, ap}
-use Rattle.std.specs.Prelude.{not}
+use Rattle.std.proofs.Common.{◌==◌, ◌&&◌, ◌∙◌, sym, ap, not}
 use Rattle.city_txn.specs.inside.Images.{write_at}
 use Rattle.city_txn.specs.inside.State.{State}
 use Rattle.city_txn.specs.Writes.{is_by, write_of}

@@ -1,5 +1,4 @@
-use Rattle.std.proofs.Common.{◌≡◌, ◌∙◌, ap, sym, subst, is_some, true}
-use Rattle.std.specs.Prelude.{option_map}
+use Rattle.std.proofs.Common.{◌≡◌, ◌∙◌, ap, sym, subst, is_some, true, option_map}
 use Rattle.city_model.specs.Meaning.{with_child}
 use Rattle.city_txn.specs.inside.InPlace.{state_of, IsInPlace}
 use Rattle.city_txn.specs.inside.State.{State, rewritten, WritesOne}

@@ -1,5 +1,4 @@
-use Rattle.std.proofs.Common.{◌≡◌, ◌∙◌, ap, is_some, true, subst}
-use Rattle.std.specs.Prelude.{option_map}
+use Rattle.std.proofs.Common.{◌≡◌, ◌∙◌, ap, is_some, true, subst, option_map}
 use Rattle.city_model.specs.Meaning.{without_child}
 use Rattle.city_txn.specs.inside.InPlace.{state_of}
 use Rattle.city_txn.specs.inside.State.{State, rewritten, WritesOne}

@@ -1,5 +1,4 @@
-use Rattle.std.proofs.Common.{◌≡◌, ℕ, List, Some, true, false, vec_len}
-use Rattle.std.specs.Prelude.{if◌then◌else◌}
+use Rattle.std.proofs.Common.{◌≡◌, ℕ, List, Some, true, false, vec_len, if◌then◌else◌}
 use Rattle.city_model.specs.CityMap.{CityMap}
 use Rattle.city_txn.specs.Writes.{write_of, unless_by}
 use Rattle.city_txn.specs.inside.State.{is_reserved, ChangesWrites}

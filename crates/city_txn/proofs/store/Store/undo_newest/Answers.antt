@@ -1,5 +1,4 @@
-use Rattle.std.proofs.Common.{◌≡◌, ◌∷◌, ◌++◌, ◌∙◌, Some, false, ap, sym, refl, subst}
-use Rattle.std.specs.Prelude.{if◌then◌else◌, option_to_list}
+use Rattle.std.proofs.Common.{◌≡◌, ◌∷◌, ◌++◌, ◌∙◌, Some, false, ap, sym, refl, subst, if◌then◌else◌, option_to_list}
 use Rattle.std.proofs.lemmas.Bool.{eq-eqb, or_left, or_right}
 use Rattle.city_model.specs.CityMap.{same_id}
 use Rattle.city_model.proofs.Ids.{same_id_itself}

@@ -1,17 +1,10 @@
-use Rattle.std.proofs.Common.{◌≡◌, ◌∙◌, false, sym, ap, refl}
-use Rattle.city_txn.specs.Writes.{is_by, write_of}
-use Rattle.city_txn.specs.CoreState.{CoreState, is_open}
-use Rattle.city_txn.specs.inside.Core.{core_state}
-use Rattle.city_txn.proofs.CoreFields.{Begun, begun, open_stored, shut_unlocked, shut_unwritten}
+use Rattle.std.proofs.Common.{◌∙◌, sym, refl}
+use Rattle.city_txn.proofs.CoreFields.{Begun, begun, open_stored}
 use Rattle.city_txn.proofs.txn_core.Core.begin.Goals as goal
 use Rattle.city_txn.proofs.txn_core.Core.begin.Goals.{In-Ok}
 
 pub begin-requires : goal.begin-requires
 begin-requires c = open_stored c.self.inside c.self.view_is c.args.stamp ∙ sym c.is_open.ensures.opened
-    ∙ c.if-is_open.false
-
-shut : (c : In-Ok) → is_open (core_state c.self.inside) c.args.stamp ≡ false
-shut c = ap (λ (v : CoreState). is_open v c.args.stamp) c.self.view_is ∙ sym c.is_open.ensures.opened
     ∙ c.if-is_open.false
 
 done : (c : In-Ok) → Begun c.args.stamp c.args.self.now (record c.self.inside { store = c.begin.new.self })
@@ -32,15 +25,10 @@ pub returns-clause-keeps : goal.returns-clause-keeps
 returns-clause-keeps c = (done (goal.at.returns-clause-keeps c).In-Ok).keeps
 
 pub returns-clause-unlocked : goal.returns-clause-unlocked
-returns-clause-unlocked c q =
-    shut_unlocked (core_state c.self.inside) c.args.stamp q c.self.invariant.state
-    (shut (goal.at.returns-clause-unlocked c).In-Ok)
+returns-clause-unlocked c = (done (goal.at.returns-clause-unlocked c).In-Ok).unlocked
 
 pub returns-clause-unwritten : goal.returns-clause-unwritten
-returns-clause-unwritten c q =
-    ap (λ ws. is_by c.args.stamp (write_of ws q)) c.in-Ok.ensures.begins.writes
-    ∙ shut_unwritten (core_state c.self.inside) c.args.stamp q c.self.invariant.state
-    (shut (goal.at.returns-clause-unwritten c).In-Ok)
+returns-clause-unwritten c = (done (goal.at.returns-clause-unwritten c).In-Ok).unwritten
 
 pub returns-clause-unmarked : goal.returns-clause-unmarked
 returns-clause-unmarked c = (done (goal.at.returns-clause-unmarked c).In-Ok).unmarked

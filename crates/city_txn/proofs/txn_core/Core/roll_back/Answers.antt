@@ -6,14 +6,14 @@ use Rattle.city_txn.proofs.txn_core.Core.roll_back.Goals as goal
 
 pub invariant_of-self : goal.invariant_of-self
 invariant_of-self c =
-    undone_core c.self.inside (record c.self.inside { store = c.roll_back.new.self; locks = c.release_all.new.self })
+    undone_core c.self.inside (record c.self.inside { store = c.end.new.self; locks = c.release_all.new.self })
     c.self.invariant
-    c.args.stamp c.roll_back.ensures.forgets c.release_all.ensures.modes c.release_all.ensures.lawful
-    c.roll_back.ensures.city
+    c.args.stamp c.end.ensures.forgets c.release_all.ensures.modes c.release_all.ensures.lawful
+    c.end.ensures.city
 
 pub returns : goal.returns
 returns c =
-    let b = record c.self.inside { store = c.roll_back.new.self; locks = c.release_all.new.self } in
+    let b = record c.self.inside { store = c.end.new.self; locks = c.release_all.new.self } in
     subst (λ (v : CoreState). IsRolledBack c.args.stamp v (core_state b)) c.self.view_is
-    (undone c.self.inside b c.self.invariant c.args.stamp c.roll_back.ensures.forgets c.release_all.ensures.modes
-    c.release_all.ensures.lawful c.roll_back.ensures.city)
+    (undone c.self.inside b c.self.invariant c.args.stamp c.end.ensures.forgets c.release_all.ensures.modes
+    c.release_all.ensures.lawful c.end.ensures.city)

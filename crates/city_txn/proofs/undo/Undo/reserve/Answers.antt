@@ -1,6 +1,4 @@
-use Rattle.std.proofs.Common.{◌≡◌, ◌∙◌, ap, rules, Some, None, ℕ, List}
-use Rattle.std.specs.Prelude.{if◌then◌else◌}
-use Rattle.std.specs.Ordering.{nat_cmp}
+use Rattle.std.proofs.Common.{◌≡◌, ◌∙◌, ap, rules, Some, None, ℕ, List, if◌then◌else◌, nat_cmp}
 use Rattle.std.specs.Cmp.Lexicographic.{slice_cmp}
 use Rattle.std.specs.BTreeMap.{get}
 use Rattle.std.specs.FinMap.{from_sorted}
@@ -33,12 +31,6 @@ returns-in_default-clause-err c =
 
 pub returns-clause-images : goal.returns-clause-images
 returns-clause-images c =
-    let a = c.self.inside in
-    let id = c.args.id.now in
-    let added : (q : List ℕ)
-    → get (slice_cmp nat_cmp) c.insert.new.self q
-    ≡ (if same_id id q then Some (unwritten_image c.args.stamp c.args.deleted)
-    else get (slice_cmp nat_cmp) a.images q) = search rules in
-    one_changed a.images c.self.invariant c.args.self.now (ap (λ (u : UndoState). u.images) c.self.view_is)
-    c.insert.new.self c.in_ok-insert.ensures.ordered id
-    (Some (unwritten_image c.args.stamp c.args.deleted)) added
+    one_changed c.self.inside.images c.self.invariant c.args.self.now (ap (λ (u : UndoState). u.images) c.self.view_is)
+    c.insert.new.self c.in_ok-insert.ensures.ordered c.args.id.now
+    (λ i. Some (unwritten_image c.args.stamp c.args.deleted)) (search rules)

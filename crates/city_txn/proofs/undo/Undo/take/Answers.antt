@@ -15,4 +15,4 @@ returns-clause-image c =
 pub returns-clause-images : goal.returns-clause-images
 returns-clause-images c =
     one_changed c.self.inside.images c.self.invariant c.args.self.now (ap (λ (u : UndoState). u.images) c.self.view_is)
-    c.remove_entry.new.self c.remove_entry.ensures.ordered c.args.id.now None c.remove_entry.ensures.updates.0
+    c.remove_entry.new.self c.remove_entry.ensures.ordered c.args.id.now (λ i. None) c.remove_entry.ensures.updates.0

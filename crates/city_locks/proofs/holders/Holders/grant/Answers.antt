@@ -1,19 +1,18 @@
 use Rattle.std.proofs.Common.{◌≡◌, ◌==◌, ◌∙◌, sym, ap, ◌∷◌, drop, ◌+◌, arith, ◌<◌, length, true, Some, add-one, suc}
-use Rattle.std.proofs.Common.{eq-eqb}
-use Rattle.std.proofs.Math.Seq.{drop-cons}
+use Rattle.std.proofs.Common.{eq-eqb, drop-cons}
 use Rattle.std.proofs.Math.ListN.{set}
 use Rattle.std.proofs.lemmas.List.{set_split}
 use Rattle.city_model.specs.declared.mode.Mode.{Mode}
-use Rattle.city_locks.specs.declared.holder.Holder.{Holder}
+use Rattle.city_locks.specs.declared.holders.Holder.{Holder}
 use Rattle.city_locks.specs.Mode.{stronger}
 use Rattle.city_locks.specs.Holders.{with_holder}
 use Rattle.city_locks.proofs.Among.{with_holder_here}
-use Rattle.city_locks.proofs.holders.add.Goals as goal
+use Rattle.city_locks.proofs.holders.Holders.grant.Goals as goal
 
 pub returns-then-holder-stamp-clause-ok : goal.returns-then-holder-stamp-clause-ok
 returns-then-holder-stamp-clause-ok c =
     let h : Holder = c.index-holder.result.now in
-    let hs = c.loop-i.list.items in
+    let hs = c.loop-i.self-inside.list.items in
     let i = c.loop-i.i in
     let lt : i < length hs = omega arith in
     let d : drop i hs ≡ h ∷ drop (i + 1) hs =

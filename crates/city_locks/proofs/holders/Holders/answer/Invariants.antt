@@ -1,0 +1,12 @@
+use Rattle.std.proofs.Common.{◌≡◌, ◌||◌, cond, drop}
+use Rattle.std.specs.List.{list_any, list_all}
+use Rattle.city_locks.specs.declared.answer.Answer.TheVariants.{Granted, Wait, Die}
+use Rattle.city_locks.specs.Holders.{in_conflict, gives_way, answer_among}
+use Rattle.city_locks.proofs.holders.Holders.answer.Given as goal
+
+abbrev pub invariant-loop-holder : goal.invariant-loop-holder
+invariant-loop-holder l =
+    cond (l.waits || list_any (in_conflict l.stamp l.mode) (drop l.holder-index l.holder-items))
+    (cond (list_all (gives_way l.stamp l.mode) (drop l.holder-index l.holder-items)) Wait Die)
+    Granted
+    ≡ answer_among l.self l.stamp l.mode

@@ -1,6 +1,0 @@
-use Rattle.std.proofs.Common.{◌≡◌, drop}
-use Rattle.city_locks.specs.Holders.{mode_among}
-use Rattle.city_locks.proofs.holders.held.Given as goal
-
-abbrev pub invariant-loop-holder : goal.invariant-loop-holder
-invariant-loop-holder l = mode_among (drop l.holder-index l.list) l.stamp ≡ mode_among l.list l.stamp

@@ -1,0 +1,7 @@
+use Rattle.std.proofs.Common.{◌≡◌, false, take}
+use Rattle.std.specs.List.{list_any}
+use Rattle.city_txn.specs.inside.LogTests.{is_mark}
+use Rattle.city_txn.proofs.undo_log.any_is_mark.Given as goal
+
+abbrev pub invariant-loop-entry : goal.invariant-loop-entry
+invariant-loop-entry l = list_any (is_mark l.name) (take l.entry-index l.entries) ≡ false
