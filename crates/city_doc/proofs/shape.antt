@@ -4,3 +4,4 @@ pub mod GeometryParts
 pub mod Points
 pub mod ReadForms
 pub mod Readable
+pub mod VerticesRead

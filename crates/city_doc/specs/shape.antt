@@ -1,3 +1,4 @@
 -- Definitions of geometries and their trees.
 pub mod Canonical
 pub mod Forms
+pub mod Vertices

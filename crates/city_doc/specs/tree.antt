@@ -1,2 +1,3 @@
 -- Definitions of JSON trees and their parts.
+pub mod Ranges
 pub mod Tokens

@@ -30,3 +30,9 @@ pub ok_holds : {T E : Type 0} (r : Result T E) (o : Option T) (P : T → Type 0)
     → ((x : T) → r ≡ Ok x → P x) → IfSome o P
 ok_holds (Ok x) o P is h = subst (λ p. IfSome p P) (sym is) (h x refl)
 ok_holds (Err e) o P is h = subst (λ p. IfSome p P) (sym is) tt
+
+-- what follows from two facts of the value of an option
+pub both_hold : {A : Type 0} (o : Option A) {P Q R : A → Type 0} → IfSome o P → IfSome o Q
+    → ((x : A) → P x → Q x → R x) → IfSome o R
+both_hold None p q f = tt
+both_hold (Some x) p q f = f x p q

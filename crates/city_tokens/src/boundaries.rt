@@ -51,9 +51,7 @@ fn read_after<T: FromTokens>(
 {
     let mut start = Vec::with_capacity(alloc, T::ROOM).ok()?;
     start.push(first).ok()?;
-    let mut all = read_rest(alloc, reader, depth, start)?;
-    all.shrink_to_fit();
-    Some(Sequence::from_vec(all))
+    read_rest(alloc, reader, depth, start)
 }
 
 /// The boundaries; none where a list is empty that should hold the first position.

@@ -114,6 +114,5 @@ pub fn streamed_city(alloc: Global, bytes: &[u8]) -> Option<City>
     ensures { IfSome result (λ c. (d : Data) × HasTree bytes.now d × (is_integral d ≡ true)
         × (city_of d ≡ Some c) × IsFaultless (object_at c.1)) }
 {
-    let city = read_whole_text::<City>(alloc, bytes)?;
-    Some(city)
+    read_whole_text::<City>(alloc, bytes)
 }

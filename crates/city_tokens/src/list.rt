@@ -1,6 +1,6 @@
 //! Reads arrays into lists.
-ghost use Rattle.std.specs.Prelude.{◌≡◌, ◌++◌, ◌∷◌, List, IfSome};
-ghost use Rattle.serde_json.specs.Data.{Data, item, array};
+ghost use Rattle.std.specs.Prelude.{◌≡◌, ◌++◌, List, IfSome};
+ghost use Rattle.serde_json.specs.Data.{Data};
 ghost use Rattle.serde_json.specs.View.{items_of};
 ghost use Rattle.city_tokens.specs.inside.Standing.{Pairs, IsArrayOf, IsReadAs};
 ghost use Rattle.city_tokens.specs.inside.Taken.{IsRestOfArray};
@@ -27,9 +27,9 @@ pub fn read_rest<T: FromTokens>(
     reader: &mut Reader<'_>,
     depth: usize,
     read: Vec<T>,
-) -> Option<Vec<T>>
+) -> Option<Sequence<T>>
     ensures { IfSome result (λ all. (more : List T) × (ds : List Data)
-        × (all.items ≡ read.items ++ more) × Pairs T.stands more ds
+        × (all ≡ read.items ++ more) × Pairs T.stands more ds
         × IsRestOfArray depth reader.old (items_of ds) reader.new) }
 {
     let mut all = read;
@@ -37,7 +37,8 @@ pub fn read_rest<T: FromTokens>(
         let one = T::from_tokens(alloc, reader, depth)?;
         all.push(one).ok()?;
     }
-    Some(all)
+    all.shrink_to_fit();
+    Some(Sequence::from_vec(all))
 }
 
 impl<T: FromTokens> FromTokens for Sequence<T> {
@@ -53,8 +54,6 @@ impl<T: FromTokens> FromTokens for Sequence<T> {
             return None;
         }
         let room = Vec::with_capacity(alloc, T::ROOM).ok()?;
-        let mut all = read_rest(alloc, reader, depth - 1, room)?;
-        all.shrink_to_fit();
-        Some(Sequence::from_vec(all))
+        read_rest(alloc, reader, depth - 1, room)
     }
 }

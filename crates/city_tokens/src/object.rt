@@ -87,7 +87,6 @@ pub fn read_object(alloc: Global, reader: &mut Reader<'_>, depth: usize) -> Opti
         parents: Sequence::new(alloc),
         children: Sequence::new(alloc),
     };
-    let read = read_members(alloc, reader, depth, start)?;
-    let object = object_of(read.0, read.1)?;
-    Some(object)
+    let (parts, kept) = read_members(alloc, reader, depth, start)?;
+    object_of(parts, kept)
 }

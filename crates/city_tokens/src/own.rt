@@ -1,5 +1,5 @@
 //! Reads objects some of whose members have places of their own, while the others are kept.
-ghost use Rattle.std.specs.Prelude.{◌≡◌, ◌∷◌, IfSome};
+ghost use Rattle.std.specs.Prelude.{◌∷◌, IfSome};
 ghost use Rattle.std.specs.Bool.{MatchBool};
 ghost use Rattle.json.specs.Token.{begin_object};
 ghost use Rattle.serde_json.specs.Data.{Members, no_members, object};
@@ -7,7 +7,7 @@ ghost use Rattle.serde_json.specs.View.{members_view};
 ghost use Rattle.city_tokens.specs.inside.Standing.{IsTaken, IsPassed};
 ghost use Rattle.city_tokens.specs.inside.Taken.{IsValue, IsRestOfObject};
 
-use crate::value::read_value;
+use crate::value::read_member;
 use json::{Reader, Token};
 use serde_json::{Map, Value};
 use std::alloc::Global;
@@ -46,11 +46,10 @@ fn read_rest<O: Own>(
     let mut kept = Map::new(alloc);
     'members: while let Some(name) = reader.next_key().ok()? {
         let taken = own.take(alloc, name, reader, depth)?;
-        if !taken {
-            let key = String::from_str(alloc, name).ok()?;
-            let value = read_value(alloc, reader, depth)?;
-            drop(kept.insert(key, value).ok()?);
+        if taken {
+            continue;
         }
+        read_member(alloc, name, reader, depth, &mut kept)?;
     }
     Some((own, kept))
 }
@@ -70,8 +69,7 @@ pub fn read_opened<O: Own>(
     if depth == 0 {
         return None;
     }
-    let read = read_rest(alloc, reader, depth - 1, start)?;
-    Some(read)
+    read_rest(alloc, reader, depth - 1, start)
 }
 
 /// Reads an object: what is made of its own members, and the kept ones.
@@ -89,6 +87,5 @@ pub fn read_object<O: Own>(
     let Token::BeginObject = reader.next()? else {
         return None;
     };
-    let read = read_opened(alloc, reader, depth, start)?;
-    Some(read)
+    read_opened(alloc, reader, depth, start)
 }

@@ -74,40 +74,16 @@ impl<T: Places> Places for Sequence<T> {
     }
 }
 
-fn placed<T: Places>(alloc: Global, vertices: &[Vertex], unplaced: T) -> Option<T>
-    ensures { IfSome result
-        (λ x. IsPlaced T.stands (T.reads (points_of vertices.now)) unplaced x) }
-{
-    let mut x = unplaced;
-    x.place(alloc, vertices)?;
-    Some(x)
-}
-
-fn placed_shape(alloc: Global, vertices: &[Vertex], shape: Shape) -> Option<Shape>
-    ensures { IfSome result (λ new. (name : List ℕ) (d : Data) → IsShape shape name d
-        → shape_of (points_of vertices.now) name d ≡ Some new) }
+fn place_shape(alloc: Global, vertices: &[Vertex], shape: &mut Shape) -> Option<()>
+    ensures { IfSome result (λ _. (name : List ℕ) (d : Data) → IsShape shape.old name d
+        → shape_of (points_of vertices.now) name d ≡ Some shape.new) }
 {
     match shape {
-        Shape::MultiSurface(surfaces) => {
-            let surfaces = placed(alloc, vertices, surfaces)?;
-            Some(Shape::MultiSurface(surfaces))
-        }
-        Shape::CompositeSurface(surfaces) => {
-            let surfaces = placed(alloc, vertices, surfaces)?;
-            Some(Shape::CompositeSurface(surfaces))
-        }
-        Shape::Solid(shells) => {
-            let shells = placed(alloc, vertices, shells)?;
-            Some(Shape::Solid(shells))
-        }
-        Shape::MultiSolid(solids) => {
-            let solids = placed(alloc, vertices, solids)?;
-            Some(Shape::MultiSolid(solids))
-        }
-        Shape::CompositeSolid(solids) => {
-            let solids = placed(alloc, vertices, solids)?;
-            Some(Shape::CompositeSolid(solids))
-        }
+        Shape::MultiSurface(surfaces) => surfaces.place(alloc, vertices),
+        Shape::CompositeSurface(surfaces) => surfaces.place(alloc, vertices),
+        Shape::Solid(shells) => shells.place(alloc, vertices),
+        Shape::MultiSolid(solids) => solids.place(alloc, vertices),
+        Shape::CompositeSolid(solids) => solids.place(alloc, vertices),
     }
 }
 
@@ -117,26 +93,22 @@ impl Places for Geometry {
     ghost reads = { geometry_of };
 
     fn place(&mut self, alloc: Global, vertices: &[Vertex]) -> Option<()> {
-        let unplaced = replace(&mut self.shape, Shape::MultiSurface(Sequence::new(alloc)));
-        let shape = placed_shape(alloc, vertices, unplaced)?;
-        self.shape = shape;
-        Some(())
+        place_shape(alloc, vertices, &mut self.shape)
     }
 }
 
-/// The object, with points in the places of its positions; none where a position names no vertex, or
-/// where its body has a fault, which is judged at once.
-fn placed_object(alloc: Global, vertices: &[Vertex], unplaced: Object) -> Option<Object>
-    ensures placed { IfSome result (λ o. (d : Data) → IsObject unplaced d
-        → object_of (points_of vertices.now) d ≡ Some o) }
-    ensures faultless { IfSome result (λ o. body_fault o.body ≡ None) }
+/// Puts points in the places of an object's positions; none where a position names no vertex, or
+/// where the object's body has a fault, which is judged at once.
+fn place_object(alloc: Global, vertices: &[Vertex], object: &mut Object) -> Option<()>
+    ensures placed { IfSome result (λ _. (d : Data) → IsObject object.old d
+        → object_of (points_of vertices.now) d ≡ Some object.new) }
+    ensures faultless { IfSome result (λ _. body_fault object.new.body ≡ None) }
 {
-    let mut object = unplaced;
     object.body.geometry.place(alloc, vertices)?;
-    match body_fault(alloc, &object.body).ok()? {
-        None => Some(object),
-        Some(_) => None,
-    }
+    let Ok(None) = body_fault(alloc, &object.body) else {
+        return None;
+    };
+    Some(())
 }
 
 /// The objects by their ids, with each position replaced by its point; none where a position names
@@ -151,8 +123,8 @@ pub fn placed_objects(
     ensures faultless { IfSome result (λ objects. AreFaultless objects.entries) }
 {
     let mut objects = BTreeMap::new(alloc);
-    for (id, unplaced) in listed.into_vec() {
-        let object = placed_object(alloc, vertices, unplaced)?;
+    for (id, mut object) in listed.into_vec() {
+        place_object(alloc, vertices, &mut object)?;
         drop(objects.insert(id, object).ok()?);
     }
     Some(objects)

@@ -77,8 +77,7 @@ impl FromTokens for Script {
             commands: None,
             vertices: Sequence::new(alloc),
         };
-        let read = read_object(alloc, reader, depth, start)?;
-        let script = script_of(alloc, read.0)?;
-        Some(script)
+        let (parts, _kept) = read_object(alloc, reader, depth, start)?;
+        script_of(alloc, parts)
     }
 }

@@ -34,7 +34,6 @@ impl FromTokens for Id {
 
     fn from_tokens(alloc: Global, reader: &mut Reader<'_>, _depth: usize) -> Option<Id> {
         let text = read_str(reader)?;
-        let copy = text_of(alloc, text)?;
-        Some(copy)
+        text_of(alloc, text)
     }
 }

@@ -1,5 +1,6 @@
 //! Reads the JSON values that are kept.
 ghost use Rattle.std.specs.Prelude.{◌≡◌, IfSome};
+ghost use Rattle.serde_json.specs.Data.{Data, put};
 ghost use Rattle.serde_json.specs.View.{view, items_view, members_view};
 ghost use Rattle.city_tokens.specs.inside.Taken.{IsValue, IsRestOfArray, IsRestOfObject};
 
@@ -64,9 +65,25 @@ fn read_members(alloc: Global, reader: &mut Reader<'_>, depth: usize) -> Option<
 {
     let mut found = Map::new(alloc);
     'members: while let Some(name) = reader.next_key().ok()? {
-        let key = String::from_str(alloc, name).ok()?;
-        let member = read_value(alloc, reader, depth)?;
-        drop(found.insert(key, member).ok()?);
+        read_member(alloc, name, reader, depth, &mut found)?;
     }
     Some(found)
+}
+
+/// Reads the value of a member, whose name is read, and puts it among the others.
+#[cycle(value)]
+pub fn read_member(
+    alloc: Global,
+    name: &str,
+    reader: &mut Reader<'_>,
+    depth: usize,
+    members: &mut Map<String, Value>,
+) -> Option<()>
+    ensures { IfSome result (λ _. (d : Data) × IsValue depth reader.old d reader.new
+        × (members_view members.new.entries ≡ put name.now d (members_view members.old.entries))) }
+{
+    let key = String::from_str(alloc, name).ok()?;
+    let member = read_value(alloc, reader, depth)?;
+    drop(members.insert(key, member).ok()?);
+    Some(())
 }

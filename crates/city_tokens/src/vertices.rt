@@ -25,10 +25,7 @@ pub fn read_whole(reader: &mut Reader<'_>) -> Option<i64>
     ensures in_range { IfSome result (λ n. as_i64 (of_integer n) ≡ Some n) }
 {
     match reader.next()? {
-        Token::Number(text) => {
-            let n = whole_of(text)?;
-            Some(n)
-        }
+        Token::Number(text) => whole_of(text),
         _ => None,
     }
 }

@@ -14,8 +14,8 @@ use Rattle.city_model.specs.declared.object.Object.{Object}
 use Rattle.city_tokens.specs.tree.Members.{kept_if}
 use Rattle.city_tokens.specs.tree.Triples.{integer_data, triple_data}
 use Rattle.city_doc.specs.object.Canonical.{object_data, with_objects, objects_data}
-use Rattle.city_doc.specs.document.Canonical.{transform_data, vertex_data, vertices_data, frame_members, numbered_tree}
-use Rattle.city_doc.specs.document.Canonical.{tree_of}
+use Rattle.city_doc.specs.document.Canonical.{transform_data, frame_members, numbered_tree, tree_of}
+use Rattle.city_doc.specs.shape.Vertices.{vertex_data, vertices_data}
 use Rattle.city_tokens.specs.document.Cities.{is_city_json, points_in, entries_in, objects_of, city_of, IsTextOfCity}
 use Rattle.city_tokens.specs.document.Frames.{without_transform_members, more_of, frame_of, without_top_members}
 use Rattle.city_doc.specs.Pool.{pool_of}

@@ -10,11 +10,10 @@ use Rattle.city_model.specs.Kept.{top_members, transform_members, lacks_each, is
 use Rattle.city_model.specs.Kept.{kept_at_transform}
 use Rattle.city_model.specs.Members.{without}
 use Rattle.city_model.specs.Integral.{members_integral}
-use Rattle.city_tokens.specs.document.Frames.{without_transform_members}
-use Rattle.city_tokens.specs.inside.Frames.{without_rest_members, frame_with, frame_of_rest}
+use Rattle.city_tokens.specs.document.Frames.{without_transform_members, without_rest_members, frame_with, frame_of_rest}
 use Rattle.city_tokens.specs.tree.Triples.{triple_data}
 use Rattle.city_doc.specs.document.Canonical.{transform_data, frame_members}
-use Rattle.city_doc.specs.document.Ranges.{is_i64_triple}
+use Rattle.city_doc.specs.tree.Ranges.{is_i64_triple}
 use Rattle.city_doc.proofs.document.KeptMembers.{kept_all}
 use Rattle.city_tokens.proofs.Laws.{get_member-put_apart, without-three, without-four, without-put, without-swap}
 use Rattle.city_tokens.proofs.Laws.{each_lacking}

@@ -25,11 +25,13 @@ use Rattle.city_tokens.specs.tree.Lists.{list_data, put_list}
 use Rattle.city_tokens.specs.tree.Triples.{integer_data, triple_data}
 use Rattle.city_doc.specs.shape.Canonical.{point_data, nested_data, boundaries_data, geometry_data}
 use Rattle.city_doc.specs.object.Canonical.{object_data, with_objects, objects_data}
-use Rattle.city_doc.specs.document.Canonical.{transform_data, vertex_data, vertices_data, frame_members, numbered_tree}
+use Rattle.city_doc.specs.document.Canonical.{transform_data, frame_members, numbered_tree}
 use Rattle.city_doc.specs.inside.document.KeptMembers.{is_kept_geometry, is_kept_object, are_kept_objects, IsKeptCity}
 use Rattle.city_tokens.specs.shape.Nesting.{Nested, nested, shape_name}
 use Rattle.city_doc.specs.Pool.{number_of}
-use Rattle.city_doc.specs.document.Ranges.{is_i64, is_i64_triple, is_i64_point, IsInRange}
+use Rattle.city_doc.specs.document.Ranges.{IsInRange}
+use Rattle.city_doc.specs.shape.Vertices.{vertex_data, vertices_data, is_i64_point}
+use Rattle.city_doc.specs.tree.Ranges.{is_i64, is_i64_triple}
 use Rattle.city_tokens.proofs.Laws.{put-integral}
 use Rattle.city_doc.proofs.tree.TriplesRead.{integer_read}
 

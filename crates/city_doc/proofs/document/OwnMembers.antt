@@ -11,7 +11,8 @@ use Rattle.city_model.specs.declared.object.Object.{Object}
 use Rattle.city_model.specs.declared.object.Geometry.{Geometry}
 use Rattle.city_tokens.specs.shape.Nesting.{shape_name}
 use Rattle.city_tokens.specs.tree.Triples.{triple_data}
-use Rattle.city_doc.specs.document.Canonical.{transform_data, vertices_data, numbered_tree}
+use Rattle.city_doc.specs.document.Canonical.{transform_data, numbered_tree}
+use Rattle.city_doc.specs.shape.Vertices.{vertices_data}
 use Rattle.city_doc.specs.shape.Canonical.{boundaries_data, geometry_data}
 use Rattle.city_tokens.specs.tree.Lists.{put_list}
 use Rattle.city_doc.specs.object.Canonical.{object_data, objects_data}

@@ -8,20 +8,20 @@ use Rattle.serde_json.proofs.Views.{get_member-put}
 use Rattle.city_model.specs.CityMap.{CityValue}
 use Rattle.city_model.proofs.Objects.{entries_ascend}
 use Rattle.city_tokens.specs.document.Cities.{is_city_json, points_in, entries_of, entries_in, city_of}
-use Rattle.city_tokens.specs.document.Frames.{frame_of}
-use Rattle.city_tokens.specs.inside.Frames.{frame_of_rest}
-use Rattle.city_doc.specs.document.Canonical.{vertices_data, frame_members, tree_of}
+use Rattle.city_tokens.specs.document.Frames.{frame_of, frame_of_rest}
+use Rattle.city_doc.specs.document.Canonical.{frame_members, tree_of}
 use Rattle.city_doc.specs.object.Canonical.{objects_data}
 use Rattle.city_doc.specs.inside.document.KeptMembers.{IsKeptCity}
 use Rattle.city_doc.specs.Pool.{city_points, pool_of}
 use Rattle.city_doc.specs.document.Ranges.{IsInRange}
+use Rattle.city_doc.specs.shape.Vertices.{vertices_data}
 use Rattle.city_tokens.specs.tree.Triples.{points_of}
 use Rattle.city_tokens.proofs.Laws.{frame_is, get_member-put_apart, without-put, listed_again}
 use Rattle.city_doc.proofs.document.EntriesRead.{written_in_turn, entries_read}
 use Rattle.city_doc.proofs.document.FramesRead.{pooled, get_type, get_version, no_objects_pooled, top_members_lacking}
 use Rattle.city_doc.proofs.document.FramesRead.{frame_read}
 use Rattle.city_doc.proofs.pool.NumberedPoints.{points_in_pool}
-use Rattle.city_doc.proofs.tree.TriplesRead.{vertices_read}
+use Rattle.city_doc.proofs.shape.VerticesRead.{vertices_read}
 
 module _ (c : CityValue) (kept : IsKeptCity c) (numbers : IsInRange (pool_of c) c.0) where
   abbrev vertices : Data

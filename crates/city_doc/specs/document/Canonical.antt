@@ -1,6 +1,6 @@
 -- The canonical text of a city: compact JSON, keys in byte order, each point a number
 -- (CityJSON 2.0, sections 2 and 3).
-use Rattle.std.specs.Prelude.{ℕ, List, [], ◌∷◌, codes}
+use Rattle.std.specs.Prelude.{ℕ, List, codes}
 use Rattle.std.specs.FinMap.{entries}
 use Rattle.serde_json.specs.Data.{Data, string, object, Members, put}
 use Rattle.serde_json.specs.Written.{compact_text}
@@ -8,20 +8,14 @@ use Rattle.city_model.specs.declared.frame.Frame.{Frame}
 use Rattle.city_model.specs.declared.object.Point.{Point}
 use Rattle.city_model.specs.CityMap.{CityValue}
 use Rattle.city_doc.specs.Pool.{pool_of}
-use Rattle.city_tokens.specs.tree.Lists.{list_data}
 use Rattle.city_tokens.specs.tree.Triples.{triple_data}
 use Rattle.city_doc.specs.object.Canonical.{objects_data}
+pub use Rattle.city_doc.specs.shape.Vertices.{vertex_data, vertices_data}
 
 abbrev pub transform_data : Frame → Data
 transform_data f =
     object (put (codes "translate") (triple_data f.translate)
     (put (codes "scale") (triple_data f.scale) f.more))
-
-abbrev pub vertex_data : Point → Data
-vertex_data p = triple_data (p.x ∷ p.y ∷ p.z ∷ [])
-
-abbrev pub vertices_data : List Point → Data
-vertices_data pool = list_data vertex_data pool
 
 -- the members of the top that a frame gives
 abbrev pub frame_members : Frame → Members

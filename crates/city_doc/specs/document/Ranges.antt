@@ -1,20 +1,11 @@
--- Numbers that the program's types hold. A value of the program always has such; one that a clause
--- makes up may not.
-use Rattle.std.specs.Prelude.{◌≡◌, ◌<◌, ◌^◌, ◌&&◌, ◌==◌, ℤ, pos, negsuc, List, Bool, true, length, nat_lt}
+-- Cities whose numbers the program's types hold. A city of the program always is such; one that a clause
+-- makes up may not be.
+use Rattle.std.specs.Prelude.{◌≡◌, ◌<◌, ◌^◌, List, true, length}
 use Rattle.std.specs.List.{list_all}
 use Rattle.city_model.specs.declared.frame.Frame.{Frame}
 use Rattle.city_model.specs.declared.object.Point.{Point}
-
--- a 64-bit signed integer
-abbrev pub is_i64 : ℤ → Bool
-is_i64 (pos n) = nat_lt n (2 ^ 63)
-is_i64 (negsuc n) = nat_lt n (2 ^ 63)
-
-abbrev pub is_i64_triple : List ℤ → Bool
-is_i64_triple zs = (length zs == 3) && list_all is_i64 zs
-
-abbrev pub is_i64_point : Point → Bool
-is_i64_point p = is_i64 p.x && is_i64 p.y && is_i64 p.z
+pub use Rattle.city_doc.specs.shape.Vertices.{is_i64_point}
+pub use Rattle.city_doc.specs.tree.Ranges.{is_i64, is_i64_triple}
 
 -- the numbers of a frame and of the points of a pool, and how many points there are
 pub record IsInRange (pool : List Point) (f : Frame) : Type 0 where

@@ -9,7 +9,7 @@ use Rattle.city_model.specs.declared.command.Reply.TheVariants.{Attached, Detach
 use Rattle.city_model.specs.declared.command.Reply.TheVariants.{Aborted, Refused}
 use Rattle.city_doc.specs.Pool.{object_points, without_repeats}
 use Rattle.city_doc.specs.object.Canonical.{object_data}
-use Rattle.city_doc.specs.document.Canonical.{vertices_data}
+use Rattle.city_doc.specs.shape.Vertices.{vertices_data}
 
 -- an object with points of these numbers, and the points
 abbrev pub numbered_object : List Point → Object → Data

@@ -4,9 +4,9 @@ ghost use Rattle.city_tokens.specs.tree.Lists.{list_data};
 ghost use Rattle.city_doc.specs.report.Replies.{found_data, found_reply, reply_data};
 ghost use Rattle.city_doc.specs.tree.Tokens.{tokens_of};
 
-use crate::document::text::write_vertices;
 use crate::object::text::write_object;
 use crate::pool::VertexPool;
+use crate::shape::vertices::write_vertices;
 use city_model::command::Reply;
 use city_model::object::Object;
 use json::Writer;

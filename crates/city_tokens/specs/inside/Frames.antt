@@ -1,32 +1,11 @@
 -- The frame that a tree stands for, in the order in which it is built: the kept members of the top first.
-use Rattle.std.specs.Prelude.{Option, drop, option_map, codes}
-use Rattle.serde_json.specs.Data.{Data, Members}
-use Rattle.serde_json.specs.Find.{get_member, as_object}
+use Rattle.std.specs.Prelude.{Option, codes}
+use Rattle.serde_json.specs.Data.{Data}
+use Rattle.serde_json.specs.Find.{as_object}
 use Rattle.city_model.specs.declared.frame.Frame.{Frame}
-use Rattle.city_model.specs.Kept.{top_members, kept_at_top}
-use Rattle.city_model.specs.Members.{without, without_each}
-use Rattle.city_tokens.specs.document.Frames.{triple_at, more_of}
-use Rattle.city_tokens.specs.tree.Members.{kept_if}
+use Rattle.city_model.specs.Members.{without}
+use Rattle.city_tokens.specs.document.Frames.{frame_of_rest}
 use Rattle.city_tokens.specs.tree.Steps.{◌>>=◌}
-
--- all members but those that are read at the top beside `CityObjects`, which is the first of these
-abbrev pub without_rest_members : Members → Members
-without_rest_members rest = without_each (drop 1 top_members) rest
-
--- the frame of a transform, and of the kept members of the top
-abbrev pub frame_with : Members → Data → Option Frame
-frame_with extra transform = do
-  scale ← triple_at (codes "scale") transform
-  translate ← triple_at (codes "translate") transform
-  option_map (λ more. record { scale = scale; translate = translate; more = more; extra = extra })
-      (more_of transform)
-
--- of the members but `CityObjects`
-abbrev pub frame_of_rest : Members → Option Frame
-frame_of_rest rest = do
-  extra ← kept_if kept_at_top (without_rest_members rest)
-  transform ← get_member (codes "transform") rest
-  frame_with extra transform
 
 abbrev pub built_frame : Data → Option Frame
 built_frame d = do

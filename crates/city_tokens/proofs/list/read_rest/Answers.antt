@@ -36,4 +36,6 @@ pub returns : goal.returns
 returns g c =
     let l = c.items in
     let end : after_end_array l.reader ≡ Some c.take_end_array.new.self = grind arith in
-    (l.invariant.0, l.invariant.1, l.invariant.2, l.invariant.3, items_end l.invariant.4 end)
+    let all : c.from_vec.result ≡ c.args.read.items ++ l.invariant.0 = c.from_vec.ensures
+    ∙ c.shrink_to_fit.ensures.items ∙ l.invariant.2 in
+    (l.invariant.0, l.invariant.1, all, l.invariant.3, items_end l.invariant.4 end)

@@ -1,4 +1,5 @@
 use Rattle.std.proofs.Common.{◌≡◌, ◌∷◌, refl, ap, ◌∙◌}
+use Rattle.std.proofs.lemmas.Option.{IfSome_then}
 use Rattle.json.specs.Token.{Token}
 use Rattle.json.specs.Reads.{token_of}
 use Rattle.city_tokens.proofs.Reading.{seen_value}
@@ -8,5 +9,4 @@ pub returns : goal.returns
 returns g c =
     let first : c.args.reader.now ≡ Token.begin_object ∷ c.next.new.self = c.in_ok-next.ensures.value
     ∙ ap (λ k. token_of k ∷ c.next.new.self) c.in-BeginObject.is in
-    let read = c.in_ok-read.ensures in
-    (read.0, seen_value first refl read.1, read.2)
+    IfSome_then c.read_opened.result c.read_opened.ensures (λ x read. (read.0, seen_value first refl read.1, read.2))

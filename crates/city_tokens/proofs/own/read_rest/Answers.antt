@@ -1,9 +1,8 @@
-use Rattle.std.proofs.Common.{◌≡◌, Some, None, true, false, string_bytes, refl, sym, ap, ◌∙◌, subst, arith, rules}
+use Rattle.std.proofs.Common.{◌≡◌, Some, None, true, false, refl, sym, subst, arith}
 use Rattle.json.specs.Json.{read_key}
 use Rattle.json.proofs.Grammar.{read_key-shorter}
 use Rattle.serde_json.specs.Data.{no_members, put}
-use Rattle.serde_json.specs.View.{view, members_view}
-use Rattle.serde_json.proofs.Views.{members_view-insert_entry}
+use Rattle.serde_json.specs.View.{members_view}
 use Rattle.city_tokens.specs.inside.Standing.{IsTaken, IsPassed}
 use Rattle.city_tokens.proofs.Keys.{key_read}
 use Rattle.city_tokens.proofs.Reading.{value_shorter, seen_value, members_begin, members_next, members_end}
@@ -16,44 +15,40 @@ members-init g c = (
   λ h. subst (λ es. g.O.Own.stands c.args.start no_members (members_view es)) (sym c.new-kept.ensures.empty) h,
 )
 
-pub members-smaller-then-not-taken : goal.members-smaller-then-not-taken
-members-smaller-then-not-taken g c =
+pub members-smaller : goal.members-smaller
+members-smaller g c =
     let k = c.in-Some.name.now in
+    let read = c.in_ok-read_member.ensures in
     let named : read_key c.members.reader ≡ Some (Some k, c.next_key.new.self) =
     key_read c.next_key.result c.ok.result _ (Some c.in-Some.name) (λ s. s.now) c.members.reader c.next_key.new.self
     c.ok.ensures.value c.in_ok-name.was c.in-Some.is c.next_key.ensures.value in
     let off : c.in_ok-taken.taken ≡ false = grind arith in
     let passed : IsPassed g.O.Own.stands c.members.own c.take.new.self k c.next_key.new.self c.take.new.reader =
     rw off at c.in_ok-taken.ensures in
-    let less = value_shorter c.args.depth c.next_key.new.self c.read_value.new.reader (view c.in_ok-value.value)
-    (seen_value (sym passed.0) refl c.in_ok-value.ensures) in
+    let less = value_shorter c.args.depth c.next_key.new.self c.read_member.new.reader read.0
+    (seen_value (sym passed.0) refl read.1) in
     let lesser = read_key-shorter c.members.reader (Some k) c.next_key.new.self named in
     omega (arith, less, lesser)
 
-pub members-preserved-then-not-taken : goal.members-preserved-then-not-taken
-members-preserved-then-not-taken g c =
+pub members-preserved : goal.members-preserved
+members-preserved g c =
     let l = c.members in
     let k = c.in-Some.name.now in
-    let v = c.in_ok-value.value in
-    let old = members_view l.kept.entries in
+    let read = c.in_ok-read_member.ensures in
     let named : read_key l.reader ≡ Some (Some k, c.next_key.new.self) =
     key_read c.next_key.result c.ok.result _ (Some c.in-Some.name) (λ s. s.now) l.reader c.next_key.new.self
     c.ok.ensures.value c.in_ok-name.was c.in-Some.is c.next_key.ensures.value in
     let off : c.in_ok-taken.taken ≡ false = grind arith in
     let passed : IsPassed g.O.Own.stands l.own c.take.new.self k c.next_key.new.self c.take.new.reader =
-    rw off at c.in_ok-taken.ensures in
-    let copied : string_bytes c.in_ok-key.key ≡ k = search rules in
-    let inserted : members_view c.insert.new.self.entries ≡ put k (view v) old =
-    ap members_view (grind arith) ∙ members_view-insert_entry l.kept.entries c.in_ok-key.key v
-    ∙ ap (λ name. put name (view v) old) copied in (
-      put k (view v) l.invariant.0,
-      members_next l.invariant.1 named (seen_value (sym passed.0) refl c.in_ok-value.ensures),
-      λ h. subst (λ ms. g.O.Own.stands c.take.new.self (put k (view v) l.invariant.0) ms) (sym inserted)
-          (passed.1 (view v) l.invariant.0 old (l.invariant.2 h)),
+    rw off at c.in_ok-taken.ensures in (
+      put k read.0 l.invariant.0,
+      members_next l.invariant.1 named (seen_value (sym passed.0) refl read.1),
+      λ h. subst (λ ms. g.O.Own.stands c.take.new.self (put k read.0 l.invariant.0) ms) (sym read.2)
+          (passed.1 read.0 l.invariant.0 (members_view l.kept.entries) (l.invariant.2 h)),
     )
 
-pub members-smaller : goal.members-smaller
-members-smaller g c =
+pub members-smaller-then-taken : goal.members-smaller-then-taken
+members-smaller-then-taken g c =
     let k = c.in-Some.name.now in
     let named : read_key c.members.reader ≡ Some (Some k, c.next_key.new.self) =
     key_read c.next_key.result c.ok.result _ (Some c.in-Some.name) (λ s. s.now) c.members.reader c.next_key.new.self
@@ -65,8 +60,8 @@ members-smaller g c =
     let lesser = read_key-shorter c.members.reader (Some k) c.next_key.new.self named in
     omega (arith, less, lesser)
 
-pub members-preserved : goal.members-preserved
-members-preserved g c =
+pub members-preserved-then-taken : goal.members-preserved-then-taken
+members-preserved-then-taken g c =
     let l = c.members in
     let k = c.in-Some.name.now in
     let named : read_key l.reader ≡ Some (Some k, c.next_key.new.self) =

@@ -19,14 +19,14 @@ loop-id-init c =
 pub loop-id-preserved : goal.loop-id-preserved
 loop-id-preserved c =
     let points = points_of c.args.vertices.now in
-    let object = c.in_ok-object in
+    let object = c.place_object.new.object in
+    let found = c.in_ok-place_object.ensures in
     let placed = c.loop-id.objects.entries in
     let left = into_iter_items c.next.new.self in
     let grown = given c.insert.result c.ok.result c.in_ok-ok.field-0 _ c.ok.ensures.value c.in_ok-ok.was
     c.insert.ensures.entries in (
-      goes_on points c.args.listed left placed c.insert.new.self.entries c.in-Some.id c.in-Some.unplaced object.object
-          object.ensures.placed grown
+      goes_on points c.args.listed left placed c.insert.new.self.entries c.in-Some.id c.in-Some.object object
+          found.placed grown
           (subst (λ l. IsPlacing points c.args.listed l placed) c.in-Some.ensures.steps.0 c.loop-id.invariant.0),
-      subst AreFaultless (sym grown)
-          (faultless_put c.in-Some.id object.object placed object.ensures.faultless c.loop-id.invariant.1),
+      subst AreFaultless (sym grown) (faultless_put c.in-Some.id object placed found.faultless c.loop-id.invariant.1),
     )

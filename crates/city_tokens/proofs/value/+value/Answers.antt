@@ -44,28 +44,33 @@ read_items-returns t c =
 pub read_members-members-smaller : goal.read_members-members-smaller
 read_members-members-smaller t c =
     let k = c.in-Some.name.now in
+    let read = c.in_ok-read_member.ensures in
     let named : read_key c.members.reader ≡ Some (Some k, c.next_key.new.self) =
     key_read c.next_key.result c.ok.result _ (Some c.in-Some.name) (λ s. s.now) c.members.reader c.next_key.new.self
     c.ok.ensures.value c.in_ok-name.was c.in-Some.is c.next_key.ensures.value in
-    let less = value_shorter c.args.depth c.next_key.new.self c.read_value.new.reader (view c.in_ok-member.member)
-    c.in_ok-member.ensures in
+    let less = value_shorter c.args.depth c.next_key.new.self c.read_member.new.reader read.0 read.1 in
     let lesser = read_key-shorter c.members.reader (Some k) c.next_key.new.self named in
     omega (arith, less, lesser)
 
 pub read_members-members-preserved : goal.read_members-members-preserved
 read_members-members-preserved t c =
     let k = c.in-Some.name.now in
-    let v = c.in_ok-member.member in
-    let old = members_view c.members.found.entries in
+    let read = c.in_ok-read_member.ensures in
     let named : read_key c.members.reader ≡ Some (Some k, c.next_key.new.self) =
     key_read c.next_key.result c.ok.result _ (Some c.in-Some.name) (λ s. s.now) c.members.reader c.next_key.new.self
     c.ok.ensures.value c.in_ok-name.was c.in-Some.is c.next_key.ensures.value in
-    let copied : string_bytes c.in_ok-key.key ≡ k = search rules in
-    let inserted : members_view c.insert.new.self.entries ≡ put k (view v) old =
-    ap members_view (grind arith) ∙ members_view-insert_entry c.members.found.entries c.in_ok-key.key v
-    ∙ ap (λ name. put name (view v) old) copied in
-    subst (AreFound c.args.depth c.args.reader.now c.read_value.new.reader) (sym inserted)
-    (members_next c.members.invariant named c.in_ok-member.ensures)
+    subst (AreFound c.args.depth c.args.reader.now c.read_member.new.reader) (sym read.2)
+    (members_next c.members.invariant named read.1)
+
+pub read_member-returns : goal.read_member-returns
+read_member-returns t c =
+    let v = c.in_ok-member.member in
+    let members = c.args.members.now.entries in
+    let copied : string_bytes c.in_ok-key.key ≡ c.args.name.now = search rules in
+    let inserted : members_view c.insert.new.self.entries ≡ put c.args.name.now (view v) (members_view members) =
+    ap members_view (grind arith) ∙ members_view-insert_entry members c.in_ok-key.key v
+    ∙ ap (λ name. put name (view v) (members_view members)) copied in
+    (view v, c.in_ok-member.ensures, inserted)
 
 pub read_members-returns : goal.read_members-returns
 read_members-returns t c =

@@ -5,13 +5,16 @@ use Rattle.city_tokens.proofs.Reading.{AreRead, AreFound}
 use Rattle.city_tokens.proofs.value.+value.Given as goal
 
 abbrev pub decreases-read_value : goal.decreases-read_value
-decreases-read_value l = 2 * l.depth
+decreases-read_value l = 3 * l.depth
 
 abbrev pub decreases-read_items : goal.decreases-read_items
-decreases-read_items l = 2 * l.depth + 1
+decreases-read_items l = 3 * l.depth + 1
 
 abbrev pub decreases-read_members : goal.decreases-read_members
-decreases-read_members l = 2 * l.depth + 1
+decreases-read_members l = 3 * l.depth + 2
+
+abbrev pub decreases-read_member : goal.decreases-read_member
+decreases-read_member l = 3 * l.depth + 1
 
 abbrev pub invariant-read_items-items : goal.invariant-read_items-items
 invariant-read_items-items l = AreRead l.depth l.initial.reader l.reader (map view l.found.items)

@@ -2,7 +2,7 @@ use Rattle.std.proofs.Common.{◌≡◌, [], ◌∷◌, ◌++◌, Some, codes, r
 use Rattle.std.proofs.lemmas.Result.{on_ok_weaker}
 use Rattle.serde_json.specs.Data.{no_members}
 use Rattle.city_doc.specs.object.Canonical.{object_data}
-use Rattle.city_doc.specs.document.Canonical.{vertices_data}
+use Rattle.city_doc.specs.shape.Vertices.{vertices_data}
 use Rattle.city_doc.specs.Pool.{object_points, without_repeats}
 use Rattle.city_doc.specs.inside.Pool.{with_points}
 use Rattle.city_doc.specs.report.Replies.{numbered_object}

@@ -1,4 +1,5 @@
 use Rattle.std.proofs.Common.{◌≡◌, [], ◌∷◌, ◌++◌, refl, sym, ap, ◌∙◌, subst, arith}
+use Rattle.std.proofs.lemmas.Option.{IfSome_then}
 use Rattle.json.specs.Token.{Token}
 use Rattle.json.specs.Reads.{token_of}
 use Rattle.serde_json.specs.Data.{array}
@@ -11,12 +12,11 @@ pub returns : goal.returns
 returns g c =
     let first : c.args.reader.now ≡ Token.begin_array ∷ c.next.new.self = c.in_ok-next.ensures.value
     ∙ ap (λ k. token_of k ∷ c.next.new.self) c.in-BeginArray.is in
-    let rest = c.in_ok-all.ensures in
     let empty : c.in_ok-room.room.items ≡ [] = grind arith in
-    let same : c.from_vec.result ≡ rest.0 = c.from_vec.ensures ∙ c.shrink_to_fit.ensures.items ∙ rest.2
-    ∙ ap (λ xs. xs ++ rest.0) empty in (
+    IfSome_then c.read_rest.result c.read_rest.ensures (λ all rest.
+    let same : all ≡ rest.0 = rest.2 ∙ ap (λ xs. xs ++ rest.0) empty in (
       array (items_of rest.1),
       seen_value first refl
           (array_value c.args.depth c.next.new.self c.read_rest.new.reader (items_of rest.1) (omega arith) rest.4),
       (rest.1, refl, subst (λ xs. Pairs g.T.FromTokens.stands xs rest.1) (sym same) rest.3),
-    )
+    ))

@@ -6,7 +6,7 @@ use Rattle.city_tokens.specs.tree.Triples.{integer_data, triple_data}
 use Rattle.city_doc.specs.tree.Tokens.{tokens_of}
 use Rattle.city_doc.proofs.tree.Integers.{integer_reads}
 use Rattle.city_doc.proofs.tree.ReadBack.{array_reads}
-use Rattle.city_doc.proofs.document.text.write_three.Goals as goal
+use Rattle.city_doc.proofs.tree.triples.write_three.Goals as goal
 
 -- three integers in brackets
 three : (old begun first second third last : List Token) (x y z : ℤ) → begun ≡ old ++ begin_array ∷ []

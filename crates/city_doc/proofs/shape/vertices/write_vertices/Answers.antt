@@ -1,11 +1,11 @@
 use Rattle.std.proofs.Common.{map, subst, ◌∙◌}
 use Rattle.std.proofs.lemmas.Result.{on_ok_weaker}
 use Rattle.serde_json.specs.View.{items_of}
-use Rattle.city_doc.specs.document.Canonical.{vertex_data, vertices_data}
+use Rattle.city_doc.specs.shape.Vertices.{vertex_data, vertices_data}
 use Rattle.city_doc.specs.inside.tree.ReadsBack.{ReadsBack}
 use Rattle.city_doc.proofs.tree.ReadBack.{array_reads}
 use Rattle.city_doc.proofs.tree.WrittenItems.{all_read}
-use Rattle.city_doc.proofs.document.text.write_vertices.Goals as goal
+use Rattle.city_doc.proofs.shape.vertices.write_vertices.Goals as goal
 
 pub returns-clause-reads : goal.returns-clause-reads
 returns-clause-reads c =

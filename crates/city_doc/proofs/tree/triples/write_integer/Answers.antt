@@ -3,7 +3,7 @@ use Rattle.std.specs.Fmt.{signed_decimal}
 use Rattle.std.proofs.lemmas.Result.{on_ok_weaker}
 use Rattle.json.specs.Token.{number}
 use Rattle.city_doc.proofs.tree.Integers.{integer_reads, text_of_integer}
-use Rattle.city_doc.proofs.document.text.write_integer.Goals as goal
+use Rattle.city_doc.proofs.tree.triples.write_integer.Goals as goal
 
 pub returns-clause-tokens : goal.returns-clause-tokens
 returns-clause-tokens c =

@@ -1,9 +1,8 @@
 use Rattle.std.proofs.Common.{◌≡◌, ◌++◌, drop}
 use Rattle.std.specs.List.{list_all}
-use Rattle.city_doc.specs.document.Canonical.{vertex_data}
-use Rattle.city_doc.specs.document.Ranges.{is_i64_point}
+use Rattle.city_doc.specs.shape.Vertices.{vertex_data, is_i64_point}
 use Rattle.city_doc.proofs.tree.WrittenItems.{closing, ReadBack}
-use Rattle.city_doc.proofs.document.text.write_vertices.Given as goal
+use Rattle.city_doc.proofs.shape.vertices.write_vertices.Given as goal
 
 -- what is left ends the array
 abbrev pub invariant-loop-point : goal.invariant-loop-point
