@@ -1,8 +1,7 @@
 use Rattle.std.proofs.Common.{◌<◌, length, arith, take, None, sym, ap, ◌∙◌}
 use Rattle.std.specs.Prelude.{if◌then◌else◌}
 use Rattle.city_model.specs.CityMap.{CityMap, CityValue, object_at, has_id, same_id}
-use Rattle.city_txn.proofs.EachId.{has_more}
-use Rattle.city_crew.proofs.Placed.{cleared_more}
+use Rattle.city_crew.proofs.Placed.{cleared_more, has_more}
 use Rattle.city_crew.proofs.places.clear.Goals as goal
 
 pub loop-id-preserved : goal.loop-id-preserved

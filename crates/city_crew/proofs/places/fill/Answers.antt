@@ -1,8 +1,7 @@
 use Rattle.std.proofs.Common.{◌≡◌, ◌<◌, ℕ, List, length, arith, Some, sym, ap, ◌∙◌}
 use Rattle.city_model.specs.CityMap.{CityMap, CityValue, object_at, changed}
 use Rattle.city_model.proofs.Changed.{changed_apart}
-use Rattle.city_txn.proofs.EachId.{has_more}
-use Rattle.city_crew.proofs.Placed.{apart_from, filled_more}
+use Rattle.city_crew.proofs.Placed.{apart_from, filled_more, has_more}
 use Rattle.city_crew.proofs.places.fill.Goals as goal
 
 pub loop-id-preserved : goal.loop-id-preserved
