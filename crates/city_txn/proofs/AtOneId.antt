@@ -23,8 +23,8 @@ use Rattle.city_txn.specs.declared.image.UndoImage.{UndoImage}
 use Rattle.city_txn.specs.declared.store.Store.TheInside.{Inside}
 use Rattle.city_txn.specs.inside.Images.{seen_under, seen_by, committed_at, write_at, writer_of, or_else}
 use Rattle.city_txn.specs.UndoLog.{log_of, has_before}
-use Rattle.city_txn.specs.Writes.{write_of, own_or, with_some, made_by}
-use Rattle.city_txn.specs.inside.State.{store_committed, store_view}
+use Rattle.city_txn.specs.Writes.{write_of, is_by, own_or, with_some, made_by}
+use Rattle.city_txn.specs.inside.State.{State, store_committed, store_view}
 use Rattle.city_txn.specs.inside.InPlace.{state_of, is_writer, IsInPlace}
 use Rattle.city_txn.specs.inside.UndoState.{Images, image_at, reservations_of}
 use Rattle.city_txn.proofs.ImagesHeld.{images_ascend, image_listed}
@@ -133,6 +133,17 @@ module _ (a : Inside) (k : IsInPlace a) (q : List ℕ) where
       (committed_at (here a q) (image_at a.undo q))
   view_is s = ap (λ w. own_or s w (store_committed (state_of a) q)) writes_is
       ∙ ap (own_or s (write_at (here a q) (image_at a.undo q))) city_is
+
+-- and of a store that is seen as v, whose image there is o
+module _ (a : Inside) (k : IsInPlace a) {v : State} (seen : state_of a ≡ v) (q : List ℕ) {o : Option UndoImage}
+    (is : o ≡ image_at a.undo q) (s : ℕ) where
+  pub by_seen : is_by s (write_at (here a q) o) ≡ is_by s (write_of v.writes q)
+  by_seen = ap (λ i. is_by s (write_at (here a q) i)) is ∙ ap (is_by s) (sym (writes_is a k q))
+      ∙ ap (λ (u : State). is_by s (write_of u.writes q)) seen
+
+  pub view_seen : own_or s (write_at (here a q) o) (committed_at (here a q) o) ≡ store_view v s q
+  view_seen = ap (λ i. own_or s (write_at (here a q) i) (committed_at (here a q) i)) is ∙ sym (view_is a k q s)
+      ∙ ap (λ (u : State). store_view u s q) seen
 
 -- ---- what a transaction sees, from its image
 

@@ -184,7 +184,8 @@ none_left : (b c : Bool) → (if b then false else c) ≡ true → (b ≡ false)
 none_left true c h = absurd (false≢true h)
 none_left false c h = (refl, h)
 
-module _ (a b : Inside) (k : IsCore a) (s : ℕ) (f : Forgets s a.store b.store)
+module _ (a b : Inside) (k : IsCore a) {v : CoreState} (known : core_state a ≡ v) (s : ℕ)
+    (f : Forgets s a.store b.store)
     (modes : (t : ℕ) (q : List ℕ) → mode_of b.locks t q ≡ cond (s == t) None (mode_of a.locks t q))
     (lawful : Lawful b.locks) where
   ended : Ended s (core_state a) (core_state b)
@@ -202,18 +203,21 @@ module _ (a b : Inside) (k : IsCore a) (s : ℕ) (f : Forgets s a.store b.store)
       modes t q ∙ ap (λ c. cond c None (mode_of a.locks t q)) left.0 ∙ k.reserved t q left.1
 
   module _ (city : store.store_committed b.store ≡ store.store_view a.store s) where
-    pub committed_over : IsTransactionEnd s (core_state a) (core_state b)
-    committed_over = over_committed s (core_state a) (core_state b) ended k.state city f.frame
+    pub committed_over : IsTransactionEnd s v (core_state b)
+    committed_over = subst (λ u. IsTransactionEnd s u (core_state b)) known
+        (over_committed s (core_state a) (core_state b) ended k.state city f.frame)
 
-    pub committed_core : HasNoOrphan (view (core_state a) s) → IsCore b
+    pub committed_core : HasNoOrphan (view v s) → IsCore b
     committed_core orphans = record {
-      state = committed_consistent s (core_state a) (core_state b) ended k.state city orphans;
+      state = committed_consistent s (core_state a) (core_state b) ended k.state city
+          (subst (λ u. HasNoOrphan (view u s)) (sym known) orphans);
       reserved = reserved_left;
     }
 
   module _ (city : store.store_committed b.store ≡ store.store_committed a.store) where
-    pub undone : IsRolledBack s (core_state a) (core_state b)
-    undone = rolled_back s (core_state a) (core_state b) ended k.state city f.frame
+    pub undone : IsRolledBack s v (core_state b)
+    undone = subst (λ u. IsRolledBack s u (core_state b)) known
+        (rolled_back s (core_state a) (core_state b) ended k.state city f.frame)
 
     pub undone_core : IsCore b
     undone_core = record {

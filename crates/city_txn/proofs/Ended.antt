@@ -42,20 +42,13 @@ pub own_not : (s : ℕ) (x : Option Write) (o : Option Object) → ((w : Write) 
 own_not s None o h = refl
 own_not s (Some w) o h = rw (h w refl) refl
 
-abbrev from_some : Write → Option Write → Write
-from_some d None = d
-from_some d (Some w) = w
-
-pub some_same : (u w : Write) → Some u ≡ Some w → u ≡ w
-some_same u w e = ap (λ o. from_some u o) e
-
 -- a write that is left was there, and isn't by s
 left_over : (s : ℕ) (x : Option Write) (w : Write) → unless_by s x ≡ Some w → (x ≡ Some w) × ((s == w.0) ≡ false)
 left_over s None w e = (e, absurd (none-some w e))
 left_over s (Some u) w e = bool_cases (u.0 == s)
     (λ f. absurd (none-some w (sym (ap (λ b. if b then None else Some u) f) ∙ e)))
     (λ f. let g : Some u ≡ Some w = sym (ap (λ b. if b then None else Some u) f) ∙ e in
-    let h : u ≡ w = some_same u w g in
+    let h : u ≡ w = cc in
     (g, ne_eqb s w.0 (λ k. eqb-false u.0 s f (ap (λ z. z.0) h ∙ sym k))))
 
 -- the transaction s has ended: its locks, its writes and its marks are gone, and it is no longer open

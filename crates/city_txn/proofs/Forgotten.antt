@@ -1,6 +1,6 @@
 -- A transaction's images dropped or put back: nothing of it is left, and what is of others stays.
 use Rattle.std.proofs.Common.{◌≡◌, ◌==◌, ℕ, List, [], Bool, true, false, Option, None, Some, is_some, refl, ap, sym}
-use Rattle.std.proofs.Common.{◌∙◌, if◌then◌else◌, unwrap_or, nat_cmp}
+use Rattle.std.proofs.Common.{◌∙◌, if◌then◌else◌, unwrap_or, nat_cmp, subst}
 use Rattle.std.specs.BTreeMap.{is_at}
 use Rattle.std.specs.FinMap.{get}
 use Rattle.std.proofs.lemmas.Bool.{false≢true, eqb-true}
@@ -13,7 +13,7 @@ use Rattle.city_txn.specs.declared.ending.End.{End}
 use Rattle.city_txn.specs.declared.ending.End.TheVariants.{Commit, RollBack}
 use Rattle.city_txn.specs.inside.Ending.{left_at_end, map_at_end, AreEnded}
 use Rattle.city_txn.specs.inside.Images.{committed_at, write_at, writer_of}
-use Rattle.city_txn.specs.inside.State.{is_begun, is_reserved, store_committed, Forgets}
+use Rattle.city_txn.specs.inside.State.{State, is_begun, is_reserved, store_committed, Forgets}
 use Rattle.city_txn.specs.UndoLog.{log_of, has_before}
 use Rattle.city_txn.specs.Writes.{own_or, unless_by}
 use Rattle.city_txn.specs.inside.InPlace.{state_of, is_writer, IsInPlace}
@@ -82,13 +82,13 @@ others_stay s t (Some i) = bool_cases (i.by == s)
 
 -- ---- the whole
 
-pub record Ending (s : ℕ) (end : End) (a b : Inside) : Type 0 where
+pub record Ending (s : ℕ) (end : End) (v : State) (b : Inside) : Type 0 where
   pub in_place : IsInPlace b
-  pub forgets : Forgets s (state_of a) (state_of b)
-  pub city : store_committed (state_of b) ≡ map_at_end end (state_of a) s
+  pub forgets : Forgets s v (state_of b)
+  pub city : store_committed (state_of b) ≡ map_at_end end v s
 
 -- the stamp s is closed, and then each of its ids is ended
-module _ (a b : Inside) (k : IsInPlace a) (s : ℕ) (ids : List (List ℕ))
+module _ (a b : Inside) (k : IsInPlace a) {v : State} (seen : state_of a ≡ v) (s : ℕ) (ids : List (List ℕ))
     (are : ids ≡ reservations_of a.undo.reservations s) (u : UndoState) (images : u.images ≡ a.undo.images)
     (closed : (t : ℕ)
     → listed_by u.reservations t ≡ (if is_at (nat_cmp s) t then None else listed_by a.undo.reservations t))
@@ -157,5 +157,6 @@ module _ (a b : Inside) (k : IsInPlace a) (s : ℕ) (ids : List (List ℕ))
       else here a q)) (images_at q)
       ∙ ended_point end s (here a q) (image_at a.undo q) ∙ sym (city_after_is end a k s q)
 
-  pub ending : Ending s end a b
-  ending = record { in_place = forgotten_in_place; forgets = forgets; city = λ j q. ended_at q j }
+  pub ending : Ending s end v b
+  ending = subst (λ (w : State). Ending s end w b) seen
+      (record { in_place = forgotten_in_place; forgets = forgets; city = λ j q. ended_at q j })

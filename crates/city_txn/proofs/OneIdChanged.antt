@@ -10,7 +10,7 @@ use Rattle.city_txn.specs.inside.Images.{committed_at, write_at, writer_of}
 use Rattle.city_txn.specs.inside.InPlace.{state_of, is_writer, IsInPlace}
 use Rattle.city_txn.specs.UndoLog.{log_of, has_before}
 use Rattle.city_txn.specs.Writes.{Write, write_of}
-use Rattle.city_txn.specs.inside.State.{store_committed, WritesOne}
+use Rattle.city_txn.specs.inside.State.{State, store_committed, WritesOne}
 use Rattle.city_txn.specs.inside.UndoState.{image_at, reservations_of}
 use Rattle.city_txn.proofs.AtOneId.{here, city_is, writes_is}
 
@@ -59,9 +59,9 @@ module _ (a b : Inside) (k : IsInPlace a) (id : List ℕ) (x : Option Object) (i
       (λ r e. rw e ((λ h. write_at (here_beside r e h) (image_beside r e h)) ∙ sym (writes_is a k r))) q
 
 -- what is left of the store where no more than the write of one id has changed
-pub record OneWritten (a b : Inside) (id : List ℕ) (w : Option Write) : Type 0 where
+pub record OneWritten (v : State) (b : Inside) (id : List ℕ) (w : Option Write) : Type 0 where
   pub in_place : IsInPlace b
-  pub one : WritesOne id w (state_of a) (state_of b)
+  pub one : WritesOne id w v (state_of b)
 
 -- the image's transaction stays the same, and what is committed beneath it
 module _ (a b : Inside) (k : IsInPlace a) (id : List ℕ) (x : Option Object) (i : Option UndoImage)
@@ -83,7 +83,7 @@ module _ (a b : Inside) (k : IsInPlace a) (id : List ℕ) (x : Option Object) (i
   }
 
   pub one_written : (w : Option Write) → write_at x i ≡ w → committed_at x i
-      ≡ committed_at (here a id) (image_at a.undo id) → OneWritten a b id w
+      ≡ committed_at (here a id) (image_at a.undo id) → OneWritten (state_of a) b id w
   one_written w is same = record {
     in_place = still_in_place;
     one = record {

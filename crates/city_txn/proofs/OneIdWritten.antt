@@ -1,6 +1,6 @@
 -- One id of a store written, edited where it stands, or its write taken back.
 use Rattle.std.proofs.Common.{◌≡◌, ◌==◌, ◌&&◌, ℕ, List, true, Option, None, Some, is_some, refl, ap, sym, ◌∙◌, Bool}
-use Rattle.std.proofs.Common.{false, not, if◌then◌else◌, option_map, unwrap_or}
+use Rattle.std.proofs.Common.{false, not, if◌then◌else◌, option_map, unwrap_or, subst}
 use Rattle.std.proofs.lemmas.Bool.{false≢true, eqb-true, eq-eqb}
 use Rattle.city_model.specs.declared.object.Object.{Object}
 use Rattle.city_model.specs.CityMap.{CityValue, object_at, changed, same_id}
@@ -12,7 +12,7 @@ use Rattle.city_txn.specs.inside.Images.{seen_under, committed_at, write_at, wri
 use Rattle.city_txn.specs.inside.Images.{image_unwritten, put_back, put_back_at}
 use Rattle.city_txn.specs.inside.InPlace.{state_of, IsInPlace, is_writer}
 use Rattle.city_txn.specs.Writes.{Write, write_of, is_by, unless_by}
-use Rattle.city_txn.specs.inside.State.{rewritten, is_reserved, WritesOne, OthersWritesStay}
+use Rattle.city_txn.specs.inside.State.{State, rewritten, is_reserved, WritesOne, OthersWritesStay}
 use Rattle.city_txn.specs.inside.UndoState.{image_at}
 use Rattle.city_txn.proofs.AtOneId.{here, writes_is}
 use Rattle.city_txn.proofs.OneIdChanged.{at_each, OneWritten, one_written}
@@ -50,25 +50,27 @@ write_edited f x (Some i) = bool_cases i.unwritten
 
 -- ---- the whole: f is done to the object of the id
 
-module _ (a : Inside) (k : IsInPlace a) (id : List ℕ) (written : is_some (write_of (state_of a).writes id) ≡ true) where
+module _ (a : Inside) (k : IsInPlace a) {v : State} (seen : state_of a ≡ v) (id : List ℕ)
+    (written : is_some (write_of v.writes id) ≡ true) where
   write : is_some (write_at (here a id) (image_at a.undo id)) ≡ true
-  write = sym (ap is_some (writes_is a k id)) ∙ written
+  write = sym (ap is_some (writes_is a k id)) ∙ ap (λ (u : State). is_some (write_of u.writes id)) seen ∙ written
 
   pub written_there : is_some (here a id) ≡ true
   written_there = k.has_slot id (has_image (here a id) (image_at a.undo id) write)
 
   pub edited : (n : CityValue) (f : Object → Object) → n.0 ≡ a.city.0
       → object_at n.1 ≡ changed (object_at a.city.1) id (option_map f (object_at a.city.1 id))
-      → OneWritten a (record a { city = n }) id (option_map (rewritten f) (write_of (state_of a).writes id))
+      → OneWritten v (record a { city = n }) id (option_map (rewritten f) (write_of v.writes id))
   edited n f frame city =
       let i = image_at a.undo id in
-      one_written a (record a { city = n }) k id (option_map f (here a id)) i frame city
+      subst (λ (u : State). OneWritten u (record a { city = n }) id (option_map (rewritten f) (write_of u.writes id))) seen
+      (one_written a (record a { city = n }) k id (option_map f (here a id)) i frame city
       (at_each {P = λ q. image_at a.undo q ≡ (if same_id id q then i else image_at a.undo q)} id
       (rw (same_id_itself id) refl) (λ q e. rw e refl))
       refl refl (still_there f (here a id) ∙ written_there) refl
       (option_map (rewritten f) (write_of (state_of a).writes id))
       (write_edited f (here a id) i ∙ ap (option_map (rewritten f)) (sym (writes_is a k id)))
-      (committed_beneath (here a id) (option_map f (here a id)) i write)
+      (committed_beneath (here a id) (option_map f (here a id)) i write))
 
 -- ---- at one id, where x stood in the city and y stands now
 
@@ -147,52 +149,52 @@ none_by_others s x (Some i) h = own_write_gone s x i h
 -- ---- an id that s has reserved
 
 -- what is left of the store where s wrote the id, or took its write back
-pub record OwnWritten (a b : Inside) (s : ℕ) (id : List ℕ) (w : Option Write) : Type 0 where
+pub record OwnWritten (v : State) (b : Inside) (s : ℕ) (id : List ℕ) (w : Option Write) : Type 0 where
   pub in_place : IsInPlace b
-  pub one : WritesOne id w (state_of a) (state_of b)
-  pub others : OthersWritesStay s (state_of a) (state_of b)
+  pub one : WritesOne id w v (state_of b)
+  pub others : OthersWritesStay s v (state_of b)
 
-module _ (a b : Inside) (k_a : IsInPlace a) (s : ℕ) (id : List ℕ) (reserved : is_reserved (state_of a) s id ≡ true)
-    (frame : b.city.0 ≡ a.city.0) (reservations : b.undo.reservations ≡ a.undo.reservations) (logs : b.logs ≡ a.logs)
-  where
-    writer : is_writer s (writer_of (image_at a.undo id)) ≡ true
-    writer = sym (k_a.listed s id) ∙ reserved
+module _ (a b : Inside) (k_a : IsInPlace a) {v : State} (seen : state_of a ≡ v) (s : ℕ) (id : List ℕ)
+    (reserved : is_reserved v s id ≡ true) (frame : b.city.0 ≡ a.city.0)
+    (reservations : b.undo.reservations ≡ a.undo.reservations) (logs : b.logs ≡ a.logs) where
+  writer : is_writer s (writer_of (image_at a.undo id)) ≡ true
+  writer = sym (k_a.listed s id) ∙ ap (λ (u : State). is_reserved u s id) seen ∙ reserved
 
-    -- no other has written it, so whatever s makes of its own write, the others' writes stay
-    with_others : (w : Option Write) → unless_by s w ≡ None → OneWritten a b id w → OwnWritten a b s id w
-    with_others w none k = record {
-      in_place = k.in_place;
-      one = k.one;
-      others = at_each id
-          (ap (unless_by s) (k.one.writes id
-          ∙ ap (λ b. if b then w else write_of (state_of a).writes id) (same_id_itself id))
-          ∙ none
-          ∙ sym (ap (unless_by s) (writes_is a k_a id) ∙ none_by_others s (here a id) (image_at a.undo id) writer))
-          (λ q e. ap (unless_by s) (k.one.writes q ∙ ap (λ b. if b then w else write_of (state_of a).writes q) e));
-    }
+  -- no other has written it, so whatever s makes of its own write, the others' writes stay
+  with_others : (w : Option Write) → unless_by s w ≡ None → OneWritten (state_of a) b id w → OwnWritten v b s id w
+  with_others w none k = subst (λ (u : State). OwnWritten u b s id w) seen (record {
+    in_place = k.in_place;
+    one = k.one;
+    others = at_each id
+        (ap (unless_by s) (k.one.writes id
+        ∙ ap (λ b. if b then w else write_of (state_of a).writes id) (same_id_itself id))
+        ∙ none
+        ∙ sym (ap (unless_by s) (writes_is a k_a id) ∙ none_by_others s (here a id) (image_at a.undo id) writer))
+        (λ q e. ap (unless_by s) (k.one.writes q ∙ ap (λ b. if b then w else write_of (state_of a).writes q) e));
+  })
 
-    pub set_written : (deleted : Bool) (y : Object) (w : Option Object) → (if deleted then None else Some y) ≡ w
-        → object_at b.city.1 ≡ changed (object_at a.city.1) id (Some y)
-        → ((q : List ℕ) → image_at b.undo q
-        ≡ (if same_id id q then option_map (written_over (here a id) deleted) (image_at a.undo id)
-        else image_at a.undo q)) → OwnWritten a b s id (Some (s, w))
-    set_written deleted y w is city images =
-        let i = image_at a.undo id in
-        with_others (Some (s, w)) (ap (λ x. if x then None else Some (s, w)) (eq-eqb s s refl))
-        (one_written a b k_a id (Some y) (option_map (written_over (here a id) deleted) i) frame city images reservations
-        logs refl (writer_written (here a id) deleted i) (Some (s, w))
-        (write_written (here a id) (Some y) w deleted s i writer is)
-        (committed_written (here a id) (Some y) deleted i (some_writer s i writer)))
+  pub set_written : (deleted : Bool) (y : Object) (w : Option Object) → (if deleted then None else Some y) ≡ w
+      → object_at b.city.1 ≡ changed (object_at a.city.1) id (Some y)
+      → ((q : List ℕ) → image_at b.undo q
+      ≡ (if same_id id q then option_map (written_over (here a id) deleted) (image_at a.undo id)
+      else image_at a.undo q)) → OwnWritten v b s id (Some (s, w))
+  set_written deleted y w is city images =
+      let i = image_at a.undo id in
+      with_others (Some (s, w)) (ap (λ x. if x then None else Some (s, w)) (eq-eqb s s refl))
+      (one_written a b k_a id (Some y) (option_map (written_over (here a id) deleted) i) frame city images reservations
+      logs refl (writer_written (here a id) deleted i) (Some (s, w))
+      (write_written (here a id) (Some y) w deleted s i writer is)
+      (committed_written (here a id) (Some y) deleted i (some_writer s i writer)))
 
-    pub unset_written : object_at b.city.1
-        ≡ changed (object_at a.city.1) id (or_else (put_back_at (image_at a.undo id)) (here a id))
-        → ((q : List ℕ) → image_at b.undo q
-        ≡ (if same_id id q then option_map image_unwritten (image_at a.undo id) else image_at a.undo q))
-        → OwnWritten a b s id None
-    unset_written city images =
-        let i = image_at a.undo id in
-        let object = or_else (put_back_at i) (here a id) in
-        with_others None refl
-        (one_written a b k_a id object (option_map image_unwritten i) frame city images reservations logs
-        (still_some (put_back_at i) (here a id) (k_a.has_slot id (some_writer s i writer))) (writer_unwritten i)
-        None (write_unwritten object i) (committed_unwritten (here a id) i))
+  pub unset_written : object_at b.city.1
+      ≡ changed (object_at a.city.1) id (or_else (put_back_at (image_at a.undo id)) (here a id))
+      → ((q : List ℕ) → image_at b.undo q
+      ≡ (if same_id id q then option_map image_unwritten (image_at a.undo id) else image_at a.undo q))
+      → OwnWritten v b s id None
+  unset_written city images =
+      let i = image_at a.undo id in
+      let object = or_else (put_back_at i) (here a id) in
+      with_others None refl
+      (one_written a b k_a id object (option_map image_unwritten i) frame city images reservations logs
+      (still_some (put_back_at i) (here a id) (k_a.has_slot id (some_writer s i writer))) (writer_unwritten i)
+      None (write_unwritten object i) (committed_unwritten (here a id) i))

@@ -36,6 +36,15 @@ edited_unless s f None h = refl
 edited_unless s f (Some w) h = ap (λ b. if b then None else Some (w.0, option_map f w.1)) h
     ∙ sym (ap (λ b. if b then None else Some w) h)
 
+-- where the child was reserved, so is a copy of its id
+pub copy_reserved : (v u x : State) (s : ℕ) (child copy : List ℕ)
+    → ((t : ℕ) (q : List ℕ) → is_reserved u t q ≡ (((s == t) && same_id child q) || is_reserved v t q)) → copy ≡ child
+    → x.opened ≡ u.opened → is_reserved x s copy ≡ true
+copy_reserved v u x s child copy made copied opened = ap (is_reserved x s) copied ∙ reserved_by u x s child opened
+    ∙ made s child
+    ∙ or_left ((s == s) && same_id child child) (is_reserved v s child)
+    (and_from (s == s) (same_id child child) (eq-eqb s s refl) (same_id_itself child))
+
 -- ---- the whole: v is the store, and u has the child reserved
 
 module _ (s : ℕ) (c : Command) (r : Reply) (child parent : List ℕ) (below : Option Object) (f : Object → Object)
@@ -74,11 +83,6 @@ module _ (s : ℕ) (c : Command) (r : Reply) (child parent : List ℕ) (below : 
   -- x has the parent edited, and w the child written, whose id was copied
   module _ (x : State) (copy : List ℕ) (copied : copy ≡ child)
       (edits : WritesOne parent (option_map (rewritten f) (write_of u.writes parent)) u x) where
-    pub copy_reserved : is_reserved x s copy ≡ true
-    copy_reserved = ap (is_reserved x s) copied ∙ reserved_by u x s child edits.only.opened ∙ made s child
-        ∙ or_left ((s == s) && same_id child child) (is_reserved v s child)
-        (and_from (s == s) (same_id child child) (eq-eqb s s refl) (same_id_itself child))
-
     module _ (w : State) (sets : WritesOne copy (Some (s, below)) x w) (others_w : OthersWritesStay s x w) where
       writes_w : (q : List ℕ) → write_of w.writes q ≡ (if same_id child q then Some (s, below) else write_of x.writes q)
       writes_w q = sets.writes q ∙ ap (λ k. if same_id k q then Some (s, below) else write_of x.writes q) copied

@@ -16,7 +16,7 @@ use Rattle.city_txn.specs.declared.store.Store.TheInside.{Inside}
 use Rattle.city_txn.specs.inside.Images.{committed_at, write_at, writer_of, unwritten_image}
 use Rattle.city_txn.specs.UndoLog.{log_of, has_before}
 use Rattle.city_txn.specs.Writes.{write_of}
-use Rattle.city_txn.specs.inside.State.{is_begun, is_reserved, MayReserve, SeesSame}
+use Rattle.city_txn.specs.inside.State.{State, is_begun, is_reserved, MayReserve, SeesSame}
 use Rattle.city_txn.specs.inside.InPlace.{state_of, is_writer, IsInPlace}
 use Rattle.city_txn.specs.inside.UndoState.{UndoState, image_at, listed_by, reservations_of}
 use Rattle.city_txn.specs.Placeholder.{placeholder}
@@ -37,15 +37,14 @@ unwritten_committed s None = refl
 unwritten_committed s (Some o) = refl
 
 -- what is left of the store where s has newly reserved the id
-pub record Reserved (a b : Inside) (s : ℕ) (id : List ℕ) : Type 0 where
+pub record Reserved (v : State) (b : Inside) (s : ℕ) (id : List ℕ) : Type 0 where
   pub in_place : IsInPlace b
-  pub same : SeesSame (state_of a) (state_of b)
-  pub more : (t : ℕ) (q : List ℕ)
-      → is_reserved (state_of b) t q ≡ (((s == t) && same_id id q) || is_reserved (state_of a) t q)
+  pub same : SeesSame v (state_of b)
+  pub more : (t : ℕ) (q : List ℕ) → is_reserved (state_of b) t q ≡ (((s == t) && same_id id q) || is_reserved v t q)
 
-module _ (a b : Inside) (k : IsInPlace a) (s : ℕ) (id : List ℕ) (deleted : Bool)
+module _ (a b : Inside) (k : IsInPlace a) {v : State} (seen : state_of a ≡ v) (s : ℕ) (id : List ℕ) (deleted : Bool)
     (is : deleted ≡ not (is_some (here a id)))
-    (is_opened : is_begun (state_of a) s ≡ true) (absent : image_at a.undo id ≡ None) (frame : b.city.0 ≡ a.city.0)
+    (is_opened : is_begun v s ≡ true) (absent : image_at a.undo id ≡ None) (frame : b.city.0 ≡ a.city.0)
     (city : object_at b.city.1 ≡ with_slot (object_at a.city.1) id)
     (images : (q : List ℕ)
     → image_at b.undo q ≡ (if same_id id q then Some (unwritten_image s deleted) else image_at a.undo q))
@@ -78,9 +77,12 @@ module _ (a b : Inside) (k : IsInPlace a) (s : ℕ) (id : List ℕ) (deleted : B
     | inr e ↦ rw (ne_eqb s t e) (ap (λ o. has_id (unwrap_or o []) q) (listed_beside t (ne_eqb s t e)))
   ]
 
+  was_open : is_begun (state_of a) s ≡ true
+  was_open = ap (λ (u : State). is_begun u s) seen ∙ is_opened
+
   still_open : (t : ℕ) → is_begun (state_of b) t ≡ is_begun (state_of a) t
   still_open t = elim (cases_eq s t) [
-    | inl e ↦ subst (λ r. is_begun (state_of b) r ≡ is_begun (state_of a) r) e (ap is_some listed_there ∙ sym is_opened)
+    | inl e ↦ subst (λ r. is_begun (state_of b) r ≡ is_begun (state_of a) r) e (ap is_some listed_there ∙ sym was_open)
     | inr e ↦ ap is_some (listed_beside t (ne_eqb s t e))
   ]
 
@@ -116,12 +118,14 @@ module _ (a b : Inside) (k : IsInPlace a) (s : ℕ) (id : List ℕ) (deleted : B
     logs = logs;
   }
 
-  pub reserved : Reserved a b s id
-  reserved = record { in_place = reserved_in_place; same = reserved_seen; more = more_reserved }
+  pub reserved : Reserved v b s id
+  reserved = subst (λ (u : State). Reserved u b s id) seen
+      (record { in_place = reserved_in_place; same = reserved_seen; more = more_reserved })
 
 -- ---- a stamp opened, which wasn't open
 
-module _ (a : Inside) (k : IsInPlace a) (s : ℕ) (shut : is_begun (state_of a) s ≡ false) (u : UndoState)
+module _ (a : Inside) (k : IsInPlace a) {v : State} (seen : state_of a ≡ v) (s : ℕ) (shut : is_begun v s ≡ false)
+    (u : UndoState)
     (images : u.images ≡ a.undo.images)
     (opened : (t : ℕ) → listed_by u.reservations t
     ≡ (if is_at (nat_cmp s) t then Some [] else listed_by a.undo.reservations t)) where
@@ -129,7 +133,8 @@ module _ (a : Inside) (k : IsInPlace a) (s : ℕ) (shut : is_begun (state_of a) 
       ≡ has_id (reservations_of a.undo.reservations t) q
   reserved_still t q = ap (λ o. has_id (unwrap_or o []) q) (opened t) ∙ bool_cases (s == t)
       (λ e. rw (tied s t ∙ e) (sym (ap (λ o. has_id (unwrap_or o []) q)
-      (absent_from (listed_by a.undo.reservations t) (ap (is_begun (state_of a)) (sym (eqb-true s t e)) ∙ shut)))))
+      (absent_from (listed_by a.undo.reservations t) (ap (is_begun (state_of a)) (sym (eqb-true s t e))
+      ∙ ap (λ (w : State). is_begun w s) seen ∙ shut)))))
       (λ e. rw (tied s t ∙ e) refl)
 
   pub opened_in_place : IsInPlace (record a { undo = u })
@@ -151,11 +156,13 @@ already true true c f = f refl refl
 already true false c f = refl
 already false b c f = refl
 
-pub reserved_already : (a : Inside) (s : ℕ) (id : List ℕ) → IsInPlace a → MayReserve (state_of a) s (same_id id)
-    → is_some (image_at a.undo id) ≡ true →
-    (t : ℕ) (q : List ℕ) → is_reserved (state_of a) t q ≡ (((s == t) && same_id id q) || is_reserved (state_of a) t q)
-reserved_already a s id k may h t q = already (s == t) (same_id id q) (is_reserved (state_of a) t q)
-    (λ e d. ap (λ r. is_reserved (state_of a) r q) (sym (eqb-true s t e))
-    ∙ ap (is_reserved (state_of a) s) (sym (same_id_true id q d))
-    ∙ k.listed s id ∙ only_writer s (image_at a.undo id) h
-    (λ r g. may.alone id (same_id_itself id) r (k.listed r id ∙ g)))
+pub reserved_already : (a : Inside) → IsInPlace a → {v : State} → state_of a ≡ v → (s : ℕ) (id : List ℕ)
+    → MayReserve v s (same_id id) → is_some (image_at a.undo id) ≡ true →
+    (t : ℕ) (q : List ℕ) → is_reserved v t q ≡ (((s == t) && same_id id q) || is_reserved v t q)
+reserved_already a k {v} seen s id may h t q =
+    let listed : (r : ℕ) → is_reserved v r id ≡ is_writer r (writer_of (image_at a.undo id)) =
+    λ r. ap (λ (u : State). is_reserved u r id) (sym seen) ∙ k.listed r id in
+    already (s == t) (same_id id q) (is_reserved v t q)
+    (λ e d. ap (λ r. is_reserved v r q) (sym (eqb-true s t e)) ∙ ap (is_reserved v s) (sym (same_id_true id q d))
+    ∙ listed s
+    ∙ only_writer s (image_at a.undo id) h (λ r g. may.alone id (same_id_itself id) r (listed r ∙ g)))

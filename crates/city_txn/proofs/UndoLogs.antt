@@ -1,8 +1,8 @@
 -- Undo logs: what an entry changes, and what is seen of marks.
-use Rattle.std.proofs.Common.{◌≡◌, ◌==◌, ◌||◌, ℕ, ◌<◌, List, [], ◌∷◌, length, drop, Bool, true, false, Option, refl, ap}
+use Rattle.std.proofs.Common.{◌≡◌, ◌==◌, ◌||◌, ℕ, List, [], ◌∷◌, length, drop, Bool, true, false, Option, refl, ap}
 use Rattle.std.proofs.Common.{sym, ◌∙◌, arith, if◌then◌else◌}
 use Rattle.std.specs.Map.{update}
-use Rattle.std.proofs.lemmas.Bool.{false≢true, eqb-true, or_left, or_right, or_parts}
+use Rattle.std.proofs.lemmas.Bool.{false≢true, eqb-true, or_left, or_parts}
 use Rattle.std.proofs.lemmas.Map.{update_same, update_other}
 use Rattle.city_model.specs.declared.object.Object.{Object}
 use Rattle.city_model.specs.CityMap.{same_id}
@@ -11,7 +11,7 @@ use Rattle.city_model.proofs.Ids.{same_id_itself}
 use Rattle.city_model.proofs.IdLists.{bool_cases}
 use Rattle.city_txn.specs.declared.undo_log.Entry.{Entry}
 use Rattle.city_txn.specs.declared.undo_log.Entry.TheVariants.{Mark, BeforeImage}
-use Rattle.city_txn.specs.UndoLog.{OwnWrites, Written, marked, is_before, has_before, written_at_mark}
+use Rattle.city_txn.specs.UndoLog.{OwnWrites, Written, marked, written_at_mark}
 use Rattle.city_txn.specs.inside.LogTests.{is_noted, has_mark, is_at_mark, newest_undone}
 use Rattle.city_txn.proofs.OneIdChanged.{at_each}
 
@@ -64,14 +64,6 @@ pub undone_has : (es : List Entry) (name : List ℕ) → is_at_mark es name ≡ 
     → has_mark (drop 1 es) name ≡ true
 undone_has [] name h k = absurd (false≢true k)
 undone_has (e ∷ es) name h k = sym (ap (λ b. b || has_mark es name) h) ∙ k
-
-pub undone_noted : (es : List Entry) (q : List ℕ) → has_before (drop 1 es) q ≡ true → has_before es q ≡ true
-undone_noted [] q h = h
-undone_noted (e ∷ es) q h = or_right (is_before q e) (has_before es q) h
-
-pub undone_shorter : (es : List Entry) (name : List ℕ) → has_mark es name ≡ true → length (drop 1 es) < length es
-undone_shorter [] name h = absurd (false≢true h)
-undone_shorter (e ∷ es) name h = omega arith
 
 -- at the mark: what is written now is what was written then, and the newer marks are gone
 pub at_mark : (es : List Entry) (f : OwnWrites) (name : List ℕ) (w : Written) → is_at_mark es name ≡ true

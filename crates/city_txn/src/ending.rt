@@ -1,11 +1,10 @@
 //! The end of a transaction, at the ids that it has reserved.
-ghost use Rattle.std.specs.Prelude.{◌≡◌, ℕ, List, Some, is_some, true};
-ghost use Rattle.city_model.specs.CityMap.{object_at, changed, has_id, same_id};
-ghost use Rattle.city_txn.specs.inside.Ending.{left_at_end, AreEnded};
+ghost use Rattle.std.specs.Prelude.{◌≡◌, ℕ, List, is_some, true};
+ghost use Rattle.city_model.specs.CityMap.{has_id, same_id};
+ghost use Rattle.city_txn.specs.inside.Ending.{AreEnded};
 ghost use Rattle.city_txn.specs.inside.Slots.{HasSlot};
 ghost use Rattle.city_txn.specs.inside.UndoState.{image_at};
 
-use crate::image::UndoImage;
 use crate::slot;
 use crate::undo::Undo;
 use city_model::city::City;
@@ -36,18 +35,9 @@ fn end_one(city: &mut City, undo: &mut Undo, end: End, id: &Id)
     ensures { AreEnded end (same_id id.now) city.old undo.old city.new undo.new }
 {
     if let Some((key, image)) = undo.take(id) {
-        settle(city, end, key, image);
-    }
-}
-
-/// Gives the id of the image the object that it has from now on.
-fn settle(city: &mut City, end: End, id: Id, image: UndoImage)
-    requires { HasSlot city.old id }
-    ensures after { object_at city.new.1 ≡ changed (object_at city.old.1) id (left_at_end end (object_at city.old.1 id) (Some image)) }
-    ensures frame { city.new.0 ≡ city.old.0 }
-{
-    match end {
-        End::Commit => slot::clear(city, &id, image.deleted),
-        End::RollBack => slot::give_back(city, id, image),
+        match end {
+            End::Commit => slot::clear(city, id, image.deleted),
+            End::RollBack => slot::give_back(city, key, image),
+        }
     }
 }

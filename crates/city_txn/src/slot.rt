@@ -81,23 +81,9 @@ pub fn give_back(city: &mut City, id: Id, image: UndoImage)
     } = image;
     if unwritten {
         clear(city, &id, deleted);
+    } else if let Some(object) = before {
+        let _ = swap(city, id, object);
     } else {
-        put(city, id, before);
-    }
-}
-
-/// Sets the object of an id that has a slot, or removes it.
-fn put(city: &mut City, id: Id, object: Option<Object>)
-    requires { HasSlot city.old id }
-    ensures after { object_at city.new.1 ≡ changed (object_at city.old.1) id object }
-    ensures frame { city.new.0 ≡ city.old.0 }
-{
-    match object {
-        Some(o) => {
-            let _ = swap(city, id, o);
-        }
-        None => {
-            let _ = city.remove(&id);
-        }
+        let _ = city.remove(&id);
     }
 }

@@ -29,8 +29,9 @@ impl Store {
             ≡ (if plans writes id then Some (stamp, f id) else write_of self.old.writes id)) }
         ensures err { OnErr result ((id : List ℕ) → write_of self.new.writes id ≡ write_of self.old.writes id) }
     {
-        self.reserve_all(stamp, writes.as_slice())?;
-        self.note_all(stamp, writes.as_slice())?;
+        let list = writes.as_slice();
+        self.reserve_all(stamp, list)?;
+        self.note_all(stamp, list)?;
         self.set_all(stamp, writes.into_vec());
         Ok(())
     }

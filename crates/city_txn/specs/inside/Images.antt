@@ -35,11 +35,6 @@ abbrev pub write_at : Option Object → Option UndoImage → Option (ℕ × Opti
 write_at x None = None
 write_at x (Some i) = if i.unwritten then None else Some (i.by, seen_under x i)
 
--- what stands there for the transaction, where it wrote the id
-abbrev pub written_at : Option Object → Option UndoImage → Option (Option Object)
-written_at x None = None
-written_at x (Some i) = if i.unwritten then None else Some (seen_under x i)
-
 abbrev pub writer_of : Option UndoImage → Option ℕ
 writer_of None = None
 writer_of (Some i) = Some i.by

@@ -15,7 +15,7 @@ use Rattle.city_txn.specs.inside.Performing.{IsPerform}
 use Rattle.city_txn.proofs.RelatedInPlace.{copy_reserved, related_unwritten, related_performed}
 use Rattle.city_txn.proofs.Touched.{may_reserve}
 use Rattle.city_txn.proofs.store.Store.attach_in_place.Goals as goal
-use Rattle.city_txn.proofs.store.Store.attach_in_place.Goals.{In-Ok, In_ok-push_child}
+use Rattle.city_txn.proofs.store.Store.attach_in_place.Goals.{In-Ok}
 
 pub reserve-requires : goal.reserve-requires
 reserve-requires c =
@@ -34,24 +34,10 @@ is c =
     subst (λ (x : Result Object Cause). IfOk x (λ o. AreWritesOf m (Attach child parent) Attached
     (related m child (Some o) parent (with_child child)))) c.in-Ok.is c.in_ok-below.ensures.writes
 
-edited : (c : In_ok-push_child) → WritesOne c.args.parent.now
-    (option_map (rewritten (with_child c.args.child.now)) (write_of c.reserve.new.self.writes c.args.parent.now))
-    c.reserve.new.self c.push_child.new.self
-edited c =
-    let parent = c.args.parent.now in
-    let u = c.reserve.new.self in
-    subst (λ k. WritesOne parent (option_map (rewritten (with_child k)) (write_of u.writes parent)) u
-    c.push_child.new.self)
-    c.in_ok-listed.ensures c.in_ok-push_child.ensures.ok
-
 pub set-requires : goal.set-requires
 set-requires c =
-    let child = c.args.child.now in
-    let at = goal.at.set-requires c in
-    copy_reserved c.args.stamp (Attach child c.args.parent.now) Attached child c.args.parent.now (Some c.in-Ok.below)
-    (with_child child) c.args.self.now c.reserve.new.self refl (is at.In-Ok) c.requires.in_place
-    c.in_ok-reserve.ensures.same c.in_ok-reserve.ensures.ok c.push_child.new.self c.in_ok-key.key c.in_ok-key.ensures
-    (edited at.In_ok-push_child)
+    copy_reserved c.args.self.now c.reserve.new.self c.push_child.new.self c.args.stamp c.args.child.now c.in_ok-key.key
+    c.in_ok-reserve.ensures.ok c.in_ok-key.ensures c.in_ok-push_child.ensures.ok.only.opened
 
 pub returns-in_err-push_child : goal.returns-in_err-push_child
 returns-in_err-push_child c =
@@ -67,8 +53,11 @@ returns-in_err-push_child c =
 pub returns : goal.returns
 returns c =
     let child = c.args.child.now in
-    let at = goal.at.returns c in
-    related_performed c.args.stamp (Attach child c.args.parent.now) Attached child c.args.parent.now
-    (Some c.in-Ok.below) (with_child child) c.args.self.now c.reserve.new.self refl (is at.In-Ok) c.requires.in_place
-    c.in_ok-reserve.ensures.same c.in_ok-reserve.ensures.ok c.push_child.new.self c.in_ok-key.key c.in_ok-key.ensures
-    (edited at.In_ok-push_child) c.set.new.self c.set.ensures.one c.set.ensures.others
+    let parent = c.args.parent.now in
+    let u = c.reserve.new.self in
+    related_performed c.args.stamp (Attach child parent) Attached child parent (Some c.in-Ok.below) (with_child child)
+    c.args.self.now u refl (is (goal.at.returns c).In-Ok) c.requires.in_place c.in_ok-reserve.ensures.same
+    c.in_ok-reserve.ensures.ok c.push_child.new.self c.in_ok-key.key c.in_ok-key.ensures
+    (subst (λ k. WritesOne parent (option_map (rewritten (with_child k)) (write_of u.writes parent)) u
+    c.push_child.new.self) c.in_ok-listed.ensures c.in_ok-push_child.ensures.ok)
+    c.set.new.self c.set.ensures.one c.set.ensures.others

@@ -18,12 +18,8 @@ reserve-requires c =
 
 pub set-requires : goal.set-requires
 set-requires c =
-    let is = only_parent_writes (store_view c.args.self.now c.args.stamp) c.args.id.now c.args.parent.now
-    c.requires.may.sound c.requires.only in
-    copy_reserved c.args.stamp (Delete c.args.id.now) Deleted c.args.id.now c.args.parent.now None
-    (without_child c.args.id.now) c.args.self.now c.reserve.new.self refl is c.requires.in_place
-    c.in_ok-reserve.ensures.same c.in_ok-reserve.ensures.ok c.remove_child.new.self c.in_ok-key.key c.in_ok-key.ensures
-    c.remove_child.ensures
+    copy_reserved c.args.self.now c.reserve.new.self c.remove_child.new.self c.args.stamp c.args.id.now
+    c.in_ok-key.key c.in_ok-reserve.ensures.ok c.in_ok-key.ensures c.remove_child.ensures.only.opened
 
 pub returns : goal.returns
 returns c =

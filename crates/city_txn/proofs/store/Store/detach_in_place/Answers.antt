@@ -13,38 +13,25 @@ use Rattle.city_txn.specs.inside.State.{store_view}
 use Rattle.city_txn.proofs.RelatedInPlace.{copy_reserved, related_performed}
 use Rattle.city_txn.proofs.Touched.{may_reserve}
 use Rattle.city_txn.proofs.store.Store.detach_in_place.Goals as goal
-use Rattle.city_txn.proofs.store.Store.detach_in_place.Goals.{In-Ok}
 
 pub reserve-requires : goal.reserve-requires
 reserve-requires c =
     may_reserve c.args.self.now c.args.stamp (Detach c.args.child.now c.args.parent.now) c.args.child.now c.requires.may
     (or_left (same_id c.args.child.now c.args.child.now) _ (same_id_itself c.args.child.now))
 
-is : (c : In-Ok)
-    → AreWritesOf (store_view c.args.self.now c.args.stamp) (Detach c.args.child.now c.args.parent.now) Detached
-    (related (store_view c.args.self.now c.args.stamp) c.args.child.now (Some c.in-Ok.below) c.args.parent.now
-    (without_child c.args.child.now))
-is c =
-    let m = store_view c.args.self.now c.args.stamp in
-    subst (λ (x : Result Object Cause). IfOk x (λ o. AreWritesOf m (Detach c.args.child.now c.args.parent.now) Detached
-    (related m c.args.child.now (Some o) c.args.parent.now (without_child c.args.child.now)))) c.in-Ok.is
-    c.in_ok-below.ensures.writes
-
 pub set-requires : goal.set-requires
 set-requires c =
-    copy_reserved c.args.stamp (Detach c.args.child.now c.args.parent.now) Detached c.args.child.now c.args.parent.now
-    (Some c.in-Ok.below)
-    (without_child c.args.child.now) c.args.self.now c.reserve.new.self refl (is (goal.at.set-requires c).In-Ok)
-    c.requires.in_place
-    c.in_ok-reserve.ensures.same c.in_ok-reserve.ensures.ok c.remove_child.new.self c.in_ok-key.key c.in_ok-key.ensures
-    c.remove_child.ensures
+    copy_reserved c.args.self.now c.reserve.new.self c.remove_child.new.self c.args.stamp c.args.child.now
+    c.in_ok-key.key c.in_ok-reserve.ensures.ok c.in_ok-key.ensures c.remove_child.ensures.only.opened
 
 pub returns : goal.returns
 returns c =
-    let w = c.set.ensures in
-    related_performed c.args.stamp (Detach c.args.child.now c.args.parent.now) Detached c.args.child.now
-    c.args.parent.now (Some c.in-Ok.below)
-    (without_child c.args.child.now) c.args.self.now c.reserve.new.self refl (is (goal.at.returns c).In-Ok)
-    c.requires.in_place
-    c.in_ok-reserve.ensures.same c.in_ok-reserve.ensures.ok c.remove_child.new.self c.in_ok-key.key c.in_ok-key.ensures
-    c.remove_child.ensures c.set.new.self w.one w.others
+    let m = store_view c.args.self.now c.args.stamp in
+    let child = c.args.child.now in
+    let parent = c.args.parent.now in
+    related_performed c.args.stamp (Detach child parent) Detached child parent (Some c.in-Ok.below)
+    (without_child child) c.args.self.now c.reserve.new.self refl
+    (subst (λ (x : Result Object Cause). IfOk x (λ o. AreWritesOf m (Detach child parent) Detached
+    (related m child (Some o) parent (without_child child)))) c.in-Ok.is c.in_ok-below.ensures.writes)
+    c.requires.in_place c.in_ok-reserve.ensures.same c.in_ok-reserve.ensures.ok c.remove_child.new.self c.in_ok-key.key
+    c.in_ok-key.ensures c.remove_child.ensures c.set.new.self c.set.ensures.one c.set.ensures.others

@@ -1,7 +1,6 @@
-use Rattle.std.proofs.Common.{rules, ◌≡◌, ◌∙◌, sym, ap, subst, None, false, true, is_some, ◌==◌, ◌&&◌, ◌||◌, refl}
+use Rattle.std.proofs.Common.{rules, ◌≡◌, ◌∙◌, sym, ap, subst, None, false, true, is_some, refl}
 use Rattle.std.specs.Prelude.{if◌then◌else◌}
-use Rattle.city_model.specs.CityMap.{object_at, changed, same_id}
-use Rattle.city_txn.specs.inside.State.{State, is_reserved, is_begun, MayReserve, SeesSame}
+use Rattle.city_model.specs.CityMap.{object_at, changed}
 use Rattle.city_txn.specs.inside.InPlace.{state_of, IsInPlace}
 use Rattle.city_txn.specs.inside.UndoState.{image_at}
 use Rattle.city_txn.proofs.Slots.{slot_cleared, absent_from}
@@ -10,15 +9,9 @@ use Rattle.city_txn.proofs.store.Store.reserve.Goals as goal
 use Rattle.city_txn.proofs.store.Store.reserve.Goals.{After-clear, In-Ok}
 
 pub returns-then-is_some-clause-ok : goal.returns-then-is_some-clause-ok
-returns-then-is_some-clause-ok c t q =
-    let a = c.self.inside in
-    let id = c.args.id.now in
-    let may : MayReserve (state_of a) c.args.stamp (same_id id) =
-    subst (λ (v : State). MayReserve v c.args.stamp (same_id id)) (sym c.self.view_is) c.requires in
-    let there : is_some (image_at a.undo id) ≡ true = search rules in
-    ap (λ (v : State). is_reserved v t q) (sym c.self.view_is)
-    ∙ reserved_already a c.args.stamp id c.self.invariant may there t q
-    ∙ ap (λ (v : State). ((c.args.stamp == t) && same_id id q) || is_reserved v t q) c.self.view_is
+returns-then-is_some-clause-ok c =
+    let there : is_some (image_at c.self.inside.undo c.args.id.now) ≡ true = search rules in
+    reserved_already c.self.inside c.self.invariant c.self.view_is c.args.stamp c.args.id.now c.requires there
 
 same : (c : After-clear) → c.clear.new.city ≡ c.self.inside.city
 same c =
@@ -39,27 +32,19 @@ returns-in_default-clause-err c =
     let city = same (goal.at.returns-in_default-clause-err c).After-clear in
     (λ i. state_of (record c.self.inside { city = city i; undo = c.in_default.ensures.err i })) ∙ c.self.view_is
 
-done : (c : In-Ok) → Reserved c.self.inside
+done : (c : In-Ok) → Reserved c.args.self.now
     (record c.self.inside { city = c.make.new.city; undo = c.reserve.new.self }) c.args.stamp c.args.id.now
 done c =
     let a = c.self.inside in
+    let made = c.in_ok-deleted in
     let absent : is_some (image_at a.undo c.args.id.now) ≡ false = search rules in
-    reserved a (record a { city = c.make.new.city; undo = c.reserve.new.self }) c.self.invariant c.args.stamp
-    c.args.id.now c.in_ok-deleted.deleted c.in_ok-deleted.ensures.made
-    (ap (λ (v : State). is_begun v c.args.stamp) c.self.view_is ∙ c.requires.opened)
-    (absent_from (image_at a.undo c.args.id.now) absent) c.make.ensures.frame c.in_ok-deleted.ensures.after
-    c.in-Ok.ensures.images c.in-Ok.ensures.reservations refl
+    reserved a (record a { city = c.make.new.city; undo = c.reserve.new.self }) c.self.invariant c.self.view_is
+    c.args.stamp c.args.id.now made.deleted made.ensures.made c.requires.opened
+    (absent_from (image_at a.undo c.args.id.now) absent) c.make.ensures.frame made.ensures.after c.in-Ok.ensures.images
+    c.in-Ok.ensures.reservations refl
 
 pub invariant_of-self-in-Ok : goal.invariant_of-self-in-Ok
 invariant_of-self-in-Ok c = (done (goal.at.invariant_of-self-in-Ok c).In-Ok).in_place
 
 pub returns : goal.returns
-returns c =
-    let at = done (goal.at.returns c).In-Ok in
-    let b = record c.self.inside { city = c.make.new.city; undo = c.reserve.new.self } in
-    record {
-      same = subst (λ (v : State). SeesSame v (state_of b)) c.self.view_is at.same;
-      ok = λ t q. at.more t q
-          ∙ ap (λ (v : State). ((c.args.stamp == t) && same_id c.args.id.now q) || is_reserved v t q) c.self.view_is;
-      err = tt;
-    }
+returns c = let at = done (goal.at.returns c).In-Ok in record { same = at.same; ok = at.more; err = tt }

@@ -14,9 +14,9 @@ use Rattle.city_txn.proofs.store.Store.write_all.Goals.{After-reserve_all, After
 
 pub returns-in_err-reserve_all-clause-touches : goal.returns-in_err-reserve_all-clause-touches
 returns-in_err-reserve_all-clause-touches c =
-    let listed : c.as_slice.result.now ≡ c.args.writes = search rules in
+    let listed : c.as_slice-list.result.now ≡ c.args.writes = search rules in
     subst (λ (ws : Change). Touches c.args.stamp (plans ws) c.args.self.now c.reserve_all.new.self) listed
-    (touches_seen c.args.stamp (plans c.as_slice.result.now) c.args.self.now c.reserve_all.new.self
+    (touches_seen c.args.stamp (plans c.as_slice-list.result.now) c.args.self.now c.reserve_all.new.self
     c.reserve_all.ensures.same c.reserve_all.ensures.reserved)
 
 pub returns-in_err-reserve_all-clause-marks : goal.returns-in_err-reserve_all-clause-marks
@@ -30,12 +30,11 @@ touched c =
     let s = c.args.stamp in
     let v = c.args.self.now in
     let u = c.reserve_all.new.self in
-    let listed : c.as_slice.result.now ≡ c.args.writes = search rules in
-    let listed_again : c.as_slice-2.result.now ≡ c.args.writes = search rules in
+    let listed : c.as_slice-list.result.now ≡ c.args.writes = search rules in
     touches_on s (plans c.args.writes) v u c.note_all.new.self
     (subst (λ (ws : Change). Touches s (plans ws) v u) listed
-    (touches_seen s (plans c.as_slice.result.now) v u c.reserve_all.ensures.same c.reserve_all.ensures.reserved))
-    (subst (λ (ws : Change). Touches s (plans ws) u c.note_all.new.self) listed_again c.note_all.ensures.touches)
+    (touches_seen s (plans c.as_slice-list.result.now) v u c.reserve_all.ensures.same c.reserve_all.ensures.reserved))
+    (subst (λ (ws : Change). Touches s (plans ws) u c.note_all.new.self) listed c.note_all.ensures.touches)
 
 marks : (c : After-note_all)
     → (store_written c.note_all.new.self c.args.stamp).1 ≡ (store_written c.args.self.now c.args.stamp).1
@@ -61,7 +60,7 @@ returns-clause-marks c =
     let s = c.args.stamp in
     let n = c.note_all.new.self in
     let w = c.set_all.new.self in
-    let listed : c.as_slice-2.result.now ≡ c.into_vec.result.items = search rules in
+    let listed : c.as_slice-list.result.now ≡ c.into_vec.result.items = search rules in
     let apart : (q : List ℕ) → is_noted (log_of n.logs s) q ≡ false → plans c.into_vec.result.items q ≡ false =
     λ q e. false_from_ne_true (plans c.into_vec.result.items q)
     (λ h. not_both (is_noted (log_of n.logs s) q)
