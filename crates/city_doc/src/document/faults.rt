@@ -106,7 +106,7 @@ fn first_with<'m, J: ObjectTest>(judge: &J, objects: &'m Map<String, Value>) -> 
 fn unsupported_at<'v>(objects: &'v Map<String, Value>, id: &str) -> Option<&'v str>
     ensures { option_map (λ s. s.now) result ≡ unsupported_at (members_view objects.now.entries) id.now }
 {
-    member(objects, id).and_then(unsupported_name)
+    unsupported_name(member(objects, id)?)
 }
 
 /// The first fault among the objects that their trees alone show, where their positions name these

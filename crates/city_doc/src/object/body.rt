@@ -22,10 +22,7 @@ fn kept(mut members: Map<String, Value>) -> Option<Extra<AtObject>>
 {
     drop(take(&mut members, "parents"));
     drop(take(&mut members, "children"));
-    match Extra::new(members) {
-        Ok(extra) => Some(extra),
-        Err(_) => None,
-    }
+    Extra::new(members).ok()
 }
 
 /// The body that the tree of an object stands for where its positions name these points; None where

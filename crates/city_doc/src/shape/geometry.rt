@@ -30,14 +30,25 @@ fn shape_of(
     ensures { IfOk result (λ o. o ≡ shape_of points.now kind.now (view boundaries.now)) }
 {
     match kind {
-        "MultiSurface" => Ok(Nested::read(alloc, points, boundaries)?.map(Shape::MultiSurface)),
-        "CompositeSurface" => {
-            Ok(Nested::read(alloc, points, boundaries)?.map(Shape::CompositeSurface))
+        "MultiSurface" => match Nested::read(alloc, points, boundaries)? {
+            Some(surfaces) => Ok(Some(Shape::MultiSurface(surfaces))),
+            None => Ok(None),
         },
-        "Solid" => Ok(Nested::read(alloc, points, boundaries)?.map(Shape::Solid)),
-        "MultiSolid" => Ok(Nested::read(alloc, points, boundaries)?.map(Shape::MultiSolid)),
-        "CompositeSolid" => {
-            Ok(Nested::read(alloc, points, boundaries)?.map(Shape::CompositeSolid))
+        "CompositeSurface" => match Nested::read(alloc, points, boundaries)? {
+            Some(surfaces) => Ok(Some(Shape::CompositeSurface(surfaces))),
+            None => Ok(None),
+        },
+        "Solid" => match Nested::read(alloc, points, boundaries)? {
+            Some(shells) => Ok(Some(Shape::Solid(shells))),
+            None => Ok(None),
+        },
+        "MultiSolid" => match Nested::read(alloc, points, boundaries)? {
+            Some(solids) => Ok(Some(Shape::MultiSolid(solids))),
+            None => Ok(None),
+        },
+        "CompositeSolid" => match Nested::read(alloc, points, boundaries)? {
+            Some(solids) => Ok(Some(Shape::CompositeSolid(solids))),
+            None => Ok(None),
         },
         _ => Ok(None),
     }
@@ -62,10 +73,7 @@ fn kept(mut members: Map<String, Value>) -> Option<Extra<AtGeometry>>
         (without (codes "boundaries") (members_view members.entries)) }
 {
     drop(take(&mut members, "boundaries"));
-    match Extra::new(members) {
-        Ok(extra) => Some(extra),
-        Err(_) => None,
-    }
+    Extra::new(members).ok()
 }
 
 /// Removes the type and the level of detail, and returns the latter if it is a text.

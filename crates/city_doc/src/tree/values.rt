@@ -13,7 +13,7 @@ use std::alloc::{AllocError, Global};
 pub fn text_at<'v>(object: &'v Value, name: &str) -> Option<&'v str>
     ensures { option_map (λ s. s.now) result ≡ text_at name.now (view object.now) }
 {
-    object.get(name).and_then(Value::as_str)
+    object.get(name)?.as_str()
 }
 
 /// The text that a value is, which is consumed.
