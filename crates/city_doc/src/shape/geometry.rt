@@ -11,6 +11,7 @@ ghost use Rattle.city_tokens.specs.tree.Members.{kept_if};
 
 use crate::shape::nested::Nested;
 use crate::tree::values::{into_array, into_text, text_at};
+use city_model::OutOfMemory;
 use city_model::kept::extra::Extra;
 use city_model::kept::site::AtGeometry;
 use city_model::members::{into_object, take};
@@ -18,7 +19,7 @@ use city_model::object::{Geometry, Point, Shape};
 use city_model::sequence::Sequence;
 use city_model::text::Text;
 use serde_json::{Map, Value};
-use std::alloc::{AllocError, Global};
+use std::alloc::Global;
 
 /// The shape of boundaries, where they have the form of the type's.
 fn shape_of(
@@ -26,7 +27,7 @@ fn shape_of(
     points: &[Point],
     kind: &str,
     boundaries: &Value,
-) -> Result<Option<Shape>, AllocError>
+) -> Result<Option<Shape>, OutOfMemory>
     ensures { IfOk result (λ o. o ≡ shape_of points.now kind.now (view boundaries.now)) }
 {
     match kind {
@@ -55,7 +56,7 @@ fn shape_of(
 }
 
 /// The shape of a geometry.
-fn shape_in(alloc: Global, points: &[Point], geometry: &Value) -> Result<Option<Shape>, AllocError>
+fn shape_in(alloc: Global, points: &[Point], geometry: &Value) -> Result<Option<Shape>, OutOfMemory>
     ensures { IfOk result (λ o. o ≡ shape_in points.now (view geometry.now)) }
 {
     let Some(kind) = text_at(geometry, "type") else {
@@ -101,7 +102,7 @@ fn geometry_of(
     alloc: Global,
     points: &[Point],
     geometry: Value,
-) -> Result<Option<Geometry>, AllocError>
+) -> Result<Option<Geometry>, OutOfMemory>
     ensures { IfOk result (λ o. o ≡ geometry_of points.now (view geometry)) }
 {
     let Some(shape) = shape_in(alloc, points, &geometry)? else {
@@ -118,7 +119,7 @@ fn read_geometries(
     alloc: Global,
     points: &[Point],
     items: Vec<Value>,
-) -> Result<Option<Sequence<Geometry>>, AllocError>
+) -> Result<Option<Sequence<Geometry>>, OutOfMemory>
     ensures { IfOk result (λ o. o ≡ read_items (geometry_of points.now) (items_view items.items)) }
 {
     let mut found = Sequence::with_capacity(alloc, items.len())?;
@@ -136,7 +137,7 @@ pub fn geometries_of(
     alloc: Global,
     points: &[Point],
     member: Option<Value>,
-) -> Result<Option<Sequence<Geometry>>, AllocError>
+) -> Result<Option<Sequence<Geometry>>, OutOfMemory>
     ensures { IfOk result (λ o. o ≡ list_or_absent (geometry_of points.now) (option_map view member)) }
 {
     let Some(value) = member else {
