@@ -1,9 +1,9 @@
 //! Why a text is refused, and how that is told: by number, name and what the fault names, texts as JSON texts.
 mod quoted;
 
+use city_model::OutOfMemory;
 use city_model::text::{Id, Text};
 use quoted::Quoted;
-use std::alloc::AllocError;
 use std::error::Error;
 use std::fmt::{self, Display, Formatter, Write};
 
@@ -112,24 +112,24 @@ impl Display for ScriptFault {
 
 impl Error for ScriptFault {}
 
-impl From<AllocError> for ReadFault {
+impl From<OutOfMemory> for ReadFault {
     ghost use Rattle.std.specs.Prelude.{◌≡◌};
     ghost use Rattle.city_doc.specs.declared.fault.ReadFault.{ReadFault};
 
     ghost from_gives = { λ _ f. f ≡ ReadFault.OutOfMemory };
 
-    fn from(_: AllocError) -> ReadFault {
+    fn from(_: OutOfMemory) -> ReadFault {
         ReadFault::OutOfMemory
     }
 }
 
-impl From<AllocError> for ScriptFault {
+impl From<OutOfMemory> for ScriptFault {
     ghost use Rattle.std.specs.Prelude.{◌≡◌};
     ghost use Rattle.city_doc.specs.declared.fault.ScriptFault.{ScriptFault};
 
     ghost from_gives = { λ _ f. f ≡ ScriptFault.OutOfMemory };
 
-    fn from(_: AllocError) -> ScriptFault {
+    fn from(_: OutOfMemory) -> ScriptFault {
         ScriptFault::OutOfMemory
     }
 }

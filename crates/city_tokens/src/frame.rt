@@ -18,7 +18,7 @@ use serde_json::{Map, Value};
 pub fn triple_at(object: &Value, name: &str) -> Option<[i64; 3]>
     ensures { result ≡ triple_at name.now (view object.now) }
 {
-    object.get(name).and_then(triple_of)
+    triple_of(object.get(name)?)
 }
 
 /// The members that are kept at a transform.
@@ -28,10 +28,7 @@ fn kept_at_transform(mut transform: Map<String, Value>) -> Option<Extra<AtTransf
 {
     drop(take(&mut transform, "scale"));
     drop(take(&mut transform, "translate"));
-    match Extra::new(transform) {
-        Ok(more) => Some(more),
-        Err(_) => None,
-    }
+    Extra::new(transform).ok()
 }
 
 fn more_of(transform: Value) -> Option<Extra<AtTransform>>
@@ -48,10 +45,7 @@ fn extra_of(mut top: Map<String, Value>) -> Option<Extra<AtTop>>
     drop(take(&mut top, "type"));
     drop(take(&mut top, "version"));
     drop(take(&mut top, "vertices"));
-    match Extra::new(top) {
-        Ok(extra) => Some(extra),
-        Err(_) => None,
-    }
+    Extra::new(top).ok()
 }
 
 /// The frame of a transform and of the kept members of the top, which are consumed.

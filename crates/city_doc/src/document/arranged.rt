@@ -8,6 +8,7 @@ ghost use Rattle.city_model.specs.Relations.{IsRelated};
 ghost use Rattle.city_doc.specs.inside.document.Arranged.{IsArranged, AreArranged};
 ghost use Rattle.city_model.specs.Least.{IsLeast};
 
+use city_model::OutOfMemory;
 use city_model::city::City;
 use city_model::copied::Copied;
 use city_model::id_list::is_same_id;
@@ -18,7 +19,7 @@ use city_model::relations::relations_fault;
 use city_model::sequence::Sequence;
 use city_model::text::Id;
 use serde_json::Map;
-use std::alloc::{AllocError, Global};
+use std::alloc::Global;
 use std::collections::BTreeMap;
 
 /// A list of so many ids, or fewer, is searched in any order.
@@ -54,7 +55,7 @@ fn repeated_at(ids: &[Id]) -> Option<usize>
 
 /// A copy of the ids in byte order, except that a repeated one stands first, where
 /// it is soon found.
-fn arranged_ids(alloc: Global, ids: &Sequence<Id>) -> Result<Sequence<Id>, AllocError>
+fn arranged_ids(alloc: Global, ids: &Sequence<Id>) -> Result<Sequence<Id>, OutOfMemory>
     ensures { IfOk result (λ s. IsPermutation ids.now s) }
 {
     let mut copies = ids.copy(alloc)?.into_vec();
@@ -81,7 +82,7 @@ fn bare_body(alloc: Global, kind: ObjectType) -> Body
 }
 
 /// An object of the same type, with its lists arranged; its body is bare.
-fn arranged_object(alloc: Global, object: &Object) -> Result<Object, AllocError>
+fn arranged_object(alloc: Global, object: &Object) -> Result<Object, OutOfMemory>
     ensures { IfOk result (λ o. IsArranged object.now o) }
 {
     let parents = arranged_ids(alloc, &object.parents)?;
@@ -94,7 +95,7 @@ fn arranged_object(alloc: Global, object: &Object) -> Result<Object, AllocError>
 }
 
 /// A city of the same relations, each list arranged; the bodies are bare.
-fn arranged_city(alloc: Global, city: &City) -> Result<City, AllocError>
+fn arranged_city(alloc: Global, city: &City) -> Result<City, OutOfMemory>
     ensures { IfOk result (λ c. AreArranged (entries city.now.1) (entries c.1)) }
 {
     let mut objects = BTreeMap::new(alloc);
@@ -108,7 +109,7 @@ fn arranged_city(alloc: Global, city: &City) -> Result<City, AllocError>
 }
 
 /// The least id of an object that isn't in order or is an orphan.
-fn searched(alloc: Global, city: &City) -> Result<Option<Id>, AllocError>
+fn searched(alloc: Global, city: &City) -> Result<Option<Id>, OutOfMemory>
     ensures least { IfOk result (λ o. IfSome o (λ id. IsLeast (IsMisrelatedAt (object_at city.now.1)) id)) }
     ensures none { IfOk result (λ o. IfNone o (IsRelated (object_at city.now.1))) }
 {
@@ -122,7 +123,7 @@ fn searched(alloc: Global, city: &City) -> Result<Option<Id>, AllocError>
 ///
 /// Where a long list isn't in byte order, a copy of the relations is searched in which each list is
 /// arranged for it: else a list of n ids would take n² / 2 comparisons.
-pub fn least_misrelated(alloc: Global, city: &City) -> Result<Option<Id>, AllocError>
+pub fn least_misrelated(alloc: Global, city: &City) -> Result<Option<Id>, OutOfMemory>
     ensures least { IfOk result (λ o. IfSome o (λ id. IsLeast (IsMisrelatedAt (object_at city.now.1)) id)) }
     ensures none { IfOk result (λ o. IfNone o (IsRelated (object_at city.now.1))) }
 {

@@ -8,13 +8,14 @@ ghost use Rattle.city_doc.specs.inside.document.LenientCities.{listed, lenient_e
 
 use crate::object::body::body_of;
 use crate::object::ids::ids_or_none;
+use city_model::OutOfMemory;
 use city_model::city::City;
 use city_model::members::{into_object, take};
 use city_model::object::{Object, Point};
 use city_model::text::Id;
 use city_tokens::frame_of_rest;
 use serde_json::{Map, Value};
-use std::alloc::{AllocError, Global};
+use std::alloc::Global;
 use std::collections::BTreeMap;
 
 /// The object of a tree, which is consumed; a list that isn't an array of texts counts as empty.
@@ -22,7 +23,7 @@ fn lenient_object_of(
     alloc: Global,
     points: &[Point],
     object: Value,
-) -> Result<Option<Object>, AllocError>
+) -> Result<Option<Object>, OutOfMemory>
     ensures { IfOk result (λ o. o ≡ lenient_object_of points.now (view object)) }
 {
     let Some(mut members) = into_object(object) else {
@@ -45,7 +46,7 @@ fn lenient_objects_of(
     alloc: Global,
     points: &[Point],
     members: Map<String, Value>,
-) -> Result<Option<BTreeMap<Id, Object>>, AllocError>
+) -> Result<Option<BTreeMap<Id, Object>>, OutOfMemory>
     ensures { IfOk result (λ o. option_map (λ m. m.entries) o
         ≡ lenient_entries_of points.now (members_view members.entries)) }
 {
@@ -74,7 +75,7 @@ pub fn lenient_city_of(
     alloc: Global,
     points: &[Point],
     tree: Value,
-) -> Result<Option<City>, AllocError>
+) -> Result<Option<City>, OutOfMemory>
     ensures { IfOk result (λ o. option_map listed o ≡ lenient_city_of points.now (view tree)) }
 {
     let Some(mut top) = into_object(tree) else {

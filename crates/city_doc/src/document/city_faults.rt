@@ -15,19 +15,20 @@ ghost use Rattle.city_doc.specs.inside.document.LenientCities.{first_body, lesse
 use crate::document::arranged::least_misrelated;
 use crate::fault::ReadFault;
 use crate::tree::values::named;
+use city_model::OutOfMemory;
 use city_model::body_fault::{any_open_shell, any_same_twice, any_short_ring};
 use city_model::city::City;
 use city_model::copied::Copied;
 use city_model::object::Body;
 use city_model::text::Id;
-use std::alloc::{AllocError, Global};
+use std::alloc::Global;
 
 /// What may be wrong with a body.
 trait BodyTest {
     ghost test: { b.Body → Bool };
 
     /// Whether the body has the fault.
-    fn judge(alloc: Global, body: &Body) -> Result<bool, AllocError>
+    fn judge(alloc: Global, body: &Body) -> Result<bool, OutOfMemory>
         ensures { IfOk result (λ wrong. wrong ≡ test body.now) };
 }
 
@@ -38,7 +39,7 @@ struct OpenShell;
 impl BodyTest for BadRing {
     ghost test = { is_bad_ringed };
 
-    fn judge(_alloc: Global, body: &Body) -> Result<bool, AllocError> {
+    fn judge(_alloc: Global, body: &Body) -> Result<bool, OutOfMemory> {
         Ok(is_bad_ringed(body))
     }
 }
@@ -46,7 +47,7 @@ impl BodyTest for BadRing {
 impl BodyTest for OpenShell {
     ghost test = { some_shape has_open_shell };
 
-    fn judge(alloc: Global, body: &Body) -> Result<bool, AllocError> {
+    fn judge(alloc: Global, body: &Body) -> Result<bool, OutOfMemory> {
         any_open_shell(alloc, body.geometry.as_slice())
     }
 }
@@ -60,7 +61,7 @@ fn is_bad_ringed(body: &Body) -> bool
 }
 
 /// The first id, in byte order, of an object whose body has the fault.
-fn first_body<J: BodyTest>(alloc: Global, city: &City) -> Result<Option<&Id>, AllocError>
+fn first_body<J: BodyTest>(alloc: Global, city: &City) -> Result<Option<&Id>, OutOfMemory>
     ensures { IfOk result (λ o. option_map (λ id. id.now) o ≡ first_body J.test (entries city.now.1)) }
 {
     for (id, object) in city.iter() {
@@ -86,7 +87,7 @@ fn lesser<'i>(one: Option<&'i Id>, other: Option<&'i Id>) -> Option<&'i Id>
 }
 
 /// A copy of an id, where there is one.
-fn copied(alloc: Global, id: Option<&Id>) -> Result<Option<Id>, AllocError>
+fn copied(alloc: Global, id: Option<&Id>) -> Result<Option<Id>, OutOfMemory>
     ensures { IfOk result (λ o. o ≡ option_map (λ id. id.now) id.entry) }
 {
     match id {
@@ -101,7 +102,7 @@ fn least_badly_related(
     alloc: Global,
     bad_list: Option<&Id>,
     city: &City,
-) -> Result<Option<Id>, AllocError>
+) -> Result<Option<Id>, OutOfMemory>
     ensures related { IfOk result (λ o. IfNone o (IsRelated (object_at city.now.1))) }
     ensures lists { IfOk result (λ o. IfNone o (option_map (λ id. id.now) bad_list.entry ≡ None)) }
     ensures least { IfOk result (λ o. (points : List p.Point) (objects : Members)
@@ -120,7 +121,7 @@ pub fn city_fault(
     alloc: Global,
     bad_list: Option<&Id>,
     city: &City,
-) -> Result<Option<ReadFault>, AllocError>
+) -> Result<Option<ReadFault>, OutOfMemory>
     ensures { IfOk result (λ o. (points : List p.Point) (objects : Members)
         → IsReadOf points objects (entries city.now.1) (option_map (λ id. id.now) bad_list.entry)
         → MatchOption o (IsLawful (object_at city.now.1) × (option_map (λ id. id.now) bad_list.entry ≡ None))

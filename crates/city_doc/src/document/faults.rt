@@ -20,11 +20,12 @@ use crate::object::ids::has_bad_list;
 use crate::shape::vertices::vertices_in;
 use crate::tree::parse::parse;
 use crate::tree::values::named;
+use city_model::OutOfMemory;
 use city_model::members::member;
 use city_model::object::Point;
 use city_model::text::Id;
 use serde_json::{Map, Value};
-use std::alloc::{AllocError, Global};
+use std::alloc::Global;
 
 /// What may be wrong with an object.
 trait ObjectTest {
@@ -106,7 +107,7 @@ fn first_with<'m, J: ObjectTest>(judge: &J, objects: &'m Map<String, Value>) -> 
 fn unsupported_at<'v>(objects: &'v Map<String, Value>, id: &str) -> Option<&'v str>
     ensures { option_map (λ s. s.now) result ≡ unsupported_at (members_view objects.now.entries) id.now }
 {
-    member(objects, id).and_then(unsupported_name)
+    unsupported_name(member(objects, id)?)
 }
 
 /// The first fault among the objects that their trees alone show, where their positions name these
@@ -115,7 +116,7 @@ fn object_fault(
     alloc: Global,
     points: &[Point],
     objects: &Map<String, Value>,
-) -> Result<Option<ReadFault>, AllocError>
+) -> Result<Option<ReadFault>, OutOfMemory>
     ensures { IfOk result (λ o. MatchOption o
         (AreReadable (length points.now) (members_view objects.now.entries))
         (λ f. IsFirst (StandsAmong points.now (members_view objects.now.entries)) f)) }
@@ -157,7 +158,7 @@ fn first_fault(
     alloc: Global,
     points: &[Point],
     tree: &Value,
-) -> Result<Option<ReadFault>, AllocError>
+) -> Result<Option<ReadFault>, OutOfMemory>
     ensures { is_integral (view tree.now) ≡ true → wrong_member (view tree.now) ≡ None
         → points.now ≡ vertices_in (view tree.now)
         → IfOk result (λ o. MatchOption o (HasForm (view tree.now))
@@ -171,7 +172,7 @@ fn first_fault(
 }
 
 /// The first id, in byte order, of an object of a tree with a list that isn't an array of texts.
-pub fn first_bad_list(alloc: Global, tree: &Value) -> Result<Option<Id>, AllocError>
+pub fn first_bad_list(alloc: Global, tree: &Value) -> Result<Option<Id>, OutOfMemory>
     ensures list { IfOk result (λ o. o ≡ first_with has_bad_list (objects_in (view tree.now))) }
     ensures ordered { OnOk result (AreOrdered (objects_in (view tree.now))) }
 {
@@ -186,7 +187,7 @@ pub fn first_bad_list(alloc: Global, tree: &Value) -> Result<Option<Id>, AllocEr
 }
 
 /// The first fault of a tree of whole numbers whose top is right and of which no city can be built.
-fn tree_fault(alloc: Global, tree: &Value) -> Result<ReadFault, AllocError>
+fn tree_fault(alloc: Global, tree: &Value) -> Result<ReadFault, OutOfMemory>
     requires whole { is_integral (view tree.now) ≡ true }
     requires right { wrong_member (view tree.now) ≡ None }
     requires unbuilt { lenient_city_of (vertices_in (view tree.now)) (view tree.now) ≡ None }

@@ -14,12 +14,13 @@ use crate::pool::VertexPool;
 use crate::shape::vertices::write_vertices;
 use crate::tree::kept_members::{write_last, write_name};
 use crate::tree::triples::write_triple;
+use city_model::OutOfMemory;
 use city_model::city::City;
 use city_model::frame::Frame;
 use json::Writer;
-use std::alloc::{AllocError, Global};
+use std::alloc::Global;
 
-fn write_transform(frame: &Frame, out: &mut Writer) -> Result<(), AllocError>
+fn write_transform(frame: &Frame, out: &mut Writer) -> Result<(), OutOfMemory>
     ensures before { OnOk result (out.new.before ≡ out.old.before) }
     ensures tokens { OnOk result (out.new.tokens
         ≡ out.old.tokens ++ tokens_of (transform_data frame.now)) }
@@ -38,7 +39,7 @@ fn write_transform(frame: &Frame, out: &mut Writer) -> Result<(), AllocError>
 }
 
 /// Writes a city, whose points it adds to a pool without points.
-fn write_numbered(city: &City, pool: &mut VertexPool, out: &mut Writer) -> Result<(), AllocError>
+fn write_numbered(city: &City, pool: &mut VertexPool, out: &mut Writer) -> Result<(), OutOfMemory>
     requires { pool.old ≡ [] }
     ensures before { OnOk result (out.new.before ≡ out.old.before) }
     ensures tokens { OnOk result (out.new.tokens ≡ out.old.tokens ++ tokens_of (tree_of city.now)) }
@@ -63,7 +64,7 @@ fn write_numbered(city: &City, pool: &mut VertexPool, out: &mut Writer) -> Resul
 }
 
 /// Writes a city.
-pub fn write_members(alloc: Global, city: &City, out: &mut Writer) -> Result<(), AllocError>
+pub fn write_members(alloc: Global, city: &City, out: &mut Writer) -> Result<(), OutOfMemory>
     ensures before { OnOk result (out.new.before ≡ out.old.before) }
     ensures tokens { OnOk result (out.new.tokens ≡ out.old.tokens ++ tokens_of (tree_of city.now)) }
     ensures reads { OnOk result (ReadsBack (tree_of city.now)) }

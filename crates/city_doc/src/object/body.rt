@@ -8,12 +8,13 @@ ghost use Rattle.city_tokens.specs.tree.Members.{kept_if};
 
 use crate::object::faults::type_of;
 use crate::shape::geometry::geometries_of;
+use city_model::OutOfMemory;
 use city_model::kept::extra::Extra;
 use city_model::kept::site::AtObject;
 use city_model::members::{into_object, take};
 use city_model::object::{Body, Point};
 use serde_json::{Map, Value};
-use std::alloc::{AllocError, Global};
+use std::alloc::Global;
 
 /// The members that are kept at an object, of those but `type` and `geometry`.
 fn kept(mut members: Map<String, Value>) -> Option<Extra<AtObject>>
@@ -22,15 +23,12 @@ fn kept(mut members: Map<String, Value>) -> Option<Extra<AtObject>>
 {
     drop(take(&mut members, "parents"));
     drop(take(&mut members, "children"));
-    match Extra::new(members) {
-        Ok(extra) => Some(extra),
-        Err(_) => None,
-    }
+    Extra::new(members).ok()
 }
 
 /// The body that the tree of an object stands for where its positions name these points; None where
 /// it stands for none. The tree is consumed. It fails only when out of memory.
-pub fn body_of(alloc: Global, points: &[Point], object: Value) -> Result<Option<Body>, AllocError>
+pub fn body_of(alloc: Global, points: &[Point], object: Value) -> Result<Option<Body>, OutOfMemory>
     ensures { IfOk result (λ o. o ≡ body_of points.now (view object)) }
 {
     let Some(kind) = type_of(&object) else {

@@ -12,14 +12,14 @@ use crate::shape::form::are_geometries;
 use crate::shape::nested::{AnyNumber, PositionBelow};
 use crate::tree::values::text_at;
 use city_model::kept::site::has_location;
-use city_model::object_type::{self, ObjectType};
+use city_model::object_type::{ObjectType, type_named};
 use serde_json::Value;
 
 /// The type of an object, where it is a known one.
 pub fn type_of(object: &Value) -> Option<ObjectType>
     ensures { result ≡ type_of (view object.now) }
 {
-    text_at(object, "type").and_then(object_type::type_named)
+    type_named(text_at(object, "type")?)
 }
 
 /// Whether a geometry of this type isn't supported.
@@ -56,7 +56,7 @@ fn geometries_in(object: &Value) -> Option<&Vec<Value>>
     ensures { option_map (λ v. items_view v.now.items) result
         ≡ option_and_then as_array (get (codes "geometry") (view object.now)) }
 {
-    object.get("geometry").and_then(Value::as_array)
+    object.get("geometry")?.as_array()
 }
 
 /// The first thing in an object that isn't supported: a `location` in its address, or the type of

@@ -7,10 +7,11 @@ ghost use Rattle.city_doc.specs.document.CityFaults.{or_empty};
 ghost use Rattle.city_doc.specs.object.Faults.{has_bad_list};
 
 use crate::tree::values::{into_array, into_text};
+use city_model::OutOfMemory;
 use city_model::sequence::Sequence;
 use city_model::text::Id;
 use serde_json::Value;
-use std::alloc::{AllocError, Global};
+use std::alloc::Global;
 
 /// Whether an item isn't a text.
 fn has_other_item(items: &Vec<Value>) -> bool
@@ -51,7 +52,7 @@ pub fn has_bad_list(object: &Value) -> bool
     is_bad_list(object.get("parents")) || is_bad_list(object.get("children"))
 }
 
-fn read_ids(alloc: Global, items: Vec<Value>) -> Result<Option<Sequence<Id>>, AllocError>
+fn read_ids(alloc: Global, items: Vec<Value>) -> Result<Option<Sequence<Id>>, OutOfMemory>
     ensures { IfOk result (λ o. o ≡ read_items as_str (items_view items.items)) }
 {
     let mut ids = Sequence::with_capacity(alloc, items.len())?;
@@ -65,7 +66,7 @@ fn read_ids(alloc: Global, items: Vec<Value>) -> Result<Option<Sequence<Id>>, Al
 }
 
 /// The ids of a member, which is consumed.
-fn ids_of(alloc: Global, member: Option<Value>) -> Result<Option<Sequence<Id>>, AllocError>
+fn ids_of(alloc: Global, member: Option<Value>) -> Result<Option<Sequence<Id>>, OutOfMemory>
     ensures { IfOk result (λ o. o ≡ list_or_absent as_str (option_map view member)) }
 {
     let Some(value) = member else {
@@ -78,7 +79,7 @@ fn ids_of(alloc: Global, member: Option<Value>) -> Result<Option<Sequence<Id>>, 
 }
 
 /// The ids of a member, which is consumed; none where it is absent or isn't an array of texts.
-pub fn ids_or_none(alloc: Global, member: Option<Value>) -> Result<Sequence<Id>, AllocError>
+pub fn ids_or_none(alloc: Global, member: Option<Value>) -> Result<Sequence<Id>, OutOfMemory>
     ensures { IfOk result (λ ids. ids ≡ or_empty (list_or_absent as_str (option_map view member))) }
 {
     match ids_of(alloc, member)? {

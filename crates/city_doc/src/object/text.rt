@@ -18,13 +18,13 @@ ghost use Rattle.city_doc.specs.inside.tree.ReadsBack.{ReadsBackNumbered, Member
 use crate::pool::VertexPool;
 use crate::shape::text::Written;
 use crate::tree::kept_members::{write_between, write_last, write_name};
+use city_model::OutOfMemory;
 use city_model::city::City;
 use city_model::object::Object;
 use city_model::object_type::name;
 use city_model::sequence::Sequence;
 use json::Writer;
 use serde_json::{Map, Value};
-use std::alloc::AllocError;
 
 /// Writes the kept members between two names, and a list under the second one unless it is empty.
 fn write_list<T: Written>(
@@ -34,7 +34,7 @@ fn write_list<T: Written>(
     list: &Sequence<T>,
     pool: &mut VertexPool,
     out: &mut Writer,
-) -> Result<(), AllocError>
+) -> Result<(), OutOfMemory>
     requires integral { members_integral (members_view kept.now.entries) ≡ true }
     ensures pool { OnOk result (pool.new ≡ with_points pool.old (flat_map T.points list.now)) }
     ensures before { OnOk result (out.new.before ≡ out.old.before) }
@@ -64,7 +64,7 @@ pub fn write_object(
     object: &Object,
     pool: &mut VertexPool,
     out: &mut Writer,
-) -> Result<(), AllocError>
+) -> Result<(), OutOfMemory>
     ensures pool { OnOk result (pool.new ≡ with_points pool.old (object_points object.now)) }
     ensures before { OnOk result (out.new.before ≡ out.old.before) }
     ensures tokens { OnOk result ((later : List p.Point) → out.new.tokens
@@ -97,7 +97,11 @@ pub fn write_object(
 }
 
 /// Writes the objects of a city by their ids.
-pub fn write_objects(city: &City, pool: &mut VertexPool, out: &mut Writer) -> Result<(), AllocError>
+pub fn write_objects(
+    city: &City,
+    pool: &mut VertexPool,
+    out: &mut Writer,
+) -> Result<(), OutOfMemory>
     ensures pool { OnOk result (pool.new ≡ with_points pool.old (city_points city.now)) }
     ensures before { OnOk result (out.new.before ≡ out.old.before) }
     ensures tokens { OnOk result ((later : List p.Point) → out.new.tokens ≡ out.old.tokens

@@ -7,10 +7,11 @@ ghost use Rattle.city_doc.specs.tree.Tokens.{tokens_of};
 ghost use Rattle.city_doc.specs.inside.tree.PartTokens.{tokens_of_members};
 
 use crate::report::reply::write_replies;
+use city_model::OutOfMemory;
 use city_model::command::Cause;
 use city_model::end::{End, Outcome};
 use json::Writer;
-use std::alloc::{AllocError, Global};
+use std::alloc::Global;
 
 /// The name of a cause.
 fn cause_name(cause: &Cause) -> &'static str
@@ -51,7 +52,7 @@ fn cause_member(cause: &Cause) -> Option<(&'static str, &str)>
 }
 
 /// Writes what a cause names, where it names anything.
-fn write_named(cause: &Cause, out: &mut Writer) -> Result<(), AllocError>
+fn write_named(cause: &Cause, out: &mut Writer) -> Result<(), OutOfMemory>
     ensures before { OnOk result (out.new.before ≡ out.old.before) }
     ensures tokens { OnOk result (out.new.tokens
         ≡ out.old.tokens ++ tokens_of_members (put_text (cause_member cause.now) no_members)) }
@@ -66,7 +67,7 @@ fn write_named(cause: &Cause, out: &mut Writer) -> Result<(), AllocError>
 }
 
 /// Writes the number of the command that was refused, the cause, and what it names.
-fn write_refusal(at: usize, cause: &Cause, out: &mut Writer) -> Result<(), AllocError>
+fn write_refusal(at: usize, cause: &Cause, out: &mut Writer) -> Result<(), OutOfMemory>
     ensures before { OnOk result (out.new.before ≡ out.old.before) }
     ensures tokens { OnOk result (out.new.tokens
         ≡ out.old.tokens ++ tokens_of_members (put_refusal at cause.now no_members)) }
@@ -91,7 +92,7 @@ fn outcome_name(outcome: &Outcome) -> &'static str
 }
 
 /// Writes what an outcome names of the command that ended the script.
-fn write_ending(outcome: &Outcome, out: &mut Writer) -> Result<(), AllocError>
+fn write_ending(outcome: &Outcome, out: &mut Writer) -> Result<(), OutOfMemory>
     ensures before { OnOk result (out.new.before ≡ out.old.before) }
     ensures tokens { OnOk result (out.new.tokens
         ≡ out.old.tokens ++ tokens_of_members (put_ending outcome.now no_members)) }
@@ -108,7 +109,7 @@ fn write_ending(outcome: &Outcome, out: &mut Writer) -> Result<(), AllocError>
 }
 
 /// Writes an end.
-pub fn write_end(alloc: Global, end: &End, out: &mut Writer) -> Result<(), AllocError>
+pub fn write_end(alloc: Global, end: &End, out: &mut Writer) -> Result<(), OutOfMemory>
     ensures before { OnOk result (out.new.before ≡ out.old.before) }
     ensures tokens { OnOk result (out.new.tokens ≡ out.old.tokens ++ tokens_of (end_data end.now)) }
 {

@@ -7,17 +7,18 @@ ghost use Rattle.city_doc.specs.tree.Tokens.{tokens_of};
 use crate::object::text::write_object;
 use crate::pool::VertexPool;
 use crate::shape::vertices::write_vertices;
+use city_model::OutOfMemory;
 use city_model::command::Reply;
 use city_model::object::Object;
 use json::Writer;
-use std::alloc::{AllocError, Global};
+use std::alloc::Global;
 
 /// Writes an object with its own vertices, which it adds to a pool without points.
 fn write_numbered(
     object: &Object,
     pool: &mut VertexPool,
     out: &mut Writer,
-) -> Result<(), AllocError>
+) -> Result<(), OutOfMemory>
     requires { pool.old ≡ [] }
     ensures before { OnOk result (out.new.before ≡ out.old.before) }
     ensures tokens { OnOk result (out.new.tokens
@@ -32,7 +33,7 @@ fn write_numbered(
 }
 
 /// Writes an object with its own vertices.
-fn write_found(alloc: Global, object: &Object, out: &mut Writer) -> Result<(), AllocError>
+fn write_found(alloc: Global, object: &Object, out: &mut Writer) -> Result<(), OutOfMemory>
     ensures before { OnOk result (out.new.before ≡ out.old.before) }
     ensures tokens { OnOk result (out.new.tokens
         ≡ out.old.tokens ++ tokens_of (found_data object.now)) }
@@ -42,7 +43,7 @@ fn write_found(alloc: Global, object: &Object, out: &mut Writer) -> Result<(), A
 }
 
 /// Writes the reply to a read that found an object.
-fn write_found_reply(alloc: Global, object: &Object, out: &mut Writer) -> Result<(), AllocError>
+fn write_found_reply(alloc: Global, object: &Object, out: &mut Writer) -> Result<(), OutOfMemory>
     ensures before { OnOk result (out.new.before ≡ out.old.before) }
     ensures tokens { OnOk result (out.new.tokens
         ≡ out.old.tokens ++ tokens_of (found_reply object.now)) }
@@ -53,7 +54,7 @@ fn write_found_reply(alloc: Global, object: &Object, out: &mut Writer) -> Result
     out.end_object()
 }
 
-fn write_reply(alloc: Global, reply: &Reply, out: &mut Writer) -> Result<(), AllocError>
+fn write_reply(alloc: Global, reply: &Reply, out: &mut Writer) -> Result<(), OutOfMemory>
     ensures before { OnOk result (out.new.before ≡ out.old.before) }
     ensures tokens { OnOk result (out.new.tokens
         ≡ out.old.tokens ++ tokens_of (reply_data reply.now)) }
@@ -75,7 +76,7 @@ fn write_reply(alloc: Global, reply: &Reply, out: &mut Writer) -> Result<(), All
 }
 
 /// Writes replies, in order.
-pub fn write_replies(alloc: Global, replies: &[Reply], out: &mut Writer) -> Result<(), AllocError>
+pub fn write_replies(alloc: Global, replies: &[Reply], out: &mut Writer) -> Result<(), OutOfMemory>
     ensures before { OnOk result (out.new.before ≡ out.old.before) }
     ensures tokens { OnOk result (out.new.tokens
         ≡ out.old.tokens ++ tokens_of (list_data reply_data replies.now)) }

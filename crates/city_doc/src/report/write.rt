@@ -6,10 +6,10 @@ use crate::report::end::write_end;
 use city_model::OutOfMemory;
 use city_model::end::End;
 use json::Writer;
-use std::alloc::{AllocError, Global};
+use std::alloc::Global;
 
 /// The report with the line of one more end, with its newline.
-fn with_line(alloc: Global, report: Vec<u8>, end: &End) -> Result<Vec<u8>, AllocError>
+fn with_line(alloc: Global, report: Vec<u8>, end: &End) -> Result<Vec<u8>, OutOfMemory>
     ensures { IfOk result (λ b. b.items ≡ report.items ++ end_line end.now) }
 {
     let mut out = Writer::new(report);

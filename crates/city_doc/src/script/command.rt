@@ -8,12 +8,13 @@ use crate::object::body::body_of;
 use crate::script::command_faults::names_relations;
 use crate::script::command_form::{Form, form_of};
 use crate::tree::values::named;
+use city_model::OutOfMemory;
 use city_model::command::Command;
 use city_model::members::{into_object, take};
 use city_model::object::Point;
 use city_model::text::Id;
 use serde_json::Value;
-use std::alloc::{AllocError, Global};
+use std::alloc::Global;
 
 /// The put of an object whose positions count in these points.
 fn put_of(
@@ -21,7 +22,7 @@ fn put_of(
     points: &[Point],
     id: Id,
     object: Value,
-) -> Result<Option<Command>, AllocError>
+) -> Result<Option<Command>, OutOfMemory>
     ensures { IfOk result (λ o. o ≡ put_of points.now id (view object)) }
 {
     if names_relations(&object) {
@@ -39,7 +40,7 @@ fn put_command(
     points: &[Point],
     id: Id,
     command: Value,
-) -> Result<Option<Command>, AllocError>
+) -> Result<Option<Command>, OutOfMemory>
     ensures { IfOk result (λ o. o
         ≡ option_and_then (put_of points.now id) (get (codes "object") (view command))) }
 {
@@ -59,7 +60,7 @@ pub fn command_of(
     alloc: Global,
     points: &[Point],
     command: Value,
-) -> Result<Option<Command>, AllocError>
+) -> Result<Option<Command>, OutOfMemory>
     ensures { IfOk result (λ o. o ≡ command_of points.now (view command)) }
 {
     let Some(form) = form_of(&command) else {

@@ -32,7 +32,7 @@ pub enum Form<'v> {
 fn text_in<'v>(members: &'v Map<String, Value>, name: &str) -> Option<&'v str>
     ensures { option_map (λ s. s.now) result ≡ text_in name.now (members_view members.now.entries) }
 {
-    member(members, name).and_then(Value::as_str)
+    member(members, name)?.as_str()
 }
 
 fn word_form(word: &str) -> Option<Form<'_>>

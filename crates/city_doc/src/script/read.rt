@@ -18,13 +18,14 @@ use crate::script::parts::{has_too_many_commands, parts_of};
 use crate::shape::vertices::points_of;
 use crate::tree::parse::parse;
 use crate::tree::values::into_array;
+use city_model::OutOfMemory;
 use city_model::command::Command;
 use city_model::object::Point;
 use city_model::script::Script;
 use city_model::sequence::Sequence;
 use city_tokens::{MAX_SCRIPTS, streamed_scripts};
 use serde_json::Value;
-use std::alloc::{AllocError, Global};
+use std::alloc::Global;
 
 /// Reads a text of scripts.
 ///
@@ -61,7 +62,7 @@ fn read_tree(alloc: Global, bytes: &[u8]) -> Result<Sequence<Script>, ScriptFaul
 }
 
 /// The scripts that a tree stands for, where it stands for any.
-fn scripts_of(alloc: Global, tree: Value) -> Result<Option<Sequence<Script>>, AllocError>
+fn scripts_of(alloc: Global, tree: Value) -> Result<Option<Sequence<Script>>, OutOfMemory>
     ensures { IfOk result (λ o. o ≡ scripts_of (view tree)) }
 {
     let Some(items) = into_array(tree) else {
@@ -77,7 +78,7 @@ fn scripts_of(alloc: Global, tree: Value) -> Result<Option<Sequence<Script>>, Al
 fn scripts_of_items(
     alloc: Global,
     items: Vec<Value>,
-) -> Result<Option<Sequence<Script>>, AllocError>
+) -> Result<Option<Sequence<Script>>, OutOfMemory>
     ensures { IfOk result (λ o. o ≡ all_read script_of_item (map view items.items)) }
 {
     let mut scripts = Sequence::with_capacity(alloc, items.len())?;
@@ -91,7 +92,7 @@ fn scripts_of_items(
 }
 
 /// The script that an item stands for, if it doesn't have too many commands.
-fn script_of_item(alloc: Global, item: Value) -> Result<Option<Script>, AllocError>
+fn script_of_item(alloc: Global, item: Value) -> Result<Option<Script>, OutOfMemory>
     ensures { IfOk result (λ o. o ≡ script_of_item (view item)) }
 {
     let Some(form) = parts_of(item) else {
@@ -104,7 +105,7 @@ fn script_of_item(alloc: Global, item: Value) -> Result<Option<Script>, AllocErr
 }
 
 /// The script of a form, where it stands for any.
-fn script_of(alloc: Global, form: ScriptForm) -> Result<Option<Script>, AllocError>
+fn script_of(alloc: Global, form: ScriptForm) -> Result<Option<Script>, OutOfMemory>
     ensures { IfOk result (λ o. o ≡ script_of (parts_view form)) }
 {
     let ScriptForm {
@@ -129,7 +130,7 @@ fn script_of(alloc: Global, form: ScriptForm) -> Result<Option<Script>, AllocErr
 fn vertex_points(
     alloc: Global,
     vertices: Option<&Value>,
-) -> Result<Option<Sequence<Point>>, AllocError>
+) -> Result<Option<Sequence<Point>>, OutOfMemory>
     ensures { IfOk result (λ o. o ≡ vertex_points (option_map (λ v. view v.now) vertices.entry)) }
 {
     match vertices {
@@ -143,7 +144,7 @@ fn commands_of(
     alloc: Global,
     points: &[Point],
     items: Vec<Value>,
-) -> Result<Option<Sequence<Command>>, AllocError>
+) -> Result<Option<Sequence<Command>>, OutOfMemory>
     ensures { IfOk result (λ o. o ≡ all_read (command_of points.now) (map view items.items)) }
 {
     let mut commands = Sequence::with_capacity(alloc, items.len())?;

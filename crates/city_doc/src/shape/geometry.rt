@@ -11,6 +11,7 @@ ghost use Rattle.city_tokens.specs.tree.Members.{kept_if};
 
 use crate::shape::nested::Nested;
 use crate::tree::values::{into_array, into_text, text_at};
+use city_model::OutOfMemory;
 use city_model::kept::extra::Extra;
 use city_model::kept::site::AtGeometry;
 use city_model::members::{into_object, take};
@@ -18,7 +19,7 @@ use city_model::object::{Geometry, Point, Shape};
 use city_model::sequence::Sequence;
 use city_model::text::Text;
 use serde_json::{Map, Value};
-use std::alloc::{AllocError, Global};
+use std::alloc::Global;
 
 /// The shape of boundaries, where they have the form of the type's.
 fn shape_of(
@@ -26,25 +27,36 @@ fn shape_of(
     points: &[Point],
     kind: &str,
     boundaries: &Value,
-) -> Result<Option<Shape>, AllocError>
+) -> Result<Option<Shape>, OutOfMemory>
     ensures { IfOk result (λ o. o ≡ shape_of points.now kind.now (view boundaries.now)) }
 {
     match kind {
-        "MultiSurface" => Ok(Nested::read(alloc, points, boundaries)?.map(Shape::MultiSurface)),
-        "CompositeSurface" => {
-            Ok(Nested::read(alloc, points, boundaries)?.map(Shape::CompositeSurface))
+        "MultiSurface" => match Nested::read(alloc, points, boundaries)? {
+            Some(surfaces) => Ok(Some(Shape::MultiSurface(surfaces))),
+            None => Ok(None),
         },
-        "Solid" => Ok(Nested::read(alloc, points, boundaries)?.map(Shape::Solid)),
-        "MultiSolid" => Ok(Nested::read(alloc, points, boundaries)?.map(Shape::MultiSolid)),
-        "CompositeSolid" => {
-            Ok(Nested::read(alloc, points, boundaries)?.map(Shape::CompositeSolid))
+        "CompositeSurface" => match Nested::read(alloc, points, boundaries)? {
+            Some(surfaces) => Ok(Some(Shape::CompositeSurface(surfaces))),
+            None => Ok(None),
+        },
+        "Solid" => match Nested::read(alloc, points, boundaries)? {
+            Some(shells) => Ok(Some(Shape::Solid(shells))),
+            None => Ok(None),
+        },
+        "MultiSolid" => match Nested::read(alloc, points, boundaries)? {
+            Some(solids) => Ok(Some(Shape::MultiSolid(solids))),
+            None => Ok(None),
+        },
+        "CompositeSolid" => match Nested::read(alloc, points, boundaries)? {
+            Some(solids) => Ok(Some(Shape::CompositeSolid(solids))),
+            None => Ok(None),
         },
         _ => Ok(None),
     }
 }
 
 /// The shape of a geometry.
-fn shape_in(alloc: Global, points: &[Point], geometry: &Value) -> Result<Option<Shape>, AllocError>
+fn shape_in(alloc: Global, points: &[Point], geometry: &Value) -> Result<Option<Shape>, OutOfMemory>
     ensures { IfOk result (λ o. o ≡ shape_in points.now (view geometry.now)) }
 {
     let Some(kind) = text_at(geometry, "type") else {
@@ -62,10 +74,7 @@ fn kept(mut members: Map<String, Value>) -> Option<Extra<AtGeometry>>
         (without (codes "boundaries") (members_view members.entries)) }
 {
     drop(take(&mut members, "boundaries"));
-    match Extra::new(members) {
-        Ok(extra) => Some(extra),
-        Err(_) => None,
-    }
+    Extra::new(members).ok()
 }
 
 /// Removes the type and the level of detail, and returns the latter if it is a text.
@@ -93,7 +102,7 @@ fn geometry_of(
     alloc: Global,
     points: &[Point],
     geometry: Value,
-) -> Result<Option<Geometry>, AllocError>
+) -> Result<Option<Geometry>, OutOfMemory>
     ensures { IfOk result (λ o. o ≡ geometry_of points.now (view geometry)) }
 {
     let Some(shape) = shape_in(alloc, points, &geometry)? else {
@@ -110,7 +119,7 @@ fn read_geometries(
     alloc: Global,
     points: &[Point],
     items: Vec<Value>,
-) -> Result<Option<Sequence<Geometry>>, AllocError>
+) -> Result<Option<Sequence<Geometry>>, OutOfMemory>
     ensures { IfOk result (λ o. o ≡ read_items (geometry_of points.now) (items_view items.items)) }
 {
     let mut found = Sequence::with_capacity(alloc, items.len())?;
@@ -128,7 +137,7 @@ pub fn geometries_of(
     alloc: Global,
     points: &[Point],
     member: Option<Value>,
-) -> Result<Option<Sequence<Geometry>>, AllocError>
+) -> Result<Option<Sequence<Geometry>>, OutOfMemory>
     ensures { IfOk result (λ o. o ≡ list_or_absent (geometry_of points.now) (option_map view member)) }
 {
     let Some(value) = member else {

@@ -8,10 +8,11 @@ ghost use Rattle.city_tokens.specs.tree.Lists.{read_items, list_of};
 ghost use Rattle.city_tokens.specs.shape.Geometries.{point_at};
 ghost use Rattle.city_doc.specs.shape.Forms.{is_number, is_position, position_of, all_items, is_list_of};
 
+use city_model::OutOfMemory;
 use city_model::object::Point;
 use city_model::sequence::Sequence;
 use serde_json::Value;
-use std::alloc::{AllocError, Global};
+use std::alloc::Global;
 
 /// What is asked of a position.
 pub trait Leaf {
@@ -105,14 +106,14 @@ pub trait Nested: Sized {
 
     /// What a value stands for where each position names one of the points; None if it isn't nested
     /// like this, or if a position names no point.
-    fn read(alloc: Global, points: &[Point], value: &Value) -> Result<Option<Self>, AllocError>
+    fn read(alloc: Global, points: &[Point], value: &Value) -> Result<Option<Self>, OutOfMemory>
         ensures { IfOk result (λ o. o ≡ reads points.now (view value.now)) };
 }
 
 impl Nested for Point {
     ghost reads = { point_at };
 
-    fn read(_alloc: Global, points: &[Point], value: &Value) -> Result<Option<Point>, AllocError> {
+    fn read(_alloc: Global, points: &[Point], value: &Value) -> Result<Option<Point>, OutOfMemory> {
         let Some(position) = position_of(value) else {
             return Ok(None);
         };
@@ -127,7 +128,7 @@ impl<T: Nested + Drop> Nested for Sequence<T> {
         alloc: Global,
         points: &[Point],
         value: &Value,
-    ) -> Result<Option<Sequence<T>>, AllocError> {
+    ) -> Result<Option<Sequence<T>>, OutOfMemory> {
         match value.as_array() {
             None => Ok(None),
             Some(items) => read_items(alloc, points, items),
@@ -139,7 +140,7 @@ fn read_items<T: Nested + Drop>(
     alloc: Global,
     points: &[Point],
     items: &Vec<Value>,
-) -> Result<Option<Sequence<T>>, AllocError>
+) -> Result<Option<Sequence<T>>, OutOfMemory>
     ensures { IfOk result (λ o. o ≡ read_items (T.reads points.now) (items_view items.now.items)) }
 {
     let mut found = Sequence::with_capacity(alloc, items.len())?;

@@ -14,12 +14,12 @@ ghost use Rattle.city_doc.specs.inside.tree.ReadsBack.{ReadsBackNumbered};
 
 use crate::pool::VertexPool;
 use crate::tree::kept_members::{write_last, write_name};
+use city_model::OutOfMemory;
 use city_model::object::{Geometry, Point, Shape};
 use city_model::sequence::Sequence;
 use city_model::shape::Bounds;
 use city_model::text::Text;
 use json::Writer;
-use std::alloc::AllocError;
 
 /// What is written as JSON, each point as its number in a pool.
 pub trait Written {
@@ -30,7 +30,7 @@ pub trait Written {
     ghost is_kept: { Self → Bool };
 
     /// Writes the value. Points that the pool doesn't have are added as they are met.
-    fn write(&self, pool: &mut VertexPool, out: &mut Writer) -> Result<(), AllocError>
+    fn write(&self, pool: &mut VertexPool, out: &mut Writer) -> Result<(), OutOfMemory>
         ensures pool { OnOk result (pool.new ≡ with_points pool.old (points self.now)) }
         ensures before { OnOk result (out.new.before ≡ out.old.before) }
         ensures tokens { OnOk result ((later : List p.Point) → out.new.tokens
@@ -46,7 +46,7 @@ impl Written for Point {
 
     ghost is_kept = { λ _. true };
 
-    fn write(&self, pool: &mut VertexPool, out: &mut Writer) -> Result<(), AllocError> {
+    fn write(&self, pool: &mut VertexPool, out: &mut Writer) -> Result<(), OutOfMemory> {
         let number = pool.add(*self)?;
         out.u64(number as u64)
     }
@@ -59,7 +59,7 @@ impl Written for Text {
 
     ghost is_kept = { λ _. true };
 
-    fn write(&self, _pool: &mut VertexPool, out: &mut Writer) -> Result<(), AllocError> {
+    fn write(&self, _pool: &mut VertexPool, out: &mut Writer) -> Result<(), OutOfMemory> {
         out.string(self.as_str())
     }
 }
@@ -71,7 +71,7 @@ impl<T: Written> Written for Sequence<T> {
 
     ghost is_kept = { λ xs. list_all T.is_kept xs };
 
-    fn write(&self, pool: &mut VertexPool, out: &mut Writer) -> Result<(), AllocError> {
+    fn write(&self, pool: &mut VertexPool, out: &mut Writer) -> Result<(), OutOfMemory> {
         out.begin_array()?;
         let items = self.as_slice();
         for item in items {
@@ -88,7 +88,7 @@ impl Written for Shape {
 
     ghost is_kept = { λ _. true };
 
-    fn write(&self, pool: &mut VertexPool, out: &mut Writer) -> Result<(), AllocError> {
+    fn write(&self, pool: &mut VertexPool, out: &mut Writer) -> Result<(), OutOfMemory> {
         match self.bounds() {
             Bounds::Surfaces(surfaces) => surfaces.write(pool, out),
             Bounds::Shells(shells) => shells.write(pool, out),
@@ -118,7 +118,7 @@ impl Written for Geometry {
     ghost is_kept = { is_kept_geometry };
 
     #[tactic(auto, unfolding(crate::specs::inside::document::KeptMembers::is_kept_geometry))]
-    fn write(&self, pool: &mut VertexPool, out: &mut Writer) -> Result<(), AllocError> {
+    fn write(&self, pool: &mut VertexPool, out: &mut Writer) -> Result<(), OutOfMemory> {
         let kept = self.extra.map();
         out.begin_object()?;
         write_name(kept, None, "boundaries", out)?;

@@ -12,12 +12,13 @@ ghost use Rattle.city_doc.specs.inside.tree.ReadsBack.{ReadsBack};
 
 use crate::pool::VertexPool;
 use crate::tree::triples::write_three;
+use city_model::OutOfMemory;
 use city_model::object::Point;
 use city_model::sequence::Sequence;
 use city_tokens::triple_of;
 use json::Writer;
 use serde_json::Value;
-use std::alloc::{AllocError, Global};
+use std::alloc::Global;
 
 /// The point of an array of three whole numbers.
 fn point_of(value: &Value) -> Option<Point>
@@ -27,7 +28,7 @@ fn point_of(value: &Value) -> Option<Point>
     Some(Point { x, y, z })
 }
 
-fn read_points(alloc: Global, items: &Vec<Value>) -> Result<Option<Sequence<Point>>, AllocError>
+fn read_points(alloc: Global, items: &Vec<Value>) -> Result<Option<Sequence<Point>>, OutOfMemory>
     ensures { IfOk result (λ o. o ≡ read_items point_of (items_view items.now.items)) }
 {
     let mut points = Sequence::with_capacity(alloc, items.len())?;
@@ -41,7 +42,7 @@ fn read_points(alloc: Global, items: &Vec<Value>) -> Result<Option<Sequence<Poin
 }
 
 /// The points of an array of arrays of three whole numbers.
-pub fn points_of(alloc: Global, value: &Value) -> Result<Option<Sequence<Point>>, AllocError>
+pub fn points_of(alloc: Global, value: &Value) -> Result<Option<Sequence<Point>>, OutOfMemory>
     ensures { IfOk result (λ o. o ≡ points_of (view value.now)) }
 {
     match value.as_array() {
@@ -50,7 +51,7 @@ pub fn points_of(alloc: Global, value: &Value) -> Result<Option<Sequence<Point>>
     }
 }
 
-fn points_in(alloc: Global, tree: &Value) -> Result<Option<Sequence<Point>>, AllocError>
+fn points_in(alloc: Global, tree: &Value) -> Result<Option<Sequence<Point>>, OutOfMemory>
     ensures { IfOk result (λ o. o ≡ points_in (view tree.now)) }
 {
     match tree.get("vertices") {
@@ -60,7 +61,7 @@ fn points_in(alloc: Global, tree: &Value) -> Result<Option<Sequence<Point>>, All
 }
 
 /// The points of a document's vertices, of which a tree without any has none.
-pub fn vertices_in(alloc: Global, tree: &Value) -> Result<Sequence<Point>, AllocError>
+pub fn vertices_in(alloc: Global, tree: &Value) -> Result<Sequence<Point>, OutOfMemory>
     ensures { IfOk result (λ points. points ≡ vertices_in (view tree.now)) }
 {
     match points_in(alloc, tree)? {
@@ -69,7 +70,7 @@ pub fn vertices_in(alloc: Global, tree: &Value) -> Result<Sequence<Point>, Alloc
     }
 }
 
-fn write_vertex(point: &Point, out: &mut Writer) -> Result<(), AllocError>
+fn write_vertex(point: &Point, out: &mut Writer) -> Result<(), OutOfMemory>
     ensures before { OnOk result (out.new.before ≡ out.old.before) }
     ensures tokens { OnOk result (out.new.tokens
         ≡ out.old.tokens ++ tokens_of (vertex_data point.now)) }
@@ -80,7 +81,7 @@ fn write_vertex(point: &Point, out: &mut Writer) -> Result<(), AllocError>
 }
 
 /// Writes the points of a pool, by their numbers.
-pub fn write_vertices(pool: &VertexPool, out: &mut Writer) -> Result<(), AllocError>
+pub fn write_vertices(pool: &VertexPool, out: &mut Writer) -> Result<(), OutOfMemory>
     ensures before { OnOk result (out.new.before ≡ out.old.before) }
     ensures tokens { OnOk result (out.new.tokens
         ≡ out.old.tokens ++ tokens_of (vertices_data pool.now)) }

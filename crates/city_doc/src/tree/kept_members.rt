@@ -8,9 +8,9 @@ ghost use Rattle.city_doc.specs.inside.tree.PartTokens.{tokens_of_members};
 ghost use Rattle.city_doc.specs.inside.tree.ReadsBack.{MembersReadBack};
 
 use crate::tree::text::write_value;
+use city_model::OutOfMemory;
 use json::Writer;
 use serde_json::{Map, Value};
-use std::alloc::AllocError;
 
 /// Whether a name comes after another in byte order, where there is another.
 fn is_after(name: &str, other: Option<&str>) -> bool
@@ -46,7 +46,7 @@ pub fn write_between(
     low: Option<&str>,
     high: Option<&str>,
     out: &mut Writer,
-) -> Result<(), AllocError>
+) -> Result<(), OutOfMemory>
     requires integral { members_integral (members_view members.now.entries) ≡ true }
     ensures before { OnOk result (out.new.before ≡ out.old.before) }
     ensures tokens { OnOk result (out.new.tokens ≡ out.old.tokens
@@ -71,7 +71,7 @@ pub fn write_name(
     low: Option<&str>,
     name: &str,
     out: &mut Writer,
-) -> Result<(), AllocError>
+) -> Result<(), OutOfMemory>
     requires integral { members_integral (members_view members.now.entries) ≡ true }
     ensures before { OnOk result (out.new.before ≡ out.old.before) }
     ensures tokens { OnOk result (out.new.tokens ≡ out.old.tokens
@@ -90,7 +90,7 @@ pub fn write_last(
     members: &Map<String, Value>,
     low: &str,
     out: &mut Writer,
-) -> Result<(), AllocError>
+) -> Result<(), OutOfMemory>
     requires integral { members_integral (members_view members.now.entries) ≡ true }
     ensures before { OnOk result (out.new.before ≡ out.old.before) }
     ensures tokens { OnOk result (out.new.tokens ≡ out.old.tokens

@@ -9,12 +9,12 @@ ghost use Rattle.city_doc.specs.inside.tree.PartTokens.{closing_items, closing_m
 ghost use Rattle.city_doc.specs.inside.tree.ReadsBack.{ReadsBack, ItemsReadBack};
 ghost use Rattle.city_doc.specs.inside.tree.ReadsBack.{MembersReadBack};
 
+use city_model::OutOfMemory;
 use json::Writer;
 use serde_json::{Map, Number, Value};
-use std::alloc::AllocError;
 
 /// Writes a number that is an `i64`.
-fn write_number(n: &Number, out: &mut Writer) -> Result<(), AllocError>
+fn write_number(n: &Number, out: &mut Writer) -> Result<(), OutOfMemory>
     requires integral { is_integral (number (number_view n.now)) ≡ true }
     ensures before { OnOk result (out.new.before ≡ out.old.before) }
     ensures tokens { OnOk result (out.new.tokens
@@ -30,7 +30,7 @@ fn write_number(n: &Number, out: &mut Writer) -> Result<(), AllocError>
 
 /// Writes a value whose numbers are all `i64`.
 #[cycle(write)]
-pub fn write_value(value: &Value, out: &mut Writer) -> Result<(), AllocError>
+pub fn write_value(value: &Value, out: &mut Writer) -> Result<(), OutOfMemory>
     requires integral { is_integral (view value.now) ≡ true }
     ensures before { OnOk result (out.new.before ≡ out.old.before) }
     ensures tokens { OnOk result (out.new.tokens ≡ out.old.tokens ++ tokens_of (view value.now)) }
@@ -54,7 +54,7 @@ pub fn write_value(value: &Value, out: &mut Writer) -> Result<(), AllocError>
 
 /// Writes the items, and the bracket that closes them.
 #[cycle(write)]
-fn write_items(items: &Vec<Value>, out: &mut Writer) -> Result<(), AllocError>
+fn write_items(items: &Vec<Value>, out: &mut Writer) -> Result<(), OutOfMemory>
     requires integral { items_integral (items_view items.now.items) ≡ true }
     ensures before { OnOk result (out.new.before ≡ out.old.before) }
     ensures tokens { OnOk result (out.new.tokens
@@ -69,7 +69,7 @@ fn write_items(items: &Vec<Value>, out: &mut Writer) -> Result<(), AllocError>
 
 /// Writes the members, and the brace that closes them.
 #[cycle(write)]
-fn write_members(members: &Map<String, Value>, out: &mut Writer) -> Result<(), AllocError>
+fn write_members(members: &Map<String, Value>, out: &mut Writer) -> Result<(), OutOfMemory>
     requires integral { members_integral (members_view members.now.entries) ≡ true }
     ensures before { OnOk result (out.new.before ≡ out.old.before) }
     ensures tokens { OnOk result (out.new.tokens

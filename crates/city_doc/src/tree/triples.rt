@@ -5,10 +5,10 @@ ghost use Rattle.city_doc.specs.tree.Ranges.{is_i64, is_i64_triple};
 ghost use Rattle.city_doc.specs.tree.Tokens.{tokens_of};
 ghost use Rattle.city_doc.specs.inside.tree.ReadsBack.{ReadsBack};
 
+use city_model::OutOfMemory;
 use json::Writer;
-use std::alloc::AllocError;
 
-fn write_integer(n: i64, out: &mut Writer) -> Result<(), AllocError>
+fn write_integer(n: i64, out: &mut Writer) -> Result<(), OutOfMemory>
     ensures before { OnOk result (out.new.before ≡ out.old.before) }
     ensures tokens { OnOk result (out.new.tokens ≡ out.old.tokens ++ tokens_of (integer_data n)) }
     ensures reads { OnOk result (ReadsBack (integer_data n)) }
@@ -18,7 +18,7 @@ fn write_integer(n: i64, out: &mut Writer) -> Result<(), AllocError>
 }
 
 /// Writes an array of three whole numbers.
-pub fn write_three(x: i64, y: i64, z: i64, out: &mut Writer) -> Result<(), AllocError>
+pub fn write_three(x: i64, y: i64, z: i64, out: &mut Writer) -> Result<(), OutOfMemory>
     ensures before { OnOk result (out.new.before ≡ out.old.before) }
     ensures tokens { OnOk result (out.new.tokens
         ≡ out.old.tokens ++ tokens_of (triple_data (x ∷ y ∷ z ∷ []))) }
@@ -33,7 +33,7 @@ pub fn write_three(x: i64, y: i64, z: i64, out: &mut Writer) -> Result<(), Alloc
 }
 
 /// The same, of numbers that stand in an array.
-pub fn write_triple(triple: &[i64; 3], out: &mut Writer) -> Result<(), AllocError>
+pub fn write_triple(triple: &[i64; 3], out: &mut Writer) -> Result<(), OutOfMemory>
     ensures before { OnOk result (out.new.before ≡ out.old.before) }
     ensures tokens { OnOk result (out.new.tokens
         ≡ out.old.tokens ++ tokens_of (triple_data triple.now)) }

@@ -5,15 +5,16 @@ ghost use Rattle.serde_json.specs.View.{view, items_view};
 ghost use Rattle.city_tokens.specs.tree.Lists.{array_of};
 ghost use Rattle.city_tokens.specs.tree.Members.{text_at};
 
+use city_model::OutOfMemory;
 use city_model::text::Text;
 use serde_json::Value;
-use std::alloc::{AllocError, Global};
+use std::alloc::Global;
 
 /// The text of a member, where it is one.
 pub fn text_at<'v>(object: &'v Value, name: &str) -> Option<&'v str>
     ensures { option_map (λ s. s.now) result ≡ text_at name.now (view object.now) }
 {
-    object.get(name).and_then(Value::as_str)
+    object.get(name)?.as_str()
 }
 
 /// The text that a value is, which is consumed.
@@ -38,7 +39,7 @@ pub fn into_array(value: Value) -> Option<Vec<Value>>
 }
 
 /// A copy of a name.
-pub fn named(alloc: Global, name: &str) -> Result<Text, AllocError>
+pub fn named(alloc: Global, name: &str) -> Result<Text, OutOfMemory>
     ensures { IfOk result (λ text. text ≡ name.now) }
 {
     Ok(Text::new(name.to_string(alloc)?))
