@@ -1,5 +1,6 @@
 -- What a lookup by an id finds.
-use Rattle.std.proofs.Common.{rules, true, ◌≡◌, ℕ, cond, false, List, ◌||◌, ap, sym, ◌∙◌, ◌+◌, ◌<◌, ◌==◌, length, take, get_or}
+use Rattle.std.proofs.Common.{rules, true, ◌≡◌, ℕ, cond, false, List, ◌||◌, ap, sym, ◌∙◌, ◌+◌, ◌<◌, ◌==◌, length}
+use Rattle.std.proofs.Common.{take, get_or}
 use Rattle.std.specs.Ordering.{nat_cmp}
 use Rattle.std.specs.Cmp.{Equal-is}
 use Rattle.std.specs.BTreeMap.{is_at}

@@ -51,7 +51,8 @@ module _ (v w : Locks) (s : ℕ) (id : List ℕ) (m : Mode) (h : Adds v w s id m
   pub lawful_added : Lawful v → answer_of v s id m ≡ Granted → Lawful w
   lawful_added l g r t i ne x = bool_cases (same_id id i)
       (λ e. let k = there i e in
-      let a : answer_among (holders_of v i) s m ≡ Granted = ap (λ j. answer_of v s j m) (sym (same_id_true id i e)) ∙ g in
+      let a : answer_among (holders_of v i) s m ≡ Granted = ap (λ j. answer_of v s j m) (sym (same_id_true id i e))
+      ∙ g in
       ap (λ hs. mode_among hs t) k
       ∙ lawful_with (holders_of v i) s m (λ a b. l a b i) a r t ne (sym (ap (λ hs. mode_among hs r) k) ∙ x))
       (λ e. let k = elsewhere i e in
@@ -75,7 +76,8 @@ module _ (v w : Locks) (s : ℕ) (id : List ℕ) (m : Mode) (h : Adds v w s id m
         ap (λ r. has_id (ids_of l r) q) (sym (eqb-true s t p.0))
         ∙ ap (λ j. has_id (ids_of l s) j) (sym (same_id_true id q p.1)) ∙ own)
         (λ e. i.listed t q
-        (sym (ap is_some (mode_added t q ∙ ap (λ b. cond b (Some (stronger m (mode_of v s id))) (mode_of v t q)) e)) ∙ x));
+        (sym (ap is_some (mode_added t q
+        ∙ ap (λ b. cond b (Some (stronger m (mode_of v s id))) (mode_of v t q)) e)) ∙ x));
   }
 
 -- an id listed at its stamp, last: it is there, and what is listed stays so

@@ -9,10 +9,11 @@ ghost use Rattle.city_locks.specs.Locks.{holders_of, answer_of, mode_of};
 
 use crate::answer::Answer;
 use crate::holders::Holders;
+use city_model::OutOfMemory;
 use city_model::copied::Copied;
 use city_model::mode::Mode;
 use city_model::text::Id;
-use std::alloc::{AllocError, Global};
+use std::alloc::Global;
 use std::collections::BTreeMap;
 
 /// How an asker of an id stands.
@@ -75,7 +76,7 @@ pub fn grant(
     id: &Id,
     mode: Mode,
     is_held: bool,
-) -> Result<(), AllocError>
+) -> Result<(), OutOfMemory>
     requires { is_held ≡ is_some (get (slice_cmp nat_cmp) held.old id.now) }
     ensures ok { OnOk result ((q : List ℕ) → holders_of held.new.entries q ≡ cond (same_id id.now q) (with_holder (holders_of held.old.entries id.now) stamp mode) (holders_of held.old.entries q)) }
     ensures err { OnErr result (held.new.entries ≡ held.old.entries) }
@@ -95,7 +96,7 @@ fn grant_beside(
     stamp: u64,
     id: &Id,
     mode: Mode,
-) -> Result<(), AllocError>
+) -> Result<(), OutOfMemory>
     requires { is_some (get (slice_cmp nat_cmp) held.old id.now) ≡ true }
     ensures ok { OnOk result ((q : List ℕ) → get (slice_cmp nat_cmp) held.new q ≡ cond (same_id id.now q) (Some (with_holder (holders_of held.old.entries id.now) stamp mode)) (get (slice_cmp nat_cmp) held.old q)) }
     ensures err { OnErr result (held.new.entries ≡ held.old.entries) }
@@ -117,7 +118,7 @@ fn grant_first(
     stamp: u64,
     id: &Id,
     mode: Mode,
-) -> Result<(), AllocError>
+) -> Result<(), OutOfMemory>
     requires { get (slice_cmp nat_cmp) held.old id.now ≡ None }
     ensures ok { OnOk result ((q : List ℕ) → get (slice_cmp nat_cmp) held.new q ≡ cond (same_id id.now q) (Some (with_holder [] stamp mode)) (get (slice_cmp nat_cmp) held.old q)) }
     ensures err { OnErr result (held.new.entries ≡ held.old.entries) }

@@ -4,8 +4,9 @@ ghost use Rattle.city_locks.specs.Mode.{stronger};
 ghost use Rattle.city_locks.specs.Holders.{in_conflict, answer_among, mode_among, with_holder, without};
 
 use crate::answer::Answer;
+use city_model::OutOfMemory;
 use city_model::mode::Mode;
-use std::alloc::{AllocError, Global};
+use std::alloc::Global;
 use std::marker::Model;
 
 /// A stamp that holds an id, and its mode.
@@ -88,7 +89,7 @@ impl Holders {
     /// Makes the stamp a holder, in the stronger of the mode and the one that it has. If
     /// memory runs out, the holders stay as they are; that happens only if the stamp isn't
     /// one of them yet.
-    pub fn grant(&mut self, stamp: u64, mode: Mode) -> Result<(), AllocError>
+    pub fn grant(&mut self, stamp: u64, mode: Mode) -> Result<(), OutOfMemory>
         ensures ok { OnOk result (self.new ≡ with_holder self.old stamp mode) }
         ensures err { OnErr result (self.new ≡ self.old) }
         ensures absent { OnErr result (mode_among self.old stamp ≡ None) }

@@ -1,5 +1,6 @@
 -- A map of undo images, and the finite map that contracts see of it.
-use Rattle.std.proofs.Common.{◌≡◌, ℕ, List, Option, None, Some, Equal, is_some, true, ap, sym, ◌∙◌, if◌then◌else◌, IfSome, nat_cmp}
+use Rattle.std.proofs.Common.{◌≡◌, ℕ, List, Option, None, Some, Equal, is_some, true, ap, sym, ◌∙◌, if◌then◌else◌}
+use Rattle.std.proofs.Common.{IfSome, nat_cmp}
 use Rattle.std.specs.Cmp.Lexicographic.{slice_cmp}
 use Rattle.std.specs.BTreeMap as tree
 use Rattle.std.specs.BTreeMap.{BTreeMap, IsOrdered, is_at}
@@ -44,7 +45,8 @@ module _ (m : BTreeMap (List ℕ) UndoImage) (ordered : IsOrdered (slice_cmp nat
       → ((q : List ℕ) → tree.get (slice_cmp nat_cmp) n q
       ≡ (if same_id id q then f (tree.get (slice_cmp nat_cmp) m id) else tree.get (slice_cmp nat_cmp) m q))
       → (q : List ℕ)
-      → get (from_sorted {R = slice_cmp nat_cmp} n.entries) q ≡ (if same_id id q then f (image_at u id) else image_at u q)
+      → get (from_sorted {R = slice_cmp nat_cmp} n.entries) q
+      ≡ (if same_id id q then f (image_at u id) else image_at u q)
   one_changed n still id f step q = get_held n still q ∙ step q
       ∙ ap (λ (i : List ℕ → Option UndoImage). if same_id id q then f (i id) else i q) (λ j r. held_at r j)
 

@@ -63,7 +63,8 @@ module _ (a : Inside) (k : IsInPlace a) {v : State} (seen : state_of a ≡ v) (i
       → OneWritten v (record a { city = n }) id (option_map (rewritten f) (write_of v.writes id))
   edited n f frame city =
       let i = image_at a.undo id in
-      subst (λ (u : State). OneWritten u (record a { city = n }) id (option_map (rewritten f) (write_of u.writes id))) seen
+      subst (λ (u : State). OneWritten u (record a { city = n }) id (option_map (rewritten f) (write_of u.writes id)))
+      seen
       (one_written a (record a { city = n }) k id (option_map f (here a id)) i frame city
       (at_each {P = λ q. image_at a.undo q ≡ (if same_id id q then i else image_at a.undo q)} id
       (rw (same_id_itself id) refl) (λ q e. rw e refl))

@@ -1,7 +1,8 @@
 //! Slots of the city: placeholders, and objects put back.
-ghost use Rattle.std.specs.Prelude.{◌≡◌, None, Some, IfOk, OnOk, OnErr, is_some, not, true, if◌then◌else◌};
+ghost use Rattle.std.specs.Prelude.{◌≡◌, None, Some, unwrap_or, IfOk, OnOk, OnErr, is_some, not, true, if◌then◌else◌};
 ghost use Rattle.city_model.specs.CityMap.{object_at, changed};
 ghost use Rattle.city_txn.specs.inside.Images.{or_else, before_image};
+ghost use Rattle.city_txn.specs.Placeholder.{placeholder};
 ghost use Rattle.city_txn.specs.inside.Slots.{with_slot, HasSlot};
 
 use crate::image::UndoImage;
@@ -50,6 +51,16 @@ pub fn swap(city: &mut City, id: Id, object: Object) -> Object
         Ok(Some(old)) => old,
         Ok(None) => unreachable!(),
         Err(_) => unreachable!(),
+    }
+}
+
+/// The object, or a placeholder.
+pub fn standing(alloc: Global, object: Option<Object>) -> Object
+    ensures { result ≡ unwrap_or object placeholder }
+{
+    match object {
+        Some(o) => o,
+        None => placeholder(alloc),
     }
 }
 

@@ -8,7 +8,6 @@ ghost use Rattle.city_txn.specs.inside.State.{SeesSame, WritesOne, OthersWritesS
 ghost use Rattle.city_txn.specs.Writes.{write_of, is_by};
 
 use crate::ending::{End, end_each};
-use crate::placeholder::placeholder;
 use crate::slot;
 use crate::undo::Undo;
 use crate::undo_log::{OwnWrite, UndoLogs};
@@ -141,7 +140,7 @@ impl Store {
         ensures others { OthersWritesStay stamp self.old self.new }
     {
         let deleted = object.is_none();
-        let standing = object.unwrap_or(placeholder(self.alloc));
+        let standing = slot::standing(self.alloc, object);
         self.undo.write(&mut self.city, id, standing, deleted);
     }
 

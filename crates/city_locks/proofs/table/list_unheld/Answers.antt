@@ -9,4 +9,5 @@ returns-in_ok-push-in-None c =
     let copy = c.in_ok-copy-in-None in
     let l = listed_last c.args.holders.now.entries c.args.locked.now c.push.new.lists c.args.stamp copy.field-0
     c.in_ok-push-in-None.ensures.ok c.requires.listed in
-    record { own = ap (has_id (ids_of c.push.new.lists c.args.stamp)) (sym copy.ensures) ∙ l.0; absent = tt; listed = l.1 }
+    let own = ap (has_id (ids_of c.push.new.lists c.args.stamp)) (sym copy.ensures) ∙ l.0 in
+    record { own = own; absent = tt; listed = l.1 }

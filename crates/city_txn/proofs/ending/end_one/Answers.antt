@@ -25,7 +25,8 @@ returns-in-RollBack c =
     let m = object_at c.args.city.now.1 in
     let id = c.args.id.now in
     rw c.in-RollBack.is
-    (one_ended RollBack c.args.city.now c.give_back.new.city c.args.undo.now c.take.new.self id c.give_back.ensures.frame
+    (one_ended RollBack c.args.city.now c.give_back.new.city c.args.undo.now c.take.new.self id
+    c.give_back.ensures.frame
     (c.give_back.ensures.after ∙ ap (λ key. changed m key (before_image (m key) c.in-Some.image)) c.in-Some.ensures.key
     ∙ ap (λ i. changed m id (left_at_end RollBack (m id) i)) c.in-Some.ensures.image)
     c.take.ensures.images c.take.ensures.reservations)

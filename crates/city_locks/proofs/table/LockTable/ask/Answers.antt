@@ -32,7 +32,8 @@ returns-in_ok-take c =
       wait_die = wait_die_seen v c.args.self.now id s m c.standing_at-there.result.answer c.self.view_is
           (c.self.invariant.once id) c.standing_at-there.ensures.answer;
       granted = λ h t q. mode_added v w s id m adds t q
-          ∙ ap (λ u. cond ((s == t) && same_id id q) (Some (stronger m (mode_of u s id))) (mode_of u t q)) c.self.view_is;
+          ∙ ap (λ u. cond ((s == t) && same_id id q) (Some (stronger m (mode_of u s id))) (mode_of u t q))
+          c.self.view_is;
       holders = λ h q. search rules;
       own = λ q n. own_added v w s id m adds q n ∙ ap (λ u. answer_of u s q n) c.self.view_is;
       refused = λ h. search rules;

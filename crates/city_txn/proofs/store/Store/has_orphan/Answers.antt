@@ -19,7 +19,8 @@ returns c =
     let change = own_change c.self.inside v c.self.view_is s in
     record {
       none = λ h. none_orphaned c.self.inside c.self.invariant v c.self.view_is s ids c.reserved-ids.ensures
-          (ap (list_any (λ id. is_orphan_there (store_view v s id))) (sym (take_all c.loop-id.id-index ids (omega arith)))
+          (ap (list_any (λ id. is_orphan_there (store_view v s id)))
+          (sym (take_all c.loop-id.id-index ids (omega arith)))
           ∙ c.loop-id.invariant);
       lists = change.0;
       ordered = change.1;

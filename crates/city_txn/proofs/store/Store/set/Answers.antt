@@ -1,4 +1,4 @@
-use Rattle.std.proofs.Common.{None, ◌∙◌, ap, refl, Some, if◌then◌else◌, unwrap_or}
+use Rattle.std.proofs.Common.{None, ◌∙◌, ap, refl, Some, if◌then◌else◌}
 use Rattle.city_txn.proofs.OneIdWritten.{OwnWritten, not_deleted, set_written}
 use Rattle.city_txn.proofs.store.Store.set.Goals as goal
 use Rattle.city_txn.proofs.store.Store.set.Goals.{After-write}
@@ -11,9 +11,8 @@ done c =
     let w = c.write.ensures in
     let deleted = c.is_none-deleted.result in
     set_written a (record a { city = c.write.new.city; undo = c.write.new.self }) c.self.invariant c.self.view_is
-    c.args.stamp c.args.id c.requires w.frame w.reservations refl deleted c.unwrap_or-standing.result c.args.object
-    (ap (λ y. if deleted then None else Some y)
-    (c.unwrap_or-standing.ensures ∙ ap (λ p. unwrap_or c.args.object p) c.placeholder.ensures)
+    c.args.stamp c.args.id c.requires w.frame w.reservations refl deleted c.standing-standing.result c.args.object
+    (ap (λ y. if deleted then None else Some y) c.standing-standing.ensures
     ∙ not_deleted c.args.object deleted c.is_none-deleted.ensures)
     w.city w.images
 
