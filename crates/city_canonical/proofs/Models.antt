@@ -29,7 +29,8 @@ use Rattle.city_decimals.specs.Arranged.{arranged}
 use Rattle.city_decimals.proofs.Wholes.{mapped}
 use Rattle.city_doc.specs.Pool.{geometry_points, object_points, city_points, pool_of}
 use Rattle.city_doc.specs.document.Ranges.{IsInRange}
-use Rattle.city_doc.specs.document.Canonical.{transform_data, vertex_data, vertices_data, tree_of}
+use Rattle.city_doc.specs.document.Canonical.{transform_data, tree_of}
+use Rattle.city_doc.specs.shape.Vertices.{vertex_data, vertices_data}
 use Rattle.city_tokens.specs.document.Cities.{entries_of, objects_of, city_of}
 use Rattle.city_tokens.specs.tree.Members.{same_text, is_text}
 use Rattle.city_tokens.specs.document.Frames.{without_top_members}

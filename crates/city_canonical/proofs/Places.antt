@@ -19,7 +19,7 @@ use Rattle.city_model.specs.declared.object.Shape.{Shape}
 use Rattle.city_model.specs.Shells.{same_point}
 use Rattle.city_decimals.proofs.Wholes.{mapped, bound}
 use Rattle.city_doc.specs.Pool.{nested_points, shape_points, number_of}
-use Rattle.city_doc.specs.document.Canonical.{vertex_data}
+use Rattle.city_doc.specs.shape.Vertices.{vertex_data}
 use Rattle.city_doc.specs.shape.Canonical.{point_data, nested_data, boundaries_data}
 use Rattle.city_doc.specs.shape.Forms.{natural}
 use Rattle.city_tokens.specs.shape.Geometries.{point_at_position, point_at, nested_of}

@@ -16,7 +16,7 @@ use Rattle.city_decimals.specs.Numbers.{is_written_so, is_whole}
 use Rattle.city_decimals.specs.Encoded.{tagged, encoded, encoded_items, encoded_members}
 use Rattle.city_decimals.specs.Decoded.{decoded, decoded_items}
 use Rattle.city_decimals.proofs.Wholes.{mapped, bound}
-use Rattle.city_doc.specs.document.Canonical.{vertex_data}
+use Rattle.city_doc.specs.shape.Vertices.{vertex_data}
 use Rattle.city_tokens.specs.shape.Geometries.{point_at, nested_of}
 use Rattle.city_tokens.specs.tree.Lists.{read_items, list_of}
 use Rattle.city_tokens.specs.tree.Triples.{integral_at, three_of, triple_of, point_of, points_of, integer_data}

@@ -15,8 +15,8 @@ use Rattle.serde_json.specs.Written.{number_text, items_outline}
 use Rattle.city_model.specs.declared.object.Point.{Point}
 use Rattle.city_model.specs.Shells.{same_point}
 use Rattle.city_doc.specs.Pool.{without_repeats}
-use Rattle.city_doc.specs.document.Canonical.{vertex_data}
-use Rattle.city_doc.specs.document.Ranges.{is_i64, is_i64_point}
+use Rattle.city_doc.specs.shape.Vertices.{vertex_data, is_i64_point}
+use Rattle.city_doc.specs.tree.Ranges.{is_i64}
 use Rattle.city_doc.proofs.Laws.{same_itself, text_of_integer}
 use Rattle.city_canonical.specs.Same.{IsEachOnce}
 use Rattle.city_canonical.proofs.Places.{shown_point}

@@ -10,7 +10,7 @@ use Rattle.city_model.specs.CityMap.{CityValue}
 use Rattle.city_doc.specs.Pool.{pool_of}
 use Rattle.city_tokens.specs.tree.Triples.{triple_data}
 use Rattle.city_doc.specs.object.Canonical.{objects_data}
-pub use Rattle.city_doc.specs.shape.Vertices.{vertex_data, vertices_data}
+use Rattle.city_doc.specs.shape.Vertices.{vertices_data}
 
 abbrev pub transform_data : Frame → Data
 transform_data f =

@@ -4,8 +4,8 @@ use Rattle.std.specs.Prelude.{◌≡◌, ◌<◌, ◌^◌, List, true, length}
 use Rattle.std.specs.List.{list_all}
 use Rattle.city_model.specs.declared.frame.Frame.{Frame}
 use Rattle.city_model.specs.declared.object.Point.{Point}
-pub use Rattle.city_doc.specs.shape.Vertices.{is_i64_point}
-pub use Rattle.city_doc.specs.tree.Ranges.{is_i64, is_i64_triple}
+use Rattle.city_doc.specs.shape.Vertices.{is_i64_point}
+use Rattle.city_doc.specs.tree.Ranges.{is_i64_triple}
 
 -- the numbers of a frame and of the points of a pool, and how many points there are
 pub record IsInRange (pool : List Point) (f : Frame) : Type 0 where
