@@ -6,15 +6,16 @@ ghost use Rattle.city_crew.specs.Limits.{max_viewers};
 
 use crate::document::add_city;
 use crate::line::{add_line, add_run_fault};
-use crate::steps::{add_step, step_of};
+use crate::steps::{TakesSteps, take_steps};
 use city_crew::board::board;
 use city_crew::{MAX_VIEWERS, Note, Poster, Viewer};
 use city_desk::{Desk, Shelf, Turn, read_texts};
+use city_model::OutOfMemory;
 use city_model::city::City;
 use city_model::copied::Copied;
 use city_model::script::Script;
 use city_model::sequence::Sequence;
-use std::alloc::{AllocError, Global};
+use std::alloc::Global;
 use std::sync::Wait;
 
 /// Takes the steps at a board of so many seats, and answers each, and then the model that is left.
@@ -26,7 +27,7 @@ pub fn play_board<R: Wait>(
     scripts: &[u8],
     lines: &str,
     answer: &mut Vec<u8>,
-) -> Result<(), AllocError> {
+) -> Result<(), OutOfMemory> {
     let seats = seats.parse::<usize>().unwrap_or(0).min(MAX_VIEWERS);
     match read_texts(alloc, document, scripts) {
         Ok((city, scripts)) => play_over(rt, alloc, city, scripts, seats, lines, answer),
@@ -42,7 +43,7 @@ fn play_over<R: Wait>(
     seats: usize,
     lines: &str,
     answer: &mut Vec<u8>,
-) -> Result<(), AllocError>
+) -> Result<(), OutOfMemory>
     requires lawful { IsLawful (object_at city.1) }
     requires seats { seats ≤ max_viewers }
 {
@@ -101,6 +102,14 @@ fn opened<'r, R: Wait>(
     Some((desk, viewers))
 }
 
+/// A desk whose shelf is the poster of a board, and the board's viewers.
+#[derive(Drop)]
+struct Seated<'q, R: Wait + Drop, Q: Wait> {
+    rt: &'q Q,
+    desk: Desk<Poster<R>>,
+    viewers: Vec<Viewer>,
+}
+
 /// Takes the steps at a desk, which is dropped in one place only.
 fn play_at<R: Wait + Drop, Q: Wait>(
     rt: &Q,
@@ -109,57 +118,27 @@ fn play_at<R: Wait + Drop, Q: Wait>(
     viewers: Vec<Viewer>,
     lines: &str,
     answer: &mut Vec<u8>,
-) -> Result<(), AllocError> {
-    let mut desk = desk;
-    let mut viewers = viewers;
-    let taken = take_steps(rt, alloc, &mut desk, &mut viewers, lines, answer);
-    let left = add_left(desk, alloc, answer);
+) -> Result<(), OutOfMemory> {
+    let mut seated = Seated { rt, desk, viewers };
+    let taken = take_steps(&mut seated, alloc, lines, answer);
+    let Seated { desk, .. } = seated;
+    let (city, _ends, _shelf) = desk.close();
+    let left = add_city(alloc, &city, answer);
     taken?;
     left
 }
 
-/// Adds the model that a desk leaves.
-fn add_left<S: Shelf>(
-    desk: Desk<S>,
-    alloc: Global,
-    answer: &mut Vec<u8>,
-) -> Result<(), AllocError> {
-    let (city, _ends, _shelf) = desk.close();
-    add_city(alloc, &city, answer)
-}
-
-fn take_steps<R: Wait + Drop, Q: Wait>(
-    rt: &Q,
-    alloc: Global,
-    desk: &mut Desk<Poster<R>>,
-    viewers: &mut Vec<Viewer>,
-    lines: &str,
-    answer: &mut Vec<u8>,
-) -> Result<(), AllocError> {
-    for line in lines.lines() {
-        if let Some(step) = step_of(line) {
-            take_step(rt, alloc, desk, viewers, step, answer)?;
+/// A step runs the next script, shows what was committed, or has a viewer look.
+impl<R: Wait + Drop, Q: Wait> TakesSteps for Seated<'_, R, Q> {
+    fn take_step(&mut self, alloc: Global, step: &str) -> Result<String, OutOfMemory> {
+        match step {
+            "commit" => end_next(&mut self.desk).to_string(alloc),
+            "show" => {
+                let _note = self.desk.show(self.rt)?;
+                "done".to_string(alloc)
+            }
+            _ => look_at(alloc, &mut self.viewers, step),
         }
-    }
-    Ok(())
-}
-
-/// Takes a step, and adds what it is answered.
-fn take_step<R: Wait + Drop, Q: Wait>(
-    rt: &Q,
-    alloc: Global,
-    desk: &mut Desk<Poster<R>>,
-    viewers: &mut Vec<Viewer>,
-    step: &str,
-    answer: &mut Vec<u8>,
-) -> Result<(), AllocError> {
-    match step {
-        "commit" => add_step(answer, step, end_next(desk)),
-        "show" => {
-            let _note = desk.show(rt)?;
-            add_step(answer, step, "done")
-        }
-        _ => look_at(alloc, viewers, step, answer),
     }
 }
 
@@ -184,26 +163,21 @@ fn seat_of(step: &str) -> Option<usize> {
     step.strip_prefix("look ")?.parse::<usize>().ok()
 }
 
-/// Has the viewer of a step's seat look, and adds what it sees.
-fn look_at(
-    alloc: Global,
-    viewers: &mut Vec<Viewer>,
-    step: &str,
-    answer: &mut Vec<u8>,
-) -> Result<(), AllocError> {
+/// Has the viewer of a step's seat look, and says what it sees.
+fn look_at(alloc: Global, viewers: &mut Vec<Viewer>, step: &str) -> Result<String, OutOfMemory> {
     match seat_of(step) {
         Some(seat) if seat < viewers.len() => {
             let mut said = String::new(alloc);
             let viewer = looked(alloc, viewers.remove(seat), &mut said)?;
             viewers.insert(seat, viewer)?;
-            add_step(answer, step, said.as_str())
+            Ok(said)
         }
-        _ => add_step(answer, step, "no such step"),
+        _ => "no such step".to_string(alloc),
     }
 }
 
 /// Writes down how many edits a viewer sees, and which objects.
-fn looked(alloc: Global, viewer: Viewer, said: &mut String) -> Result<Viewer, AllocError> {
+fn looked(alloc: Global, viewer: Viewer, said: &mut String) -> Result<Viewer, OutOfMemory> {
     match viewer.look() {
         Ok(look) => {
             let told = add_seen(alloc, look.edits(), look.city(), said);
@@ -219,7 +193,7 @@ fn looked(alloc: Global, viewer: Viewer, said: &mut String) -> Result<Viewer, Al
 }
 
 /// Adds how many edits there are, and the ids of a city's objects, a space before each.
-fn add_seen(alloc: Global, edits: u64, city: &City, said: &mut String) -> Result<(), AllocError> {
+fn add_seen(alloc: Global, edits: u64, city: &City, said: &mut String) -> Result<(), OutOfMemory> {
     said.push_str(edits.to_string(alloc)?.as_str())?;
     for (id, _) in city.iter() {
         said.push_str(" ")?;

@@ -8,14 +8,15 @@ use crate::change::change_text;
 use crate::document::add_city;
 use crate::line::{add_line, add_run_fault};
 use crate::reply::{cause_text, reply_text};
-use crate::steps::{add_step, step_of};
+use crate::steps::{TakesSteps, take_steps};
 use city_desk::RunFault;
 use city_doc::{read_city, read_scripts};
+use city_model::OutOfMemory;
 use city_model::city::City;
 use city_model::command::Command;
 use city_model::script::{Script, is_end};
 use city_txn::{Core, Prepared, Step, TxnFault};
-use std::alloc::{AllocError, Global};
+use std::alloc::Global;
 
 /// Takes the steps with a core over a document, and answers each, and then the model that is left.
 pub fn play_core(
@@ -23,14 +24,19 @@ pub fn play_core(
     document: &[u8],
     lines: &str,
     answer: &mut Vec<u8>,
-) -> Result<(), AllocError> {
+) -> Result<(), OutOfMemory> {
     match read_city(alloc, document) {
         Ok(city) => play_over(alloc, city, lines, answer),
         Err(fault) => add_run_fault(alloc, answer, RunFault::from(fault)),
     }
 }
 
-fn play_over(alloc: Global, city: City, lines: &str, answer: &mut Vec<u8>) -> Result<(), AllocError>
+fn play_over(
+    alloc: Global,
+    city: City,
+    lines: &str,
+    answer: &mut Vec<u8>,
+) -> Result<(), OutOfMemory>
     requires { IsLawful (object_at city.1) }
 {
     let mut core = Core::open(alloc, city);
@@ -41,53 +47,40 @@ fn play_over(alloc: Global, city: City, lines: &str, answer: &mut Vec<u8>) -> Re
 }
 
 /// Adds the model that a core leaves.
-fn add_left(core: Core, alloc: Global, answer: &mut Vec<u8>) -> Result<(), AllocError> {
+fn add_left(core: Core, alloc: Global, answer: &mut Vec<u8>) -> Result<(), OutOfMemory> {
     match core.into_city() {
         Ok(city) => add_city(alloc, &city, answer),
         Err(_) => add_line(answer, "a transaction is open"),
     }
 }
 
-fn take_steps(
-    core: &mut Core,
-    alloc: Global,
-    lines: &str,
-    answer: &mut Vec<u8>,
-) -> Result<(), AllocError> {
-    for line in lines.lines() {
-        if let Some(step) = step_of(line) {
-            let said = said(core, alloc, step)?;
-            add_step(answer, step, said.as_str())?;
+/// A step is a stamp, and a word or a command.
+impl TakesSteps for Core {
+    fn take_step(&mut self, alloc: Global, step: &str) -> Result<String, OutOfMemory> {
+        let (stamp, does) = step.split_once(" ").unwrap_or((step, ""));
+        let Ok(stamp) = stamp.parse::<u64>() else {
+            return "no stamp".to_string(alloc);
+        };
+        match does {
+            "begin" => done_text(alloc, self.begin(stamp)),
+            "abort" => done_text(alloc, self.abort(stamp)),
+            "open" => self.is_open(stamp).to_string(alloc),
+            "prepare" => prepare(self, alloc, stamp),
+            "refusal" => refusal(self, alloc, stamp),
+            "commit" => commit(self, alloc, stamp),
+            _ => act_by(self, alloc, stamp, does),
         }
     }
-    Ok(())
 }
 
-/// What a step is answered: a stamp, and a word or a command.
-fn said(core: &mut Core, alloc: Global, step: &str) -> Result<String, AllocError> {
-    let (stamp, does) = step.split_once(" ").unwrap_or((step, ""));
-    let Ok(stamp) = stamp.parse::<u64>() else {
-        return "no stamp".to_string(alloc);
-    };
-    match does {
-        "begin" => done_text(alloc, core.begin(stamp)),
-        "abort" => done_text(alloc, core.abort(stamp)),
-        "open" => core.is_open(stamp).to_string(alloc),
-        "prepare" => prepare(core, alloc, stamp),
-        "refusal" => refusal(core, alloc, stamp),
-        "commit" => commit(core, alloc, stamp),
-        _ => act_by(core, alloc, stamp, does),
-    }
-}
-
-fn fault_text(alloc: Global, fault: TxnFault) -> Result<String, AllocError> {
+fn fault_text(alloc: Global, fault: TxnFault) -> Result<String, OutOfMemory> {
     match fault {
-        TxnFault::OutOfMemory => Err(AllocError),
+        TxnFault::OutOfMemory => Err(OutOfMemory),
         fault => fault.to_string(alloc),
     }
 }
 
-fn done_text(alloc: Global, done: Result<(), TxnFault>) -> Result<String, AllocError> {
+fn done_text(alloc: Global, done: Result<(), TxnFault>) -> Result<String, OutOfMemory> {
     match done {
         Ok(()) => "done".to_string(alloc),
         Err(fault) => fault_text(alloc, fault),
@@ -95,7 +88,7 @@ fn done_text(alloc: Global, done: Result<(), TxnFault>) -> Result<String, AllocE
 }
 
 /// Whether a transaction may commit: what it would change, or why not.
-fn prepare(core: &Core, alloc: Global, stamp: u64) -> Result<String, AllocError> {
+fn prepare(core: &Core, alloc: Global, stamp: u64) -> Result<String, OutOfMemory> {
     match core.prepare(stamp) {
         Ok(Prepared::Ready(change)) => change_text(alloc, "ready", &change),
         Ok(Prepared::Refused(cause)) => cause_text(alloc, cause),
@@ -103,7 +96,7 @@ fn prepare(core: &Core, alloc: Global, stamp: u64) -> Result<String, AllocError>
     }
 }
 
-fn refusal(core: &Core, alloc: Global, stamp: u64) -> Result<String, AllocError> {
+fn refusal(core: &Core, alloc: Global, stamp: u64) -> Result<String, OutOfMemory> {
     match core.refusal(stamp) {
         Ok(None) => "none".to_string(alloc),
         Ok(Some(cause)) => cause_text(alloc, cause),
@@ -112,7 +105,7 @@ fn refusal(core: &Core, alloc: Global, stamp: u64) -> Result<String, AllocError>
 }
 
 /// What a commit changes, or why it is refused.
-fn commit(core: &mut Core, alloc: Global, stamp: u64) -> Result<String, AllocError> {
+fn commit(core: &mut Core, alloc: Global, stamp: u64) -> Result<String, OutOfMemory> {
     if !core.is_open(stamp) {
         return fault_text(alloc, TxnFault::NotOpen(stamp));
     }
@@ -127,7 +120,7 @@ fn commit(core: &mut Core, alloc: Global, stamp: u64) -> Result<String, AllocErr
 }
 
 /// A script of the command of this text and a commit.
-fn script_of(alloc: Global, command: &str) -> Result<Option<Script>, AllocError> {
+fn script_of(alloc: Global, command: &str) -> Result<Option<Script>, OutOfMemory> {
     let text = format!(in alloc; "[{{\"name\":\"s\",\"commands\":[{command},\"commit\"]}}]")?;
     match read_scripts(alloc, text.as_bytes()) {
         Ok(mut scripts) => Ok(scripts.pop()),
@@ -136,28 +129,24 @@ fn script_of(alloc: Global, command: &str) -> Result<Option<Script>, AllocError>
 }
 
 /// What the command of a text is answered.
-fn act_by(core: &mut Core, alloc: Global, stamp: u64, command: &str) -> Result<String, AllocError> {
-    match script_of(alloc, command)? {
-        Some(script) => act_first(core, alloc, stamp, script.commands()),
-        None => "no command".to_string(alloc),
-    }
-}
-
-/// What the first of these commands is answered.
-fn act_first(
+fn act_by(
     core: &mut Core,
     alloc: Global,
     stamp: u64,
-    commands: &[Command],
-) -> Result<String, AllocError> {
-    match commands.first() {
-        Some(command) if !is_end(command) => act(core, alloc, stamp, command),
-        _ => "no command".to_string(alloc),
+    command: &str,
+) -> Result<String, OutOfMemory> {
+    if let Some(script) = script_of(alloc, command)? {
+        if let Some(command) = script.commands().first() {
+            if !is_end(command) {
+                return act(core, alloc, stamp, command);
+            }
+        }
     }
+    "no command".to_string(alloc)
 }
 
 /// The answer to a command, or a line that says that `would_wait` foretold another.
-fn act(core: &mut Core, alloc: Global, stamp: u64, command: &Command) -> Result<String, AllocError>
+fn act(core: &mut Core, alloc: Global, stamp: u64, command: &Command) -> Result<String, OutOfMemory>
     requires { is_end command.now ≡ false }
 {
     let foretold = core.would_wait(stamp, command);

@@ -6,10 +6,11 @@ use crate::line::{add_bytes, add_fault, add_line, add_run_fault, add_unlike};
 use crate::replay::replay;
 use city_crew::{MAX_VIEWERS, MAX_WORKERS, OpenGate, run_crew};
 use city_desk::Output;
+use city_model::OutOfMemory;
 use city_model::end::{End, Outcome};
 use city_serve::Device;
 use city_serve::serve_texts::serve_texts;
-use std::alloc::{AllocError, Global};
+use std::alloc::Global;
 use std::sync::Wait;
 use std::thread::Threads;
 
@@ -36,7 +37,7 @@ pub fn play_crews<T: Threads + Wait + Sync>(
     document: &[u8],
     scripts: &[u8],
     answer: &mut Vec<u8>,
-) -> Result<(), AllocError> {
+) -> Result<(), OutOfMemory> {
     let mut last = Vec::new(alloc);
     for crew in crews.split_whitespace() {
         let mut now = Vec::new(alloc);
@@ -53,7 +54,7 @@ fn add_told(
     last: &mut Vec<u8>,
     crew: &str,
     now: Vec<u8>,
-) -> Result<(), AllocError> {
+) -> Result<(), OutOfMemory> {
     if !last.is_empty() && now.as_slice() != last.as_slice() {
         add_line(answer, crew)?;
     }
@@ -69,7 +70,7 @@ fn play_crew<T: Threads + Wait + Sync>(
     document: &[u8],
     scripts: &[u8],
     answer: &mut Vec<u8>,
-) -> Result<(), AllocError> {
+) -> Result<(), OutOfMemory> {
     let (workers, viewers) = crew.split_once("x").unwrap_or((crew, "0"));
     let workers = workers.parse::<usize>().unwrap_or(1).clamp(1, MAX_WORKERS);
     let viewers = viewers.parse::<usize>().unwrap_or(0).min(MAX_VIEWERS);
@@ -91,7 +92,7 @@ fn run_texts<T: Threads + Wait + Sync>(
     document: &[u8],
     scripts: &[u8],
     answer: &mut Vec<u8>,
-) -> Result<(), AllocError>
+) -> Result<(), OutOfMemory>
     requires workers { (1 ≤ workers) × (workers ≤ max_workers) }
     requires viewers { viewers ≤ max_viewers }
 {
@@ -121,10 +122,10 @@ fn add_output(
     scripts: &[u8],
     viewers: usize,
     answer: &mut Vec<u8>,
-) -> Result<(), AllocError> {
+) -> Result<(), OutOfMemory> {
     let (bytes, ends) = (output.bytes.as_slice(), output.ends.as_slice());
     let seen = output.seen.as_slice();
-    if seen.len() != viewers || !seen.iter().all(|numbers| saw_all(numbers.as_slice(), ends)) {
+    if seen.len() != viewers || !all_saw(seen, commits(ends)) {
         return add_line(answer, format!(in alloc; "seen: {seen:?}")?.as_str());
     }
     if matches!(told, Told::Bytes) {
@@ -139,7 +140,10 @@ fn add_output(
 
 /// Whether the scripts of these ends give the same when they are played one at a time.
 fn is_replayed(alloc: Global, document: &[u8], scripts: &[u8], ends: &[End], bytes: &[u8]) -> bool {
-    replay(alloc, document, scripts, ends).is_some_and(|again| again.as_slice() == bytes)
+    match replay(alloc, document, scripts, ends) {
+        Some(again) => again.as_slice() == bytes,
+        None => false,
+    }
 }
 
 /// Adds how many ends a history has, or the model that it leaves.
@@ -149,21 +153,44 @@ fn add_history(
     ends: &[End],
     bytes: &[u8],
     answer: &mut Vec<u8>,
-) -> Result<(), AllocError> {
+) -> Result<(), OutOfMemory> {
     if !matches!(told, Told::Model) {
         let count = ends.len();
         let line = format!(in alloc; "a serial history of {count} ends")?;
         return add_line(answer, line.as_str());
     }
-    let model = bytes.split(|b| *b == b'\n').nth(ends.len());
-    add_bytes(answer, model.unwrap_or(b"no model"))
+    let lines = str::from_utf8(bytes).unwrap_or("");
+    add_line(answer, lines.lines().nth(ends.len()).unwrap_or("no model"))
 }
 
-/// Whether a viewer's numbers rise, and the last is that of the commits.
-fn saw_all(numbers: &[u64], ends: &[End]) -> bool {
-    let commits = ends
-        .iter()
-        .filter(|end| matches!(end.outcome, Outcome::Committed))
-        .count();
-    numbers.is_sorted_by(|one, other| *one < *other) && numbers.last() == Some(&(commits as u64))
+/// How many of these ends are commits.
+fn commits(ends: &[End]) -> u64 {
+    let mut commits = 0u64;
+    for end in ends {
+        if matches!(end.outcome, Outcome::Committed) {
+            commits = commits.saturating_add(1);
+        }
+    }
+    commits
+}
+
+/// Whether each viewer's numbers rise, and the last is that of the commits.
+fn all_saw(seen: &[Vec<u64>], commits: u64) -> bool {
+    for numbers in seen {
+        if !saw_all(numbers.as_slice(), commits) {
+            return false;
+        }
+    }
+    true
+}
+
+fn saw_all(numbers: &[u64], commits: u64) -> bool {
+    let mut next = 0u64;
+    for number in numbers {
+        if *number < next {
+            return false;
+        }
+        next = number.saturating_add(1);
+    }
+    next == commits.saturating_add(1)
 }

@@ -2,7 +2,8 @@
 use crate::named::{Named, name_text};
 use crate::scenario::{Scenario, scenario_of};
 use crate::wanted::differing;
-use std::alloc::{AllocError, Global};
+use city_model::OutOfMemory;
+use std::alloc::Global;
 use std::fs;
 use std::sync::Wait;
 use std::thread::Threads;
@@ -28,7 +29,7 @@ pub fn play_file<T: Threads + Wait + Sync>(rt: &HostRuntime, threads: &T, name: 
             let _ = println!(rt; "{name}: {told}");
             false
         }
-        Err(AllocError) => {
+        Err(OutOfMemory) => {
             let _ = println!(rt; "{name}: out of memory");
             false
         }
@@ -40,7 +41,7 @@ fn play_text<T: Threads + Wait + Sync>(
     rt: &T,
     alloc: Global,
     text: &str,
-) -> Result<Came, AllocError> {
+) -> Result<Came, OutOfMemory> {
     let mut names = Vec::new(alloc);
     let mut count = 0u64;
     for part in text.split("\n\n") {
@@ -63,7 +64,7 @@ fn play_part<'a, T: Threads + Wait + Sync>(
     alloc: Global,
     names: &mut Vec<Named<'a>>,
     part: &'a str,
-) -> Result<Option<String>, AllocError> {
+) -> Result<Option<String>, OutOfMemory> {
     if let Some(rest) = part.strip_prefix("let ") {
         let named = name_text(alloc, names.as_slice(), rest)?;
         names.push(named)?;
@@ -83,7 +84,7 @@ fn play_scenario<T: Threads + Wait + Sync>(
     rt: &T,
     alloc: Global,
     scenario: &Scenario,
-) -> Result<Option<String>, AllocError> {
+) -> Result<Option<String>, OutOfMemory> {
     let mut came = Vec::new(alloc);
     crate::play::play(rt, alloc, scenario, &mut came)?;
     differing(

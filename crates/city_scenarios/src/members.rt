@@ -1,9 +1,10 @@
 //! The verb `members`: members kept at a place.
 use crate::line::add_line;
+use city_model::OutOfMemory;
 use city_model::kept::extra::Extra;
 use city_model::kept::site::{AtGeometry, AtObject, AtTop, AtTransform, Site};
 use serde_json::{Map, Value};
-use std::alloc::{AllocError, Global};
+use std::alloc::Global;
 
 /// Answers whether the members of a text are kept at a place.
 pub fn play_members(
@@ -11,7 +12,7 @@ pub fn play_members(
     place: &str,
     text: &[u8],
     answer: &mut Vec<u8>,
-) -> Result<(), AllocError> {
+) -> Result<(), OutOfMemory> {
     match Value::from_slice(alloc, text) {
         Ok(Value::Object(members)) => add_line(answer, kept_at(place, members)),
         _ => add_line(answer, "no members"),

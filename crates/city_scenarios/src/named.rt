@@ -1,5 +1,6 @@
 //! Texts that a file names, and the pieces that they are made of.
-use std::alloc::{AllocError, Global};
+use city_model::OutOfMemory;
+use std::alloc::Global;
 
 /// A text with a name.
 #[derive(Drop)]
@@ -26,7 +27,7 @@ pub fn name_text<'a>(
     alloc: Global,
     names: &[Named],
     lines: &'a str,
-) -> Result<Named<'a>, AllocError> {
+) -> Result<Named<'a>, OutOfMemory> {
     let (name, pieces) = lines.split_once("\n").unwrap_or((lines, ""));
     let mut text = Vec::new(alloc);
     for piece in pieces.lines() {
@@ -42,7 +43,7 @@ fn add_piece(
     names: &[Named],
     line: &str,
     text: &mut Vec<u8>,
-) -> Result<(), AllocError> {
+) -> Result<(), OutOfMemory> {
     if let Some(numbers) = line.strip_prefix("bytes ") {
         return add_bytes(numbers, text);
     }
@@ -53,7 +54,7 @@ fn add_piece(
 }
 
 /// Adds the bytes of these numbers.
-fn add_bytes(numbers: &str, text: &mut Vec<u8>) -> Result<(), AllocError> {
+fn add_bytes(numbers: &str, text: &mut Vec<u8>) -> Result<(), OutOfMemory> {
     for number in numbers.split_whitespace() {
         if let Ok(byte) = number.parse::<u8>() {
             text.push(byte)?;
@@ -68,7 +69,7 @@ fn add_repeated(
     names: &[Named],
     rest: &str,
     text: &mut Vec<u8>,
-) -> Result<(), AllocError> {
+) -> Result<(), OutOfMemory> {
     let (count, line) = rest.split_once(" ").unwrap_or((rest, ""));
     let piece = meant(names, line);
     let numbered = piece.contains(&b'%');
@@ -88,7 +89,7 @@ fn add_numbered(
     piece: &[u8],
     number: u64,
     text: &mut Vec<u8>,
-) -> Result<(), AllocError> {
+) -> Result<(), OutOfMemory> {
     let number = number.to_string(alloc)?;
     for byte in piece {
         if *byte == b'%' {

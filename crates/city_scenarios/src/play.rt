@@ -1,20 +1,26 @@
 //! Which verb plays what.
 use crate::board::play_board;
 use crate::body::play_body;
-use crate::command_line::play_words;
+use crate::command_line::CommandLines;
 use crate::core_steps::play_core;
 use crate::crew::{Told, play_crews};
-use crate::document::{play_document, play_prefixes};
+use crate::document::play_document;
+use crate::faults::Faults;
 use crate::line::add_line;
-use crate::locks::play_locks;
 use crate::members::play_members;
-use crate::pool::play_pool;
+use crate::prefixes::play_prefixes;
 use crate::run::play_run;
 use crate::scenario::Scenario;
-use crate::scripts::{play_script_prefixes, play_scripts};
+use crate::scripts::play_scripts;
 use crate::serve::play_serve;
+use crate::shelves::play_shelves;
+use crate::steps::take_steps;
+use crate::tokens::play_tokens;
 use crate::turns::play_turns;
-use std::alloc::{AllocError, Global};
+use city_doc::VertexPool;
+use city_locks::LockTable;
+use city_model::OutOfMemory;
+use std::alloc::Global;
 use std::sync::Wait;
 use std::thread::Threads;
 
@@ -24,7 +30,7 @@ pub fn play<T: Threads + Wait + Sync>(
     alloc: Global,
     scenario: &Scenario,
     answer: &mut Vec<u8>,
-) -> Result<(), AllocError> {
+) -> Result<(), OutOfMemory> {
     let (verb, rest) = scenario.verb.split_once(" ").unwrap_or((scenario.verb, ""));
     let lines = scenario.lines;
     match scenario.texts.as_slice() {
@@ -44,11 +50,12 @@ fn play_alone(
     verb: &str,
     lines: &str,
     answer: &mut Vec<u8>,
-) -> Result<(), AllocError> {
+) -> Result<(), OutOfMemory> {
     match verb {
-        "locks" => play_locks(alloc, lines, answer),
-        "words" => play_words(alloc, lines, answer),
-        "pool" => play_pool(alloc, lines, answer),
+        "locks" => take_steps(&mut LockTable::new(alloc), alloc, lines, answer),
+        "words" => take_steps(&mut CommandLines, alloc, lines, answer),
+        "pool" => take_steps(&mut VertexPool::new(alloc), alloc, lines, answer),
+        "faults" => take_steps(&mut Faults, alloc, lines, answer),
         _ => add_line(answer, "no such verb without texts"),
     }
 }
@@ -61,14 +68,15 @@ fn play_text(
     text: &[u8],
     lines: &str,
     answer: &mut Vec<u8>,
-) -> Result<(), AllocError> {
+) -> Result<(), OutOfMemory> {
     match verb {
         "document" => play_document(alloc, text, answer),
-        "prefixes" => play_prefixes(alloc, text, answer),
+        "prefixes" => play_prefixes(alloc, false, text, answer),
         "scripts" => play_scripts(alloc, text, answer),
-        "scriptprefixes" => play_script_prefixes(alloc, text, answer),
+        "scriptprefixes" => play_prefixes(alloc, true, text, answer),
         "body" => play_body(alloc, text, answer),
         "members" => play_members(alloc, rest, text, answer),
+        "tokens" => play_tokens(alloc, rest, text, answer),
         "core" => play_core(alloc, text, lines, answer),
         _ => add_line(answer, "no such verb of one text"),
     }
@@ -84,10 +92,11 @@ fn play_run_verb<T: Threads + Wait + Sync>(
     scripts: &[u8],
     lines: &str,
     answer: &mut Vec<u8>,
-) -> Result<(), AllocError> {
+) -> Result<(), OutOfMemory> {
     let told = match verb {
         "run" => return play_run(alloc, document, scripts, answer),
         "board" => return play_board(rt, alloc, rest, document, scripts, lines, answer),
+        "shelves" => return play_shelves(rt, alloc, rest, document, scripts, lines, answer),
         "turns" => return play_turns(alloc, document, scripts, lines, answer),
         "crew" => Told::Bytes,
         "replay" => Told::History,

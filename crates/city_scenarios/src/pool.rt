@@ -1,28 +1,19 @@
 //! The verb `pool`: points numbered.
-use crate::steps::{add_step, step_of};
+use crate::steps::TakesSteps;
 use city_doc::VertexPool;
+use city_model::OutOfMemory;
 use city_model::object::Point;
-use std::alloc::{AllocError, Global};
+use std::alloc::Global;
 
-/// Adds each point to a new pool, and answers its number.
-pub fn play_pool(alloc: Global, lines: &str, answer: &mut Vec<u8>) -> Result<(), AllocError> {
-    let mut pool = VertexPool::new(alloc);
-    for line in lines.lines() {
-        if let Some(step) = step_of(line) {
-            let number = pool.add(point_of(step))?;
-            add_step(answer, step, number.to_string(alloc)?.as_str())?;
-        }
+/// A step is the three numbers of a point, which is added and answered by its own number.
+impl TakesSteps for VertexPool {
+    fn take_step(&mut self, alloc: Global, step: &str) -> Result<String, OutOfMemory> {
+        let mut numbers = step.split_whitespace();
+        let x = number_of(numbers.next());
+        let y = number_of(numbers.next());
+        let z = number_of(numbers.next());
+        self.add(Point { x, y, z })?.to_string(alloc)
     }
-    Ok(())
-}
-
-/// The point of three numbers.
-fn point_of(step: &str) -> Point {
-    let mut numbers = step.split_whitespace();
-    let x = number_of(numbers.next());
-    let y = number_of(numbers.next());
-    let z = number_of(numbers.next());
-    Point { x, y, z }
 }
 
 fn number_of(word: Option<&str>) -> i64 {

@@ -76,19 +76,14 @@ fn redone(alloc: Global, opening: &City, commands: &[&Command]) -> Result<City, 
     Ok(city)
 }
 
-fn is_mark_of(command: &Command, name: &Text) -> bool {
-    match command {
-        Command::Mark(other) => *other == *name,
-        _ => false,
-    }
-}
-
 /// The place of the newest mark of the name.
 fn newest_mark(commands: &[&Command], name: &Text) -> Option<usize> {
     let mut newest = None;
     for (place, command) in commands.iter().enumerate() {
-        if is_mark_of(command, name) {
-            newest = Some(place);
+        if let Command::Mark(other) = command {
+            if *other == *name {
+                newest = Some(place);
+            }
         }
     }
     newest
@@ -228,18 +223,18 @@ fn end_again(alloc: Global, city: &mut City, scripts: &[Script], end: &End) -> O
     })
 }
 
-/// The ends of the scripts of these ends, when they are played one after the other on the city.
-fn ends_again(alloc: Global, city: &mut City, scripts: &[Script], ends: &[End]) -> Option<Vec<End>>
-    requires { IsSound (object_at city.old.1) }
-{
-    let mut again = Vec::new(alloc);
+/// Whether one of these ends is of the script.
+fn has_end(ends: &[End], script: usize) -> bool {
     for end in ends {
-        again.push(end_again(alloc, city, scripts, end)?).ok()?;
+        if end.script == script {
+            return true;
+        }
     }
-    Some(again)
+    false
 }
 
-/// What the scripts of these ends give on the city, played one at a time in this order.
+/// What the scripts of these ends give on the city, played one at a time in this order. None where a script ends twice,
+/// or since more ends than there were before it.
 fn replay_scripts(
     alloc: Global,
     city: &mut City,
@@ -248,28 +243,19 @@ fn replay_scripts(
 ) -> Option<Vec<u8>>
     requires { IsSound (object_at city.old.1) }
 {
-    let again = ends_again(alloc, city, scripts, ends)?;
+    let mut again = Vec::new(alloc);
+    for end in ends {
+        if end.since > again.len() || has_end(again.as_slice(), end.script) {
+            return None;
+        }
+        again.push(end_again(alloc, city, scripts, end)?).ok()?;
+    }
     output_bytes(alloc, city, again.as_slice(), 0).ok()
 }
 
-/// Whether each script ends once, and none since more ends than there were before it.
-fn are_placed(ends: &[End]) -> bool {
-    ends.iter().enumerate().all(|(place, end)| {
-        let once = ends
-            .iter()
-            .filter(|other| other.script == end.script)
-            .count()
-            == 1;
-        once && end.since <= place
-    })
-}
-
 /// What the scripts of these ends give, played one at a time in this order: the report, then the model's text and a
-/// newline. None where a script ends twice, or since an end that comes later.
+/// newline. None where these are the ends of no such history.
 pub fn replay(alloc: Global, document: &[u8], scripts: &[u8], ends: &[End]) -> Option<Vec<u8>> {
-    if !are_placed(ends) {
-        return None;
-    }
     let Ok((mut city, scripts)) = read_texts(alloc, document, scripts) else {
         return None;
     };

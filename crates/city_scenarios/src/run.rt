@@ -1,7 +1,8 @@
 //! The verb `run`: a run by one worker.
 use crate::line::{add_bytes, add_run_fault};
 use city_desk::run_serial;
-use std::alloc::{AllocError, Global};
+use city_model::OutOfMemory;
+use std::alloc::Global;
 
 /// Answers what a run by one worker writes, or why it has no output.
 pub fn play_run(
@@ -9,7 +10,7 @@ pub fn play_run(
     document: &[u8],
     scripts: &[u8],
     answer: &mut Vec<u8>,
-) -> Result<(), AllocError> {
+) -> Result<(), OutOfMemory> {
     match run_serial(alloc, document, scripts) {
         Ok(output) => add_bytes(answer, output.bytes.as_slice()),
         Err(fault) => add_run_fault(alloc, answer, fault),

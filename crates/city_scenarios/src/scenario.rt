@@ -1,6 +1,7 @@
 //! A scenario, as it stands in a file.
 use crate::named::{Named, meant};
-use std::alloc::{AllocError, Global};
+use city_model::OutOfMemory;
+use std::alloc::Global;
 
 /// What a scenario has.
 #[derive(Drop)]
@@ -22,7 +23,7 @@ pub fn scenario_of<'t>(
     alloc: Global,
     names: &'t [Named],
     part: &'t str,
-) -> Result<Option<Scenario<'t>>, AllocError> {
+) -> Result<Option<Scenario<'t>>, OutOfMemory> {
     let Some((title, rest)) = part.split_once("\n") else {
         return Ok(None);
     };
@@ -45,7 +46,7 @@ fn texts_of<'t>(
     alloc: Global,
     names: &'t [Named],
     lines: &'t str,
-) -> Result<Vec<&'t [u8]>, AllocError> {
+) -> Result<Vec<&'t [u8]>, OutOfMemory> {
     let mut texts = Vec::new(alloc);
     for line in lines.lines() {
         texts.push(meant(names, line))?;
@@ -54,7 +55,7 @@ fn texts_of<'t>(
 }
 
 /// What the lines mean, each ended by a newline.
-fn wanted_of(alloc: Global, names: &[Named], lines: &str) -> Result<Vec<u8>, AllocError> {
+fn wanted_of(alloc: Global, names: &[Named], lines: &str) -> Result<Vec<u8>, OutOfMemory> {
     let mut wanted = Vec::new(alloc);
     for line in lines.lines() {
         wanted.extend_from_slice(meant(&*names, line))?;

@@ -2,9 +2,10 @@
 use crate::line::{add_bytes, add_fault, add_line, add_unlike};
 use crate::reader::{Giving, Reads};
 use crate::writer::{Taking, Writes};
+use city_model::OutOfMemory;
 use city_serve::Device;
 use city_serve::serve::serve;
-use std::alloc::{AllocError, Global};
+use std::alloc::Global;
 use std::sync::Wait;
 use std::thread::Threads;
 
@@ -16,7 +17,7 @@ pub fn play_serve<T: Threads + Wait + Sync>(
     words: &str,
     texts: &[&[u8]],
     answer: &mut Vec<u8>,
-) -> Result<(), AllocError> {
+) -> Result<(), OutOfMemory> {
     let input = joined(alloc, texts)?;
     let reads = Reads::told(words);
     let writes = Writes::told(words);
@@ -31,7 +32,7 @@ pub fn play_serve<T: Threads + Wait + Sync>(
 }
 
 /// The texts with a newline between two.
-fn joined(alloc: Global, texts: &[&[u8]]) -> Result<Vec<u8>, AllocError> {
+fn joined(alloc: Global, texts: &[&[u8]]) -> Result<Vec<u8>, OutOfMemory> {
     let mut all = Vec::new(alloc);
     for (number, text) in texts.iter().enumerate() {
         if number > 0 {
@@ -49,7 +50,7 @@ fn served<T: Threads + Wait + Sync>(
     reads: Reads,
     writes: Writes,
     input: &[u8],
-) -> Result<(Vec<u8>, Vec<u8>), AllocError> {
+) -> Result<(Vec<u8>, Vec<u8>), OutOfMemory> {
     let mut taking = Taking::new(alloc, writes);
     let mut line = Vec::new(alloc);
     serve_to(rt, alloc, reads, &mut taking, input, &mut line)?;
@@ -64,7 +65,7 @@ fn serve_to<T: Threads + Wait + Sync>(
     taking: &mut Taking,
     input: &[u8],
     line: &mut Vec<u8>,
-) -> Result<(), AllocError> {
+) -> Result<(), OutOfMemory> {
     let mut reader = Device::new(Giving::new(reads, input));
     let mut writer = Device::new(taking);
     match serve(rt, alloc, &mut reader, &mut writer, 1, 0) {
@@ -82,7 +83,7 @@ fn serve_each<T: Threads + Wait + Sync>(
     writes: Writes,
     input: &[u8],
     answer: &mut Vec<u8>,
-) -> Result<(), AllocError> {
+) -> Result<(), OutOfMemory> {
     let (whole, _) = served(rt, alloc, reads, writes.with_room(usize::MAX), input)?;
     let mut last = Vec::new(alloc);
     for room in 0..whole.len() {
@@ -104,7 +105,7 @@ fn serve_one<T: Threads + Wait + Sync>(
     wanted: &[u8],
     last: &mut Vec<u8>,
     answer: &mut Vec<u8>,
-) -> Result<(), AllocError> {
+) -> Result<(), OutOfMemory> {
     let (written, line) = served(rt, alloc, reads, writes, input)?;
     if written.as_slice() == wanted {
         add_unlike(answer, last, line)
@@ -114,6 +115,6 @@ fn serve_one<T: Threads + Wait + Sync>(
 }
 
 /// Adds that a writer that had room for so many bytes has others.
-fn add_other_bytes(alloc: Global, room: usize, answer: &mut Vec<u8>) -> Result<(), AllocError> {
+fn add_other_bytes(alloc: Global, room: usize, answer: &mut Vec<u8>) -> Result<(), OutOfMemory> {
     add_line(answer, format!(in alloc; "other bytes at {room}")?.as_str())
 }

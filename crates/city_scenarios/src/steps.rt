@@ -1,5 +1,28 @@
 //! Steps: lines of an answer that have an arrow.
-use std::alloc::{AllocError, Global};
+use city_model::OutOfMemory;
+use std::alloc::Global;
+
+/// What takes steps one after another.
+pub trait TakesSteps {
+    /// Takes a step, and says what it is answered.
+    fn take_step(&mut self, alloc: Global, step: &str) -> Result<String, OutOfMemory>;
+}
+
+/// Takes each step of these lines, and adds it with what it is answered.
+pub fn take_steps<T: TakesSteps>(
+    taker: &mut T,
+    alloc: Global,
+    lines: &str,
+    answer: &mut Vec<u8>,
+) -> Result<(), OutOfMemory> {
+    for line in lines.lines() {
+        if let Some(step) = step_of(line) {
+            let said = taker.take_step(alloc, step)?;
+            add_step(answer, step, said.as_str())?;
+        }
+    }
+    Ok(())
+}
 
 /// What a line does, if it is a step: what stands before the last arrow.
 pub fn step_of(line: &str) -> Option<&str> {
@@ -8,7 +31,7 @@ pub fn step_of(line: &str) -> Option<&str> {
 }
 
 /// Adds a step with what it is answered.
-pub fn add_step(answer: &mut Vec<u8>, step: &str, said: &str) -> Result<(), AllocError> {
+pub fn add_step(answer: &mut Vec<u8>, step: &str, said: &str) -> Result<(), OutOfMemory> {
     answer.extend_from_slice(step.as_bytes())?;
     answer.extend_from_slice(b" -> ")?;
     answer.extend_from_slice(said.as_bytes())?;
@@ -17,7 +40,7 @@ pub fn add_step(answer: &mut Vec<u8>, step: &str, said: &str) -> Result<(), Allo
 }
 
 /// A number, or `none`.
-pub fn number_or_none(alloc: Global, number: Option<usize>) -> Result<String, AllocError> {
+pub fn number_or_none(alloc: Global, number: Option<usize>) -> Result<String, OutOfMemory> {
     match number {
         Some(number) => number.to_string(alloc),
         None => "none".to_string(alloc),

@@ -4,13 +4,14 @@ ghost use Rattle.city_model.specs.Relations.{IsLawful};
 
 use crate::change::change_text;
 use crate::line::{add_line, add_run_fault};
-use crate::steps::{add_step, number_or_none, step_of};
+use crate::steps::{TakesSteps, number_or_none, take_steps};
 use city_desk::{Desk, ListShelf, Turn, output_bytes, read_texts};
+use city_model::OutOfMemory;
 use city_model::city::City;
 use city_model::end::End;
 use city_model::script::Script;
 use city_model::sequence::Sequence;
-use std::alloc::{AllocError, Global};
+use std::alloc::Global;
 
 /// Takes the steps at a desk, and answers each, and then the report, the model and the changes of the commits.
 pub fn play_turns(
@@ -19,7 +20,7 @@ pub fn play_turns(
     scripts: &[u8],
     lines: &str,
     answer: &mut Vec<u8>,
-) -> Result<(), AllocError> {
+) -> Result<(), OutOfMemory> {
     match read_texts(alloc, document, scripts) {
         Ok((city, scripts)) => play_over(alloc, city, scripts, lines, answer),
         Err(fault) => add_run_fault(alloc, answer, fault),
@@ -32,7 +33,7 @@ fn play_over(
     scripts: Sequence<Script>,
     lines: &str,
     answer: &mut Vec<u8>,
-) -> Result<(), AllocError>
+) -> Result<(), OutOfMemory>
     requires { IsLawful (object_at city.1) }
 {
     let mut desk = Desk::open(alloc, city, scripts, ListShelf::new(alloc))?;
@@ -43,7 +44,7 @@ fn play_over(
 }
 
 /// Adds what a desk leaves, which is closed where a script hasn't ended.
-fn add_left(desk: Desk<ListShelf>, alloc: Global, answer: &mut Vec<u8>) -> Result<(), AllocError> {
+fn add_left(desk: Desk<ListShelf>, alloc: Global, answer: &mut Vec<u8>) -> Result<(), OutOfMemory> {
     match desk.finish() {
         Ok(left) => add_output(alloc, &left.city, left.ends.as_slice(), &left.shelf, answer),
         Err(desk) => add_closed(desk, alloc, answer),
@@ -55,7 +56,7 @@ fn add_closed(
     desk: Desk<ListShelf>,
     alloc: Global,
     answer: &mut Vec<u8>,
-) -> Result<(), AllocError> {
+) -> Result<(), OutOfMemory> {
     let (city, ends, shelf) = desk.close();
     add_line(answer, "unfinished")?;
     add_output(alloc, &city, ends.as_slice(), &shelf, answer)
@@ -68,7 +69,7 @@ fn add_output(
     ends: &[End],
     shelf: &ListShelf,
     answer: &mut Vec<u8>,
-) -> Result<(), AllocError> {
+) -> Result<(), OutOfMemory> {
     let bytes = output_bytes(alloc, city, ends, 0)?;
     answer.extend_from_slice(bytes.as_slice())?;
     for change in shelf.changes() {
@@ -78,32 +79,19 @@ fn add_output(
     Ok(())
 }
 
-fn take_steps(
-    desk: &mut Desk<ListShelf>,
-    alloc: Global,
-    lines: &str,
-    answer: &mut Vec<u8>,
-) -> Result<(), AllocError> {
-    for line in lines.lines() {
-        if let Some(step) = step_of(line) {
-            let said = said(desk, alloc, step)?;
-            add_step(answer, step, said.as_str())?;
+/// A step is the number of a script whose turn it is, or a word.
+impl TakesSteps for Desk<ListShelf> {
+    fn take_step(&mut self, alloc: Global, step: &str) -> Result<String, OutOfMemory> {
+        match step {
+            "ready" => number_or_none(alloc, self.ready()),
+            "take" => number_or_none(alloc, self.take()),
+            _ => turn_text(self, alloc, step),
         }
-    }
-    Ok(())
-}
-
-/// What a step is answered: the number of a script whose turn it is, or a word.
-fn said(desk: &mut Desk<ListShelf>, alloc: Global, step: &str) -> Result<String, AllocError> {
-    match step {
-        "ready" => number_or_none(alloc, desk.ready()),
-        "take" => number_or_none(alloc, desk.take()),
-        _ => turn_text(desk, alloc, step),
     }
 }
 
 /// The answer to the turn of a script. A script that was said to be ready doesn't wait.
-fn turn_text(desk: &mut Desk<ListShelf>, alloc: Global, step: &str) -> Result<String, AllocError> {
+fn turn_text(desk: &mut Desk<ListShelf>, alloc: Global, step: &str) -> Result<String, OutOfMemory> {
     let number = step.parse::<usize>().unwrap_or(usize::MAX);
     if number >= desk.scripts() {
         return "no script".to_string(alloc);
