@@ -23,7 +23,7 @@ fn add_bodies(alloc: Global, scripts: &[Script], answer: &mut Vec<u8>) -> Result
     for script in scripts {
         for command in script.commands() {
             if let Command::Put(id, body) = command {
-                let cause = cause_name(body_fault(alloc, body)?);
+                let cause = cause_of(alloc, body)?;
                 add_line(answer, format!(in alloc; "{id} {cause}")?.as_str())?;
                 add_shells(alloc, body, answer)?;
             }
@@ -32,15 +32,17 @@ fn add_bodies(alloc: Global, scripts: &[Script], answer: &mut Vec<u8>) -> Result
     Ok(())
 }
 
-/// The name of a cause that a body has.
-fn cause_name(cause: Option<Cause>) -> &'static str {
-    match cause {
+/// The name of the cause that is wrong with a body, or `none`.
+fn cause_of(alloc: Global, body: &Body) -> Result<&'static str, OutOfMemory> {
+    let fault = body_fault(alloc, body)?;
+    let name = match &fault {
         None => "none",
         Some(Cause::ShortRing) => "ShortRing",
         Some(Cause::SameTwice) => "SameTwice",
         Some(Cause::OpenShell) => "OpenShell",
         Some(_) => "another cause",
-    }
+    };
+    Ok(name)
 }
 
 fn add_shells(alloc: Global, body: &Body, answer: &mut Vec<u8>) -> Result<(), OutOfMemory> {

@@ -26,7 +26,7 @@ fn add_read_fault(
     fault: ReadFault,
     answer: &mut Vec<u8>,
 ) -> Result<(), OutOfMemory> {
-    let shown = format!(in alloc; "cityed: {fault}")?;
+    let shown = format!(in alloc; "cityed: {fault}");
     add_shown(alloc, answer, shown, RunFault::from(fault))
 }
 

@@ -40,7 +40,9 @@ pub fn add_fault(
     answer: &mut Vec<u8>,
     fault: ServeFault,
 ) -> Result<(), OutOfMemory> {
-    add_line(answer, fault_line(alloc, &fault)?.as_str())
+    let line = fault_line(alloc, &fault);
+    drop(fault);
+    add_line(answer, line?.as_str())
 }
 
 /// Adds the line that says why a run has no output. The fault has to show so by itself too.
@@ -49,20 +51,22 @@ pub fn add_run_fault(
     answer: &mut Vec<u8>,
     fault: RunFault,
 ) -> Result<(), OutOfMemory> {
-    let shown = format!(in alloc; "cityed: {fault}")?;
+    let shown = format!(in alloc; "cityed: {fault}");
     add_shown(alloc, answer, shown, fault)
 }
 
-/// Adds the line of a fault that shows so in a text, where it shows so too as that of a run and as that of the program.
+/// Adds the line of a fault that shows so by itself, where that is the line of the program too.
 pub fn add_shown(
     alloc: Global,
     answer: &mut Vec<u8>,
-    shown: String,
+    shown: Result<String, OutOfMemory>,
     fault: RunFault,
 ) -> Result<(), OutOfMemory> {
-    let run = format!(in alloc; "cityed: {fault}")?;
-    let line = fault_line(alloc, &ServeFault::Run(fault))?;
-    if shown == run && run == line {
+    let fault = ServeFault::Run(fault);
+    let line = fault_line(alloc, &fault);
+    drop(fault);
+    let (shown, line) = (shown?, line?);
+    if shown == line {
         add_line(answer, line.as_str())
     } else {
         add_line(answer, "shown otherwise")

@@ -20,7 +20,7 @@ fn add_script_fault(
     fault: ScriptFault,
     answer: &mut Vec<u8>,
 ) -> Result<(), OutOfMemory> {
-    let shown = format!(in alloc; "cityed: {fault}")?;
+    let shown = format!(in alloc; "cityed: {fault}");
     add_shown(alloc, answer, shown, RunFault::from(fault))
 }
 

@@ -115,15 +115,15 @@ fn write_step(
     }
 }
 
-/// Adds what a list takes, and that a shelf that keeps nothing takes it.
+/// Has a shelf that keeps nothing take a change, and a list, and adds what the list has then.
 fn add_list(alloc: Global, change: &Change, answer: &mut Vec<u8>) -> Result<(), OutOfMemory> {
+    NullShelf::new().take(change.copy(alloc)?)?;
     let mut list = ListShelf::new(alloc);
     list.take(change.copy(alloc)?)?;
-    for change in list.changes() {
-        add_line(answer, change_text(alloc, "listed", change)?.as_str())?;
+    match list.changes() {
+        [taken] => add_line(answer, change_text(alloc, "taken", taken)?.as_str()),
+        _ => add_line(answer, "not taken"),
     }
-    NullShelf::new().take(change.copy(alloc)?)?;
-    add_line(answer, "taken")
 }
 
 /// Posts a change on a board over a city.
