@@ -5,8 +5,8 @@
 //!
 //! - `file`, `scenario`, `named`: a file of scenarios, one of them, and texts that they name
 //! - `play`: which verb plays what; `line`, `wanted`: what verbs write, and how it is compared
-//! - `document`, `scripts`, `prefixes`: texts read; `tokens`: from their tokens; `body`: bodies judged; `members`: members
-//!   kept; `faults`: faults shown
+//! - `document`, `scripts`, `prefixes`: texts read; `tokens`: from their tokens; `body`: bodies judged; `members`:
+//!   members kept; `faults`: faults shown
 //! - `run`, `crew`, `replay`: whole runs, by one worker, by several, and their scripts one at a time
 //! - `serve`, `reader`, `writer`: from a device to a device
 //! - `steps`, `turns`: what is taken step by step, a desk; `core_steps`, `reply`, `change`: transactions; `locks`: a
