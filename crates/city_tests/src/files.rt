@@ -1,11 +1,12 @@
 //! What files give.
+use city_model::OutOfMemory;
 use city_serve::{ServeFault, read_file};
-use std::alloc::{AllocError, Global};
+use std::alloc::Global;
 use std::fs;
 use std::test::Fail;
 
 /// So many bytes, no two pieces of them alike.
-fn text_of_length(alloc: Global, length: usize) -> Result<Vec<u8>, AllocError> {
+fn text_of_length(alloc: Global, length: usize) -> Result<Vec<u8>, OutOfMemory> {
     let mut text = Vec::new(alloc);
     for at in 0..length {
         text.push((at % 251) as u8)?;
@@ -18,12 +19,9 @@ fn a_file_gives_its_text_and_a_missing_one_cannot_be_read(rt: HostRuntime) -> Re
     for length in [0, 1, 65_535, 65_536, 65_537, 1_048_577, 5_000_000] {
         let text = text_of_length(rt.alloc(), length)?;
         fs::write(&rt, "a_text", text.as_slice())?;
-        let read = read_file(&rt, "a_text");
+        let same = read_file(&rt, "a_text").is_ok_and(|read| read.as_slice() == text.as_slice());
         fs::remove_file(&rt, "a_text")?;
-        assert!(rt;
-            read.is_ok_and(|read| read.as_slice() == text.as_slice()),
-            "{length}"
-        );
+        assert!(rt; same, "{length}");
     }
     assert!(rt; matches!(&read_file(&rt, "a_text"), Err(ServeFault::Read)));
     Ok(())

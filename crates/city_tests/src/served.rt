@@ -2,9 +2,10 @@
 ghost use Rattle.std.specs.Prelude.{◌≤◌};
 
 use city_crew::Gate;
+use city_model::OutOfMemory;
 use city_serve::Device;
 use city_serve::serve_texts::serve_texts_through;
-use std::alloc::{AllocError, Global};
+use std::alloc::Global;
 use std::fmt::Write;
 use std::sync::Wait;
 use std::thread::Threads;
@@ -20,7 +21,7 @@ pub const TWO: &str = concat!(
 );
 
 /// A text of so many scripts, number n of which puts the road `rn` and commits.
-pub fn scripts_of_roads(alloc: Global, count: usize) -> Result<String, AllocError> {
+pub fn scripts_of_roads(alloc: Global, count: usize) -> Result<String, OutOfMemory> {
     let mut text = String::new(alloc);
     for number in 0..count {
         let before = if number == 0 { "[" } else { "," };
