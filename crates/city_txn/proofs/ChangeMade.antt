@@ -78,6 +78,10 @@ not_own : (s : ℕ) (x : Option Object) (i : Option UndoImage) → is_writer s (
 not_own s x None h = refl
 not_own s x (Some i) h = bool_cases i.unwritten (λ e. rw e refl) (λ e. rw (e, h) refl)
 
+pub none_there : (x : Option Object) → ((o : Object) → x ≡ Some o → is_orphan o ≡ false) → is_orphan_there x ≡ false
+none_there None h = refl
+none_there (Some o) h = h o refl
+
 -- what holds of none holds of no one of them
 none_at : (p : List ℕ → Bool) (ids : List (List ℕ)) (q : List ℕ) → list_any p ids ≡ false → has_id ids q ≡ true
     → p q ≡ false

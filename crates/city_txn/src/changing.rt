@@ -5,7 +5,7 @@ ghost use Rattle.std.specs.Ordering.{nat_cmp};
 ghost use Rattle.std.specs.Cmp.Lexicographic.{slice_cmp};
 ghost use Rattle.std.specs.List.Sorted.{IsStrictlySortedBy};
 ghost use Rattle.city_model.specs.CityMap.{same_id};
-ghost use Rattle.city_model.specs.Relations.{is_orphan_there};
+ghost use Rattle.city_model.specs.Relations.{is_orphan_there, HasNoOrphan};
 ghost use Rattle.city_model.specs.Writing.{write_in};
 ghost use Rattle.city_txn.specs.Changing.{change_in};
 ghost use Rattle.city_txn.specs.Writes.{write_of, own_write};
@@ -63,6 +63,7 @@ impl Store {
     /// Whether the stamp sees an orphan at an id that it has reserved. Doesn't allocate.
     pub fn has_orphan(&self, stamp: u64) -> bool
         ensures none { result ≡ false → (q : List ℕ) → is_orphan_written (own_write stamp (write_of self.now.writes q)) ≡ false }
+        ensures seen { HasNoOrphan (store_view self.now stamp) → result ≡ false }
         ensures lists { (q : List ℕ) → write_in (change_in self.now.writes stamp) q ≡ own_write stamp (write_of self.now.writes q) }
         ensures ordered { IsStrictlySortedBy (slice_cmp nat_cmp) (keys_of (change_in self.now.writes stamp)) }
     {
