@@ -14,7 +14,8 @@ use Rattle.city_model.proofs.MemberLaws.{get_member-without}
 use Rattle.city_tokens.specs.declared.vertices.Vertex.{Vertex}
 use Rattle.city_tokens.specs.document.Cities.{city_of, entries_of, objects_of}
 use Rattle.city_tokens.specs.tree.Members.{is_text, kept_if}
-use Rattle.city_tokens.specs.document.Frames.{frame_of, frame_with, frame_of_rest, without_rest_members}
+use Rattle.city_tokens.specs.document.Frames.{frame_of}
+use Rattle.city_tokens.specs.document.FramesOfRest.{frame_with, frame_of_rest, without_rest_members}
 use Rattle.city_tokens.specs.inside.Positions.{IsVertex, points_of}
 use Rattle.city_tokens.specs.inside.Standing.{Pairs, IsArrayOf}
 use Rattle.city_tokens.specs.tree.Lists.{read_items}

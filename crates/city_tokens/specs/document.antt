@@ -1,3 +1,4 @@
 -- Definitions of documents.
 pub mod Cities
 pub mod Frames
+pub mod FramesOfRest

@@ -5,7 +5,7 @@ ghost use Rattle.city_model.specs.Kept.{kept_at_top, kept_at_transform};
 ghost use Rattle.city_model.specs.Members.{without};
 ghost use Rattle.city_tokens.specs.tree.Members.{kept_if};
 ghost use Rattle.city_tokens.specs.document.Frames.{triple_at, more_of, without_transform_members};
-ghost use Rattle.city_tokens.specs.document.Frames.{frame_with, frame_of_rest};
+ghost use Rattle.city_tokens.specs.document.FramesOfRest.{frame_with, frame_of_rest};
 
 use crate::triples::triple_of;
 use city_model::frame::Frame;

@@ -12,7 +12,7 @@ use Rattle.city_tokens.specs.object.Bodies.{body_of}
 use Rattle.city_doc.specs.document.Faults.{objects_in, vertices_in}
 use Rattle.city_doc.specs.inside.document.Forms.{AreReadable, HasForm}
 use Rattle.city_doc.specs.document.Top.{wrong_member}
-use Rattle.city_tokens.specs.document.Frames.{frame_of_rest}
+use Rattle.city_tokens.specs.document.FramesOfRest.{frame_of_rest}
 use Rattle.city_doc.specs.inside.document.LenientCities.{lenient_entries_of, lenient_city_at, lenient_city_of}
 use Rattle.city_doc.specs.inside.document.Searches.{first_with}
 use Rattle.city_doc.proofs.document.Cities.{objects_at}

@@ -9,7 +9,8 @@ use Rattle.city_model.specs.CityMap.{Entries}
 use Rattle.city_model.specs.Members.{without}
 use Rattle.city_tokens.specs.document.Cities.{city_of, is_city_json, points_in, entries_of, entries_in, objects_of}
 use Rattle.city_doc.specs.document.Faults.{members_of, objects_in}
-use Rattle.city_tokens.specs.document.Frames.{frame_of, frame_of_rest}
+use Rattle.city_tokens.specs.document.Frames.{frame_of}
+use Rattle.city_tokens.specs.document.FramesOfRest.{frame_of_rest}
 use Rattle.city_tokens.proofs.Laws.{frame_is, object_is}
 use Rattle.city_doc.proofs.document.Right.{IsRight, city_json}
 

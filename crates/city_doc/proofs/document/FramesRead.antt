@@ -10,8 +10,9 @@ use Rattle.city_model.specs.Kept.{top_members, transform_members, lacks_each, is
 use Rattle.city_model.specs.Kept.{kept_at_transform}
 use Rattle.city_model.specs.Members.{without}
 use Rattle.city_model.specs.Integral.{members_integral}
-use Rattle.city_tokens.specs.document.Frames.{without_transform_members, without_rest_members, frame_with}
-use Rattle.city_tokens.specs.document.Frames.{frame_of_rest}
+use Rattle.city_tokens.specs.document.Frames.{without_transform_members}
+use Rattle.city_tokens.specs.document.FramesOfRest.{without_rest_members, frame_with}
+use Rattle.city_tokens.specs.document.FramesOfRest.{frame_of_rest}
 use Rattle.city_tokens.specs.tree.Triples.{triple_data}
 use Rattle.city_doc.specs.document.Canonical.{transform_data, frame_members}
 use Rattle.city_doc.specs.tree.Ranges.{is_i64_triple}

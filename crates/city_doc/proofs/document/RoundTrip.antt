@@ -8,7 +8,8 @@ use Rattle.serde_json.proofs.Views.{get_member-put}
 use Rattle.city_model.specs.CityMap.{CityValue}
 use Rattle.city_model.proofs.Objects.{entries_ascend}
 use Rattle.city_tokens.specs.document.Cities.{is_city_json, points_in, entries_of, entries_in, city_of}
-use Rattle.city_tokens.specs.document.Frames.{frame_of, frame_of_rest}
+use Rattle.city_tokens.specs.document.Frames.{frame_of}
+use Rattle.city_tokens.specs.document.FramesOfRest.{frame_of_rest}
 use Rattle.city_doc.specs.document.Canonical.{frame_members, tree_of}
 use Rattle.city_doc.specs.object.Canonical.{objects_data}
 use Rattle.city_doc.specs.inside.document.KeptMembers.{IsKeptCity}

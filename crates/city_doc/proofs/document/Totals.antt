@@ -23,7 +23,7 @@ use Rattle.city_tokens.specs.document.Cities.{city_of, objects_of, points_in}
 use Rattle.city_doc.specs.document.Faults.{objects_in, vertices_in, is_unsupported, StandsAmong, StandsIn, IsFirst}
 use Rattle.city_doc.specs.inside.document.Forms.{AreReadable, HasForm}
 use Rattle.city_tokens.specs.document.Frames.{triple_at, more_of, without_transform_members}
-use Rattle.city_tokens.specs.document.Frames.{frame_with, frame_of_rest, without_rest_members}
+use Rattle.city_tokens.specs.document.FramesOfRest.{frame_with, frame_of_rest, without_rest_members}
 use Rattle.city_doc.specs.document.Top.{has_triple, wrong_member, is_transform, all_objects, are_all_objects}
 use Rattle.city_doc.specs.document.Top.{are_objects}
 use Rattle.city_doc.specs.inside.document.LenientCities.{listed, lenient_entries_of, lenient_city_of, IsReadOf}

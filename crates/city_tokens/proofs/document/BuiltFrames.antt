@@ -5,7 +5,8 @@ use Rattle.serde_json.specs.Data.{Data, null, boolean, number, string, array, ob
 use Rattle.serde_json.specs.Find.{get_member}
 use Rattle.city_model.specs.Kept.{kept_at_top}
 use Rattle.city_model.proofs.MemberLaws.{get_member-without}
-use Rattle.city_tokens.specs.document.Frames.{triple_at, more_of, without_top_members, frame_of, frame_with}
+use Rattle.city_tokens.specs.document.Frames.{triple_at, more_of, without_top_members, frame_of}
+use Rattle.city_tokens.specs.document.FramesOfRest.{frame_with}
 use Rattle.city_tokens.specs.inside.Frames.{built_frame}
 use Rattle.city_tokens.specs.tree.Members.{kept_if}
 

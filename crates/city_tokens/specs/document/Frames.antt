@@ -1,7 +1,7 @@
 -- The frame of a document: its transform, and the kept members of its top (CityJSON 2.0, sections 2 and 4).
-use Rattle.std.specs.Prelude.{ℕ, ℤ, List, Option, drop, option_and_then, option_map, codes}
+use Rattle.std.specs.Prelude.{ℕ, ℤ, List, Option, option_and_then, option_map, codes}
 use Rattle.serde_json.specs.Data.{Data, Members}
-use Rattle.serde_json.specs.Find.{get, get_member, as_object}
+use Rattle.serde_json.specs.Find.{get, as_object}
 use Rattle.city_model.specs.declared.frame.Frame.{Frame}
 use Rattle.city_model.specs.Kept.{top_members, transform_members, kept_at_top, kept_at_transform}
 use Rattle.city_model.specs.Members.{without_each}
@@ -35,23 +35,3 @@ frame_of d = do
   top ← as_object d
   option_map (λ extra. record { scale = scale; translate = translate; more = more; extra = extra })
       (kept_if kept_at_top (without_top_members top))
-
--- ---- the same, of the members of the top but `CityObjects`
-
--- all members but those that are read at the top beside `CityObjects`, which is the first of these
-abbrev pub without_rest_members : Members → Members
-without_rest_members rest = without_each (drop 1 top_members) rest
-
--- the frame of a transform, and of the kept members of the top
-abbrev pub frame_with : Members → Data → Option Frame
-frame_with extra transform = do
-  scale ← triple_at (codes "scale") transform
-  translate ← triple_at (codes "translate") transform
-  option_map (λ more. record { scale = scale; translate = translate; more = more; extra = extra })
-      (more_of transform)
-
-abbrev pub frame_of_rest : Members → Option Frame
-frame_of_rest rest = do
-  extra ← kept_if kept_at_top (without_rest_members rest)
-  transform ← get_member (codes "transform") rest
-  frame_with extra transform

@@ -4,7 +4,7 @@ use Rattle.serde_json.specs.Data.{Data}
 use Rattle.serde_json.specs.Find.{as_object}
 use Rattle.city_model.specs.declared.frame.Frame.{Frame}
 use Rattle.city_model.specs.Members.{without}
-use Rattle.city_tokens.specs.document.Frames.{frame_of_rest}
+use Rattle.city_tokens.specs.document.FramesOfRest.{frame_of_rest}
 use Rattle.city_tokens.specs.tree.Steps.{◌>>=◌}
 
 abbrev pub built_frame : Data → Option Frame

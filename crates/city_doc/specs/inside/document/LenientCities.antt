@@ -13,7 +13,7 @@ use Rattle.city_model.specs.Members.{without, AreOrdered}
 use Rattle.city_model.specs.declared.frame.Frame.{Frame}
 use Rattle.city_doc.specs.document.CityFaults.{lenient_object_of}
 use Rattle.city_doc.specs.inside.document.Forms.{AreReadable}
-use Rattle.city_tokens.specs.document.Frames.{frame_of_rest}
+use Rattle.city_tokens.specs.document.FramesOfRest.{frame_of_rest}
 use Rattle.city_doc.specs.object.Faults.{has_bad_list}
 use Rattle.city_doc.specs.inside.document.Searches.{first_with}
 

@@ -4,7 +4,7 @@ use Rattle.serde_json.specs.Find.{get_member}
 use Rattle.serde_json.specs.View.{members_view}
 use Rattle.city_tokens.specs.document.Cities.{objects_of, entries_of}
 use Rattle.city_tokens.specs.tree.Members.{is_text}
-use Rattle.city_tokens.specs.document.Frames.{frame_of_rest}
+use Rattle.city_tokens.specs.document.FramesOfRest.{frame_of_rest}
 use Rattle.city_tokens.specs.inside.Objects.{AreObjects}
 use Rattle.city_tokens.specs.inside.Positions.{IsVertex, points_of}
 use Rattle.city_tokens.specs.inside.Standing.{IsArrayOf, IsSlot}

@@ -7,7 +7,7 @@ use Rattle.city_model.specs.declared.frame.Frame.{Frame}
 use Rattle.city_model.specs.declared.object.Point.{Point}
 use Rattle.city_model.specs.CityMap.{Entries}
 use Rattle.city_model.specs.Members.{without}
-use Rattle.city_tokens.specs.document.Frames.{frame_of_rest}
+use Rattle.city_tokens.specs.document.FramesOfRest.{frame_of_rest}
 use Rattle.city_doc.specs.inside.document.LenientCities.{lenient_entries_of, lenient_city_of}
 use Rattle.city_doc.proofs.document.build.lenient_city_of.Goals as goal
 
