@@ -1,7 +1,8 @@
 use Rattle.std.proofs.Common.{◌<◌, length, arith, take, None, sym, ap, ◌∙◌}
 use Rattle.std.specs.Prelude.{if◌then◌else◌}
 use Rattle.city_model.specs.CityMap.{CityMap, CityValue, object_at, has_id, same_id}
-use Rattle.city_crew.proofs.Placed.{cleared_more, has_more}
+use Rattle.city_locks.proofs.Ids.{has_id_more}
+use Rattle.city_crew.proofs.Placed.{cleared_more}
 use Rattle.city_crew.proofs.places.clear.Goals as goal
 
 pub loop-id-preserved : goal.loop-id-preserved
@@ -16,5 +17,5 @@ loop-id-preserved c =
           cleared_more (object_at c.args.city.now.1 q) (object_at c.loop-id.city.1 q) (object_at c.remove.new.self.1 q)
           (has_id (take n ids) q) (same_id id q) (c.loop-id.invariant.objects q)
           (ap (λ (m : CityMap). m q) c.remove.ensures.map)
-          ∙ ap (λ b. if b then None else object_at c.args.city.now.1 q) (sym (has_more ids n id q lt c.id-item.is));
+          ∙ ap (λ b. if b then None else object_at c.args.city.now.1 q) (sym (has_id_more ids n id q lt c.id-item.is));
     }

@@ -1,7 +1,8 @@
 use Rattle.std.proofs.Common.{◌≡◌, ◌<◌, ℕ, List, length, arith, Some, sym, ap, ◌∙◌}
 use Rattle.city_model.specs.CityMap.{CityMap, CityValue, object_at, changed}
 use Rattle.city_model.proofs.Changed.{changed_apart}
-use Rattle.city_crew.proofs.Placed.{apart_from, filled_more, has_more}
+use Rattle.city_locks.proofs.Ids.{has_id_more}
+use Rattle.city_crew.proofs.Placed.{apart_from, filled_more}
 use Rattle.city_crew.proofs.places.fill.Goals as goal
 
 pub loop-id-preserved : goal.loop-id-preserved
@@ -20,5 +21,5 @@ loop-id-preserved c =
           ∙ changed_apart m id (Some object) q (apart_from ids c.loop-id.id-index id q lt c.id-item.is none)
           ∙ c.loop-id.invariant.others q none;
       there = λ q h. filled_more m (object_at c.set.new.self.1) object _ id q (map q) (c.loop-id.invariant.there q)
-          (sym (has_more ids c.loop-id.id-index id q lt c.id-item.is) ∙ h);
+          (sym (has_id_more ids c.loop-id.id-index id q lt c.id-item.is) ∙ h);
     }
