@@ -16,7 +16,7 @@ use Rattle.city_model.specs.Runs.{model_after, Change, after_change}
 use Rattle.city_model.specs.SerialEnds.{is_commit}
 use Rattle.city_model.specs.Standing.{Answered, answered, IsTraceUnderLocks}
 use Rattle.city_model.proofs.Fitting.{model_more}
-use Rattle.city_model.proofs.Replied.{goes_on, answered_more, result_from, committed_from}
+use Rattle.city_model.proofs.Replied.{answered_more, result_from, committed_from}
 use Rattle.city_txn.specs.CoreState as txn
 use Rattle.city_txn.specs.CoreState.{CoreState, committed, view, is_open, held, StandsUnderLocks, KeepsOthers}
 use Rattle.city_desk.specs.declared.attempt.Stepped.{Stepped}

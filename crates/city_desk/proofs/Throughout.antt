@@ -1,6 +1,5 @@
 -- After each of the ends the model is lawful.
 use Rattle.std.proofs.Common.{◌≡◌, ◌+◌, ℕ, zero, suc, List, [], ◌∷◌, take, Option, subst}
-use Rattle.std.specs.Prelude.{slice_get}
 use Rattle.city_model.specs.declared.end.End.{End}
 use Rattle.city_model.specs.CityMap.{CityMap, object_at, CityValue}
 use Rattle.city_model.specs.Relations.{IsLawful}

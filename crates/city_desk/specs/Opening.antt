@@ -1,5 +1,5 @@
 -- A desk as it is opened.
-use Rattle.std.specs.Prelude.{ℕ, List, [], length, map}
+use Rattle.std.specs.Prelude.{List, [], length, map}
 use Rattle.city_model.specs.Runs.{Scripted}
 use Rattle.city_model.specs.CityMap.{CityValue}
 use Rattle.city_desk.specs.declared.progress.Progress.{Progress}

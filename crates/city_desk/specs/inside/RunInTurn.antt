@@ -1,5 +1,5 @@
 -- A desk whose scripts are run one after the other in their order.
-use Rattle.std.specs.Prelude.{◌≡◌, ◌≢◌, ◌≤◌, ◌<◌, ℕ, true, false, List, [], ◌∷◌, ◌++◌, length}
+use Rattle.std.specs.Prelude.{◌≡◌, ◌≢◌, ◌≤◌, ◌<◌, ℕ, true, false, [], ◌∷◌, ◌++◌, length}
 use Rattle.city_model.specs.declared.end.End.{End}
 use Rattle.city_model.specs.Runs.{has_end}
 use Rattle.city_desk.specs.declared.progress.Phase.TheVariants.{NotBegun, Ended}
