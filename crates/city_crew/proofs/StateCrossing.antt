@@ -5,7 +5,6 @@ use denote.Struct.Declared.{shape}
 use denote.Param.Send.{IsSend, enum_send, recorded_send, struct_send, view_send, sendable}
 use Rattle.std.proofs.Crossing as values
 use Rattle.std.specs.declared.sync.Wait.{Ghosts}
-use Rattle.city_model.proofs.Crossing.{text_sends, object_sends}
 use Rattle.city_desk.proofs.null_shelf.NullShelf.TheSendSync as null_shelf
 use Rattle.city_crew.specs.contracts.ages.Ages as Ages
 use Rattle.city_crew.specs.contracts.crew_shelf.CrewShelf as CrewShelf

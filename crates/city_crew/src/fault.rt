@@ -4,7 +4,7 @@ use city_desk::RunFault;
 use city_model::OutOfMemory;
 
 /// Why a run over texts that were read has no output.
-#[derive(Clone, Copy, Debug, PartialEq, Eq, Drop)]
+#[derive(Clone, Copy, Drop)]
 pub enum CrewFault {
     /// Memory ran out, or a thread couldn't be made.
     OutOfMemory,
