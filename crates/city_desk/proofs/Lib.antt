@@ -16,4 +16,5 @@ pub mod Scripted
 pub mod SerialKept
 pub mod Shelved
 pub mod Throughout
+pub mod TurnsAsRead
 pub mod Youngest

@@ -18,7 +18,8 @@ use Rattle.city_desk.specs.inside.Room.{HasRoom}
 use Rattle.city_desk.specs.Serial.{IsSerial}
 use Rattle.city_desk.proofs.AtScript.{LeavesDesk, left_of, place_for_its_end, there_in_equal}
 use Rattle.city_desk.proofs.SerialKept.{now_at, ended_at}
-use Rattle.city_desk.proofs.OpenTurns.{reply_place, goes_on_from, ends_from}
+use Rattle.city_desk.proofs.OpenTurns.{reply_place}
+use Rattle.city_desk.proofs.TurnsAsRead.{goes_on_from, ends_from}
 
 module _ {d seen : DeskState} {changes listing : List Change} {base : Option CityValue} {n stamp since : ℕ}
     (run : d ≡ seen) (listed : changes ≡ listing) (s : IsSerial d changes base)
