@@ -15,7 +15,11 @@ fn answer(core: &mut Core, stamp: u64, command: &Command) -> &'static str {
     if is_end(command) {
         return "an end";
     }
-    match core.act(stamp, command) {
+    word_for(&core.act(stamp, command))
+}
+
+fn word_for(step: &Result<Step, TxnFault>) -> &'static str {
+    match step {
         Ok(Step::Done(Reply::Refused(_))) => "refused",
         Ok(Step::Done(Reply::Absent)) => "absent",
         Ok(Step::Done(_)) => "done",

@@ -6,7 +6,6 @@ use std::alloc::Global;
 use std::fmt::Write;
 use std::sync::Wait;
 use std::sync::atomic::{AtomicU64, Ordering};
-use std::test::Fail;
 use std::thread;
 use std::thread::Threads;
 
@@ -69,7 +68,8 @@ impl Gate for EachSeesEach {
     }
 }
 
-/// A list of the numbers from 0 to the last for each viewer, as `[[0, 1], [0, 1]]`.
+/// What is wanted of so many viewers and scripts: each number from 0 to the last, all committed, none held in vain, as
+/// `[[0, 1], [0, 1]] 1 0`.
 fn each_number(alloc: Global, viewers: usize, last: usize) -> Option<String> {
     let mut numbers = "0".to_string(alloc).ok()?;
     for number in 1..=last {
@@ -80,39 +80,30 @@ fn each_number(alloc: Global, viewers: usize, last: usize) -> Option<String> {
         let between = if viewer == 0 { "" } else { ", " };
         write!(all, "{between}[{numbers}]").ok()?;
     }
-    all.push(']').ok()?;
+    write!(all, "] {last} 0").ok()?;
     Some(all)
 }
 
-/// What the viewers of so many scripts saw, all of which have to commit.
+/// What the viewers saw, how many scripts committed, and how many the gate held in vain.
 fn seen_of<R: Threads + Wait + Sync>(
     rt: &R,
     alloc: Global,
     gate: &EachSeesEach,
-    scripts: usize,
+    scripts: &str,
     workers: usize,
 ) -> Option<String> {
     if workers == 0 || workers > 16 || gate.viewers > 4 {
         return None;
     }
-    let texts = scripts_of_roads(alloc, scripts).ok()?;
-    let (text, seen) = served(
-        rt,
-        alloc,
-        gate,
-        (EMPTY, texts.as_str()),
-        workers,
-        gate.viewers,
-    )?;
-    if commits(text.as_str()) == scripts {
-        Some(seen)
-    } else {
-        None
-    }
+    let (text, seen) = served(rt, alloc, gate, (EMPTY, scripts), workers, gate.viewers)?;
+    let (committed, missed) = (commits(text.as_str()), gate.missed.load(Ordering::SeqCst));
+    format!(in alloc; "{seen} {committed} {missed}").ok()
 }
 
 /// Workers, viewers and scripts, and whether the gate says that it holds nobody.
-const RUNS: &[(usize, usize, usize, bool)] = &[
+type Case = (usize, usize, usize, bool);
+
+const CASES: &[Case] = &[
     (1, 1, 3, false),
     (1, 4, 3, false),
     (1, 4, 3, true),
@@ -121,28 +112,25 @@ const RUNS: &[(usize, usize, usize, bool)] = &[
     (16, 4, 70, false),
 ];
 
-#[test]
-fn each_viewer_sees_each_commit_before_the_next_script_begins(rt: HostRuntime) -> Result<(), Fail> {
-    for (workers, viewers, scripts, open) in RUNS {
-        let gate = EachSeesEach::of(*viewers, *open);
-        let seen = seen_of(&rt, rt.alloc(), &gate, *scripts, *workers).ok_or("not served")?;
-        let wanted = each_number(rt.alloc(), *viewers, *scripts).ok_or("no memory")?;
-        assert_eq!(&rt; seen.as_str(), wanted.as_str());
-        assert_eq!(&rt;
-            gate.missed.load(Ordering::SeqCst),
-            0,
-            "{workers} {viewers}"
-        );
-    }
-    Ok(())
+/// What was seen in a case.
+fn seen_in<R: Threads + Wait + Sync>(rt: &R, alloc: Global, case: &Case) -> Option<String> {
+    let (workers, viewers, scripts, open) = *case;
+    let texts = scripts_of_roads(alloc, scripts).ok()?;
+    let gate = EachSeesEach::of(viewers, open);
+    seen_of(rt, alloc, &gate, texts.as_str(), workers)
 }
 
 #[test]
-fn a_viewer_sees_a_change_while_scripts_run(rt: HostRuntime) -> Result<(), Fail> {
+fn each_viewer_sees_each_commit_before_the_next_script_begins(rt: HostRuntime) {
+    for case in CASES {
+        let seen = seen_in(&rt, rt.alloc(), case);
+        assert_eq!(&rt; seen, each_number(rt.alloc(), case.1, case.2), "{case:?}");
+    }
+}
+
+#[test]
+fn a_viewer_sees_a_change_while_scripts_run(rt: HostRuntime) {
     let gate = EachSeesEach::of(1, false);
-    let (text, seen) = served(&rt, rt.alloc(), &gate, (EMPTY, TWO), 1, 1).ok_or("not served")?;
-    assert_eq!(rt; commits(text.as_str()), 2);
-    assert_eq!(rt; seen.as_str(), "[[0, 1, 2]]");
-    assert_eq!(rt; gate.missed.load(Ordering::SeqCst), 0);
-    Ok(())
+    let seen = seen_of(&rt, rt.alloc(), &gate, TWO, 1);
+    assert_eq!(&rt; seen, each_number(rt.alloc(), 1, 2));
 }

@@ -50,50 +50,49 @@ impl Gate for ScriptsMeet {
     }
 }
 
-/// How many scripts have committed of so many that meet, by so many workers; none where the run wasn't served.
+/// What came of so many scripts that meet, by so many workers: how many committed, were at the gate at once, and went
+/// on alone; none where the run wasn't served.
 fn met<R: Threads + Wait + Sync>(
     rt: &R,
     alloc: Global,
     gate: &ScriptsMeet,
     scripts: usize,
     workers: usize,
-) -> Option<usize> {
+) -> Option<(usize, u64, u64)> {
     if workers == 0 || workers > 16 {
         return None;
     }
     let texts = scripts_of_roads(alloc, scripts).ok()?;
     let (text, _) = served(rt, alloc, gate, (EMPTY, texts.as_str()), workers, 0)?;
-    Some(commits(text.as_str()))
+    let most = gate.most.load(Ordering::SeqCst);
+    Some((commits(text.as_str()), most, gate.meeting.missed()))
 }
 
 #[test]
-fn as_many_workers_as_are_asked_for_meet(rt: HostRuntime) -> Result<(), Fail> {
+fn as_many_workers_as_are_asked_for_meet(rt: HostRuntime) {
     for (workers, scripts) in [(2, 2), (3, 3), (3, 40), (16, 16), (16, 100)] {
         for open in [false, true] {
             let gate = ScriptsMeet::of(workers, PATIENT, open);
-            let committed = met(&rt, rt.alloc(), &gate, scripts, workers as usize);
-            assert_eq!(&rt; committed, Some(scripts), "{workers} {open}");
-            assert_eq!(&rt; gate.meeting.missed(), 0, "{workers} {open}");
+            let came = met(&rt, rt.alloc(), &gate, scripts, workers as usize);
+            assert_eq!(&rt; came, Some((scripts, workers as u64, 0)), "{open}");
         }
     }
-    Ok(())
 }
 
 #[test]
-fn no_more_workers_come_than_are_asked_for(rt: HostRuntime) -> Result<(), Fail> {
+fn no_more_workers_come_than_are_asked_for(rt: HostRuntime) {
     for (workers, scripts) in [(2, 3), (5, 6), (15, 16)] {
         for open in [false, true] {
             let gate = ScriptsMeet::of(scripts, SHORT, open);
-            let committed = met(&rt, rt.alloc(), &gate, scripts as usize, workers);
-            assert_eq!(&rt; committed, Some(scripts as usize), "{workers} {open}");
+            let came = met(&rt, rt.alloc(), &gate, scripts as usize, workers);
+            let (committed, most, _) = came.unwrap_or((0, 0, 0));
             assert_eq!(&rt;
-                gate.most.load(Ordering::SeqCst),
-                workers as u64,
-                "{workers} {open}"
+                (committed, most),
+                (scripts as usize, workers as u64),
+                "{open}"
             );
         }
     }
-    Ok(())
 }
 
 const TWO_LEFT: &str = model!(
@@ -106,8 +105,7 @@ fn two_workers_run_two_scripts_at_once(rt: HostRuntime) -> Result<(), Fail> {
     let gate = ScriptsMeet::of(2, PATIENT, false);
     let (text, _) = served(&rt, rt.alloc(), &gate, (EMPTY, TWO), 2, 0).ok_or("not served")?;
     assert!(rt; text.as_str().trim_end().ends_with(TWO_LEFT));
-    assert_eq!(rt; commits(text.as_str()), 2);
-    assert_eq!(rt; gate.meeting.missed(), 0);
+    assert_eq!(rt; (commits(text.as_str()), gate.meeting.missed()), (2, 0));
     Ok(())
 }
 
