@@ -1,14 +1,15 @@
 //! The verb `board`: viewers of a board whose poster is a desk's shelf.
-ghost use Rattle.std.specs.Prelude.{◌≡◌, ◌≤◌, [], All, IfOk, IfSome};
+ghost use Rattle.std.specs.Prelude.{◌≡◌, ◌≤◌, [], IfSome};
 ghost use Rattle.city_model.specs.CityMap.{object_at};
 ghost use Rattle.city_model.specs.Relations.{IsLawful};
 ghost use Rattle.city_crew.specs.Limits.{max_viewers};
 
 use crate::document::add_city;
-use crate::line::{add_line, add_run_fault};
+use crate::fault_lines::add_run_fault;
 use crate::steps::{TakesSteps, take_steps};
+use crate::written::Written;
 use city_crew::board::board;
-use city_crew::{MAX_VIEWERS, Note, Poster, Viewer};
+use city_crew::{MAX_VIEWERS, Poster, Viewer};
 use city_desk::{Desk, Shelf, Turn, read_texts};
 use city_model::OutOfMemory;
 use city_model::city::City;
@@ -26,12 +27,11 @@ pub fn play_board<R: Wait>(
     document: &[u8],
     scripts: &[u8],
     lines: &str,
-    answer: &mut Vec<u8>,
-) -> Result<(), OutOfMemory> {
-    let seats = seats.parse::<usize>().unwrap_or(0).min(MAX_VIEWERS);
+    answer: &mut Written,
+) {
     match read_texts(alloc, document, scripts) {
         Ok((city, scripts)) => play_over(rt, alloc, city, scripts, seats, lines, answer),
-        Err(fault) => add_run_fault(alloc, answer, fault),
+        Err(fault) => add_run_fault(alloc, fault, answer),
     }
 }
 
@@ -40,16 +40,18 @@ fn play_over<R: Wait>(
     alloc: Global,
     city: City,
     scripts: Sequence<Script>,
-    seats: usize,
+    seats: &str,
     lines: &str,
-    answer: &mut Vec<u8>,
-) -> Result<(), OutOfMemory>
-    requires lawful { IsLawful (object_at city.1) }
-    requires seats { seats ≤ max_viewers }
+    answer: &mut Written,
+)
+    requires { IsLawful (object_at city.1) }
 {
-    match opened(rt, alloc, scripts, city, seats) {
-        Some((desk, viewers)) => play_at(rt, alloc, desk, viewers, lines, answer),
-        None => add_line(answer, "no board"),
+    let seats = seats.parse::<usize>().unwrap_or(0).min(MAX_VIEWERS);
+    match board_over(rt, alloc, &city, seats) {
+        Some((poster, viewers)) => {
+            play_posted(rt, alloc, city, scripts, poster, viewers, lines, answer)
+        }
+        None => answer.add_line("no board"),
     }
 }
 
@@ -71,35 +73,25 @@ fn board_over<'r, R: Wait>(
     board(rt, alloc, copy, seats).ok()
 }
 
-/// A desk over the city of a board, whose shelf is the board's poster.
-fn desk_over<'r, R: Wait>(
+/// Takes the steps at a desk over the city of a board, whose shelf is the board's poster.
+fn play_posted<R: Wait + Drop, Q: Wait>(
+    rt: &Q,
     alloc: Global,
-    scripts: Sequence<Script>,
     city: City,
-    poster: Poster<&'r R>,
-) -> Option<Desk<Poster<&'r R>>>
+    scripts: Sequence<Script>,
+    poster: Poster<R>,
+    viewers: Vec<Viewer>,
+    lines: &str,
+    answer: &mut Written,
+)
     requires lawful { IsLawful (object_at city.1) }
     requires opening { poster.opening ≡ city }
     requires taken { poster.taken ≡ [] }
 {
-    let desk = Desk::open(alloc, city, scripts, poster).ok()?;
-    Some(desk)
-}
-
-/// A desk over a city, whose shelf is the poster of a board over it, and the board's viewers.
-fn opened<'r, R: Wait>(
-    rt: &'r R,
-    alloc: Global,
-    scripts: Sequence<Script>,
-    city: City,
-    seats: usize,
-) -> Option<(Desk<Poster<&'r R>>, Vec<Viewer>)>
-    requires lawful { IsLawful (object_at city.1) }
-    requires seats { seats ≤ max_viewers }
-{
-    let (poster, viewers) = board_over(rt, alloc, &city, seats)?;
-    let desk = desk_over(alloc, scripts, city, poster)?;
-    Some((desk, viewers))
+    match Desk::open(alloc, city, scripts, poster) {
+        Ok(desk) => play_at(alloc, Seated { rt, desk, viewers }, lines, answer),
+        Err(OutOfMemory) => answer.run_out(),
+    }
 }
 
 /// A desk whose shelf is the poster of a board, and the board's viewers.
@@ -110,34 +102,29 @@ struct Seated<'q, R: Wait + Drop, Q: Wait> {
     viewers: Vec<Viewer>,
 }
 
-/// Takes the steps at a desk, which is dropped in one place only.
+/// Takes the steps, and adds the model that is left.
 fn play_at<R: Wait + Drop, Q: Wait>(
-    rt: &Q,
     alloc: Global,
-    desk: Desk<Poster<R>>,
-    viewers: Vec<Viewer>,
+    mut seated: Seated<R, Q>,
     lines: &str,
-    answer: &mut Vec<u8>,
-) -> Result<(), OutOfMemory> {
-    let mut seated = Seated { rt, desk, viewers };
-    let taken = take_steps(&mut seated, alloc, lines, answer);
+    answer: &mut Written,
+) {
+    take_steps(&mut seated, alloc, lines, answer);
     let Seated { desk, .. } = seated;
     let (city, _ends, _shelf) = desk.close();
-    let left = add_city(alloc, &city, answer);
-    taken?;
-    left
+    add_city(alloc, &city, answer);
 }
 
 /// A step runs the next script, shows what was committed, or has a viewer look.
 impl<R: Wait + Drop, Q: Wait> TakesSteps for Seated<'_, R, Q> {
-    fn take_step(&mut self, alloc: Global, step: &str) -> Result<String, OutOfMemory> {
+    fn take_step(&mut self, _alloc: Global, step: &str, said: &mut Written) {
         match step {
-            "commit" => end_next(&mut self.desk).to_string(alloc),
-            "show" => {
-                let _note = self.desk.show(self.rt)?;
-                "done".to_string(alloc)
-            }
-            _ => look_at(alloc, &mut self.viewers, step),
+            "commit" => said.add(end_next(&mut self.desk)),
+            "show" => match self.desk.show(self.rt) {
+                Ok(_note) => said.add("done"),
+                Err(OutOfMemory) => said.run_out(),
+            },
+            _ => look_at(&mut self.viewers, step, said),
         }
     }
 }
@@ -164,40 +151,37 @@ fn seat_of(step: &str) -> Option<usize> {
 }
 
 /// Has the viewer of a step's seat look, and says what it sees.
-fn look_at(alloc: Global, viewers: &mut Vec<Viewer>, step: &str) -> Result<String, OutOfMemory> {
+fn look_at(viewers: &mut Vec<Viewer>, step: &str, said: &mut Written) {
     match seat_of(step) {
         Some(seat) if seat < viewers.len() => {
-            let mut said = String::new(alloc);
-            let viewer = looked(alloc, viewers.remove(seat), &mut said)?;
-            viewers.insert(seat, viewer)?;
-            Ok(said)
+            let viewer = looked(viewers.remove(seat), said);
+            if viewers.insert(seat, viewer).is_err() {
+                said.run_out();
+            }
         }
-        _ => "no such step".to_string(alloc),
+        _ => said.add("no such step"),
     }
 }
 
 /// Writes down how many edits a viewer sees, and which objects.
-fn looked(alloc: Global, viewer: Viewer, said: &mut String) -> Result<Viewer, OutOfMemory> {
+fn looked(viewer: Viewer, said: &mut Written) -> Viewer {
     match viewer.look() {
         Ok(look) => {
-            let told = add_seen(alloc, look.edits(), look.city(), said);
-            let viewer = look.leave();
-            told?;
-            Ok(viewer)
+            add_seen(look.edits(), look.city(), said);
+            look.leave()
         }
         Err(viewer) => {
-            said.push_str("no look")?;
-            Ok(viewer)
+            said.add("no look");
+            viewer
         }
     }
 }
 
 /// Adds how many edits there are, and the ids of a city's objects, a space before each.
-fn add_seen(alloc: Global, edits: u64, city: &City, said: &mut String) -> Result<(), OutOfMemory> {
-    said.push_str(edits.to_string(alloc)?.as_str())?;
+fn add_seen(edits: u64, city: &City, said: &mut Written) {
+    said.show(&edits);
     for (id, _) in city.iter() {
-        said.push_str(" ")?;
-        said.push_str(id.as_str())?;
+        said.add(" ");
+        said.add(id.as_str());
     }
-    Ok(())
 }

@@ -1,14 +1,12 @@
 //! A change, written as its ids.
-use city_model::OutOfMemory;
+use crate::written::Written;
 use city_model::change::Change;
-use std::alloc::Global;
 
-/// A word, and the ids that a change sets, each after a `+`, and takes out, each after a `-`.
-pub fn change_text(alloc: Global, word: &str, change: &Change) -> Result<String, OutOfMemory> {
-    let mut all = word.to_string(alloc)?;
+/// Adds a word, and the ids that a change sets, each after a `+`, and takes out, each after a `-`.
+pub fn add_change(word: &str, change: &Change, said: &mut Written) {
+    said.add(word);
     for (id, object) in change.iter() {
-        all.push_str(if object.is_some() { " +" } else { " -" })?;
-        all.push_str(id.as_str())?;
+        said.add(if object.is_some() { " +" } else { " -" });
+        said.add(id.as_str());
     }
-    Ok(all)
 }

@@ -1,5 +1,6 @@
 //! The verb `words`: what the words of a command line ask for.
 use crate::steps::TakesSteps;
+use crate::written::Written;
 use city_model::OutOfMemory;
 use city_serve::command_line::{Asked, LineFault, Options, asked_by};
 use std::alloc::Global;
@@ -9,42 +10,51 @@ use std::alloc::Global;
 pub struct CommandLines;
 
 impl TakesSteps for CommandLines {
-    fn take_step(&mut self, alloc: Global, line: &str) -> Result<String, OutOfMemory> {
-        let mut words = Vec::new(alloc);
-        for word in line.split_whitespace() {
-            words.push(word.to_string(alloc)?)?;
+    fn take_step(&mut self, alloc: Global, line: &str, said: &mut Written) {
+        match words_of(alloc, line) {
+            Ok(words) => add_asked(alloc, words.as_slice(), said),
+            Err(OutOfMemory) => said.run_out(),
         }
-        told_of(alloc, words.as_slice())
     }
 }
 
-/// What words ask for: a word and the names, or the first line of the text that is shown.
-fn told_of(alloc: Global, words: &[String]) -> Result<String, OutOfMemory> {
+fn words_of(alloc: Global, line: &str) -> Result<Vec<String>, OutOfMemory> {
+    let mut words = Vec::new(alloc);
+    for word in line.split_whitespace() {
+        words.push(word.to_string(alloc)?)?;
+    }
+    Ok(words)
+}
+
+/// Adds what words ask for: a word and the names, or the first line of the text that is shown.
+fn add_asked(alloc: Global, words: &[String], said: &mut Written) {
     match asked_by(alloc, words) {
-        Ok(Asked::Input(options)) => with_options(alloc, "input", options),
-        Ok(Asked::Files(options, model, scripts)) => with_files(alloc, model, scripts, options),
-        Ok(Asked::Text(text)) => with_first_line(alloc, "text", text.as_str()),
-        Err(LineFault::Refused(text)) => with_first_line(alloc, "2", text.as_str()),
-        Err(LineFault::OutOfMemory) => Err(OutOfMemory),
+        Ok(Asked::Input(options)) => add_options("input", options, said),
+        Ok(Asked::Files(options, model, scripts)) => add_files(model, scripts, options, said),
+        Ok(Asked::Text(text)) => add_first_line("text ", text.as_str(), said),
+        Err(LineFault::Refused(text)) => add_first_line("2 ", text.as_str(), said),
+        Err(LineFault::OutOfMemory) => said.run_out(),
     }
 }
 
-/// Words, how many workers and viewers there are, and a word where numbers of any form are taken.
-fn with_options(alloc: Global, words: &str, options: Options) -> Result<String, OutOfMemory> {
-    let decimals = if options.decimals { " decimals" } else { "" };
-    format!(in alloc; "{words} {} {}{decimals}", options.workers, options.viewers)
+/// Adds a word, how many workers and viewers there are, and a word where numbers of any form are taken.
+fn add_options(word: &str, options: Options, said: &mut Written) {
+    said.add(word);
+    said.add(" ");
+    said.show(&options.workers);
+    said.add(" ");
+    said.show(&options.viewers);
+    said.add(if options.decimals { " decimals" } else { "" });
 }
 
-fn with_files(
-    alloc: Global,
-    model: &str,
-    scripts: &str,
-    options: Options,
-) -> Result<String, OutOfMemory> {
-    let words = format!(in alloc; "files {model} {scripts}")?;
-    with_options(alloc, words.as_str(), options)
+fn add_files(model: &str, scripts: &str, options: Options, said: &mut Written) {
+    said.add("files ");
+    said.add(model);
+    said.add(" ");
+    add_options(scripts, options, said);
 }
 
-fn with_first_line(alloc: Global, word: &str, text: &str) -> Result<String, OutOfMemory> {
-    format!(in alloc; "{word} {}", text.lines().next().unwrap_or(""))
+fn add_first_line(word: &str, text: &str, said: &mut Written) {
+    said.add(word);
+    said.add(text.lines().next().unwrap_or(""));
 }

@@ -2,11 +2,11 @@
 ghost use Rattle.std.specs.Prelude.{◌≤◌};
 ghost use Rattle.city_crew.specs.Limits.{max_workers, max_viewers};
 
-use crate::line::{add_bytes, add_fault, add_line, add_run_fault, add_unlike};
-use crate::replay::replay;
+use crate::fault_lines::{add_fault, add_run_fault};
+use crate::replay::is_replayed;
+use crate::written::Written;
 use city_crew::{MAX_VIEWERS, MAX_WORKERS, OpenGate, run_crew};
 use city_desk::Output;
-use city_model::OutOfMemory;
 use city_model::end::{End, Outcome};
 use city_serve::Device;
 use city_serve::serve_texts::serve_texts;
@@ -28,7 +28,7 @@ pub enum Told {
 }
 
 /// Runs the scripts by each of the crews, written as `4x1` for four workers before one viewer, and answers what is
-/// reported of the run: once, where it is the same each time.
+/// reported of the run: once, where it is the same each time, and else after the crew.
 pub fn play_crews<T: Threads + Wait + Sync>(
     rt: &T,
     alloc: Global,
@@ -36,29 +36,17 @@ pub fn play_crews<T: Threads + Wait + Sync>(
     crews: &str,
     document: &[u8],
     scripts: &[u8],
-    answer: &mut Vec<u8>,
-) -> Result<(), OutOfMemory> {
-    let mut last = Vec::new(alloc);
+    answer: &mut Written,
+) {
+    let mut last = Written::new(alloc);
     for crew in crews.split_whitespace() {
-        let mut now = Vec::new(alloc);
-        play_crew(rt, alloc, told, crew, document, scripts, &mut now)?;
-        add_told(answer, &mut last, crew, now)?;
+        let mut now = Written::new(alloc);
+        play_crew(rt, alloc, told, crew, document, scripts, &mut now);
+        if !last.as_slice().is_empty() && now.as_slice() != last.as_slice() {
+            answer.add_line(crew);
+        }
+        answer.add_unlike(&mut last, now);
     }
-    Ok(())
-}
-
-/// Adds what is reported of a crew's run where it isn't what was reported last, after the crew where it isn't the
-/// first.
-fn add_told(
-    answer: &mut Vec<u8>,
-    last: &mut Vec<u8>,
-    crew: &str,
-    now: Vec<u8>,
-) -> Result<(), OutOfMemory> {
-    if !last.is_empty() && now.as_slice() != last.as_slice() {
-        add_line(answer, crew)?;
-    }
-    add_unlike(answer, last, now)
 }
 
 /// Runs the scripts by one crew, and answers what is reported of the run.
@@ -69,8 +57,8 @@ fn play_crew<T: Threads + Wait + Sync>(
     crew: &str,
     document: &[u8],
     scripts: &[u8],
-    answer: &mut Vec<u8>,
-) -> Result<(), OutOfMemory> {
+    answer: &mut Written,
+) {
     let (workers, viewers) = crew.split_once("x").unwrap_or((crew, "0"));
     let workers = workers.parse::<usize>().unwrap_or(1).clamp(1, MAX_WORKERS);
     let viewers = viewers.parse::<usize>().unwrap_or(0).min(MAX_VIEWERS);
@@ -79,7 +67,7 @@ fn play_crew<T: Threads + Wait + Sync>(
     }
     match run_crew(rt, alloc, document, scripts, workers, viewers, &OpenGate) {
         Ok(output) => add_output(alloc, told, &output, document, scripts, viewers, answer),
-        Err(fault) => add_run_fault(alloc, answer, fault),
+        Err(fault) => add_run_fault(alloc, fault, answer),
     }
 }
 
@@ -91,8 +79,8 @@ fn run_texts<T: Threads + Wait + Sync>(
     viewers: usize,
     document: &[u8],
     scripts: &[u8],
-    answer: &mut Vec<u8>,
-) -> Result<(), OutOfMemory>
+    answer: &mut Written,
+)
     requires workers { (1 ≤ workers) × (workers ≤ max_workers) }
     requires viewers { viewers ≤ max_viewers }
 {
@@ -107,9 +95,9 @@ fn run_texts<T: Threads + Wait + Sync>(
         viewers,
     );
     match served {
-        Ok(seen) if seen.len() == viewers => add_bytes(answer, written.as_slice()),
-        Ok(_) => add_line(answer, "viewers are missing"),
-        Err(fault) => add_fault(alloc, answer, fault),
+        Ok(seen) if seen.len() == viewers => answer.add_lines(written.as_slice()),
+        Ok(_) => answer.add_line("viewers are missing"),
+        Err(fault) => add_fault(alloc, &fault, answer),
     }
 }
 
@@ -121,46 +109,33 @@ fn add_output(
     document: &[u8],
     scripts: &[u8],
     viewers: usize,
-    answer: &mut Vec<u8>,
-) -> Result<(), OutOfMemory> {
+    answer: &mut Written,
+) {
     let (bytes, ends) = (output.bytes.as_slice(), output.ends.as_slice());
     let seen = output.seen.as_slice();
     if seen.len() != viewers || !all_saw(seen, commits(ends)) {
-        return add_line(answer, format!(in alloc; "seen: {seen:?}")?.as_str());
-    }
-    if matches!(told, Told::Bytes) {
-        return add_bytes(answer, bytes);
-    }
-    if is_replayed(alloc, document, scripts, ends, bytes) {
-        return add_history(alloc, told, ends, bytes, answer);
-    }
-    add_line(answer, "no serial history")?;
-    add_bytes(answer, bytes)
-}
-
-/// Whether the scripts of these ends give the same when they are played one at a time.
-fn is_replayed(alloc: Global, document: &[u8], scripts: &[u8], ends: &[End], bytes: &[u8]) -> bool {
-    match replay(alloc, document, scripts, ends) {
-        Some(again) => again.as_slice() == bytes,
-        None => false,
+        answer.add("seen: ");
+        answer.show_debug(&seen);
+        answer.add("\n");
+    } else if matches!(told, Told::Bytes) {
+        answer.add_lines(bytes);
+    } else if is_replayed(alloc, document, scripts, ends, bytes) {
+        add_history(told, ends.len(), bytes, answer);
+    } else {
+        answer.add_line("no serial history");
+        answer.add_lines(bytes);
     }
 }
 
 /// Adds how many ends a history has, or the model that it leaves.
-fn add_history(
-    alloc: Global,
-    told: Told,
-    ends: &[End],
-    bytes: &[u8],
-    answer: &mut Vec<u8>,
-) -> Result<(), OutOfMemory> {
-    if !matches!(told, Told::Model) {
-        let count = ends.len();
-        let line = format!(in alloc; "a serial history of {count} ends")?;
-        return add_line(answer, line.as_str());
+fn add_history(told: Told, ends: usize, bytes: &[u8], answer: &mut Written) {
+    if matches!(told, Told::Model) {
+        let lines = str::from_utf8(bytes).unwrap_or("");
+        return answer.add_line(lines.lines().nth(ends).unwrap_or("no model"));
     }
-    let lines = str::from_utf8(bytes).unwrap_or("");
-    add_line(answer, lines.lines().nth(ends.len()).unwrap_or("no model"))
+    answer.add("a serial history of ");
+    answer.show(&ends);
+    answer.add_line(" ends");
 }
 
 /// How many of these ends are commits.

@@ -1,8 +1,8 @@
 //! The verb `faults`: faults that no text has, as they show.
 use crate::steps::TakesSteps;
+use crate::written::Written;
 use city_desk::RunFault;
 use city_doc::{ReadFault, ScriptFault};
-use city_model::OutOfMemory;
 use city_serve::ServeFault;
 use std::alloc::Global;
 
@@ -11,21 +11,40 @@ use std::alloc::Global;
 pub struct Faults;
 
 impl TakesSteps for Faults {
-    fn take_step(&mut self, alloc: Global, step: &str) -> Result<String, OutOfMemory> {
+    fn take_step(&mut self, _alloc: Global, step: &str, said: &mut Written) {
         match step {
-            "ReadFault::OutOfMemory" => ReadFault::OutOfMemory.to_string(alloc),
-            "ScriptFault::OutOfMemory" => ScriptFault::OutOfMemory.to_string(alloc),
-            "RunFault::OutOfMemory" => RunFault::OutOfMemory.to_string(alloc),
-            "RunFault::NoPlace" => RunFault::NoPlace.to_string(alloc),
-            "RunFault::Unfinished" => RunFault::Unfinished.to_string(alloc),
-            "RunFault::Mixed" => RunFault::Mixed.to_string(alloc),
-            "ServeFault::Read" => ServeFault::Read.to_string(alloc),
-            "ServeFault::Write" => ServeFault::Write.to_string(alloc),
-            "ServeFault::OutOfMemory" => ServeFault::Run(RunFault::OutOfMemory).to_string(alloc),
-            "ServeFault::NoPlace" => ServeFault::Run(RunFault::NoPlace).to_string(alloc),
-            "ServeFault::Unfinished" => ServeFault::Run(RunFault::Unfinished).to_string(alloc),
-            "ServeFault::Mixed" => ServeFault::Run(RunFault::Mixed).to_string(alloc),
-            _ => "no such fault".to_string(alloc),
+            "ReadFault::OutOfMemory" => said.show(&ReadFault::OutOfMemory),
+            "ScriptFault::OutOfMemory" => said.show(&ScriptFault::OutOfMemory),
+            "ServeFault::Read" => said.show(&ServeFault::Read),
+            "ServeFault::Write" => said.show(&ServeFault::Write),
+            _ => show_run_fault(step, said),
         }
+    }
+}
+
+/// Adds how a fault of a run shows, by itself or as one of serving.
+fn show_run_fault(step: &str, said: &mut Written) {
+    let (kind, name) = step.split_once("::").unwrap_or((step, ""));
+    match run_fault(name) {
+        Some(fault) => show_as(kind, fault, said),
+        None => said.add("no such fault"),
+    }
+}
+
+fn run_fault(name: &str) -> Option<RunFault> {
+    match name {
+        "OutOfMemory" => Some(RunFault::OutOfMemory),
+        "NoPlace" => Some(RunFault::NoPlace),
+        "Unfinished" => Some(RunFault::Unfinished),
+        "Mixed" => Some(RunFault::Mixed),
+        _ => None,
+    }
+}
+
+fn show_as(kind: &str, fault: RunFault, said: &mut Written) {
+    match kind {
+        "RunFault" => said.show(&fault),
+        "ServeFault" => said.show(&ServeFault::Run(fault)),
+        _ => said.add("no such fault"),
     }
 }

@@ -1,96 +1,121 @@
 //! A file of scenarios.
-use crate::named::{Named, name_text};
+use crate::named::{Named, meant, name_text};
+use crate::play::play;
 use crate::scenario::{Scenario, scenario_of};
-use crate::wanted::differing;
+use crate::wanted::is_wanted;
+use crate::written::Written;
 use city_model::OutOfMemory;
 use std::alloc::Global;
 use std::fs;
 use std::sync::Wait;
 use std::thread::Threads;
 
-/// What came of the parts of a file so far.
-enum Came {
-    /// All went as wanted: how many scenarios there were.
-    All(u64),
-    /// One failed: which, and how.
-    Otherwise(String),
-}
-
 /// Plays the scenarios of a file, and prints what came of it: whether all went as they say. `threads` is the runtime
 /// again, which is known to have threads only in `main`.
 pub fn play_file<T: Threads + Wait + Sync>(rt: &HostRuntime, threads: &T, name: &str) -> bool {
     let Ok(text) = fs::read_to_string(rt, name) else {
-        let _ = println!(rt; "{name}: not read");
-        return false;
+        return fails(rt, name, "not read");
     };
-    match play_text(threads, rt.alloc(), text.as_str()) {
-        Ok(Came::All(count)) => println!(rt; "{name}: {count} played").is_ok(),
-        Ok(Came::Otherwise(told)) => {
-            let _ = println!(rt; "{name}: {told}");
-            false
-        }
-        Err(OutOfMemory) => {
-            let _ = println!(rt; "{name}: out of memory");
-            false
-        }
+    let mut told = Written::new(rt.alloc());
+    match play_text(threads, rt.alloc(), text.as_str(), &mut told) {
+        Ok(Some(count)) => println!(rt; "{name}: {count} played").is_ok(),
+        Ok(None) => fails(rt, name, str::from_utf8(told.as_slice()).unwrap_or("")),
+        Err(OutOfMemory) => fails(rt, name, "out of memory"),
     }
 }
 
-/// Plays the scenarios of a text up to the first that fails. Between two there is an empty line.
+/// Prints how a file fails.
+fn fails(rt: &HostRuntime, name: &str, told: &str) -> bool {
+    let _ = println!(rt; "{name}: {told}");
+    false
+}
+
+/// Plays the scenarios of a text, and says how many there are: none where one fails, which is told.
 fn play_text<T: Threads + Wait + Sync>(
     rt: &T,
     alloc: Global,
     text: &str,
-) -> Result<Came, OutOfMemory> {
+    told: &mut Written,
+) -> Result<Option<u64>, OutOfMemory> {
     let mut names = Vec::new(alloc);
-    let mut count = 0u64;
-    for part in text.split("\n\n") {
-        if let Some(told) = play_part(rt, alloc, &mut names, part.trim())? {
-            return Ok(Came::Otherwise(told));
-        }
-        count = count.saturating_add(u64::from(is_scenario(part.trim())));
-    }
-    Ok(Came::All(count))
+    play_parts(rt, alloc, &mut names, text, told)
 }
 
-/// Whether a part of a file is a scenario: no comment, and no text that is named.
-fn is_scenario(part: &str) -> bool {
-    !(part.is_empty() || part.starts_with("#") || part.starts_with("let "))
-}
-
-/// Plays a part of a file, and says how it fails, if it does.
-fn play_part<'a, T: Threads + Wait + Sync>(
+/// Plays the parts of a text, between two of which there is an empty line: a comment, a text that is named, or a
+/// scenario.
+fn play_parts<'a, T: Threads + Wait + Sync>(
     rt: &T,
     alloc: Global,
     names: &mut Vec<Named<'a>>,
-    part: &'a str,
-) -> Result<Option<String>, OutOfMemory> {
-    if let Some(rest) = part.strip_prefix("let ") {
-        let named = name_text(alloc, names.as_slice(), rest)?;
-        names.push(named)?;
-        return Ok(None);
+    text: &'a str,
+    told: &mut Written,
+) -> Result<Option<u64>, OutOfMemory> {
+    let mut count = 0u64;
+    for part in text.split("\n\n") {
+        let part = part.trim();
+        if let Some(lines) = part.strip_prefix("let ") {
+            let named = name_text(alloc, names.as_slice(), lines)?;
+            names.push(named)?;
+        } else if !part.is_empty() && !part.starts_with("#") {
+            if !play_part(rt, alloc, names.as_slice(), part, told)? {
+                return Ok(None);
+            }
+            count = count.saturating_add(1);
+        }
     }
-    if !is_scenario(part) {
-        return Ok(None);
-    }
-    match scenario_of(alloc, names.as_slice(), part)? {
-        Some(scenario) => play_scenario(rt, alloc, &scenario),
-        None => Ok(Some(format!(in alloc; "no scenario:\n{part}")?)),
-    }
+    Ok(Some(count))
 }
 
-/// Plays a scenario, and says how it fails, if it does.
-fn play_scenario<T: Threads + Wait + Sync>(
+/// Plays a scenario: whether it goes as it says. Else it is told how it goes.
+fn play_part<T: Threads + Wait + Sync>(
     rt: &T,
     alloc: Global,
+    names: &[Named],
+    part: &str,
+    told: &mut Written,
+) -> Result<bool, OutOfMemory> {
+    let Some(scenario) = scenario_of(part) else {
+        told.add_line("no scenario:");
+        told.add(part);
+        return Ok(false);
+    };
+    let came = played(rt, alloc, names, &scenario)?;
+    let wanted = wanted_of(alloc, names, scenario.lines)?;
+    Ok(is_wanted(scenario.title, wanted.as_slice(), came.as_slice(), told))
+}
+
+/// What a scenario is answered.
+fn played<T: Threads + Wait + Sync>(
+    rt: &T,
+    alloc: Global,
+    names: &[Named],
     scenario: &Scenario,
-) -> Result<Option<String>, OutOfMemory> {
-    let mut came = Vec::new(alloc);
-    crate::play::play(rt, alloc, scenario, &mut came)?;
-    differing(
-        alloc,
-        scenario.title,
-        scenario.wanted.as_slice(),
-        came.as_slice(),
-    )
+) -> Result<Vec<u8>, OutOfMemory> {
+    let texts = texts_of(alloc, names, scenario.texts)?;
+    let mut came = Written::new(alloc);
+    play(rt, alloc, scenario, texts.as_slice(), &mut came);
+    came.whole()
+}
+
+/// What each line means.
+fn texts_of<'t>(
+    alloc: Global,
+    names: &'t [Named],
+    lines: &'t str,
+) -> Result<Vec<&'t [u8]>, OutOfMemory> {
+    let mut texts = Vec::new(alloc);
+    for line in lines.lines() {
+        texts.push(meant(names, line))?;
+    }
+    Ok(texts)
+}
+
+/// What the lines mean, each ended by a newline.
+fn wanted_of(alloc: Global, names: &[Named], lines: &str) -> Result<Vec<u8>, OutOfMemory> {
+    let mut wanted = Written::new(alloc);
+    for line in lines.lines() {
+        wanted.add_bytes(meant(names, line));
+        wanted.add("\n");
+    }
+    wanted.whole()
 }

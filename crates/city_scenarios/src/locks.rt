@@ -1,5 +1,6 @@
 //! The verb `locks`: a lock table.
-use crate::steps::TakesSteps;
+use crate::steps::{TakesSteps, stamped};
+use crate::written::Written;
 use city_locks::{LockTable, Mode};
 use city_model::OutOfMemory;
 use city_model::text::Text;
@@ -7,47 +8,51 @@ use std::alloc::Global;
 
 /// A step is a stamp, a word and an id.
 impl TakesSteps for LockTable {
-    fn take_step(&mut self, alloc: Global, step: &str) -> Result<String, OutOfMemory> {
-        let (stamp, rest) = step.split_once(" ").unwrap_or((step, ""));
-        let (does, id) = rest.split_once(" ").unwrap_or((rest, ""));
-        let Ok(stamp) = stamp.parse::<u64>() else {
-            return "no stamp".to_string(alloc);
-        };
-        let id = Text::new(id.to_string(alloc)?);
-        match does {
-            "share" => asked(self, alloc, stamp, &id, Mode::Shared),
-            "alone" => asked(self, alloc, stamp, &id, Mode::Exclusive),
-            "holds" => held(self, alloc, stamp, &id),
-            "release" => {
-                self.release_all(stamp);
-                "done".to_string(alloc)
-            }
-            _ => "no such step".to_string(alloc),
+    fn take_step(&mut self, alloc: Global, step: &str, said: &mut Written) {
+        match stamped(step) {
+            Some((stamp, rest)) => take_step_of(self, alloc, stamp, rest, said),
+            None => said.add("no stamp"),
         }
     }
 }
 
-/// The answer to an asker, or a line that says that `would_answer` foretold another.
-fn asked(
-    table: &mut LockTable,
-    alloc: Global,
-    stamp: u64,
-    id: &Text,
-    mode: Mode,
-) -> Result<String, OutOfMemory> {
-    let foretold = table.would_answer(stamp, id, mode);
-    let answer = table.ask(stamp, id, mode)?;
-    if answer == foretold {
-        format!(in alloc; "{answer:?}")
-    } else {
-        format!(in alloc; "foretold {foretold:?}")
+fn take_step_of(table: &mut LockTable, alloc: Global, stamp: u64, words: &str, said: &mut Written) {
+    let (does, id) = words.split_once(" ").unwrap_or((words, ""));
+    match id.to_string(alloc) {
+        Ok(id) => call(table, stamp, does, &Text::new(id), said),
+        Err(OutOfMemory) => said.run_out(),
     }
 }
 
-/// The mode in which a stamp holds an id.
-fn held(table: &LockTable, alloc: Global, stamp: u64, id: &Text) -> Result<String, OutOfMemory> {
-    match table.mode(stamp, id) {
-        Some(mode) => format!(in alloc; "{mode:?}"),
-        None => "None".to_string(alloc),
+fn call(table: &mut LockTable, stamp: u64, does: &str, id: &Text, said: &mut Written) {
+    match does {
+        "share" => ask(table, stamp, id, Mode::Shared, said),
+        "alone" => ask(table, stamp, id, Mode::Exclusive, said),
+        "holds" => add_mode(table.mode(stamp, id), said),
+        "release" => {
+            table.release_all(stamp);
+            said.add("done");
+        }
+        _ => said.add("no such step"),
+    }
+}
+
+/// Adds the answer to an asker, and what `would_answer` foretold where that is another.
+fn ask(table: &mut LockTable, stamp: u64, id: &Text, mode: Mode, said: &mut Written) {
+    let foretold = table.would_answer(stamp, id, mode);
+    match table.ask(stamp, id, mode) {
+        Ok(answer) => {
+            said.add(if answer == foretold { "" } else { "foretold " });
+            said.show_debug(&foretold);
+        }
+        Err(OutOfMemory) => said.run_out(),
+    }
+}
+
+/// Adds the mode in which a stamp holds an id.
+fn add_mode(mode: Option<Mode>, said: &mut Written) {
+    match mode {
+        Some(mode) => said.show_debug(&mode),
+        None => said.add("None"),
     }
 }

@@ -4,7 +4,7 @@
 //! failed, with the line that was wanted and the one that came. docs/TESTING.md has the format.
 //!
 //! - `file`, `scenario`, `named`: a file of scenarios, one of them, and texts that they name
-//! - `play`: which verb plays what; `line`, `wanted`: what verbs write, and how it is compared
+//! - `play`: which verb plays what; `written`, `fault_lines`, `wanted`: what verbs write, and how it is compared
 //! - `document`, `scripts`, `prefixes`: texts read; `tokens`: from their tokens; `body`: bodies judged; `members`:
 //!   members kept; `faults`: faults shown
 //! - `run`, `crew`, `replay`: whole runs, by one worker, by several, and their scripts one at a time
@@ -21,9 +21,9 @@ mod command_line;
 mod core_steps;
 mod crew;
 mod document;
+mod fault_lines;
 mod faults;
 mod file;
-mod line;
 mod locks;
 mod members;
 mod named;
@@ -43,6 +43,7 @@ mod tokens;
 mod turns;
 mod wanted;
 mod writer;
+mod written;
 
 use crate::file::play_file;
 use std::env;

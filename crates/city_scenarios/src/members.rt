@@ -1,21 +1,15 @@
 //! The verb `members`: members kept at a place.
-use crate::line::add_line;
-use city_model::OutOfMemory;
+use crate::written::Written;
 use city_model::kept::extra::Extra;
 use city_model::kept::site::{AtGeometry, AtObject, AtTop, AtTransform, Site};
 use serde_json::{Map, Value};
 use std::alloc::Global;
 
 /// Answers whether the members of a text are kept at a place.
-pub fn play_members(
-    alloc: Global,
-    place: &str,
-    text: &[u8],
-    answer: &mut Vec<u8>,
-) -> Result<(), OutOfMemory> {
+pub fn play_members(alloc: Global, place: &str, text: &[u8], answer: &mut Written) {
     match Value::from_slice(alloc, text) {
-        Ok(Value::Object(members)) => add_line(answer, kept_at(place, members)),
-        _ => add_line(answer, "no members"),
+        Ok(Value::Object(members)) => answer.add_line(kept_at(place, members)),
+        _ => answer.add_line("no members"),
     }
 }
 

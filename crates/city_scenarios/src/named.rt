@@ -1,6 +1,8 @@
 //! Texts that a file names, and the pieces that they are made of.
+use crate::written::Written;
 use city_model::OutOfMemory;
 use std::alloc::Global;
+use std::slice;
 
 /// A text with a name.
 #[derive(Drop)]
@@ -29,74 +31,56 @@ pub fn name_text<'a>(
     lines: &'a str,
 ) -> Result<Named<'a>, OutOfMemory> {
     let (name, pieces) = lines.split_once("\n").unwrap_or((lines, ""));
-    let mut text = Vec::new(alloc);
+    let mut text = Written::new(alloc);
     for piece in pieces.lines() {
-        add_piece(alloc, names, piece, &mut text)?;
+        add_piece(names, piece, &mut text);
     }
+    let text = text.whole()?;
     Ok(Named { name, text })
 }
 
 /// Adds a piece: `bytes 255 10` is those bytes, `repeat 128 [` is the rest of the line so often, and any other line
 /// is what it means.
-fn add_piece(
-    alloc: Global,
-    names: &[Named],
-    line: &str,
-    text: &mut Vec<u8>,
-) -> Result<(), OutOfMemory> {
+fn add_piece(names: &[Named], line: &str, text: &mut Written) {
     if let Some(numbers) = line.strip_prefix("bytes ") {
-        return add_bytes(numbers, text);
+        return add_numbers(numbers, text);
     }
     match line.strip_prefix("repeat ") {
-        Some(rest) => add_repeated(alloc, names, rest, text),
-        None => text.extend_from_slice(meant(names, line)),
+        Some(rest) => add_repeated(names, rest, text),
+        None => text.add_bytes(meant(names, line)),
     }
 }
 
 /// Adds the bytes of these numbers.
-fn add_bytes(numbers: &str, text: &mut Vec<u8>) -> Result<(), OutOfMemory> {
+fn add_numbers(numbers: &str, text: &mut Written) {
     for number in numbers.split_whitespace() {
         if let Ok(byte) = number.parse::<u8>() {
-            text.push(byte)?;
+            text.add_bytes(slice::from_ref(&byte));
         }
     }
-    Ok(())
 }
 
 /// Adds what a line means, as often as the number before it says. Each `%` in it is the number of the time, from 0.
-fn add_repeated(
-    alloc: Global,
-    names: &[Named],
-    rest: &str,
-    text: &mut Vec<u8>,
-) -> Result<(), OutOfMemory> {
+fn add_repeated(names: &[Named], rest: &str, text: &mut Written) {
     let (count, line) = rest.split_once(" ").unwrap_or((rest, ""));
     let piece = meant(names, line);
     let numbered = piece.contains(&b'%');
     for number in 0..count.parse::<u64>().unwrap_or(0) {
         if numbered {
-            add_numbered(alloc, piece, number, text)?;
+            add_numbered(piece, number, text);
         } else {
-            text.extend_from_slice(piece)?;
+            text.add_bytes(piece);
         }
     }
-    Ok(())
 }
 
 /// Adds a piece with a number in the place of each `%`.
-fn add_numbered(
-    alloc: Global,
-    piece: &[u8],
-    number: u64,
-    text: &mut Vec<u8>,
-) -> Result<(), OutOfMemory> {
-    let number = number.to_string(alloc)?;
+fn add_numbered(piece: &[u8], number: u64, text: &mut Written) {
     for byte in piece {
         if *byte == b'%' {
-            text.extend_from_slice(number.as_bytes())?;
+            text.show(&number);
         } else {
-            text.push(*byte)?;
+            text.add_bytes(slice::from_ref(byte));
         }
     }
-    Ok(())
 }

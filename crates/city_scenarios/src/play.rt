@@ -6,7 +6,6 @@ use crate::core_steps::play_core;
 use crate::crew::{Told, play_crews};
 use crate::document::play_document;
 use crate::faults::Faults;
-use crate::line::add_line;
 use crate::members::play_members;
 use crate::prefixes::play_prefixes;
 use crate::run::play_run;
@@ -17,9 +16,9 @@ use crate::shelves::play_shelves;
 use crate::steps::take_steps;
 use crate::tokens::play_tokens;
 use crate::turns::play_turns;
+use crate::written::Written;
 use city_doc::VertexPool;
 use city_locks::LockTable;
-use city_model::OutOfMemory;
 use std::alloc::Global;
 use std::sync::Wait;
 use std::thread::Threads;
@@ -29,34 +28,30 @@ pub fn play<T: Threads + Wait + Sync>(
     rt: &T,
     alloc: Global,
     scenario: &Scenario,
-    answer: &mut Vec<u8>,
-) -> Result<(), OutOfMemory> {
+    texts: &[&[u8]],
+    answer: &mut Written,
+) {
     let (verb, rest) = scenario.verb.split_once(" ").unwrap_or((scenario.verb, ""));
     let lines = scenario.lines;
-    match scenario.texts.as_slice() {
+    match texts {
         texts if verb == "serve" => play_serve(rt, alloc, rest, texts, answer),
         [] => play_alone(alloc, verb, lines, answer),
         [text] => play_text(alloc, verb, rest, text, lines, answer),
         [document, scripts] => {
             play_run_verb(rt, alloc, verb, rest, document, scripts, lines, answer)
         }
-        _ => add_line(answer, "too many texts"),
+        _ => answer.add_line("too many texts"),
     }
 }
 
 /// Plays a verb of no text.
-fn play_alone(
-    alloc: Global,
-    verb: &str,
-    lines: &str,
-    answer: &mut Vec<u8>,
-) -> Result<(), OutOfMemory> {
+fn play_alone(alloc: Global, verb: &str, lines: &str, answer: &mut Written) {
     match verb {
         "locks" => take_steps(&mut LockTable::new(alloc), alloc, lines, answer),
         "words" => take_steps(&mut CommandLines, alloc, lines, answer),
         "pool" => take_steps(&mut VertexPool::new(alloc), alloc, lines, answer),
         "faults" => take_steps(&mut Faults, alloc, lines, answer),
-        _ => add_line(answer, "no such verb without texts"),
+        _ => answer.add_line("no such verb without texts"),
     }
 }
 
@@ -67,8 +62,8 @@ fn play_text(
     rest: &str,
     text: &[u8],
     lines: &str,
-    answer: &mut Vec<u8>,
-) -> Result<(), OutOfMemory> {
+    answer: &mut Written,
+) {
     match verb {
         "document" => play_document(alloc, text, answer),
         "prefixes" => play_prefixes(alloc, false, text, answer),
@@ -78,7 +73,7 @@ fn play_text(
         "members" => play_members(alloc, rest, text, answer),
         "tokens" => play_tokens(alloc, rest, text, answer),
         "core" => play_core(alloc, text, lines, answer),
-        _ => add_line(answer, "no such verb of one text"),
+        _ => answer.add_line("no such verb of one text"),
     }
 }
 
@@ -91,8 +86,8 @@ fn play_run_verb<T: Threads + Wait + Sync>(
     document: &[u8],
     scripts: &[u8],
     lines: &str,
-    answer: &mut Vec<u8>,
-) -> Result<(), OutOfMemory> {
+    answer: &mut Written,
+) {
     let told = match verb {
         "run" => return play_run(alloc, document, scripts, answer),
         "board" => return play_board(rt, alloc, rest, document, scripts, lines, answer),
@@ -102,7 +97,7 @@ fn play_run_verb<T: Threads + Wait + Sync>(
         "replay" => Told::History,
         "model" => Told::Model,
         "texts" => Told::Texts,
-        _ => return add_line(answer, "no such verb of two texts"),
+        _ => return answer.add_line("no such verb of two texts"),
     };
     play_crews(rt, alloc, told, rest, document, scripts, answer)
 }

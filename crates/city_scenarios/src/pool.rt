@@ -1,5 +1,6 @@
 //! The verb `pool`: points numbered.
 use crate::steps::TakesSteps;
+use crate::written::Written;
 use city_doc::VertexPool;
 use city_model::OutOfMemory;
 use city_model::object::Point;
@@ -7,12 +8,15 @@ use std::alloc::Global;
 
 /// A step is the three numbers of a point, which is added and answered by its own number.
 impl TakesSteps for VertexPool {
-    fn take_step(&mut self, alloc: Global, step: &str) -> Result<String, OutOfMemory> {
+    fn take_step(&mut self, _alloc: Global, step: &str, said: &mut Written) {
         let mut numbers = step.split_whitespace();
         let x = number_of(numbers.next());
         let y = number_of(numbers.next());
         let z = number_of(numbers.next());
-        self.add(Point { x, y, z })?.to_string(alloc)
+        match self.add(Point { x, y, z }) {
+            Ok(number) => said.show(&number),
+            Err(OutOfMemory) => said.run_out(),
+        }
     }
 }
 

@@ -253,11 +253,26 @@ fn replay_scripts(
     output_bytes(alloc, city, again.as_slice(), 0).ok()
 }
 
-/// What the scripts of these ends give, played one at a time in this order: the report, then the model's text and a
-/// newline. None where these are the ends of no such history.
-pub fn replay(alloc: Global, document: &[u8], scripts: &[u8], ends: &[End]) -> Option<Vec<u8>> {
-    let Ok((mut city, scripts)) = read_texts(alloc, document, scripts) else {
-        return None;
-    };
-    replay_scripts(alloc, &mut city, scripts.as_slice(), ends)
+/// Whether the scripts of these ends give these bytes when they are played one at a time in this order: the report, then
+/// the model's text and a newline.
+pub fn is_replayed(
+    alloc: Global,
+    document: &[u8],
+    scripts: &[u8],
+    ends: &[End],
+    bytes: &[u8],
+) -> bool {
+    match read_texts(alloc, document, scripts) {
+        Ok((city, scripts)) => gives(alloc, city, scripts.as_slice(), ends, bytes),
+        Err(_) => false,
+    }
+}
+
+fn gives(alloc: Global, mut city: City, scripts: &[Script], ends: &[End], bytes: &[u8]) -> bool
+    requires { IsSound (object_at city.1) }
+{
+    match replay_scripts(alloc, &mut city, scripts, ends) {
+        Some(again) => again.as_slice() == bytes,
+        None => false,
+    }
 }

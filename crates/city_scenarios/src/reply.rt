@@ -1,4 +1,5 @@
 //! A reply or a cause by itself, as a report has it.
+use crate::written::Written;
 use city_doc::write_report;
 use city_model::OutOfMemory;
 use city_model::command::{Cause, Reply};
@@ -7,36 +8,40 @@ use city_model::sequence::Sequence;
 use city_model::text::Text;
 use std::alloc::Global;
 
-/// A reply, as it stands in a report: a refusal as `cause_text`.
-pub fn reply_text(alloc: Global, reply: Reply) -> Result<String, OutOfMemory> {
+/// Adds a reply, as it stands in a report: a refusal as `add_cause`.
+pub fn add_reply(alloc: Global, reply: Reply, said: &mut Written) {
     match reply {
-        Reply::Refused(cause) => cause_text(alloc, cause),
-        other => {
-            let mut replies = Sequence::new(alloc);
-            replies.push(other)?;
-            replies_text(alloc, replies)
-        }
+        Reply::Refused(cause) => add_cause(alloc, cause, said),
+        other => add_replies(alloc, other, said),
     }
 }
 
-/// Replies, as they stand in a report.
-fn replies_text(alloc: Global, replies: Sequence<Reply>) -> Result<String, OutOfMemory> {
-    let text = line_of(alloc, replies, Outcome::Committed)?;
-    between(alloc, text.as_str(), "\"replies\":[", "],\"script\":")
+/// Adds a reply that is no refusal.
+fn add_replies(alloc: Global, reply: Reply, said: &mut Written) {
+    let mut replies = Sequence::new(alloc);
+    match replies.push(reply) {
+        Ok(()) => {
+            let part = ("\"replies\":[", "],\"script\":");
+            add_part(alloc, replies, Outcome::Committed, part, said);
+        }
+        Err(OutOfMemory) => said.run_out(),
+    }
 }
 
-/// A cause, as it stands in a report: `"cause":"NoObject","id":"z"`.
-pub fn cause_text(alloc: Global, cause: Cause) -> Result<String, OutOfMemory> {
-    let text = line_of(alloc, Sequence::new(alloc), Outcome::Refused(0, cause))?;
-    between(alloc, text.as_str(), "{\"at\":0,", ",\"name\":")
+/// Adds a cause, as it stands in a report: `"cause":"NoObject","id":"z"`.
+pub fn add_cause(alloc: Global, cause: Cause, said: &mut Written) {
+    let (replies, outcome) = (Sequence::new(alloc), Outcome::Refused(0, cause));
+    add_part(alloc, replies, outcome, ("{\"at\":0,", ",\"name\":"), said);
 }
 
-/// The line of an end with these replies.
-fn line_of(
+/// Adds what stands between two parts of the line of an end.
+fn add_part(
     alloc: Global,
     replies: Sequence<Reply>,
     outcome: Outcome,
-) -> Result<String, OutOfMemory> {
+    part: (&str, &str),
+    said: &mut Written,
+) {
     let end = End {
         script: 0,
         name: Text::new(String::new(alloc)),
@@ -44,16 +49,16 @@ fn line_of(
         replies,
         outcome,
     };
-    let report = write_report(alloc, &[end])?;
-    match str::from_utf8(report.as_slice()) {
-        Ok(line) => line.to_string(alloc),
-        Err(_) => Err(OutOfMemory),
+    match write_report(alloc, &[end]) {
+        Ok(report) => said.add(between(report.as_slice(), part.0, part.1)),
+        Err(OutOfMemory) => said.run_out(),
     }
 }
 
 /// What stands between two parts of a text: the first that is the one, and after it the last that is the other.
-fn between(alloc: Global, text: &str, one: &str, other: &str) -> Result<String, OutOfMemory> {
+fn between<'t>(text: &'t [u8], one: &str, other: &str) -> &'t str {
+    let text = str::from_utf8(text).unwrap_or("");
     let (_, rest) = text.split_once(one).unwrap_or(("", text));
     let (inner, _) = rest.rsplit_once(other).unwrap_or((rest, ""));
-    inner.to_string(alloc)
+    inner
 }

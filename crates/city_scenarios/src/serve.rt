@@ -1,7 +1,8 @@
 //! The verb `serve`: from a reader to a writer.
-use crate::line::{add_bytes, add_fault, add_line, add_unlike};
+use crate::fault_lines::add_fault;
 use crate::reader::{Giving, Reads};
 use crate::writer::{Taking, Writes};
+use crate::written::Written;
 use city_model::OutOfMemory;
 use city_serve::Device;
 use city_serve::serve::serve;
@@ -16,45 +17,58 @@ pub fn play_serve<T: Threads + Wait + Sync>(
     alloc: Global,
     words: &str,
     texts: &[&[u8]],
-    answer: &mut Vec<u8>,
-) -> Result<(), OutOfMemory> {
-    let input = joined(alloc, texts)?;
+    answer: &mut Written,
+) {
     let reads = Reads::told(words);
     let writes = Writes::told(words);
-    if words.contains(" each") || words.ends_with(" each") {
-        return serve_each(rt, alloc, reads, writes, input.as_slice(), answer);
+    match joined(alloc, texts) {
+        Ok(input) if words.contains(" each") => {
+            serve_each(rt, alloc, reads, writes, input.as_slice(), answer);
+        }
+        Ok(input) => serve_once(rt, alloc, reads, writes, input.as_slice(), answer),
+        Err(OutOfMemory) => answer.run_out(),
     }
-    let (written, line) = served(rt, alloc, reads, writes, input.as_slice())?;
-    if !written.is_empty() {
-        add_bytes(answer, written.as_slice())?;
-    }
-    answer.extend_from_slice(line.as_slice())
 }
 
 /// The texts with a newline between two.
 fn joined(alloc: Global, texts: &[&[u8]]) -> Result<Vec<u8>, OutOfMemory> {
-    let mut all = Vec::new(alloc);
+    let mut all = Written::new(alloc);
     for (number, text) in texts.iter().enumerate() {
-        if number > 0 {
-            all.push(b'\n')?;
-        }
-        all.extend_from_slice(text)?;
+        all.add(if number == 0 { "" } else { "\n" });
+        all.add_bytes(text);
     }
-    Ok(all)
+    all.whole()
 }
 
-/// What the writer has, and the line that says why the rest wasn't served, if it wasn't.
+/// Serves the input, and adds what the writer has, and the line that says why the rest wasn't served.
+fn serve_once<T: Threads + Wait + Sync>(
+    rt: &T,
+    alloc: Global,
+    reads: Reads,
+    writes: Writes,
+    input: &[u8],
+    answer: &mut Written,
+) {
+    let mut line = Written::new(alloc);
+    let written = served(rt, alloc, reads, writes, input, &mut line);
+    if !written.is_empty() {
+        answer.add_lines(written.as_slice());
+    }
+    answer.add_written(&line);
+}
+
+/// What the writer has. Adds the line that says why the rest wasn't served, if it wasn't.
 fn served<T: Threads + Wait + Sync>(
     rt: &T,
     alloc: Global,
     reads: Reads,
     writes: Writes,
     input: &[u8],
-) -> Result<(Vec<u8>, Vec<u8>), OutOfMemory> {
+    line: &mut Written,
+) -> Vec<u8> {
     let mut taking = Taking::new(alloc, writes);
-    let mut line = Vec::new(alloc);
-    serve_to(rt, alloc, reads, &mut taking, input, &mut line)?;
-    Ok((taking.into_written(), line))
+    serve_to(rt, alloc, reads, &mut taking, input, line);
+    taking.into_written()
 }
 
 /// Serves the input to a writer, and adds the line that says why the rest wasn't served.
@@ -64,13 +78,12 @@ fn serve_to<T: Threads + Wait + Sync>(
     reads: Reads,
     taking: &mut Taking,
     input: &[u8],
-    line: &mut Vec<u8>,
-) -> Result<(), OutOfMemory> {
+    line: &mut Written,
+) {
     let mut reader = Device::new(Giving::new(reads, input));
     let mut writer = Device::new(taking);
-    match serve(rt, alloc, &mut reader, &mut writer, 1, 0) {
-        Ok(_) => Ok(()),
-        Err(fault) => add_fault(alloc, line, fault),
+    if let Err(fault) = serve(rt, alloc, &mut reader, &mut writer, 1, 0) {
+        add_fault(alloc, &fault, line);
     }
 }
 
@@ -82,39 +95,25 @@ fn serve_each<T: Threads + Wait + Sync>(
     reads: Reads,
     writes: Writes,
     input: &[u8],
-    answer: &mut Vec<u8>,
-) -> Result<(), OutOfMemory> {
-    let (whole, _) = served(rt, alloc, reads, writes.with_room(usize::MAX), input)?;
-    let mut last = Vec::new(alloc);
+    answer: &mut Written,
+) {
+    let mut last = Written::new(alloc);
+    let whole = served(
+        rt,
+        alloc,
+        reads,
+        writes.with_room(usize::MAX),
+        input,
+        &mut last,
+    );
     for room in 0..whole.len() {
-        let wanted = &whole.as_slice()[..room];
-        let writes = writes.with_room(room);
-        serve_one(rt, alloc, reads, writes, input, wanted, &mut last, answer)?;
+        let mut line = Written::new(alloc);
+        let written = served(rt, alloc, reads, writes.with_room(room), input, &mut line);
+        if written.as_slice() != &whole.as_slice()[..room] {
+            line.add("other bytes at ");
+            line.show(&room);
+            line.add("\n");
+        }
+        answer.add_unlike(&mut last, line);
     }
-    Ok(())
-}
-
-/// Serves to a writer, and answers why the rest wasn't served where that isn't what was answered last, or that it has
-/// other bytes than those.
-fn serve_one<T: Threads + Wait + Sync>(
-    rt: &T,
-    alloc: Global,
-    reads: Reads,
-    writes: Writes,
-    input: &[u8],
-    wanted: &[u8],
-    last: &mut Vec<u8>,
-    answer: &mut Vec<u8>,
-) -> Result<(), OutOfMemory> {
-    let (written, line) = served(rt, alloc, reads, writes, input)?;
-    if written.as_slice() == wanted {
-        add_unlike(answer, last, line)
-    } else {
-        add_other_bytes(alloc, wanted.len(), answer)
-    }
-}
-
-/// Adds that a writer that had room for so many bytes has others.
-fn add_other_bytes(alloc: Global, room: usize, answer: &mut Vec<u8>) -> Result<(), OutOfMemory> {
-    add_line(answer, format!(in alloc; "other bytes at {room}")?.as_str())
 }

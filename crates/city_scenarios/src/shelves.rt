@@ -1,14 +1,14 @@
 //! The verb `shelves`: a change that is made by hand, and what takes it.
-ghost use Rattle.std.specs.Prelude.{◌≡◌, ◌≤◌, [], OnOk};
+ghost use Rattle.std.specs.Prelude.{◌≡◌, ◌≤◌, [], true, IfOk, IfSome, OnOk};
 ghost use Rattle.city_model.specs.CityMap.{CityMap, object_at};
 ghost use Rattle.city_model.specs.Relations.{IsLawful};
 ghost use Rattle.city_model.specs.Runs.{after_change};
 ghost use Rattle.city_crew.specs.Limits.{max_viewers};
 
-use crate::change::change_text;
+use crate::change::add_change;
 use crate::document::add_city;
-use crate::line::add_line;
-use crate::steps::{add_step, step_of};
+use crate::steps::{begin_step, step_of};
+use crate::written::Written;
 use city_crew::board::board;
 use city_crew::{MAX_VIEWERS, Poster, Viewer};
 use city_desk::{ListShelf, NullShelf, Shelf};
@@ -18,7 +18,8 @@ use city_model::change::Change;
 use city_model::city::City;
 use city_model::copied::Copied;
 use city_model::is_lawful::is_lawful;
-use city_model::text::Text;
+use city_model::object::Object;
+use city_model::text::{Id, Text};
 use std::alloc::Global;
 use std::sync::Wait;
 
@@ -32,15 +33,11 @@ pub fn play_shelves<R: Wait>(
     document: &[u8],
     objects: &[u8],
     lines: &str,
-    answer: &mut Vec<u8>,
-) -> Result<(), OutOfMemory> {
-    let seats = seats.parse::<usize>().unwrap_or(0).min(MAX_VIEWERS);
+    answer: &mut Written,
+) {
     match read_city(alloc, document) {
-        Ok(city) => match read_city(alloc, objects) {
-            Ok(objects) => play_over(rt, alloc, city, &objects, seats, lines, answer),
-            Err(_) => add_line(answer, "no objects"),
-        },
-        Err(_) => add_line(answer, "no city"),
+        Ok(city) => play_over(rt, alloc, city, objects, seats, lines, answer),
+        Err(_) => answer.add_line("no city"),
     }
 }
 
@@ -48,33 +45,83 @@ fn play_over<R: Wait>(
     rt: &R,
     alloc: Global,
     city: City,
-    objects: &City,
-    seats: usize,
+    objects: &[u8],
+    seats: &str,
     lines: &str,
-    answer: &mut Vec<u8>,
-) -> Result<(), OutOfMemory>
-    requires lawful { IsLawful (object_at city.1) }
-    requires seats { seats ≤ max_viewers }
+    answer: &mut Written,
+)
+    requires { IsLawful (object_at city.1) }
 {
-    let mut after = city.copy(alloc)?;
-    let mut change = Change::new(alloc);
-    write_steps(alloc, objects, &mut after, &mut change, lines, answer)?;
-    add_list(alloc, &change, answer)?;
-    if is_lawful(alloc, &after)? {
-        post(rt, alloc, city, change, seats, answer)
-    } else {
-        add_line(answer, "not lawful")
+    let seats = seats.parse::<usize>().unwrap_or(0).min(MAX_VIEWERS);
+    match read_change(alloc, &city, objects, lines, answer) {
+        Ok(Some(change)) => post(rt, alloc, city, change, seats, answer),
+        Ok(None) => {}
+        Err(OutOfMemory) => answer.run_out(),
     }
 }
 
-/// Takes the steps, each with a city that is as the change leaves it.
+/// The change that the steps make, where it leaves a lawful city.
+fn read_change(
+    alloc: Global,
+    city: &City,
+    objects: &[u8],
+    lines: &str,
+    answer: &mut Written,
+) -> Result<Option<Change>, OutOfMemory>
+    ensures { IfOk result (λ made. IfSome made (λ change. IsLawful (after_change (object_at city.now.1) change))) }
+{
+    match read_city(alloc, objects) {
+        Ok(objects) => make_change(alloc, city, &objects, lines, answer),
+        Err(_) => {
+            answer.add_line("no objects");
+            Ok(None)
+        }
+    }
+}
+
+fn make_change(
+    alloc: Global,
+    city: &City,
+    objects: &City,
+    lines: &str,
+    answer: &mut Written,
+) -> Result<Option<Change>, OutOfMemory>
+    ensures { IfOk result (λ made. IfSome made (λ change. IsLawful (after_change (object_at city.now.1) change))) }
+{
+    let mut after = city.copy(alloc)?;
+    let mut change = Change::new(alloc);
+    if is_made(alloc, objects, &mut after, &mut change, lines, answer)? {
+        return Ok(Some(change));
+    }
+    answer.add_line("not lawful");
+    Ok(None)
+}
+
+/// Takes the steps, each with a city that is as the change leaves it, and adds what takes the change; whether the city
+/// is lawful then.
+fn is_made(
+    alloc: Global,
+    objects: &City,
+    city: &mut City,
+    change: &mut Change,
+    lines: &str,
+    answer: &mut Written,
+) -> Result<bool, OutOfMemory>
+    ensures { IfOk result (λ lawful. lawful ≡ true → (m : CityMap) → object_at city.old.1 ≡ after_change m change.old
+        → IsLawful (after_change m change.new)) }
+{
+    write_steps(alloc, objects, city, change, lines, answer)?;
+    add_taken(alloc, change, answer)?;
+    is_lawful(alloc, city)
+}
+
 fn write_steps(
     alloc: Global,
     objects: &City,
     city: &mut City,
     change: &mut Change,
     lines: &str,
-    answer: &mut Vec<u8>,
+    answer: &mut Written,
 ) -> Result<(), OutOfMemory>
     ensures { OnOk result ((m : CityMap) → object_at city.old.1 ≡ after_change m change.old
         → object_at city.new.1 ≡ after_change m change.new) }
@@ -82,8 +129,9 @@ fn write_steps(
     for line in lines.lines() {
         if let Some(step) = step_of(line) {
             write_step(alloc, objects, city, change, step)?;
-            let count = change.len().to_string(alloc)?;
-            add_step(answer, step, count.as_str())?;
+            begin_step(step, answer);
+            answer.show(&change.len());
+            answer.add("\n");
         }
     }
     Ok(())
@@ -101,9 +149,23 @@ fn write_step(
 {
     let (_, words) = step.split_once(" ").unwrap_or((step, ""));
     let (id, other) = words.split_once(" ").unwrap_or((words, ""));
-    let id = Text::new(id.to_string(alloc)?);
     let other = Text::new(other.to_string(alloc)?);
-    match objects.get(&other) {
+    let id = Text::new(id.to_string(alloc)?);
+    write(alloc, city, change, id, objects.get(&other))
+}
+
+/// Writes the object of an id, or that it has none, into a city and into a change.
+fn write(
+    alloc: Global,
+    city: &mut City,
+    change: &mut Change,
+    id: Id,
+    object: Option<&Object>,
+) -> Result<(), OutOfMemory>
+    ensures { OnOk result ((m : CityMap) → object_at city.old.1 ≡ after_change m change.old
+        → object_at city.new.1 ≡ after_change m change.new) }
+{
+    match object {
         Some(object) => {
             drop(city.set(id.copy(alloc)?, object.copy(alloc)?)?);
             change.set(id, Some(object.copy(alloc)?))
@@ -116,14 +178,16 @@ fn write_step(
 }
 
 /// Has a shelf that keeps nothing take a change, and a list, and adds what the list has then.
-fn add_list(alloc: Global, change: &Change, answer: &mut Vec<u8>) -> Result<(), OutOfMemory> {
+fn add_taken(alloc: Global, change: &Change, answer: &mut Written) -> Result<(), OutOfMemory> {
     NullShelf::new().take(change.copy(alloc)?)?;
     let mut list = ListShelf::new(alloc);
     list.take(change.copy(alloc)?)?;
     match list.changes() {
-        [taken] => add_line(answer, change_text(alloc, "taken", taken)?.as_str()),
-        _ => add_line(answer, "not taken"),
+        [taken] => add_change("taken", taken, answer),
+        _ => answer.add("not taken"),
     }
+    answer.add("\n");
+    Ok(())
 }
 
 /// Posts a change on a board over a city.
@@ -133,15 +197,15 @@ fn post<R: Wait>(
     city: City,
     change: Change,
     seats: usize,
-    answer: &mut Vec<u8>,
-) -> Result<(), OutOfMemory>
+    answer: &mut Written,
+)
     requires lawful { IsLawful (object_at city.1) }
     requires after { IsLawful (after_change (object_at city.1) change) }
     requires seats { seats ≤ max_viewers }
 {
     match board(rt, alloc, city, seats) {
         Ok((poster, viewers)) => show(poster, alloc, viewers, change, answer),
-        Err(_) => add_line(answer, "no board"),
+        Err(_) => answer.add_line("no board"),
     }
 }
 
@@ -151,45 +215,27 @@ fn show<R: Wait + Drop>(
     alloc: Global,
     viewers: Vec<Viewer>,
     change: Change,
-    answer: &mut Vec<u8>,
-) -> Result<(), OutOfMemory>
+    answer: &mut Written,
+)
     requires taken { poster.taken ≡ [] }
     requires after { IsLawful (after_change (object_at poster.opening.1) change) }
 {
     let shown = poster.append(change).is_ok() && poster.publish().is_ok();
-    let told = add_line(answer, if shown { "shown" } else { "not shown" });
-    let seen = add_seen(alloc, viewers, answer);
-    drop(poster);
-    told?;
-    seen
-}
-
-/// Adds what each viewer sees.
-fn add_seen(alloc: Global, viewers: Vec<Viewer>, answer: &mut Vec<u8>) -> Result<(), OutOfMemory> {
+    answer.add_line(if shown { "shown" } else { "not shown" });
     for viewer in viewers {
-        add_seen_by(alloc, viewer, answer)?;
+        add_seen_by(alloc, viewer, answer);
     }
-    Ok(())
 }
 
-fn add_seen_by(alloc: Global, viewer: Viewer, answer: &mut Vec<u8>) -> Result<(), OutOfMemory> {
+/// Adds what a viewer sees.
+fn add_seen_by(alloc: Global, viewer: Viewer, answer: &mut Written) {
     match viewer.look() {
         Ok(look) => {
-            let told = add_model(alloc, look.edits(), look.city(), answer);
+            answer.show(&look.edits());
+            answer.add("\n");
+            add_city(alloc, look.city(), answer);
             let _viewer = look.leave();
-            told
         }
-        Err(_viewer) => add_line(answer, "no look"),
+        Err(_viewer) => answer.add_line("no look"),
     }
-}
-
-/// Adds how many changes there are, and the model after them.
-fn add_model(
-    alloc: Global,
-    edits: u64,
-    city: &City,
-    answer: &mut Vec<u8>,
-) -> Result<(), OutOfMemory> {
-    add_line(answer, edits.to_string(alloc)?.as_str())?;
-    add_city(alloc, city, answer)
 }

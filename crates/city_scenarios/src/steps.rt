@@ -1,27 +1,22 @@
 //! Steps: lines of an answer that have an arrow.
-use city_model::OutOfMemory;
+use crate::written::Written;
 use std::alloc::Global;
 
 /// What takes steps one after another.
 pub trait TakesSteps {
     /// Takes a step, and says what it is answered.
-    fn take_step(&mut self, alloc: Global, step: &str) -> Result<String, OutOfMemory>;
+    fn take_step(&mut self, alloc: Global, step: &str, said: &mut Written);
 }
 
 /// Takes each step of these lines, and adds it with what it is answered.
-pub fn take_steps<T: TakesSteps>(
-    taker: &mut T,
-    alloc: Global,
-    lines: &str,
-    answer: &mut Vec<u8>,
-) -> Result<(), OutOfMemory> {
+pub fn take_steps<T: TakesSteps>(taker: &mut T, alloc: Global, lines: &str, answer: &mut Written) {
     for line in lines.lines() {
         if let Some(step) = step_of(line) {
-            let said = taker.take_step(alloc, step)?;
-            add_step(answer, step, said.as_str())?;
+            begin_step(step, answer);
+            taker.take_step(alloc, step, answer);
+            answer.add("\n");
         }
     }
-    Ok(())
 }
 
 /// What a line does, if it is a step: what stands before the last arrow.
@@ -30,19 +25,15 @@ pub fn step_of(line: &str) -> Option<&str> {
     Some(step)
 }
 
-/// Adds a step with what it is answered.
-pub fn add_step(answer: &mut Vec<u8>, step: &str, said: &str) -> Result<(), OutOfMemory> {
-    answer.extend_from_slice(step.as_bytes())?;
-    answer.extend_from_slice(b" -> ")?;
-    answer.extend_from_slice(said.as_bytes())?;
-    answer.push(b'\n')?;
-    Ok(())
+/// Adds a step, up to what it is answered.
+pub fn begin_step(step: &str, answer: &mut Written) {
+    answer.add(step);
+    answer.add(" -> ");
 }
 
-/// A number, or `none`.
-pub fn number_or_none(alloc: Global, number: Option<usize>) -> Result<String, OutOfMemory> {
-    match number {
-        Some(number) => number.to_string(alloc),
-        None => "none".to_string(alloc),
-    }
+/// The stamp that a step begins with, and the rest of the step.
+pub fn stamped(step: &str) -> Option<(u64, &str)> {
+    let (stamp, rest) = step.split_once(" ").unwrap_or((step, ""));
+    let stamp = stamp.parse::<u64>().ok()?;
+    Some((stamp, rest))
 }

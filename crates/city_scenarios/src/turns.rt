@@ -2,11 +2,13 @@
 ghost use Rattle.city_model.specs.CityMap.{object_at};
 ghost use Rattle.city_model.specs.Relations.{IsLawful};
 
-use crate::change::change_text;
-use crate::line::{add_line, add_run_fault};
-use crate::steps::{TakesSteps, number_or_none, take_steps};
+use crate::change::add_change;
+use crate::fault_lines::add_run_fault;
+use crate::steps::{TakesSteps, take_steps};
+use crate::written::Written;
 use city_desk::{Desk, ListShelf, Turn, output_bytes, read_texts};
 use city_model::OutOfMemory;
+use city_model::change::Change;
 use city_model::city::City;
 use city_model::end::End;
 use city_model::script::Script;
@@ -19,11 +21,11 @@ pub fn play_turns(
     document: &[u8],
     scripts: &[u8],
     lines: &str,
-    answer: &mut Vec<u8>,
-) -> Result<(), OutOfMemory> {
+    answer: &mut Written,
+) {
     match read_texts(alloc, document, scripts) {
         Ok((city, scripts)) => play_over(alloc, city, scripts, lines, answer),
-        Err(fault) => add_run_fault(alloc, answer, fault),
+        Err(fault) => add_run_fault(alloc, fault, answer),
     }
 }
 
@@ -32,74 +34,77 @@ fn play_over(
     city: City,
     scripts: Sequence<Script>,
     lines: &str,
-    answer: &mut Vec<u8>,
-) -> Result<(), OutOfMemory>
+    answer: &mut Written,
+)
     requires { IsLawful (object_at city.1) }
 {
-    let mut desk = Desk::open(alloc, city, scripts, ListShelf::new(alloc))?;
-    let taken = take_steps(&mut desk, alloc, lines, answer);
-    let left = add_left(desk, alloc, answer);
-    taken?;
-    left
+    match Desk::open(alloc, city, scripts, ListShelf::new(alloc)) {
+        Ok(desk) => play_at(alloc, desk, lines, answer),
+        Err(OutOfMemory) => answer.run_out(),
+    }
 }
 
-/// Adds what a desk leaves, which is closed where a script hasn't ended.
-fn add_left(desk: Desk<ListShelf>, alloc: Global, answer: &mut Vec<u8>) -> Result<(), OutOfMemory> {
+/// Takes the steps at a desk, and adds what it leaves; it is closed where a script hasn't ended.
+fn play_at(alloc: Global, mut desk: Desk<ListShelf>, lines: &str, answer: &mut Written) {
+    take_steps(&mut desk, alloc, lines, answer);
     match desk.finish() {
-        Ok(left) => add_output(alloc, &left.city, left.ends.as_slice(), &left.shelf, answer),
-        Err(desk) => add_closed(desk, alloc, answer),
+        Ok(left) => add_left(alloc, &left.city, left.ends.as_slice(), &left.shelf, answer),
+        Err(desk) => add_closed(alloc, desk, answer),
     }
 }
 
 /// Adds what a desk leaves that is closed.
-fn add_closed(
-    desk: Desk<ListShelf>,
-    alloc: Global,
-    answer: &mut Vec<u8>,
-) -> Result<(), OutOfMemory> {
+fn add_closed(alloc: Global, desk: Desk<ListShelf>, answer: &mut Written) {
     let (city, ends, shelf) = desk.close();
-    add_line(answer, "unfinished")?;
-    add_output(alloc, &city, ends.as_slice(), &shelf, answer)
+    answer.add_line("unfinished");
+    add_left(alloc, &city, ends.as_slice(), &shelf, answer);
 }
 
 /// Adds a report and a model, and what each change sets and takes out.
-fn add_output(
-    alloc: Global,
-    city: &City,
-    ends: &[End],
-    shelf: &ListShelf,
-    answer: &mut Vec<u8>,
-) -> Result<(), OutOfMemory> {
-    let bytes = output_bytes(alloc, city, ends, 0)?;
-    answer.extend_from_slice(bytes.as_slice())?;
-    for change in shelf.changes() {
-        let line = change_text(alloc, "committed", change)?;
-        add_line(answer, line.as_str())?;
+fn add_left(alloc: Global, city: &City, ends: &[End], shelf: &ListShelf, answer: &mut Written) {
+    match output_bytes(alloc, city, ends, 0) {
+        Ok(bytes) => answer.add_bytes(bytes.as_slice()),
+        Err(OutOfMemory) => answer.run_out(),
     }
-    Ok(())
+    add_changes(shelf.changes(), answer);
+}
+
+fn add_changes(changes: &[Change], answer: &mut Written) {
+    for change in changes {
+        add_change("committed", change, answer);
+        answer.add("\n");
+    }
 }
 
 /// A step is the number of a script whose turn it is, or a word.
 impl TakesSteps for Desk<ListShelf> {
-    fn take_step(&mut self, alloc: Global, step: &str) -> Result<String, OutOfMemory> {
+    fn take_step(&mut self, _alloc: Global, step: &str, said: &mut Written) {
         match step {
-            "ready" => number_or_none(alloc, self.ready()),
-            "take" => number_or_none(alloc, self.take()),
-            _ => turn_text(self, alloc, step),
+            "ready" => add_number(self.ready(), said),
+            "take" => add_number(self.take(), said),
+            _ => turn(self, step, said),
         }
     }
 }
 
-/// The answer to the turn of a script. A script that was said to be ready doesn't wait.
-fn turn_text(desk: &mut Desk<ListShelf>, alloc: Global, step: &str) -> Result<String, OutOfMemory> {
+/// Adds a number, or `none`.
+fn add_number(number: Option<usize>, said: &mut Written) {
+    match number {
+        Some(number) => said.show(&number),
+        None => said.add("none"),
+    }
+}
+
+/// Adds the answer to the turn of a script. A script that was said to be ready doesn't wait.
+fn turn(desk: &mut Desk<ListShelf>, step: &str, said: &mut Written) {
     let number = step.parse::<usize>().unwrap_or(usize::MAX);
     if number >= desk.scripts() {
-        return "no script".to_string(alloc);
+        return said.add("no script");
     }
     let was_ready = desk.ready() == Some(number);
     let turn = desk.turn(number);
+    said.show_debug(&turn);
     if was_ready && turn == Turn::Waits {
-        return "waits though it was ready".to_string(alloc);
+        said.add(" though it was ready");
     }
-    format!(in alloc; "{turn:?}")
 }

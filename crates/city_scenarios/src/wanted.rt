@@ -1,29 +1,23 @@
 //! What came, compared with what was wanted.
-use city_model::OutOfMemory;
-use std::alloc::Global;
+use crate::written::Written;
 
 /// How much of a line is shown.
 const SHOWN: usize = 2000;
 
-/// The first line that differs, with a scenario's title; none where all are the same.
-pub fn differing(
-    alloc: Global,
-    title: &str,
-    wanted: &[u8],
-    came: &[u8],
-) -> Result<Option<String>, OutOfMemory> {
+/// Whether what was wanted came. Else the first line that differs is told, with a scenario's title.
+pub fn is_wanted(title: &str, wanted: &[u8], came: &[u8], told: &mut Written) -> bool {
     if wanted == came {
-        return Ok(None);
+        return true;
     }
     let (number, start) = first_unlike(wanted, came);
-    let (wanted, came) = (
-        text_from(alloc, wanted, start)?,
-        text_from(alloc, came, start)?,
-    );
-    let wanted = wanted.lines().next().unwrap_or("no line");
-    let came = came.lines().next().unwrap_or("no line");
-    let told = format!(in alloc; "{title}\nwanted in line {number}: {wanted}\ncame: {came}")?;
-    Ok(Some(told))
+    told.add_line(title);
+    told.add("wanted in line ");
+    told.show(&number);
+    told.add(": ");
+    add_line_at(wanted, start, told);
+    told.add("\ncame: ");
+    add_line_at(came, start, told);
+    false
 }
 
 /// The number of the first line that differs, and where it begins.
@@ -41,16 +35,16 @@ fn first_unlike(wanted: &[u8], came: &[u8]) -> (u64, usize) {
     (number, start)
 }
 
-/// What stands from a place on, in text, each byte that is no text as `?`.
-fn text_from(alloc: Global, bytes: &[u8], start: usize) -> Result<String, OutOfMemory> {
+/// Adds the line that begins at a place, each byte that is no text as `?`.
+fn add_line_at(bytes: &[u8], start: usize, told: &mut Written) {
     let (_, rest) = bytes.split_at(start.min(bytes.len()));
     let (shown, _) = rest.split_at(rest.len().min(SHOWN));
-    let mut text = String::new(alloc);
+    told.add(if shown.is_empty() { "no line" } else { "" });
     for chunk in shown.utf8_chunks() {
-        text.push_str(chunk.valid())?;
-        if !chunk.invalid().is_empty() {
-            text.push_str("?")?;
+        if let Some((line, _)) = chunk.valid().split_once("\n") {
+            return told.add(line);
         }
+        told.add(chunk.valid());
+        told.add(if chunk.invalid().is_empty() { "" } else { "?" });
     }
-    Ok(text)
 }
