@@ -126,7 +126,7 @@ fn act_first(core: &mut Core, alloc: Global, stamp: u64, scripts: &[Script], sai
     said.add("no command");
 }
 
-/// Adds the answer to a command, or a line that says that `would_wait` foretold another.
+/// Adds the answer to a command, after a word where `would_wait` foretold another.
 fn act(core: &mut Core, alloc: Global, stamp: u64, command: &Command, said: &mut Written)
     requires { is_end command.now ≡ false }
 {
@@ -138,10 +138,12 @@ fn act(core: &mut Core, alloc: Global, stamp: u64, command: &Command, said: &mut
 }
 
 fn add_step(alloc: Global, foretold: bool, step: Step, said: &mut Written) {
+    if foretold != matches!(step, Step::Wait) {
+        said.add("foretold otherwise: ");
+    }
     match step {
-        Step::Wait if foretold => said.add("wait"),
-        Step::Die if !foretold => said.add("die"),
-        Step::Done(reply) if !foretold => add_reply(alloc, reply, said),
-        _ => said.add("foretold otherwise"),
+        Step::Done(reply) => add_reply(alloc, reply, said),
+        Step::Wait => said.add("wait"),
+        Step::Die => said.add("die"),
     }
 }

@@ -23,10 +23,21 @@ pub fn add_run_fault(alloc: Global, fault: RunFault, answer: &mut Written) {
 
 /// Ends the line of a fault that shows by itself, and adds the line of the program where that is another.
 pub fn end_fault(alloc: Global, fault: RunFault, answer: &mut Written) {
-    let mut line = Written::new(alloc);
-    answer.add("\n");
-    add_fault(alloc, &ServeFault::Run(fault), &mut line);
-    if !answer.as_slice().ends_with(line.as_slice()) {
-        answer.add_written(&line);
+    match program_line(alloc, fault) {
+        Ok(line) => end_line(line.as_str(), answer),
+        Err(OutOfMemory) => answer.run_out(),
     }
+}
+
+fn program_line(alloc: Global, fault: RunFault) -> Result<String, OutOfMemory> {
+    let fault = ServeFault::Run(fault);
+    fault_line(alloc, &fault)
+}
+
+fn end_line(line: &str, answer: &mut Written) {
+    if !answer.as_slice().ends_with(line.as_bytes()) {
+        answer.add("\n");
+        answer.add(line);
+    }
+    answer.add("\n");
 }

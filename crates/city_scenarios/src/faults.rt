@@ -12,21 +12,33 @@ pub struct Faults;
 
 impl TakesSteps for Faults {
     fn take_step(&mut self, _alloc: Global, step: &str, said: &mut Written) {
-        match step {
-            "ReadFault::OutOfMemory" => said.show(&ReadFault::OutOfMemory),
-            "ScriptFault::OutOfMemory" => said.show(&ScriptFault::OutOfMemory),
-            "ServeFault::Read" => said.show(&ServeFault::Read),
-            "ServeFault::Write" => said.show(&ServeFault::Write),
-            _ => show_run_fault(step, said),
+        let (kind, name) = step.split_once("::").unwrap_or((step, ""));
+        match kind {
+            "RunFault" => show_run_fault(name, said),
+            "ServeFault" => show_serve_fault(name, said),
+            _ => show_text_fault(step, said),
         }
     }
 }
 
-/// Adds how a fault of a run shows, by itself or as one of serving.
-fn show_run_fault(step: &str, said: &mut Written) {
-    let (kind, name) = step.split_once("::").unwrap_or((step, ""));
+fn show_text_fault(step: &str, said: &mut Written) {
+    match step {
+        "ReadFault::OutOfMemory" => said.show(&ReadFault::OutOfMemory),
+        "ScriptFault::OutOfMemory" => said.show(&ScriptFault::OutOfMemory),
+        _ => said.add("no such fault"),
+    }
+}
+
+fn show_run_fault(name: &str, said: &mut Written) {
     match run_fault(name) {
-        Some(fault) => show_as(kind, fault, said),
+        Some(fault) => said.show(&fault),
+        None => said.add("no such fault"),
+    }
+}
+
+fn show_serve_fault(name: &str, said: &mut Written) {
+    match serve_fault(name) {
+        Some(fault) => said.show(&fault),
         None => said.add("no such fault"),
     }
 }
@@ -41,10 +53,10 @@ fn run_fault(name: &str) -> Option<RunFault> {
     }
 }
 
-fn show_as(kind: &str, fault: RunFault, said: &mut Written) {
-    match kind {
-        "RunFault" => said.show(&fault),
-        "ServeFault" => said.show(&ServeFault::Run(fault)),
-        _ => said.add("no such fault"),
+fn serve_fault(name: &str) -> Option<ServeFault> {
+    match name {
+        "Read" => Some(ServeFault::Read),
+        "Write" => Some(ServeFault::Write),
+        _ => Some(ServeFault::Run(run_fault(name)?)),
     }
 }

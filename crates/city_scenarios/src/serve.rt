@@ -19,13 +19,11 @@ pub fn play_serve<T: Threads + Wait + Sync>(
     texts: &[&[u8]],
     answer: &mut Written,
 ) {
-    let reads = Reads::told(words);
-    let writes = Writes::told(words);
     match joined(alloc, texts) {
         Ok(input) if words.contains(" each") => {
-            serve_each(rt, alloc, reads, writes, input.as_slice(), answer);
+            serve_each(rt, alloc, words, input.as_slice(), answer);
         }
-        Ok(input) => serve_once(rt, alloc, reads, writes, input.as_slice(), answer),
+        Ok(input) => serve_once(rt, alloc, words, input.as_slice(), answer),
         Err(OutOfMemory) => answer.run_out(),
     }
 }
@@ -44,30 +42,30 @@ fn joined(alloc: Global, texts: &[&[u8]]) -> Result<Vec<u8>, OutOfMemory> {
 fn serve_once<T: Threads + Wait + Sync>(
     rt: &T,
     alloc: Global,
-    reads: Reads,
-    writes: Writes,
+    words: &str,
     input: &[u8],
     answer: &mut Written,
 ) {
     let mut line = Written::new(alloc);
-    let written = served(rt, alloc, reads, writes, input, &mut line);
+    let written = served(rt, alloc, words, None, input, &mut line);
     if !written.is_empty() {
         answer.add_lines(written.as_slice());
     }
     answer.add_written(&line);
 }
 
-/// What the writer has. Adds the line that says why the rest wasn't served, if it wasn't.
+/// What the writer has, with room for so many bytes if that is said. Adds the line that says why the rest wasn't served,
+/// if it wasn't.
 fn served<T: Threads + Wait + Sync>(
     rt: &T,
     alloc: Global,
-    reads: Reads,
-    writes: Writes,
+    words: &str,
+    room: Option<usize>,
     input: &[u8],
     line: &mut Written,
 ) -> Vec<u8> {
-    let mut taking = Taking::new(alloc, writes);
-    serve_to(rt, alloc, reads, &mut taking, input, line);
+    let mut taking = Taking::new(alloc, Writes::told(words, room));
+    serve_to(rt, alloc, words, &mut taking, input, line);
     taking.into_written()
 }
 
@@ -75,12 +73,12 @@ fn served<T: Threads + Wait + Sync>(
 fn serve_to<T: Threads + Wait + Sync>(
     rt: &T,
     alloc: Global,
-    reads: Reads,
+    words: &str,
     taking: &mut Taking,
     input: &[u8],
     line: &mut Written,
 ) {
-    let mut reader = Device::new(Giving::new(reads, input));
+    let mut reader = Device::new(Giving::new(Reads::told(words), input));
     let mut writer = Device::new(taking);
     if let Err(fault) = serve(rt, alloc, &mut reader, &mut writer, 1, 0) {
         add_fault(alloc, &fault, line);
@@ -92,8 +90,7 @@ fn serve_to<T: Threads + Wait + Sync>(
 fn serve_each<T: Threads + Wait + Sync>(
     rt: &T,
     alloc: Global,
-    reads: Reads,
-    writes: Writes,
+    words: &str,
     input: &[u8],
     answer: &mut Written,
 ) {
@@ -101,19 +98,38 @@ fn serve_each<T: Threads + Wait + Sync>(
     let whole = served(
         rt,
         alloc,
-        reads,
-        writes.with_room(usize::MAX),
+        words,
+        Some(usize::MAX),
         input,
-        &mut last,
+        &mut Written::new(alloc),
     );
     for room in 0..whole.len() {
         let mut line = Written::new(alloc);
-        let written = served(rt, alloc, reads, writes.with_room(room), input, &mut line);
-        if written.as_slice() != &whole.as_slice()[..room] {
-            line.add("other bytes at ");
-            line.show(&room);
-            line.add("\n");
-        }
+        serve_in(
+            rt,
+            alloc,
+            words,
+            input,
+            &whole.as_slice()[..room],
+            &mut line,
+        );
         answer.add_unlike(&mut last, line);
+    }
+}
+
+/// Serves to a writer that has room for these bytes, and adds why the rest wasn't served, or that it has others.
+fn serve_in<T: Threads + Wait + Sync>(
+    rt: &T,
+    alloc: Global,
+    words: &str,
+    input: &[u8],
+    wanted: &[u8],
+    line: &mut Written,
+) {
+    let written = served(rt, alloc, words, Some(wanted.len()), input, line);
+    if written.as_slice() != wanted {
+        line.add("other bytes at ");
+        line.show(&wanted.len());
+        line.add("\n");
     }
 }

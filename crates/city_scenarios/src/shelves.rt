@@ -1,5 +1,5 @@
 //! The verb `shelves`: a change that is made by hand, and what takes it.
-ghost use Rattle.std.specs.Prelude.{◌≡◌, ◌≤◌, [], true, IfOk, IfSome, OnOk};
+ghost use Rattle.std.specs.Prelude.{◌≡◌, ◌≤◌, [], IfOk, IfSome, IsTrue, OnOk};
 ghost use Rattle.city_model.specs.CityMap.{CityMap, object_at};
 ghost use Rattle.city_model.specs.Relations.{IsLawful};
 ghost use Rattle.city_model.specs.Runs.{after_change};
@@ -107,12 +107,13 @@ fn is_made(
     lines: &str,
     answer: &mut Written,
 ) -> Result<bool, OutOfMemory>
-    ensures { IfOk result (λ lawful. lawful ≡ true → (m : CityMap) → object_at city.old.1 ≡ after_change m change.old
+    ensures { IfOk result (λ lawful. IsTrue lawful → (m : CityMap) → object_at city.old.1 ≡ after_change m change.old
         → IsLawful (after_change m change.new)) }
 {
     write_steps(alloc, objects, city, change, lines, answer)?;
     add_taken(alloc, change, answer)?;
-    is_lawful(alloc, city)
+    let lawful = is_lawful(alloc, city)?;
+    Ok(lawful)
 }
 
 fn write_steps(
@@ -177,17 +178,30 @@ fn write(
     }
 }
 
-/// Has a shelf that keeps nothing take a change, and a list, and adds what the list has then.
+/// Has a shelf that keeps nothing take a change, and a list.
 fn add_taken(alloc: Global, change: &Change, answer: &mut Written) -> Result<(), OutOfMemory> {
-    NullShelf::new().take(change.copy(alloc)?)?;
+    let copy = change.copy(alloc)?;
+    NullShelf::new().take(copy)?;
+    let copy = change.copy(alloc)?;
+    add_listed(alloc, copy, answer);
+    Ok(())
+}
+
+/// Has a list take a change, and adds what it has then.
+fn add_listed(alloc: Global, change: Change, answer: &mut Written) {
     let mut list = ListShelf::new(alloc);
-    list.take(change.copy(alloc)?)?;
-    match list.changes() {
+    match list.take(change) {
+        Ok(()) => add_list(list.changes(), answer),
+        Err(OutOfMemory) => answer.run_out(),
+    }
+}
+
+fn add_list(changes: &[Change], answer: &mut Written) {
+    match changes {
         [taken] => add_change("taken", taken, answer),
         _ => answer.add("not taken"),
     }
     answer.add("\n");
-    Ok(())
 }
 
 /// Posts a change on a board over a city.
@@ -222,6 +236,11 @@ fn show<R: Wait + Drop>(
 {
     let shown = poster.append(change).is_ok() && poster.publish().is_ok();
     answer.add_line(if shown { "shown" } else { "not shown" });
+    add_seen(alloc, viewers, answer);
+}
+
+/// Adds what each viewer sees.
+fn add_seen(alloc: Global, viewers: Vec<Viewer>, answer: &mut Written) {
     for viewer in viewers {
         add_seen_by(alloc, viewer, answer);
     }

@@ -23,8 +23,8 @@ pub struct Writes {
 }
 
 impl Writes {
-    /// The habits that these words describe.
-    pub fn told(words: &str) -> Writes {
+    /// The habits that these words describe, with room for so many bytes if that is said.
+    pub fn told(words: &str, room: Option<usize>) -> Writes {
         let full = number_after(words, "full ");
         let stuck = number_after(words, "stuck ");
         Writes {
@@ -34,17 +34,12 @@ impl Writes {
                 usize::MAX
             },
             busy: words.contains("busy"),
-            room: full.or(stuck).unwrap_or(usize::MAX),
+            room: room.or(full).or(stuck).unwrap_or(usize::MAX),
             stuck: words.contains("stuck"),
             holds: words.contains("holds"),
             unready: number_after(words, "unready ").unwrap_or(0),
             unflushed: words.contains("unflushed"),
         }
-    }
-
-    /// The same with room for so many bytes.
-    pub fn with_room(self, room: usize) -> Writes {
-        Writes { room, ..self }
     }
 }
 
