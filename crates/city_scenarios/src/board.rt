@@ -6,7 +6,7 @@ ghost use Rattle.city_crew.specs.Limits.{max_viewers};
 
 use crate::document::add_city;
 use crate::fault_lines::add_run_fault;
-use crate::steps::{begin_step, step_of};
+use crate::steps::{TakesSteps, take_steps};
 use crate::written::Written;
 use city_crew::board::board;
 use city_crew::{MAX_VIEWERS, Poster, Viewer};
@@ -89,60 +89,43 @@ fn play_posted<R: Wait + Drop, Q: Wait>(
     requires taken { poster.taken ≡ [] }
 {
     match Desk::open(alloc, city, scripts, poster) {
-        Ok(desk) => play_at(rt, alloc, desk, viewers, lines, answer),
+        Ok(desk) => play_at(alloc, Seated { rt, desk, viewers }, lines, answer),
         Err(OutOfMemory) => answer.run_out(),
     }
 }
 
-/// Takes the steps at a desk before the viewers of its shelf, and adds the model that is left.
-fn play_at<S: Shelf, Q: Wait>(
-    rt: &Q,
+/// A desk whose shelf is the poster of a board, and the board's viewers.
+#[derive(Drop)]
+struct Seated<'q, R: Wait + Drop, Q: Wait> {
+    rt: &'q Q,
+    desk: Desk<Poster<R>>,
+    viewers: Vec<Viewer>,
+}
+
+/// Takes the steps, and adds the model that is left.
+fn play_at<R: Wait + Drop, Q: Wait>(
     alloc: Global,
-    mut desk: Desk<S>,
-    mut viewers: Vec<Viewer>,
+    mut seated: Seated<R, Q>,
     lines: &str,
     answer: &mut Written,
 ) {
-    take_steps(rt, &mut desk, &mut viewers, lines, answer);
+    take_steps(&mut seated, alloc, lines, answer);
+    let Seated { desk, .. } = seated;
     let (city, _ends, _shelf) = desk.close();
     add_city(alloc, &city, answer);
 }
 
-fn take_steps<S: Shelf, Q: Wait>(
-    rt: &Q,
-    desk: &mut Desk<S>,
-    viewers: &mut Vec<Viewer>,
-    lines: &str,
-    answer: &mut Written,
-) {
-    for line in lines.lines() {
-        if let Some(step) = step_of(line) {
-            begin_step(step, answer);
-            take_step(rt, desk, viewers, step, answer);
-            answer.add("\n");
-        }
-    }
-}
-
 /// A step runs the next script, shows what was committed, or has a viewer look.
-fn take_step<S: Shelf, Q: Wait>(
-    rt: &Q,
-    desk: &mut Desk<S>,
-    viewers: &mut Vec<Viewer>,
-    step: &str,
-    said: &mut Written,
-) {
-    match step {
-        "commit" => said.add(end_next(desk)),
-        "show" => show(rt, desk, said),
-        _ => look_at(viewers, step, said),
-    }
-}
-
-fn show<S: Shelf, Q: Wait>(rt: &Q, desk: &mut Desk<S>, said: &mut Written) {
-    match desk.show(rt) {
-        Ok(_note) => said.add("done"),
-        Err(OutOfMemory) => said.run_out(),
+impl<R: Wait + Drop, Q: Wait> TakesSteps for Seated<'_, R, Q> {
+    fn take_step(&mut self, _alloc: Global, step: &str, said: &mut Written) {
+        match step {
+            "commit" => said.add(end_next(&mut self.desk)),
+            "show" => match self.desk.show(self.rt) {
+                Ok(_note) => said.add("done"),
+                Err(OutOfMemory) => said.run_out(),
+            },
+            _ => look_at(&mut self.viewers, step, said),
+        }
     }
 }
 

@@ -8,8 +8,8 @@ use crate::written::Written;
 use city_crew::{MAX_VIEWERS, MAX_WORKERS, OpenGate, run_crew};
 use city_desk::Output;
 use city_model::end::{End, Outcome};
+use city_serve::Device;
 use city_serve::serve_texts::serve_texts;
-use city_serve::{Device, ServeFault};
 use std::alloc::Global;
 use std::sync::Wait;
 use std::thread::Threads;
@@ -85,29 +85,27 @@ fn run_texts<T: Threads + Wait + Sync>(
     requires viewers { viewers ≤ max_viewers }
 {
     let mut written = Vec::new(alloc);
-    match serve_all(rt, alloc, workers, viewers, document, scripts, &mut written) {
-        Ok(true) => answer.add_lines(written.as_slice()),
-        Ok(false) => answer.add_line("viewers are missing"),
+    let served = serve_texts(
+        rt,
+        alloc,
+        document,
+        scripts,
+        &mut Device::new(&mut written),
+        workers,
+        viewers,
+    );
+    match served {
+        Ok(seen) => add_texts(written.as_slice(), seen.len() == viewers, answer),
         Err(fault) => add_fault(alloc, &fault, answer),
     }
 }
 
-/// Serves the two texts, and says whether each viewer told what it saw.
-fn serve_all<T: Threads + Wait + Sync>(
-    rt: &T,
-    alloc: Global,
-    workers: usize,
-    viewers: usize,
-    document: &[u8],
-    scripts: &[u8],
-    written: &mut Vec<u8>,
-) -> Result<bool, ServeFault>
-    requires workers { (1 ≤ workers) × (workers ≤ max_workers) }
-    requires viewers { viewers ≤ max_viewers }
-{
-    let mut writer = Device::new(written);
-    let seen = serve_texts(rt, alloc, document, scripts, &mut writer, workers, viewers)?;
-    Ok(seen.len() == viewers)
+fn add_texts(written: &[u8], are_seen: bool, answer: &mut Written) {
+    if are_seen {
+        answer.add_lines(written);
+    } else {
+        answer.add_line("viewers are missing");
+    }
 }
 
 /// Adds what is reported of a run's output, whose viewers must have seen all commits at last.

@@ -23,15 +23,11 @@ pub fn add_run_fault(alloc: Global, fault: RunFault, answer: &mut Written) {
 
 /// Ends the line of a fault that shows by itself, and adds the line of the program where that is another.
 pub fn end_fault(alloc: Global, fault: RunFault, answer: &mut Written) {
-    match program_line(alloc, fault) {
+    let fault = ServeFault::Run(fault);
+    match fault_line(alloc, &fault) {
         Ok(line) => end_line(line.as_str(), answer),
         Err(OutOfMemory) => answer.run_out(),
     }
-}
-
-fn program_line(alloc: Global, fault: RunFault) -> Result<String, OutOfMemory> {
-    let fault = ServeFault::Run(fault);
-    fault_line(alloc, &fault)
 }
 
 fn end_line(line: &str, answer: &mut Written) {

@@ -12,44 +12,27 @@ pub struct Faults;
 
 impl TakesSteps for Faults {
     fn take_step(&mut self, _alloc: Global, step: &str, said: &mut Written) {
-        let (kind, name) = step.split_once("::").unwrap_or((step, ""));
-        match kind {
-            "RunFault" => show_run_fault(name, said),
-            "ServeFault" => show_serve_fault(name, said),
-            _ => show_text_fault(step, said),
+        match step {
+            "ReadFault::OutOfMemory" => said.show(&ReadFault::OutOfMemory),
+            "ScriptFault::OutOfMemory" => said.show(&ScriptFault::OutOfMemory),
+            _ => show_fault(step, said),
         }
     }
 }
 
-fn show_text_fault(step: &str, said: &mut Written) {
-    match step {
-        "ReadFault::OutOfMemory" => said.show(&ReadFault::OutOfMemory),
-        "ScriptFault::OutOfMemory" => said.show(&ScriptFault::OutOfMemory),
-        _ => said.add("no such fault"),
-    }
-}
-
-fn show_run_fault(name: &str, said: &mut Written) {
-    match run_fault(name) {
-        Some(fault) => said.show(&fault),
-        None => said.add("no such fault"),
-    }
-}
-
-fn show_serve_fault(name: &str, said: &mut Written) {
+/// Adds how a fault of serving shows, or one of a run.
+fn show_fault(step: &str, said: &mut Written) {
+    let (kind, name) = step.split_once("::").unwrap_or((step, ""));
     match serve_fault(name) {
-        Some(fault) => said.show(&fault),
+        Some(fault) => show_as(kind, &fault, said),
         None => said.add("no such fault"),
     }
 }
 
-fn run_fault(name: &str) -> Option<RunFault> {
-    match name {
-        "OutOfMemory" => Some(RunFault::OutOfMemory),
-        "NoPlace" => Some(RunFault::NoPlace),
-        "Unfinished" => Some(RunFault::Unfinished),
-        "Mixed" => Some(RunFault::Mixed),
-        _ => None,
+fn show_as(kind: &str, fault: &ServeFault, said: &mut Written) {
+    match fault {
+        ServeFault::Run(fault) if kind == "RunFault" => said.show(fault),
+        fault => said.show(fault),
     }
 }
 
@@ -57,6 +40,10 @@ fn serve_fault(name: &str) -> Option<ServeFault> {
     match name {
         "Read" => Some(ServeFault::Read),
         "Write" => Some(ServeFault::Write),
-        _ => Some(ServeFault::Run(run_fault(name)?)),
+        "OutOfMemory" => Some(ServeFault::Run(RunFault::OutOfMemory)),
+        "NoPlace" => Some(ServeFault::Run(RunFault::NoPlace)),
+        "Unfinished" => Some(ServeFault::Run(RunFault::Unfinished)),
+        "Mixed" => Some(ServeFault::Run(RunFault::Mixed)),
+        _ => None,
     }
 }

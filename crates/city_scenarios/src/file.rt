@@ -38,65 +38,48 @@ fn play_text<T: Threads + Wait + Sync>(
     told: &mut Written,
 ) -> Result<Option<u64>, OutOfMemory> {
     let mut names = Vec::new(alloc);
-    let mut count = 0u64;
-    let all = play_parts(rt, alloc, &mut names, &mut count, text, told)?;
-    Ok(if all { Some(count) } else { None })
+    play_parts(rt, alloc, &mut names, text, told)
 }
 
-/// Plays the parts of a text, between two of which there is an empty line, up to the first that fails: whether none does.
+/// Plays the parts of a text, between two of which there is an empty line: a comment, a text that is named, or a
+/// scenario.
 fn play_parts<'a, T: Threads + Wait + Sync>(
     rt: &T,
     alloc: Global,
     names: &mut Vec<Named<'a>>,
-    count: &mut u64,
     text: &'a str,
     told: &mut Written,
-) -> Result<bool, OutOfMemory> {
+) -> Result<Option<u64>, OutOfMemory> {
+    let mut count = 0u64;
     for part in text.split("\n\n") {
-        if !play_part(rt, alloc, names, count, part.trim(), told)? {
-            return Ok(false);
+        let part = part.trim();
+        if let Some(lines) = part.strip_prefix("let ") {
+            let named = name_text(alloc, names.as_slice(), lines)?;
+            names.push(named)?;
+        } else if !part.is_empty() && !part.starts_with("#") {
+            if !play_part(rt, alloc, names.as_slice(), part, told)? {
+                return Ok(None);
+            }
+            count = count.saturating_add(1);
         }
     }
-    Ok(true)
-}
-
-/// Plays a part: a text that is named, a comment, or a scenario, which is counted.
-fn play_part<'a, T: Threads + Wait + Sync>(
-    rt: &T,
-    alloc: Global,
-    names: &mut Vec<Named<'a>>,
-    count: &mut u64,
-    part: &'a str,
-    told: &mut Written,
-) -> Result<bool, OutOfMemory> {
-    if let Some(lines) = part.strip_prefix("let ") {
-        let named = name_text(alloc, names.as_slice(), lines)?;
-        names.push(named)?;
-        return Ok(true);
-    }
-    if part.is_empty() || part.starts_with("#") {
-        return Ok(true);
-    }
-    *count = count.saturating_add(1);
-    match scenario_of(part) {
-        Some(scenario) => play_scenario(rt, alloc, names.as_slice(), &scenario, told),
-        None => {
-            told.add_line("no scenario:");
-            told.add(part);
-            Ok(false)
-        }
-    }
+    Ok(Some(count))
 }
 
 /// Plays a scenario: whether it goes as it says. Else it is told how it goes.
-fn play_scenario<T: Threads + Wait + Sync>(
+fn play_part<T: Threads + Wait + Sync>(
     rt: &T,
     alloc: Global,
     names: &[Named],
-    scenario: &Scenario,
+    part: &str,
     told: &mut Written,
 ) -> Result<bool, OutOfMemory> {
-    let came = played(rt, alloc, names, scenario)?;
+    let Some(scenario) = scenario_of(part) else {
+        told.add_line("no scenario:");
+        told.add(part);
+        return Ok(false);
+    };
+    let came = played(rt, alloc, names, &scenario)?;
     let wanted = wanted_of(alloc, names, scenario.lines)?;
     Ok(is_wanted(scenario.title, wanted.as_slice(), came.as_slice(), told))
 }

@@ -105,31 +105,12 @@ fn serve_each<T: Threads + Wait + Sync>(
     );
     for room in 0..whole.len() {
         let mut line = Written::new(alloc);
-        serve_in(
-            rt,
-            alloc,
-            words,
-            input,
-            &whole.as_slice()[..room],
-            &mut line,
-        );
+        let written = served(rt, alloc, words, Some(room), input, &mut line);
+        if written.as_slice() != &whole.as_slice()[..room] {
+            line.add("other bytes at ");
+            line.show(&room);
+            line.add("\n");
+        }
         answer.add_unlike(&mut last, line);
-    }
-}
-
-/// Serves to a writer that has room for these bytes, and adds why the rest wasn't served, or that it has others.
-fn serve_in<T: Threads + Wait + Sync>(
-    rt: &T,
-    alloc: Global,
-    words: &str,
-    input: &[u8],
-    wanted: &[u8],
-    line: &mut Written,
-) {
-    let written = served(rt, alloc, words, Some(wanted.len()), input, line);
-    if written.as_slice() != wanted {
-        line.add("other bytes at ");
-        line.show(&wanted.len());
-        line.add("\n");
     }
 }

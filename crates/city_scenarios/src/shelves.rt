@@ -178,30 +178,17 @@ fn write(
     }
 }
 
-/// Has a shelf that keeps nothing take a change, and a list.
+/// Has a shelf that keeps nothing take a change, and a list, and adds what the list has then.
 fn add_taken(alloc: Global, change: &Change, answer: &mut Written) -> Result<(), OutOfMemory> {
-    let copy = change.copy(alloc)?;
-    NullShelf::new().take(copy)?;
-    let copy = change.copy(alloc)?;
-    add_listed(alloc, copy, answer);
-    Ok(())
-}
-
-/// Has a list take a change, and adds what it has then.
-fn add_listed(alloc: Global, change: Change, answer: &mut Written) {
+    NullShelf::new().take(change.copy(alloc)?)?;
     let mut list = ListShelf::new(alloc);
-    match list.take(change) {
-        Ok(()) => add_list(list.changes(), answer),
-        Err(OutOfMemory) => answer.run_out(),
-    }
-}
-
-fn add_list(changes: &[Change], answer: &mut Written) {
-    match changes {
+    list.take(change.copy(alloc)?)?;
+    match list.changes() {
         [taken] => add_change("taken", taken, answer),
         _ => answer.add("not taken"),
     }
     answer.add("\n");
+    Ok(())
 }
 
 /// Posts a change on a board over a city.
@@ -236,11 +223,6 @@ fn show<R: Wait + Drop>(
 {
     let shown = poster.append(change).is_ok() && poster.publish().is_ok();
     answer.add_line(if shown { "shown" } else { "not shown" });
-    add_seen(alloc, viewers, answer);
-}
-
-/// Adds what each viewer sees.
-fn add_seen(alloc: Global, viewers: Vec<Viewer>, answer: &mut Written) {
     for viewer in viewers {
         add_seen_by(alloc, viewer, answer);
     }
