@@ -1,31 +1,43 @@
 -- Objects whose bodies have no fault.
 use Rattle.std.proofs.Common.{◌≡◌, ℕ, List, [], ◌∷◌, Bool, true, false, cond, Option, Some, None, Ordering, Less, Equal}
 use Rattle.std.proofs.Common.{Greater, nat_cmp, is_eq, sym, ap, ◌∙◌, subst}
-use Rattle.std.specs.BTreeMap.{insert_entry}
 use Rattle.std.specs.Cmp.Lexicographic.{slice_cmp}
-use Rattle.std.specs.FinMap.{entries}
-use Rattle.std.specs.Ordering.{match_ordering}
+use Rattle.std.specs.FinMap.{entries, put}
+use Rattle.std.specs.FinMap.Entries.{by_order}
 use Rattle.city_model.specs.declared.object.Object.{Object}
+use Rattle.city_model.specs.declared.object.Point.{Point}
 use Rattle.city_model.specs.CityMap.{Entries, Objects, object_at, found_in}
 use Rattle.city_model.specs.inside.Faultless.{IsFaultless}
 use Rattle.city_model.specs.Shells.{body_fault}
 use Rattle.city_model.proofs.Objects.{at_entries}
 use Rattle.city_tokens.specs.inside.Faultless.{AreFaultless}
+use Rattle.city_tokens.specs.inside.Objects.{IsPlacedObject}
+use Rattle.city_tokens.specs.inside.Standing.{Pairs}
+use Rattle.city_tokens.proofs.ListedObjects.{put_each}
 
 put_at : (r : Ordering) (id : List ℕ) (o : Object) (e : List ℕ × Object) (es rest : Entries) → body_fault o.body ≡ None
     → AreFaultless (e ∷ es) → AreFaultless rest
-    → AreFaultless (match_ordering r ((id, o) ∷ e ∷ es) ((e.0, o) ∷ es) (e ∷ rest))
+    → AreFaultless (by_order r ((id, o) ∷ e ∷ es) ((e.0, o) ∷ es) (e ∷ rest))
 put_at Less id o e es rest one h more = (one, h)
 put_at Equal id o e es rest one h more = (one, h.1)
 put_at Greater id o e es rest one h more = (h.0, more)
 
 -- one object more
-pub faultless_put : (id : List ℕ) (o : Object) (es : Entries) → body_fault o.body ≡ None → AreFaultless es
-    → AreFaultless (insert_entry (slice_cmp nat_cmp) es id o)
+faultless_put : (id : List ℕ) (o : Object) (es : Entries) → body_fault o.body ≡ None → AreFaultless es
+    → AreFaultless (put (slice_cmp nat_cmp) id o es)
 faultless_put id o [] one h = (one, tt)
 faultless_put id o (e ∷ es) one h =
-    put_at (slice_cmp nat_cmp id e.0) id o e es (insert_entry (slice_cmp nat_cmp) es id o) one h
+    put_at (slice_cmp nat_cmp id e.0) id o e es (put (slice_cmp nat_cmp) id o es) one h
     (faultless_put id o es one h.1)
+
+-- those that were placed
+pub faultless_each : (points : List Point) (all placed es : Entries) → Pairs (IsPlacedObject points) all placed
+    → AreFaultless es → AreFaultless (put_each placed es)
+faultless_each points [] [] es pairs h = h
+faultless_each points [] (x ∷ placed) es pairs h = absurd pairs
+faultless_each points (u ∷ all) [] es pairs h = absurd pairs
+faultless_each points (u ∷ all) (x ∷ placed) es pairs h =
+    faultless_each points all placed (put (slice_cmp nat_cmp) x.0 x.1 es) pairs.1 (faultless_put x.0 x.1 es pairs.0.2 h)
 
 found_first : (b : Bool) (x o : Object) (rest : Option Object) → body_fault x.body ≡ None
     → (rest ≡ Some o → body_fault o.body ≡ None) → cond b (Some x) rest ≡ Some o → body_fault o.body ≡ None

@@ -1,23 +1,30 @@
 -- Objects by their ids: listed as they are read, and placed in the order of their ids.
-use Rattle.std.proofs.Common.{◌≡◌, ℕ, List, [], ◌∷◌, ◌++◌, Option, Some, None, option_map, Ordering, Less, Equal}
+use Rattle.std.proofs.Common.{◌≡◌, ℕ, List, [], ◌∷◌, ◌++◌, Option, Some, None, option_map, cond, BTreeMap, Ordering, Less, Equal}
 use Rattle.std.proofs.Common.{Greater, nat_cmp, refl, sym, ap, ◌∙◌, subst}
-use Rattle.std.specs.Prelude.{OnOk}
+use Rattle.std.specs.Prelude.{T, IfOk}
 use Rattle.std.specs.declared.result.Result.{Result}
 use Rattle.std.specs.declared.result.Result.TheVariants.{Ok, Err}
 use Rattle.std.specs.Result.{result_ok}
-use Rattle.std.specs.BTreeMap.{insert_entry}
+use Rattle.std.specs.BTreeMap.{IsFromIterResult}
 use Rattle.std.specs.Cmp.Lexicographic.{slice_cmp}
-use Rattle.std.specs.Ordering.{match_ordering}
+use Rattle.std.specs.FinMap.{find, is_sorted, put as put_entry}
+use Rattle.std.specs.FinMap.Entries.{by_order, is_sorted-put, find-put, same_entries}
+use Rattle.std.specs.Map.{update_all}
+use Rattle.std.specs.Ordering.{match_ordering, eq_by_cmp}
+use Rattle.std.proofs.lemmas.Cmp.{nat_list_cmp_total}
+use Rattle.std.proofs.lemmas.Map.Lookups.{exact_bytes}
 use Rattle.serde_json.specs.Data.{Data, Members, no_members, member, put}
 use Rattle.city_model.specs.CityMap.{Entries}
 use Rattle.city_model.specs.declared.object.Object.{Object}
 use Rattle.city_model.specs.declared.object.Point.{Point}
+use Rattle.city_model.proofs.Ids.{same_id_back}
+use Rattle.city_model.proofs.Objects.{in_order, find_is_lookup}
 use Rattle.city_tokens.specs.document.Cities.{entries_of}
 use Rattle.city_tokens.specs.object.Bodies.{object_of}
-use Rattle.city_tokens.specs.inside.Objects.{IsObject, IsNamedObject, IsListing, put_all}
+use Rattle.city_tokens.specs.inside.Objects.{IsObject, IsNamedObject, IsListing, IsPlacedObject, put_all}
 use Rattle.city_tokens.specs.inside.Standing.{Pairs}
 use Rattle.city_tokens.proofs.Options.{and_then_some, map_some}
-use Rattle.city_tokens.proofs.Pairing.{pairs_push}
+use Rattle.city_tokens.proofs.Pairing.{pairs_push, pairs_over}
 
 -- ---- listed
 
@@ -37,9 +44,9 @@ listed old new id name o d found grown named is h =
     )
 
 -- what a call promises where it gave a value
-pub given : {T E : Type 0} (r : Result T E) (o : Option T) (x : T) (P : Type 0) → o ≡ result_ok r → o ≡ Some x
-    → OnOk r P → P
-given (Ok y) o x P is some h = h
+pub given : {A E : Type 0} (r : Result A E) (o : Option A) (x : A) (P : A → Type 0) → o ≡ result_ok r → o ≡ Some x
+    → IfOk r P → P x
+given (Ok y) o x P is some h = subst P (let same : y ≡ x = let found : Some y ≡ Some x = sym is ∙ some in cc in same) h
 given (Err e) o x P is some h = absurd (let no : None ≡ Some x = sym is ∙ some in cc)
 
 -- ---- placed
@@ -49,17 +56,17 @@ cmp = slice_cmp nat_cmp
 
 put_step : (o : Ordering) (points : List Point) (id l : List ℕ) (d e : Data) (x y : Object) (ms : Members)
     (es : Entries) → slice_cmp nat_cmp id l ≡ o → object_of points d ≡ Some x → object_of points e ≡ Some y
-    → entries_of points ms ≡ Some es → entries_of points (put id d ms) ≡ Some (insert_entry cmp es id x)
+    → entries_of points ms ≡ Some es → entries_of points (put id d ms) ≡ Some (put_entry cmp id x es)
     → entries_of points (match_ordering o (member id d (member l e ms)) (member l d ms) (member l e (put id d ms)))
-    ≡ Some (match_ordering o ((id, x) ∷ (l, y) ∷ es) ((l, x) ∷ es) ((l, y) ∷ insert_entry cmp es id x))
+    ≡ Some (by_order o ((id, x) ∷ (l, y) ∷ es) ((l, x) ∷ es) ((l, y) ∷ put_entry cmp id x es))
 put_step Less points id l d e x y ms es is one other here rest = rw (one, other, here) refl
 put_step Equal points id l d e x y ms es is one other here rest = rw (one, here) refl
 put_step Greater points id l d e x y ms es is one other here rest = rw (other, rest) refl
 
 -- one object more
-pub entries_put : (points : List Point) (id : List ℕ) (d : Data) (x : Object) (ms : Members) (es : Entries)
+entries_put : (points : List Point) (id : List ℕ) (d : Data) (x : Object) (ms : Members) (es : Entries)
     → object_of points d ≡ Some x → entries_of points ms ≡ Some es
-    → entries_of points (put id d ms) ≡ Some (insert_entry cmp es id x)
+    → entries_of points (put id d ms) ≡ Some (put_entry cmp id x es)
 entries_put points id d x no_members es one here =
     let none : es ≡ [] = cc in
     rw (one, none) refl
@@ -67,52 +74,58 @@ entries_put points id d x (member l e ms) es one here =
     let first = and_then_some (λ o. option_map (λ es. (l, o) ∷ es) (entries_of points ms)) (object_of points e) es here
     in
     let rest = map_some (λ es. (l, first.0) ∷ es) (entries_of points ms) es first.2 in
-    subst (λ es. entries_of points (put id d (member l e ms)) ≡ Some (insert_entry cmp es id x)) (sym rest.2)
+    subst (λ es. entries_of points (put id d (member l e ms)) ≡ Some (put_entry cmp id x es)) (sym rest.2)
     (put_step (cmp id l) points id l d e x first.0 ms rest.0 refl one first.1 rest.1
     (entries_put points id d x ms rest.0 one rest.1))
 
--- of the members of all the objects, those of the objects that are left aren't put in yet
-pub record IsPlacing (points : List Point) (all left placed : Entries) : Type 0 where
-  pub goes : (ms : List (List ℕ × Data)) → Pairs IsNamedObject all ms
-      → (start : Members) × (rest : List (List ℕ × Data)) × (put_all ms no_members ≡ put_all rest start)
-      × Pairs IsNamedObject left rest × (entries_of points start ≡ Some placed)
+-- the entries, with these put in one after another
+abbrev pub put_each : Entries → Entries → Entries
+put_each [] es = es
+put_each (x ∷ xs) es = put_each xs (put_entry cmp x.0 x.1 es)
 
-pub begins : (points : List Point) (all : Entries) → IsPlacing points all all []
-begins points all = record { goes = λ ms pairs. (no_members, ms, refl, pairs, refl) }
+-- the member of an object's id was read as the object
+abbrev IsRead : List Point → List ℕ × Object → List ℕ × Data → Type 0
+IsRead points x m = (x.0 ≡ m.0) × (object_of points m.1 ≡ Some x.1)
 
-next : (points : List Point) (id : List ℕ) (unplaced o : Object) (left placed : Entries) (found start : Members)
-    (rest : List (List ℕ × Data)) → ((d : Data) → IsObject unplaced d → object_of points d ≡ Some o)
-    → found ≡ put_all rest start → Pairs IsNamedObject ((id, unplaced) ∷ left) rest
-    → entries_of points start ≡ Some placed
-    → (start : Members) × (rest : List (List ℕ × Data)) × (found ≡ put_all rest start) × Pairs IsNamedObject left rest
-    × (entries_of points start ≡ Some (insert_entry cmp placed id o))
-next points id unplaced o left placed found start [] is same pairs here = absurd pairs
-next points id unplaced o left placed found start (m ∷ rest) is same pairs here = (
-  put m.0 m.1 start,
-  rest,
-  same,
-  pairs.1,
-  subst (λ k. entries_of points (put m.0 m.1 start) ≡ Some (insert_entry cmp placed k o)) (sym pairs.0.0)
-      (entries_put points m.0 m.1 o start placed (is m.1 pairs.0.1) here),
-)
+entries_put_all : (points : List Point) (xs : Entries) (ms : List (List ℕ × Data)) (start : Members) (es : Entries)
+    → Pairs (IsRead points) xs ms → entries_of points start ≡ Some es
+    → entries_of points (put_all ms start) ≡ Some (put_each xs es)
+entries_put_all points [] [] start es pairs here = here
+entries_put_all points [] (m ∷ ms) start es pairs here = absurd pairs
+entries_put_all points (x ∷ xs) [] start es pairs here = absurd pairs
+entries_put_all points (x ∷ xs) (m ∷ ms) start es pairs here =
+    entries_put_all points xs ms (put m.0 m.1 start) (put_entry cmp x.0 x.1 es) pairs.1
+    (subst (λ k. entries_of points (put m.0 m.1 start) ≡ Some (put_entry cmp k x.1 es)) (sym pairs.0.0)
+    (entries_put points m.0 m.1 x.1 start es pairs.0.1 here))
 
-pub goes_on : (points : List Point) (all left placed new : Entries) (id : List ℕ) (unplaced o : Object)
-    → ((d : Data) → IsObject unplaced d → object_of points d ≡ Some o) → new ≡ insert_entry cmp placed id o
-    → IsPlacing points all ((id, unplaced) ∷ left) placed → IsPlacing points all left new
-goes_on points all left placed new id unplaced o is grown h = subst (IsPlacing points all left) (sym grown) (record {
-  goes = λ ms pairs.
-      let was = h.goes ms pairs in
-      next points id unplaced o left placed (put_all ms no_members) was.0 was.1 is was.2 was.3 was.4;
-})
+-- ---- a map that is made of a list
 
-over : (points : List Point) (placed : Entries) (found start : Members) (rest : List (List ℕ × Data))
-    → found ≡ put_all rest start → Pairs IsNamedObject [] rest → entries_of points start ≡ Some placed
-    → entries_of points found ≡ Some placed
-over points placed found start [] same pairs here = ap (entries_of points) same ∙ here
-over points placed found start (m ∷ rest) same pairs here = absurd pairs
+sorted_each : (xs es : Entries) → T (is_sorted cmp es) → T (is_sorted cmp (put_each xs es))
+sorted_each [] es h = h
+sorted_each (x ∷ xs) es h =
+    sorted_each xs (put_entry cmp x.0 x.1 es) (is_sorted-put cmp nat_list_cmp_total x.0 x.1 es h)
 
-pub ends : (points : List Point) (all placed : Entries) (found : Members) → IsPlacing points all [] placed
-    → IsListing all found → entries_of points found ≡ Some placed
-ends points all placed found h is =
-    let was = h.goes is.0 is.2 in
-    ap (entries_of points) is.1 ∙ over points placed (put_all is.0 no_members) was.0 was.1 was.2 was.3 was.4
+found_each : (xs es : Entries) (q : List ℕ)
+    → find cmp q (put_each xs es) ≡ update_all (eq_by_cmp cmp) (λ p. find cmp p es) xs q
+found_each [] es q = refl
+found_each (x ∷ xs) es q =
+    found_each xs (put_entry cmp x.0 x.1 es) q
+    ∙ ap (λ f. update_all (eq_by_cmp cmp) f xs q) (λ i p. (find-put cmp nat_list_cmp_total p x.0 x.1 es
+    ∙ ap (λ b. cond b (Some x.1) (find cmp p es)) (same_id_back p x.0)) i)
+
+-- it has the pairs of the list as if they were put in one after another
+pub made : (xs : Entries) (m : BTreeMap (List ℕ) Object) → IsFromIterResult cmp xs m → m.entries ≡ put_each xs []
+made xs m h =
+    same_entries cmp nat_list_cmp_total exact_bytes m.entries (put_each xs []) (in_order cmp m.entries h.1)
+    (sorted_each xs [] tt) (λ q. find_is_lookup cmp q m.entries ∙ h.0 q ∙ sym (found_each xs [] q))
+
+-- what is listed stands for the entries of what is placed
+pub listed_entries : (points : List Point) (all placed : Entries) (m : BTreeMap (List ℕ) Object) (found : Members)
+    → IsFromIterResult cmp placed m → Pairs (IsPlacedObject points) all placed → IsListing all found
+    → entries_of points found ≡ Some m.entries
+listed_entries points all placed m found h pairs is =
+    ap (entries_of points) is.1
+    ∙ entries_put_all points placed is.0 no_members []
+    (pairs_over (IsPlacedObject points) IsNamedObject (IsRead points)
+    (λ u x m p q. (p.0 ∙ q.0, p.1 m.1 q.1)) all placed is.0 pairs is.2) refl
+    ∙ ap Some (sym (made placed m h))

@@ -8,7 +8,7 @@ ghost use Rattle.city_tokens.specs.object.Bodies.{object_of};
 ghost use Rattle.city_tokens.specs.shape.Geometries.{point_at, shape_of, geometry_of};
 ghost use Rattle.city_tokens.specs.inside.Faultless.{AreFaultless};
 ghost use Rattle.city_tokens.specs.inside.Geometries.{IsShape, IsGeometry};
-ghost use Rattle.city_tokens.specs.inside.Objects.{IsObject, IsListing};
+ghost use Rattle.city_tokens.specs.inside.Objects.{IsObject, IsListing, IsPlacedObject};
 ghost use Rattle.city_tokens.specs.inside.Positions.{IsPlaced, IsPosition, points_of};
 ghost use Rattle.city_tokens.specs.inside.Standing.{Pairs, IsArrayOf};
 ghost use Rattle.city_tokens.specs.tree.Lists.{list_of};
@@ -111,8 +111,27 @@ fn place_object(alloc: Global, vertices: &[Vertex], object: &mut Object) -> Opti
     Some(())
 }
 
+/// Puts points in the places of the positions of all objects; none where a position names no vertex,
+/// or where a body has a fault.
+fn place_objects(
+    alloc: Global,
+    vertices: &[Vertex],
+    unplaced: Vec<(Id, Object)>,
+) -> Option<Vec<(Id, Object)>>
+    ensures { IfSome result (λ placed. Pairs (IsPlacedObject (points_of vertices.now)) unplaced.items placed.items) }
+{
+    let mut entries = unplaced;
+    for entry in entries.iter_mut() {
+        place_object(alloc, vertices, &mut entry.1)?;
+    }
+    Some(entries)
+}
+
 /// The objects by their ids, with each position replaced by its point; none where a position names
 /// no vertex, or where a body has a fault.
+///
+/// All are put into the map at once: where the text has them in the order of their ids, each id is compared with the
+/// one before it alone, and the nodes of the map are full.
 pub fn placed_objects(
     alloc: Global,
     vertices: &[Vertex],
@@ -122,10 +141,7 @@ pub fn placed_objects(
         → entries_of (points_of vertices.now) found ≡ Some objects.entries) }
     ensures faultless { IfSome result (λ objects. AreFaultless objects.entries) }
 {
-    let mut objects = BTreeMap::new(alloc);
-    for (id, mut object) in listed.into_vec() {
-        place_object(alloc, vertices, &mut object)?;
-        drop(objects.insert(id, object).ok()?);
-    }
+    let placed = place_objects(alloc, vertices, listed.into_vec())?;
+    let objects = placed.into_iter().collect(alloc).ok()?;
     Some(objects)
 }

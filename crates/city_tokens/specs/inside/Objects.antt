@@ -1,15 +1,17 @@
 -- Objects whose positions aren't replaced by points yet.
-use Rattle.std.specs.Prelude.{◌≡◌, ℕ, List, [], ◌∷◌, Some, option_and_then, codes}
+use Rattle.std.specs.Prelude.{◌≡◌, ℕ, List, [], ◌∷◌, Some, None, option_and_then, codes}
 use Rattle.serde_json.specs.Data.{Data, object, Members, no_members, put}
 use Rattle.serde_json.specs.Find.{get_member, as_str}
 use Rattle.city_model.specs.declared.object.Object.{Object}
+use Rattle.city_model.specs.declared.object.Point.{Point}
 use Rattle.city_model.specs.declared.object_type.ObjectType.{ObjectType}
 use Rattle.city_model.specs.Kept.{kept_at_object}
 use Rattle.city_model.specs.Members.{AreOrdered}
+use Rattle.city_model.specs.Shells.{body_fault}
 use Rattle.city_model.specs.Types.{type_named}
 use Rattle.city_tokens.specs.declared.object.ObjectParts.{ObjectParts}
 use Rattle.city_tokens.specs.declared.objects.Listing.{Listing}
-use Rattle.city_tokens.specs.object.Bodies.{without_object_members}
+use Rattle.city_tokens.specs.object.Bodies.{without_object_members, object_of}
 use Rattle.city_tokens.specs.inside.Geometries.{IsGeometry}
 use Rattle.city_tokens.specs.inside.Standing.{Pairs, IsSlot, IsListSlot, IsString}
 use Rattle.city_tokens.specs.tree.Members.{kept_if}
@@ -55,3 +57,9 @@ IsListingSoFar listing found kept = IsListing listing.objects found
 
 abbrev pub AreObjects : List (List ℕ × Object) → Data → Type 0
 AreObjects es d = (found : Members) × (d ≡ object found) × IsListing es found
+
+-- an object with points in the places of its positions, whose body has no fault
+abbrev pub IsPlacedObject : List Point → List ℕ × Object → List ℕ × Object → Type 0
+IsPlacedObject points unplaced placed =
+    (placed.0 ≡ unplaced.0) × ((d : Data) → IsObject unplaced.1 d → object_of points d ≡ Some placed.1)
+    × (body_fault placed.1.body ≡ None)

@@ -1,32 +1,29 @@
-use Rattle.std.proofs.Common.{[], sym, subst, ◌∙◌}
-use Rattle.std.specs.Vec.Iter.{into_iter_items}
+use Rattle.std.proofs.Common.{List, [], sym, ap, ◌∙◌, subst, length, BTreeMap, nat_cmp}
+use Rattle.std.specs.BTreeMap.{IsFromIterResult}
+use Rattle.std.specs.Cmp.Lexicographic.{slice_cmp}
+use Rattle.std.proofs.lemmas.Iterator.Adapters.{fact_from_collect, YieldsList-from_vec}
 use Rattle.city_tokens.specs.inside.Faultless.{AreFaultless}
+use Rattle.city_tokens.specs.inside.Objects.{IsPlacedObject}
 use Rattle.city_tokens.specs.inside.Positions.{points_of}
-use Rattle.city_tokens.proofs.FaultlessObjects.{faultless_put}
-use Rattle.city_tokens.proofs.ListedObjects.{IsPlacing, given, begins, goes_on}
+use Rattle.city_tokens.specs.inside.Standing.{Pairs}
+use Rattle.city_tokens.proofs.FaultlessObjects.{faultless_each}
+use Rattle.city_tokens.proofs.ListedObjects.{given, made, listed_entries}
 use Rattle.city_tokens.proofs.placing.placed_objects.Goals as goal
 
-pub loop-id-init : goal.loop-id-init
-loop-id-init c =
+pub returns : goal.returns
+returns c =
     let points = points_of c.args.vertices.now in
-    let left = c.into_iter-id-iterator.ensures.into_iter_gives.0 ∙ c.into_vec-id-items.ensures in (
-      subst (IsPlacing points c.args.listed (into_iter_items c.into_iter-id-iterator.result))
-          (sym c.new-objects.ensures.empty)
-          (subst (λ l. IsPlacing points c.args.listed l []) (sym left) (begins points c.args.listed)),
-      subst AreFaultless (sym c.new-objects.ensures.empty) tt,
-    )
-
-pub loop-id-preserved : goal.loop-id-preserved
-loop-id-preserved c =
-    let points = points_of c.args.vertices.now in
-    let object = c.place_object.new.object in
-    let found = c.in_ok-place_object.ensures in
-    let placed = c.loop-id.objects.entries in
-    let left = into_iter_items c.next.new.self in
-    let grown = given c.insert.result c.ok.result c.in_ok-ok.field-0 _ c.ok.ensures.value c.in_ok-ok.was
-    c.insert.ensures.entries in (
-      goes_on points c.args.listed left placed c.insert.new.self.entries c.in-Some.id c.in-Some.object object
-          found.placed grown
-          (subst (λ l. IsPlacing points c.args.listed l placed) c.in-Some.ensures.steps.0 c.loop-id.invariant.0),
-      subst AreFaultless (sym grown) (faultless_put c.in-Some.id object placed found.faultless c.loop-id.invariant.1),
-    )
+    let placed = c.in_ok-placed.placed in
+    let objects = c.in_ok-objects.objects in
+    let pairs : Pairs (IsPlacedObject points) c.args.listed placed.items =
+    subst (λ es. Pairs (IsPlacedObject points) es placed.items) c.into_vec.ensures c.in_ok-placed.ensures in
+    let all = YieldsList-from_vec placed.items c.into_iter.ensures.rest (c.into_iter.ensures.len ∙ placed.ok.0) in
+    let is : IsFromIterResult (slice_cmp nat_cmp) placed.items objects =
+    given c.collect.result c.ok.result objects (λ m. IsFromIterResult (slice_cmp nat_cmp) placed.items m)
+    c.ok.ensures.value c.in_ok-objects.was
+    (fact_from_collect (λ xs m. IsFromIterResult (slice_cmp nat_cmp) xs m) c.collect.result c.collect.ensures.ran all) in
+    record {
+      placed = λ found listed. listed_entries points c.args.listed placed.items objects found is pairs listed;
+      faultless = subst AreFaultless (sym (made placed.items objects is))
+          (faultless_each points c.args.listed placed.items [] pairs tt);
+    }
