@@ -9,7 +9,7 @@ ghost use Rattle.city_model.specs.inside.Faultless.{IsFaultless};
 ghost use Rattle.city_tokens.specs.document.Cities.{city_of};
 ghost use Rattle.city_tokens.specs.tree.Members.{is_text};
 ghost use Rattle.city_tokens.specs.tree.Texts.{HasTree};
-ghost use Rattle.city_tokens.specs.inside.Tops.{IsTopSoFar, IsCity};
+ghost use Rattle.city_tokens.specs.inside.Tops.{IsTopSoFar, IsTop, IsCity};
 
 use crate::frame::frame_of_rest;
 use crate::list::FromTokens;
@@ -92,18 +92,26 @@ fn city_of(alloc: Global, parts: TopParts, rest: Map<String, Value>) -> Option<C
     Some(City::from_parts(frame, objects))
 }
 
-impl FromTokens for City {
+/// What was read of a document.
+#[derive(Drop)]
+pub struct Top {
+    pub parts: TopParts,
+    /// The members that are kept.
+    pub rest: Map<String, Value>,
+}
+
+impl FromTokens for Top {
     const ROOM: usize = 1;
 
-    ghost stands = { IsCity };
+    ghost stands = { IsTop };
 
-    fn from_tokens(alloc: Global, reader: &mut Reader<'_>, depth: usize) -> Option<City> {
+    fn from_tokens(alloc: Global, reader: &mut Reader<'_>, depth: usize) -> Option<Top> {
         let start = TopParts {
             objects: None,
             vertices: None,
         };
         let (parts, rest) = read_object(alloc, reader, depth, start)?;
-        city_of(alloc, parts, rest)
+        Some(Top { parts, rest })
     }
 }
 
@@ -114,5 +122,7 @@ pub fn streamed_city(alloc: Global, bytes: &[u8]) -> Option<City>
     ensures { IfSome result (λ c. (d : Data) × HasTree bytes.now d × (is_integral d ≡ true)
         × (city_of d ≡ Some c) × IsFaultless (object_at c.1)) }
 {
-    read_whole_text::<City>(alloc, bytes)
+    let top = read_whole_text::<Top>(alloc, bytes)?;
+    // By now the reader's memory, as much as the text, is free again: the map is made after it.
+    city_of(alloc, top.parts, top.rest)
 }

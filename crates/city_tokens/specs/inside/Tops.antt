@@ -1,10 +1,12 @@
 -- What was read of a document's top, so far and whole.
 use Rattle.std.specs.Prelude.{◌≡◌, Some, codes}
-use Rattle.serde_json.specs.Data.{Data, Members}
+use Rattle.serde_json.specs.Data.{Data, Members, object}
 use Rattle.serde_json.specs.Find.{get_member}
+use Rattle.serde_json.specs.View.{members_view}
 use Rattle.city_model.specs.CityMap.{CityValue, object_at}
 use Rattle.city_model.specs.inside.Faultless.{IsFaultless}
 use Rattle.city_model.specs.Members.{without, AreOrdered}
+use Rattle.city_tokens.specs.declared.document.Top.{Top}
 use Rattle.city_tokens.specs.declared.document.TopParts.{TopParts}
 use Rattle.city_tokens.specs.document.Cities.{city_of}
 use Rattle.city_tokens.specs.inside.Objects.{AreObjects}
@@ -16,6 +18,9 @@ pub record IsTopSoFar (parts : TopParts) (found kept : Members) : Type 0 where
   pub vertices : IsSlot (IsArrayOf IsVertex) parts.vertices (get_member (codes "vertices") found)
   pub ordered : AreOrdered found
   pub extra : kept ≡ without (codes "vertices") (without (codes "CityObjects") found)
+
+abbrev pub IsTop : Top → Data → Type 0
+IsTop top d = (found : Members) × (d ≡ object found) × IsTopSoFar top.parts found (members_view top.rest.entries)
 
 -- the city that a document's tree stands for, none of whose bodies has a fault
 abbrev pub IsCity : CityValue → Data → Type 0

@@ -1,0 +1,11 @@
+use Rattle.std.proofs.Common.{sym, subst}
+use Rattle.std.proofs.lemmas.Option.{IfSome_then}
+use Rattle.city_tokens.specs.inside.Tops.{IsCity}
+use Rattle.city_tokens.proofs.document.streamed_city.Goals as goal
+
+pub returns : goal.returns
+returns c =
+    let read = c.in_ok-top.ensures in
+    IfSome_then c.city_of.result c.city_of.ensures (λ city so.
+    let is = subst (IsCity city) (sym read.3.1) (so read.3.0 read.3.2) in
+    (read.0, read.1, read.2, is.0, is.1))
