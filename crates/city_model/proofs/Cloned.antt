@@ -1,11 +1,15 @@
--- A clone of a JSON object stands for the same members, and entries copied in order are the same entries.
-use Rattle.std.proofs.Common.{◌≡◌, List, [], ◌∷◌, ◌++◌, Ordering, Less, Greater, string_bytes, refl, ap, ◌∙◌}
-use Rattle.std.specs.List.{AllZip, AllByRecursion}
-use Rattle.std.specs.List.Sorted.{IsStrictlySortedBy}
+-- A clone of a JSON object stands for the same members, and a map that is made of another's entries has the same.
+use Rattle.std.proofs.Common.{◌≡◌, ℕ, List, [], ◌∷◌, BTreeMap, string_bytes, nat_cmp, refl, ◌∙◌}
+use Rattle.std.specs.List.{AllZip}
 use Rattle.std.specs.Map.{keys_of}
-use Rattle.std.specs.BTreeMap.{insert_entry}
-use Rattle.std.specs.Cmp.{IsTotalOrder}
-use Rattle.std.specs.Ordering.{ordering_reverse}
+use Rattle.std.specs.BTreeMap.{IsFromIterResult, IsOrdered}
+use Rattle.std.specs.Cmp.{eq_by_cmp_equiv}
+use Rattle.std.specs.Cmp.Lexicographic.{slice_cmp}
+use Rattle.std.specs.Ordering.{eq_by_cmp}
+use Rattle.std.proofs.lemmas.Cmp.{nat_list_cmp_total}
+use Rattle.std.proofs.lemmas.Map.Keys.{IsDistinct-from_sorted}
+use Rattle.std.proofs.lemmas.Map.Lookups.{btree_map_from_get, exact_bytes}
+use Rattle.std.proofs.lemmas.Map.Made.{update_all_none}
 use Rattle.serde_json.specs.View.{view, members_view}
 use Rattle.serde_json.proofs.Views.{Entry}
 
@@ -17,17 +21,9 @@ members_view_cloned [] (f ∷ fs) h = absurd h
 members_view_cloned (e ∷ es) [] h = absurd h
 members_view_cloned (e ∷ es) (f ∷ fs) h = rw (h.0.0, h.0.1, members_view_cloned es fs h.1)
 
-module _ {K X : Type 0} {R : K → K → Ordering} (total : IsTotalOrder R) where
-  middle : (es : List (K × X)) (first k : K) (v : X) (more : List (K × X))
-      → AllByRecursion (λ y. R first y ≡ Less) (keys_of (es ++ (k, v) ∷ more)) → R first k ≡ Less
-  middle [] first k v more h = h.0
-  middle (e ∷ es) first k v more h = middle es first k v more h.1
-
-  -- a key that is above those before it goes last
-  pub insert_last : (es : List (K × X)) (k : K) (v : X) (more : List (K × X))
-      → IsStrictlySortedBy R (keys_of (es ++ (k, v) ∷ more)) → insert_entry R es k v ≡ es ++ (k, v) ∷ []
-  unfolding IsStrictlySortedBy
-  insert_last [] k v more h = refl
-  insert_last (e ∷ es) k v more h =
-      let above : R k e.0 ≡ Greater = total.antisymm k e.0 ∙ ap ordering_reverse (middle es e.0 k v more h.0) in
-      rw above (ap (λ r. e ∷ r) (insert_last es k v more h.1))
+pub same_entries : {X : Type 0} (m n : BTreeMap (List ℕ) X) → IsOrdered (slice_cmp nat_cmp) m
+    → IsFromIterResult (slice_cmp nat_cmp) m.entries n → n.entries ≡ m.entries
+same_entries m n ascend made =
+    btree_map_from_get nat_list_cmp_total n m made.1 ascend
+    (λ q. made.0 q ∙ update_all_none (eq_by_cmp_equiv nat_list_cmp_total) (eq_by_cmp (slice_cmp nat_cmp)) (λ x y. refl)
+    m.entries q (IsDistinct-from_sorted (slice_cmp nat_cmp) (keys_of m.entries) ascend)) exact_bytes

@@ -7,7 +7,7 @@ use crate::kept::extra::Extra;
 use crate::kept::site::Site;
 use crate::object::{Body, Geometry, Object, Point, Shape};
 use crate::sequence::Sequence;
-use crate::text::Text;
+use crate::text::{Id, Text};
 use std::alloc::Global;
 use std::collections::BTreeMap;
 
@@ -118,18 +118,20 @@ impl<A: Copied + Drop, B: Copied> Copied for (A, B) {
     }
 }
 
-/// A copy of an ordered map. It fails only when out of memory.
-pub fn copy_map<K: Copied + Ord + Drop, V: Copied + Drop>(
+/// A copy of a map from ids. It fails only when out of memory.
+///
+/// The ids ascend, so the copies go into their map all at once.
+pub fn copy_map<V: Copied + Drop>(
     alloc: Global,
-    map: &BTreeMap<K, V>,
-) -> Result<BTreeMap<K, V>, OutOfMemory>
+    map: &BTreeMap<Id, V>,
+) -> Result<BTreeMap<Id, V>, OutOfMemory>
     ensures { IfOk result (λ c. c.entries ≡ map.now.entries) }
 {
-    let mut copies = BTreeMap::new(alloc);
-    for (key, value) in map.iter() {
-        let key_copy = key.copy(alloc)?;
-        let value_copy = value.copy(alloc)?;
-        drop(copies.insert(key_copy, value_copy)?);
+    let mut copies = Vec::with_capacity(alloc, map.len())?;
+    for (id, value) in map.iter() {
+        let entry = (id.copy(alloc)?, value.copy(alloc)?);
+        copies.push(entry)?;
     }
-    Ok(copies)
+    let copy = copies.into_iter().collect(alloc)?;
+    Ok(copy)
 }

@@ -1,25 +1,21 @@
-use Rattle.std.proofs.Common.{◌≡◌, ◌∷◌, [], ◌++◌, ◌∙◌, sym, ap, subst, append_assoc}
-use Rattle.std.specs.List.Sorted.{IsStrictlySortedBy}
-use Rattle.std.specs.Map.{keys_of}
+use Rattle.std.proofs.Common.{◌≡◌, ◌++◌, nat_cmp, sym, ap, ◌∙◌, subst}
+use Rattle.std.specs.BTreeMap.{IsFromIterResult}
+use Rattle.std.specs.Cmp.Lexicographic.{slice_cmp}
+use Rattle.std.proofs.lemmas.Iterator.Adapters.{fact_from_collect, YieldsList-from_vec}
 use Rattle.std.proofs.lemmas.List.{append-nil}
-use Rattle.city_model.proofs.Cloned.{insert_last}
+use Rattle.std.proofs.lemmas.Result.{IfOk-at_ok}
+use Rattle.city_model.proofs.Cloned.{same_entries}
 use Rattle.city_model.proofs.copied.copy_map.Goals as goal
-
-pub loop-key-preserved : goal.loop-key-preserved
-loop-key-preserved g c =
-    let key = c.in-Some.key.now in
-    let value = c.in-Some.value.now in
-    let left = c.next.new.self in
-    let done = c.loop-key.copies.entries in
-    let all : c.args.map.now.entries ≡ done ++ (key, value) ∷ left = c.loop-key.invariant
-    ∙ ap (λ es. done ++ es) c.in-Some.ensures.steps in
-    let ascend = subst (λ es. IsStrictlySortedBy g.K.Ord.cmp (keys_of es)) all c.iter-key-items.ensures.ordered in
-    let put : c.insert.new.self.entries ≡ done ++ (key, value) ∷ [] =
-    rw (c.in_ok-insert.ensures.entries, c.in_ok-key_copy.ensures, c.in_ok-value_copy.ensures)
-    (insert_last g.met.K.Ord.total done key value left ascend) in
-    all ∙ (sym (append_assoc done ((key, value) ∷ []) left) ∙ ap (λ es. es ++ left) (sym put))
 
 pub returns : goal.returns
 returns g c =
-    let done = c.loop-key.copies.entries in
-    sym (c.loop-key.invariant ∙ ap (λ es. done ++ es) c.in-None.ensures.steps.0 ∙ append-nil done)
+    let copies = c.loop-id.copies in
+    let copy = c.in_ok-copy-3.copy in
+    let entries = c.args.map.now.entries in
+    let done : copies.items ≡ entries =
+    sym (c.loop-id.invariant ∙ ap (λ es. copies.items ++ es) c.in-None.ensures.steps.0 ∙ append-nil copies.items) in
+    let all = YieldsList-from_vec copies.items c.into_iter.ensures.rest (c.into_iter.ensures.len ∙ copies.ok.0) in
+    let made = IfOk-at_ok (IsFromIterResult (slice_cmp nat_cmp) copies.items) c.in_ok-copy-3.was
+    (fact_from_collect (IsFromIterResult (slice_cmp nat_cmp)) c.collect.result c.collect.ensures.ran all) in
+    same_entries c.args.map.now copy c.len.ensures.ordered
+    (subst (λ es. IsFromIterResult (slice_cmp nat_cmp) es copy) done made)
