@@ -4,7 +4,7 @@ use Rattle.std.specs.Cmp.Lexicographic.{slice_cmp}
 use Rattle.std.proofs.lemmas.Iterator.Adapters.{fact_from_collect, YieldsList-from_vec}
 use Rattle.std.proofs.lemmas.List.{append-nil}
 use Rattle.std.proofs.lemmas.Result.{IfOk-at_ok}
-use Rattle.city_model.proofs.Cloned.{same_entries}
+use Rattle.city_model.proofs.Cloned.{made_of_sorted}
 use Rattle.city_model.proofs.copied.copy_map.Goals as goal
 
 pub returns : goal.returns
@@ -17,5 +17,5 @@ returns g c =
     let all = YieldsList-from_vec copies.items c.into_iter.ensures.rest (c.into_iter.ensures.len ∙ copies.ok.0) in
     let made = IfOk-at_ok (IsFromIterResult (slice_cmp nat_cmp) copies.items) c.in_ok-copy-3.was
     (fact_from_collect (IsFromIterResult (slice_cmp nat_cmp)) c.collect.result c.collect.ensures.ran all) in
-    same_entries c.args.map.now copy c.len.ensures.ordered
+    made_of_sorted entries copy c.len.ensures.ordered
     (subst (λ es. IsFromIterResult (slice_cmp nat_cmp) es copy) done made)
