@@ -26,15 +26,6 @@ module _ {K X : Type 0} {R : K → K → Ordering} (total : IsTotalOrder R) wher
   middle [] first k more h = h.0
   middle (e ∷ es) first k more h = middle es first k more h.1
 
-  -- a key that is above those before it goes last
-  pub insert_last : (es : List (K × X)) (k : K) (v : X) (more : List K) → IsStrictlySortedBy R (keys_of es ++ k ∷ more)
-      → insert_entry R es k v ≡ es ++ (k, v) ∷ []
-  unfolding IsStrictlySortedBy
-  insert_last [] k v more h = refl
-  insert_last (e ∷ es) k v more h =
-      let above : R k e.0 ≡ Greater = total.antisymm k e.0 ∙ ap ordering_reverse (middle es e.0 k more h.0) in
-      rw above (ap (λ r. e ∷ r) (insert_last es k v more h.1))
-
 pub keys_of_push : {K X : Type 0} (es : List (K × X)) (k : K) (v : X) (more : List K)
     → keys_of es ++ k ∷ more ≡ keys_of (es ++ (k, v) ∷ []) ++ more
 keys_of_push [] k v more = refl

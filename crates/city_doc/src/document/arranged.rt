@@ -20,7 +20,6 @@ use city_model::sequence::Sequence;
 use city_model::text::Id;
 use serde_json::Map;
 use std::alloc::Global;
-use std::collections::BTreeMap;
 
 /// A list of so many ids, or fewer, is searched in any order.
 const FEW: usize = 64;
@@ -98,12 +97,12 @@ fn arranged_object(alloc: Global, object: &Object) -> Result<Object, OutOfMemory
 fn arranged_city(alloc: Global, city: &City) -> Result<City, OutOfMemory>
     ensures { IfOk result (λ c. AreArranged (entries city.now.1) (entries c.1)) }
 {
-    let mut objects = BTreeMap::new(alloc);
+    let mut entries = Vec::with_capacity(alloc, city.len())?;
     for (id, object) in city.iter() {
         let arranged = arranged_object(alloc, object)?;
-        let copy = id.copy(alloc)?;
-        drop(objects.insert(copy, arranged)?);
+        entries.push((id.copy(alloc)?, arranged))?;
     }
+    let objects = entries.into_iter().collect(alloc)?;
     let frame = city.frame().copy(alloc)?;
     Ok(City::from_parts(frame, objects))
 }

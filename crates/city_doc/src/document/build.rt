@@ -50,13 +50,14 @@ fn lenient_objects_of(
     ensures { IfOk result (λ o. option_map (λ m. m.entries) o
         ≡ lenient_entries_of points.now (members_view members.entries)) }
 {
-    let mut objects = BTreeMap::new(alloc);
+    let mut listed = Vec::with_capacity(alloc, members.len())?;
     for (name, value) in members {
         let Some(object) = lenient_object_of(alloc, points, value)? else {
             return Ok(None);
         };
-        drop(objects.insert(Id::new(name), object)?);
+        listed.push((Id::new(name), object))?;
     }
+    let objects = listed.into_iter().collect(alloc)?;
     Ok(Some(objects))
 }
 

@@ -3,4 +3,4 @@ use Rattle.city_doc.proofs.document.Objects.{IsReading}
 use Rattle.city_doc.proofs.document.build.lenient_objects_of.Given as goal
 
 abbrev pub invariant-loop-name : goal.invariant-loop-name
-invariant-loop-name l = IsReading l.points (members_view l.fn.members.entries) l.objects.entries l.name-iterator
+invariant-loop-name l = IsReading l.points (members_view l.fn.members.entries) l.listed.items l.name-iterator
