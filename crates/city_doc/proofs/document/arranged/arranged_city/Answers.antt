@@ -1,13 +1,11 @@
 use Rattle.std.proofs.Common.{◌≡◌, ◌∷◌, [], ◌++◌, nat_cmp, sym, ap, subst, ◌∙◌}
-use Rattle.std.specs.BTreeMap.{IsFromIterResult}
 use Rattle.std.specs.Cmp.Lexicographic.{slice_cmp}
 use Rattle.std.specs.FinMap.{entries}
 use Rattle.std.specs.List.Sorted.{IsStrictlySortedBy}
 use Rattle.std.specs.Map.{keys_of}
-use Rattle.std.proofs.lemmas.Iterator.Adapters.{fact_from_collect, YieldsList-from_vec}
+use Rattle.std.proofs.lemmas.Iterator.Adapters.{YieldsList-from_vec}
 use Rattle.std.proofs.lemmas.List.{append-nil}
-use Rattle.std.proofs.lemmas.Result.{IfOk-at_ok}
-use Rattle.city_model.proofs.Cloned.{made_of_sorted}
+use Rattle.city_model.proofs.Cloned.{collected}
 use Rattle.city_model.proofs.Objects.{entries_ascend}
 use Rattle.city_doc.specs.inside.document.Arranged.{AreArranged}
 use Rattle.city_doc.proofs.document.ArrangedCities.{IsArranging, keys_arranging, arranging_more, all_arranged}
@@ -35,8 +33,6 @@ returns c =
     let was = subst (IsArranging all done.items) c.in-None.ensures.steps.0 c.loop-id.invariant in
     let ascend = subst (IsStrictlySortedBy (slice_cmp nat_cmp))
     (keys_arranging all done.items [] was ∙ append-nil (keys_of done.items)) (entries_ascend c.args.city.now.1) in
-    let made = IfOk-at_ok (IsFromIterResult (slice_cmp nat_cmp) done.items) c.in_ok-objects.was
-    (fact_from_collect (IsFromIterResult (slice_cmp nat_cmp)) c.collect.result c.collect.ensures.ran
-    (YieldsList-from_vec done.items c.into_iter.ensures.rest (c.into_iter.ensures.len ∙ done.ok.0))) in
-    subst (AreArranged all) (sym (c.from_parts.ensures.entries
-    ∙ made_of_sorted done.items c.in_ok-objects.objects ascend made)) (all_arranged all done.items was)
+    let made = collected done.items c.in_ok-objects.objects c.collect.result c.in_ok-objects.was c.collect.ensures.ran
+    (YieldsList-from_vec done.items c.into_iter.ensures.rest (c.into_iter.ensures.len ∙ done.ok.0)) ascend in
+    subst (AreArranged all) (sym (c.from_parts.ensures.entries ∙ made)) (all_arranged all done.items was)

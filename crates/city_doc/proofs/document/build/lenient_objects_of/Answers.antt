@@ -1,13 +1,11 @@
 use Rattle.std.proofs.Common.{◌≡◌, Some, [], ◌++◌, ◌∷◌, nat_cmp, string_bytes, sym, ap, subst, ◌∙◌}
-use Rattle.std.specs.BTreeMap.{IsFromIterResult}
 use Rattle.std.specs.Cmp.Lexicographic.{slice_cmp}
 use Rattle.std.specs.List.Sorted.{IsStrictlySortedBy}
 use Rattle.std.specs.Map.{keys_of}
-use Rattle.std.proofs.lemmas.Iterator.Adapters.{fact_from_collect, YieldsList-from_vec}
+use Rattle.std.proofs.lemmas.Iterator.Adapters.{YieldsList-from_vec}
 use Rattle.std.proofs.lemmas.List.{append-nil}
-use Rattle.std.proofs.lemmas.Result.{IfOk-at_ok}
 use Rattle.serde_json.specs.View.{members_view}
-use Rattle.city_model.proofs.Cloned.{made_of_sorted}
+use Rattle.city_model.proofs.Cloned.{collected}
 use Rattle.city_doc.proofs.document.Objects.{IsReading, begins, goes_on, stops, ends}
 use Rattle.city_doc.proofs.document.build.lenient_objects_of.Goals as goal
 
@@ -50,7 +48,6 @@ returns c =
     let done = c.loop-name.listed in
     let was = subst (IsReading points all done.items) c.in-None.ensures.steps.0 c.loop-name.invariant in
     let ascend = subst (IsStrictlySortedBy (slice_cmp nat_cmp)) (append-nil (keys_of done.items)) was.sorted in
-    let made = IfOk-at_ok (IsFromIterResult (slice_cmp nat_cmp) done.items) c.in_ok-objects.was
-    (fact_from_collect (IsFromIterResult (slice_cmp nat_cmp)) c.collect.result c.collect.ensures.ran
-    (YieldsList-from_vec done.items c.into_iter.ensures.rest (c.into_iter.ensures.len ∙ done.ok.0))) in
-    ap Some (made_of_sorted done.items c.in_ok-objects.objects ascend made) ∙ ends points all done.items was
+    let made = collected done.items c.in_ok-objects.objects c.collect.result c.in_ok-objects.was c.collect.ensures.ran
+    (YieldsList-from_vec done.items c.into_iter.ensures.rest (c.into_iter.ensures.len ∙ done.ok.0)) ascend in
+    ap Some made ∙ ends points all done.items was
