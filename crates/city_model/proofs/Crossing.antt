@@ -11,6 +11,7 @@ use Rattle.city_model.specs.contracts.frame.Frame as Frame
 use Rattle.city_model.specs.contracts.object.Body as Body
 use Rattle.city_model.specs.contracts.object.Geometry as Geometry
 use Rattle.city_model.specs.contracts.object.Object as Object
+use Rattle.city_model.specs.contracts.shared_body.SharedBody as SharedBody
 use Rattle.city_model.specs.contracts.text.Text as Text
 
 pub text_sends : IsSend Text.the_field.row
@@ -35,11 +36,17 @@ pub body_syncs : IsSync Body.the_field.row
 body_syncs = search (geometry_syncs, object_type.the_field_sync, maps.crosses, values.crosses, json.crosses, sendable)
     depth 60 fits 20000
 
+shared_body_sends : IsSend SharedBody.the_field.row
+shared_body_sends = search (body_sends, body_syncs, values.crosses, sendable) depth 60 fits 20000
+
+shared_body_syncs : IsSync SharedBody.the_field.row
+shared_body_syncs = search (body_sends, body_syncs, values.crosses, sendable) depth 60 fits 20000
+
 pub object_sends : IsSend Object.the_field.row
-object_sends = search (text_sends, body_sends, values.crosses, sendable) depth 60 fits 20000
+object_sends = search (text_sends, text_syncs, shared_body_sends, values.crosses, sendable) depth 60 fits 20000
 
 pub object_syncs : IsSync Object.the_field.row
-object_syncs = search (text_syncs, body_syncs, values.crosses, sendable) depth 60 fits 20000
+object_syncs = search (text_sends, text_syncs, shared_body_syncs, values.crosses, sendable) depth 60 fits 20000
 
 pub frame_sends : IsSend Frame.the_field.row
 frame_sends = search (maps.crosses, values.crosses, json.crosses, sendable) depth 60 fits 20000

@@ -1,7 +1,7 @@
 -- The finite map of a city's objects: the entries that it lists, and what it answers after a change.
 use Rattle.std.proofs.Common.{◌≡◌, ℕ, Bool, true, false, cond, List, [], ◌∷◌, length, Option, Some, None, Ordering}
 use Rattle.std.proofs.Common.{Less, Equal, Greater, refl, ap, sym, subst, ◌∙◌}
-use Rattle.std.specs.Prelude.{T, ◌&&◌, option_map}
+use Rattle.std.specs.Prelude.{T, ◌&&◌}
 use Rattle.std.specs.Ordering.{nat_cmp, is_lt, eq_by_cmp}
 use Rattle.std.specs.List.{AllByRecursion}
 use Rattle.std.specs.List.Sorted.{IsStrictlySortedBy}
@@ -126,20 +126,3 @@ pub removed : (es fs : Entries) (id : List ℕ) → IsStrictlySortedBy (slice_cm
 removed es fs id ascend still is =
     same_objects (from_sorted fs) (remove (from_sorted es) id) (at_changed es fs id None ascend still is
     ∙ sym (at_remove (from_sorted es) id))
-
--- ---- an object edited where it stands
-
-pub found_at : (es : Entries) → IsStrictlySortedBy (slice_cmp nat_cmp) (keys_of es) → (objects : Objects)
-    → from_sorted es ≡ objects → (id : List ℕ) → found_in es id ≡ object_at objects id
-found_at es ascend objects seen id = ap (λ (m : CityMap). m id) (sym (at_sorted es ascend))
-    ∙ ap (λ (x : Objects). object_at x id) seen
-
-pub edited : (es fs : Entries) (id : List ℕ) (f : Object → Object) (o p : Object)
-    → IsStrictlySortedBy (slice_cmp nat_cmp) (keys_of es) → IsStrictlySortedBy (slice_cmp nat_cmp) (keys_of fs)
-    → found_in es id ≡ Some o → p ≡ f o → ((q : List ℕ) → found_in fs q ≡ changed (found_in es) id (Some p) q)
-    → object_at (from_sorted fs) ≡ changed (object_at (from_sorted es)) id
-    (option_map f (object_at (from_sorted es) id))
-edited es fs id f o p ascend still there made is =
-    at_changed es fs id (Some p) ascend still is
-    ∙ ap (λ x. changed (object_at (from_sorted es)) id x)
-    (ap Some made ∙ ap (option_map f) (sym there ∙ found_at es ascend (from_sorted es) refl id))

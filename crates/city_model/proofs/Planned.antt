@@ -23,7 +23,7 @@ use Rattle.city_model.proofs.Ids.{same_id_itself, same_id_back, same_id_true}
 use Rattle.city_model.proofs.IdLists.{bool_cases, or_first}
 use Rattle.city_model.specs.Standing.{locks_id_exclusively}
 use Rattle.city_model.specs.Runs.{Change, after_change}
-use Rattle.city_model.specs.inside.Plans.{AreOf, AreWritesOf, only, only_parent, unlinked}
+use Rattle.city_model.specs.inside.Plans.{AreOf, AreWritesOf, unlinked}
 use Rattle.city_model.proofs.FrameLaw.{frame}
 
 -- ---- a put, where x stands at the id
@@ -81,27 +81,6 @@ delete_writes m id o ws s is childless items = subst (AreWritesOf m (Delete id) 
   ids = λ q. ap (λ b. same_id q id || b) (unlinked_ids m id o.parents q
       ∙ ap (λ ls. locks_id_exclusively ls q) (sym (parents_locked m id o is childless)));
 })
-
-only_is : (ps : List (List ℕ)) (p : List ℕ) → only ps ≡ Some p → p ∷ [] ≡ ps
-only_is [] p h = absurd (cc)
-only_is (q ∷ []) p h = ap (λ r. r ∷ []) (cc)
-only_is (q ∷ r ∷ ps) p h = absurd (cc)
-
-only_parent_at : (m : CityMap) (id p : List ℕ) (x : Option Object) → IsSound m → m id ≡ x → only_parent x ≡ Some p
-    → AreWritesOf m (Delete id) Deleted (related m id None p (without_child id))
-only_parent_at m id p None s is h = absurd (cc)
-only_parent_at m id p (Some o) s is h = bool_cases (length o.children == 0)
-    (λ e.
-    let one : only o.parents ≡ Some p = sym (ap (λ b. if b then only o.parents else None) e) ∙ h in
-    delete_writes m id o (related m id None p (without_child id)) s is e
-    (ap (λ ps. (id, None) ∷ map (unlinked m id) ps) (only_is o.parents p one)))
-    (λ e.
-    let none : None ≡ Some p = sym (ap (λ b. if b then only o.parents else None) e) ∙ h in
-    absurd (cc))
-
-pub only_parent_writes : (m : CityMap) (id p : List ℕ) → IsSound m → only_parent (m id) ≡ Some p
-    → AreWritesOf m (Delete id) Deleted (related m id None p (without_child id))
-only_parent_writes m id p s h = only_parent_at m id p (m id) s refl h
 
 -- ---- an attach and a detach
 

@@ -1,3 +1,4 @@
+pub mod Chunks
 pub mod CityMap
 pub mod FrameLaw
 pub mod Integral

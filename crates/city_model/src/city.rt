@@ -2,12 +2,10 @@
 ghost use Rattle.std.specs.Prelude.{◌≡◌, ◌==◌, true, Some, None, IfOk, IsOk, IsSome, OnOk, OnErr, is_some, option_copied, option_map};
 ghost use Rattle.std.specs.FinMap.{empty, entries, insert, len, remove};
 ghost use Rattle.city_model.specs.CityMap.{object_at, changed};
-ghost use Rattle.city_model.specs.Meaning.{with_child, without_child};
 
 use crate::OutOfMemory;
 use crate::copied::{Copied, copy_map};
 use crate::frame::Frame;
-use crate::id_list::is_same_id;
 use crate::object::Object;
 use crate::text::Id;
 use std::alloc::Global;
@@ -118,35 +116,6 @@ impl City {
         ensures map { object_at self.new.1 ≡ changed (object_at self.old.1) id.now None }
     {
         self.objects.remove(id)
-    }
-
-    /// Adds a child to the object of an id, which must have one. If memory runs out,
-    /// the city is unchanged.
-    pub fn push_child(&mut self, id: &Id, child: Id) -> Result<(), OutOfMemory>
-        requires { is_some (object_at self.old.1 id.now) ≡ true }
-        ensures frame { self.new.0 ≡ self.old.0 }
-        ensures map { OnOk result (object_at self.new.1 ≡ changed (object_at self.old.1) id.now (option_map (with_child child) (object_at self.old.1 id.now))) }
-        ensures unchanged { OnErr result (self.new ≡ self.old) }
-    {
-        match self.objects.get_mut(id) {
-            Some(object) => {
-                object.children.push(child)?;
-                Ok(())
-            }
-            None => unreachable!(),
-        }
-    }
-
-    /// Removes a child from the object of an id, which must have one. Doesn't allocate.
-    pub fn remove_child(&mut self, id: &Id, child: &Id)
-        requires { is_some (object_at self.old.1 id.now) ≡ true }
-        ensures frame { self.new.0 ≡ self.old.0 }
-        ensures map { object_at self.new.1 ≡ changed (object_at self.old.1) id.now (option_map (without_child child.now) (object_at self.old.1 id.now)) }
-    {
-        match self.objects.get_mut(id) {
-            Some(object) => object.children.retain(|other| !is_same_id(child, other)),
-            None => unreachable!(),
-        }
     }
 }
 

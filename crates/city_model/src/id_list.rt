@@ -1,9 +1,60 @@
-//! Lists of ids, searched and compared in place.
-ghost use Rattle.std.specs.Prelude.{◌≡◌, ◌-◌, IsTrue, get_or, length};
+//! Lists of ids, searched and compared in place, and copied without an id.
+ghost use Rattle.std.specs.Prelude.{◌≡◌, ◌==◌, length, IsTrue, IfOk};
+ghost use Rattle.std.specs.Iterator.{YieldsFirstRef, item_count};
 ghost use Rattle.city_model.specs.CityMap.{same_id, has_id};
+ghost use Rattle.city_model.specs.Chunks.{ids_left};
+ghost use Rattle.city_model.specs.Meaning.{without_id};
 ghost use Rattle.city_model.specs.inside.RelationTests.{are_distinct, are_increasing};
 
+use crate::OutOfMemory;
+use crate::children::Chunk;
+use crate::copied::Copied;
+use crate::sequence::Sequence;
 use crate::text::Id;
+use std::alloc::Global;
+
+/// The ids of a list, in its order. Copying it copies no id.
+#[derive(Clone, Copy, Drop)]
+pub struct Ids<'a> {
+    pub(crate) ids: &'a [Id],
+    pub(crate) chunks: &'a [Chunk],
+}
+
+impl<'a> Ids<'a> {
+    /// The ids of a slice. Doesn't allocate.
+    pub fn of(ids: &'a [Id]) -> Self
+        ensures { ids_left result ≡ ids.now }
+    {
+        Ids { ids, chunks: &[] }
+    }
+
+    /// Whether no id is left. Doesn't allocate.
+    pub fn is_empty(self) -> bool
+        ensures { result ≡ (length (ids_left self.entry) == 0) }
+    {
+        let mut left = self;
+        left.next().is_none()
+    }
+}
+
+impl<'a> Iterator for Ids<'a> {
+    type Item = &'a Id;
+
+    ghost next_gives = { YieldsFirstRef ids_left };
+
+    ghost remaining = { item_count ids_left };
+
+    fn next(&mut self) -> Option<&'a Id> {
+        while self.ids.is_empty() {
+            let (chunk, others) = self.chunks.split_first()?;
+            self.ids = chunk.as_slice();
+            self.chunks = others;
+        }
+        let (first, others) = self.ids.split_first()?;
+        self.ids = others;
+        Some(first)
+    }
+}
 
 /// Whether two ids are the same. Doesn't allocate.
 ///
@@ -11,16 +62,19 @@ use crate::text::Id;
 pub fn is_same_id(id: &Id, other: &Id) -> bool
     ensures { result ≡ same_id id.now other.now }
 {
-    last_byte(id) == last_byte(other) && id.cmp(other).is_eq()
+    end_alike(id, other) && id.cmp(other).is_eq()
 }
 
-/// The last byte of an id, or 0 where it has none.
-fn last_byte(id: &Id) -> u8
-    ensures { result ≡ get_or id.now (length id.now - 1) 0 }
+/// Whether two ids have the same last two bytes, or one of them has fewer. Only the time depends on it
+/// where the ids differ.
+fn end_alike(id: &Id, other: &Id) -> bool
+    ensures { id.now ≡ other.now → IsTrue result }
 {
-    match id.as_str().as_bytes() {
-        [.., last] => *last,
-        [] => 0,
+    match (id.as_str().as_bytes(), other.as_str().as_bytes()) {
+        ([.., before, last], [.., other_before, other_last]) => {
+            last == other_last && before == other_before
+        }
+        _ => true,
     }
 }
 
@@ -30,12 +84,24 @@ fn last_byte(id: &Id) -> u8
 pub fn has_id(ids: &[Id], id: &Id) -> bool
     ensures { result ≡ has_id ids.now id.now }
 {
-    is_found_by_halving(ids, id) || ids.iter().any(|other| is_same_id(id, other))
+    is_found_by_halving(ids, id) || is_among(Ids::of(ids), id)
+}
+
+/// Whether the id is one of these, which are read once. Doesn't allocate.
+pub fn is_among(ids: Ids<'_>, id: &Id) -> bool
+    ensures { result ≡ has_id (ids_left ids.entry) id.now }
+{
+    for other in ids {
+        if is_same_id(id, other) {
+            return true;
+        }
+    }
+    false
 }
 
 /// A binary search. In a list that isn't in byte order it may miss an id, but it finds
 /// none that isn't there.
-fn is_found_by_halving(ids: &[Id], id: &Id) -> bool
+pub(crate) fn is_found_by_halving(ids: &[Id], id: &Id) -> bool
     ensures { IsTrue result → IsTrue (has_id ids.now id.now) }
 {
     match ids.binary_search(id) {
@@ -44,24 +110,25 @@ fn is_found_by_halving(ids: &[Id], id: &Id) -> bool
     }
 }
 
-/// Whether no id is in the list twice. Doesn't allocate.
+/// Whether no id is there twice. Doesn't allocate.
 ///
-/// A list in byte order is read once; in any other list each id is looked for among those after it.
-pub fn are_distinct(ids: &[Id]) -> bool
-    ensures { result ≡ are_distinct ids.now }
+/// Ids in byte order are read once; in any other order each id is looked for among those after it.
+pub fn are_distinct(ids: Ids<'_>) -> bool
+    ensures { result ≡ are_distinct (ids_left ids.entry) }
 {
     are_increasing(ids) || none_recurs(ids)
 }
 
-/// Whether each id is above the one before it.
-fn are_increasing(ids: &[Id]) -> bool
-    ensures { result ≡ are_increasing ids.now }
+/// Whether each id is above the one before it. Doesn't allocate.
+pub fn are_increasing(ids: Ids<'_>) -> bool
+    ensures { result ≡ are_increasing (ids_left ids.entry) }
 {
-    let [first, rest @ ..] = ids else {
+    let mut left = ids;
+    let Some(first) = left.next() else {
         return true;
     };
     let mut last = first;
-    for id in rest {
+    for id in left {
         if !last.cmp(id).is_lt() {
             return false;
         }
@@ -71,15 +138,27 @@ fn are_increasing(ids: &[Id]) -> bool
 }
 
 /// Whether no id is among those after it.
-fn none_recurs(ids: &[Id]) -> bool
-    ensures { result ≡ are_distinct ids.now }
+fn none_recurs(ids: Ids<'_>) -> bool
+    ensures { result ≡ are_distinct (ids_left ids.entry) }
 {
     let mut left = ids;
-    while let [first, rest @ ..] = left {
-        if has_id(rest, first) {
+    while let Some(first) = left.next() {
+        if is_among(left, first) {
             return false;
         }
-        left = rest;
     }
     true
+}
+
+/// The ids but this one, in their order.
+pub(crate) fn without_id(alloc: Global, id: &Id, ids: &[Id]) -> Result<Sequence<Id>, OutOfMemory>
+    ensures { IfOk result (λ others. others ≡ without_id id.now ids.now) }
+{
+    let mut others = Sequence::new(alloc);
+    for other in ids {
+        if !is_same_id(id, other) {
+            others.push(other.copy(alloc)?)?;
+        }
+    }
+    Ok(others)
 }

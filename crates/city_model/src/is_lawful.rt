@@ -34,7 +34,7 @@ fn is_faultless(alloc: Global, city: &City) -> Result<bool, OutOfMemory>
     ensures only_then { IfOk result (λ b. IsFaultless (object_at city.now.1) → IsTrue b) }
 {
     for (_, object) in city.iter() {
-        let faulty = has_fault(alloc, &object.body)?;
+        let faulty = has_fault(alloc, object.body.get())?;
         if faulty {
             return Ok(false);
         }

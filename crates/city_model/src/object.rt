@@ -1,10 +1,12 @@
 //! City objects and their geometries.
 ghost use Rattle.std.specs.Prelude.{◌≡◌};
 
+use crate::children::Children;
 use crate::kept::extra::Extra;
 use crate::kept::site::{AtGeometry, AtObject};
 use crate::object_type::ObjectType;
 use crate::sequence::Sequence;
+use crate::shared_body::SharedBody;
 use crate::text::{Id, Text};
 
 /// A point, in whole units; ordered by x, then y, then z.
@@ -54,10 +56,10 @@ pub struct Body {
     pub extra: Extra<AtObject>,
 }
 
-/// A city object (CityJSON 2.0, section 2).
+/// A city object (CityJSON 2.0, section 2). A copy shares its body and the ids of its children.
 #[derive(Drop)]
 pub struct Object {
-    pub body: Body,
+    pub body: SharedBody,
     pub parents: Sequence<Id>,
-    pub children: Sequence<Id>,
+    pub children: Children,
 }

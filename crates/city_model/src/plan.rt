@@ -20,8 +20,6 @@ mod relating;
 pub mod view;
 mod writes;
 
-pub use crate::plan::deleting::only_parent;
-pub use crate::plan::relating::{attached_child, detached_child};
 pub use crate::plan::writes::Writes;
 
 /// The plan of a command.

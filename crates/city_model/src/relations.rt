@@ -8,7 +8,7 @@ ghost use Rattle.city_model.specs.inside.RelationTests.{children_fit, is_in_orde
 ghost use Rattle.city_model.specs.Relations.{IsRelated, same_family};
 
 use crate::city::City;
-use crate::id_list::{are_distinct, has_id, is_same_id};
+use crate::id_list::{Ids, are_distinct, has_id, is_same_id};
 use crate::object::Object;
 use crate::object_type::{self, ObjectType, family, level};
 use crate::orphans::is_orphan;
@@ -43,8 +43,8 @@ pub fn is_wrong_family(
     ensures { result ≡ is_wrong_family child.now child_object.now parent.now parent_object.now }
 {
     is_same_id(child, parent)
-        || level(child_object.body.kind) != 2
-        || !is_same_family(child_object.body.kind, parent_object.body.kind)
+        || level(child_object.body.get().kind) != 2
+        || !is_same_family(child_object.body.get().kind, parent_object.body.get().kind)
 }
 
 /// Whether the object isn't in order, or is an orphan.
@@ -68,14 +68,14 @@ fn is_in_order(city: &City, id: &Id, object: &Object) -> bool
 fn relatives_once(object: &Object) -> bool
     ensures { result ≡ relatives_once object.now }
 {
-    are_distinct(object.parents.as_slice()) && are_distinct(object.children.as_slice())
+    are_distinct(Ids::of(object.parents.as_slice())) && are_distinct(object.children.iter())
 }
 
 /// Whether the object is second-level or has no parent.
 fn level_fits(object: &Object) -> bool
     ensures { result ≡ level_fits object.now }
 {
-    level(object.body.kind) == 2 || object.parents.len() == 0
+    level(object.body.get().kind) == 2 || object.parents.len() == 0
 }
 
 /// Whether each parent is there, is another object, has this one as a child and is of its family.
@@ -97,8 +97,8 @@ fn parent_fits(city: &City, id: &Id, object: &Object, parent: &Id) -> bool
         None => false,
         Some(other) => {
             !is_same_id(parent, id)
-                && has_id(other.children.as_slice(), id)
-                && is_same_family(other.body.kind, object.body.kind)
+                && other.children.has(id)
+                && is_same_family(other.body.get().kind, object.body.get().kind)
         },
     }
 }
@@ -107,7 +107,7 @@ fn parent_fits(city: &City, id: &Id, object: &Object, parent: &Id) -> bool
 fn children_fit(city: &City, id: &Id, object: &Object) -> bool
     ensures { result ≡ children_fit (object_at city.now.1) id.now object.now }
 {
-    for child in object.children.as_slice() {
+    for child in object.children.iter() {
         if !child_fits(city, id, child) {
             return false;
         }

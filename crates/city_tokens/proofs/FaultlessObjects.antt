@@ -9,11 +9,11 @@ use Rattle.city_model.specs.declared.object.Point.{Point}
 use Rattle.city_model.specs.CityMap.{Entries, Objects, object_at, found_in}
 use Rattle.city_model.specs.inside.Faultless.{IsFaultless}
 use Rattle.city_model.specs.Shells.{body_fault}
+use Rattle.city_model.proofs.MapsMade.{put_each}
 use Rattle.city_model.proofs.Objects.{at_entries}
 use Rattle.city_tokens.specs.inside.Faultless.{AreFaultless}
 use Rattle.city_tokens.specs.inside.Objects.{IsPlacedObject}
 use Rattle.city_tokens.specs.inside.Standing.{Pairs}
-use Rattle.city_tokens.proofs.ListedObjects.{put_each}
 
 put_at : (r : Ordering) (id : List ℕ) (o : Object) (e : List ℕ × Object) (es rest : Entries) → body_fault o.body ≡ None
     → AreFaultless (e ∷ es) → AreFaultless rest

@@ -1,24 +1,16 @@
 -- Objects by their ids: listed as they are read, and placed in the order of their ids.
-use Rattle.std.proofs.Common.{◌≡◌, ℕ, List, [], ◌∷◌, ◌++◌, Option, Some, None, option_map, cond, BTreeMap, Ordering, Less, Equal}
+use Rattle.std.proofs.Common.{◌≡◌, ℕ, List, [], ◌∷◌, ◌++◌, Some, option_map, BTreeMap, Ordering, Less, Equal}
 use Rattle.std.proofs.Common.{Greater, nat_cmp, refl, sym, ap, ◌∙◌, subst}
-use Rattle.std.specs.Prelude.{T, IfOk}
-use Rattle.std.specs.declared.result.Result.{Result}
-use Rattle.std.specs.declared.result.Result.TheVariants.{Ok, Err}
-use Rattle.std.specs.Result.{result_ok}
 use Rattle.std.specs.BTreeMap.{IsFromIterResult}
 use Rattle.std.specs.Cmp.Lexicographic.{slice_cmp}
-use Rattle.std.specs.FinMap.{find, is_sorted, put as put_entry}
-use Rattle.std.specs.FinMap.Entries.{by_order, is_sorted-put, find-put, same_entries}
-use Rattle.std.specs.Map.{update_all}
-use Rattle.std.specs.Ordering.{match_ordering, eq_by_cmp}
-use Rattle.std.proofs.lemmas.Cmp.{nat_list_cmp_total}
-use Rattle.std.proofs.lemmas.Map.Lookups.{exact_bytes}
+use Rattle.std.specs.FinMap.{put as put_entry}
+use Rattle.std.specs.FinMap.Entries.{by_order}
+use Rattle.std.specs.Ordering.{match_ordering}
 use Rattle.serde_json.specs.Data.{Data, Members, no_members, member, put}
 use Rattle.city_model.specs.CityMap.{Entries}
 use Rattle.city_model.specs.declared.object.Object.{Object}
 use Rattle.city_model.specs.declared.object.Point.{Point}
-use Rattle.city_model.proofs.Ids.{same_id_back}
-use Rattle.city_model.proofs.Objects.{in_order, find_is_lookup}
+use Rattle.city_model.proofs.MapsMade.{put_each, made}
 use Rattle.city_tokens.specs.document.Cities.{entries_of}
 use Rattle.city_tokens.specs.object.Bodies.{object_of}
 use Rattle.city_tokens.specs.inside.Objects.{IsObject, IsNamedObject, IsListing, IsPlacedObject, put_all}
@@ -42,12 +34,6 @@ listed old new id name o d found grown named is h =
       ap (put name d) h.1 ∙ sym (put_all_push h.0 (name, d) no_members),
       pairs_push IsNamedObject old h.0 (id, o) (name, d) h.2 (named, is),
     )
-
--- what a call promises where it gave a value
-pub given : {A E : Type 0} (r : Result A E) (o : Option A) (x : A) (P : A → Type 0) → o ≡ result_ok r → o ≡ Some x
-    → IfOk r P → P x
-given (Ok y) o x P is some h = subst P (let same : y ≡ x = let found : Some y ≡ Some x = sym is ∙ some in cc in same) h
-given (Err e) o x P is some h = absurd (let no : None ≡ Some x = sym is ∙ some in cc)
 
 -- ---- placed
 
@@ -78,11 +64,6 @@ entries_put points id d x (member l e ms) es one here =
     (put_step (cmp id l) points id l d e x first.0 ms rest.0 refl one first.1 rest.1
     (entries_put points id d x ms rest.0 one rest.1))
 
--- the entries, with these put in one after another
-abbrev pub put_each : Entries → Entries → Entries
-put_each [] es = es
-put_each (x ∷ xs) es = put_each xs (put_entry cmp x.0 x.1 es)
-
 -- the member of an object's id was read as the object
 abbrev IsRead : List Point → List ℕ × Object → List ℕ × Data → Type 0
 IsRead points x m = (x.0 ≡ m.0) × (object_of points m.1 ≡ Some x.1)
@@ -97,27 +78,6 @@ entries_put_all points (x ∷ xs) (m ∷ ms) start es pairs here =
     entries_put_all points xs ms (put m.0 m.1 start) (put_entry cmp x.0 x.1 es) pairs.1
     (subst (λ k. entries_of points (put m.0 m.1 start) ≡ Some (put_entry cmp k x.1 es)) (sym pairs.0.0)
     (entries_put points m.0 m.1 x.1 start es pairs.0.1 here))
-
--- ---- a map that is made of a list
-
-sorted_each : (xs es : Entries) → T (is_sorted cmp es) → T (is_sorted cmp (put_each xs es))
-sorted_each [] es h = h
-sorted_each (x ∷ xs) es h =
-    sorted_each xs (put_entry cmp x.0 x.1 es) (is_sorted-put cmp nat_list_cmp_total x.0 x.1 es h)
-
-found_each : (xs es : Entries) (q : List ℕ)
-    → find cmp q (put_each xs es) ≡ update_all (eq_by_cmp cmp) (λ p. find cmp p es) xs q
-found_each [] es q = refl
-found_each (x ∷ xs) es q =
-    found_each xs (put_entry cmp x.0 x.1 es) q
-    ∙ ap (λ f. update_all (eq_by_cmp cmp) f xs q) (λ i p. (find-put cmp nat_list_cmp_total p x.0 x.1 es
-    ∙ ap (λ b. cond b (Some x.1) (find cmp p es)) (same_id_back p x.0)) i)
-
--- it has the pairs of the list as if they were put in one after another
-pub made : (xs : Entries) (m : BTreeMap (List ℕ) Object) → IsFromIterResult cmp xs m → m.entries ≡ put_each xs []
-made xs m h =
-    same_entries cmp nat_list_cmp_total exact_bytes m.entries (put_each xs []) (in_order cmp m.entries h.1)
-    (sorted_each xs [] tt) (λ q. find_is_lookup cmp q m.entries ∙ h.0 q ∙ sym (found_each xs [] q))
 
 -- what is listed stands for the entries of what is placed
 pub listed_entries : (points : List Point) (all placed : Entries) (m : BTreeMap (List ℕ) Object) (found : Members)

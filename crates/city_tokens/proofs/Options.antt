@@ -1,7 +1,7 @@
 -- What an option that has a value was made of, and lists that grow under one.
 use Rattle.std.proofs.Common.{◌≡◌, List, [], ◌∷◌, ◌++◌, Bool, true, false, Option, Some, None, IfSome, Result, Ok, Err}
-use Rattle.std.proofs.Common.{option_map, refl, sym, ap, append_assoc, subst}
-use Rattle.std.specs.Prelude.{option_and_then, if◌then◌else◌}
+use Rattle.std.proofs.Common.{option_map, refl, sym, ap, ◌∙◌, append_assoc, subst}
+use Rattle.std.specs.Prelude.{option_and_then, if◌then◌else◌, IfOk}
 use Rattle.std.specs.Result.{result_ok}
 
 pub and_then_some : {A B : Type 0} (g : A → Option B) (o : Option A) (y : B) → option_and_then g o ≡ Some y
@@ -30,6 +30,12 @@ pub ok_holds : {T E : Type 0} (r : Result T E) (o : Option T) (P : T → Type 0)
     → ((x : T) → r ≡ Ok x → P x) → IfSome o P
 ok_holds (Ok x) o P is h = subst (λ p. IfSome p P) (sym is) (h x refl)
 ok_holds (Err e) o P is h = subst (λ p. IfSome p P) (sym is) tt
+
+-- what a call promises of its value, where `ok` gave one
+pub given : {A E : Type 0} (r : Result A E) (o : Option A) (x : A) (P : A → Type 0) → o ≡ result_ok r → o ≡ Some x
+    → IfOk r P → P x
+given (Ok y) o x P is some h = subst P (let same : y ≡ x = let found : Some y ≡ Some x = sym is ∙ some in cc in same) h
+given (Err e) o x P is some h = absurd (let no : None ≡ Some x = sym is ∙ some in cc)
 
 -- what follows from two facts of the value of an option
 pub both_hold : {A : Type 0} (o : Option A) {P Q R : A → Type 0} → IfSome o P → IfSome o Q

@@ -5,6 +5,7 @@ ghost use Rattle.city_tokens.specs.inside.Standing.{IsReadAs};
 
 use crate::object::{ObjectParts, object_of};
 use crate::own::{Own, read_object};
+use city_model::children::Children;
 use city_model::object::Body;
 use city_model::sequence::Sequence;
 use json::Reader;
@@ -42,10 +43,10 @@ pub fn read_body(alloc: Global, reader: &mut Reader<'_>, depth: usize) -> Option
             kind: None,
             geometry: Sequence::new(alloc),
             parents: Sequence::new(alloc),
-            children: Sequence::new(alloc),
+            children: Children::new(alloc),
         },
     };
     let (parts, kept) = read_object(alloc, reader, depth, start)?;
     let object = object_of(parts.object, kept)?;
-    Some(object.body)
+    object.body.into_body()
 }

@@ -8,10 +8,12 @@ ghost use Rattle.city_tokens.specs.inside.Standing.{IsReadAs};
 use crate::list::FromTokens;
 use crate::own::{Own, read_object as read_members};
 use crate::text::read_str;
+use city_model::children::Children;
 use city_model::kept::extra::Extra;
 use city_model::object::{Body, Geometry, Object};
 use city_model::object_type::{ObjectType, type_named};
 use city_model::sequence::Sequence;
+use city_model::shared_body::SharedBody;
 use city_model::text::Id;
 use json::Reader;
 use serde_json::{Map, Value};
@@ -23,7 +25,7 @@ pub struct ObjectParts {
     pub kind: Option<ObjectType>,
     pub geometry: Sequence<Geometry>,
     pub parents: Sequence<Id>,
-    pub children: Sequence<Id>,
+    pub children: Children,
 }
 
 impl Own for ObjectParts {
@@ -50,7 +52,8 @@ impl Own for ObjectParts {
                 self.parents = parents;
             }
             "children" => {
-                let children = Sequence::<Id>::from_tokens(alloc, reader, depth)?;
+                let ids = Sequence::<Id>::from_tokens(alloc, reader, depth)?;
+                let children = Children::from_sequence(alloc, ids).ok()?;
                 self.children = children;
             }
             _ => return Some(false),
@@ -67,11 +70,11 @@ pub fn object_of(parts: ObjectParts, kept: Map<String, Value>) -> Option<Object>
     let kind = parts.kind?;
     let extra = Extra::new(kept).ok()?;
     Some(Object {
-        body: Body {
+        body: SharedBody::unshared(Body {
             kind,
             geometry: parts.geometry,
             extra,
-        },
+        }),
         parents: parts.parents,
         children: parts.children,
     })
@@ -85,7 +88,7 @@ pub fn read_object(alloc: Global, reader: &mut Reader<'_>, depth: usize) -> Opti
         kind: None,
         geometry: Sequence::new(alloc),
         parents: Sequence::new(alloc),
-        children: Sequence::new(alloc),
+        children: Children::new(alloc),
     };
     let (parts, kept) = read_members(alloc, reader, depth, start)?;
     object_of(parts, kept)

@@ -17,6 +17,7 @@ use crate::vertices::Vertex;
 use city_model::body_fault::body_fault;
 use city_model::object::{Geometry, Object, Point, Shape};
 use city_model::sequence::Sequence;
+use city_model::shared_body::SharedBody;
 use city_model::text::Id;
 use std::alloc::Global;
 use std::collections::BTreeMap;
@@ -99,32 +100,38 @@ impl Places for Geometry {
 
 /// Puts points in the places of an object's positions; none where a position names no vertex, or
 /// where the object's body has a fault, which is judged at once.
-fn place_object(alloc: Global, vertices: &[Vertex], object: &mut Object) -> Option<()>
-    ensures placed { IfSome result (λ _. (d : Data) → IsObject object.old d
-        → object_of (points_of vertices.now) d ≡ Some object.new) }
-    ensures faultless { IfSome result (λ _. body_fault object.new.body ≡ None) }
+fn place_object(alloc: Global, vertices: &[Vertex], object: Object) -> Option<Object>
+    ensures placed { IfSome result (λ placed. IsPlaced IsObject (object_of (points_of vertices.now)) object placed) }
+    ensures faultless { IfSome result (λ placed. body_fault placed.body ≡ None) }
 {
-    object.body.geometry.place(alloc, vertices)?;
-    let Ok(None) = body_fault(alloc, &object.body) else {
+    let mut body = object.body.into_body()?;
+    body.geometry.place(alloc, vertices)?;
+    let Ok(None) = body_fault(alloc, &body) else {
         return None;
     };
-    Some(())
+    let body = SharedBody::new(alloc, body).ok()?;
+    Some(Object {
+        body,
+        parents: object.parents,
+        children: object.children,
+    })
 }
 
 /// Puts points in the places of the positions of all objects; none where a position names no vertex,
 /// or where a body has a fault.
-fn place_objects(
+fn place_each(
     alloc: Global,
     vertices: &[Vertex],
     unplaced: Vec<(Id, Object)>,
 ) -> Option<Vec<(Id, Object)>>
     ensures { IfSome result (λ placed. Pairs (IsPlacedObject (points_of vertices.now)) unplaced.items placed.items) }
 {
-    let mut entries = unplaced;
-    for entry in entries.iter_mut() {
-        place_object(alloc, vertices, &mut entry.1)?;
+    let mut placed = Vec::with_capacity(alloc, unplaced.len()).ok()?;
+    for (id, object) in unplaced {
+        let object = place_object(alloc, vertices, object)?;
+        placed.push((id, object)).ok()?;
     }
-    Some(entries)
+    Some(placed)
 }
 
 /// The objects by their ids, with each position replaced by its point; none where a position names
@@ -141,7 +148,7 @@ pub fn placed_objects(
         → entries_of (points_of vertices.now) found ≡ Some objects.entries) }
     ensures faultless { IfSome result (λ objects. AreFaultless objects.entries) }
 {
-    let placed = place_objects(alloc, vertices, listed.into_vec())?;
+    let placed = place_each(alloc, vertices, listed.into_vec())?;
     let objects = placed.into_iter().collect(alloc).ok()?;
     Some(objects)
 }

@@ -13,7 +13,6 @@ pub mod OneIdWritten
 pub mod OthersLeft
 pub mod PerformDone
 pub mod PlanWritten
-pub mod RelatedInPlace
 pub mod ReservationMade
 pub mod SeenWrites
 pub mod Slots

@@ -1,14 +1,9 @@
 -- What a transaction touches of the store: step by step, and at more ids.
 use Rattle.std.proofs.Common.{◌≡◌, ◌==◌, ◌&&◌, ◌||◌, ℕ, List, Bool, true, false, is_some, refl, ap, sym, ◌∙◌}
 use Rattle.std.proofs.lemmas.Bool.{or_left, or_right, and_parts, and_from}
-use Rattle.city_model.specs.CityMap.{has_id, same_id}
-use Rattle.city_model.specs.declared.command.Command.{Command}
-use Rattle.city_model.specs.Meaning.{locks_of}
-use Rattle.city_model.specs.Standing.{locks_id}
-use Rattle.city_model.proofs.Ids.{same_id_true}
-use Rattle.city_txn.specs.inside.Performing.{MayPerform}
-use Rattle.city_txn.specs.inside.State.{State, store_written, is_reserved, is_begun, store_view}
-use Rattle.city_txn.specs.inside.State.{MayReserve, ReservesAmong, SeesSame, ChangesWrites, Touches}
+use Rattle.city_model.specs.CityMap.{has_id}
+use Rattle.city_txn.specs.inside.State.{State, store_written, is_reserved, is_begun}
+use Rattle.city_txn.specs.inside.State.{ReservesAmong, SeesSame, ChangesWrites, Touches}
 use Rattle.city_txn.specs.inside.UndoState.{listed_by, reservations_of}
 use Rattle.city_txn.specs.UndoLog.{OwnWrites, Logs, log_of, marked, has_before}
 use Rattle.city_txn.specs.Writes.{write_of, own_write, unless_by}
@@ -24,14 +19,6 @@ reserved_by v w s q e = ap (λ o. has_id (reservations_of o s) q) e
 
 opened_by : (v w : State) (t : ℕ) → w.opened ≡ v.opened → is_begun w t ≡ is_begun v t
 opened_by v w t e = ap (λ o. is_some (listed_by o t)) e
-
--- an id that the command locks may be reserved
-pub may_reserve : (v : State) (s : ℕ) (c : Command) (id : List ℕ) → MayPerform v s c
-    → locks_id (locks_of (store_view v s) c) id ≡ true → MayReserve v s (same_id id)
-may_reserve v s c id may named = record {
-  opened = may.locked.opened;
-  alone = λ q e. may.locked.alone q (ap (locks_id (locks_of (store_view v s) c)) (sym (same_id_true id q e)) ∙ named);
-}
 
 -- ---- touched
 

@@ -1,8 +1,8 @@
 -- Undo logs: what an entry changes, and what is seen of marks.
-use Rattle.std.proofs.Common.{◌≡◌, ◌==◌, ◌||◌, ℕ, List, [], ◌∷◌, length, drop, Bool, true, false, Option, refl, ap}
-use Rattle.std.proofs.Common.{sym, ◌∙◌, arith, if◌then◌else◌}
+use Rattle.std.proofs.Common.{◌≡◌, ◌||◌, ℕ, List, [], ◌∷◌, drop, Bool, true, false, Option, refl, ap}
+use Rattle.std.proofs.Common.{sym, ◌∙◌, if◌then◌else◌}
 use Rattle.std.specs.Map.{update}
-use Rattle.std.proofs.lemmas.Bool.{false≢true, eqb-true, or_left, or_parts}
+use Rattle.std.proofs.lemmas.Bool.{false≢true, or_left, or_parts}
 use Rattle.std.proofs.lemmas.Map.{update_same, update_other}
 use Rattle.city_model.specs.declared.object.Object.{Object}
 use Rattle.city_model.specs.CityMap.{same_id}
@@ -45,11 +45,6 @@ noted_marked es f id own is = marked_same es (update same_id f id own) f
 pub noted_there : (es : List Entry) (id : List ℕ) (own : Option (Option Object))
     → is_noted (BeforeImage id own ∷ es) id ≡ true
 noted_there es id own = or_left (same_id id id) (is_noted es id) (same_id_itself id)
-
--- a log without entries notes all
-pub noted_if_empty : (es : List Entry) (q : List ℕ) → (length es == 0) ≡ true → is_noted es q ≡ true
-noted_if_empty [] q h = refl
-noted_if_empty (e ∷ es) q h = let none : length (e ∷ es) ≡ 0 = eqb-true (length (e ∷ es)) 0 h in absurd (omega arith)
 
 -- ---- one entry less
 

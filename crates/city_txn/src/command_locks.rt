@@ -42,7 +42,7 @@ fn parents_to_lock<'a>(store: &'a Store, stamp: u64, id: &Id) -> &'a [Id]
     ensures { delete_locks (store_view store.now stamp id.now) ≡ exclusively result.now }
 {
     match store.read(stamp, id) {
-        Some(object) if object.children.len() == 0 => object.parents.as_slice(),
+        Some(object) if object.children.is_empty() => object.parents.as_slice(),
         _ => &[],
     }
 }

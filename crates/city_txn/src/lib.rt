@@ -2,8 +2,8 @@
 //!
 //! - `txn_core`, `step`: the core, and what it answers
 //! - `command_locks`, `lock`: which locks a command needs, how it asks for them, what the answer would be
-//! - `store`, `slot`, `placeholder`: the one city, edited in place, and what a transaction sees of it
-//! - `perform`, `writing`, `relating`, `marks`: commands done on the store
+//! - `store`, `slot`, `placeholder`: the one city, written in place, and what a transaction sees of it
+//! - `perform`, `writing`, `marks`: commands done on the store
 //! - `undo`, `image`, `undo_log`: what stood there before, who has written, and what takes back to a mark
 //! - `changing`, `ending`: what a transaction wrote, and how it ends
 #![tactic(auto)]
@@ -16,7 +16,6 @@ mod lock;
 mod marks;
 mod perform;
 pub mod placeholder;
-mod relating;
 mod slot;
 mod step;
 mod store;

@@ -7,9 +7,7 @@ ghost use Rattle.city_txn.specs.inside.Performing.{MayPerform, IsPerform};
 use crate::store::{Seen, Store};
 use city_model::OutOfMemory;
 use city_model::command::{Command, Reply};
-use city_model::copied::Copied;
-use city_model::plan::{Plan, only_parent, plan_of};
-use city_model::text::Id;
+use city_model::plan::{Plan, plan_of};
 
 impl Store {
     /// Does a command, whose locks the stamp holds. If memory runs out, nothing is written.
@@ -21,28 +19,6 @@ impl Store {
         match command {
             Command::Mark(name) => self.mark(stamp, name),
             Command::Back(name) => self.back(stamp, name),
-            Command::Attach(child, parent) if self.edits_in_place(stamp, parent) => {
-                self.attach_in_place(stamp, child, parent)
-            }
-            Command::Detach(child, parent) if self.edits_in_place(stamp, parent) => {
-                self.detach_in_place(stamp, child, parent)
-            }
-            Command::Delete(id) => self.delete(stamp, command, id),
-            _ => self.carry_out(stamp, command),
-        }
-    }
-
-    /// Deletes an object, in place if possible.
-    fn delete(&mut self, stamp: u64, command: &Command, id: &Id) -> Result<Reply, OutOfMemory>
-        requires is_delete { command.now ≡ Command.Delete id.now }
-        requires may { MayPerform self.old stamp command.now }
-        ensures { IsPerform stamp command.now result self.old self.new }
-    {
-        match only_parent(&Seen { store: self, stamp }, id) {
-            Some(parent) if self.edits_in_place(stamp, parent) => {
-                let parent = parent.copy(self.alloc())?;
-                self.delete_in_place(stamp, id, &parent)
-            }
             _ => self.carry_out(stamp, command),
         }
     }

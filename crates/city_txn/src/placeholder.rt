@@ -2,10 +2,12 @@
 ghost use Rattle.std.specs.Prelude.{◌≡◌};
 ghost use Rattle.city_txn.specs.Placeholder.{placeholder};
 
+use city_model::children::Children;
 use city_model::kept::extra::Extra;
 use city_model::object::{Body, Object};
 use city_model::object_type::ObjectType;
 use city_model::sequence::Sequence;
+use city_model::shared_body::SharedBody;
 use serde_json::Map;
 use std::alloc::Global;
 
@@ -18,12 +20,12 @@ pub fn placeholder(alloc: Global) -> Object
         unreachable!()
     };
     Object {
-        body: Body {
+        body: SharedBody::unshared(Body {
             kind: ObjectType::GenericCityObject,
             geometry: Sequence::new(alloc),
             extra,
-        },
+        }),
         parents: Sequence::new(alloc),
-        children: Sequence::new(alloc),
+        children: Children::new(alloc),
     }
 }

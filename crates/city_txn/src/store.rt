@@ -1,9 +1,8 @@
 //! The city as the open transactions have written it, and how it is put back.
 ghost use Rattle.std.specs.Prelude.{◌≡◌, ◌↔◌, IsTrue, ℕ, List, [], None, Some, OnOk, OnErr, true, false, ◌==◌, ◌&&◌, ◌||◌, is_some, option_copied, option_map, if◌then◌else◌};
 ghost use Rattle.city_model.specs.CityMap.{same_id};
-ghost use Rattle.city_model.specs.Meaning.{with_child, without_child};
 ghost use Rattle.city_txn.specs.inside.Ending.{map_at_end};
-ghost use Rattle.city_txn.specs.inside.State.{State, rewritten, is_reserved, is_begun, store_committed, store_view, MayReserve};
+ghost use Rattle.city_txn.specs.inside.State.{State, is_reserved, is_begun, store_committed, store_view, MayReserve};
 ghost use Rattle.city_txn.specs.inside.State.{SeesSame, WritesOne, OthersWritesStay, Begins, Forgets};
 ghost use Rattle.city_txn.specs.Writes.{write_of, is_by};
 
@@ -142,27 +141,6 @@ impl Store {
         let deleted = object.is_none();
         let standing = slot::standing(self.alloc, object);
         self.undo.write(&mut self.city, id, standing, deleted);
-    }
-
-    /// Adds a child to the object that was written at an id. If memory runs out,
-    /// the store is unchanged.
-    pub fn push_child(&mut self, id: &Id, child: Id) -> Result<(), OutOfMemory>
-        requires { is_some (write_of self.old.writes id.now) ≡ true }
-        ensures ok { OnOk result (WritesOne id.now
-            (option_map (rewritten (with_child child)) (write_of self.old.writes id.now)) self.old self.new) }
-        ensures err { OnErr result (self.new ≡ self.old) }
-    {
-        self.city.push_child(id, child)?;
-        Ok(())
-    }
-
-    /// Removes a child from the object that was written at an id. Doesn't allocate.
-    pub fn remove_child(&mut self, id: &Id, child: &Id)
-        requires { is_some (write_of self.old.writes id.now) ≡ true }
-        ensures { WritesOne id.now
-            (option_map (rewritten (without_child child.now)) (write_of self.old.writes id.now)) self.old self.new }
-    {
-        self.city.remove_child(id, child);
     }
 
     /// Sets what the stamp wrote at an id that it has reserved: an object, or that none is there,

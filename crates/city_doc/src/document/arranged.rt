@@ -2,6 +2,7 @@
 ghost use Rattle.std.specs.Prelude.{◌≡◌, ◌<◌, length, IfOk, IfSome, IfNone};
 ghost use Rattle.std.specs.FinMap.{entries};
 ghost use Rattle.std.specs.List.Sorted.{IsPermutation};
+ghost use Rattle.city_model.specs.Chunks.{ids_left};
 ghost use Rattle.city_model.specs.CityMap.{object_at};
 ghost use Rattle.city_model.specs.Misrelated.{IsMisrelatedAt};
 ghost use Rattle.city_model.specs.Relations.{IsRelated};
@@ -9,14 +10,16 @@ ghost use Rattle.city_doc.specs.inside.document.Arranged.{IsArranged, AreArrange
 ghost use Rattle.city_model.specs.Least.{IsLeast};
 
 use city_model::OutOfMemory;
+use city_model::children::Children;
 use city_model::city::City;
 use city_model::copied::Copied;
-use city_model::id_list::is_same_id;
+use city_model::id_list::{Ids, are_increasing, is_same_id};
 use city_model::kept::extra::Extra;
 use city_model::object::{Body, Object};
 use city_model::object_type::ObjectType;
 use city_model::relations::relations_fault;
 use city_model::sequence::Sequence;
+use city_model::shared_body::SharedBody;
 use city_model::text::Id;
 use serde_json::Map;
 use std::alloc::Global;
@@ -26,14 +29,15 @@ const FEW: usize = 64;
 
 /// Whether the ids are searched quickly: they are few, or each is above the one before it. Only the
 /// time depends on it.
-fn is_quick(ids: &Sequence<Id>) -> bool {
-    ids.len() <= FEW || ids.as_slice().is_sorted() && repeated_at(ids.as_slice()).is_none()
+fn is_quick(ids: Ids<'_>) -> bool {
+    let mut left = ids;
+    left.nth(FEW).is_none() || are_increasing(ids)
 }
 
 /// Whether all lists of ids are searched quickly. Only the time depends on it.
 fn are_quick(city: &City) -> bool {
     for (_, object) in city.iter() {
-        if !is_quick(&object.parents) || !is_quick(&object.children) {
+        if !is_quick(Ids::of(object.parents.as_slice())) || !is_quick(object.children.iter()) {
             return false;
         }
     }
@@ -54,10 +58,13 @@ fn repeated_at(ids: &[Id]) -> Option<usize>
 
 /// A copy of the ids in byte order, except that a repeated one stands first, where
 /// it is soon found.
-fn arranged_ids(alloc: Global, ids: &Sequence<Id>) -> Result<Sequence<Id>, OutOfMemory>
-    ensures { IfOk result (λ s. IsPermutation ids.now s) }
+fn arranged_ids(alloc: Global, ids: Ids<'_>) -> Result<Sequence<Id>, OutOfMemory>
+    ensures { IfOk result (λ s. IsPermutation (ids_left ids.entry) s) }
 {
-    let mut copies = ids.copy(alloc)?.into_vec();
+    let mut copies = Vec::new(alloc);
+    for id in ids {
+        copies.push(id.copy(alloc)?)?;
+    }
     copies.sort_unstable();
     if let Some(i) = repeated_at(copies.as_slice()) {
         let recurring = copies.remove(i);
@@ -84,10 +91,11 @@ fn bare_body(alloc: Global, kind: ObjectType) -> Body
 fn arranged_object(alloc: Global, object: &Object) -> Result<Object, OutOfMemory>
     ensures { IfOk result (λ o. IsArranged object.now o) }
 {
-    let parents = arranged_ids(alloc, &object.parents)?;
-    let children = arranged_ids(alloc, &object.children)?;
+    let parents = arranged_ids(alloc, Ids::of(object.parents.as_slice()))?;
+    let listed = arranged_ids(alloc, object.children.iter())?;
+    let children = Children::from_sequence(alloc, listed)?;
     Ok(Object {
-        body: bare_body(alloc, object.body.kind),
+        body: SharedBody::unshared(bare_body(alloc, object.body.get().kind)),
         parents,
         children,
     })

@@ -65,7 +65,7 @@ fn first_body<J: BodyTest>(alloc: Global, city: &City) -> Result<Option<&Id>, Ou
     ensures { IfOk result (λ o. option_map (λ id. id.now) o ≡ first_body J.test (entries city.now.1)) }
 {
     for (id, object) in city.iter() {
-        if J::judge(alloc, &object.body)? {
+        if J::judge(alloc, object.body.get())? {
             return Ok(Some(id));
         }
     }

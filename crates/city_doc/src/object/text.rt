@@ -2,7 +2,10 @@
 ghost use Rattle.std.specs.Prelude.{◌≡◌, ◌<◌, ◌^◌, ◌++◌, List, OnOk, length, Some, true, flat_map, option_copied};
 ghost use Rattle.std.specs.List.{list_all};
 ghost use Rattle.std.specs.FinMap.{entries};
+ghost use Rattle.serde_json.specs.Data.{string};
 ghost use Rattle.serde_json.specs.View.{members_view};
+ghost use Rattle.city_model.specs.Chunks.{ids_left};
+ghost use Rattle.city_tokens.specs.tree.Lists.{list_data};
 ghost use Rattle.city_model.specs.Integral.{members_integral};
 ghost use Rattle.city_model.specs.declared.object.Point as p;
 ghost use Rattle.city_doc.specs.inside.tree.Between.{members_between};
@@ -12,7 +15,7 @@ ghost use Rattle.city_doc.specs.Pool.{object_points, city_points};
 ghost use Rattle.city_doc.specs.inside.Pool.{with_points};
 ghost use Rattle.city_doc.specs.tree.Tokens.{tokens_of};
 ghost use Rattle.city_doc.specs.inside.tree.PartTokens.{tokens_of_members, tokens_of_own, listed};
-ghost use Rattle.city_doc.specs.inside.tree.ReadsBack.{OwnReadsBack};
+ghost use Rattle.city_doc.specs.inside.tree.ReadsBack.{ReadsBack, OwnReadsBack};
 ghost use Rattle.city_doc.specs.inside.tree.ReadsBack.{ReadsBackNumbered, MembersReadBack};
 
 use crate::pool::VertexPool;
@@ -20,6 +23,7 @@ use crate::shape::text::Written;
 use crate::tree::kept_members::{write_between, write_last, write_name};
 use city_model::OutOfMemory;
 use city_model::city::City;
+use city_model::id_list::Ids;
 use city_model::object::Object;
 use city_model::object_type::name;
 use city_model::sequence::Sequence;
@@ -57,6 +61,47 @@ fn write_list<T: Written>(
     list.write(pool, out)
 }
 
+/// Writes ids as an array.
+fn write_ids(ids: Ids<'_>, out: &mut Writer) -> Result<(), OutOfMemory>
+    ensures before { OnOk result (out.new.before ≡ out.old.before) }
+    ensures tokens { OnOk result (out.new.tokens
+        ≡ out.old.tokens ++ tokens_of (list_data string (ids_left ids.entry))) }
+    ensures reads { OnOk result (ReadsBack (list_data string (ids_left ids.entry))) }
+{
+    out.begin_array()?;
+    for id in ids {
+        out.string(id.as_str())?;
+    }
+    out.end_array()
+}
+
+/// Writes the kept members between two names, and ids under the second one unless there are none.
+fn write_relatives(
+    kept: &Map<String, Value>,
+    low: Option<&str>,
+    name: &str,
+    ids: Ids<'_>,
+    out: &mut Writer,
+) -> Result<(), OutOfMemory>
+    requires integral { members_integral (members_view kept.now.entries) ≡ true }
+    ensures before { OnOk result (out.new.before ≡ out.old.before) }
+    ensures tokens { OnOk result (out.new.tokens ≡ out.old.tokens
+        ++ (tokens_of_members (members_between (option_copied low.entry) (Some name.now)
+        (members_view kept.now.entries))
+        ++ tokens_of_own name.now (listed string (ids_left ids.entry)))) }
+    ensures passed { OnOk result (MembersReadBack
+        (members_between (option_copied low.entry) (Some name.now)
+        (members_view kept.now.entries))) }
+    ensures reads { OnOk result (OwnReadsBack (listed string (ids_left ids.entry))) }
+{
+    write_between(kept, low, Some(name), out)?;
+    if ids.is_empty() {
+        return Ok(());
+    }
+    out.key(name)?;
+    write_ids(ids, out)
+}
+
 /// Writes an object, each point as its number. Points that the pool doesn't have are added
 /// as they are met.
 #[tactic(auto, unfolding(crate::specs::inside::document::KeptMembers::is_kept_object))]
@@ -72,27 +117,22 @@ pub fn write_object(
     ensures reads { OnOk result (ReadsBackNumbered (λ ps. object_data ps object.now)) }
     ensures kept { OnOk result (is_kept_object object.now ≡ true) }
 {
-    let kept = object.body.extra.map();
+    let body = object.body.get();
+    let kept = body.extra.map();
     out.begin_object()?;
-    write_list(kept, None, "children", &object.children, pool, out)?;
+    write_relatives(kept, None, "children", object.children.iter(), out)?;
     write_list(
         kept,
         Some("children"),
         "geometry",
-        &object.body.geometry,
+        &body.geometry,
         pool,
         out,
     )?;
-    write_list(
-        kept,
-        Some("geometry"),
-        "parents",
-        &object.parents,
-        pool,
-        out,
-    )?;
+    let parents = Ids::of(object.parents.as_slice());
+    write_relatives(kept, Some("geometry"), "parents", parents, out)?;
     write_name(kept, Some("parents"), "type", out)?;
-    out.string(name(object.body.kind))?;
+    out.string(name(body.kind))?;
     write_last(kept, "type", out)
 }
 

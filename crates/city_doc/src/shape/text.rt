@@ -1,7 +1,7 @@
 //! Writes what names points, each point as its number.
 ghost use Rattle.std.specs.Prelude.{◌≡◌, ◌++◌, ◌∷◌, [], List, OnOk, true, Bool, flat_map};
 ghost use Rattle.std.specs.List.{list_all};
-ghost use Rattle.serde_json.specs.Data.{Data, string};
+ghost use Rattle.serde_json.specs.Data.{Data};
 ghost use Rattle.city_model.specs.declared.object.Point as p;
 ghost use Rattle.city_tokens.specs.tree.Lists.{list_data};
 ghost use Rattle.city_doc.specs.shape.Canonical.{point_data, boundaries_data, geometry_data};
@@ -18,7 +18,6 @@ use city_model::OutOfMemory;
 use city_model::object::{Geometry, Point, Shape};
 use city_model::sequence::Sequence;
 use city_model::shape::Bounds;
-use city_model::text::Text;
 use json::Writer;
 
 /// What is written as JSON, each point as its number in a pool.
@@ -49,18 +48,6 @@ impl Written for Point {
     fn write(&self, pool: &mut VertexPool, out: &mut Writer) -> Result<(), OutOfMemory> {
         let number = pool.add(*self)?;
         out.u64(number as u64)
-    }
-}
-
-impl Written for Text {
-    ghost points = { λ _. [] };
-
-    ghost written = { λ _ s. string s };
-
-    ghost is_kept = { λ _. true };
-
-    fn write(&self, _pool: &mut VertexPool, out: &mut Writer) -> Result<(), OutOfMemory> {
-        out.string(self.as_str())
     }
 }
 

@@ -1,6 +1,5 @@
 -- The plan of a command: its refusal, or its reply and the change that it writes.
-use Rattle.std.specs.Prelude.{◌≡◌, ◌==◌, ℕ, List, [], ◌∷◌, length, None, Some, Option, option_map}
-use Rattle.std.specs.Prelude.{if◌then◌else◌}
+use Rattle.std.specs.Prelude.{◌≡◌, ℕ, List, [], ◌∷◌, None, Some, Option, option_map}
 use Rattle.std.specs.Map.{keys_of}
 use Rattle.city_model.specs.declared.object.Object.{Object}
 use Rattle.city_model.specs.declared.command.Command.{Command}
@@ -29,17 +28,6 @@ pub record AreWritesOf (m : CityMap) (command : Command) (answer : Reply) (chang
 abbrev pub IsPlan : CityMap → Command → Plan → Type 0
 IsPlan m command (Refused cause) = cause_of m command ≡ Some cause
 IsPlan m command (Writes reply change) = AreWritesOf m command reply change
-
--- the id of a list of one
-abbrev pub only : List (List ℕ) → Option (List ℕ)
-only [] = None
-only (p ∷ []) = Some p
-only (p ∷ q ∷ ps) = None
-
--- the parent of an object that has no children and just one parent
-abbrev pub only_parent : Option Object → Option (List ℕ)
-only_parent None = None
-only_parent (Some o) = if length o.children == 0 then only o.parents else None
 
 -- at the parent the object that stands in the map, without the child
 abbrev pub unlinked : CityMap → List ℕ → List ℕ → List ℕ × Option Object

@@ -1,6 +1,6 @@
 //! The plan of a delete.
 ghost use Rattle.std.specs.Prelude.{◌≡◌, ◌++◌, map, option_copied, IfOk, OnOk};
-ghost use Rattle.city_model.specs.inside.Plans.{IsPlan, only_parent, unlinked};
+ghost use Rattle.city_model.specs.inside.Plans.{IsPlan, unlinked};
 ghost use Rattle.city_model.specs.Relations.{IsSound};
 ghost use Rattle.city_model.specs.declared.command.Command.{Command};
 
@@ -23,29 +23,13 @@ pub fn plan_delete<V: View>(alloc: Global, view: &V, id: &Id) -> Result<Plan, Ou
     let Some(object) = view.look(id) else {
         return no_object(alloc, id);
     };
-    if object.children.len() != 0 {
+    if !object.children.is_empty() {
         return Ok(Plan::Refused(Cause::HasChildren(id.copy(alloc)?)));
     }
     let mut writes = Writes::new(alloc);
     writes.push((id.copy(alloc)?, None))?;
     unlink_each(alloc, view, id, object.parents.as_slice(), &mut writes)?;
     Ok(Plan::Writes(Reply::Deleted, writes))
-}
-
-/// The parent of an object that has no children and just one parent. Doesn't allocate.
-///
-/// A delete of the object removes it, and writes the parent without the child.
-pub fn only_parent<'v, V: View>(view: &'v V, id: &Id) -> Option<&'v Id>
-    ensures { option_copied result ≡ only_parent (V.map view.now id.now) }
-{
-    let object = view.look(id)?;
-    if object.children.len() != 0 {
-        return None;
-    }
-    match object.parents.as_slice() {
-        [parent] => Some(parent),
-        _ => None,
-    }
 }
 
 /// Adds each parent, without the child, to the writes.

@@ -41,7 +41,7 @@ pub fn plan_put<V: View>(alloc: Global, view: &V, id: &Id, body: &Body) -> Resul
             Ok(Plan::Writes(Reply::Added, writes))
         }
         Some(there) => {
-            if !is_same(there.body.kind, body.kind) {
+            if !is_same(there.body.get().kind, body.kind) {
                 return Ok(Plan::Refused(Cause::TypeFixed(id.copy(alloc)?)));
             }
             let object = with_body(alloc, there, body)?;

@@ -13,6 +13,7 @@ use Rattle.city_tokens.specs.declared.object.ObjectParts.{ObjectParts}
 use Rattle.city_tokens.specs.declared.objects.Listing.{Listing}
 use Rattle.city_tokens.specs.object.Bodies.{without_object_members, object_of}
 use Rattle.city_tokens.specs.inside.Geometries.{IsGeometry}
+use Rattle.city_tokens.specs.inside.Positions.{IsPlaced}
 use Rattle.city_tokens.specs.inside.Standing.{Pairs, IsSlot, IsListSlot, IsString}
 use Rattle.city_tokens.specs.tree.Members.{kept_if}
 
@@ -61,5 +62,5 @@ AreObjects es d = (found : Members) × (d ≡ object found) × IsListing es foun
 -- an object with points in the places of its positions, whose body has no fault
 abbrev pub IsPlacedObject : List Point → List ℕ × Object → List ℕ × Object → Type 0
 IsPlacedObject points unplaced placed =
-    (placed.0 ≡ unplaced.0) × ((d : Data) → IsObject unplaced.1 d → object_of points d ≡ Some placed.1)
+    (placed.0 ≡ unplaced.0) × IsPlaced IsObject (object_of points) unplaced.1 placed.1
     × (body_fault placed.1.body ≡ None)

@@ -1,5 +1,5 @@
 -- A command done on the store, for a transaction that holds its locks.
-use Rattle.std.specs.Prelude.{◌≡◌, ◌==◌, ◌&&◌, ℕ, Bool, true, List, length, Result, is_ok, IfOk, IsOk}
+use Rattle.std.specs.Prelude.{◌≡◌, ℕ, Bool, true, List, Result, is_ok, IfOk, IsOk}
 use Rattle.std.specs.Prelude.{if◌then◌else◌}
 use Rattle.std.specs.Map.{keys_of}
 use Rattle.city_model.specs.CityMap.{has_id}
@@ -13,8 +13,7 @@ use Rattle.city_model.specs.Standing.{locks_id, locks_id_exclusively}
 use Rattle.city_model.specs.inside.CommandParts.{answer}
 use Rattle.city_txn.specs.inside.State.{State, store_own, store_written, store_committed, store_view}
 use Rattle.city_txn.specs.inside.State.{MayReserve, Touches}
-use Rattle.city_txn.specs.Writes.{write_of, is_by}
-use Rattle.city_txn.specs.UndoLog.{log_of, written_after, marks_with}
+use Rattle.city_txn.specs.UndoLog.{written_after, marks_with}
 use Rattle.city_txn.specs.inside.Done.{own_done, finds_mark}
 
 -- whether the change writes the id
@@ -24,10 +23,6 @@ plans change id = has_id (keys_of change) id
 -- what the transaction sees
 abbrev pub seen : State → ℕ → View
 seen v stamp = record { map = store_view v stamp; marks = marks_with (store_committed v) (store_written v stamp).1 }
-
--- whether the transaction has written the id, and no mark needs that write as it is
-abbrev pub edits_in_place : State → ℕ → List ℕ → Bool
-edits_in_place v stamp id = is_by stamp (write_of v.writes id) && (length (log_of v.logs stamp) == 0)
 
 -- the transaction is open and sees a sound city, and no other has reserved an id that the command locks
 pub record MayPerform (v : State) (stamp : ℕ) (command : Command) : Type 0 where

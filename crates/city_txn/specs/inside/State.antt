@@ -1,8 +1,7 @@
 -- What contracts see of the store: the committed city, and for each open transaction what it wrote and its undo log.
-use Rattle.std.specs.Prelude.{◌≡◌, ◌==◌, ◌&&◌, ◌||◌, ℕ, Bool, true, false, List, [], Option, is_some, option_map}
+use Rattle.std.specs.Prelude.{◌≡◌, ◌==◌, ◌&&◌, ◌||◌, ℕ, Bool, true, false, List, [], Option, is_some}
 use Rattle.std.specs.Prelude.{if◌then◌else◌}
 use Rattle.city_model.specs.declared.frame.Frame.{Frame}
-use Rattle.city_model.specs.declared.object.Object.{Object}
 use Rattle.city_model.specs.CityMap.{Objects, CityMap, object_at, has_id, same_id}
 use Rattle.city_txn.specs.inside.UndoState.{Reservations, listed_by, reservations_of}
 use Rattle.city_txn.specs.UndoLog.{OwnWrites, Written, Logs, log_of, marked, has_before}
@@ -25,10 +24,6 @@ is_begun v stamp = is_some (listed_by v.opened stamp)
 -- whether the transaction has reserved the id
 abbrev pub is_reserved : State → ℕ → List ℕ → Bool
 is_reserved v stamp id = has_id (reservations_of v.opened stamp) id
-
--- the write with another object in place of one that it leaves
-abbrev pub rewritten : (Object → Object) → Write → Write
-rewritten f w = (w.0, option_map f w.1)
 
 -- what the transaction wrote at each id
 abbrev pub store_own : State → ℕ → OwnWrites

@@ -4,7 +4,7 @@ use Rattle.std.specs.List.Sorted.{IsStrictlySortedBy}
 use Rattle.std.specs.Map.{keys_of}
 use Rattle.std.proofs.lemmas.Iterator.Adapters.{YieldsList-from_vec}
 use Rattle.std.proofs.lemmas.List.{append-nil}
-use Rattle.city_model.proofs.Cloned.{collected}
+use Rattle.city_model.proofs.MapsMade.{collected}
 use Rattle.city_model.proofs.copied.copy_map.Goals as goal
 
 pub returns : goal.returns

@@ -1,7 +1,8 @@
-use Rattle.std.proofs.Common.{◌≡◌, drop}
+use Rattle.std.proofs.Common.{◌≡◌}
+use Rattle.city_model.specs.Chunks.{ids_left}
 use Rattle.city_model.specs.inside.RelationTests.{are_increasing, are_increasing_from}
 use Rattle.city_model.proofs.id_list.are_increasing.Given as goal
 
 -- the answer is that of the ids that are left
 abbrev pub invariant-loop-id : goal.invariant-loop-id
-invariant-loop-id l = are_increasing l.ids ≡ are_increasing_from l.last (drop l.id-index l.rest)
+invariant-loop-id l = are_increasing (ids_left l.fn.ids) ≡ are_increasing_from l.last (ids_left l.id-iterator)

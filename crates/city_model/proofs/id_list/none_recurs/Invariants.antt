@@ -1,9 +1,10 @@
 use Rattle.std.proofs.Common.{◌≡◌, length}
+use Rattle.city_model.specs.Chunks.{ids_left}
 use Rattle.city_model.specs.inside.RelationTests.{are_distinct}
 use Rattle.city_model.proofs.id_list.none_recurs.Given as goal
 
-abbrev pub invariant-loop-left : goal.invariant-loop-left
-invariant-loop-left l = are_distinct l.ids ≡ are_distinct l.left
+abbrev pub invariant-loop-first : goal.invariant-loop-first
+invariant-loop-first l = are_distinct (ids_left l.fn.ids) ≡ are_distinct (ids_left l.left)
 
-abbrev pub decreases-loop-left : goal.decreases-loop-left
-decreases-loop-left l = length l.left
+abbrev pub decreases-loop-first : goal.decreases-loop-first
+decreases-loop-first l = length (ids_left l.left)

@@ -1,5 +1,7 @@
-use Rattle.std.proofs.Common.{ap, sym, ◌∙◌}
+use Rattle.std.proofs.Common.{is_some, ap, sym, ◌∙◌}
 use Rattle.std.specs.FinMap.{entries}
+use Rattle.city_model.specs.declared.object.Body.{Body}
+use Rattle.city_model.specs.Shells.{body_fault}
 use Rattle.city_model.proofs.Lawfulness.{all_faultless, faultless_by, faultless_all, faulty_entry}
 use Rattle.city_model.proofs.is_lawful.is_faultless.Goals as goal
 
@@ -7,7 +9,8 @@ pub returns-then-faulty-clause-only_then : goal.returns-then-faulty-clause-only_
 returns-then-faulty-clause-only_then c =
     λ faultless. faulty_entry (entries c.args.city.now.1) _ (c.in-Some.field-0-0.now, c.in-Some.object.now)
     c.next.new.self c.loop-object.invariant c.in-Some.ensures.steps
-    (sym c.in_ok-faulty.ensures ∙ c.if-faulty.true) (faultless_all c.args.city.now.1 faultless)
+    (ap (λ (b : Body). is_some (body_fault b)) (sym c.get.ensures) ∙ sym c.in_ok-faulty.ensures
+    ∙ c.if-faulty.true) (faultless_all c.args.city.now.1 faultless)
 
 pub returns-clause-faultless : goal.returns-clause-faultless
 returns-clause-faultless c =

@@ -1,9 +1,10 @@
-use Rattle.std.proofs.Common.{◌≡◌, drop}
+use Rattle.std.proofs.Common.{◌≡◌}
 use Rattle.std.specs.List.{list_all}
+use Rattle.city_model.specs.Chunks.{ids_left}
 use Rattle.city_model.specs.CityMap.{object_at, has_id, parents_of}
 use Rattle.city_model.proofs.relations.children_fit.Given as goal
 
 abbrev pub invariant-loop-child : goal.invariant-loop-child
 invariant-loop-child l =
     list_all (λ d. has_id (parents_of (object_at l.city.1 d)) l.id) l.object.children
-    ≡ list_all (λ d. has_id (parents_of (object_at l.city.1 d)) l.id) (drop l.child-index l.object.children)
+    ≡ list_all (λ d. has_id (parents_of (object_at l.city.1 d)) l.id) (ids_left l.child-iterator)

@@ -2,12 +2,14 @@ use Rattle.std.proofs.Common.{[], sym, ◌∙◌, subst, nat_cmp}
 use Rattle.std.specs.BTreeMap.{IsFromIterResult}
 use Rattle.std.specs.Cmp.Lexicographic.{slice_cmp}
 use Rattle.std.proofs.lemmas.Iterator.Adapters.{fact_from_collect, YieldsList-from_vec}
+use Rattle.city_model.proofs.MapsMade.{made}
 use Rattle.city_tokens.specs.inside.Faultless.{AreFaultless}
 use Rattle.city_tokens.specs.inside.Objects.{IsPlacedObject}
 use Rattle.city_tokens.specs.inside.Positions.{points_of}
 use Rattle.city_tokens.specs.inside.Standing.{Pairs}
 use Rattle.city_tokens.proofs.FaultlessObjects.{faultless_each}
-use Rattle.city_tokens.proofs.ListedObjects.{given, made, listed_entries}
+use Rattle.city_tokens.proofs.ListedObjects.{listed_entries}
+use Rattle.city_tokens.proofs.Options.{given}
 use Rattle.city_tokens.proofs.placing.placed_objects.Goals as goal
 
 pub returns : goal.returns

@@ -5,7 +5,7 @@ use Rattle.std.specs.List.Sorted.{IsStrictlySortedBy}
 use Rattle.std.specs.Map.{keys_of}
 use Rattle.std.proofs.lemmas.Iterator.Adapters.{YieldsList-from_vec}
 use Rattle.std.proofs.lemmas.List.{append-nil}
-use Rattle.city_model.proofs.Cloned.{collected}
+use Rattle.city_model.proofs.MapsMade.{collected}
 use Rattle.city_model.proofs.Objects.{entries_ascend}
 use Rattle.city_doc.specs.inside.document.Arranged.{AreArranged}
 use Rattle.city_doc.proofs.document.ArrangedCities.{IsArranging, keys_arranging, arranging_more, all_arranged}

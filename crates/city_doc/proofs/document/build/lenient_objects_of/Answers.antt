@@ -5,7 +5,7 @@ use Rattle.std.specs.Map.{keys_of}
 use Rattle.std.proofs.lemmas.Iterator.Adapters.{YieldsList-from_vec}
 use Rattle.std.proofs.lemmas.List.{append-nil}
 use Rattle.serde_json.specs.View.{members_view}
-use Rattle.city_model.proofs.Cloned.{collected}
+use Rattle.city_model.proofs.MapsMade.{collected}
 use Rattle.city_doc.proofs.document.Objects.{IsReading, begins, goes_on, stops, ends}
 use Rattle.city_doc.proofs.document.build.lenient_objects_of.Goals as goal
 

@@ -1,4 +1,5 @@
-use Rattle.city_tokens.proofs.ListedObjects.{given, listed}
+use Rattle.city_tokens.proofs.ListedObjects.{listed}
+use Rattle.city_tokens.proofs.Options.{given}
 use Rattle.city_tokens.proofs.objects.ListingOwn.take.Goals as goal
 
 pub returns : goal.returns

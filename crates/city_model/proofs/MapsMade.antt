@@ -1,0 +1,73 @@
+-- A map from ids that is made of a list has the pairs of the list as if they were put in one after another.
+use Rattle.std.proofs.Common.{◌≡◌, ℕ, List, [], ◌∷◌, Option, Some, None, Ordering, BTreeMap, cond, nat_cmp, refl, sym, ap, ◌∙◌}
+use Rattle.std.specs.Prelude.{T, IfOk}
+use Rattle.std.specs.Bool.{⊤}
+use Rattle.std.specs.declared.result.Result.{Result}
+use Rattle.std.specs.declared.result.Result.TheVariants.{Ok}
+use Rattle.std.specs.Iterator.{DrainsIf}
+use Rattle.std.specs.List.Sorted.{IsStrictlySortedBy}
+use Rattle.std.specs.Map.{keys_of, update_all}
+use Rattle.std.specs.BTreeMap.{IsFromIterResult}
+use Rattle.std.specs.Cmp.{eq_by_cmp_equiv}
+use Rattle.std.specs.Cmp.Lexicographic.{slice_cmp}
+use Rattle.std.specs.FinMap.{find, is_sorted, put}
+use Rattle.std.specs.FinMap.Entries.{is_sorted-put, find-put, same_entries}
+use Rattle.std.specs.Ordering.{eq_by_cmp}
+use Rattle.std.proofs.lemmas.Cmp.{nat_list_cmp_total}
+use Rattle.std.proofs.lemmas.Iterator.{YieldsList}
+use Rattle.std.proofs.lemmas.Iterator.Adapters.{fact_from_collect}
+use Rattle.std.proofs.lemmas.Map.Keys.{IsDistinct-from_sorted}
+use Rattle.std.proofs.lemmas.Map.Lookups.{exact_bytes}
+use Rattle.std.proofs.lemmas.Map.Made.{update_all_none}
+use Rattle.std.proofs.lemmas.Result.{IfOk-at_ok}
+use Rattle.city_model.proofs.Ids.{same_id_back}
+use Rattle.city_model.proofs.Objects.{in_order, find_is_lookup}
+
+abbrev cmp : List ℕ → List ℕ → Ordering
+cmp = slice_cmp nat_cmp
+
+module _ {X : Type 0} where
+  -- the entries, with these put in one after another
+  abbrev pub put_each : List (List ℕ × X) → List (List ℕ × X) → List (List ℕ × X)
+  put_each [] es = es
+  put_each (x ∷ xs) es = put_each xs (put cmp x.0 x.1 es)
+
+  sorted_each : (xs es : List (List ℕ × X)) → T (is_sorted cmp es) → T (is_sorted cmp (put_each xs es))
+  sorted_each [] es h = h
+  sorted_each (x ∷ xs) es h =
+      sorted_each xs (put cmp x.0 x.1 es) (is_sorted-put cmp nat_list_cmp_total x.0 x.1 es h)
+
+  found_each : (xs es : List (List ℕ × X)) (q : List ℕ)
+      → find cmp q (put_each xs es) ≡ update_all (eq_by_cmp cmp) (λ p. find cmp p es) xs q
+  found_each [] es q = refl
+  found_each (x ∷ xs) es q =
+      found_each xs (put cmp x.0 x.1 es) q
+      ∙ ap (λ f. update_all (eq_by_cmp cmp) f xs q) (λ i p. (find-put cmp nat_list_cmp_total p x.0 x.1 es
+      ∙ ap (λ b. cond b (Some x.1) (find cmp p es)) (same_id_back p x.0)) i)
+
+  -- the entries of the map are the sorted ones in which each id is found as in the list
+  entries_made : (xs es : List (List ℕ × X)) (m : BTreeMap (List ℕ) X) → IsFromIterResult cmp xs m
+      → T (is_sorted cmp es) → ((q : List ℕ) → find cmp q es ≡ update_all (eq_by_cmp cmp) (λ p. None) xs q)
+      → m.entries ≡ es
+  entries_made xs es m made sorted found =
+      same_entries cmp nat_list_cmp_total exact_bytes m.entries es (in_order cmp m.entries made.1) sorted
+      (λ q. find_is_lookup cmp q m.entries ∙ made.0 q ∙ sym (found q))
+
+  pub made : (xs : List (List ℕ × X)) (m : BTreeMap (List ℕ) X) → IsFromIterResult cmp xs m → m.entries ≡ put_each xs []
+  made xs m h = entries_made xs (put_each xs []) m h (sorted_each xs [] tt) (found_each xs [])
+
+  made_of_sorted : (es : List (List ℕ × X)) (m : BTreeMap (List ℕ) X) → IsStrictlySortedBy cmp (keys_of es)
+      → IsFromIterResult cmp es m → m.entries ≡ es
+  made_of_sorted es m ascend h =
+      entries_made es es m h (in_order cmp es ascend) (λ q. find_is_lookup cmp q es
+      ∙ sym (update_all_none (eq_by_cmp_equiv nat_list_cmp_total) (eq_by_cmp cmp) (λ x y. refl) es q
+      (IsDistinct-from_sorted cmp (keys_of es) ascend)))
+
+-- what `collect` makes of sorted entries
+pub collected : {S X E : Type 0} {steps : S → Option (List ℕ × X) → S → Type 0} {s : S} (es : List (List ℕ × X))
+    (m : BTreeMap (List ℕ) X) (r : Result (BTreeMap (List ℕ) X) E) → r ≡ Ok m
+    → IfOk r (λ v. (xs : List (List ℕ × X)) × DrainsIf steps ⊤ s xs × IsFromIterResult cmp xs v)
+    → YieldsList steps (λ x. x) s es → IsStrictlySortedBy cmp (keys_of es) → m.entries ≡ es
+collected es m r is ran all ascend =
+    made_of_sorted es m ascend (IfOk-at_ok (IsFromIterResult cmp es) is
+    (fact_from_collect (IsFromIterResult cmp) r ran all))
