@@ -117,6 +117,13 @@ def deep_edits(count):
     return document, scripts
 
 
+def long_body(count):
+    """Scripts that detach and attach parts of one building which has many attributes."""
+    document, scripts = deep_edits(count)
+    document["CityObjects"]["building"]["attributes"] = {name: 1 for name in shuffled(16 * count)}
+    return document, scripts
+
+
 KINDS = {
     unordered_children: 16_000,
     unordered_parents: 16_000,
@@ -130,6 +137,7 @@ KINDS = {
     attached_children: 127,
     deleted_children: 255,
     deep_edits: 200,
+    long_body: 200,
 }
 
 

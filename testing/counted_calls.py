@@ -1,0 +1,73 @@
+#!/usr/bin/env python3
+"""Counts the allocations of cityed for texts, and for texts four times as long.
+
+    python3 testing/counted_calls.py PROGRAM
+
+PROGRAM is a built cityed. Needs a C compiler named cc, for count.c. The texts are those of bench/growth.py, an eighth
+as long. Four times the text may take 4.5 times the allocations and 4.5 times the bytes that they ask for; a road
+without members may take two allocations, for its id and its body, and a tenth, since the nodes of a city's map are
+full. Prints one line for each kind, and ends with status 1 where one took more.
+"""
+
+import json
+import os
+import subprocess
+import sys
+import tempfile
+
+HERE = os.path.dirname(os.path.abspath(__file__))
+sys.path.insert(0, os.path.join(HERE, "..", "bench"))
+import growth  # noqa: E402
+
+GREATEST = 4.5
+EACH_ROAD = 2.1
+OF_AN_EMPTY_RUN = 100
+
+
+class Counted:
+    """A built program whose allocations are counted, which count.c does."""
+
+    def __init__(self, path, folder):
+        self.path, self.folder = os.path.abspath(path), folder
+        self.library = os.path.join(folder, "count.so")
+        source = os.path.join(HERE, "count.c")
+        subprocess.run(["cc", "-O1", "-shared", "-fPIC", "-o", self.library, source, "-ldl"], check=True)
+
+    def counts(self, document, scripts):
+        """How many allocations a run makes, and how many bytes they ask for."""
+        model, edits, told = (os.path.join(self.folder, name) for name in ("model", "scripts", "told"))
+        for name, tree in ((model, document), (edits, scripts)):
+            with open(name, "w", encoding="utf-8") as file:
+                json.dump(tree, file, separators=(",", ":"))
+        with open(told, "wb") as file:
+            file.write(bytes(16))
+        variables = {**os.environ, "LD_PRELOAD": self.library, "COUNTED": told}
+        silent = {"stdout": subprocess.DEVNULL, "stderr": subprocess.DEVNULL}
+        subprocess.run([self.path, model, edits], check=False, env=variables, timeout=120, **silent)
+        with open(told, "rb") as file:
+            return [int.from_bytes(file.read(8), sys.byteorder) for _ in range(2)]
+
+
+def main():
+    if len(sys.argv) != 2:
+        print(__doc__)
+        return 2
+    kept = True
+    with tempfile.TemporaryDirectory() as folder:
+        program = Counted(sys.argv[1], folder)
+        for kind, count in growth.KINDS.items():
+            few, many = (program.counts(*kind(size)) for size in (count // 8, count // 2))
+            times = [more / less for less, more in zip(few, many)]
+            right = max(times) <= GREATEST
+            if kind is growth.many_objects:
+                right = right and few[0] <= EACH_ROAD * (count // 8) + OF_AN_EMPTY_RUN
+                right = right and many[0] <= EACH_ROAD * (count // 2) + OF_AN_EMPTY_RUN
+            told = ", ".join(f"{less:,} to {more:,} {what}" for less, more, what in zip(few, many, ("calls", "bytes")))
+            told = f"{kind.__name__}: {told}, {times[0]:.2f} and {times[1]:.2f} times"
+            print(f"{'' if right else 'WRONG: '}{told}", flush=True)
+            kept = kept and right
+    return 0 if kept else 1
+
+
+if __name__ == "__main__":
+    sys.exit(main())
