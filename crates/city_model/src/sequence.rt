@@ -1,7 +1,5 @@
 //! A list that contracts see as its items.
 ghost use Rattle.std.specs.Prelude.{◌≡◌, [], ◌∷◌, ◌++◌, length, option_to_list, IfNone, IfOk, OnOk, OnErr};
-ghost use Rattle.std.specs.Fn.{CalledAt};
-ghost use Rattle.std.specs.List.Retain.{IsFiltered};
 
 use crate::OutOfMemory;
 use std::alloc::Global;
@@ -85,15 +83,5 @@ impl<T> Sequence<T> {
         ensures none { IfNone result (self.old ≡ []) }
     {
         self.items.pop()
-    }
-
-    /// Keeps the items for which the test is true, in their order. Doesn't allocate.
-    pub fn retain<F: FnMut(&T) -> bool>(&mut self, keep: F)
-    where
-        T: Drop,
-        requires { F.IsAlwaysCallable keep }
-        ensures { IsFiltered (CalledAt F.FnMut) keep self.old self.new }
-    {
-        self.items.retain(keep);
     }
 }
