@@ -6,7 +6,8 @@
 PROGRAM is a built cityed. Needs a C compiler named cc, for count.c. The texts are those of bench/growth.py, an eighth
 as long. Four times the text may take 4.5 times the allocations and 4.5 times the bytes that they ask for; a road
 without members may take two allocations, for its id and its body, and a tenth, since the nodes of a city's map are
-full. Prints one line for each kind, and ends with status 1 where one took more.
+full. Each script has to commit, and the two kinds that have a fault have to be refused. Prints one line for each
+kind, and ends with status 1 where one took more or ended otherwise.
 """
 
 import json
@@ -22,6 +23,7 @@ import growth  # noqa: E402
 GREATEST = 4.5
 EACH_ROAD = 2.1
 OF_AN_EMPTY_RUN = 100
+REFUSED = (growth.repeated_child, growth.open_solid)
 
 
 class Counted:
@@ -33,8 +35,9 @@ class Counted:
         source = os.path.join(HERE, "count.c")
         subprocess.run(["cc", "-O1", "-shared", "-fPIC", "-o", self.library, source, "-ldl"], check=True)
 
-    def counts(self, document, scripts):
-        """How many allocations a run makes, and how many bytes they ask for."""
+    def counts(self, kind, size):
+        """How many allocations a run makes, how many bytes they ask for, and whether it ended as it should."""
+        document, scripts = kind(size)
         model, edits, told = (os.path.join(self.folder, name) for name in ("model", "scripts", "told"))
         for name, tree in ((model, document), (edits, scripts)):
             with open(name, "w", encoding="utf-8") as file:
@@ -42,10 +45,14 @@ class Counted:
         with open(told, "wb") as file:
             file.write(bytes(16))
         variables = {**os.environ, "LD_PRELOAD": self.library, "COUNTED": told}
-        silent = {"stdout": subprocess.DEVNULL, "stderr": subprocess.DEVNULL}
-        subprocess.run([self.path, model, edits], check=False, env=variables, timeout=120, **silent)
+        ran = subprocess.run([self.path, model, edits], capture_output=True, env=variables, timeout=120)
+        lines = ran.stdout.splitlines()
+        committed = ran.returncode == 0 and len(lines) == len(scripts) + 1
+        committed = committed and all(json.loads(line)["outcome"] == "committed" for line in lines[:-1])
+        refused = ran.returncode == 1 and ran.stdout == b"" and b"model: " in ran.stderr
         with open(told, "rb") as file:
-            return [int.from_bytes(file.read(8), sys.byteorder) for _ in range(2)]
+            calls, asked_for = (int.from_bytes(file.read(8), sys.byteorder) for _ in range(2))
+        return calls, asked_for, refused if kind in REFUSED else committed
 
 
 def main():
@@ -56,9 +63,9 @@ def main():
     with tempfile.TemporaryDirectory() as folder:
         program = Counted(sys.argv[1], folder)
         for kind, count in growth.KINDS.items():
-            few, many = (program.counts(*kind(size)) for size in (count // 8, count // 2))
-            times = [more / less for less, more in zip(few, many)]
-            right = max(times) <= GREATEST
+            few, many = (program.counts(kind, size) for size in (count // 8, count // 2))
+            times = [more / max(less, 1) for less, more in zip(few[:2], many)]
+            right = max(times) <= GREATEST and few[2] and many[2]
             if kind is growth.many_objects:
                 right = right and few[0] <= EACH_ROAD * (count // 8) + OF_AN_EMPTY_RUN
                 right = right and many[0] <= EACH_ROAD * (count // 2) + OF_AN_EMPTY_RUN
