@@ -231,6 +231,55 @@ def random_texts(program, seed, count):
     return count
 
 
+def long_lists(program, seed, count):
+    """Lawful scripts that attach, detach, delete and put parts of two buildings of up to 80 children."""
+    choose = random.Random(seed)
+    for _ in range(count):
+        names = [f"part-{number:02}" for number in range(80)]
+        choose.shuffle(names)
+        parents = {name: choose.choice((["a"], ["b"], ["a", "b"])) for name in names[: choose.randrange(81)]}
+        objects = {name: {"type": "BuildingPart", "parents": above} for name, above in parents.items()}
+        for building in "ab":
+            children = [name for name, above in parents.items() if building in above]
+            objects[building] = {"type": "Building", "children": children}
+        document = json.dumps({**json.loads(EMPTY), "CityObjects": objects})
+        scripts = []
+        for _ in range(6):
+            commands, after = long_list_commands(choose, names, parents)
+            end = choose.choice(("commit", "commit", "abort"))
+            parents = after if end == "commit" else parents
+            scripts.append({"name": "s", "commands": [*commands, end]})
+        program.compare(document.encode(), json.dumps(scripts).encode())
+    return count
+
+
+def long_list_commands(choose, names, parents):
+    """Commands that none refuses, as each part's parents are now, with marks; and the parents afterwards."""
+    commands, marked, parents = [], None, dict(parents)
+    for _ in range(choose.randrange(200)):
+        name, building, kind = choose.choice(names), choose.choice("ab"), choose.randrange(12)
+        above = parents.get(name, [])
+        if kind == 0:
+            commands.append({"mark": "m"})
+            marked = dict(parents)
+        elif kind == 1 and marked is not None:
+            commands.append({"back": "m"})
+            parents = dict(marked)
+        elif kind == 2:
+            commands.append({"read": building})
+        elif kind == 3 and above:
+            commands.append({"delete": name})
+            del parents[name]
+        elif building not in above:
+            new = [] if above else [{"put": name, "object": {"type": "BuildingPart"}}]
+            commands += [*new, {"attach": name, "parent": building}]
+            parents[name] = [*above, building]
+        elif len(above) == 2:
+            commands.append({"detach": name, "parent": building})
+            parents[name] = [other for other in above if other != building]
+    return commands, parents
+
+
 def random_workers(program, seed, count):
     """Random lawful documents and scripts, run by several workers."""
     choose = random.Random(seed)
@@ -307,6 +356,7 @@ def main():
         tries.append(("verdicts", lambda: verdicts(program)))
         tries.append(("named_faults", lambda: named_faults(program)))
         tries.append(("random_texts", lambda: random_texts(program, asked.seed, asked.runs)))
+        tries.append(("long_lists", lambda: long_lists(program, asked.seed, asked.runs // 10)))
         tries.append(("random_workers", lambda: random_workers(program, asked.seed, asked.runs // 4)))
         tries.append(("contended_workers", lambda: contended_workers(program, asked.seed, asked.runs // 20)))
         for name, attempt in tries:
