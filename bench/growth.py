@@ -109,10 +109,20 @@ def deleted_children(count):
 def deep_edits(count):
     """Scripts that detach and attach parts of one building which has many."""
     document, _ = unordered_children(16 * count)
-    parts = document["CityObjects"]["building"]["children"][:count]
+    parts = document["CityObjects"]["building"]["children"][::16]
     document["CityObjects"]["other"] = {"type": "Building"}
     scripts = [
         script([{"attach": part, "parent": "other"}, {"detach": part, "parent": "building"}]) for part in parts
+    ]
+    return document, scripts
+
+
+def many_parents(count):
+    """Scripts that detach and attach one part which has many parents."""
+    document, _ = unordered_parents(16 * count)
+    buildings = document["CityObjects"]["part"]["parents"][::16]
+    scripts = [
+        script([{"detach": "part", "parent": building}, {"attach": "part", "parent": building}]) for building in buildings
     ]
     return document, scripts
 
@@ -137,6 +147,7 @@ KINDS = {
     attached_children: 127,
     deleted_children: 255,
     deep_edits: 200,
+    many_parents: 200,
     long_body: 200,
 }
 

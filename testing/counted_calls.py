@@ -3,7 +3,7 @@
 
     python3 testing/counted_calls.py PROGRAM
 
-PROGRAM is a built cityed. Needs a C compiler named cc, for count.c. The texts are those of bench/growth.py, an eighth
+PROGRAM is a built cityed. Needs a C compiler named cc, for count.c. The texts are those of bench/growth.py, a third
 as long. Four times the text may take 4.5 times the allocations and 4.5 times the bytes that they ask for; a road
 without members may take two allocations, for its id and its body, and a tenth, since the nodes of a city's map are
 full. Each script has to commit, and the two kinds that have a fault have to be refused. Prints one line for each
@@ -63,12 +63,12 @@ def main():
     with tempfile.TemporaryDirectory() as folder:
         program = Counted(sys.argv[1], folder)
         for kind, count in growth.KINDS.items():
-            few, many = (program.counts(kind, size) for size in (count // 8, count // 2))
+            few, many = (program.counts(kind, size) for size in (count // 3, count // 3 * 4))
             times = [more / max(less, 1) for less, more in zip(few[:2], many)]
             right = max(times) <= GREATEST and few[2] and many[2]
             if kind is growth.many_objects:
-                right = right and few[0] <= EACH_ROAD * (count // 8) + OF_AN_EMPTY_RUN
-                right = right and many[0] <= EACH_ROAD * (count // 2) + OF_AN_EMPTY_RUN
+                right = right and few[0] <= EACH_ROAD * (count // 3) + OF_AN_EMPTY_RUN
+                right = right and many[0] <= EACH_ROAD * (count // 3 * 4) + OF_AN_EMPTY_RUN
             told = ", ".join(f"{less:,} to {more:,} {what}" for less, more, what in zip(few, many, ("calls", "bytes")))
             told = f"{kind.__name__}: {told}, {times[0]:.2f} and {times[1]:.2f} times"
             print(f"{'' if right else 'WRONG: '}{told}", flush=True)

@@ -232,20 +232,26 @@ def random_texts(program, seed, count):
 
 
 def long_lists(program, seed, count):
-    """Lawful scripts that attach, detach, delete and put parts of two buildings of up to 80 children."""
+    """Lawful scripts that attach, detach, delete and put parts, where the lists of two objects have up to 80 ids.
+
+    Two buildings have many parts, or two parts many buildings.
+    """
     choose = random.Random(seed)
     for _ in range(count):
-        names = [f"part-{number:02}" for number in range(80)]
-        choose.shuffle(names)
-        parents = {name: choose.choice((["a"], ["b"], ["a", "b"])) for name in names[: choose.randrange(81)]}
-        objects = {name: {"type": "BuildingPart", "parents": above} for name, above in parents.items()}
-        for building in "ab":
-            children = [name for name, above in parents.items() if building in above]
+        parts, buildings = ([f"{kind}-{number:02}" for number in range(size)] for kind, size in
+                            zip(("part", "building"), choose.choice(((80, 2), (2, 80)))))
+        choose.shuffle(parts)
+        choose.shuffle(buildings)
+        there = choose.sample(parts, choose.randrange(len(parts) + 1))
+        parents = {part: choose.sample(buildings, choose.randint(1, len(buildings))) for part in there}
+        objects = {part: {"type": "BuildingPart", "parents": above} for part, above in parents.items()}
+        for building in buildings:
+            children = [part for part, above in parents.items() if building in above]
             objects[building] = {"type": "Building", "children": children}
         document = json.dumps({**json.loads(EMPTY), "CityObjects": objects})
         scripts = []
         for _ in range(6):
-            commands, after = long_list_commands(choose, names, parents)
+            commands, after = long_list_commands(choose, parts, buildings, parents)
             end = choose.choice(("commit", "commit", "abort"))
             parents = after if end == "commit" else parents
             scripts.append({"name": "s", "commands": [*commands, end]})
@@ -253,30 +259,30 @@ def long_lists(program, seed, count):
     return count
 
 
-def long_list_commands(choose, names, parents):
+def long_list_commands(choose, parts, buildings, parents):
     """Commands that none refuses, as each part's parents are now, with marks; and the parents afterwards."""
     commands, marked, parents = [], None, dict(parents)
     for _ in range(choose.randrange(200)):
-        name, building, kind = choose.choice(names), choose.choice("ab"), choose.randrange(12)
-        above = parents.get(name, [])
+        part, building, kind = choose.choice(parts), choose.choice(buildings), choose.randrange(24)
+        above = parents.get(part, [])
         if kind == 0:
             commands.append({"mark": "m"})
             marked = dict(parents)
         elif kind == 1 and marked is not None:
             commands.append({"back": "m"})
             parents = dict(marked)
-        elif kind == 2:
-            commands.append({"read": building})
-        elif kind == 3 and above:
-            commands.append({"delete": name})
-            del parents[name]
+        elif kind < 4:
+            commands.append({"read": choose.choice((building, part)) if above else building})
+        elif kind < 6 and above:
+            commands.append({"delete": part})
+            del parents[part]
         elif building not in above:
-            new = [] if above else [{"put": name, "object": {"type": "BuildingPart"}}]
-            commands += [*new, {"attach": name, "parent": building}]
-            parents[name] = [*above, building]
-        elif len(above) == 2:
-            commands.append({"detach": name, "parent": building})
-            parents[name] = [other for other in above if other != building]
+            new = [] if above else [{"put": part, "object": {"type": "BuildingPart"}}]
+            commands += [*new, {"attach": part, "parent": building}]
+            parents[part] = [*above, building]
+        elif len(above) > 1:
+            commands.append({"detach": part, "parent": building})
+            parents[part] = [other for other in above if other != building]
     return commands, parents
 
 

@@ -25,7 +25,7 @@ use Rattle.city_txn.specs.CoreState.{CoreState, committed, snapshot, is_open, St
 use Rattle.city_txn.specs.CoreState.{IsRolledBack}
 use Rattle.city_txn.specs.Acting.{IsAct, answer_in, step_of, EndsIn}
 use Rattle.city_txn.specs.Changing.{IsChangeOf}
-use Rattle.city_txn.specs.Locking.{IsBlocked}
+use Rattle.city_locks.specs.Asking.{IsBlocked}
 use Rattle.city_desk.specs.declared.attempt.Stepped.{Stepped}
 use Rattle.city_desk.specs.declared.progress.Progress.{Progress}
 use Rattle.city_desk.specs.declared.progress.Phase.TheVariants.{Idle}

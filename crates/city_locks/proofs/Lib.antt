@@ -1,4 +1,5 @@
 pub mod Among
 pub mod Ids
+pub mod LocksAsked
 pub mod Once
 pub mod Tables

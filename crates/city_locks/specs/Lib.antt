@@ -1,3 +1,4 @@
+pub mod Asking
 pub mod Holders
 pub mod Locks
 pub mod Mode

@@ -1,12 +1,14 @@
 //! The lock table: who holds which id, in which mode, and the wait-die answer to each asker.
 //!
 //! - `table`: the lock table
+//! - `asking`: locks asked for in turn
 //! - `answer`: what is answered
 //! - `holders`, `held`: the holders of one id, those of every id
 //! - `by_stamp`: lists by stamps
 #![tactic(auto)]
 
 mod answer;
+mod asking;
 pub mod by_stamp;
 mod held;
 mod holders;

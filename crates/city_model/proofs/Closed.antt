@@ -15,7 +15,7 @@ use Rattle.city_model.specs.declared.object.Point.{Point}
 use Rattle.city_model.specs.Shells.{Edge, same_point, same_edge, flipped, times, occurs_once, runs_both_ways}
 use Rattle.city_model.specs.inside.RisingEdges.{rises, rising}
 use Rattle.city_model.proofs.Counts.{all_counted, counted_all, times-filter_kept, times-filter_left}
-use Rattle.city_model.proofs.IdLists.{bool_cases}
+use Rattle.city_model.proofs.IdLists.{same_truth, bool_cases}
 use Rattle.city_model.proofs.SortedEdges.{times_permutation, sorted_same}
 
 -- ---- the order of edges
@@ -120,11 +120,6 @@ balanced (suc a) b f g = let both = f (omega arith) in both.0 ∙ sym both.1
 
 both_one : (a b : ℕ) → a ≡ 1 → b ≡ 1 → ((a == 1) && (b == 1)) ≡ true
 both_one a b h k = and_from (a == 1) (b == 1) (eq-eqb a 1 h) (eq-eqb b 1 k)
-
-same_truth : (a b : Bool) → (a ≡ true → b ≡ true) → (b ≡ true → a ≡ true) → a ≡ b
-same_truth true b f g = sym (f refl)
-same_truth false true f g = g refl
-same_truth false false f g = refl
 
 module _ (es : List Edge) where
   up_times : (q : Edge) → rises q ≡ true → times same_edge q (rising es) ≡ times same_edge q es

@@ -2,6 +2,7 @@
 use Rattle.std.proofs.Common.{◌≡◌, ℕ, List, [], ◌∷◌, ◌++◌, Bool, true, false, ◌||◌, ◌&&◌, refl, ap, sym, ◌∙◌}
 use Rattle.std.specs.Prelude.{not}
 use Rattle.std.proofs.lemmas.Bool.{false≢true, or_parts, or_left, or_right, and_right}
+use Rattle.std.proofs.lemmas.List.Elements.{filter-append}
 use Rattle.std.proofs.lemmas.List.Folds.{list_any-append}
 use Rattle.city_model.specs.CityMap.{same_id, has_id}
 use Rattle.city_model.specs.Meaning.{without_id}
@@ -27,6 +28,11 @@ not_and false b h = (refl, h)
 
 pub and_not : (a b : Bool) → a ≡ false → b ≡ true → (not a && b) ≡ true
 and_not a b h k = rw (h, k) refl
+
+pub same_truth : (a b : Bool) → (a ≡ true → b ≡ true) → (b ≡ true → a ≡ true) → a ≡ b
+same_truth true b f g = sym (f refl)
+same_truth false true f g = g refl
+same_truth false false f g = refl
 
 -- ---- without an id
 
@@ -61,6 +67,31 @@ in_without id ids q h = not_and (same_id id q) (has_id ids q) (sym (has_without 
 pub without_has : (id : List ℕ) (ids : List (List ℕ)) (q : List ℕ) → same_id id q ≡ false → has_id ids q ≡ true
     → has_id (without_id id ids) q ≡ true
 without_has id ids q h k = has_without id ids q ∙ and_not (same_id id q) (has_id ids q) h k
+
+-- an id of one part stands in no other
+apart : (xs ys : List (List ℕ)) (id : List ℕ) → AreDistinct (xs ++ ys) → has_id xs id ≡ true → has_id ys id ≡ false
+apart [] ys id d h = absurd (false≢true h)
+apart (x ∷ xs) ys id d h = bool_cases (same_id id x)
+    (λ e. ap (has_id ys) (same_id_true id x e)
+    ∙ (or_parts (has_id xs x) (has_id ys x) (sym (list_any-append (same_id x) xs ys) ∙ d.0)).1)
+    (λ e. apart xs ys id d.1 (sym (ap (λ b. b || has_id xs id) e) ∙ h))
+
+later_distinct : (xs ys : List (List ℕ)) → AreDistinct (xs ++ ys) → AreDistinct ys
+later_distinct [] ys d = d
+later_distinct (x ∷ xs) ys d = later_distinct xs ys d.1
+
+-- an id is taken out of the part that has it, and the others stay
+pub without_middle : (id : List ℕ) (before part after : List (List ℕ)) → AreDistinct (before ++ (part ++ after))
+    → has_id part id ≡ true → without_id id (before ++ (part ++ after)) ≡ before ++ (without_id id part ++ after)
+without_middle id before part after d h =
+    let here : has_id (part ++ after) id ≡ true = list_any-append (same_id id) part after
+    ∙ or_left (has_id part id) (has_id after id) h in
+    let not_before : has_id before id ≡ false = bool_cases (has_id before id)
+    (λ e. not_both (has_id (part ++ after) id) here (apart before (part ++ after) id d e)) (λ e. e) in
+    let not_after : has_id after id ≡ false = apart part after id (later_distinct before (part ++ after) d) h in
+    filter-append (λ q. not (same_id id q)) before (part ++ after)
+    ∙ rw (without_absent id before not_before, filter-append (λ q. not (same_id id q)) part after)
+    (ap (λ ids. before ++ (without_id id part ++ ids)) (without_absent id after not_after))
 
 -- ---- with an id more
 

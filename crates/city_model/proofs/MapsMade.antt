@@ -1,5 +1,6 @@
 -- A map from ids that is made of a list has the pairs of the list as if they were put in one after another.
-use Rattle.std.proofs.Common.{◌≡◌, ℕ, List, [], ◌∷◌, Option, Some, None, Ordering, BTreeMap, cond, nat_cmp, refl, sym, ap, ◌∙◌}
+use Rattle.std.proofs.Common.{◌≡◌, ℕ, List, [], ◌∷◌, Option, Some, None, Ordering, BTreeMap, cond, nat_cmp, refl, sym}
+use Rattle.std.proofs.Common.{ap, ◌∙◌}
 use Rattle.std.specs.Prelude.{T, IfOk}
 use Rattle.std.specs.Bool.{⊤}
 use Rattle.std.specs.declared.result.Result.{Result}

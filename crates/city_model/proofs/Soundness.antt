@@ -6,7 +6,7 @@ use Rattle.city_model.specs.CityMap.{CityMap, same_id, has_id, parents_of, child
 use Rattle.city_model.specs.Shells.{body_fault}
 use Rattle.city_model.specs.Relations.{AreDistinct, is_second_level, same_family, IsInOrder, IsSound}
 use Rattle.city_model.proofs.Ids.{same_id_itself}
-use Rattle.city_model.proofs.IdLists.{not_both}
+use Rattle.city_model.proofs.IdLists.{not_both, same_truth}
 use Rattle.city_model.proofs.Relatives.{AreAgreed}
 
 -- the object and this parent are there, of levels and families that allow it
@@ -54,6 +54,13 @@ sound_agrees m s = record {
   parents_know_it = λ id p h. known_parents m id p (m id) refl s h;
   children_know_it = λ id d h. known_children m id d (m id) refl s h;
 }
+
+-- the lists of a child and of a parent say the same
+pub parent_and_child : (m : CityMap) (child parent : List ℕ) (o p : Object) → IsSound m → m child ≡ Some o
+    → m parent ≡ Some p → has_id o.parents parent ≡ has_id p.children child
+parent_and_child m child parent o p s below above = same_truth (has_id o.parents parent) (has_id p.children child)
+    (λ h. sym (ap (λ w. has_id (children_of w) child) above) ∙ ((s child o below).0.parents_know_it parent h).1)
+    (λ h. sym (ap (λ w. has_id (parents_of w) parent) below) ∙ (s parent p above).0.children_know_it child h)
 
 pub sound_has_no_fault : (m : CityMap) → IsSound m → HasNoFault m
 sound_has_no_fault m s = λ id o is. (s id o is).1

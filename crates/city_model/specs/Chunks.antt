@@ -1,15 +1,8 @@
 -- Ids in chunks.
-use Rattle.std.specs.Prelude.{ℕ, List, [], ◌++◌, flat_map, Option, None, Some}
-use Rattle.std.specs.declared.sync.Arc.{Arc}
-use Rattle.std.specs.declared.alloc.Global.{Global}
+use Rattle.std.specs.Prelude.{ℕ, List, ◌++◌, flat_map}
 use Rattle.std.specs.Arc.{arc_value}
 use Rattle.city_model.specs.declared.id_list.Ids.{Ids}
 
 -- the ids that are left of a slice and the chunks after it
 abbrev pub ids_left : Ids → List (List ℕ)
 ids_left left = left.ids.now ++ flat_map arc_value left.chunks.now
-
--- the ids of a chunk, if there is one
-abbrev pub ids_of : Option (Arc (List (List ℕ)) Global) → List (List ℕ)
-ids_of None = []
-ids_of (Some chunk) = arc_value chunk

@@ -1,4 +1,4 @@
-//! Lists of ids, searched and compared in place, and copied without an id.
+//! Ids of a list, searched and compared in place, and copied without one.
 ghost use Rattle.std.specs.Prelude.{◌≡◌, ◌==◌, length, IsTrue, IfOk};
 ghost use Rattle.std.specs.Iterator.{YieldsFirstRef, item_count};
 ghost use Rattle.city_model.specs.CityMap.{same_id, has_id};
@@ -7,9 +7,9 @@ ghost use Rattle.city_model.specs.Meaning.{without_id};
 ghost use Rattle.city_model.specs.inside.RelationTests.{are_distinct, are_increasing};
 
 use crate::OutOfMemory;
-use crate::children::Chunk;
 use crate::copied::Copied;
 use crate::sequence::Sequence;
+use crate::shared_ids::Chunk;
 use crate::text::Id;
 use std::alloc::Global;
 
@@ -76,15 +76,6 @@ fn end_alike(id: &Id, other: &Id) -> bool
         }
         _ => true,
     }
-}
-
-/// Whether the id is in the list. Doesn't allocate.
-///
-/// A binary search finds an id of a list in byte order; if it finds none, the list is read once.
-pub fn has_id(ids: &[Id], id: &Id) -> bool
-    ensures { result ≡ has_id ids.now id.now }
-{
-    is_found_by_halving(ids, id) || is_among(Ids::of(ids), id)
 }
 
 /// Whether the id is one of these, which are read once. Doesn't allocate.
@@ -154,7 +145,7 @@ fn none_recurs(ids: Ids<'_>) -> bool
 pub(crate) fn without_id(alloc: Global, id: &Id, ids: &[Id]) -> Result<Sequence<Id>, OutOfMemory>
     ensures { IfOk result (λ others. others ≡ without_id id.now ids.now) }
 {
-    let mut others = Sequence::new(alloc);
+    let mut others = Sequence::with_capacity(alloc, ids.len())?;
     for other in ids {
         if !is_same_id(id, other) {
             others.push(other.copy(alloc)?)?;

@@ -1,7 +1,7 @@
 //! The city model: its types, its rules and the meaning of each command.
 //!
 //! - `object`, `object_type`, `frame`, `city`: what a city is made of
-//! - `shared_body`, `children`: what copies of an object share
+//! - `shared_body`, `shared_ids`: what copies of an object share
 //! - `shape`: what bounds a shape of any type
 //! - `text`, `sequence`, `copied`: texts that contracts see as bytes, lists that they see as items, copies
 //! - `kept`, `members`, `integral`: members that are kept unread, as JSON trees
@@ -13,7 +13,6 @@
 
 pub mod body_fault;
 pub mod change;
-pub mod children;
 pub mod city;
 pub mod command;
 pub mod copied;
@@ -36,6 +35,7 @@ pub mod script;
 pub mod sequence;
 pub mod shape;
 pub mod shared_body;
+pub mod shared_ids;
 pub mod shells;
 pub mod text;
 

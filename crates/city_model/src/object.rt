@@ -1,12 +1,12 @@
 //! City objects and their geometries.
 ghost use Rattle.std.specs.Prelude.{◌≡◌};
 
-use crate::children::Children;
 use crate::kept::extra::Extra;
 use crate::kept::site::{AtGeometry, AtObject};
 use crate::object_type::ObjectType;
 use crate::sequence::Sequence;
 use crate::shared_body::SharedBody;
+use crate::shared_ids::SharedIds;
 use crate::text::{Id, Text};
 
 /// A point, in whole units; ordered by x, then y, then z.
@@ -60,6 +60,6 @@ pub struct Body {
 #[derive(Drop)]
 pub struct Object {
     pub body: SharedBody,
-    pub parents: Sequence<Id>,
-    pub children: Children,
+    pub parents: SharedIds,
+    pub children: SharedIds,
 }

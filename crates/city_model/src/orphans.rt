@@ -14,7 +14,7 @@ use crate::text::Id;
 pub fn is_orphan(object: &Object) -> bool
     ensures { result ≡ is_orphan object.now }
 {
-    level(object.body.get().kind) == 2 && object.parents.len() == 0
+    level(object.body.get().kind) == 2 && object.parents.is_empty()
 }
 
 /// The least id of an orphan, in byte order; none where no object is one. Doesn't allocate.

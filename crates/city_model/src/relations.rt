@@ -8,7 +8,7 @@ ghost use Rattle.city_model.specs.inside.RelationTests.{children_fit, is_in_orde
 ghost use Rattle.city_model.specs.Relations.{IsRelated, same_family};
 
 use crate::city::City;
-use crate::id_list::{Ids, are_distinct, has_id, is_same_id};
+use crate::id_list::{are_distinct, is_same_id};
 use crate::object::Object;
 use crate::object_type::{self, ObjectType, family, level};
 use crate::orphans::is_orphan;
@@ -68,21 +68,21 @@ fn is_in_order(city: &City, id: &Id, object: &Object) -> bool
 fn relatives_once(object: &Object) -> bool
     ensures { result ≡ relatives_once object.now }
 {
-    are_distinct(Ids::of(object.parents.as_slice())) && are_distinct(object.children.iter())
+    are_distinct(object.parents.iter()) && are_distinct(object.children.iter())
 }
 
 /// Whether the object is second-level or has no parent.
 fn level_fits(object: &Object) -> bool
     ensures { result ≡ level_fits object.now }
 {
-    level(object.body.get().kind) == 2 || object.parents.len() == 0
+    level(object.body.get().kind) == 2 || object.parents.is_empty()
 }
 
 /// Whether each parent is there, is another object, has this one as a child and is of its family.
 fn parents_fit(city: &City, id: &Id, object: &Object) -> bool
     ensures { result ≡ parents_fit (object_at city.now.1) id.now object.now }
 {
-    for parent in object.parents.as_slice() {
+    for parent in object.parents.iter() {
         if !parent_fits(city, id, object, parent) {
             return false;
         }
@@ -120,7 +120,7 @@ fn child_fits(city: &City, id: &Id, child: &Id) -> bool
 {
     match city.get(child) {
         None => false,
-        Some(other) => has_id(other.parents.as_slice(), id),
+        Some(other) => other.parents.has(id),
     }
 }
 

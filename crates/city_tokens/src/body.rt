@@ -5,9 +5,9 @@ ghost use Rattle.city_tokens.specs.inside.Standing.{IsReadAs};
 
 use crate::object::{ObjectParts, object_of};
 use crate::own::{Own, read_object};
-use city_model::children::Children;
 use city_model::object::Body;
 use city_model::sequence::Sequence;
+use city_model::shared_ids::SharedIds;
 use json::Reader;
 use std::alloc::Global;
 
@@ -42,8 +42,8 @@ pub fn read_body(alloc: Global, reader: &mut Reader<'_>, depth: usize) -> Option
         object: ObjectParts {
             kind: None,
             geometry: Sequence::new(alloc),
-            parents: Sequence::new(alloc),
-            children: Children::new(alloc),
+            parents: SharedIds::new(alloc),
+            children: SharedIds::new(alloc),
         },
     };
     let (parts, kept) = read_object(alloc, reader, depth, start)?;

@@ -3,17 +3,17 @@ ghost use Rattle.std.specs.Prelude.{◌≡◌, ℕ, Some, IfSome};
 ghost use Rattle.serde_json.specs.Data.{Members, object};
 ghost use Rattle.serde_json.specs.View.{members_view};
 ghost use Rattle.city_tokens.specs.inside.Objects.{IsObject, IsObjectSoFar};
-ghost use Rattle.city_tokens.specs.inside.Standing.{IsReadAs};
+ghost use Rattle.city_tokens.specs.inside.Standing.{IsArrayOf, IsReadAs, IsString};
 
 use crate::list::FromTokens;
 use crate::own::{Own, read_object as read_members};
 use crate::text::read_str;
-use city_model::children::Children;
 use city_model::kept::extra::Extra;
 use city_model::object::{Body, Geometry, Object};
 use city_model::object_type::{ObjectType, type_named};
 use city_model::sequence::Sequence;
 use city_model::shared_body::SharedBody;
+use city_model::shared_ids::SharedIds;
 use city_model::text::Id;
 use json::Reader;
 use serde_json::{Map, Value};
@@ -24,8 +24,8 @@ use std::alloc::Global;
 pub struct ObjectParts {
     pub kind: Option<ObjectType>,
     pub geometry: Sequence<Geometry>,
-    pub parents: Sequence<Id>,
-    pub children: Children,
+    pub parents: SharedIds,
+    pub children: SharedIds,
 }
 
 impl Own for ObjectParts {
@@ -48,18 +48,25 @@ impl Own for ObjectParts {
                 self.geometry = geometry;
             }
             "parents" => {
-                let parents = Sequence::<Id>::from_tokens(alloc, reader, depth)?;
+                let parents = read_ids(alloc, reader, depth)?;
                 self.parents = parents;
             }
             "children" => {
-                let ids = Sequence::<Id>::from_tokens(alloc, reader, depth)?;
-                let children = Children::from_sequence(alloc, ids).ok()?;
+                let children = read_ids(alloc, reader, depth)?;
                 self.children = children;
             }
             _ => return Some(false),
         }
         Some(true)
     }
+}
+
+/// The next value, which is an array of ids.
+fn read_ids(alloc: Global, reader: &mut Reader<'_>, depth: usize) -> Option<SharedIds>
+    ensures { IfSome result (λ ids. IsReadAs (IsArrayOf IsString) ids depth reader.old reader.new) }
+{
+    let ids = Sequence::<Id>::from_tokens(alloc, reader, depth)?;
+    SharedIds::from_sequence(alloc, ids).ok()
 }
 
 /// The object of what was read of all its members, and of the kept ones.
@@ -87,8 +94,8 @@ pub fn read_object(alloc: Global, reader: &mut Reader<'_>, depth: usize) -> Opti
     let start = ObjectParts {
         kind: None,
         geometry: Sequence::new(alloc),
-        parents: Sequence::new(alloc),
-        children: Children::new(alloc),
+        parents: SharedIds::new(alloc),
+        children: SharedIds::new(alloc),
     };
     let (parts, kept) = read_members(alloc, reader, depth, start)?;
     object_of(parts, kept)

@@ -1,58 +1,100 @@
--- A core by its fields: opened, begun, and after a commit or an abort.
-use Rattle.std.proofs.Common.{◌≡◌, ◌==◌, ◌||◌, ℕ, List, [], ◌∷◌, Bool, true, false, Option, None, Some, is_some, refl}
-use Rattle.std.proofs.Common.{ap, sym, ◌∙◌, subst, if◌then◌else◌, cond, nat_cmp}
-use Rattle.std.specs.List.{list_any}
-use Rattle.std.specs.Map.{keys_of, lookup}
-use Rattle.std.specs.BTreeMap.{is_at}
-use Rattle.std.proofs.lemmas.Option.{none-some}
-use Rattle.std.proofs.lemmas.Bool.{false≢true, eqb-true, eq-eqb, or_parts, or_right}
-use Rattle.city_model.specs.declared.frame.Frame.{Frame}
-use Rattle.city_model.specs.CityMap.{Objects, object_at}
-use Rattle.city_model.specs.Relations.{IsLawful, HasNoOrphan}
+-- From one core to another: what is seen and what stays of the others; and a core by its fields, new, with one more
+-- transaction open, and with one over.
+use Rattle.std.proofs.Common.{arith, ◌≡◌, ◌==◌, ℕ, List, Bool, true, false, is_some, ap, sym, ◌∙◌, subst, ◌||◌, []}
+use Rattle.std.proofs.Common.{refl, rules, tests, None, Some, if◌then◌else◌, cond}
+use Rattle.std.proofs.lemmas.Bool.{false≢true, eq-eqb, eqb-false}
+use Rattle.std.proofs.lemmas.Map.Made.{is_some-lookup}
+use Rattle.city_txn.specs.inside.Prelude.{CityMap, unmarked, IsSoundView, IsSound, IsLawful, Answered, mode_of, Lawful}
+use Rattle.city_txn.specs.inside.Prelude.{CoreState, committed, view, written, snapshot, is_open, held}
+use Rattle.city_txn.specs.inside.Prelude.{StandsUnderLocks}
+use Rattle.city_txn.specs.inside.Prelude.{KeepsOthers, view_with, Exclusive, Objects, object_at, View, HasNoOrphan}
+use Rattle.city_txn.specs.inside.Prelude.{IsTraceUnderLocks, Locks, Inside, write_of, own_write, log_of, own}
+use Rattle.city_txn.specs.inside.Prelude.{IsTransactionEnd, IsRolledBack, State, is_begun, Begins, is_reserved, Forgets}
 use Rattle.city_model.proofs.IdLists.{bool_cases}
-use Rattle.city_model.proofs.History.{follows_same}
-use Rattle.city_locks.proofs.Among.{none_from}
-use Rattle.city_model.specs.declared.mode.Mode.TheVariants.{Exclusive}
-use Rattle.city_locks.specs.Locks.{mode_of, Lawful}
-use Rattle.city_txn.specs.inside.State as store
-use Rattle.city_txn.specs.inside.State.{State, is_reserved, Begins, Forgets}
-use Rattle.city_txn.specs.Writes.{Write, write_of, own_or, own_write, is_by}
-use Rattle.city_txn.specs.UndoLog.{log_of, marked, has_before, marks_with}
-use Rattle.city_model.specs.Marks.{unmarked}
-use Rattle.city_model.specs.Standing.{Answered, covers}
-use Rattle.city_txn.specs.CoreState.{CoreState, committed, view, own, written, snapshot, is_open, held, held_in}
-use Rattle.city_txn.specs.CoreState.{StandsUnderLocks, KeepsOthers, IsTransactionEnd, IsRolledBack}
-use Rattle.city_txn.specs.inside.Core.{core_state, IsCore, IsConsistent}
-use Rattle.city_txn.specs.declared.txn_core.Core.TheInside.{Inside}
+use Rattle.city_model.proofs.History.{follows_sound}
+use Rattle.city_model.specs.declared.frame.Frame.{Frame}
+use Rattle.city_model.proofs.Carried.{history_kept}
+use Rattle.city_txn.specs.inside.Core.{Kept, kept, nothing, written_of, Stands, IsKept, IsConsistent, core_state}
+use Rattle.city_txn.specs.inside.Core.{IsCore}
+use Rattle.city_txn.proofs.SeenWrites.{seen_with, seen_same, own_or_is, own_left, view_carried}
 use Rattle.city_txn.proofs.AtOneId.{tied}
-use Rattle.city_txn.proofs.Ended.{Ended, own_not, over_committed, committed_consistent, rolled_back, undone_consistent}
-use Rattle.city_txn.proofs.SeenWrites.{written_same, seen_same}
+
+-- everything that is seen is sound
+pub sound_seen : (v : CoreState) (s : ℕ) → IsConsistent v → IsSoundView (snapshot v s)
+sound_seen v s c =
+    subst IsSoundView (sym (seen_with v s))
+    (follows_sound (held v s) (unmarked (committed v)) (c.each s).done (view_with (committed v) (written v s))
+    (c.city.0, tt) (c.each s).stands)
+
+pub sound_view : (v : CoreState) (s : ℕ) → IsConsistent v → IsSound (view v s)
+sound_view v s c = (sound_seen v s c).0
+
+-- only an open one holds locks
+pub open_only : (v : CoreState) → IsConsistent v → (t : ℕ) (q : List ℕ) → is_some (mode_of v.locks t q) ≡ true
+    → is_open v t ≡ true
+open_only v c t q h = bool_cases (is_open v t)
+    (λ e. e)
+    (λ e. absurd (false≢true (sym (ap (λ (k : Kept). is_some (k.held q)) ((c.each t).shut e)) ∙ h)))
+
+-- what is kept of a transaction that did nothing
+pub kept_nothing : (m : CityMap) (opened : Bool) → IsKept m (nothing opened)
+kept_nothing m opened = grind arith
+
+pub to_kept : (v : CoreState) (t : ℕ) (done : List Answered) → StandsUnderLocks v t done
+    → Stands (committed v) (kept v t) done
+to_kept v t done f = grind arith
+
+pub from_kept : (v : CoreState) (t : ℕ) (done : List Answered) → Stands (committed v) (kept v t) done
+    → StandsUnderLocks v t done
+from_kept v t done f = grind arith
+
+pub at_stamp : (P : ℕ → Type 0) (s : ℕ) → P s → ((t : ℕ) → (s == t) ≡ false → P t) → (t : ℕ) → P t
+at_stamp P s here beside t = grind arith
+
+-- what is kept of the others stays, and their commands stand
+pub record LeavesOthers (s : ℕ) (v w : CoreState) : Type 0 where
+  pub frame : w.frame ≡ v.frame
+  pub beside : (t : ℕ) → (s == t) ≡ false → kept w t ≡ kept v t
+  pub stands : (t : ℕ) → (s == t) ≡ false → (done : List Answered) → Stands (committed v) (kept v t) done
+      → Stands (committed w) (kept v t) done
+
+module _ (s : ℕ) (v w : CoreState) where
+  -- they stand where the committed city stays
+  pub leaves_others : w.frame ≡ v.frame → committed w ≡ committed v
+      → ((t : ℕ) → (s == t) ≡ false → kept w t ≡ kept v t) → LeavesOthers s v w
+  leaves_others frame city beside = grind arith
+
+  module _ (k : LeavesOthers s v w) where
+    pub written_beside : (t : ℕ) → (s == t) ≡ false → written w t ≡ written v t
+    written_beside t ne = ap written_of (k.beside t ne)
+
+    pub seen_beside : committed w ≡ committed v → (t : ℕ) → (s == t) ≡ false → snapshot w t ≡ snapshot v t
+    seen_beside city t ne = seen_same v w t city (written_beside t ne)
+
+    pub keeps : KeepsOthers s v w
+    keeps = grind (arith, to_kept, from_kept)
+
+    pub consistent : IsConsistent v → Lawful w.locks → IsLawful (committed w) → IsKept (committed w) (kept w s)
+        → IsConsistent w
+    consistent c lawful city own = record {
+      lawful = lawful;
+      city = city;
+      each = at_stamp (λ t. IsKept (committed w) (kept w t)) s own (λ t ne.
+          let each = c.each t in
+          subst (IsKept (committed w)) (sym (k.beside t ne)) (record {
+            covered = each.covered;
+            shut = each.shut;
+            done = each.done;
+            stands = k.stands t ne each.done each.stands;
+          }));
+    }
 
 -- ---- which stamps are open
 
-either : (b : Bool) (r : List (List ℕ)) (o : Option (List (List ℕ)))
-    → (b || is_some o) ≡ is_some (if b then Some r else o)
-either true r o = refl
-either false r o = refl
+pub open_is : (a : Inside) (s : ℕ) → is_open (core_state a) s ≡ is_begun a.store s
+open_is a s = grind (arith, tied, is_some-lookup)
 
-listed_open : (opened : List (ℕ × List (List ℕ))) (s : ℕ)
-    → list_any (λ t. s == t) (keys_of opened) ≡ is_some (lookup (is_at (nat_cmp s)) opened)
-listed_open [] s = refl
-listed_open (e ∷ es) s =
-    ap (λ b. b || list_any (λ t. s == t) (keys_of es)) (sym (tied s e.0))
-    ∙ ap (λ b. is_at (nat_cmp s) e.0 || b) (listed_open es s)
-    ∙ either (is_at (nat_cmp s) e.0) e.1 (lookup (is_at (nat_cmp s)) es)
-
-pub open_is : (a : Inside) (s : ℕ) → is_open (core_state a) s ≡ store.is_begun a.store s
-open_is a s = listed_open a.store.opened s
-
-pub open_stored : (a : Inside) {v : CoreState} → core_state a ≡ v → (s : ℕ) → store.is_begun a.store s ≡ is_open v s
-open_stored a snapshot s = sym (open_is a s) ∙ ap (λ u. is_open u s) snapshot
-
--- ---- opened
-
-none_some_write : {A : Type 0} {w : Write} → None ≡ Some w → A
-none_some_write e = absurd (cc)
+-- ---- new
 
 pub opened_core : (a : Inside) (frame : Frame) (city : Objects) → a.store
     ≡ record { frame = frame; city = city; writes = []; opened = []; logs = [] }
@@ -61,166 +103,143 @@ opened_core a frame city e f l =
     subst IsCore (λ i. record { store = sym e i; locks = sym f i }) (record {
       state = record {
         lawful = λ s t id ne e. refl;
-        locked = λ q w e. none_some_write e;
-        marks_locked = λ s q h. absurd (false≢true h);
-        open_only = λ s q h. absurd (false≢true h);
-        marks_open = λ s h. refl;
         city = l;
-        history = λ s. ([], refl);
+        each = λ s. kept_nothing (object_at city) false;
       };
       reserved = λ t q h. absurd (false≢true h);
     })
 
--- ---- begun
-
-not_by : (s : ℕ) (x : Option Write) → ((w : Write) → x ≡ Some w → (w.0 == s) ≡ false) → is_by s x ≡ false
-not_by s None h = refl
-not_by s (Some w) h = h w refl
-
--- what isn't open holds nothing and wrote nothing
-shut_unlocked : (v : CoreState) (s : ℕ) (q : List ℕ) → IsConsistent v → is_open v s ≡ false
-    → mode_of v.locks s q ≡ None
-shut_unlocked v s q c h = none_from (mode_of v.locks s q) (λ e. false≢true (sym h ∙ c.open_only s q e))
-
-shut_writer : (v : CoreState) (s : ℕ) (q : List ℕ) → IsConsistent v → is_open v s ≡ false → (w : Write)
-    → write_of v.writes q ≡ Some w → (w.0 == s) ≡ false
-shut_writer v s q c h w e = bool_cases (w.0 == s)
-    (λ f. absurd
-    (none-some Exclusive (sym (shut_unlocked v s q c h) ∙ ap (λ k. mode_of v.locks k q) (sym (eqb-true w.0 s f))
-    ∙ c.locked q w e)))
-    (λ f. f)
+-- ---- one transaction opened, or over
 
 pub record Begun (s : ℕ) (v : CoreState) (b : Inside) : Type 0 where
   pub core : IsCore b
-  pub opened : is_open (core_state b) s ≡ true
-  pub unmarked : log_of b.store.logs s ≡ []
+  pub fresh : kept (core_state b) s ≡ nothing true
   pub own : StandsUnderLocks (core_state b) s []
   pub keeps : KeepsOthers s v (core_state b)
-  pub unlocked : (q : List ℕ) → mode_of b.locks s q ≡ None
-  pub unwritten : (q : List ℕ) → is_by s (write_of b.store.writes q) ≡ false
 
-module _ (a b : Inside) (k : IsCore a) {v : CoreState} (known : core_state a ≡ v) (s : ℕ) (shut : is_open v s ≡ false)
-    (begins : Begins s a.store b.store) (locks : b.locks ≡ a.locks) where
-  begun_open : (t : ℕ) → is_open (core_state b) t ≡ ((s == t) || is_open (core_state a) t)
-  begun_open t = open_is b t ∙ begins.opened t ∙ ap (λ c. (s == t) || c) (sym (open_is a t))
+-- what is kept of a transaction that is over or isn't
+abbrev left_over : Bool → Kept → Kept
+left_over over k = record {
+  own = λ q. if over then None else k.own q;
+  log = if over then [] else k.log;
+  opened = if over then false else k.opened;
+  held = λ q. cond over None (k.held q);
+}
 
-  begun_opened : is_open (core_state b) s ≡ true
-  begun_opened = begun_open s ∙ rw (eq-eqb s s refl) refl
+-- of a core the store is st after a call about the transaction s
+module _ {a : Inside} (k : IsCore a) (s : ℕ) (st : State) where
+  abbrev v : CoreState
+  v = core_state a
 
-  was_shut : is_open (core_state a) s ≡ false
-  was_shut = ap (λ u. is_open u s) known ∙ shut
+  -- ---- begun
 
-  -- it has no marks
-  begun_unmarked : log_of b.store.logs s ≡ []
-  begun_unmarked = ap (λ ls. log_of ls s) begins.logs ∙ k.state.marks_open s was_shut
+  module _ (begins : Begins s a.store st) where
+    abbrev begun_inside : Inside
+    begun_inside = record { store = st; locks = a.locks }
 
-  -- the new one did nothing, so it sees the committed map
-  begun_own : StandsUnderLocks (core_state b) s []
-  begun_own =
-      let none : (q : List ℕ)
-      → own_or s (write_of b.store.writes q) (object_at b.store.city q) ≡ object_at b.store.city q =
-      λ q. own_not s (write_of b.store.writes q) (object_at b.store.city q)
-      (λ w e. shut_writer (core_state a) s q k.state was_shut w (ap (λ ws. write_of ws q) (sym begins.writes) ∙ e)) in
-      λ i. record {
-        map = λ q. none q i;
-        marks = marks_with (object_at b.store.city) (marked (begun_unmarked i) (own (core_state b) s));
+    begun_at : (t : ℕ) (new : Bool) → (s == t) ≡ new
+        → kept (core_state begun_inside) t ≡ record (kept v t) { opened = new || is_open v t }
+    begun_at t new e i = record {
+      own = λ q. own_write t (write_of (begins.writes i) q);
+      log = log_of (begins.logs i) t;
+      opened = (open_is begun_inside t ∙ begins.opened t ∙ (λ j. e j || sym (open_is a t) j)) i;
+      held = held v t;
+    }
+
+    pub begun : {u : CoreState} → v ≡ u → is_open u s ≡ false → Begun s u begun_inside
+    begun known shut =
+        let m = object_at st.city in
+        let left : LeavesOthers s v (core_state begun_inside) =
+        leaves_others s v (core_state begun_inside) begins.frame (ap object_at begins.city) (λ t. begun_at t false) in
+        let fresh : kept (core_state begun_inside) s ≡ nothing true = begun_at s true (eq-eqb s s refl)
+        ∙ ap (λ (x : Kept). record x { opened = true }) ((k.state.each s).shut (ap (λ u. is_open u s) known ∙ shut)) in
+        subst (λ u. Begun s u begun_inside) known (record {
+          core = record {
+            state = consistent s v (core_state begun_inside) left k.state k.state.lawful
+                (subst (λ es. IsLawful (object_at es)) (sym begins.city) k.state.city)
+                (subst (IsKept m) (sym fresh) (kept_nothing m true));
+            reserved = grind arith;
+          };
+          fresh = fresh;
+          own = from_kept (core_state begun_inside) s [] (subst (λ (x : Kept). Stands m x []) (sym fresh) refl);
+          keeps = keeps s v (core_state begun_inside) left;
+        })
+
+  -- ---- over: the locks are ks then
+  module _ (ks : Locks) (f : Forgets s a.store st)
+      (modes : (t : ℕ) (q : List ℕ) → mode_of ks t q ≡ cond (s == t) None (mode_of a.locks t q))
+      (lawful : Lawful ks) where
+    abbrev b : Inside
+    b = record { store = st; locks = ks }
+
+    abbrev w : CoreState
+    w = core_state b
+
+    kept_at : (t : ℕ) (over : Bool) → (s == t) ≡ over → kept w t ≡ left_over over (kept v t)
+    kept_at t over e = (λ i. record {
+      own = λ q. own_left s t (write_of st.writes q) (write_of a.store.writes q) (f.writes q) i;
+      log = f.logs t i;
+      opened = (open_is b t ∙ f.opened t ∙ ap (λ c. if s == t then false else c) (sym (open_is a t))) i;
+      held = λ q. modes t q i;
+    }) ∙ ap (λ o. left_over o (kept v t)) e
+
+    beside : (t : ℕ) → (s == t) ≡ false → kept w t ≡ kept v t
+    beside t = kept_at t false
+
+    gone : kept w s ≡ nothing false
+    gone = kept_at s true (eq-eqb s s refl)
+
+    reserved_left : (t : ℕ) (q : List ℕ) → is_reserved st t q ≡ true → mode_of ks t q ≡ Some Exclusive
+    reserved_left t q h = grind arith
+
+    module _ (left : LeavesOthers s v w) where
+      over : IsTransactionEnd s v w
+      over = record {
+        writes = f.writes;
+        marks = f.logs;
+        locks = modes;
+        closed = ap (λ (x : Kept). x.opened) gone;
+        keeps = keeps s v w left;
       }
 
-  begun_written : (t : ℕ) → written (core_state b) t ≡ written (core_state a) t
-  begun_written t = written_same (core_state a) (core_state b) t
-      (λ q. ap (λ ws. own_write t (write_of ws q)) begins.writes) (ap (λ ls. log_of ls t) begins.logs)
+      core_left : IsLawful (committed w) → IsCore b
+      core_left city = search (rules, tests, consistent, kept_nothing, gone, reserved_left)
 
-  begun_stands : (t : ℕ) (done : List Answered) → StandsUnderLocks (core_state a) t done
-      → StandsUnderLocks (core_state b) t done
-  begun_stands t done f =
-      follows_same (held (core_state a) t) (held (core_state b) t) (unmarked (committed (core_state a)))
-      (unmarked (committed (core_state b))) done
-      (snapshot (core_state a) t) (snapshot (core_state b) t)
-      (λ q c h. ap (λ hs. covers (held_in hs t q) c) locks ∙ h)
-      (λ i. unmarked (object_at (sym begins.city i)))
-      (sym (seen_same (core_state a) (core_state b) t (ap object_at begins.city) (begun_written t))) f
+    -- ---- a commit
 
-  begun_keeps : KeepsOthers s v (core_state b)
-  begun_keeps = subst (λ u. KeepsOthers s u (core_state b)) known (record {
-    frame = begins.frame;
-    opened = λ t ne. begun_open t ∙ ap (λ c. c || is_open (core_state a) t) ne;
-    others = λ t done ne f. begun_stands t done f;
-  })
+    module _ (city : committed w ≡ view v s) where
+      -- where another holds anything, s wrote nothing
+      agree : (t : ℕ) → (s == t) ≡ false → (q : List ℕ) → is_some (held v t q) ≡ true → committed v q ≡ committed w q
+      agree t ne q h =
+          let mine = (k.state.each s).covered.own q in
+          let apart = k.state.lawful s t q (eqb-false s t ne) in
+          let none : own v s q ≡ None = grind arith in
+          let here = ap (λ (m : CityMap). m q) city in
+          grind (arith, own_or_is)
 
-  begun_core : IsCore b
-  begun_core = record {
-    state = record {
-      lawful = subst Lawful (sym locks) k.state.lawful;
-      locked = λ q w e. ap (λ hs. mode_of hs w.0 q) locks
-          ∙ k.state.locked q w (ap (λ ws. write_of ws q) (sym begins.writes) ∙ e);
-      marks_locked = λ t q h. ap (λ hs. mode_of hs t q) locks
-          ∙ k.state.marks_locked t q (ap (λ ls. has_before (log_of ls t) q) (sym begins.logs) ∙ h);
-      open_only = λ t q h. begun_open t
-          ∙ or_right (s == t) (is_open (core_state a) t)
-          (k.state.open_only t q (ap (λ hs. is_some (mode_of hs t q)) (sym locks) ∙ h));
-      marks_open = λ t h. ap (λ ls. log_of ls t) begins.logs
-          ∙ k.state.marks_open t (or_parts (s == t) (is_open (core_state a) t) (sym (begun_open t) ∙ h)).1;
-      city = subst (λ es. IsLawful (object_at es)) (sym begins.city) k.state.city;
-      history = λ t. ((k.state.history t).0, begun_stands t (k.state.history t).0 (k.state.history t).1);
-    };
-    reserved = λ t q h. ap (λ hs. mode_of hs t q) locks ∙ k.reserved t q (sym (begins.reserved t q) ∙ h);
-  }
+      stands_committed : (t : ℕ) → (s == t) ≡ false → (done : List Answered) → Stands (committed v) (kept v t) done
+          → Stands (committed w) (kept v t) done
+      stands_committed t ne done stands =
+          let each = k.state.each t in
+          let carried = view_carried (held v t) (committed v) (committed w)
+          (λ q e. agree t ne q (ap is_some e)) (written v t) each.covered in
+          subst (λ (x : View). IsTraceUnderLocks (held v t) (unmarked (committed w)) done x) carried
+          (history_kept (held v t) (committed v) (committed w) done (view_with (committed v) (written v t))
+          k.state.city.0 (subst IsSound (sym city) (sound_view v s k.state)) (agree t ne) stands)
 
-  pub begun : Begun s v b
-  begun = record {
-    core = begun_core;
-    opened = begun_opened;
-    unmarked = begun_unmarked;
-    own = begun_own;
-    keeps = begun_keeps;
-    unlocked = λ q. ap (λ hs. mode_of hs s q) locks ∙ shut_unlocked (core_state a) s q k.state was_shut;
-    unwritten = λ q. ap (λ ws. is_by s (write_of ws q)) begins.writes
-        ∙ not_by s (write_of a.store.writes q) (shut_writer (core_state a) s q k.state was_shut);
-  }
+      pub committed_core : {u : CoreState} → v ≡ u → HasNoOrphan (view u s) → IsCore b × IsTransactionEnd s u w
+      committed_core known orphans =
+          let here = subst (λ u. HasNoOrphan (view u s)) (sym known) orphans in
+          let left : LeavesOthers s v w = record { frame = f.frame; beside = beside; stands = stands_committed } in (
+            core_left left (subst IsLawful (sym city) (sound_view v s k.state, here)),
+            subst (λ u. IsTransactionEnd s u w) known (over left),
+          )
 
--- ---- over
+    -- ---- an abort
 
-none_left : (b c : Bool) → (if b then false else c) ≡ true → (b ≡ false) × (c ≡ true)
-none_left true c h = absurd (false≢true h)
-none_left false c h = (refl, h)
-
-module _ (a b : Inside) (k : IsCore a) {v : CoreState} (known : core_state a ≡ v) (s : ℕ)
-    (f : Forgets s a.store b.store)
-    (modes : (t : ℕ) (q : List ℕ) → mode_of b.locks t q ≡ cond (s == t) None (mode_of a.locks t q))
-    (lawful : Lawful b.locks) where
-  ended : Ended s (core_state a) (core_state b)
-  ended = record {
-    writes = f.writes;
-    marks = f.logs;
-    locks = modes;
-    opened = λ t. open_is b t ∙ f.opened t ∙ ap (λ c. if s == t then false else c) (sym (open_is a t));
-    lawful = lawful;
-  }
-
-  reserved_left : (t : ℕ) (q : List ℕ) → is_reserved b.store t q ≡ true → mode_of b.locks t q ≡ Some Exclusive
-  reserved_left t q h =
-      let left = none_left (s == t) (is_reserved a.store t q) (sym (f.reserved t q) ∙ h) in
-      modes t q ∙ ap (λ c. cond c None (mode_of a.locks t q)) left.0 ∙ k.reserved t q left.1
-
-  module _ (city : store.store_committed b.store ≡ store.store_view a.store s) where
-    pub committed_over : IsTransactionEnd s v (core_state b)
-    committed_over = subst (λ u. IsTransactionEnd s u (core_state b)) known
-        (over_committed s (core_state a) (core_state b) ended k.state city f.frame)
-
-    pub committed_core : HasNoOrphan (view v s) → IsCore b
-    committed_core orphans = record {
-      state = committed_consistent s (core_state a) (core_state b) ended k.state city
-          (subst (λ u. HasNoOrphan (view u s)) (sym known) orphans);
-      reserved = reserved_left;
-    }
-
-  module _ (city : store.store_committed b.store ≡ store.store_committed a.store) where
-    pub undone : IsRolledBack s v (core_state b)
-    undone = subst (λ u. IsRolledBack s u (core_state b)) known
-        (rolled_back s (core_state a) (core_state b) ended k.state city f.frame)
-
-    pub undone_core : IsCore b
-    undone_core = record {
-      state = undone_consistent s (core_state a) (core_state b) ended k.state city;
-      reserved = reserved_left;
-    }
+    pub undone_core : {u : CoreState} → v ≡ u → committed w ≡ committed v → IsCore b × IsRolledBack s u w
+    undone_core known city =
+        let left : LeavesOthers s v w = leaves_others s v w f.frame city beside in
+        let undone : IsRolledBack s v w =
+        record { city = city; views = seen_beside s v w left city; over = over left } in
+        (core_left left (subst IsLawful (sym city) k.state.city), subst (λ u. IsRolledBack s u w) known undone)

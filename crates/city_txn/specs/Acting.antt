@@ -23,7 +23,7 @@ use Rattle.city_txn.specs.UndoLog.{OwnWrites, written_after}
 use Rattle.city_model.specs.Standing.{Lock, Answered, AllHeld, locks_id_exclusively}
 use Rattle.city_txn.specs.CoreState.{CoreState, committed, view, own, written, snapshot, is_open, held}
 use Rattle.city_txn.specs.CoreState.{StandsUnderLocks, KeepsOthers}
-use Rattle.city_txn.specs.Locking.{first_answer, granted_before, GainsFirst, IsBlocked}
+use Rattle.city_locks.specs.Asking.{first_answer, granted_before, GainsFirst, IsBlocked}
 
 -- what is written after a command that asked for these locks, got this reply and left this map, marks aside: where it
 -- isn't refused, at each id that it locks exclusively, what stands there then

@@ -5,6 +5,7 @@ use Rattle.std.specs.Prelude.{if◌then◌else◌}
 use Rattle.std.specs.List.{list_any}
 use Rattle.city_model.specs.declared.frame.Frame.{Frame}
 use Rattle.city_model.specs.CityMap.{Objects, CityMap, object_at}
+use Rattle.city_locks.specs.Asking.{held_in}
 use Rattle.city_locks.specs.Locks.{Locks, mode_of}
 use Rattle.city_txn.specs.Writes.{Write, write_of, own_or, own_write, unless_by}
 use Rattle.city_txn.specs.UndoLog.{Logs, OwnWrites, Written, log_of, marked, marks_with}
@@ -43,10 +44,6 @@ snapshot v stamp = record { map = view v stamp; marks = marks_with (committed v)
 
 abbrev pub is_open : CoreState → ℕ → Bool
 is_open v stamp = list_any (λ t. stamp == t) v.opened
-
--- how a transaction holds each id of a lock table
-abbrev pub held_in : Locks → ℕ → Held
-held_in locks stamp id = mode_of locks stamp id
 
 abbrev pub held : CoreState → ℕ → Held
 held v stamp = held_in v.locks stamp

@@ -1,7 +1,6 @@
 pub mod Acting
 pub mod Changing
 pub mod CoreState
-pub mod Locking
 pub mod Placeholder
 pub mod UndoLog
 pub mod Writes

@@ -1,5 +1,5 @@
 //! What a transaction wrote, as a change.
-ghost use Rattle.std.specs.Prelude.{◌≡◌, ℕ, List, IfOk, OnOk, false, if◌then◌else◌};
+ghost use Rattle.std.specs.Prelude.{◌≡◌, ℕ, List, None, IfOk, OnOk, false, unwrap_or, if◌then◌else◌};
 ghost use Rattle.std.specs.Map.{keys_of};
 ghost use Rattle.std.specs.Ordering.{nat_cmp};
 ghost use Rattle.std.specs.Cmp.Lexicographic.{slice_cmp};
@@ -9,8 +9,8 @@ ghost use Rattle.city_model.specs.Relations.{is_orphan_there, HasNoOrphan};
 ghost use Rattle.city_model.specs.Writing.{write_in};
 ghost use Rattle.city_txn.specs.Changing.{change_in};
 ghost use Rattle.city_txn.specs.Writes.{write_of, own_write};
-ghost use Rattle.city_txn.specs.inside.Images.{or_else};
-ghost use Rattle.city_txn.specs.inside.Orphans.{is_orphan_written};
+ghost use Rattle.std.specs.List.{list_any};
+ghost use Rattle.std.specs.Option.{option_or};
 ghost use Rattle.city_txn.specs.inside.State.{store_own, store_view};
 
 use crate::store::Store;
@@ -38,7 +38,7 @@ impl Store {
     /// Adds to the change what the stamp wrote at the id, if it wrote it.
     fn add_written(&self, change: &mut Change, stamp: u64, id: &Id) -> Result<(), OutOfMemory>
         ensures added { OnOk result ((q : List ℕ) → write_in change.new q
-            ≡ (if same_id id.now q then or_else (store_own self.now stamp id.now) (write_in change.old q) else write_in change.old q)) }
+            ≡ (if same_id id.now q then option_or (store_own self.now stamp id.now) (write_in change.old q) else write_in change.old q)) }
         ensures ordered { IsStrictlySortedBy (slice_cmp nat_cmp) (keys_of change.old) → IsStrictlySortedBy (slice_cmp nat_cmp) (keys_of change.new) }
     {
         if let Some(object) = self.written(stamp, id)? {
@@ -48,6 +48,7 @@ impl Store {
     }
 
     /// What the stamp wrote at the id: an object, or that none is there, or nothing. It copies the object.
+    #[tactic(auto, using(crate::proofs::ChangeMade::own_none, crate::proofs::ChangeMade::own_sees))]
     pub fn written(&self, stamp: u64, id: &Id) -> Result<OwnWrite, OutOfMemory>
         ensures { IfOk result (λ write. write ≡ store_own self.now stamp id.now) }
     {
@@ -61,13 +62,20 @@ impl Store {
     }
 
     /// Whether the stamp sees an orphan at an id that it has reserved. Doesn't allocate.
+    #[tactic(auto, using(crate::proofs::ChangeMade::change_lists, crate::proofs::ChangeMade::change_ascends))]
     pub fn has_orphan(&self, stamp: u64) -> bool
-        ensures none { result ≡ false → (q : List ℕ) → is_orphan_written (own_write stamp (write_of self.now.writes q)) ≡ false }
+        ensures none { result ≡ false → HasNoOrphan (λ q. unwrap_or (own_write stamp (write_of self.now.writes q)) None) }
         ensures seen { HasNoOrphan (store_view self.now stamp) → result ≡ false }
         ensures lists { (q : List ℕ) → write_in (change_in self.now.writes stamp) q ≡ own_write stamp (write_of self.now.writes q) }
         ensures ordered { IsStrictlySortedBy (slice_cmp nat_cmp) (keys_of (change_in self.now.writes stamp)) }
     {
-        let ids = self.undo.reserved(stamp);
+        self.has_orphan_among(stamp, self.undo.reserved(stamp))
+    }
+
+    /// Whether the stamp sees an orphan at one of the ids.
+    fn has_orphan_among(&self, stamp: u64, ids: &[Id]) -> bool
+        ensures { result ≡ list_any (λ id. is_orphan_there (store_view self.now stamp id)) ids.now }
+    {
         for id in ids {
             if self.is_orphan_at(stamp, id) {
                 return true;

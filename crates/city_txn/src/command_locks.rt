@@ -1,17 +1,49 @@
-//! The locks of a command, in the order in which they are asked for.
+//! The locks of a command, in the order in which they are asked for, and what the answer would be.
 ghost use Rattle.std.specs.Prelude.{◌≡◌, [], ◌∷◌, IfSome, IfNone, drop};
+ghost use Rattle.city_locks.specs.Asking.{Asked, first_answer};
+ghost use Rattle.city_model.specs.Chunks.{ids_left};
 ghost use Rattle.city_model.specs.CityMap.{CityMap};
 ghost use Rattle.city_model.specs.Meaning.{delete_locks, exclusively, locks_of};
 ghost use Rattle.city_txn.specs.inside.State.{store_view};
 
 use crate::store::Store;
-use city_locks::Mode;
+use city_locks::{Answer, LockTable, Mode};
+use city_model::OutOfMemory;
 use city_model::command::Command;
+use city_model::id_list::Ids;
 use city_model::text::Id;
 use std::slice;
 
+/// Asks for the locks of a command in their order, up to the first that isn't granted. If memory
+/// runs out, those that were granted stay granted.
+pub fn lock(
+    locks: &mut LockTable,
+    store: &Store,
+    stamp: u64,
+    command: &Command,
+) -> Result<Answer, OutOfMemory>
+    ensures { Asked stamp (locks_of (store_view store.now stamp) command.now) result locks.old locks.new }
+{
+    let Some((id, mode)) = first_lock(command) else {
+        return Ok(Answer::Granted);
+    };
+    let others = further_locks(store, stamp, command);
+    locks.ask_in_turn(stamp, id, mode, others)
+}
+
+/// What `lock` would answer, unless memory runs out. Doesn't allocate.
+pub fn would_lock(locks: &LockTable, store: &Store, stamp: u64, command: &Command) -> Answer
+    ensures { result ≡ first_answer locks.now stamp (locks_of (store_view store.now stamp) command.now) }
+{
+    let Some((id, mode)) = first_lock(command) else {
+        return Answer::Granted;
+    };
+    let others = further_locks(store, stamp, command);
+    locks.would_answer_in_turn(stamp, id, mode, others)
+}
+
 /// The id that a command locks first, and the mode; none where it locks nothing.
-pub fn first_lock(command: &Command) -> Option<(&Id, Mode)>
+fn first_lock(command: &Command) -> Option<(&Id, Mode)>
     ensures first { IfSome result (λ lock. (m : CityMap)
         → locks_of m command.now ≡ (lock.0.now, lock.1) ∷ drop 1 (locks_of m command.now)) }
     ensures none { IfNone result ((m : CityMap) → locks_of m command.now ≡ []) }
@@ -26,23 +58,23 @@ pub fn first_lock(command: &Command) -> Option<(&Id, Mode)>
 
 /// The ids that a command locks after the first, exclusively. Once the first is locked, no other
 /// transaction can change which ids these are.
-pub fn further_locks<'a>(store: &'a Store, stamp: u64, command: &'a Command) -> &'a [Id]
-    ensures { drop 1 (locks_of (store_view store.now stamp) command.now) ≡ exclusively result.now }
+fn further_locks<'a>(store: &'a Store, stamp: u64, command: &'a Command) -> Ids<'a>
+    ensures { drop 1 (locks_of (store_view store.now stamp) command.now) ≡ exclusively (ids_left result) }
 {
     match command {
         Command::Delete(id) => parents_to_lock(store, stamp, id),
-        Command::Attach(_, parent) | Command::Detach(_, parent) => slice::from_ref(parent),
-        Command::Read(_) | Command::Put(_, _) => &[],
-        Command::Mark(_) | Command::Back(_) | Command::Commit | Command::Abort => &[],
+        Command::Attach(_, parent) | Command::Detach(_, parent) => Ids::of(slice::from_ref(parent)),
+        Command::Read(_) | Command::Put(_, _) => Ids::of(&[]),
+        Command::Mark(_) | Command::Back(_) | Command::Commit | Command::Abort => Ids::of(&[]),
     }
 }
 
 /// The parents that a delete of the id locks: those of an object without children.
-fn parents_to_lock<'a>(store: &'a Store, stamp: u64, id: &Id) -> &'a [Id]
-    ensures { delete_locks (store_view store.now stamp id.now) ≡ exclusively result.now }
+fn parents_to_lock<'a>(store: &'a Store, stamp: u64, id: &Id) -> Ids<'a>
+    ensures { delete_locks (store_view store.now stamp id.now) ≡ exclusively (ids_left result) }
 {
     match store.read(stamp, id) {
-        Some(object) if object.children.is_empty() => object.parents.as_slice(),
-        _ => &[],
+        Some(object) if object.children.is_empty() => object.parents.iter(),
+        _ => Ids::of(&[]),
     }
 }

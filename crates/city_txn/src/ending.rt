@@ -1,11 +1,10 @@
 //! The end of a transaction, at the ids that it has reserved.
-ghost use Rattle.std.specs.Prelude.{◌≡◌, ℕ, List, is_some, true};
-ghost use Rattle.city_model.specs.CityMap.{has_id, same_id};
-ghost use Rattle.city_txn.specs.inside.Ending.{AreEnded};
-ghost use Rattle.city_txn.specs.inside.Slots.{HasSlot};
+ghost use Rattle.std.specs.Prelude.{◌≡◌, ℕ, List, None, is_some, true};
+ghost use Rattle.city_model.specs.CityMap.{has_id, object_at};
+ghost use Rattle.city_txn.specs.inside.Ending.{left_at_end};
+ghost use Rattle.city_txn.specs.inside.Slots.{Became, HasSlot};
 ghost use Rattle.city_txn.specs.inside.UndoState.{image_at};
 
-use crate::slot;
 use crate::undo::Undo;
 use city_model::city::City;
 use city_model::text::Id;
@@ -21,23 +20,13 @@ pub enum End {
 
 /// Ends the transaction at the ids, one after another. Doesn't allocate.
 pub fn end_each(city: &mut City, undo: &mut Undo, end: End, ids: &[Id])
-    requires { (q : List ℕ) → is_some (image_at undo.old q) ≡ true → HasSlot city.old q }
-    ensures { AreEnded end (has_id ids.now) city.old undo.old city.new undo.new }
+    requires { (q : List ℕ) → is_some (image_at undo.old.images q) ≡ true → HasSlot city.old q }
+    ensures became { Became (has_id ids.now)
+        (λ q. left_at_end end (object_at city.old.1 q) (image_at undo.old.images q)) (λ q. None)
+        city.old city.new undo.old.images undo.new.images }
+    ensures reservations { undo.new.reservations ≡ undo.old.reservations }
 {
     for id in ids {
-        end_one(city, undo, end, id);
-    }
-}
-
-/// Ends the transaction at the id, and removes the id's image, if there is one.
-fn end_one(city: &mut City, undo: &mut Undo, end: End, id: &Id)
-    requires { is_some (image_at undo.old id.now) ≡ true → HasSlot city.old id.now }
-    ensures { AreEnded end (same_id id.now) city.old undo.old city.new undo.new }
-{
-    if let Some((key, image)) = undo.take(id) {
-        match end {
-            End::Commit => slot::clear(city, id, image.deleted),
-            End::RollBack => slot::give_back(city, key, image),
-        }
+        undo.end(city, end, id);
     }
 }

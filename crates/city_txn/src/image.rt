@@ -1,6 +1,8 @@
 //! Undo images: what stood at an id before a transaction wrote it.
-ghost use Rattle.std.specs.Prelude.{◌≡◌, Some, option_copied};
-ghost use Rattle.city_txn.specs.inside.Images.{seen_by, written_over, image_unwritten, put_back};
+ghost use Rattle.std.specs.Prelude.{◌≡◌, Some, Option, option_copied};
+ghost use Rattle.city_model.specs.declared.object.Object.{Object};
+ghost use Rattle.city_txn.specs.Writes.{is_by, own_or};
+ghost use Rattle.city_txn.specs.inside.Images.{before_image, write_at, written_over, image_unwritten, put_back};
 
 use city_model::object::Object;
 
@@ -20,12 +22,19 @@ pub struct UndoImage {
 impl UndoImage {
     /// What the stamp sees at the id of the image, where the city has `here`.
     pub fn seen_by<'a>(&'a self, stamp: u64, here: Option<&'a Object>) -> Option<&'a Object>
-        ensures { option_copied result ≡ seen_by stamp (option_copied here.entry) self.now }
+        ensures { option_copied result ≡ own_or stamp (write_at (option_copied here.entry) (Some self.now)) (before_image (option_copied here.entry) self.now) }
     {
         if self.by != stamp && !self.unwritten {
             return self.before.as_ref();
         }
         if self.deleted { None } else { here }
+    }
+
+    /// Whether the stamp wrote the id of the image.
+    pub fn is_by(&self, stamp: u64) -> bool
+        ensures { (here : Option Object) → result ≡ is_by stamp (write_at here (Some self.now)) }
+    {
+        !self.unwritten && self.by == stamp
     }
 
     /// Notes a write: the first one moves what stood there into the image, a later one drops it.

@@ -2,12 +2,12 @@
 ghost use Rattle.std.specs.Prelude.{◌≡◌};
 ghost use Rattle.city_txn.specs.Placeholder.{placeholder};
 
-use city_model::children::Children;
 use city_model::kept::extra::Extra;
 use city_model::object::{Body, Object};
 use city_model::object_type::ObjectType;
 use city_model::sequence::Sequence;
 use city_model::shared_body::SharedBody;
+use city_model::shared_ids::SharedIds;
 use serde_json::Map;
 use std::alloc::Global;
 
@@ -25,7 +25,7 @@ pub fn placeholder(alloc: Global) -> Object
             geometry: Sequence::new(alloc),
             extra,
         }),
-        parents: Sequence::new(alloc),
-        children: Children::new(alloc),
+        parents: SharedIds::new(alloc),
+        children: SharedIds::new(alloc),
     }
 }

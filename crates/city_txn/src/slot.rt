@@ -1,10 +1,12 @@
 //! Slots of the city: placeholders, and objects put back.
-ghost use Rattle.std.specs.Prelude.{◌≡◌, None, Some, unwrap_or, IfOk, OnOk, OnErr, is_some, not, true, if◌then◌else◌};
+ghost use Rattle.std.specs.Prelude.{◌≡◌, ℕ, List, None, Some, unwrap_or, OnOk, OnErr, is_some, true, if◌then◌else◌};
+ghost use Rattle.std.specs.Option.{option_or};
 ghost use Rattle.city_model.specs.CityMap.{object_at, changed};
-ghost use Rattle.city_txn.specs.inside.Images.{or_else, before_image};
+ghost use Rattle.city_txn.specs.inside.Ending.{left_at_end};
 ghost use Rattle.city_txn.specs.Placeholder.{placeholder};
-ghost use Rattle.city_txn.specs.inside.Slots.{with_slot, HasSlot};
+ghost use Rattle.city_txn.specs.inside.Slots.{HasSlot};
 
+use crate::ending::End;
 use crate::image::UndoImage;
 use crate::placeholder::placeholder;
 use city_model::OutOfMemory;
@@ -14,25 +16,25 @@ use city_model::object::Object;
 use city_model::text::Id;
 use std::alloc::Global;
 
-/// Gives the id a slot, and says whether it made a placeholder, as it does if no object is there.
-/// If memory runs out, the city is unchanged.
-pub fn make(city: &mut City, alloc: Global, id: &Id) -> Result<bool, OutOfMemory>
-    ensures made { IfOk result (λ made. made ≡ not (is_some (object_at city.old.1 id.now))) }
-    ensures after { OnOk result (object_at city.new.1 ≡ with_slot (object_at city.old.1) id.now) }
+/// Gives the id a slot: a placeholder, if no object is there. If memory runs out, the city is unchanged.
+#[tactic(auto, using(city_model::proofs::Ids::same_id_true, crate::proofs::StoreChanged::set_at))]
+pub fn make(city: &mut City, alloc: Global, id: &Id) -> Result<(), OutOfMemory>
+    ensures after { OnOk result ((q : List ℕ) → object_at city.new.1 q
+        ≡ changed (object_at city.old.1) id.now (Some (unwrap_or (object_at city.old.1 id.now) placeholder)) q) }
     ensures frame { city.new.0 ≡ city.old.0 }
     ensures err { OnErr result (city.new ≡ city.old) }
 {
-    if city.get(id).is_some() {
-        return Ok(false);
+    if city.get(id).is_none() {
+        city.set(id.copy(alloc)?, placeholder(alloc))?;
     }
-    let key = id.copy(alloc)?;
-    city.set(key, placeholder(alloc))?;
-    Ok(true)
+    Ok(())
 }
 
 /// Removes the placeholder, if one is there.
+#[tactic(auto, using(crate::proofs::StoreChanged::set_at))]
 pub fn clear(city: &mut City, id: &Id, deleted: bool)
-    ensures after { object_at city.new.1 ≡ (if deleted then changed (object_at city.old.1) id.now None else object_at city.old.1) }
+    ensures after { (q : List ℕ) → object_at city.new.1 q
+        ≡ (if deleted then changed (object_at city.old.1) id.now None q else object_at city.old.1 q) }
     ensures frame { city.new.0 ≡ city.old.0 }
 {
     if deleted {
@@ -41,10 +43,11 @@ pub fn clear(city: &mut City, id: &Id, deleted: bool)
 }
 
 /// Sets the object of an id that has a slot, and returns the one that stood there.
+#[tactic(auto, using(crate::proofs::StoreChanged::set_at))]
 pub fn swap(city: &mut City, id: Id, object: Object) -> Object
     requires { HasSlot city.old id }
     ensures old { object_at city.old.1 id ≡ Some result }
-    ensures after { object_at city.new.1 ≡ changed (object_at city.old.1) id (Some object) }
+    ensures after { (q : List ℕ) → object_at city.new.1 q ≡ changed (object_at city.old.1) id (Some object) q }
     ensures frame { city.new.0 ≡ city.old.0 }
 {
     match city.set(id, object) {
@@ -65,9 +68,11 @@ pub fn standing(alloc: Global, object: Option<Object>) -> Object
 }
 
 /// Sets the object, if there is one, at an id that has a slot.
+#[tactic(auto, using(city_model::proofs::Ids::same_id_true, crate::proofs::StoreChanged::set_at))]
 pub fn refill(city: &mut City, id: Id, object: Option<Object>)
     requires { HasSlot city.old id }
-    ensures after { object_at city.new.1 ≡ changed (object_at city.old.1) id (or_else object (object_at city.old.1 id)) }
+    ensures after { (q : List ℕ) → object_at city.new.1 q
+        ≡ changed (object_at city.old.1) id (option_or object (object_at city.old.1 id)) q }
     ensures frame { city.new.0 ≡ city.old.0 }
 {
     match object {
@@ -78,10 +83,12 @@ pub fn refill(city: &mut City, id: Id, object: Option<Object>)
     }
 }
 
-/// Puts back what the image says stood at the id.
-pub fn give_back(city: &mut City, id: Id, image: UndoImage)
+/// Leaves at the id what the end of the image's transaction does: what that one sees, or what stood there before.
+#[tactic(auto, using(city_model::proofs::Ids::same_id_true, crate::proofs::StoreChanged::set_at))]
+pub fn settle(city: &mut City, id: Id, end: End, image: UndoImage)
     requires { HasSlot city.old id }
-    ensures after { object_at city.new.1 ≡ changed (object_at city.old.1) id (before_image (object_at city.old.1 id) image) }
+    ensures after { (q : List ℕ) → object_at city.new.1 q
+        ≡ changed (object_at city.old.1) id (left_at_end end (object_at city.old.1 id) (Some image)) q }
     ensures frame { city.new.0 ≡ city.old.0 }
 {
     let UndoImage {
@@ -90,11 +97,16 @@ pub fn give_back(city: &mut City, id: Id, image: UndoImage)
         deleted,
         before,
     } = image;
-    if unwritten {
-        clear(city, &id, deleted);
-    } else if let Some(object) = before {
-        let _ = swap(city, id, object);
-    } else {
-        let _ = city.remove(&id);
+    match end {
+        End::Commit => clear(city, &id, deleted),
+        End::RollBack => {
+            if unwritten {
+                clear(city, &id, deleted);
+            } else if let Some(object) = before {
+                let _ = swap(city, id, object);
+            } else {
+                let _ = city.remove(&id);
+            }
+        }
     }
 }

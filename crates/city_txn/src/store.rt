@@ -1,13 +1,13 @@
 //! The city as the open transactions have written it, and how it is put back.
-ghost use Rattle.std.specs.Prelude.{◌≡◌, ◌↔◌, IsTrue, ℕ, List, [], None, Some, OnOk, OnErr, true, false, ◌==◌, ◌&&◌, ◌||◌, is_some, option_copied, option_map, if◌then◌else◌};
+ghost use Rattle.std.specs.Prelude.{◌≡◌, ◌↔◌, IsTrue, ℕ, List, [], None, Some, OnOk, OnErr, true, false, ◌==◌, ◌&&◌, ◌||◌, is_ok, is_some, option_copied, option_map, if◌then◌else◌};
 ghost use Rattle.city_model.specs.CityMap.{same_id};
 ghost use Rattle.city_txn.specs.inside.Ending.{map_at_end};
 ghost use Rattle.city_txn.specs.inside.State.{State, is_reserved, is_begun, store_committed, store_view, MayReserve};
-ghost use Rattle.city_txn.specs.inside.State.{SeesSame, WritesOne, OthersWritesStay, Begins, Forgets};
+ghost use Rattle.city_txn.specs.inside.State.{store_written, Touches, WritesOne, OthersWritesStay, Begins, Forgets};
+ghost use Rattle.city_txn.specs.UndoLog.{log_of, has_before};
 ghost use Rattle.city_txn.specs.Writes.{write_of, is_by};
 
 use crate::ending::{End, end_each};
-use crate::slot;
 use crate::undo::Undo;
 use crate::undo_log::{OwnWrite, UndoLogs};
 use city_model::OutOfMemory;
@@ -51,6 +51,7 @@ impl Model for Store {
 
 impl Store {
     /// A store of this city, with no transaction open. Doesn't allocate.
+    #[tactic(auto, using(crate::proofs::AtOneId::new_in_place))]
     pub fn new(alloc: Global, city: City) -> Self
         ensures { result ≡ record { frame = city.0; city = city.1; writes = []; opened = []; logs = [] } }
     {
@@ -76,13 +77,15 @@ impl Store {
 
     /// Whether the stamp is open. Doesn't allocate.
     pub fn is_open(&self, stamp: u64) -> bool
-        ensures { result ≡ is_begun self.now stamp }
+        ensures opened { result ≡ is_begun self.now stamp }
+        ensures noted { (t : ℕ) (id : List ℕ) → has_before (log_of self.now.logs t) id ≡ true → is_reserved self.now t id ≡ true }
     {
         self.undo.is_open(stamp)
     }
 
     /// Opens the stamp, which must not be open, with no writes and nothing reserved. If memory runs
     /// out, the store is unchanged.
+    #[tactic(auto, using(crate::proofs::StoreChanged::opened_in_place))]
     pub fn begin(&mut self, stamp: u64) -> Result<(), OutOfMemory>
         requires { is_begun self.old stamp ≡ false }
         ensures begins { OnOk result (Begins stamp self.old self.new) }
@@ -107,28 +110,27 @@ impl Store {
         ensures { result ≡ is_by stamp (write_of self.now.writes id.now) }
     {
         match self.undo.image(id) {
-            Some(image) => !image.unwritten && image.by == stamp,
+            Some(image) => image.is_by(stamp),
             None => false,
         }
     }
 
     /// Reserves for the stamp, which is open, an id that no other has reserved. No transaction sees
-    /// a difference. If memory runs out, the store is unchanged.
+    /// a difference. If memory runs out, nothing is reserved.
+    #[tactic(auto, using(crate::proofs::StoreChanged::reserved_already, crate::proofs::Touched::touches_itself))]
     pub fn reserve(&mut self, stamp: u64, id: &Id) -> Result<(), OutOfMemory>
         requires { MayReserve self.old stamp (same_id id.now) }
-        ensures same { OnOk result (SeesSame self.old self.new) }
-        ensures ok { OnOk result ((t : ℕ) (q : List ℕ) → is_reserved self.new t q ≡ (((stamp == t) && same_id id.now q) || is_reserved self.old t q)) }
-        ensures err { OnErr result (self.new ≡ self.old) }
+        ensures touches { Touches stamp (same_id id.now) self.old self.new }
+        ensures writes { (q : List ℕ) → write_of self.new.writes q ≡ write_of self.old.writes q }
+        ensures marks { store_written self.new stamp ≡ store_written self.old stamp }
+        ensures logs { self.new.logs ≡ self.old.logs }
+        ensures more { (t : ℕ) (q : List ℕ) → is_reserved self.new t q
+            ≡ ((is_ok result && ((stamp == t) && same_id id.now q)) || is_reserved self.old t q) }
     {
         if self.undo.image(id).is_some() {
             return Ok(());
         }
-        let deleted = slot::make(&mut self.city, self.alloc, id)?;
-        let Ok(()) = self.undo.reserve(stamp, id, deleted) else {
-            slot::clear(&mut self.city, id, deleted);
-            return Err(OutOfMemory);
-        };
-        Ok(())
+        self.undo.reserve(&mut self.city, stamp, id)
     }
 
     /// Writes an id that the stamp has reserved: an object, or that none is
@@ -138,9 +140,7 @@ impl Store {
         ensures one { WritesOne id (Some (stamp, object)) self.old self.new }
         ensures others { OthersWritesStay stamp self.old self.new }
     {
-        let deleted = object.is_none();
-        let standing = slot::standing(self.alloc, object);
-        self.undo.write(&mut self.city, id, standing, deleted);
+        self.undo.write(&mut self.city, id, object);
     }
 
     /// Sets what the stamp wrote at an id that it has reserved: an object, or that none is there,
@@ -157,6 +157,7 @@ impl Store {
     }
 
     /// The city, where no stamp is open. Doesn't allocate.
+    #[tactic(auto, using(crate::proofs::AtOneId::idle_city))]
     pub fn into_city(self) -> City
         requires { self.opened ≡ [] }
         ensures { result ≡ (self.frame, self.city) }

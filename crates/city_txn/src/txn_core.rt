@@ -11,10 +11,10 @@ ghost use Rattle.city_txn.specs.CoreState.{committed, view, snapshot, is_open, S
 ghost use Rattle.city_txn.specs.UndoLog.{log_of, has_before};
 ghost use Rattle.city_txn.specs.Acting.{answer_in, IsAct, RefusesCommit};
 ghost use Rattle.city_txn.specs.Changing.{IsPrepared, IsChangeOf, change_in};
-ghost use Rattle.city_txn.specs.Locking.{is_wait};
+ghost use Rattle.city_locks.specs.Asking.{is_wait};
 
+use crate::command_locks::{lock, would_lock};
 use crate::ending::End;
-use crate::lock::{lock, would_lock};
 use crate::step::{Prepared, Step, TxnFault};
 use crate::store::Store;
 use city_locks::{Answer, LockTable};

@@ -1,14 +1,14 @@
 //! What it takes to end the open transactions: undo images and reservations.
-ghost use Rattle.std.specs.Prelude.{◌≡◌, ◌↔◌, IsTrue, ℕ, List, [], ◌∷◌, ◌++◌, None, Some, IfSome, OnOk, OnErr, is_some, true, option_copied, option_map, if◌then◌else◌};
-ghost use Rattle.std.specs.Ordering.{nat_cmp};
-ghost use Rattle.std.specs.Cmp.Lexicographic.{slice_cmp};
-ghost use Rattle.std.specs.BTreeMap.{get, is_at, IsOrdered};
-ghost use Rattle.std.specs.FinMap.{entries};
-ghost use Rattle.city_model.specs.CityMap.{object_at, changed, same_id};
-ghost use Rattle.city_txn.specs.inside.Images.{unwritten_image, written_over, image_unwritten, put_back_at, or_else};
-ghost use Rattle.city_txn.specs.inside.Slots.{HasSlot};
+ghost use Rattle.std.specs.Prelude.{◌≡◌, ◌↔◌, ◌==◌, IsTrue, ℕ, List, [], ◌∷◌, ◌++◌, None, Some, OnOk, OnErr, is_none, is_ok, is_some, true, ◌&&◌, option_copied, option_map, unwrap_or, if◌then◌else◌};
+ghost use Rattle.std.specs.Option.{option_or};
+ghost use Rattle.city_model.specs.CityMap.{object_at, same_id};
+ghost use Rattle.city_txn.specs.Placeholder.{placeholder};
+ghost use Rattle.city_txn.specs.inside.Ending.{left_at_end};
+ghost use Rattle.city_txn.specs.inside.Images.{unwritten_image, written_over, image_unwritten, put_back_at};
+ghost use Rattle.city_txn.specs.inside.Slots.{Became, HasSlot};
 ghost use Rattle.city_txn.specs.inside.UndoState.{image_at, listed_by, reservations_of};
 
+use crate::ending::End;
 use crate::image::UndoImage;
 use crate::slot;
 use city_locks::by_stamp::push;
@@ -20,12 +20,9 @@ use city_model::sequence::Sequence;
 use city_model::text::Id;
 use std::alloc::Global;
 use std::collections::BTreeMap;
-use std::marker::Model;
 
 /// An undo image for each reserved id, and for each open transaction, by its stamp, the ids that it
 /// has reserved.
-///
-/// Contracts see two finite maps.
 #[derive(Drop)]
 pub struct Undo {
     alloc: Global,
@@ -33,32 +30,11 @@ pub struct Undo {
     reservations: BTreeMap<u64, Sequence<Id>>,
 }
 
-impl Model for Undo {
-    ghost use Rattle.city_txn.specs.inside.UndoState.{UndoState};
-
-    ghost Value = { UndoState };
-
-    ghost use Rattle.std.specs.Coded.{codes};
-    ghost use Rattle.city_txn.specs.inside.Codes.{coded_images};
-
-    ghost coded = { Prim.hlevel (codes, coded_images) };
-
-    ghost use Rattle.std.specs.FinMap.{from_sorted};
-
-    ghost view = { λ u. record { images = from_sorted u.images.entries; reservations = u.reservations.entries } };
-
-    ghost use Rattle.std.specs.Ordering.{nat_cmp};
-    ghost use Rattle.std.specs.Cmp.Lexicographic.{slice_cmp};
-    ghost use Rattle.std.specs.BTreeMap.{IsOrdered};
-
-    ghost invariant = { λ u. IsOrdered (slice_cmp nat_cmp) u.images };
-}
-
 impl Undo {
     /// No stamp is open, and no id reserved. Doesn't allocate.
     pub fn new(alloc: Global) -> Self
-        ensures images { entries result.images ≡ [] }
-        ensures reservations { result.reservations ≡ [] }
+        ensures images { result.images.entries ≡ [] }
+        ensures reservations { result.reservations.entries ≡ [] }
     {
         Undo {
             alloc,
@@ -69,28 +45,28 @@ impl Undo {
 
     /// Whether the stamp is open. Doesn't allocate.
     pub fn is_open(&self, stamp: u64) -> bool
-        ensures { result ≡ is_some (listed_by self.now.reservations stamp) }
+        ensures { result ≡ is_some (listed_by self.now.reservations.entries stamp) }
     {
         self.reservations.contains_key(&stamp)
     }
 
     /// Whether no stamp is open. Doesn't allocate.
     pub fn is_idle(&self) -> bool
-        ensures { IsTrue result ↔ (self.now.reservations ≡ []) }
+        ensures { IsTrue result ↔ (self.now.reservations.entries ≡ []) }
     {
         self.reservations.is_empty()
     }
 
     /// The image of the id, if it is reserved. Doesn't allocate.
     pub fn image(&self, id: &Id) -> Option<&UndoImage>
-        ensures { option_copied result ≡ image_at self.now id.now }
+        ensures { option_copied result ≡ image_at self.now.images id.now }
     {
         self.images.get(id)
     }
 
     /// The ids that the stamp has reserved: none where it isn't open. Doesn't allocate.
     pub fn reserved(&self, stamp: u64) -> &[Id]
-        ensures { result.now ≡ reservations_of self.now.reservations stamp }
+        ensures { result.now ≡ reservations_of self.now.reservations.entries stamp }
     {
         match self.reservations.get(&stamp) {
             Some(ids) => ids.as_slice(),
@@ -101,55 +77,84 @@ impl Undo {
     /// Opens the stamp, with no id reserved. If memory runs out, nothing changes.
     pub fn open(&mut self, stamp: u64) -> Result<(), OutOfMemory>
         ensures images { self.new.images ≡ self.old.images }
-        ensures ok { OnOk result ((t : ℕ) → listed_by self.new.reservations t
-            ≡ (if is_at (nat_cmp stamp) t then Some [] else listed_by self.old.reservations t)) }
-        ensures err { OnErr result (self.new ≡ self.old) }
+        ensures ok { OnOk result ((t : ℕ) → listed_by self.new.reservations.entries t
+            ≡ (if stamp == t then Some [] else listed_by self.old.reservations.entries t)) }
+        ensures err { OnErr result (self.new.reservations.entries ≡ self.old.reservations.entries) }
     {
         self.reservations.insert(stamp, Sequence::new(self.alloc))?;
         Ok(())
     }
 
-    /// Reserves an id without image for the stamp, which is open: its image is unwritten, and says
-    /// whether a placeholder holds its slot. If memory runs out, nothing changes.
-    pub fn reserve(&mut self, stamp: u64, id: &Id, deleted: bool) -> Result<(), OutOfMemory>
-        requires opened { is_some (listed_by self.old.reservations stamp) ≡ true }
-        requires absent { image_at self.old id.now ≡ None }
-        ensures images { OnOk result ((q : List ℕ) → image_at self.new q
-            ≡ (if same_id id.now q then Some (unwritten_image stamp deleted) else image_at self.old q)) }
-        ensures reservations { OnOk result ((t : ℕ) → listed_by self.new.reservations t
-            ≡ (if is_at (nat_cmp stamp) t then Some (reservations_of self.old.reservations stamp ++ id.now ∷ []) else listed_by self.old.reservations t)) }
-        ensures err { OnErr result (self.new ≡ self.old) }
+    /// Reserves an id without image for the stamp: it gets a slot, and an unwritten image. If memory
+    /// runs out, nothing changes.
+    pub fn reserve(&mut self, city: &mut City, stamp: u64, id: &Id) -> Result<(), OutOfMemory>
+        requires { image_at self.old.images id.now ≡ None }
+        ensures became { Became (λ q. is_ok result && same_id id.now q)
+            (λ q. Some (unwrap_or (object_at city.old.1 id.now) placeholder))
+            (λ q. Some (unwritten_image stamp (is_none (object_at city.old.1 id.now))))
+            city.old city.new self.old.images self.new.images }
+        ensures listed { (t : ℕ) → listed_by self.new.reservations.entries t
+            ≡ (if is_ok result && (stamp == t)
+            then Some (reservations_of self.old.reservations.entries stamp ++ id.now ∷ [])
+            else listed_by self.old.reservations.entries t) }
     {
-        let key = id.copy(self.alloc)?;
-        let listed = id.copy(self.alloc)?;
+        let Ok(listed) = id.copy(self.alloc) else {
+            return Err(OutOfMemory);
+        };
+        let Ok(()) = self.add_image(city, stamp, id) else {
+            return Err(OutOfMemory);
+        };
+        let Ok(()) = push(&mut self.reservations, self.alloc, stamp, listed) else {
+            self.end(city, End::RollBack, id);
+            return Err(OutOfMemory);
+        };
+        Ok(())
+    }
+
+    /// Gives an id without image a slot, and an unwritten image. If memory runs out, nothing changes.
+    #[tactic(auto, using(city_model::proofs::Ids::same_id_true))]
+    fn add_image(&mut self, city: &mut City, stamp: u64, id: &Id) -> Result<(), OutOfMemory>
+        requires { image_at self.old.images id.now ≡ None }
+        ensures became { Became (λ q. is_ok result && same_id id.now q)
+            (λ q. Some (unwrap_or (object_at city.old.1 id.now) placeholder))
+            (λ q. Some (unwritten_image stamp (is_none (object_at city.old.1 id.now))))
+            city.old city.new self.old.images self.new.images }
+        ensures reservations { self.new.reservations ≡ self.old.reservations }
+    {
+        let Ok(key) = id.copy(self.alloc) else {
+            return Err(OutOfMemory);
+        };
         let image = UndoImage {
             by: stamp,
             unwritten: true,
-            deleted,
+            deleted: city.get(id).is_none(),
             before: None,
         };
-        self.images.insert(key, image)?;
-        let Ok(()) = push(&mut self.reservations, self.alloc, stamp, listed) else {
+        let Ok(_) = self.images.insert(key, image) else {
+            return Err(OutOfMemory);
+        };
+        let Ok(()) = slot::make(city, self.alloc, id) else {
             let _ = self.images.remove(id);
             return Err(OutOfMemory);
         };
         Ok(())
     }
 
-    /// Puts the object at a reserved id of the city, and what stood there into
-    /// its image. Doesn't allocate.
-    pub fn write(&mut self, city: &mut City, id: Id, object: Object, deleted: bool)
+    /// Puts the object, or a placeholder where none is to be there, at a reserved id of the city, and
+    /// what stood there into its image. Doesn't allocate.
+    pub fn write(&mut self, city: &mut City, id: Id, object: Option<Object>)
         requires has_slot { HasSlot city.old id }
-        requires there { is_some (image_at self.old id) ≡ true }
-        ensures frame { city.new.0 ≡ city.old.0 }
-        ensures city { object_at city.new.1 ≡ changed (object_at city.old.1) id (Some object) }
-        ensures images { (q : List ℕ) → image_at self.new q
-            ≡ (if same_id id q then option_map (written_over (object_at city.old.1 id) deleted) (image_at self.old id) else image_at self.old q) }
+        requires there { is_some (image_at self.old.images id) ≡ true }
+        ensures became { Became (same_id id) (λ q. Some (unwrap_or object placeholder))
+            (λ q. option_map (written_over (object_at city.old.1 id) (is_none object)) (image_at self.old.images id))
+            city.old city.new self.old.images self.new.images }
         ensures reservations { self.new.reservations ≡ self.old.reservations }
     {
+        let deleted = object.is_none();
+        let standing = slot::standing(self.alloc, object);
         match self.images.get_mut(&id) {
             Some(image) => {
-                let old = slot::swap(city, id, object);
+                let old = slot::swap(city, id, standing);
                 image.write_over(old, deleted);
             }
             None => unreachable!(),
@@ -160,11 +165,11 @@ impl Undo {
     /// the city. Doesn't allocate.
     pub fn unwrite(&mut self, city: &mut City, id: Id)
         requires has_slot { HasSlot city.old id }
-        requires there { is_some (image_at self.old id) ≡ true }
-        ensures frame { city.new.0 ≡ city.old.0 }
-        ensures city { object_at city.new.1 ≡ changed (object_at city.old.1) id (or_else (put_back_at (image_at self.old id)) (object_at city.old.1 id)) }
-        ensures images { (q : List ℕ) → image_at self.new q
-            ≡ (if same_id id q then option_map image_unwritten (image_at self.old id) else image_at self.old q) }
+        requires there { is_some (image_at self.old.images id) ≡ true }
+        ensures became { Became (same_id id)
+            (λ q. option_or (put_back_at (image_at self.old.images id)) (object_at city.old.1 id))
+            (λ q. option_map image_unwritten (image_at self.old.images id))
+            city.old city.new self.old.images self.new.images }
         ensures reservations { self.new.reservations ≡ self.old.reservations }
     {
         match self.images.get_mut(&id) {
@@ -176,23 +181,27 @@ impl Undo {
         }
     }
 
-    /// Removes the image of the id, and returns it with the id. Doesn't allocate.
-    pub fn take(&mut self, id: &Id) -> Option<(Id, UndoImage)>
-        ensures key { IfSome result (λ taken. taken.0 ≡ id.now) }
-        ensures image { option_map (λ taken. taken.1) result ≡ image_at self.old id.now }
-        ensures images { (q : List ℕ) → image_at self.new q ≡ (if same_id id.now q then None else image_at self.old q) }
+    /// Ends a transaction at the id, and removes the id's image, if there is one. Doesn't allocate.
+    #[tactic(auto, using(city_model::proofs::Ids::same_id_true))]
+    pub fn end(&mut self, city: &mut City, end: End, id: &Id)
+        requires { is_some (image_at self.old.images id.now) ≡ true → HasSlot city.old id.now }
+        ensures became { Became (same_id id.now)
+            (λ q. left_at_end end (object_at city.old.1 id.now) (image_at self.old.images id.now)) (λ q. None)
+            city.old city.new self.old.images self.new.images }
         ensures reservations { self.new.reservations ≡ self.old.reservations }
     {
-        self.images.remove_entry(id)
+        if let Some((key, image)) = self.images.remove_entry(id) {
+            slot::settle(city, key, end, image);
+        }
     }
 
     /// Closes the stamp, and returns the ids that it had reserved: none if it
     /// wasn't open. Doesn't allocate.
     pub fn close(&mut self, stamp: u64) -> Sequence<Id>
-        ensures ids { result ≡ reservations_of self.old.reservations stamp }
+        ensures ids { result ≡ reservations_of self.old.reservations.entries stamp }
         ensures images { self.new.images ≡ self.old.images }
-        ensures closed { (t : ℕ) → listed_by self.new.reservations t
-            ≡ (if is_at (nat_cmp stamp) t then None else listed_by self.old.reservations t) }
+        ensures closed { (t : ℕ) → listed_by self.new.reservations.entries t
+            ≡ (if stamp == t then None else listed_by self.old.reservations.entries t) }
     {
         match self.reservations.remove(&stamp) {
             Some(ids) => ids,

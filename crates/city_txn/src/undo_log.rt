@@ -67,6 +67,7 @@ impl UndoLogs {
     }
 
     /// Whether the transaction has a mark of the name. Doesn't allocate.
+    #[tactic(auto, using(crate::proofs::UndoLogs::any_reversed))]
     pub fn has_mark(&self, stamp: u64, name: &Text) -> bool
         ensures { result ≡ has_mark (log_of self.now stamp) name.now }
     {

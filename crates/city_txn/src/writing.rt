@@ -1,12 +1,12 @@
 //! Writes of a command: first all its ids are reserved and noted, then all are written.
-ghost use Rattle.std.specs.Prelude.{◌≡◌, ℕ, List, Some, true, false, OnOk, OnErr, if◌then◌else◌};
+ghost use Rattle.std.specs.Prelude.{◌≡◌, ℕ, List, Some, true, OnOk, OnErr, if◌then◌else◌};
 ghost use Rattle.city_model.specs.CityMap.{CityMap, same_id};
+ghost use Rattle.city_model.specs.Writing.{write_in};
 ghost use Rattle.city_model.specs.inside.Plans.{AreOf};
-ghost use Rattle.city_txn.specs.Writes.{write_of, unless_by};
+ghost use Rattle.city_txn.specs.Writes.{write_of};
 ghost use Rattle.city_txn.specs.UndoLog.{log_of};
-ghost use Rattle.city_txn.specs.inside.State.{store_written, is_reserved, MayReserve, ReservesAmong, SeesSame, ChangesWrites};
-ghost use Rattle.city_txn.specs.inside.State.{OthersWritesStay};
-ghost use Rattle.city_txn.specs.inside.State.{Touches};
+ghost use Rattle.city_txn.specs.inside.State.{store_written, is_reserved, written_with, MayReserve, IsReady, Touches};
+ghost use Rattle.city_txn.specs.inside.State.{ChangesWrites, OthersWritesStay};
 ghost use Rattle.city_txn.specs.inside.LogTests.{is_noted};
 ghost use Rattle.city_txn.specs.inside.Performing.{plans};
 
@@ -29,44 +29,36 @@ impl Store {
             ≡ (if plans writes id then Some (stamp, f id) else write_of self.old.writes id)) }
         ensures err { OnErr result ((id : List ℕ) → write_of self.new.writes id ≡ write_of self.old.writes id) }
     {
-        let list = writes.as_slice();
-        self.reserve_all(stamp, list)?;
-        self.note_all(stamp, list)?;
+        self.make_ready(stamp, writes.as_slice())?;
         self.set_all(stamp, writes.into_vec());
         Ok(())
     }
 
-    /// Reserves the ids of all that is planned. No transaction sees a difference.
-    fn reserve_all(
-        &mut self,
-        stamp: u64,
-        writes: &[(Id, Option<Object>)],
-    ) -> Result<(), OutOfMemory>
+    /// Reserves and notes the ids of all that is planned. No transaction sees a difference.
+    fn make_ready(&mut self, stamp: u64, writes: &[(Id, Option<Object>)]) -> Result<(), OutOfMemory>
         requires { MayReserve self.old stamp (plans writes.now) }
-        ensures same { SeesSame self.old self.new }
-        ensures ok { OnOk result ((id : List ℕ) → plans writes.now id ≡ true → is_reserved self.new stamp id ≡ true) }
-        ensures reserved { ReservesAmong (plans writes.now) stamp self.old self.new }
+        ensures touches { Touches stamp (plans writes.now) self.old self.new }
+        ensures writes { (q : List ℕ) → write_of self.new.writes q ≡ write_of self.old.writes q }
+        ensures marks { store_written self.new stamp ≡ store_written self.old stamp }
+        ensures ok { OnOk result ((id : List ℕ) → plans writes.now id ≡ true → IsReady self.new stamp id) }
     {
         for write in writes {
-            self.reserve(stamp, &write.0)?;
+            self.make_ready_at(stamp, &write.0)?;
         }
         Ok(())
     }
 
-    /// If the transaction has marks, notes what it had written at each planned id. Each mark stays as
-    /// it is, also after the plan is written.
-    fn note_all(&mut self, stamp: u64, writes: &[(Id, Option<Object>)]) -> Result<(), OutOfMemory>
-        requires { (id : List ℕ) → plans writes.now id ≡ true → is_reserved self.old stamp id ≡ true }
-        ensures touches { Touches stamp (plans writes.now) self.old self.new }
-        ensures writes { self.new.writes ≡ self.old.writes }
-        ensures opened { self.new.opened ≡ self.old.opened }
+    /// Reserves an id, and notes what the transaction had written there.
+    fn make_ready_at(&mut self, stamp: u64, id: &Id) -> Result<(), OutOfMemory>
+        requires { MayReserve self.old stamp (same_id id.now) }
+        ensures touches { Touches stamp (same_id id.now) self.old self.new }
+        ensures writes { (q : List ℕ) → write_of self.new.writes q ≡ write_of self.old.writes q }
         ensures marks { store_written self.new stamp ≡ store_written self.old stamp }
-        ensures ok { OnOk result
-            ((id : List ℕ) → plans writes.now id ≡ true → is_noted (log_of self.new.logs stamp) id ≡ true) }
+        ensures ok { OnOk result (IsReady self.new stamp id.now) }
+        ensures more { OnOk result ((q : List ℕ) → IsReady self.old stamp q → IsReady self.new stamp q) }
     {
-        for write in writes {
-            self.note(stamp, &write.0)?;
-        }
+        self.reserve(stamp, id)?;
+        self.note(stamp, id)?;
         Ok(())
     }
 
@@ -94,11 +86,8 @@ impl Store {
     fn set_all(&mut self, stamp: u64, mut writes: Vec<(Id, Option<Object>)>)
         requires { (id : List ℕ) → plans writes.items id ≡ true → is_reserved self.old stamp id ≡ true }
         ensures only { ChangesWrites self.old self.new }
-        ensures writes { (f : CityMap) → AreOf f writes.items → (id : List ℕ) →
-            write_of self.new.writes id
-            ≡ (if plans writes.items id then Some (stamp, f id) else write_of self.old.writes id) }
-        ensures apart { (id : List ℕ) → plans writes.items id ≡ false → write_of self.new.writes id
-            ≡ write_of self.old.writes id }
+        ensures writes { (q : List ℕ) → write_of self.new.writes q
+            ≡ written_with stamp (write_in writes.items q) (write_of self.old.writes q) }
         ensures others { OthersWritesStay stamp self.old self.new }
     {
         while let Some(write) = writes.pop() {

@@ -13,7 +13,7 @@ use Rattle.city_locks.specs.declared.answer.Answer.TheVariants.{Granted, Wait, D
 use Rattle.city_txn.specs.CoreState.{CoreState, committed, view, snapshot, is_open, StandsUnderLocks}
 use Rattle.city_txn.specs.CoreState.{KeepsOthers}
 use Rattle.city_txn.specs.Acting.{answer_in, EndsIn}
-use Rattle.city_txn.specs.Locking.{IsBlocked}
+use Rattle.city_locks.specs.Asking.{IsBlocked}
 use Rattle.city_desk.specs.declared.attempt.Stepped.{Stepped}
 use Rattle.city_desk.specs.declared.progress.Progress.{Progress}
 use Rattle.city_desk.specs.declared.progress.Phase.TheVariants.{Idle}

@@ -10,7 +10,6 @@ ghost use Rattle.city_doc.specs.inside.document.Arranged.{IsArranged, AreArrange
 ghost use Rattle.city_model.specs.Least.{IsLeast};
 
 use city_model::OutOfMemory;
-use city_model::children::Children;
 use city_model::city::City;
 use city_model::copied::Copied;
 use city_model::id_list::{Ids, are_increasing, is_same_id};
@@ -20,6 +19,7 @@ use city_model::object_type::ObjectType;
 use city_model::relations::relations_fault;
 use city_model::sequence::Sequence;
 use city_model::shared_body::SharedBody;
+use city_model::shared_ids::SharedIds;
 use city_model::text::Id;
 use serde_json::Map;
 use std::alloc::Global;
@@ -37,7 +37,7 @@ fn is_quick(ids: Ids<'_>) -> bool {
 /// Whether all lists of ids are searched quickly. Only the time depends on it.
 fn are_quick(city: &City) -> bool {
     for (_, object) in city.iter() {
-        if !is_quick(Ids::of(object.parents.as_slice())) || !is_quick(object.children.iter()) {
+        if !is_quick(object.parents.iter()) || !is_quick(object.children.iter()) {
             return false;
         }
     }
@@ -58,8 +58,8 @@ fn repeated_at(ids: &[Id]) -> Option<usize>
 
 /// A copy of the ids in byte order, except that a repeated one stands first, where
 /// it is soon found.
-fn arranged_ids(alloc: Global, ids: Ids<'_>) -> Result<Sequence<Id>, OutOfMemory>
-    ensures { IfOk result (λ s. IsPermutation (ids_left ids.entry) s) }
+fn arranged_ids(alloc: Global, ids: Ids<'_>) -> Result<SharedIds, OutOfMemory>
+    ensures { IfOk result (λ list. IsPermutation (ids_left ids.entry) list) }
 {
     let mut copies = Vec::new(alloc);
     for id in ids {
@@ -70,7 +70,7 @@ fn arranged_ids(alloc: Global, ids: Ids<'_>) -> Result<Sequence<Id>, OutOfMemory
         let recurring = copies.remove(i);
         copies.insert(0, recurring)?;
     }
-    Ok(Sequence::from_vec(copies))
+    SharedIds::from_sequence(alloc, Sequence::from_vec(copies))
 }
 
 /// A body of this type, without geometries and kept members. Doesn't allocate.
@@ -91,9 +91,8 @@ fn bare_body(alloc: Global, kind: ObjectType) -> Body
 fn arranged_object(alloc: Global, object: &Object) -> Result<Object, OutOfMemory>
     ensures { IfOk result (λ o. IsArranged object.now o) }
 {
-    let parents = arranged_ids(alloc, Ids::of(object.parents.as_slice()))?;
-    let listed = arranged_ids(alloc, object.children.iter())?;
-    let children = Children::from_sequence(alloc, listed)?;
+    let parents = arranged_ids(alloc, object.parents.iter())?;
+    let children = arranged_ids(alloc, object.children.iter())?;
     Ok(Object {
         body: SharedBody::unshared(bare_body(alloc, object.body.get().kind)),
         parents,

@@ -9,7 +9,6 @@ ghost use Rattle.city_doc.specs.inside.document.LenientCities.{listed, lenient_e
 use crate::object::body::body_of;
 use crate::object::ids::ids_or_none;
 use city_model::OutOfMemory;
-use city_model::children::Children;
 use city_model::city::City;
 use city_model::members::{into_object, take};
 use city_model::object::{Object, Point};
@@ -32,8 +31,7 @@ fn lenient_object_of(
         return Ok(None);
     };
     let parents = ids_or_none(alloc, take(&mut members, "parents"))?;
-    let children_ids = ids_or_none(alloc, take(&mut members, "children"))?;
-    let children = Children::from_sequence(alloc, children_ids)?;
+    let children = ids_or_none(alloc, take(&mut members, "children"))?;
     let Some(body) = body_of(alloc, points, Value::Object(members))? else {
         return Ok(None);
     };

@@ -9,6 +9,7 @@ ghost use Rattle.city_doc.specs.object.Faults.{has_bad_list};
 use crate::tree::values::{into_array, into_text};
 use city_model::OutOfMemory;
 use city_model::sequence::Sequence;
+use city_model::shared_ids::SharedIds;
 use city_model::text::Id;
 use serde_json::Value;
 use std::alloc::Global;
@@ -79,11 +80,11 @@ fn ids_of(alloc: Global, member: Option<Value>) -> Result<Option<Sequence<Id>>, 
 }
 
 /// The ids of a member, which is consumed; none where it is absent or isn't an array of texts.
-pub fn ids_or_none(alloc: Global, member: Option<Value>) -> Result<Sequence<Id>, OutOfMemory>
+pub fn ids_or_none(alloc: Global, member: Option<Value>) -> Result<SharedIds, OutOfMemory>
     ensures { IfOk result (λ ids. ids ≡ or_empty (list_or_absent as_str (option_map view member))) }
 {
     match ids_of(alloc, member)? {
-        Some(ids) => Ok(ids),
-        None => Ok(Sequence::new(alloc)),
+        Some(ids) => SharedIds::from_sequence(alloc, ids),
+        None => Ok(SharedIds::new(alloc)),
     }
 }

@@ -129,8 +129,13 @@ pub fn write_object(
         pool,
         out,
     )?;
-    let parents = Ids::of(object.parents.as_slice());
-    write_relatives(kept, Some("geometry"), "parents", parents, out)?;
+    write_relatives(
+        kept,
+        Some("geometry"),
+        "parents",
+        object.parents.iter(),
+        out,
+    )?;
     write_name(kept, Some("parents"), "type", out)?;
     out.string(name(body.kind))?;
     write_last(kept, "type", out)

@@ -69,8 +69,8 @@ impl<P: Site> Extra<P> {
         &self.map
     }
 
-    /// A copy of the members as a map, to which others may be added.
-    pub fn to_map(&self) -> Result<Map<String, Value>, OutOfMemory>
+    /// A copy of the members as a map.
+    fn to_map(&self) -> Result<Map<String, Value>, OutOfMemory>
         ensures members { IfOk result (λ m. members_view m.entries ≡ self.now) }
         ensures kept { P.keeps self.now ≡ true }
         ensures ordered { AreOrdered self.now }
@@ -80,7 +80,7 @@ impl<P: Site> Extra<P> {
     }
 
     /// A copy.
-    pub fn copy_members(&self) -> Result<Self, OutOfMemory>
+    pub(crate) fn copy_members(&self) -> Result<Self, OutOfMemory>
         ensures { IfOk result (λ e. e ≡ self.now) }
     {
         Ok(Extra {

@@ -1,5 +1,6 @@
 //! The plan of a delete.
 ghost use Rattle.std.specs.Prelude.{◌≡◌, ◌++◌, map, option_copied, IfOk, OnOk};
+ghost use Rattle.city_model.specs.Chunks.{ids_left};
 ghost use Rattle.city_model.specs.inside.Plans.{IsPlan, unlinked};
 ghost use Rattle.city_model.specs.Relations.{IsSound};
 ghost use Rattle.city_model.specs.declared.command.Command.{Command};
@@ -7,6 +8,7 @@ ghost use Rattle.city_model.specs.declared.command.Command.{Command};
 use crate::OutOfMemory;
 use crate::command::{Cause, Reply};
 use crate::copied::Copied;
+use crate::id_list::Ids;
 use crate::object::Object;
 use crate::plan::Plan;
 use crate::plan::objects::without_child;
@@ -28,7 +30,7 @@ pub fn plan_delete<V: View>(alloc: Global, view: &V, id: &Id) -> Result<Plan, Ou
     }
     let mut writes = Writes::new(alloc);
     writes.push((id.copy(alloc)?, None))?;
-    unlink_each(alloc, view, id, object.parents.as_slice(), &mut writes)?;
+    unlink_each(alloc, view, id, object.parents.iter(), &mut writes)?;
     Ok(Plan::Writes(Reply::Deleted, writes))
 }
 
@@ -37,11 +39,12 @@ fn unlink_each<V: View>(
     alloc: Global,
     view: &V,
     child: &Id,
-    parents: &[Id],
+    parents: Ids<'_>,
     writes: &mut Writes,
 ) -> Result<(), OutOfMemory>
+    requires sound { IsSound (V.map view.now) }
     ensures { OnOk result (writes.new
-        ≡ writes.old ++ map (unlinked (V.map view.now) child.now) parents.now) }
+        ≡ writes.old ++ map (unlinked (V.map view.now) child.now) (ids_left parents.entry)) }
 {
     for parent in parents {
         writes.push(unlink(alloc, view, child, parent)?)?;
@@ -56,6 +59,7 @@ fn unlink<V: View>(
     child: &Id,
     parent: &Id,
 ) -> Result<(Id, Option<Object>), OutOfMemory>
+    requires sound { IsSound (V.map view.now) }
     ensures { IfOk result (λ write. write ≡ unlinked (V.map view.now) child.now parent.now) }
 {
     let id = parent.copy(alloc)?;

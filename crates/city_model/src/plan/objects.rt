@@ -1,14 +1,13 @@
 //! Objects with other relations or another body.
 ghost use Rattle.std.specs.Prelude.{◌≡◌, [], ◌∷◌, ◌++◌, None, Some, IfOk};
+ghost use Rattle.city_model.specs.Relations.{AreDistinct};
 ghost use Rattle.city_model.specs.Meaning.{with_body, with_parent, with_child, without_parent, without_child, without_id};
 
 use crate::OutOfMemory;
-use crate::children::Children;
 use crate::copied::Copied;
-use crate::id_list::without_id;
 use crate::object::{Body, Object};
-use crate::sequence::Sequence;
 use crate::shared_body::SharedBody;
+use crate::shared_ids::SharedIds;
 use crate::text::Id;
 use std::alloc::Global;
 
@@ -18,8 +17,8 @@ pub fn new_object(alloc: Global, body: &Body) -> Result<Object, OutOfMemory>
 {
     Ok(Object {
         body: SharedBody::new(alloc, body.copy(alloc)?)?,
-        parents: Sequence::new(alloc),
-        children: Children::new(alloc),
+        parents: SharedIds::new(alloc),
+        children: SharedIds::new(alloc),
     })
 }
 
@@ -49,28 +48,28 @@ pub fn with_parent(alloc: Global, parent: &Id, object: &Object) -> Result<Object
 pub fn with_child(alloc: Global, child: &Id, object: &Object) -> Result<Object, OutOfMemory>
     ensures { IfOk result (λ o. o ≡ with_child child.now object.now) }
 {
-    let mut children = object.children.copy(alloc)?;
-    children.push(child.copy(alloc)?)?;
     Ok(Object {
         body: object.body.copy(alloc)?,
         parents: object.parents.copy(alloc)?,
-        children,
+        children: with_id(alloc, &object.children, child)?,
     })
 }
 
 /// The object without the parent.
 pub fn without_parent(alloc: Global, parent: &Id, object: &Object) -> Result<Object, OutOfMemory>
+    requires { AreDistinct object.now.parents }
     ensures { IfOk result (λ o. o ≡ without_parent parent.now object.now) }
 {
     Ok(Object {
         body: object.body.copy(alloc)?,
-        parents: without_id(alloc, parent, object.parents.as_slice())?,
+        parents: object.parents.without(parent)?,
         children: object.children.copy(alloc)?,
     })
 }
 
 /// The object without the child.
 pub fn without_child(alloc: Global, child: &Id, object: &Object) -> Result<Object, OutOfMemory>
+    requires { AreDistinct object.now.children }
     ensures { IfOk result (λ o. o ≡ without_child child.now object.now) }
 {
     Ok(Object {
@@ -81,7 +80,7 @@ pub fn without_child(alloc: Global, child: &Id, object: &Object) -> Result<Objec
 }
 
 /// The ids, and one more at their end.
-fn with_id(alloc: Global, ids: &Sequence<Id>, id: &Id) -> Result<Sequence<Id>, OutOfMemory>
+fn with_id(alloc: Global, ids: &SharedIds, id: &Id) -> Result<SharedIds, OutOfMemory>
     ensures { IfOk result (λ all. all ≡ ids.now ++ id.now ∷ []) }
 {
     let mut all = ids.copy(alloc)?;

@@ -1,13 +1,8 @@
 -- What an undo image says of its id, where x is what the city has there.
-use Rattle.std.specs.Prelude.{◌==◌, ◌&&◌, not, ℕ, Bool, true, false, Option, None, Some, is_none}
+use Rattle.std.specs.Prelude.{ℕ, Bool, true, false, Option, None, Some, is_none}
 use Rattle.std.specs.Prelude.{if◌then◌else◌}
 use Rattle.city_model.specs.declared.object.Object.{Object}
 use Rattle.city_txn.specs.declared.image.UndoImage.{UndoImage}
-
--- the first, or where there is none the second
-abbrev pub or_else : {Y : Type 0} → Option Y → Option Y → Option Y
-or_else None y = y
-or_else (Some x) y = Some x
 
 -- what its transaction sees: nothing where a placeholder holds the slot
 abbrev pub seen_under : Option Object → UndoImage → Option Object
@@ -17,15 +12,7 @@ seen_under x i = if i.deleted then None else x
 abbrev pub before_image : Option Object → UndoImage → Option Object
 before_image x i = if i.unwritten then seen_under x i else i.before
 
--- what a stamp sees: what the image's transaction does, or once that has written, what stood there before
-abbrev pub seen_by : ℕ → Option Object → UndoImage → Option Object
-seen_by stamp x i = if not (i.by == stamp) && not i.unwritten then i.before else seen_under x i
-
--- the same where there may be no image
-abbrev pub seen_at : Option Object → Option UndoImage → Option Object
-seen_at x None = x
-seen_at x (Some i) = seen_under x i
-
+-- what stands committed, where there may be no image
 abbrev pub committed_at : Option Object → Option UndoImage → Option Object
 committed_at x None = x
 committed_at x (Some i) = before_image x i

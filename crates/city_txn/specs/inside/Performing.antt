@@ -1,20 +1,9 @@
 -- A command done on the store, for a transaction that holds its locks.
-use Rattle.std.specs.Prelude.{◌≡◌, ℕ, Bool, true, List, Result, is_ok, IfOk, IsOk}
-use Rattle.std.specs.Prelude.{if◌then◌else◌}
-use Rattle.std.specs.Map.{keys_of}
-use Rattle.city_model.specs.CityMap.{has_id}
-use Rattle.city_model.specs.Runs.{Change}
-use Rattle.city_model.specs.declared.command.Command.{Command}
-use Rattle.city_model.specs.declared.command.Reply.{Reply}
-use Rattle.city_model.specs.Marks.{View}
-use Rattle.city_model.specs.Meaning.{locks_of}
-use Rattle.city_model.specs.Relations.{IsSound}
-use Rattle.city_model.specs.Standing.{locks_id, locks_id_exclusively}
-use Rattle.city_model.specs.inside.CommandParts.{answer}
-use Rattle.city_txn.specs.inside.State.{State, store_own, store_written, store_committed, store_view}
-use Rattle.city_txn.specs.inside.State.{MayReserve, Touches}
-use Rattle.city_txn.specs.UndoLog.{written_after, marks_with}
-use Rattle.city_txn.specs.inside.Done.{own_done, finds_mark}
+use Rattle.std.specs.Prelude.{◌≡◌, ℕ, Bool, List, Result, is_ok, IfOk, IsOk, if◌then◌else◌}
+use Rattle.city_txn.specs.inside.Prelude.{keys_of, Command, Reply, WentBack, has_id, View, locks_of, IsSound, Change}
+use Rattle.city_txn.specs.inside.Prelude.{locks_id, locks_id_exclusively, answer, seen_next, Written, written_after}
+use Rattle.city_txn.specs.inside.Prelude.{marks_with, own_after, State, store_written, store_committed, store_view}
+use Rattle.city_txn.specs.inside.Prelude.{MayReserve, Touches}
 
 -- whether the change writes the id
 abbrev pub plans : Change → List ℕ → Bool
@@ -23,6 +12,11 @@ plans change id = has_id (keys_of change) id
 -- what the transaction sees
 abbrev pub seen : State → ℕ → View
 seen v stamp = record { map = store_view v stamp; marks = marks_with (store_committed v) (store_written v stamp).1 }
+
+-- what is written after the command, done where this is seen
+abbrev pub written_next : View → Command → Written → Written
+written_next x command w =
+    written_after command (own_after w.0 (locks_of x.map command) (answer x command) (seen_next x command).map) w
 
 -- the transaction is open and sees a sound city, and no other has reserved an id that the command locks
 pub record MayPerform (v : State) (stamp : ℕ) (command : Command) : Type 0 where
@@ -33,11 +27,10 @@ pub record IsPerform {E : Type 0} (stamp : ℕ) (command : Command) (result : Re
     (old new : State) : Type 0 where
   pub reply : IfOk result (λ reply. reply ≡ answer (seen old stamp) command)
   -- going back to a mark that is there doesn't allocate
-  pub found : finds_mark (seen old stamp) command ≡ true → IsOk result
+  pub found : answer (seen old stamp) command ≡ WentBack → IsOk result
   -- what the command writes stands there as the command leaves it, and so with marks; if memory runs out,
   -- nothing is written
-  pub written : store_written new stamp ≡ (if is_ok result
-      then written_after command (own_done (store_view old stamp) (store_own old stamp) command)
-      (store_written old stamp)
+  pub written : store_written new stamp
+      ≡ (if is_ok result then written_next (seen old stamp) command (store_written old stamp)
       else store_written old stamp)
   pub touches : Touches stamp (locks_id_exclusively (locks_of (store_view old stamp) command)) old new

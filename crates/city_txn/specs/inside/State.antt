@@ -1,8 +1,10 @@
 -- What contracts see of the store: the committed city, and for each open transaction what it wrote and its undo log.
-use Rattle.std.specs.Prelude.{◌≡◌, ◌==◌, ◌&&◌, ◌||◌, ℕ, Bool, true, false, List, [], Option, is_some}
+use Rattle.std.specs.Prelude.{◌≡◌, ◌==◌, ◌&&◌, ◌||◌, ℕ, Bool, true, false, List, [], Option, None, Some, is_some}
 use Rattle.std.specs.Prelude.{if◌then◌else◌}
 use Rattle.city_model.specs.declared.frame.Frame.{Frame}
 use Rattle.city_model.specs.CityMap.{Objects, CityMap, object_at, has_id, same_id}
+use Rattle.city_model.specs.declared.object.Object.{Object}
+use Rattle.city_txn.specs.inside.LogTests.{is_noted}
 use Rattle.city_txn.specs.inside.UndoState.{Reservations, listed_by, reservations_of}
 use Rattle.city_txn.specs.UndoLog.{OwnWrites, Written, Logs, log_of, marked, has_before}
 use Rattle.city_txn.specs.Writes.{Write, write_of, own_or, own_write, unless_by}
@@ -40,10 +42,19 @@ store_committed v id = object_at v.city id
 abbrev pub store_view : State → ℕ → CityMap
 store_view v stamp id = own_or stamp (write_of v.writes id) (object_at v.city id)
 
+-- what stands written at an id once the transaction wrote this there, or nothing
+abbrev pub written_with : ℕ → Option (Option Object) → Option Write → Option Write
+written_with stamp None w = w
+written_with stamp (Some o) w = Some (stamp, o)
+
 -- the transaction is open, and no other has reserved one of these ids
 pub record MayReserve (v : State) (stamp : ℕ) (ids : List ℕ → Bool) : Type 0 where
   pub opened : is_begun v stamp ≡ true
   pub alone : (id : List ℕ) → ids id ≡ true → (t : ℕ) → is_reserved v t id ≡ true → t ≡ stamp
+
+-- it has reserved the id, and each of its marks stays when it writes there
+abbrev pub IsReady : State → ℕ → List ℕ → Type 0
+IsReady v stamp id = (is_reserved v stamp id ≡ true) × (is_noted (log_of v.logs stamp) id ≡ true)
 
 -- the transaction has newly reserved none but these ids, and no other has reserved any
 abbrev pub ReservesAmong : (List ℕ → Bool) → ℕ → State → State → Type 0
@@ -54,14 +65,6 @@ ReservesAmong ids stamp v w = (t : ℕ) (id : List ℕ) → is_reserved w t id �
 abbrev pub OthersWritesStay : ℕ → State → State → Type 0
 OthersWritesStay stamp v w =
     (id : List ℕ) → unless_by stamp (write_of w.writes id) ≡ unless_by stamp (write_of v.writes id)
-
--- what anyone sees is the same
-pub record SeesSame (v w : State) : Type 0 where
-  pub frame : w.frame ≡ v.frame
-  pub city : store_committed w ≡ store_committed v
-  pub writes : (id : List ℕ) → write_of w.writes id ≡ write_of v.writes id
-  pub opened : (stamp : ℕ) → is_begun w stamp ≡ is_begun v stamp
-  pub logs : w.logs ≡ v.logs
 
 -- nothing but writes has changed
 pub record ChangesWrites (v w : State) : Type 0 where

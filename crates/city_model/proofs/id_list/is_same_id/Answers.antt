@@ -9,4 +9,5 @@ returns-else-end_alike c =
     let id = c.args.id.now in
     let other = c.args.other.now in
     c.if-end_alike.false
-    ∙ sym (false_from_ne_true (same_id id other) (λ same. false≢true (c.if-end_alike.ensures (same_id_true id other same))))
+    ∙ sym (false_from_ne_true (same_id id other)
+    (λ same. false≢true (c.if-end_alike.ensures (same_id_true id other same))))

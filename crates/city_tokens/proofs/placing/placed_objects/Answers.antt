@@ -23,7 +23,8 @@ returns c =
     let is : IsFromIterResult (slice_cmp nat_cmp) placed.items objects =
     given c.collect.result c.ok.result objects (λ m. IsFromIterResult (slice_cmp nat_cmp) placed.items m)
     c.ok.ensures.value c.in_ok-objects.was
-    (fact_from_collect (λ xs m. IsFromIterResult (slice_cmp nat_cmp) xs m) c.collect.result c.collect.ensures.ran all) in
+    (fact_from_collect (λ xs m. IsFromIterResult (slice_cmp nat_cmp) xs m) c.collect.result c.collect.ensures.ran
+    all) in
     record {
       placed = λ found listed. listed_entries points c.args.listed placed.items objects found is pairs listed;
       faultless = subst AreFaultless (sym (made placed.items objects is))

@@ -1,7 +1,14 @@
-use Rattle.std.proofs.Common.{take}
-use Rattle.city_model.specs.CityMap.{has_id}
-use Rattle.city_txn.specs.inside.Ending.{AreEnded}
+use Rattle.std.proofs.Common.{take, ◌≡◌, None}
+use Rattle.city_model.specs.CityMap.{has_id, object_at}
+use Rattle.city_txn.specs.inside.Ending.{left_at_end}
+use Rattle.city_txn.specs.inside.Slots.{Became}
+use Rattle.city_txn.specs.inside.UndoState.{image_at}
 use Rattle.city_txn.proofs.ending.end_each.Given as goal
 
 abbrev pub invariant-loop-id : goal.invariant-loop-id
-invariant-loop-id l = AreEnded l.end (has_id (take l.id-index l.ids)) l.initial.city l.initial.undo l.city l.undo
+invariant-loop-id l = record {
+  became : Became (has_id (take l.id-index l.ids))
+      (λ q. left_at_end l.end (object_at l.initial.city.1 q) (image_at l.initial.undo.images q)) (λ q. None)
+      l.initial.city l.city l.initial.undo.images l.undo.images;
+  reservations : l.undo.reservations ≡ l.initial.undo.reservations;
+}

@@ -24,4 +24,4 @@ returns c =
     ∙ lenient_read c.args.points.now (view c.args.object) _ _ _ _ _ is_object c.take.ensures.found c.take.ensures.left
     c.take-2.ensures.found c.take-2.ensures.left c.in-Some-2.body _ _ (is_body ∙ c.in-Some-2.is)
     c.in_ok-parents.ensures
-    (c.in_ok-children.ensures ∙ c.in_ok-children_ids.ensures)
+    c.in_ok-children.ensures

@@ -65,7 +65,7 @@ returns-clause-tokens c =
     let above = own_written ordered refl lacks.no_parents (refl, tt) c.write_relatives-2.new.out.tokens shaped
     (subst (λ ids. c.write_relatives-2.new.out.tokens ≡ c.write_list.new.out.tokens
     ++ (tokens_of_members (members_between (Some (codes "geometry")) (Some (codes "parents")) kept)
-    ++ tokens_of_own (codes "parents") (listed string ids))) (c.of-parents.ensures ∙ c.as_slice.ensures)
+    ++ tokens_of_own (codes "parents") (listed string ids))) c.iter-2.ensures
     c.in_ok-write_relatives-2.ensures.tokens) in
     let typed = value_written ordered refl lacks.no_type tt c.write_name.new.out.tokens c.string.new.self.tokens above
     c.in_ok-write_name.ensures.tokens
@@ -98,7 +98,7 @@ returns-clause-reads c =
       (
         c.in_ok-write_list.ensures.reads pool small,
         (
-          subst (λ ids. OwnReadsBack (listed string ids)) (c.of-parents.ensures ∙ c.as_slice.ensures)
+          subst (λ ids. OwnReadsBack (listed string ids)) c.iter-2.ensures
               c.in_ok-write_relatives-2.ensures.reads,
           (string_reads _, tt),
         ),

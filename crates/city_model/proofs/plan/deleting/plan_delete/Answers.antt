@@ -1,5 +1,6 @@
 use Rattle.std.proofs.Common.{◌≡◌, ◌∙◌, ◌==◌, ◌++◌, List, ℕ, Option, [], ◌∷◌, None, sym, ap, map, length, true, rules}
 use Rattle.city_model.specs.declared.object.Object.{Object}
+use Rattle.city_model.specs.Chunks.{ids_left}
 use Rattle.city_model.specs.Runs.{Change}
 use Rattle.city_model.specs.inside.Plans.{unlinked}
 use Rattle.city_model.proofs.Planned.{delete_writes}
@@ -16,5 +17,5 @@ returns g c =
     delete_writes m c.args.id.now c.in-Some.object.now c.unlink_each.new.writes c.requires.sound (sym c.in-Some.ensures)
     none
     (c.in_ok-unlink_each.ensures
-    ∙ ap (λ (ws : Change). ws ++ map (unlinked m c.args.id.now) c.as_slice.result.now) first
-    ∙ ap (λ ids. first_write c.args.id.now ∷ map (unlinked m c.args.id.now) ids) c.as_slice.ensures)
+    ∙ ap (λ (ws : Change). ws ++ map (unlinked m c.args.id.now) (ids_left c.iter.result)) first
+    ∙ ap (λ ids. first_write c.args.id.now ∷ map (unlinked m c.args.id.now) ids) c.iter.ensures)

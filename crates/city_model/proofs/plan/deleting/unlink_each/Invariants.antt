@@ -1,7 +1,10 @@
-use Rattle.std.proofs.Common.{◌≡◌, ◌++◌, take, map}
+use Rattle.std.proofs.Common.{◌≡◌, ◌++◌, map}
+use Rattle.city_model.specs.Chunks.{ids_left}
 use Rattle.city_model.specs.inside.Plans.{unlinked}
 use Rattle.city_model.proofs.plan.deleting.unlink_each.Given as goal
 
+-- what was written, and then what is left
 abbrev pub invariant-loop-parent : goal.invariant-loop-parent
 invariant-loop-parent g l =
-    l.writes ≡ l.initial.writes ++ map (unlinked (g.V.View.map l.view) l.child) (take l.parent-index l.parents)
+    l.writes ++ map (unlinked (g.V.View.map l.view) l.child) (ids_left l.parent-iterator)
+    ≡ l.initial.writes ++ map (unlinked (g.V.View.map l.view) l.child) (ids_left l.fn.parents)

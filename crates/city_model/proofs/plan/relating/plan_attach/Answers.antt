@@ -1,12 +1,17 @@
 use Rattle.std.proofs.Common.{◌≡◌, ◌∷◌, [], Some, option_map, ◌∙◌, sym, ap, subst}
-use Rattle.city_model.specs.CityMap.{has_id}
 use Rattle.city_model.specs.Meaning.{with_child}
 use Rattle.city_model.specs.Runs.{Change}
 use Rattle.city_model.specs.inside.Plans.{AreWritesOf}
 use Rattle.city_model.specs.declared.command.Command.TheVariants.{Attach}
 use Rattle.city_model.specs.declared.command.Reply.TheVariants.{Attached}
+use Rattle.city_model.proofs.Soundness.{parent_and_child}
 use Rattle.city_model.proofs.Planned.{attach_writes}
 use Rattle.city_model.proofs.plan.relating.plan_attach.Goals as goal
+
+pub is_attached-requires : goal.is_attached-requires
+is_attached-requires g c =
+    parent_and_child (g.V.View.map c.args.view.now) c.args.child.now c.args.parent.now c.in-Some.child_object.now
+    c.in-Some-look.parent_object.now c.requires.sound (sym c.in-Some.ensures) (sym c.in-Some-look.ensures)
 
 pub returns : goal.returns
 returns g c =
@@ -22,5 +27,5 @@ returns g c =
     (attach_writes m child parent c.in-Some.child_object.now c.in-Some-look.parent_object.now below
     (sym c.in-Some.ensures) (sym c.in-Some-look.ensures)
     (sym c.is_wrong_family.ensures ∙ c.if-is_wrong_family.false)
-    (ap (λ ids. has_id ids parent) (sym c.as_slice.ensures) ∙ sym c.has_id.ensures ∙ c.if-has_id.false)
+    (sym c.is_attached.ensures ∙ c.if-is_attached.false)
     c.in_ok-below.ensures)

@@ -1,12 +1,25 @@
 use Rattle.std.proofs.Common.{◌≡◌, ◌∷◌, [], Some, option_map, ◌∙◌, sym, ap, subst}
-use Rattle.city_model.specs.CityMap.{has_id}
 use Rattle.city_model.specs.Meaning.{without_child}
 use Rattle.city_model.specs.Runs.{Change}
 use Rattle.city_model.specs.inside.Plans.{AreWritesOf}
 use Rattle.city_model.specs.declared.command.Command.TheVariants.{Detach}
 use Rattle.city_model.specs.declared.command.Reply.TheVariants.{Detached}
+use Rattle.city_model.proofs.Soundness.{parent_and_child}
 use Rattle.city_model.proofs.Planned.{detach_writes}
 use Rattle.city_model.proofs.plan.relating.plan_detach.Goals as goal
+
+pub is_attached-requires : goal.is_attached-requires
+is_attached-requires g c =
+    parent_and_child (g.V.View.map c.args.view.now) c.args.child.now c.args.parent.now c.in-Some.child_object.now
+    c.in-Some-look.parent_object.now c.requires.sound (sym c.in-Some.ensures) (sym c.in-Some-look.ensures)
+
+pub without_parent-requires : goal.without_parent-requires
+without_parent-requires g c =
+    (c.requires.sound c.args.child.now c.in-Some.child_object.now (sym c.in-Some.ensures)).0.parents_once
+
+pub without_child-requires : goal.without_child-requires
+without_child-requires g c =
+    (c.requires.sound c.args.parent.now c.in-Some-look.parent_object.now (sym c.in-Some-look.ensures)).0.children_once
 
 pub returns : goal.returns
 returns g c =
@@ -22,5 +35,5 @@ returns g c =
     (detach_writes m child parent c.in-Some.child_object.now c.in-Some-look.parent_object.now below
     (sym c.in-Some.ensures) (sym c.in-Some-look.ensures)
     c.requires.sound
-    (ap (λ ids. has_id ids parent) (sym c.as_slice.ensures) ∙ sym c.has_id.ensures ∙ c.if-not-has_id.false)
+    (sym c.is_attached.ensures ∙ c.if-not-is_attached.false)
     c.in_ok-below.ensures)

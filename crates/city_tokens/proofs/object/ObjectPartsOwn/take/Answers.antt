@@ -1,7 +1,5 @@
-use Rattle.std.proofs.Common.{◌≡◌, Some, refl, sym, subst, ◌∙◌}
+use Rattle.std.proofs.Common.{refl, sym, ◌∙◌}
 use Rattle.serde_json.specs.Data.{string}
-use Rattle.city_tokens.specs.inside.Standing.{IsString, IsArrayOf}
-use Rattle.city_tokens.proofs.Options.{given}
 use Rattle.city_tokens.proofs.ObjectMembers.{with_kind, with_geometry, with_parents, with_children, with_kept}
 use Rattle.city_tokens.proofs.object.ObjectPartsOwn.take.Goals as goal
 
@@ -43,12 +41,9 @@ returns-in_ok-parents-in-parents c =
 
 pub returns-in_ok-children-in-children : goal.returns-in_ok-children-in-children
 returns-in_ok-children-in-children c =
-    let read = c.in_ok-ids-in-children in
-    let children = c.in_ok-children-in-children in
-    let same : children.children ≡ read.ids = given c.from_sequence.result (Some children.children) children.children
-    (λ ids. ids ≡ read.ids) children.ensures.value refl c.from_sequence.ensures in (
+    let read = c.in_ok-children-in-children in (
       read.ensures.0,
       read.ensures.1,
-      λ found kept h. with_children c.args.self.now children.children c.args.name.now _ found kept c.in-children.is
-          (subst (λ ids. IsArrayOf IsString ids read.ensures.0) (sym same) read.ensures.2) h,
+      λ found kept h. with_children c.args.self.now read.children c.args.name.now _ found kept c.in-children.is
+          read.ensures.2 h,
     )

@@ -1,20 +1,9 @@
-use Rattle.std.proofs.Common.{◌==◌, ◌&&◌, ◌∙◌, sym, ap, not}
+use Rattle.std.proofs.Common.{◌∙◌}
 use Rattle.city_txn.proofs.AtOneId.{here, by_seen}
-use Rattle.city_txn.proofs.OneIdWritten.{by_image}
 use Rattle.city_txn.proofs.store.Store.has_written.Goals as goal
 
-pub returns-then-not-image : goal.returns-then-not-image
-returns-then-not-image c =
-    let i = c.in-Some.image.now in
-    sym (ap (λ b. not b && (i.by == c.args.stamp)) c.if-not-image.true)
-    ∙ by_image c.args.stamp (here c.self.inside c.args.id.now) i
-    ∙ by_seen c.self.inside c.self.invariant c.self.view_is c.args.id.now c.in-Some.ensures c.args.stamp
-
-pub returns-else-not-image : goal.returns-else-not-image
-returns-else-not-image c =
-    let i = c.in-Some.image.now in
-    ap not c.if-not-image.false ∙ sym (ap (λ b. not b && (i.by == c.args.stamp)) c.if-not-image.false)
-    ∙ by_image c.args.stamp (here c.self.inside c.args.id.now) i
+pub returns-in-Some : goal.returns-in-Some
+returns-in-Some c = c.is_by.ensures (here c.self.inside c.args.id.now)
     ∙ by_seen c.self.inside c.self.invariant c.self.view_is c.args.id.now c.in-Some.ensures c.args.stamp
 
 pub returns-in-None : goal.returns-in-None

@@ -1,13 +1,13 @@
-use Rattle.std.proofs.Common.{◌∙◌, sym, ap}
-use Rattle.city_txn.specs.inside.Images.{seen_by}
-use Rattle.city_txn.proofs.AtOneId.{here, seen_point, view_seen}
+use Rattle.std.proofs.Common.{Some, ◌∙◌, ap}
+use Rattle.city_txn.specs.Writes.{own_or}
+use Rattle.city_txn.specs.inside.Images.{committed_at, write_at}
+use Rattle.city_txn.proofs.AtOneId.{view_seen}
 use Rattle.city_txn.proofs.store.Store.read.Goals as goal
 
 pub returns-in-Some : goal.returns-in-Some
 returns-in-Some c =
-    let i = c.in-Some.image.now in
-    c.seen_by.ensures ∙ ap (λ x. seen_by c.args.stamp x i) c.get.ensures
-    ∙ sym (seen_point c.args.stamp (here c.self.inside c.args.id.now) i)
+    let i = Some c.in-Some.image.now in
+    c.seen_by.ensures ∙ ap (λ x. own_or c.args.stamp (write_at x i) (committed_at x i)) c.get.ensures
     ∙ view_seen c.self.inside c.self.invariant c.self.view_is c.args.id.now c.in-Some.ensures c.args.stamp
 
 pub returns-in-None : goal.returns-in-None

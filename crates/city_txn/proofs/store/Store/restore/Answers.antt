@@ -1,15 +1,14 @@
-use Rattle.std.proofs.Common.{None, refl}
-use Rattle.city_txn.proofs.OneIdWritten.{OwnWritten, unset_written}
+use Rattle.std.proofs.Common.{arith, None}
+use Rattle.city_txn.proofs.StoreChanged.{OwnWritten, own_written}
 use Rattle.city_txn.proofs.store.Store.restore.Goals as goal
 use Rattle.city_txn.proofs.store.Store.restore.Goals.{After-unwrite}
 
 done : (c : After-unwrite) → OwnWritten c.args.self.now
     (record c.self.inside { city = c.unwrite.new.city; undo = c.unwrite.new.self }) c.args.stamp c.args.id None
 done c =
-    let a = c.self.inside in
-    let w = c.unwrite.ensures in
-    unset_written a (record a { city = c.unwrite.new.city; undo = c.unwrite.new.self }) c.self.invariant c.self.view_is
-    c.args.stamp c.args.id c.requires w.frame w.reservations refl w.city w.images
+    own_written c.self.inside c.self.invariant c.self.view_is c.args.stamp c.args.id c.requires c.unwrite.new.city
+    c.unwrite.new.self c.unwrite.ensures.became c.unwrite.ensures.reservations None
+    (λ mine slot. grind arith)
 
 pub invariant_of-self : goal.invariant_of-self
 invariant_of-self c = (done (goal.at.invariant_of-self c).After-unwrite).in_place

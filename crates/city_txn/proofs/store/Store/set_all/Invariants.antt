@@ -1,24 +1,17 @@
-use Rattle.std.proofs.Common.{◌≡◌, ℕ, List, Some, true, false, vec_len, if◌then◌else◌}
-use Rattle.city_model.specs.CityMap.{CityMap}
-use Rattle.city_txn.specs.Writes.{write_of, unless_by}
-use Rattle.city_txn.specs.inside.State.{is_reserved, ChangesWrites}
-use Rattle.city_model.specs.inside.Plans.{AreOf}
+use Rattle.std.proofs.Common.{◌≡◌, ℕ, List, true, vec_len}
+use Rattle.city_model.specs.Writing.{write_in}
+use Rattle.city_txn.specs.Writes.{write_of}
+use Rattle.city_txn.specs.inside.State.{is_reserved, written_with, ChangesWrites, OthersWritesStay}
 use Rattle.city_txn.specs.inside.Performing.{plans}
 use Rattle.city_txn.proofs.store.Store.set_all.Given as goal
 
 abbrev pub invariant-loop-write : goal.invariant-loop-write
 invariant-loop-write l = record {
   only : ChangesWrites l.initial.self l.self;
-  others : (q : List ℕ) → unless_by l.stamp (write_of l.self.writes q)
-      ≡ unless_by l.stamp (write_of l.initial.self.writes q);
+  others : OthersWritesStay l.stamp l.initial.self l.self;
   reserved : (q : List ℕ) → plans l.writes.items q ≡ true → is_reserved l.self l.stamp q ≡ true;
-  among : (q : List ℕ) → plans l.writes.items q ≡ true → plans l.initial.writes.items q ≡ true;
-  apart : (q : List ℕ) → plans l.initial.writes.items q ≡ false → write_of l.self.writes q
-      ≡ write_of l.initial.self.writes q;
-  of : (f : CityMap) → AreOf f l.initial.writes.items → AreOf f l.writes.items;
-  writes : (f : CityMap) → AreOf f l.initial.writes.items → (q : List ℕ) →
-      (if plans l.writes.items q then Some (l.stamp, f q) else write_of l.self.writes q)
-      ≡ (if plans l.initial.writes.items q then Some (l.stamp, f q) else write_of l.initial.self.writes q);
+  writes : (q : List ℕ) → written_with l.stamp (write_in l.writes.items q) (write_of l.self.writes q)
+      ≡ written_with l.stamp (write_in l.initial.writes.items q) (write_of l.initial.self.writes q);
 }
 
 abbrev pub decreases-loop-write : goal.decreases-loop-write

@@ -1,0 +1,10 @@
+use Rattle.std.proofs.Common.{◌≡◌}
+use Rattle.city_model.specs.Chunks.{ids_left}
+use Rattle.city_model.specs.Meaning.{exclusively}
+use Rattle.city_locks.specs.Asking.{first_answer}
+use Rattle.city_locks.proofs.table.LockTable.would_answer_each.Given as goal
+
+abbrev pub invariant-loop-id : goal.invariant-loop-id
+invariant-loop-id l =
+    first_answer l.self l.stamp (exclusively (ids_left l.fn.ids))
+    ≡ first_answer l.self l.stamp (exclusively (ids_left l.id-iterator))

@@ -1,0 +1,8 @@
+use Rattle.std.proofs.Common.{◌≡◌, drop, flat_map}
+use Rattle.std.specs.Arc.{arc_value}
+use Rattle.city_model.specs.CityMap.{has_id}
+use Rattle.city_model.proofs.shared_ids.chunk_with.Given as goal
+
+abbrev pub invariant-loop-at : goal.invariant-loop-at
+invariant-loop-at l =
+    has_id (flat_map arc_value l.chunks) l.id ≡ has_id (flat_map arc_value (drop l.at l.chunks)) l.id

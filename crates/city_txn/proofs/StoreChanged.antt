@@ -1,0 +1,246 @@
+-- A city and its undo images that changed at some ids, and the store that has them: an id written, or reserved, or a
+-- transaction ended.
+use Rattle.std.proofs.Common.{◌<◌, ◌+◌, length, take, get_or, arith, if◌then◌else◌, unwrap_or, ◌==◌, ◌&&◌, ◌||◌, []}
+use Rattle.std.proofs.Common.{◌∷◌, ◌++◌, is_none, ◌≡◌, ℕ, List, Bool, true, false, Option, None, Some, is_some}
+use Rattle.std.proofs.Common.{refl, ap, sym, ◌∙◌, subst}
+use Rattle.std.proofs.lemmas.Bool.{false≢true, eqb-true, eq-eqb}
+use Rattle.std.proofs.lemmas.List.Folds.{list_any-append}
+use Rattle.city_model.specs.CityMap.{CityMap, CityValue, Objects, changed, has_id, object_at, same_id}
+use Rattle.city_model.specs.declared.object.Object.{Object}
+use Rattle.city_model.proofs.Ids.{same_id_true, same_id_itself, same_id_back}
+use Rattle.city_txn.specs.inside.Ending.{left_at_end, map_at_end}
+use Rattle.city_txn.specs.inside.State.{MayReserve, Touches, store_written, Forgets}
+use Rattle.city_txn.specs.inside.UndoState.{Images, image_at, reservations_of, listed_by}
+use Rattle.city_txn.specs.declared.store.Store.TheInside.{Inside}
+use Rattle.city_txn.specs.declared.ending.End.{End}
+use Rattle.city_txn.specs.declared.image.UndoImage.{UndoImage}
+use Rattle.city_txn.specs.declared.undo.Undo.{Undo}
+use Rattle.city_txn.specs.inside.Images.{committed_at, unwritten_image, write_at, writer_of}
+use Rattle.city_locks.proofs.Ids.{has_id_more}
+use Rattle.city_txn.specs.inside.State.{State, store_committed, is_reserved, WritesOne, OthersWritesStay, is_begun}
+use Rattle.city_txn.specs.UndoLog.{OwnWrites, Logs, log_of, marked}
+use Rattle.city_txn.proofs.AtOneId.{here, image, city_is, writes_is, view_is}
+use Rattle.city_txn.specs.Placeholder.{placeholder}
+use Rattle.city_txn.specs.declared.ending.End.TheVariants.{Commit, RollBack}
+use Rattle.city_txn.specs.inside.InPlace.{state_of, is_writer, IsInPlace}
+use Rattle.city_txn.specs.inside.Slots.{Became}
+use Rattle.city_txn.specs.Writes.{Write, write_of, unless_by, own_write}
+
+-- ---- a city and its images
+
+-- what stands at each id after one was set
+pub set_at : (objects new : Objects) (id : List ℕ) (x : Option Object)
+    → object_at new ≡ changed (object_at objects) id x
+    → (q : List ℕ) → object_at new q ≡ changed (object_at objects) id x q
+set_at objects new id x e q = ap (λ m. m q) e
+
+-- ids ended one after another
+pub one_more_ended : (end : End) {a b c : CityValue} {m n k : Images} (ids : List (List ℕ)) (i : ℕ) (id : List ℕ)
+    → i < length ids → id ≡ get_or ids i id
+    → Became (has_id (take i ids)) (λ q. left_at_end end (object_at a.1 q) (image_at m q)) (λ q. None) a b m n
+    → Became (same_id id) (λ q. left_at_end end (object_at b.1 id) (image_at n id)) (λ q. None) b c n k
+    → Became (has_id (take (i + 1) ids)) (λ q. left_at_end end (object_at a.1 q) (image_at m q)) (λ q. None) a c m k
+one_more_ended end ids i id lt is before one =
+    let more = λ (q : List ℕ). has_id_more ids i id q lt is in grind (arith, same_id_true)
+
+-- a reservation taken back
+pub taken_back : (s : ℕ) (id : List ℕ) {a b c : CityValue} {m n k : Images}
+    → image_at m id ≡ None
+    → Became (same_id id) (λ q. Some (unwrap_or (object_at a.1 id) placeholder))
+    (λ q. Some (unwritten_image s (is_none (object_at a.1 id)))) a b m n
+    → Became (same_id id) (λ q. left_at_end RollBack (object_at b.1 id) (image_at n id)) (λ q. None) b c n k
+    → Became (λ q. false) (λ q. Some (unwrap_or (object_at a.1 id) placeholder))
+    (λ q. Some (unwritten_image s (is_none (object_at a.1 id)))) a c m k
+taken_back s id none add back = grind (arith, same_id_true)
+
+-- ---- a store of these
+
+module _ (b : Inside) (k : IsInPlace b) where
+  -- what is committed then
+  committed_is : (m : CityMap) → ((q : List ℕ) → committed_at (here b q) (image b q) ≡ m q)
+      → store_committed (state_of b) ≡ m
+  committed_is m at = λ j q. (city_is b k q ∙ at q) j
+
+-- ---- one id written
+
+-- what s wrote at an id that it has reserved became w; what is committed there stays, and who has reserved it
+pub record Rewrites (x : Option Object) (i : Option UndoImage) (y : Option Object) (j : Option UndoImage)
+    (w : Option Write) : Type 0 where
+  pub slot : is_some y ≡ true
+  pub committed : committed_at y j ≡ committed_at x i
+  pub write : write_at y j ≡ w
+  pub writer : writer_of j ≡ writer_of i
+
+-- what is left of the store then
+pub record OwnWritten (v : State) (b : Inside) (s : ℕ) (id : List ℕ) (w : Option Write) : Type 0 where
+  pub in_place : IsInPlace b
+  pub one : WritesOne id w v (state_of b)
+  pub others : OthersWritesStay s v (state_of b)
+
+pub own_written : (a : Inside) (k : IsInPlace a) {v : State} (seen : state_of a ≡ v) (s : ℕ) (id : List ℕ)
+    (reserved : is_reserved v s id ≡ true) (city : CityValue) (undo : Undo) {x : Option Object} {i : Option UndoImage}
+    → Became (same_id id) (λ q. x) (λ q. i) a.city city a.undo.images undo.images
+    → undo.reservations ≡ a.undo.reservations → (w : Option Write)
+    → (is_writer s (writer_of (image a id)) ≡ true → is_some (here a id) ≡ true
+    → Rewrites (here a id) (image a id) x i w)
+    → OwnWritten v (record a { city = city; undo = undo }) s id w
+own_written a k seen s id reserved city undo {x} {i} t reservations w rewrites =
+    let b : Inside = record a { city = city; undo = undo } in
+    let mine : is_writer s (writer_of (image a id)) ≡ true =
+    sym (k.listed s id) ∙ ap (λ (u : State). is_reserved u s id) seen ∙ reserved in
+    let r = rewrites mine (let slot = k.has_slot id in grind arith) in
+    let opened = ap (λ u. u.entries) reservations in
+    let same : (r : ℕ) (q : List ℕ) → is_reserved (state_of b) r q ≡ is_reserved (state_of a) r q =
+    λ r q. ap (λ es. has_id (reservations_of es r) q) opened in
+    let in_place : IsInPlace b = grind (arith, same_id_true) in
+    subst (λ (u : State). OwnWritten u b s id w) seen (record {
+      in_place = in_place;
+      one = record {
+        only = record {
+          frame = t.frame;
+          city = committed_is b in_place (store_committed (state_of a)) (λ q.
+              let y = t.object_is q in let j = t.image_is q in let e = r.committed in let at = same_id_true id q in
+              let was = city_is a k q in grind arith);
+          opened = opened;
+          logs = refl;
+        };
+        writes = λ q. let was = writes_is a k q in let is = writes_is b in_place q in grind arith;
+      };
+      others = λ q. let was = writes_is a k q in let is = writes_is b in_place q in grind (arith, same_id_true);
+    })
+
+-- ---- an id reserved
+
+-- what is left of the store where s has newly reserved the id, if it has
+pub record Reserved (v : State) (b : Inside) (has : Bool) (s : ℕ) (id : List ℕ) : Type 0 where
+  pub in_place : IsInPlace b
+  pub touches : Touches s (same_id id) v (state_of b)
+  pub writes : (q : List ℕ) → write_of (state_of b).writes q ≡ write_of v.writes q
+  pub marks : store_written (state_of b) s ≡ store_written v s
+  pub logs : (state_of b).logs ≡ v.logs
+  pub more : (t : ℕ) (q : List ℕ)
+      → is_reserved (state_of b) t q ≡ ((has && ((s == t) && same_id id q)) || is_reserved v t q)
+
+module _ (a : Inside) (k : IsInPlace a) {v : State} (seen : state_of a ≡ v) (s : ℕ) (id : List ℕ)
+    (is_opened : is_begun v s ≡ true) (absent : image a id ≡ None) (has : Bool) (city : CityValue) (undo : Undo)
+    (t : Became (λ q. has && same_id id q) (λ q. Some (unwrap_or (here a id) placeholder))
+    (λ q. Some (unwritten_image s (is_none (here a id)))) a.city city a.undo.images undo.images)
+    (listed : (r : ℕ) → listed_by undo.reservations.entries r
+    ≡ (if has && (s == r) then Some (reservations_of a.undo.reservations.entries s ++ id ∷ [])
+    else listed_by a.undo.reservations.entries r)) where
+  abbrev with_it : Inside
+  with_it = record a { city = city; undo = undo }
+
+  more_reserved : (r : ℕ) (q : List ℕ)
+      → is_reserved (state_of with_it) r q ≡ ((has && ((s == r) && same_id id q)) || is_reserved (state_of a) r q)
+  more_reserved r q =
+      let f = list_any-append (same_id q) (reservations_of a.undo.reservations.entries s) (id ∷ []) in
+      let e = listed r in grind (arith, same_id_back)
+
+  still_open : (r : ℕ) → is_begun (state_of with_it) r ≡ is_begun (state_of a) r
+  still_open r =
+      let e = listed r in
+      let was_open : is_begun (state_of a) s ≡ true = ap (λ (u : State). is_begun u s) seen ∙ is_opened in
+      grind arith
+
+  reserved_in_place : IsInPlace with_it
+  reserved_in_place = let more = more_reserved in grind (arith, same_id_true)
+
+  writes_left : (q : List ℕ) → write_of (state_of with_it).writes q ≡ write_of (state_of a).writes q
+  writes_left q =
+      let was = writes_is a k q in let is = writes_is with_it reserved_in_place q in grind (arith, same_id_true)
+
+  pub reserved : Reserved v with_it has s id
+  reserved = subst (λ (u : State). Reserved u with_it has s id) seen (record {
+    in_place = reserved_in_place;
+    touches = record {
+      frame = t.frame;
+      city = committed_is with_it reserved_in_place (store_committed (state_of a)) (λ q.
+          let was = city_is a k q in grind (arith, same_id_true));
+      opened = still_open;
+      writes = λ q. ap (unless_by s) (writes_left q);
+      logs = λ r ne. refl;
+      reserved = λ r q h. let more = more_reserved r q in grind arith;
+      noted = λ q h. grind arith;
+    };
+    writes = writes_left;
+    marks = λ i.
+        let f : OwnWrites = λ q. own_write s (writes_left q i) in
+        (f, marked (log_of a.logs s) f);
+    logs = refl;
+    more = more_reserved;
+  })
+
+-- ---- reserved already
+
+only_writer : (s : ℕ) (i : Option UndoImage) → is_some i ≡ true → ((t : ℕ) → is_writer t (writer_of i) ≡ true → t ≡ s)
+    → is_writer s (writer_of i) ≡ true
+only_writer s None h f = absurd (false≢true h)
+only_writer s (Some i) h f = eq-eqb i.by s (f i.by (eq-eqb i.by i.by refl))
+
+pub reserved_already : (a : Inside) → IsInPlace a → {v : State} → state_of a ≡ v → (s : ℕ) (id : List ℕ)
+    → MayReserve v s (same_id id) → is_some (image a id) ≡ true → (t : ℕ) (q : List ℕ)
+    → is_reserved v t q ≡ (((s == t) && same_id id q) || is_reserved v t q)
+reserved_already a k {v} seen s id may h t q =
+    let listed : (r : ℕ) → is_reserved v r id ≡ is_writer r (writer_of (image a id)) =
+    λ r. ap (λ (u : State). is_reserved u r id) (sym seen) ∙ k.listed r id in
+    let mine : is_reserved v s id ≡ true = listed s
+    ∙ only_writer s (image a id) h (λ r g. may.alone id (same_id_itself id) r (listed r ∙ g)) in
+    let stamp = eqb-true s t in let at = same_id_true id q in grind arith
+
+-- ---- a stamp opened, which wasn't open
+
+pub opened_in_place : (a : Inside) → IsInPlace a → {v : State} → state_of a ≡ v → (s : ℕ) → is_begun v s ≡ false
+    → (u : Undo) → u.images ≡ a.undo.images
+    → ((t : ℕ) → listed_by u.reservations.entries t
+    ≡ (if s == t then Some [] else listed_by a.undo.reservations.entries t))
+    → IsInPlace (record a { undo = u })
+opened_in_place a k {v} seen s shut u images opened =
+    let was_shut : is_begun (state_of a) s ≡ false = ap (λ (w : State). is_begun w s) seen ∙ shut in
+    let same : (t : ℕ) → reservations_of u.reservations.entries t ≡ reservations_of a.undo.reservations.entries t =
+    λ t. let e = opened t in grind arith in
+    grind arith
+
+-- ---- a transaction ended
+
+pub record Ending (s : ℕ) (end : End) (v : State) (b : Inside) : Type 0 where
+  pub in_place : IsInPlace b
+  pub forgets : Forgets s v (state_of b)
+  pub city : store_committed (state_of b) ≡ map_at_end end v s
+
+-- the stamp s is closed, and then each of its ids is ended
+module _ (a : Inside) (k : IsInPlace a) {v : State} (seen : state_of a ≡ v) (s : ℕ) (end : End) (city : CityValue)
+    (undo : Undo) (logs : Logs) (ids : List (List ℕ)) (are : ids ≡ reservations_of a.undo.reservations.entries s)
+    (t : Became (has_id ids) (λ q. left_at_end end (here a q) (image a q)) (λ q. None) a.city city a.undo.images
+    undo.images)
+    (closed : (r : ℕ) → listed_by undo.reservations.entries r
+    ≡ (if s == r then None else listed_by a.undo.reservations.entries r))
+    (forgotten : (r : ℕ) → log_of logs r ≡ (if s == r then [] else log_of a.logs r)) where
+  abbrev without_it : Inside
+  without_it = record a { city = city; undo = undo; logs = logs }
+
+  mine : (q : List ℕ) → has_id ids q ≡ is_writer s (writer_of (image a q))
+  mine q = ap (λ xs. has_id xs q) are ∙ k.listed s q
+
+  reserved_left : (r : ℕ) (q : List ℕ)
+      → is_reserved (state_of without_it) r q ≡ (if s == r then false else is_reserved (state_of a) r q)
+  reserved_left r q = let e = closed r in grind arith
+
+  ended_in_place : IsInPlace without_it
+  ended_in_place = let m = mine in let e = reserved_left in grind arith
+
+  committed_at_end : (e : End) → Became (has_id ids) (λ q. left_at_end e (here a q) (image a q)) (λ q. None) a.city city
+      a.undo.images undo.images → store_committed (state_of without_it) ≡ map_at_end e (state_of a) s
+  committed_at_end Commit u = committed_is without_it ended_in_place (map_at_end Commit (state_of a) s)
+      (λ q. let m = mine q in let was = view_is a k q s in grind arith)
+  committed_at_end RollBack u = committed_is without_it ended_in_place (store_committed (state_of a))
+      (λ q. let was = city_is a k q in grind arith)
+
+  pub ending : Ending s end v without_it
+  ending = subst (λ (w : State). Ending s end w without_it) seen (record {
+    in_place = ended_in_place;
+    forgets =
+        let m = mine in let left = reserved_left in let was = writes_is a k in
+        let is = writes_is without_it ended_in_place in grind arith;
+    city = committed_at_end end t;
+  })
