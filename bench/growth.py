@@ -134,6 +134,32 @@ def long_body(count):
     return document, scripts
 
 
+# How the hasher that the program's maps have by default makes a state of a number, and the state that it begins with.
+WORD, FIRST_STATE, MULTIPLIER = (1 << 64) - 1, 0x243F6A8885A308D3, 0x9E3779B97F4A7C15 ^ 16
+
+
+def colliding_triangles(count):
+    """A surface of triangles, and their corners, which would all have one hash if their hasher had its first state."""
+    points = []
+    for number in range(3 * count):
+        product = (FIRST_STATE ^ number) * MULTIPLIER
+        second = product & WORD ^ product >> 64 ^ 0x1234
+        points.append([number, second - (second >> 63 << 64), 7])
+    return [[[3 * n, 3 * n + 1, 3 * n + 2]] for n in range(count)], points
+
+
+def colliding_points(count):
+    surfaces, points = colliding_triangles(count)
+    surface = {"type": "MultiSurface", "lod": "1", "boundaries": surfaces}
+    return model({"a": {"type": "Road", "geometry": [surface]}}, points), []
+
+
+def colliding_replies(count):
+    """A script that reads an object with such points again and again."""
+    document, _ = colliding_points(count)
+    return document, [script([{"read": "a"}] * 20)]
+
+
 KINDS = {
     unordered_children: 16_000,
     unordered_parents: 16_000,
@@ -149,6 +175,8 @@ KINDS = {
     deep_edits: 200,
     many_parents: 200,
     long_body: 200,
+    colliding_points: 16_000,
+    colliding_replies: 2_000,
 }
 
 

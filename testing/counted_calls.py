@@ -6,12 +6,15 @@
 PROGRAM is a built cityed. Needs a C compiler named cc, for count.c. The texts are those of bench/growth.py, a third
 as long. Four times the text may take 4.5 times the allocations and 4.5 times the bytes that they ask for; a road
 without members may take two allocations, for its id and its body, and a tenth, since the nodes of a city's map are
-full. Each script has to commit, and the two kinds that have a fault have to be refused. Prints one line for each
-kind, and ends with status 1 where one took more or ended otherwise.
+full. Each script has to commit, and the two kinds that have a fault have to be refused. Where valgrind is installed,
+the instructions of the texts whose points would collide are counted too, and may grow six times. Prints one line for
+each kind, and ends with status 1 where one took more or ended otherwise.
 """
 
 import json
 import os
+import re
+import shutil
 import subprocess
 import sys
 import tempfile
@@ -21,9 +24,11 @@ sys.path.insert(0, os.path.join(HERE, "..", "bench"))
 import growth  # noqa: E402
 
 GREATEST = 4.5
+MOST_INSTRUCTIONS = 6
 EACH_ROAD = 2.1
 OF_AN_EMPTY_RUN = 100
 REFUSED = (growth.repeated_child, growth.open_solid)
+COLLIDING = {growth.colliding_points: 2_000, growth.colliding_replies: 500}
 
 
 class Counted:
@@ -55,6 +60,31 @@ class Counted:
         return calls, asked_for, refused if kind in REFUSED else committed
 
 
+def instructions(program, folder, kind, size):
+    """How many instructions a run executes, by valgrind's count."""
+    names = [os.path.join(folder, name) for name in ("model", "scripts")]
+    for name, tree in zip(names, kind(size)):
+        with open(name, "w", encoding="utf-8") as file:
+            json.dump(tree, file, separators=(",", ":"))
+    words = ["valgrind", "--tool=callgrind", "--callgrind-out-file=/dev/null", program, *names]
+    ran = subprocess.run(words, capture_output=True, check=True, timeout=600)
+    return int(re.search(rb"Collected : (\d+)", ran.stderr)[1])
+
+
+def colliding_are_quick(program, folder):
+    if shutil.which("valgrind") is None:
+        print("instructions aren't counted: valgrind isn't installed")
+        return True
+    kept = True
+    for kind, count in COLLIDING.items():
+        few, many = (instructions(program, folder, kind, size) for size in (count, 4 * count))
+        right = many <= MOST_INSTRUCTIONS * few
+        told = f"{kind.__name__}: {few:,} to {many:,} instructions, {many / few:.2f} times"
+        print(f"{'' if right else 'WRONG: '}{told}", flush=True)
+        kept = kept and right
+    return kept
+
+
 def main():
     if len(sys.argv) != 2:
         print(__doc__)
@@ -73,6 +103,7 @@ def main():
             told = f"{kind.__name__}: {told}, {times[0]:.2f} and {times[1]:.2f} times"
             print(f"{'' if right else 'WRONG: '}{told}", flush=True)
             kept = kept and right
+        kept = colliding_are_quick(program.path, folder) and kept
     return 0 if kept else 1
 
 

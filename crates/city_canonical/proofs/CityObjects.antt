@@ -1,329 +1,257 @@
--- A city object that was read of an encoded one, and is written, is the same.
-use Rattle.std.proofs.Common.{◌≡◌, ℕ, ◌<◌, List, [], ◌∷◌, length, Bool, true, false, cond, Option, Some, None, codes}
-use Rattle.std.proofs.Common.{refl, sym, ap, subst, ◌∙◌}
-use Rattle.std.specs.Prelude.{◌^◌, map, flat_map, option_map, option_and_then, if◌then◌else◌}
-use Rattle.std.specs.Str.{bytes_eq}
-use Rattle.std.proofs.lemmas.Bool.{or_parts}
-use Rattle.std.proofs.lemmas.Slice.Eq.{bytes_eq-Decides}
+-- Geometries and city objects that were read of encoded ones, and are written, are the same.
+use Rattle.city_canonical.proofs.Prelude.{arith, ◌≡◌, ℕ, ◌<◌, List, [], ◌∷◌, length, true, false, Option, Some, None}
+use Rattle.city_canonical.proofs.Prelude.{codes, refl, sym, ap, subst, ◌∙◌, ◌^◌, map, flat_map, option_map}
+use Rattle.city_canonical.proofs.Prelude.{option_and_then, and_parts, list_all-append, bytes_eq-Decides, bytes_eq}
+use Rattle.city_canonical.proofs.Prelude.{HasNumbers, ItemsHaveNumbers, MembersHaveNumbers, Some_inj, not_found, Data}
+use Rattle.city_canonical.proofs.Prelude.{string, object, Items, no_items, item, Members, no_members, put, get}
+use Rattle.city_canonical.proofs.Prelude.{get_member, as_str, as_array, of_json, of_items, of_members, items_of}
+use Rattle.city_canonical.proofs.Prelude.{outline, items_outline, members_outline, Geometry, Object, Point, has_id}
+use Rattle.city_canonical.proofs.Prelude.{AreOrdered, by_id, is_tag, encoded, encoded_items, encoded_members, decoded}
+use Rattle.city_canonical.proofs.Prelude.{decoded_items, decoded_members, mapped, bound, geometry_points, object_points}
+use Rattle.city_canonical.proofs.Prelude.{object_data, boundaries_data, listed, object_of, nested_of, geometry_type}
+use Rattle.city_canonical.proofs.Prelude.{shape_name, read_items, list_of, put_list, and_then_some, map_some, is_in}
+use Rattle.city_canonical.proofs.Prelude.{are_in, array_is, object_is, placed, or_empty, list_at}
+use Rattle.city_model.specs.declared.object_type.ObjectType.{ObjectType}
+use Rattle.city_model.specs.Types.{name_of, first_named, all_types, type_named}
+use Rattle.city_doc.specs.shape.Canonical.{geometry_data}
+use Rattle.city_tokens.specs.object.Bodies.{without_object_members}
+use Rattle.city_tokens.specs.shape.Geometries.{without_geometry_members, geometry_of}
+use Rattle.city_tokens.specs.tree.Lists.{list_or_absent, list_data}
+use Rattle.city_tokens.proofs.Options.{if_some}
+use Rattle.city_doc.proofs.Laws.{geometry_parts, read_as}
+use Rattle.city_canonical.specs.Members.{unless_empty}
+use Rattle.city_canonical.specs.Same.{IsSameGeometry, AreSameGeometries, IsSameObject}
+use Rattle.city_canonical.proofs.Members.{string_is, object_read, array_read, found_read, none_read, lookups, ordered}
+use Rattle.city_canonical.proofs.Members.{ascend_decoded, value_at, decoded_members_at, no_number, decoded_object}
+use Rattle.city_canonical.proofs.Members.{numbers_at, member_same, apart_from}
+use Rattle.city_canonical.proofs.Boundaries.{Show, shown_shape, nested_placed, pick, type_is, shape_written}
+use Rattle.city_canonical.proofs.Boundaries.{boundaries_plain, IsPlain, text_plain, list_plain, nested_plain, itself}
+use Rattle.city_canonical.proofs.Boundaries.{plain_decoded}
 use Rattle.json.specs.Json as json
 use Rattle.json.specs.Find as look
-use Rattle.json.specs.Tree.{HasNumbers}
-use Rattle.json.proofs.Found.{Some_inj, not_found}
-use Rattle.serde_json.specs.Data.{Data, null, boolean, number, string, array, object, Items, no_items, item, Members}
-use Rattle.serde_json.specs.Data.{no_members, member, put}
-use Rattle.serde_json.specs.Find.{get, get_member, as_str, as_array, as_object}
-use Rattle.serde_json.specs.Read.{number_of, of_json, of_items, of_members}
-use Rattle.serde_json.specs.View.{items_of}
-use Rattle.serde_json.specs.Written.{outline, items_outline, members_outline}
-use Rattle.serde_json.proofs.Views.{get_member-put}
-use Rattle.city_model.specs.declared.object.Geometry.{Geometry}
-use Rattle.city_model.specs.declared.object.Object.{Object}
-use Rattle.city_model.specs.declared.object.Point.{Point}
-use Rattle.city_model.specs.declared.object_type.ObjectType.{ObjectType}
-use Rattle.city_model.specs.CityMap.{same_id, has_id}
-use Rattle.city_model.specs.Kept.{kept_at_object}
-use Rattle.city_model.specs.Members.{without, AreOrdered}
-use Rattle.city_model.specs.Types.{name_of, first_named, all_types, type_named}
-use Rattle.city_model.proofs.Ids.{by_id}
-use Rattle.city_model.proofs.MemberLaws.{get_member-without, get_member-without_same}
-use Rattle.city_decimals.specs.Numbers.{is_whole}
-use Rattle.city_decimals.specs.Shapes.{is_tag}
-use Rattle.city_decimals.specs.Encoded.{tagged, encoded, encoded_items, encoded_members}
-use Rattle.city_decimals.specs.Decoded.{decoded, decoded_items, decoded_members}
-use Rattle.city_decimals.proofs.Wholes.{mapped}
-use Rattle.city_doc.specs.Pool.{geometry_points, object_points}
-use Rattle.city_tokens.specs.object.Bodies.{type_of, without_object_members, object_of}
-use Rattle.city_doc.specs.object.Canonical.{object_data}
-use Rattle.city_doc.specs.shape.Canonical.{geometry_data}
-use Rattle.city_tokens.specs.shape.Geometries.{geometry_of}
-use Rattle.city_tokens.specs.tree.Lists.{read_items, list_of, list_or_absent, list_data, put_list}
-use Rattle.city_tokens.specs.tree.Members.{kept_if, text_at}
-use Rattle.city_doc.specs.inside.tree.PartTokens.{listed}
-use Rattle.city_tokens.proofs.Options.{and_then_some, map_some}
-use Rattle.city_doc.proofs.Laws.{are_in, get_member-put_apart, get_member-put_list_apart, ordered_put, read_as}
-use Rattle.city_canonical.specs.Placed.{or_empty, list_at}
-use Rattle.city_canonical.specs.Members.{unless_empty}
-use Rattle.city_canonical.specs.Same.{IsSameObject, AreSameGeometries}
-use Rattle.city_canonical.proofs.Geometries.{AreShown, AreWritten, geometries_same}
-use Rattle.city_canonical.proofs.Members.{value_at, decoded_members_at, no_number, Numbers, numbers_at, member_same}
-use Rattle.city_canonical.proofs.Objects.{ascend_decoded, ordered_read, ordered_without, object_is, array_is, string_is}
-use Rattle.city_canonical.proofs.Objects.{kept_is, decoded_object, object_read, found_read, none_read}
-use Rattle.city_canonical.proofs.Places.{Show}
-use Rattle.city_canonical.proofs.Plain.{IsPlain, list_plain, text_plain, itself, plain_decoded}
+
+-- ---- what a geometry was read of
+
+record IsGeometryOf (ps : List Point) (d : Data) (g : Geometry) : Type 0 where
+  ms : Members
+  is : d ≡ object ms
+  type : get_member (codes "type") ms ≡ Some (string (shape_name g.shape))
+  lod : get_member (codes "lod") ms ≡ Some (string g.lod)
+  extra : g.extra ≡ without_geometry_members ms
+  bounds : Data
+  boundaries : get_member (codes "boundaries") ms ≡ Some bounds
+  plain : IsPlain bounds
+  shows : (vs : json.Items) → Show vs ps → (j : json.Json) → of_json j ≡ Some bounds → placed vs j ≡ shown_shape g.shape
+
+geometry_read : (ps : List Point) (d : Data) (g : Geometry) → geometry_of ps d ≡ Some g → IsGeometryOf ps d g
+geometry_read ps d g h =
+    let p = geometry_parts ps d g h in
+    let t = and_then_some _ (geometry_type p.kind) g.shape p.shaped in
+    let x = map_some _ (nested_of ps t.0.depth p.boundaries) g.shape t.2 in
+    let named = type_is p.kind t.0 t.1 in
+    let same_name : shape_name g.shape ≡ p.kind = search (arith, bytes_eq-Decides) in
+    search (arith, and_then_some, object_is, if_some, codes, string_is, nested_plain, nested_placed, shown_shape)
 
 -- ---- what an object was read of
 
-pub record IsObjectOf (ps : List Point) (d : Data) (o : Object) : Type 0 where
-  pub ms : Members
-  pub is : d ≡ object ms
-  pub type : get_member (codes "type") ms ≡ Some (string (name_of o.body.kind))
-  pub geometry : list_or_absent (geometry_of ps) (get_member (codes "geometry") ms) ≡ Some o.body.geometry
-  pub parents : list_or_absent as_str (get_member (codes "parents") ms) ≡ Some o.parents
-  pub children : list_or_absent as_str (get_member (codes "children") ms) ≡ Some o.children
-  pub extra : o.body.extra ≡ without_object_members ms
-
-name_step : (s : List ℕ) (b : Bool) (t kind : ObjectType) (rest : Option ObjectType) → bytes_eq s (name_of t) ≡ b
-    → (rest ≡ Some kind → name_of kind ≡ s) → (if b then Some t else rest) ≡ Some kind → name_of kind ≡ s
-name_step s true t kind rest e later h = ap name_of (sym (Some_inj _ _ h)) ∙ sym ((bytes_eq-Decides s (name_of t)).0 e)
-name_step s false t kind rest e later h = later h
+record IsObjectOf (ps : List Point) (d : Data) (o : Object) : Type 0 where
+  ms : Members
+  is : d ≡ object ms
+  type : get_member (codes "type") ms ≡ Some (string (name_of o.body.kind))
+  geometry : list_or_absent (geometry_of ps) (get_member (codes "geometry") ms) ≡ Some o.body.geometry
+  parents : list_or_absent as_str (get_member (codes "parents") ms) ≡ Some o.parents
+  children : list_or_absent as_str (get_member (codes "children") ms) ≡ Some o.children
+  extra : o.body.extra ≡ without_object_members ms
 
 name_found : (s : List ℕ) (types : List ObjectType) (kind : ObjectType) → first_named s types ≡ Some kind
     → name_of kind ≡ s
 name_found s [] kind h = not_found kind h
 name_found s (t ∷ types) kind h =
-    name_step s (bytes_eq s (name_of t)) t kind (first_named s types) refl (name_found s types kind) h
+    pick (λ t. name_of t ≡ s) (bytes_eq s (name_of t)) t kind (first_named s types)
+    (λ e. sym ((bytes_eq-Decides s (name_of t)).0 e)) (name_found s types kind) h
 
 name_is : (s : List ℕ) (kind : ObjectType) → type_named s ≡ Some kind → name_of kind ≡ s
 unfolding type_named
 name_is s kind h = name_found s all_types kind h
 
 object_parts : (ps : List Point) (d : Data) (o : Object) → object_of ps d ≡ Some o → IsObjectOf ps d o
-object_parts ps d o h =
-    let parts = read_as ps d o h in
-    let kind = and_then_some _ (type_of d) o.body parts.body in
-    let ms = and_then_some _ (as_object d) o.body kind.2 in
-    let geometry = and_then_some _ (list_or_absent (geometry_of ps) (get (codes "geometry") d)) o.body ms.2 in
-    let kept = map_some _ (kept_if kept_at_object (without_object_members ms.0)) o.body geometry.2 in
-    let text = and_then_some type_named (text_at (codes "type") d) kind.0 kind.1 in
-    let type = and_then_some as_str (get (codes "type") d) text.0 text.1 in
-    let is = object_is d ms.0 ms.1 in
-    record {
-      ms = ms.0;
-      is = is;
-      type = ap (get (codes "type")) (sym is) ∙ type.1 ∙ ap Some (string_is type.0 text.0 type.2)
-          ∙ ap (λ s. Some (string s)) (sym (name_is text.0 kind.0 text.2))
-          ∙ ap (λ b. Some (string (name_of b.kind))) (sym kept.2);
-      geometry = ap (λ x. list_or_absent (geometry_of ps) (get (codes "geometry") x)) (sym is) ∙ geometry.1
-          ∙ ap (λ b. Some b.geometry) (sym kept.2);
-      parents = ap (λ x. list_or_absent as_str (get (codes "parents") x)) (sym is) ∙ parts.parents;
-      children = ap (λ x. list_or_absent as_str (get (codes "children") x)) (sym is) ∙ parts.children;
-      extra = ap (λ b. b.extra) kept.2 ∙ kept_is kept_at_object (without_object_members ms.0) kept.0 kept.1;
-    }
-
--- ---- what is written for it
-
-put_list_at : {A : Type 0} (name : List ℕ) (f : A → Data) (xs : List A) (ms : Members) → get_member name ms ≡ None
-    → get_member name (put_list name f xs ms) ≡ listed f xs
-put_list_at name f [] ms none = none
-put_list_at name f (x ∷ xs) ms none = get_member-put name (list_data f (x ∷ xs)) ms
-
-put_list_ordered : {A : Type 0} (name : List ℕ) (f : A → Data) (xs : List A) (ms : Members) → AreOrdered ms
-    → AreOrdered (put_list name f xs ms)
-put_list_ordered name f [] ms h = h
-put_list_ordered name f (x ∷ xs) ms h = ordered_put name (list_data f (x ∷ xs)) ms h
-
-left_other : (name : List ℕ) (ms : Members) → same_id name (codes "children") ≡ false
-    → same_id name (codes "parents") ≡ false → same_id name (codes "geometry") ≡ false
-    → same_id name (codes "type") ≡ false
-    → get_member name (without_object_members ms) ≡ get_member name ms
-left_other name ms a b c d =
-    get_member-without name (codes "children")
-    (without (codes "parents") (without (codes "geometry") (without (codes "type") ms))) a
-    ∙ get_member-without name (codes "parents") (without (codes "geometry") (without (codes "type") ms)) b
-    ∙ get_member-without name (codes "geometry") (without (codes "type") ms) c
-    ∙ get_member-without name (codes "type") ms d
-
-no_children : (ms : Members) → get_member (codes "children") (without_object_members ms) ≡ None
-no_children ms =
-    get_member-without_same (codes "children")
-    (without (codes "parents") (without (codes "geometry") (without (codes "type") ms)))
-
-no_parents : (ms : Members) → get_member (codes "parents") (without_object_members ms) ≡ None
-no_parents ms =
-    let rest = without (codes "geometry") (without (codes "type") ms) in
-    get_member-without (codes "parents") (codes "children") (without (codes "parents") rest) refl
-    ∙ get_member-without_same (codes "parents") rest
-
-no_geometry : (ms : Members) → get_member (codes "geometry") (without_object_members ms) ≡ None
-no_geometry ms =
-    let rest = without (codes "type") ms in
-    get_member-without (codes "geometry") (codes "children")
-    (without (codes "parents") (without (codes "geometry") rest)) refl
-    ∙ get_member-without (codes "geometry") (codes "parents") (without (codes "geometry") rest) refl
-    ∙ get_member-without_same (codes "geometry") rest
-
-left_ordered : (ms : Members) → AreOrdered ms → AreOrdered (without_object_members ms)
-left_ordered ms h =
-    ordered_without (codes "children") _
-    (ordered_without (codes "parents") _ (ordered_without (codes "geometry") _ (ordered_without (codes "type") ms h)))
-
-module _ (pool : List Point) (o : Object) where
-  abbrev typed : Members
-  typed = put (codes "type") (string (name_of o.body.kind)) o.body.extra
-
-  abbrev shaped : Members
-  shaped = put_list (codes "geometry") (geometry_data pool) o.body.geometry typed
-
-  abbrev parented : Members
-  parented = put_list (codes "parents") string o.parents shaped
-
-  abbrev written : Members
-  written = put_list (codes "children") string o.children parented
-
-  written_ordered : AreOrdered o.body.extra → AreOrdered written
-  written_ordered h =
-      put_list_ordered (codes "children") string o.children parented
-      (put_list_ordered (codes "parents") string o.parents shaped
-      (put_list_ordered (codes "geometry") (geometry_data pool) o.body.geometry typed
-      (ordered_put (codes "type") _ o.body.extra h)))
-
-  -- of a name that is none of the lists
-  written_beside : (name : List ℕ) → same_id name (codes "children") ≡ false → same_id name (codes "parents") ≡ false
-      → same_id name (codes "geometry") ≡ false → get_member name written ≡ get_member name typed
-  written_beside name a b c =
-      get_member-put_list_apart name (codes "children") string o.children parented a
-      ∙ get_member-put_list_apart name (codes "parents") string o.parents shaped b
-      ∙ get_member-put_list_apart name (codes "geometry") (geometry_data pool) o.body.geometry typed c
-
-  written_type : get_member (codes "type") written ≡ Some (string (name_of o.body.kind))
-  written_type = written_beside (codes "type") refl refl refl
-      ∙ get_member-put (codes "type") (string (name_of o.body.kind)) o.body.extra
-
-  module _ (ms : Members) (extra : o.body.extra ≡ without_object_members ms) where
-    written_children : get_member (codes "children") written ≡ listed string o.children
-    written_children = put_list_at (codes "children") string o.children parented
-        (get_member-put_list_apart (codes "children") (codes "parents") string o.parents shaped refl
-        ∙ get_member-put_list_apart (codes "children") (codes "geometry") (geometry_data pool) o.body.geometry typed
-        refl
-        ∙ get_member-put_apart (codes "children") (codes "type") (string (name_of o.body.kind)) o.body.extra refl
-        ∙ ap (get_member (codes "children")) extra ∙ no_children ms)
-
-    written_parents : get_member (codes "parents") written ≡ listed string o.parents
-    written_parents = get_member-put_list_apart (codes "parents") (codes "children") string o.children parented refl
-        ∙ put_list_at (codes "parents") string o.parents shaped
-        (get_member-put_list_apart (codes "parents") (codes "geometry") (geometry_data pool) o.body.geometry typed refl
-        ∙ get_member-put_apart (codes "parents") (codes "type") (string (name_of o.body.kind)) o.body.extra refl
-        ∙ ap (get_member (codes "parents")) extra ∙ no_parents ms)
-
-    written_geometry : get_member (codes "geometry") written ≡ listed (geometry_data pool) o.body.geometry
-    written_geometry = get_member-put_list_apart (codes "geometry") (codes "children") string o.children parented refl
-        ∙ get_member-put_list_apart (codes "geometry") (codes "parents") string o.parents shaped refl
-        ∙ put_list_at (codes "geometry") (geometry_data pool) o.body.geometry typed
-        (get_member-put_apart (codes "geometry") (codes "type") (string (name_of o.body.kind)) o.body.extra refl
-        ∙ ap (get_member (codes "geometry")) extra ∙ no_geometry ms)
+object_parts ps d o h = search (arith, read_as, and_then_some, codes, map_some, object_is, string_is, name_is)
 
 -- ---- lists of ids
 
 ids_data : (ds : Items) (ids : List (List ℕ)) → read_items as_str ds ≡ Some ids → ds ≡ items_of (map string ids)
 ids_data no_items ids h = ap (λ xs. items_of (map string xs)) (Some_inj _ _ h)
 ids_data (item d ds) ids h =
-    let x = and_then_some (λ y. option_map (λ ys. y ∷ ys) (read_items as_str ds)) (as_str d) ids h in
-    let rest = map_some (λ ys. x.0 ∷ ys) (read_items as_str ds) ids x.2 in
-    ap (λ d. item d ds) (string_is d x.0 x.1) ∙ ap (item (string x.0)) (ids_data ds rest.0 rest.1)
-    ∙ ap (λ xs. items_of (map string xs)) (sym rest.2)
+    let x = and_then_some _ (as_str d) ids h in
+    let rest = map_some _ (read_items as_str ds) ids x.2 in
+    grind (arith, ids_data ds rest.0 rest.1)
 
 ids_list : (d : Data) (ids : List (List ℕ)) → list_of as_str d ≡ Some ids → d ≡ list_data string ids
-ids_list d ids h = let ds = and_then_some (read_items as_str) (as_array d) ids h in array_is d ds.0 ds.1
-    ∙ ap array (ids_data ds.0 ids ds.2)
+ids_list d ids h = let ds = and_then_some (read_items as_str) (as_array d) ids h in search (arith, array_is, ids_data)
 
 -- what is written for a list of texts is the list, unless it is empty
-texts_plain : (xs : List (List ℕ)) → IsPlain (list_data string xs)
-texts_plain [] = tt
-texts_plain (x ∷ xs) = (tt, texts_plain xs)
-
-texts_written : (name : List ℕ) → is_tag name ≡ false → (xs : List (List ℕ))
+texts_written : (name : List ℕ) (xs : List (List ℕ)) → is_tag name ≡ false → IsPlain (list_data string xs)
     → option_map (value_at false name) (listed string xs) ≡ unless_empty (Some (outline (list_data string xs)))
-texts_written name e [] = refl
-texts_written name e (x ∷ xs) =
-    let r = decoded (outline (list_data string (x ∷ xs))) in
-    rw e (ap Some (plain_decoded (list_data string (x ∷ xs)) (texts_plain (x ∷ xs))))
+texts_written name [] e plain = refl
+texts_written name (x ∷ xs) e plain = rw (e, plain_decoded (list_data string (x ∷ xs)) plain) refl
 
-module _ (name : List ℕ) (untagged : is_tag name ≡ false) (js : json.Members) (ms : Members)
-    (read : of_members (encoded_members false js) no_members ≡ Some ms) where
-  ids_step : (ids : List (List ℕ)) (r : Option Data) → get_member name ms ≡ r → list_or_absent as_str r ≡ Some ids
-      → option_map (value_at false name) (listed string ids) ≡ unless_empty (look.get_member name js)
-  ids_step ids None at h =
-      ap (λ xs. option_map (value_at false name) (listed string xs)) (sym (Some_inj _ _ h))
-      ∙ ap unless_empty (sym (none_read false name js ms read at))
-  ids_step ids (Some d) at h =
-      let found = found_read false name untagged refl js ms read d at in
-      let is = ids_list d ids h in
-      let same = itself found.0 d found.2 (list_plain as_str text_plain d ids h) in
-      texts_written name untagged ids ∙ ap (λ x. unless_empty (Some (outline x))) (sym is)
-      ∙ ap (λ j. unless_empty (Some j)) (sym same.written_so) ∙ ap unless_empty (sym found.1)
-
-  -- the ids that were read are written
-  ids_same : (ids : List (List ℕ)) → list_or_absent as_str (get_member name ms) ≡ Some ids
-      → option_map (value_at false name) (listed string ids) ≡ unless_empty (look.get_member name js)
-  ids_same ids h = ids_step ids (get_member name ms) refl h
+-- the ids that were read are written
+ids_same : (name : List ℕ) (js : json.Members) (ms : Members) (ids : List (List ℕ)) (r : Option Data)
+    → is_tag name ≡ false → of_members (encoded_members false js) no_members ≡ Some ms → get_member name ms ≡ r
+    → list_or_absent as_str r ≡ Some ids
+    → option_map (value_at false name) (listed string ids) ≡ unless_empty (look.get_member name js)
+ids_same name js ms ids None e read at h = search (arith, none_read)
+ids_same name js ms ids (Some d) e read at h =
+    let found = found_read false name js ms d read at in
+    let bare : of_json (encoded found.0) ≡ Some d = rw e at found.2 in
+    let plain = list_plain as_str text_plain d ids h in
+    let is = ids_list d ids h in
+    rw (found.1, (itself found.0 d bare plain).1, is) (texts_written name ids e (subst IsPlain is plain))
 
 -- ---- lists of geometries
 
-array_inj : {ds es : Items} → array ds ≡ array es → ds ≡ es
-array_inj {ds} e = cc
+listed_both : {A : Type 0} (f : A → Data) (xs : List A)
+    → let o = option_map (value_at false (codes "geometry")) (listed f xs) in
+    (or_empty (option_and_then look.as_array o) ≡ decoded_items (items_outline (items_of (map f xs))))
+    × (unless_empty o ≡ o)
+listed_both f xs = grind arith
 
-number_array : (s : List ℕ) (b : Bool) (ds : Items) → of_json (cond b (json.number s) (tagged s)) ≡ Some (array ds) → ⊥
-number_array s true ds is = let n = mapped number (number_of s) (array ds) is in let no : number n.0 ≡ array ds = n.2 in
-    cc
-number_array s false ds is = let no : object (member (codes "#") (string s) no_members) ≡ array ds = Some_inj _ _ is in
-    cc
+-- ---- what is written
 
-array_read : (j : json.Json) (ds : Items) → of_json (encoded j) ≡ Some (array ds)
-    → (js : json.Items) × (j ≡ json.array js) × (of_items (encoded_items js) ≡ Some ds)
-array_read json.null ds is = absurd (let no : null ≡ array ds = Some_inj _ _ is in cc)
-array_read (json.boolean b) ds is = absurd (let no : boolean b ≡ array ds = Some_inj _ _ is in cc)
-array_read (json.number s) ds is = absurd (number_array s (is_whole s) ds is)
-array_read (json.string s) ds is = absurd (let no : string s ≡ array ds = Some_inj _ _ is in cc)
-array_read (json.array js) ds is = let a = mapped array (of_items (encoded_items js)) (array ds) is in
-    (js, refl, a.1 ∙ ap Some (array_inj a.2))
-array_read (json.object ms) ds is =
-    absurd (let o = mapped object (of_members (encoded_members false ms) no_members) (array ds) is in let no : object
-    o.0 ≡ array ds = o.2 in cc)
+-- the boundaries of the geometry h show the shape
+abbrev pub IsShown : json.Items → json.Json → Geometry → Type 0
+IsShown ws h g = option_map (placed ws) (look.get (codes "boundaries") h) ≡ Some (shown_shape g.shape)
 
-listed_items : {A : Type 0} (f : A → Data) (xs : List A)
-    → or_empty (option_and_then look.as_array (option_map (value_at false (codes "geometry")) (listed f xs)))
-    ≡ decoded_items (items_outline (items_of (map f xs)))
-listed_items f [] = refl
-listed_items f (x ∷ xs) = refl
+abbrev pub AreShown : json.Items → json.Items → List Geometry → Type 0
+AreShown ws json.no_items [] = Unit {0}
+AreShown ws (json.item h hs) (g ∷ gs) = IsShown ws h g × AreShown ws hs gs
+AreShown ws _ _ = ⊥
 
-listed_full : {A : Type 0} (f : A → Data) (xs : List A)
-    → unless_empty (option_map (value_at false (codes "geometry")) (listed f xs))
-    ≡ option_map (value_at false (codes "geometry")) (listed f xs)
-listed_full f [] = refl
-listed_full f (x ∷ xs) = refl
+-- the members of an object
+abbrev object_all : List Point → Object → Members
+object_all pool o =
+    put_list (codes "children") string o.children
+    (put_list (codes "parents") string o.parents
+    (put_list (codes "geometry") (geometry_data pool) o.body.geometry
+    (put (codes "type") (string (name_of o.body.kind)) o.body.extra)))
+
+-- it is decoded as an object
+pub object_decoded : (pool : List Point) (o : Object)
+    → decoded (outline (object_data pool o)) ≡ json.object (decoded_members false (members_outline (object_all pool o)))
+object_decoded pool o =
+    let type : get_member (codes "type") (object_all pool o) ≡ Some (string (name_of o.body.kind)) = simp lookups in
+    decoded_object (object_all pool o) (no_number (codes "type") refl (object_all pool o) _ type)
+
+module _ (vs ws : json.Items) (pool : List Point) where
+  -- what is written for the geometry is the same, and shows its shape
+  abbrev IsWritten : json.Json → Geometry → Type 0
+  IsWritten j g = let h = decoded (outline (geometry_data pool g)) in IsSameGeometry vs ws j h × IsShown ws h g
+
+  abbrev AreWritten : json.Items → List Geometry → Type 0
+  AreWritten js gs =
+      let hs = decoded_items (items_outline (items_of (map (geometry_data pool) gs))) in
+      AreSameGeometries vs ws js hs × AreShown ws hs gs
+
+  -- what is written for the object is the same, and shows its shapes
+  abbrev pub IsWrittenObject : json.Json → Object → Type 0
+  IsWrittenObject j o =
+      let p = decoded (outline (object_data pool o)) in
+      IsSameObject vs ws j p × AreShown ws (list_at (codes "geometry") p) o.body.geometry
 
 module _ (vs ws : json.Items) (ps pool : List Point) (small : length pool < 2 ^ 63) (show : Show vs ps)
     (show_written : Show ws pool) where
-  -- the geometries that were read are written
-  geometry_step : (js : json.Members) (ms : Members) (gs : List Geometry) (r : Option Data)
-      → of_members (encoded_members false js) no_members ≡ Some ms → HasNumbers (json.object js)
-      → get_member (codes "geometry") ms ≡ r
-      → list_or_absent (geometry_of ps) r ≡ Some gs → are_in pool (flat_map geometry_points gs) ≡ true
-      → AreWritten vs ws ps pool small show show_written
-      (or_empty (option_and_then look.as_array (look.get_member (codes "geometry") js))) gs
-  geometry_step js ms gs None read numbers at h within =
-      subst (λ o. AreWritten vs ws ps pool small show show_written (or_empty (option_and_then look.as_array o)) gs)
-      (sym (none_read false (codes "geometry") js ms read at))
-      (subst (AreWritten vs ws ps pool small show show_written json.no_items) (Some_inj _ _ h) (tt, tt))
-  geometry_step js ms gs (Some d) read numbers at h within =
-      let ds = and_then_some (read_items (geometry_of ps)) (as_array d) gs h in
-      let found = found_read false (codes "geometry") refl refl js ms read d at in
-      let list = array_read found.0 ds.0 (found.2 ∙ ap Some (array_is d ds.0 ds.1)) in
-      let there = found.1 ∙ ap Some list.1 in
-      subst (λ o. AreWritten vs ws ps pool small show show_written (or_empty (option_and_then look.as_array o)) gs)
-      (sym there)
-      (geometries_same vs ws ps pool small show show_written list.0 ds.0 gs
-      (subst Numbers there (numbers_at (codes "geometry") js numbers)) list.2 ds.2 within)
+  module _ (js : json.Members) (d : Data) (g : Geometry) (o : IsGeometryOf ps d g)
+      (read : of_members (encoded_members false js) no_members ≡ Some o.ms) (numbers : MembersHaveNumbers js)
+      (within : are_in pool (geometry_points g) ≡ true) where
+    abbrev bounds : Data
+    bounds = boundaries_data pool g.shape
+
+    abbrev parts : Members
+    parts =
+        put (codes "boundaries") bounds
+        (put (codes "lod") (string g.lod) (put (codes "type") (string (shape_name g.shape)) g.extra))
+
+    parts_ordered : AreOrdered parts
+    parts_ordered = rw o.extra (search (ordered, read) depth 12)
+
+    placed_read : option_map (placed vs) (look.get_member (codes "boundaries") js) ≡ Some (shown_shape g.shape)
+    placed_read =
+        let found = found_read false (codes "boundaries") js o.ms o.bounds read o.boundaries in
+        let same = itself found.0 o.bounds found.2 o.plain in
+        rw found.1 (ap Some (o.shows vs show found.0 (rw same.0 at found.2)))
+
+    placed_written : IsShown ws (json.object (decoded_members false (members_outline parts))) g
+    placed_written =
+        rw (decoded_members_at false (codes "boundaries") parts parts_ordered)
+        (simp (lookups, plain_decoded bounds (boundaries_plain pool small g.shape within))
+        (ap Some (shape_written pool small ws show_written g.shape within)))
+
+    part_same : (name : List ℕ) → has_id (codes "boundaries" ∷ []) name ≡ false
+        → get_member name parts ≡ get_member name o.ms
+    part_same name apart =
+        by_id name (codes "type") (λ e. rw (e, o.type) (simp lookups))
+        (λ t. by_id name (codes "lod") (λ e. rw (e, o.lod) (simp lookups))
+        (λ l. rw o.extra (simp (lookups, (apart_from (codes "boundaries" ∷ []) name apart).0, l, t))))
+
+    geometry_written : IsWritten vs ws pool (json.object js) g
+    geometry_written =
+        let type : get_member (codes "type") parts ≡ Some (string (shape_name g.shape)) = simp lookups in
+        rw (decoded_object parts (no_number (codes "type") refl parts _ type)) (
+          record {
+            names = ascend_decoded false parts parts_ordered;
+            members = λ name apart.
+                member_same false name js o.ms parts refl numbers read parts_ordered (part_same name apart);
+            boundaries = placed_written ∙ sym placed_read;
+          },
+          placed_written,
+        )
+
+  geometry_same : (j : json.Json) (d : Data) (g : Geometry) → HasNumbers j → of_json (encoded j) ≡ Some d
+      → geometry_of ps d ≡ Some g → are_in pool (geometry_points g) ≡ true → IsWritten vs ws pool j g
+  geometry_same j d g numbers is h within =
+      let o = geometry_read ps d g h in
+      let found = object_read (get_member (codes "type")) _ j o.ms (λ s. refl) o.type (is ∙ ap Some o.is) in
+      rw found.is (geometry_written found.ms d g o found.read (rw found.is at numbers) within)
+
+  geometries_same : (js : json.Items) (ds : Items) (gs : List Geometry) → ItemsHaveNumbers js
+      → of_items (encoded_items js) ≡ Some ds → read_items (geometry_of ps) ds ≡ Some gs
+      → are_in pool (flat_map geometry_points gs) ≡ true → AreWritten vs ws pool js gs
+  geometries_same json.no_items ds gs numbers is h within =
+      rw (← Some_inj _ _ (ap (read_items (geometry_of ps)) (Some_inj _ _ is) ∙ h)) (tt, tt)
+  geometries_same (json.item j js) ds gs numbers is h within =
+      let d = bound _ (of_json (encoded j)) ds is in
+      let more = mapped (item d.0) (of_items (encoded_items js)) ds d.2 in
+      let g = and_then_some _ (geometry_of ps d.0) gs (ap (read_items (geometry_of ps)) more.2 ∙ h) in
+      let rest = map_some _ (read_items (geometry_of ps) more.0) gs g.2 in
+      let both = and_parts (are_in pool (geometry_points g.0)) (are_in pool (flat_map geometry_points rest.0))
+      (sym (list_all-append (is_in pool) (geometry_points g.0) _) ∙ (rw rest.2 at within)) in
+      let first = geometry_same j d.0 g.0 numbers.0 d.1 g.1 both.0 in
+      let later = geometries_same js more.0 rest.0 numbers.1 more.1 rest.1 both.1 in
+      rw rest.2 ((first.0, later.0), (first.1, later.1))
 
   module _ (js : json.Members) (d : Data) (o : Object) (p : IsObjectOf ps d o)
-      (read : of_members (encoded_members false js) no_members ≡ Some p.ms) (numbers : HasNumbers (json.object js))
+      (read : of_members (encoded_members false js) no_members ≡ Some p.ms) (numbers : MembersHaveNumbers js)
       (within : are_in pool (object_points o) ≡ true) where
+    -- the geometries that were read are written
+    geometries_written : (r : Option Data) → get_member (codes "geometry") p.ms ≡ r
+        → list_or_absent (geometry_of ps) r ≡ Some o.body.geometry
+        → AreWritten vs ws pool (list_at (codes "geometry") (json.object js)) o.body.geometry
+    geometries_written None at h =
+        rw (none_read false (codes "geometry") js p.ms read at, ← Some_inj _ _ h) (tt, tt)
+    geometries_written (Some d) at h =
+        let ds = and_then_some _ (as_array d) o.body.geometry h in
+        let found = found_read false (codes "geometry") js p.ms d read at in
+        let list = array_read found.0 ds.0 (found.2 ∙ ap Some (array_is d ds.0 ds.1)) in
+        let there = found.1 ∙ ap Some list.1 in
+        rw there
+        (geometries_same list.0 ds.0 o.body.geometry (rw there at (numbers_at (codes "geometry") js numbers)) list.2
+        ds.2 within)
+
     abbrev all : Members
-    all = written pool o
+    all = object_all pool o
 
     all_ordered : AreOrdered all
-    all_ordered =
-        written_ordered pool o
-        (subst AreOrdered (sym p.extra) (left_ordered p.ms (ordered_read (encoded_members false js) p.ms read)))
-
-    same_at : (name : List ℕ) → same_id name (codes "children") ≡ false → same_id name (codes "parents") ≡ false
-        → same_id name (codes "geometry") ≡ false → get_member name all ≡ get_member name p.ms
-    same_at name a b c =
-        by_id name (codes "type")
-        (λ e. subst (λ n. get_member n all ≡ get_member n p.ms) (sym e) (written_type pool o ∙ sym p.type))
-        (λ d. written_beside pool o name a b c
-        ∙ get_member-put_apart name (codes "type") (string (name_of o.body.kind)) o.body.extra d
-        ∙ ap (get_member name) p.extra ∙ left_other name p.ms a b c d)
+    all_ordered = rw p.extra (search (ordered, read) depth 12)
 
     found_at : (name : List ℕ) (r : Option Data) → get_member name all ≡ r
         → look.get_member name (decoded_members false (members_outline all)) ≡ option_map (value_at false name) r
@@ -331,62 +259,40 @@ module _ (vs ws : json.Items) (ps pool : List Point) (small : length pool < 2 ^ 
 
     there : look.get_member (codes "geometry") (decoded_members false (members_outline all))
         ≡ option_map (value_at false (codes "geometry")) (listed (geometry_data pool) o.body.geometry)
-    there = found_at (codes "geometry") (listed (geometry_data pool) o.body.geometry)
-        (written_geometry pool o p.ms p.extra)
+    there = found_at (codes "geometry") (listed (geometry_data pool) o.body.geometry) (rw p.extra (simp lookups))
 
-    list_there : list_at (codes "geometry") (json.object (decoded_members false (members_outline all))) ≡ decoded_items
-        (items_outline (items_of (map (geometry_data pool) o.body.geometry)))
-    list_there = ap (λ o. or_empty (option_and_then look.as_array o)) there
-        ∙ listed_items (geometry_data pool) o.body.geometry
+    list_there : list_at (codes "geometry") (json.object (decoded_members false (members_outline all)))
+        ≡ decoded_items (items_outline (items_of (map (geometry_data pool) o.body.geometry)))
+    list_there = rw there (listed_both (geometry_data pool) o.body.geometry).0
 
-    geometries_written : AreWritten vs ws ps pool small show show_written (list_at (codes "geometry") (json.object js))
-        o.body.geometry
-    geometries_written =
-        geometry_step js p.ms o.body.geometry (get_member (codes "geometry") p.ms) read numbers refl p.geometry within
+    same_at : (name : List ℕ) → has_id (codes "geometry" ∷ codes "parents" ∷ codes "children" ∷ []) name ≡ false
+        → get_member name all ≡ get_member name p.ms
+    same_at name apart =
+        let a = apart_from (codes "geometry" ∷ codes "parents" ∷ codes "children" ∷ []) name apart in
+        by_id name (codes "type") (λ e. rw (e, p.type) (simp lookups))
+        (λ t. rw p.extra (simp (lookups, a.0, a.1.0, a.1.1.0, t)))
 
-    members_same : IsSameObject vs ws (json.object js) (json.object (decoded_members false (members_outline all)))
-    members_same = record {
-      names = ascend_decoded false all all_ordered;
-      members = λ name apart.
-          let first = or_parts (same_id name (codes "geometry")) (has_id (codes "parents" ∷ codes "children" ∷ []) name)
-          apart in
-          let second = or_parts (same_id name (codes "parents")) (has_id (codes "children" ∷ []) name) first.1 in
-          let third = or_parts (same_id name (codes "children")) false second.1 in
-          member_same false name js p.ms all refl numbers read all_ordered (same_at name third.0 second.0 first.0);
-      parents = found_at (codes "parents") (listed string o.parents) (written_parents pool o p.ms p.extra)
-          ∙ ids_same (codes "parents") refl js p.ms read o.parents p.parents;
-      children = found_at (codes "children") (listed string o.children) (written_children pool o p.ms p.extra)
-          ∙ ids_same (codes "children") refl js p.ms read o.children p.children;
-      geometry = subst (AreSameGeometries vs ws (list_at (codes "geometry") (json.object js))) (sym list_there)
-          geometries_written.0;
-      not_empty = ap unless_empty there ∙ listed_full (geometry_data pool) o.body.geometry ∙ sym there;
-    }
-
-    written_same : IsSameObject vs ws (json.object js) (decoded (outline (object_data pool o)))
-        × AreShown ws (list_at (codes "geometry") (decoded (outline (object_data pool o)))) o.body.geometry
-    written_same =
-        let untagged = no_number (codes "type") refl all (string (name_of o.body.kind)) (written_type pool o) in
-        subst (λ h. IsSameObject vs ws (json.object js) h × AreShown ws (list_at (codes "geometry") h) o.body.geometry)
-        (sym (decoded_object all untagged))
-        (members_same, subst (λ hs. AreShown ws hs o.body.geometry) (sym list_there) geometries_written.1)
+    object_written : IsWrittenObject vs ws pool (json.object js) o
+    object_written =
+        let geometries = geometries_written (get_member (codes "geometry") p.ms) refl p.geometry in
+        rw (object_decoded pool o) (
+          record {
+            names = ascend_decoded false all all_ordered;
+            members = λ name apart.
+                member_same false name js p.ms all refl numbers read all_ordered (same_at name apart);
+            parents = found_at (codes "parents") (listed string o.parents) (rw p.extra (simp lookups))
+                ∙ ids_same (codes "parents") js p.ms o.parents _ refl read refl p.parents;
+            children = found_at (codes "children") (listed string o.children) (rw p.extra (simp lookups))
+                ∙ ids_same (codes "children") js p.ms o.children _ refl read refl p.children;
+            geometry = rw list_there geometries.0;
+            not_empty = ap unless_empty there ∙ (listed_both (geometry_data pool) o.body.geometry).1 ∙ sym there;
+          },
+          rw list_there geometries.1,
+        )
 
   pub object_same : (j : json.Json) (d : Data) (o : Object) → HasNumbers j → of_json (encoded j) ≡ Some d
-      → object_of ps d ≡ Some o → are_in pool (object_points o) ≡ true
-      → IsSameObject vs ws j (decoded (outline (object_data pool o)))
-      × AreShown ws (list_at (codes "geometry") (decoded (outline (object_data pool o)))) o.body.geometry
+      → object_of ps d ≡ Some o → are_in pool (object_points o) ≡ true → IsWrittenObject vs ws pool j o
   object_same j d o numbers is h within =
       let p = object_parts ps d o h in
-      let found = object_read j p.ms (codes "type") (string (name_of o.body.kind)) (λ s. refl) (is ∙ ap Some p.is)
-      p.type in
-      subst (λ x. IsSameObject vs ws x (decoded (outline (object_data pool o)))
-      × AreShown ws (list_at (codes "geometry") (decoded (outline (object_data pool o)))) o.body.geometry)
-      (sym found.is) (written_same found.ms d o p found.read (subst HasNumbers found.is numbers) within)
-
--- an object is decoded as an object
-pub object_decoded : (pool : List Point) (o : Object)
-    → (ms : json.Members) × (decoded (outline (object_data pool o)) ≡ json.object ms)
-object_decoded pool o =
-    let all = written pool o in (
-      decoded_members false (members_outline all),
-      decoded_object all (no_number (codes "type") refl all (string (name_of o.body.kind)) (written_type pool o)),
-    )
+      let found = object_read (get_member (codes "type")) _ j p.ms (λ s. refl) p.type (is ∙ ap Some p.is) in
+      rw found.is (object_written found.ms d o p found.read (rw found.is at numbers) within)

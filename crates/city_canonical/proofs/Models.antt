@@ -1,57 +1,47 @@
 -- A model that was read of an encoded one, is written and decoded, is the same model.
-use Rattle.std.proofs.Common.{◌≡◌, ℕ, List, [], ◌∷◌, true, false, true≢false, Option, Some, None, codes, refl, sym, ap}
-use Rattle.std.proofs.Common.{subst, ◌∙◌}
-use Rattle.std.specs.Prelude.{map, option_map, option_and_then}
+use Rattle.city_canonical.proofs.Prelude.{arith, ◌≡◌, ℕ, zero, suc, List, [], ◌∷◌, Bool, true, false, cond, Option}
+use Rattle.city_canonical.proofs.Prelude.{Some, None, nat_cmp, codes, refl, sym, ap, subst, ◌∙◌, ◌&&◌, map, flat_map}
+use Rattle.city_canonical.proofs.Prelude.{option_map, option_and_then, slice_cmp, All, and_parts, All-nil, All-cons}
+use Rattle.city_canonical.proofs.Prelude.{All-weaker, list_all-append, is_eq-slice_cmp, bytes_eq-Decides, HasNumbers}
+use Rattle.city_canonical.proofs.Prelude.{MembersHaveNumbers, Some_inj, not_found, Data, string, array, object, Items}
+use Rattle.city_canonical.proofs.Prelude.{Members, no_members, member, put, get, get_member, as_array, of_json}
+use Rattle.city_canonical.proofs.Prelude.{of_members, items_of, outline, items_outline, members_outline, Geometry}
+use Rattle.city_canonical.proofs.Prelude.{Object, Point, CityValue, same_id, has_id, AreOrdered, by_id, is_tag}
+use Rattle.city_canonical.proofs.Prelude.{is_text_or_array, only, encoded, encoded_members, encoded_top, number_in}
+use Rattle.city_canonical.proofs.Prelude.{decoded, decoded_members, decoded_top, geometry_points, object_points}
+use Rattle.city_canonical.proofs.Prelude.{pool_of, IsInRange, transform_data, tree_of, object_data, vertex_data}
+use Rattle.city_canonical.proofs.Prelude.{object_of, read_items, point_of, points_of, and_then_some, map_some, is_in}
+use Rattle.city_canonical.proofs.Prelude.{are_in, array_is, object_is, or_empty, list_at}
 use Rattle.std.specs.FinMap.{entries}
-use Rattle.std.proofs.lemmas.Bool.{and_parts, or_parts}
-use Rattle.std.proofs.lemmas.Map.Text.{is_eq-slice_cmp}
-use Rattle.std.proofs.lemmas.Slice.Eq.{bytes_eq-Decides}
+use Rattle.std.specs.List.{Contains}
+use Rattle.std.proofs.lemmas.Cmp.{nat_list_cmp_total, eq_by_cmp_equiv}
+use Rattle.std.proofs.lemmas.List.Elements.{All-contains_itself}
+use Rattle.std.proofs.lemmas.Map.Keys.{IsDistinct-from_sorted}
+use Rattle.std.proofs.lemmas.Map.Views.{lookup-from_Contains}
+use Rattle.serde_json.specs.Find.{as_object}
+use Rattle.city_model.specs.CityMap.{Entries, found_in}
+use Rattle.city_model.proofs.Objects.{at_entries, entries_ascend}
+use Rattle.city_doc.specs.Pool.{city_points}
+use Rattle.city_doc.specs.document.Canonical.{frame_members}
+use Rattle.city_doc.specs.object.Canonical.{objects_data}
+use Rattle.city_doc.specs.shape.Vertices.{vertices_data}
+use Rattle.city_tokens.specs.document.Cities.{entries_of, objects_of, city_of}
+use Rattle.city_tokens.specs.tree.Members.{is_text}
+use Rattle.city_doc.proofs.Laws.{points_in_pool, in_turn, written_in_turn, ordered_in_turn, at_listed, found}
+use Rattle.city_doc.proofs.Laws.{frame_parts, stands_for}
+use Rattle.city_canonical.specs.Members.{IsInOrder, IsSameAt}
+use Rattle.city_canonical.specs.Same.{IsUsed, IsSameObjectOrNone, object_at, IsSameModel}
+use Rattle.city_canonical.proofs.CityObjects.{IsShown, AreShown, object_same, object_decoded}
+use Rattle.city_canonical.proofs.Members.{IsRead, member_read, value_at, object_read, found_read, read_members, lookups}
+use Rattle.city_canonical.proofs.Members.{ordered, ascend_decoded, decoded_members_at, no_number, decoded_object}
+use Rattle.city_canonical.proofs.Members.{Numbers, numbers_at, member_same, apart_from}
+use Rattle.city_canonical.proofs.Boundaries.{Show, shown_point, shown_shape, shows_read, shows_written, ArePlain}
+use Rattle.city_canonical.proofs.Boundaries.{vertices_plain, itself, plain_decoded}
+use Rattle.city_canonical.proofs.Vertices.{IsIn, all_at, all_repeats, all_flat, vertex_at, vertices_once, shape_part}
+use Rattle.city_canonical.proofs.Transforms.{IsFrameOf, frame_read, transform_same}
 use Rattle.json.specs.Json as json
 use Rattle.json.specs.Find as look
-use Rattle.json.specs.Tree.{HasNumbers}
-use Rattle.json.proofs.Found.{Some_inj, not_found}
-use Rattle.serde_json.specs.Data.{Data, null, boolean, number, string, array, object, Items, Members, no_members, put}
-use Rattle.serde_json.specs.Find.{get, get_member, as_str, as_array, as_object}
-use Rattle.serde_json.specs.Read.{of_json, of_items, of_members}
-use Rattle.serde_json.specs.View.{items_of}
-use Rattle.serde_json.specs.Written.{outline, items_outline, members_outline}
-use Rattle.serde_json.proofs.Views.{get_member-put}
-use Rattle.city_model.specs.declared.object.Point.{Point}
-use Rattle.city_model.specs.CityMap.{Entries, CityValue, same_id, has_id}
-use Rattle.city_model.specs.Members.{without, AreOrdered}
-use Rattle.city_model.proofs.Ids.{by_id}
-use Rattle.city_model.proofs.Objects.{entries_ascend}
-use Rattle.city_model.proofs.MemberLaws.{get_member-without}
-use Rattle.city_decimals.specs.Numbers.{is_whole}
-use Rattle.city_decimals.specs.Encoded.{encoded_items, encoded_members, encoded_top}
-use Rattle.city_decimals.specs.Decoded.{decoded_members, decoded_top}
-use Rattle.city_decimals.specs.Arranged.{arranged}
-use Rattle.city_decimals.proofs.Wholes.{mapped}
-use Rattle.city_doc.specs.Pool.{geometry_points, object_points, city_points, pool_of}
-use Rattle.city_doc.specs.document.Ranges.{IsInRange}
-use Rattle.city_doc.specs.document.Canonical.{transform_data, tree_of}
-use Rattle.city_doc.specs.shape.Vertices.{vertex_data, vertices_data}
-use Rattle.city_tokens.specs.document.Cities.{entries_of, objects_of, city_of}
-use Rattle.city_tokens.specs.tree.Members.{same_text, is_text}
-use Rattle.city_tokens.specs.document.Frames.{without_top_members}
-use Rattle.city_doc.specs.object.Canonical.{objects_data}
-use Rattle.city_tokens.specs.tree.Lists.{read_items}
-use Rattle.city_tokens.specs.tree.Triples.{point_of, points_of}
-use Rattle.city_tokens.proofs.Options.{and_then_some}
-use Rattle.city_doc.proofs.Laws.{frame_parts, in_turn, get_member-put_apart, ordered_put, stands_for}
-use Rattle.city_canonical.specs.Placed.{or_empty, list_at}
-use Rattle.city_canonical.specs.Members.{IsInOrder, IsSameAt}
-use Rattle.city_canonical.specs.Same.{IsEachOnce, IsPart, IsUsed, IsSameObjectOrNone, object_at, IsSameModel}
-use Rattle.city_canonical.proofs.Cities.{ids_ascend, object_shown, objects_read, objects_decoded, objects_same}
-use Rattle.city_canonical.proofs.Members.{IsRead, value_at, read_members, decoded_members_at, no_number, Numbers}
-use Rattle.city_canonical.proofs.Members.{numbers_at, member_same}
-use Rattle.city_canonical.proofs.Objects.{ascend_decoded, ordered_read, ordered_without, object_is, array_is}
-use Rattle.city_canonical.proofs.Objects.{object_inj, number_object, found_read}
-use Rattle.city_canonical.proofs.Places.{Show, shown_shape, shows_read, shows_written}
-use Rattle.city_canonical.proofs.Plain.{ArePlain, vertices_plain, itself, plain_decoded}
-use Rattle.city_canonical.proofs.Vertices.{vertex_at, vertices_once}
-use Rattle.city_canonical.proofs.Used.{has_repeats, has_flat, shape_part, shown_at, entry_found}
-use Rattle.city_canonical.proofs.Transforms.{IsFrameOf, frame_read, transform_same}
+use Rattle.city_model.specs.CityMap as city
 
 -- ---- what a city was read of
 
@@ -69,17 +59,8 @@ record IsCityOf (ms : Members) (c : CityValue) : Type 0 where
   entries_are : entries_of ps objs ≡ Some list
   made : c.1 ≡ objects_of list
 
-text_same : (text : List ℕ) (d : Data) → same_text text (as_str d) ≡ true → d ≡ string text
-text_same text null h = absurd (true≢false (sym h))
-text_same text (boolean b) h = absurd (true≢false (sym h))
-text_same text (number n) h = absurd (true≢false (sym h))
-text_same text (string s) h = ap string ((bytes_eq-Decides s text).0 h)
-text_same text (array ds) h = absurd (true≢false (sym h))
-text_same text (object ms) h = absurd (true≢false (sym h))
-
 text_is : (text : List ℕ) (o : Option Data) → is_text text o ≡ true → o ≡ Some (string text)
-text_is text None h = absurd (true≢false (sym h))
-text_is text (Some d) h = ap Some (text_same text d h)
+text_is text o h = grind (arith, bytes_eq-Decides)
 
 city_parts : (d : Data) (c : CityValue) → city_of d ≡ Some c → (ms : Members) × (d ≡ object ms) × IsCityOf ms c
 city_parts d c h =
@@ -90,210 +71,131 @@ city_parts d c h =
     (is_text (codes "2.0") (get (codes "version") d)) s.json in
     let objects = and_then_some as_object (get (codes "CityObjects") d) _ s.objects in
     let vertices = and_then_some points_of (get (codes "vertices") d) _ s.points in
-    let items = and_then_some (read_items point_of) (as_array vertices.0) _ vertices.2 in (
-      frame.top,
-      is,
-      record {
-        type = ap (get (codes "type")) (sym is) ∙ text_is (codes "CityJSON") (get (codes "type") d) texts.0;
-        version = ap (get (codes "version")) (sym is) ∙ text_is (codes "2.0") (get (codes "version") d) texts.1;
-        frame = frame_read d c.0 frame;
-        objs = _;
-        objects = ap (get (codes "CityObjects")) (sym is) ∙ objects.1 ∙ ap Some (object_is objects.0 _ objects.2);
-        dvs = items.0;
-        vertices = ap (get (codes "vertices")) (sym is) ∙ vertices.1 ∙ ap Some (array_is vertices.0 items.0 items.1);
-        ps = _;
-        points = items.2;
-        list = s.list;
-        entries_are = s.entries;
-        made = s.made;
-      },
-    )
+    let items = and_then_some (read_items point_of) (as_array vertices.0) _ vertices.2 in
+    (frame.top, is, search (arith, codes, text_is, frame_read, object_is, array_is))
 
--- ---- the top was read of an object
-
+-- the top was read of an object
 top_read : (j : json.Json) (ms : Members) (d : Data) → of_json (encoded_top j) ≡ Some (object ms)
     → get_member (codes "type") ms ≡ Some d
     → (js : json.Members) × (j ≡ json.object js) × (of_members (encoded_members true js) no_members ≡ Some ms)
-top_read json.null ms d is h = absurd (let no : null ≡ object ms = Some_inj _ _ is in cc)
-top_read (json.boolean b) ms d is h = absurd (let no : boolean b ≡ object ms = Some_inj _ _ is in cc)
-top_read (json.number s) ms d is h =
-    let o = number_object s (is_whole s) ms (codes "type") d is refl h in
-    let no : json.number s ≡ json.object o.ms = o.is in absurd (cc)
-top_read (json.string s) ms d is h = absurd (let no : string s ≡ object ms = Some_inj _ _ is in cc)
-top_read (json.array js) ms d is h = let a =
-    mapped array (of_items (encoded_items js)) (object ms) is in let no : array a.0 ≡ object ms = a.2 in absurd (cc)
-top_read (json.object js) ms d is h =
-    let o = mapped object (of_members (encoded_members true js) no_members) (object ms) is in
-    (js, refl, o.1 ∙ ap Some (object_inj o.2))
+top_read j ms d is h = grind arith
 
--- ---- what is written for a city
+-- ---- objects by their ids
 
-left_other : (name : List ℕ) (ms : Members) → same_id name (codes "CityObjects") ≡ false
-    → same_id name (codes "vertices") ≡ false → same_id name (codes "transform") ≡ false
-    → same_id name (codes "version") ≡ false → same_id name (codes "type") ≡ false
-    → get_member name (without_top_members ms) ≡ get_member name ms
-left_other name ms a b t v y =
-    let rest = without (codes "CityObjects") ms in
-    get_member-without name (codes "vertices")
-    (without (codes "version") (without (codes "type") (without (codes "transform") rest))) b
-    ∙ get_member-without name (codes "version") (without (codes "type") (without (codes "transform") rest)) v
-    ∙ get_member-without name (codes "type") (without (codes "transform") rest) y
-    ∙ get_member-without name (codes "transform") rest t ∙ get_member-without name (codes "CityObjects") ms a
+turn_at : (pool : List Point) (es : Entries) (id : List ℕ)
+    → get_member id (in_turn pool es) ≡ option_map (object_data pool) (found_in es id)
+turn_at pool [] id = refl
+turn_at pool (e ∷ es) id = grind (arith, turn_at pool es id)
 
-left_ordered : (ms : Members) → AreOrdered ms → AreOrdered (without_top_members ms)
-left_ordered ms h =
-    ordered_without (codes "vertices") _
-    (ordered_without (codes "version") _
-    (ordered_without (codes "type") _
-    (ordered_without (codes "transform") _ (ordered_without (codes "CityObjects") ms h))))
+turn_number : (pool : List Point) (es : Entries) → number_in (members_outline (in_turn pool es)) ≡ None
+turn_number pool (e ∷ []) = refl
+turn_number pool es = refl
 
-module _ (objects vertices transform version type : Data) (extra : Members) where
-  abbrev typed : Members
-  typed = put (codes "type") type extra
+found_none : (ps : List Point) (ms : Members) (es : Entries) (id : List ℕ) → entries_of ps ms ≡ Some es
+    → get_member id ms ≡ None → found_in es id ≡ None
+found_none ps no_members es id read h = rw (← Some_inj _ _ read) refl
+found_none ps (member k x ms) es id read h =
+    let o = and_then_some _ (object_of ps x) es read in
+    let r = map_some _ (entries_of ps ms) es o.2 in
+    grind (arith, found_none ps ms r.0 id r.1)
 
-  abbrev versioned : Members
-  versioned = put (codes "version") version typed
+-- the points of an object are among those of the city
+points_within : (pool : List Point) (es : Entries) (id : List ℕ) (o : Object)
+    → are_in pool (flat_map (λ e. object_points e.1) es) ≡ true → found_in es id ≡ Some o
+    → are_in pool (object_points o) ≡ true
+points_within pool [] id o all h = not_found o h
+points_within pool (e ∷ es) id o all h =
+    let rest = flat_map (λ e. object_points e.1) es in
+    let both = and_parts (are_in pool (object_points e.1)) (are_in pool rest)
+    (sym (list_all-append (is_in pool) (object_points e.1) rest) ∙ all) in
+    grind (arith, points_within pool es id o both.1)
 
-  abbrev framed : Members
-  framed = put (codes "transform") transform versioned
+-- an id is no name that is shielded
+bare_read : (ps : List Point) (id : List ℕ) (j : json.Json) (d : Data) (o : Object) (b : Bool)
+    → (is_tag id && is_text_or_array j) ≡ b → member_read false id j ≡ Some d → object_of ps d ≡ Some o
+    → of_json (encoded j) ≡ Some d
+bare_read ps id j d o b e is h = grind arith
 
-  abbrev pointed : Members
-  pointed = put (codes "vertices") vertices framed
+only_object : (b : Bool) (r : json.Json) (ms : json.Members) → r ≡ json.object ms → cond b (only r) r ≡ r
+only_object b r ms e = grind arith
 
-  abbrev written : Members
-  written = put (codes "CityObjects") objects pointed
+-- ---- objects that show their shapes
 
-  written_vertices : get_member (codes "vertices") written ≡ Some vertices
-  written_vertices = get_member-put_apart (codes "vertices") (codes "CityObjects") objects pointed refl
-      ∙ get_member-put (codes "vertices") vertices framed
+abbrev IsShownAt : json.Items → Option json.Json → Option Object → Type 0
+IsShownAt ws h None = Unit {0}
+IsShownAt ws h (Some o) =
+    (j : json.Json) × (h ≡ Some j) × AreShown ws (list_at (codes "geometry") j) o.body.geometry
 
-  written_other_than : (name : List ℕ) → same_id name (codes "CityObjects") ≡ false
-      → same_id name (codes "vertices") ≡ false → get_member name written ≡ get_member name framed
-  written_other_than name a b = get_member-put_apart name (codes "CityObjects") objects pointed a
-      ∙ get_member-put_apart name (codes "vertices") vertices framed b
-
-  written_transform : get_member (codes "transform") written ≡ Some transform
-  written_transform = written_other_than (codes "transform") refl refl
-      ∙ get_member-put (codes "transform") transform versioned
-
-  written_version : get_member (codes "version") written ≡ Some version
-  written_version = written_other_than (codes "version") refl refl
-      ∙ get_member-put_apart (codes "version") (codes "transform") transform versioned refl
-      ∙ get_member-put (codes "version") version typed
-
-  written_type : get_member (codes "type") written ≡ Some type
-  written_type =
-      written_other_than (codes "type") refl refl
-      ∙ get_member-put_apart (codes "type") (codes "transform") transform versioned refl
-      ∙ get_member-put_apart (codes "type") (codes "version") version typed refl
-      ∙ get_member-put (codes "type") type extra
-
-  written_extra : (name : List ℕ) → same_id name (codes "CityObjects") ≡ false → same_id name (codes "vertices") ≡ false
-      → same_id name (codes "transform") ≡ false → same_id name (codes "version") ≡ false
-      → same_id name (codes "type") ≡ false
-      → get_member name written ≡ get_member name extra
-  written_extra name a b t v y =
-      written_other_than name a b ∙ get_member-put_apart name (codes "transform") transform versioned t
-      ∙ get_member-put_apart name (codes "version") version typed v
-      ∙ get_member-put_apart name (codes "type") type extra y
-
-  written_ordered : AreOrdered extra → AreOrdered written
-  written_ordered h =
-      ordered_put (codes "CityObjects") objects pointed
-      (ordered_put (codes "vertices") vertices framed
-      (ordered_put (codes "transform") transform versioned
-      (ordered_put (codes "version") version typed (ordered_put (codes "type") type extra h))))
+-- what holds of a geometry wherever it is shown
+all_shown : (ws hs : json.Items) (gs : List Geometry) (P : Geometry → Type 0) → AreShown ws hs gs
+    → ((n : ℕ) (h : json.Json) (g : Geometry) → look.get_item n hs ≡ Some h → IsShown ws h g → P g) → All P gs
+all_shown ws json.no_items [] P s each = All-nil P
+all_shown ws (json.item h hs) (g ∷ gs) P s each =
+    All-cons P g gs (each zero h g refl s.0) (all_shown ws hs gs P s.1 (λ n. each (suc n)))
+all_shown ws hs gs P s each = absurd s
 
 points_plain : (ps : List Point) → ArePlain (items_of (map vertex_data ps))
 points_plain [] = tt
 points_plain (p ∷ ps) = ((tt, (tt, (tt, tt))), points_plain ps)
 
-top_decoded : (ms : Members) (d : Data) → get_member (codes "type") ms ≡ Some d
-    → decoded_top (outline (object ms)) ≡ json.object (decoded_members true (members_outline ms))
-top_decoded ms d h = let none = no_number (codes "type") refl ms d h in rw none refl
-
 -- ---- the model
 
-module _ (js : json.Members) (ms : Members) (c : CityValue) (numbers : HasNumbers (json.object js))
+module _ (js : json.Members) (ms : Members) (c : CityValue) (numbers : MembersHaveNumbers js)
     (read : of_members (encoded_members true js) no_members ≡ Some ms) (p : IsCityOf ms c)
     (range : IsInRange (pool_of c) c.0) where
-  abbrev objects : Data
-  objects = objects_data (pool_of c) (entries c.1)
-
-  abbrev vertices : Data
-  vertices = vertices_data (pool_of c)
-
-  abbrev transform : Data
-  transform = transform_data c.0
-
-  abbrev type : Data
-  type = string (codes "CityJSON")
-
-  abbrev version : Data
-  version = string (codes "2.0")
+  abbrev pool : List Point
+  pool = pool_of c
 
   abbrev all : Members
-  all = written objects vertices transform version type c.0.extra
+  all =
+      put (codes "CityObjects") (objects_data pool (entries c.1))
+      (put (codes "vertices") (vertices_data pool) (frame_members c.0))
 
   abbrev back : json.Json
   back = json.object (decoded_members true (members_outline all))
 
   all_ordered : AreOrdered all
-  all_ordered =
-      written_ordered objects vertices transform version type c.0.extra
-      (subst AreOrdered (sym p.frame.extra) (left_ordered ms (ordered_read (encoded_members true js) ms read)))
+  all_ordered = rw p.frame.extra (search (ordered, read) depth 12)
 
   found_at : (name : List ℕ) (d : Data) → get_member name all ≡ Some d
       → look.get name back ≡ Some (value_at true name d)
-  found_at name d is = decoded_members_at true name all all_ordered ∙ ap (option_map (value_at true name)) is
+  found_at name d is = rw (decoded_members_at true name all all_ordered, is) refl
 
   -- members that are kept
 
-  same_at : (name : List ℕ) → same_id name (codes "CityObjects") ≡ false → same_id name (codes "vertices") ≡ false
-      → same_id name (codes "transform") ≡ false → get_member name all ≡ get_member name ms
-  same_at name a b t =
-      by_id name (codes "type")
-      (λ e. subst (λ n. get_member n all ≡ get_member n ms) (sym e)
-      (written_type objects vertices transform version type c.0.extra ∙ sym p.type))
-      (λ y. by_id name (codes "version")
-      (λ e. subst (λ n. get_member n all ≡ get_member n ms) (sym e)
-      (written_version objects vertices transform version type c.0.extra ∙ sym p.version))
-      (λ v. written_extra objects vertices transform version type c.0.extra name a b t v y
-      ∙ ap (get_member name) p.frame.extra ∙ left_other name ms a b t v y))
-
-  transform_step : (o : Option json.Json) (r : Option Data) → Numbers o → IsRead true (codes "transform") None o r
-      → r ≡ Some p.frame.transform → Some (value_at true (codes "transform") transform) ≡ option_map arranged o
-  transform_step None r n is h = not_found p.frame.transform (sym is ∙ h)
-  transform_step (Some t) r n is h = ap Some (transform_same ms c.0 p.frame t n (is.1 ∙ sym is.2 ∙ h))
-
   transform_is : IsSameAt (json.object js) back (codes "transform")
   transform_is =
-      found_at (codes "transform") transform (written_transform objects vertices transform version type c.0.extra)
-      ∙ transform_step (look.get_member (codes "transform") js) (get_member (codes "transform") ms)
-      (numbers_at (codes "transform") js numbers) (read_members true (codes "transform") js ms read) p.frame.there
+      let t = found_read true (codes "transform") js ms p.frame.transform read p.frame.there in
+      found_at (codes "transform") (transform_data c.0) (simp lookups)
+      ∙ rw t.1
+      (ap Some (transform_same ms c.0 p.frame t.0 (rw t.1 at (numbers_at (codes "transform") js numbers)) t.2))
+
+  same_at : (name : List ℕ) → has_id (codes "CityObjects" ∷ codes "vertices" ∷ []) name ≡ false
+      → same_id name (codes "transform") ≡ false → get_member name all ≡ get_member name ms
+  same_at name apart t =
+      let a = apart_from (codes "CityObjects" ∷ codes "vertices" ∷ []) name apart in
+      by_id name (codes "type") (λ e. rw (e, p.type) (simp lookups))
+      (λ y. by_id name (codes "version") (λ e. rw (e, p.version) (simp lookups))
+      (λ v. rw p.frame.extra (simp (lookups, a.0, a.1.0, t, y, v))))
 
   member_is : (name : List ℕ) → has_id (codes "CityObjects" ∷ codes "vertices" ∷ []) name ≡ false
       → IsSameAt (json.object js) back name
   member_is name apart =
-      let first = or_parts (same_id name (codes "CityObjects")) (has_id (codes "vertices" ∷ []) name) apart in
-      let second = or_parts (same_id name (codes "vertices")) false first.1 in
-      by_id name (codes "transform") (λ e. subst (IsSameAt (json.object js) back) (sym e) transform_is)
+      by_id name (codes "transform") (λ e. rw e transform_is)
       (λ t. member_same true name js ms all (sym (is_eq-slice_cmp name (codes "transform")) ∙ t) numbers read
-      all_ordered (same_at name first.0 second.0 t))
+      all_ordered (same_at name apart t))
 
   -- vertices
 
   vertices_read : list_at (codes "vertices") (json.object js) ≡ items_outline p.dvs
   vertices_read =
-      let found = found_read true (codes "vertices") refl refl js ms read (array p.dvs) p.vertices in
-      let same = itself found.0 (array p.dvs) found.2 (vertices_plain (array p.dvs) p.ps p.points) in
-      ap (λ o. or_empty (option_and_then look.as_array o)) (found.1 ∙ ap Some same.written_so)
+      let found = found_read true (codes "vertices") js ms (array p.dvs) read p.vertices in
+      rw (found.1, (itself found.0 (array p.dvs) found.2 (vertices_plain (array p.dvs) p.ps p.points)).1) refl
 
-  vertices_back : list_at (codes "vertices") back ≡ items_outline (items_of (map vertex_data (pool_of c)))
+  vertices_back : list_at (codes "vertices") back ≡ items_outline (items_of (map vertex_data pool))
   vertices_back =
-      ap (λ o. or_empty (option_and_then look.as_array o))
-      (found_at (codes "vertices") vertices (written_vertices objects vertices transform version type c.0.extra)
-      ∙ ap Some (plain_decoded vertices (points_plain (pool_of c))))
+      rw (found_at (codes "vertices") (vertices_data pool) (simp lookups))
+      (ap (λ j. or_empty (look.as_array j)) (plain_decoded (vertices_data pool) (points_plain pool)))
 
   abbrev vs : json.Items
   vs = list_at (codes "vertices") (json.object js)
@@ -302,72 +204,112 @@ module _ (js : json.Members) (ms : Members) (c : CityValue) (numbers : HasNumber
   ws = list_at (codes "vertices") back
 
   show : Show vs p.ps
-  show = subst (λ vs. Show vs p.ps) (sym vertices_read) (shows_read p.dvs p.ps p.points)
+  show = rw vertices_read (shows_read p.dvs p.ps p.points)
 
-  show_written : Show ws (pool_of c)
-  show_written = subst (λ ws. Show ws (pool_of c)) (sym vertices_back) (shows_written (pool_of c))
+  show_written : Show ws pool
+  show_written = rw vertices_back (shows_written pool)
 
   -- objects
 
-  objects_there : look.get (codes "CityObjects") back
-      ≡ Some (json.object (decoded_members false (members_outline (in_turn (pool_of c) (entries c.1)))))
+  abbrev turn : Members
+  turn = in_turn pool (entries c.1)
+
+  abbrev turned : json.Members
+  turned = decoded_members false (members_outline turn)
+
+  turn_ordered : AreOrdered turn
+  turn_ordered = ordered_in_turn pool (entries c.1) (entries_ascend c.1)
+
+  objects_there : look.get (codes "CityObjects") back ≡ Some (json.object turned)
   objects_there =
-      found_at (codes "CityObjects") objects
-      (get_member-put (codes "CityObjects") objects (pointed objects vertices transform version type c.0.extra))
-      ∙ ap Some (objects_decoded vs ws p.ps c range.fewer show show_written)
+      found_at (codes "CityObjects") (objects_data pool (entries c.1)) (simp lookups)
+      ∙ rw (written_in_turn pool (entries c.1) (entries_ascend c.1))
+      (ap Some (decoded_object turn (turn_number pool (entries c.1))))
 
   ids_in_order : (o : json.Json) → look.get (codes "CityObjects") back ≡ Some o → IsInOrder o
-  ids_in_order o is =
-      subst IsInOrder (Some_inj _ _ (sym objects_there ∙ is)) (ids_ascend vs ws p.ps c range.fewer show show_written)
+  ids_in_order o is = subst IsInOrder (Some_inj _ _ (sym objects_there ∙ is)) (ascend_decoded false turn turn_ordered)
 
-  object_is_same : (id : List ℕ) → IsSameObjectOrNone vs ws (object_at id (json.object js)) (object_at id back)
-  object_is_same id =
-      let found = found_read true (codes "CityObjects") refl refl js ms read (object p.objs) p.objects in
-      let o = objects_read p.ps found.0 p.objs p.list found.2 p.entries_are in
+  objects_were : (os : json.Members) × (look.get_member (codes "CityObjects") js ≡ Some (json.object os))
+      × (of_members (encoded_members false os) no_members ≡ Some p.objs) × MembersHaveNumbers os
+  objects_were =
+      let found = found_read true (codes "CityObjects") js ms (object p.objs) read p.objects in
+      let o = object_read (entries_of p.ps) p.list found.0 p.objs (λ s. refl) p.entries_are found.2 in
       let there = found.1 ∙ ap Some o.is in
-      let same = objects_same vs ws p.ps c range.fewer show show_written p.objs p.list p.entries_are p.made o.ms
-      (subst Numbers there (numbers_at (codes "CityObjects") js numbers)) o.read id in
-      subst (λ o. IsSameObjectOrNone vs ws o (object_at id back)) (sym (ap (option_and_then (look.get id)) there))
-      (subst (IsSameObjectOrNone vs ws (look.get_member id o.ms))
-      (sym (ap (option_and_then (look.get id)) objects_there)) same)
+      (o.ms, there, o.read, rw there at (numbers_at (codes "CityObjects") js numbers))
+
+  turn_found : (id : List ℕ) (r : Option Object) → found_in (entries c.1) id ≡ r
+      → look.get_member id turned ≡ option_map (λ o. value_at false id (object_data pool o)) r
+  turn_found id r is =
+      rw (decoded_members_at false id turn turn_ordered, turn_at pool (entries c.1) id, is) (grind arith)
+
+  same_found : (id : List ℕ) → found_in (entries c.1) id ≡ found_in p.list id
+  same_found id = ap (λ m. m id) (sym (at_entries c.1)) ∙ ap (λ x. city.object_at x id) p.made
+      ∙ ap (λ m. m id) (at_listed p.list)
+
+  object_step : (id : List ℕ) (j : Option json.Json) → Numbers j → IsRead false id None j (get_member id p.objs)
+      → IsSameObjectOrNone vs ws j (look.get_member id turned)
+      × IsShownAt ws (look.get_member id turned) (found_in (entries c.1) id)
+  object_step id None numbers is =
+      let none = same_found id ∙ found_none p.ps p.objs p.list id p.entries_are is in
+      rw (turn_found id None none, none) (tt, tt)
+  object_step id (Some j) numbers is =
+      let f = found p.ps p.objs p.list id is.0 p.entries_are is.2 in
+      let here = same_found id ∙ f.2 in
+      let value = turn_found id (Some f.0) here ∙ ap Some (only_object (is_tag id) _ _ (object_decoded pool f.0)) in
+      let same = object_same vs ws p.ps pool range.fewer show show_written j is.0 f.0 numbers
+      (bare_read p.ps id j is.0 f.0 _ refl is.1 f.1) f.1
+      (points_within pool (entries c.1) id f.0 (points_in_pool (city_points c)) here) in
+      rw (value, here) (same.0, (_, refl, same.1))
+
+  object_there : (id : List ℕ)
+      → IsSameObjectOrNone vs ws (look.get_member id objects_were.0) (look.get_member id turned)
+      × IsShownAt ws (look.get_member id turned) (found_in (entries c.1) id)
+  object_there id =
+      object_step id (look.get_member id objects_were.0) (numbers_at id objects_were.0 objects_were.3)
+      (read_members false id objects_were.0 no_members p.objs objects_were.2)
 
   -- vertices are used
 
+  abbrev Uses : Point → Type 0
+  Uses q = IsUsed back (shown_point q)
+
+  entry_used : (e : List ℕ × Object) → Contains (entries c.1) e → All Uses (object_points e.1)
+  entry_used e there =
+      let here = lookup-from_Contains (eq_by_cmp_equiv nat_list_cmp_total) e.0 e.1 (entries c.1)
+      (IsDistinct-from_sorted (slice_cmp nat_cmp) _ (entries_ascend c.1)) there in
+      let h = subst (IsShownAt ws (look.get_member e.0 turned)) here (object_there e.0).1 in
+      all_flat Uses geometry_points e.1.body.geometry
+      (all_shown ws (list_at (codes "geometry") h.0) e.1.body.geometry (λ g. All Uses (geometry_points g)) h.2
+      (λ n i g at s. All-weaker (IsIn (shown_shape g.shape)) Uses (λ q part. record {
+        id = e.0;
+        owner = h.0;
+        there = ap (option_and_then (look.get e.0)) objects_there ∙ h.1;
+        index = n;
+        geometry = i;
+        has = at;
+        boundaries = shown_shape g.shape;
+        bounds = s;
+        part = part;
+      }) (geometry_points g) (shape_part g.shape)))
+
   vertex_used : (n : ℕ) (v : json.Json) → look.get_item n ws ≡ Some v → IsUsed back v
   vertex_used n v is =
-      let q = vertex_at (pool_of c) n v (ap (look.get_item n) (sym vertices_back) ∙ is) in
-      let walked = has_repeats (city_points c) n q.0 q.1 in
-      let e = has_flat (λ e. object_points e.1) (entries c.1) walked.0 q.0 walked.1 in
-      let g = has_flat geometry_points (e.0).1.body.geometry e.2.0 q.0 e.2.1 in
-      let here = entry_found (entries c.1) (entries_ascend c.1) e.1.0 e.0 e.1.1 in
-      let found = found_read true (codes "CityObjects") refl refl js ms read (object p.objs) p.objects in
-      let o = objects_read p.ps found.0 p.objs p.list found.2 p.entries_are in
-      let numbered = subst Numbers (found.1 ∙ ap Some o.is) (numbers_at (codes "CityObjects") js numbers) in
-      let h = object_shown vs ws p.ps c range.fewer show show_written p.objs p.list p.entries_are p.made o.ms numbered
-      o.read (e.0).0 (e.0).1 here in
-      let s = shown_at ws (list_at (codes "geometry") h.0) (e.0).1.body.geometry g.1.0 g.0 h.2 g.1.1 in
-      record {
-        id = (e.0).0;
-        owner = h.0;
-        there = ap (option_and_then (look.get (e.0).0)) objects_there ∙ h.1;
-        index = g.1.0;
-        geometry = s.0;
-        has = s.1;
-        boundaries = shown_shape (g.0).shape;
-        bounds = s.2;
-        part = subst (λ x. IsPart x (shown_shape (g.0).shape)) q.2 (shape_part (g.0).shape g.2.0 q.0 g.2.1);
-      }
+      let q = vertex_at pool n v (rw vertices_back at is) in
+      let es = entries c.1 in
+      let each = All-weaker (Contains es) (λ e. All Uses (object_points e.1)) entry_used es (All-contains_itself es) in
+      subst (IsUsed back) q.2
+      (all_at Uses pool n q.0 (all_repeats Uses (city_points c) (all_flat Uses (λ e. object_points e.1) es each)) q.1)
 
   top_same : IsSameModel (json.object js) (decoded_top (outline (tree_of c)))
   top_same =
-      subst (IsSameModel (json.object js))
-      (sym (top_decoded all type (written_type objects vertices transform version type c.0.extra)))
+      let first : get_member (codes "CityObjects") all ≡ Some (objects_data pool (entries c.1)) = simp lookups in
+      rw (no_number (codes "CityObjects") refl all _ first)
       (record {
         names = ascend_decoded true all all_ordered;
         ids = ids_in_order;
         members = member_is;
-        objects = object_is_same;
-        once = subst IsEachOnce (sym vertices_back) (vertices_once (city_points c) range.points);
+        objects = λ id. rw (objects_were.1, objects_there) (object_there id).0;
+        once = rw vertices_back (vertices_once (city_points c) range.points);
         used = vertex_used;
       })
 
@@ -377,5 +319,4 @@ pub model_same : (j : json.Json) (d : Data) (c : CityValue) → HasNumbers j →
 model_same j d c numbers is stands range =
     let p = city_parts d c stands in
     let top = top_read j p.0 (string (codes "CityJSON")) (is ∙ ap Some p.1) p.2.type in
-    subst (λ j. IsSameModel j (decoded_top (outline (tree_of c)))) (sym top.1)
-    (top_same top.0 p.0 c (subst HasNumbers top.1 numbers) top.2 p.2 range)
+    rw top.1 (top_same top.0 p.0 c (rw top.1 at numbers) top.2 p.2 range)

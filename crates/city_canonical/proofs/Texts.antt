@@ -1,129 +1,131 @@
 -- The text that is decoded is that of the same model.
-use Rattle.std.proofs.Common.{◌≡◌, ℕ, ◌≤◌, List, [], ◌∷◌, Some, sym, ap, subst, ◌∙◌, arith, append-nil}
-use Rattle.std.specs.Prelude.{option_and_then}
-use Rattle.json.specs.Json.{Json, value, if_last, max_depth, document}
+use Rattle.city_canonical.proofs.Prelude.{◌≡◌, ℕ, List, [], Bool, true, false, cond, Option, Some, sym, ap, subst, ◌∙◌}
+use Rattle.city_canonical.proofs.Prelude.{arith, option_and_then, HasNumbers, ItemsHaveNumbers, MembersHaveNumbers}
+use Rattle.city_canonical.proofs.Prelude.{not_found, Data, of_json, outline, CityValue, only, encoded_top, number_in}
+use Rattle.city_canonical.proofs.Prelude.{out_of_form, decoded, decoded_items, decoded_members, decoded_top, IsDecoded}
+use Rattle.city_canonical.proofs.Prelude.{IsDecimalsFault, DocumentFault, pool_of, tree_of, IsInRange, IsTextOfCity}
+use Rattle.city_canonical.proofs.Prelude.{and_then_some}
+use Rattle.std.proofs.Common.{◌≤◌, append-nil}
+use Rattle.std.specs.Str.{IsUtf8}
+use Rattle.json.specs.Json.{Json, array, object, Items, no_items, item, Members, no_members, member, value, if_last}
+use Rattle.json.specs.Json.{max_depth, document}
 use Rattle.json.specs.Lex.{tokens}
-use Rattle.json.specs.Print.{print}
+use Rattle.json.specs.Print.{print, IsNumber}
 use Rattle.json.specs.Token.{Token}
-use Rattle.json.specs.Tree.{json_tokens, depth, HasNumbers}
-use Rattle.json.proofs.Found.{one_reading, Some_inj, not_found}
+use Rattle.json.specs.Tree.{json_tokens, depth, items_depth, members_depth}
+use Rattle.json.proofs.Found.{one_reading}
 use Rattle.json.proofs.Nesting.{value-depth}
 use Rattle.json.proofs.Numbered.{document-HasNumbers}
 use Rattle.json.proofs.Printed.Trees.{value-json_tokens, document-print}
-use Rattle.serde_json.specs.Data.{Data}
-use Rattle.serde_json.specs.Read.{read, of_json}
-use Rattle.serde_json.specs.Read as serde
-use Rattle.serde_json.specs.Written.{outline}
-use Rattle.city_model.specs.CityMap.{CityValue}
-use Rattle.city_decimals.specs.Encoded.{encoded_top}
-use Rattle.city_decimals.specs.Decoded.{decoded_top}
-use Rattle.city_decimals.specs.Texts.{IsEncoded, IsDecoded, IsDecimalsFault}
+use Rattle.serde_json.specs.Read.{read}
+use Rattle.city_decimals.specs.Shapes.{fronted}
+use Rattle.city_decimals.specs.Decoded.{number_or}
+use Rattle.city_decimals.specs.Texts.{IsEncoded}
 use Rattle.city_decimals.specs.declared.fault.DecimalsFault.{DecimalsFault}
-use Rattle.city_decimals.specs.declared.fault.DecimalsFault.TheVariants as decimals
-use Rattle.city_doc.specs.declared.fault.ReadFault.{ReadFault}
-use Rattle.city_doc.specs.declared.fault.ReadFault.TheVariants as doc
-use Rattle.city_doc.specs.document.Faults.{DocumentFault}
-use Rattle.std.specs.Str.{IsUtf8}
+use Rattle.city_decimals.proofs.Insides.{only_numbers}
 use Rattle.city_decimals.proofs.Texts.{top_numbers, one_value}
-use Rattle.city_doc.specs.Pool.{pool_of}
-use Rattle.city_doc.specs.document.Canonical.{tree_of}
-use Rattle.city_doc.specs.document.Ranges.{IsInRange}
-use Rattle.city_tokens.specs.document.Cities.{IsTextOfCity}
+use Rattle.city_doc.specs.declared.fault.ReadFault.{ReadFault}
 use Rattle.city_doc.specs.tree.Tokens.{tokens_of}
-use Rattle.city_tokens.proofs.Options.{and_then_some}
 use Rattle.city_canonical.specs.Faults.{fault_of, read_fault_of}
 use Rattle.city_canonical.specs.Texts.{IsSameText, IsCanonicalFault}
-use Rattle.city_canonical.proofs.Decoded.{top_numbered, top_nests}
 use Rattle.city_canonical.proofs.Models.{model_same}
+use Rattle.serde_json.specs.Read as serde
+
+-- ---- a decoded value has numbers where the value has, and nests no deeper
+
+abbrev IsTame : Json → Json → Type 0
+IsTame j k = (HasNumbers j → HasNumbers k) × (depth k ≤ depth j)
+
+chosen : (b : Bool) (j x y : Json) → IsTame j x → IsTame j y → IsTame j (cond b x y)
+chosen b j x y h g = elim b as (λ b. IsTame j (cond b x y)) [ true ↦ h | false ↦ g ]
+
+fronted_tame : (j : Json) → IsTame j (fronted j)
+fronted_tame j = search arith
+
+only_tame : (j : Json) → IsTame j (only j)
+only_tame j = search (arith, only_numbers)
+
+out_tame : (top : Bool) (k : List ℕ) (i j r : Json) → IsTame j r → IsTame j (out_of_form top k i r)
+out_tame top k i j r h = let f = fronted_tame r in let o = only_tame r in search (arith, chosen)
+
+number_is : (ms : Members) (t : List ℕ) → number_in ms ≡ Some t → IsNumber t
+number_is ms t h = grind arith
+
+or_tame : (o : Option (List ℕ)) (ms rs : Members) → ((t : List ℕ) → o ≡ Some t → IsNumber t)
+    → (MembersHaveNumbers ms → MembersHaveNumbers rs) × (members_depth rs ≤ members_depth ms)
+    → IsTame (object ms) (number_or o rs)
+or_tame o ms rs each h = grind arith
+
+mutual
+  tame : (j : Json) → IsTame j (decoded j)
+  tame (array js) = let r = items_tame js in (r.0, omega arith)
+  tame (object ms) = or_tame (number_in ms) ms (decoded_members false ms) (number_is ms) (members_tame false ms)
+  tame j = ((λ h. h), omega arith)
+
+  items_tame : (js : Items)
+      → (ItemsHaveNumbers js → ItemsHaveNumbers (decoded_items js)) × (items_depth (decoded_items js) ≤ items_depth js)
+  items_tame no_items = ((λ h. h), omega arith)
+  items_tame (item j js) = grind (arith, tame j, items_tame js)
+
+  members_tame : (top : Bool) (ms : Members) → (MembersHaveNumbers ms → MembersHaveNumbers (decoded_members top ms))
+      × (members_depth (decoded_members top ms) ≤ members_depth ms)
+  members_tame top no_members = ((λ h. h), omega arith)
+  members_tame top (member k j ms) = grind (arith, out_tame top k j j (decoded j) (tame j), tame j, members_tame top ms)
+
+top_tame : (j : Json) → IsTame j (decoded_top j)
+top_tame (object ms) = or_tame (number_in ms) ms (decoded_members true ms) (number_is ms) (members_tame true ms)
+top_tame j = tame j
+
+-- ---- texts
 
 -- what is read of an encoded text was read of the encoded value
 encoded_read : (j : Json) → HasNumbers j → (text : List ℕ) (d : Data) → text ≡ print (json_tokens (encoded_top j))
     → read text ≡ Some d → of_json (encoded_top j) ≡ Some d
-encoded_read j h text d is e =
-    let found = and_then_some of_json
-    (option_and_then (λ p. if_last p.0 p.1) (value serde.max_depth (tokens (print (json_tokens (encoded_top j))))))
-    d (sym (ap read is) ∙ e) in
-    ap of_json (sym (one_value (encoded_top j) (top_numbers j h) serde.max_depth found.0 found.1)) ∙ found.2
+encoded_read j h text d is e = search (arith, and_then_some, one_value, top_numbers)
 
 last_is : (i : Json) (ts : List Token) (j : Json) → if_last i ts ≡ Some j → i ≡ j
-last_is i [] j e = Some_inj _ _ e
-last_is i (t ∷ ts) j e = not_found j e
+last_is i ts j e = grind arith
 
--- the value of a text with the tokens of a value
-value_of_tokens : (text : List ℕ) (i j : Json) → tokens text ≡ json_tokens i → document text ≡ Some j → j ≡ i
-value_of_tokens text i j same e =
-    let found = and_then_some (λ p. if_last p.0 p.1) (value max_depth (json_tokens i)) j
-    (sym (ap (λ ts. option_and_then (λ p. if_last p.0 p.1) (value max_depth ts)) same) ∙ e) in
+-- what the tokens of a value are read as at a depth
+tokens_read : (n : ℕ) (i j : Json) (ts : List Token) → ts ≡ json_tokens i
+    → option_and_then (λ p. if_last p.0 p.1) (value n ts) ≡ Some j → (j ≡ i) × (depth i ≤ n)
+tokens_read n i j ts same e =
+    let found = and_then_some _ (value n (json_tokens i)) j (rw same at e) in
     let deep : depth i ≤ depth i = omega arith in
-    let whole = ap (value (depth i)) (sym (append-nil (json_tokens i))) ∙ value-json_tokens i (depth i) _ deep in
-    sym (last_is (found.0).0 (found.0).1 j found.2)
-    ∙ ap (λ p. p.0) (Some_inj _ _ (one_reading max_depth (depth i) (json_tokens i) found.0 _ found.1 whole))
-
--- a text that is read nests no deeper
-value_nests : (text : List ℕ) (j : Json) → document text ≡ Some j → depth j ≤ max_depth
-value_nests text j e =
-    let found = and_then_some (λ p. if_last p.0 p.1) (value max_depth (tokens text)) j e in
-    subst (λ i. depth i ≤ max_depth) (last_is (found.0).0 (found.0).1 j found.2)
-    (value-depth max_depth (tokens text) (found.0).1 (found.0).0 found.1)
+    let whole = ap (value (depth i)) (sym (append-nil (json_tokens i))) ∙ value-json_tokens i (depth i) [] deep in
+    search (arith, last_is, one_reading, value-depth)
 
 pub same_text : (text encoded written out : List ℕ) (c : CityValue) → IsEncoded text encoded → IsTextOfCity encoded c
     → tokens written ≡ tokens_of (tree_of c) → IsInRange (pool_of c) c.0 → IsDecoded written out → IsUtf8 out
     → IsSameText text out
 same_text text encoded written out c e stands same range d utf8 =
-    let j = e.0 in
-    let k = decoded_top (outline (tree_of c)) in
-    let numbers = document-HasNumbers text j e.1.1 in
-    let read = encoded_read j numbers encoded stands.0 e.2 stands.1.1 in
-    let value = value_of_tokens written (outline (tree_of c)) d.0 same d.1.1 in
-    let printed : out ≡ print (json_tokens k) = d.2 ∙ ap (λ i. print (json_tokens (decoded_top i))) value in
-    let numbered : HasNumbers k =
-    top_numbered (outline (tree_of c)) (subst HasNumbers value (document-HasNumbers written d.0 d.1.1)) in
-    let nests : depth (outline (tree_of c)) ≤ max_depth =
-    subst (λ i. depth i ≤ max_depth) value (value_nests written d.0 d.1.1) in
-    let shallow : depth k ≤ max_depth = omega (arith, top_nests (outline (tree_of c)), nests) in (
-      j,
-      k,
-      e.1,
-      (utf8, ap document printed ∙ document-print k numbered shallow),
-      printed,
-      model_same j stands.0 c numbers read stands.2 range,
-    )
+    let i = outline (tree_of c) in
+    let k = decoded_top i in
+    let numbers = document-HasNumbers text e.0 e.1.1 in
+    let value = tokens_read max_depth i d.0 (tokens written) same d.1.1 in
+    let printed : out ≡ print (json_tokens k) = d.2 ∙ ap (λ i. print (json_tokens (decoded_top i))) value.0 in
+    let numbered = (top_tame i).0 (subst HasNumbers value.0 (document-HasNumbers written d.0 d.1.1)) in
+    let shallow : depth k ≤ max_depth = omega (arith, (top_tame i).1, value.1) in
+    let is : document out ≡ Some k = ap document printed ∙ document-print k numbered shallow in
+    let was = encoded_read e.0 numbers encoded stands.0 e.2 stands.1.1 in
+    (e.0, k, e.1, (utf8, is), printed, model_same e.0 stands.0 c numbers was stands.2 range)
 
 -- ---- faults
 
-pub encode_fault : (text : List ℕ) (f : DecimalsFault) → IsDecimalsFault text f → IsCanonicalFault text (fault_of f)
-encode_fault text decimals.OutOfMemory h = tt
-encode_fault text decimals.NotJson h = h
-
 pub read_fault : (text encoded : List ℕ) (f : ReadFault) → IsEncoded text encoded → DocumentFault encoded f
     → IsCanonicalFault text (read_fault_of f)
-read_fault text encoded doc.OutOfMemory e h = tt
-read_fault text encoded f e h = (encoded, e, h)
+read_fault text encoded f e h = grind arith
 
 -- what was written is JSON
 written_read : (written : List ℕ) (c : CityValue) → IsTextOfCity written c → tokens written ≡ tokens_of (tree_of c)
     → document written ≡ Some (outline (tree_of c))
 written_read written c stands same =
     let i = outline (tree_of c) in
-    let parsed =
-    and_then_some of_json (option_and_then (λ p. if_last p.0 p.1) (value serde.max_depth (tokens written))) stands.0
-    stands.1.1 in
-    let found = and_then_some (λ p. if_last p.0 p.1) (value serde.max_depth (tokens written)) parsed.0 parsed.1 in
-    let read = sym (ap (value serde.max_depth) same) ∙ found.1 in
-    let deep : depth i ≤ depth i = omega arith in
-    let whole = ap (value (depth i)) (sym (append-nil (json_tokens i))) ∙ value-json_tokens i (depth i) [] deep in
-    let one : (found.0).0 ≡ i =
-    ap (λ p. p.0) (Some_inj _ _ (one_reading serde.max_depth (depth i) (json_tokens i) found.0 (i, []) read whole))
-    in
-    let nests : depth i ≤ serde.max_depth =
-    subst (λ i. depth i ≤ serde.max_depth) one
-    (value-depth serde.max_depth (json_tokens i) (found.0).1 (found.0).0 read) in
-    let shallow : depth i ≤ max_depth = omega (arith, nests) in
-    ap (λ ts. option_and_then (λ p. if_last p.0 p.1) (value max_depth ts)) (same ∙ sym (append-nil (json_tokens i)))
-    ∙ ap (option_and_then (λ p. if_last p.0 p.1)) (value-json_tokens i max_depth [] shallow)
+    let parsed = and_then_some of_json _ stands.0 stands.1.1 in
+    let shallow : depth i ≤ max_depth =
+    omega (arith, (tokens_read serde.max_depth i parsed.0 (tokens written) same parsed.1).1) in
+    grind (arith, append-nil (json_tokens i), value-json_tokens i max_depth [] shallow)
 
 pub decode_fault : (text written : List ℕ) (c : CityValue) (f : DecimalsFault) → IsTextOfCity written c
     → tokens written ≡ tokens_of (tree_of c) → IsDecimalsFault written f → IsCanonicalFault text (fault_of f)
-decode_fault text written c decimals.OutOfMemory stands same h = tt
-decode_fault text written c decimals.NotJson stands same h =
-    not_found (outline (tree_of c)) (sym (h stands.1.0) ∙ written_read written c stands same)
+decode_fault text written c f stands same h = search (arith, not_found, written_read)

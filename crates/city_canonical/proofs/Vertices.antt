@@ -1,78 +1,67 @@
--- Of the vertices that are written none stands at two positions.
-use Rattle.std.proofs.Common.{◌≡◌, ℕ, zero, suc, ◌<◌, ℤ, pos, negsuc, Bool, true, false, true≢false, cond, not, List}
-use Rattle.std.proofs.Common.{[], ◌∷◌, Option, Some, refl, sym, ap, ◌∙◌}
-use Rattle.std.specs.Prelude.{◌&&◌, ◌||◌, ◌^◌, filter, map, slice_get, option_and_then}
+-- The vertices that are written: none stands at two positions, and each is in the boundaries of some geometry.
+use Rattle.city_canonical.proofs.Prelude.{arith, ◌≡◌, ℕ, zero, suc, ◌<◌, ℤ, Bool, true, false, List, [], ◌∷◌, Option}
+use Rattle.city_canonical.proofs.Prelude.{Some, refl, sym, ap, ◌∙◌, ◌^◌, flat_map, map, slice_get, option_and_then, All}
+use Rattle.city_canonical.proofs.Prelude.{All-nil, All-cons, All-weaker, Some_inj, not_found, items_of, items_outline}
+use Rattle.city_canonical.proofs.Prelude.{Point, Shape, shape_points, vertex_data, Nested, nested}
+use Rattle.std.proofs.Common.{true≢false, not, inl, inr}
+use Rattle.std.specs.Prelude.{filter}
 use lib.Signed.{mag}
-use Rattle.std.specs.List.{list_any, list_all}
-use Rattle.std.proofs.lemmas.Bool.{and_parts, or_parts, ltb-true}
+use Rattle.std.specs.List.{list_all}
 use Rattle.std.proofs.lemmas.Fmt.{signed_decimal_injective}
+use Rattle.std.proofs.lemmas.List.Elements.{All-head, All-tail, All-append, All-filter, filter_passes}
+use Rattle.std.proofs.lemmas.List.Sums.{AllPass-from_list_all}
+use Rattle.std.proofs.lemmas.Option.{slice_get_within, get_or_from_slice_get}
+use Rattle.serde_json.specs.Find.{of_integer}
+use Rattle.serde_json.specs.Written.{number_text}
+use Rattle.city_model.specs.Shells.{same_point}
+use Rattle.city_doc.specs.Pool.{nested_points, without_repeats}
+use Rattle.city_doc.specs.shape.Vertices.{is_i64_point}
+use Rattle.city_doc.specs.tree.Ranges.{is_i64}
+use Rattle.city_doc.proofs.Laws.{text_of_integer}
+use Rattle.city_canonical.specs.Same.{IsEachOnce, IsPart, IsPartOfOne}
+use Rattle.city_canonical.proofs.Boundaries.{shown_point, shown, shown_list, shown_shape}
 use Rattle.json.specs.Json as json
 use Rattle.json.specs.Find as look
-use Rattle.json.proofs.Found.{Some_inj, not_found}
-use Rattle.serde_json.specs.Find.{of_integer}
-use Rattle.serde_json.specs.View.{items_of}
-use Rattle.serde_json.specs.Written.{number_text, items_outline}
-use Rattle.city_model.specs.declared.object.Point.{Point}
-use Rattle.city_model.specs.Shells.{same_point}
-use Rattle.city_doc.specs.Pool.{without_repeats}
-use Rattle.city_doc.specs.shape.Vertices.{vertex_data, is_i64_point}
-use Rattle.city_doc.specs.tree.Ranges.{is_i64}
-use Rattle.city_doc.proofs.Laws.{same_itself, text_of_integer}
-use Rattle.city_canonical.specs.Same.{IsEachOnce}
-use Rattle.city_canonical.proofs.Places.{shown_point}
+
+-- ---- what holds of all points
+
+pub all_at : {A : Type 0} (P : A → Type 0) (xs : List A) (n : ℕ) (x : A) → All P xs → slice_get xs n ≡ Some x → P x
+all_at P xs n x h e = search (arith, get_or_from_slice_get, slice_get_within)
+
+pub all_repeats : (P : Point → Type 0) (ps : List Point) → All P ps → All P (without_repeats ps)
+all_repeats P [] h = h
+all_repeats P (q ∷ ps) h =
+    All-cons P q _ (All-head P q ps h) (All-filter _ P (without_repeats ps) (all_repeats P ps (All-tail P q ps h)))
+
+pub all_flat : {A B : Type 0} (P : B → Type 0) (f : A → List B) (xs : List A) → All (λ x. All P (f x)) xs
+    → All P (flat_map f xs)
+all_flat P f [] h = All-nil P
+all_flat P f (x ∷ xs) h =
+    All-append P (f x) (flat_map f xs) (All-head (λ x. All P (f x)) x xs h)
+    (all_flat P f xs (All-tail (λ x. All P (f x)) x xs h))
 
 -- ---- points without repeats
 
 abbrev AreOnce : List Point → Type 0
 AreOnce [] = Unit {0}
-AreOnce (p ∷ ps) = (list_any (same_point p) ps ≡ false) × AreOnce ps
-
-none_left : (p : Point) (test : Point → Bool) (ps : List Point) → list_any (same_point p) ps ≡ false
-    → list_any (same_point p) (filter test ps) ≡ false
-none_left p test [] h = refl
-none_left p test (q ∷ ps) h =
-    let both = or_parts (same_point p q) (list_any (same_point p) ps) h in
-    let rest = none_left p test ps both.1 in
-    elim (test q) as (λ b. list_any (same_point p) (cond b (q ∷ filter test ps) (filter test ps)) ≡ false)
-    [ true ↦ rw both.0 rest | false ↦ rest ]
+AreOnce (p ∷ ps) = All (λ q. same_point p q ≡ false) ps × AreOnce ps
 
 once_left : (test : Point → Bool) (ps : List Point) → AreOnce ps → AreOnce (filter test ps)
 once_left test [] h = tt
-once_left test (p ∷ ps) h =
-    elim (test p) as (λ b. AreOnce (cond b (p ∷ filter test ps) (filter test ps)))
-    [ true ↦ (none_left p test ps h.0, once_left test ps h.1) | false ↦ once_left test ps h.1 ]
+once_left test (p ∷ ps) h = grind (arith, All-filter test (λ q. same_point p q ≡ false) ps h.0, once_left test ps h.1)
 
-none_same : (p : Point) (ps : List Point) → list_any (same_point p) (filter (λ q. not (same_point p q)) ps) ≡ false
-none_same p [] = refl
-none_same p (q ∷ ps) =
-    elim (same_point p q) as (λ b. same_point p q ≡ b
-    → list_any (same_point p)
-    (cond (not b) (q ∷ filter (λ q. not (same_point p q)) ps) (filter (λ q. not (same_point p q)) ps)) ≡ false) [
-      | true ↦ λ e. none_same p ps
-      | false ↦ λ e. rw e (none_same p ps)
-    ] refl
-
-pub each_once : (ps : List Point) → AreOnce (without_repeats ps)
+each_once : (ps : List Point) → AreOnce (without_repeats ps)
 each_once [] = tt
 each_once (p ∷ ps) =
-    (none_same p (without_repeats ps), once_left (λ q. not (same_point p q)) (without_repeats ps) (each_once ps))
-
-any_step : (b : Bool) (c : Bool) → c ≡ true → (b || c) ≡ true
-any_step true c h = refl
-any_step false c h = h
-
-there : (ps : List Point) (n : ℕ) (p : Point) → slice_get ps n ≡ Some p → list_any (same_point p) ps ≡ true
-there [] n p h = not_found p h
-there (q ∷ ps) zero p h = let same : q ≡ p = Some_inj _ _ h in
-    ap (λ q. same_point p q || list_any (same_point p) ps) same
-    ∙ ap (λ b. b || list_any (same_point p) ps) (same_itself p)
-there (q ∷ ps) (suc n) p h = any_step (same_point p q) (list_any (same_point p) ps) (there ps n p h)
+    let rest = without_repeats ps in
+    let apart : (q : Point) → not (same_point p q) ≡ true → same_point p q ≡ false = λ q e. grind arith in
+    (All-weaker _ _ apart _ (filter_passes (λ q. not (same_point p q)) rest), once_left _ rest (each_once ps))
 
 -- a point that goes first isn't there again
-first_alone : (q : Point) (ps : List Point) (n : ℕ) (p : Point) → list_any (same_point q) ps ≡ false → q ≡ p
+first_alone : (q : Point) (ps : List Point) (n : ℕ) (p : Point) → All (λ r. same_point q r ≡ false) ps → q ≡ p
     → slice_get ps n ≡ Some p → ⊥
 first_alone q ps n p alone same h =
-    true≢false (sym (there ps n p h) ∙ ap (λ x. list_any (same_point x) ps) (sym same) ∙ alone)
+    let apart = all_at (λ r. same_point q r ≡ false) ps n p alone h in search (arith, true≢false)
 
 once_at : (ps : List Point) → AreOnce ps → (m n : ℕ) (p : Point) → slice_get ps m ≡ Some p → slice_get ps n ≡ Some p
     → m ≡ n
@@ -85,13 +74,11 @@ once_at (q ∷ ps) h (suc m) (suc n) p a b = ap suc (once_at ps h.1 m n p a b)
 -- ---- what is written for a point is written for no other
 
 in_width : (z : ℤ) → is_i64 z ≡ true → mag z < 2 ^ 63
-in_width (pos n) h = ltb-true n (2 ^ 63) h
-in_width (negsuc n) h = ltb-true n (2 ^ 63) h
+in_width z h = grind arith
 
 whole_is : (y z : ℤ) → is_i64 y ≡ true → is_i64 z ≡ true → number_text (of_integer y) ≡ number_text (of_integer z)
     → y ≡ z
-whole_is y z a b e =
-    signed_decimal_injective y z (in_width y a) (in_width z b) (sym (text_of_integer y) ∙ e ∙ text_of_integer z)
+whole_is y z a b e = search (arith, signed_decimal_injective, in_width, text_of_integer)
 
 -- the text of the number at an index
 abbrev number_at : ℕ → json.Json → Option (List ℕ)
@@ -99,24 +86,13 @@ number_at n j = option_and_then look.as_number (look.at n j)
 
 point_is : (p q : Point) → is_i64_point p ≡ true → is_i64_point q ≡ true → shown_point p ≡ shown_point q → p ≡ q
 point_is p q a b e =
-    let a_two = and_parts (is_i64 p.x && is_i64 p.y) (is_i64 p.z) a in
-    let a_one = and_parts (is_i64 p.x) (is_i64 p.y) a_two.0 in
-    let b_two = and_parts (is_i64 q.x && is_i64 q.y) (is_i64 q.z) b in
-    let b_one = and_parts (is_i64 q.x) (is_i64 q.y) b_two.0 in
-    let x : p.x ≡ q.x = whole_is p.x q.x a_one.0 b_one.0 (Some_inj _ _ (ap (number_at 0) e)) in
-    let y : p.y ≡ q.y = whole_is p.y q.y a_one.1 b_one.1 (Some_inj _ _ (ap (number_at 1) e)) in
-    let z : p.z ≡ q.z = whole_is p.z q.z a_two.1 b_two.1 (Some_inj _ _ (ap (number_at 2) e)) in
+    let x : p.x ≡ q.x = whole_is p.x q.x (grind arith) (grind arith) (Some_inj _ _ (ap (number_at 0) e)) in
+    let y : p.y ≡ q.y = whole_is p.y q.y (grind arith) (grind arith) (Some_inj _ _ (ap (number_at 1) e)) in
+    let z : p.z ≡ q.z = whole_is p.z q.z (grind arith) (grind arith) (Some_inj _ _ (ap (number_at 2) e)) in
     let first : record { x = p.x; y = p.y; z = p.z } ≡ q = rw (x, y, z) refl in
     first
 
 -- ---- vertices
-
-in_range_at : (ps : List Point) → list_all is_i64_point ps ≡ true → (n : ℕ) (p : Point) → slice_get ps n ≡ Some p
-    → is_i64_point p ≡ true
-in_range_at [] h n p e = not_found p e
-in_range_at (q ∷ ps) h zero p e = ap is_i64_point (sym (Some_inj _ _ e))
-    ∙ (and_parts (is_i64_point q) (list_all is_i64_point ps) h).0
-in_range_at (q ∷ ps) h (suc n) p e = in_range_at ps (and_parts (is_i64_point q) (list_all is_i64_point ps) h).1 n p e
 
 pub vertex_at : (ps : List Point) (n : ℕ) (v : json.Json)
     → look.get_item n (items_outline (items_of (map vertex_data ps))) ≡ Some v
@@ -131,5 +107,30 @@ vertices_once ps h m n v a b =
     let pool = without_repeats ps in
     let p = vertex_at pool m v a in
     let q = vertex_at pool n v b in
-    let same = point_is p.0 q.0 (in_range_at pool h m p.0 p.1) (in_range_at pool h n q.0 q.1) (p.2 ∙ sym q.2) in
+    let in_range = all_at (λ p. is_i64_point p ≡ true) pool in
+    let each = AllPass-from_list_all is_i64_point pool h in
+    let same = point_is p.0 q.0 (in_range m p.0 each p.1) (in_range n q.0 each q.1) (p.2 ∙ sym q.2) in
     once_at pool (each_once ps) m n p.0 p.1 (q.1 ∙ ap Some (sym same))
+
+-- ---- points in boundaries
+
+-- each item is a part of what is shown for the list
+part_list : {A : Type 0} (f : A → json.Json) (xs : List A) (Q : A → Type 0)
+    → ((x : A) → ((v : json.Json) → IsPart v (f x) → IsPartOfOne v (shown_list f xs)) → Q x) → All Q xs
+part_list f [] Q each = All-nil Q
+part_list f (y ∷ xs) Q each =
+    All-cons Q y xs (each y (λ v p. inl p)) (part_list f xs Q (λ x into. each x (λ v p. inr (into v p))))
+
+abbrev pub IsIn : json.Json → Point → Type 0
+IsIn j p = IsPart (shown_point p) j
+
+nested_part : (n : ℕ) (x : Nested n) → All (IsIn (shown n x)) (nested_points n x)
+nested_part zero q = All-cons (IsIn (shown_point q)) q [] (inl refl) (All-nil (IsIn (shown_point q)))
+nested_part (suc n) xs =
+    let P = IsIn (shown (suc n) xs) in
+    all_flat P (nested_points n) xs
+    (part_list (shown n) xs (λ x. All P (nested_points n x))
+    (λ x into. All-weaker (IsIn (shown n x)) P (λ p part. inr (into (shown_point p) part)) _ (nested_part n x)))
+
+pub shape_part : (shape : Shape) → All (IsIn (shown_shape shape)) (shape_points shape)
+shape_part shape = let b = nested shape in nested_part b.0 b.1

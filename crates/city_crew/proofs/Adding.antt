@@ -1,12 +1,10 @@
 -- The exchange that adds a change keeps the rule.
-use Rattle.std.proofs.Common.{◌≡◌, ℕ, ◌+◌, ◌<◌, ◌==◌, Bool, true, false, List, [], ◌∷◌, ◌++◌, length, refl, ap, sym}
-use Rattle.std.proofs.Common.{subst, arith, inl, length-append, None}
-use Rattle.std.proofs.lemmas.List.{append-nil}
+use Rattle.city_crew.proofs.Prelude.{◌≡◌, ℕ, Bool, true, false, List, [], ◌∷◌, ◌++◌, length, refl, arith, length-append}
+use Rattle.city_crew.proofs.Prelude.{None, append-nil, IsPrefix, Change}
+use Rattle.std.proofs.Common.{◌+◌, ◌==◌}
 use Rattle.std.proofs.lemmas.Bool.Decides.{nat_tests}
-use mathlib.Core.List.{IsPrefix}
 use prog.Atomic.{either}
-use Rattle.logbook.specs.Pages.{Cell, cell, keeps, no_nib, step, Moves, Goes}
-use Rattle.city_model.specs.Runs.{Change}
+use Rattle.logbook.specs.Pages.{no_nib, step, Moves, Goes}
 use Rattle.city_crew.specs.inside.HistoryRule.{HasLength, Adds}
 use Rattle.city_crew.proofs.Prefixes.{prefix_whole}
 
@@ -24,33 +22,11 @@ adds_goes log v e old len pre true is =
     let here : length log ≡ old = grind (arith, nat_tests) in
     let same : v ≡ log = prefix_whole v log pre (omega arith) in
     let n : either (length log == old) (old + 1) (length log) ≡ length (log ++ e ∷ []) =
-    rw is (omega (arith, length-append log (e ∷ []))) in (
-      keeps,
-      e ∷ [],
-      None,
-      tt,
-      ap (λ (k : ℕ). (k, true) ∷ (0, true) ∷ []) n,
-      inl (refl, refl),
-      rw is (ap (λ w. w ++ e ∷ []) (sym same)),
-    )
-adds_goes log v e old len pre false is =
-    let all : log ++ [] ≡ log = append-nil log in
-    let n : either (length log == old) (old + 1) (length log) ≡ length (log ++ []) = rw is (ap length (sym all)) in (
-      keeps,
-      [],
-      None,
-      tt,
-      ap (λ (k : ℕ). (k, true) ∷ (0, true) ∷ []) n,
-      inl (refl, refl),
-      rw is (ap length all),
-    )
+    rw is (omega (arith, length-append log (e ∷ []))) in grind arith
+adds_goes log v e old len pre false is = grind (arith, append-nil log)
 
 -- whatever the history is, the exchange adds the change to all that was seen, or finds that the history is longer
 pub adds_moves : (v : List Change) (e : Change) (old : ℕ) → length v ≡ old
     → Moves HasLength hidden moved 0 (v, (no_nib, None)) (λ n. either (n == old) (old + 1) n)
     (Adds (step 0 old (old + 1) e) (v, (no_nib, None)))
-adds_moves v e old len cs log kept pre away =
-    let P : List Cell → Type 0 =
-    λ c. (0 < length c) × ((cell c 0).1 ≡ true) × Goes HasLength hidden moved 0 (v, (no_nib, None))
-    (λ n. either (n == old) (old + 1) n) (Adds (step 0 old (old + 1) e) (v, (no_nib, None))) c log in
-    subst P (sym kept) (omega arith, refl, adds_goes log v e old len pre (length log == old) refl)
+adds_moves v e old len cs log kept pre away = grind (arith, adds_goes log v e old len pre (length log == old) refl)

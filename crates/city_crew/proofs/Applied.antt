@@ -1,14 +1,8 @@
 -- A city after writes.
-use Rattle.std.proofs.Common.{◌≡◌, ℕ, List, [], ◌∷◌, false, refl, ap, sym, ◌∙◌}
-use Rattle.std.specs.Prelude.{◌||◌}
-use Rattle.std.specs.Map.{keys_of}
-use Rattle.city_model.specs.CityMap.{CityMap, CityValue, object_at, changed, same_id, has_id}
-use Rattle.city_model.specs.Runs.{Change, after_change}
-use Rattle.city_model.proofs.Changed.{changed_apart, changed_there}
-use Rattle.city_model.proofs.IdLists.{bool_cases}
-use Rattle.city_model.proofs.Ids.{same_id_back}
+use Rattle.city_crew.proofs.Prelude.{◌≡◌, ℕ, List, [], ◌∷◌, false, refl, sym, ◌∙◌, arith, keys_of, CityMap, CityValue}
+use Rattle.city_crew.proofs.Prelude.{object_at, changed, has_id, Change, after_change, changed_apart, changed_there}
+use Rattle.city_crew.proofs.Prelude.{same_id_back, same_map, at_after}
 use Rattle.city_model.proofs.Objects.{same_objects}
-use Rattle.city_model.proofs.Writing.{same_map, at_after}
 use Rattle.city_crew.specs.inside.Versions.{city_with}
 
 -- writes give the same where maps differ at written ids alone
@@ -16,10 +10,14 @@ same_after : (c : Change) (m n : CityMap) (q : List ℕ) → (has_id (keys_of c)
     → after_change m c q ≡ after_change n c q
 same_after [] m n q h = h refl
 same_after (w ∷ ws) m n q h = same_after ws (changed m w.0 w.1) (changed n w.0 w.1) q
-    (λ none. bool_cases (same_id w.0 q)
-    (λ t. changed_there m w.0 w.1 q t ∙ sym (changed_there n w.0 w.1 q t))
-    (λ t. changed_apart m w.0 w.1 q t ∙ h (ap (λ b. b || has_id (keys_of ws) q) (same_id_back q w.0 ∙ t) ∙ none)
-    ∙ sym (changed_apart n w.0 w.1 q t)))
+    (λ none. grind (
+      arith,
+      changed_there m w.0 w.1 q,
+      changed_there n w.0 w.1 q,
+      changed_apart m w.0 w.1 q,
+      changed_apart n w.0 w.1 q,
+      same_id_back q w.0,
+    ))
 
 -- cities of one frame whose maps are the same
 pub same_city : (c d : CityValue) → d.0 ≡ c.0 → object_at d.1 ≡ object_at c.1 → d ≡ c

@@ -1,15 +1,11 @@
 -- What a finished desk says of the texts that it was opened over, and what is written of it.
-use Rattle.std.proofs.Common.{◌≡◌, ℕ, List, [], ◌∷◌, ◌++◌, length, Option, ap, sym, ◌∙◌, subst}
-use Rattle.city_model.specs.declared.end.End.{End}
-use Rattle.city_model.specs.declared.frame.Frame.{Frame}
-use Rattle.city_model.specs.CityMap.{CityValue, object_at}
-use Rattle.city_model.specs.Runs.{Change, model_after}
-use Rattle.city_doc.specs.document.Canonical.{city_text}
-use Rattle.city_doc.specs.report.Reports.{report_text}
+use Rattle.city_crew.proofs.Prelude.{arith, ◌≡◌, ℕ, List, [], ◌∷◌, ◌++◌, length, Option, End, CityValue, object_at}
+use Rattle.city_crew.proofs.Prelude.{Change, city_text, report_text, IsReadFrom}
+use Rattle.city_model.specs.Runs.{model_after}
 use Rattle.city_desk.specs.DeskState.{DeskState}
 use Rattle.city_desk.specs.Serial.{IsSerial}
 use Rattle.city_desk.proofs.Throughout.{lawful_throughout}
-use Rattle.city_desk.specs.TextRuns.{IsReadFrom, IsRun}
+use Rattle.city_desk.specs.TextRuns.{IsRun}
 use Rattle.city_crew.specs.inside.CrewRuns.{IsResult}
 
 pub is_result : (document scripts : List ℕ) (d : DeskState) (changes : List Change) (base : Option CityValue)
@@ -18,15 +14,11 @@ pub is_result : (document scripts : List ℕ) (d : DeskState) (changes : List Ch
     → left.0 ≡ d.start.0 → object_at left.1 ≡ model_after d.scripts (object_at d.start.1) d.ends → ends ≡ d.ends
     → IsResult document scripts left ends
 is_result document scripts d changes base left ends read serial once frame model same =
-    subst (λ (es : List End). IsResult document scripts left es) (sym same) (record {
+    rw same (record {
       city = d.start;
       list = d.scripts;
       read = read;
-      ran = record {
-        each_once = ap length (sym same) ∙ once;
-        fits = serial.fits;
-        lawful = lawful_throughout d changes base serial;
-      };
+      ran = record { each_once = grind arith; fits = serial.fits; lawful = lawful_throughout d changes base serial };
       frame = frame;
       model = model;
     })
@@ -39,9 +31,5 @@ is_run document scripts left ends bytes result text = record {
   list = result.list;
   read = result.read;
   ran = result.ran;
-  output = record {
-    model = left.1;
-    left = result.model;
-    text = text ∙ ap (λ (f : Frame). report_text ends ++ city_text (f, left.1) ++ 10 ∷ []) result.frame;
-  };
+  output = record { model = left.1; left = result.model; text = rw (← result.frame) text };
 }

@@ -1,11 +1,11 @@
 -- Posters and viewers may go to other threads.
-use denote.RattleType.{RattleType}
-use denote.Struct.Declared.{shape}
-use denote.Param.Send.{IsSend, IsSync, struct_send, view_send, sendable}
-use Rattle.std.proofs.Crossing as values
-use Rattle.city_model.proofs.Crossing.{change_sends, city_field_sends, city_field_syncs}
-use Rattle.std.below.std_heap.specs.contracts.Global as Heap
+use Rattle.city_crew.proofs.Prelude.{RattleType, shape, IsSend, struct_send, view_send, sendable, city_field_sends}
+use denote.Param.Send.{IsSync}
+use Rattle.city_model.proofs.Crossing.{change_sends, city_field_syncs}
 use Rattle.std.below.std_heap.specs.contracts.GlobalAllocator.TheImpl.{ghosts}
+use Rattle.city_crew.proofs.DeskCrossing.{declared_sends}
+use Rattle.std.proofs.Crossing as values
+use Rattle.std.below.std_heap.specs.contracts.Global as Heap
 use Rattle.std.specs.contracts.collections.VecDeque as VecDeque
 use Rattle.std.specs.contracts.option.Option as Option
 use Rattle.std.proofs.option.Option.TheSendSync as option
@@ -26,7 +26,6 @@ use Rattle.city_crew.specs.contracts.version.Version as Version
 use Rattle.city_crew.specs.contracts.viewer.Viewer as Viewer
 use Rattle.city_crew.specs.contracts.watcher.Watcher as Watcher
 use Rattle.city_crew.specs.contracts.writer.OwnWriter as OwnWriter
-use Rattle.city_crew.proofs.DeskCrossing.{declared_sends}
 
 -- ---- versions, edits and viewers
 
@@ -55,28 +54,17 @@ writer_sends : IsSend
     (Writer.the_field Version.the_row Edit.the_row Known.the_row BoardRule.the_row Heap.the_row Version.the_row
     absorb.ghosts protocol.ghosts ghosts).row
 writer_sends =
-    writer.the_field_send Version.the_row Edit.the_row Known.the_row BoardRule.the_row Heap.the_row Version.the_row
-    absorb.ghosts protocol.ghosts ghosts
-    version_sends edit_sends values.send version_syncs values.sync values.frees
-
-own_field_sends : (R : RattleType) → IsSend R → IsSend (OwnWriter.the_field R).row
-own_field_sends R s = search (s, writer_sends, sendable) depth 60 fits 20000
+    search (writer.the_field_send, version_sends, edit_sends, values.send, version_syncs, values.sync, values.frees)
 
 own_sends : (R : RattleType) → IsSend R → IsSend (OwnWriter.the_row R)
-own_sends R s = declared_sends (OwnWriter.the_type R) (own_field_sends R s)
-
-waiting_sends : IsSend (VecDeque.the_field Edit.the_row Heap.the_row ghosts).row
-waiting_sends = values.Deque-send Edit.the_row edit_sends
-
-maybe_own_sends : (R : RattleType) → IsSend R → IsSend (Option.the_field (OwnWriter.the_row R)).row
-maybe_own_sends R s = option.the_field_send (OwnWriter.the_row R) (own_sends R s)
+own_sends R s = declared_sends (OwnWriter.the_type R) (search (s, writer_sends, sendable) depth 60 fits 20000)
 
 poster_inside_sends : (R : RattleType) → IsSend R → IsSend (PosterInside.the_field R).row
-poster_inside_sends R s =
-    struct_send (shape (PosterInside.the_type R)) (
-      maybe_own_sends R s,
-      (head.the_send, (opening.the_send, (history.the_send, (history.the_send, (waiting_sends, tt))))),
-    )
+poster_inside_sends R s = struct_send (shape (PosterInside.the_type R)) (
+  option.the_field_send (OwnWriter.the_row R) (own_sends R s),
+  search (head.the_send, opening.the_send, history.the_send, values.Deque-send, edit_sends, sendable)
+      depth 60 fits 20000,
+)
 
 pub poster_sends : (R : RattleType) → IsSend R → IsSend (Poster.the_row R)
 poster_sends R s = view_send _ _ _ _ _ (declared_sends (PosterInside.the_type R) (poster_inside_sends R s))

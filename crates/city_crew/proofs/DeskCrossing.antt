@@ -1,10 +1,11 @@
 -- A desk may go to other threads where its shelf may.
-use denote.RattleType.{RattleType}
-use denote.Struct.Declared.{Declared, shape, row, field}
-use denote.Param.Send.{IsSend, recorded_send, struct_send, view_send, sendable}
+use Rattle.city_crew.proofs.Prelude.{RattleType, shape, IsSend, recorded_send, struct_send, view_send, sendable}
+use Rattle.city_crew.proofs.Prelude.{city_field_sends}
+use denote.Struct.Declared.{Declared, row, field}
+use Rattle.city_model.proofs.Crossing.{text_sends, body_sends, object_sends}
+use Rattle.city_desk.specs.declared.shelf.Shelf.{Ghosts}
 use Rattle.std.proofs.Crossing as values
 use Rattle.std.proofs.MapsCrossing as maps
-use Rattle.city_model.proofs.Crossing.{text_sends, body_sends, object_sends, city_field_sends}
 use Rattle.city_model.specs.contracts.command.Cause as Cause
 use Rattle.city_model.specs.contracts.command.Command as Command
 use Rattle.city_model.specs.contracts.command.Reply as Reply
@@ -18,81 +19,34 @@ use Rattle.city_txn.specs.contracts.undo_log.Entry as Entry
 use Rattle.city_txn.specs.contracts.undo_log.UndoLogs as UndoLogs
 use Rattle.city_desk.specs.contracts.desk.Desk as Desk
 use Rattle.city_desk.specs.contracts.desk.Desk.TheInside as DeskInside
-use Rattle.city_desk.specs.declared.shelf.Shelf.{Ghosts}
 use Rattle.city_desk.proofs.opening_city.OpeningCity.TheSendSync as opening
 use Rattle.city_desk.specs.contracts.progress.Progress as Progress
 use Rattle.city_desk.specs.contracts.replies.Replies as Replies
 
-cause_sends : IsSend Cause.the_field.row
-cause_sends = search (text_sends, values.crosses, sendable) depth 60 fits 20000
-
-command_sends : IsSend Command.the_field.row
-command_sends = search (text_sends, body_sends, values.crosses, sendable) depth 60 fits 20000
-
-reply_sends : IsSend Reply.the_field.row
-reply_sends = search (object_sends, cause_sends, values.crosses, sendable) depth 60 fits 20000
-
-script_sends : IsSend Script.the_row
-script_sends = search (text_sends, command_sends, values.crosses, sendable) depth 60 fits 20000
-
-outcome_sends : IsSend Outcome.the_field.row
-outcome_sends = search (cause_sends, values.crosses, sendable) depth 60 fits 20000
-
-end_sends : IsSend End.the_row
-end_sends = search (text_sends, reply_sends, outcome_sends, values.crosses, sendable) depth 60 fits 20000
-
-replies_send : IsSend Replies.the_row
-replies_send = search (reply_sends, values.crosses, sendable) depth 60 fits 20000
-
-progress_sends : IsSend Progress.the_row
-progress_sends = search (replies_send, reply_sends, values.crosses, sendable) depth 60 fits 20000
-
-locks_send : IsSend LockTable.the_field.row
-locks_send = search (text_sends, maps.crosses, values.crosses, sendable) depth 60 fits 20000
-
-entry_sends : IsSend Entry.the_field.row
-entry_sends = search (text_sends, object_sends, values.crosses, sendable) depth 60 fits 20000
-
-logs_send : IsSend UndoLogs.the_field.row
-logs_send = search (entry_sends, maps.crosses, values.crosses, sendable) depth 60 fits 20000
-
-store_sends : IsSend Store.the_field.row
-store_sends = search (logs_send, text_sends, object_sends, city_field_sends, maps.crosses, values.crosses, sendable)
+core_sends : IsSend Core.the_field.row
+core_sends = search (text_sends, object_sends, city_field_sends, maps.crosses, values.crosses, sendable)
     depth 60 fits 20000
 
-core_sends : IsSend Core.the_field.row
-core_sends = search (store_sends, locks_send, values.crosses, sendable) depth 60 fits 20000
-
 desk_inside_sends : (S N : RattleType) (G : Ghosts S.Denot N.Denot) → IsSend S → IsSend (DeskInside.the_field S N G).row
-desk_inside_sends S N G s =
-    struct_send (shape (DeskInside.the_type S N G)) (
-      search sendable depth 20,
+desk_inside_sends S N G s = struct_send (shape (DeskInside.the_type S N G)) (
+  search sendable depth 20,
+  (
+    opening.the_send,
+    (
+      search (text_sends, body_sends, values.crosses, sendable) depth 60 fits 20000,
       (
-        opening.the_send,
+        search (text_sends, values.crosses, sendable) depth 60 fits 20000,
         (
-          search (script_sends, values.crosses, sendable) depth 60 fits 20000,
+          search (text_sends, object_sends, values.crosses, sendable) depth 60 fits 20000,
           (
-            search (text_sends, values.crosses, sendable) depth 60 fits 20000,
-            (
-              search (end_sends, values.crosses, sendable) depth 60 fits 20000,
-              (
-                search (progress_sends, values.crosses, sendable) depth 60 fits 20000,
-                (
-                  search sendable depth 20,
-                  (
-                    search sendable depth 20,
-                    (
-                      core_sends,
-                      (s, tt),
-                    ),
-                  ),
-                ),
-              ),
-            ),
+            search (text_sends, object_sends, values.crosses, sendable) depth 60 fits 20000,
+            search (core_sends, s, sendable) depth 60 fits 20000,
           ),
         ),
       ),
-    )
+    ),
+  ),
+)
 
 -- a struct may go where its fields may
 pub declared_sends : (T : Declared) → IsSend (field T).row → IsSend (row T)

@@ -1,7 +1,5 @@
 -- A copy of a lawful city is lawful.
-use Rattle.std.proofs.Common.{◌≡◌, sym, subst}
-use Rattle.city_model.specs.CityMap.{CityValue, object_at}
-use Rattle.city_model.specs.Relations.{IsLawful}
+use Rattle.city_crew.proofs.Prelude.{◌≡◌, sym, subst, CityValue, object_at, IsLawful}
 
 pub lawful_copy : (city copy : CityValue) → copy ≡ city → IsLawful (object_at city.1) → IsLawful (object_at copy.1)
 lawful_copy city copy same lawful = subst (λ (x : CityValue). IsLawful (object_at x.1)) (sym same) lawful

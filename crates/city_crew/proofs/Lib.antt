@@ -10,6 +10,7 @@ pub mod LaterVersions
 pub mod LawfulCopy
 pub mod Placed
 pub mod Prefixes
+pub mod Prelude
 pub mod Results
 pub mod Risen
 pub mod StateCrossing

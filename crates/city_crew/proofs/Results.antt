@@ -1,5 +1,6 @@
 -- What is true of a value that a result or an option holds.
-use Rattle.std.proofs.Common.{◌≡◌, Option, Some, IfSome, Result, Ok, MatchResult, subst}
+use Rattle.city_crew.proofs.Prelude.{◌≡◌, Option, Some, subst}
+use Rattle.std.proofs.Common.{IfSome, Result, Ok, MatchResult}
 
 pub from_ok : {A E : Type 0} (r : Result A E) (x : A) (P : A → Type 0) (Q : E → Type 0) → r ≡ Ok x → MatchResult r P Q
     → P x

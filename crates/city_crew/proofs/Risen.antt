@@ -1,6 +1,6 @@
 -- A list that rises, with one larger number more.
-use Rattle.std.proofs.Common.{◌≡◌, ℕ, ◌<◌, List, [], ◌∷◌, ◌++◌, length, arith, refl}
-use Rattle.city_crew.specs.Rising.{RisesOver, Rises, last_over, last_of}
+use Rattle.city_crew.proofs.Prelude.{◌≡◌, ℕ, ◌<◌, List, [], ◌∷◌, ◌++◌, length, arith, refl, Rises, last_of}
+use Rattle.city_crew.specs.Rising.{RisesOver, last_over}
 
 over_more : (x : ℕ) (xs : List ℕ) (n : ℕ) → RisesOver x xs → last_over x xs < n → RisesOver x (xs ++ n ∷ [])
 over_more x [] n r lt = (lt, tt)

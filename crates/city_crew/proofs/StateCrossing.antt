@@ -1,20 +1,16 @@
 -- What lies under the lock of a run may go to other threads.
-use denote.RattleType.{RattleType}
-use denote.Enum.Declared as enums
-use denote.Struct.Declared.{shape}
-use denote.Param.Send.{IsSend, enum_send, recorded_send, struct_send, view_send, sendable}
-use Rattle.std.proofs.Crossing as values
+use Rattle.city_crew.proofs.Prelude.{RattleType, shape, IsSend, recorded_send, struct_send, view_send, sendable}
+use denote.Param.Send.{enum_send}
 use Rattle.std.specs.declared.sync.Wait.{Ghosts}
+use Rattle.city_crew.proofs.Crossing.{poster_sends}
+use Rattle.city_crew.proofs.DeskCrossing.{declared_sends, desk_field_sends}
+use denote.Enum.Declared as enums
+use Rattle.std.proofs.Crossing as values
 use Rattle.city_desk.proofs.null_shelf.NullShelf.TheSendSync as null_shelf
 use Rattle.city_crew.specs.contracts.ages.Ages as Ages
 use Rattle.city_crew.specs.contracts.crew_shelf.CrewShelf as CrewShelf
 use Rattle.city_crew.specs.contracts.state.State as State
 use Rattle.city_crew.specs.contracts.state.State.TheInside as StateInside
-use Rattle.city_crew.proofs.Crossing.{poster_sends}
-use Rattle.city_crew.proofs.DeskCrossing.{declared_sends, desk_field_sends}
-
-ages_send : IsSend Ages.the_field.row
-ages_send = search (values.crosses, sendable) depth 60 fits 20000
 
 shelf_sends : (R : RattleType) → IsSend R → IsSend (CrewShelf.the_row R)
 shelf_sends R s =
@@ -22,26 +18,19 @@ shelf_sends R s =
     recorded_send _ T.D T.to T.to_one
     (enum_send (enums.shape T) ((null_shelf.the_send, tt), ((poster_sends R s, tt), tt)))
 
-state_inside_sends : (R : RattleType) (W : Ghosts R.Denot) → IsSend (CrewShelf.the_row R)
+inside_sends : (R : RattleType) (W : Ghosts R.Denot) → IsSend (CrewShelf.the_row R)
     → IsSend (StateInside.the_field R W).row
-state_inside_sends R W shelf =
-    struct_send (shape (StateInside.the_type R W)) (
-      search (values.crosses, sendable) depth 60 fits 20000,
-      (
-        search (values.crosses, sendable) depth 60 fits 20000,
-        (
-          search (shelf, desk_field_sends, sendable) depth 60 fits 20000,
-          (
-            search sendable depth 20,
-            (
-              ages_send,
-              tt,
-            ),
-          ),
-        ),
-      ),
-    )
+inside_sends R W shelf = struct_send (shape (StateInside.the_type R W)) (
+  search (values.crosses, sendable) depth 60 fits 20000,
+  (
+    search (values.crosses, sendable) depth 60 fits 20000,
+    (
+      search (shelf, desk_field_sends, sendable) depth 60 fits 20000,
+      (search sendable depth 20, (search (values.crosses, sendable) depth 60 fits 20000, tt)),
+    ),
+  ),
+)
 
 pub state_sends : (R : RattleType) (W : Ghosts R.Denot) → IsSend R → IsSend (State.the_row R W)
 state_sends R W s =
-    view_send _ _ _ _ _ (declared_sends (StateInside.the_type R W) (state_inside_sends R W (shelf_sends R s)))
+    view_send _ _ _ _ _ (declared_sends (StateInside.the_type R W) (inside_sends R W (shelf_sends R s)))

@@ -38,5 +38,5 @@ pub use gate::{Gate, OpenGate};
 pub use look::Look;
 pub use note::Note;
 pub use poster::Poster;
-pub use run::{MAX_WORKERS, run_crew};
+pub use run::{MAX_WORKERS, run_crew, run_seeded};
 pub use viewer::Viewer;

@@ -23,6 +23,7 @@ use crate::viewer::Viewer;
 use crate::watcher::{Watcher, watchers_of};
 use crate::work::Shared;
 use city_desk::{Desk, Finished, NullShelf, Output, RunFault, Shelf, output_bytes, read_texts};
+use city_doc::FIXED_SEED;
 use city_model::city::City;
 use city_model::copied::Copied;
 use city_model::script::Script;
@@ -62,10 +63,32 @@ pub fn run_crew<R: Threads + Wait + Sync, G: Gate + Sync>(
     ensures seen { IfOk result (λ o. AreSeen viewers (commits_in o.ends) o.seen.items) }
     ensures fault { IfErr result (λ f. IsRunFault document.now scripts.now f) }
 {
+    run_seeded(
+        rt, alloc, FIXED_SEED, document, scripts, workers, viewers, gate,
+    )
+}
+
+/// As `run_crew`, with the points of what is written hashed by the seed.
+pub fn run_seeded<R: Threads + Wait + Sync, G: Gate + Sync>(
+    rt: &R,
+    alloc: Global,
+    seed: u64,
+    document: &[u8],
+    scripts: &[u8],
+    workers: usize,
+    viewers: usize,
+    gate: &G,
+) -> Result<Output, RunFault>
+    requires workers { (1 ≤ workers) × (workers ≤ max_workers) }
+    requires viewers { viewers ≤ max_viewers }
+    ensures ran { IfOk result (λ o. IsRun document.now scripts.now o.ends o.bytes.items) }
+    ensures seen { IfOk result (λ o. AreSeen viewers (commits_in o.ends) o.seen.items) }
+    ensures fault { IfErr result (λ f. IsRunFault document.now scripts.now f) }
+{
     let (city, list) = read_texts(alloc, document, scripts)?;
     let (state, seated) = open(rt, alloc, document, scripts, city, list, workers, viewers)?;
     let output = run(
-        rt, alloc, document, scripts, state, seated, workers, viewers, gate,
+        rt, alloc, seed, document, scripts, state, seated, workers, viewers, gate,
     )?;
     Ok(output)
 }
@@ -117,6 +140,7 @@ fn new_shelf<'r, R: Wait>(
 fn run<R: Threads + Wait + Sync, G: Gate + Sync>(
     rt: &R,
     alloc: Global,
+    seed: u64,
     document: &[u8],
     scripts: &[u8],
     state: State<&R>,
@@ -139,13 +163,14 @@ fn run<R: Threads + Wait + Sync, G: Gate + Sync>(
         moved: _moved,
     } = shared;
     let finished = turns.into_inner().end(document, scripts)?;
-    gather(rt, alloc, finished, watchers, viewers, document.len())
+    gather(rt, alloc, seed, finished, watchers, viewers, document.len())
 }
 
 /// Shows what isn't shown yet, has each viewer look once more, and writes the report and the model.
 fn gather<S: Shelf, Q: Wait>(
     rt: &Q,
     alloc: Global,
+    seed: u64,
     finished: Finished<S>,
     watchers: Vec<Watcher>,
     viewers: usize,
@@ -162,6 +187,6 @@ fn gather<S: Shelf, Q: Wait>(
     } = finished;
     shelf.show(rt)?;
     let seen = last_looks(alloc, watchers, viewers, ends.as_slice())?;
-    let bytes = output_bytes(alloc, &city, ends.as_slice(), room)?;
+    let bytes = output_bytes(alloc, seed, &city, ends.as_slice(), room)?;
     Ok(Output { ends, bytes, seen })
 }

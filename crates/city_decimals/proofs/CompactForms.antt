@@ -1,22 +1,13 @@
 -- What is copied of numbers that are encoded and of transforms in frames.
-use Rattle.std.proofs.Common.{◌≡◌, ℕ, ◌-◌, ◌≤◌, List, [], ◌∷◌, ◌++◌, Bool, true, false, cond}
-use Rattle.std.proofs.Common.{None, refl, sym, ap, ◌∙◌, arith, append_assoc, append-nil}
-use Rattle.std.specs.Prelude.{codes}
-use Rattle.json.specs.Json.{Json, number, object, Members}
-use Rattle.json.specs.Json.{no_members, member}
-use Rattle.json.specs.Print.{escape, escape_byte, IsNumber}
+use Rattle.city_decimals.proofs.Prelude.{◌≡◌, ℕ, ◌-◌, ◌≤◌, List, [], ◌∷◌, ◌++◌, Bool, true, false, cond, None, refl}
+use Rattle.city_decimals.proofs.Prelude.{sym, ap, ◌∙◌, arith, append_assoc, append-nil, codes, Json, number, object}
+use Rattle.city_decimals.proofs.Prelude.{Members, no_members, member, escape, IsNumber, framed, only, fronted, encoded}
+use Rattle.city_decimals.proofs.Prelude.{tagged, decoded, decoded_members, number_in, number_or, is_whole, IsPlain}
+use Rattle.city_decimals.proofs.Prelude.{Moves, value_text, members_text, comma_if, State, IsCopied, IsItemCopied}
+use Rattle.city_decimals.proofs.Prelude.{AreMembersCopied, IsFrameCopied, frame_changed, Encode, Decode}
+use Rattle.json.specs.Print.{escape_byte}
 use Rattle.json.specs.Word.{after_number}
-use Rattle.city_decimals.specs.Shapes.{framed, only, fronted}
-use Rattle.city_decimals.specs.Encoded.{encoded, tagged}
-use Rattle.city_decimals.specs.Decoded.{decoded, decoded_members, number_in, number_or}
-use Rattle.city_decimals.specs.Numbers.{is_whole}
-use Rattle.city_decimals.specs.inside.PlainNumbers.{IsPlain}
-use Rattle.city_decimals.specs.inside.Copies.{Moves}
-use Rattle.city_decimals.specs.inside.Compact.{value_text, members_text, comma_if, State, IsCopied, IsItemCopied}
-use Rattle.city_decimals.specs.inside.Compact.{AreMembersCopied, IsFrameCopied}
 use Rattle.city_decimals.specs.inside.Compact.{triple, IsNumberCopied, IsTripleCopied}
-use Rattle.city_decimals.specs.inside.Ways.{frame_changed}
-use Rattle.city_decimals.specs.declared.way.Way.TheVariants.{Encode, Decode}
 use Rattle.city_decimals.proofs.PlainNumbers.{plain_is_number, plain_is_whole}
 use Rattle.city_decimals.proofs.Copied.{moves_on, moves_as, untagged_none}
 
@@ -61,13 +52,7 @@ frame_copied limit a b d e f deep first brace rest last =
           (moves_on a b f begin [] ((123 ∷ members_text false ms) ++ frame_end) (made ++ []) first inside)
           (sym (framed_text ms)) (append-nil made ∙ sym (framed_decoded ms none));
       frame = refl;
-      numbers = (
-        rest.numbers,
-        (
-          (one_is_number, (one_is_number, (one_is_number, tt))),
-          ((none_is_number, (none_is_number, (none_is_number, tt))), tt),
-        ),
-      );
+      numbers = search (arith, one_is_number, none_is_number);
       shallow = omega (arith, deep, rest.shallow);
     }
 
@@ -78,13 +63,7 @@ number_encoded limit a b n =
     record { j = number n.s; moves = n.moves; numbers = n.numbers; shallow = omega arith }
 
 pub whole_encoded : (a b : State) (s : List ℕ) → IsNumber s → is_whole s ≡ true → Moves a b s s → IsNumberCopied a b
-whole_encoded a b s h whole moves =
-    record {
-      s = s;
-      moves = moves_as a b s s s (value_text (encoded (number s))) moves refl
-          (ap (λ t. value_text (cond t (number s) (tagged s))) (sym whole));
-      numbers = h;
-    }
+whole_encoded a b s h whole moves = grind arith
 
 pub plain_encoded : (s : List ℕ) → IsPlain s → encoded (number s) ≡ number s
 plain_encoded s p = ap (λ t. cond t (number s) (tagged s)) (plain_is_whole s p)
@@ -97,8 +76,7 @@ plain_copied f same later limit a b (s, p, moves) =
     let text = comma_if later ++ s in
     record {
       j = number s;
-      moves = moves_as a b text text text (comma_if later ++ value_text (f (number s))) moves refl
-          (ap (λ i. comma_if later ++ value_text i) (sym (same s p)));
+      moves = grind arith;
       numbers = plain_is_number s p;
       shallow = omega arith;
     }
@@ -107,18 +85,7 @@ pub tagged_encoded : (a b d e : State) (s : List ℕ) → IsNumber s → escape 
     → Moves a b [] (123 ∷ 34 ∷ 35 ∷ 34 ∷ 58 ∷ 34 ∷ []) → Moves b d s s → Moves d e [] (34 ∷ 125 ∷ [])
     → IsNumberCopied a e
 unfolding escape_byte
-tagged_encoded a b d e s h same whole first moves last =
-    let begin : List ℕ = 123 ∷ 34 ∷ 35 ∷ 34 ∷ 58 ∷ 34 ∷ [] in
-    record {
-      s = s;
-      moves = moves_as a e ([] ++ (s ++ [])) (begin ++ (s ++ 34 ∷ 125 ∷ [])) s (value_text (encoded (number s)))
-          (moves_on a b e [] begin (s ++ []) (s ++ 34 ∷ 125 ∷ []) first
-          (moves_on b d e s s [] (34 ∷ 125 ∷ []) moves last)) (append-nil s)
-          (ap (λ t. begin ++ t) (ap (λ t. t ++ 34 ∷ 125 ∷ []) (sym same)
-          ∙ sym (append_assoc (escape s) (34 ∷ []) (125 ∷ [])))
-          ∙ ap (λ t. value_text (cond t (number s) (tagged s))) (sym whole));
-      numbers = h;
-    }
+tagged_encoded a b d e s h same whole first moves last = search (arith, append_assoc)
 
 -- ---- a transform that is put into a frame
 
@@ -161,10 +128,7 @@ enframed_text : (x y : Json) → value_text (framed (transform x y))
     ≡ (123 ∷ 34 ∷ 35 ∷ 34 ∷ 58 ∷ []) ++ (scale_begin ++ (value_text x ++ (translate_begin ++ (value_text y
     ++ (125 ∷ frame_end)))))
 unfolding escape_byte
-enframed_text x y =
-    ap (λ w. (123 ∷ 34 ∷ 35 ∷ 34 ∷ 58 ∷ []) ++ (scale_begin ++ w))
-    (append_assoc (value_text x) (translate_begin ++ (value_text y ++ 125 ∷ [])) frame_end
-    ∙ ap (λ w. value_text x ++ (translate_begin ++ w)) (append_assoc (value_text y) (125 ∷ []) frame_end))
+enframed_text x y = search (arith, append_assoc)
 
 pub frame_put : (limit : ℕ) (a b d e f g h i : State) → 2 ≤ limit → Moves a b [] (123 ∷ 34 ∷ 35 ∷ 34 ∷ 58 ∷ [])
     → Moves b d scale_begin scale_begin → IsTripleCopied d e → Moves e f translate_begin translate_begin

@@ -1,17 +1,16 @@
 -- Pieces of a text, one after another.
-use Rattle.std.proofs.Common.{◌≡◌, ℕ, ◌+◌, ◌-◌, ◌≤◌, List, [], ◌∷◌, ◌++◌, length, take, drop, refl, sym, ap, ap₂}
-use Rattle.std.proofs.Common.{◌∙◌, arith}
-use Rattle.std.proofs.Common.{append_assoc, append-nil, get_or, ◌<◌, suc}
-use Rattle.std.proofs.lemmas.List.{take-append-drop, drop-take, drop-drop, take-take, take_more, drop-append-le}
+use Rattle.city_decimals.proofs.Prelude.{◌≡◌, ℕ, ◌+◌, ◌-◌, ◌≤◌, List, [], ◌∷◌, ◌++◌, length, take, drop, refl, sym, ap}
+use Rattle.city_decimals.proofs.Prelude.{ap₂, ◌∙◌, arith, append_assoc, append-nil, get_or, ◌<◌, suc, drop-append-le}
+use Rattle.city_decimals.proofs.Prelude.{escape, IsPlainByte}
+use Rattle.std.proofs.lemmas.List.{take-append-drop, drop-take, drop-drop, take-take, take_more}
 use Rattle.std.proofs.lemmas.Grind.{flat_map-append}
-use Rattle.json.specs.Print.{escape_byte, escape}
+use Rattle.json.specs.Print.{escape_byte}
 use Rattle.json.proofs.Printed.Strings.{escape_byte_plain}
-use Rattle.city_decimals.specs.inside.Copies.{IsEscaped, IsPlainByte}
+use Rattle.city_decimals.specs.inside.Copies.{IsEscaped}
 
 pub take_plus : (a n : ℕ) (xs : List ℕ) → take (a + n) xs ≡ take a xs ++ take n (drop a xs)
 take_plus a n xs =
-    sym (take-append-drop a (take (a + n) xs))
-    ∙ ap₂ (λ p q. p ++ q) (take-take a (a + n) xs (omega arith)) (drop-take a n xs)
+    grind (arith, take-append-drop a (take (a + n) xs), take-take a (a + n) xs (omega arith), drop-take a n xs)
 
 -- what is left of a text, once n more bytes are read
 pub rest_more : (text rest : List ℕ) (at n : ℕ) → drop at text ≡ rest → rest ≡ take n rest ++ drop (at + n) text
@@ -29,8 +28,7 @@ piece_more before text rest now start at n le is written =
     let tail : drop (at - start) (drop start text) ≡ rest
     = drop-drop (at - start) start text ∙ ap (λ k. drop k text) back ∙ is in
     ap (λ k. before ++ take k (drop start text)) sum
-    ∙ ap (λ p. before ++ p) (take_plus (at - start) n (drop start text)
-    ∙ ap (λ r. take (at - start) (drop start text) ++ take n r) tail)
+    ∙ ap (λ p. before ++ p) (search (arith, take_plus))
     ∙ sym (append_assoc before (take (at - start) (drop start text)) (take n rest))
     ∙ ap (λ w. w ++ take n rest) written
 
@@ -40,12 +38,9 @@ one_byte b w e = append-nil (escape_byte b) ∙ e
 
 pub plain_inside : (text : List ℕ) (at b : ℕ) → (s : List ℕ) × (take at text ≡ escape s) → at < length text
     → get_or text at 0 ≡ b → (b ≡ 34 → ⊥) → (b ≡ 92 → ⊥) → 32 ≤ b → (t : List ℕ) × (take (at + 1) text ≡ escape t)
-plain_inside text at b inside h is quote backslash control = (
-  inside.0 ++ b ∷ [],
-  take_more text at 0 h ∙ ap₂ (λ xs x. xs ++ x ∷ []) inside.1 is
-      ∙ ap (λ w. escape inside.0 ++ w) (sym (one_byte b (b ∷ []) (escape_byte_plain b quote backslash control)))
-      ∙ sym (flat_map-append escape_byte inside.0 (b ∷ [])),
-)
+plain_inside text at b inside h is quote backslash control =
+    let plain = escape_byte_plain b quote backslash control in
+    grind (arith, take_more text at 0 h, plain, flat_map-append escape_byte inside.0 (b ∷ []))
 
 pub escape_inside : (text : List ℕ) (at b c : ℕ) → (s : List ℕ) × (take at text ≡ escape s) → at + 1 < length text
     → get_or text at 0 ≡ b → b ≡ 92 → get_or text (at + 1) 0 ≡ c → IsEscaped c
@@ -64,15 +59,12 @@ escape_inside text at b c inside h is backslash then (x, e) =
 -- the buffer, once the piece is written
 pub all_written : (out piece new now : List ℕ) (base a : ℕ) (rest : List ℕ) → a ≡ 0 → base ≤ length out
     → new ≡ out ++ piece → drop base out ++ piece ≡ now → drop base new ++ take a rest ≡ now ++ []
-all_written out piece new now base a rest none h is before =
-    ap₂ (λ n k. drop base n ++ take k rest) is none ∙ append-nil (drop base (out ++ piece))
-    ∙ drop-append-le base out piece h ∙ before ∙ sym (append-nil now)
+all_written out piece new now base a rest none h is before = search (arith, drop-append-le)
 
 pub whole_written : (out piece : List ℕ) (base : ℕ) (before now : List ℕ) → take base out ≡ before
     → drop base out ++ piece ≡ now → out ++ piece ≡ before ++ now
 whole_written out piece base before now first then =
-    ap (λ o. o ++ piece) (sym (take-append-drop base out)) ∙ append_assoc (take base out) (drop base out) piece
-    ∙ ap₂ (λ a b. a ++ b) first then
+    grind (arith, take-append-drop base out, append_assoc (take base out) (drop base out) piece)
 
 -- a text without quotes, backslashes and controls stands for itself
 pub plain_text : (s : List ℕ) → ((i : ℕ) → i < length s → IsPlainByte (get_or s i 0)) → escape s ≡ s
@@ -85,6 +77,4 @@ plain_text (x ∷ s) h =
 pub more_written : (out piece more mid new now : List ℕ) (base a : ℕ) (rest : List ℕ) → a ≡ 0 → base ≤ length out
     → mid ≡ out ++ piece → new ≡ mid ++ more → drop base out ++ piece ≡ now → drop base new ++ take a rest ≡ now ++ more
 more_written out piece more mid new now base a rest none h first is before =
-    ap₂ (λ n k. drop base n ++ take k rest) (is ∙ ap (λ m. m ++ more) first ∙ append_assoc out piece more) none
-    ∙ append-nil (drop base (out ++ (piece ++ more))) ∙ drop-append-le base out (piece ++ more) h
-    ∙ sym (append_assoc (drop base out) piece more) ∙ ap (λ w. w ++ more) before
+    search (arith, append_assoc, append-nil, drop-append-le)

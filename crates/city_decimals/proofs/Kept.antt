@@ -1,32 +1,23 @@
 -- What the editor keeps is decoded to what was there.
-use Rattle.std.proofs.Common.{◌≡◌, ℕ, List, Bool, true, false, cond, Option, Some, None, Ordering, Less, Equal}
-use Rattle.std.proofs.Common.{Greater, nat_cmp, refl, sym, ap, ap₂, ◌∙◌, subst}
-use Rattle.std.specs.Prelude.{◌&&◌, codes, is_some, option_map, option_and_then}
-use Rattle.std.specs.Ordering.{match_ordering}
-use Rattle.std.specs.Cmp.Lexicographic.{slice_cmp}
-use Rattle.std.proofs.lemmas.Bool.{and_parts}
-use Rattle.std.proofs.lemmas.Slice.Eq.{bytes_eq-Decides}
+use Rattle.city_decimals.proofs.Prelude.{arith, ◌≡◌, ℕ, List, Bool, true, false, cond, Option, Some, None, Ordering}
+use Rattle.city_decimals.proofs.Prelude.{nat_cmp, refl, ap, ap₂, ◌∙◌, subst, ◌&&◌, codes, option_map, option_and_then}
+use Rattle.city_decimals.proofs.Prelude.{match_ordering, slice_cmp, bytes_eq-Decides, HasNumbers, ItemsHaveNumbers}
+use Rattle.city_decimals.proofs.Prelude.{MembersHaveNumbers, Num, Data, put, number_of, of_json, of_items, of_members}
+use Rattle.city_decimals.proofs.Prelude.{is_written_so, is_whole, is_number, is_end, tag, is_tag, is_text_or_array}
+use Rattle.city_decimals.proofs.Prelude.{is_frame, in_form, framed, only, tagged, encoded, encoded_items}
+use Rattle.city_decimals.proofs.Prelude.{encoded_members, number_under, number_in, number_or, out_of_form, decoded}
+use Rattle.city_decimals.proofs.Prelude.{decoded_items, decoded_members, Plain, Shielded}
+use Rattle.std.proofs.Common.{Less, Equal, Greater}
 use Rattle.std.proofs.lemmas.Map.Lookups.{exact_bytes}
-use Rattle.json.specs.Json as json
-use Rattle.json.specs.Tree.{HasNumbers, ItemsHaveNumbers, MembersHaveNumbers}
-use Rattle.json.proofs.Found.{Some_inj}
-use Rattle.serde_json.specs.Data.{Num, Data, null, boolean, number, string, array, object, Items, no_items, item}
-use Rattle.serde_json.specs.Data.{Members, no_members, member, put}
-use Rattle.serde_json.specs.Find.{as_i64}
-use Rattle.serde_json.specs.Read.{number_of, of_json, of_items, of_members}
-use Rattle.serde_json.specs.Written.{outline, items_outline, members_outline, number_text}
-use Rattle.city_decimals.specs.Numbers.{is_written_so, is_whole, is_number, is_end}
-use Rattle.city_decimals.specs.Shapes.{tag, is_tag, is_text_or_array, is_frame, in_form, framed, only}
-use Rattle.city_decimals.specs.Encoded.{tagged, encoded, encoded_items, encoded_members}
-use Rattle.city_decimals.specs.Decoded.{number_under, number_in, number_or, out_of_form, decoded, decoded_items}
-use Rattle.city_decimals.specs.Decoded.{decoded_members}
-use Rattle.city_decimals.specs.Arranged as spec
+use Rattle.serde_json.specs.Data.{null, boolean, number, string, array, object, Items, no_items, item, Members}
+use Rattle.serde_json.specs.Data.{no_members, member}
+use Rattle.serde_json.specs.Written.{outline, items_outline, members_outline}
 use Rattle.city_decimals.specs.Arranged.{arranged, arranged_items, arranged_members}
 use Rattle.city_decimals.specs.Kept.{IsKept}
-use Rattle.city_decimals.specs.declared.shapes.Form.TheVariants.{Plain, Shielded}
 use Rattle.city_decimals.proofs.Bools.{and_left, contradiction}
-use Rattle.city_decimals.proofs.RoundTrip.{number_back, no_number_bare, only_other}
-use Rattle.city_decimals.proofs.Wholes.{mapped}
+use Rattle.city_decimals.proofs.RoundTrip.{number_back}
+use Rattle.json.specs.Json as json
+use Rattle.city_decimals.specs.Arranged as spec
 
 -- ---- members, one after another
 
@@ -66,8 +57,7 @@ decoded_at : (o : Ordering) (k l : List ℕ) (d e : Data) (ms : Members) → sli
     (members_outline ms)))) (json.member l (value_at k d) (decoded_members false (members_outline ms)))
     (json.member l (value_at l e) (spec.put k (value_at k d) (decoded_members false (members_outline ms))))
 decoded_at Less k l d e ms at rest = refl
-decoded_at Equal k l d e ms at rest = ap (λ n. json.member l (value_at n d) (decoded_members false
-    (members_outline ms))) (sym (exact_bytes k l at))
+decoded_at Equal k l d e ms at rest = grind (arith, exact_bytes k l at)
 decoded_at Greater k l d e ms at rest = ap (json.member l (value_at l e)) rest
 
 decoded_put : (k : List ℕ) (d : Data) (ms : Members)
@@ -79,29 +69,7 @@ decoded_put k d (member l e ms) = decoded_at (slice_cmp nat_cmp k l) k l d e ms 
 -- ---- one member
 
 pub same_kind : (j : json.Json) → is_text_or_array (arranged j) ≡ is_text_or_array j
-same_kind json.null = refl
-same_kind (json.boolean b) = refl
-same_kind (json.number s) = refl
-same_kind (json.string s) = refl
-same_kind (json.array js) = refl
-same_kind (json.object ms) = refl
-
-number_no_text : (k : List ℕ) (b : Bool) (s : List ℕ) (d : Data)
-    → of_json (cond b (json.number s) (tagged s)) ≡ Some d → number_under k (outline d) ≡ None
-number_no_text k true s d e = ap (λ d. number_under k (outline d)) (sym (mapped number (number_of s) d e).2)
-number_no_text k false s d e = ap (λ d. number_under k (outline d)) (sym (Some_inj _ _ e))
-
-no_text : (k : List ℕ) (j : json.Json) → (is_tag k && is_text_or_array j) ≡ false → (d : Data)
-    → of_json (encoded j) ≡ Some d → number_under k (outline d) ≡ None
-no_text k json.null h d e = ap (λ d. number_under k (outline d)) (sym (Some_inj _ _ e))
-no_text k (json.boolean b) h d e = ap (λ d. number_under k (outline d)) (sym (Some_inj _ _ e))
-no_text k (json.number s) h d e = number_no_text k (is_whole s) s d e
-no_text k (json.string s) h d e = ap (λ d. number_under k (outline d)) (sym (Some_inj _ _ e))
-    ∙ no_number_bare k (json.string s) h
-no_text k (json.array js) h d e = ap (λ d. number_under k (outline d)) (sym (mapped array (of_items
-    (encoded_items js)) d e).2)
-no_text k (json.object ms) h d e = ap (λ d. number_under k (outline d)) (sym (mapped object (of_members
-    (encoded_members false ms) no_members) d e).2)
+same_kind j = grind arith
 
 -- a value that was read, for a member of the name k
 record IsKeptAt (k : List ℕ) (c j : json.Json) : Type 0 where
@@ -120,14 +88,7 @@ kept_at k j true e i =
       back = ap (λ b. cond b (only r) r) (and_left (is_tag k) (is_text_or_array j) e) ∙ i.back;
       plain = refl;
     }
-kept_at k j false e i =
-    record {
-      d = i.d;
-      read = i.read;
-      back = ap (λ r. cond (is_tag k) (only r) r) i.back
-          ∙ only_other (is_tag k) (arranged j) (ap (λ b. is_tag k && b) (same_kind j) ∙ e);
-      plain = no_text k j e i.d i.read;
-    }
+kept_at k j false e i = grind arith
 
 -- ---- values
 
@@ -145,12 +106,7 @@ record AreKeptAfter (found : Members) (ready : json.Members) (ms : json.Members)
 number_found : (s : List ℕ) (o : Option Num) → number_of s ≡ o → is_written_so s o ≡ true
     → (d : Data) × (option_map number (number_of s) ≡ Some d) × (decoded (outline d) ≡ json.number s)
 number_found s None is h = contradiction h
-number_found s (Some n) is h = (
-  number n,
-  ap (option_map number) is,
-  ap json.number ((bytes_eq-Decides
-      (number_text n) s).0 (and_parts (is_some (as_i64 n)) _ h).1),
-)
+number_found s (Some n) is h = (number n, ap (option_map number) is, search (arith, bytes_eq-Decides))
 
 number_kept : (s : List ℕ) (b : Bool) → is_whole s ≡ b → is_number s ≡ true
     → (d : Data) × (of_json (cond b (json.number s) (tagged s)) ≡ Some d) × (decoded (outline d) ≡ json.number s)
@@ -203,18 +159,7 @@ mutual
 
 -- ---- a transform
 
-only_arranged : (j : json.Json) → is_frame j ≡ true → only (arranged j) ≡ arranged j
-only_arranged json.null h = refl
-only_arranged (json.boolean b) h = refl
-only_arranged (json.number s) h = refl
-only_arranged (json.string s) h = refl
-only_arranged (json.array js) h = contradiction h
-only_arranged (json.object ms) h = refl
-
 pub transform_kept : (j : json.Json) → HasNumbers j → is_frame j ≡ true → (d : Data)
     → of_json (encoded j) ≡ Some d
     → out_of_form true (codes "transform") (framed (outline d)) (decoded (framed (outline d))) ≡ arranged j
-transform_kept j h frame d e =
-    let i = kept j h in
-    let same : i.d ≡ d = Some_inj _ _ (sym i.read ∙ e) in
-    ap only (ap (λ d. decoded (outline d)) (sym same) ∙ i.back) ∙ only_arranged j frame
+transform_kept j h frame d e = search (arith, kept)

@@ -1,69 +1,53 @@
 -- What is written, a turn of the grammar's loops at a time.
-use Rattle.std.proofs.Common.{◌≡◌, ℕ, ◌-◌, ◌<◌, ◌≤◌, List, [], ◌∷◌, ◌++◌, length, Option, Some, None}
-use Rattle.std.proofs.Common.{option_and_then, refl, sym, ap, ◌∙◌}
-use Rattle.std.proofs.Common.{append_assoc}
-use Rattle.json.specs.Token.{Token}
-use Rattle.json.specs.Json.{Json, Items, no_items, item, Members, no_members, member, Parse, parse_map}
-use Rattle.json.specs.Json.{after_end_array, read_key, items, members, value, if_last, max_depth, document}
-use Rattle.json.specs.Lex.{tokens}
-use Rattle.json.specs.Tree.{HasNumbers, depth}
+use Rattle.city_decimals.proofs.Prelude.{arith, ◌≡◌, ℕ, ◌-◌, ◌<◌, ◌≤◌, List, [], ◌∷◌, ◌++◌, length, Option, Some, None}
+use Rattle.city_decimals.proofs.Prelude.{refl, ap, ◌∙◌, append_assoc, Token, Json, Items, no_items, item, Members}
+use Rattle.city_decimals.proofs.Prelude.{no_members, member, Parse, parse_map, after_end_array, read_key, items}
+use Rattle.city_decimals.proofs.Prelude.{members, value, if_last, max_depth, document, tokens, HasNumbers, depth}
+use Rattle.city_decimals.proofs.Prelude.{members_end, members_more, written}
+use Rattle.std.proofs.Common.{option_and_then}
 use Rattle.json.proofs.Nesting.{value-depth}
 use Rattle.json.proofs.Numbered.{document-HasNumbers}
-use Rattle.json.proofs.Found.{Some_inj, not_found}
-use Rattle.json.proofs.Grammar.{left, left-parse_map, skip_value-shorter}
-use Rattle.json.proofs.Grammar.{items_end, items_more, members_end, members_more}
-use Rattle.city_decimals.specs.inside.Streams.{written}
+use Rattle.json.proofs.Grammar.{skip_value-shorter, items_end, items_more}
 
 module _ {A : Type 0} (f : A → List Token) where
   -- what was read, where something was written
   pub was_read : (out now : List Token) (o : Option (A × List Token)) (r : List Token) → written f out o ≡ Some (now, r)
       → (a : A) × (o ≡ Some (a, r)) × (now ≡ out ++ f a)
-  was_read out now None r e = not_found (now, r) e
-  was_read out now (Some p) r e =
-      let same = Some_inj (out ++ f p.0, p.1) (now, r) e in
-      (p.0, ap (λ q. Some (p.0, q.1)) same, ap (λ q. q.0) (sym same))
+  was_read out now o r e = grind arith
 
   pub none_written : (out now : List Token) (o : Option (A × List Token)) (s : Option (A × List Token))
       → written f out o ≡ written f now s → s ≡ None → o ≡ None
-  none_written out now None s e h = refl
-  none_written out now (Some p) s e h = not_found (out ++ f p.0, p.1) (sym (e ∙ ap (written f now) h))
+  none_written out now o s e h = grind arith
 
   -- another way to say the same of what was read
   pub written_as : (g : A → List Token) (out now : List Token) (o : Option (A × List Token)) (r : List Token)
       → written f out o ≡ Some (now, r)
       → ((a : A) → o ≡ Some (a, r) → g a ≡ f a) → written g out o ≡ Some (now, r)
-  written_as g out now o r e same =
-      let a = was_read out now o r e in
-      ap (written g out) a.1 ∙ ap (λ ts. Some (ts, r)) (ap (λ ts. out ++ ts) (same a.0 a.1) ∙ sym a.2)
+  written_as g out now o r e same = grind arith
 
   -- a token before all else
   pub token_first : {B : Type 0} (h : A → B) (g : B → List Token) (t : Token) → ((a : A) → g (h a) ≡ t ∷ f a)
       → (out : List Token) (o : Option (A × List Token))
       → written g out (parse_map h o) ≡ written f (out ++ t ∷ []) o
   token_first h g t is out None = refl
-  token_first h g t is out (Some p) = ap (λ ts. Some (ts, p.1)) (ap (λ ts. out ++ ts) (is p.0)
-      ∙ sym (append_assoc out (t ∷ []) (f p.0)))
+  token_first h g t is out (Some p) = search (arith, append_assoc)
 
 -- what is written of a value is what is written of what it was made of
 pub written_with : {A B : Type 0} (h : A → B) (g : B → List Token) (f : A → List Token)
     → ((a : A) → g (h a) ≡ f a) → (out : List Token) (o : Option (A × List Token))
     → written g out (parse_map h o) ≡ written f out o
-written_with h g f same out None = refl
-written_with h g f same out (Some p) = ap (λ ts. Some (out ++ ts, p.1)) (same p.0)
+written_with h g f same out o = grind arith
 
 -- a value takes at least one token
 pub value_shorter : (f : Json → List Token) (d : ℕ) (out now ts r : List Token)
     → written f out (value d ts) ≡ Some (now, r) → length r < length ts
-value_shorter f d out now ts r e = skip_value-shorter d ts r (sym (left-parse_map (λ j. out ++ f j) (value d ts))
-    ∙ ap left e)
+value_shorter f d out now ts r e = skip_value-shorter d ts r (grind arith)
 
 module _ (p : Parse Json) (f : Json → List Token) (g : Items → List Token) (is : (j : Json) (js : Items)
     → g (item j js) ≡ f j ++ g js) where
   after_item : (j : Json) (out now : List Token) → now ≡ out ++ f j → (o : Option (Items × List Token))
       → written g out (parse_map (item j) o) ≡ written g now o
-  after_item j out now e None = refl
-  after_item j out now e (Some q) = ap (λ ts. Some (ts, q.1)) (ap (λ ts. out ++ ts) (is j q.0)
-      ∙ sym (append_assoc out (f j) (g q.0)) ∙ ap (λ ts. ts ++ g q.0) (sym e))
+  after_item j out now e o = search (arith, append_assoc)
 
   pub item_written : (n : ℕ) (out now ts r : List Token) → 0 < n → after_end_array ts ≡ None
       → written f out (p ts) ≡ Some (now, r)
@@ -81,11 +65,7 @@ module _ (p : Parse Json) (f : List ℕ → Json → List Token) (g : Members
     → g (member k j ms) ≡ Token.key k ∷ (f k j ++ g ms)) where
   after_member : (k : List ℕ) (j : Json) (out now : List Token) → now ≡ (out ++ Token.key k ∷ []) ++ f k j
       → (o : Option (Members × List Token)) → written g out (parse_map (member k j) o) ≡ written g now o
-  after_member k j out now e None = refl
-  after_member k j out now e (Some q) =
-      ap (λ ts. Some (ts, q.1)) (ap (λ ts. out ++ ts) (is k j q.0)
-      ∙ sym (append_assoc out (Token.key k ∷ []) (f k j ++ g q.0))
-      ∙ sym (append_assoc (out ++ Token.key k ∷ []) (f k j) (g q.0)) ∙ ap (λ ts. ts ++ g q.0) (sym e))
+  after_member k j out now e o = search (arith, append_assoc)
 
   pub member_written : (n : ℕ) (k : List ℕ) (out now ts s r : List Token) → 0 < n
       → read_key ts ≡ Some (Some k, s) → written (f k) (out ++ Token.key k ∷ []) (p s) ≡ Some (now, r)
@@ -111,12 +91,4 @@ pub whole_read : (f : Json → List Token) (text : List ℕ) (now r : List Token
 whole_read f text now r end e =
     let a = was_read f [] now (value max_depth (tokens text)) r e in
     let is : document text ≡ Some a.0 = ap (option_and_then (λ p. if_last p.0 p.1)) (a.1
-    ∙ ap (λ s. Some (a.0, s)) end) in
-    record {
-      j = a.0;
-      is = is;
-      numbers = document-HasNumbers text a.0 is;
-      shallow = value-depth max_depth
-          (tokens text) r a.0 a.1;
-      now_is = a.2;
-    }
+    ∙ ap (λ s. Some (a.0, s)) end) in search (arith, document-HasNumbers, value-depth)

@@ -1,25 +1,17 @@
 -- Each number of an encoded value is whole, so the editor finds no other.
-use Rattle.std.specs.Str.{bytes_eq}
-use Rattle.std.proofs.Common.{◌≡◌, ℕ, ◌+◌, ◌<◌, List, [], ◌∷◌, Bool, true, false, true≢false, cond, Option, Some}
-use Rattle.std.proofs.Common.{None, Ordering, Less, Equal, Greater, nat_cmp, refl, sym, ap, ◌∙◌, arith}
-use Rattle.std.specs.Prelude.{◌&&◌, codes, is_some, option_map, option_and_then}
-use Rattle.std.specs.Ordering.{match_ordering}
-use Rattle.std.specs.Cmp.Lexicographic.{slice_cmp}
-use Rattle.std.proofs.lemmas.Fmt.{decimal_digit}
+use Rattle.city_decimals.proofs.Prelude.{bytes_eq, ◌≡◌, ℕ, ◌+◌, ◌<◌, List, [], ◌∷◌, Bool, true, false, true≢false, cond}
+use Rattle.city_decimals.proofs.Prelude.{Option, Some, None, Ordering, nat_cmp, refl, sym, ap, ◌∙◌, arith, ◌&&◌, codes}
+use Rattle.city_decimals.proofs.Prelude.{option_map, option_and_then, match_ordering, slice_cmp, decimal_digit}
+use Rattle.city_decimals.proofs.Prelude.{Some_inj, Num, Data, put, number_of, of_json, of_items, of_members}
+use Rattle.city_decimals.proofs.Prelude.{number_of-decimal, is_written_so, is_whole, in_form, form_of, tagged, encoded}
+use Rattle.city_decimals.proofs.Prelude.{encoded_items, encoded_members, encoded_top, is_integral, Form}
+use Rattle.std.specs.Prelude.{is_some}
 use Rattle.std.proofs.lemmas.Bool.{and_from, and_parts}
-use Rattle.json.specs.Json as json
-use Rattle.json.proofs.Found.{Some_inj, not_found}
-use Rattle.serde_json.specs.Data.{Num, Data, unsigned, null, boolean, number, string, array, object, Items}
-use Rattle.serde_json.specs.Data.{no_items, item, Members, no_members, member, put}
+use Rattle.serde_json.specs.Data.{unsigned, null, boolean, number, string, array, object, Items, no_items, item}
+use Rattle.serde_json.specs.Data.{Members, no_members, member}
 use Rattle.serde_json.specs.Find.{as_i64}
-use Rattle.serde_json.specs.Read.{number_of, of_json, of_items, of_members}
-use Rattle.serde_json.proofs.Numbers.{number_of-decimal}
-use Rattle.city_decimals.specs.Numbers.{is_written_so, is_whole}
-use Rattle.city_decimals.specs.Shapes.{in_form, form_of}
-use Rattle.city_decimals.specs.Encoded.{tagged, encoded, encoded_items, encoded_members, encoded_top}
-use Rattle.city_decimals.specs.Whole.{is_integral, items_integral, members_integral}
-use Rattle.city_decimals.specs.declared.shapes.Form.{Form}
-use Rattle.city_decimals.specs.declared.shapes.Form.TheVariants.{Plain, Shielded, Framed}
+use Rattle.city_decimals.specs.Whole.{items_integral, members_integral}
+use Rattle.json.specs.Json as json
 
 abbrev mutual
   pub AreWhole : json.Json → Type 0
@@ -42,11 +34,7 @@ abbrev mutual
 
 whole_digit : (n : ℕ) → n < 10 → is_some (as_i64 (unsigned n)) && bytes_eq ((48 + n) ∷ []) ((48 + n) ∷ []) ≡ true
     → is_whole ((48 + n) ∷ []) ≡ true
-whole_digit n h e =
-    let text = decimal_digit n h in
-    ap (λ s. is_written_so ((48 + n) ∷ []) (number_of s)) (sym text)
-    ∙ ap (is_written_so ((48 + n) ∷ [])) (number_of-decimal n (omega arith))
-    ∙ ap (λ s. is_some (as_i64 (unsigned n)) && bytes_eq s ((48 + n) ∷ [])) text ∙ e
+whole_digit n h e = grind (arith, decimal_digit n h, number_of-decimal n (omega arith))
 
 whole_one : is_whole (codes "1") ≡ true
 whole_one = whole_digit 1 (omega arith) refl
@@ -55,28 +43,10 @@ whole_none : is_whole (codes "0") ≡ true
 whole_none = whole_digit 0 (omega arith) refl
 
 whole_number : (b : Bool) (s : List ℕ) → is_whole s ≡ b → AreWhole (cond b (json.number s) (tagged s))
-whole_number true s e = e
-whole_number false s e = (tt, tt)
+whole_number b s e = grind arith
 
 whole_in_form : (w : Form) (j : json.Json) → AreWhole j → AreWhole (in_form w j)
-whole_in_form Plain j h = h
-whole_in_form Shielded j h = (h, tt)
-whole_in_form Framed j h = (
-  h,
-  (
-    (whole_one, (whole_one, (whole_one, tt))),
-    (
-      (
-        whole_none,
-        (
-          whole_none,
-          (whole_none, tt),
-        ),
-      ),
-      tt,
-    ),
-  ),
-)
+whole_in_form w j h = search (arith, whole_one, whole_none)
 
 mutual
   whole : (j : json.Json) → AreWhole (encoded j)
@@ -96,32 +66,22 @@ mutual
   members_whole top (json.member k j ms) = (whole_in_form (form_of top k j) (encoded j) (whole j), members_whole top ms)
 
 pub top_whole : (j : json.Json) → AreWhole (encoded_top j)
-top_whole json.null = tt
-top_whole (json.boolean b) = tt
-top_whole (json.number s) = whole_number (is_whole s) s refl
-top_whole (json.string s) = tt
-top_whole (json.array js) = items_whole js
-top_whole (json.object ms) = members_whole true ms
+top_whole j = search (arith, items_whole, members_whole)
 
 -- ---- what is read of it
 
 pub mapped : {A B : Type 0} (f : A → B) (o : Option A) (b : B) → option_map f o ≡ Some b
     → (a : A) × (o ≡ Some a) × (f a ≡ b)
-mapped f None b e = not_found b e
-mapped f (Some a) b e = (a, refl, Some_inj _ _ e)
+mapped f o b e = grind arith
 
 pub bound : {A B : Type 0} (f : A → Option B) (o : Option A) (b : B) → option_and_then f o ≡ Some b
     → (a : A) × (o ≡ Some a) × (f a ≡ Some b)
-bound f None b e = not_found b e
-bound f (Some a) b e = (a, refl, e)
+bound f o b e = grind arith
 
 put_at : (o : Ordering) (k l : List ℕ) (d e : Data) (ms : Members) → is_integral d ≡ true
     → (is_integral e && members_integral ms) ≡ true → members_integral (put k d ms) ≡ true
     → members_integral (match_ordering o (member k d (member l e ms)) (member l d ms) (member l e (put k d ms))) ≡ true
-put_at Less k l d e ms h hs rest = and_from (is_integral d) _ h hs
-put_at Equal k l d e ms h hs rest = and_from (is_integral d) _ h (and_parts (is_integral e) (members_integral ms) hs).1
-put_at Greater k l d e ms h hs rest = and_from (is_integral e) _ (and_parts (is_integral e)
-    (members_integral ms) hs).0 rest
+put_at o k l d e ms h hs rest = grind arith
 
 put_integral : (k : List ℕ) (d : Data) (ms : Members) → is_integral d ≡ true → members_integral ms ≡ true
     → members_integral (put k d ms) ≡ true
@@ -133,9 +93,7 @@ mutual
   pub integral : (j : json.Json) (d : Data) → AreWhole j → of_json j ≡ Some d → is_integral d ≡ true
   integral json.null d h e = ap is_integral (sym (Some_inj _ _ e))
   integral (json.boolean b) d h e = ap is_integral (sym (Some_inj _ _ e))
-  integral (json.number s) d h e =
-      let m = mapped number (number_of s) d e in
-      ap is_integral (sym m.2) ∙ (and_parts _ _ (sym (ap (is_written_so s) m.1) ∙ h)).0
+  integral (json.number s) d h e = grind arith
   integral (json.string s) d h e = ap is_integral (sym (Some_inj _ _ e))
   integral (json.array js) d h e =
       let m = mapped array (of_items js) d e in
@@ -148,8 +106,7 @@ mutual
   items_are json.no_items ds h e = ap items_integral (sym (Some_inj _ _ e))
   items_are (json.item j js) ds h e =
       let b = bound (λ d. option_map (item d) (of_items js)) (of_json j) ds e in
-      let m = mapped (item b.0) (of_items js) ds b.2 in
-      ap items_integral (sym m.2) ∙ and_from (is_integral b.0) _ (integral j b.0 h.0 b.1) (items_are js m.0 h.1 m.1)
+      let m = mapped (item b.0) (of_items js) ds b.2 in grind (arith, integral j b.0 h.0 b.1, items_are js m.0 h.1 m.1)
 
   members_are : (ms : json.Members) (found ds : Members) → MembersAreWhole ms → members_integral found ≡ true
       → of_members ms found ≡ Some ds → members_integral ds ≡ true
@@ -186,5 +143,4 @@ mutual
   members_readable json.no_members h found = (found, refl)
   members_readable (json.member k j ms) h found =
       let i = readable j h.0 in
-      let r = members_readable ms h.1 (put k i.0 found) in
-      (r.0, ap (option_and_then (λ d. of_members ms (put k d found))) i.1 ∙ r.1)
+      let r = members_readable ms h.1 (put k i.0 found) in grind arith

@@ -3,7 +3,7 @@ ghost use Rattle.std.specs.Prelude.{◌≡◌, ◌++◌, ◌∷◌, [], IfOk};
 ghost use Rattle.city_doc.specs.document.Canonical.{city_text};
 ghost use Rattle.city_doc.specs.report.Reports.{report_text};
 
-use city_doc::{append_city, write_report};
+use city_doc::{append_city, seeded_report};
 use city_model::OutOfMemory;
 use city_model::city::City;
 use city_model::end::End;
@@ -24,18 +24,19 @@ pub struct Output {
 /// The report of the ends, then the model's text and a newline.
 ///
 /// `room` is how many bytes the model's text may well take. Room for them is made at once, where there is
-/// memory for it.
+/// memory for it. Points are hashed by the seed.
 pub fn output_bytes(
     alloc: Global,
+    seed: u64,
     city: &City,
     ends: &[End],
     room: usize,
 ) -> Result<Vec<u8>, OutOfMemory>
     ensures { IfOk result (λ b. b.items ≡ report_text ends.now ++ city_text city.now ++ 10 ∷ []) }
 {
-    let mut report = write_report(alloc, ends)?;
+    let mut report = seeded_report(alloc, seed, ends)?;
     let _ = report.reserve(room);
-    let mut bytes = append_city(alloc, report, city)?;
+    let mut bytes = append_city(alloc, seed, report, city)?;
     bytes.push(b'\n')?;
     Ok(bytes)
 }

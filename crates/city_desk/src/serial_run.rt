@@ -13,6 +13,7 @@ use crate::fault::RunFault;
 use crate::in_turn::run_each;
 use crate::output::{Output, output_bytes};
 use crate::texts::read_texts;
+use city_doc::FIXED_SEED;
 use city_model::OutOfMemory;
 use city_model::city::City;
 use city_model::script::Script;
@@ -47,15 +48,16 @@ pub fn run_serial_to_city(
     ensures fault { IfErr result (λ f. IsSerialFault document.now scripts.now f) }
 {
     let (city, list) = read_texts(alloc, document, scripts)?;
-    Ok(run_read(alloc, city, list, document.len())?)
+    Ok(run_read(alloc, FIXED_SEED, city, list, document.len())?)
 }
 
 /// Runs scripts that were read on a city that was read, one after the other, and gives the city that they leave
 /// beside the output. The texts may be let go before.
 ///
-/// `room` is how many bytes the model's text may well take.
+/// `room` is how many bytes the model's text may well take. Points are hashed by the seed.
 pub fn run_read(
     alloc: Global,
+    seed: u64,
     city: City,
     scripts: Sequence<Script>,
     room: usize,
@@ -68,7 +70,7 @@ pub fn run_read(
     ensures city { IfOk result (λ r. r.0.bytes.items ≡ report_text r.0.ends ++ city_text r.1 ++ 10 ∷ []) }
 {
     let finished = run_each(alloc, city, scripts)?;
-    let bytes = output_bytes(alloc, &finished.city, finished.ends.as_slice(), room)?;
+    let bytes = output_bytes(alloc, seed, &finished.city, finished.ends.as_slice(), room)?;
     let output = Output {
         ends: finished.ends,
         bytes,

@@ -5,9 +5,8 @@ pub use Rattle.city_doc.proofs.tree.Integers.{text_of_integer}
 pub use Rattle.city_doc.proofs.pool.KeptNumbers.{same_itself}
 pub use Rattle.city_doc.proofs.pool.NumberedPoints.{is_in, are_in, points_in_pool, parts_in, nested_read}
 pub use Rattle.city_doc.proofs.document.EntriesRead.{in_turn, written_in_turn}
-pub use Rattle.city_doc.proofs.document.FrameParts.{HasFrameParts, frame_parts}
+pub use Rattle.city_doc.proofs.document.LawfulTrees.{HasFrameParts, frame_parts, StandsFor, stands_for}
 pub use Rattle.city_doc.proofs.document.KeptMembers.{kept_passes}
-pub use Rattle.city_doc.proofs.document.LawfulTrees.{StandsFor, stands_for}
 pub use Rattle.city_doc.proofs.document.NoFault.{IsReadAs, read_as, found}
 pub use Rattle.city_doc.proofs.object.WrittenObjects.{ordered_in_turn}
-pub use Rattle.city_doc.proofs.shape.GeometryParts.{HasGeometryParts, geometry_parts}
+pub use Rattle.city_doc.proofs.object.FaultlessBodies.{HasGeometryParts, geometry_parts}

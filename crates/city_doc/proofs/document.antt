@@ -1,10 +1,7 @@
 -- What the proofs of several functions of src/document/ use.
 mod ArrangedCities
-mod BuiltObjects
-pub mod Cities
 mod CityNests
 pub mod EntriesRead
-pub mod FrameParts
 mod FramesRead
 mod IntegralTrees
 pub mod KeptMembers
@@ -12,11 +9,11 @@ mod LawfulCities
 pub mod LawfulTrees
 mod Least
 mod LenientEntries
-mod NestsNoDeeper
 pub mod NoFault
 mod Objects
 mod Order
 pub mod OwnMembers
+pub mod PutMembers
 pub mod Right
 mod RoundTrip
 mod Searches

@@ -4,4 +4,3 @@ mod CommandMeanings
 mod FirstAt
 mod FirstFaults
 mod Meanings
-mod PutBodies

@@ -2,8 +2,6 @@
 pub mod Among
 pub mod Integers
 pub mod ListsRead
-pub mod OrderedTrees
 pub mod ReadBack
 pub mod ReadLists
-pub mod TriplesRead
 pub mod WrittenItems

@@ -26,6 +26,6 @@ pub use city_tokens::MAX_TEXT;
 pub use document::read::read_city;
 pub use document::write::{append_city, write_city};
 pub use fault::{ReadFault, ScriptFault};
-pub use pool::VertexPool;
-pub use report::write::write_report;
+pub use pool::{FIXED_SEED, VertexPool};
+pub use report::write::{seeded_report, write_report};
 pub use script::read::read_scripts;

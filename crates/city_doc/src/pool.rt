@@ -6,12 +6,41 @@ use city_model::OutOfMemory;
 use city_model::object::Point;
 use indexmap::IndexSet;
 use std::alloc::Global;
+use std::hash::{BuildHasher, FoldHasher, Hasher};
 use std::marker::Model;
+
+/// The seed where nobody draws one.
+pub const FIXED_SEED: u64 = 0;
+
+/// Hashes by a seed. Where the seed is drawn at random for each run, nobody can write a text whose points have one
+/// hash.
+#[derive(Clone, Copy)]
+pub struct SeededHasher {
+    first: FoldHasher,
+}
+
+impl SeededHasher {
+    fn new(seed: u64) -> Self {
+        let mut first = FoldHasher::default();
+        first.write(&seed.to_le_bytes());
+        SeededHasher { first }
+    }
+}
+
+impl BuildHasher for SeededHasher {
+    type Hasher = FoldHasher;
+
+    ghost build_hasher = { λ s. s.first };
+
+    fn build_hasher(&self) -> FoldHasher {
+        self.first
+    }
+}
 
 /// The points met so far, each once; numbered from 0 in that order.
 #[derive(Drop)]
 pub struct VertexPool {
-    points: IndexSet<Point>,
+    points: IndexSet<Point, SeededHasher>,
 }
 
 impl Model for VertexPool {
@@ -28,8 +57,15 @@ impl VertexPool {
     pub fn new(alloc: Global) -> Self
         ensures { result ≡ [] }
     {
+        VertexPool::with_seed(alloc, FIXED_SEED)
+    }
+
+    /// A pool without points, which hashes them by the seed. Doesn't allocate.
+    pub fn with_seed(alloc: Global, seed: u64) -> Self
+        ensures { result ≡ [] }
+    {
         VertexPool {
-            points: IndexSet::new(alloc),
+            points: IndexSet::with_hasher(alloc, SeededHasher::new(seed)),
         }
     }
 
@@ -46,7 +82,7 @@ impl VertexPool {
     }
 
     /// The points by their numbers. Doesn't allocate.
-    pub fn points(&self) -> &IndexSet<Point>
+    pub fn points(&self) -> &IndexSet<Point, SeededHasher>
         ensures { result.now.keys ≡ self.now }
     {
         &self.points

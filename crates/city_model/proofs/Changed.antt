@@ -1,16 +1,11 @@
 -- What a changed map holds at an id.
-use Rattle.std.proofs.Common.{◌≡◌, ℕ, List, [], ◌∷◌, true, false, Option, None, refl, ap}
-use Rattle.std.specs.Prelude.{if◌then◌else◌, option_map}
-use Rattle.std.specs.Map.{keys_of}
-use Rattle.std.proofs.lemmas.Bool.{or_parts}
-use Rattle.city_model.specs.declared.object.Object.{Object}
-use Rattle.city_model.specs.CityMap.{Entries, CityMap, found_in, changed, same_id, has_id}
-use Rattle.city_model.specs.Meaning.{attached, detached, deleted, without_child}
+use Rattle.city_model.proofs.Prelude.{arith, ◌≡◌, ℕ, List, [], ◌∷◌, true, false, Option, None, refl, ap, if◌then◌else◌}
+use Rattle.city_model.proofs.Prelude.{option_map, keys_of, or_parts, Object, Entries, CityMap, found_in, changed}
+use Rattle.city_model.proofs.Prelude.{same_id, has_id, attached, deleted, without_child}
 
 pub at_absent : (es : Entries) (id : List ℕ) → has_id (keys_of es) id ≡ false → found_in es id ≡ None
 at_absent [] id h = refl
-at_absent (e ∷ es) id h = let parts = or_parts (same_id id e.0) (has_id (keys_of es) id) h in
-    rw parts.0 (at_absent es id parts.1)
+at_absent (e ∷ es) id h = grind (arith, or_parts, at_absent es id)
 
 pub changed_apart : (m : CityMap) (id : List ℕ) (w : Option Object) (q : List ℕ) → same_id id q ≡ false
     → changed m id w q ≡ m q
@@ -23,10 +18,6 @@ changed_there m id w q h = ap (λ b. if b then w else m q) h
 pub attached_apart : (m : CityMap) (child parent q : List ℕ) → same_id child q ≡ false → same_id parent q ≡ false
     → attached m child parent q ≡ m q
 attached_apart m child parent q h k = rw (k, h) refl
-
-pub detached_apart : (m : CityMap) (child parent q : List ℕ) → same_id child q ≡ false → same_id parent q ≡ false
-    → detached m child parent q ≡ m q
-detached_apart m child parent q h k = rw (k, h) refl
 
 pub deleted_apart : (m : CityMap) (id q : List ℕ) → same_id id q ≡ false
     → deleted m id q ≡ option_map (without_child id) (m q)

@@ -1,125 +1,73 @@
--- A part with two parents, detached from one of them and then deleted, by three scripts one after another.
-use Rattle.std.proofs.Common.{◌≡◌, inl, refl, arith}
-use Rattle.std.specs.Prelude.{ℕ, List, [], ◌∷◌, false, Some, None, codes}
-use Rattle.city_model.specs.declared.object_type.ObjectType.TheVariants.{Building, BuildingPart}
-use Rattle.city_model.specs.declared.command.Command.{Command}
-use Rattle.city_model.specs.declared.command.Command.TheVariants.{Put, Delete, Attach, Detach, Commit}
-use Rattle.city_model.specs.declared.command.Reply.TheVariants.{Added, Deleted, Attached, Detached}
-use Rattle.city_model.specs.declared.end.End.{End}
-use Rattle.city_model.specs.declared.end.Outcome.{Outcome}
-use Rattle.city_model.specs.CityMap.{Entries, CityMap, found_in, changed}
-use Rattle.city_model.specs.Meaning.{attached, detached, deleted}
-use Rattle.city_model.specs.Runs.{Scripted, IsScriptResult, model_after, IsSerialHistory}
-use Rattle.city_model.proofs.ExampleCities.{one_id, bare, object, alone}
-use Rattle.city_model.specs.Relations.{is_orphan_there}
-use Rattle.city_model.proofs.NoOrphan.{no_orphan, orphan_apart, no_orphan_at, no_orphan_attached, no_orphan_detached}
-use Rattle.city_model.proofs.NoOrphan.{no_orphan_deleted}
+-- Scripts run one after another over small cities: what they reply, and what they leave. First a part with two parents,
+-- detached from one of them and then deleted.
+use Rattle.city_model.proofs.Prelude.{◌≡◌, take, inl, refl, arith, codes, Building, BuildingPart, Road, Put, Delete}
+use Rattle.city_model.proofs.Prelude.{Attach, Detach, Commit, Read, Added, Deleted, Attached, Detached, End, Entries}
+use Rattle.city_model.proofs.Prelude.{CityMap, found_in, changed, has_id, attached, detached, Scripted, model_after}
+use Rattle.city_model.proofs.Prelude.{IsSerialHistory, is_orphan_there, or_parts}
+use Rattle.city_model.proofs.ExampleCities.{no_orphan_attached, one_id, bare, object, alone, committed, in_turn}
+use Rattle.city_model.proofs.ExampleCities.{no_orphan, no_orphan_detached, no_orphan_deleted, orphan_apart}
+use Rattle.city_model.proofs.ExampleCities.{no_orphan_at}
+use Rattle.std.specs.Prelude.{ℕ, List, [], ◌∷◌, false, Some, None}
+use Rattle.city_model.specs.declared.command.Reply.TheVariants.{Absent}
+use Rattle.std.proofs.lemmas.Map.{update_other}
+use Rattle.city_model.proofs.Changed.{at_absent, attached_apart, deleted_apart}
+use Rattle.city_model.proofs.Ids.{same_id_back}
 
 abbrev buildings : Entries
 buildings = (codes "b", alone Building) ∷ (codes "r", alone Building) ∷ []
 
-abbrev attaches : List Command
-attaches = Put (codes "p") (bare BuildingPart) ∷ Attach (codes "p") (codes "b") ∷ Attach (codes "p")
-    (codes "r") ∷ Commit ∷ []
-
-abbrev detaches : List Command
-detaches = Detach (codes "p") (codes "b") ∷ Commit ∷ []
-
-abbrev deletes : List Command
-deletes = Delete (codes "p") ∷ Commit ∷ []
-
 abbrev scripts : List Scripted
-scripts = (codes "a", attaches) ∷ (codes "b", detaches) ∷ (codes "c", deletes) ∷ []
+scripts = (
+  codes "a",
+  Put (codes "p") (bare BuildingPart) ∷ Attach (codes "p") (codes "b") ∷ Attach (codes "p") (codes "r")
+      ∷ Commit ∷ [],
+)
+    ∷ (codes "b", Detach (codes "p") (codes "b") ∷ Commit ∷ [])
+    ∷ (codes "c", Delete (codes "p") ∷ Commit ∷ [])
+    ∷ []
 
-abbrev attaches_ends : End
-attaches_ends =
-    record {
-      script = 0;
-      name = codes "a";
-      since = 0;
-      replies = Added ∷ Attached ∷ Attached ∷ [];
-      outcome = Outcome.Committed;
-    }
-
-abbrev detaches_ends : End
-detaches_ends = record { script = 1; name = codes "b"; since = 1; replies = Detached ∷ []; outcome = Outcome.Committed }
-
-abbrev deletes_ends : End
-deletes_ends = record { script = 2; name = codes "c"; since = 2; replies = Deleted ∷ []; outcome = Outcome.Committed }
+abbrev ends : List End
+ends =
+    committed 0 (codes "a") 0 (Added ∷ Attached ∷ Attached ∷ [])
+    ∷ committed 1 (codes "b") 1 (Detached ∷ [])
+    ∷ committed 2 (codes "c") 2 (Deleted ∷ [])
+    ∷ []
 
 abbrev with_part : CityMap
 with_part = changed (found_in buildings) (codes "p") (Some (alone BuildingPart))
 
-abbrev one_parent : CityMap
-one_parent = attached with_part (codes "p") (codes "b")
-
 abbrev two_parents : CityMap
-two_parents = attached one_parent (codes "p") (codes "r")
+two_parents = attached (attached with_part (codes "p") (codes "b")) (codes "p") (codes "r")
 
 abbrev other_parent : CityMap
 other_parent = detached two_parents (codes "p") (codes "b")
 
-one_parent_no_orphan : (q : List ℕ) → is_orphan_there (one_parent q) ≡ false
-one_parent_no_orphan q = no_orphan_attached with_part (codes "p") (codes "b") q refl refl
-    (λ apart. orphan_apart (found_in buildings) (codes "p") (Some (alone BuildingPart)) q apart
-    (no_orphan_at buildings q refl))
-
 two_parents_no_orphan : (q : List ℕ) → is_orphan_there (two_parents q) ≡ false
-two_parents_no_orphan q =
-    no_orphan_attached one_parent (codes "p") (codes "r") q refl refl (λ apart. one_parent_no_orphan q)
+two_parents_no_orphan q = grind arith
 
 other_parent_no_orphan : (q : List ℕ) → is_orphan_there (other_parent q) ≡ false
 other_parent_no_orphan q = no_orphan_detached two_parents (codes "p") (codes "b") q refl refl (two_parents_no_orphan q)
 
-attaches_commits : IsScriptResult (found_in buildings) attaches (Added ∷ Attached ∷ Attached ∷ []) Outcome.Committed
-attaches_commits =
-    (refl, refl, (refl, refl, (refl, refl, (inl (refl, no_orphan two_parents two_parents_no_orphan), refl))))
-
-detaches_commits : IsScriptResult two_parents detaches (Detached ∷ []) Outcome.Committed
-detaches_commits = (refl, refl, (inl (refl, no_orphan other_parent other_parent_no_orphan), refl))
-
-deletes_commits : IsScriptResult other_parent deletes (Deleted ∷ []) Outcome.Committed
-deletes_commits = (
-  refl,
-  refl,
-  (
-    inl (
-      refl,
-      no_orphan (deleted other_parent (codes "p"))
-          (λ q. no_orphan_deleted other_parent (codes "p") q (other_parent_no_orphan q)),
-    ),
-    refl,
-  ),
-)
-
-pub three_scripts_in_turn_fit : IsSerialHistory scripts (found_in buildings)
-    (attaches_ends ∷ detaches_ends ∷ deletes_ends ∷ [])
+pub three_scripts_in_turn_fit : IsSerialHistory scripts (found_in buildings) ends
 three_scripts_in_turn_fit = (
-  record {
-    script = (codes "a", attaches);
-    is_there = refl;
-    named = refl;
-    since = omega arith;
-    result = attaches_commits;
-  },
-  (λ same. omega arith, (λ same. omega arith, tt)),
+  in_turn refl (omega arith) (grind (arith, no_orphan two_parents two_parents_no_orphan)),
+  search arith,
   (
-    record {
-      script = (codes "b", detaches);
-      is_there = refl;
-      named = refl;
-      since = omega arith;
-      result = detaches_commits;
-    },
-    (λ same. omega arith, tt),
+    in_turn refl (omega arith) (refl, refl, (inl (refl, no_orphan other_parent other_parent_no_orphan), refl)),
+    search arith,
     (
-      record {
-        script = (codes "c", deletes);
-        is_there = refl;
-        named = refl;
-        since = omega arith;
-        result = deletes_commits;
-      },
+      in_turn refl (omega arith) (
+        refl,
+        refl,
+        (
+          inl (
+            refl,
+            no_orphan _ (λ q. no_orphan_deleted other_parent (codes "p") q
+                (other_parent_no_orphan q)),
+          ),
+          refl,
+        ),
+      ),
       tt,
       tt,
     ),
@@ -129,7 +77,7 @@ three_scripts_in_turn_fit = (
 -- ---- after the second script
 
 abbrev after_two : CityMap
-after_two = model_after scripts (found_in buildings) (attaches_ends ∷ detaches_ends ∷ [])
+after_two = model_after scripts (found_in buildings) (take 2 ends)
 
 pub detached_part_keeps_its_other_parent : after_two (codes "p") ≡ Some (object BuildingPart (one_id (codes "r")) [])
 detached_part_keeps_its_other_parent = refl
@@ -143,7 +91,7 @@ other_parent_keeps_the_part = refl
 -- ---- after the third
 
 abbrev after_three : CityMap
-after_three = model_after scripts (found_in buildings) (attaches_ends ∷ detaches_ends ∷ deletes_ends ∷ [])
+after_three = model_after scripts (found_in buildings) ends
 
 pub deleted_part_is_gone : after_three (codes "p") ≡ None
 deleted_part_is_gone = refl
@@ -153,3 +101,95 @@ first_building_is_alone_again = refl
 
 pub second_building_is_alone_again : after_three (codes "r") ≡ Some (alone Building)
 second_building_is_alone_again = refl
+
+-- ---- a part of two buildings is deleted, while another part is put and attached to one of them
+
+abbrev two_buildings : Entries
+two_buildings =
+    (codes "b1", object Building [] (one_id (codes "p")))
+    ∷ (codes "b2", object Building [] (one_id (codes "p")))
+    ∷ (codes "p", object BuildingPart (codes "b1" ∷ codes "b2" ∷ []) [])
+    ∷ []
+
+abbrev delete_and_attach : List Scripted
+delete_and_attach =
+    (codes "a", Delete (codes "p") ∷ Commit ∷ [])
+    ∷ (codes "b", Put (codes "q") (bare BuildingPart) ∷ Attach (codes "q") (codes "b2") ∷ Commit ∷ [])
+    ∷ []
+
+-- the second script ends first
+abbrev attach_then_delete : List End
+attach_then_delete = committed 1 (codes "b") 0 (Added ∷ Attached ∷ []) ∷ committed 0 (codes "a") 0 (Deleted ∷ []) ∷ []
+
+abbrev both_parts : CityMap
+both_parts =
+    attached (changed (found_in two_buildings) (codes "q") (Some (alone BuildingPart))) (codes "q") (codes "b2")
+
+both_parts_no_orphan : (q : List ℕ) → is_orphan_there (both_parts q) ≡ false
+both_parts_no_orphan q = search (arith, no_orphan_attached, orphan_apart, alone, no_orphan_at)
+
+-- these ends are those of the scripts, run one at a time
+pub attach_then_delete_fits : IsSerialHistory delete_and_attach (found_in two_buildings) attach_then_delete
+attach_then_delete_fits = (
+  in_turn refl (omega arith) (refl, refl, (refl, refl, (inl (refl, no_orphan both_parts both_parts_no_orphan), refl))),
+  search arith,
+  (
+    in_turn refl (omega arith) (
+      refl,
+      refl,
+      (
+        inl (
+          refl,
+          no_orphan _ (λ q. no_orphan_deleted both_parts (codes "p") q
+              (both_parts_no_orphan q)),
+        ),
+        refl,
+      ),
+    ),
+    tt,
+    tt,
+  ),
+)
+
+abbrev left : CityMap
+left = model_after delete_and_attach (found_in two_buildings) attach_then_delete
+
+-- the deleted part is gone from both of its parents, and the attached part stays
+pub delete_takes_the_child_out_of_the_first_parent : left (codes "b1") ≡ Some (alone Building)
+delete_takes_the_child_out_of_the_first_parent = refl
+
+pub delete_takes_the_child_out_of_the_second_parent : left (codes "b2") ≡ Some (object Building [] (one_id (codes "q")))
+delete_takes_the_child_out_of_the_second_parent = refl
+
+pub delete_takes_the_object : left (codes "p") ≡ None
+delete_takes_the_object = refl
+
+pub attached_sibling_stays : left (codes "q") ≡ Some (object BuildingPart (one_id (codes "b2")) [])
+attached_sibling_stays = refl
+
+pub no_other_object_comes : (id : List ℕ) → has_id (codes "b1" ∷ codes "b2" ∷ codes "p" ∷ codes "q" ∷ []) id ≡ false
+    → left id ≡ None
+no_other_object_comes id h =
+    search (arith, or_parts, at_absent, update_other, alone, same_id_back, attached_apart, deleted_apart)
+
+-- ---- an object that is read twice, and put by another script after it
+
+abbrev no_objects : Entries
+no_objects = []
+
+abbrev read_and_put : List Scripted
+read_and_put =
+    (codes "a", Read (codes "h") ∷ Read (codes "h") ∷ Commit ∷ [])
+    ∷ (codes "b", Put (codes "h") (bare Road) ∷ Commit ∷ [])
+    ∷ []
+
+-- the second script began its last attempt after the first one's end
+abbrev read_then_put : List End
+read_then_put = committed 0 (codes "a") 0 (Absent ∷ Absent ∷ []) ∷ committed 1 (codes "b") 1 (Added ∷ []) ∷ []
+
+pub read_then_put_fits : IsSerialHistory read_and_put (found_in no_objects) read_then_put
+read_then_put_fits =
+    (in_turn refl (omega arith) (grind arith), search arith, (in_turn refl (omega arith) (grind arith), tt, tt))
+
+pub put_road_is_there : model_after read_and_put (found_in no_objects) read_then_put (codes "h") ≡ Some (alone Road)
+put_road_is_there = refl

@@ -1,15 +1,10 @@
 -- Closed and open shells, and the faults of bodies, worked out on small solids.
-use Rattle.std.proofs.Common.{◌≡◌, refl}
-use Rattle.std.specs.Prelude.{ℕ, pos, List, [], ◌∷◌, true, false, Some, None, codes}
-use Rattle.serde_json.specs.Data.{no_members}
-use Rattle.city_model.specs.declared.object.Point.{Point}
+use Rattle.city_model.proofs.Prelude.{◌≡◌, refl, codes, no_members, Point, Body, Shape, Building, Surface, body_fault}
+use Rattle.std.specs.Prelude.{ℕ, pos, List, [], ◌∷◌, true, false, Some, None}
 use Rattle.city_model.specs.declared.object.Geometry.{Geometry}
-use Rattle.city_model.specs.declared.object.Body.{Body}
-use Rattle.city_model.specs.declared.object.Shape.{Shape}
 use Rattle.city_model.specs.declared.object.Shape.TheVariants.{MultiSurface, Solid, MultiSolid, CompositeSolid}
-use Rattle.city_model.specs.declared.object_type.ObjectType.TheVariants.{Building}
 use Rattle.city_model.specs.declared.command.Cause.TheVariants.{ShortRing, SameTwice, OpenShell}
-use Rattle.city_model.specs.Shells.{Ring, Surface, Shell, is_closed, body_fault}
+use Rattle.city_model.specs.Shells.{Ring, Shell, is_closed}
 
 abbrev corner : ℕ → ℕ → ℕ → Point
 corner x y z = record { x = pos x; y = pos y; z = pos z }

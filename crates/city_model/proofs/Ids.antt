@@ -1,16 +1,10 @@
 -- When two ids are the same.
-use Rattle.std.proofs.Common.{◌≡◌, ℕ, List, Bool, true, false, Ordering, Less, Equal, Greater, refl, ap, sym, ◌∙◌}
-use Rattle.std.specs.Ordering.{nat_cmp, is_eq}
-use Rattle.std.specs.Cmp.Lexicographic.{slice_cmp}
-use Rattle.std.proofs.lemmas.Bool.{false≢true}
-use Rattle.std.proofs.lemmas.Cmp.{nat_list_cmp_total, tied_itself, eq_by_cmp_equiv}
-use Rattle.std.proofs.lemmas.Map.Lookups.{exact_bytes}
-use Rattle.city_model.specs.CityMap.{same_id}
+use Rattle.city_model.proofs.Prelude.{arith, ◌≡◌, ℕ, List, Bool, true, false, Ordering, Less, Equal, refl, ap, sym, ◌∙◌}
+use Rattle.city_model.proofs.Prelude.{nat_cmp, is_eq, slice_cmp, nat_list_cmp_total, exact_bytes, same_id}
+use Rattle.std.proofs.lemmas.Cmp.{tied_itself, eq_by_cmp_equiv}
 
 is_equal : (o : Ordering) → is_eq o ≡ true → o ≡ Equal
-is_equal Less h = absurd (false≢true h)
-is_equal Equal h = refl
-is_equal Greater h = absurd (false≢true h)
+is_equal o h = grind arith
 
 pub same_id_true : (id q : List ℕ) → same_id id q ≡ true → id ≡ q
 same_id_true id q h = exact_bytes id q (is_equal (slice_cmp nat_cmp id q) h)
@@ -33,5 +27,4 @@ pub by_id : {P : Type 0} (id q : List ℕ) → (id ≡ q → P) → (same_id id 
 by_id {P} id q here apart = by (same_id id q) refl
   where
     by : (b : Bool) → same_id id q ≡ b → P
-    by true t = here (same_id_true id q t)
-    by false t = apart t
+    by b t = search (arith, same_id_true)

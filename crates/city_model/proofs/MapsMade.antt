@@ -1,26 +1,20 @@
 -- A map from ids that is made of a list has the pairs of the list as if they were put in one after another.
-use Rattle.std.proofs.Common.{◌≡◌, ℕ, List, [], ◌∷◌, Option, Some, None, Ordering, BTreeMap, cond, nat_cmp, refl, sym}
-use Rattle.std.proofs.Common.{ap, ◌∙◌}
-use Rattle.std.specs.Prelude.{T, IfOk}
+use Rattle.city_model.proofs.Prelude.{arith, ◌≡◌, ℕ, List, [], ◌∷◌, Option, Some, None, Ordering, cond, refl, sym, ap}
+use Rattle.city_model.proofs.Prelude.{◌∙◌, T, IsStrictlySortedBy, keys_of, eq_by_cmp_equiv, slice_cmp, find, is_sorted}
+use Rattle.city_model.proofs.Prelude.{eq_by_cmp, nat_list_cmp_total, IsDistinct-from_sorted, exact_bytes}
+use Rattle.std.proofs.Common.{BTreeMap, nat_cmp}
+use Rattle.std.specs.Prelude.{IfOk}
 use Rattle.std.specs.Bool.{⊤}
 use Rattle.std.specs.declared.result.Result.{Result}
 use Rattle.std.specs.declared.result.Result.TheVariants.{Ok}
 use Rattle.std.specs.Iterator.{DrainsIf}
-use Rattle.std.specs.List.Sorted.{IsStrictlySortedBy}
-use Rattle.std.specs.Map.{keys_of, update_all}
+use Rattle.std.specs.Map.{update_all}
 use Rattle.std.specs.BTreeMap.{IsFromIterResult}
-use Rattle.std.specs.Cmp.{eq_by_cmp_equiv}
-use Rattle.std.specs.Cmp.Lexicographic.{slice_cmp}
-use Rattle.std.specs.FinMap.{find, is_sorted, put}
+use Rattle.std.specs.FinMap.{put}
 use Rattle.std.specs.FinMap.Entries.{is_sorted-put, find-put, same_entries}
-use Rattle.std.specs.Ordering.{eq_by_cmp}
-use Rattle.std.proofs.lemmas.Cmp.{nat_list_cmp_total}
 use Rattle.std.proofs.lemmas.Iterator.{YieldsList}
 use Rattle.std.proofs.lemmas.Iterator.Adapters.{fact_from_collect}
-use Rattle.std.proofs.lemmas.Map.Keys.{IsDistinct-from_sorted}
-use Rattle.std.proofs.lemmas.Map.Lookups.{exact_bytes}
 use Rattle.std.proofs.lemmas.Map.Made.{update_all_none}
-use Rattle.std.proofs.lemmas.Result.{IfOk-at_ok}
 use Rattle.city_model.proofs.Ids.{same_id_back}
 use Rattle.city_model.proofs.Objects.{in_order, find_is_lookup}
 
@@ -60,9 +54,9 @@ module _ {X : Type 0} where
   made_of_sorted : (es : List (List ℕ × X)) (m : BTreeMap (List ℕ) X) → IsStrictlySortedBy cmp (keys_of es)
       → IsFromIterResult cmp es m → m.entries ≡ es
   made_of_sorted es m ascend h =
-      entries_made es es m h (in_order cmp es ascend) (λ q. find_is_lookup cmp q es
-      ∙ sym (update_all_none (eq_by_cmp_equiv nat_list_cmp_total) (eq_by_cmp cmp) (λ x y. refl) es q
-      (IsDistinct-from_sorted cmp (keys_of es) ascend)))
+      let kept = update_all_none (eq_by_cmp_equiv nat_list_cmp_total) (eq_by_cmp cmp) (λ x y. refl) es in
+      entries_made es es m h (in_order cmp es ascend)
+      (λ q. grind (arith, find_is_lookup cmp q es, kept q (IsDistinct-from_sorted cmp (keys_of es) ascend)))
 
 -- what `collect` makes of sorted entries
 pub collected : {S X E : Type 0} {steps : S → Option (List ℕ × X) → S → Type 0} {s : S} (es : List (List ℕ × X))
@@ -70,5 +64,4 @@ pub collected : {S X E : Type 0} {steps : S → Option (List ℕ × X) → S →
     → IfOk r (λ v. (xs : List (List ℕ × X)) × DrainsIf steps ⊤ s xs × IsFromIterResult cmp xs v)
     → YieldsList steps (λ x. x) s es → IsStrictlySortedBy cmp (keys_of es) → m.entries ≡ es
 collected es m r is ran all ascend =
-    made_of_sorted es m ascend (IfOk-at_ok (IsFromIterResult cmp es) is
-    (fact_from_collect (IsFromIterResult cmp) r ran all))
+    made_of_sorted es m ascend (grind (arith, fact_from_collect (IsFromIterResult cmp) r ran all))

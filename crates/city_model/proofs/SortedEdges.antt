@@ -1,43 +1,104 @@
--- Items in order: equal ones are neighbours, and how often each stands there tells the list. Order doesn't change how
--- often each stands there.
-use Rattle.std.proofs.Common.{◌≡◌, ℕ, suc, ◌+◌, ◌-◌, ◌<◌, ◌≤◌, List, [], ◌∷◌, Bool, true, false, true≢false, cond}
-use Rattle.std.proofs.Common.{length, get_or, take, Ordering, Less, Equal, Greater, is_eq, refl, sym, ap, ◌∙◌, subst}
-use Rattle.std.proofs.Common.{arith}
-use Rattle.std.specs.Prelude.{◌||◌, if◌then◌else◌}
-use Rattle.std.specs.Bool.{Decides}
-use Rattle.std.specs.Cmp.{IsTotalOrder, eq_by_cmp_equiv}
-use Rattle.std.specs.List.{AllAdjacentBelow, IsDistinct, list_any, list_all, count_by}
-use Rattle.std.specs.List.Sorted.{IsSorted, IsPermutation}
-use Rattle.std.specs.Ordering.{eq_by_cmp, is_lt, ordering_reverse}
-use Rattle.std.proofs.lemmas.List.Folds.{list_any_more}
+-- How often each item stands in a list, by a test that decides which are equal, and what that says of sorted lists.
+use Rattle.city_model.proofs.Prelude.{◌≡◌, ℕ, suc, ◌+◌, ◌-◌, ◌<◌, ◌≤◌, List, [], ◌∷◌, Bool, true, false, length, get_or}
+use Rattle.city_model.proofs.Prelude.{take, Ordering, refl, sym, ap, ◌∙◌, arith, ◌++◌, drop, append_assoc, drop-cons}
+use Rattle.city_model.proofs.Prelude.{◌==◌, Decides, IsTotalOrder, eq_by_cmp_equiv, AllAdjacentBelow, list_any}
+use Rattle.city_model.proofs.Prelude.{list_all, AllByRecursion, IsSorted, IsPermutation, eq_by_cmp, is_lt}
+use Rattle.city_model.proofs.Prelude.{list_any-append, times, occurs_once}
+use Rattle.std.proofs.Common.{true≢false}
+use Rattle.std.specs.Prelude.{◌||◌}
+use Rattle.std.specs.Cmp.{IsEquivalence}
+use Rattle.std.specs.List.{IsDistinct, filter}
+use Rattle.std.proofs.lemmas.List.Folds.{list_any_more, list_all_at}
 use Rattle.std.proofs.lemmas.List.Recursion.{is_count_by}
 use Rattle.std.proofs.lemmas.List.Sorted.{ranks_by, sorted_far, sum_by-IsPermutation}
 use Rattle.std.proofs.lemmas.Map.Keys.{IsDistinct-from_apart}
-use Rattle.city_model.specs.Shells.{times, occurs_once}
-use Rattle.city_model.proofs.Counts.{counted_first}
 use Rattle.city_model.proofs.IdLists.{bool_cases}
-use Rattle.city_model.proofs.Once.{or_true, repeated_at}
+use Rattle.std.proofs.lemmas.Bool.Decides.{nat_tests}
+use Rattle.std.proofs.lemmas.List.{take-append-drop}
 
--- ---- in any order
+module _ {T : Type 0} {E : T → T → Bool} (decides : (x y : T) → Decides (E x y) (x ≡ y)) where
+  pub counted_first : (x : T) (xs : List T) → 1 ≤ times E x (x ∷ xs)
+  counted_first x xs = grind (arith, decides x x)
+
+  -- what is true of each is true of what is counted
+  pub all_counted : (f : T → Bool) (xs : List T) → list_all f xs ≡ true → (q : T) → 1 ≤ times E q xs → f q ≡ true
+  all_counted f [] h q many = absurd (omega (arith, many))
+  all_counted f (x ∷ xs) h q many = grind (arith, decides q x, all_counted f xs)
+
+  pub counted_all : (f : T → Bool) (xs : List T) → ((q : T) → 1 ≤ times E q xs → f q ≡ true) → list_all f xs ≡ true
+  counted_all f [] h = refl
+  counted_all f (x ∷ xs) h = grind (arith, counted_first x xs, counted_all f xs)
+
+  pub times-filter_kept : (p : T → Bool) (q : T) → p q ≡ true → (xs : List T) → times E q (filter p xs) ≡ times E q xs
+  times-filter_kept p q h [] = refl
+  times-filter_kept p q h (x ∷ xs) = grind (arith, times-filter_kept p q h xs)
+
+  pub times-filter_left : (p : T → Bool) (q : T) → p q ≡ false → (xs : List T) → times E q (filter p xs) ≡ 0
+  times-filter_left p q h [] = refl
+  times-filter_left p q h (x ∷ xs) = grind (arith, times-filter_left p q h xs)
+
+-- ---- items without repeats, and how often each stands in a list
+
+not_one : (n : ℕ) → 2 ≤ n → (n == 1) ≡ false
+not_one n h = grind (arith, nat_tests, h)
+
+module _ {T : Type 0} (E : T → T → Bool) (q : T) where
+  any_counts : (xs : List T) → list_any (E q) xs ≡ true → 1 ≤ times E q xs
+  any_counts [] h = absurd (true≢false (sym h))
+  any_counts (x ∷ xs) h = grind (arith, any_counts xs)
+
+  count_none : (xs : List T) → list_any (E q) xs ≡ false → times E q xs ≡ 0
+  count_none [] h = refl
+  count_none (x ∷ xs) h = grind (arith, count_none xs)
+
+  times-append : (xs ys : List T) → times E q (xs ++ ys) ≡ times E q xs + times E q ys
+  times-append [] ys = omega arith
+  times-append (x ∷ xs) ys = grind (arith, times-append xs ys)
+
+  any_middle : (before : List T) (x : T) (after : List T) → E q x ≡ true → list_any (E q) (before ++ x ∷ after) ≡ true
+  any_middle before x after h = grind (arith, list_any-append)
+
+module _ {T : Type 0} {E : T → T → Bool} (laws : IsEquivalence E) where
+  apart_counts : (q x : T) (xs : List T) → E q x ≡ true → AllByRecursion (λ y. E x y ≡ false) xs → times E q xs ≡ 0
+  apart_counts q x [] e h = refl
+  apart_counts q x (y ∷ ys) e h = grind (arith, apart_counts q x ys e h.1)
+
+  count_distinct : (q : T) (xs : List T) → IsDistinct E xs → list_any (E q) xs ≡ true → times E q xs ≡ 1
+  unfolding IsDistinct
+  count_distinct q [] d h = absurd (true≢false (sym h))
+  count_distinct q (x ∷ xs) d h = grind (arith, apart_counts q x xs, d.0, count_distinct q xs d.1)
+
+  -- where no item is repeated, a search counts
+  once_is_any : (q : T) (es : List T) → IsDistinct E es → occurs_once E es q ≡ list_any (E q) es
+  once_is_any q es d = grind (arith, count_distinct q es d, count_none E q es)
+
+  all_found : (before xs : List T) → IsDistinct E (before ++ xs) → list_all (occurs_once E (before ++ xs)) xs ≡ true
+  all_found before [] d = refl
+  all_found before (x ∷ xs) d =
+      grind (arith, once_is_any, any_middle, append_assoc before (x ∷ []) xs, all_found (before ++ x ∷ []) xs)
+
+  -- where no item is repeated, each occurs once
+  pub all_self : (es : List T) → IsDistinct E es → list_all (occurs_once E es) es ≡ true
+  all_self es d = all_found [] es d
+
+  -- an item that stands before is repeated
+  pub repeated_at : (es : List T) (i : ℕ) (x : T) → i < length es → x ≡ get_or es i x
+      → list_any (E x) (take i es) ≡ true → list_all (occurs_once E es) es ≡ false
+  repeated_at es i x lt is h =
+      let split : times E x es ≡ times E x (take i es) + times E x (drop i es) =
+      ap (times E x) (sym (take-append-drop i es)) ∙ times-append E x (take i es) (drop i es) in
+      let here : list_any (E x) (drop i es) ≡ true = rw (drop-cons es i x lt, ← is, laws.refl x) refl in
+      list_all_at (occurs_once E es) es i x lt
+      (rw (← is) (not_one (times E x es)
+      (omega (arith, split, any_counts E x (take i es) h, any_counts E x (drop i es) here))))
+
+-- ---- in order equal items are neighbours, and how often each stands there tells the list
 
 module _ {T : Type 0} {xs ys : List T} (moved : IsPermutation xs ys) where
   pub times_permutation : (E : T → T → Bool) (q : T) → times E q ys ≡ times E q xs
-  times_permutation E q =
-      let counts : (zs : List T) → times E q zs ≡ count_by (E q) zs = is_count_by (times E q) (E q) refl (λ x zs. refl)
-      in
-      counts ys ∙ sum_by-IsPermutation (λ x. cond (E q x) 1 0) xs ys moved ∙ sym (counts xs)
+  times_permutation E q = grind (arith, is_count_by, sum_by-IsPermutation, is_count_by (times E q) (E q) refl)
 
 -- ---- in order
-
--- a is below b, which isn't above c
-apart_from : (ab ba cb ac : Ordering) → ab ≡ ordering_reverse ba → is_eq ab ≡ false → is_lt ba ≡ false
-    → is_lt cb ≡ false → (ac ≡ Equal → ab ≡ cb) → is_eq ac ≡ false
-apart_from ab ba cb Less turned apart up far same = refl
-apart_from ab ba cb Greater turned apart up far same = refl
-apart_from ab Less cb Equal turned apart up far same = absurd (cc)
-apart_from ab Equal cb Equal turned apart up far same = absurd (true≢false (sym (ap is_eq turned) ∙ apart))
-apart_from ab Greater cb Equal turned apart up far same =
-    absurd (true≢false (sym (ap is_lt (sym (same refl) ∙ turned)) ∙ far))
 
 module _ {T : Type 0} {R : T → T → Ordering} (o : IsTotalOrder R) (xs : List T) (up : IsSorted R xs) where
   -- where no item is the same as the next, none is the same as another
@@ -49,9 +110,7 @@ module _ {T : Type 0} {R : T → T → Ordering} (o : IsTotalOrder R) (xs : List
       let c = get_or xs j d in
       let next : i + 1 < length xs = omega (arith, less, within) in
       let far = sorted_far (λ x y. is_lt (R x y)) (ranks_by o (λ x. x)) xs up (i + 1) j d (omega (arith, less)) within
-      in
-      apart_from (R a b) (R b a) (R c b) (R a c) (o.antisymm a b) (apart i d next) (up i d (omega arith) next) far
-      (o.congr a c b))
+      in grind arith)
 
   -- the item at i is the same as the one before it
   pub repeated_neighbour : (i : ℕ) (x y : T) → 1 ≤ i → i < length xs → x ≡ get_or xs (i - 1) x → y ≡ get_or xs i y
@@ -65,21 +124,9 @@ module _ {T : Type 0} {R : T → T → Ordering} (o : IsTotalOrder R) (xs : List
       ∙ (ap (λ z. eq_by_cmp R z y) (sym first) ∙ same) in
       let back : i - 1 + 1 ≡ i = omega arith in
       repeated_at laws xs i y there second
-      (subst (λ k. list_any (eq_by_cmp R y) (take k xs) ≡ true) back
-      (more ∙ or_true (list_any (eq_by_cmp R y) (take (i - 1) xs)) here))
+      (grind arith)
 
 -- ---- in order, by an order that ties equal items alone
-
-neither : (a b : Ordering) → a ≡ ordering_reverse b → is_lt a ≡ false → is_lt b ≡ false → is_eq a ≡ true
-neither Equal b turned up down = refl
-neither Less b turned up down = absurd (true≢false up)
-neither Greater Less turned up down = absurd (true≢false down)
-neither Greater Equal turned up down = absurd (cc)
-neither Greater Greater turned up down = absurd (cc)
-
-one_less : (b : Bool) (m n : ℕ) → (if b then 1 + m else m) ≡ (if b then 1 + n else n) → m ≡ n
-one_less true m n h = omega arith
-one_less false m n h = h
 
 module _ {T : Type 0} {R : T → T → Ordering} (o : IsTotalOrder R) (decides : (x y : T)
     → Decides (eq_by_cmp R x y) (x ≡ y)) where
@@ -88,9 +135,8 @@ module _ {T : Type 0} {R : T → T → Ordering} (o : IsTotalOrder R) (decides :
   not_below x [] far q many = absurd (omega (arith, many))
   not_below x (y ∷ ys) far q many =
       bool_cases (eq_by_cmp R q y)
-      (λ same. subst (λ z. is_lt (R z x) ≡ false) (sym ((decides q y).0 same)) (far 0 y (omega arith)))
-      (λ other. not_below x ys (λ j d less. far (suc j) d (omega (arith, less))) q
-      (subst (λ b. 1 ≤ (if b then 1 + times (eq_by_cmp R) q ys else times (eq_by_cmp R) q ys)) other many))
+      (λ same. grind (arith, (decides q y).0 same, far 0 y))
+      (λ other. not_below x ys (λ j d less. far (suc j) d (omega (arith, less))) q (grind (arith, other)))
 
   -- none of the items is below the first one
   first_least : (x : T) (xs : List T) → IsSorted R (x ∷ xs) → (q : T) → 1 ≤ times (eq_by_cmp R) q (x ∷ xs)
@@ -100,10 +146,7 @@ module _ {T : Type 0} {R : T → T → Ordering} (o : IsTotalOrder R) (decides :
       (λ j d less. sorted_far (λ y z. is_lt (R y z)) (ranks_by o (λ y. y)) (x ∷ xs) up 0 j d (omega arith) less)
 
   sorted_rest : (x : T) (xs : List T) → IsSorted R (x ∷ xs) → IsSorted R xs
-  sorted_rest x xs up k d low less =
-      let at : suc k + 1 ≡ suc (k + 1) = omega arith in
-      subst (λ m. is_lt (R (get_or (x ∷ xs) m d) (get_or xs k d)) ≡ false) at
-      (up (suc k) d (omega arith) (omega (arith, less)))
+  sorted_rest x xs up k d low less = grind (arith, up (suc k) d)
 
   -- what is in order is told by how often each item stands there
   pub sorted_same : (xs ys : List T) → IsSorted R xs → IsSorted R ys
@@ -112,11 +155,8 @@ module _ {T : Type 0} {R : T → T → Ordering} (o : IsTotalOrder R) (decides :
   sorted_same [] (y ∷ ys) up vp counts = absurd (omega (arith, counts y, counted_first decides y ys))
   sorted_same (x ∷ xs) [] up vp counts = absurd (omega (arith, counts x, counted_first decides x xs))
   sorted_same (x ∷ xs) (y ∷ ys) up vp counts =
-      let E = eq_by_cmp R in
-      let above = first_least y ys vp x (subst (λ n. 1 ≤ n) (counts x) (counted_first decides x xs)) in
-      let below = first_least x xs up y (subst (λ n. 1 ≤ n) (sym (counts y)) (counted_first decides y ys)) in
-      let same : x ≡ y = (decides x y).0 (neither (R x y) (R y x) (o.antisymm x y) above below) in
-      let rest : xs ≡ ys = sorted_same xs ys (sorted_rest x xs up) (sorted_rest y ys vp)
-      (λ q. one_less (E q y) (times E q xs) (times E q ys)
-      (subst (λ z. (if E q z then 1 + times E q xs else times E q xs) ≡ times E q (y ∷ ys)) same (counts q))) in
-      (λ i. same i ∷ rest i)
+      let above = first_least y ys vp x (grind (arith, counts x, counted_first decides x xs)) in
+      let below = first_least x xs up y (grind (arith, counts y, counted_first decides y ys)) in
+      let same : x ≡ y = (decides x y).0 (grind (arith, o.antisymm x y, above, below)) in
+      let rest = sorted_same xs ys (sorted_rest x xs up) (sorted_rest y ys vp) (λ q. grind (arith, counts q, same)) in
+      grind (arith, same, rest)

@@ -1,8 +1,7 @@
 -- What a city's objects answer after a change is written into them, and what is shown after one change more.
-use Rattle.std.proofs.Common.{◌≡◌, ℕ, List, [], ◌∷◌, ◌++◌, Option, Some, None, refl, ap, ◌∙◌}
-use Rattle.city_model.specs.declared.object.Object.{Object}
-use Rattle.city_model.specs.CityMap.{Objects, CityMap, object_at, changed}
-use Rattle.city_model.specs.Runs.{Change, after_change, after_changes}
+use Rattle.city_model.proofs.Prelude.{arith, ◌≡◌, ℕ, List, [], ◌∷◌, ◌++◌, Option, Some, None, refl, Object, Objects}
+use Rattle.city_model.proofs.Prelude.{CityMap, object_at, changed, Change, after_change}
+use Rattle.city_model.specs.Runs.{after_changes}
 use Rattle.city_model.specs.Writing.{objects_with, objects_after}
 use Rattle.city_model.proofs.Objects.{at_insert, at_remove}
 
@@ -18,8 +17,7 @@ at_with objects id (Some o) = at_insert objects id o
 pub at_after : (objects : Objects) (change : Change)
     → object_at (objects_after objects change) ≡ after_change (object_at objects) change
 at_after objects [] = refl
-at_after objects (w ∷ ws) =
-    at_after (objects_with objects w.0 w.1) ws ∙ ap (λ (m : CityMap). after_change m ws) (at_with objects w.0 w.1)
+at_after objects (w ∷ ws) = grind (arith, at_after (objects_with objects w.0 w.1) ws, at_with objects w.0 w.1)
 
 pub shown_more : (m : CityMap) (cs : List Change) (c : Change)
     → after_changes m (cs ++ c ∷ []) ≡ after_change (after_changes m cs) c

@@ -2,7 +2,8 @@
 use crate::steps::TakesSteps;
 use crate::written::Written;
 use city_model::OutOfMemory;
-use city_serve::command_line::{Asked, LineFault, Options, asked_by};
+use city_serve::Options;
+use city_serve::command_line::{Asked, LineFault, asked_by};
 use std::alloc::Global;
 
 /// Each step is a command line, and is answered what it asks for.
@@ -18,7 +19,8 @@ impl TakesSteps for CommandLines {
     }
 }
 
-fn words_of(alloc: Global, line: &str) -> Result<Vec<String>, OutOfMemory> {
+/// The words of a line, between spaces.
+pub fn words_of(alloc: Global, line: &str) -> Result<Vec<String>, OutOfMemory> {
     let mut words = Vec::new(alloc);
     for word in line.split_whitespace() {
         words.push(word.to_string(alloc)?)?;

@@ -1,15 +1,14 @@
-//! The verbs `crew`, `replay`, `model` and `texts`: runs by so many workers before so many viewers.
-ghost use Rattle.std.specs.Prelude.{◌≤◌};
-ghost use Rattle.city_crew.specs.Limits.{max_workers, max_viewers};
+//! The verbs `crew`, `decimals`, `texts`, `replay` and `model`: runs by so many workers before so many viewers.
+ghost use Rattle.city_serve.specs.RunOptions.{AreWithin};
 
-use crate::fault_lines::{add_fault, add_run_fault};
+use crate::fault_lines::add_run_fault;
 use crate::replay::is_replayed;
+use crate::served::{add_lent, add_served, all_saw};
 use crate::written::Written;
 use city_crew::{MAX_VIEWERS, MAX_WORKERS, OpenGate, run_crew};
 use city_desk::Output;
 use city_model::end::{End, Outcome};
-use city_serve::Device;
-use city_serve::serve_texts::serve_texts;
+use city_serve::Options;
 use std::alloc::Global;
 use std::sync::Wait;
 use std::thread::Threads;
@@ -17,14 +16,16 @@ use std::thread::Threads;
 /// What is reported of a run.
 #[derive(Clone, Copy)]
 pub enum Told {
-    /// The bytes.
+    /// The bytes that a writer gets.
     Bytes,
+    /// The same, of texts whose numbers have any form.
+    Decimals,
+    /// The same, of texts that are lent.
+    Lent,
     /// That its scripts give the same when they are played one at a time in the order of their ends.
     History,
     /// The same, and then the model.
     Model,
-    /// The bytes that a writer gets.
-    Texts,
 }
 
 /// Runs the scripts by each of the crews, written as `4x1` for four workers before one viewer, and answers what is
@@ -49,6 +50,18 @@ pub fn play_crews<T: Threads + Wait + Sync>(
     }
 }
 
+/// The options that a crew stands for.
+fn options_of(crew: &str, decimals: bool) -> Options
+    ensures { AreWithin result }
+{
+    let (workers, viewers) = crew.split_once("x").unwrap_or((crew, "0"));
+    Options {
+        workers: workers.parse::<usize>().unwrap_or(1).clamp(1, MAX_WORKERS),
+        viewers: viewers.parse::<usize>().unwrap_or(0).min(MAX_VIEWERS),
+        decimals,
+    }
+}
+
 /// Runs the scripts by one crew, and answers what is reported of the run.
 fn play_crew<T: Threads + Wait + Sync>(
     rt: &T,
@@ -59,52 +72,30 @@ fn play_crew<T: Threads + Wait + Sync>(
     scripts: &[u8],
     answer: &mut Written,
 ) {
-    let (workers, viewers) = crew.split_once("x").unwrap_or((crew, "0"));
-    let workers = workers.parse::<usize>().unwrap_or(1).clamp(1, MAX_WORKERS);
-    let viewers = viewers.parse::<usize>().unwrap_or(0).min(MAX_VIEWERS);
-    if matches!(told, Told::Texts) {
-        return run_texts(rt, alloc, workers, viewers, document, scripts, answer);
-    }
-    match run_crew(rt, alloc, document, scripts, workers, viewers, &OpenGate) {
-        Ok(output) => add_output(alloc, told, &output, document, scripts, viewers, answer),
-        Err(fault) => add_run_fault(alloc, fault, answer),
+    let options = options_of(crew, matches!(told, Told::Decimals));
+    match told {
+        Told::Bytes | Told::Decimals => add_served(rt, alloc, options, document, scripts, answer),
+        Told::Lent => add_lent(rt, alloc, options, document, scripts, answer),
+        _ => add_ran(rt, alloc, told, options, document, scripts, answer),
     }
 }
 
-/// Serves the two texts, and adds what a writer got.
-fn run_texts<T: Threads + Wait + Sync>(
+/// Runs the scripts by the crew's own call, which gives their ends, and adds what is reported of the run.
+fn add_ran<T: Threads + Wait + Sync>(
     rt: &T,
     alloc: Global,
-    workers: usize,
-    viewers: usize,
+    told: Told,
+    options: Options,
     document: &[u8],
     scripts: &[u8],
     answer: &mut Written,
 )
-    requires workers { (1 ≤ workers) × (workers ≤ max_workers) }
-    requires viewers { viewers ≤ max_viewers }
+    requires { AreWithin options }
 {
-    let mut written = Vec::new(alloc);
-    let served = serve_texts(
-        rt,
-        alloc,
-        document,
-        scripts,
-        &mut Device::new(&mut written),
-        workers,
-        viewers,
-    );
-    match served {
-        Ok(seen) => add_texts(written.as_slice(), seen.len() == viewers, answer),
-        Err(fault) => add_fault(alloc, &fault, answer),
-    }
-}
-
-fn add_texts(written: &[u8], are_seen: bool, answer: &mut Written) {
-    if are_seen {
-        answer.add_lines(written);
-    } else {
-        answer.add_line("viewers are missing");
+    let (workers, viewers) = (options.workers, options.viewers);
+    match run_crew(rt, alloc, document, scripts, workers, viewers, &OpenGate) {
+        Ok(output) => add_output(alloc, told, &output, document, scripts, viewers, answer),
+        Err(fault) => add_run_fault(alloc, fault, answer),
     }
 }
 
@@ -124,8 +115,6 @@ fn add_output(
         answer.add("seen: ");
         answer.show_debug(&seen);
         answer.add("\n");
-    } else if matches!(told, Told::Bytes) {
-        answer.add_lines(bytes);
     } else if is_replayed(alloc, document, scripts, ends, bytes) {
         add_history(told, ends.len(), bytes, answer);
     } else {
@@ -154,25 +143,4 @@ fn commits(ends: &[End]) -> u64 {
         }
     }
     commits
-}
-
-/// Whether each viewer's numbers rise, and the last is that of the commits.
-fn all_saw(seen: &[Vec<u64>], commits: u64) -> bool {
-    for numbers in seen {
-        if !saw_all(numbers.as_slice(), commits) {
-            return false;
-        }
-    }
-    true
-}
-
-fn saw_all(numbers: &[u64], commits: u64) -> bool {
-    let mut next = 0u64;
-    for number in numbers {
-        if *number < next {
-            return false;
-        }
-        next = number.saturating_add(1);
-    }
-    next == commits.saturating_add(1)
 }

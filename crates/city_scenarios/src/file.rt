@@ -93,7 +93,7 @@ fn played<T: Threads + Wait + Sync>(
 ) -> Result<Vec<u8>, OutOfMemory> {
     let texts = texts_of(alloc, names, scenario.texts)?;
     let mut came = Written::new(alloc);
-    play(rt, alloc, scenario, texts.as_slice(), &mut came);
+    play(rt, alloc, names, scenario, texts.as_slice(), &mut came);
     came.whole()
 }
 

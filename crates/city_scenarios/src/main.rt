@@ -7,8 +7,10 @@
 //! - `play`: which verb plays what; `written`, `fault_lines`, `wanted`: what verbs write, and how it is compared
 //! - `document`, `scripts`, `prefixes`: texts read; `tokens`: from their tokens; `body`: bodies judged; `members`:
 //!   members kept; `faults`: faults shown
-//! - `run`, `crew`, `replay`: whole runs, by one worker, by several, and their scripts one at a time
-//! - `serve`, `reader`, `writer`: from a device to a device
+//! - `run`, `crew`, `served`, `replay`: whole runs, by one worker, by several, as the program serves them, and their
+//!   scripts one at a time; `canonical`: a model's canonical form
+//! - `serve`, `reader`, `writer`: from a device to a device; `program`, `folder`, `seen`: the program, over files that
+//!   are texts with names, and the line of a viewer
 //! - `steps`, `turns`: what is taken step by step, a desk; `core_steps`, `reply`, `change`: transactions; `locks`: a
 //!   lock table; `board`: viewers; `shelves`: a change made by hand
 //! - `command_line`, `pool`: what a command line asks for, and points numbered
@@ -16,6 +18,7 @@
 
 mod board;
 mod body;
+mod canonical;
 mod change;
 mod command_line;
 mod core_steps;
@@ -24,19 +27,23 @@ mod document;
 mod fault_lines;
 mod faults;
 mod file;
+mod folder;
 mod locks;
 mod members;
 mod named;
 mod play;
 mod pool;
 mod prefixes;
+mod program;
 mod reader;
 mod replay;
 mod reply;
 mod run;
 mod scenario;
 mod scripts;
+mod seen;
 mod serve;
+mod served;
 mod shelves;
 mod steps;
 mod tokens;

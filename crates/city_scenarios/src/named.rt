@@ -16,12 +16,17 @@ pub fn meant<'t>(names: &'t [Named], line: &'t str) -> &'t [u8] {
     let Some(name) = line.strip_prefix("$") else {
         return line.as_bytes();
     };
+    text_named(names, name).unwrap_or(line.as_bytes())
+}
+
+/// The text of this name, if there is one.
+pub fn text_named<'t>(names: &'t [Named], name: &str) -> Option<&'t [u8]> {
     for named in names {
         if named.name == name {
-            return named.text.as_slice();
+            return Some(named.text.as_slice());
         }
     }
-    line.as_bytes()
+    None
 }
 
 /// The text of a name: the name stands in the first line, and each other line is a piece of the text.

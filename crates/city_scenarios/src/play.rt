@@ -1,16 +1,20 @@
 //! Which verb plays what.
 use crate::board::play_board;
 use crate::body::play_body;
+use crate::canonical::play_canonical;
 use crate::command_line::CommandLines;
 use crate::core_steps::play_core;
 use crate::crew::{Told, play_crews};
 use crate::document::play_document;
 use crate::faults::Faults;
 use crate::members::play_members;
+use crate::named::Named;
 use crate::prefixes::play_prefixes;
+use crate::program::play_program;
 use crate::run::play_run;
 use crate::scenario::Scenario;
 use crate::scripts::play_scripts;
+use crate::seen::SeenLines;
 use crate::serve::play_serve;
 use crate::shelves::play_shelves;
 use crate::steps::take_steps;
@@ -23,10 +27,11 @@ use std::alloc::Global;
 use std::sync::Wait;
 use std::thread::Threads;
 
-/// Plays a scenario's verb on its texts, and adds what it answers.
+/// Plays a scenario's verb on its texts, among those that have names, and adds what it answers.
 pub fn play<T: Threads + Wait + Sync>(
     rt: &T,
     alloc: Global,
+    names: &[Named],
     scenario: &Scenario,
     texts: &[&[u8]],
     answer: &mut Written,
@@ -35,6 +40,9 @@ pub fn play<T: Threads + Wait + Sync>(
     let lines = scenario.lines;
     match texts {
         texts if verb == "serve" => play_serve(rt, alloc, rest, texts, answer),
+        texts if verb == "cityed" => {
+            play_program(rt, alloc, names, scenario.verb, texts, answer)
+        }
         [] => play_alone(alloc, verb, lines, answer),
         [text] => play_text(alloc, verb, rest, text, lines, answer),
         [document, scripts] => {
@@ -51,6 +59,7 @@ fn play_alone(alloc: Global, verb: &str, lines: &str, answer: &mut Written) {
         "words" => take_steps(&mut CommandLines, alloc, lines, answer),
         "pool" => take_steps(&mut VertexPool::new(alloc), alloc, lines, answer),
         "faults" => take_steps(&mut Faults, alloc, lines, answer),
+        "seen" => take_steps(&mut SeenLines, alloc, lines, answer),
         _ => answer.add_line("no such verb without texts"),
     }
 }
@@ -69,6 +78,7 @@ fn play_text(
         "prefixes" => play_prefixes(alloc, false, text, answer),
         "scripts" => play_scripts(alloc, text, answer),
         "scriptprefixes" => play_prefixes(alloc, true, text, answer),
+        "canonical" => play_canonical(alloc, text, answer),
         "body" => play_body(alloc, text, answer),
         "members" => play_members(alloc, rest, text, answer),
         "tokens" => play_tokens(alloc, rest, text, answer),
@@ -89,14 +99,15 @@ fn play_run_verb<T: Threads + Wait + Sync>(
     answer: &mut Written,
 ) {
     let told = match verb {
-        "run" => return play_run(alloc, document, scripts, answer),
+        "run" => return play_run(rt, alloc, document, scripts, answer),
         "board" => return play_board(rt, alloc, rest, document, scripts, lines, answer),
         "shelves" => return play_shelves(rt, alloc, rest, document, scripts, lines, answer),
         "turns" => return play_turns(alloc, document, scripts, lines, answer),
         "crew" => Told::Bytes,
+        "decimals" => Told::Decimals,
         "replay" => Told::History,
         "model" => Told::Model,
-        "texts" => Told::Texts,
+        "texts" => Told::Lent,
         _ => return answer.add_line("no such verb of two texts"),
     };
     play_crews(rt, alloc, told, rest, document, scripts, answer)

@@ -10,6 +10,8 @@ pub struct Reads {
     interrupted: bool,
     /// After how many bytes it fails, if it does.
     breaks: Option<usize>,
+    /// After how many bytes it is out of memory, if it is.
+    starved: Option<usize>,
     /// Whether it gives spaces without end.
     endless: bool,
 }
@@ -25,6 +27,7 @@ impl Reads {
             },
             interrupted: words.contains("interrupted"),
             breaks: number_after(words, "breaks "),
+            starved: number_after(words, "starved "),
             endless: words.contains("endless"),
         }
     }
@@ -32,8 +35,13 @@ impl Reads {
 
 /// The number that stands behind a word.
 pub fn number_after(words: &str, word: &str) -> Option<usize> {
+    word_after(words, word)?.parse::<usize>().ok()
+}
+
+/// The word that stands behind a word.
+pub fn word_after<'t>(words: &'t str, word: &str) -> Option<&'t str> {
     let (_, rest) = words.split_once(word)?;
-    rest.split_whitespace().next()?.parse::<usize>().ok()
+    rest.split_whitespace().next()
 }
 
 /// A reader with habits.
@@ -48,7 +56,8 @@ pub struct Giving<'a> {
 impl<'a> Giving<'a> {
     /// A reader of these bytes.
     pub fn new(habits: Reads, bytes: &'a [u8]) -> Giving<'a> {
-        let most = habits.breaks.unwrap_or(usize::MAX).min(bytes.len());
+        let most = habits.breaks.or(habits.starved).unwrap_or(usize::MAX);
+        let most = most.min(bytes.len());
         Giving {
             habits,
             left: &bytes[..most],
@@ -69,9 +78,10 @@ impl Read for Giving<'_> {
             return Ok(buf.len());
         }
         if self.left.is_empty() {
-            return match self.habits.breaks {
-                Some(_) => Err(io::Error::other("broken")),
-                None => Ok(0),
+            return match (self.habits.breaks, self.habits.starved) {
+                (Some(_), _) => Err(io::Error::other("broken")),
+                (None, Some(_)) => Err(io::Error::from(ErrorKind::OutOfMemory)),
+                (None, None) => Ok(0),
             };
         }
         let count = buf.len().min(self.habits.at_a_time).min(self.left.len());

@@ -10,6 +10,7 @@ ghost use Rattle.city_model.specs.Runs.{after_change};
 ghost use Rattle.city_model.specs.Scripts.{is_end, is_mark};
 
 use city_desk::{output_bytes, read_texts};
+use city_doc::FIXED_SEED;
 use city_model::OutOfMemory;
 use city_model::city::City;
 use city_model::command::{Cause, Command, Reply};
@@ -250,7 +251,7 @@ fn replay_scripts(
         }
         again.push(end_again(alloc, city, scripts, end)?).ok()?;
     }
-    output_bytes(alloc, city, again.as_slice(), 0).ok()
+    output_bytes(alloc, FIXED_SEED, city, again.as_slice(), 0).ok()
 }
 
 /// Whether the scripts of these ends give these bytes when they are played one at a time in this order: the report, then

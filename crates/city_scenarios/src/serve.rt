@@ -29,7 +29,7 @@ pub fn play_serve<T: Threads + Wait + Sync>(
 }
 
 /// The texts with a newline between two.
-fn joined(alloc: Global, texts: &[&[u8]]) -> Result<Vec<u8>, OutOfMemory> {
+pub fn joined(alloc: Global, texts: &[&[u8]]) -> Result<Vec<u8>, OutOfMemory> {
     let mut all = Written::new(alloc);
     for (number, text) in texts.iter().enumerate() {
         all.add(if number == 0 { "" } else { "\n" });

@@ -7,6 +7,7 @@ use crate::fault_lines::add_run_fault;
 use crate::steps::{TakesSteps, take_steps};
 use crate::written::Written;
 use city_desk::{Desk, ListShelf, Turn, output_bytes, read_texts};
+use city_doc::FIXED_SEED;
 use city_model::OutOfMemory;
 use city_model::change::Change;
 use city_model::city::City;
@@ -62,7 +63,7 @@ fn add_closed(alloc: Global, desk: Desk<ListShelf>, answer: &mut Written) {
 
 /// Adds a report and a model, and what each change sets and takes out.
 fn add_left(alloc: Global, city: &City, ends: &[End], shelf: &ListShelf, answer: &mut Written) {
-    match output_bytes(alloc, city, ends, 0) {
+    match output_bytes(alloc, FIXED_SEED, city, ends, 0) {
         Ok(bytes) => answer.add_bytes(bytes.as_slice()),
         Err(OutOfMemory) => answer.run_out(),
     }

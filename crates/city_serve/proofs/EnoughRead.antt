@@ -1,8 +1,7 @@
 -- What is read of a text is the whole of it, or shows that it is too long.
-use Rattle.std.proofs.Common.{◌≡◌, ℕ, ◌+◌, ◌<◌, ◌≤◌, Bool, true, false, List, length, take, Option, Some, None, IfSome}
-use Rattle.std.proofs.Common.{nat_lt, inl, inr, refl, ap, ◌∙◌, arith}
-use Rattle.std.proofs.lemmas.Bool.Decides.{nat_tests}
-use Rattle.std.proofs.lemmas.List.{take_all, length-take-le}
+use Rattle.city_serve.proofs.Prelude.{◌≡◌, ℕ, ◌+◌, ◌<◌, ◌≤◌, Bool, true, false, List, length, take, Option, Some, None}
+use Rattle.city_serve.proofs.Prelude.{IfSome, nat_lt, inl, inr, refl, ap, ◌∙◌, arith, nat_tests, take_all}
+use Rattle.std.proofs.lemmas.List.{length-take-le}
 use Rattle.city_tokens.specs.tree.Texts.{max_text}
 use Rattle.city_serve.specs.ServedTexts.{IsEnoughOf}
 

@@ -1,20 +1,17 @@
 -- What clap finds in a line of options and names: the values of both options, whether the third is given, and the
 -- first two names, the model's and the scripts'. A third name is refused.
-use Rattle.std.proofs.Common.{◌≡◌, Bool, true, false, cond, List, [], ◌∷◌, ◌++◌, append-nil, inl, inr, Option, Some}
-use Rattle.std.proofs.Common.{None, is_some, refl, sym, subst, ap, ap₂, ◌∙◌, codes}
-use Rattle.std.specs.Prelude.{drop, fold, option_and_then, option_map, slice_get, take}
-use Rattle.std.specs.Str.{bytes_eq}
-use Rattle.clap.specs.Walk.{Row, Text, Walk, finished, first_of, nothing_held, one_of, row_text, rows_after, settled}
-use Rattle.clap.specs.Walk.{walk, walk_from, with_default, with_values}
-use Rattle.clap.specs.Simple.{App, built, entered, filled, with_index}
-use Rattle.clap.specs.Kinds.{Kinds, or_else}
-use Rattle.clap.specs.Faults.{built_fault, check_fault, defaults_fault, entered_fault, settle_fault, walk_fault}
-use Rattle.clap.specs.declared.builder.value_parser.Reading.TheVariants.{AsWritten}
-use Rattle.clap.specs.declared.error.kind.ErrorKind.TheVariants.{UnknownArgument}
+use Rattle.city_serve.proofs.Prelude.{◌≡◌, Bool, true, false, cond, List, [], ◌∷◌, ◌++◌, append-nil, inl, inr, Option}
+use Rattle.city_serve.proofs.Prelude.{Some, None, is_some, refl, sym, subst, ap, ap₂, ◌∙◌, codes, fold, option_and_then}
+use Rattle.city_serve.proofs.Prelude.{slice_get, bytes_eq, Row, Text, Walk, first_of, nothing_held, one_of, settled}
+use Rattle.city_serve.proofs.Prelude.{walk_from, with_default, with_values, built, Kinds, or_else, settle_fault}
+use Rattle.city_serve.proofs.Prelude.{AsWritten, UnknownArgument, IsLineOf, ends, gives_decimals, gives_name}
+use Rattle.city_serve.proofs.Prelude.{cityed_command, gives_watch, gives_workers}
+use Rattle.std.specs.Prelude.{drop, option_map, take}
+use Rattle.clap.specs.Walk.{finished, row_text, rows_after, walk}
+use Rattle.clap.specs.Simple.{App, entered, filled, with_index}
+use Rattle.clap.specs.Faults.{built_fault, check_fault, defaults_fault, entered_fault, walk_fault}
 use Rattle.clap.specs.declared.parser.matches.ValueSource.TheVariants.{DefaultValue}
-use Rattle.city_serve.specs.CommandLines.{IsLineOf, ends, gives_decimals, gives_name}
-use Rattle.city_serve.specs.inside.CommandShape.{cityed_command, flag_rule}
-use Rattle.city_serve.specs.CommandLines.{gives_watch, gives_workers}
+use Rattle.city_serve.specs.inside.CommandShape.{flag_rule}
 use Rattle.city_serve.proofs.GivenOptions.{Ends, Place, flag_row, is_over, line_goes, model_next, none_next, rows_in}
 use Rattle.city_serve.proofs.GivenOptions.{rules, scripts_next, stands, text_row, top}
 use Rattle.city_serve.proofs.Rows.{AreDistinct, behind_is, defaults_right, distinct_fresh, found, found_before}

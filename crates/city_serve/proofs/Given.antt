@@ -1,21 +1,16 @@
 -- What a run on encoded texts says of the texts.
-use Rattle.std.proofs.Common.{◌≡◌, ◌≤◌, ◌<◌, ℕ, List, [], ◌∷◌, Bool, true, false, Option, Some, None, inl, inr, refl}
-use Rattle.std.proofs.Common.{sym, ap, ap₂, ◌∙◌, subst, arith}
-use Rattle.std.specs.Prelude.{◌≢◌, ◌⊎◌, ◌&&◌, option_and_then, is_some}
-use Rattle.std.specs.Str.{IsUtf8}
+use Rattle.city_serve.proofs.Prelude.{◌≡◌, ℕ, List, [], ◌∷◌, Bool, true, false, Option, Some, None, inl, inr, refl, sym}
+use Rattle.city_serve.proofs.Prelude.{ap, ap₂, ◌∙◌, subst, arith, option_and_then, AreDecodedLines, End}
+use Rattle.std.specs.Prelude.{◌&&◌}
 use Rattle.json.specs.Token.{Token}
 use Rattle.json.specs.Lex.{tokens}
 use Rattle.json.specs.Json.{Json, value, if_last, document}
-use Rattle.json.specs.Json as json
 use Rattle.json.proofs.Nesting.{value-depth}
 use Rattle.json.proofs.Printed.Trees.{value-json_tokens}
 use Rattle.json.proofs.Unique.Spelling.{value-json_tokens_back}
 use Rattle.serde_json.specs.Data.{Data, null, boolean, number, string, array, object, Items, no_items, item, Members}
 use Rattle.serde_json.specs.Data.{no_members, member}
 use Rattle.serde_json.specs.Read.{read, of_json}
-use Rattle.serde_json.specs.Read as serde
-use Rattle.city_model.specs.Integral as model
-use Rattle.city_decimals.specs.Whole as decimals
 use Rattle.city_doc.specs.declared.fault.ReadFault.{ReadFault}
 use Rattle.city_doc.specs.declared.fault.ScriptFault.{ScriptFault}
 use Rattle.city_tokens.specs.tree.Texts.{HasTree}
@@ -26,11 +21,13 @@ use Rattle.city_desk.specs.declared.fault.RunFault.{RunFault}
 use Rattle.city_desk.specs.RunFaults.{IsRunFault}
 use Rattle.city_serve.specs.ServedTexts.{IsFaultOfRun}
 use Rattle.city_desk.specs.TextRuns.{IsRun}
-use Rattle.city_decimals.specs.Lines.{AreDecodedLines}
-use Rattle.city_model.specs.declared.end.End.{End}
-use Rattle.city_serve.specs.Decimals.{IsGiven, IsReadEncoded, IsRefusedText, IsOfWholeNumbers}
+use Rattle.city_serve.specs.Decimals.{IsGiven, IsReadEncoded, IsRefusedText, IsOfWholeNumbers, IsDecimalsRun}
+use Rattle.city_serve.specs.Decimals.{IsFaultOfDecimalsRun}
 use Rattle.city_serve.specs.inside.WholeTexts.{HasWholeNumbers}
-use Rattle.city_serve.specs.Decimals.{IsDecimalsRun, IsFaultOfDecimalsRun}
+use Rattle.json.specs.Json as json
+use Rattle.serde_json.specs.Read as serde
+use Rattle.city_model.specs.Integral as model
+use Rattle.city_decimals.specs.Whole as decimals
 
 -- a text that is read has a value
 abbrev last : Option (Json × List Token) → Option Json

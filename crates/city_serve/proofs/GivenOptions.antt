@@ -1,26 +1,21 @@
 -- What clap holds as it goes over a line of options and names.
-use Rattle.std.proofs.Common.{◌≡◌, ℕ, Bool, true, false, ◌&&◌, List, [], ◌∷◌, ◌++◌, Option, Some, None, refl}
-use Rattle.std.proofs.Common.{ap, ap₂, ◌∙◌, codes, arith}
-use Rattle.std.specs.Prelude.{◌==◌, ◌≢◌, if◌then◌else◌, fold, option_and_then}
-use Rattle.std.specs.Option.{option_map_or}
-use Rattle.std.specs.Str.{bytes_eq}
-use Rattle.clap.specs.Lexer.{long_of, long_of_rest, short_of, short_of_rest, strip_byte}
-use Rattle.std.proofs.lemmas.Bool.{false_from_ne_true}
-use Rattle.std.proofs.lemmas.Bool.Decides.{nat_tests}
+use Rattle.city_serve.proofs.Prelude.{◌≡◌, ℕ, Bool, true, false, ◌&&◌, List, [], ◌∷◌, ◌++◌, Option, Some, None, refl}
+use Rattle.city_serve.proofs.Prelude.{ap, ap₂, ◌∙◌, codes, arith, ◌≢◌, if◌then◌else◌, fold, option_and_then}
+use Rattle.city_serve.proofs.Prelude.{option_map_or, bytes_eq, long_of, false_from_ne_true, nat_tests, Held, Row, Rule}
+use Rattle.city_serve.proofs.Prelude.{Text, Walk, has_row, idle, settled, walk_from, with_values, without, built, Kinds}
+use Rattle.city_serve.proofs.Prelude.{or_else, flag_word_fault, settle_fault, step_fault, AsWritten, UnknownArgument}
+use Rattle.city_serve.proofs.Prelude.{IsLineOf, IsName, ends, gives_decimals, gives_name, cityed_command, gives_watch}
+use Rattle.city_serve.proofs.Prelude.{gives_workers}
+use Rattle.std.specs.Prelude.{◌==◌}
+use Rattle.clap.specs.Lexer.{long_of_rest, short_of, short_of_rest, strip_byte}
 use Rattle.clap.proofs.OnLiterals.{clap_on_literals}
-use Rattle.clap.specs.Walk.{Held, Row, Rule, Step, Text, Waiting, Walk, after_step, arg_by_id, arg_by_index, has_row}
-use Rattle.clap.specs.Walk.{idle, long_or_other, option, option_word, plain_word, pushed, settled, short_or_plain}
-use Rattle.clap.specs.Walk.{subcommand_or_other, to_positional, trailing, value, walk_from, walked, with_values}
-use Rattle.clap.specs.Walk.{without}
-use Rattle.clap.specs.Simple.{Shape, built}
-use Rattle.clap.specs.Kinds.{Kinds, or_else}
-use Rattle.clap.specs.Faults.{bundle_fault, flag_word_fault, settle_fault, step_fault, turn_fault, walk_fault}
-use Rattle.clap.specs.declared.builder.value_parser.Reading.TheVariants.{AsWritten}
-use Rattle.clap.specs.declared.error.kind.ErrorKind.TheVariants.{ArgumentConflict, UnknownArgument}
+use Rattle.clap.specs.Walk.{Step, Waiting, after_step, arg_by_id, arg_by_index, long_or_other, option, option_word}
+use Rattle.clap.specs.Walk.{plain_word, pushed, short_or_plain, subcommand_or_other, to_positional, trailing, value}
+use Rattle.clap.specs.Walk.{walked}
+use Rattle.clap.specs.Simple.{Shape}
+use Rattle.clap.specs.Faults.{bundle_fault, turn_fault, walk_fault}
+use Rattle.clap.specs.declared.error.kind.ErrorKind.TheVariants.{ArgumentConflict}
 use Rattle.clap.specs.declared.parser.matches.ValueSource.TheVariants.{CommandLine}
-use Rattle.city_serve.specs.CommandLines.{IsLineOf, IsName, ends, gives_decimals, gives_name}
-use Rattle.city_serve.specs.inside.CommandShape.{cityed_command}
-use Rattle.city_serve.specs.CommandLines.{gives_watch, gives_workers}
 use Rattle.city_serve.proofs.Rows.{AreFresh, behind, not_both, row_by, used_fresh}
 
 abbrev pub top : Shape

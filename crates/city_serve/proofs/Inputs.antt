@@ -1,10 +1,10 @@
 -- The parts of an input round its first newline.
-use Rattle.std.proofs.Common.{◌≡◌, ℕ, ◌+◌, ◌-◌, ◌≤◌, ◌<◌, Bool, true, false, cond, List, [], length, take, drop, Option}
-use Rattle.std.proofs.Common.{Some, None, nat_lt, refl, ap, sym, ◌∙◌, arith, length-drop}
+use Rattle.city_serve.proofs.Prelude.{◌≡◌, ℕ, ◌+◌, ◌-◌, ◌≤◌, ◌<◌, Bool, true, false, cond, List, [], length, take, drop}
+use Rattle.city_serve.proofs.Prelude.{Option, Some, None, nat_lt, refl, ap, sym, ◌∙◌, arith, length-drop}
+use Rattle.city_serve.proofs.Prelude.{position_or_len, nat_tests, take_all}
 use Rattle.std.specs.Prelude.{position}
-use Rattle.std.specs.List.{position_or_len, before_first, after_first}
-use Rattle.std.proofs.lemmas.Bool.Decides.{nat_tests}
-use Rattle.std.proofs.lemmas.List.{take_all, drop_all}
+use Rattle.std.specs.List.{before_first, after_first}
+use Rattle.std.proofs.lemmas.List.{drop_all}
 use Rattle.std.proofs.lemmas.List.Sums.{position_or_len_is}
 use Rattle.memchr.specs.Find.{IsFirstByte}
 

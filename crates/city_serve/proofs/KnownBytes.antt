@@ -1,9 +1,11 @@
 -- Known bytes that are read or written part by part.
-use Rattle.std.proofs.Common.{◌≡◌, ◌≤◌, ◌+◌, ◌-◌, ℕ, List, ◌++◌, length, take, drop, Option, Some, None, IfSome, sym}
-use Rattle.std.proofs.Common.{ap, subst, ◌∙◌, append_assoc, append-nil, arith, length-append, length-drop}
-use Rattle.std.proofs.lemmas.List.{length-take, take-append-drop, take-append-le, take_all}
-use Rattle.std.specs.Io.KnownBytes.{Appends, Consumes, IsAtEnd, Keeps}
-use Rattle.city_serve.specs.ServedTexts.{LosesAtMost, AppendsSome}
+use Rattle.city_serve.proofs.Prelude.{◌≡◌, ◌≤◌, ◌+◌, ◌-◌, ℕ, List, ◌++◌, length, take, drop, Option, Some, None, IfSome}
+use Rattle.city_serve.proofs.Prelude.{sym, ap, subst, ◌∙◌, append_assoc, append-nil, arith, length-drop, length-take}
+use Rattle.city_serve.proofs.Prelude.{take_all, Appends, Consumes, Keeps, AppendsSome}
+use Rattle.std.proofs.Common.{length-append}
+use Rattle.std.proofs.lemmas.List.{take-append-drop, take-append-le}
+use Rattle.std.specs.Io.KnownBytes.{IsAtEnd}
+use Rattle.city_serve.specs.ServedTexts.{LosesAtMost}
 
 -- ---- writing
 

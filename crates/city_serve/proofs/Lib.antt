@@ -5,6 +5,8 @@ pub mod GivenOptions
 pub mod Inputs
 pub mod KnownBytes
 pub mod LineAnswers
-pub mod Options
+pub mod OtherOptions
+pub mod Prelude
 pub mod Rows
 mod Serving
+mod Telling

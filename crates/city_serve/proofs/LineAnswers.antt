@@ -1,22 +1,18 @@
 -- What the program answers to options and names, by what clap made of them.
-use Rattle.std.proofs.Common.{◌≡◌, ◌⊎◌, ℕ, Bool, suc, true, false, true≢false, List, [], ◌∷◌, Option, Some, None}
-use Rattle.std.proofs.Common.{Result, Ok, Err, inl, inr, refl, sym, subst, ap, ◌∙◌, arith, codes}
-use Rattle.std.specs.Prelude.{◌≤◌, IfOk, IsErr, slice_get}
-use Rattle.std.specs.List.{All}
-use Rattle.std.specs.Option.{option_map_or}
+use Rattle.city_serve.proofs.Prelude.{◌≡◌, ◌⊎◌, ℕ, Bool, true, false, true≢false, List, [], ◌∷◌, Option, Some, None}
+use Rattle.city_serve.proofs.Prelude.{inl, inr, refl, sym, subst, ap, ◌∙◌, arith, codes, IsErr, slice_get, All}
+use Rattle.city_serve.proofs.Prelude.{option_map_or, Text, first_of, one_of, IsAmong, Kinds, OutOfMemory}
+use Rattle.city_serve.proofs.Prelude.{UnknownArgument, ErrorKind, IsLineOf, IsName, IsWantOfMemory, ends, gives_name}
+use Rattle.city_serve.proofs.Prelude.{Asked}
+use Rattle.std.proofs.Common.{suc, Result, Ok, Err}
+use Rattle.std.specs.Prelude.{◌≤◌, IfOk}
 use Rattle.std.specs.Result.{IsErrAnd}
-use Rattle.clap.specs.Walk.{Text, first_of, one_of}
-use Rattle.clap.specs.Kinds.{IsAmong, Kinds}
-use Rattle.clap.specs.declared.error.kind.ErrorKind.TheVariants.{OutOfMemory, UnknownArgument}
-use Rattle.clap.specs.declared.error.kind.ErrorKind.{ErrorKind}
 use Rattle.city_crew.specs.Limits.{max_workers, max_viewers}
-use Rattle.city_serve.specs.CommandLines.{AnswersNames, AnswersOptions, AreOptionsOf, AreWithin}
+use Rattle.city_serve.specs.CommandLines.{AnswersNames, AnswersOptions, AreOptionsOf, HasOptions, IsCount}
 use Rattle.city_serve.specs.inside.CommandShape.{AnswersPlaces}
-use Rattle.city_serve.specs.CommandLines.{HasOptions, IsCount, IsLineOf, IsName, IsWantOfMemory, ends, gives_name}
-use Rattle.city_serve.specs.CommandLines.{plain_options}
-use Rattle.city_serve.specs.declared.command_line.Asked.{Asked}
+use Rattle.city_serve.specs.RunOptions.{AreWithin, plain_options}
 use Rattle.city_serve.specs.declared.command_line.LineFault.{LineFault}
-use Rattle.city_serve.specs.declared.command_line.Options.{Options}
+use Rattle.city_serve.specs.declared.options.Options.{Options}
 use Rattle.city_serve.proofs.FoundOptions.{Finds, Parses, fault, flag_text, line_parses, rows}
 use Rattle.city_serve.proofs.GivenOptions.{is_over, model_next}
 

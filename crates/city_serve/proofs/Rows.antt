@@ -1,14 +1,12 @@
 -- Rows that clap holds: one of a new id stands behind the others, which are found as before.
-use Rattle.std.proofs.Common.{◌≡◌, Bool, true, false, true≢false, cond, ◌&&◌, ◌||◌, ◌⊎◌, inl, inr, List, [], ◌∷◌}
-use Rattle.std.proofs.Common.{◌++◌, append-nil, append_assoc, Option, Some, None, is_some, refl, sym, subst, ap, ap₂}
-use Rattle.std.proofs.Common.{◌∙◌}
-use Rattle.std.specs.Prelude.{find, fold}
-use Rattle.std.specs.Str.{bytes_eq}
-use Rattle.std.proofs.lemmas.Bool.{false_from_ne_true, or_parts, or_right}
-use Rattle.std.proofs.lemmas.Slice.Eq.{bytes_eq-Decides}
-use Rattle.clap.specs.Walk.{Row, Rule, Text, at_row, default_rows, has_row, is_empty, more_values, reading_by}
-use Rattle.clap.specs.Walk.{with_default, with_values, without}
-use Rattle.clap.specs.Kinds.{or_else}
+use Rattle.city_serve.proofs.Prelude.{◌≡◌, Bool, true, false, true≢false, cond, ◌&&◌, ◌⊎◌, inl, inr, List, [], ◌∷◌}
+use Rattle.city_serve.proofs.Prelude.{◌++◌, append-nil, append_assoc, Option, Some, None, is_some, refl, sym, subst, ap}
+use Rattle.city_serve.proofs.Prelude.{ap₂, ◌∙◌, fold, bytes_eq, false_from_ne_true, bytes_eq-Decides, Row, Rule, Text}
+use Rattle.city_serve.proofs.Prelude.{has_row, with_default, with_values, without, or_else}
+use Rattle.std.proofs.Common.{◌||◌}
+use Rattle.std.specs.Prelude.{find}
+use Rattle.std.proofs.lemmas.Bool.{or_parts, or_right}
+use Rattle.clap.specs.Walk.{at_row, default_rows, is_empty, more_values, reading_by}
 use Rattle.clap.specs.Faults.{default_fault, defaults_fault, given_default_fault}
 use Rattle.clap.specs.declared.parser.matches.ValueSource.{ValueSource}
 use Rattle.clap.specs.declared.builder.value_parser.Reading.{Reading}

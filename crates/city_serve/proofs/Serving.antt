@@ -1,17 +1,13 @@
 -- What is written of a run is served of its texts; and what holds of two texts holds of the two parts of an input,
 -- where
 -- they are the parts of what was read of it.
-use Rattle.std.proofs.Common.{◌≡◌, ℕ, List, Bool, true, Option, Some, None, IfSome, sym, subst}
-use Rattle.std.specs.Global.{Vec}
-use Rattle.std.specs.Io.KnownBytes.{Appends}
-use Rattle.city_model.specs.declared.end.End.{End}
+use Rattle.city_serve.proofs.Prelude.{◌≡◌, ℕ, List, Bool, true, Option, Some, None, IfSome, sym, subst, Vec, Appends}
+use Rattle.city_serve.proofs.Prelude.{End, ServeFault, AppendsSome, AreServedBy, document_part}
 use Rattle.city_model.specs.SerialEnds.{commits_in}
 use Rattle.city_desk.specs.InTurn.{AreInTurn}
 use Rattle.city_crew.specs.Seen.{AreSeen}
-use Rattle.city_serve.specs.declared.fault.ServeFault.{ServeFault}
-use Rattle.city_serve.specs.ServedTexts.{Written, Faults, AppendsSome, WhereAlone, AreServedBy, AreCutShortBy}
-use Rattle.city_serve.specs.ServedTexts.{IsTextsFaultBy}
-use Rattle.city_serve.specs.Served.{read_of, document_part, scripts_part, IsServeFaultBy}
+use Rattle.city_serve.specs.ServedTexts.{Written, Faults, WhereAlone, AreCutShortBy, IsTextsFaultBy}
+use Rattle.city_serve.specs.Served.{read_of, scripts_part, IsServeFaultBy}
 
 -- a reader that tells no bytes promises nothing of them
 of_known : (P : List ℕ → Type 0) (input : Option (List ℕ)) (read : List ℕ) → IfSome input (λ all. read ≡ read_of all)

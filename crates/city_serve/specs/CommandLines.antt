@@ -1,5 +1,5 @@
 -- What the words of a command line ask for.
-use Rattle.std.specs.Prelude.{◌≡◌, ◌≢◌, ◌⊎◌, ◌≤◌, ⊤, ℕ, Bool, true, false, List, [], ◌∷◌, ◌++◌, codes, slice_get, All}
+use Rattle.std.specs.Prelude.{◌≡◌, ◌≢◌, ◌⊎◌, ⊤, ℕ, Bool, true, false, List, [], ◌∷◌, ◌++◌, codes, slice_get, All}
 use Rattle.std.specs.Prelude.{Option, Some, None, Result, Ok, Err, IsErr}
 use Rattle.std.specs.Result.{IsOkAnd}
 use Rattle.std.specs.Str.Parse.{digits_value, without_leading_plus}
@@ -8,7 +8,8 @@ use Rattle.clap.specs.Lexer.{long_of}
 use Rattle.city_crew.specs.Limits.{max_workers, max_viewers}
 use Rattle.city_serve.specs.declared.command_line.Asked.{Asked}
 use Rattle.city_serve.specs.declared.command_line.LineFault.{LineFault}
-use Rattle.city_serve.specs.declared.command_line.Options.{Options}
+use Rattle.city_serve.specs.declared.options.Options.{Options}
+use Rattle.city_serve.specs.RunOptions.{AreWithin}
 
 -- the word is no option: it doesn't begin with a hyphen
 abbrev pub IsName : List ℕ → Type 0
@@ -25,14 +26,6 @@ abbrev pub AreOptionsOf : Option (List ℕ) → Option (List ℕ) → Bool → O
 AreOptionsOf workers watch decimals options =
     IsCount 1 max_workers workers options.workers × IsCount 0 max_viewers watch options.viewers
     × (options.decimals ≡ decimals)
-
--- those of a command line without options
-abbrev pub plain_options : Options
-plain_options = record { workers = 1; viewers = 0; decimals = false }
-
--- a run may have such options
-abbrev pub AreWithin : Options → Type 0
-AreWithin options = (1 ≤ options.workers) × (options.workers ≤ max_workers) × (options.viewers ≤ max_viewers)
 
 -- what is asked for is a text, or a run with such options
 abbrev pub HasOptions : Asked → Type 0

@@ -1,6 +1,5 @@
 -- What is written for two texts whose numbers are of any form: they are encoded, and the output of a run is decoded.
-use Rattle.std.specs.Prelude.{◌≡◌, ◌≢◌, ◌⊎◌, ℕ, Bool, List, Option, None}
-use Rattle.std.specs.Global.{Vec}
+use Rattle.std.specs.Prelude.{◌≡◌, ◌≢◌, ◌⊎◌, ℕ, Bool, true, false, List, None}
 use Rattle.std.specs.Str.{IsUtf8}
 use Rattle.json.specs.Json.{document}
 use Rattle.city_model.specs.declared.end.End.{End}
@@ -11,9 +10,7 @@ use Rattle.city_decimals.specs.Texts.{IsEncoded}
 use Rattle.city_decimals.specs.Lines.{AreDecodedLines}
 use Rattle.city_desk.specs.declared.fault.RunFault.{RunFault}
 use Rattle.city_desk.specs.TextRuns.{IsRun}
-use Rattle.city_serve.specs.declared.fault.ServeFault.{ServeFault}
-use Rattle.city_serve.specs.ServedTexts.{AreServedBy, IsFaultOfRun, IsTextsFaultBy}
-use Rattle.city_serve.specs.Served.{IsServedBy, IsServeFaultBy}
+use Rattle.city_serve.specs.ServedTexts.{Written, Faults, IsFaultOfRun}
 
 -- ---- what the run is given
 
@@ -59,19 +56,14 @@ abbrev pub IsFaultOfDecimalsRun : List ℕ → List ℕ → ℕ → ℕ → RunF
 IsFaultOfDecimalsRun document scripts workers viewers f =
     (f ≡ RunFault.OutOfMemory) ⊎ IsFaultOnGiven document scripts workers viewers f
 
--- ---- what is served
+-- ---- by the options
 
-abbrev pub AreServedDecimals
-    : List ℕ → List ℕ → ℕ → ℕ → List (Vec ℕ) → Option (List ℕ) → Option (List ℕ) → Type 0
-AreServedDecimals = AreServedBy IsDecimalsRun
+-- what is written of two texts where numbers of any form are taken, and where they are whole
+abbrev pub written_by : Bool → Written
+written_by true = IsDecimalsRun
+written_by false = IsRun
 
-abbrev pub IsDecimalsTextsFault
-    : List ℕ → List ℕ → ℕ → ℕ → Option (List ℕ) → Option (List ℕ) → Bool → ServeFault → Type 0
-IsDecimalsTextsFault = IsTextsFaultBy IsDecimalsRun IsFaultOfDecimalsRun
-
-abbrev pub IsServedDecimals : List ℕ → ℕ → ℕ → List (Vec ℕ) → Option (List ℕ) → Option (List ℕ) → Type 0
-IsServedDecimals = IsServedBy IsDecimalsRun
-
-abbrev pub IsServeDecimalsFault
-    : Option (List ℕ) → ℕ → ℕ → Bool → Option (List ℕ) → Option (List ℕ) → Bool → ServeFault → Type 0
-IsServeDecimalsFault = IsServeFaultBy IsDecimalsRun IsFaultOfDecimalsRun
+-- the faults of a run on them
+abbrev pub faults_by : Bool → Faults
+faults_by true = IsFaultOfDecimalsRun
+faults_by false = IsFaultOfRun

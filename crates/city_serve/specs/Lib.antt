@@ -1,6 +1,8 @@
 pub mod CommandLines
 pub mod Decimals
 pub mod FaultTexts
+pub mod Programs
+pub mod RunOptions
 pub mod SeenTexts
 pub mod Served
 pub mod ServedTexts

@@ -2,12 +2,14 @@
 ghost use Rattle.std.specs.Prelude.{◌≡◌, ◌≢◌, ◌⊎◌, ◌≤◌, ◌∷◌, ℕ, Bool, false, List, Option, Some, None, Ok, Err};
 ghost use Rattle.std.specs.Prelude.{All, drop, map, option_map, string_bytes, IfOk, IsErr, MatchOption, MatchResult};
 ghost use Rattle.clap.specs.Words.{app_of, kind_of, rule_of};
-ghost use Rattle.city_serve.specs.CommandLines.{plain_options, IsName, IsLineOf, AnswersNames, AnswersOptions};
+ghost use Rattle.city_serve.specs.RunOptions.{plain_options};
+ghost use Rattle.city_serve.specs.CommandLines.{IsName, IsLineOf, AnswersNames, AnswersOptions};
 ghost use Rattle.city_serve.specs.CommandLines.{AreOptionsOf, AsksForText, HasOptions, IsCount, IsShown};
 ghost use Rattle.city_serve.specs.CommandLines.{MeetsUnknownOption};
 ghost use Rattle.city_serve.specs.inside.CommandShape.{cityed_command, files_command, flag_rule, option_rule};
 ghost use Rattle.city_serve.specs.inside.CommandShape.{AnswersPlaces};
 
+use crate::options::Options;
 use city_crew::{MAX_VIEWERS, MAX_WORKERS};
 use city_model::OutOfMemory;
 use clap::error::ErrorKind;
@@ -55,17 +57,6 @@ Status:
   1  the input was refused, memory ran out, or reading or writing failed; see standard error
   2  the command line isn't understood: standard error says what is wrong
 A script that is refused ends as \"refused\" in its line, and the status is 0.";
-
-/// How a run is done: by how many workers, before how many viewers, and with which numbers.
-#[derive(Clone, Copy)]
-pub struct Options {
-    /// From 1 to `MAX_WORKERS`.
-    pub workers: usize,
-    /// From 0 to `MAX_VIEWERS`.
-    pub viewers: usize,
-    /// Whether numbers of any form are taken, and given back as they were written.
-    pub decimals: bool,
-}
 
 /// What a command line asks for.
 #[derive(Drop)]

@@ -1,5 +1,5 @@
-//! Reads a text from a file.
-ghost use Rattle.std.specs.Prelude.{◌≡◌, ◌+◌, true, take, IfOk, IfErr, IfSome, OnOk};
+//! Texts from files.
+ghost use Rattle.std.specs.Prelude.{◌≡◌, ◌+◌, ℕ, true, take, List, Option, None, IfOk, IfErr, IfSome, OnOk};
 ghost use Rattle.city_tokens.specs.tree.Texts.{max_text};
 ghost use Rattle.city_serve.specs.Served.{IsDeviceFault};
 ghost use Rattle.city_serve.specs.ServedTexts.{IsEnoughOf, LosesAtMost};
@@ -17,6 +17,36 @@ use std::io::{ErrorKind, Read};
 /// The most bytes that are read of a text: one more than it may have, so that a text that is
 /// too long is noticed.
 const MOST: usize = MAX_TEXT + 1;
+
+/// What has texts by their paths.
+pub trait TextFiles {
+    /// The text that a read of a path gives, where it is known.
+    ghost text: { Self → List ℕ → Option (List ℕ) } = { λ _ _. None };
+
+    /// The text that a file has, or where it is too long its first `MAX_TEXT` + 1 bytes.
+    fn read(&self, path: &str) -> Result<Vec<u8>, ServeFault>
+        ensures read { IfOk result (λ v. IfSome (text self.now path.now) (λ all. v.items ≡ all)) }
+        ensures fault { IfErr result (IsDeviceFault true) };
+}
+
+/// The files of a runtime.
+#[derive(Drop)]
+pub struct RuntimeFiles<'a, R> {
+    rt: &'a R,
+}
+
+impl<'a, R> RuntimeFiles<'a, R> {
+    /// The files of this runtime.
+    pub fn new(rt: &'a R) -> RuntimeFiles<'a, R> {
+        RuntimeFiles { rt }
+    }
+}
+
+impl<R: Files + AllocGlobal> TextFiles for RuntimeFiles<'_, R> {
+    fn read(&self, path: &str) -> Result<Vec<u8>, ServeFault> {
+        read_file(self.rt, path)
+    }
+}
 
 /// The text that a file has, or where it is too long its first `MAX_TEXT` + 1 bytes.
 ///

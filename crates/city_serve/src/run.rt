@@ -1,75 +1,76 @@
-//! Runs a text of scripts by as many workers as are asked for.
-ghost use Rattle.std.specs.Prelude.{◌≡◌, ◌≤◌, IfOk, IfErr};
+//! Runs a text of scripts by as many workers, before as many viewers, and with such numbers as are asked for.
+ghost use Rattle.std.specs.Prelude.{IfOk, IfErr};
 ghost use Rattle.city_model.specs.SerialEnds.{commits_in};
-ghost use Rattle.city_crew.specs.Limits.{max_workers, max_viewers};
 ghost use Rattle.city_crew.specs.Seen.{AreSeen};
 ghost use Rattle.city_desk.specs.InTurn.{AreInTurn};
 ghost use Rattle.city_desk.specs.TextRuns.{IsRun};
+ghost use Rattle.city_serve.specs.RunOptions.{AreWithin};
 ghost use Rattle.city_serve.specs.ServedTexts.{IsFaultOfRun, WhereAlone};
+ghost use Rattle.city_serve.specs.Decimals.{written_by, faults_by};
 
-use city_crew::{Gate, OpenGate, run_crew};
-use city_desk::{Output, RunFault, read_texts, run_read, run_serial_to_city};
+use crate::decimals::run_decimals;
+use crate::options::Options;
+use city_crew::{Gate, run_seeded};
+use city_desk::{Output, RunFault, read_texts, run_read};
 use std::alloc::Global;
 use std::mem::forget;
 use std::sync::Wait;
 use std::thread::Threads;
 
-/// Runs the scripts on the document's city: one worker without viewers needs no thread beside its own, and passes no
-/// gate.
+/// Runs the scripts on the document's city, through a gate. Every run that is served goes this way.
 pub(crate) fn run<R: Threads + Wait + Sync, G: Gate + Sync>(
     rt: &R,
     alloc: Global,
     gate: &G,
-    document: &[u8],
-    scripts: &[u8],
-    workers: usize,
-    viewers: usize,
+    seed: u64,
+    document: Vec<u8>,
+    scripts: Vec<u8>,
+    options: Options,
 ) -> Result<Output, RunFault>
-    requires workers { (1 ≤ workers) × (workers ≤ max_workers) }
-    requires viewers { viewers ≤ max_viewers }
-    ensures ran { IfOk result (λ o. IsRun document.now scripts.now o.ends o.bytes.items) }
-    ensures in_turn { IfOk result (λ o. WhereAlone workers viewers (AreInTurn 0 o.ends)) }
-    ensures seen { IfOk result (λ o. AreSeen viewers (commits_in o.ends) o.seen.items) }
-    ensures fault { IfErr result (IsFaultOfRun document.now scripts.now workers viewers) }
+    requires { AreWithin options }
+    ensures ran { IfOk result (λ o. written_by options.decimals document.items scripts.items o.ends o.bytes.items) }
+    ensures in_turn { IfOk result (λ o. WhereAlone options.workers options.viewers (AreInTurn 0 o.ends)) }
+    ensures seen { IfOk result (λ o. AreSeen options.viewers (commits_in o.ends) o.seen.items) }
+    ensures fault { IfErr result
+        (faults_by options.decimals document.items scripts.items options.workers options.viewers) }
 {
-    if workers == 1 && viewers == 0 {
-        let (output, city) = run_serial_to_city(alloc, document, scripts)?;
+    if options.decimals {
+        run_decimals(rt, alloc, gate, seed, document, scripts, options)
+    } else {
+        run_whole(rt, alloc, gate, seed, document, scripts, options)
+    }
+}
+
+/// Runs scripts whose numbers are whole on such a document's city. One worker without viewers needs no thread beside
+/// its own, passes no gate, and lets the texts go once they are read.
+pub(crate) fn run_whole<R: Threads + Wait + Sync, G: Gate + Sync>(
+    rt: &R,
+    alloc: Global,
+    gate: &G,
+    seed: u64,
+    document: Vec<u8>,
+    scripts: Vec<u8>,
+    options: Options,
+) -> Result<Output, RunFault>
+    requires { AreWithin options }
+    ensures ran { IfOk result (λ o. IsRun document.items scripts.items o.ends o.bytes.items) }
+    ensures in_turn { IfOk result (λ o. WhereAlone options.workers options.viewers (AreInTurn 0 o.ends)) }
+    ensures seen { IfOk result (λ o. AreSeen options.viewers (commits_in o.ends) o.seen.items) }
+    ensures fault { IfErr result (IsFaultOfRun document.items scripts.items options.workers options.viewers) }
+{
+    let (model, commands) = (document.as_slice(), scripts.as_slice());
+    if options.workers == 1 && options.viewers == 0 {
+        let (city, list) = read_texts(alloc, model, commands)?;
+        let room = model.len();
+        drop(document);
+        drop(scripts);
+        let (output, city) = run_read(alloc, seed, city, list, room)?;
         // The process ends after its output, and its memory goes with it. To drop the city object by
         // object would take time.
         forget(city);
         Ok(output)
     } else {
-        run_crew(rt, alloc, document, scripts, workers, viewers, gate)
-    }
-}
-
-/// As `run`, with no gate and texts of its own, which one worker without viewers lets go once they are read.
-pub(crate) fn run_owned<R: Threads + Wait + Sync>(
-    rt: &R,
-    alloc: Global,
-    document: Vec<u8>,
-    scripts: Vec<u8>,
-    workers: usize,
-    viewers: usize,
-) -> Result<Output, RunFault>
-    requires workers { (1 ≤ workers) × (workers ≤ max_workers) }
-    requires viewers { viewers ≤ max_viewers }
-    ensures ran { IfOk result (λ o. IsRun document.items scripts.items o.ends o.bytes.items) }
-    ensures in_turn { IfOk result (λ o. WhereAlone workers viewers (AreInTurn 0 o.ends)) }
-    ensures seen { IfOk result (λ o. AreSeen viewers (commits_in o.ends) o.seen.items) }
-    ensures fault { IfErr result (IsFaultOfRun document.items scripts.items workers viewers) }
-{
-    let (model, commands) = (document.as_slice(), scripts.as_slice());
-    if workers == 1 && viewers == 0 {
-        let (city, list) = read_texts(alloc, model, commands)?;
-        let room = model.len();
-        drop(document);
-        drop(scripts);
-        let (output, city) = run_read(alloc, city, list, room)?;
-        // As in `run`.
-        forget(city);
-        Ok(output)
-    } else {
-        run_crew(rt, alloc, model, commands, workers, viewers, &OpenGate)
+        let (workers, viewers) = (options.workers, options.viewers);
+        run_seeded(rt, alloc, seed, model, commands, workers, viewers, gate)
     }
 }

@@ -2,13 +2,18 @@
 ghost use Rattle.std.specs.Prelude.{◌≡◌, ◌≤◌, true, false, IfOk, IfErr, IfSome, OnOk, position, take};
 ghost use Rattle.std.specs.Io.KnownBytes.{Appends};
 ghost use Rattle.city_crew.specs.Limits.{max_workers, max_viewers};
-ghost use Rattle.city_serve.specs.Served.{is_newline, max_input, document_part, scripts_part, IsServed, IsDeviceFault, IsServeFault};
+ghost use Rattle.city_serve.specs.RunOptions.{AreWithin};
+ghost use Rattle.city_serve.specs.Served.{is_newline, max_input, document_part, scripts_part, IsDeviceFault};
+ghost use Rattle.city_serve.specs.Served.{IsServed, IsServedBy, IsServeFault, IsServeFaultBy};
+ghost use Rattle.city_serve.specs.Decimals.{written_by, faults_by};
 ghost use Rattle.city_serve.specs.ServedTexts.{LosesAtMost, AppendsSome};
 
 use crate::device::Device;
 use crate::fault::ServeFault;
-use crate::serve_texts::serve_owned_texts;
-use city_doc::MAX_TEXT;
+use crate::options::Options;
+use crate::serve_texts::serve_owned;
+use city_crew::{Gate, OpenGate};
+use city_doc::{FIXED_SEED, MAX_TEXT};
 use city_model::OutOfMemory;
 use memchr::memchr;
 use std::alloc::Global;
@@ -17,7 +22,7 @@ use std::sync::Wait;
 use std::thread::Threads;
 
 /// The most bytes that are read: two texts of the greatest length, the newline, and one more.
-pub(crate) const MOST: usize = 2 * MAX_TEXT + 2;
+const MOST: usize = 2 * MAX_TEXT + 2;
 
 /// How many bytes are asked for at a time.
 const PIECE: usize = 64 * 1024;
@@ -47,9 +52,38 @@ pub fn serve<T: Threads + Wait + Sync, R: Read, W: Write>(
     ensures fault { IfErr result (IsServeFault (R.remaining reader.old.0) workers viewers reader.new.1
         (W.contents writer.old.0) (W.contents writer.new.0) writer.new.1) }
 {
+    let options = Options {
+        workers,
+        viewers,
+        decimals: false,
+    };
+    serve_input(rt, alloc, &OpenGate, FIXED_SEED, reader, writer, options)
+}
+
+/// As `serve`, by such options, and through a gate: a worker passes it between its turns, and each viewer tells it what
+/// it saw. With `decimals` numbers of any form are taken, and given back as they were written.
+pub fn serve_input<T: Threads + Wait + Sync, G: Gate + Sync, R: Read, W: Write>(
+    rt: &T,
+    alloc: Global,
+    gate: &G,
+    seed: u64,
+    reader: &mut Device<R>,
+    writer: &mut Device<W>,
+    options: Options,
+) -> Result<Vec<Vec<u64>>, ServeFault>
+    requires { AreWithin options }
+    ensures served { IfOk result (λ seen. IfSome (R.remaining reader.old.0) (λ input.
+        IsServedBy (written_by options.decimals) input options.workers options.viewers seen.items
+        (W.contents writer.old.0) (W.contents writer.new.0))) }
+    ensures taken { LosesAtMost max_input (R.remaining reader.old.0) (R.remaining reader.new.0) }
+    ensures unfailed { OnOk result ((reader.new.1 ≡ reader.old.1) × (writer.new.1 ≡ writer.old.1)) }
+    ensures fault { IfErr result (IsServeFaultBy (written_by options.decimals) (faults_by options.decimals)
+        (R.remaining reader.old.0) options.workers options.viewers reader.new.1
+        (W.contents writer.old.0) (W.contents writer.new.0) writer.new.1) }
+{
     let input = read_at_most(alloc, reader, MOST)?;
     let (document, scripts) = split(alloc, input)?;
-    serve_owned_texts(rt, alloc, document, scripts, writer, workers, viewers)
+    serve_owned(rt, alloc, gate, seed, document, scripts, writer, options)
 }
 
 /// What a reader gives, up to so many bytes; no more are taken from it.
@@ -78,7 +112,7 @@ pub(crate) fn read_at_most<R: Read>(
 }
 
 /// The document and the scripts of an input, each on its own.
-pub(crate) fn split(alloc: Global, input: Vec<u8>) -> Result<(Vec<u8>, Vec<u8>), OutOfMemory>
+fn split(alloc: Global, input: Vec<u8>) -> Result<(Vec<u8>, Vec<u8>), OutOfMemory>
     ensures document { IfOk result (λ r. r.0.items ≡ document_part input.items) }
     ensures scripts { IfOk result (λ r. r.1.items ≡ scripts_part input.items) }
 {

@@ -3,14 +3,18 @@ ghost use Rattle.std.specs.Prelude.{◌≡◌, ◌≤◌, true, IfOk, IfErr, OnO
 ghost use Rattle.std.specs.Io.KnownBytes.{Appends};
 ghost use Rattle.city_crew.specs.Limits.{max_workers, max_viewers};
 ghost use Rattle.city_serve.specs.declared.fault.ServeFault.{ServeFault};
-ghost use Rattle.city_serve.specs.ServedTexts.{AppendsSome, AreServed, IsTextsFault};
+ghost use Rattle.city_serve.specs.RunOptions.{AreWithin};
+ghost use Rattle.city_serve.specs.ServedTexts.{AppendsSome, AreServed, AreServedBy, IsTextsFault, IsTextsFaultBy};
+ghost use Rattle.city_serve.specs.Decimals.{written_by, faults_by};
 
 use crate::device::Device;
 use crate::fault::ServeFault;
-use crate::run::{run, run_owned};
+use crate::options::Options;
+use crate::run::run;
 use crate::serve::write_output;
 use city_crew::{Gate, OpenGate};
 use city_desk::Output;
+use city_doc::FIXED_SEED;
 use std::alloc::Global;
 use std::io::Write;
 use std::sync::Wait;
@@ -39,53 +43,41 @@ pub fn serve_texts<R: Threads + Wait + Sync, W: Write>(
     ensures fault { IfErr result (IsTextsFault document.now scripts.now workers viewers
         (W.contents writer.old.0) (W.contents writer.new.0) writer.new.1) }
 {
-    serve_texts_through(
-        rt, alloc, &OpenGate, document, scripts, writer, workers, viewers,
+    let (document, scripts) = (document.to_vec(alloc)?, scripts.to_vec(alloc)?);
+    let options = Options {
+        workers,
+        viewers,
+        decimals: false,
+    };
+    serve_owned(
+        rt, alloc, &OpenGate, FIXED_SEED, document, scripts, writer, options,
     )
 }
 
-/// As `serve_texts`, through a gate: each worker passes it before each turn, and each viewer tells it what it saw.
-pub fn serve_texts_through<R: Threads + Wait + Sync, G: Gate + Sync, W: Write>(
+/// As `serve_texts`, with texts of its own, by such options, and through a gate: a worker passes it between its turns,
+/// and each viewer tells it what it saw.
+///
+/// One worker without viewers passes no gate, and lets the texts go once they are read. With `decimals` numbers of any
+/// form are taken, and given back as they were written.
+pub fn serve_owned<R: Threads + Wait + Sync, G: Gate + Sync, W: Write>(
     rt: &R,
     alloc: Global,
     gate: &G,
-    document: &[u8],
-    scripts: &[u8],
-    writer: &mut Device<W>,
-    workers: usize,
-    viewers: usize,
-) -> Result<Vec<Vec<u64>>, ServeFault>
-    requires workers { (1 ≤ workers) × (workers ≤ max_workers) }
-    requires viewers { viewers ≤ max_viewers }
-    ensures served { IfOk result (λ seen. AreServed document.now scripts.now workers viewers seen.items
-        (W.contents writer.old.0) (W.contents writer.new.0)) }
-    ensures unfailed { OnOk result (writer.new.1 ≡ writer.old.1) }
-    ensures fault { IfErr result (IsTextsFault document.now scripts.now workers viewers
-        (W.contents writer.old.0) (W.contents writer.new.0) writer.new.1) }
-{
-    let output = run(rt, alloc, gate, document, scripts, workers, viewers)?;
-    write_run(writer, output)
-}
-
-/// As `serve_texts`, with texts of its own, which one worker without viewers lets go once they are read.
-pub fn serve_owned_texts<R: Threads + Wait + Sync, W: Write>(
-    rt: &R,
-    alloc: Global,
+    seed: u64,
     document: Vec<u8>,
     scripts: Vec<u8>,
     writer: &mut Device<W>,
-    workers: usize,
-    viewers: usize,
+    options: Options,
 ) -> Result<Vec<Vec<u64>>, ServeFault>
-    requires workers { (1 ≤ workers) × (workers ≤ max_workers) }
-    requires viewers { viewers ≤ max_viewers }
-    ensures served { IfOk result (λ seen. AreServed document.items scripts.items workers viewers seen.items
-        (W.contents writer.old.0) (W.contents writer.new.0)) }
+    requires { AreWithin options }
+    ensures served { IfOk result (λ seen. AreServedBy (written_by options.decimals) document.items scripts.items
+        options.workers options.viewers seen.items (W.contents writer.old.0) (W.contents writer.new.0)) }
     ensures unfailed { OnOk result (writer.new.1 ≡ writer.old.1) }
-    ensures fault { IfErr result (IsTextsFault document.items scripts.items workers viewers
+    ensures fault { IfErr result (IsTextsFaultBy (written_by options.decimals) (faults_by options.decimals)
+        document.items scripts.items options.workers options.viewers
         (W.contents writer.old.0) (W.contents writer.new.0) writer.new.1) }
 {
-    let output = run_owned(rt, alloc, document, scripts, workers, viewers)?;
+    let output = run(rt, alloc, gate, seed, document, scripts, options)?;
     write_run(writer, output)
 }
 

@@ -10,6 +10,7 @@ use crate::replay::is_replayed;
 use crate::runs::{CHILD_OF_TWO, CUBE, ORPHAN, Run, TWO_READERS, UNDELETED, opened};
 use city_crew::{Note, OpenGate, Poster, Viewer, run_crew};
 use city_desk::{Desk, ListShelf, Output, RunFault, Shelf, output_bytes, run_serial};
+use city_doc::FIXED_SEED;
 use city_locks::{LockTable, Mode};
 use city_model::city::City;
 use city_model::end::{End, Outcome};
@@ -92,7 +93,9 @@ pub fn end_all<S: Shelf>(desk: &mut Desk<S>) {
 
 /// Whether ends and the city that they leave are those of scripts played one at a time.
 fn are_replayed(alloc: Global, run: &Run, city: &City, ends: &[End]) -> bool {
-    let bytes = output_bytes(alloc, city, ends, 0).or(output_bytes(alloc, city, ends, 0));
+    let bytes = output_bytes(alloc, FIXED_SEED, city, ends, 0).or(output_bytes(
+        alloc, FIXED_SEED, city, ends, 0,
+    ));
     bytes.is_ok_and(|bytes| is_replayed(alloc, run, ends, bytes.as_slice()))
 }
 

@@ -4,6 +4,7 @@ ghost use Rattle.std.specs.Prelude.{◌≡◌, []};
 use crate::refused::end_all;
 use crate::runs::{ORPHAN, Run, city_of, scripts_of};
 use city_desk::{Desk, ListShelf, Shelf, output_bytes};
+use city_doc::FIXED_SEED;
 use city_model::OutOfMemory;
 use city_model::change::Change;
 use std::alloc::Global;
@@ -63,7 +64,7 @@ fn written(alloc: Global, run: &Run) -> Option<Vec<u8>> {
     let mut desk = Desk::open(alloc, city, scripts, Refusing::new(alloc)).ok()?;
     end_all(&mut desk);
     let (city, ends, _shelf) = desk.close();
-    output_bytes(alloc, &city, ends.as_slice(), 0).ok()
+    output_bytes(alloc, FIXED_SEED, &city, ends.as_slice(), 0).ok()
 }
 
 const REPORT: &str =

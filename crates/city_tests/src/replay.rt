@@ -2,6 +2,7 @@
 use crate::board::turn;
 use crate::runs::{Run, opened};
 use city_desk::{Desk, ListShelf, Turn, output_bytes};
+use city_doc::FIXED_SEED;
 use city_model::end::{End, Outcome};
 use std::alloc::Global;
 
@@ -33,7 +34,7 @@ fn written_again(alloc: Global, run: &Run, ends: &[End]) -> Option<Vec<u8>> {
             return None;
         }
     }
-    output_bytes(alloc, &city, ends.as_slice(), 0).ok()
+    output_bytes(alloc, FIXED_SEED, &city, ends.as_slice(), 0).ok()
 }
 
 /// What is written of an output's lines, but for `since` and for scripts that ran out of memory.

@@ -1,10 +1,11 @@
-//! Runs through a gate, by the function that the program's own runs go through.
+//! Runs through a gate, by the function that the program's own runs go through with the open one.
 ghost use Rattle.std.specs.Prelude.{◌≤◌};
 
 use city_crew::Gate;
+use city_doc::FIXED_SEED;
 use city_model::OutOfMemory;
-use city_serve::Device;
-use city_serve::serve_texts::serve_texts_through;
+use city_serve::serve_texts::serve_owned;
+use city_serve::{Device, Options};
 use std::alloc::Global;
 use std::fmt::Write;
 use std::sync::Wait;
@@ -46,18 +47,24 @@ pub fn served<R: Threads + Wait + Sync, G: Gate + Sync>(
     requires workers { (1 ≤ workers) × (workers ≤ 16) }
     requires viewers { viewers ≤ 4 }
 {
-    let (document, scripts) = (texts.0.as_bytes(), texts.1.as_bytes());
+    let document = texts.0.as_bytes().to_vec(alloc).ok()?;
+    let scripts = texts.1.as_bytes().to_vec(alloc).ok()?;
+    let options = Options {
+        workers,
+        viewers,
+        decimals: false,
+    };
     let mut written = Vec::new(alloc);
     let mut writer = Device::new(&mut written);
-    let seen = serve_texts_through(
+    let seen = serve_owned(
         rt,
         alloc,
         gate,
+        FIXED_SEED,
         document,
         scripts,
         &mut writer,
-        workers,
-        viewers,
+        options,
     );
     drop(writer);
     told(alloc, written.as_slice(), seen.ok()?.as_slice())

@@ -1,55 +1,34 @@
 -- The grammar's loops, a turn at a time, under the conversion to data.
-use Rattle.std.proofs.Common.{◌≡◌, ℕ, ◌-◌, ◌<◌, ◌≤◌, List, [], length, Option, Some, None, option_map, refl, ap, ◌∙◌}
-use Rattle.std.specs.Prelude.{option_and_then}
-use Rattle.json.specs.Token.{Token}
-use Rattle.json.specs.Json as json
-use Rattle.json.specs.Json.{Parse, parse_map, after_end_array, read_key, items, members, if_last}
+use Rattle.city_tokens.proofs.Prelude.{◌≡◌, ℕ, ◌-◌, ◌<◌, ◌≤◌, List, [], length, Option, Some, None, ap, ◌∙◌, arith}
+use Rattle.city_tokens.proofs.Prelude.{option_and_then, Token, parse_map, after_end_array, read_key, items, members}
+use Rattle.city_tokens.proofs.Prelude.{Data, array, object, no_items, item, Members, no_members, put, of_json, of_items}
+use Rattle.city_tokens.proofs.Prelude.{of_members, converted}
+use Rattle.json.specs.Json.{Parse, if_last}
 use Rattle.json.proofs.Grammar.{items_end, items_more, members_end, members_more}
-use Rattle.serde_json.specs.Data.{Data, array, object, no_items, item, Members, no_members, put}
-use Rattle.serde_json.specs.Read.{of_json, of_items, of_members, converted}
-
-abbrev pick : {A : Type 0} → A → Option A → A
-pick d None = d
-pick d (Some a) = a
-
-found : {A B : Type 0} (a : A) (r s : List Token) (x : Option B) (b : B)
-    → option_map {U = B × List Token} (λ y. (y, r)) x ≡ Some (b, s) → (r ≡ s) × (x ≡ Some b)
-found a r s None b e = absurd (cc)
-found a r s (Some y) b e = let same = ap (pick (y, r)) e in (ap (λ p. p.1) same, ap (λ p. Some p.0) same)
+use Rattle.json.specs.Json as json
 
 -- what was converted was parsed
 pub converted_some : {A B : Type 0} (f : A → Option B) (o : Option (A × List Token)) (b : B) (r : List Token)
     → converted f o ≡ Some (b, r) → (a : A) × (o ≡ Some (a, r)) × (f a ≡ Some b)
-converted_some f None b r e = absurd (cc)
-converted_some f (Some p) b r e = let both = found p.0 p.1 r (f p.0) b e in
-    (p.0, ap (λ s. Some (p.0, s)) both.0, both.1)
-
-twice : {A B : Type 0} (g : A → B) (r : List Token) (x : Option A)
-    → option_map (λ b. (b, r)) (option_map g x) ≡ parse_map g (option_map (λ a. (a, r)) x)
-twice g r None = refl
-twice g r (Some a) = refl
+converted_some f o b r e = grind arith
 
 pub converted-array : (o : Option (json.Items × List Token))
     → converted of_json (parse_map json.array o) ≡ parse_map array (converted of_items o)
-converted-array None = refl
-converted-array (Some p) = twice array p.1 (of_items p.0)
+converted-array o = grind arith
 
 pub converted-object : (o : Option (json.Members × List Token))
     → converted of_json (parse_map json.object o) ≡ parse_map object (converted (λ ms. of_members ms no_members) o)
-converted-object None = refl
-converted-object (Some p) = twice object p.1 (of_members p.0 no_members)
+converted-object o = grind arith
 
 with_item : (j : json.Json) (d : Data) → of_json j ≡ Some d → (o : Option (json.Items × List Token))
     → converted of_items (parse_map (json.item j) o) ≡ parse_map (item d) (converted of_items o)
-with_item j d e None = refl
-with_item j d e (Some p) = rw e (twice (item d) p.1 (of_items p.0))
+with_item j d e o = grind arith
 
 with_member : (k : List ℕ) (j : json.Json) (d : Data) (old : Members) → of_json j ≡ Some d
     → (o : Option (json.Members × List Token))
     → converted (λ ms. of_members ms old) (parse_map (json.member k j) o)
     ≡ converted (λ ms. of_members ms (put k d old)) o
-with_member k j d old e None = refl
-with_member k j d old e (Some p) = rw e
+with_member k j d old e o = grind arith
 
 module _ (p : Parse json.Json) where
   pub item_read : (n : ℕ) (ts r : List Token) (d : Data) → 0 < n → after_end_array ts ≡ None
@@ -76,8 +55,7 @@ module _ (p : Parse json.Json) where
         → converted (λ ms. of_members ms old) (members p n ts) ≡ Some (old, r)
     members_over n ts r enough e = ap (converted (λ ms. of_members ms old)) (members_end p n ts r enough e)
 
--- ---- the whole text
-
+-- the whole text
 abbrev pub whole : Option (json.Json × List Token) → Option Data
 whole o = option_and_then of_json (option_and_then (λ p. if_last p.0 p.1) o)
 

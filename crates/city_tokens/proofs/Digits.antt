@@ -1,38 +1,30 @@
 -- Digits read one by one.
-use Rattle.std.proofs.Common.{◌≡◌, ℕ, false, [], ◌+◌, ◌*◌, ◌%◌, ◌^◌, ◌<◌, ◌≤◌, List, length, take, get_or, sym, ap}
-use Rattle.std.proofs.Common.{subst, ◌∙◌, arith, length-take, append-nil, refl}
+use Rattle.city_tokens.proofs.Prelude.{◌≡◌, ℕ, false, [], ◌+◌, ◌*◌, ◌<◌, ◌≤◌, List, length, take, get_or, sym, ap, ◌∙◌}
+use Rattle.city_tokens.proofs.Prelude.{arith, append-nil, AllDigits, digits_value, scan}
+use Rattle.std.proofs.Common.{◌%◌, ◌^◌, length-take}
 use Rattle.std.proofs.Math.Nat.{pow-le-pow_right}
 use Rattle.std.proofs.lemmas.Int.Digits.{digits_more, digits_value_more, digits_value-lt}
 use Rattle.std.proofs.lemmas.Str.{digit_value_digit}
 use Rattle.std.proofs.lemmas.Float.Parse.{scan_numeral-text_of}
 use Rattle.std.specs.Char.{digit_value}
-use Rattle.std.specs.Str.Parse.{AllDigits, digits_value}
-use Rattle.fast_float.specs.Text.{Parts, scan, digits_of, text_of, IsInteger}
+use Rattle.fast_float.specs.Text.{Parts, digits_of, text_of, IsInteger}
 
 -- a byte that is 48 too large for its digit
 abbrev pub IsDigit : ℕ → ℕ → Type 0
 IsDigit byte digit = (digit_value byte < 10) × (digit ≡ digit_value byte)
 
 pub digit_of : (byte : ℕ) → byte < 256 → (byte + 208) % 256 ≤ 9 → IsDigit byte ((byte + 208) % 256)
-digit_of byte in_range few =
-    let low : 48 ≤ byte = omega arith in
-    let high : byte ≤ 57 = omega arith in
-    let is = digit_value_digit byte (low, high) in
-    (omega arith, omega arith)
+digit_of byte in_range few = grind (arith, digit_value_digit)
 
 -- one digit more
 pub more : (s : List ℕ) (i n digit : ℕ) → i < length s → AllDigits 10 (take i s) → n ≡ digits_value 10 (take i s)
     → IsDigit (get_or s i 0) digit
     → AllDigits 10 (take (i + 1) s) × (n * 10 + digit ≡ digits_value 10 (take (i + 1) s))
-more s i n digit within all is h = (digits_more 10 s i within all h.0, rw (digits_value_more 10 s i within, is, h.1))
+more s i n digit within all is h = search (arith, digits_more, digits_value_more, h)
 
 -- of at most so many digits
 pub below : (k i : ℕ) (s : List ℕ) → AllDigits 10 (take i s) → i ≤ k → digits_value 10 (take i s) < 10 ^ k
-below k i s all few =
-    let short : length (take i s) ≤ k = omega (arith, length-take i s) in
-    let least = digits_value-lt 10 (take i s) all in
-    let most : 10 ^ length (take i s) ≤ 10 ^ k = pow-le-pow_right (omega arith) short in
-    omega arith
+below k i s all few = grind (arith, length-take, digits_value-lt, pow-le-pow_right)
 
 -- the parts of digits alone
 abbrev parts_of : List ℕ → Parts
@@ -42,20 +34,8 @@ parts_of ds =
 scanned : (ds : List ℕ) → AllDigits 10 ds → scan ds ≡ parts_of ds
 scanned ds all =
     let is : text_of (parts_of ds) ≡ ds = append-nil ds in
-    ap scan (sym is)
-    ∙ scan_numeral-text_of (parts_of ds)
-    (record {
-      whole_digits = all;
-      fraction_digits = tt;
-      exponent_digits = tt;
-      no_point = λ _. refl;
-      no_exponent = λ _. refl;
-      len_is = ap length (sym is);
-    })
+    ap scan (sym is) ∙ scan_numeral-text_of (parts_of ds) (search (all, ap length (sym is)))
 
 pub digits_scanned : (ds : List ℕ) → AllDigits 10 ds → 0 < length ds
     → IsInteger (scan ds) × (digits_of (scan ds) ≡ digits_value 10 ds)
-digits_scanned ds all some = (
-  subst IsInteger (sym (scanned ds all)) (some, refl, refl),
-  ap digits_of (scanned ds all) ∙ ap (digits_value 10) (append-nil ds),
-)
+digits_scanned ds all some = search (arith, scanned, append-nil)

@@ -1,23 +1,12 @@
-pub mod Laws
-pub mod Options
-mod Bodies
-mod CityRead
 mod CommandMembers
 mod Conversions
 mod Digits
-mod FaultlessObjects
-mod GeometryMembers
-mod Keys
-mod ListedObjects
+pub mod Laws
 mod Members
-mod ObjectMembers
-mod Opening
+pub mod Options
 mod Pairing
-mod PlacedCommands
 mod PlacedParts
-mod ReadScripts
+pub mod Prelude
 mod Reading
 mod ScriptMembers
-mod TopMembers
-mod Written
 pub mod tree

@@ -1,23 +1,30 @@
--- Lists whose items belong together one by one.
-use Rattle.std.proofs.Common.{List, [], ◌∷◌, ◌++◌}
-use Rattle.city_tokens.specs.inside.Standing.{Pairs}
+-- Lists whose items belong together one by one, and lists written one item after another.
+use Rattle.city_tokens.proofs.Prelude.{List, [], ◌∷◌, ◌++◌, ◌≡◌, ℕ, zero, suc, ◌<◌, drop, take, length, get_or, refl}
+use Rattle.city_tokens.proofs.Prelude.{ap, arith, Pairs, slice_set}
 
 -- both grow by one at their ends
 pub pairs_push : {A B : Type 0} (R : A → B → Type 0) (xs : List A) (ys : List B) (x : A) (y : B) → Pairs R xs ys → R x y
     → Pairs R (xs ++ x ∷ []) (ys ++ y ∷ [])
 pairs_push R [] [] x y all one = (one, tt)
-pairs_push R [] (w ∷ ys) x y all one = absurd all
-pairs_push R (v ∷ xs) [] x y all one = absurd all
 pairs_push R (v ∷ xs) (w ∷ ys) x y all one = (all.0, pairs_push R xs ys x y all.1 one)
+pairs_push R _ _ x y all one = absurd all
 
 -- where two lists belong to a third one, they belong together
 pub pairs_over : {A B C : Type 0} (P : A → B → Type 0) (Q : A → C → Type 0) (R : B → C → Type 0)
     → ((x : A) (y : B) (z : C) → P x y → Q x z → R y z) → (xs : List A) (ys : List B) (zs : List C)
     → Pairs P xs ys → Pairs Q xs zs → Pairs R ys zs
 pairs_over P Q R one [] [] [] p q = tt
-pairs_over P Q R one [] [] (z ∷ zs) p q = absurd q
-pairs_over P Q R one [] (y ∷ ys) zs p q = absurd p
-pairs_over P Q R one (x ∷ xs) [] zs p q = absurd p
-pairs_over P Q R one (x ∷ xs) (y ∷ ys) [] p q = absurd q
-pairs_over P Q R one (x ∷ xs) (y ∷ ys) (z ∷ zs) p q =
-    (one x y z p.0 q.0, pairs_over P Q R one xs ys zs p.1 q.1)
+pairs_over P Q R one (x ∷ xs) (y ∷ ys) (z ∷ zs) p q = (one x y z p.0 q.0, pairs_over P Q R one xs ys zs p.1 q.1)
+pairs_over P Q R one _ _ _ p q = search
+
+-- the next item is written
+pub item_written : {A : Type 0} (R : A → A → Type 0) (i : ℕ) (start done : List A) (x y : A)
+    → Pairs R (take i start) done → i < length (done ++ drop i start) → x ≡ get_or (done ++ drop i start) i x → R x y
+    → (slice_set (done ++ drop i start) i y ≡ (done ++ y ∷ []) ++ drop (suc i) start)
+    × Pairs R (take (suc i) start) (done ++ y ∷ [])
+item_written R zero (s ∷ start) [] x y all below is one = (refl, (rw is at one, tt))
+item_written R (suc i) (s ∷ start) (d ∷ done) x y all below is one =
+    let more = item_written R i start done x y all.1 (omega (arith, below)) is one in
+    (ap (λ zs. d ∷ zs) more.0, (all.0, more.1))
+item_written R _ [] [] x y all below is one = absurd (let no : ⊥ = omega (arith, below) in no)
+item_written R _ _ _ x y all below is one = absurd all

@@ -1,38 +1,30 @@
--- What is read of trees, by what stood for their parts.
-use Rattle.std.proofs.Common.{◌≡◌, ℕ, List, [], ◌∷◌, Option, Some, None, refl, sym, ap, ◌∙◌, subst}
-use Rattle.std.specs.Prelude.{codes}
-use Rattle.serde_json.specs.Data.{Data, array, no_items}
-use Rattle.serde_json.specs.Find.{get_member, as_str}
-use Rattle.serde_json.specs.View.{items_of}
-use Rattle.city_model.specs.declared.object.Geometry.{Geometry}
-use Rattle.city_model.specs.declared.object.Object.{Object}
-use Rattle.city_model.specs.declared.object.Point.{Point}
-use Rattle.city_tokens.specs.object.Bodies.{object_of}
-use Rattle.city_tokens.specs.shape.Geometries.{geometry_of}
-use Rattle.city_tokens.specs.inside.Geometries.{IsGeometry}
-use Rattle.city_tokens.specs.inside.Objects.{IsObject}
-use Rattle.city_tokens.specs.inside.Positions.{IsPlaced}
-use Rattle.city_tokens.specs.inside.Standing.{Pairs, IsArrayOf, IsListSlot, IsString}
-use Rattle.city_tokens.specs.tree.Lists.{read_items, list_of, list_or_absent}
+-- What is read of trees by what stood for their parts: objects, bodies that are put, and commands.
+use Rattle.city_tokens.proofs.Prelude.{◌≡◌, ℕ, List, [], ◌∷◌, Option, Some, None, refl, Bool, true, false, codes, Data}
+use Rattle.city_tokens.proofs.Prelude.{array, no_items, Members, put, get_member, as_str, items_of, Geometry, Object}
+use Rattle.city_tokens.proofs.Prelude.{Point, object_of, geometry_of, IsGeometry, IsObject, IsObjectSoFar, IsPlaced}
+use Rattle.city_tokens.proofs.Prelude.{Pairs, IsArrayOf, IsListSlot, IsString, IsTaken, IsPassed, read_items, list_of}
+use Rattle.city_tokens.proofs.Prelude.{Token, Body, ObjectParts, IsCommand, Command, command_of}
+use Rattle.city_tokens.specs.object.Bodies.{body_of}
+use Rattle.city_tokens.specs.tree.Lists.{list_or_absent}
+use Rattle.std.specs.Bool.{MatchBool}
+use Rattle.city_tokens.specs.inside.Commands.{IsBody, IsBodySoFar}
+use Rattle.city_tokens.proofs.Members.{apart_back}
+use Rattle.city_tokens.proofs.tree.Puts.{get_member-put_apart}
+use Rattle.city_model.specs.declared.command.Command.TheVariants.{Put}
 
 module _ {A : Type 0} (R : A → Data → Type 0) (reads : Data → Option A) where
   items_placed : (xs ys : List A) (ds : List Data) → Pairs R xs ds → Pairs (IsPlaced R reads) xs ys
       → read_items reads (items_of ds) ≡ Some ys
   items_placed [] [] [] h p = refl
-  items_placed [] (y ∷ ys) ds h p = absurd p
-  items_placed [] [] (d ∷ ds) h p = absurd h
-  items_placed (x ∷ xs) [] ds h p = absurd p
-  items_placed (x ∷ xs) (y ∷ ys) [] h p = absurd h
-  items_placed (x ∷ xs) (y ∷ ys) (d ∷ ds) h p =
-      let first : reads d ≡ Some y = p.0 d h.0 in
-      rw (first, items_placed xs ys ds h.1 p.1) refl
+  items_placed (x ∷ xs) (y ∷ ys) (d ∷ ds) h p = rw (p.0 d h.0, items_placed xs ys ds h.1 p.1) refl
+  items_placed _ _ _ h p = search
 
   pub array_placed : (xs ys : List A) → Pairs (IsPlaced R reads) xs ys → IsPlaced (IsArrayOf R) (list_of reads) xs ys
-  array_placed xs ys p = λ d h. ap (list_of reads) h.1 ∙ items_placed xs ys h.0 h.2 p
+  array_placed xs ys p d h = rw h.1 (items_placed xs ys h.0 h.2 p)
 
   pub slot_placed : (xs ys : List A) (member : Option Data) → IsPlaced (IsArrayOf R) (list_of reads) xs ys
       → IsListSlot R xs member → list_or_absent reads member ≡ Some ys
-  slot_placed xs ys None p h = p (array no_items) ([], refl, subst (λ zs. Pairs R zs []) (sym h) tt)
+  slot_placed xs ys None p h = p (array no_items) ([], refl, rw h tt)
   slot_placed xs ys (Some d) p h = p d h
 
 strings_same : (xs : List (List ℕ)) → Pairs (IsPlaced IsString as_str) xs xs
@@ -47,17 +39,43 @@ strings_read xs member h =
 -- an object whose geometries are placed
 pub object_placed : (points : List Point) (o : Object) (geometry : List Geometry)
     → IsPlaced (IsArrayOf IsGeometry) (list_of (geometry_of points)) o.body.geometry geometry → (d : Data)
-    → IsObject o d
-    → object_of points d
-    ≡ Some (record {
-      body = record { kind = o.body.kind; geometry = geometry; extra = o.body.extra };
-      parents = o.parents;
-      children = o.children;
-    })
+    → IsObject o d → object_of points d ≡ Some (record o { body = record (o.body) { geometry = geometry } })
 object_placed points o geometry placed d h =
-    let shaped =
-    slot_placed IsGeometry (geometry_of points) o.body.geometry geometry (get_member (codes "geometry") h.found)
-    placed h.geometry in
-    let parents = strings_read o.parents (get_member (codes "parents") h.found) h.parents in
-    let children = strings_read o.children (get_member (codes "children") h.found) h.children in
-    ap (object_of points) h.is ∙ rw (h.kind, shaped, h.extra, parents, children) refl
+    let shaped = slot_placed IsGeometry (geometry_of points) o.body.geometry geometry _ placed h.geometry in
+    let parents = strings_read o.parents _ h.parents in
+    let children = strings_read o.children _ h.children in
+    rw (h.is, h.kind, shaped, h.extra, parents, children) refl
+
+-- a name is still absent with the member of another
+absent : (q name : List ℕ) (d : Data) (ms : Members) → (name ≡ q → ⊥) → get_member q ms ≡ None
+    → get_member q (put name d ms) ≡ None
+absent q name d ms other none = rw (get_member-put_apart q name d ms (apart_back name q other)) none
+
+-- the member of a name that is no relation's was read as one of an object, or is to be kept
+pub body_taken : (taken : Bool) (old new : ObjectParts) (name : List ℕ) (depth : ℕ) (before after : List Token)
+    → (name ≡ codes "parents" → ⊥) → (name ≡ codes "children" → ⊥)
+    → MatchBool taken (IsTaken IsObjectSoFar old new name depth before after)
+    (IsPassed IsObjectSoFar old new name before after)
+    → MatchBool taken (IsTaken IsBodySoFar (record { object = old }) (record { object = new }) name depth before after)
+    (IsPassed IsBodySoFar (record { object = old }) (record { object = new }) name before after)
+body_taken true old new name depth before after parents children h =
+    (h.0, h.1, λ found kept was. search (h.2 found kept was.0, absent))
+body_taken false old new name depth before after parents children h =
+    (h.0, λ d found kept was. search (h.1 d found kept was.0, absent))
+
+-- the tree of a body whose geometries are placed
+pub body_placed : (points : List Point) (b : Body) (geometry : List Geometry)
+    → IsPlaced (IsArrayOf IsGeometry) (list_of (geometry_of points)) b.geometry geometry → (d : Data) → IsBody b d
+    → body_of points d ≡ Some (record { kind = b.kind; geometry = geometry; extra = b.extra })
+body_placed points b geometry placed d h =
+    let o = h.2 in
+    let shaped = slot_placed IsGeometry (geometry_of points) b.geometry geometry _ placed o.geometry in
+    rw (o.is, o.kind, shaped, o.extra) refl
+
+-- a put whose geometries are placed
+pub put_placed : (points : List Point) (c : Command) (id : List ℕ) (b : Body) (geometry : List Geometry) → c ≡ Put id b
+    → IsPlaced (IsArrayOf IsGeometry) (list_of (geometry_of points)) b.geometry geometry
+    → IsPlaced IsCommand (command_of points) c (Put id (record { kind = b.kind; geometry = geometry; extra = b.extra }))
+put_placed points c id b geometry is placed d h =
+    let put : IsCommand (Put id b) d = rw is at h in
+    rw (put.1, put.2.3, body_placed points b geometry placed put.0 put.2) refl

@@ -1,4 +1,3 @@
 -- Laws of scripts and commands.
 pub mod BuiltScripts
-pub mod CommandEnds
 pub mod CommandLaws

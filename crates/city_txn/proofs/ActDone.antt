@@ -1,29 +1,27 @@
 -- A call of the core: its locks gained, and its command done on the store.
-use Rattle.std.proofs.Common.{arith, ◌≡◌, ◌≢◌, ℕ, List, [], ◌∷◌, ◌++◌, Bool, true, false, Some}
-use Rattle.std.proofs.Common.{Result, Ok, Err, refl, ap, sym, ◌∙◌, subst}
+use Rattle.city_txn.proofs.Prelude.{arith, ◌≡◌, ℕ, List, [], ◌∷◌, ◌++◌, Bool, true, false, Some, Result, Ok, refl, ap}
+use Rattle.city_txn.proofs.Prelude.{sym, ◌∙◌, subst, false≢true, Command, Reply, WentBack, Exclusive, CityMap, View}
+use Rattle.city_txn.proofs.Prelude.{unmarked, locks_of, IsLawful, Lock, Answered, IsTraceUnderLocks, covers}
+use Rattle.city_txn.proofs.Prelude.{locks_id_exclusively, seen_next, answer, Locks, mode_of, Written, CoreState}
+use Rattle.city_txn.proofs.Prelude.{committed, written, snapshot, is_open, held, StandsUnderLocks, refused_stays}
+use Rattle.city_txn.proofs.Prelude.{core_state, IsCore, IsWrittenUnder, written_next, IsPerform}
+use Rattle.std.proofs.Common.{◌≢◌, Err}
 use Rattle.std.specs.Prelude.{if◌then◌else◌, IfOk, IfErr, OnOk, IsOk, IsErr}
 use Rattle.std.proofs.lemmas.Result.{on_ok_weaker}
-use Rattle.std.proofs.lemmas.Bool.{false≢true}
-use Rattle.city_txn.specs.inside.Prelude.{Command, Reply, WentBack, Exclusive, CityMap, View, unmarked, Answers, effect}
-use Rattle.city_txn.specs.inside.Prelude.{locks_of, IsLawful, is_end, Lock, Answered, AllHeld}
-use Rattle.city_txn.specs.inside.Prelude.{IsTraceUnderLocks, covers, locks_id_exclusively, seen_next, answer, Answer}
-use Rattle.city_txn.specs.inside.Prelude.{Granted, Locks, mode_of, held_in, granted_before, GainsFirst, IsBlocked}
-use Rattle.city_txn.specs.inside.Prelude.{HoldsLock, Asked, Step, TxnFault, NotOpen, OutOfMemory, Inside, write_of}
-use Rattle.city_txn.specs.inside.Prelude.{Written, CoreState, committed, written, snapshot}
-use Rattle.city_txn.specs.inside.Prelude.{is_open, held, StandsUnderLocks, answer_in, granted_in, step_of, is_done}
-use Rattle.city_txn.specs.inside.Prelude.{with_step, IsAct, State, store_written, Touches}
+use Rattle.city_txn.specs.inside.Prelude.{Answers, effect, is_end, AllHeld, Answer, Granted, held_in, granted_before}
+use Rattle.city_txn.specs.inside.Prelude.{GainsFirst, IsBlocked, HoldsLock, Asked, Step, TxnFault, NotOpen, OutOfMemory}
+use Rattle.city_txn.specs.inside.Prelude.{Inside, write_of, answer_in, granted_in, step_of, is_done, with_step, IsAct}
+use Rattle.city_txn.specs.inside.Prelude.{State, store_written, Touches}
 use Rattle.city_model.proofs.Effects.{effect_is}
-use Rattle.city_model.proofs.History as history
-use Rattle.city_model.proofs.Refused.{refused_stays}
-use Rattle.city_txn.specs.declared.step.Step.TheVariants as steps
-use Rattle.city_txn.specs.inside.Core.{core_state, IsCore, IsWrittenUnder}
-use Rattle.city_txn.specs.inside.Performing.{written_next, MayPerform, IsPerform}
+use Rattle.city_txn.specs.inside.Performing.{MayPerform}
 use Rattle.city_txn.proofs.CoreFields.{open_is, sound_view, open_only, to_kept, from_kept, LeavesOthers, leaves_others}
 use Rattle.city_txn.proofs.CoreFields.{written_beside, seen_beside, keeps, consistent}
 use Rattle.city_locks.proofs.LocksAsked.{all_granted, gains_nothing, blocked_weaker}
 use Rattle.city_txn.proofs.PerformDone.{went_back}
 use Rattle.city_txn.proofs.SeenWrites.{seen_same, step_seen, own_same, held_exclusively, covered_next, covered_still}
 use Rattle.city_txn.proofs.Touched.{touches_itself, touches_more}
+use Rattle.city_model.proofs.History as history
+use Rattle.city_txn.specs.declared.step.Step.TheVariants as steps
 
 done_replied : (a : Answer) (r reply : Reply) → steps.Done r ≡ step_of a reply → reply ≡ r
 done_replied a r reply e = grind arith

@@ -1,30 +1,22 @@
 -- What a store's value has at an id, from what its city and its images have there; a new store, and one at rest.
-use Rattle.std.proofs.Common.{arith, ◌≡◌, ◌==◌, ℕ, List, [], ◌∷◌, true, false, Option, None, Some}
-use Rattle.std.proofs.Common.{Less, refl, ap, sym, ◌∙◌, ◌||◌}
-use Rattle.std.specs.Map.{lookup, keys_of}
+use Rattle.city_txn.proofs.Prelude.{arith, ◌≡◌, ◌==◌, ℕ, List, [], ◌∷◌, true, false, Option, None, Some, refl, ap, sym}
+use Rattle.city_txn.proofs.Prelude.{◌∙◌, ◌||◌, keys_of, nat_cmp, slice_cmp, is_at, list_any, false≢true, eq-eqb, Object}
+use Rattle.city_txn.proofs.Prelude.{object_at, has_id, same_id, same_id_true, UndoImage, Inside, committed_at, write_at}
+use Rattle.city_txn.proofs.Prelude.{writer_of, write_of, is_by, own_or, State, store_committed, store_view, state_of}
+use Rattle.city_txn.proofs.Prelude.{is_writer, IsInPlace, image_at, reservations_of}
+use Rattle.std.proofs.Common.{Less}
+use Rattle.std.specs.Map.{lookup}
 use Rattle.std.specs.Cmp.{unsigned_tied, eq_by_cmp_equiv}
-use Rattle.std.specs.Ordering.{nat_cmp, eq_by_cmp}
-use Rattle.std.specs.Cmp.Lexicographic.{slice_cmp}
-use Rattle.std.specs.BTreeMap.{is_at}
+use Rattle.std.specs.Ordering.{eq_by_cmp}
 use Rattle.std.specs.FinMap.{entries}
-use Rattle.std.specs.List.{AllByRecursion, list_any}
+use Rattle.std.specs.List.{AllByRecursion}
 use Rattle.std.specs.List.Sorted.{IsStrictlySortedBy}
-use Rattle.std.proofs.lemmas.Bool.{false≢true, eq-eqb}
 use Rattle.std.proofs.lemmas.Cmp.{nat_list_cmp_total}
 use Rattle.std.proofs.lemmas.Map.{lookup-none}
 use Rattle.std.proofs.lemmas.Map.Keys.{IsDistinct-from_sorted, sorted_tail}
 use Rattle.std.proofs.lemmas.Map.Entries.{none_past_head}
-use Rattle.city_model.specs.declared.object.Object.{Object}
-use Rattle.city_model.specs.CityMap.{object_at, has_id, same_id}
 use Rattle.city_model.proofs.Objects.{at_entries, entries_ascend, at_sorted, same_objects}
-use Rattle.city_model.proofs.Ids.{same_id_true}
-use Rattle.city_txn.specs.declared.image.UndoImage.{UndoImage}
-use Rattle.city_txn.specs.declared.store.Store.TheInside.{Inside}
-use Rattle.city_txn.specs.inside.Images.{committed_at, write_at, writer_of}
-use Rattle.city_txn.specs.Writes.{write_of, is_by, own_or, made_by}
-use Rattle.city_txn.specs.inside.State.{State, store_committed, store_view}
-use Rattle.city_txn.specs.inside.InPlace.{state_of, is_writer, IsInPlace}
-use Rattle.city_txn.specs.inside.UndoState.{image_at, reservations_of}
+use Rattle.city_txn.specs.Writes.{made_by}
 
 -- the test of a map's keys is that of numbers
 pub tied : (s t : ℕ) → is_at (nat_cmp s) t ≡ (s == t)

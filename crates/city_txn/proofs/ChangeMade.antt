@@ -1,30 +1,16 @@
 -- What a transaction wrote, listed as a change, makes its view of the committed map.
-use Rattle.std.proofs.Common.{arith, ◌≡◌, ℕ, ◌+◌, ◌<◌, List, [], ◌∷◌, length, take, get_or, Bool, true, false}
-use Rattle.std.proofs.Common.{Option, None, Some, refl, ap, sym, ◌∙◌, subst, if◌then◌else◌, unwrap_or, nat_cmp}
-use Rattle.std.specs.Map.{keys_of}
-use Rattle.std.specs.Cmp.Lexicographic.{slice_cmp}
-use Rattle.std.specs.BTreeMap.{is_at}
+use Rattle.city_txn.proofs.Prelude.{arith, ◌≡◌, ℕ, ◌+◌, ◌<◌, List, [], ◌∷◌, length, take, get_or, Bool, true, false}
+use Rattle.city_txn.proofs.Prelude.{Option, None, Some, refl, ap, sym, ◌∙◌, subst, if◌then◌else◌, unwrap_or, keys_of}
+use Rattle.city_txn.proofs.Prelude.{slice_cmp, is_at, is_some-lookup, list_any, false≢true, IsStrictlySortedBy, Object}
+use Rattle.city_txn.proofs.Prelude.{same_id, has_id, is_orphan_there, Change, write_in, set_by, same_id_true, Inside}
+use Rattle.city_txn.proofs.Prelude.{write_at, Write, write_of, own_or, own_write, is_by, state_of, IsInPlace}
+use Rattle.city_txn.proofs.Prelude.{reservations_of, State, store_own, store_view, has_id_more}
+use Rattle.std.proofs.Common.{nat_cmp}
 use Rattle.std.specs.Option.{option_or}
-use Rattle.std.proofs.lemmas.Map.Made.{is_some-lookup}
-use Rattle.std.specs.List.{list_any}
-use Rattle.std.proofs.lemmas.Bool.{false≢true}
-use Rattle.std.specs.List.Sorted.{IsStrictlySortedBy}
-use Rattle.city_model.specs.declared.object.Object.{Object}
-use Rattle.city_model.specs.CityMap.{same_id, has_id}
-use Rattle.city_model.specs.Relations.{is_orphan, is_orphan_there, HasNoOrphan, IsLeastOrphan, IsSound, IsLawful}
-use Rattle.city_model.specs.Runs.{Change}
-use Rattle.city_model.specs.Writing.{write_in, set_by}
-use Rattle.city_model.proofs.Ids.{same_id_true}
+use Rattle.city_model.specs.Relations.{is_orphan, HasNoOrphan, IsLeastOrphan, IsSound, IsLawful}
 use Rattle.city_model.proofs.ChangeLaws.{at_change, set_at}
-use Rattle.city_txn.specs.declared.store.Store.TheInside.{Inside}
-use Rattle.city_txn.specs.inside.Images.{write_at}
-use Rattle.city_txn.specs.Writes.{Write, write_of, own_or, own_write, is_by}
 use Rattle.city_txn.specs.CoreState.{CoreState, committed, view}
-use Rattle.city_txn.specs.inside.InPlace.{state_of, IsInPlace}
-use Rattle.city_txn.specs.inside.UndoState.{reservations_of}
-use Rattle.city_txn.specs.inside.State.{State, store_own, store_view}
 use Rattle.city_txn.specs.Changing.{change_in, IsChangeOf}
-use Rattle.city_locks.proofs.Ids.{has_id_more}
 use Rattle.city_txn.proofs.AtOneId.{at_made, sorted_made, here, image, by_seen}
 
 -- ---- writes noted

@@ -1,21 +1,20 @@
 -- From one core to another: what is seen and what stays of the others; and a core by its fields, new, with one more
 -- transaction open, and with one over.
-use Rattle.std.proofs.Common.{arith, ◌≡◌, ◌==◌, ℕ, List, Bool, true, false, is_some, ap, sym, ◌∙◌, subst, ◌||◌, []}
-use Rattle.std.proofs.Common.{refl, rules, tests, None, Some, if◌then◌else◌, cond}
-use Rattle.std.proofs.lemmas.Bool.{false≢true, eq-eqb, eqb-false}
-use Rattle.std.proofs.lemmas.Map.Made.{is_some-lookup}
-use Rattle.city_txn.specs.inside.Prelude.{CityMap, unmarked, IsSoundView, IsSound, IsLawful, Answered, mode_of, Lawful}
-use Rattle.city_txn.specs.inside.Prelude.{CoreState, committed, view, written, snapshot, is_open, held}
-use Rattle.city_txn.specs.inside.Prelude.{StandsUnderLocks}
-use Rattle.city_txn.specs.inside.Prelude.{KeepsOthers, view_with, Exclusive, Objects, object_at, View, HasNoOrphan}
-use Rattle.city_txn.specs.inside.Prelude.{IsTraceUnderLocks, Locks, Inside, write_of, own_write, log_of, own}
-use Rattle.city_txn.specs.inside.Prelude.{IsTransactionEnd, IsRolledBack, State, is_begun, Begins, is_reserved, Forgets}
-use Rattle.city_model.proofs.IdLists.{bool_cases}
+use Rattle.city_txn.proofs.Prelude.{arith, ◌≡◌, ◌==◌, ℕ, List, Bool, true, false, is_some, ap, sym, ◌∙◌, subst, ◌||◌}
+use Rattle.city_txn.proofs.Prelude.{[], refl, rules, tests, None, Some, if◌then◌else◌, false≢true, eq-eqb}
+use Rattle.city_txn.proofs.Prelude.{is_some-lookup, CityMap, unmarked, IsSound, IsLawful, Answered, mode_of, CoreState}
+use Rattle.city_txn.proofs.Prelude.{committed, view, written, snapshot, is_open, held, StandsUnderLocks, view_with}
+use Rattle.city_txn.proofs.Prelude.{Exclusive, View, IsTraceUnderLocks, Locks, bool_cases, Kept, IsConsistent}
+use Rattle.city_txn.proofs.Prelude.{core_state, IsCore}
+use Rattle.std.proofs.Common.{cond}
+use Rattle.std.proofs.lemmas.Bool.{eqb-false}
+use Rattle.city_txn.specs.inside.Prelude.{IsSoundView, Lawful, KeepsOthers, Objects, object_at, HasNoOrphan, Inside}
+use Rattle.city_txn.specs.inside.Prelude.{write_of, own_write, log_of, own, IsTransactionEnd, IsRolledBack, State}
+use Rattle.city_txn.specs.inside.Prelude.{is_begun, Begins, is_reserved, Forgets}
 use Rattle.city_model.proofs.History.{follows_sound}
 use Rattle.city_model.specs.declared.frame.Frame.{Frame}
 use Rattle.city_model.proofs.Carried.{history_kept}
-use Rattle.city_txn.specs.inside.Core.{Kept, kept, nothing, written_of, Stands, IsKept, IsConsistent, core_state}
-use Rattle.city_txn.specs.inside.Core.{IsCore}
+use Rattle.city_txn.specs.inside.Core.{kept, nothing, written_of, Stands, IsKept}
 use Rattle.city_txn.proofs.SeenWrites.{seen_with, seen_same, own_or_is, own_left, view_carried}
 use Rattle.city_txn.proofs.AtOneId.{tied}
 

@@ -5,6 +5,7 @@ pub mod CoreFields
 pub mod OneIdChanged
 pub mod PerformDone
 pub mod PlanWritten
+pub mod Prelude
 pub mod SeenWrites
 pub mod StoreChanged
 pub mod Touched

@@ -1,5 +1,4 @@
-use Rattle.std.proofs.Common.{◌≡◌, ℕ, List, false, subst}
-use Rattle.city_model.specs.CityMap.{same_id}
+use Rattle.city_txn.proofs.Prelude.{◌≡◌, ℕ, List, false, subst, same_id}
 use Rattle.city_model.proofs.Ids.{by_id}
 
 -- what holds of the id, and of each other one, holds of all

@@ -1,23 +1,22 @@
 -- A command done on the store, by its kind.
-use Rattle.std.proofs.Common.{arith, ◌≡◌, ◌&&◌, ℕ, List, [], Bool, true, false, not, Option, Some, Result, Ok, refl, ap}
-use Rattle.std.proofs.Common.{sym, ◌∙◌, subst, if◌then◌else◌, IsErr}
-use Rattle.std.proofs.lemmas.Bool.{false≢true}
-use Rattle.city_txn.specs.inside.Prelude.{Command, Reply, WentBack, Refused, NoMark, CityMap, View, marks_from}
-use Rattle.city_txn.specs.inside.Prelude.{is_refusal, locks_of, Change, is_mark, Lock, locks_id_exclusively}
-use Rattle.city_txn.specs.inside.Prelude.{effect_of, done_reply, refused_or, refusal, seen_next, answer, write_of}
-use Rattle.city_txn.specs.inside.Prelude.{own_write, Logs, OwnWrites, Written, log_of, written_at_mark, written_after}
-use Rattle.city_txn.specs.inside.Prelude.{map_with, marks_with, own_after, has_mark, State, store_own, store_written}
+use Rattle.city_txn.proofs.Prelude.{arith, ◌≡◌, ◌&&◌, ℕ, List, [], Bool, true, false, not, Option, Some, Result, Ok}
+use Rattle.city_txn.proofs.Prelude.{refl, ap, sym, ◌∙◌, subst, if◌then◌else◌, false≢true, Command, Reply, WentBack}
+use Rattle.city_txn.proofs.Prelude.{CityMap, View, marks_from, is_refusal, locks_of, Lock, locks_id_exclusively}
+use Rattle.city_txn.proofs.Prelude.{seen_next, answer, OwnWrites, Written, written_at_mark, written_after, map_with}
+use Rattle.city_txn.proofs.Prelude.{marks_with, own_after, AreOf, from_mapped, IsPerform}
+use Rattle.std.proofs.Common.{IsErr}
+use Rattle.city_txn.specs.inside.Prelude.{Refused, NoMark, Change, is_mark, effect_of, done_reply, refused_or, refusal}
+use Rattle.city_txn.specs.inside.Prelude.{write_of, own_write, Logs, log_of, has_mark, State, store_own, store_written}
 use Rattle.city_txn.specs.inside.Prelude.{store_committed, store_view, Touches}
-use Rattle.city_model.specs.declared.command.Command.TheVariants as commands
 use Rattle.city_model.specs.declared.command.Cause.{Cause}
 use Rattle.city_model.specs.declared.plan.Plan.{Plan}
-use Rattle.city_model.specs.declared.plan.Plan.TheVariants as plans
-use Rattle.city_model.specs.inside.Plans.{AreOf, AreWritesOf, IsPlan}
-use Rattle.city_model.proofs.MarksKept.{from_mapped}
+use Rattle.city_model.specs.inside.Plans.{AreWritesOf, IsPlan}
 use Rattle.city_model.proofs.Refused.{done_unrefused}
-use Rattle.city_txn.specs.inside.Performing.{plans as writes_of, seen, IsPerform}
+use Rattle.city_txn.specs.inside.Performing.{plans as writes_of, seen}
 use Rattle.city_txn.proofs.Touched.{touches_itself}
 use Rattle.city_txn.proofs.UndoLogs.{no_mark_from, mark_is_there}
+use Rattle.city_model.specs.declared.command.Command.TheVariants as commands
+use Rattle.city_model.specs.declared.plan.Plan.TheVariants as plans
 
 -- ---- who went back
 

@@ -1,21 +1,11 @@
 -- The writes of a plan worked through: one more made ready, and one more written.
-use Rattle.std.proofs.Common.{arith, ◌≡◌, ◌||◌, ℕ, ◌+◌, ◌<◌, List, [], ◌∷◌, ◌++◌, length, take}
-use Rattle.std.proofs.Common.{get_or, Bool, true, false, Option, Some, refl, ap, sym, ◌∙◌, if◌then◌else◌}
-use Rattle.std.specs.Ordering.{nat_cmp}
-use Rattle.std.specs.Cmp.Lexicographic.{slice_cmp}
-use Rattle.std.specs.BTreeMap.{is_at}
-use Rattle.std.proofs.lemmas.Map.Made.{is_some-lookup}
-use Rattle.std.specs.List.{list_any}
-use Rattle.std.proofs.lemmas.List.Folds.{list_any_more, list_any_at, list_any-append}
-use Rattle.city_model.specs.declared.object.Object.{Object}
-use Rattle.city_model.specs.CityMap.{CityMap, same_id}
-use Rattle.city_model.specs.Runs.{Change}
-use Rattle.city_model.specs.Writing.{write_in}
-use Rattle.city_model.specs.inside.Plans.{AreOf}
-use Rattle.city_model.proofs.Ids.{same_id_true, same_id_itself, same_id_back}
-use Rattle.city_txn.specs.Writes.{Write, own_write}
-use Rattle.city_txn.specs.inside.State.{State, written_with, MayReserve, Touches}
-use Rattle.city_txn.specs.inside.Performing.{plans}
+use Rattle.city_txn.proofs.Prelude.{arith, ◌≡◌, ◌||◌, ℕ, ◌+◌, ◌<◌, List, [], ◌∷◌, ◌++◌, length, take, get_or, Bool}
+use Rattle.city_txn.proofs.Prelude.{true, false, Option, Some, refl, ap, sym, ◌∙◌, if◌then◌else◌, nat_cmp, slice_cmp}
+use Rattle.city_txn.proofs.Prelude.{is_at, is_some-lookup, list_any, list_any-append, Object, same_id, Change, write_in}
+use Rattle.city_txn.proofs.Prelude.{AreOf, same_id_true, same_id_itself, same_id_back, Write, own_write, State}
+use Rattle.city_txn.proofs.Prelude.{written_with, MayReserve, Touches, plans}
+use Rattle.std.proofs.lemmas.List.Folds.{list_any_more, list_any_at}
+use Rattle.city_model.specs.CityMap.{CityMap}
 
 listed : (ws : Change) (q : List ℕ) → plans ws q ≡ list_any (λ w. same_id q w.0) ws
 listed [] q = refl

@@ -1,22 +1,18 @@
 -- What a transaction sees, from what it wrote by now and at each of its marks.
-use Rattle.std.proofs.Common.{arith, ◌≡◌, ◌==◌, ◌&&◌, ℕ, List, [], ◌∷◌, true, false, not, Option, None, Some, is_some}
-use Rattle.std.proofs.Common.{refl, ap, sym, ◌∙◌, subst, if◌then◌else◌, unwrap_or}
+use Rattle.city_txn.proofs.Prelude.{arith, ◌≡◌, ◌==◌, ◌&&◌, ℕ, List, [], ◌∷◌, true, false, not, Option, None, Some}
+use Rattle.city_txn.proofs.Prelude.{is_some, refl, ap, sym, ◌∙◌, subst, if◌then◌else◌, unwrap_or, Command, Exclusive}
+use Rattle.city_txn.proofs.Prelude.{CityMap, View, marks_from, is_refusal, locks_of, IsSound, covers}
+use Rattle.city_txn.proofs.Prelude.{locks_id_exclusively, seen_next, answer, OwnWrites, Written, written_at_mark}
+use Rattle.city_txn.proofs.Prelude.{written_after, map_with, marks_with, CoreState, committed, view, written, snapshot}
+use Rattle.city_txn.proofs.Prelude.{own_after, view_with, Object, bool_cases, from_mapped, refused_stays}
+use Rattle.city_txn.proofs.Prelude.{IsWrittenUnder, written_next}
 use Rattle.std.proofs.lemmas.Bool.{and_parts}
-use Rattle.city_txn.specs.inside.Prelude.{Command, Exclusive, CityMap, same_id, View, marks_from, is_refusal}
-use Rattle.city_txn.specs.inside.Prelude.{locks_of, IsSound, Held, covers, locks_id_exclusively, Marking, Leaves, Marks}
-use Rattle.city_txn.specs.inside.Prelude.{GoesBack, marking, back_to, step_as, seen_next, answer, after, Write}
-use Rattle.city_txn.specs.inside.Prelude.{own_or, own_write, is_by, unless_by, OwnWrites, Written}
-use Rattle.city_txn.specs.inside.Prelude.{written_at_mark, written_after, map_with, marks_with, CoreState, committed}
-use Rattle.city_txn.specs.inside.Prelude.{view, written, snapshot, own_after, view_with}
-use Rattle.city_model.specs.declared.object.Object.{Object}
+use Rattle.city_txn.specs.inside.Prelude.{same_id, Held, Marking, Leaves, Marks, GoesBack, marking, back_to, step_as}
+use Rattle.city_txn.specs.inside.Prelude.{after, Write, own_or, own_write, is_by, unless_by}
 use Rattle.city_model.specs.declared.mode.Mode.{Mode}
 use Rattle.city_model.specs.TraceLaw.{carried_map, carried_marks, carried}
 use Rattle.city_model.proofs.FrameLaw.{frame}
-use Rattle.city_model.proofs.IdLists.{bool_cases}
-use Rattle.city_model.proofs.MarksKept.{from_mapped}
-use Rattle.city_model.proofs.Refused.{refused_stays}
-use Rattle.city_txn.specs.inside.Core.{IsCovered, AreCovered, IsWrittenUnder}
-use Rattle.city_txn.specs.inside.Performing.{written_next}
+use Rattle.city_txn.specs.inside.Core.{IsCovered, AreCovered}
 
 pub own_or_is : (s : ℕ) (x : Option Write) (o : Option Object) → own_or s x o ≡ unwrap_or (own_write s x) o
 own_or_is s x o = grind arith

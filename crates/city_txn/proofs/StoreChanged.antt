@@ -1,30 +1,26 @@
 -- A city and its undo images that changed at some ids, and the store that has them: an id written, or reserved, or a
 -- transaction ended.
-use Rattle.std.proofs.Common.{◌<◌, ◌+◌, length, take, get_or, arith, if◌then◌else◌, unwrap_or, ◌==◌, ◌&&◌, ◌||◌, []}
-use Rattle.std.proofs.Common.{◌∷◌, ◌++◌, is_none, ◌≡◌, ℕ, List, Bool, true, false, Option, None, Some, is_some}
-use Rattle.std.proofs.Common.{refl, ap, sym, ◌∙◌, subst}
-use Rattle.std.proofs.lemmas.Bool.{false≢true, eqb-true, eq-eqb}
-use Rattle.std.proofs.lemmas.List.Folds.{list_any-append}
-use Rattle.city_model.specs.CityMap.{CityMap, CityValue, Objects, changed, has_id, object_at, same_id}
-use Rattle.city_model.specs.declared.object.Object.{Object}
-use Rattle.city_model.proofs.Ids.{same_id_true, same_id_itself, same_id_back}
-use Rattle.city_txn.specs.inside.Ending.{left_at_end, map_at_end}
-use Rattle.city_txn.specs.inside.State.{MayReserve, Touches, store_written, Forgets}
-use Rattle.city_txn.specs.inside.UndoState.{Images, image_at, reservations_of, listed_by}
-use Rattle.city_txn.specs.declared.store.Store.TheInside.{Inside}
+use Rattle.city_txn.proofs.Prelude.{◌<◌, ◌+◌, length, take, get_or, arith, if◌then◌else◌, unwrap_or, ◌==◌, ◌&&◌, ◌||◌}
+use Rattle.city_txn.proofs.Prelude.{[], ◌∷◌, ◌++◌, ◌≡◌, ℕ, List, Bool, true, false, Option, None, Some, is_some, refl}
+use Rattle.city_txn.proofs.Prelude.{ap, sym, ◌∙◌, subst, false≢true, eq-eqb, list_any-append, has_id, object_at}
+use Rattle.city_txn.proofs.Prelude.{same_id, Object, same_id_true, same_id_itself, same_id_back, left_at_end}
+use Rattle.city_txn.proofs.Prelude.{MayReserve, Touches, store_written, image_at, reservations_of, Inside, UndoImage}
+use Rattle.city_txn.proofs.Prelude.{committed_at, write_at, writer_of, has_id_more, State, store_committed, is_reserved}
+use Rattle.city_txn.proofs.Prelude.{OthersWritesStay, Logs, log_of, marked, state_of, is_writer, IsInPlace, Became}
+use Rattle.city_txn.proofs.Prelude.{Write, write_of, unless_by, own_write}
+use Rattle.std.proofs.Common.{is_none}
+use Rattle.std.proofs.lemmas.Bool.{eqb-true}
+use Rattle.city_model.specs.CityMap.{CityMap, CityValue, Objects, changed}
+use Rattle.city_txn.specs.inside.Ending.{map_at_end}
+use Rattle.city_txn.specs.inside.State.{Forgets, WritesOne, is_begun}
+use Rattle.city_txn.specs.inside.UndoState.{Images, listed_by}
 use Rattle.city_txn.specs.declared.ending.End.{End}
-use Rattle.city_txn.specs.declared.image.UndoImage.{UndoImage}
 use Rattle.city_txn.specs.declared.undo.Undo.{Undo}
-use Rattle.city_txn.specs.inside.Images.{committed_at, unwritten_image, write_at, writer_of}
-use Rattle.city_locks.proofs.Ids.{has_id_more}
-use Rattle.city_txn.specs.inside.State.{State, store_committed, is_reserved, WritesOne, OthersWritesStay, is_begun}
-use Rattle.city_txn.specs.UndoLog.{OwnWrites, Logs, log_of, marked}
+use Rattle.city_txn.specs.inside.Images.{unwritten_image}
+use Rattle.city_txn.specs.UndoLog.{OwnWrites}
 use Rattle.city_txn.proofs.AtOneId.{here, image, city_is, writes_is, view_is}
 use Rattle.city_txn.specs.Placeholder.{placeholder}
 use Rattle.city_txn.specs.declared.ending.End.TheVariants.{Commit, RollBack}
-use Rattle.city_txn.specs.inside.InPlace.{state_of, is_writer, IsInPlace}
-use Rattle.city_txn.specs.inside.Slots.{Became}
-use Rattle.city_txn.specs.Writes.{Write, write_of, unless_by, own_write}
 
 -- ---- a city and its images
 

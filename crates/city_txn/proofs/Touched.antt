@@ -1,15 +1,9 @@
 -- What a transaction touches of the store: step by step, and at more ids.
-use Rattle.std.proofs.Common.{◌∷◌, Option, if◌then◌else◌, false, arith, rules, tests, ◌≡◌, ◌==◌, ◌||◌, ℕ, List, Bool}
-use Rattle.std.proofs.Common.{true, refl, ap, ◌∙◌}
-use Rattle.city_model.specs.CityMap.{has_id}
-use Rattle.city_model.specs.declared.object.Object.{Object}
-use Rattle.city_model.proofs.Ids.{same_id_itself}
-use Rattle.city_txn.specs.declared.undo_log.Entry.{Entry}
-use Rattle.city_txn.specs.declared.undo_log.Entry.TheVariants.{BeforeImage}
-use Rattle.city_txn.specs.inside.State.{State, is_reserved, ChangesWrites, Touches}
-use Rattle.city_txn.specs.inside.UndoState.{reservations_of}
-use Rattle.city_txn.specs.UndoLog.{Logs, log_of, has_before}
-use Rattle.city_txn.specs.Writes.{write_of, unless_by}
+use Rattle.city_txn.proofs.Prelude.{◌∷◌, Option, if◌then◌else◌, false, arith, rules, tests, ◌≡◌, ◌==◌, ◌||◌, ℕ, List}
+use Rattle.city_txn.proofs.Prelude.{Bool, true, refl, ap, ◌∙◌, has_id, Object, same_id_itself, Entry, BeforeImage}
+use Rattle.city_txn.proofs.Prelude.{State, is_reserved, ChangesWrites, Touches, reservations_of, Logs, log_of, write_of}
+use Rattle.city_txn.proofs.Prelude.{unless_by}
+use Rattle.city_txn.specs.UndoLog.{has_before}
 
 pub or_cases : (a b : Bool) {A : Type 0} → (a || b) ≡ true → (a ≡ true → A) → (b ≡ true → A) → A
 or_cases true b h f g = f refl

@@ -1,20 +1,14 @@
 -- Undo logs: what an entry changes, and what is seen of marks.
-use Rattle.std.proofs.Common.{arith, ◌≡◌, ◌||◌, ℕ, List, [], ◌∷◌, drop, true, false, Option, refl, ap}
-use Rattle.std.proofs.Common.{sym, ◌∙◌}
-use Rattle.std.proofs.Common.{reverse, Bool}
-use Rattle.std.specs.List.{list_any}
+use Rattle.city_txn.proofs.Prelude.{arith, ◌≡◌, ◌||◌, ℕ, List, [], ◌∷◌, true, false, Option, refl, ap, sym, ◌∙◌, Bool}
+use Rattle.city_txn.proofs.Prelude.{list_any, false≢true, Object, same_id, same_id_true, bool_cases, Entry, BeforeImage}
+use Rattle.city_txn.proofs.Prelude.{marked, is_noted, has_mark}
+use Rattle.std.proofs.Common.{drop, reverse}
 use Rattle.std.proofs.lemmas.List.Sorted.{list_any-IsPermutation, IsPermutation-reverse}
 use Rattle.std.specs.Map.{update}
-use Rattle.std.proofs.lemmas.Bool.{false≢true}
-use Rattle.city_model.specs.declared.object.Object.{Object}
-use Rattle.city_model.specs.CityMap.{same_id}
 use Rattle.city_model.specs.Marks.{marks_from}
-use Rattle.city_model.proofs.Ids.{same_id_true}
-use Rattle.city_model.proofs.IdLists.{bool_cases}
-use Rattle.city_txn.specs.declared.undo_log.Entry.{Entry}
-use Rattle.city_txn.specs.declared.undo_log.Entry.TheVariants.{Mark, BeforeImage}
-use Rattle.city_txn.specs.UndoLog.{OwnWrites, Written, marked, written_at_mark}
-use Rattle.city_txn.specs.inside.LogTests.{is_noted, has_mark, is_at_mark, newest_undone}
+use Rattle.city_txn.specs.declared.undo_log.Entry.TheVariants.{Mark}
+use Rattle.city_txn.specs.UndoLog.{OwnWrites, Written, written_at_mark}
+use Rattle.city_txn.specs.inside.LogTests.{is_at_mark, newest_undone}
 
 -- ---- marks over other writes
 

@@ -1,130 +1,158 @@
--- A city that a text stands for is written so that it nests no deeper than what is read.
-use Rattle.std.proofs.Common.{ℕ, suc, ◌≤◌, List, [], ◌∷◌, ℤ, Bool, true, false, Option, Some, None, codes, arith}
-use Rattle.std.specs.Prelude.{option_map, option_and_then, if◌then◌else◌}
-use Rattle.std.specs.FinMap.{entries}
-use Rattle.serde_json.specs.Data.{Data, string, Members, no_members, put, depth, members_depth}
-use Rattle.serde_json.specs.Find.{as_object, get}
-use Rattle.serde_json.specs.Read.{max_depth}
+-- A city that a text stands for is written so that it nests no deeper than what is read, or than boundaries do.
+use Rattle.city_doc.proofs.Prelude.{◌≡◌, ℕ, zero, suc, ◌<◌, ◌≤◌, max, List, ◌∷◌, map, Option, Some, arith, ℤ, Bool, []}
+use Rattle.city_doc.proofs.Prelude.{refl, subst, sym, Data, string, Items, no_items, item, Members, no_members, member}
+use Rattle.city_doc.proofs.Prelude.{put, depth, array, items_depth, members_depth, get, get_member, as_object}
+use Rattle.city_doc.proofs.Prelude.{max_depth, items_of, Entries, CityValue, Objects, Frame, Geometry, Object, Point}
+use Rattle.city_doc.proofs.Prelude.{Shape, object_members, geometry_members, top_members, kept_at_transform}
+use Rattle.city_doc.proofs.Prelude.{transform_members, kept_at_geometry, kept_at_object, kept_at_top, without}
+use Rattle.city_doc.proofs.Prelude.{without_each, read_items, list_or_absent, put_list, kept_if, integer_data}
+use Rattle.city_doc.proofs.Prelude.{triple_data, geometry_of, Nested, nested, object_of, entries_of, city_of}
+use Rattle.city_doc.proofs.Prelude.{IsTextOfCity, frame_of, more_of, nested_data, geometry_data, object_data}
+use Rattle.city_doc.proofs.Prelude.{with_objects, frame_members, numbered_tree, tree_of, pool_of, and_then_some}
+use Rattle.city_doc.proofs.Prelude.{map_some, entries, objects_in, vertices_in, option_and_then, option_map}
+use Rattle.city_doc.proofs.Prelude.{vertex_data}
+use Rattle.std.proofs.Common.{codes}
 use Rattle.serde_json.proofs.Nesting.{depth-read}
-use Rattle.city_model.specs.CityMap.{Entries, CityValue}
-use Rattle.city_model.specs.declared.frame.Frame.{Frame}
-use Rattle.city_model.specs.declared.object.Point.{Point}
-use Rattle.city_model.specs.Kept.{kept_at_top, kept_at_transform, top_members, transform_members}
-use Rattle.city_model.specs.declared.object.Object.{Object}
-use Rattle.city_tokens.specs.tree.Members.{kept_if}
-use Rattle.city_tokens.specs.tree.Triples.{integer_data, triple_data}
-use Rattle.city_doc.specs.object.Canonical.{object_data, with_objects, objects_data}
-use Rattle.city_doc.specs.document.Canonical.{transform_data, frame_members, numbered_tree, tree_of}
-use Rattle.city_doc.specs.shape.Vertices.{vertex_data, vertices_data}
-use Rattle.city_tokens.specs.document.Cities.{is_city_json, points_in, entries_in, objects_of, city_of, IsTextOfCity}
-use Rattle.city_tokens.specs.document.Frames.{without_transform_members, more_of, frame_of, without_top_members}
-use Rattle.city_doc.specs.Pool.{pool_of}
-use Rattle.city_doc.proofs.document.NestsNoDeeper.{Holds, holds_then, holds_map, put_depth, kept_depth}
-use Rattle.city_doc.proofs.document.NestsNoDeeper.{object_members_depth, list_depth, objects_within, get_depth}
-use Rattle.city_doc.proofs.document.NestsNoDeeper.{held, holds_where, without_each_depth}
 use Rattle.city_tokens.proofs.Laws.{OfEach, of_each_listed}
-use Rattle.city_doc.proofs.document.FrameParts.{frame_parts}
+use Rattle.city_doc.proofs.document.LawfulTrees.{stands_for, frame_parts}
+use Rattle.city_doc.proofs.document.NoFault.{read_as}
+use Rattle.city_doc.proofs.object.FaultlessBodies.{body_parts, geometry_parts}
+
+put_depth : (k : List ℕ) (d : Data) (ms : Members) → members_depth (put k d ms) ≤ max (depth d) (members_depth ms)
+put_depth k d no_members = omega arith
+put_depth k d (member l e ms) = let rest = put_depth k d ms in grind arith
+
+put_list_depth : {A : Type 0} (k : List ℕ) (f : A → Data) (xs : List A) (ms : Members)
+    → members_depth (put_list k f xs ms) ≤ max (suc (items_depth (items_of (map f xs)))) (members_depth ms)
+put_list_depth k f [] ms = omega arith
+put_list_depth k f (x ∷ xs) ms = omega (arith, put_depth)
+
+without_depth : (name : List ℕ) (ms : Members) → members_depth (without name ms) ≤ members_depth ms
+without_depth name no_members = omega arith
+without_depth name (member k d ms) = let rest = without_depth name ms in grind arith
+
+without_each_depth : (names : List (List ℕ)) (ms : Members) → members_depth (without_each names ms) ≤ members_depth ms
+without_each_depth [] ms = omega arith
+without_each_depth (name ∷ names) ms =
+    omega (arith, without_each_depth names (without name ms), without_depth name ms)
+
+member_depth : (name : List ℕ) (ms : Members) (e : Data) → get_member name ms ≡ Some e → depth e ≤ members_depth ms
+member_depth name no_members e h = grind arith
+member_depth name (member k d ms) e h = let rest = member_depth name ms e in grind arith
+
+get_depth : (name : List ℕ) (d e : Data) → get name d ≡ Some e → depth e < depth d
+get_depth name d e h = grind (arith, member_depth)
+
+object_depth : (d : Data) (ms : Members) → as_object d ≡ Some ms → members_depth ms < depth d
+object_depth d ms h = grind arith
+
+left_depth : (test : Members → Bool) (names : List (List ℕ)) (d : Data) (ms kept : Members) → as_object d ≡ Some ms
+    → kept_if test (without_each names ms) ≡ Some kept → members_depth kept < depth d
+left_depth test names d ms kept is h =
+    let less = without_each_depth names ms in
+    let deep = object_depth d ms is in
+    grind arith
+
+list_depth : {A : Type 0} (f : A → Data) (n : ℕ) → ((x : A) → depth (f x) ≤ n) → (xs : List A)
+    → items_depth (items_of (map f xs)) ≤ n
+list_depth f n each [] = omega arith
+list_depth f n each (x ∷ xs) = omega (arith, each x, list_depth f n each xs)
+
+-- a list that is read nests no deeper where what is read of each item doesn't
+module _ {A : Type 0} (read : Data → Option A) (f : A → Data) (n : ℕ) (each : (d : Data) (x : A) → read d ≡ Some x
+    → depth (f x) ≤ max n (depth d)) where
+  items_within : (ds : Items) (xs : List A) → read_items read ds ≡ Some xs
+      → items_depth (items_of (map f xs)) ≤ max n (items_depth ds)
+  items_within no_items xs h = grind arith
+  items_within (item d ds) xs h =
+      let x = and_then_some (λ y. option_map (λ ys. y ∷ ys) (read_items read ds)) (read d) xs h in
+      let r = map_some (λ ys. x.0 ∷ ys) (read_items read ds) xs x.2 in
+      rw r.2 (omega (arith, each d x.0 x.1, items_within ds r.0 r.1))
+
+  list_within : (o : Option Data) (b : ℕ) → ((e : Data) → o ≡ Some e → depth e < b) → (xs : List A)
+      → list_or_absent read o ≡ Some xs → suc (suc (items_depth (items_of (map f xs)))) ≤ max (suc (suc n)) b
+  list_within (Some (array ds)) b below xs h = let deep = below (array ds) refl in omega (arith, items_within ds xs h)
+  list_within o b below xs h = grind arith
+
+module _ (pool points : List Point) where
+  nested_depth : (n : ℕ) (x : Nested n) → depth (nested_data pool n x) ≤ n
+  nested_depth zero p = omega arith
+  nested_depth (suc n) xs = omega (arith, list_depth (nested_data pool n) n (nested_depth n) xs)
+
+  nested_within : (s : Shape) → (nested s).0 ≤ 5
+  nested_within s = grind arith
+
+  geometry_within : (d : Data) (g : Geometry) → geometry_of points d ≡ Some g
+      → depth (geometry_data pool g) ≤ max 6 (depth d)
+  geometry_within d g h =
+      let p = geometry_parts points d g h in
+      let bounds = nested_depth (nested g.shape).0 (nested g.shape).1 in
+      let few = nested_within g.shape in
+      let left = left_depth kept_at_geometry geometry_members d p.members g.extra p.is_object p.kept in
+      omega (arith, put_depth)
+
+  object_within : (d : Data) (o : Object) → object_of points d ≡ Some o → depth (object_data pool o) ≤ max 8 (depth d)
+  object_within d o h =
+      let r = read_as points d o h in
+      let p = body_parts points d o.body r.body in
+      let shapes = list_within (geometry_of points) (geometry_data pool) 6 geometry_within (get (codes "geometry") d)
+      (depth d) (get_depth (codes "geometry") d) o.body.geometry p.geometry in
+      let left = left_depth kept_at_object object_members d p.members o.body.extra p.is_object p.kept in
+      omega (arith, put_depth, put_list_depth, list_depth string 0 (λ s. omega arith))
+
+  entries_within : (n : ℕ) (ms : Members) (es : Entries) → members_depth ms ≤ n → entries_of points ms ≡ Some es
+      → OfEach (λ o. depth (object_data pool o) ≤ max 8 n) es
+  entries_within n no_members es below h = grind arith
+  entries_within n (member id d ms) es below h =
+      let o = and_then_some _ (object_of points d) es h in
+      let r = map_some _ (entries_of points ms) es o.2 in
+      let first = object_within d o.0 o.1 in
+      let rest = entries_within n ms r.0 (omega arith) r.1 in
+      rw r.2 (omega arith, rest)
+
+  objects_depth : (n : ℕ) (es : Entries) → OfEach (λ o. depth (object_data pool o) ≤ n) es → (ms : Members)
+      → members_depth ms ≤ n → members_depth (with_objects pool ms es) ≤ n
+  objects_depth n [] h ms below = below
+  objects_depth n (e ∷ es) h ms below =
+      objects_depth n es h.1 (put e.0 (object_data pool e.1) ms) (omega (arith, put_depth, h.0))
 
 triple_depth : (zs : List ℤ) → depth (triple_data zs) ≤ 1
 triple_depth zs = omega (arith, list_depth integer_data 0 (λ z. omega arith) zs)
 
-vertices_depth : (ps : List Point) → depth (vertices_data ps) ≤ 2
-vertices_depth ps = omega (arith, list_depth vertex_data 1 (λ p. triple_depth (p.x ∷ p.y ∷ p.z ∷ [])) ps)
+objects_deep : (d : Data) → option_and_then as_object (get (codes "CityObjects") d) ≡ Some (objects_in d)
+    → suc (members_depth (objects_in d)) < depth d
+objects_deep d h =
+    let e = and_then_some as_object (get (codes "CityObjects") d) (objects_in d) h in
+    let below = get_depth (codes "CityObjects") d e.0 e.1 in
+    let within = object_depth e.0 (objects_in d) e.2 in
+    omega arith
 
--- ---- the frame
+more_depth : (t : Data) (more : Members) → more_of t ≡ Some more → members_depth more < depth t
+more_depth t more h =
+    let ms = and_then_some _ (as_object t) more h in
+    left_depth kept_at_transform transform_members t ms.0 more ms.1 ms.2
 
-module _ (k : ℕ) (deep : 1 ≤ k) where
-  abbrev IsFrameWithin : Frame → Type 0
-  IsFrameWithin f = (members_depth f.extra ≤ suc k) × (members_depth f.more ≤ k)
+frame_within : (d : Data) (f : Frame) → frame_of d ≡ Some f → suc (members_depth (frame_members f)) ≤ max 3 (depth d)
+frame_within d f h =
+    let p = frame_parts d f h in
+    let there = get_depth (codes "transform") d p.transform p.there in
+    let more = more_depth p.transform f.more p.more in
+    let left = left_depth kept_at_top top_members d p.top f.extra p.is_top p.extra in
+    omega (arith, put_depth, triple_depth)
 
-  more_within : (transform : Data) → depth transform ≤ suc k → Holds (λ ms. members_depth ms ≤ k) (more_of transform)
-  more_within transform within =
-      holds_then (λ ms. members_depth ms ≤ k) (λ ms. members_depth ms ≤ k)
-      (λ ms. kept_if kept_at_transform (without_transform_members ms))
-      (λ ms below. kept_depth kept_at_transform (without_transform_members ms) k
-      (without_each_depth transform_members ms k below))
-      (as_object transform) (object_members_depth transform k within)
-
-  frame_within : (d : Data) → depth d ≤ suc (suc k) → Holds IsFrameWithin (frame_of d)
-  frame_within d h =
-      holds_where IsFrameWithin (frame_of d) (λ f is.
-      let p = frame_parts d f is in
-      let top = held (λ ms. members_depth ms ≤ suc k) (as_object d) p.top p.is_top (object_members_depth d (suc k) h) in
-      let transform = held (λ e. depth e ≤ suc k) (get (codes "transform") d) p.transform p.there
-      (get_depth (codes "transform") d (suc k) h) in (
-        held (λ kept. members_depth kept ≤ suc k) _ f.extra p.extra
-            (kept_depth kept_at_top (without_top_members p.top) (suc k)
-            (without_each_depth top_members p.top (suc k) top)),
-        held (λ ms. members_depth ms ≤ k) _ f.more p.more (more_within p.transform transform),
-      ))
-
-  transform_depth : (f : Frame) → IsFrameWithin f → depth (transform_data f) ≤ suc k
-  transform_depth f h =
-      let a = put_depth (codes "scale") (triple_data f.scale) f.more k (omega (arith, triple_depth f.scale)) h.1 in
-      let b = put_depth (codes "translate") (triple_data f.translate) (put (codes "scale") (triple_data f.scale) f.more)
-      k (omega (arith, triple_depth f.translate)) a in
-      omega arith
-
-  frame_members_depth : (f : Frame) → IsFrameWithin f → members_depth (frame_members f) ≤ suc k
-  frame_members_depth f h =
-      let typed = put (codes "type") (string (codes "CityJSON")) f.extra in
-      let a = put_depth (codes "type") (string (codes "CityJSON")) f.extra (suc k) (omega arith) h.0 in
-      let b = put_depth (codes "version") (string (codes "2.0")) typed (suc k) (omega arith) a in
-      put_depth (codes "transform") (transform_data f) (put (codes "version") (string (codes "2.0")) typed) (suc k)
-      (transform_depth f h) b
-
--- ---- the whole
-
-module _ (m : ℕ) (deep : 5 ≤ m) (pool : List Point) where
-  abbrev IsObjectWithin : Object → Type 0
-  IsObjectWithin o = depth (object_data pool o) ≤ suc (suc (suc m))
-
-  -- wherever the objects are put in
-  objects_depth : (es : Entries) → OfEach IsObjectWithin es → (ms : Members) → members_depth ms ≤ suc (suc (suc m))
-      → members_depth (with_objects pool ms es) ≤ suc (suc (suc m))
-  objects_depth [] h ms below = below
-  objects_depth (e ∷ es) h ms below =
-      objects_depth es h.1 (put e.0 (object_data pool e.1) ms)
-      (put_depth e.0 (object_data pool e.1) ms (suc (suc (suc m))) h.0 below)
-
-  city_depth : (f : Frame) (es : Entries) → IsFrameWithin (suc (suc (suc m))) (omega arith) f → OfEach IsObjectWithin es
-      → depth (numbered_tree pool (f, objects_of es)) ≤ suc (suc (suc (suc (suc m))))
-  city_depth f es h r =
-      let n = suc (suc (suc (suc m))) in
-      let listed = entries (objects_of es) in
-      let objects : depth (objects_data pool listed) ≤ n =
-      omega (arith, objects_depth listed (of_each_listed IsObjectWithin es r) no_members (omega arith)) in
-      let a = put_depth (codes "vertices") (vertices_data pool) (frame_members f) n (omega (arith, vertices_depth pool))
-      (frame_members_depth (suc (suc (suc m))) (omega arith) f h) in
-      let b = put_depth (codes "CityObjects") (objects_data pool listed)
-      (put (codes "vertices") (vertices_data pool) (frame_members f)) n objects a in
-      omega arith
-
-  city_parts : (b : Bool) (points : Option (List Point)) (entries : List Point → Option Entries) (frame : Option Frame)
-      → ((ps : List Point) → Holds (OfEach IsObjectWithin) (entries ps))
-      → Holds (IsFrameWithin (suc (suc (suc m))) (omega arith)) frame
-      → Holds (λ c. depth (numbered_tree pool c) ≤ suc (suc (suc (suc (suc m)))))
-      (if b then option_and_then
-      (λ points. option_and_then (λ entries. option_map (λ frame. (frame, objects_of entries)) frame)
-      (entries points)) points else None)
-  city_parts false points entries frame h r = tt
-  city_parts true None entries frame h r = tt
-  city_parts true (Some ps) entries frame h r =
-      holds_then (OfEach IsObjectWithin) (λ c. depth (numbered_tree pool c) ≤ suc (suc (suc (suc (suc m)))))
-      (λ es. option_map (λ f. (f, objects_of es)) frame)
-      (λ es within. holds_map (IsFrameWithin (suc (suc (suc m))) (omega arith))
-      (λ c. depth (numbered_tree pool c) ≤ suc (suc (suc (suc (suc m))))) (λ f. (f, objects_of es))
-      (λ f below. city_depth f es below within) frame r)
-      (entries ps) (h ps)
-
-  city_within : (d : Data) → depth d ≤ suc (suc (suc (suc (suc m))))
-      → Holds (λ c. depth (numbered_tree pool c) ≤ suc (suc (suc (suc (suc m))))) (city_of d)
-  city_within d h =
-      city_parts (is_city_json d) (points_in d) (λ ps. entries_in ps d) (frame_of d)
-      (λ ps. objects_within pool ps m deep d h) (frame_within (suc (suc (suc m))) (omega arith) d h)
+city_within : (pool : List Point) (d : Data) (c : CityValue) → city_of d ≡ Some c
+    → depth (numbered_tree pool c) ≤ max 10 (depth d)
+city_within pool d c h =
+    let s = stands_for d c h in
+    let n = members_depth (objects_in d) in
+    let deep = objects_deep d s.objects in
+    let each = subst (λ (o : Objects). OfEach (λ o. depth (object_data pool o) ≤ max 8 n) (entries o)) (sym s.made)
+    (of_each_listed _ s.list (entries_within pool (vertices_in d) n (objects_in d) s.list (omega arith) s.entries)) in
+    let objects = objects_depth pool [] (max 8 n) (entries c.1) each no_members (omega arith) in
+    let f = frame_within d c.0 s.frame in
+    omega (arith, put_depth, list_depth vertex_data 1 (λ p. triple_depth (p.x ∷ p.y ∷ p.z ∷ [])) pool)
 
 -- the canonical tree of a city that was read may be read
 pub written_within : (text : List ℕ) (c : CityValue) → IsTextOfCity text c → depth (tree_of c) ≤ max_depth
 written_within text c (d, (utf, is), stands) =
-    held (λ other. depth (numbered_tree (pool_of c) other) ≤ 127) (city_of d) c stands
-    (city_within 122 (omega arith) (pool_of c) d (depth-read text d is))
+    omega (arith, city_within (pool_of c) d c stands, depth-read text d is)

@@ -1,40 +1,47 @@
 -- A tree of whole numbers that stands for a lawful city has no fault, from its top to its objects.
-use Rattle.std.proofs.Common.{◌≡◌, true≢false, ◌⊎◌, inl, inr, ℕ, List, [], ◌∷◌, Bool, true, Option, Some, None, Result}
-use Rattle.std.proofs.Common.{Ok, Err, refl, sym, ap, subst, ◌∙◌, arith}
-use Rattle.std.specs.Prelude.{◌&&◌, IfErr, length, option_and_then, option_map, is_some, codes}
-use Rattle.std.proofs.lemmas.Bool.{and_from, and_parts}
-use Rattle.serde_json.specs.Data.{Data, Members, no_members, member}
-use Rattle.serde_json.specs.Find.{get, get_member, as_object}
-use Rattle.city_model.specs.declared.object.Point.{Point}
-use Rattle.city_model.specs.CityMap as city
-use Rattle.city_model.specs.Kept.{kept_at_top, is_empty_object_or_absent, lacks_each, top_members}
-use Rattle.city_model.specs.Relations.{IsLawful}
-use Rattle.city_model.specs.Integral.{is_integral, members_integral}
-use Rattle.city_model.specs.CityMap.{CityValue}
-use Rattle.city_doc.specs.declared.fault.ReadFault.{ReadFault}
-use Rattle.city_doc.specs.declared.fault.ReadFault.TheVariants.{OutOfMemory, TooLong, NotJson, NotWhole, NotCityJson}
-use Rattle.city_doc.specs.declared.fault.ReadFault.TheVariants.{UnknownType, Unsupported, BadGeometry, BadVertex}
-use Rattle.city_doc.specs.declared.fault.ReadFault.TheVariants.{BadRing, Relations, OpenShell}
-use Rattle.city_tokens.specs.tree.Members.{kept_if, is_text}
-use Rattle.city_doc.specs.document.CityFaults.{or_empty}
-use Rattle.city_tokens.specs.document.Cities.{is_city_json, points_in, entries_of, entries_in, city_of, objects_of}
-use Rattle.city_tokens.specs.document.Cities.{IsAdmitted}
-use Rattle.city_doc.specs.document.Faults.{members_of, objects_in, vertices_in, is_unsupported, StandsIn, DocumentFault}
-use Rattle.city_doc.specs.document.Top.{has_triple, is_transform, all_objects, are_all_objects, are_objects}
-use Rattle.city_doc.specs.document.Top.{are_vertices, first_wrong, wrong_member}
-use Rattle.city_tokens.specs.document.Frames.{frame_of, without_top_members}
-use Rattle.city_doc.specs.object.Faults.{is_unknown_type, is_bad_geometry, has_bad_vertex}
-use Rattle.city_tokens.specs.tree.Triples.{points_of}
-use Rattle.city_doc.proofs.document.Cities.{get-object}
-use Rattle.city_doc.proofs.document.KeptMembers.{kept_passes}
-use Rattle.city_tokens.proofs.Laws.{at_listed, are_triples-read, get_member-without_each}
+use Rattle.city_doc.proofs.Prelude.{◌≡◌, true≢false, ◌⊎◌, inl, inr, ℕ, List, Bool, true, Option, Some, None, Result}
+use Rattle.city_doc.proofs.Prelude.{refl, sym, ap, subst, ◌∙◌, arith, false, option_and_then, is_some, Data, Members}
+use Rattle.city_doc.proofs.Prelude.{no_members, member, get, get_member, as_object, Point, kept_at_top}
+use Rattle.city_doc.proofs.Prelude.{is_empty_object_or_absent, top_members, IsLawful, is_integral, CityValue, Body}
+use Rattle.city_doc.proofs.Prelude.{body_of, Has, ReadFault, NotWhole, NotCityJson, UnknownType, Unsupported}
+use Rattle.city_doc.proofs.Prelude.{BadGeometry, BadVertex, BadRing, Relations, OpenShell, kept_if, is_text}
+use Rattle.city_doc.proofs.Prelude.{is_city_json, points_in, entries_of, city_of, objects_of, entries_in, IsAdmitted}
+use Rattle.city_doc.proofs.Prelude.{objects_in, vertices_in, is_unsupported, StandsIn, members_of, all_objects}
+use Rattle.city_doc.proofs.Prelude.{are_all_objects, has_triple, is_transform, are_objects, are_vertices, wrong_member}
+use Rattle.city_doc.proofs.Prelude.{frame_of, without_top_members, triple_at, more_of, is_unknown_type, is_bad_geometry}
+use Rattle.city_doc.proofs.Prelude.{has_bad_vertex, points_of, get_member-without_each, and_parts, and_from}
+use Rattle.city_doc.proofs.Prelude.{and_then_some, if_some, map_some, Frame, or_empty}
+use Rattle.std.proofs.Common.{Ok, Err, codes}
+use Rattle.std.specs.Prelude.{IfErr, length}
+use Rattle.city_doc.specs.declared.fault.ReadFault.TheVariants.{OutOfMemory}
+use Rattle.city_doc.specs.document.Faults.{DocumentFault}
+use Rattle.city_tokens.proofs.Laws.{at_listed, are_triples-read}
 use Rattle.city_doc.proofs.object.FaultlessBodies.{known, supported, formed, placed, is_object}
 use Rattle.city_doc.proofs.document.NoFault.{read_as, no_object, no_bad_ring, no_open_shell, no_badly_related}
 use Rattle.city_doc.proofs.OneValue.{one_tree}
-use Rattle.city_tokens.proofs.Options.{and_then_some, map_some, if_some}
-use Rattle.city_doc.proofs.document.FrameParts.{frame_parts}
+use Rattle.city_doc.proofs.document.KeptMembers.{kept_passes}
+use Rattle.city_doc.proofs.document.Right.{get-object}
+use Rattle.city_model.specs.CityMap as city
 
--- ---- the parts of a city's tree
+pub record HasFrameParts (d : Data) (f : Frame) : Type 0 where
+  pub transform : Data
+  pub there : get (codes "transform") d ≡ Some transform
+  pub scale : triple_at (codes "scale") transform ≡ Some f.scale
+  pub translate : triple_at (codes "translate") transform ≡ Some f.translate
+  pub more : more_of transform ≡ Some f.more
+  pub top : Members
+  pub is_top : as_object d ≡ Some top
+  pub extra : kept_if kept_at_top (without_top_members top) ≡ Some f.extra
+
+pub frame_parts : (d : Data) (f : Frame) → frame_of d ≡ Some f → HasFrameParts d f
+frame_parts d f h =
+    let transform = and_then_some _ (get (codes "transform") d) f h in
+    let scale = and_then_some _ (triple_at (codes "scale") transform.0) f transform.2 in
+    let translate = and_then_some _ (triple_at (codes "translate") transform.0) f scale.2 in
+    let more = and_then_some _ (more_of transform.0) f translate.2 in
+    let top = and_then_some _ (as_object d) f more.2 in
+    let extra = map_some _ (kept_if kept_at_top (without_top_members top.0)) f top.2 in
+    rw extra.2 (search)
 
 pub record StandsFor (d : Data) (c : CityValue) : Type 0 where
   pub json : is_city_json d ≡ true
@@ -65,82 +72,57 @@ stands_for d c h =
       frame = frame.1 ∙ ap (λ x. Some x.0) (sym frame.2);
     }
 
--- ---- the top
-
 all_are_objects : (points : List Point) (ms : Members) (es : city.Entries) → entries_of points ms ≡ Some es
     → all_objects ms ≡ true
 all_are_objects points no_members es h = refl
-all_are_objects points (member k x ms) es h =
-    let o = and_then_some (λ y. option_map (λ ys. (k, y) ∷ ys) (entries_of points ms)) _ es h in
-    let r = map_some (λ ys. (k, o.0) ∷ ys) (entries_of points ms) es o.2 in
-    and_from (is_some (as_object x)) (all_objects ms) (is_object points x (o.0).body (read_as points x o.0 o.1).body)
-    (all_are_objects points ms r.0 r.1)
+all_are_objects points (member k x ms) es h = grind (arith, read_as, is_object, all_are_objects points ms)
 
 pub vertices_right : (o : Option Data) (ps : List Point) → option_and_then points_of o ≡ Some ps → are_vertices o ≡ true
-vertices_right None ps h = absurd (let no : ⊥ = cc in no)
-vertices_right (Some v) ps h = are_triples-read v ps h
+vertices_right o ps h = grind (arith, are_triples-read)
 
 -- the kept members of the top have no other `extensions` than it has
 extensions_right : (top kept : Members) → kept_if kept_at_top (without_top_members top) ≡ Some kept
     → is_empty_object_or_absent (get_member (codes "extensions") top) ≡ true
 extensions_right top kept h =
-    let left = without_top_members top in
-    ap is_empty_object_or_absent (sym (get_member-without_each top_members (codes "extensions") top refl))
-    ∙ (and_parts (members_integral left && lacks_each top_members left)
-    (is_empty_object_or_absent (get_member (codes "extensions") left)) (kept_passes kept_at_top left kept h)).1
-
-none_wrong : (a b c e f g : Bool) → a ≡ true → b ≡ true → c ≡ true → e ≡ true → f ≡ true → g ≡ true
-    → first_wrong
-    ((codes "type", a) ∷ (codes "version", b) ∷ (codes "transform", c) ∷ (codes "CityObjects", e)
-    ∷ (codes "vertices", f) ∷ (codes "extensions", g) ∷ []) ≡ None
-none_wrong a b c e f g ha hb hc he hf hg = rw (ha, hb, hc, he, hf, hg) refl
+    rw (← get_member-without_each top_members (codes "extensions") top refl)
+    (and_parts _ _ (kept_passes kept_at_top (without_top_members top) kept h)).1
 
 right : (d : Data) (c : CityValue) → StandsFor d c → wrong_member d ≡ None
 right d c h =
     let json = and_parts (is_text (codes "CityJSON") (get (codes "type") d))
     (is_text (codes "2.0") (get (codes "version") d)) h.json in
     let p = frame_parts d c.0 h.frame in
-    none_wrong _ _ (is_transform (get (codes "transform") d)) (are_objects (get (codes "CityObjects") d))
-    (are_vertices (get (codes "vertices") d)) (is_empty_object_or_absent (get (codes "extensions") d)) json.0 json.1
-    (ap is_transform p.there ∙ and_from (has_triple (codes "scale") p.transform)
-    (has_triple (codes "translate") p.transform) (ap is_some p.scale) (ap is_some p.translate))
-    (ap are_all_objects h.objects
-    ∙ all_are_objects (vertices_in d) (objects_in d) h.list h.entries)
-    (vertices_right (get (codes "vertices") d) (vertices_in d) h.points)
-    (ap is_empty_object_or_absent (get-object (codes "extensions") d p.top p.is_top)
-    ∙ extensions_right p.top c.0.extra p.extra)
+    let transform : is_transform (get (codes "transform") d) ≡ true = ap is_transform p.there
+    ∙ and_from (has_triple (codes "scale") p.transform) (has_triple (codes "translate") p.transform) (ap is_some p.scale)
+    (ap is_some p.translate) in
+    let objects : are_objects (get (codes "CityObjects") d) ≡ true = ap are_all_objects h.objects
+    ∙ all_are_objects (vertices_in d) (objects_in d) h.list h.entries in
+    let vertices = vertices_right (get (codes "vertices") d) (vertices_in d) h.points in
+    let extensions : is_empty_object_or_absent (get (codes "extensions") d) ≡ true =
+    rw (get-object (codes "extensions") d p.top p.is_top) (extensions_right p.top c.0.extra p.extra) in
+    rw (json.0, json.1, transform, objects, vertices, extensions) refl
 
--- ---- no fault
+module _ (d : Data) (c : CityValue) (s : StandsFor d c) (lawful : IsLawful (city.object_at c.1)) where
+  of_list : IsLawful (city.found_in s.list)
+  of_list = subst IsLawful (ap city.object_at s.made ∙ at_listed s.list) lawful
 
-lawful_list : (d : Data) (c : CityValue) (s : StandsFor d c) → IsLawful (city.object_at c.1)
-    → IsLawful (city.found_in s.list)
-lawful_list d c s lawful = subst IsLawful (ap city.object_at s.made ∙ at_listed s.list) lawful
+  none_with : (test : Data → Bool) → ((e : Data) (b : Body) → body_of (vertices_in d) e ≡ Some b → test e ≡ false)
+      → (id : List ℕ) → Has test (objects_in d) id → ⊥
+  none_with = no_object (vertices_in d) (objects_in d) s.list s.entries of_list
 
-stands_not : (d : Data) (c : CityValue) (f : ReadFault) → is_integral d ≡ true → StandsFor d c
-    → IsLawful (city.object_at c.1) → StandsIn d f → ⊥
-stands_not d c OutOfMemory integral s lawful h = h
-stands_not d c TooLong integral s lawful h = h
-stands_not d c NotJson integral s lawful h = h
-stands_not d c NotWhole integral s lawful h = true≢false (sym integral ∙ h)
-stands_not d c (NotCityJson name) integral s lawful h = let clash : Some name ≡ None = sym h ∙ right d c s in cc
-stands_not d c (UnknownType id) integral s lawful h =
-    no_object (vertices_in d) (objects_in d) s.list s.entries (lawful_list d c s lawful) is_unknown_type
-    (known (vertices_in d)) id h.0
-stands_not d c (Unsupported id name) integral s lawful h =
-    no_object (vertices_in d) (objects_in d) s.list s.entries (lawful_list d c s lawful) is_unsupported
-    (supported (vertices_in d)) id h.0.0
-stands_not d c (BadGeometry id) integral s lawful h =
-    no_object (vertices_in d) (objects_in d) s.list s.entries (lawful_list d c s lawful) is_bad_geometry
-    (formed (vertices_in d)) id h.0
-stands_not d c (BadVertex id) integral s lawful h =
-    no_object (vertices_in d) (objects_in d) s.list s.entries (lawful_list d c s lawful)
-    (has_bad_vertex (length (vertices_in d))) (placed (vertices_in d)) id h.0
-stands_not d c (BadRing id) integral s lawful h =
-    no_bad_ring (vertices_in d) (objects_in d) s.list s.entries (lawful_list d c s lawful) id h.0
-stands_not d c (Relations id) integral s lawful h =
-    no_badly_related (vertices_in d) (objects_in d) s.list s.entries (lawful_list d c s lawful) id h.0
-stands_not d c (OpenShell id) integral s lawful h =
-    no_open_shell (vertices_in d) (objects_in d) s.list s.entries (lawful_list d c s lawful) id h.0
+  stands_not : (f : ReadFault) → is_integral d ≡ true → StandsIn d f → ⊥
+  stands_not NotWhole integral h = true≢false (sym integral ∙ h)
+  stands_not (NotCityJson name) integral h = let none = right d c s in grind arith
+  stands_not (UnknownType id) integral h = none_with is_unknown_type (known (vertices_in d)) id h.0
+  stands_not (Unsupported id name) integral h = none_with is_unsupported (supported (vertices_in d)) id h.0.0
+  stands_not (BadGeometry id) integral h = none_with is_bad_geometry (formed (vertices_in d)) id h.0
+  stands_not (BadVertex id) integral h =
+      none_with (has_bad_vertex (length (vertices_in d))) (placed (vertices_in d)) id h.0
+  stands_not (BadRing id) integral h = no_bad_ring (vertices_in d) (objects_in d) s.list s.entries of_list id h.0
+  stands_not (Relations id) integral h =
+      no_badly_related (vertices_in d) (objects_in d) s.list s.entries of_list id h.0
+  stands_not (OpenShell id) integral h = no_open_shell (vertices_in d) (objects_in d) s.list s.entries of_list id h.0
+  stands_not f integral h = h
 
 -- a text that is refused, but for want of memory, stands for no lawful city
 pub refused : (text : List ℕ) (f : ReadFault) → DocumentFault text f
@@ -150,15 +132,11 @@ refused text f (inr (inl h)) = inr (λ c k. let long = h.1 in let short = k.1.0 
 refused text f (inr (inr (inl h))) = inr (λ c k. h.1.1 k.0 k.1.1)
 refused text f (inr (inr (inr h))) = inr (λ c k.
     let same : h.0 ≡ k.0 = one_tree text h.0 k.0 h.1.1 k.1.1 in
-    stands_not k.0 c f k.2 (stands_for k.0 c k.3) k.4 (subst (λ d. StandsIn d f) same h.2.0))
+    stands_not k.0 c (stands_for k.0 c k.3) k.4 f k.2 (subst (λ d. StandsIn d f) same h.2.0))
 
--- nor is one that does refused, but for want of memory
 pub not_refused : (text : List ℕ) (c : CityValue) → IsAdmitted text c → (f : ReadFault) → DocumentFault text f
     → f ≡ OutOfMemory
-not_refused text c admitted f h = elim (refused text f h) [
-  | inl memory ↦ memory
-  | inr none ↦ absurd (none c admitted)
-]
+not_refused text c admitted f h = elim (refused text f h) [ inl memory ↦ memory | inr none ↦ absurd (none c admitted) ]
 
 pub refused_result : {A : Type 0} (text : List ℕ) (r : Result A ReadFault) → IfErr r (λ f. DocumentFault text f)
     → IfErr r (λ f. (f ≡ OutOfMemory) ⊎ ((c : CityValue) → IsAdmitted text c → ⊥))

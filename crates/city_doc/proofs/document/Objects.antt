@@ -1,21 +1,12 @@
 -- A loop that reads the members of a map in turn into a map in the order of their bytes.
-use Rattle.std.proofs.Common.{◌≡◌, ℕ, List, [], ◌∷◌, ◌++◌, map, Some, None, option_map, String, Global, Ordering, Less}
-use Rattle.std.proofs.Common.{string_bytes, string_cmp, nat_cmp, refl, sym, ap, ◌∙◌, subst, append-nil}
-use Rattle.std.specs.List.{AllByRecursion}
+use Rattle.city_doc.proofs.Prelude.{◌≡◌, List, ◌∷◌, ◌++◌, map, Some, None, Ordering, Less, [], nat_cmp, refl, sym, ap}
+use Rattle.city_doc.proofs.Prelude.{subst, append-nil, AllByRecursion, keys_of, slice_cmp, option_map_id, Members, view}
+use Rattle.city_doc.proofs.Prelude.{members_view, Entries, Object, Point, lenient_object_of, lenient_entries_of}
+use Rattle.city_doc.proofs.Prelude.{map_grown}
+use Rattle.std.proofs.Common.{option_map, String, Global, string_bytes, string_cmp}
 use Rattle.std.specs.List.Sorted.{IsStrictlySortedBy}
-use Rattle.std.specs.Map.{keys_of}
 use Rattle.std.specs.Cmp.{IsTotalOrder}
-use Rattle.std.specs.Cmp.Lexicographic.{slice_cmp}
-use Rattle.std.proofs.lemmas.Iterator.Adapters.{option_map_id}
-use Rattle.serde_json.specs.Data.{Data, Members, member}
-use Rattle.serde_json.specs.View.{view, members_view}
 use Rattle.serde_json.proofs.Views.{Entry}
-use Rattle.city_model.specs.CityMap.{Entries}
-use Rattle.city_model.specs.declared.object.Object.{Object}
-use Rattle.city_model.specs.declared.object.Point.{Point}
-use Rattle.city_doc.specs.document.CityFaults.{lenient_object_of}
-use Rattle.city_doc.specs.inside.document.LenientCities.{lenient_entries_of}
-use Rattle.city_tokens.proofs.Options.{map_grown}
 
 module _ {K X : Type 0} {R : K → K → Ordering} (total : IsTotalOrder R) where
   -- a key in the middle is above the first
@@ -41,8 +32,6 @@ unfolding IsStrictlySortedBy
 sorted_bytes [] h = tt
 sorted_bytes (k ∷ ks) h = (all_bytes k ks h.0, sorted_bytes ks h.1)
 
--- ---- what is read
-
 -- the objects of `all` are those that are done, and then those of the rest
 pub record IsReading (points : List Point) (all : Members) (done : Entries) (rest : List Entry) : Type 0 where
   pub read : lenient_entries_of points all ≡ option_map (λ es. done ++ es)
@@ -57,22 +46,11 @@ begins points es h =
       sorted = sorted_bytes (keys_of es) h;
     }
 
-entries_push : (points : List Point) (done : Entries) (k : List ℕ) (d : Data) (o : Object) (ms : Members)
-    → lenient_object_of points d ≡ Some o
-    → option_map (λ es. done ++ es) (lenient_entries_of points (member k d ms))
-    ≡ option_map (λ es. (done ++ (k, o) ∷ []) ++ es) (lenient_entries_of points ms)
-entries_push points done k d o ms is = rw is (map_grown (lenient_entries_of points ms) done (k, o))
-
-entries_stop : (points : List Point) (done : Entries) (k : List ℕ) (d : Data) (ms : Members)
-    → lenient_object_of points d ≡ None
-    → option_map (λ es. done ++ es) (lenient_entries_of points (member k d ms)) ≡ None
-entries_stop points done k d ms is = rw is
-
 pub goes_on : (points : List Point) (all : Members) (done : Entries) (e : Entry) (left : List Entry) (o : Object)
     → lenient_object_of points (view e.1) ≡ Some o → IsReading points all done (e ∷ left)
     → IsReading points all (done ++ (string_bytes e.0, o) ∷ []) left
 goes_on points all done e left o is h = record {
-  read = h.read ∙ entries_push points done (string_bytes e.0) (view e.1) o (members_view left) is;
+  read = rw (h.read, is) (map_grown (lenient_entries_of points (members_view left)) done (string_bytes e.0, o));
   sorted = subst (IsStrictlySortedBy (slice_cmp nat_cmp))
       (keys_of_push done (string_bytes e.0) o (map string_bytes (keys_of left))) h.sorted;
 }
@@ -80,9 +58,8 @@ goes_on points all done e left o is h = record {
 pub stops : (points : List Point) (all : Members) (done : Entries) (e : Entry) (left : List Entry)
     → lenient_object_of points (view e.1) ≡ None → IsReading points all done (e ∷ left)
     → None ≡ lenient_entries_of points all
-stops points all done e left is h =
-    sym (h.read ∙ entries_stop points done (string_bytes e.0) (view e.1) (members_view left) is)
+stops points all done e left is h = rw (h.read, is) refl
 
 pub ends : (points : List Point) (all : Members) (done : Entries) → IsReading points all done []
     → Some done ≡ lenient_entries_of points all
-ends points all done h = sym (h.read ∙ ap Some (append-nil done))
+ends points all done h = rw (h.read, append-nil) refl

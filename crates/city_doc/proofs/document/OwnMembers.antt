@@ -1,29 +1,15 @@
 -- The members that geometries, objects, transforms and cities have of their own, in the byte order of their names.
-use Rattle.std.proofs.Common.{◌≡◌, ℕ, List, [], ◌∷◌, Option, Some, None, codes, refl, sym, ap, ◌∙◌, Less, nat_cmp}
-use Rattle.std.specs.Cmp.Lexicographic.{slice_cmp}
-use Rattle.std.specs.FinMap.{entries}
-use Rattle.serde_json.specs.Data.{Data, string, object, Members, put}
-use Rattle.city_model.specs.CityMap.{CityValue}
-use Rattle.city_model.specs.Types.{name_of}
-use Rattle.city_model.specs.declared.frame.Frame.{Frame}
-use Rattle.city_model.specs.declared.object.Point.{Point}
-use Rattle.city_model.specs.declared.object.Object.{Object}
-use Rattle.city_model.specs.declared.object.Geometry.{Geometry}
-use Rattle.city_tokens.specs.shape.Nesting.{shape_name}
-use Rattle.city_tokens.specs.tree.Triples.{triple_data}
-use Rattle.city_doc.specs.document.Canonical.{transform_data, numbered_tree}
-use Rattle.city_doc.specs.shape.Vertices.{vertices_data}
-use Rattle.city_doc.specs.shape.Canonical.{boundaries_data, geometry_data}
-use Rattle.city_tokens.specs.tree.Lists.{put_list}
-use Rattle.city_doc.specs.object.Canonical.{object_data, objects_data}
-use Rattle.city_doc.specs.inside.tree.PartTokens.{listed}
+use Rattle.city_doc.proofs.Prelude.{◌≡◌, ℕ, List, ◌∷◌, Option, Some, refl, sym, ap, ◌∙◌, Less, nat_cmp, [], arith}
+use Rattle.city_doc.proofs.Prelude.{slice_cmp, entries, Data, string, object, Members, put, CityValue, name_of, Frame}
+use Rattle.city_doc.proofs.Prelude.{Point, Object, Geometry, shape_name, triple_data, transform_data, numbered_tree}
+use Rattle.city_doc.proofs.Prelude.{vertices_data, boundaries_data, geometry_data, put_list, object_data, objects_data}
+use Rattle.city_doc.proofs.Prelude.{listed}
+use Rattle.std.proofs.Common.{codes}
 use Rattle.city_doc.proofs.tree.Among.{puts, put_if}
 use Rattle.city_tokens.proofs.Laws.{put-swap}
 
 abbrev pub Own : Type 0
 Own = List (List ℕ × Option Data)
-
--- ---- a geometry
 
 abbrev pub geometry_own : List Point → Geometry → Own
 geometry_own pool g =
@@ -31,8 +17,6 @@ geometry_own pool g =
       codes "type",
       Some (string (shape_name g.shape)),
     ) ∷ []
-
--- ---- an object
 
 abbrev pub object_own : List Point → Object → Own
 object_own pool o =
@@ -42,40 +26,20 @@ object_own pool o =
 
 put_listed : {A : Type 0} (name : List ℕ) (f : A → Data) (xs : List A) (ms : Members)
     → put_list name f xs ms ≡ put_if name (listed f xs) ms
-put_listed name f [] ms = refl
-put_listed name f (x ∷ xs) ms = refl
+put_listed name f xs ms = grind arith
 
 swap_if : (a b : List ℕ) (x y : Option Data) (ms : Members) → slice_cmp nat_cmp a b ≡ Less
     → put_if a x (put_if b y ms) ≡ put_if b y (put_if a x ms)
-swap_if a b None None ms less = refl
-swap_if a b None (Some y) ms less = refl
-swap_if a b (Some x) None ms less = refl
-swap_if a b (Some x) (Some y) ms less = put-swap a b x y ms less
+swap_if a b x y ms less = grind (arith, put-swap)
 
 pub object_puts : (pool : List Point) (o : Object) → object_data pool o ≡ object (puts (object_own pool o) o.body.extra)
-object_puts pool o =
-    let typed = put (codes "type") (string (name_of o.body.kind)) o.body.extra in
-    let shapes = listed (geometry_data pool) o.body.geometry in
-    let parents = listed string o.parents in
-    ap object
-    (put_listed (codes "children") string o.children _
-    ∙ ap (put_if (codes "children") (listed string o.children))
-    (put_listed (codes "parents") string o.parents _
-    ∙ ap (put_if (codes "parents") parents)
-    (put_listed (codes "geometry") (geometry_data pool) o.body.geometry typed)
-    ∙ sym (swap_if (codes "geometry") (codes "parents") shapes parents typed refl)))
-
--- ---- a transform
+object_puts pool o = simp (put_listed, ← swap_if)
 
 abbrev pub transform_own : Frame → Own
 transform_own f = (codes "scale", Some (triple_data f.scale)) ∷ (codes "translate", Some (triple_data f.translate)) ∷ []
 
 pub transform_puts : (f : Frame) → transform_data f ≡ object (puts (transform_own f) f.more)
-transform_puts f =
-    ap object
-    (sym (put-swap (codes "scale") (codes "translate") (triple_data f.scale) (triple_data f.translate) f.more refl))
-
--- ---- a city
+transform_puts f = simp (← put-swap)
 
 abbrev pub city_own : List Point → CityValue → Own
 city_own pool c =

@@ -1,19 +1,8 @@
 -- Objects that are written one after the other, each with the points that it adds to a pool.
-use Rattle.std.proofs.Common.{◌≡◌, ℕ, List, [], ◌∷◌, ◌++◌, Less, nat_cmp, sym, ap, ◌∙◌, subst, append_assoc}
-use Rattle.std.specs.Cmp.Lexicographic.{slice_cmp}
-use Rattle.std.specs.List.{AllByRecursion}
+use Rattle.city_doc.proofs.Prelude.{◌≡◌, ℕ, List, ◌∷◌, ◌++◌, Less, nat_cmp, ◌∙◌, append_assoc, [], slice_cmp}
+use Rattle.city_doc.proofs.Prelude.{AllByRecursion, keys_of, Token, key, Entries, AllAbove, AreOrdered, Object, Point}
+use Rattle.city_doc.proofs.Prelude.{object_data, object_points, with_points, tokens_of, closing_members}
 use Rattle.std.specs.List.Sorted.{IsStrictlySortedBy}
-use Rattle.std.specs.Map.{keys_of}
-use Rattle.json.specs.Token.{Token, key}
-use Rattle.city_model.specs.CityMap.{Entries}
-use Rattle.city_model.specs.Members.{AllAbove, AreOrdered}
-use Rattle.city_model.specs.declared.object.Object.{Object}
-use Rattle.city_model.specs.declared.object.Point.{Point}
-use Rattle.city_doc.specs.object.Canonical.{object_data}
-use Rattle.city_doc.specs.Pool.{object_points}
-use Rattle.city_doc.specs.inside.Pool.{with_points}
-use Rattle.city_doc.specs.tree.Tokens.{tokens_of}
-use Rattle.city_doc.specs.inside.tree.PartTokens.{closing_members}
 use Rattle.city_doc.proofs.document.EntriesRead.{in_turn}
 use Rattle.city_doc.proofs.pool.Walks.{with_points-append}
 
@@ -38,15 +27,6 @@ pub object_written : (all left more : Entries) (id : List ℕ) (o : Object) (poo
     → start ++ closing_members (in_turn (with_points new later) all) ≡ next ++ closing_members
     (in_turn (with_points new later) more)
 object_written all left more id o pool new start out named next first grown invariant named_is next_is later =
-    let same : with_points pool (object_points o ++ later) ≡ with_points new later =
-    with_points-append pool (object_points o) later ∙ ap (λ ps. with_points ps later) (sym grown) in
-    let ps = with_points new later in
-    let rest = closing_members (in_turn ps more) in
-    let value = tokens_of (object_data ps o) in
-    subst (λ qs. start ++ closing_members (in_turn qs all) ≡ out ++ closing_members (in_turn qs left)) same
-    (invariant (object_points o ++ later))
-    ∙ ap (λ es. out ++ closing_members (in_turn ps es)) first
-    ∙ sym (append_assoc out (key id ∷ []) (value ++ rest))
-    ∙ ap (λ ts. ts ++ (value ++ rest)) (sym named_is)
-    ∙ sym (append_assoc named value rest)
-    ∙ ap (λ ts. ts ++ rest) (sym (next_is later))
+    let same = with_points-append pool (object_points o) later in
+    let before = invariant (object_points o ++ later) in
+    rw (next_is later, named_is, grown) (rw (same, first) at before ∙ simp append_assoc)

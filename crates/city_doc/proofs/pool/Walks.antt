@@ -1,30 +1,17 @@
 -- Adding the points of parts, one part after the other.
-use Rattle.std.proofs.Common.{◌≡◌, ℕ, suc, ◌+◌, ◌<◌, List, [], ◌∷◌, ◌++◌, length, get_or, drop, drop-cons, add-one}
-use Rattle.std.proofs.Common.{refl, sym, ap, ◌∙◌}
-use Rattle.std.specs.Prelude.{flat_map}
-use Rattle.city_model.specs.declared.object.Point.{Point}
-use Rattle.city_doc.specs.inside.Pool.{with_points}
-use Rattle.city_doc.specs.Pool.{with_point}
+use Rattle.city_doc.proofs.Prelude.{◌≡◌, ℕ, suc, ◌+◌, ◌<◌, List, ◌∷◌, ◌++◌, length, get_or, drop, drop-cons, add-one}
+use Rattle.city_doc.proofs.Prelude.{[], refl, flat_map, Point, with_points, with_point}
 
 pub with_points-append : (pool xs ys : List Point) → with_points pool (xs ++ ys) ≡ with_points (with_points pool xs) ys
 with_points-append pool [] ys = refl
 with_points-append pool (x ∷ xs) ys = with_points-append (with_point pool x) xs ys
 
--- the first of the rest is met
 pub walk_first : {X : Type 0} (f : X → List Point) (x : X) (rest : List X) (pool new : List Point)
     → new ≡ with_points pool (f x) → with_points pool (flat_map f (x ∷ rest)) ≡ with_points new (flat_map f rest)
-walk_first f x rest pool new h = with_points-append pool (f x) (flat_map f rest)
-    ∙ ap (λ ps. with_points ps (flat_map f rest)) (sym h)
+walk_first f x rest pool new h = rw (h, ← with_points-append pool (f x) (flat_map f rest)) refl
 
--- item i of a list is met
 pub walk_item : {X : Type 0} (f : X → List Point) (xs : List X) (i : ℕ) (x : X) (pool new : List Point) → i < length xs
     → x ≡ get_or xs i x → new ≡ with_points pool (f x)
     → with_points pool (flat_map f (drop i xs)) ≡ with_points new (flat_map f (drop (i + 1) xs))
 walk_item f xs i x pool new lt at h =
     rw (add-one, drop-cons xs i x lt, ← at) (walk_first f x (drop (suc i) xs) pool new h)
-
--- ---- what has no points
-
-pub no_points : {X : Type 0} (xs : List X) (pool : List Point) → with_points pool (flat_map (λ x. []) xs) ≡ pool
-no_points [] pool = refl
-no_points (x ∷ xs) pool = no_points xs pool

@@ -1,9 +1,8 @@
 -- What a search finds: the first item where there is anything, and nothing before it.
-use Rattle.std.proofs.Common.{◌≡◌, ℕ, zero, suc, ◌+◌, ◌<◌, ◌≤◌, List, [], ◌∷◌, length, map, drop, get_or, Option, Some}
-use Rattle.std.proofs.Common.{None, refl, sym, ap, subst, ◌∙◌, arith, add-one, drop-cons, drop_of_length-le}
-use Rattle.std.specs.Prelude.{slice_get}
+use Rattle.city_doc.proofs.Prelude.{◌≡◌, ℕ, zero, suc, ◌+◌, ◌<◌, ◌≤◌, List, [], ◌∷◌, length, map, drop, get_or, Option}
+use Rattle.city_doc.proofs.Prelude.{Some, None, refl, sym, ap, ◌∙◌, arith, add-one, drop-cons, slice_get, first_at}
+use Rattle.std.proofs.Common.{drop_of_length-le}
 use Rattle.std.specs.Option.{option_or}
-use Rattle.city_doc.specs.inside.script.Searches.{first_at}
 
 -- the item at this index has f, and no item before it has anything
 pub record IsFirst {A B : Type 0} (find : ℕ → A → Option B) (n : ℕ) (xs : List A) (f : B) : Type 0 where
@@ -13,31 +12,11 @@ pub record IsFirst {A B : Type 0} (find : ℕ → A → Option B) (n : ℕ) (xs 
   pub found : find (n + index) x ≡ Some f
   pub before : (j : ℕ) (y : A) → j < index → slice_get xs j ≡ Some y → find (n + j) y ≡ None
 
-shift : (n k : ℕ) → n + 1 + k ≡ n + suc k
-shift n k = omega arith
-
-no_shift : (n : ℕ) → n ≡ n + 0
-no_shift n = omega arith
-
-moved : {A B : Type 0} (find : ℕ → A → Option B) (m n : ℕ) (x : A) (o : Option B) → m ≡ n → find m x ≡ o → find n x ≡ o
-moved find m n x o e h = let P : ℕ → Type 0 = λ k. find k x ≡ o in subst P e h
-
-none_from : {A B : Type 0} (find : ℕ → A → Option B) (n : ℕ) (x : A) (xs : List A) → find n x ≡ None
-    → ((j : ℕ) (y : A) → slice_get xs j ≡ Some y → find (n + 1 + j) y ≡ None)
-    → (j : ℕ) (y : A) → slice_get (x ∷ xs) j ≡ Some y → find (n + j) y ≡ None
-none_from find n x xs here rest zero y at =
-    let is : Some x ≡ Some y = at in let same : x ≡ y = cc in
-    let P : _ → Type 0 = λ z. find (n + 0) z ≡ None in subst P same (moved find n (n + 0) x None (no_shift n) here)
-none_from find n x xs here rest (suc j) y at = moved find (n + 1 + j) (n + suc j) y None (shift n j) (rest j y at)
-
-before_from : {A B : Type 0} (find : ℕ → A → Option B) (n k : ℕ) (x : A) (xs : List A) → find n x ≡ None
-    → ((j : ℕ) (y : A) → j < k → slice_get xs j ≡ Some y → find (n + 1 + j) y ≡ None)
-    → (j : ℕ) (y : A) → j < suc k → slice_get (x ∷ xs) j ≡ Some y → find (n + j) y ≡ None
-before_from find n k x xs here rest zero y h at =
-    let is : Some x ≡ Some y = at in let same : x ≡ y = cc in
-    let P : _ → Type 0 = λ z. find (n + 0) z ≡ None in subst P same (moved find n (n + 0) x None (no_shift n) here)
-before_from find n k x xs here rest (suc j) y h at = let lower : j < k = omega arith in
-    moved find (n + 1 + j) (n + suc j) y None (shift n j) (rest j y lower at)
+step_from : {A B : Type 0} (find : ℕ → A → Option B) (P : ℕ → Type 0) (n : ℕ) (x : A) (xs : List A) → find n x ≡ None
+    → ((j : ℕ) (y : A) → P (suc j) → slice_get xs j ≡ Some y → find (n + 1 + j) y ≡ None)
+    → (j : ℕ) (y : A) → P j → slice_get (x ∷ xs) j ≡ Some y → find (n + j) y ≡ None
+step_from find P n x xs here rest zero y p at = grind arith
+step_from find P n x xs here rest (suc j) y p at = let none = rest j y p at in grind arith
 
 first_step : {A B : Type 0} (find : ℕ → A → Option B) (n : ℕ) (x : A) (xs : List A) (f : B) (o : Option B)
     → find n x ≡ o → option_or o (first_at find (n + 1) xs) ≡ Some f
@@ -48,17 +27,17 @@ first_step find n x xs f None is h ih =
       index = suc r.index;
       x = r.x;
       there = r.there;
-      found = moved find (n + 1 + r.index) (n + suc r.index) r.x (Some f) (shift n r.index) r.found;
-      before = before_from find n r.index x xs is r.before;
+      found = grind (arith, r.found);
+      before = λ j y lower at. step_from find (λ k. k < suc r.index) n x xs is
+          (λ k z less. r.before k z (omega arith)) j y lower at;
     }
-first_step find n x xs f (Some g) is h ih =
-    record {
-      index = 0;
-      x = x;
-      there = refl;
-      found = moved find n (n + 0) x (Some f) (no_shift n) (is ∙ h);
-      before = λ j y lower at. absurd (omega arith);
-    }
+first_step find n x xs f (Some g) is h ih = record {
+  index = 0;
+  x = x;
+  there = refl;
+  found = grind arith;
+  before = λ j y lower at. absurd (omega arith);
+}
 
 pub first_at-is : {A B : Type 0} (find : ℕ → A → Option B) (n : ℕ) (xs : List A) (f : B) → first_at find n xs ≡ Some f
     → IsFirst find n xs f
@@ -69,16 +48,15 @@ none_step : {A B : Type 0} (find : ℕ → A → Option B) (n : ℕ) (x : A) (xs
     → option_or o (first_at find (n + 1) xs) ≡ None
     → (first_at find (n + 1) xs ≡ None → (j : ℕ) (y : A) → slice_get xs j ≡ Some y → find (n + 1 + j) y ≡ None)
     → (j : ℕ) (y : A) → slice_get (x ∷ xs) j ≡ Some y → find (n + j) y ≡ None
-none_step find n x xs None is h ih j y at = none_from find n x xs is (ih h) j y at
-none_step find n x xs (Some g) is h ih j y at = absurd (let no : ⊥ = cc in no)
+none_step find n x xs None is h ih j y at =
+    step_from find (λ k. Unit {0}) n x xs is (λ k z all. ih h k z) j y tt at
+none_step find n x xs (Some g) is h ih j y at = absurd (grind arith)
 
 -- where nothing is found, no item has anything
 pub first_at-none : {A B : Type 0} (find : ℕ → A → Option B) (n : ℕ) (xs : List A) → first_at find n xs ≡ None
     → (j : ℕ) (y : A) → slice_get xs j ≡ Some y → find (n + j) y ≡ None
 first_at-none find n [] h j y at = absurd (let no : ⊥ = cc in no)
 first_at-none find n (x ∷ xs) h j y at = none_step find n x xs (find n x) refl h (first_at-none find (n + 1) xs) j y at
-
--- ---- a list that is searched in place
 
 -- the items from one on, of a list that is searched in place
 from_here : {A C : Type 0} (f : C → A) (xs : List C) (i : ℕ) (x : C) → i < length xs → x ≡ get_or xs i x

@@ -1,24 +1,15 @@
 -- What is written for data is read as that data, where the names in each object ascend and each number's text is read
 -- as the number.
-use Rattle.std.proofs.Common.{◌≡◌, ℕ, ◌≤◌, max, List, [], Some, Less, Greater, nat_cmp, refl, sym, ap, ap₂, ◌∙◌, subst}
-use Rattle.std.proofs.Common.{suc, arith, append-nil}
-use Rattle.std.specs.Prelude.{option_and_then, option_map}
-use Rattle.std.specs.Cmp.Lexicographic.{slice_cmp}
-use Rattle.std.specs.Ordering.{ordering_reverse}
-use Rattle.std.proofs.lemmas.Cmp.{nat_list_cmp_total}
+use Rattle.city_doc.proofs.Prelude.{◌≡◌, ℕ, ◌≤◌, max, List, Some, Less, nat_cmp, refl, sym, ap, ap₂, ◌∙◌, subst, []}
+use Rattle.city_doc.proofs.Prelude.{suc, arith, append-nil, option_and_then, option_map, slice_cmp, nat_list_cmp_total}
+use Rattle.city_doc.proofs.Prelude.{Data, array, object, Items, no_items, item, Members, no_members, member, put, depth}
+use Rattle.city_doc.proofs.Prelude.{items_depth, members_depth, read, max_depth, of_json, of_items, of_members}
+use Rattle.city_doc.proofs.Prelude.{AllAbove, AreOrdered, tokens_of, ReadsBack, ItemsReadBack, MembersReadBack}
 use Rattle.json.specs.Lex.{tokens}
+use Rattle.json.proofs.Printed.Trees.{value-json_tokens}
+use Rattle.serde_json.specs.Written.{outline, items_outline, members_outline}
 use Rattle.json.specs.Json as json
 use Rattle.json.specs.Tree as tree
-use Rattle.json.proofs.Printed.Trees.{value-json_tokens}
-use Rattle.serde_json.specs.Data.{Data, null, boolean, number, string, array, object, Items, no_items, item, Members}
-use Rattle.serde_json.specs.Data.{no_members, member, put, depth, items_depth, members_depth}
-use Rattle.serde_json.specs.Read.{read, max_depth, of_json, of_items, of_members}
-use Rattle.serde_json.specs.Written.{outline, items_outline, members_outline}
-use Rattle.city_model.specs.Members.{AllAbove, AreOrdered}
-use Rattle.city_doc.specs.tree.Tokens.{tokens_of}
-use Rattle.city_doc.specs.inside.tree.ReadsBack.{ReadsBack, ItemsReadBack, MembersReadBack}
-
--- ---- arrays
 
 items_back : (ds : Items) → ItemsReadBack ds → of_items (items_outline ds) ≡ Some ds
 items_back no_items h = refl
@@ -26,8 +17,6 @@ items_back (item d ds) h = rw (h.0.same, items_back ds h.1) refl
 
 pub array_reads : (ds : Items) → ItemsReadBack ds → ReadsBack (array ds)
 array_reads ds h = record { same = ap (option_map array) (items_back ds h) }
-
--- ---- objects
 
 -- members, and others after them
 abbrev pub and_then : Members → Members → Members
@@ -52,32 +41,26 @@ put_last : (done : Members) (k : List ℕ) (d : Data) (ms : Members) → AreOrde
     → put k d done ≡ and_then done (member k d no_members)
 put_last no_members k d ms h = refl
 put_last (member l e done) k d ms h =
-    let above : slice_cmp nat_cmp k l ≡ Greater = nat_list_cmp_total.antisymm k l
-    ∙ ap ordering_reverse (above_later l done k d ms h.0) in
-    rw above (ap (member l e) (put_last done k d ms h.1))
+    let less = above_later l done k d ms h.0 in
+    let turned = nat_list_cmp_total.antisymm k l in
+    grind (arith, put_last done k d ms h.1)
 
 members_back : (done ms : Members) → AreOrdered (and_then done ms) → MembersReadBack ms
     → of_members (members_outline ms) done ≡ Some (and_then done ms)
 members_back done no_members o h = ap Some (sym (and_then-none done))
 members_back done (member k d ms) o h =
     let joined = and_then-assoc done (member k d no_members) ms in
-    let ordered = subst AreOrdered (sym joined) o in
-    rw h.0.same (ap (of_members (members_outline ms)) (put_last done k d ms o)
-    ∙ members_back (and_then done (member k d no_members)) ms ordered h.1 ∙ ap Some joined)
+    rw (h.0.same, put_last done k d ms o)
+    (members_back (and_then done (member k d no_members)) ms (subst AreOrdered (sym joined) o) h.1 ∙ ap Some joined)
 
 pub object_reads : (ms : Members) → AreOrdered ms → MembersReadBack ms → ReadsBack (object ms)
 object_reads ms o h = record { same = ap (option_map object) (members_back no_members ms o h) }
 
--- ---- the text
-
 mutual
   outline_depth : (d : Data) → tree.depth (outline d) ≡ depth d
-  outline_depth null = refl
-  outline_depth (boolean b) = refl
-  outline_depth (number n) = refl
-  outline_depth (string s) = refl
   outline_depth (array ds) = ap suc (items_outline_depth ds)
   outline_depth (object ms) = ap suc (members_outline_depth ms)
+  outline_depth d = refl
 
   items_outline_depth : (ds : Items) → tree.items_depth (items_outline ds) ≡ items_depth ds
   items_outline_depth no_items = refl

@@ -1,15 +1,9 @@
 -- Items that are written one after the other, each with the points that it adds to a pool.
-use Rattle.std.proofs.Common.{◌≡◌, ℕ, ◌+◌, ◌<◌, ◌≤◌, List, [], ◌∷◌, ◌++◌, map, length, get_or, drop, sym, ap, ◌∙◌}
-use Rattle.std.proofs.Common.{subst, append_assoc}
-use Rattle.std.proofs.lemmas.List.{drop_more, drop_all}
-use Rattle.json.specs.Token.{Token, end_array}
-use Rattle.serde_json.specs.Data.{Data}
-use Rattle.serde_json.specs.View.{items_of}
-use Rattle.city_model.specs.declared.object.Point.{Point}
-use Rattle.city_doc.specs.tree.Tokens.{tokens_of}
-use Rattle.city_doc.specs.inside.tree.PartTokens.{closing_items}
-use Rattle.city_doc.specs.inside.tree.ReadsBack.{ReadsBack, ItemsReadBack}
-use Rattle.city_doc.specs.inside.Pool.{with_points}
+use Rattle.city_doc.proofs.Prelude.{◌≡◌, ℕ, ◌+◌, ◌<◌, ◌≤◌, List, ◌∷◌, ◌++◌, map, length, get_or, drop, sym, ap, ◌∙◌, []}
+use Rattle.city_doc.proofs.Prelude.{refl, subst, append_assoc, drop_all, Token, Data, items_of, Point, tokens_of}
+use Rattle.city_doc.proofs.Prelude.{closing_items, ReadsBack, ItemsReadBack, with_points}
+use Rattle.std.proofs.lemmas.List.{drop_more}
+use Rattle.json.specs.Token.{end_array}
 use Rattle.city_doc.proofs.pool.Walks.{with_points-append}
 
 pub item_first : {X : Type 0} (xs : List X) (i : ℕ) (x : X) → i < length xs → x ≡ get_or xs i x
@@ -25,13 +19,11 @@ module _ {X : Type 0} (f : X → Data) where
       → start ++ closing xs ≡ out ++ closing (drop i xs) → next ≡ out ++ tokens_of (f x)
       → start ++ closing xs ≡ next ++ closing (drop (i + 1) xs)
   one_written xs i x start out next lt at left more =
-      left ∙ ap (λ ys. out ++ closing ys) (item_first xs i x lt at)
-      ∙ sym (append_assoc out (tokens_of (f x)) (closing (drop (i + 1) xs)))
-      ∙ ap (λ ts. ts ++ closing (drop (i + 1) xs)) (sym more)
+      rw (left, item_first xs i x lt at, more) (simp append_assoc)
 
   pub all_written : (xs : List X) (i : ℕ) (start out last : List Token) → length xs ≤ i
       → start ++ closing xs ≡ out ++ closing (drop i xs) → last ≡ out ++ end_array ∷ [] → last ≡ start ++ closing xs
-  all_written xs i start out last le left end = end ∙ ap (λ ys. out ++ closing ys) (sym (drop_all i xs le)) ∙ sym left
+  all_written xs i start out last le left end = rw (left, end, drop_all i xs le) refl
 
   abbrev pub ReadBack : List X → Type 0
   ReadBack xs = ItemsReadBack (items_of (map f xs))
@@ -43,7 +35,6 @@ module _ {X : Type 0} (f : X → Data) where
   pub all_read : (xs : List X) (i : ℕ) → length xs ≤ i → (ReadBack (drop i xs) → ReadBack xs) → ReadBack xs
   all_read xs i le all = all (subst ReadBack (sym (drop_all i xs le)) tt)
 
--- the same of items whose points are numbered
 module _ {X : Type 0} (points : X → List Point) (written : List Point → X → Data) where
   pub numbered_written : (xs : List X) (i : ℕ) (x : X) (pool new : List Point) (start out next : List Token)
       → i < length xs → x ≡ get_or xs i x → new ≡ with_points pool (points x)

@@ -63,14 +63,19 @@ fn write_numbered(city: &City, pool: &mut VertexPool, out: &mut Writer) -> Resul
     write_last(kept, "vertices", out)
 }
 
-/// Writes a city.
-pub fn write_members(alloc: Global, city: &City, out: &mut Writer) -> Result<(), OutOfMemory>
+/// Writes a city, whose points are hashed by the seed.
+pub fn write_members(
+    alloc: Global,
+    seed: u64,
+    city: &City,
+    out: &mut Writer,
+) -> Result<(), OutOfMemory>
     ensures before { OnOk result (out.new.before ≡ out.old.before) }
     ensures tokens { OnOk result (out.new.tokens ≡ out.old.tokens ++ tokens_of (tree_of city.now)) }
     ensures reads { OnOk result (ReadsBack (tree_of city.now)) }
     ensures kept { OnOk result (IsKeptCity city.now) }
     ensures in_range { OnOk result (IsInRange (pool_of city.now) city.now.0) }
 {
-    let mut pool = VertexPool::new(alloc);
+    let mut pool = VertexPool::with_seed(alloc, seed);
     write_numbered(city, &mut pool, out)
 }

@@ -15,6 +15,7 @@ ghost use Rattle.city_doc.specs.tree.Tokens.{tokens_of};
 ghost use Rattle.city_doc.specs.Pool.{pool_of};
 
 use crate::document::text::write_members;
+use crate::pool::FIXED_SEED;
 use city_model::OutOfMemory;
 use city_model::city::City;
 use json::Writer;
@@ -39,19 +40,25 @@ pub fn write_city(alloc: Global, city: &City) -> Result<Vec<u8>, OutOfMemory>
     ensures tokens { IfOk result (λ b. tokens b.items ≡ tokens_of (tree_of city.now)) }
     ensures in_range { IfOk result (λ _. IsInRange (pool_of city.now) city.now.0) }
 {
-    let text = append_city(alloc, Vec::new(alloc), city)?;
+    let text = append_city(alloc, FIXED_SEED, Vec::new(alloc), city)?;
     Ok(text)
 }
 
 /// The bytes, and after them the canonical text of a city, without a newline.
 ///
-/// The text is the one of `write_city`, and what is said of it there holds of it here.
-pub fn append_city(alloc: Global, bytes: Vec<u8>, city: &City) -> Result<Vec<u8>, OutOfMemory>
+/// The text is the one of `write_city`, and what is said of it there holds of it here. Points are hashed by the
+/// seed.
+pub fn append_city(
+    alloc: Global,
+    seed: u64,
+    bytes: Vec<u8>,
+    city: &City,
+) -> Result<Vec<u8>, OutOfMemory>
     ensures text { IfOk result (λ b. b.items ≡ bytes.items ++ city_text city.now) }
     ensures canonical { IfOk result (λ _. IsCanonicalText (city_text city.now) city.now) }
 {
     let mut out = Writer::new(bytes);
-    write_members(alloc, city, &mut out)?;
+    write_members(alloc, seed, city, &mut out)?;
     let bytes = out.into_inner();
     Ok(bytes)
 }

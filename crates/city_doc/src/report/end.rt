@@ -109,7 +109,7 @@ fn write_ending(outcome: &Outcome, out: &mut Writer) -> Result<(), OutOfMemory>
 }
 
 /// Writes an end.
-pub fn write_end(alloc: Global, end: &End, out: &mut Writer) -> Result<(), OutOfMemory>
+pub fn write_end(alloc: Global, seed: u64, end: &End, out: &mut Writer) -> Result<(), OutOfMemory>
     ensures before { OnOk result (out.new.before ≡ out.old.before) }
     ensures tokens { OnOk result (out.new.tokens ≡ out.old.tokens ++ tokens_of (end_data end.now)) }
 {
@@ -120,7 +120,7 @@ pub fn write_end(alloc: Global, end: &End, out: &mut Writer) -> Result<(), OutOf
     out.key("outcome")?;
     out.string(outcome_name(&end.outcome))?;
     out.key("replies")?;
-    write_replies(alloc, end.replies.as_slice(), out)?;
+    write_replies(alloc, seed, end.replies.as_slice(), out)?;
     out.key("script")?;
     out.u64(end.script as u64)?;
     out.key("since")?;

@@ -33,34 +33,44 @@ fn write_numbered(
 }
 
 /// Writes an object with its own vertices.
-fn write_found(alloc: Global, object: &Object, out: &mut Writer) -> Result<(), OutOfMemory>
+fn write_found(
+    alloc: Global,
+    seed: u64,
+    object: &Object,
+    out: &mut Writer,
+) -> Result<(), OutOfMemory>
     ensures before { OnOk result (out.new.before ≡ out.old.before) }
     ensures tokens { OnOk result (out.new.tokens
         ≡ out.old.tokens ++ tokens_of (found_data object.now)) }
 {
-    let mut pool = VertexPool::new(alloc);
+    let mut pool = VertexPool::with_seed(alloc, seed);
     write_numbered(object, &mut pool, out)
 }
 
 /// Writes the reply to a read that found an object.
-fn write_found_reply(alloc: Global, object: &Object, out: &mut Writer) -> Result<(), OutOfMemory>
+fn write_found_reply(
+    alloc: Global,
+    seed: u64,
+    object: &Object,
+    out: &mut Writer,
+) -> Result<(), OutOfMemory>
     ensures before { OnOk result (out.new.before ≡ out.old.before) }
     ensures tokens { OnOk result (out.new.tokens
         ≡ out.old.tokens ++ tokens_of (found_reply object.now)) }
 {
     out.begin_object()?;
     out.key("found")?;
-    write_found(alloc, object, out)?;
+    write_found(alloc, seed, object, out)?;
     out.end_object()
 }
 
-fn write_reply(alloc: Global, reply: &Reply, out: &mut Writer) -> Result<(), OutOfMemory>
+fn write_reply(alloc: Global, seed: u64, reply: &Reply, out: &mut Writer) -> Result<(), OutOfMemory>
     ensures before { OnOk result (out.new.before ≡ out.old.before) }
     ensures tokens { OnOk result (out.new.tokens
         ≡ out.old.tokens ++ tokens_of (reply_data reply.now)) }
 {
     match reply {
-        Reply::Found(object) => write_found_reply(alloc, object, out),
+        Reply::Found(object) => write_found_reply(alloc, seed, object, out),
         Reply::Absent => out.string("absent"),
         Reply::Added => out.string("added"),
         Reply::Replaced => out.string("replaced"),
@@ -76,14 +86,19 @@ fn write_reply(alloc: Global, reply: &Reply, out: &mut Writer) -> Result<(), Out
 }
 
 /// Writes replies, in order.
-pub fn write_replies(alloc: Global, replies: &[Reply], out: &mut Writer) -> Result<(), OutOfMemory>
+pub fn write_replies(
+    alloc: Global,
+    seed: u64,
+    replies: &[Reply],
+    out: &mut Writer,
+) -> Result<(), OutOfMemory>
     ensures before { OnOk result (out.new.before ≡ out.old.before) }
     ensures tokens { OnOk result (out.new.tokens
         ≡ out.old.tokens ++ tokens_of (list_data reply_data replies.now)) }
 {
     out.begin_array()?;
     for reply in replies {
-        write_reply(alloc, reply, out)?;
+        write_reply(alloc, seed, reply, out)?;
     }
     out.end_array()
 }

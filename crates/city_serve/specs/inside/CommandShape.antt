@@ -6,7 +6,7 @@ use Rattle.clap.specs.Simple.{new_shape}
 use Rattle.clap.specs.declared.builder.action.ArgAction.TheVariants.{SetTrue}
 use Rattle.city_serve.specs.declared.command_line.Asked.{Asked}
 use Rattle.city_serve.specs.declared.command_line.LineFault.{LineFault}
-use Rattle.city_serve.specs.declared.command_line.Options.{Options}
+use Rattle.city_serve.specs.declared.options.Options.{Options}
 use Rattle.city_serve.specs.CommandLines.{files_of}
 
 -- the command as clap is told of it, without its options: two names of files, and beside help a version

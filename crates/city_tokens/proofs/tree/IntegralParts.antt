@@ -1,53 +1,74 @@
--- The parts of a tree of whole numbers are such trees, also after such a part is put in.
-use Rattle.std.proofs.Common.{◌≡◌, ℕ, List, [], ◌∷◌, true, Option, Some, None, option_map, refl, sym, ap, ◌∙◌, length}
-use Rattle.std.proofs.Common.{map}
-use Rattle.std.proofs.lemmas.List.{length-map}
-use Rattle.std.specs.List.{list_all}
+-- What a tree is that has members or items, and trees of whole numbers, whose parts are such trees.
+use Rattle.city_tokens.proofs.Prelude.{◌≡◌, ℕ, List, Option, Some, Less, Equal, Greater, nat_cmp, Bool, true, false}
+use Rattle.city_tokens.proofs.Prelude.{true≢false, None, refl, sym, ◌∙◌, arith, [], ◌∷◌, length, map, match_ordering}
+use Rattle.city_tokens.proofs.Prelude.{slice_cmp, Data, Members, no_members, member, put, array, object, Items}
+use Rattle.city_tokens.proofs.Prelude.{no_items, item, get_member, get, length-map, list_all, view, items_of}
+use Rattle.city_tokens.proofs.Prelude.{items_view, is_integral, items_integral, members_integral, array_of}
+use Rattle.serde_json.specs.Find.{as_array, as_object}
 use Rattle.std.proofs.lemmas.Bool.{and_from, and_parts}
-use Rattle.serde_json.specs.Data.{Data, null, boolean, number, string, array, object, Items, no_items, item, Members}
-use Rattle.serde_json.specs.Data.{put}
-use Rattle.serde_json.specs.Find.{get, get_member, as_object, as_array}
-use Rattle.serde_json.specs.View.{view, items_of, items_view}
 use Rattle.serde_json.specs.declared.value.Value.{Value}
-use Rattle.city_model.specs.Integral.{is_integral, items_integral, members_integral}
-use Rattle.city_tokens.specs.tree.Lists.{items_list, array_of}
+use Rattle.city_tokens.specs.tree.Lists.{items_list}
 use Rattle.city_tokens.specs.script.Scripts.{count_of}
-use Rattle.city_tokens.proofs.tree.AllMembers.{all_put, all_found}
-use Rattle.city_tokens.proofs.tree.Trees.{array_is, object_is}
+
+-- `All` is `P` of each value
+module _ (P : Data → Type 0) (All : Members → Type 0) (none : All no_members)
+    (join : (k : List ℕ) (d : Data) (ms : Members) → P d → All ms → All (member k d ms))
+    (parts : (k : List ℕ) (d : Data) (ms : Members) → All (member k d ms) → P d × All ms) where
+  -- it still holds where one of which it holds is put in
+  pub all_put : (k : List ℕ) (d : Data) (ms : Members) → P d → All ms → All (put k d ms)
+  all_put k d no_members one h = join k d no_members one none
+  all_put k d (member l e ms) one h =
+      let hs = parts l e ms h in
+      elim (slice_cmp nat_cmp k l) as (λ o. All (match_ordering o (member k d (member l e ms)) (member l d ms)
+      (member l e (put k d ms)))) [
+        | Less ↦ join k d _ one h
+        | Equal ↦ join l d ms one hs.1
+        | Greater ↦ join l e _ hs.0 (all_put k d ms one hs.1)
+      ]
+
+  -- it holds of the value that a look-up finds
+  pub all_found : (k : List ℕ) (ms : Members) (d : Data) → All ms → get_member k ms ≡ Some d → P d
+  all_found k no_members d h is = absurd (cc)
+  all_found k (member l e ms) d h is =
+      let hs = parts l e ms h in
+      let rest = get_member k ms in
+      elim (slice_cmp nat_cmp k l) as (λ o. match_ordering o rest (Some e) rest ≡ Some d → P d)
+      [ Equal ↦ λ at. let same : e ≡ d = cc in rw same at hs.0 | _ ↦ all_found k ms d hs.1 ] is
+
+pub array_is : (d : Data) (ds : Items) → as_array d ≡ Some ds → d ≡ array ds
+array_is d ds h = grind arith
+
+pub object_is : (d : Data) (ms : Members) → as_object d ≡ Some ms → d ≡ object ms
+object_is d ms h = grind arith
+
+-- a tree with a member that passes a test, as none does that isn't there, is an object
+pub object_with : (test : Option Data → Bool) → test None ≡ false → (name : List ℕ) (d : Data)
+    → test (get name d) ≡ true → (ms : Members) × (as_object d ≡ Some ms)
+object_with test absent name (object ms) h = (ms, refl)
+object_with test absent name _ h = absurd (true≢false (sym h ∙ absent))
 
 pub items_list-of : (ds : List Data) → items_list (items_of ds) ≡ ds
 items_list-of [] = refl
-items_list-of (d ∷ ds) = ap (λ es. d ∷ es) (items_list-of ds)
+items_list-of (d ∷ ds) = rw (items_list-of ds)
 
 -- how many items an array has
 pub count_of-items : (d : Data) (vs : List Value) → as_array d ≡ Some (items_view vs)
     → count_of (array_of d) ≡ length vs
-count_of-items d vs h = ap (λ o. count_of (option_map items_list o)) h ∙ ap length (items_list-of (map view vs))
-    ∙ length-map vs view
+count_of-items d vs h = rw (h, items_list-of (map view vs), length-map vs view) refl
 
 items_list-integral : (ds : Items) → items_integral ds ≡ true → list_all is_integral (items_list ds) ≡ true
 items_list-integral no_items h = refl
-items_list-integral (item d ds) h = let hs = and_parts (is_integral d) (items_integral ds) h in
-    rw (hs.0, items_list-integral ds hs.1) refl
-
-array_integral : (o : Option Items) (ds : List Data) → ((es : Items) → o ≡ Some es → items_integral es ≡ true)
-    → option_map items_list o ≡ Some ds → list_all is_integral ds ≡ true
-array_integral None ds h e = absurd (let no : ⊥ = cc in no)
-array_integral (Some es) ds h e = let is : ds ≡ items_list es = cc in ap (list_all is_integral) is
-    ∙ items_list-integral es (h es refl)
-
-as_array-integral : (d : Data) → is_integral d ≡ true → (es : Items) → as_array d ≡ Some es → items_integral es ≡ true
-as_array-integral d h es e = ap is_integral (sym (array_is d es e)) ∙ h
+items_list-integral (item d ds) h = grind (arith, items_list-integral ds)
 
 -- the items of an array
 pub array_of-integral : (d : Data) (ds : List Data) → is_integral d ≡ true → array_of d ≡ Some ds
     → list_all is_integral ds ≡ true
-array_of-integral d ds h e = array_integral (as_array d) ds (as_array-integral d h) e
+array_of-integral d ds h e = grind (arith, items_list-integral)
 
 -- the members of an object
 pub as_object-integral : (d : Data) (ms : Members) → is_integral d ≡ true → as_object d ≡ Some ms
     → members_integral ms ≡ true
-as_object-integral d ms h e = ap is_integral (sym (object_is d ms e)) ∙ h
+as_object-integral d ms h e = rw (object_is d ms e) at h
 
 pub get_member-integral : (k : List ℕ) (ms : Members) (d : Data) → members_integral ms ≡ true → get_member k ms ≡ Some d
     → is_integral d ≡ true
@@ -64,9 +85,4 @@ put-integral =
     (λ k d ms. and_parts (is_integral d) (members_integral ms))
 
 pub get-integral : (k : List ℕ) (d e : Data) → is_integral d ≡ true → get k d ≡ Some e → is_integral e ≡ true
-get-integral k null e h at = absurd (let no : ⊥ = cc in no)
-get-integral k (boolean b) e h at = absurd (let no : ⊥ = cc in no)
-get-integral k (number n) e h at = absurd (let no : ⊥ = cc in no)
-get-integral k (string s) e h at = absurd (let no : ⊥ = cc in no)
-get-integral k (array ds) e h at = absurd (let no : ⊥ = cc in no)
-get-integral k (object ms) e h at = get_member-integral k ms e h at
+get-integral k d e h at = grind (arith, get_member-integral)

@@ -1,8 +1,5 @@
-use Rattle.std.proofs.Common.{subst}
+use Rattle.city_canonical.proofs.Prelude.{subst, ◌∙◌, DocumentFault, IsTextOfCity, IsDecoded, IsDecimalsFault}
 use Rattle.std.proofs.lemmas.Result.{err_from_is_err_and}
-use Rattle.city_doc.specs.document.Faults.{DocumentFault}
-use Rattle.city_tokens.specs.document.Cities.{IsTextOfCity}
-use Rattle.city_decimals.specs.Texts.{IsDecoded, IsDecimalsFault}
 use Rattle.city_canonical.proofs.Texts.{same_text, read_fault, decode_fault}
 use Rattle.city_canonical.proofs.canonical_form.canonical.Goals as goal
 
@@ -22,14 +19,9 @@ returns-clause-canonical c =
     let city = c.in_ok-city.city in
     let admitted = c.in_ok-city.ensures.admitted in
     let read = subst (λ t. IsTextOfCity t city) c.as_slice.ensures.value (admitted.0, admitted.1.1, admitted.3) in
-    let decoded = subst (λ t. IsDecoded t c.in_ok-out.out.items) c.as_slice-2.ensures.value c.in_ok-out.ensures.decoded
-    in (
-      c.in_ok-encoded.encoded.items,
-      city,
-      c.in_ok-encoded.ensures.encoded,
-      read,
-      subst (λ t. IsDecoded t c.in_ok-out.out.items) c.in_ok-written.ensures.text decoded,
-    )
+    let text = c.as_slice-2.ensures.value ∙ c.in_ok-written.ensures.text in
+    let decoded = subst (λ t. IsDecoded t c.in_ok-out.out.items) text c.in_ok-out.ensures.decoded in
+    (c.in_ok-encoded.encoded.items, city, c.in_ok-encoded.ensures.encoded, read, decoded)
 
 pub returns-in_err-city-clause-fault : goal.returns-in_err-city-clause-fault
 returns-in_err-city-clause-fault c =

@@ -1,5 +1,4 @@
-use Rattle.std.proofs.Common.{rules}
-use Rattle.city_model.specs.CityMap.{object_at}
+use Rattle.city_crew.proofs.Prelude.{rules, object_at}
 use Rattle.city_crew.proofs.Applied.{is_after}
 use Rattle.city_crew.proofs.apply.apply.Goals as goal
 

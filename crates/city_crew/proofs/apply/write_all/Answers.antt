@@ -1,20 +1,12 @@
-use Rattle.std.proofs.Common.{◌≡◌, ◌∷◌, ◌∙◌, ap, sym, subst, is_some}
-use Rattle.std.specs.Map.{keys_of}
+use Rattle.city_crew.proofs.Prelude.{rules, ◌≡◌, ◌∷◌, ◌∙◌, ap, sym, subst, is_some, keys_of, CityMap, object_at}
+use Rattle.city_crew.proofs.Prelude.{same_id, has_id, Change, after_change, changed_apart}
 use Rattle.std.proofs.lemmas.Bool.{or_left, or_right}
-use Rattle.city_model.specs.CityMap.{CityMap, object_at, same_id, has_id}
-use Rattle.city_model.specs.Runs.{Change, after_change}
-use Rattle.city_model.proofs.Changed.{changed_apart}
 use Rattle.city_model.proofs.Ids.{same_id_itself}
 use Rattle.city_model.proofs.ChangeLaws.{Ascends, first_once}
 use Rattle.city_crew.proofs.apply.write_all.Goals as goal
 
 pub write-requires : goal.write-requires
-write-requires c =
-    let id = c.in-Some.id in
-    let rest = c.pop_first.new.self in
-    let split : c.loop-id.change ≡ (id, c.in-Some.object) ∷ rest = c.in-Some.ensures.pairs in
-    c.loop-id.invariant.there id (ap (λ es. has_id (keys_of es) id) split
-    ∙ or_left (same_id id id) (has_id (keys_of rest) id) (same_id_itself id))
+write-requires c = search (rules, or_left, same_id_itself)
 
 pub loop-id-preserved : goal.loop-id-preserved
 loop-id-preserved c =

@@ -1,7 +1,4 @@
-use Rattle.std.proofs.Common.{◌≡◌, ℕ, List, length, true, is_some}
-use Rattle.std.specs.Map.{keys_of}
-use Rattle.city_model.specs.CityMap.{object_at, has_id}
-use Rattle.city_model.specs.Runs.{after_change}
+use Rattle.city_crew.proofs.Prelude.{◌≡◌, ℕ, List, length, true, is_some, keys_of, object_at, has_id, after_change}
 use Rattle.city_crew.proofs.apply.write_all.Given as goal
 
 abbrev pub invariant-loop-id : goal.invariant-loop-id

@@ -1,4 +1,4 @@
-use Rattle.std.proofs.Common.{rules}
+use Rattle.city_crew.proofs.Prelude.{rules}
 use Rattle.city_crew.proofs.KeptRule.{admits, tells, believes}
 use Rattle.city_crew.proofs.board.new_viewer.Goals as goal
 

@@ -1,5 +1,5 @@
-use Rattle.std.proofs.Common.{◌≡◌, All, vec_len}
-use Rattle.left_right.specs.Sides.{view}
+use Rattle.city_crew.proofs.Prelude.{◌≡◌, All, view}
+use Rattle.std.proofs.Common.{vec_len}
 use Rattle.city_crew.specs.BoardValues.{viewer_of}
 use Rattle.city_crew.proofs.board.new_viewers.Given as goal
 

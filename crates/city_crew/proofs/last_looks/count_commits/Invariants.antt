@@ -1,4 +1,4 @@
-use Rattle.std.proofs.Common.{◌≡◌, ◌≤◌, take}
+use Rattle.city_crew.proofs.Prelude.{◌≡◌, ◌≤◌, take}
 use Rattle.city_model.specs.SerialEnds.{commits_in}
 use Rattle.city_crew.proofs.last_looks.count_commits.Given as goal
 

@@ -1,5 +1,4 @@
-use Rattle.std.proofs.Common.{◌≤◌, ◌<◌, length, All}
-use Rattle.city_crew.specs.Rising.{Rises, last_of}
+use Rattle.city_crew.proofs.Prelude.{◌≤◌, ◌<◌, length, All, Rises, last_of}
 use Rattle.city_crew.proofs.last_looks.last_looks.Given as goal
 
 abbrev pub invariant-loop-watcher : goal.invariant-loop-watcher

@@ -1,7 +1,5 @@
-use Rattle.std.proofs.Common.{◌<◌, length, arith, take, None, sym, ap, ◌∙◌}
-use Rattle.std.specs.Prelude.{if◌then◌else◌}
-use Rattle.city_model.specs.CityMap.{CityMap, CityValue, object_at, has_id, same_id}
-use Rattle.city_locks.proofs.Ids.{has_id_more}
+use Rattle.city_crew.proofs.Prelude.{◌<◌, length, arith, take, None, sym, ap, ◌∙◌, if◌then◌else◌, CityMap, CityValue}
+use Rattle.city_crew.proofs.Prelude.{object_at, has_id, same_id, has_id_more}
 use Rattle.city_crew.proofs.Placed.{cleared_more}
 use Rattle.city_crew.proofs.places.clear.Goals as goal
 

@@ -1,6 +1,4 @@
-use Rattle.std.proofs.Common.{◌≡◌, ℕ, List, None, take}
-use Rattle.std.specs.Prelude.{if◌then◌else◌}
-use Rattle.city_model.specs.CityMap.{object_at, has_id}
+use Rattle.city_crew.proofs.Prelude.{◌≡◌, ℕ, List, None, take, if◌then◌else◌, object_at, has_id}
 use Rattle.city_crew.proofs.places.clear.Given as goal
 
 abbrev pub invariant-loop-id : goal.invariant-loop-id

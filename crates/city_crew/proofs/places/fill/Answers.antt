@@ -1,7 +1,5 @@
-use Rattle.std.proofs.Common.{◌≡◌, ◌<◌, ℕ, List, length, arith, Some, sym, ap, ◌∙◌}
-use Rattle.city_model.specs.CityMap.{CityMap, CityValue, object_at, changed}
-use Rattle.city_model.proofs.Changed.{changed_apart}
-use Rattle.city_locks.proofs.Ids.{has_id_more}
+use Rattle.city_crew.proofs.Prelude.{◌≡◌, ◌<◌, ℕ, List, length, arith, Some, sym, ap, ◌∙◌, CityMap, CityValue}
+use Rattle.city_crew.proofs.Prelude.{object_at, changed, changed_apart, has_id_more}
 use Rattle.city_crew.proofs.Placed.{apart_from, filled_more}
 use Rattle.city_crew.proofs.places.fill.Goals as goal
 

@@ -1,5 +1,4 @@
-use Rattle.std.proofs.Common.{◌≡◌, ℕ, List, true, false, is_some, take}
-use Rattle.city_model.specs.CityMap.{object_at, has_id}
+use Rattle.city_crew.proofs.Prelude.{◌≡◌, ℕ, List, true, false, is_some, take, object_at, has_id}
 use Rattle.city_crew.proofs.places.fill.Given as goal
 
 abbrev pub invariant-loop-id : goal.invariant-loop-id

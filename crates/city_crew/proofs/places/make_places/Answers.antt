@@ -1,8 +1,4 @@
-use Rattle.std.proofs.Common.{rules, ◌≡◌, ◌∙◌, ap, None}
-use Rattle.std.specs.Prelude.{if◌then◌else◌}
-use Rattle.std.specs.Map.{keys_of}
-use Rattle.city_model.specs.CityMap.{object_at, has_id}
-use Rattle.city_model.proofs.Writing.{same_map}
+use Rattle.city_crew.proofs.Prelude.{rules, ◌≡◌, ◌∙◌, ap, None, if◌then◌else◌, keys_of, object_at, has_id, same_map}
 use Rattle.city_crew.proofs.Applied.{same_city}
 use Rattle.city_crew.proofs.Placed.{put_back}
 use Rattle.city_crew.proofs.places.make_places.Goals as goal

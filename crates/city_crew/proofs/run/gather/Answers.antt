@@ -1,7 +1,4 @@
-use Rattle.std.proofs.Common.{List, [], ◌∷◌, ◌++◌, ap, ◌∙◌}
-use Rattle.city_model.specs.declared.end.End.{End}
-use Rattle.city_doc.specs.document.Canonical.{city_text}
-use Rattle.city_doc.specs.report.Reports.{report_text}
+use Rattle.city_crew.proofs.Prelude.{List, [], ◌∷◌, ◌++◌, ap, ◌∙◌, End, city_text, report_text}
 use Rattle.city_crew.proofs.CrewResults.{is_run}
 use Rattle.city_crew.proofs.run.gather.Goals as goal
 

@@ -1,4 +1,4 @@
-use denote.Param.Send.{sendable}
+use Rattle.city_crew.proofs.Prelude.{sendable}
 use Rattle.city_crew.proofs.Crossing.{watcher_sends}
 use Rattle.city_crew.proofs.StateCrossing.{state_sends}
 use Rattle.city_crew.proofs.run.run.Goals as goal

@@ -1,4 +1,4 @@
-use Rattle.std.proofs.Common.{◌≡◌, ◌++◌, length, drop}
+use Rattle.city_crew.proofs.Prelude.{◌≡◌, ◌++◌, length, drop}
 use Rattle.city_crew.proofs.writer.append_all.Given as goal
 
 abbrev pub invariant-loop-edit : goal.invariant-loop-edit

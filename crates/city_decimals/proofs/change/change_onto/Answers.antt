@@ -1,12 +1,5 @@
-use Rattle.std.proofs.Common.{◌≡◌, List, [], ◌++◌, Some, refl, subst, arith, rules}
-use Rattle.std.specs.Str.{IsUtf8}
-use Rattle.json.specs.Token.{Token}
-use Rattle.json.specs.Json.{Json, value, max_depth}
-use Rattle.json.specs.Lex.{tokens}
-use Rattle.json.specs.Print.{print}
-use Rattle.json.specs.Tree.{json_tokens}
-use Rattle.city_decimals.specs.inside.Changes.{top_changed}
-use Rattle.city_decimals.specs.inside.Streams.{written}
+use Rattle.city_decimals.proofs.Prelude.{◌≡◌, List, [], ◌++◌, Some, refl, subst, arith, rules, IsUtf8, Token, Json}
+use Rattle.city_decimals.proofs.Prelude.{value, max_depth, tokens, print, json_tokens, top_changed, written}
 use Rattle.city_decimals.proofs.CompactTexts.{top_made}
 use Rattle.city_decimals.proofs.Streams.{whole_read}
 use Rattle.city_decimals.proofs.change.change_onto.Goals as goal
@@ -34,6 +27,4 @@ returns-clause-changed c =
     )
 
 pub returns-in-Ok-clause-changed : goal.returns-in-Ok-clause-changed
-returns-in-Ok-clause-changed c =
-    let made = c.in-Ok.ensures.ok in
-    (made.0, top_made c.args.way c.args.bytes.now made.0 made.1 c.in_ok-text.ensures.ok.1, made.2, made.3)
+returns-in-Ok-clause-changed c = search (rules, top_made)

@@ -1,6 +1,5 @@
-use Rattle.std.proofs.Common.{◌≡◌, ◌+◌, ◌*◌, false, length}
-use Rattle.city_decimals.specs.inside.Compact.{State, AreItemsCopied, AreMembersCopied}
-use Rattle.city_decimals.specs.inside.Ways.{items_changed, members_changed}
+use Rattle.city_decimals.proofs.Prelude.{◌≡◌, ◌+◌, ◌*◌, false, length, State, AreItemsCopied, AreMembersCopied}
+use Rattle.city_decimals.proofs.Prelude.{items_changed, members_changed}
 use Rattle.city_decimals.proofs.compact.+copy.Given as goal
 
 abbrev pub decreases-copy_array : goal.decreases-copy_array

@@ -1,7 +1,4 @@
-use Rattle.std.proofs.Common.{sym, subst}
-use Rattle.std.specs.Prelude.{IfSome}
-use Rattle.city_decimals.specs.inside.Compact.{IsCopied}
-use Rattle.city_decimals.specs.inside.Ways.{changed}
+use Rattle.city_decimals.proofs.Prelude.{sym, subst, IfSome, IsCopied, changed}
 use Rattle.city_decimals.proofs.Copied.{number_copied, some_weaker}
 use Rattle.city_decimals.proofs.CompactForms.{number_encoded}
 use Rattle.city_decimals.proofs.compact.copy_number.Goals as goal

@@ -1,4 +1,4 @@
-use Rattle.std.proofs.Common.{◌≡◌, ◌∷◌, [], refl, sym, subst}
+use Rattle.city_decimals.proofs.Prelude.{◌≡◌, ◌∷◌, [], refl, sym, subst}
 use Rattle.json.specs.Print.{escape_byte}
 use Rattle.city_decimals.proofs.copier.is_escaped.Goals as goal
 

@@ -1,5 +1,4 @@
-use Rattle.std.proofs.Common.{◌≤◌, ◌<◌, ◌-◌, ℕ, get_or, length}
-use Rattle.city_decimals.specs.inside.Copies.{IsPlainByte}
+use Rattle.city_decimals.proofs.Prelude.{◌≤◌, ◌<◌, ◌-◌, ℕ, get_or, length, IsPlainByte}
 use Rattle.city_decimals.proofs.copier.number_end.Given as goal
 
 abbrev pub invariant-loop-at : goal.invariant-loop-at

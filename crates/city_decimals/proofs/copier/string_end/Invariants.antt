@@ -1,5 +1,4 @@
-use Rattle.std.proofs.Common.{◌≡◌, ◌≤◌, ◌-◌, ℕ, List, length, take}
-use Rattle.json.specs.Print.{escape}
+use Rattle.city_decimals.proofs.Prelude.{◌≡◌, ◌≤◌, ◌-◌, ℕ, List, length, take, escape}
 use Rattle.city_decimals.proofs.copier.string_end.Given as goal
 
 abbrev pub invariant-loop-at : goal.invariant-loop-at

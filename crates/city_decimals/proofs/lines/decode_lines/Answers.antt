@@ -1,10 +1,8 @@
-use Rattle.std.proofs.Common.{◌≡◌, ◌+◌, ◌-◌, ◌∷◌, [], ◌++◌, length, take, drop, sym, ap, ◌∙◌, subst, arith}
-use Rattle.std.proofs.Common.{take_all, length-drop, append_assoc}
-use Rattle.std.specs.Prelude.{Result, Ok, Err, IfErr}
+use Rattle.city_decimals.proofs.Prelude.{rules, ◌≡◌, ◌+◌, ◌-◌, ◌∷◌, [], ◌++◌, length, take, drop, sym, ap, ◌∙◌, subst}
+use Rattle.city_decimals.proofs.Prelude.{arith, take_all, length-drop, append_assoc, AreDecodedLines, IsLinesFault}
+use Rattle.city_decimals.proofs.Prelude.{IsDecimalsFault, DecimalsFault}
+use Rattle.std.specs.Prelude.{Result, IfErr}
 use Rattle.std.specs.Result.{IsErrAnd}
-use Rattle.city_decimals.specs.Lines.{AreDecodedLines, IsLinesFault}
-use Rattle.city_decimals.specs.Texts.{IsDecimalsFault}
-use Rattle.city_decimals.specs.declared.fault.DecimalsFault.{DecimalsFault}
 use Rattle.city_decimals.proofs.Changes.{changed_decoded}
 use Rattle.city_decimals.proofs.OneLine.{rest_of, one_line, line_fault, done_with}
 use Rattle.city_decimals.proofs.lines.decode_lines.Goals as goal
@@ -39,8 +37,7 @@ loop-at-preserved c =
 
 fault_kept : {T : Type 0} (r : Result T DecimalsFault) (x : DecimalsFault) (P : DecimalsFault → Type 0)
     → IsErrAnd r (λ e. e ≡ x) → P x → IfErr r P
-fault_kept (Ok t) x P h p = absurd h
-fault_kept (Err e) x P h p = subst P (sym h) p
+fault_kept r x P h p = search rules
 
 pub returns-in_err-out-2-clause-fault : goal.returns-in_err-out-2-clause-fault
 returns-in_err-out-2-clause-fault c =

@@ -1,5 +1,4 @@
-use Rattle.std.proofs.Common.{◌≡◌, ℕ, List, ◌++◌, length}
-use Rattle.city_decimals.specs.Lines.{AreDecodedLines}
+use Rattle.city_decimals.proofs.Prelude.{◌≡◌, ℕ, List, ◌++◌, length, AreDecodedLines}
 use Rattle.city_decimals.proofs.lines.decode_lines.Given as goal
 
 -- what is decoded of the rest goes after what is there

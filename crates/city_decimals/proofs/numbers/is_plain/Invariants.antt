@@ -1,4 +1,4 @@
-use Rattle.std.proofs.Common.{◌<◌, ◌≤◌, ℕ, get_or}
+use Rattle.city_decimals.proofs.Prelude.{◌<◌, ◌≤◌, ℕ, get_or}
 use Rattle.city_decimals.proofs.numbers.is_plain.Given as goal
 
 abbrev pub invariant-loop-byte : goal.invariant-loop-byte

@@ -1,31 +1,15 @@
-use Rattle.std.proofs.Common.{◌≡◌, drop, get_or, true, false, ◌==◌, sym, ap, ◌∙◌, arith, take_all, length-drop, subst}
-use Rattle.fast_float.specs.Text.{scan}
-use Rattle.serde_json.specs.Read.{number_of, number_from}
-use Rattle.city_decimals.specs.Numbers.{is_written_so}
-use Rattle.city_decimals.specs.inside.PlainNumbers.{IsPlain}
+use Rattle.city_decimals.proofs.Prelude.{rules, arith, common_steps}
+use Rattle.serde_json.specs.Read.{number_of}
 use Rattle.city_decimals.proofs.PlainNumbers.{plain_is_whole}
 use Rattle.city_decimals.proofs.numbers.is_whole.Goals as goal
 
 pub returns-then-has_minus : goal.returns-then-has_minus
 unfolding number_of
-returns-then-has_minus c =
-    let s = c.as_bytes-bytes.result.now in
-    let signed : (get_or s 0 0 == 45) ≡ true = sym c.if-has_minus.ensures.value in
-    let parts : c.scan.result ≡ scan (drop 1 s) = c.scan.ensures.parts
-    ∙ ap scan (take_all _ (drop 1 s) (omega (arith, length-drop 1 s))) in
-    let read : number_from true (scan (drop 1 s)) ≡ number_of s = rw signed in
-    c.is_negative_i64.ensures ∙ ap (is_written_so c.args.text.now) (ap (number_from true) parts ∙ read
-    ∙ ap number_of c.as_bytes-bytes.ensures.value)
+returns-then-has_minus c = grind (arith, common_steps)
 
 pub returns-else-has_minus : goal.returns-else-has_minus
 unfolding number_of
-returns-else-has_minus c =
-    let s = c.as_bytes-bytes.result.now in
-    let unsigned : (get_or s 0 0 == 45) ≡ false = sym c.if-has_minus.ensures.value in
-    let read : number_from false (scan s) ≡ number_of s = rw unsigned in
-    c.is_positive_i64.ensures ∙ ap (is_written_so c.args.text.now) (ap
-    (number_from false) c.scan-else-has_minus.ensures.parts ∙ read ∙ ap number_of c.as_bytes-bytes.ensures.value)
+returns-else-has_minus c = search rules
 
 pub returns-then-is_plain : goal.returns-then-is_plain
-returns-then-is_plain c =
-    sym (plain_is_whole c.args.text.now (subst IsPlain c.as_bytes-bytes.ensures.value c.if-is_plain.ensures))
+returns-then-is_plain c = search (rules, plain_is_whole)

@@ -1,4 +1,4 @@
-use Rattle.std.proofs.Common.{◌≤◌, ◌<◌, ◌-◌, ℕ, get_or, length}
+use Rattle.city_decimals.proofs.Prelude.{◌≤◌, ◌<◌, ◌-◌, ℕ, get_or, length}
 use Rattle.city_decimals.proofs.numbers.plain_len.Given as goal
 
 abbrev pub invariant-loop-at : goal.invariant-loop-at

@@ -1,15 +1,10 @@
-use Rattle.std.proofs.Common.{Option, IfSome, refl, subst}
-use Rattle.city_model.specs.declared.command.Cause.{Cause}
-use Rattle.city_txn.specs.Acting.{RefusesCommit}
-use Rattle.city_desk.proofs.AttemptSteps.{commit_refused}
+use Rattle.city_desk.proofs.Prelude.{refl, sym, false≢true, Outcome}
+use Rattle.city_desk.proofs.AttemptSteps.{gave_up}
 use Rattle.city_desk.proofs.attempt.commit.Goals as goal
 
 pub returns-in-Ok-Some-clause-ended : goal.returns-in-Ok-Some-clause-ended
 returns-in-Ok-Some-clause-ended g c =
-    commit_refused c.args.core.now c.roll_back-in-Ok-Some.new.self c.args.stamp c.args.number c.in-Ok-Some.cause
-    (g.S.Shelf.list c.args.shelf.now) (
-      refl,
-      subst (λ (o : Option Cause). IfSome o (RefusesCommit c.args.core.now c.args.stamp)) c.in-Ok-Some.field-0-is
-          c.in-Ok-Some.ensures.refused,
-    )
-    c.roll_back-in-Ok-Some.ensures
+    let refused = rw c.in-Ok-Some.field-0-is at c.in-Ok-Some.ensures.refused in
+    let over = c.roll_back-in-Ok-Some.ensures.over in
+    gave_up (Outcome.Refused _ _) refl (refl, refused) (λ e _. absurd (false≢true (sym e))) over.closed over.keeps
+    c.roll_back-in-Ok-Some.ensures.city

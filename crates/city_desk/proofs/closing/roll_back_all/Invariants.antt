@@ -1,4 +1,5 @@
-use Rattle.city_desk.specs.inside.Closing.{KeepsCity, AreOpenFrom}
+use Rattle.city_desk.proofs.Prelude.{KeepsCity}
+use Rattle.city_desk.specs.inside.Closing.{AreOpenFrom}
 use Rattle.city_desk.proofs.closing.roll_back_all.Given as goal
 
 abbrev pub invariant-loop-script : goal.invariant-loop-script

@@ -1,7 +1,4 @@
-use Rattle.std.proofs.Common.{List, [], ◌∷◌, ◌++◌, ap, ◌∙◌}
-use Rattle.city_doc.specs.document.Canonical.{city_text}
-use Rattle.city_doc.specs.report.Reports.{report_text}
-use Rattle.city_model.specs.declared.end.End.{End}
+use Rattle.city_desk.proofs.Prelude.{[], ◌∷◌, ◌++◌, ap, ◌∙◌, city_text, report_text}
 use Rattle.city_model.specs.declared.frame.Frame.{Frame}
 use Rattle.city_desk.proofs.serial_run.run_read.Goals as goal
 
@@ -17,8 +14,7 @@ returns-clause-ran c document text read =
       output = record {
         model = left.1;
         left = run.model;
-        text = c.in_ok-bytes.ensures
-            ∙ ap (λ (es : List End). report_text es ++ city_text left ++ 10 ∷ []) c.as_slice.ensures
+        text = (rw c.as_slice.ensures at c.in_ok-bytes.ensures)
             ∙ ap (λ (f : Frame). report_text c.in_ok-finished.finished.ends ++ city_text (f, left.1) ++ 10 ∷ [])
             run.frame;
       };

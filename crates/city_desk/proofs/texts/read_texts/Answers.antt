@@ -1,20 +1,36 @@
-use Rattle.std.proofs.Common.{◌≡◌}
-use Rattle.city_desk.specs.declared.fault.RunFault.{RunFault}
+use Rattle.city_desk.proofs.Prelude.{◌≡◌, ℕ, List, Result, Ok, Err, refl, CityValue}
+use Rattle.std.specs.Result.{IfErr, IsErrAnd}
+use Rattle.city_doc.specs.declared.fault.ReadFault.{ReadFault}
+use Rattle.city_doc.specs.declared.fault.ScriptFault.{ScriptFault}
+use Rattle.city_tokens.specs.document.Cities.{IsAdmitted}
+use Rattle.city_doc.specs.document.Faults.{DocumentFault}
+use Rattle.city_doc.specs.script.Faults.{ScriptTextFault}
 use Rattle.city_desk.specs.RunFaults.{IsSerialFault, fault_of_document, fault_of_scripts}
-use Rattle.city_desk.proofs.RunFaults.{of_error, document_refused, scripts_refused}
 use Rattle.city_desk.proofs.texts.read_texts.Goals as goal
+
+-- a fault of a text is the run's fault, and want of memory for the text is the run's
+document_fault : (document scripts : List ℕ) (f : ReadFault) → DocumentFault document f
+    → IsSerialFault document scripts (fault_of_document f)
+document_fault document scripts ReadFault.OutOfMemory fault = (tt, refl)
+document_fault document scripts f fault = (((λ e. absurd (cc)), fault), refl)
+
+scripts_fault : (document scripts : List ℕ) (city : CityValue) (f : ScriptFault) → IsAdmitted document city
+    → ScriptTextFault scripts f → IsSerialFault document scripts (fault_of_scripts f)
+scripts_fault document scripts city ScriptFault.OutOfMemory stands fault = (tt, refl)
+scripts_fault document scripts city f stands fault = (((λ e. absurd (cc)), (city, stands), fault), refl)
+
+-- what holds of a value holds of the error of a result that is one and is that value
+of_error : {T E : Type 0} (e : E) (Q : E → Type 0) (r : Result T E) → IsErrAnd r (λ x. x ≡ e) → Q e → IfErr r Q
+of_error e Q (Ok v) is q = tt
+of_error e Q (Err x) is q = rw is q
 
 pub returns-in_err-city-clause-fault : goal.returns-in_err-city-clause-fault
 returns-in_err-city-clause-fault c =
-    let P : RunFault → Type 0 = λ r. r ≡ fault_of_document c.in_err-city.field-0.0 in
-    of_error P (IsSerialFault c.args.document.now c.args.scripts.now) c.from_residual.result c.from_residual.ensures.1
-    (λ r is. document_refused c.args.document.now c.args.scripts.now c.in_err-city.field-0.0 r is
-    c.in_err-city.ensures.fault)
+    of_error _ (IsSerialFault c.args.document.now c.args.scripts.now) _ c.from_residual.ensures.1
+    (document_fault c.args.document.now c.args.scripts.now c.in_err-city.field-0.0 c.in_err-city.ensures.fault)
 
 pub returns-in_err-scripts-clause-fault : goal.returns-in_err-scripts-clause-fault
 returns-in_err-scripts-clause-fault c =
-    let P : RunFault → Type 0 = λ r. r ≡ fault_of_scripts c.in_err-scripts.field-0.0 in
-    of_error P (IsSerialFault c.args.document.now c.args.scripts.now) c.from_residual-in_err-scripts.result
-    c.from_residual-in_err-scripts.ensures.1
-    (λ r is. scripts_refused c.args.document.now c.args.scripts.now c.in_ok-city.city c.in_err-scripts.field-0.0 r is
+    of_error _ (IsSerialFault c.args.document.now c.args.scripts.now) _ c.from_residual-in_err-scripts.ensures.1
+    (scripts_fault c.args.document.now c.args.scripts.now c.in_ok-city.city c.in_err-scripts.field-0.0
     c.in_ok-city.ensures.admitted c.in_err-scripts.ensures.fault)

@@ -1,6 +1,5 @@
-use Rattle.std.proofs.Common.{◌≡◌, ◌∙◌, sym, ap, [], unwrap_or}
-use Rattle.city_locks.specs.Holders.{without}
-use Rattle.city_locks.specs.Locks.{holders_of}
+use Rattle.city_locks.proofs.Prelude.{◌≡◌, ◌∙◌, sym, ap, [], without, holders_of}
+use Rattle.std.proofs.Common.{unwrap_or}
 use Rattle.city_locks.proofs.Ids.{same_at_id}
 use Rattle.city_locks.proofs.held.leave.Goals as goal
 

@@ -1,4 +1,4 @@
-use Rattle.std.proofs.Common.{arith}
+use Rattle.city_locks.proofs.Prelude.{arith}
 use Rattle.city_locks.proofs.Tables.{release_more}
 use Rattle.city_locks.proofs.held.release_each.Goals as goal
 

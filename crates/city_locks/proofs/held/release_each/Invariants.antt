@@ -1,7 +1,4 @@
-use Rattle.std.proofs.Common.{◌≡◌, List, ℕ, cond, take}
-use Rattle.city_locks.specs.Holders.{without}
-use Rattle.city_model.specs.CityMap.{has_id}
-use Rattle.city_locks.specs.Locks.{holders_of}
+use Rattle.city_locks.proofs.Prelude.{◌≡◌, List, ℕ, cond, take, without, has_id, holders_of}
 use Rattle.city_locks.proofs.held.release_each.Given as goal
 
 abbrev pub invariant-loop-id : goal.invariant-loop-id

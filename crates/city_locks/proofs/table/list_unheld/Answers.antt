@@ -1,6 +1,4 @@
-use Rattle.std.proofs.Common.{◌∙◌, ap, sym}
-use Rattle.city_model.specs.CityMap.{has_id}
-use Rattle.city_locks.specs.inside.Listing.{ids_of}
+use Rattle.city_locks.proofs.Prelude.{◌∙◌, ap, sym, has_id, ids_of}
 use Rattle.city_locks.proofs.Tables.{listed_last}
 use Rattle.city_locks.proofs.table.list_unheld.Goals as goal
 

@@ -1,5 +1,4 @@
-use Rattle.std.proofs.Common.{◌≡◌, drop}
-use Rattle.std.specs.List.{list_any}
+use Rattle.city_model.proofs.Prelude.{◌≡◌, drop, list_any}
 use Rattle.city_model.specs.Shells.{has_open_shell}
 use Rattle.city_model.proofs.body_fault.any_open_shell.Given as goal
 

@@ -1,9 +1,7 @@
-use Rattle.std.proofs.Common.{◌≡◌, ◌++◌, nat_cmp, sym, ap, ◌∙◌, subst}
-use Rattle.std.specs.Cmp.Lexicographic.{slice_cmp}
-use Rattle.std.specs.List.Sorted.{IsStrictlySortedBy}
-use Rattle.std.specs.Map.{keys_of}
+use Rattle.city_model.proofs.Prelude.{◌≡◌, ◌++◌, sym, ap, ◌∙◌, subst, slice_cmp, IsStrictlySortedBy, keys_of}
+use Rattle.city_model.proofs.Prelude.{append-nil}
+use Rattle.std.proofs.Common.{nat_cmp}
 use Rattle.std.proofs.lemmas.Iterator.Adapters.{YieldsList-from_vec}
-use Rattle.std.proofs.lemmas.List.{append-nil}
 use Rattle.city_model.proofs.MapsMade.{collected}
 use Rattle.city_model.proofs.copied.copy_map.Goals as goal
 

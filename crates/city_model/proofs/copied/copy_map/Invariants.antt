@@ -1,4 +1,4 @@
-use Rattle.std.proofs.Common.{◌≡◌, ◌++◌}
+use Rattle.city_model.proofs.Prelude.{◌≡◌, ◌++◌}
 use Rattle.city_model.proofs.copied.copy_map.Given as goal
 
 abbrev pub invariant-loop-id : goal.invariant-loop-id

@@ -1,5 +1,4 @@
-use Rattle.std.proofs.Common.{[], drop}
-use Rattle.city_model.specs.Shells.{edges_of}
+use Rattle.city_model.proofs.Prelude.{[], drop, edges_of}
 use Rattle.city_model.proofs.Noted.{Noted}
 use Rattle.city_model.proofs.edges.edges_of.Given as goal
 

@@ -1,6 +1,4 @@
-use Rattle.std.proofs.Common.{[], ◌∷◌, ◌++◌, drop, List}
-use Rattle.std.specs.List.{zip}
-use Rattle.city_model.specs.Shells.{Edge, ring_edges}
+use Rattle.city_model.proofs.Prelude.{[], ◌∷◌, ◌++◌, drop, List, zip, Edge, ring_edges}
 use Rattle.city_model.proofs.Noted.{Noted}
 use Rattle.city_model.proofs.edges.push_ring.Given as goal
 

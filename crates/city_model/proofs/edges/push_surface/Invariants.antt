@@ -1,4 +1,4 @@
-use Rattle.std.proofs.Common.{drop}
+use Rattle.city_model.proofs.Prelude.{drop}
 use Rattle.city_model.specs.Shells.{surface_edges}
 use Rattle.city_model.proofs.Noted.{Noted}
 use Rattle.city_model.proofs.edges.push_surface.Given as goal

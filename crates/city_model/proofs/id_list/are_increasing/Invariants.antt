@@ -1,6 +1,4 @@
-use Rattle.std.proofs.Common.{◌≡◌}
-use Rattle.city_model.specs.Chunks.{ids_left}
-use Rattle.city_model.specs.inside.RelationTests.{are_increasing, are_increasing_from}
+use Rattle.city_model.proofs.Prelude.{◌≡◌, ids_left, are_increasing, are_increasing_from}
 use Rattle.city_model.proofs.id_list.are_increasing.Given as goal
 
 -- the answer is that of the ids that are left

@@ -1,4 +1,4 @@
-use Rattle.city_model.proofs.Increasing.{found_there}
+use Rattle.city_model.proofs.IdLists.{found_there}
 use Rattle.city_model.proofs.id_list.is_found_by_halving.Goals as goal
 
 pub returns-in-Ok : goal.returns-in-Ok

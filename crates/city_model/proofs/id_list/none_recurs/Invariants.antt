@@ -1,6 +1,4 @@
-use Rattle.std.proofs.Common.{◌≡◌, length}
-use Rattle.city_model.specs.Chunks.{ids_left}
-use Rattle.city_model.specs.inside.RelationTests.{are_distinct}
+use Rattle.city_model.proofs.Prelude.{◌≡◌, length, ids_left, are_distinct}
 use Rattle.city_model.proofs.id_list.none_recurs.Given as goal
 
 abbrev pub invariant-loop-first : goal.invariant-loop-first

@@ -1,5 +1,4 @@
-use Rattle.std.proofs.Common.{◌≡◌, take}
-use Rattle.city_model.specs.Meaning.{without_id}
+use Rattle.city_model.proofs.Prelude.{◌≡◌, take, without_id}
 use Rattle.city_model.proofs.id_list.without_id.Given as goal
 
 abbrev pub invariant-loop-other : goal.invariant-loop-other

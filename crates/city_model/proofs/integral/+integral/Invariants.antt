@@ -1,6 +1,5 @@
-use Rattle.std.proofs.Common.{◌≡◌, drop}
-use Rattle.serde_json.specs.View.{items_view, members_view}
-use Rattle.city_model.specs.Integral.{items_integral, members_integral}
+use Rattle.city_model.proofs.Prelude.{◌≡◌, drop, items_view, members_view, members_integral}
+use Rattle.city_model.specs.Integral.{items_integral}
 use Rattle.city_model.proofs.integral.+integral.Given as goal
 
 -- the answer is that of what is left

@@ -1,5 +1,4 @@
-use Rattle.std.proofs.Common.{◌≡◌}
-use Rattle.std.specs.FinMap.{entries}
+use Rattle.city_model.proofs.Prelude.{◌≡◌, entries}
 use Rattle.city_model.proofs.Lawfulness.{all_faultless}
 use Rattle.city_model.proofs.is_lawful.is_faultless.Given as goal
 

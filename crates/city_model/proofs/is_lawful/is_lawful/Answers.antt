@@ -1,4 +1,4 @@
-use Rattle.city_model.specs.CityMap.{object_at}
+use Rattle.city_model.proofs.Prelude.{object_at}
 use Rattle.city_model.proofs.Lawfulness.{lawful_by, faultless_of_lawful, misrelated_unlawful}
 use Rattle.city_model.proofs.is_lawful.is_lawful.Goals as goal
 

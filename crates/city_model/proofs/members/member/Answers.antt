@@ -1,8 +1,6 @@
-use Rattle.std.proofs.Common.{option_map, ap, ◌∙◌}
-use Rattle.serde_json.specs.View.{view}
-use Rattle.serde_json.proofs.Views.{view_of_ref, view-lookup}
+use Rattle.city_model.proofs.Prelude.{arith, view-lookup}
+use Rattle.serde_json.proofs.Views.{view_of_ref}
 use Rattle.city_model.proofs.members.member.Goals as goal
 
 pub returns : goal.returns
-returns c = view_of_ref c.get.result ∙ ap (option_map view) c.get.ensures.value
-    ∙ view-lookup c.args.name.now c.args.members.now.entries
+returns c = grind (arith, view_of_ref c.get.result, view-lookup c.args.name.now c.args.members.now.entries)

@@ -1,4 +1,4 @@
-use Rattle.std.proofs.Common.{◌∙◌, sym}
+use Rattle.city_model.proofs.Prelude.{◌∙◌, sym}
 use Rattle.city_model.proofs.MemberLaws.{ordered_members, members_count-view}
 use Rattle.city_model.proofs.members.members_count.Goals as goal
 

@@ -1,5 +1,4 @@
-use Rattle.std.proofs.Common.{◌≡◌, drop}
-use Rattle.city_model.specs.Types.{first_named}
+use Rattle.city_model.proofs.Prelude.{◌≡◌, drop, first_named}
 use Rattle.city_model.proofs.object_type.first_named.Given as goal
 
 abbrev pub invariant-loop-kind : goal.invariant-loop-kind

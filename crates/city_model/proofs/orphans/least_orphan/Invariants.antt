@@ -1,6 +1,5 @@
-use Rattle.std.proofs.Common.{◌≡◌}
-use Rattle.std.specs.FinMap.{entries}
-use Rattle.city_model.proofs.FirstOrphan.{first_orphan}
+use Rattle.city_model.proofs.Prelude.{◌≡◌, entries}
+use Rattle.city_model.proofs.Lawfulness.{first_orphan}
 use Rattle.city_model.proofs.orphans.least_orphan.Given as goal
 
 abbrev pub invariant-loop-id : goal.invariant-loop-id

@@ -1,4 +1,4 @@
-use Rattle.std.proofs.Common.{◌≡◌}
+use Rattle.city_model.proofs.Prelude.{◌≡◌}
 use Rattle.city_model.proofs.ChangeLaws.{first_orphan_in}
 use Rattle.city_model.proofs.orphans.least_orphan_in.Given as goal
 

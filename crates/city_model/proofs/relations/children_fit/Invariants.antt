@@ -1,7 +1,4 @@
-use Rattle.std.proofs.Common.{◌≡◌}
-use Rattle.std.specs.List.{list_all}
-use Rattle.city_model.specs.Chunks.{ids_left}
-use Rattle.city_model.specs.CityMap.{object_at, has_id, parents_of}
+use Rattle.city_model.proofs.Prelude.{◌≡◌, list_all, ids_left, object_at, has_id, parents_of}
 use Rattle.city_model.proofs.relations.children_fit.Given as goal
 
 abbrev pub invariant-loop-child : goal.invariant-loop-child

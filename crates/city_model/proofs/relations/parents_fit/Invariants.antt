@@ -1,8 +1,4 @@
-use Rattle.std.proofs.Common.{◌≡◌}
-use Rattle.std.specs.List.{list_all}
-use Rattle.city_model.specs.Chunks.{ids_left}
-use Rattle.city_model.specs.CityMap.{object_at}
-use Rattle.city_model.specs.inside.RelationTests.{parent_fits}
+use Rattle.city_model.proofs.Prelude.{◌≡◌, list_all, ids_left, object_at, parent_fits}
 use Rattle.city_model.proofs.relations.parents_fit.Given as goal
 
 abbrev pub invariant-loop-parent : goal.invariant-loop-parent

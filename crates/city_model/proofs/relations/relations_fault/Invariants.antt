@@ -1,7 +1,4 @@
-use Rattle.std.proofs.Common.{◌≡◌}
-use Rattle.std.specs.FinMap.{entries}
-use Rattle.city_model.specs.CityMap.{object_at}
-use Rattle.city_model.specs.inside.RelationTests.{is_misrelated}
+use Rattle.city_model.proofs.Prelude.{◌≡◌, entries, object_at, is_misrelated}
 use Rattle.city_model.proofs.FirstEntry.{first_that}
 use Rattle.city_model.proofs.relations.relations_fault.Given as goal
 

@@ -1,5 +1,4 @@
-use Rattle.std.proofs.Common.{◌≡◌, drop}
-use Rattle.std.specs.List.{list_any}
+use Rattle.city_model.proofs.Prelude.{◌≡◌, drop, list_any}
 use Rattle.city_model.specs.Shells.{has_same_neighbours}
 use Rattle.city_model.proofs.rings.any_same_ring.Given as goal
 

@@ -1,15 +1,7 @@
-use Rattle.std.proofs.Common.{◌∙◌, sym, ap}
-use Rattle.std.specs.List.{list_any}
+use Rattle.city_model.proofs.Prelude.{◌∙◌, sym, ap, list_any, is_faulty}
 use Rattle.city_model.specs.inside.BorrowedBounds.{bounds_view}
-use Rattle.city_model.specs.inside.RingFaults.{is_faulty}
 use Rattle.city_model.proofs.Joined.{some_surface_by}
 use Rattle.city_model.proofs.rings.has_ring_fault.Goals as goal
-
-pub returns-in-Surfaces : goal.returns-in-Surfaces
-returns-in-Surfaces c =
-    let p = is_faulty c.args.fault in
-    c.any_surface.ensures ∙ ap (list_any p) c.as_slice.ensures
-    ∙ some_surface_by p c.args.shape.now _ (sym (ap bounds_view c.in-Surfaces.is) ∙ c.bounds.ensures)
 
 pub returns-in-Shells : goal.returns-in-Shells
 returns-in-Shells c =

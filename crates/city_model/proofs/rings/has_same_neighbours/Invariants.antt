@@ -1,6 +1,5 @@
-use Rattle.std.proofs.Common.{◌≡◌, [], ◌∷◌, ◌++◌, drop}
-use Rattle.std.specs.List.{list_any, zip}
-use Rattle.city_model.specs.Shells.{is_same_pair, ring_edges}
+use Rattle.city_model.proofs.Prelude.{◌≡◌, [], ◌∷◌, ◌++◌, drop, list_any, zip, ring_edges}
+use Rattle.city_model.specs.Shells.{is_same_pair}
 use Rattle.city_model.proofs.rings.has_same_neighbours.Given as goal
 
 -- the answer is that of the edges that are left

@@ -1,5 +1,4 @@
-use Rattle.std.proofs.Common.{◌≡◌, drop}
-use Rattle.city_model.specs.Scripts.{ends_once}
+use Rattle.city_model.proofs.Prelude.{◌≡◌, drop, ends_once}
 use Rattle.city_model.proofs.script.ends_once.Given as goal
 
 abbrev pub invariant-loop-i : goal.invariant-loop-i

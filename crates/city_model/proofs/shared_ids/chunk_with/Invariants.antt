@@ -1,6 +1,4 @@
-use Rattle.std.proofs.Common.{◌≡◌, drop, flat_map}
-use Rattle.std.specs.Arc.{arc_value}
-use Rattle.city_model.specs.CityMap.{has_id}
+use Rattle.city_model.proofs.Prelude.{◌≡◌, drop, flat_map, arc_value, has_id}
 use Rattle.city_model.proofs.shared_ids.chunk_with.Given as goal
 
 abbrev pub invariant-loop-at : goal.invariant-loop-at

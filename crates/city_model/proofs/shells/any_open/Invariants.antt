@@ -1,6 +1,4 @@
-use Rattle.std.proofs.Common.{◌≡◌, drop}
-use Rattle.std.specs.List.{list_any}
-use Rattle.city_model.specs.Shells.{is_open_shell}
+use Rattle.city_model.proofs.Prelude.{◌≡◌, drop, list_any, is_open_shell}
 use Rattle.city_model.proofs.shells.any_open.Given as goal
 
 abbrev pub invariant-loop-shell : goal.invariant-loop-shell

@@ -1,6 +1,4 @@
-use Rattle.std.proofs.Common.{◌≡◌, false}
-use Rattle.std.specs.List.{AllAdjacentBelow}
-use Rattle.std.specs.Ordering.{eq_by_cmp}
+use Rattle.city_model.proofs.Prelude.{◌≡◌, false, AllAdjacentBelow, eq_by_cmp}
 use Rattle.city_model.proofs.shells.has_repeats.Given as goal
 
 abbrev pub invariant-loop-i : goal.invariant-loop-i

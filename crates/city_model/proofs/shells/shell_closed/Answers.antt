@@ -1,17 +1,14 @@
-use Rattle.std.proofs.Common.{◌≡◌, List, not, map, sym, ap, subst, ◌∙◌}
-use Rattle.std.specs.List.Sorted.{IsPermutation, IsSorted}
+use Rattle.city_model.proofs.Prelude.{rules, ◌≡◌, List, not, map, sym, ap, subst, ◌∙◌, IsPermutation, IsSorted, Edge}
+use Rattle.city_model.proofs.Prelude.{edges_of, flipped, rising}
 use Rattle.std.proofs.lemmas.Slice.Eq.{slice_eq-Decides}
-use Rattle.city_model.specs.Shells.{Edge, edges_of, flipped}
-use Rattle.city_model.specs.inside.RisingEdges.{rising}
 use Rattle.city_model.proofs.Closed.{closed_where_same, open_where_repeated, pair_decides, edge_order}
-use Rattle.city_model.proofs.shells.shell_closed.Goals as goal
 use Rattle.city_model.proofs.shells.shell_closed.Goals.{then-not-has_repeats, else-not-has_repeats}
+use Rattle.city_model.proofs.shells.shell_closed.Goals as goal
 
 -- what is in order once it is sorted, as a slice
 sorted_slice : (noted found sorted lent : List Edge) → noted ≡ found → IsPermutation noted sorted → lent ≡ sorted
     → IsPermutation found lent
-sorted_slice noted found sorted lent is moved value =
-    subst (λ (xs : List Edge). IsPermutation xs lent) is (subst (IsPermutation noted) (sym value) moved)
+sorted_slice noted found sorted lent is moved value = search rules
 
 pub returns : goal.returns
 returns c =

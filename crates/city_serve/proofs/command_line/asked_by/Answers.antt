@@ -1,6 +1,6 @@
-use Rattle.std.proofs.Common.{rules, ◌≡◌, Bool, true, false, List, [], Option, Some, inr, ap, sym, subst, ◌∙◌, codes}
-use Rattle.std.proofs.Common.{map, drop, string_bytes}
-use Rattle.std.specs.Prelude.{IsErr}
+use Rattle.city_serve.proofs.Prelude.{◌≡◌, Bool, true, false, List, [], Option, Some, inr, ap, sym, subst, ◌∙◌, codes}
+use Rattle.city_serve.proofs.Prelude.{map, drop, string_bytes, IsErr}
+use Rattle.std.proofs.Common.{rules}
 use Rattle.clap.specs.Words.{App, HasKind, Text, fault_of, first_of, first_value, found_of, is_simple}
 use Rattle.clap.specs.Words.{is_simple_and_free, matches_of, one_of, one_text, rows_of}
 use Rattle.clap.specs.declared.parser.matches.Found.{Found}
@@ -9,8 +9,8 @@ use Rattle.city_serve.proofs.FoundOptions.{fault, flag_text, rows}
 use Rattle.city_serve.proofs.LineAnswers.{Reads, answer_within, fault_answered, names_answered, names_line}
 use Rattle.city_serve.proofs.LineAnswers.{no_options_found, options_found, short_answered, short_within, want_is_err}
 use Rattle.city_serve.proofs.LineAnswers.{wanting}
-use Rattle.city_serve.proofs.Options.{text_never_free, text_shown, unknown_is_mistake, unknown_never_free}
-use Rattle.city_serve.proofs.Options.{unknown_refused}
+use Rattle.city_serve.proofs.OtherOptions.{text_never_free, text_shown, unknown_is_mistake, unknown_never_free}
+use Rattle.city_serve.proofs.OtherOptions.{unknown_refused}
 use Rattle.city_serve.proofs.command_line.asked_by.Goals as goal
 
 -- what the getters give, of the rows that the walk found

@@ -1,4 +1,4 @@
-use Rattle.std.proofs.lemmas.Result.{IfOk-weaker}
+use Rattle.city_serve.proofs.Prelude.{IfOk-weaker}
 use Rattle.city_serve.proofs.EnoughRead.{enough_read}
 use Rattle.city_serve.proofs.files.read_text.Goals as goal
 

@@ -1,6 +1,6 @@
-use Rattle.std.proofs.Common.{◌≡◌, ◌++◌, drop}
+use Rattle.city_serve.proofs.Prelude.{◌≡◌, ◌++◌, drop, seen_text}
 use Rattle.std.specs.Prelude.{string_bytes}
-use Rattle.city_serve.specs.SeenTexts.{numbers_text, seen_text}
+use Rattle.city_serve.specs.SeenTexts.{numbers_text}
 use Rattle.city_serve.proofs.seen_line.seen_line.Given as goal
 
 abbrev pub invariant-loop-number : goal.invariant-loop-number

@@ -1,5 +1,4 @@
-use Rattle.std.proofs.Common.{sym, ◌∙◌}
-use Rattle.city_serve.specs.Served.{is_newline}
+use Rattle.city_serve.proofs.Prelude.{sym, ◌∙◌, is_newline}
 use Rattle.city_serve.proofs.Inputs.{before_found, after_found, before_none, after_none}
 use Rattle.city_serve.proofs.serve.cut.Goals as goal
 

@@ -1,4 +1,4 @@
-use Rattle.city_serve.specs.Served.{is_newline}
+use Rattle.city_serve.proofs.Prelude.{is_newline}
 use Rattle.city_serve.proofs.Inputs.{first_position}
 use Rattle.city_serve.proofs.serve.first_newline.Goals as goal
 

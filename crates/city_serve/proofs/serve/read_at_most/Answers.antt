@@ -1,4 +1,4 @@
-use Rattle.std.proofs.Common.{◌≡◌, ◌+◌, ◌≤◌, length, arith}
+use Rattle.city_serve.proofs.Prelude.{◌≡◌, ◌+◌, ◌≤◌, length, arith}
 use Rattle.std.proofs.lemmas.Grind.{common_steps}
 use Rattle.city_serve.proofs.KnownBytes.{consumes_then_keeps, end_read, loses_more, most_read}
 use Rattle.city_serve.proofs.serve.read_at_most.Goals as goal

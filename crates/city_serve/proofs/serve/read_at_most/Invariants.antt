@@ -1,5 +1,5 @@
-use Rattle.std.proofs.Common.{◌≡◌, ◌≤◌, ◌-◌, length, vec_len}
-use Rattle.std.specs.Io.KnownBytes.{Consumes}
+use Rattle.city_serve.proofs.Prelude.{◌≡◌, ◌≤◌, ◌-◌, length, Consumes}
+use Rattle.std.proofs.Common.{vec_len}
 use Rattle.city_serve.proofs.serve.read_at_most.Given as goal
 
 abbrev pub invariant-loop-chunk : goal.invariant-loop-chunk

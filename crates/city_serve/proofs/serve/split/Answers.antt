@@ -1,7 +1,5 @@
-use Rattle.city_serve.specs.Served.{is_newline, document_part}
-use Rattle.std.proofs.Common.{take, length, ap, ◌∙◌}
-use Rattle.std.specs.List.{position_or_len}
-use Rattle.std.proofs.lemmas.List.{length-take, take_min}
+use Rattle.city_serve.proofs.Prelude.{is_newline, document_part, take, length, ap, ◌∙◌, position_or_len, length-take}
+use Rattle.std.proofs.lemmas.List.{take_min}
 use Rattle.city_serve.proofs.serve.split.Goals as goal
 
 pub returns-clause-document : goal.returns-clause-document

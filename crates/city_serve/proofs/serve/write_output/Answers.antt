@@ -1,4 +1,4 @@
-use Rattle.std.proofs.Common.{◌++◌, take, refl, ◌∙◌}
+use Rattle.city_serve.proofs.Prelude.{◌++◌, take, refl, ◌∙◌}
 use Rattle.city_serve.proofs.KnownBytes.{appends_more, appends_then_keeps, more_written, some_appended}
 use Rattle.city_serve.proofs.serve.write_output.Goals as goal
 

@@ -1,5 +1,4 @@
-use Rattle.std.proofs.Common.{◌≡◌, ℕ, List, ◌++◌, length}
-use Rattle.std.specs.Io.KnownBytes.{Appends}
+use Rattle.city_serve.proofs.Prelude.{◌≡◌, ℕ, List, ◌++◌, length, Appends}
 use Rattle.city_serve.proofs.serve.write_output.Given as goal
 
 abbrev pub invariant-loop-rest : goal.invariant-loop-rest

@@ -1,5 +1,4 @@
-use Rattle.std.proofs.Common.{◌≡◌}
-use Rattle.city_tokens.specs.inside.Positions.{opened}
+use Rattle.city_tokens.proofs.Prelude.{◌≡◌, opened}
 use Rattle.city_tokens.proofs.boundaries.read_brackets.Given as goal
 
 abbrev pub invariant-loop-brackets : goal.invariant-loop-brackets

@@ -1,5 +1,4 @@
-use Rattle.std.proofs.Common.{sym, subst}
-use Rattle.std.proofs.lemmas.Option.{IfSome_then}
+use Rattle.city_tokens.proofs.Prelude.{sym, subst, IfSome_then}
 use Rattle.city_tokens.specs.inside.Tops.{IsCity}
 use Rattle.city_tokens.proofs.document.streamed_city.Goals as goal
 

@@ -1,6 +1,4 @@
-use Rattle.std.proofs.Common.{◌≡◌, ◌++◌, List, length}
-use Rattle.serde_json.specs.Data.{Data}
-use Rattle.city_tokens.specs.inside.Standing.{Pairs}
+use Rattle.city_tokens.proofs.Prelude.{◌≡◌, ◌++◌, List, length, Data, Pairs}
 use Rattle.city_tokens.proofs.Reading.{AreRead}
 use Rattle.city_tokens.proofs.list.read_rest.Given as goal
 

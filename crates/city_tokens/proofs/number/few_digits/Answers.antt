@@ -1,13 +1,10 @@
-use Rattle.std.proofs.Common.{◌<◌, length, sym, ◌∙◌, arith}
+use Rattle.city_tokens.proofs.Prelude.{sym, ◌∙◌, arith}
 use Rattle.city_tokens.proofs.Digits.{digits_scanned}
 use Rattle.city_tokens.proofs.number.few_digits.Goals as goal
 
 pub returns-clause-integer : goal.returns-clause-integer
-returns-clause-integer c =
-    let some : 0 < length c.args.bytes.now = grind arith in
-    (digits_scanned c.args.bytes.now c.in_ok-n.ensures.digits some).0
+returns-clause-integer c = (digits_scanned c.args.bytes.now c.in_ok-n.ensures.digits (grind arith)).0
 
 pub returns-clause-value : goal.returns-clause-value
 returns-clause-value c =
-    let some : 0 < length c.args.bytes.now = grind arith in
-    (digits_scanned c.args.bytes.now c.in_ok-n.ensures.digits some).1 ∙ sym c.in_ok-n.ensures.value
+    (digits_scanned c.args.bytes.now c.in_ok-n.ensures.digits (grind arith)).1 ∙ sym c.in_ok-n.ensures.value

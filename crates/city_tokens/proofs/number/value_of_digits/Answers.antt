@@ -1,4 +1,4 @@
-use Rattle.std.proofs.Common.{arith}
+use Rattle.city_tokens.proofs.Prelude.{arith}
 use Rattle.city_tokens.proofs.Digits.{digit_of, more, below}
 use Rattle.city_tokens.proofs.number.value_of_digits.Goals as goal
 
@@ -6,15 +6,13 @@ pub overflow_mul-n : goal.overflow_mul-n
 overflow_mul-n c =
     let i = c.loop-byte.invariant in
     let small = below 17 c.loop-byte.byte-index c.args.digits.now i.0 (omega arith) in
-    let same = i.1 in
-    grind arith
+    grind (arith, i.1)
 
 pub overflow_add-n : goal.overflow_add-n
 overflow_add-n c =
     let i = c.loop-byte.invariant in
     let small = below 17 c.loop-byte.byte-index c.args.digits.now i.0 (omega arith) in
-    let same = i.1 in
-    grind arith
+    grind (arith, i.1)
 
 pub loop-byte-preserved : goal.loop-byte-preserved
 loop-byte-preserved c =
@@ -26,5 +24,4 @@ pub returns-clause-small : goal.returns-clause-small
 returns-clause-small c =
     let i = c.loop-byte.invariant in
     let small = below 18 c.loop-byte.byte-index c.args.digits.now i.0 (grind arith) in
-    let same = i.1 in
-    grind arith
+    grind (arith, i.1)

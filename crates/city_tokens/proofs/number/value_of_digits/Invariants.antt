@@ -1,5 +1,4 @@
-use Rattle.std.proofs.Common.{◌≡◌, take}
-use Rattle.std.specs.Str.Parse.{AllDigits, digits_value}
+use Rattle.city_tokens.proofs.Prelude.{◌≡◌, take, AllDigits, digits_value}
 use Rattle.city_tokens.proofs.number.value_of_digits.Given as goal
 
 abbrev pub invariant-loop-byte : goal.invariant-loop-byte

@@ -1,7 +1,6 @@
-use Rattle.std.proofs.Common.{◌≡◌, ◌==◌, drop, get_or, true, false, Some, IfSome, sym, ap, ◌∙◌, arith, subst, take_all}
-use Rattle.std.proofs.Common.{length-drop}
-use Rattle.fast_float.specs.Text.{scan}
-use Rattle.serde_json.specs.Find.{of_integer}
+use Rattle.city_tokens.proofs.Prelude.{◌≡◌, drop, get_or, true, false, Some, IfSome, sym, ap, ◌∙◌, arith, subst, scan}
+use Rattle.city_tokens.proofs.Prelude.{of_integer}
+use Rattle.std.proofs.Common.{◌==◌, take_all, length-drop}
 use Rattle.serde_json.specs.Read.{number_of, number_from}
 use Rattle.city_tokens.proofs.number.whole_of.Goals as goal
 
@@ -21,5 +20,4 @@ returns-else-has_minus-clause-value c =
     let s = c.as_bytes-bytes.result.now in
     let unsigned : (get_or s 0 0 == 45) ≡ false = sym c.if-has_minus.ensures.value in
     let read : number_from false (scan s) ≡ number_of s = rw unsigned in
-    subst (λ o. IfSome c.not_below_zero.result (λ n. o ≡ Some (of_integer n)))
-    (read ∙ ap number_of c.as_bytes-bytes.ensures.value) c.not_below_zero.ensures.value
+    rw (read ∙ ap number_of c.as_bytes-bytes.ensures.value) at c.not_below_zero.ensures.value

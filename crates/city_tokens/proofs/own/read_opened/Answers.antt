@@ -1,10 +1,8 @@
-use Rattle.std.proofs.Common.{arith}
-use Rattle.std.proofs.lemmas.Option.{IfSome_then}
+use Rattle.city_tokens.proofs.Prelude.{arith, IfSome_then}
 use Rattle.city_tokens.proofs.Reading.{object_value}
 use Rattle.city_tokens.proofs.own.read_opened.Goals as goal
 
 pub returns : goal.returns
 returns g c =
     IfSome_then c.read_rest.result c.read_rest.ensures
-    (λ read rest.
-    (rest.0, object_value c.args.depth c.args.reader.now c.read_rest.new.reader rest.0 (omega arith) rest.1, rest.2))
+    (λ read rest. (rest.0, object_value _ _ _ _ (omega arith) rest.1, rest.2))

@@ -1,6 +1,4 @@
-use Rattle.std.proofs.Common.{length}
-use Rattle.serde_json.specs.Data.{Members, no_members}
-use Rattle.serde_json.specs.View.{members_view}
+use Rattle.city_tokens.proofs.Prelude.{length, Members, no_members, members_view}
 use Rattle.city_tokens.proofs.Reading.{AreFound}
 use Rattle.city_tokens.proofs.own.read_rest.Given as goal
 

@@ -1,8 +1,6 @@
-use Rattle.std.proofs.Common.{◌≡◌, suc, ◌+◌, ◌<◌, ◌∷◌, ◌++◌, [], drop, take, length, get_or, sym, ap, ◌∙◌, subst, arith}
-use Rattle.std.specs.Prelude.{slice_set}
-use Rattle.city_tokens.specs.inside.Positions.{IsPlaced, points_of}
-use Rattle.city_tokens.specs.inside.Standing.{Pairs}
-use Rattle.city_tokens.proofs.Written.{item_written}
+use Rattle.city_tokens.proofs.Prelude.{◌≡◌, suc, ◌+◌, ◌<◌, ◌∷◌, ◌++◌, [], drop, length, get_or, sym, ap, ◌∙◌, subst}
+use Rattle.city_tokens.proofs.Prelude.{arith, slice_set, IsPlaced, points_of}
+use Rattle.city_tokens.proofs.Pairing.{item_written}
 use Rattle.city_tokens.proofs.placing.place_all.Goals as goal
 
 pub loop-item-preserved : goal.loop-item-preserved
@@ -19,8 +17,5 @@ loop-item-preserved g c =
     let is : x ≡ get_or (done ++ drop i start) i x = c.item-item.is ∙ ap (λ zs. get_or zs i x) l.invariant.1 in
     let one : R x y = subst (λ z. R z y) (sym c.item-item.is) c.in_ok-place.ensures in
     let step = item_written R i start done x y l.invariant.2 below is one in
-    let next : suc i ≡ i + 1 = omega arith in (
-      done ++ y ∷ [],
-      ap (λ zs. slice_set zs i y) l.invariant.1 ∙ step.0 ∙ ap (λ k. (done ++ y ∷ []) ++ drop k start) next,
-      subst (λ k. Pairs R (take k start) (done ++ y ∷ [])) next step.1,
-    )
+    let next : suc i ≡ i + 1 = omega arith in
+    (done ++ y ∷ [], ap (λ zs. slice_set zs i y) l.invariant.1 ∙ rw next at step.0, rw next at step.1)

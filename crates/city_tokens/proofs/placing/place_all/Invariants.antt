@@ -1,6 +1,4 @@
-use Rattle.std.proofs.Common.{◌≡◌, ◌++◌, List, drop, take}
-use Rattle.city_tokens.specs.inside.Positions.{IsPlaced, points_of}
-use Rattle.city_tokens.specs.inside.Standing.{Pairs}
+use Rattle.city_tokens.proofs.Prelude.{◌≡◌, ◌++◌, List, drop, take, IsPlaced, points_of, Pairs}
 use Rattle.city_tokens.proofs.placing.place_all.Given as goal
 
 abbrev pub invariant-loop-item : goal.invariant-loop-item

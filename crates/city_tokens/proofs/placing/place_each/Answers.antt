@@ -1,12 +1,7 @@
-use Rattle.std.proofs.Common.{rules, ℕ, List, ◌≡◌, ◌∷◌, ◌++◌, [], refl, sym, ap, ◌∙◌, subst, append_assoc}
+use Rattle.city_tokens.proofs.Prelude.{rules, ℕ, List, ◌≡◌, ◌∷◌, ◌++◌, [], refl, sym, ap, ◌∙◌, append_assoc}
+use Rattle.city_tokens.proofs.Prelude.{into_iter_items, Object, IsPlacedObject, points_of}
 use Rattle.std.specs.Bool.{if◌then◌else◌}
 use Rattle.std.proofs.lemmas.List.{append-nil, nil_from_length}
-use Rattle.std.specs.Vec.Iter.{into_iter_items}
-use Rattle.city_model.specs.CityMap.{Entries}
-use Rattle.city_model.specs.declared.object.Object.{Object}
-use Rattle.city_tokens.specs.inside.Objects.{IsPlacedObject}
-use Rattle.city_tokens.specs.inside.Positions.{points_of}
-use Rattle.city_tokens.specs.inside.Standing.{Pairs}
 use Rattle.city_tokens.proofs.Pairing.{pairs_push}
 use Rattle.city_tokens.proofs.placing.place_each.Goals as goal
 
@@ -19,20 +14,15 @@ loop-id-preserved c =
     let R = IsPlacedObject (points_of c.args.vertices.now) in
     let pushed : c.push.new.self.items ≡ l.placed.items ++ placed ∷ [] =
     c.push.ensures.items
-    ∙ ap (λ b. if b then l.placed.items ++ placed ∷ [] else l.placed.items) (sym c.in_ok-ok.ensures.variant) in (
-      done ++ unplaced ∷ [],
-      l.invariant.1 ∙ ap (λ left. done ++ left) c.in-Some.ensures.steps.0
-          ∙ sym (append_assoc done (unplaced ∷ []) (into_iter_items c.next.new.self)),
-      subst (λ (es : Entries). Pairs R (done ++ unplaced ∷ []) es) (sym pushed)
-          (pairs_push R done l.placed.items unplaced placed l.invariant.2
-          (refl, c.in_ok-object.ensures.placed, c.in_ok-object.ensures.faultless)),
-    )
+    ∙ ap (λ b. if b then l.placed.items ++ placed ∷ [] else l.placed.items) (sym c.in_ok-ok.ensures.variant) in
+    let all = pairs_push R done l.placed.items unplaced placed l.invariant.2
+    (refl, c.in_ok-object.ensures.placed, c.in_ok-object.ensures.faultless) in
+    let left = l.invariant.1 ∙ ap (λ left. done ++ left) c.in-Some.ensures.steps.0
+    ∙ sym (append_assoc done (unplaced ∷ []) (into_iter_items c.next.new.self)) in
+    (done ++ unplaced ∷ [], left, rw pushed all)
 
 pub returns : goal.returns
 returns c =
     let l = c.loop-id in
-    let done = l.invariant.0 in
-    let none : into_iter_items l.id-iterator ≡ [] =
-    nil_from_length (into_iter_items l.id-iterator) (search rules) in
-    subst (λ (es : Entries). Pairs (IsPlacedObject (points_of c.args.vertices.now)) es l.placed.items)
-    (sym (l.invariant.1 ∙ ap (λ left. done ++ left) none ∙ append-nil done)) l.invariant.2
+    let none : into_iter_items l.id-iterator ≡ [] = nil_from_length (into_iter_items l.id-iterator) (search rules) in
+    rw (l.invariant.1, none, append-nil l.invariant.0) l.invariant.2

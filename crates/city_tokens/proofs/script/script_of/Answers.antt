@@ -1,29 +1,19 @@
-use Rattle.std.proofs.Common.{◌≡◌, ◌≤◌, length, true, IfOk, sym, ap, ◌∙◌, subst, arith}
+use Rattle.city_tokens.proofs.Prelude.{◌≡◌, true, sym, ap, ◌∙◌, arith, ends_once, command_of, IsCommand, IsPlaced}
+use Rattle.city_tokens.proofs.Prelude.{points_of, IsArrayOf, list_of}
 use Rattle.std.specs.Prelude.{is_ok}
-use Rattle.serde_json.specs.Data.{object}
-use Rattle.city_model.specs.Scripts.{ends_once}
-use Rattle.city_tokens.specs.script.Commands.{command_of}
-use Rattle.city_tokens.specs.script.Scripts.{max_commands}
-use Rattle.city_tokens.specs.inside.Commands.{IsCommand}
-use Rattle.city_tokens.specs.inside.Positions.{IsPlaced, points_of}
-use Rattle.city_tokens.specs.inside.Scripts.{IsScript}
-use Rattle.city_tokens.specs.inside.Standing.{IsArrayOf}
-use Rattle.city_tokens.specs.tree.Lists.{list_of}
 use Rattle.city_tokens.proofs.Options.{ok_holds}
 use Rattle.city_tokens.proofs.ScriptMembers.{script_made}
 use Rattle.city_tokens.proofs.script.script_of.Goals as goal
 
 pub returns : goal.returns
 returns c =
-    let name = c.in_ok-name.name in
-    let read = c.in_ok-commands.commands in
+    let name = c.in_ok-name in
+    let read = c.in_ok-commands in
     let cs = c.place.new.self in
-    let placed : IsPlaced (IsArrayOf IsCommand) (list_of (command_of (points_of c.args.parts.vertices))) read cs =
-    subst (λ vs. IsPlaced (IsArrayOf IsCommand) (list_of (command_of (points_of vs))) read cs) c.as_slice.ensures
-    c.in_ok-place.ensures in
-    let short : length cs ≤ max_commands = grind arith in
+    let placed : IsPlaced (IsArrayOf IsCommand) (list_of (command_of (points_of c.args.parts.vertices))) read.commands
+    cs = rw c.as_slice.ensures at c.in_ok-place.ensures in
     ok_holds c.new.result c.ok.result _ c.ok.ensures.value (λ s made found kept so.
-    let is : s ≡ (name, cs) = subst (λ r. IfOk r (λ x. x ≡ (name, cs))) made c.new.ensures.made in
+    let is : s ≡ (name.name, cs) = rw made at c.new.ensures.made in
     let ends : ends_once cs ≡ true = sym c.new.ensures.checked ∙ ap is_ok made in
-    subst (λ x. IsScript x (object found)) (sym is)
-    (script_made c.args.parts name read cs found kept c.in_ok-name.was c.in_ok-commands.was placed ends short so))
+    rw is (script_made c.args.parts name.name read.commands cs found kept name.was read.was placed ends (grind arith)
+    so))

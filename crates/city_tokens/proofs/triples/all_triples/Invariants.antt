@@ -1,6 +1,4 @@
-use Rattle.std.proofs.Common.{◌≡◌, drop}
-use Rattle.serde_json.specs.View.{items_view}
-use Rattle.city_tokens.specs.tree.Triples.{all_triples}
+use Rattle.city_tokens.proofs.Prelude.{◌≡◌, drop, items_view, all_triples}
 use Rattle.city_tokens.proofs.triples.all_triples.Given as goal
 
 abbrev pub invariant-loop-item : goal.invariant-loop-item

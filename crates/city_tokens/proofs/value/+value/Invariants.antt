@@ -1,6 +1,5 @@
-use Rattle.std.proofs.Common.{◌+◌, ◌*◌, length}
+use Rattle.city_tokens.proofs.Prelude.{◌+◌, ◌*◌, length, view, members_view}
 use Rattle.std.specs.Prelude.{map}
-use Rattle.serde_json.specs.View.{view, members_view}
 use Rattle.city_tokens.proofs.Reading.{AreRead, AreFound}
 use Rattle.city_tokens.proofs.value.+value.Given as goal
 

@@ -1,4 +1,4 @@
-use Rattle.city_txn.specs.inside.State.{store_view}
+use Rattle.city_txn.proofs.Prelude.{store_view}
 use Rattle.city_txn.proofs.command_locks.lock.Goals as goal
 
 pub returns : goal.returns

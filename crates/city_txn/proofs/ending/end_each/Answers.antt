@@ -1,4 +1,4 @@
-use Rattle.std.proofs.Common.{length, ◌<◌, ◌∙◌, arith}
+use Rattle.city_txn.proofs.Prelude.{length, ◌<◌, ◌∙◌, arith}
 use Rattle.city_txn.proofs.StoreChanged.{one_more_ended}
 use Rattle.city_txn.proofs.ending.end_each.Goals as goal
 

@@ -1,8 +1,4 @@
-use Rattle.std.proofs.Common.{take, ◌≡◌, None}
-use Rattle.city_model.specs.CityMap.{has_id, object_at}
-use Rattle.city_txn.specs.inside.Ending.{left_at_end}
-use Rattle.city_txn.specs.inside.Slots.{Became}
-use Rattle.city_txn.specs.inside.UndoState.{image_at}
+use Rattle.city_txn.proofs.Prelude.{take, ◌≡◌, None, has_id, object_at, left_at_end, Became, image_at}
 use Rattle.city_txn.proofs.ending.end_each.Given as goal
 
 abbrev pub invariant-loop-id : goal.invariant-loop-id

@@ -1,5 +1,4 @@
-use Rattle.std.proofs.Common.{◌≡◌, false, take}
-use Rattle.std.specs.List.{list_any}
+use Rattle.city_txn.proofs.Prelude.{◌≡◌, false, take, list_any}
 use Rattle.city_txn.specs.inside.LogTests.{is_mark}
 use Rattle.city_txn.proofs.undo_log.any_is_mark.Given as goal
 

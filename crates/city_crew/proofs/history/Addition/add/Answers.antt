@@ -1,4 +1,4 @@
-use Rattle.std.proofs.Common.{◌≡◌, sym, ◌∙◌, ap}
+use Rattle.city_crew.proofs.Prelude.{◌≡◌, sym, ◌∙◌, ap}
 use Rattle.city_crew.proofs.Adding.{adds_moves}
 use Rattle.city_crew.proofs.history.Addition.add.Goals as goal
 

@@ -1,7 +1,4 @@
-use Rattle.std.proofs.Common.{sym, subst}
-use Rattle.city_model.specs.CityMap.{object_at}
-use Rattle.city_model.specs.Relations.{IsLawful}
-use Rattle.city_crew.specs.declared.version.Version.{Version}
+use Rattle.city_crew.proofs.Prelude.{sym, subst, object_at, IsLawful, Version}
 use Rattle.city_crew.proofs.look.Look.city.Goals as goal
 
 pub returns-clause-lawful : goal.returns-clause-lawful

@@ -1,12 +1,7 @@
-use Rattle.std.proofs.Common.{rules, ◌≡◌, ◌∷◌, ◌++◌, [], drop, ap, sym, ◌∙◌, subst}
-use Rattle.left_right.specs.Sides.{view}
-use Rattle.city_model.specs.CityMap.{object_at}
-use Rattle.city_model.specs.Relations.{IsLawful}
-use Rattle.city_model.specs.Runs.{after_changes}
+use Rattle.city_crew.proofs.Prelude.{rules, ◌≡◌, ◌∷◌, ◌++◌, [], drop, ap, sym, ◌∙◌, subst, view, object_at, IsLawful}
+use Rattle.city_crew.proofs.Prelude.{after_changes, HistoryValue, history_of, Edit}
 use Rattle.city_desk.proofs.Shelved.{if_some_to}
 use Rattle.city_crew.specs.BoardValues.{PosterValue}
-use Rattle.city_crew.specs.HistoryValue.{HistoryValue, history_of}
-use Rattle.city_crew.specs.declared.version.Edit.{Edit}
 use Rattle.city_crew.proofs.HeldEdits.{holds_waiting}
 use Rattle.city_crew.proofs.Prefixes.{prefix_trans}
 use Rattle.city_crew.proofs.poster.Poster.append.Goals as goal

@@ -1,9 +1,5 @@
-use Rattle.std.proofs.Common.{rules, Some, ◌≡◌, ◌++◌, [], List, drop, ap, sym, ◌∙◌, subst, refl}
-use Rattle.std.proofs.lemmas.List.{append-nil}
-use Rattle.left_right.specs.Sides.{view}
-use Rattle.city_crew.specs.inside.BoardRule.{HoldsEdits, IsLater}
-use Rattle.city_crew.specs.declared.version.Edit.{Edit}
-use Rattle.city_crew.specs.declared.version.Version.{Version}
+use Rattle.city_crew.proofs.Prelude.{rules, Some, ◌≡◌, ◌++◌, [], drop, sym, ◌∙◌, subst, refl, append-nil, view}
+use Rattle.city_crew.proofs.Prelude.{HoldsEdits, IsLater, Version}
 use Rattle.city_crew.proofs.HeldEdits.{holds_published}
 use Rattle.city_crew.proofs.KeptRule.{publishes}
 use Rattle.city_crew.proofs.LaterVersions.{all_later}
@@ -21,14 +17,9 @@ publish_as-writer-requires g c next is =
     let none : c.append_all.new.waiting.items ≡ [] = search rules in
     let edits : drop c.in-Some.own.writer.behind c.in-Some.own.writer.log.items ++ p.waiting.items ≡ drop w.behind
     w.log.items =
-    ap (λ z. drop z.behind z.log.items ++ p.waiting.items) (sym c.into_parts-writer.ensures.writer)
-    ∙ (sym c.append_all.ensures.edits
-    ∙ (ap (λ (l : List Edit). drop w.behind w.log.items ++ l) none ∙ append-nil (drop w.behind w.log.items))) in
+    rw (← c.into_parts-writer.ensures.writer, ← c.append_all.ensures.edits, none) (append-nil _) in
     let held : HoldsEdits w.desk.shown.value (view w.desk.place) (drop w.behind w.log.items) p.opening p.published
-    p.taken =
-    subst (λ d. HoldsEdits d.shown.value (view d.place) (drop w.behind w.log.items) p.opening p.published p.taken) desk
-    (subst (λ (es : List Edit). HoldsEdits c.in-Some.own.writer.desk.shown.value (view c.in-Some.own.writer.desk.place)
-    es p.opening p.published p.taken) edits old) in
+    p.taken = rw (← desk, ← edits) old in
     let now = w.desk.shown.value in
     let later = (all_later now (drop w.behind w.log.items) p.taken held.faithful held.lead).0 in
     publishes _ _ now next (subst (λ (y : Version). IsLater now y) (sym is) later)
@@ -44,24 +35,17 @@ invariant_of-self-in-Ok g c =
     let none : c.append_all.new.waiting.items ≡ [] = search rules in
     let edits : drop c.in-Some.own.writer.behind c.in-Some.own.writer.log.items ++ p.waiting.items ≡ drop w.behind
     w.log.items =
-    ap (λ z. drop z.behind z.log.items ++ p.waiting.items) (sym c.into_parts-writer.ensures.writer)
-    ∙ (sym c.append_all.ensures.edits
-    ∙ (ap (λ (l : List Edit). drop w.behind w.log.items ++ l) none ∙ append-nil (drop w.behind w.log.items))) in
+    rw (← c.into_parts-writer.ensures.writer, ← c.append_all.ensures.edits, none) (append-nil _) in
     let held : HoldsEdits w.desk.shown.value (view w.desk.place) (drop w.behind w.log.items) p.opening p.published
-    p.taken =
-    subst (λ d. HoldsEdits d.shown.value (view d.place) (drop w.behind w.log.items) p.opening p.published p.taken) desk
-    (subst (λ (es : List Edit). HoldsEdits c.in-Some.own.writer.desk.shown.value (view c.in-Some.own.writer.desk.place)
-    es p.opening p.published p.taken) edits old) in
+    p.taken = rw (← desk, ← edits) old in
     let done = from_ok _ _ _ _ c.in-Ok.is c.publish_as-writer.ensures.values in
     let seen = from_ok _ _ _ _ c.in-Ok.is c.publish_as-writer.ensures.rule in
     let now : HoldsEdits r.desk.shown.value (view r.desk.place) [] p.opening p.taken p.taken =
     holds_published w.desk.shown.value r.desk.shown.value (view w.desk.place) (view r.desk.place)
     (drop w.behind w.log.items) p.opening p.published p.taken held done.0 seen.0 in
     let empty : drop r.behind r.log.items ≡ [] = done.1 in
-    let rest : drop r.behind r.log.items ++ c.append_all.new.waiting.items ≡ [] =
-    ap (λ (l : List Edit). l ++ c.append_all.new.waiting.items) empty ∙ none in
-    let again : c.again.result ≡ p.taken = c.again.ensures in
-    rw (again, rest) (
+    let rest : drop r.behind r.log.items ++ c.append_all.new.waiting.items ≡ [] = rw (empty, none) refl in
+    rw (c.again.ensures, rest) (
       c.self.invariant.0 ∙ sym c.self.invariant.1,
       refl,
       prefix_self p.taken.changes,

@@ -1,143 +1,66 @@
-use Rattle.std.proofs.Common.{◌≡◌, ℕ, ◌-◌, List, [], ◌∷◌, ◌++◌, length, false, Some, None, refl, sym, ap, ap₂, ◌∙◌}
-use Rattle.std.proofs.Common.{subst, arith, append_assoc}
-use Rattle.std.specs.Prelude.{option_map}
-use Rattle.std.proofs.lemmas.Result.{on_ok_weaker}
-use Rattle.json.specs.Token.{Token}
-use Rattle.json.specs.Json.{Json, array, object, Items, Members, member}
-use Rattle.json.specs.Json.{parse_map, after_end_array, read_key, items, members, value}
-use Rattle.json.specs.Reads.{token_of}
-use Rattle.json.specs.Tree.{json_tokens, items_tokens, members_tokens}
-use Rattle.json.proofs.Grammar.{value_is, value-begin_array, value-begin_object, read_key-shorter, read_key_is}
-use Rattle.json.proofs.Grammar.{items_fail, members_end, members_more, members_fail, members_no_key}
-use Rattle.city_decimals.specs.Decoded.{decoded, decoded_members, out_of_form}
-use Rattle.city_decimals.specs.inside.Objects.{decoded_object, IsFirstWritten}
-use Rattle.city_decimals.specs.inside.Streams.{written}
-use Rattle.city_decimals.specs.inside.Ways.{changed, items_changed, members_changed, member_changed, object_made}
-use Rattle.city_decimals.proofs.Copied.{formless}
+use Rattle.city_decimals.proofs.Prelude.{rules, ◌≡◌, ℕ, ◌-◌, List, [], ◌∷◌, ◌++◌, length, Some, None, refl, sym, ap}
+use Rattle.city_decimals.proofs.Prelude.{◌∙◌, subst, arith, append_assoc, option_map, on_ok_weaker, Token, Json, Items}
+use Rattle.city_decimals.proofs.Prelude.{Members, member, parse_map, after_end_array, read_key, items, members}
+use Rattle.city_decimals.proofs.Prelude.{json_tokens, items_tokens, members_tokens, value_is, value-begin_object}
+use Rattle.city_decimals.proofs.Prelude.{members_end, members_more, members_fail, members_no_key, decoded}
+use Rattle.city_decimals.proofs.Prelude.{decoded_members, out_of_form, decoded_object, written, changed, items_changed}
+use Rattle.city_decimals.proofs.Prelude.{members_changed, member_changed}
+use Rattle.json.specs.Json.{value}
+use Rattle.json.proofs.Grammar.{value-begin_array, read_key-shorter, read_key_is, items_fail}
+use Rattle.city_decimals.specs.inside.Objects.{IsFirstWritten}
 use Rattle.city_decimals.proofs.Objects.{object_written, object_put, first_is_no_number, two_are_no_number, other_name}
-use Rattle.city_decimals.proofs.Streams.{none_written, written_as, written_with, token_first, value_shorter}
-use Rattle.city_decimals.proofs.Streams.{item_written, items_over, member_written, members_over}
+use Rattle.city_decimals.proofs.Streams.{none_written, written_with, token_first, value_shorter, item_written}
+use Rattle.city_decimals.proofs.Streams.{items_over, member_written, members_over}
 use Rattle.city_decimals.proofs.Ways.{string_changed, boolean_changed, null_changed, array_changed, item_tokens}
-use Rattle.city_decimals.proofs.Ways.{no_items_changed, member_tokens, no_members_changed, plain_member}
-use Rattle.city_decimals.proofs.Ways.{object_is_made, no_object, decode_here, untagged_here}
+use Rattle.city_decimals.proofs.Ways.{no_items_changed, member_tokens, no_members_changed, object_is_made, no_object}
+use Rattle.city_decimals.proofs.Ways.{untagged_here}
 use Rattle.city_decimals.proofs.change.value.+change.Goals as goal
 
 pub change_value-returns-in_err-token-clause-err : goal.change_value-returns-in_err-token-clause-err
-change_value-returns-in_err-token-clause-err t c refused =
-    let empty : c.args.reader.now ≡ [] = grind arith in
-    ap (value c.args.depth) empty ∙ value_is c.args.depth []
+change_value-returns-in_err-token-clause-err t c refused = search (rules, value_is)
 
 pub change_from-returns-then-depth-eq0-clause-err : goal.change_from-returns-then-depth-eq0-clause-err
 unfolding value
-change_from-returns-then-depth-eq0-clause-err t c never =
-    let none : c.args.depth ≡ 0 = omega arith in
-    ap₂ value none (ap (λ k. token_of k ∷ c.args.reader.now) c.in-BeginArray.is)
+change_from-returns-then-depth-eq0-clause-err t c never = search rules
 
 pub change_from-returns-then-depth-eq0-2-clause-err : goal.change_from-returns-then-depth-eq0-2-clause-err
 unfolding value
-change_from-returns-then-depth-eq0-2-clause-err t c never =
-    let none : c.args.depth ≡ 0 = omega arith in
-    ap₂ value none (ap (λ k. token_of k ∷ c.args.reader.now) c.in-BeginObject.is)
+change_from-returns-then-depth-eq0-2-clause-err t c never = search rules
 
 pub change_from-returns-in_ok-string-in-String-clause-ok : goal.change_from-returns-in_ok-string-in-String-clause-ok
-change_from-returns-in_ok-string-in-String-clause-ok t c =
-    let f : Json → List Token = λ j. json_tokens (changed c.args.way j) in
-    let ts = c.args.reader.now in
-    ap (λ k. written f c.args.out.now.tokens (value c.args.depth (token_of k ∷ ts))) c.in-String.is
-    ∙ ap (written f c.args.out.now.tokens) (value_is c.args.depth _)
-    ∙ ap (λ us. Some (us, ts)) (ap (λ i. c.args.out.now.tokens ++ json_tokens i)
-    (string_changed c.args.way c.in-String.text.now) ∙ sym c.in_ok-string-in-String.ensures.ok)
+change_from-returns-in_ok-string-in-String-clause-ok t c = search (rules, value_is, string_changed)
 
 pub change_from-returns-in_ok-boolean-in-Bool-clause-ok : goal.change_from-returns-in_ok-boolean-in-Bool-clause-ok
-change_from-returns-in_ok-boolean-in-Bool-clause-ok t c =
-    let f : Json → List Token = λ j. json_tokens (changed c.args.way j) in
-    let ts = c.args.reader.now in
-    ap (λ k. written f c.args.out.now.tokens (value c.args.depth (token_of k ∷ ts))) c.in-Bool.is
-    ∙ ap (written f c.args.out.now.tokens) (value_is c.args.depth _)
-    ∙ ap (λ us. Some (us, ts)) (ap (λ i. c.args.out.now.tokens ++ json_tokens i)
-    (boolean_changed c.args.way c.in-Bool.b) ∙ sym c.in_ok-boolean-in-Bool.ensures.ok)
+change_from-returns-in_ok-boolean-in-Bool-clause-ok t c = search (rules, value_is, boolean_changed)
 
 pub change_from-returns-in_ok-null-in-Null-clause-ok : goal.change_from-returns-in_ok-null-in-Null-clause-ok
-change_from-returns-in_ok-null-in-Null-clause-ok t c =
-    let f : Json → List Token = λ j. json_tokens (changed c.args.way j) in
-    let ts = c.args.reader.now in
-    ap (λ k. written f c.args.out.now.tokens (value c.args.depth (token_of k ∷ ts))) c.in-Null.is
-    ∙ ap (written f c.args.out.now.tokens) (value_is c.args.depth _)
-    ∙ ap (λ us. Some (us, ts)) (ap (λ i. c.args.out.now.tokens ++ json_tokens i)
-    (null_changed c.args.way) ∙ sym c.in_ok-null-in-Null.ensures.ok)
-
-pub change_member-returns-else-can_have_form-clause-ok : goal.change_member-returns-else-can_have_form-clause-ok
-change_member-returns-else-can_have_form-clause-ok t c =
-    let top = c.args.top in
-    let k = c.args.name.now in
-    let f : Json → List Token = λ j. json_tokens (changed c.args.way j) in
-    let g : Json → List Token = λ j. json_tokens (member_changed c.args.way top k j) in
-    on_ok_weaker c.change_value.result (λ e. written_as f g c.args.out.now.tokens c.change_value.new.out.tokens
-    (value c.args.depth c.args.reader.now) c.change_value.new.reader e
-    (λ j is. let n = formless top k j (sym c.if-can_have_form.ensures) in
-    ap json_tokens (plain_member c.args.way top k j n.0 n.1))) c.change_value.ensures.ok
+change_from-returns-in_ok-null-in-Null-clause-ok t c = search (rules, value_is, null_changed)
 
 pub change_from-returns-in_ok-write_number-in-Number-clause-ok :
     goal.change_from-returns-in_ok-write_number-in-Number-clause-ok
-change_from-returns-in_ok-write_number-in-Number-clause-ok t c =
-    let f : Json → List Token = λ j. json_tokens (changed c.args.way j) in
-    let ts = c.args.reader.now in
-    ap (λ k. written f c.args.out.now.tokens (value c.args.depth (token_of k ∷ ts))) c.in-Number.is
-    ∙ ap (written f c.args.out.now.tokens) (value_is c.args.depth _)
-    ∙ ap (λ us. Some (us, ts)) (sym c.in_ok-write_number-in-Number.ensures.tokens)
+change_from-returns-in_ok-write_number-in-Number-clause-ok t c = search (rules, value_is)
 
 pub change_from-returns-in_ok-begin_array-in-BeginArray-clause-ok :
     goal.change_from-returns-in_ok-begin_array-in-BeginArray-clause-ok
 change_from-returns-in_ok-begin_array-in-BeginArray-clause-ok t c =
-    let f : Json → List Token = λ j. json_tokens (changed c.args.way j) in
-    let g : Items → List Token = λ js. items_tokens (items_changed c.args.way js) in
-    let out = c.args.out.now.tokens in
-    let ts = c.args.reader.now in
-    let read = items (value (c.args.depth - 1)) (length ts) ts in
-    let opened = ap (λ k. value c.args.depth (token_of k ∷ ts)) c.in-BeginArray.is
-    ∙ value-begin_array c.args.depth ts (omega arith) in
-    on_ok_weaker c.change_items.result (λ e. ap (written f out) opened
-    ∙ token_first g array f Token.begin_array (λ js. ap json_tokens (array_changed c.args.way js)) out read
-    ∙ ap (λ us. written g us read) (sym c.in_ok-begin_array-in-BeginArray.ensures.ok)
-    ∙ e (length ts) (omega arith)) c.change_items.ensures.ok
+    search (rules, value-begin_array, on_ok_weaker, token_first, array_changed)
 
 pub change_from-returns-in_ok-begin_array-in-BeginArray-clause-err :
     goal.change_from-returns-in_ok-begin_array-in-BeginArray-clause-err
-change_from-returns-in_ok-begin_array-in-BeginArray-clause-err t c refused =
-    let ts = c.args.reader.now in
-    ap (λ k. value c.args.depth (token_of k ∷ ts)) c.in-BeginArray.is ∙ value-begin_array c.args.depth ts (omega arith)
-    ∙ ap (parse_map array) (c.change_items.ensures.err (grind arith) (length ts) (omega arith))
+change_from-returns-in_ok-begin_array-in-BeginArray-clause-err t c refused = search (rules, value-begin_array)
 
 pub change_from-returns-else-depth-eq0-2-clause-ok : goal.change_from-returns-else-depth-eq0-2-clause-ok
 change_from-returns-else-depth-eq0-2-clause-ok t c =
-    let g : Members → List Token = λ ms. json_tokens (object_made c.args.way false ms) in
-    let f : Json → List Token = λ j. json_tokens (changed c.args.way j) in
-    let out = c.args.out.now.tokens in
-    let ts = c.args.reader.now in
-    let read = members (value (c.args.depth - 1)) (length ts) ts in
-    let opened = ap (λ k. value c.args.depth (token_of k ∷ ts)) c.in-BeginObject.is
-    ∙ value-begin_object c.args.depth ts (omega arith) in
-    on_ok_weaker c.change_object.result (λ e. ap (written f out) opened ∙ written_with object f g
-    (λ ms. ap json_tokens (object_is_made c.args.way ms)) out read
-    ∙ e) c.change_object.ensures.ok
+    search (rules, value-begin_object, on_ok_weaker, written_with, object_is_made)
 
 pub change_from-returns-else-depth-eq0-2-clause-err : goal.change_from-returns-else-depth-eq0-2-clause-err
-change_from-returns-else-depth-eq0-2-clause-err t c refused =
-    let ts = c.args.reader.now in
-    ap (λ k. value c.args.depth (token_of k ∷ ts)) c.in-BeginObject.is
-    ∙ value-begin_object c.args.depth ts (omega arith)
-    ∙ ap (parse_map object) (c.change_object.ensures.err (grind arith))
+change_from-returns-else-depth-eq0-2-clause-err t c refused = search (rules, value-begin_object)
 
 pub change_from-returns-in-EndObject-clause-err : goal.change_from-returns-in-EndObject-clause-err
 change_from-returns-in-EndObject-clause-err t c refused = value_is c.args.depth _ ∙ grind arith
 
 pub change_items-items-smaller : goal.change_items-items-smaller
-change_items-items-smaller t c =
-    let going : c.take_end_array.new.self ≡ c.items.reader = grind arith in
-    let r = c.change_value.new.reader in
-    let f : Json → List Token = λ j. json_tokens (changed c.args.way j) in
-    let less = value_shorter f c.args.depth _ _ _ r c.in_ok-change_value.ensures.ok in
-    omega (arith, ap length going)
+change_items-items-smaller t c = search (rules, value_shorter)
 
 pub change_items-items-preserved : goal.change_items-items-preserved
 change_items-items-preserved t c =
@@ -181,15 +104,7 @@ change_items-returns-clause-ok t c =
     ∙ sym c.in_ok-end_array.ensures.ok)
 
 pub change_more-members-smaller : goal.change_more-members-smaller
-change_more-members-smaller t c =
-    let l = c.members in
-    let k = c.in-Some.name.now in
-    let s = c.next_key.new.self in
-    let named : read_key l.reader ≡ Some (Some k, s) = grind arith in
-    let less = read_key-shorter l.reader (Some k) s named in
-    let lesser = value_shorter (λ j. json_tokens (member_changed c.args.way c.args.top k j)) c.args.depth _ _ _
-    c.change_member.new.reader c.in_ok-change_member.ensures.ok in
-    omega arith
+change_more-members-smaller t c = search (rules, read_key-shorter, value_shorter)
 
 pub change_more-members-preserved : goal.change_more-members-preserved
 change_more-members-preserved t c =
@@ -287,25 +202,7 @@ change_members-returns-clause-err t c refused n enough =
     (member_tokens c.args.way c.args.top) n k out now (Token.key k ∷ s) s r (omega (arith, enough)) refl done) none
 
 pub change_object-returns-in_err-name-clause-err : goal.change_object-returns-in_err-name-clause-err
-change_object-returns-in_err-name-clause-err t c refused = members_no_key (value c.args.depth)
-    (length c.args.reader.now) c.args.reader.now c.in_err-name.ensures.value
-
-pub change_object-returns-then-is_decoded_tag-clause-ok : goal.change_object-returns-then-is_decoded_tag-clause-ok
-change_object-returns-then-is_decoded_tag-clause-ok t c =
-    let p = value c.args.depth in
-    let top = c.args.top in
-    let out = c.args.out.now.tokens in
-    let ts = c.args.reader.now in
-    let k = c.in-Some.name.now in
-    let s = c.next_key.new.self in
-    let named : read_key ts ≡ Some (Some k, s) = grind arith in
-    let less = read_key-shorter ts (Some k) s named in
-    let n = length ts in
-    let way = decode_here c.args.way k (sym c.if-is_decoded_tag.ensures) in
-    on_ok_weaker c.decode_tagged.result (λ e. subst (λ w. written (λ ms. json_tokens (object_made w top ms)) out
-    (members p n ts) ≡ Some (c.decode_tagged.new.out.tokens, c.decode_tagged.new.reader)) (sym way)
-    (ap (λ us. written (λ ms. json_tokens (decoded_object top ms)) out (members p n us))
-    (read_key_is ts (Some k) s named) ∙ e n (omega (arith, less)))) c.decode_tagged.ensures.ok
+change_object-returns-in_err-name-clause-err t c refused = search (rules, members_no_key)
 
 pub change_object-returns-in_ok-begin_object-in-Some-clause-ok :
     goal.change_object-returns-in_ok-begin_object-in-Some-clause-ok
@@ -329,17 +226,7 @@ change_object-returns-in_ok-begin_object-in-Some-clause-ok t c =
 
 pub change_object-returns-in_ok-end_object-in-None-clause-ok :
     goal.change_object-returns-in_ok-end_object-in-None-clause-ok
-change_object-returns-in_ok-end_object-in-None-clause-ok t c =
-    let f : Members → List Token = λ ms. json_tokens (object_made c.args.way c.args.top ms) in
-    let out = c.args.out.now.tokens in
-    let ts = c.args.reader.now in
-    let r = c.next_key.new.self in
-    let over : read_key ts ≡ Some (None, r) = grind arith in
-    let tokens = c.in_ok-end_object-in-None.ensures.ok
-    ∙ ap (λ us. us ++ Token.end_object ∷ []) c.in_ok-begin_object-in-None.ensures.ok
-    ∙ append_assoc out (Token.begin_object ∷ []) (Token.end_object ∷ []) in
-    ap (written f out) (members_end (value c.args.depth) (length ts) ts r (omega arith) over)
-    ∙ ap (λ us. Some (out ++ us, r)) (no_object c.args.way c.args.top) ∙ ap (λ us. Some (us, r)) (sym tokens)
+change_object-returns-in_ok-end_object-in-None-clause-ok t c = search (rules, append_assoc, members_end, no_object)
 
 pub decode_tagged-returns-in-Some-clause-err : goal.decode_tagged-returns-in-Some-clause-err
 decode_tagged-returns-in-Some-clause-err t c refused n enough =

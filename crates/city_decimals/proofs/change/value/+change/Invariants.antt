@@ -1,9 +1,5 @@
-use Rattle.std.proofs.Common.{◌≡◌, ℕ, ◌+◌, ◌*◌, ◌≤◌, List, length}
-use Rattle.json.specs.Token.{Token}
-use Rattle.json.specs.Json.{Items, Members, items, members, value}
-use Rattle.json.specs.Tree.{items_tokens, members_tokens}
-use Rattle.city_decimals.specs.inside.Streams.{written}
-use Rattle.city_decimals.specs.inside.Ways.{items_changed, members_changed}
+use Rattle.city_decimals.proofs.Prelude.{◌≡◌, ℕ, ◌+◌, ◌*◌, ◌≤◌, List, length, Token, Items, Members, items, members}
+use Rattle.city_decimals.proofs.Prelude.{value, items_tokens, members_tokens, written, items_changed, members_changed}
 use Rattle.city_decimals.proofs.change.value.+change.Given as goal
 
 abbrev pub decreases-change_from : goal.decreases-change_from

@@ -1,6 +1,4 @@
-use Rattle.std.proofs.Common.{true, false, refl}
-use Rattle.json.specs.Json.{null, boolean}
-use Rattle.city_decimals.specs.inside.Ways.{changed}
+use Rattle.city_decimals.proofs.Prelude.{true, false, refl, null, boolean, changed}
 use Rattle.city_decimals.proofs.Copied.{name_copied, some_weaker}
 use Rattle.city_decimals.proofs.Ways.{boolean_changed, null_changed}
 use Rattle.city_decimals.proofs.compact.leaves.copy_name.Goals as goal

@@ -1,5 +1,4 @@
-use Rattle.std.proofs.Common.{refl}
-use Rattle.city_decimals.specs.inside.Ways.{changed}
+use Rattle.city_decimals.proofs.Prelude.{refl, changed}
 use Rattle.city_decimals.proofs.Copied.{string_copied}
 use Rattle.city_decimals.proofs.Ways.{string_changed}
 use Rattle.city_decimals.proofs.compact.leaves.copy_string.Goals as goal

@@ -1,8 +1,5 @@
-use Rattle.std.proofs.Common.{◌≡◌, ◌-◌, ◌∷◌, None, refl, ap, ◌∙◌, arith, rules}
-use Rattle.json.specs.Token.{Token}
-use Rattle.json.specs.Json.{member, parse_map, value}
-use Rattle.json.specs.Value.{value_view}
-use Rattle.json.proofs.Grammar.{members_more, members_fail, members_no_key}
+use Rattle.city_decimals.proofs.Prelude.{◌≡◌, ◌-◌, ◌∷◌, None, refl, ap, ◌∙◌, arith, rules, Token, member, parse_map}
+use Rattle.city_decimals.proofs.Prelude.{value, value_view, members_more, members_fail, members_no_key}
 use Rattle.city_decimals.proofs.decoding.first.decode_first_member.Goals as goal
 
 pub returns-in_err-value-clause-err : goal.returns-in_err-value-clause-err

@@ -1,7 +1,6 @@
-use Rattle.std.proofs.Common.{false, ◌≡◌, ◌++◌, drop, length}
-use Rattle.json.specs.Tree.{json_tokens, items_tokens, members_tokens, ItemsHaveNumbers, MembersHaveNumbers}
-use Rattle.json.specs.Value.{value_view, items_view, members_view}
-use Rattle.city_decimals.specs.Decoded.{decoded_items, decoded_members}
+use Rattle.city_decimals.proofs.Prelude.{false, ◌≡◌, ◌++◌, drop, length, json_tokens, items_tokens, members_tokens}
+use Rattle.city_decimals.proofs.Prelude.{ItemsHaveNumbers, MembersHaveNumbers, value_view, items_view, members_view}
+use Rattle.city_decimals.proofs.Prelude.{decoded_items, decoded_members}
 use Rattle.city_decimals.proofs.decoding.tree.+decode.Given as goal
 
 abbrev pub decreases-decode_tree : goal.decreases-decode_tree

@@ -1,19 +1,12 @@
-use Rattle.std.proofs.Common.{◌≡◌, List, [], ◌∷◌, ◌++◌, sym, ap, ◌∙◌, append_assoc, arith}
-use Rattle.std.specs.Prelude.{codes}
-use Rattle.std.proofs.lemmas.Result.{on_ok_weaker}
-use Rattle.std.proofs.lemmas.Fmt.{decimal_digit}
-use Rattle.json.specs.Token.{Token, end_object, key}
-use Rattle.json.specs.Tree.{json_tokens}
+use Rattle.city_decimals.proofs.Prelude.{common_steps, ◌≡◌, List, [], ◌∷◌, ◌++◌, sym, ap, ◌∙◌, arith, codes}
+use Rattle.city_decimals.proofs.Prelude.{on_ok_weaker, decimal_digit, Token, json_tokens, tokens_after}
+use Rattle.json.specs.Token.{end_object, key}
 use Rattle.city_decimals.specs.Shapes.{three}
-use Rattle.city_decimals.specs.inside.Forms.{tokens_after}
 use Rattle.city_decimals.proofs.encoding.form.end_form.Goals as goal
 
 flat : (a t u : List Token) (k l e : Token)
     → ((((a ++ k ∷ []) ++ t) ++ l ∷ []) ++ u) ++ e ∷ [] ≡ a ++ k ∷ (t ++ l ∷ (u ++ e ∷ []))
-flat a t u k l e =
-    append_assoc (((a ++ k ∷ []) ++ t) ++ l ∷ []) u (e ∷ [])
-    ∙ append_assoc ((a ++ k ∷ []) ++ t) (l ∷ []) (u ++ e ∷ []) ∙ append_assoc (a ++ k ∷ []) t _
-    ∙ append_assoc a (k ∷ []) _
+flat a t u k l e = grind (arith, common_steps)
 
 pub returns-in_ok-write_three-in-Framed-2-clause-tokens : goal.returns-in_ok-write_three-in-Framed-2-clause-tokens
 returns-in_ok-write_three-in-Framed-2-clause-tokens c =

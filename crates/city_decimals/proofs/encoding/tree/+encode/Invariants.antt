@@ -1,7 +1,5 @@
-use Rattle.std.proofs.Common.{false, ◌≡◌, ◌++◌, drop}
-use Rattle.json.specs.Tree.{items_tokens, members_tokens, ItemsHaveNumbers, MembersHaveNumbers}
-use Rattle.json.specs.Value.{items_view, members_view}
-use Rattle.city_decimals.specs.Encoded.{encoded_items, encoded_members}
+use Rattle.city_decimals.proofs.Prelude.{false, ◌≡◌, ◌++◌, drop, items_tokens, members_tokens, ItemsHaveNumbers}
+use Rattle.city_decimals.proofs.Prelude.{MembersHaveNumbers, items_view, members_view, encoded_items, encoded_members}
 use Rattle.city_decimals.proofs.encoding.tree.+encode.Given as goal
 
 -- what is left ends the array

@@ -1,6 +1,3 @@
-use Rattle.std.proofs.Common.{subst}
-use Rattle.city_txn.specs.declared.step.Prepared.{Prepared}
-use Rattle.city_txn.specs.Changing.{IsPrepared}
 use Rattle.city_desk.proofs.AttemptSteps.{may_take}
 use Rattle.city_desk.proofs.shelf.Shelf.take_from.Goals as goal
 
@@ -8,5 +5,4 @@ pub take-requires-clause-lawful : goal.take-requires-clause-lawful
 take-requires-clause-lawful g c =
     may_take c.args.core.now c.args.stamp c.in-Ok-Ready.change (g.Self.Shelf.list c.args.self.now)
     (g.Self.Shelf.base c.args.self.now)
-    (subst (λ (p : Prepared). IsPrepared c.args.core.now c.args.stamp p) c.in-Ok-Ready.field-0-is
-    c.in-Ok-Ready.ensures.prepared) c.requires.shows
+    (rw c.in-Ok-Ready.field-0-is at c.in-Ok-Ready.ensures.prepared) c.requires.shows

@@ -1,4 +1,4 @@
-use Rattle.std.specs.FinMap.{entries}
+use Rattle.city_doc.proofs.Prelude.{entries}
 use Rattle.city_doc.proofs.document.ArrangedCities.{IsArranging}
 use Rattle.city_doc.proofs.document.arranged.arranged_city.Given as goal
 

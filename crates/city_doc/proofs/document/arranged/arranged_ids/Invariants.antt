@@ -1,5 +1,4 @@
-use Rattle.std.proofs.Common.{◌≡◌, ◌++◌}
-use Rattle.city_model.specs.Chunks.{ids_left}
+use Rattle.city_doc.proofs.Prelude.{◌≡◌, ◌++◌, ids_left}
 use Rattle.city_doc.proofs.document.arranged.arranged_ids.Given as goal
 
 abbrev pub invariant-loop-id : goal.invariant-loop-id

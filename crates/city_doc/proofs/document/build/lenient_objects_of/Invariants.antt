@@ -1,4 +1,4 @@
-use Rattle.serde_json.specs.View.{members_view}
+use Rattle.city_doc.proofs.Prelude.{members_view}
 use Rattle.city_doc.proofs.document.Objects.{IsReading}
 use Rattle.city_doc.proofs.document.build.lenient_objects_of.Given as goal
 

@@ -1,6 +1,4 @@
-use Rattle.std.proofs.Common.{◌≡◌}
-use Rattle.std.specs.FinMap.{entries}
-use Rattle.city_doc.specs.inside.document.LenientCities.{first_body}
+use Rattle.city_doc.proofs.Prelude.{◌≡◌, entries, first_body}
 use Rattle.city_doc.proofs.document.city_faults.first_body.Given as goal
 
 abbrev pub invariant-loop-id : goal.invariant-loop-id

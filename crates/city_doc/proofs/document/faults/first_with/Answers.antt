@@ -1,4 +1,4 @@
-use Rattle.city_model.proofs.MemberLaws.{ordered_members}
+use Rattle.city_doc.proofs.Prelude.{ordered_members}
 use Rattle.city_doc.proofs.document.faults.first_with.Goals as goal
 
 pub returns-then-judge-clause-ordered : goal.returns-then-judge-clause-ordered

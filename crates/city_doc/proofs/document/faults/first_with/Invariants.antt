@@ -1,6 +1,4 @@
-use Rattle.std.proofs.Common.{◌≡◌}
-use Rattle.serde_json.specs.View.{members_view}
-use Rattle.city_doc.specs.inside.document.Searches.{first_with}
+use Rattle.city_doc.proofs.Prelude.{◌≡◌, members_view, first_with}
 use Rattle.city_doc.proofs.document.faults.first_with.Given as goal
 
 abbrev pub invariant-loop-id : goal.invariant-loop-id

@@ -1,6 +1,4 @@
-use Rattle.std.proofs.Common.{◌≡◌}
-use Rattle.serde_json.specs.View.{members_view}
-use Rattle.city_doc.specs.document.Top.{all_objects}
+use Rattle.city_doc.proofs.Prelude.{◌≡◌, members_view, all_objects}
 use Rattle.city_doc.proofs.document.top.all_objects.Given as goal
 
 abbrev pub invariant-loop-member : goal.invariant-loop-member

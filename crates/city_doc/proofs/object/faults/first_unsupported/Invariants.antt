@@ -1,6 +1,4 @@
-use Rattle.std.proofs.Common.{◌≡◌, drop}
-use Rattle.serde_json.specs.View.{items_view}
-use Rattle.city_doc.specs.object.Faults.{first_unsupported}
+use Rattle.city_doc.proofs.Prelude.{◌≡◌, drop, items_view, first_unsupported}
 use Rattle.city_doc.proofs.object.faults.first_unsupported.Given as goal
 
 abbrev pub invariant-loop-geometry : goal.invariant-loop-geometry

@@ -1,8 +1,4 @@
-use Rattle.std.proofs.Common.{◌≡◌, drop}
-use Rattle.std.specs.Prelude.{is_none}
-use Rattle.serde_json.specs.Find.{as_str}
-use Rattle.serde_json.specs.View.{items_view}
-use Rattle.city_tokens.specs.tree.Lists.{read_items}
+use Rattle.city_doc.proofs.Prelude.{◌≡◌, drop, is_none, as_str, items_view, read_items}
 use Rattle.city_doc.proofs.object.ids.has_other_item.Given as goal
 
 abbrev pub invariant-loop-item : goal.invariant-loop-item

@@ -1,8 +1,5 @@
-use Rattle.std.proofs.Common.{◌≡◌, ◌++◌, option_map}
-use Rattle.std.specs.Vec.Iter.{into_iter_items}
-use Rattle.serde_json.specs.Find.{as_str}
-use Rattle.serde_json.specs.View.{items_view}
-use Rattle.city_tokens.specs.tree.Lists.{read_items}
+use Rattle.city_doc.proofs.Prelude.{◌≡◌, ◌++◌, into_iter_items, as_str, items_view, read_items}
+use Rattle.std.proofs.Common.{option_map}
 use Rattle.city_doc.proofs.object.ids.read_ids.Given as goal
 
 -- what is found, and then what is left

@@ -1,6 +1,4 @@
-use Rattle.std.proofs.Common.{◌≡◌, ◌++◌}
-use Rattle.serde_json.specs.Data.{string}
-use Rattle.city_model.specs.Chunks.{ids_left}
+use Rattle.city_doc.proofs.Prelude.{◌≡◌, ◌++◌, string, ids_left}
 use Rattle.city_doc.proofs.tree.WrittenItems.{closing, ReadBack}
 use Rattle.city_doc.proofs.object.text.write_ids.Given as goal
 

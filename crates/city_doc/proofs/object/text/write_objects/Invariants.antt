@@ -1,12 +1,6 @@
-use Rattle.std.proofs.Common.{◌≡◌, ◌<◌, ◌^◌, List, ◌++◌, length}
-use Rattle.std.specs.Prelude.{flat_map}
-use Rattle.std.specs.FinMap.{entries}
-use Rattle.city_model.specs.declared.object.Point.{Point}
-use Rattle.city_doc.specs.inside.document.KeptMembers.{are_kept_objects}
-use Rattle.city_doc.specs.Pool.{object_points}
-use Rattle.city_doc.specs.inside.Pool.{with_points}
-use Rattle.city_doc.specs.inside.tree.PartTokens.{closing_members}
-use Rattle.city_doc.specs.inside.tree.ReadsBack.{MembersReadBack}
+use Rattle.city_doc.proofs.Prelude.{◌≡◌, ◌<◌, List, ◌++◌, length, flat_map, entries, Point, are_kept_objects}
+use Rattle.city_doc.proofs.Prelude.{object_points, with_points, closing_members, MembersReadBack}
+use Rattle.std.proofs.Common.{◌^◌}
 use Rattle.city_doc.proofs.document.EntriesRead.{in_turn}
 use Rattle.city_doc.proofs.object.text.write_objects.Given as goal
 

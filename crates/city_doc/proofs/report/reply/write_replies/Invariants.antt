@@ -1,5 +1,4 @@
-use Rattle.std.proofs.Common.{◌≡◌, ◌++◌, drop}
-use Rattle.city_doc.specs.report.Replies.{reply_data}
+use Rattle.city_doc.proofs.Prelude.{◌≡◌, ◌++◌, drop, reply_data}
 use Rattle.city_doc.proofs.tree.WrittenItems.{closing}
 use Rattle.city_doc.proofs.report.reply.write_replies.Given as goal
 

@@ -1,6 +1,4 @@
-use Rattle.std.proofs.Common.{◌≡◌, drop}
-use Rattle.city_doc.specs.inside.script.Forms.{parts_views}
-use Rattle.city_doc.specs.inside.script.Searches.{first_at, index_in, first_command}
+use Rattle.city_doc.proofs.Prelude.{◌≡◌, drop, parts_views, first_at, index_in, first_command}
 use Rattle.city_doc.proofs.script.faults.first_command.Given as goal
 
 abbrev pub invariant-loop-n : goal.invariant-loop-n

@@ -1,22 +1,18 @@
-use Rattle.std.proofs.Common.{◌∙◌, sym, refl}
-use Rattle.serde_json.specs.View.{view}
-use Rattle.city_doc.specs.inside.script.Searches.{index_if}
+use Rattle.city_doc.proofs.Prelude.{◌∙◌, sym, refl, view, index_if}
 use Rattle.city_doc.proofs.script.FirstAt.{first_at-drop, first_at-found, first_at-end}
 use Rattle.city_doc.proofs.script.faults.first_in.Goals as goal
 
 pub returns-then-judge : goal.returns-then-judge
 returns-then-judge g c =
-    sym (first_at-found (index_if (g.J.CommandTest.test c.args.vertices)) view _ c.args.commands.now c.loop-i.i
-    c.index-commands-i.result c.loop-i.i c.loop-i-test.true c.index-commands-i.is
-    c.loop-i.invariant (rw (sym c.judge.ensures ∙ c.if-judge.true) refl))
+    sym (first_at-found (index_if (g.J.CommandTest.test c.args.vertices)) view _ _ c.loop-i.i _ _ c.loop-i-test.true
+    c.index-commands-i.is c.loop-i.invariant (rw (sym c.judge.ensures ∙ c.if-judge.true) refl))
 
 pub loop-i-preserved : goal.loop-i-preserved
 loop-i-preserved g c =
-    first_at-drop (index_if (g.J.CommandTest.test c.args.vertices)) view _ c.args.commands.now c.loop-i.i
-    c.index-commands-i.result c.loop-i-test.true c.index-commands-i.is
-    c.loop-i.invariant (rw (sym c.judge.ensures ∙ c.if-judge.false) refl)
+    first_at-drop (index_if (g.J.CommandTest.test c.args.vertices)) view _ _ c.loop-i.i _ c.loop-i-test.true
+    c.index-commands-i.is c.loop-i.invariant (rw (sym c.judge.ensures ∙ c.if-judge.false) refl)
 
 pub returns : goal.returns
 returns g c =
-    sym (first_at-end (index_if (g.J.CommandTest.test c.args.vertices)) view _ c.args.commands.now c.loop-i.i
-    c.loop-i-test.false c.loop-i.invariant)
+    sym (first_at-end (index_if (g.J.CommandTest.test c.args.vertices)) view _ _ c.loop-i.i c.loop-i-test.false
+    c.loop-i.invariant)

@@ -1,6 +1,4 @@
-use Rattle.std.proofs.Common.{◌≡◌, drop, map}
-use Rattle.serde_json.specs.View.{view}
-use Rattle.city_doc.specs.inside.script.Searches.{first_at, index_if, first_in}
+use Rattle.city_doc.proofs.Prelude.{◌≡◌, drop, map, view, first_at, index_if, first_in}
 use Rattle.city_doc.proofs.script.faults.first_in.Given as goal
 
 abbrev pub invariant-loop-i : goal.invariant-loop-i

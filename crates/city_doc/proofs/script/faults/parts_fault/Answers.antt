@@ -1,25 +1,20 @@
-use Rattle.std.proofs.Common.{◌∙◌, sym}
-use Rattle.city_doc.specs.script.CommandFaults.{is_bad_command, names_bad_vertex}
-use Rattle.city_doc.specs.inside.script.Forms.{parts_views}
+use Rattle.city_doc.proofs.Prelude.{◌∙◌, sym, is_bad_command, names_bad_vertex}
 use Rattle.city_doc.proofs.script.FirstFaults.{bad_command-fault, bad_vertex-fault, first_command-none}
 use Rattle.city_doc.proofs.script.faults.parts_fault.Goals as goal
 
 pub returns-in-Some : goal.returns-in-Some
 returns-in-Some c =
-    bad_command-fault (parts_views c.args.forms.now) c.in-Some.n c.in-Some.i (sym c.are_too_many.ensures
-    ∙ c.if-are_too_many.false) (sym c.first_command.ensures ∙ c.in-Some.is)
+    bad_command-fault _ _ _ (sym c.are_too_many.ensures ∙ c.if-are_too_many.false)
+    (sym c.first_command.ensures ∙ c.in-Some.is)
 
 pub returns-in-Some-first_command : goal.returns-in-Some-first_command
 returns-in-Some-first_command c =
-    bad_vertex-fault (parts_views c.args.forms.now) c.in-Some-first_command.n c.in-Some-first_command.i
-    (sym c.are_too_many.ensures ∙ c.if-are_too_many.false)
+    bad_vertex-fault _ _ _ (sym c.are_too_many.ensures ∙ c.if-are_too_many.false)
     (sym c.first_command.ensures ∙ c.in_default.is) (sym c.first_command-2.ensures ∙ c.in-Some-first_command.is)
 
 pub returns : goal.returns
 returns c = (
   sym c.are_too_many.ensures ∙ c.if-are_too_many.false,
-  first_command-none (λ count d. is_bad_command d) (parts_views c.args.forms.now) (sym c.first_command.ensures
-      ∙ c.in_default.is),
-  first_command-none names_bad_vertex (parts_views c.args.forms.now) (sym c.first_command-2.ensures
-      ∙ c.in_default-first_command.is),
+  first_command-none (λ count d. is_bad_command d) _ (sym c.first_command.ensures ∙ c.in_default.is),
+  first_command-none names_bad_vertex _ (sym c.first_command-2.ensures ∙ c.in_default-first_command.is),
 )

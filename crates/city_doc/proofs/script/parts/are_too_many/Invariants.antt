@@ -1,8 +1,6 @@
-use Rattle.std.proofs.Common.{◌≡◌, drop}
+use Rattle.city_doc.proofs.Prelude.{◌≡◌, drop, list_any, parts_views}
 use Rattle.std.specs.Prelude.{nat_lt, length}
-use Rattle.std.specs.List.{list_any}
 use Rattle.city_tokens.specs.script.Scripts.{max_commands}
-use Rattle.city_doc.specs.inside.script.Forms.{parts_views}
 use Rattle.city_doc.proofs.script.parts.are_too_many.Given as goal
 
 abbrev pub invariant-loop-form : goal.invariant-loop-form

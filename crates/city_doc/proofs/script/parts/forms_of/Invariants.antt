@@ -1,10 +1,6 @@
-use Rattle.std.proofs.Common.{◌≡◌, ◌++◌, map, option_map, length}
-use Rattle.std.specs.Vec.Iter.{into_iter_items}
-use Rattle.serde_json.specs.View.{view}
-use Rattle.city_tokens.specs.tree.Lists.{all_read}
-use Rattle.city_tokens.specs.script.Scripts.{parts_of}
-use Rattle.city_doc.specs.inside.script.Forms.{parts_views}
-use Rattle.city_doc.specs.inside.script.Searches.{first_at, bad_script}
+use Rattle.city_doc.proofs.Prelude.{◌≡◌, ◌++◌, map, length, into_iter_items, view, all_read, parts_of, parts_views}
+use Rattle.city_doc.proofs.Prelude.{first_at, bad_script}
+use Rattle.std.proofs.Common.{option_map}
 use Rattle.city_doc.proofs.script.parts.forms_of.Given as goal
 
 abbrev pub invariant-loop-item : goal.invariant-loop-item

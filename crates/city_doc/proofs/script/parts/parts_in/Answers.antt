@@ -1,6 +1,5 @@
-use Rattle.std.proofs.Common.{sym, refl}
+use Rattle.city_doc.proofs.Prelude.{sym, refl, members_view}
 use Rattle.std.specs.Prelude.{Some, None}
-use Rattle.serde_json.specs.View.{members_view}
 use Rattle.city_doc.proofs.script.CommandLists.{parts-taken}
 use Rattle.city_doc.proofs.script.parts.parts_in.Goals as goal
 

@@ -1,6 +1,4 @@
-use Rattle.std.proofs.Common.{◌≡◌, drop, map}
-use Rattle.serde_json.specs.View.{view}
-use Rattle.city_tokens.specs.script.Scripts.{word_ends}
+use Rattle.city_doc.proofs.Prelude.{◌≡◌, drop, map, view, word_ends}
 use Rattle.city_doc.proofs.script.parts.word_ends.Given as goal
 
 abbrev pub invariant-loop-i : goal.invariant-loop-i

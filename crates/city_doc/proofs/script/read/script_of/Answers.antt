@@ -1,5 +1,4 @@
-use Rattle.std.proofs.Common.{◌∙◌, sym, map, true≢false}
-use Rattle.serde_json.specs.View.{view}
+use Rattle.city_doc.proofs.Prelude.{◌∙◌, sym, map, true≢false, view}
 use Rattle.city_tokens.proofs.Laws.{ends_once-read}
 use Rattle.city_doc.proofs.script.read.script_of.Goals as goal
 

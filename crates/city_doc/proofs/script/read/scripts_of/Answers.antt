@@ -1,13 +1,11 @@
-use Rattle.std.proofs.Common.{◌∙◌}
-use Rattle.serde_json.specs.View.{view}
+use Rattle.city_doc.proofs.Prelude.{◌∙◌, view}
 use Rattle.city_tokens.proofs.Laws.{built_many, built_few}
 use Rattle.city_doc.proofs.script.read.scripts_of.Goals as goal
 
 pub returns-then-len-gt-MAX_SCRIPTS : goal.returns-then-len-gt-MAX_SCRIPTS
 returns-then-len-gt-MAX_SCRIPTS c =
-    built_many view (view c.args.tree) c.in-Some.items.items c.len.result c.in-Some.ensures.list
-    (c.len.ensures ∙ c.in-Some.items.ok.0) c.if-len-gt-MAX_SCRIPTS.true
+    built_many view _ _ _ c.in-Some.ensures.list (c.len.ensures ∙ c.in-Some.items.ok.0) c.if-len-gt-MAX_SCRIPTS.true
 
 pub returns : goal.returns
-returns c = rw (built_few view (view c.args.tree) c.in-Some.items.items c.len.result c.in-Some.ensures.list
-    (c.len.ensures ∙ c.in-Some.items.ok.0) c.if-len-gt-MAX_SCRIPTS.false) c.scripts_of_items.ensures
+returns c = rw (built_few view (view c.args.tree) _ _ c.in-Some.ensures.list (c.len.ensures ∙ c.in-Some.items.ok.0)
+    c.if-len-gt-MAX_SCRIPTS.false) c.scripts_of_items.ensures

@@ -1,8 +1,5 @@
-use Rattle.std.proofs.Common.{◌≡◌, ◌++◌, map, option_map}
-use Rattle.std.specs.Vec.Iter.{into_iter_items}
-use Rattle.serde_json.specs.View.{view}
-use Rattle.city_tokens.specs.inside.ScriptItems.{script_of_item}
-use Rattle.city_tokens.specs.tree.Lists.{all_read}
+use Rattle.city_doc.proofs.Prelude.{◌≡◌, ◌++◌, map, into_iter_items, view, script_of_item, all_read}
+use Rattle.std.proofs.Common.{option_map}
 use Rattle.city_doc.proofs.script.read.scripts_of_items.Given as goal
 
 abbrev pub invariant-loop-item : goal.invariant-loop-item

@@ -1,8 +1,5 @@
-use Rattle.std.proofs.Common.{◌≡◌, ◌++◌, option_map}
-use Rattle.std.specs.Vec.Iter.{into_iter_items}
-use Rattle.serde_json.specs.View.{items_view}
-use Rattle.city_tokens.specs.tree.Lists.{read_items}
-use Rattle.city_tokens.specs.shape.Geometries.{geometry_of}
+use Rattle.city_doc.proofs.Prelude.{◌≡◌, ◌++◌, into_iter_items, items_view, read_items, geometry_of}
+use Rattle.std.proofs.Common.{option_map}
 use Rattle.city_doc.proofs.shape.geometry.read_geometries.Given as goal
 
 -- what is found, and then what is left

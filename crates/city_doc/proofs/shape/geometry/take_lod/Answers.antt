@@ -1,8 +1,5 @@
-use Rattle.std.proofs.Common.{rules, ◌≡◌, refl, ap, ◌∙◌}
-use Rattle.std.specs.Prelude.{option_and_then, codes}
-use Rattle.serde_json.specs.Find.{as_str, get_member}
-use Rattle.serde_json.specs.View.{members_view}
-use Rattle.city_model.proofs.MemberLaws.{get_member-without}
+use Rattle.city_doc.proofs.Prelude.{rules, ◌≡◌, refl, ap, ◌∙◌, option_and_then, codes, as_str, get_member, members_view}
+use Rattle.city_doc.proofs.Prelude.{get_member-without}
 use Rattle.city_doc.proofs.shape.geometry.take_lod.Goals as goal
 
 pub returns-clause-found : goal.returns-clause-found

@@ -1,6 +1,4 @@
-use Rattle.std.proofs.Common.{◌≡◌, drop}
-use Rattle.serde_json.specs.View.{items_view}
-use Rattle.city_doc.specs.shape.Forms.{all_items}
+use Rattle.city_doc.proofs.Prelude.{◌≡◌, drop, items_view, all_items}
 use Rattle.city_doc.proofs.shape.nested.all_have_form.Given as goal
 
 abbrev pub invariant-loop-item : goal.invariant-loop-item

@@ -1,6 +1,5 @@
-use Rattle.std.proofs.Common.{◌≡◌, ◌++◌, option_map, drop}
-use Rattle.serde_json.specs.View.{items_view}
-use Rattle.city_tokens.specs.tree.Lists.{read_items}
+use Rattle.city_doc.proofs.Prelude.{◌≡◌, ◌++◌, drop, items_view, read_items}
+use Rattle.std.proofs.Common.{option_map}
 use Rattle.city_doc.proofs.shape.nested.read_items.Given as goal
 
 -- what is found, and then what is left

@@ -1,6 +1,4 @@
-use Rattle.std.proofs.Common.{◌≡◌, ◌++◌, drop}
-use Rattle.std.specs.List.{list_all}
-use Rattle.city_doc.specs.shape.Vertices.{vertex_data, is_i64_point}
+use Rattle.city_doc.proofs.Prelude.{◌≡◌, ◌++◌, drop, list_all, vertex_data, is_i64_point}
 use Rattle.city_doc.proofs.tree.WrittenItems.{closing, ReadBack}
 use Rattle.city_doc.proofs.shape.vertices.write_vertices.Given as goal
 

@@ -1,10 +1,6 @@
-use Rattle.std.proofs.Common.{◌≡◌, ◌++◌}
+use Rattle.city_doc.proofs.Prelude.{◌≡◌, ◌++◌, members_view, members_integral, members_between, tokens_of_members}
+use Rattle.city_doc.proofs.Prelude.{MembersReadBack}
 use Rattle.std.specs.Prelude.{option_copied}
-use Rattle.serde_json.specs.View.{members_view}
-use Rattle.city_model.specs.Integral.{members_integral}
-use Rattle.city_doc.specs.inside.tree.Between.{members_between}
-use Rattle.city_doc.specs.inside.tree.PartTokens.{tokens_of_members}
-use Rattle.city_doc.specs.inside.tree.ReadsBack.{MembersReadBack}
 use Rattle.city_doc.proofs.tree.kept_members.write_between.Given as goal
 
 abbrev pub invariant-loop-name : goal.invariant-loop-name

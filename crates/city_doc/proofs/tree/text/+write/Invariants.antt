@@ -1,8 +1,5 @@
-use Rattle.std.proofs.Common.{◌≡◌, ◌++◌, drop}
-use Rattle.serde_json.specs.View.{items_view, members_view}
-use Rattle.city_model.specs.Integral.{items_integral, members_integral}
-use Rattle.city_doc.specs.inside.tree.PartTokens.{closing_items, closing_members}
-use Rattle.city_doc.specs.inside.tree.ReadsBack.{ItemsReadBack, MembersReadBack}
+use Rattle.city_doc.proofs.Prelude.{◌≡◌, ◌++◌, drop, items_view, members_view, items_integral, members_integral}
+use Rattle.city_doc.proofs.Prelude.{closing_items, closing_members, ItemsReadBack, MembersReadBack}
 use Rattle.city_doc.proofs.tree.text.+write.Given as goal
 
 -- what is left ends the array

@@ -1,7 +1,5 @@
-use Rattle.std.proofs.Common.{◌≡◌, ◌||◌, cond, drop}
-use Rattle.std.specs.List.{list_any, list_all}
-use Rattle.city_locks.specs.declared.answer.Answer.TheVariants.{Granted, Wait, Die}
-use Rattle.city_locks.specs.Holders.{in_conflict, gives_way, answer_among}
+use Rattle.city_locks.proofs.Prelude.{◌≡◌, ◌||◌, cond, drop, list_any, list_all, Granted, Wait, Die, in_conflict}
+use Rattle.city_locks.proofs.Prelude.{gives_way, answer_among}
 use Rattle.city_locks.proofs.holders.Holders.answer.Given as goal
 
 abbrev pub invariant-loop-holder : goal.invariant-loop-holder

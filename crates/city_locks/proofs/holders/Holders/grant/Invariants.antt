@@ -1,5 +1,4 @@
-use Rattle.std.proofs.Common.{◌≡◌, ◌++◌, take, drop}
-use Rattle.city_locks.specs.Holders.{mode_among, with_holder}
+use Rattle.city_locks.proofs.Prelude.{◌≡◌, ◌++◌, take, drop, mode_among, with_holder}
 use Rattle.city_locks.proofs.holders.Holders.grant.Given as goal
 
 abbrev pub invariant-loop-i : goal.invariant-loop-i

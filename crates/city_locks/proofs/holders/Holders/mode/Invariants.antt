@@ -1,5 +1,4 @@
-use Rattle.std.proofs.Common.{◌≡◌, drop}
-use Rattle.city_locks.specs.Holders.{mode_among}
+use Rattle.city_locks.proofs.Prelude.{◌≡◌, drop, mode_among}
 use Rattle.city_locks.proofs.holders.Holders.mode.Given as goal
 
 abbrev pub invariant-loop-holder : goal.invariant-loop-holder

@@ -1,5 +1,4 @@
-use Rattle.std.proofs.Common.{rules, ◌∙◌, ap}
-use Rattle.city_locks.specs.Holders.{without}
+use Rattle.city_locks.proofs.Prelude.{rules, ◌∙◌, ap, without}
 use Rattle.std.proofs.lemmas.Fn.{filter_same}
 use Rattle.city_locks.proofs.holders.Holders.release.Goals as goal
 

@@ -3,6 +3,4 @@ use Rattle.city_locks.proofs.table.LockTable.would_answer.Goals as goal
 
 pub returns-clause-wait_die : goal.returns-clause-wait_die
 returns-clause-wait_die c =
-    wait_die_seen c.self.inside.holders.entries c.args.self.now c.args.id.now c.args.stamp c.args.mode
-    c.answer_at.result
-    c.self.view_is (c.self.invariant.once c.args.id.now) c.answer_at.ensures
+    wait_die_seen c.self.view_is (c.self.invariant.once c.args.id.now) c.answer_at.ensures

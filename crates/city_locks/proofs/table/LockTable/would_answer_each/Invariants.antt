@@ -1,7 +1,4 @@
-use Rattle.std.proofs.Common.{◌≡◌}
-use Rattle.city_model.specs.Chunks.{ids_left}
-use Rattle.city_model.specs.Meaning.{exclusively}
-use Rattle.city_locks.specs.Asking.{first_answer}
+use Rattle.city_locks.proofs.Prelude.{◌≡◌, ids_left, exclusively, first_answer}
 use Rattle.city_locks.proofs.table.LockTable.would_answer_each.Given as goal
 
 abbrev pub invariant-loop-id : goal.invariant-loop-id

@@ -1,6 +1,4 @@
-use Rattle.std.proofs.Common.{ap, ◌∙◌}
-use Rattle.city_model.specs.CityMap.{changed}
-use Rattle.city_model.specs.Runs.{Change, after_change}
+use Rattle.city_model.proofs.Prelude.{ap, ◌∙◌, changed, Change, after_change}
 use Rattle.city_model.proofs.ChangeLaws.{written_more}
 use Rattle.city_model.proofs.change.Change.set.Goals as goal
 

@@ -1,5 +1,4 @@
-use Rattle.std.proofs.Common.{ap}
-use Rattle.city_model.specs.CityMap.{Objects}
+use Rattle.city_model.proofs.Prelude.{ap, Objects}
 use Rattle.city_model.proofs.Objects.{of_nothing}
 use Rattle.city_model.proofs.city.City.new.Goals as goal
 

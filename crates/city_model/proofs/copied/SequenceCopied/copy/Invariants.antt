@@ -1,4 +1,4 @@
-use Rattle.std.proofs.Common.{◌≡◌, take}
+use Rattle.city_model.proofs.Prelude.{◌≡◌, take}
 use Rattle.city_model.proofs.copied.SequenceCopied.copy.Given as goal
 
 abbrev pub invariant-loop-item : goal.invariant-loop-item

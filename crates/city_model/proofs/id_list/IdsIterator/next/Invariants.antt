@@ -1,5 +1,4 @@
-use Rattle.std.proofs.Common.{◌≡◌, length}
-use Rattle.city_model.specs.Chunks.{ids_left}
+use Rattle.city_model.proofs.Prelude.{◌≡◌, length, ids_left}
 use Rattle.city_model.proofs.id_list.IdsIterator.next.Given as goal
 
 abbrev pub invariant-loop-chunk : goal.invariant-loop-chunk

@@ -1,5 +1,4 @@
-use Rattle.std.proofs.Common.{◌≡◌, drop}
-use Rattle.serde_json.specs.View.{items_view}
+use Rattle.city_model.proofs.Prelude.{◌≡◌, drop, items_view}
 use Rattle.city_model.specs.Kept.{any_located}
 use Rattle.city_model.proofs.kept.site.any_located.Given as goal
 

@@ -1,8 +1,6 @@
-use Rattle.std.proofs.Common.{◌≡◌, ◌∙◌, ◌==◌, ◌++◌, List, ℕ, Option, [], ◌∷◌, None, sym, ap, map, length, true, rules}
-use Rattle.city_model.specs.declared.object.Object.{Object}
-use Rattle.city_model.specs.Chunks.{ids_left}
-use Rattle.city_model.specs.Runs.{Change}
-use Rattle.city_model.specs.inside.Plans.{unlinked}
+use Rattle.city_model.proofs.Prelude.{◌≡◌, ◌∙◌, ◌++◌, List, ℕ, Option, [], ◌∷◌, None, sym, ap, map, length, true, rules}
+use Rattle.city_model.proofs.Prelude.{Object, ids_left, Change, unlinked}
+use Rattle.std.proofs.Common.{◌==◌}
 use Rattle.city_model.proofs.Planned.{delete_writes}
 use Rattle.city_model.proofs.plan.deleting.plan_delete.Goals as goal
 

@@ -1,4 +1,4 @@
-use Rattle.std.proofs.Common.{sym}
+use Rattle.city_model.proofs.Prelude.{sym}
 use Rattle.city_model.proofs.plan.deleting.unlink.Goals as goal
 
 pub without_child-requires : goal.without_child-requires

@@ -1,6 +1,4 @@
-use Rattle.std.proofs.Common.{◌≡◌, ◌++◌, map}
-use Rattle.city_model.specs.Chunks.{ids_left}
-use Rattle.city_model.specs.inside.Plans.{unlinked}
+use Rattle.city_model.proofs.Prelude.{◌≡◌, ◌++◌, map, ids_left, unlinked}
 use Rattle.city_model.proofs.plan.deleting.unlink_each.Given as goal
 
 -- what was written, and then what is left

@@ -1,31 +1,15 @@
-use Rattle.std.proofs.Common.{◌≡◌, ◌∷◌, [], Some, option_map, ◌∙◌, sym, ap, subst}
-use Rattle.city_model.specs.Meaning.{with_child}
-use Rattle.city_model.specs.Runs.{Change}
-use Rattle.city_model.specs.inside.Plans.{AreWritesOf}
-use Rattle.city_model.specs.declared.command.Command.TheVariants.{Attach}
-use Rattle.city_model.specs.declared.command.Reply.TheVariants.{Attached}
+use Rattle.city_model.proofs.Prelude.{rules, sym}
 use Rattle.city_model.proofs.Soundness.{parent_and_child}
 use Rattle.city_model.proofs.Planned.{attach_writes}
 use Rattle.city_model.proofs.plan.relating.plan_attach.Goals as goal
 
 pub is_attached-requires : goal.is_attached-requires
-is_attached-requires g c =
-    parent_and_child (g.V.View.map c.args.view.now) c.args.child.now c.args.parent.now c.in-Some.child_object.now
-    c.in-Some-look.parent_object.now c.requires.sound (sym c.in-Some.ensures) (sym c.in-Some-look.ensures)
+is_attached-requires g c = search (rules, parent_and_child (g.V.View.map c.args.view.now))
 
 pub returns : goal.returns
 returns g c =
     let m = g.V.View.map c.args.view.now in
-    let child = c.args.child.now in
-    let parent = c.args.parent.now in
     let below = c.in_ok-below.below in
-    let written : c.in_ok-writes.writes
-    ≡ (child, Some below) ∷ (parent, option_map (with_child child) (m parent)) ∷ [] = c.in_ok-writes.ensures
-    ∙ ap (λ o. (child, Some below) ∷ (parent, o) ∷ []) (ap Some c.in_ok-above.ensures
-    ∙ ap (option_map (with_child child)) c.in-Some-look.ensures) in
-    subst (λ (ws : Change). AreWritesOf m (Attach child parent) Attached ws) (sym written)
-    (attach_writes m child parent c.in-Some.child_object.now c.in-Some-look.parent_object.now below
-    (sym c.in-Some.ensures) (sym c.in-Some-look.ensures)
-    (sym c.is_wrong_family.ensures ∙ c.if-is_wrong_family.false)
-    (sym c.is_attached.ensures ∙ c.if-is_attached.false)
-    c.in_ok-below.ensures)
+    let above = c.in_ok-above.above in
+    let ws = c.in_ok-writes.writes in
+    search (rules, attach_writes m _ _ _ _ below above ws (sym c.in-Some.ensures) (sym c.in-Some-look.ensures))

@@ -1,8 +1,6 @@
-use Rattle.std.proofs.Common.{rules, ◌≡◌, ◌∙◌, get_or, ◌∷◌, ◌++◌, ◌-◌, [], ap}
+use Rattle.city_model.proofs.Prelude.{rules, ◌≡◌, ◌∙◌, get_or, ◌∷◌, ◌++◌, ◌-◌, [], ap, append-nil, arc_value}
 use Rattle.std.specs.Vec.{vec_len}
-use Rattle.std.proofs.lemmas.List.{append-nil}
 use Rattle.std.proofs.lemmas.Result.{on_ok_weaker, on_err_weaker}
-use Rattle.std.specs.Arc.{arc_value}
 use Rattle.city_model.proofs.Chunks.{last_part}
 use Rattle.city_model.proofs.shared_ids.SharedIds.push.Goals as goal
 

@@ -1,5 +1,4 @@
-use Rattle.std.proofs.Common.{◌≡◌}
-use Rattle.std.specs.Io.KnownBytes.{Keeps}
+use Rattle.city_serve.proofs.Prelude.{◌≡◌, Keeps}
 use Rattle.city_serve.proofs.device.Device.write_some.Given as goal
 
 abbrev pub invariant-loop : goal.invariant-loop

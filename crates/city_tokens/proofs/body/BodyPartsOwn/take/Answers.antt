@@ -1,5 +1,5 @@
-use Rattle.std.proofs.lemmas.Option.{IfSome_then}
-use Rattle.city_tokens.proofs.Bodies.{body_taken}
+use Rattle.city_tokens.proofs.Prelude.{IfSome_then}
+use Rattle.city_tokens.proofs.PlacedParts.{body_taken}
 use Rattle.city_tokens.proofs.body.BodyPartsOwn.take.Goals as goal
 
 pub returns-in_default : goal.returns-in_default

@@ -1,5 +1,5 @@
-use Rattle.city_tokens.specs.inside.Positions.{points_of}
-use Rattle.city_tokens.proofs.PlacedCommands.{put_placed}
+use Rattle.city_tokens.proofs.Prelude.{points_of}
+use Rattle.city_tokens.proofs.PlacedParts.{put_placed}
 use Rattle.city_tokens.proofs.command.CommandPlaces.place.Goals as goal
 
 pub returns-in_ok-place : goal.returns-in_ok-place

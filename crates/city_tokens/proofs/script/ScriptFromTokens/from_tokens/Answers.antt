@@ -1,6 +1,4 @@
-use Rattle.std.proofs.Common.{None, refl}
-use Rattle.std.proofs.lemmas.Option.{IfSome_then}
-use Rattle.serde_json.specs.Data.{object, no_members}
+use Rattle.city_tokens.proofs.Prelude.{None, refl, IfSome_then, object, no_members}
 use Rattle.city_tokens.proofs.script.ScriptFromTokens.from_tokens.Goals as goal
 
 pub returns : goal.returns

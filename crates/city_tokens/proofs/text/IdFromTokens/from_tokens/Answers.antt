@@ -1,6 +1,4 @@
-use Rattle.std.proofs.Common.{Some, sym, ap}
-use Rattle.std.proofs.lemmas.Option.{IfSome_then}
-use Rattle.serde_json.specs.Data.{string}
+use Rattle.city_tokens.proofs.Prelude.{Some, sym, ap, IfSome_then, string}
 use Rattle.city_tokens.proofs.text.IdFromTokens.from_tokens.Goals as goal
 
 pub returns : goal.returns

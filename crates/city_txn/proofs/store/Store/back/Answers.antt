@@ -1,4 +1,4 @@
-use Rattle.std.proofs.Common.{rules}
+use Rattle.city_txn.proofs.Prelude.{rules}
 use Rattle.city_txn.proofs.PerformDone.{back_failed, back_refused, back_performed}
 use Rattle.city_txn.proofs.store.Store.back.Goals as goal
 

@@ -1,4 +1,4 @@
-use Rattle.std.proofs.Common.{rules}
+use Rattle.city_txn.proofs.Prelude.{rules}
 use Rattle.city_model.proofs.FrameLaw.{exclusive_is_named}
 use Rattle.city_txn.proofs.PerformDone.{unplanned_performed, refused_performed, unwritten_performed, written_performed}
 use Rattle.city_txn.proofs.store.Store.carry_out.Goals as goal

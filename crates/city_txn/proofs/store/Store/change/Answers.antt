@@ -1,7 +1,5 @@
-use Rattle.std.proofs.Common.{◌∙◌, length, ◌<◌, None, ap, arith, if◌then◌else◌, take_all}
-use Rattle.city_model.specs.CityMap.{has_id}
-use Rattle.city_model.specs.Writing.{write_in}
-use Rattle.city_txn.specs.inside.State.{store_own}
+use Rattle.city_txn.proofs.Prelude.{◌∙◌, length, ◌<◌, None, ap, arith, if◌then◌else◌, has_id, write_in, store_own}
+use Rattle.std.proofs.Common.{take_all}
 use Rattle.city_txn.proofs.ChangeMade.{noted_more, all_listed}
 use Rattle.city_txn.proofs.store.Store.change.Goals as goal
 

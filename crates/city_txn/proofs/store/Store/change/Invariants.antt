@@ -1,10 +1,6 @@
-use Rattle.std.proofs.Common.{◌≡◌, ℕ, List, None, take, if◌then◌else◌, nat_cmp}
-use Rattle.std.specs.Map.{keys_of}
-use Rattle.std.specs.List.Sorted.{IsStrictlySortedBy}
-use Rattle.std.specs.Cmp.Lexicographic.{slice_cmp}
-use Rattle.city_model.specs.CityMap.{has_id}
-use Rattle.city_model.specs.Writing.{write_in}
-use Rattle.city_txn.specs.inside.State.{store_own}
+use Rattle.city_txn.proofs.Prelude.{◌≡◌, ℕ, List, None, take, if◌then◌else◌, keys_of, IsStrictlySortedBy, slice_cmp}
+use Rattle.city_txn.proofs.Prelude.{has_id, write_in, store_own}
+use Rattle.std.proofs.Common.{nat_cmp}
 use Rattle.city_txn.proofs.store.Store.change.Given as goal
 
 abbrev pub invariant-loop-id : goal.invariant-loop-id

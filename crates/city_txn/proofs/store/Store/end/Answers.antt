@@ -1,7 +1,7 @@
-use Rattle.std.proofs.Common.{◌∙◌}
+use Rattle.city_txn.proofs.Prelude.{◌∙◌}
 use Rattle.city_txn.proofs.StoreChanged.{Ending, ending}
-use Rattle.city_txn.proofs.store.Store.end.Goals as goal
 use Rattle.city_txn.proofs.store.Store.end.Goals.{After-end_each}
+use Rattle.city_txn.proofs.store.Store.end.Goals as goal
 
 done : (c : After-end_each) → Ending c.args.stamp c.args.end c.args.self.now
     (record c.self.inside { city = c.end_each.new.city; undo = c.end_each.new.undo; logs = c.close.new.self })

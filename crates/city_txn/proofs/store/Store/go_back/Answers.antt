@@ -1,4 +1,4 @@
-use Rattle.std.proofs.Common.{false, rules}
+use Rattle.city_txn.proofs.Prelude.{false, rules}
 use Rattle.city_txn.proofs.Touched.{touches_on}
 use Rattle.city_txn.proofs.UndoLogs.{undone_marks, undone_has}
 use Rattle.city_txn.proofs.store.Store.go_back.Goals as goal

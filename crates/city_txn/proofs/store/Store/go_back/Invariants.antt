@@ -1,8 +1,5 @@
-use Rattle.std.proofs.Common.{◌≡◌, true, false, length}
+use Rattle.city_txn.proofs.Prelude.{◌≡◌, true, false, length, store_written, Touches, log_of, has_mark}
 use Rattle.city_model.specs.Marks.{marks_from}
-use Rattle.city_txn.specs.inside.State.{store_written, Touches}
-use Rattle.city_txn.specs.UndoLog.{log_of}
-use Rattle.city_txn.specs.inside.LogTests.{has_mark}
 use Rattle.city_txn.proofs.store.Store.go_back.Given as goal
 
 abbrev pub invariant-loop-self : goal.invariant-loop-self

@@ -1,6 +1,4 @@
-use Rattle.std.proofs.Common.{◌∙◌, sym}
-use Rattle.city_txn.specs.inside.State.{store_view}
-use Rattle.city_model.specs.Relations.{is_orphan_there}
+use Rattle.city_txn.proofs.Prelude.{◌∙◌, sym, store_view, is_orphan_there}
 use Rattle.city_txn.proofs.ChangeMade.{any_none, none_orphaned, none_there}
 use Rattle.city_txn.proofs.store.Store.has_orphan.Goals as goal
 

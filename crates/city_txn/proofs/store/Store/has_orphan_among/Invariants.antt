@@ -1,7 +1,4 @@
-use Rattle.std.proofs.Common.{◌≡◌, false, take}
-use Rattle.std.specs.List.{list_any}
-use Rattle.city_model.specs.Relations.{is_orphan_there}
-use Rattle.city_txn.specs.inside.State.{store_view}
+use Rattle.city_txn.proofs.Prelude.{◌≡◌, false, take, list_any, is_orphan_there, store_view}
 use Rattle.city_txn.proofs.store.Store.has_orphan_among.Given as goal
 
 abbrev pub invariant-loop-id : goal.invariant-loop-id

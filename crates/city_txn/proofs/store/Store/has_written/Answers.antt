@@ -1,4 +1,4 @@
-use Rattle.std.proofs.Common.{◌∙◌}
+use Rattle.city_txn.proofs.Prelude.{◌∙◌}
 use Rattle.city_txn.proofs.AtOneId.{here, by_seen}
 use Rattle.city_txn.proofs.store.Store.has_written.Goals as goal
 

@@ -1,12 +1,8 @@
-use Rattle.std.proofs.Common.{◌∙◌, ◌<◌, length, arith}
-use Rattle.city_model.specs.CityMap.{same_id}
-use Rattle.city_model.proofs.Ids.{same_id_true}
-use Rattle.city_txn.specs.inside.State.{Touches}
-use Rattle.city_txn.specs.inside.Performing.{plans}
+use Rattle.city_txn.proofs.Prelude.{◌∙◌, ◌<◌, length, arith, same_id, same_id_true, Touches, plans}
 use Rattle.city_txn.proofs.PlanWritten.{planned, plans_more, may_reserve_next}
 use Rattle.city_txn.proofs.Touched.{touches_on, touches_more}
-use Rattle.city_txn.proofs.store.Store.make_ready.Goals as goal
 use Rattle.city_txn.proofs.store.Store.make_ready.Goals.{After-make_ready_at}
+use Rattle.city_txn.proofs.store.Store.make_ready.Goals as goal
 
 pub make_ready_at-requires : goal.make_ready_at-requires
 make_ready_at-requires c =

@@ -1,7 +1,5 @@
-use Rattle.std.proofs.Common.{◌≡◌, ℕ, List, true, take}
-use Rattle.city_txn.specs.Writes.{write_of}
-use Rattle.city_txn.specs.inside.State.{store_written, IsReady, Touches}
-use Rattle.city_txn.specs.inside.Performing.{plans}
+use Rattle.city_txn.proofs.Prelude.{◌≡◌, ℕ, List, true, take, write_of, store_written, Touches, plans}
+use Rattle.city_txn.specs.inside.State.{IsReady}
 use Rattle.city_txn.proofs.store.Store.make_ready.Given as goal
 
 abbrev pub invariant-loop-write : goal.invariant-loop-write

@@ -1,12 +1,7 @@
-use Rattle.std.proofs.Common.{arith, ◌≡◌, ◌∙◌, ap, true}
-use Rattle.city_model.specs.CityMap.{same_id}
-use Rattle.city_model.proofs.Ids.{same_id_itself}
-use Rattle.city_txn.specs.UndoLog.{log_of}
-use Rattle.city_txn.specs.inside.LogTests.{is_noted}
-use Rattle.city_txn.specs.inside.State.{is_reserved}
+use Rattle.city_txn.proofs.Prelude.{arith, ◌≡◌, ◌∙◌, ap, true, same_id, same_id_itself, log_of, is_noted, is_reserved}
 use Rattle.city_txn.proofs.Touched.{reserved_by, touches_on}
-use Rattle.city_txn.proofs.store.Store.make_ready_at.Goals as goal
 use Rattle.city_txn.proofs.store.Store.make_ready_at.Goals.{In_ok-reserve}
+use Rattle.city_txn.proofs.store.Store.make_ready_at.Goals as goal
 
 reserved : (c : In_ok-reserve) → is_reserved c.reserve.new.self c.args.stamp c.args.id.now ≡ true
 reserved c =

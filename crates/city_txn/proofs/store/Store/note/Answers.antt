@@ -1,9 +1,5 @@
-use Rattle.std.proofs.Common.{arith, true, ◌≡◌, ◌∙◌, ◌∷◌, ap, sym}
-use Rattle.city_model.proofs.Ids.{same_id_true, same_id_itself}
-use Rattle.city_txn.specs.declared.undo_log.Entry.TheVariants.{BeforeImage}
-use Rattle.city_txn.specs.inside.InPlace.{state_of}
-use Rattle.city_txn.specs.inside.State.{State, store_own, store_written, is_reserved}
-use Rattle.city_txn.specs.UndoLog.{log_of, marked}
+use Rattle.city_txn.proofs.Prelude.{arith, true, ◌≡◌, ◌∙◌, ◌∷◌, ap, sym, same_id_true, same_id_itself, BeforeImage}
+use Rattle.city_txn.proofs.Prelude.{state_of, State, store_own, store_written, is_reserved, log_of, marked}
 use Rattle.city_txn.proofs.UndoLogs.{noted_marked}
 use Rattle.city_txn.proofs.store.Store.note.Goals as goal
 

@@ -1,6 +1,4 @@
-use Rattle.std.proofs.Common.{Some, ◌∙◌, ap}
-use Rattle.city_txn.specs.Writes.{own_or}
-use Rattle.city_txn.specs.inside.Images.{committed_at, write_at}
+use Rattle.city_txn.proofs.Prelude.{Some, ◌∙◌, ap, own_or, committed_at, write_at}
 use Rattle.city_txn.proofs.AtOneId.{view_seen}
 use Rattle.city_txn.proofs.store.Store.read.Goals as goal
 

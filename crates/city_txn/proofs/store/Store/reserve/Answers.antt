@@ -1,8 +1,9 @@
-use Rattle.std.proofs.Common.{arith, ◌≡◌, None, is_ok}
+use Rattle.city_txn.proofs.Prelude.{arith, ◌≡◌, None}
+use Rattle.std.proofs.Common.{is_ok}
 use Rattle.city_txn.proofs.AtOneId.{image}
 use Rattle.city_txn.proofs.StoreChanged.{Reserved, reserved}
-use Rattle.city_txn.proofs.store.Store.reserve.Goals as goal
 use Rattle.city_txn.proofs.store.Store.reserve.Goals.{After-reserve}
+use Rattle.city_txn.proofs.store.Store.reserve.Goals as goal
 
 done : (c : After-reserve) → Reserved c.args.self.now
     (record c.self.inside { city = c.reserve.new.city; undo = c.reserve.new.self }) (is_ok c.reserve.result)

@@ -1,7 +1,7 @@
-use Rattle.std.proofs.Common.{arith, None}
+use Rattle.city_txn.proofs.Prelude.{arith, None}
 use Rattle.city_txn.proofs.StoreChanged.{OwnWritten, own_written}
-use Rattle.city_txn.proofs.store.Store.restore.Goals as goal
 use Rattle.city_txn.proofs.store.Store.restore.Goals.{After-unwrite}
+use Rattle.city_txn.proofs.store.Store.restore.Goals as goal
 
 done : (c : After-unwrite) → OwnWritten c.args.self.now
     (record c.self.inside { city = c.unwrite.new.city; undo = c.unwrite.new.self }) c.args.stamp c.args.id None

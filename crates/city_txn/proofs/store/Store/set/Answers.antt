@@ -1,7 +1,7 @@
-use Rattle.std.proofs.Common.{arith, Some}
+use Rattle.city_txn.proofs.Prelude.{arith, Some}
 use Rattle.city_txn.proofs.StoreChanged.{OwnWritten, own_written}
-use Rattle.city_txn.proofs.store.Store.set.Goals as goal
 use Rattle.city_txn.proofs.store.Store.set.Goals.{After-write}
+use Rattle.city_txn.proofs.store.Store.set.Goals as goal
 
 done : (c : After-write) → OwnWritten c.args.self.now
     (record c.self.inside { city = c.write.new.city; undo = c.write.new.self }) c.args.stamp c.args.id

@@ -1,7 +1,4 @@
-use Rattle.std.proofs.Common.{◌≡◌, ◌∙◌, ◌∷◌, ◌++◌, [], ap, sym}
-use Rattle.city_model.specs.Writing.{write_in}
-use Rattle.city_txn.specs.Writes.{write_of}
-use Rattle.city_txn.specs.inside.State.{written_with}
+use Rattle.city_txn.proofs.Prelude.{◌≡◌, ◌∙◌, ◌∷◌, ◌++◌, [], ap, sym, write_in, write_of, written_with}
 use Rattle.city_txn.proofs.PlanWritten.{plans_this, plans_before, written_last}
 use Rattle.city_txn.proofs.Touched.{reserved_by, changes_on}
 use Rattle.city_txn.proofs.store.Store.set_all.Goals as goal

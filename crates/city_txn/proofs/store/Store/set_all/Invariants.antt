@@ -1,8 +1,6 @@
-use Rattle.std.proofs.Common.{◌≡◌, ℕ, List, true, vec_len}
-use Rattle.city_model.specs.Writing.{write_in}
-use Rattle.city_txn.specs.Writes.{write_of}
-use Rattle.city_txn.specs.inside.State.{is_reserved, written_with, ChangesWrites, OthersWritesStay}
-use Rattle.city_txn.specs.inside.Performing.{plans}
+use Rattle.city_txn.proofs.Prelude.{◌≡◌, ℕ, List, true, write_in, write_of, is_reserved, written_with, ChangesWrites}
+use Rattle.city_txn.proofs.Prelude.{OthersWritesStay, plans}
+use Rattle.std.proofs.Common.{vec_len}
 use Rattle.city_txn.proofs.store.Store.set_all.Given as goal
 
 abbrev pub invariant-loop-write : goal.invariant-loop-write

@@ -1,6 +1,4 @@
-use Rattle.std.proofs.Common.{false, subst}
-use Rattle.city_txn.specs.inside.InPlace.{state_of}
-use Rattle.city_txn.specs.inside.State.{State, Touches}
+use Rattle.city_txn.proofs.Prelude.{false, subst, state_of, State, Touches}
 use Rattle.city_txn.proofs.Touched.{touches_on, touches_writes, undone_noted, undone_touches}
 use Rattle.city_txn.proofs.store.Store.undo_newest.Goals as goal
 

@@ -1,16 +1,11 @@
-use Rattle.std.proofs.Common.{◌≡◌, ◌∙◌, ap, rules, subst}
-use Rattle.city_model.specs.Runs.{Change}
-use Rattle.city_model.specs.Writing.{write_in}
-use Rattle.city_txn.specs.inside.State.{store_own, written_with, Touches}
-use Rattle.city_txn.specs.Writes.{write_of}
-use Rattle.city_txn.specs.UndoLog.{Written, log_of, marked}
-use Rattle.city_txn.specs.inside.LogTests.{is_noted}
-use Rattle.city_txn.specs.inside.Performing.{plans}
+use Rattle.city_txn.proofs.Prelude.{◌≡◌, ◌∙◌, ap, rules, subst, Change, write_in, store_own, written_with, Touches}
+use Rattle.city_txn.proofs.Prelude.{write_of, log_of, marked, is_noted, plans}
+use Rattle.city_txn.specs.UndoLog.{Written}
 use Rattle.city_txn.proofs.PlanWritten.{unnoted_stays, written_planned}
 use Rattle.city_txn.proofs.Touched.{touches_on, touches_writes}
 use Rattle.city_txn.proofs.UndoLogs.{marked_same}
-use Rattle.city_txn.proofs.store.Store.write_all.Goals as goal
 use Rattle.city_txn.proofs.store.Store.write_all.Goals.{After-make_ready}
+use Rattle.city_txn.proofs.store.Store.write_all.Goals as goal
 
 ready : (c : After-make_ready) → Touches c.args.stamp (plans c.args.writes) c.args.self.now c.make_ready.new.self
 ready c =

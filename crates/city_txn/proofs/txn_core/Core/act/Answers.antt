@@ -1,9 +1,9 @@
-use Rattle.std.proofs.Common.{◌∙◌, true, false, sym, refl}
+use Rattle.city_txn.proofs.Prelude.{◌∙◌, true, false, sym, refl}
 use Rattle.city_txn.specs.inside.Prelude.{Wait, Die}
 use Rattle.city_txn.proofs.ActDone.{Call, not_open_acted, asked_failed, asked_refused, may_perform, perform_failed}
 use Rattle.city_txn.proofs.ActDone.{performed}
-use Rattle.city_txn.proofs.txn_core.Core.act.Goals as goal
 use Rattle.city_txn.proofs.txn_core.Core.act.Goals.{After-lock}
+use Rattle.city_txn.proofs.txn_core.Core.act.Goals as goal
 
 pub returns-then-not-is_open : goal.returns-then-not-is_open
 returns-then-not-is_open c =

@@ -1,10 +1,9 @@
-use Rattle.std.proofs.Common.{◌∙◌, arith, ap, sym, is_some, rules}
+use Rattle.city_txn.proofs.Prelude.{◌∙◌, arith, ap, sym, is_some, rules, Kept}
 use Rattle.city_txn.specs.inside.Prelude.{write_of}
-use Rattle.city_txn.specs.inside.Core.{Kept}
 use Rattle.city_txn.proofs.CoreFields.{Begun, begun, open_is}
 use Rattle.city_txn.proofs.SeenWrites.{by_own}
-use Rattle.city_txn.proofs.txn_core.Core.begin.Goals as goal
 use Rattle.city_txn.proofs.txn_core.Core.begin.Goals.{In-Ok}
+use Rattle.city_txn.proofs.txn_core.Core.begin.Goals as goal
 
 pub begin-requires : goal.begin-requires
 begin-requires c = grind (arith, open_is)

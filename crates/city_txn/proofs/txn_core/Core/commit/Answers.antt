@@ -1,5 +1,4 @@
-use Rattle.std.proofs.Common.{◌∙◌, ap}
-use Rattle.city_txn.specs.inside.Prelude.{CoreState, view}
+use Rattle.city_txn.proofs.Prelude.{◌∙◌, ap, CoreState, view}
 use Rattle.city_txn.proofs.CoreFields.{committed_core}
 use Rattle.city_txn.proofs.txn_core.Core.commit.Goals as goal
 

@@ -1,6 +1,4 @@
-use Rattle.std.proofs.Common.{◌∙◌, ap, sym}
-use Rattle.std.proofs.lemmas.Bool.{false≢true}
-use Rattle.city_txn.specs.inside.Prelude.{CoreState, is_open}
+use Rattle.city_txn.proofs.Prelude.{◌∙◌, ap, sym, false≢true, CoreState, is_open}
 use Rattle.city_txn.proofs.AtOneId.{none_open}
 use Rattle.city_txn.proofs.txn_core.Core.into_city.Goals as goal
 

@@ -1,4 +1,4 @@
-use Rattle.std.proofs.Common.{arith, rules}
+use Rattle.city_txn.proofs.Prelude.{arith, rules}
 use Rattle.std.proofs.lemmas.Map.Lookups.{exact_bytes}
 use Rattle.city_txn.proofs.undo.Undo.end.Goals as goal
 

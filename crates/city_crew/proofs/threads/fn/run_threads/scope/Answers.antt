@@ -1,4 +1,4 @@
-use denote.Param.Send.{IsSend, sendable}
+use Rattle.city_crew.proofs.Prelude.{IsSend, sendable}
 use Rattle.city_crew.proofs.threads.fn.run_threads.scope.Goals as goal
 
 pub run_workers-made-requires-send-T : goal.run_workers-made-requires-send-T

@@ -1,7 +1,6 @@
-use Rattle.std.proofs.Common.{◌≡◌, ℕ, List, ◌∷◌, ◌++◌}
+use Rattle.city_doc.proofs.Prelude.{◌≡◌, ℕ, List, ◌∷◌, ◌++◌, escape}
 use Rattle.std.specs.Fmt.{HasWritten, IsPlainFormatter}
 use Rattle.std.specs.Str.Iter.{chars_rest}
-use Rattle.json.specs.Print.{escape}
 use Rattle.city_doc.proofs.fault.quoted.QuotedDisplay.fmt.Given as goal
 
 abbrev pub invariant-loop-c : goal.invariant-loop-c

@@ -1,8 +1,5 @@
-use Rattle.std.proofs.Common.{◌≡◌, ◌<◌, ◌^◌, List, ◌++◌, drop, length}
-use Rattle.std.specs.Prelude.{flat_map}
-use Rattle.std.specs.List.{list_all}
-use Rattle.city_model.specs.declared.object.Point.{Point}
-use Rattle.city_doc.specs.inside.Pool.{with_points}
+use Rattle.city_doc.proofs.Prelude.{◌≡◌, ◌<◌, List, ◌++◌, drop, length, flat_map, list_all, Point, with_points}
+use Rattle.std.proofs.Common.{◌^◌}
 use Rattle.city_doc.proofs.tree.WrittenItems.{closing, ReadBack}
 use Rattle.city_doc.proofs.shape.text.SequenceWritten.write.Given as goal
 

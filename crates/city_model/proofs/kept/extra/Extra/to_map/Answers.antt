@@ -1,5 +1,5 @@
-use Rattle.std.proofs.Common.{◌∙◌}
-use Rattle.city_model.proofs.Cloned.{members_view_cloned}
+use Rattle.city_model.proofs.Prelude.{◌∙◌}
+use Rattle.city_model.proofs.MemberLaws.{members_view_cloned}
 use Rattle.city_model.proofs.kept.extra.Extra.to_map.Goals as goal
 
 pub returns-clause-members : goal.returns-clause-members

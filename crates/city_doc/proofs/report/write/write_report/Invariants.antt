@@ -1,6 +1,0 @@
-use Rattle.std.proofs.Common.{◌≡◌, ◌++◌, drop}
-use Rattle.city_doc.specs.report.Reports.{report_text}
-use Rattle.city_doc.proofs.report.write.write_report.Given as goal
-
-abbrev pub invariant-loop-end : goal.invariant-loop-end
-invariant-loop-end l = report_text l.ends ≡ l.report.items ++ report_text (drop l.end-index l.ends)

@@ -1,0 +1,65 @@
+//! Runs scripts on a document where the numbers of both are of any form.
+ghost use Rattle.std.specs.Prelude.{◌≡◌, IfOk, IfErr};
+ghost use Rattle.city_model.specs.SerialEnds.{commits_in};
+ghost use Rattle.city_crew.specs.Seen.{AreSeen};
+ghost use Rattle.city_desk.specs.InTurn.{AreInTurn};
+ghost use Rattle.city_serve.specs.RunOptions.{AreWithin};
+ghost use Rattle.city_serve.specs.ServedTexts.{WhereAlone};
+ghost use Rattle.city_serve.specs.Decimals.{IsGiven, IsDecimalsRun, IsFaultOfDecimalsRun};
+ghost use Rattle.city_serve.specs.inside.WholeTexts.{HasWholeNumbers};
+
+use crate::options::Options;
+use crate::run::run_whole;
+use city_crew::Gate;
+use city_decimals::{DecimalsFault, decode_lines, encode};
+use city_desk::{Output, RunFault};
+use city_doc::MAX_TEXT;
+use city_model::OutOfMemory;
+use std::alloc::Global;
+use std::sync::Wait;
+use std::thread::Threads;
+
+/// Runs the scripts on the document's city, both encoded, and decodes the output.
+///
+/// Each text is let go once it is encoded. A fault is that of the run on the encoded texts; a text that is too long or
+/// no JSON is refused for that. No number is refused for its form.
+pub(crate) fn run_decimals<R: Threads + Wait + Sync, G: Gate + Sync>(
+    rt: &R,
+    alloc: Global,
+    gate: &G,
+    seed: u64,
+    document: Vec<u8>,
+    scripts: Vec<u8>,
+    options: Options,
+) -> Result<Output, RunFault>
+    requires { AreWithin options }
+    ensures ran { IfOk result (λ o. IsDecimalsRun document.items scripts.items o.ends o.bytes.items) }
+    ensures in_turn { IfOk result (λ o. WhereAlone options.workers options.viewers (AreInTurn 0 o.ends)) }
+    ensures seen { IfOk result (λ o. AreSeen options.viewers (commits_in o.ends) o.seen.items) }
+    ensures fault { IfErr result (IsFaultOfDecimalsRun document.items scripts.items options.workers options.viewers) }
+{
+    let model = encoded(alloc, document)?;
+    let commands = encoded(alloc, scripts)?;
+    let output = run_whole(rt, alloc, gate, seed, model, commands, options)?;
+    match decode_lines(alloc, output.bytes.as_slice()) {
+        Ok(bytes) => Ok(Output { bytes, ..output }),
+        // Each line of an output is JSON, so only memory can have run out here.
+        Err(_) => Err(RunFault::OutOfMemory),
+    }
+}
+
+/// What the run is given of a text: the encoded text. A text that is too long or no JSON stays as it is: the run
+/// refuses it.
+fn encoded(alloc: Global, text: Vec<u8>) -> Result<Vec<u8>, OutOfMemory>
+    ensures given { IfOk result (λ v. IsGiven text.items v.items) }
+    ensures whole { IfOk result (λ v. HasWholeNumbers v.items) }
+{
+    if text.len() > MAX_TEXT {
+        return Ok(text);
+    }
+    match encode(alloc, text.as_slice()) {
+        Ok(encoded) => Ok(encoded),
+        Err(DecimalsFault::NotJson) => Ok(text),
+        Err(DecimalsFault::OutOfMemory) => Err(OutOfMemory),
+    }
+}
