@@ -1,5 +1,5 @@
 //! The body of an object, which copies of the object share.
-ghost use Rattle.std.specs.Prelude.{◌≡◌, IfOk, IfSome};
+ghost use Rattle.std.specs.Prelude.{◌≡◌, IfOk};
 
 use crate::OutOfMemory;
 use crate::copied::Copied;
@@ -61,16 +61,6 @@ impl SharedBody {
         match &self.storage {
             Storage::Own(body) => body,
             Storage::Shared(body) => body,
-        }
-    }
-
-    /// The body by itself; none where it is shared. Doesn't allocate.
-    pub fn into_body(self) -> Option<Body>
-        ensures { IfSome result (λ body. body ≡ self) }
-    {
-        match self.storage {
-            Storage::Own(body) => Some(body),
-            Storage::Shared(_) => None,
         }
     }
 }

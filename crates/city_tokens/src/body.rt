@@ -48,5 +48,6 @@ pub fn read_body(alloc: Global, reader: &mut Reader<'_>, depth: usize) -> Option
     };
     let (parts, kept) = read_object(alloc, reader, depth, start)?;
     let object = object_of(parts.object, kept)?;
-    object.body.into_body()
+    let (body, _parents, _children) = object.into_parts();
+    Some(body)
 }

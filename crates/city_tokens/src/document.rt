@@ -13,6 +13,7 @@ ghost use Rattle.city_tokens.specs.inside.Tops.{IsTopSoFar, IsTop, IsCity};
 
 use crate::frame::frame_of_rest;
 use crate::list::FromTokens;
+use crate::object::UnplacedObject;
 use crate::objects::read_objects;
 use crate::own::{Own, read_object};
 use crate::placing::placed_objects;
@@ -20,7 +21,6 @@ use crate::vertices::Vertex;
 use crate::whole_text::read_whole_text;
 use city_model::city::City;
 use city_model::members::member;
-use city_model::object::Object;
 use city_model::sequence::Sequence;
 use city_model::text::Id;
 use json::Reader;
@@ -30,7 +30,7 @@ use std::alloc::Global;
 /// What was read of the members of a document's top so far.
 #[derive(Drop)]
 pub struct TopParts {
-    pub objects: Option<Sequence<(Id, Object)>>,
+    pub objects: Option<Sequence<(Id, UnplacedObject)>>,
     pub vertices: Option<Sequence<Vertex>>,
 }
 

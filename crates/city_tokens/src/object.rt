@@ -9,15 +9,15 @@ use crate::list::FromTokens;
 use crate::own::{Own, read_object as read_members};
 use crate::text::read_str;
 use city_model::kept::extra::Extra;
-use city_model::object::{Body, Geometry, Object};
+use city_model::object::{Body, Geometry};
 use city_model::object_type::{ObjectType, type_named};
 use city_model::sequence::Sequence;
-use city_model::shared_body::SharedBody;
 use city_model::shared_ids::SharedIds;
 use city_model::text::Id;
 use json::Reader;
 use serde_json::{Map, Value};
 use std::alloc::Global;
+use std::marker::Model;
 
 /// What was read of an object so far.
 #[derive(Drop)]
@@ -69,26 +69,56 @@ fn read_ids(alloc: Global, reader: &mut Reader<'_>, depth: usize) -> Option<Shar
     SharedIds::from_sequence(alloc, ids).ok()
 }
 
+/// An object whose positions aren't replaced by points yet, with a body of its own. Contracts see the object.
+#[derive(Drop)]
+pub struct UnplacedObject {
+    body: Body,
+    parents: SharedIds,
+    children: SharedIds,
+}
+
+impl Model for UnplacedObject {
+    ghost use Rattle.city_model.specs.declared.object.Object.{Object};
+    ghost use Rattle.std.specs.Coded.{codes};
+    ghost use Rattle.city_model.specs.inside.DataCode.{coded_members};
+
+    ghost Value = { Object };
+
+    ghost coded = { Prim.hlevel (codes, coded_members) };
+
+    ghost view = { λ o. record { body = o.body; parents = o.parents; children = o.children } };
+}
+
+impl UnplacedObject {
+    /// The body, the parents and the children. Doesn't allocate.
+    pub fn into_parts(self) -> (Body, SharedIds, SharedIds)
+        ensures { result ≡ (self.body, self.parents, self.children) }
+    {
+        (self.body, self.parents, self.children)
+    }
+}
+
 /// The object of what was read of all its members, and of the kept ones.
-pub fn object_of(parts: ObjectParts, kept: Map<String, Value>) -> Option<Object>
+pub fn object_of(parts: ObjectParts, kept: Map<String, Value>) -> Option<UnplacedObject>
     ensures { IfSome result (λ o. (found : Members)
         → IsObjectSoFar parts found (members_view kept.entries) → IsObject o (object found)) }
 {
     let kind = parts.kind?;
     let extra = Extra::new(kept).ok()?;
-    Some(Object {
-        body: SharedBody::unshared(Body {
-            kind,
-            geometry: parts.geometry,
-            extra,
-        }),
+    let body = Body {
+        kind,
+        geometry: parts.geometry,
+        extra,
+    };
+    Some(UnplacedObject {
+        body,
         parents: parts.parents,
         children: parts.children,
     })
 }
 
 /// The next value, which is an object of a city.
-pub fn read_object(alloc: Global, reader: &mut Reader<'_>, depth: usize) -> Option<Object>
+pub fn read_object(alloc: Global, reader: &mut Reader<'_>, depth: usize) -> Option<UnplacedObject>
     ensures { IfSome result (λ o. IsReadAs IsObject o depth reader.old reader.new) }
 {
     let start = ObjectParts {

@@ -3,10 +3,9 @@ ghost use Rattle.std.specs.Prelude.{◌≡◌, IfSome};
 ghost use Rattle.city_tokens.specs.inside.Objects.{AreObjects, IsListingSoFar};
 ghost use Rattle.city_tokens.specs.inside.Standing.{IsReadAs};
 
-use crate::object::read_object;
+use crate::object::{UnplacedObject, read_object};
 use crate::own::{Own, read_object as read_members};
 use crate::text::text_of;
-use city_model::object::Object;
 use city_model::sequence::Sequence;
 use city_model::text::Id;
 use json::Reader;
@@ -15,7 +14,7 @@ use std::alloc::Global;
 /// The objects so far, one after another as the text has them.
 #[derive(Drop)]
 pub struct Listing {
-    pub objects: Sequence<(Id, Object)>,
+    pub objects: Sequence<(Id, UnplacedObject)>,
 }
 
 impl Own for Listing {
@@ -40,7 +39,7 @@ pub fn read_objects(
     alloc: Global,
     reader: &mut Reader<'_>,
     depth: usize,
-) -> Option<Sequence<(Id, Object)>>
+) -> Option<Sequence<(Id, UnplacedObject)>>
     ensures { IfSome result (λ es. IsReadAs AreObjects es depth reader.old reader.new) }
 {
     let start = Listing {

@@ -13,6 +13,7 @@ ghost use Rattle.city_tokens.specs.inside.Positions.{IsPlaced, IsPosition, point
 ghost use Rattle.city_tokens.specs.inside.Standing.{Pairs, IsArrayOf};
 ghost use Rattle.city_tokens.specs.tree.Lists.{list_of};
 
+use crate::object::UnplacedObject;
 use crate::vertices::Vertex;
 use city_model::body_fault::body_fault;
 use city_model::object::{Geometry, Object, Point, Shape};
@@ -100,11 +101,11 @@ impl Places for Geometry {
 
 /// Puts points in the places of an object's positions; none where a position names no vertex, or
 /// where the object's body has a fault, which is judged at once.
-fn place_object(alloc: Global, vertices: &[Vertex], object: Object) -> Option<Object>
+fn place_object(alloc: Global, vertices: &[Vertex], object: UnplacedObject) -> Option<Object>
     ensures placed { IfSome result (λ placed. IsPlaced IsObject (object_of (points_of vertices.now)) object placed) }
     ensures faultless { IfSome result (λ placed. body_fault placed.body ≡ None) }
 {
-    let mut body = object.body.into_body()?;
+    let (mut body, parents, children) = object.into_parts();
     body.geometry.place(alloc, vertices)?;
     let Ok(None) = body_fault(alloc, &body) else {
         return None;
@@ -112,8 +113,8 @@ fn place_object(alloc: Global, vertices: &[Vertex], object: Object) -> Option<Ob
     let body = SharedBody::new(alloc, body).ok()?;
     Some(Object {
         body,
-        parents: object.parents,
-        children: object.children,
+        parents,
+        children,
     })
 }
 
@@ -122,7 +123,7 @@ fn place_object(alloc: Global, vertices: &[Vertex], object: Object) -> Option<Ob
 fn place_each(
     alloc: Global,
     vertices: &[Vertex],
-    unplaced: Vec<(Id, Object)>,
+    unplaced: Vec<(Id, UnplacedObject)>,
 ) -> Option<Vec<(Id, Object)>>
     ensures { IfSome result (λ placed. Pairs (IsPlacedObject (points_of vertices.now)) unplaced.items placed.items) }
 {
@@ -142,7 +143,7 @@ fn place_each(
 pub fn placed_objects(
     alloc: Global,
     vertices: &[Vertex],
-    listed: Sequence<(Id, Object)>,
+    listed: Sequence<(Id, UnplacedObject)>,
 ) -> Option<BTreeMap<Id, Object>>
     ensures placed { IfSome result (λ objects. (found : Members) → IsListing listed found
         → entries_of (points_of vertices.now) found ≡ Some objects.entries) }

@@ -1,4 +1,4 @@
-use Rattle.city_tokens.proofs.Prelude.{◌≡◌, Body, IsGeometry, IsPlaced, points_of, IsArrayOf, geometry_of, list_of}
+use Rattle.city_tokens.proofs.Prelude.{◌≡◌, Body, IsGeometry, IsPlaced, points_of, IsArrayOf, geometry_of, list_of, ap}
 use Rattle.city_tokens.proofs.Options.{given}
 use Rattle.city_tokens.proofs.PlacedParts.{object_placed}
 use Rattle.city_tokens.proofs.placing.place_object.Goals as goal
@@ -7,10 +7,11 @@ pub returns-clause-placed : goal.returns-clause-placed
 returns-clause-placed c d is =
     let o = c.args.object in
     let geometry = c.place.new.self in
-    let own : c.in_ok-body.body ≡ o.body = c.in_ok-body.ensures in
+    let read = c.into_parts-body.result.0 in
+    let own : read ≡ o.body = ap (λ parts. parts.0) c.into_parts-body.ensures in
     let placed : IsPlaced (IsArrayOf IsGeometry) (list_of (geometry_of (points_of c.args.vertices.now)))
     o.body.geometry geometry = rw own at c.in_ok-place.ensures in
     let put : Body → Body = λ b. record { kind = b.kind; geometry = geometry; extra = b.extra } in
-    let shared : c.in_ok-body-2.body ≡ put c.in_ok-body.body = given c.new.result c.ok.result c.in_ok-body-2.body
-    (λ b. b ≡ put c.in_ok-body.body) c.ok.ensures.value c.in_ok-body-2.was c.new.ensures in
-    rw (shared, own) (object_placed _ o geometry placed d is)
+    let shared : c.in_ok-body.body ≡ put read = given c.new.result c.ok.result c.in_ok-body.body
+    (λ b. b ≡ put read) c.ok.ensures.value c.in_ok-body.was c.new.ensures in
+    rw (shared, c.into_parts-body.ensures) (object_placed _ o geometry placed d is)
