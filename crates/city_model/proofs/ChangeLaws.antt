@@ -1,18 +1,16 @@
 -- What a change whose ids ascend makes of a map.
 use Rattle.city_model.proofs.Prelude.{arith, ◌≡◌, ℕ, List, [], ◌∷◌, true, false, Option, Some, None, Less, refl}
-use Rattle.city_model.proofs.Prelude.{if◌then◌else◌, nat_cmp, eq_by_cmp, AllByRecursion, slice_cmp, keys_of, is_at}
-use Rattle.city_model.proofs.Prelude.{false≢true, nat_list_cmp_total, lookup-none, IsDistinct-from_sorted, Object}
+use Rattle.city_model.proofs.Prelude.{if◌then◌else◌, nat_cmp, AllByRecursion, slice_cmp, keys_of, ap, ◌∙◌, AreDistinct}
+use Rattle.city_model.proofs.Prelude.{false≢true, Object}
 use Rattle.city_model.proofs.Prelude.{CityMap, changed, same_id, has_id, is_orphan_there, HasNoOrphan, IsLeastOrphan}
 use Rattle.city_model.proofs.Prelude.{Change, after_change}
 use Rattle.std.specs.Option.{unwrap_or}
 use Rattle.std.specs.List.Sorted.{IsStrictlySortedBy}
-use Rattle.std.proofs.lemmas.Cmp.{eq_by_cmp_equiv}
-use Rattle.std.proofs.lemmas.Map.Entries.{none_past_head}
 use Rattle.std.proofs.lemmas.Map.Keys.{sorted_tail}
 use Rattle.city_model.specs.Writing.{write_in, set_by}
 use Rattle.city_model.proofs.FirstEntry.{first_that, least_that, none_that}
-use Rattle.city_model.proofs.IdLists.{bool_cases}
-use Rattle.city_model.proofs.Ids.{same_id_true, same_id_back}
+use Rattle.city_model.proofs.IdLists.{bool_cases, not_both}
+use Rattle.city_model.proofs.Ids.{same_id_true, same_id_back, same_id_itself}
 use Rattle.city_model.proofs.Writing.{same_map}
 
 -- each id is below those after it
@@ -31,19 +29,33 @@ pub first_once : (w : List ℕ × Option Object) (c : Change) (q : List ℕ) →
 unfolding IsStrictlySortedBy
 first_once w c q ascends h = below_is_none w.0 (keys_of c) q ascends.0 h
 
--- at an id the map has what the change writes there, or else what it had
-pub at_change : (c : Change) (m : CityMap) (q : List ℕ) → Ascends c
+each_once : (c : Change) → Ascends c → AreDistinct (keys_of c)
+each_once [] ascends = tt
+each_once (w ∷ ws) ascends = (
+  bool_cases (has_id (keys_of ws) w.0)
+      (λ t. not_both (same_id w.0 w.0) (same_id_itself w.0) (first_once w ws w.0 ascends t)) (λ t. t),
+  each_once ws (sorted_tail (slice_cmp nat_cmp) w.0 (keys_of ws) ascends),
+)
+
+unwritten : (c : Change) (q : List ℕ) → has_id (keys_of c) q ≡ false → write_in c q ≡ None
+unwritten [] q h = refl
+unwritten (w ∷ ws) q h = grind (arith, unwritten ws q)
+
+-- where each id is written once, it makes no difference that `write_in` takes the first pair of an id, and
+-- `after_change` the last: at an id the map has what the change writes there, or else what it had
+pub one_rule : (c : Change) (m : CityMap) (q : List ℕ) → AreDistinct (keys_of c)
     → after_change m c q ≡ unwrap_or (write_in c q) (m q)
-at_change [] m q ascends = refl
-at_change (w ∷ ws) m q ascends =
-    let rest = at_change ws (changed m w.0 w.1) q (sorted_tail (slice_cmp nat_cmp) w.0 (keys_of ws) ascends) in
+one_rule [] m q once = refl
+one_rule (w ∷ ws) m q once =
+    let rest = one_rule ws (changed m w.0 w.1) q once.1 in
     bool_cases (same_id q w.0)
-    (λ t. let none : write_in ws q ≡ None =
-    lookup-none (is_at (slice_cmp nat_cmp q)) ws
-    (none_past_head {eq = eq_by_cmp (slice_cmp nat_cmp)} (eq_by_cmp_equiv nat_list_cmp_total) q w ws
-    (IsDistinct-from_sorted (slice_cmp nat_cmp) (keys_of (w ∷ ws)) ascends) t) in
+    (λ t. let none = unwritten ws q (ap (has_id (keys_of ws)) (same_id_true q w.0 t) ∙ once.0) in
     grind (arith, rest, none, same_id_back w.0 q, t))
     (λ t. grind (arith, rest, same_id_back w.0 q, t))
+
+pub at_change : (c : Change) (m : CityMap) (q : List ℕ) → Ascends c
+    → after_change m c q ≡ unwrap_or (write_in c q) (m q)
+at_change c m q ascends = one_rule c m q (each_once c ascends)
 
 -- one more write, in place of what was written at its id
 pub written_more : (c d : Change) (id : List ℕ) (w : Option Object) → Ascends c → Ascends d

@@ -101,10 +101,11 @@ IsSerialHistory scripts m ends = IsSerialHistoryFrom scripts m 0 ends
 
 -- ---- changes
 
--- what a commit writes: ids, each with the object that it has afterwards, or none
+-- what a commit writes: ids, each once, each with the object that it has afterwards, or none
 abbrev pub Change : Type 0
 Change = List (List ℕ × Option Object)
 
+-- the map after its pairs, one after another; `write_in` of `Writing` says what that is at one id
 abbrev pub after_change : CityMap → Change → CityMap
 after_change m [] = m
 after_change m (w ∷ ws) = after_change (changed m w.0 w.1) ws

@@ -9,7 +9,9 @@ use Rattle.city_model.specs.declared.object.Object.{Object}
 use Rattle.city_model.specs.CityMap.{CityMap, Objects}
 use Rattle.city_model.specs.Runs.{Change, after_change}
 
--- what it writes at the id: an object, or that none is there; or nothing
+-- what it writes at the id: an object, or that none is there; or nothing. It is the first pair of the id, and
+-- `after_change` ends with the last: a change that a contract shows has each id once, and then the map after it has
+-- this at the id, and where it is nothing, what stood there (`Change::iter`, clause `map`)
 abbrev pub write_in : Change → List ℕ → Option (Option Object)
 write_in change id = lookup (is_at (slice_cmp nat_cmp id)) change
 

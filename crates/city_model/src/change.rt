@@ -2,6 +2,7 @@
 ghost use Rattle.std.specs.Prelude.{◌≡◌, ◌++◌, ℕ, List, [], Some, length, option_to_list, IfNone, OnOk, OnErr, if◌then◌else◌};
 ghost use Rattle.std.specs.List.Sorted.{IsStrictlySortedBy};
 ghost use Rattle.std.specs.Map.{keys_of};
+ghost use Rattle.std.specs.Option.{unwrap_or};
 ghost use Rattle.std.specs.Ordering.{nat_cmp};
 ghost use Rattle.std.specs.Cmp.Lexicographic.{slice_cmp};
 ghost use Rattle.city_model.specs.CityMap.{CityMap, changed, same_id};
@@ -63,9 +64,13 @@ impl Change {
     }
 
     /// The pairs of id and object, the ids in byte order. Doesn't allocate.
+    ///
+    /// Since each id is there once, a map after the change has at an id what is written there, and where nothing is,
+    /// what it had.
     pub fn iter(&self) -> btree_map::Iter<'_, Id, Option<Object>>
         ensures pairs { result ≡ self.now }
         ensures in_byte_order { IsStrictlySortedBy (slice_cmp nat_cmp) (keys_of self.now) }
+        ensures map { (m : CityMap) (q : List ℕ) → after_change m self.now q ≡ unwrap_or (write_in self.now q) (m q) }
     {
         self.writes.iter()
     }
