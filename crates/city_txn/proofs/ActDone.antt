@@ -6,7 +6,7 @@ use Rattle.city_txn.proofs.Prelude.{locks_id_exclusively, seen_next, answer, Loc
 use Rattle.city_txn.proofs.Prelude.{committed, written, snapshot, is_open, held, StandsUnderLocks, refused_stays}
 use Rattle.city_txn.proofs.Prelude.{core_state, IsCore, IsWrittenUnder, written_next, IsPerform}
 use Rattle.std.proofs.Common.{◌≢◌, Err}
-use Rattle.std.specs.Prelude.{if◌then◌else◌, IfOk, IfErr, OnOk, IsOk, IsErr}
+use Rattle.std.specs.Prelude.{if◌then◌else◌, IfOk, IfErr, OnOk, IsOk}
 use Rattle.std.proofs.lemmas.Result.{on_ok_weaker}
 use Rattle.city_txn.specs.inside.Prelude.{Answers, effect, is_end, AllHeld, Answer, Granted, held_in, granted_before}
 use Rattle.city_txn.specs.inside.Prelude.{GainsFirst, IsBlocked, HoldsLock, Asked, Step, TxnFault, NotOpen, OutOfMemory}
@@ -124,7 +124,7 @@ module _ {s : ℕ} {c : Command} {was_open : Bool} {a : Inside} {u : CoreState} 
           (all : is_done result ≡ true → AllHeld (held_in ks s) ls)
           (step : IfOk result (λ step. step ≡ step_of (answer_in v s c) reply)) where
         acts : IfErr result (λ e. e ≡ (if is_open v s then OutOfMemory else NotOpen s))
-            → (is_open v s ≡ false → IsErr result)
+            → (is_open v s ≡ false → (result ≡ Err (NotOpen s)) × (w ≡ v))
             → (is_open v s ≡ true → answer_in v s c ≢ Granted → AllHeld (held v s) (granted_in v s c) → IsOk result)
             → (is_open v s ≡ true → reply ≡ WentBack → IsOk result)
             → OnOk result (IsBlocked (λ t. is_open v t ≡ true) s (answer_in v s c))

@@ -1,7 +1,7 @@
 -- What a command does to a core.
 use Rattle.std.specs.Prelude.{◌≡◌, ◌≢◌, ◌==◌, ◌&&◌, not, ℕ, Bool, true, false, List, [], ◌∷◌, ◌++◌, Some}
 use Rattle.std.specs.Prelude.{if◌then◌else◌}
-use Rattle.std.specs.Prelude.{Result, Ok, Err, IfOk, IfErr, OnOk, IsOk, IsErr}
+use Rattle.std.specs.Prelude.{Result, Ok, Err, IfOk, IfErr, OnOk, IsOk}
 use Rattle.city_model.specs.declared.command.Command.{Command}
 use Rattle.city_model.specs.declared.command.Command.TheVariants.{Commit}
 use Rattle.city_model.specs.declared.command.Cause.{Cause}
@@ -75,7 +75,8 @@ pub record IsAct (stamp : ℕ) (command : Command) (result : Result Step TxnFaul
   -- done where each lock is granted, and else the answer of the first that isn't
   pub step : IfOk result (λ step. step ≡ step_of (answer_in old stamp command) reply)
   pub fault : IfErr result (λ fault. fault ≡ (if is_open old stamp then OutOfMemory else NotOpen stamp))
-  pub not_open : is_open old stamp ≡ false → IsErr result
+  -- where the stamp isn't open it answers that, and nothing changes
+  pub not_open : is_open old stamp ≡ false → (result ≡ Err (NotOpen stamp)) × (new ≡ old)
   -- being out of memory hides no Wait and no Die, if it holds the locks before
   pub answered : is_open old stamp ≡ true → answer_in old stamp command ≢ Granted
       → AllHeld (held old stamp) (granted_in old stamp command) → IsOk result
