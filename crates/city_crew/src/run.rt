@@ -43,11 +43,12 @@ pub const MAX_WORKERS: usize = 16;
 /// the order of the ends. A script that runs out of memory ends as `NoMemory` and changes nothing.
 ///
 /// For each viewer `seen` has the number of changes at its first look, and then each larger number
-/// that it saw; the last look comes after all workers have ended.
+/// that it saw; the last look comes after all workers have ended, and has all. So each number is that
+/// of the commits among the first so many ends.
 ///
 /// It answers `OutOfMemory` also if a thread couldn't be made, `NoPlace` if a viewer's seat or
 /// look was refused, `Unfinished` if a script hadn't ended when the workers had, and `Mixed` if
-/// what was gathered then isn't of these texts, or a viewer is missing or saw too little.
+/// what was gathered then isn't of these texts, or a viewer is missing or didn't see just all commits at last.
 pub fn run_crew<R: Threads + Wait + Sync, G: Gate + Sync>(
     rt: &R,
     alloc: Global,
