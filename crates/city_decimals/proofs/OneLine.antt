@@ -1,6 +1,6 @@
 -- Lines, one after another.
 use Rattle.city_decimals.proofs.Prelude.{◌≡◌, ℕ, ◌+◌, ◌<◌, List, [], ◌∷◌, ◌++◌, length, take, drop, get_or, ap, arith}
-use Rattle.city_decimals.proofs.Prelude.{append_assoc, IsDecoded, IsDecimalsFault, AreDecodedLines, IsLinesFault}
+use Rattle.city_decimals.proofs.Prelude.{append_assoc, IsDecodedLine, IsFaultTo, AreDecodedLines, IsLinesFault}
 use Rattle.city_decimals.proofs.Prelude.{DecimalsFault}
 use Rattle.std.proofs.Math.Seq.{split_at}
 use Rattle.city_decimals.specs.Lines.{HasNoNewline}
@@ -9,7 +9,7 @@ use Rattle.city_decimals.specs.Lines.{HasNoNewline}
 pub rest_of : (xs : List ℕ) (n : ℕ) → n < length xs → get_or xs n 0 ≡ 10 → xs ≡ take n xs ++ 10 ∷ drop (n + 1) xs
 rest_of xs n h e = search (arith, split_at)
 
-pub one_line : (line out rest more : List ℕ) → HasNoNewline line → IsDecoded line out → AreDecodedLines rest more
+pub one_line : (line out rest more : List ℕ) → HasNoNewline line → IsDecodedLine line out → AreDecodedLines rest more
     → AreDecodedLines (line ++ 10 ∷ rest) (out ++ 10 ∷ more)
 one_line line out rest more h r all =
     record {
@@ -21,9 +21,10 @@ one_line line out rest more h r all =
       out_is = ap (λ t. out ++ 10 ∷ t) all.out_is;
     }
 
-pub line_fault : (text before line after : List ℕ) (f : DecimalsFault) → text ≡ before ++ (line ++ 10 ∷ after)
-    → IsDecimalsFault line f → IsLinesFault text f
-line_fault text before line after f e h = grind arith
+pub line_fault : (limit : ℕ) (text before line after : List ℕ) (f : DecimalsFault)
+    → text ≡ before ++ (line ++ 10 ∷ after)
+    → IsFaultTo limit line f → IsLinesFault limit text f
+line_fault limit text before line after f e h = grind arith
 
 -- the text up to the end of the line
 pub done_with : (before line after : List ℕ) → before ++ (line ++ 10 ∷ after) ≡ (before ++ (line ++ 10 ∷ [])) ++ after

@@ -11,15 +11,17 @@ use memchr::memchr;
 use std::alloc::Global;
 
 /// The text with each line decoded. What stands after the last newline stays as it is.
-pub fn decode_lines(alloc: Global, bytes: &[u8]) -> Result<Vec<u8>, DecimalsFault>
+///
+/// Arrays and objects of a line may nest `depth` deep. The stack has to be enough for that, or for what the lines nest.
+pub fn decode_lines(alloc: Global, bytes: &[u8], depth: usize) -> Result<Vec<u8>, DecimalsFault>
     ensures decoded { IfOk result (λ out. AreDecodedLines bytes.now out.items) }
-    ensures fault { IfErr result (λ f. IsLinesFault bytes.now f) }
+    ensures fault { IfErr result (λ f. IsLinesFault depth bytes.now f) }
 {
     let mut scratch = Scratch::new(alloc);
     let mut out = Vec::with_capacity(alloc, bytes.len())?;
     let mut rest = bytes;
     while let Some(at) = first_newline(rest) {
-        out = change_onto(alloc, Way::Decode, &rest[..at], &mut scratch, out)?;
+        out = change_onto(alloc, Way::Decode, &rest[..at], depth, &mut scratch, out)?;
         out.extend_from_slice(b"\n")?;
         rest = &rest[at + 1..];
     }

@@ -41,7 +41,8 @@ pub(crate) fn run_decimals<R: Threads + Wait + Sync, G: Gate + Sync>(
     let model = encoded(alloc, document)?;
     let commands = encoded(alloc, scripts)?;
     let output = run_whole(rt, alloc, gate, seed, model, commands, options)?;
-    match decode_lines(alloc, output.bytes.as_slice()) {
+    let depth = output.bytes.len();
+    match decode_lines(alloc, output.bytes.as_slice(), depth) {
         Ok(bytes) => Ok(Output { bytes, ..output }),
         // Each line of an output is JSON, so only memory can have run out here.
         Err(_) => Err(RunFault::OutOfMemory),

@@ -1,6 +1,6 @@
 use Rattle.city_decimals.proofs.Prelude.{rules, ◌≡◌, ◌+◌, ◌-◌, ◌∷◌, [], ◌++◌, length, take, drop, sym, ap, ◌∙◌, subst}
 use Rattle.city_decimals.proofs.Prelude.{arith, take_all, length-drop, append_assoc, AreDecodedLines, IsLinesFault}
-use Rattle.city_decimals.proofs.Prelude.{IsDecimalsFault, DecimalsFault}
+use Rattle.city_decimals.proofs.Prelude.{IsFaultTo, DecimalsFault}
 use Rattle.std.specs.Prelude.{Result, IfErr}
 use Rattle.std.specs.Result.{IsErrAnd}
 use Rattle.city_decimals.proofs.Changes.{changed_decoded}
@@ -30,7 +30,7 @@ loop-at-preserved c =
       );
       ready = λ more h.
           let one = subst (λ r. AreDecodedLines r (made
-          ++ 10 ∷ more)) (sym all_is) (one_line line made after more found.2 (changed_decoded line made d.1) h) in
+          ++ 10 ∷ more)) (sym all_is) (one_line line made after more found.2 (changed_decoded c.args.depth line made d.1) h) in
           subst (AreDecodedLines c.args.bytes.now) (done_with l.out.items made more
           ∙ ap (λ t. t ++ more) (sym written)) (l.invariant.ready (made ++ 10 ∷ more) one);
     }
@@ -46,9 +46,9 @@ returns-in_err-out-2-clause-fault c =
     let n = c.in-Some.at in
     let found = c.in-Some.ensures in
     let text = l.invariant.done.1 ∙ ap (λ t. l.invariant.done.0 ++ t) (rest_of all n found.0 found.1) in
-    let fault : (f : DecimalsFault) → IsDecimalsFault (take n all) f
-    → IsLinesFault c.args.bytes.now f = λ f. line_fault c.args.bytes.now l.invariant.done.0 (take n all) (drop
+    let fault : (f : DecimalsFault) → IsFaultTo c.args.depth (take n all) f
+    → IsLinesFault c.args.depth c.args.bytes.now f = λ f. line_fault c.args.depth c.args.bytes.now l.invariant.done.0 (take n all) (drop
     (n + 1) all) f text in
     fault_kept c.from_residual-in_err-out-2.result c.in_err-out-2.field-0.0
-    (IsLinesFault c.args.bytes.now) c.from_residual-in_err-out-2.ensures.1
+    (IsLinesFault c.args.depth c.args.bytes.now) c.from_residual-in_err-out-2.ensures.1
     (fault c.in_err-out-2.field-0.0 c.in_err-out-2.ensures.fault)
