@@ -38,8 +38,9 @@ pub record AreDecodedLines (text out : List ℕ) : Type 0 where
   pub text_is : text ≡ first_text pairs rest
   pub out_is : out ≡ second_text pairs rest
 
--- `OutOfMemory` may be answered for any text; any other fault says that a line isn't JSON, or nests deeper
+-- `OutOfMemory` may be answered for any text; any other fault says that a line isn't JSON, or nests deeper, and that
+-- those before it are decoded
 abbrev pub IsLinesFault : ℕ → List ℕ → DecimalsFault → Type 0
 IsLinesFault limit text OutOfMemory = Unit {0}
-IsLinesFault limit text NotJson = (before : List ℕ) × (line : List ℕ) × (after : List ℕ)
-    × (text ≡ before ++ (line ++ 10 ∷ after)) × IsFaultTo limit line NotJson
+IsLinesFault limit text NotJson = (pairs : List (List ℕ × List ℕ)) × (line : List ℕ) × (after : List ℕ)
+    × ArePairs pairs × HasNoNewline line × (text ≡ first_text pairs (line ++ 10 ∷ after)) × IsFaultTo limit line NotJson
