@@ -44,3 +44,22 @@ abbrev pub IsLinesFault : ℕ → List ℕ → DecimalsFault → Type 0
 IsLinesFault limit text OutOfMemory = Unit {0}
 IsLinesFault limit text NotJson = (pairs : List (List ℕ × List ℕ)) × (line : List ℕ) × (after : List ℕ)
     × ArePairs pairs × HasNoNewline line × (text ≡ first_text pairs (line ++ 10 ∷ after)) × IsFaultTo limit line NotJson
+
+-- ---- texts that are never refused
+
+abbrev pub AreJson : ℕ → List (List ℕ) → Type 0
+AreJson limit [] = Unit {0}
+AreJson limit (line ∷ lines) = HasNoNewline line × ((j : Json) × IsValueTo limit j line) × AreJson limit lines
+
+-- lines, each with its newline, and what stands after them
+abbrev pub lines_text : List (List ℕ) → List ℕ → List ℕ
+lines_text [] rest = rest
+lines_text (line ∷ lines) rest = line ++ 10 ∷ lines_text lines rest
+
+-- each line of the text is JSON that nests no deeper
+pub record HasJsonLines (limit : ℕ) (text : List ℕ) : Type 0 where
+  pub lines : List (List ℕ)
+  pub rest : List ℕ
+  pub json : AreJson limit lines
+  pub last : HasNoNewline rest
+  pub text_is : text ≡ lines_text lines rest

@@ -1,7 +1,8 @@
 //! Decodes a text line by line, as a report and a model stand in it.
 ghost use Rattle.std.specs.Prelude.{◌≡◌, IfOk, IfErr};
-ghost use Rattle.city_decimals.specs.Lines.{AreDecodedLines, IsLinesFault};
+ghost use Rattle.city_decimals.specs.Lines.{AreDecodedLines, IsLinesFault, HasJsonLines};
 ghost use Rattle.city_decimals.specs.inside.Newlines.{IsFirstNewline};
+ghost use Rattle.city_decimals.specs.declared.fault.DecimalsFault.TheVariants.{OutOfMemory};
 
 use crate::change::change_onto;
 use crate::fault::DecimalsFault;
@@ -16,6 +17,9 @@ use std::alloc::Global;
 pub fn decode_lines(alloc: Global, bytes: &[u8], depth: usize) -> Result<Vec<u8>, DecimalsFault>
     ensures decoded { IfOk result (λ out. AreDecodedLines bytes.now out.items) }
     ensures fault { IfErr result (λ f. IsLinesFault depth bytes.now f) }
+
+    // Where each line is JSON that nests no deeper, only memory can run out.
+    ensures memory { HasJsonLines depth bytes.now → IfErr result (λ f. f ≡ OutOfMemory) }
 {
     let mut scratch = Scratch::new(alloc);
     let mut out = Vec::with_capacity(alloc, bytes.len())?;

@@ -4,6 +4,9 @@ use Rattle.city_decimals.proofs.Prelude.{IsFaultTo, DecimalsFault}
 use Rattle.std.specs.Prelude.{Result, IfErr}
 use Rattle.std.specs.Result.{IsErrAnd}
 use Rattle.city_decimals.proofs.Changes.{changed_decoded}
+use Rattle.std.proofs.lemmas.Result.{IfErr-weaker}
+use Rattle.city_decimals.specs.declared.fault.DecimalsFault.TheVariants.{OutOfMemory}
+use Rattle.city_decimals.proofs.JsonLines.{memory_alone}
 use Rattle.city_decimals.proofs.OneLine.{rest_of, one_line, line_fault, later_fault, done_with}
 use Rattle.city_decimals.proofs.lines.decode_lines.Goals as goal
 
@@ -50,3 +53,8 @@ returns-in_err-out-2-clause-fault c =
     fault_kept c.from_residual-in_err-out-2.result c.in_err-out-2.field-0.0
     (IsLinesFault c.args.depth c.args.bytes.now) c.from_residual-in_err-out-2.ensures.1
     (fault c.in_err-out-2.field-0.0 c.in_err-out-2.ensures.fault)
+
+pub returns-in_err-out-2-clause-memory : goal.returns-in_err-out-2-clause-memory
+returns-in_err-out-2-clause-memory c json =
+    IfErr-weaker c.from_residual-in_err-out-2.result (IsLinesFault c.args.depth c.args.bytes.now) (λ f. f ≡ OutOfMemory)
+    (λ f. memory_alone c.args.depth c.args.bytes.now f json) (returns-in_err-out-2-clause-fault c)
