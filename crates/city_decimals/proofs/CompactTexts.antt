@@ -1,9 +1,10 @@
 -- A compact text is the print of its value, and what is copied of it that of the decoded value.
 use Rattle.city_decimals.proofs.Prelude.{◌≤◌, Some, ◌≡◌, ℕ, [], ◌∷◌, ◌++◌, false, refl, sym, ap, ◌∙◌, arith}
 use Rattle.city_decimals.proofs.Prelude.{append_assoc, append-nil, IsUtf8, null, boolean, number, string, array, object}
-use Rattle.city_decimals.proofs.Prelude.{Items, no_items, item, Members, no_members, member, value, if_last, document_to, print}
-use Rattle.city_decimals.proofs.Prelude.{quoted, items_tokens, members_tokens, depth, option_and_then, HasNumbers, items_text}
-use Rattle.city_decimals.proofs.Prelude.{members_text, IsUntagged, top_changed, IsChanged, members_changed, Way}
+use Rattle.city_decimals.proofs.Prelude.{Items, no_items, item, Members, no_members, member, value, if_last}
+use Rattle.city_decimals.proofs.Prelude.{document_to, print, quoted, items_tokens, members_tokens, depth}
+use Rattle.city_decimals.proofs.Prelude.{option_and_then, HasNumbers, items_text, members_text, IsUntagged}
+use Rattle.city_decimals.proofs.Prelude.{top_changed, IsChanged, members_changed, Way}
 use Rattle.std.proofs.Common.{List, Bool, true}
 use Rattle.json.specs.Token.{Token}
 use Rattle.json.specs.Json.{Json}

@@ -1,6 +1,6 @@
 -- Lines, one after another.
-use Rattle.city_decimals.proofs.Prelude.{◌≡◌, ℕ, ◌+◌, ◌<◌, List, [], ◌∷◌, ◌++◌, length, take, drop, get_or, ap, refl, arith}
-use Rattle.city_decimals.proofs.Prelude.{append_assoc, IsDecodedLine, IsFaultTo, AreDecodedLines, IsLinesFault}
+use Rattle.city_decimals.proofs.Prelude.{◌≡◌, ℕ, ◌+◌, ◌<◌, List, [], ◌∷◌, ◌++◌, length, take, drop, get_or, ap, refl}
+use Rattle.city_decimals.proofs.Prelude.{arith, append_assoc, IsDecodedLine, IsFaultTo, AreDecodedLines, IsLinesFault}
 use Rattle.city_decimals.proofs.Prelude.{DecimalsFault}
 use Rattle.std.proofs.Math.Seq.{split_at}
 use Rattle.city_decimals.specs.declared.fault.DecimalsFault.TheVariants.{OutOfMemory, NotJson}

@@ -25,15 +25,16 @@ loop-at-preserved c =
     let all_is : all ≡ line ++ 10 ∷ after = rest_of all n found.0 found.1 ∙ ap (λ t. line ++ 10 ∷ t) (sym same) in
     let written : c.extend_from_slice.new.self.items ≡ l.out.items ++ (made ++ 10 ∷ [])
     = c.in_ok-extend_from_slice.ensures.items ∙ ap (λ t. t ++ 10 ∷ []) d.3 ∙ append_assoc l.out.items made (10 ∷ []) in
+    let decoded = changed_decoded c.args.depth line made d.1 in
     record {
       within = omega (arith, l.invariant.within, ap length same, length-drop (n + 1) all);
       ready = λ more h.
-          let one = subst (λ r. AreDecodedLines r (made
-          ++ 10 ∷ more)) (sym all_is) (one_line line made after more found.2 (changed_decoded c.args.depth line made d.1) h) in
+          let one = subst (λ r. AreDecodedLines r (made ++ 10 ∷ more)) (sym all_is)
+          (one_line line made after more found.2 decoded h) in
           subst (AreDecodedLines c.args.bytes.now) (done_with l.out.items made more
           ∙ ap (λ t. t ++ more) (sym written)) (l.invariant.ready (made ++ 10 ∷ more) one);
       failing = λ f h. l.invariant.failing f (subst (λ t. IsLinesFault c.args.depth t f) (sym all_is)
-          (later_fault c.args.depth line made after f found.2 (changed_decoded c.args.depth line made d.1) h));
+          (later_fault c.args.depth line made after f found.2 decoded h));
     }
 
 fault_kept : {T : Type 0} (r : Result T DecimalsFault) (x : DecimalsFault) (P : DecimalsFault → Type 0)
