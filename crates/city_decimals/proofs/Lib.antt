@@ -6,6 +6,7 @@ pub mod Copied
 pub mod Copies
 pub mod Forms
 pub mod Insides
+pub mod JsonLines
 pub mod Kept
 pub mod Objects
 pub mod OneLine

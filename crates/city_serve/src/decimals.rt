@@ -41,9 +41,12 @@ pub(crate) fn run_decimals<R: Threads + Wait + Sync, G: Gate + Sync>(
     let model = encoded(alloc, document)?;
     let commands = encoded(alloc, scripts)?;
     let output = run_whole(rt, alloc, gate, seed, model, commands, options)?;
-    match decode_lines(alloc, output.bytes.as_slice()) {
+    // No line nests deeper than it is long.
+    let depth = output.bytes.len();
+    match decode_lines(alloc, output.bytes.as_slice(), depth) {
         Ok(bytes) => Ok(Output { bytes, ..output }),
-        // Each line of an output is JSON, so only memory can have run out here.
+        // Each line of an output is JSON, so only memory can have run out here. (No clause of what writes the lines
+        // says that they are.)
         Err(_) => Err(RunFault::OutOfMemory),
     }
 }

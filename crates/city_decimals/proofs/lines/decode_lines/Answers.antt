@@ -1,10 +1,13 @@
 use Rattle.city_decimals.proofs.Prelude.{rules, ◌≡◌, ◌+◌, ◌-◌, ◌∷◌, [], ◌++◌, length, take, drop, sym, ap, ◌∙◌, subst}
 use Rattle.city_decimals.proofs.Prelude.{arith, take_all, length-drop, append_assoc, AreDecodedLines, IsLinesFault}
-use Rattle.city_decimals.proofs.Prelude.{IsDecimalsFault, DecimalsFault}
+use Rattle.city_decimals.proofs.Prelude.{IsFaultTo, DecimalsFault}
 use Rattle.std.specs.Prelude.{Result, IfErr}
 use Rattle.std.specs.Result.{IsErrAnd}
 use Rattle.city_decimals.proofs.Changes.{changed_decoded}
-use Rattle.city_decimals.proofs.OneLine.{rest_of, one_line, line_fault, done_with}
+use Rattle.std.proofs.lemmas.Result.{IfErr-weaker}
+use Rattle.city_decimals.specs.declared.fault.DecimalsFault.TheVariants.{OutOfMemory}
+use Rattle.city_decimals.proofs.JsonLines.{memory_alone}
+use Rattle.city_decimals.proofs.OneLine.{rest_of, one_line, line_fault, later_fault, done_with}
 use Rattle.city_decimals.proofs.lines.decode_lines.Goals as goal
 
 pub loop-at-preserved : goal.loop-at-preserved
@@ -22,17 +25,16 @@ loop-at-preserved c =
     let all_is : all ≡ line ++ 10 ∷ after = rest_of all n found.0 found.1 ∙ ap (λ t. line ++ 10 ∷ t) (sym same) in
     let written : c.extend_from_slice.new.self.items ≡ l.out.items ++ (made ++ 10 ∷ [])
     = c.in_ok-extend_from_slice.ensures.items ∙ ap (λ t. t ++ 10 ∷ []) d.3 ∙ append_assoc l.out.items made (10 ∷ []) in
+    let decoded = changed_decoded c.args.depth line made d.1 in
     record {
-      done = (
-        l.invariant.done.0 ++ (line ++ 10 ∷ []),
-        l.invariant.done.1
-            ∙ ap (λ t. l.invariant.done.0 ++ t) all_is ∙ done_with l.invariant.done.0 line after,
-      );
+      within = omega (arith, l.invariant.within, ap length same, length-drop (n + 1) all);
       ready = λ more h.
-          let one = subst (λ r. AreDecodedLines r (made
-          ++ 10 ∷ more)) (sym all_is) (one_line line made after more found.2 (changed_decoded line made d.1) h) in
+          let one = subst (λ r. AreDecodedLines r (made ++ 10 ∷ more)) (sym all_is)
+          (one_line line made after more found.2 decoded h) in
           subst (AreDecodedLines c.args.bytes.now) (done_with l.out.items made more
           ∙ ap (λ t. t ++ more) (sym written)) (l.invariant.ready (made ++ 10 ∷ more) one);
+      failing = λ f h. l.invariant.failing f (subst (λ t. IsLinesFault c.args.depth t f) (sym all_is)
+          (later_fault c.args.depth line made after f found.2 decoded h));
     }
 
 fault_kept : {T : Type 0} (r : Result T DecimalsFault) (x : DecimalsFault) (P : DecimalsFault → Type 0)
@@ -45,10 +47,15 @@ returns-in_err-out-2-clause-fault c =
     let all = l.rest.now in
     let n = c.in-Some.at in
     let found = c.in-Some.ensures in
-    let text = l.invariant.done.1 ∙ ap (λ t. l.invariant.done.0 ++ t) (rest_of all n found.0 found.1) in
-    let fault : (f : DecimalsFault) → IsDecimalsFault (take n all) f
-    → IsLinesFault c.args.bytes.now f = λ f. line_fault c.args.bytes.now l.invariant.done.0 (take n all) (drop
-    (n + 1) all) f text in
+    let fault : (f : DecimalsFault) → IsFaultTo c.args.depth (take n all) f
+    → IsLinesFault c.args.depth c.args.bytes.now f = λ f h. l.invariant.failing f
+    (subst (λ t. IsLinesFault c.args.depth t f) (sym (rest_of all n found.0 found.1))
+    (line_fault c.args.depth (take n all) (drop (n + 1) all) f found.2 h)) in
     fault_kept c.from_residual-in_err-out-2.result c.in_err-out-2.field-0.0
-    (IsLinesFault c.args.bytes.now) c.from_residual-in_err-out-2.ensures.1
+    (IsLinesFault c.args.depth c.args.bytes.now) c.from_residual-in_err-out-2.ensures.1
     (fault c.in_err-out-2.field-0.0 c.in_err-out-2.ensures.fault)
+
+pub returns-in_err-out-2-clause-memory : goal.returns-in_err-out-2-clause-memory
+returns-in_err-out-2-clause-memory c json =
+    IfErr-weaker c.from_residual-in_err-out-2.result (IsLinesFault c.args.depth c.args.bytes.now) (λ f. f ≡ OutOfMemory)
+    (λ f. memory_alone c.args.depth c.args.bytes.now f json) (returns-in_err-out-2-clause-fault c)
