@@ -1,14 +1,16 @@
 -- A compact text is the print of its value, and what is copied of it that of the decoded value.
 use Rattle.city_decimals.proofs.Prelude.{◌≤◌, Some, ◌≡◌, ℕ, [], ◌∷◌, ◌++◌, false, refl, sym, ap, ◌∙◌, arith}
 use Rattle.city_decimals.proofs.Prelude.{append_assoc, append-nil, IsUtf8, null, boolean, number, string, array, object}
-use Rattle.city_decimals.proofs.Prelude.{Items, no_items, item, Members, no_members, member, document, max_depth, print}
-use Rattle.city_decimals.proofs.Prelude.{quoted, items_tokens, members_tokens, depth, document-print, items_text}
+use Rattle.city_decimals.proofs.Prelude.{Items, no_items, item, Members, no_members, member, value, if_last, document_to, print}
+use Rattle.city_decimals.proofs.Prelude.{quoted, items_tokens, members_tokens, depth, option_and_then, HasNumbers, items_text}
 use Rattle.city_decimals.proofs.Prelude.{members_text, IsUntagged, top_changed, IsChanged, members_changed, Way}
 use Rattle.std.proofs.Common.{List, Bool, true}
 use Rattle.json.specs.Token.{Token}
 use Rattle.json.specs.Json.{Json}
 use Rattle.json.specs.Print.{print_from}
-use Rattle.json.specs.Tree.{json_tokens, members_depth}
+use Rattle.json.proofs.Printed.Tokens.{tokens-print}
+use Rattle.json.proofs.Printed.Trees.{value-json_tokens, ArePrintable-json_tokens}
+use Rattle.json.specs.Tree.{json_tokens}
 use Rattle.city_decimals.specs.inside.Compact.{value_text, comma_if, IsTopCopied}
 
 regroup_item : (q a b c : List ℕ) → q ++ (a ++ (b ++ c)) ≡ (q ++ (a ++ b)) ++ c
@@ -65,18 +67,25 @@ text_printed j = ap print (sym (append-nil (json_tokens j))) ∙ print_value fal
 
 -- ---- a whole text
 
-top_shallow : (ms : Members) → members_depth ms ≤ 127 → depth (object ms) ≤ max_depth
-top_shallow ms h = omega (arith, h)
+-- a value that is printed is read again, where it may nest as deep as it does
+pub read_again : (limit : ℕ) (j : Json) → HasNumbers j → depth j ≤ limit
+    → document_to limit (print (json_tokens j)) ≡ Some j
+read_again limit j numbers shallow = ap (option_and_then (λ p. if_last p.0 p.1))
+    (ap (value limit) (tokens-print (json_tokens j) (ArePrintable-json_tokens j numbers)
+    ∙ sym (append-nil (json_tokens j)))
+    ∙ value-json_tokens j limit [] shallow)
 
 -- the value that a compact text is
-top_is : (h : Members → Members) (text out : List ℕ) (t : IsTopCopied h text out) → document text ≡ Some (object t.ms)
-top_is h text out t =
-    grind (arith, text_printed (object t.ms), document-print (object t.ms) t.numbers (top_shallow t.ms t.shallow))
+top_is : (h : Members → Members) (limit : ℕ) (text out : List ℕ) (t : IsTopCopied h limit text out)
+    → document_to limit text ≡ Some (object t.ms)
+top_is h limit text out t =
+    grind (arith, text_printed (object t.ms), read_again limit (object t.ms) t.numbers t.shallow)
 
 made_is : (way : Way) (ms : Members) → IsUntagged ms
     → value_text (object (members_changed way true ms)) ≡ print (json_tokens (top_changed way (object ms)))
 made_is way ms h = search (arith, text_printed)
 
-pub top_made : (way : Way) (text out : List ℕ) → IsTopCopied (members_changed way true) text out → IsUtf8 text
-    → IsChanged way text out
-top_made way text out t utf8 = grind (arith, top_is (members_changed way true) text out t, made_is way t.ms t.untagged)
+pub top_made : (way : Way) (limit : ℕ) (text out : List ℕ) → IsTopCopied (members_changed way true) limit text out
+    → IsUtf8 text → IsChanged limit way text out
+top_made way limit text out t utf8 =
+    grind (arith, top_is (members_changed way true) limit text out t, made_is way t.ms t.untagged)

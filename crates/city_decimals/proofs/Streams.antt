@@ -2,11 +2,11 @@
 use Rattle.city_decimals.proofs.Prelude.{arith, ◌≡◌, ℕ, ◌-◌, ◌<◌, ◌≤◌, List, [], ◌∷◌, ◌++◌, length, Option, Some, None}
 use Rattle.city_decimals.proofs.Prelude.{refl, ap, ◌∙◌, append_assoc, Token, Json, Items, no_items, item, Members}
 use Rattle.city_decimals.proofs.Prelude.{no_members, member, Parse, parse_map, after_end_array, read_key, items}
-use Rattle.city_decimals.proofs.Prelude.{members, value, if_last, max_depth, document, tokens, HasNumbers, depth}
+use Rattle.city_decimals.proofs.Prelude.{members, value, if_last, document_to, tokens, HasNumbers, depth}
 use Rattle.city_decimals.proofs.Prelude.{members_end, members_more, written}
 use Rattle.std.proofs.Common.{option_and_then}
 use Rattle.json.proofs.Nesting.{value-depth}
-use Rattle.json.proofs.Numbered.{document-HasNumbers}
+use Rattle.json.proofs.Numbered.{value-HasNumbers, ArePrintableOrBad-tokens}
 use Rattle.json.proofs.Grammar.{skip_value-shorter, items_end, items_more}
 
 module _ {A : Type 0} (f : A → List Token) where
@@ -79,16 +79,16 @@ module _ (p : Parse Json) (f : List ℕ → Json → List Token) (g : Members
   members_over n out ts r enough e = ap (written g out) (members_end p n ts r enough e)
 
 -- a whole text that was read
-pub record IsWhole (f : Json → List Token) (text : List ℕ) (now : List Token) : Type 0 where
+pub record IsWhole (limit : ℕ) (f : Json → List Token) (text : List ℕ) (now : List Token) : Type 0 where
   pub j : Json
-  pub is : document text ≡ Some j
+  pub is : document_to limit text ≡ Some j
   pub numbers : HasNumbers j
-  pub shallow : depth j ≤ max_depth
+  pub shallow : depth j ≤ limit
   pub now_is : now ≡ f j
 
-pub whole_read : (f : Json → List Token) (text : List ℕ) (now r : List Token) → r ≡ []
-    → written f [] (value max_depth (tokens text)) ≡ Some (now, r) → IsWhole f text now
-whole_read f text now r end e =
-    let a = was_read f [] now (value max_depth (tokens text)) r e in
-    let is : document text ≡ Some a.0 = ap (option_and_then (λ p. if_last p.0 p.1)) (a.1
-    ∙ ap (λ s. Some (a.0, s)) end) in search (arith, document-HasNumbers, value-depth)
+pub whole_read : (limit : ℕ) (f : Json → List Token) (text : List ℕ) (now r : List Token) → r ≡ []
+    → written f [] (value limit (tokens text)) ≡ Some (now, r) → IsWhole limit f text now
+whole_read limit f text now r end e =
+    let a = was_read f [] now (value limit (tokens text)) r e in
+    let is : document_to limit text ≡ Some a.0 = ap (option_and_then (λ p. if_last p.0 p.1)) (a.1
+    ∙ ap (λ s. Some (a.0, s)) end) in search (arith, value-HasNumbers, ArePrintableOrBad-tokens, value-depth)

@@ -1,16 +1,24 @@
 -- Texts that are decoded line by line.
 use Rattle.std.specs.Prelude.{◌≡◌, ◌≢◌, ◌<◌, ℕ, List, [], ◌∷◌, ◌++◌, length, get_or}
-use Rattle.city_decimals.specs.Texts.{IsDecoded, IsDecimalsFault}
+use Rattle.json.specs.Json.{Json}
+use Rattle.json.specs.Print.{print}
+use Rattle.json.specs.Tree.{json_tokens}
+use Rattle.city_decimals.specs.Decoded.{decoded_top}
+use Rattle.city_decimals.specs.Texts.{IsValueTo, IsFaultTo}
 use Rattle.city_decimals.specs.declared.fault.DecimalsFault.{DecimalsFault}
 use Rattle.city_decimals.specs.declared.fault.DecimalsFault.TheVariants.{OutOfMemory, NotJson}
 
 abbrev pub HasNoNewline : List ℕ → Type 0
 HasNoNewline line = (k : ℕ) → k < length line → get_or line k 0 ≢ 10
 
+-- out is the compact text of the decoded value of the line, however deep it nests
+abbrev pub IsDecodedLine : List ℕ → List ℕ → Type 0
+IsDecodedLine line out = (limit : ℕ) × (j : Json) × IsValueTo limit j line × (out ≡ print (json_tokens (decoded_top j)))
+
 -- a line, and what it is decoded as
 abbrev pub ArePairs : List (List ℕ × List ℕ) → Type 0
 ArePairs [] = Unit {0}
-ArePairs (p ∷ ps) = HasNoNewline p.0 × IsDecoded p.0 p.1 × ArePairs ps
+ArePairs (p ∷ ps) = HasNoNewline p.0 × IsDecodedLine p.0 p.1 × ArePairs ps
 
 -- lines, each with its newline, and what stands after them
 abbrev pub first_text : List (List ℕ × List ℕ) → List ℕ → List ℕ
@@ -30,8 +38,13 @@ pub record AreDecodedLines (text out : List ℕ) : Type 0 where
   pub text_is : text ≡ first_text pairs rest
   pub out_is : out ≡ second_text pairs rest
 
--- `OutOfMemory` may be answered for any text; any other fault says that a line isn't JSON
-abbrev pub IsLinesFault : List ℕ → DecimalsFault → Type 0
-IsLinesFault text OutOfMemory = Unit {0}
-IsLinesFault text NotJson = (before : List ℕ) × (line : List ℕ) × (after : List ℕ)
-    × (text ≡ before ++ (line ++ 10 ∷ after)) × IsDecimalsFault line NotJson
+-- out has each line of the text decoded, behind these bytes
+abbrev pub AreDecodedBehind : List ℕ → List ℕ → List ℕ → Type 0
+AreDecodedBehind before text out = (more : List ℕ) × (out ≡ before ++ more) × AreDecodedLines text more
+
+-- `OutOfMemory` may be answered for any text; any other fault says that a line isn't JSON, or nests deeper, and that
+-- those before it are decoded
+abbrev pub IsLinesFault : ℕ → List ℕ → DecimalsFault → Type 0
+IsLinesFault limit text OutOfMemory = Unit {0}
+IsLinesFault limit text NotJson = (pairs : List (List ℕ × List ℕ)) × (line : List ℕ) × (after : List ℕ)
+    × ArePairs pairs × HasNoNewline line × (text ≡ first_text pairs (line ++ 10 ∷ after)) × IsFaultTo limit line NotJson

@@ -1,5 +1,6 @@
 //! Compact texts, copied but for what is encoded or decoded.
-ghost use Rattle.std.specs.Prelude.{◌≡◌, ◌++◌, ◌∷◌, [], ℕ, List, true, false, IfSome, IfOk, IfErr};
+ghost use Rattle.std.specs.Prelude.{◌≡◌, ◌<◌, ◌-◌, ◌++◌, ◌∷◌, [], ℕ, List, true, false, IfSome, IfOk};
+ghost use Rattle.std.specs.Prelude.{IfErr};
 ghost use Rattle.std.specs.Str.{IsUtf8};
 ghost use Rattle.city_decimals.specs.inside.Compact.{IsCopied, IsItemCopied, AreItemsCopied, IsMemberCopied};
 ghost use Rattle.city_decimals.specs.inside.Compact.{AreMembersCopied, IsFrameCopied, IsTopCopied, State};
@@ -16,7 +17,6 @@ use crate::copier::Copier;
 use crate::way::Way;
 use decoding::{copy_encoded_number, is_encoded_number};
 use encoding::{copy_into_frame, encode_number};
-use json::MAX_DEPTH;
 use leaves::{copy_name, copy_string, is_framed, is_tag};
 
 /// What stands in an encoded number before its text, and behind it.
@@ -30,29 +30,34 @@ const FRAME_BEGIN: &[u8] = b"{\"#\":";
 const FRAME_END: &[u8] = b",\"scale\":[1,1,1],\"translate\":[0,0,0]}";
 
 /// The buffer, with the changed text behind what it holds, where the text is compact and of a form that is known
-/// here; else as it was.
-pub(crate) fn copy_compact(way: Way, bytes: &[u8], out: Vec<u8>) -> Result<Vec<u8>, Vec<u8>>
+/// here; else as it was. Arrays and objects may nest `depth` deep.
+pub(crate) fn copy_compact(
+    way: Way,
+    bytes: &[u8],
+    depth: usize,
+    out: Vec<u8>,
+) -> Result<Vec<u8>, Vec<u8>>
     ensures ok { IfOk result (λ v. (text : List ℕ)
-        × IsTopCopied (members_changed way true) bytes.now text × IsUtf8 text × (v.items ≡ out.items ++ text)) }
+        × IsTopCopied (members_changed way true) depth bytes.now text × IsUtf8 text × (v.items ≡ out.items ++ text)) }
     ensures err { IfErr result (λ v. v.items ≡ out.items) }
 {
     let mut copier = Copier::new(bytes, out);
-    if copy_top(&mut copier, way).is_none() {
+    if copy_top(&mut copier, depth, way).is_none() {
         return Err(copier.give_up());
     }
     copier.finish()
 }
 
 /// Copies the object that a whole text is, changed.
-fn copy_top(copier: &mut Copier<'_>, way: Way) -> Option<()>
+fn copy_top(copier: &mut Copier<'_>, depth: usize, way: Way) -> Option<()>
     ensures before { copier.new.0 ≡ copier.old.0 }
-    ensures copied { IfSome result (λ _. (m : State) × Moves copier.old m (123 ∷ []) (123 ∷ [])
-        × AreMembersCopied (members_changed way true) false 127 m copier.new) }
+    ensures copied { IfSome result (λ _. (m : State) × (0 < depth) × Moves copier.old m (123 ∷ []) (123 ∷ [])
+        × AreMembersCopied (members_changed way true) false (depth - 1) m copier.new) }
 {
-    if !copier.take(b'{') {
+    if depth == 0 || !copier.take(b'{') {
         return None;
     }
-    copy_members(copier, MAX_DEPTH - 1, true, way)
+    copy_members(copier, depth - 1, true, way)
 }
 
 /// Copies the next value, changed. Arrays and objects may nest `depth` deep.

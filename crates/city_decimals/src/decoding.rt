@@ -12,7 +12,7 @@ use crate::change::change_onto;
 use crate::fault::DecimalsFault;
 use crate::way::Way;
 pub(crate) use first::decode_first_member;
-use json::Scratch;
+use json::{MAX_DEPTH, Scratch};
 pub(crate) use member::decode_member_tree;
 use std::alloc::Global;
 
@@ -24,5 +24,5 @@ pub fn decode(alloc: Global, bytes: &[u8]) -> Result<Vec<u8>, DecimalsFault>
 {
     let mut scratch = Scratch::new(alloc);
     let out = Vec::with_capacity(alloc, bytes.len())?;
-    change_onto(alloc, Way::Decode, bytes, &mut scratch, out)
+    change_onto(alloc, Way::Decode, bytes, MAX_DEPTH, &mut scratch, out)
 }

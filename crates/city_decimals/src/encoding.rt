@@ -16,7 +16,7 @@ mod tree;
 use crate::change::change_onto;
 use crate::fault::DecimalsFault;
 use crate::way::Way;
-use json::Scratch;
+use json::{MAX_DEPTH, Scratch};
 pub(crate) use member::encode_member_tree;
 pub(crate) use number::encode_number;
 use std::alloc::Global;
@@ -42,5 +42,5 @@ pub fn encode(alloc: Global, bytes: &[u8]) -> Result<Vec<u8>, DecimalsFault>
 {
     let mut scratch = Scratch::new(alloc);
     let out = Vec::with_capacity(alloc, bytes.len())?;
-    change_onto(alloc, Way::Encode, bytes, &mut scratch, out)
+    change_onto(alloc, Way::Encode, bytes, MAX_DEPTH, &mut scratch, out)
 }

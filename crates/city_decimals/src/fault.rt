@@ -8,7 +8,7 @@ use crate::OutOfMemory;
 pub enum DecimalsFault {
     /// Memory ran out.
     OutOfMemory,
-    /// The text isn't JSON, or nests deeper than 128.
+    /// The text isn't JSON, or nests deeper than 128, and what `decode_lines` decodes deeper than it may.
     NotJson,
 }
 

@@ -12,7 +12,7 @@ ghost use Rattle.city_serve.specs.inside.WholeTexts.{HasWholeNumbers};
 use crate::options::Options;
 use crate::run::run_whole;
 use city_crew::Gate;
-use city_decimals::{DecimalsFault, decode_lines, encode};
+use city_decimals::{DecimalsFault, decode_lines, decode_lines_onto, encode};
 use city_desk::{Output, RunFault};
 use city_doc::MAX_TEXT;
 use city_model::OutOfMemory;
@@ -43,17 +43,16 @@ pub(crate) fn run_decimals<R: Threads + Wait + Sync, G: Gate + Sync>(
     let model = encoded(alloc, document)?;
     let commands = encoded(alloc, scripts)?;
     let output = run_whole(rt, alloc, gate, seed, model, commands, options)?;
+    let depth = output.bytes.len();
     let (report, model) = output.bytes.as_slice().split_at(output.report);
     // Each line of an output is JSON, so only memory can have run out here.
-    let Ok(decoded) = decode_lines(alloc, report) else {
+    let Ok(decoded) = decode_lines(alloc, report, depth) else {
         return Err(RunFault::OutOfMemory);
     };
     let report = decoded.len();
-    let Ok(rest) = decode_lines(alloc, model) else {
+    let Ok(bytes) = decode_lines_onto(alloc, model, depth, decoded) else {
         return Err(RunFault::OutOfMemory);
     };
-    let mut bytes = decoded;
-    bytes.extend_from_slice(rest.as_slice())?;
     Ok(Output {
         bytes,
         report,

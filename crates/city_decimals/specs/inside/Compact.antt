@@ -110,10 +110,10 @@ IsKeyPassed later key old new = (k : List ℕ) × (key ≡ escape k)
     × Moves old new (comma_if later ++ (quoted k ++ 58 ∷ [])) (comma_if later ++ (quoted k ++ 58 ∷ []))
 
 -- the object that a whole text is; out has its members as h makes them
-pub record IsTopCopied (h : Members → Members) (text out : List ℕ) : Type 0 where
+pub record IsTopCopied (h : Members → Members) (limit : ℕ) (text out : List ℕ) : Type 0 where
   pub ms : Members
   pub text_is : text ≡ value_text (object ms)
   pub out_is : out ≡ value_text (object (h ms))
   pub untagged : IsUntagged ms
   pub numbers : MembersHaveNumbers ms
-  pub shallow : members_depth ms ≤ 127
+  pub shallow : depth (object ms) ≤ limit

@@ -19,25 +19,31 @@ use crate::encoding::{encode_member_tree, encode_number};
 use crate::fault::DecimalsFault;
 use crate::shapes::{can_have_form, is_tag};
 use crate::way::Way;
-use json::{MAX_DEPTH, Reader, Token, Writer};
+use json::{Reader, Token, Writer};
 use std::alloc::Global;
 
-/// Writes the value of a whole text, changed.
+/// Writes the value of a whole text, changed. Arrays and objects may nest `depth` deep.
 pub(crate) fn change_top(
     alloc: Global,
     way: Way,
     reader: &mut Reader<'_>,
+    depth: usize,
     out: &mut Writer,
 ) -> Result<(), DecimalsFault>
     ensures before { OnOk result (out.new.before ≡ out.old.before) }
-    ensures ok { OnOk result (written (λ j. json_tokens (top_changed way j)) out.old.tokens (value 128 reader.old)
+    ensures ok { OnOk result (written (λ j. json_tokens (top_changed way j)) out.old.tokens (value depth reader.old)
         ≡ Some (out.new.tokens, reader.new)) }
-    ensures err { result ≡ Err NotJson → value 128 reader.old ≡ None }
+    ensures err { result ≡ Err NotJson → value depth reader.old ≡ None }
 {
     let token = reader.next().ok_or(DecimalsFault::NotJson)?;
     match token {
-        Token::BeginObject => change_object(alloc, way, reader, MAX_DEPTH - 1, true, out),
-        _ => change_from(alloc, way, token, reader, MAX_DEPTH, out),
+        Token::BeginObject => {
+            if depth == 0 {
+                return Err(DecimalsFault::NotJson);
+            }
+            change_object(alloc, way, reader, depth - 1, true, out)
+        }
+        _ => change_from(alloc, way, token, reader, depth, out),
     }
 }
 

@@ -1,5 +1,5 @@
 use Rattle.city_decimals.proofs.Prelude.{◌≡◌, List, [], ◌++◌, Some, refl, subst, arith, rules, IsUtf8, Token, Json}
-use Rattle.city_decimals.proofs.Prelude.{value, max_depth, tokens, print, json_tokens, top_changed, written}
+use Rattle.city_decimals.proofs.Prelude.{value, tokens, print, json_tokens, top_changed, written}
 use Rattle.city_decimals.proofs.CompactTexts.{top_made}
 use Rattle.city_decimals.proofs.Streams.{whole_read}
 use Rattle.city_decimals.proofs.change.change_onto.Goals as goal
@@ -8,9 +8,9 @@ pub returns-clause-changed : goal.returns-clause-changed
 returns-clause-changed c =
     let f : Json → List Token = λ j. json_tokens (top_changed c.args.way j) in
     let over : c.change_top.new.reader ≡ [] = grind arith in
-    let read : written f [] (value max_depth (tokens c.args.bytes.now))
+    let read : written f [] (value c.args.depth (tokens c.args.bytes.now))
     ≡ Some (c.change_top.new.out.tokens, c.change_top.new.reader) = search rules in
-    let w = whole_read f c.args.bytes.now _ _ over read in
+    let w = whole_read c.args.depth f c.args.bytes.now _ _ over read in
     let text = print (f w.j) in
     let items : c.into_inner.result.items ≡ c.args.out.items ++ text = search (rules, w.now_is) in
     let utf8 : IsUtf8 text = subst (λ ts. IsUtf8 (print ts)) w.now_is c.into_inner.ensures.utf8 in (

@@ -1,4 +1,4 @@
-use Rattle.city_decimals.proofs.Prelude.{rules, false, refl, sym, ◌∙◌, changed, items_changed, member_changed}
+use Rattle.city_decimals.proofs.Prelude.{rules, refl, sym, ◌∙◌, changed, items_changed, member_changed}
 use Rattle.city_decimals.proofs.Prelude.{frame_changed}
 use Rattle.city_decimals.proofs.Copied.{array_copied, object_copied, items_end, items_first, members_end, members_first}
 use Rattle.city_decimals.proofs.Copied.{member_plain, member_framed, item_shorter, some_weaker}

@@ -1,6 +1,6 @@
 use Rattle.city_decimals.proofs.Prelude.{rules, ◌≡◌, ℕ, ◌-◌, List, [], ◌∷◌, ◌++◌, length, Some, None, refl, sym, ap}
 use Rattle.city_decimals.proofs.Prelude.{◌∙◌, subst, arith, append_assoc, option_map, on_ok_weaker, Token, Json, Items}
-use Rattle.city_decimals.proofs.Prelude.{Members, member, parse_map, after_end_array, read_key, items, members}
+use Rattle.city_decimals.proofs.Prelude.{Members, member, parse_map, after_end_array, read_key, members}
 use Rattle.city_decimals.proofs.Prelude.{json_tokens, items_tokens, members_tokens, value_is, value-begin_object}
 use Rattle.city_decimals.proofs.Prelude.{members_end, members_more, members_fail, members_no_key, decoded}
 use Rattle.city_decimals.proofs.Prelude.{decoded_members, out_of_form, decoded_object, written, changed, items_changed}
