@@ -5,6 +5,9 @@
  *   REFUSE_THREAD=N     the Nth call of pthread_create is refused
  *   REFUSE_READ=N       the Nth read fails
  *   REFUSE_WRITE=N      the Nth write to standard output fails
+ *   REFUSE_STEP=N       the Nth step of replacing a file fails: to open a file that is written, to set its mode, to
+ *                       write to it, to sync it or its folder, to rename it, to remove it
+ *   KILL_STEP=N         the process is killed before that step
  *   SHORT=1             a read or a write moves one byte at most
  *   INTERRUPT=1         every other read and write is interrupted
  *   REFUSED_FD=F        a byte is written there for each refusal
@@ -12,10 +15,14 @@
 #define _GNU_SOURCE
 #include <dlfcn.h>
 #include <errno.h>
+#include <fcntl.h>
 #include <pthread.h>
+#include <signal.h>
+#include <stdarg.h>
 #include <stdatomic.h>
 #include <stdlib.h>
 #include <string.h>
+#include <sys/stat.h>
 #include <unistd.h>
 
 struct plan {
@@ -27,6 +34,7 @@ struct plan {
 
 static struct plan growth = {.name = "REFUSE_GROWTH"}, threading = {.name = "REFUSE_THREAD"};
 static struct plan reading = {.name = "REFUSE_READ"}, writing = {.name = "REFUSE_WRITE"};
+static struct plan step = {.name = "REFUSE_STEP"}, killing = {.name = "KILL_STEP"};
 static int moves_one_byte, interrupts, told;
 static atomic_int turns;
 static void *(*real_malloc)(size_t);
@@ -34,6 +42,11 @@ static void *(*real_realloc)(void *, size_t);
 static int (*real_create)(pthread_t *, const pthread_attr_t *, void *(*)(void *), void *);
 static ssize_t (*real_read)(int, void *, size_t);
 static ssize_t (*real_write)(int, const void *, size_t);
+static int (*real_open)(const char *, int, ...);
+static int (*real_fchmod)(int, mode_t);
+static int (*real_fsync)(int);
+static int (*real_rename)(const char *, const char *);
+static int (*real_unlink)(const char *);
 
 static void read_plan(struct plan *plan) {
     const char *text = getenv(plan->name);
@@ -46,6 +59,7 @@ static void read_plan(struct plan *plan) {
 __attribute__((constructor)) static void begin(void) {
     const char *fd = getenv("REFUSED_FD");
     read_plan(&growth), read_plan(&threading), read_plan(&reading), read_plan(&writing);
+    read_plan(&step), read_plan(&killing);
     moves_one_byte = getenv("SHORT") != NULL;
     interrupts = getenv("INTERRUPT") != NULL;
     told = fd ? atoi(fd) : -1;
@@ -59,6 +73,11 @@ static int refuses(struct plan *plan) {
     if (call != plan->first && !(plan->each_later && call > plan->first)) return 0;
     if (told >= 0) REAL(real_write, "write")(told, "!", 1);
     return 1;
+}
+
+static int refuses_step(void) {
+    if (refuses(&killing)) raise(SIGKILL);
+    return refuses(&step);
 }
 
 void *malloc(size_t size) {
@@ -85,5 +104,35 @@ ssize_t read(int fd, void *into, size_t size) {
 ssize_t write(int fd, const void *from, size_t size) {
     if (interrupts && atomic_fetch_add(&turns, 1) % 2 == 0) return errno = EINTR, -1;
     if (fd == 1 && refuses(&writing)) return errno = EIO, -1;
+    if (fd > 2 && fd != told && refuses_step()) return errno = ENOSPC, -1;
     return REAL(real_write, "write")(fd, from, moves_one_byte && size > 1 ? 1 : size);
+}
+
+int open(const char *path, int flags, ...) {
+    va_list more;
+    va_start(more, flags);
+    mode_t mode = flags & O_CREAT ? va_arg(more, mode_t) : 0;
+    va_end(more);
+    if (flags & O_CREAT && refuses_step()) return errno = EACCES, -1;
+    return REAL(real_open, "open")(path, flags, mode);
+}
+
+int fchmod(int fd, mode_t mode) {
+    if (refuses_step()) return errno = EPERM, -1;
+    return REAL(real_fchmod, "fchmod")(fd, mode);
+}
+
+int fsync(int fd) {
+    if (refuses_step()) return errno = EIO, -1;
+    return REAL(real_fsync, "fsync")(fd);
+}
+
+int rename(const char *from, const char *to) {
+    if (refuses_step()) return errno = EACCES, -1;
+    return REAL(real_rename, "rename")(from, to);
+}
+
+int unlink(const char *path) {
+    if (refuses_step()) return errno = EACCES, -1;
+    return REAL(real_unlink, "unlink")(path);
 }

@@ -1,5 +1,6 @@
 #!/usr/bin/env python3
-"""Refuses calls of cityed in turn: each for memory or a thread, each read and each write.
+"""Refuses calls of cityed in turn: each for memory or a thread, each read, each write and each step on a file that
+--output replaces; and kills it before each such step.
 
     python3 testing/refused_calls.py PROGRAM
 
@@ -12,6 +13,7 @@ first other answer with status 1.
 import itertools
 import json
 import os
+import signal
 import sys
 import tempfile
 
@@ -93,6 +95,60 @@ def refuse_writes(program, document, scripts):
             raise Wrong([], f"write {number}", status, output, error)
 
 
+def replace_files(program, folder, document, scripts):
+    """Refuses the Nth step of replacing the model's own file, and kills the program before it, for each N until a run
+    meets none. The file is the old one or the new one, whole; what is left over beside it has a name of its own."""
+    wanted = second.run(document, scripts)[0]
+    cut = wanted.rindex(b"\n", 0, -1) + 1
+    report, model = wanted[:cut], wanted[cut:]
+    counts = {"refused": 0, "killed": 0, "new": 0}
+    for way in ("REFUSE_STEP", "KILL_STEP"):
+        for number in itertools.count(1):
+            place = tempfile.mkdtemp(dir=folder)
+            city, edits = os.path.join(place, "city.json"), os.path.join(place, "edits.json")
+            for name, text in ((city, document), (edits, scripts)):
+                with open(name, "wb") as file:
+                    file.write(text)
+            os.chmod(city, 0o640)
+            arguments = ["--output", city, city, edits]
+            refused, status, output, error = program.answer(arguments, b"", **{way: str(number)})
+            with open(city, "rb") as file:
+                left = file.read()
+            others = sorted(set(os.listdir(place)) - {"city.json", "edits.json"})
+            told = (status, output, error)
+            if left not in (document, model) or os.stat(city).st_mode & 0o777 != 0o640:
+                raise Wrong(arguments, way, number, "file", told, left)
+            if any(not name.startswith("city.json.cityed-") for name in others) or len(others) > 1:
+                raise Wrong(arguments, way, number, "left over", others)
+            if not refused:
+                if told != (0, report, b"") or left != model or others:
+                    raise Wrong(arguments, way, number, *told)
+                break
+            counts["new"] += left == model
+            if way == "KILL_STEP":
+                counts["killed"] += 1
+                if status != -signal.SIGKILL or not report.startswith(output) or (left == model and output != report):
+                    raise Wrong(arguments, way, number, *told)
+                continue
+            counts["refused"] += 1
+            if (status, error) != (1, b"cityed: cannot write\n") or not report.startswith(output) or others:
+                raise Wrong(arguments, way, number, *told, others)
+            if left == model and output != report:
+                raise Wrong(arguments, way, number, "renamed before the report", output)
+    for number in itertools.count(1):
+        with open(city, "wb") as file:
+            file.write(document)
+        refused, status, output, error = program.answer(["-o", city, city, edits], b"", REFUSE_WRITE=str(number), SHORT="1")
+        with open(city, "rb") as file:
+            left = file.read()
+        if not refused:
+            return counts, number - 1
+        if (status, output, error) != (1, report[: number - 1], b"cityed: cannot write\n") or left != document:
+            raise Wrong("write of the report", number, status, output, error)
+        if sorted(os.listdir(place)) != ["city.json", "edits.json"]:
+            raise Wrong("left over", os.listdir(place))
+
+
 def go_on(program, document, scripts):
     """Reads and writes that are short or interrupted change nothing."""
     text, wanted = document.replace(b"\n", b" ") + b"\n" + scripts, second.run(document, scripts)[0]
@@ -119,6 +175,12 @@ def main():
                 print(f"{' '.join(arguments) or 'one worker'}: {told} threads refused", flush=True)
             print(f"reads: {refuse_reads(program, folder, document, scripts)} refused", flush=True)
             print(f"writes: {refuse_writes(program, document, scripts)} refused", flush=True)
+            told, writes = replace_files(program, folder, document, scripts)
+            print(
+                f"files replaced: {told['refused']} steps refused, {told['killed']} kills, {told['new']} times the file was"
+                f" the new one; {writes} writes of the report refused",
+                flush=True,
+            )
             print(f"short and interrupted: {go_on(program, document, scripts)} ways agree", flush=True)
         except Wrong as wrong:
             print("WRONG:", *(str(part)[:800] for part in wrong.args))

@@ -1,10 +1,13 @@
 -- Lines, one after another.
 use Rattle.city_decimals.proofs.Prelude.{◌≡◌, ℕ, ◌+◌, ◌<◌, List, [], ◌∷◌, ◌++◌, length, take, drop, get_or, ap, refl}
-use Rattle.city_decimals.proofs.Prelude.{arith, append_assoc, IsDecodedLine, IsFaultTo, AreDecodedLines, IsLinesFault}
+use Rattle.city_decimals.proofs.Prelude.{◌∙◌, sym, arith, append_assoc, IsDecodedLine, IsFaultTo, AreDecodedLines}
+use Rattle.city_decimals.proofs.Prelude.{IsLinesFault}
+use Rattle.std.proofs.Common.{◌⊎◌, inl, inr, length-append}
 use Rattle.city_decimals.proofs.Prelude.{DecimalsFault}
 use Rattle.std.proofs.Math.Seq.{split_at}
 use Rattle.city_decimals.specs.declared.fault.DecimalsFault.TheVariants.{OutOfMemory, NotJson}
-use Rattle.city_decimals.specs.Lines.{HasNoNewline}
+use Rattle.std.proofs.lemmas.List.{get_or-append-add, get_or_at}
+use Rattle.city_decimals.specs.Lines.{ArePairs, HasNoNewline, first_text, second_text}
 
 -- what is left of a text after a line
 pub rest_of : (xs : List ℕ) (n : ℕ) → n < length xs → get_or xs n 0 ≡ 10 → xs ≡ take n xs ++ 10 ∷ drop (n + 1) xs
@@ -37,3 +40,72 @@ later_fault limit line out rest NotJson h r (pairs, bad, after, are, none, is, f
 -- a line, behind what is written
 pub done_with : (before line after : List ℕ) → before ++ (line ++ 10 ∷ after) ≡ (before ++ (line ++ 10 ∷ [])) ++ after
 done_with before line after = search (arith, append_assoc)
+
+-- ---- one text behind another
+
+lines_then : (pairs : List (List ℕ × List ℕ)) (rest : List ℕ) → first_text pairs rest ≡ first_text pairs [] ++ rest
+lines_then [] rest = refl
+lines_then (p ∷ ps) rest =
+    ap (λ t. p.0 ++ 10 ∷ t) (lines_then ps rest) ∙ sym (append_assoc p.0 (10 ∷ first_text ps []) rest)
+
+-- bytes that end a text, without a newline, are none where it ends with one
+none_end : (prefix rest before : List ℕ) → HasNoNewline rest → prefix ++ rest ≡ before ++ 10 ∷ [] → rest ≡ []
+none_end prefix [] before none is = refl
+none_end prefix (b ∷ bs) before none is =
+    let lengths : length prefix + length bs ≡ length before =
+    grind (arith, ap length is, length-append prefix (b ∷ bs), length-append before (10 ∷ [])) in
+    absurd (none (length bs) (omega arith)
+    (sym (get_or-append-add prefix (b ∷ bs) (length bs) 0)
+    ∙ ap (λ t. get_or t (length prefix + length bs) 0) is
+    ∙ get_or_at before 10 [] 0 (length prefix + length bs) (sym lengths)))
+
+none_after : (prefix rest : List ℕ) → prefix ++ rest ≡ [] → rest ≡ []
+none_after [] rest is = is
+none_after (b ∷ bs) rest is = absurd (cc)
+
+both_decoded : (ps qs : List (List ℕ × List ℕ)) → ArePairs ps → ArePairs qs → ArePairs (ps ++ qs)
+both_decoded [] qs are others = others
+both_decoded (p ∷ ps) qs are others = (are.0, are.1, both_decoded ps qs are.2 others)
+
+first_behind : (ps qs : List (List ℕ × List ℕ)) (rest : List ℕ)
+    → first_text (ps ++ qs) rest ≡ first_text ps [] ++ first_text qs rest
+first_behind [] qs rest = refl
+first_behind (p ∷ ps) qs rest =
+    ap (λ t. p.0 ++ 10 ∷ t) (first_behind ps qs rest)
+    ∙ sym (append_assoc p.0 (10 ∷ first_text ps []) (first_text qs rest))
+
+second_behind : (ps qs : List (List ℕ × List ℕ)) (rest : List ℕ)
+    → second_text (ps ++ qs) rest ≡ second_text ps [] ++ second_text qs rest
+second_behind [] qs rest = refl
+second_behind (p ∷ ps) qs rest =
+    ap (λ t. p.1 ++ 10 ∷ t) (second_behind ps qs rest)
+    ∙ sym (append_assoc p.1 (10 ∷ second_text ps []) (second_text qs rest))
+
+-- a text that is empty or ends with a newline, and another one
+module _ (text next out more : List ℕ) (ends : (text ≡ []) ⊎ ((before : List ℕ) × (text ≡ before ++ 10 ∷ [])))
+    (first : AreDecodedLines text out) (second : AreDecodedLines next more) where
+  no_rest : first.rest ≡ []
+  no_rest = no_rest_by ends
+    where
+      no_rest_by : (text ≡ []) ⊎ ((before : List ℕ) × (text ≡ before ++ 10 ∷ [])) → first.rest ≡ []
+      no_rest_by (inl is) = none_after (first_text first.pairs []) first.rest
+          (sym (lines_then first.pairs first.rest) ∙ sym first.text_is ∙ is)
+      no_rest_by (inr (before, is)) =
+          none_end (first_text first.pairs []) first.rest before first.last
+          (sym (lines_then first.pairs first.rest) ∙ sym first.text_is ∙ is)
+
+  pub lines_joined : AreDecodedLines (text ++ next) (out ++ more)
+  lines_joined = record {
+    pairs = first.pairs ++ second.pairs;
+    rest = second.rest;
+    decoded = both_decoded first.pairs second.pairs first.decoded second.decoded;
+    last = second.last;
+    text_is =
+        ap (λ t. t ++ next) (first.text_is ∙ ap (first_text first.pairs) no_rest)
+        ∙ ap (λ t. first_text first.pairs [] ++ t) second.text_is
+        ∙ sym (first_behind first.pairs second.pairs second.rest);
+    out_is =
+        ap (λ t. t ++ more) (first.out_is ∙ ap (second_text first.pairs) no_rest)
+        ∙ ap (λ t. second_text first.pairs [] ++ t) second.out_is
+        ∙ sym (second_behind first.pairs second.pairs second.rest);
+  }

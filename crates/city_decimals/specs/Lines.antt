@@ -38,6 +38,10 @@ pub record AreDecodedLines (text out : List ℕ) : Type 0 where
   pub text_is : text ≡ first_text pairs rest
   pub out_is : out ≡ second_text pairs rest
 
+-- out has each line of the text decoded, behind these bytes
+abbrev pub AreDecodedBehind : List ℕ → List ℕ → List ℕ → Type 0
+AreDecodedBehind before text out = (more : List ℕ) × (out ≡ before ++ more) × AreDecodedLines text more
+
 -- `OutOfMemory` may be answered for any text; any other fault says that a line isn't JSON, or nests deeper, and that
 -- those before it are decoded
 abbrev pub IsLinesFault : ℕ → List ℕ → DecimalsFault → Type 0

@@ -1,6 +1,6 @@
 //! Decodes a text line by line, as a report and a model stand in it.
 ghost use Rattle.std.specs.Prelude.{◌≡◌, IfOk, IfErr};
-ghost use Rattle.city_decimals.specs.Lines.{AreDecodedLines, IsLinesFault, HasJsonLines};
+ghost use Rattle.city_decimals.specs.Lines.{AreDecodedLines, AreDecodedBehind, IsLinesFault, HasJsonLines};
 ghost use Rattle.city_decimals.specs.inside.Newlines.{IsFirstNewline};
 ghost use Rattle.city_decimals.specs.declared.fault.DecimalsFault.TheVariants.{OutOfMemory};
 
@@ -14,15 +14,29 @@ use std::alloc::Global;
 /// The text with each line decoded. What stands after the last newline stays as it is.
 ///
 /// Arrays and objects of a line may nest `depth` deep. The stack has to be enough for that, or for what the lines nest.
+/// Where each line is JSON that nests no deeper, only memory can run out.
 pub fn decode_lines(alloc: Global, bytes: &[u8], depth: usize) -> Result<Vec<u8>, DecimalsFault>
     ensures decoded { IfOk result (λ out. AreDecodedLines bytes.now out.items) }
     ensures fault { IfErr result (λ f. IsLinesFault depth bytes.now f) }
+    ensures memory { HasJsonLines depth bytes.now → IfErr result (λ f. f ≡ OutOfMemory) }
+{
+    decode_lines_onto(alloc, bytes, depth, Vec::new(alloc))
+}
 
-    // Where each line is JSON that nests no deeper, only memory can run out.
+/// The buffer, with the text behind what it holds, each line decoded as by `decode_lines`.
+pub fn decode_lines_onto(
+    alloc: Global,
+    bytes: &[u8],
+    depth: usize,
+    buffer: Vec<u8>,
+) -> Result<Vec<u8>, DecimalsFault>
+    ensures decoded { IfOk result (λ v. AreDecodedBehind buffer.items bytes.now v.items) }
+    ensures fault { IfErr result (λ f. IsLinesFault depth bytes.now f) }
     ensures memory { HasJsonLines depth bytes.now → IfErr result (λ f. f ≡ OutOfMemory) }
 {
     let mut scratch = Scratch::new(alloc);
-    let mut out = Vec::with_capacity(alloc, bytes.len())?;
+    let mut out = buffer;
+    out.reserve(bytes.len())?;
     let mut rest = bytes;
     while let Some(at) = first_newline(rest) {
         out = change_onto(alloc, Way::Decode, &rest[..at], depth, &mut scratch, out)?;

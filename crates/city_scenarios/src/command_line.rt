@@ -31,8 +31,8 @@ pub fn words_of(alloc: Global, line: &str) -> Result<Vec<String>, OutOfMemory> {
 /// Adds what words ask for: a word and the names, or the first line of the text that is shown.
 fn add_asked(alloc: Global, words: &[String], said: &mut Written) {
     match asked_by(alloc, words) {
-        Ok(Asked::Input(options)) => add_options("input", options, said),
-        Ok(Asked::Files(options, model, scripts)) => add_files(model, scripts, options, said),
+        Ok(Asked::Input(options, _)) => add_options("input", options, said),
+        Ok(Asked::Files(options, _, model, scripts)) => add_files(model, scripts, options, said),
         Ok(Asked::Text(text)) => add_first_line("text ", text.as_str(), said),
         Err(LineFault::Refused(text)) => add_first_line("2 ", text.as_str(), said),
         Err(LineFault::OutOfMemory) => said.run_out(),

@@ -1,17 +1,30 @@
 //! Texts with names, as files.
+ghost use Rattle.std.specs.Prelude.{◌≡◌, ◌≢◌, true};
+
 use crate::named::{Named, text_named};
-use crate::reader::{Giving, Reads, word_after};
+use crate::reader::{Giving, Reads, number_after, word_after};
+use crate::writer::{Taking, Writes};
+use crate::written::Written;
 use city_desk::RunFault;
-use city_serve::{Device, ServeFault, TextFiles, read_text};
+use city_model::OutOfMemory;
+use city_serve::{Device, OutputFiles, ServeFault, TextFiles, read_text};
 use std::alloc::Global;
 
-/// The texts that a file of scenarios names, each as a file of that name. Memory is short for the file that stands behind
-/// `without` among the habits.
+/// The texts that a file of scenarios names, each as a file of that name. One of them may be replaced, or one that isn't
+/// there be made.
+///
+/// Habits: memory is short for the file that stands behind `without`; new files have room for as many bytes as stand
+/// behind `room`; `uncreated`, `unsynced`, `unrenamed` and `unlisted` refuse these steps.
 #[derive(Drop)]
 pub struct Folder<'a> {
     alloc: Global,
     names: &'a [Named<'a>],
     habits: &'a str,
+    /// The steps that were taken, a word for each.
+    steps: Written,
+    /// What was put in the place of a file, with the file's name in the first line.
+    replaced: Written,
+    failed: bool,
 }
 
 impl<'a> Folder<'a> {
@@ -21,7 +34,30 @@ impl<'a> Folder<'a> {
             alloc,
             names,
             habits,
+            steps: Written::new(alloc),
+            replaced: Written::new(alloc),
+            failed: false,
         }
+    }
+
+    /// The steps that were taken, each with a space before it, and what was put in the place of a file.
+    pub fn left(self) -> Result<(Vec<u8>, Vec<u8>), OutOfMemory> {
+        Ok((self.steps.whole()?, self.replaced.whole()?))
+    }
+
+    /// Takes a step, or refuses it where the habits have the other word.
+    fn step(&mut self, word: &str, refused: &str) -> bool
+        ensures unfailed { result ≡ true → self.new.failed ≡ self.old.failed }
+        ensures failed { result ≢ true → self.new.failed ≡ true }
+    {
+        if self.habits.contains(refused) {
+            self.failed = true;
+            self.steps.add(" not");
+            self.steps.add(word);
+            return false;
+        }
+        self.steps.add(word);
+        true
     }
 }
 
@@ -37,5 +73,43 @@ impl TextFiles for Folder<'_> {
             }
             None => Err(ServeFault::Read),
         }
+    }
+}
+
+impl OutputFiles for Folder<'_> {
+    type New = Taking;
+
+    ghost is_synced = { λ _. true };
+
+    ghost have_failed = { λ files. files.failed };
+
+    fn create(&mut self, _path: &str, _seed: u64) -> Option<Taking> {
+        if !self.step(" created", "uncreated") {
+            return None;
+        }
+        let room = number_after(self.habits, "room ");
+        Some(Taking::new(self.alloc, Writes::told("", room)))
+    }
+
+    fn sync(&mut self, _new: &mut Taking) -> bool {
+        self.step(" synced", "unsynced")
+    }
+
+    fn rename(&mut self, new: Taking, path: &str) -> bool {
+        if !self.step(" renamed", "unrenamed") {
+            return false;
+        }
+        self.replaced.add_line(path);
+        self.replaced.add_bytes(new.into_written().as_slice());
+        true
+    }
+
+    fn sync_folder(&mut self, _path: &str) -> bool {
+        self.step(" listed", "unlisted")
+    }
+
+    fn give_up(&mut self, _new: Taking) {
+        self.failed = true;
+        self.steps.add(" given up");
     }
 }

@@ -15,7 +15,7 @@ use std::sync::Wait;
 use std::thread::Threads;
 
 /// Runs the program with a line of words, and with the habits behind a `|`, and answers its status, what stands on
-/// standard output and on standard error. The files are the texts with names, and standard input is made of the
+/// standard output and on standard error, and what steps replaced a file, by what. The files are the texts with names, and standard input is made of the
 /// scenario's own texts.
 pub fn play_program<T: Threads + Wait + Sync>(
     rt: &T,
@@ -48,12 +48,13 @@ fn run_line<T: Threads + Wait + Sync>(
         ""
     };
     let mut errors = Taking::new(alloc, Writes::told(mute, None));
+    let mut files = Folder::new(alloc, names, habits);
     let status = run_program(
         rt,
         alloc,
         &OpenGate,
         FIXED_SEED,
-        &Folder::new(alloc, names, habits),
+        &mut files,
         words.as_slice(),
         &mut Device::new(Giving::new(Reads::told(habits), input.as_slice())),
         &mut Device::new(&mut output),
@@ -74,7 +75,17 @@ fn run_line<T: Threads + Wait + Sync>(
         sorted,
         errors.into_written(),
         answer,
-    )
+    )?;
+    let (steps, replaced) = files.left()?;
+    if !steps.is_empty() {
+        answer.add("files");
+        answer.add_bytes(steps.as_slice());
+        answer.add("\n");
+    }
+    if !replaced.is_empty() {
+        answer.add_lines(replaced.as_slice());
+    }
+    Ok(())
 }
 
 fn add_status(status: Status, answer: &mut Written) {

@@ -251,7 +251,8 @@ fn replay_scripts(
         }
         again.push(end_again(alloc, city, scripts, end)?).ok()?;
     }
-    output_bytes(alloc, FIXED_SEED, city, again.as_slice(), 0).ok()
+    let (bytes, _) = output_bytes(alloc, FIXED_SEED, city, again.as_slice(), 0).ok()?;
+    Some(bytes)
 }
 
 /// Whether the scripts of these ends give these bytes when they are played one at a time in this order: the report, then

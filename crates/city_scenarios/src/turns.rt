@@ -64,7 +64,7 @@ fn add_closed(alloc: Global, desk: Desk<ListShelf>, answer: &mut Written) {
 /// Adds a report and a model, and what each change sets and takes out.
 fn add_left(alloc: Global, city: &City, ends: &[End], shelf: &ListShelf, answer: &mut Written) {
     match output_bytes(alloc, FIXED_SEED, city, ends, 0) {
-        Ok(bytes) => answer.add_bytes(bytes.as_slice()),
+        Ok((bytes, _)) => answer.add_bytes(bytes.as_slice()),
         Err(OutOfMemory) => answer.run_out(),
     }
     add_changes(shelf.changes(), answer);

@@ -180,9 +180,9 @@ answer_within workers watch decimals model scripts options r of = within model s
     is = options_within workers watch decimals options of
 
     within : (m s : Option Text) (a : Answer) → AnswersPlaces options m s a → IfOk a HasOptions
-    within (Some m) (Some s) (Ok (Asked.Files other a b)) answers =
+    within (Some m) (Some s) (Ok (Asked.Files other d a b)) answers =
         subst AreWithin (sym (files_options other options a.now b.now m s answers)) is
-    within (Some m) (Some s) (Ok (Asked.Input other)) answers = absurd (cc)
+    within (Some m) (Some s) (Ok (Asked.Input other d)) answers = absurd (cc)
     within (Some m) (Some s) (Ok (Asked.Text text)) answers = tt
     within (Some m) None (Ok a) answers =
         let bad : false ≡ true = answers in

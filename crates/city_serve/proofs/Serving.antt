@@ -1,28 +1,34 @@
--- What is written of a run is served of its texts; and what holds of two texts holds of the two parts of an input,
--- where
--- they are the parts of what was read of it.
-use Rattle.city_serve.proofs.Prelude.{◌≡◌, ℕ, List, Bool, true, Option, Some, None, IfSome, sym, subst, Vec, Appends}
-use Rattle.city_serve.proofs.Prelude.{End, ServeFault, AppendsSome, AreServedBy, document_part}
-use Rattle.city_model.specs.SerialEnds.{commits_in}
+-- What is delivered of a run is served of its texts; and what holds of two texts holds of the two parts of an input,
+-- where they are the parts of what was read of it.
+use Rattle.city_serve.proofs.Prelude.{◌≡◌, ◌++◌, ℕ, List, Bool, true, Option, Some, None, IfSome, sym, subst, take, drop}
+use Rattle.city_serve.proofs.Prelude.{Vec, Appends, End, ServeFault, AreServedBy, document_part, written_by, faults_by}
+use Rattle.std.proofs.lemmas.List.{take-append-drop}
 use Rattle.city_desk.specs.InTurn.{AreInTurn}
-use Rattle.city_crew.specs.Seen.{AreSeen}
+use Rattle.city_serve.specs.declared.options.Options.{Options}
+use Rattle.city_serve.specs.RunOptions.{plain_destination}
+use Rattle.city_serve.specs.Destinations.{Folder, IsCutAt, IsRunInParts, IsDelivered, IsDeliveryFault, bytes_to_writer}
 use Rattle.city_serve.specs.ServedTexts.{Written, Faults, WhereAlone, AreCutShortBy, IsTextsFaultBy}
 use Rattle.city_serve.specs.Served.{read_of, scripts_part, IsServeFaultBy}
 
--- a reader that tells no bytes promises nothing of them
-of_known : (P : List ℕ → Type 0) (input : Option (List ℕ)) (read : List ℕ) → IfSome input (λ all. read ≡ read_of all)
+-- what holds of what was read holds of the input, where that is known
+pub of_known : (P : List ℕ → Type 0) (input : Option (List ℕ)) (read : List ℕ) → IfSome input (λ all. read ≡ read_of all)
     → P read → IfSome input (λ all. P (read_of all))
 of_known P None read is h = tt
 of_known P (Some all) read is h = subst P is h
 
-module _ (input : Option (List ℕ)) (read document scripts : List ℕ)
-    (is : IfSome input (λ all. read ≡ read_of all)) (first : document ≡ document_part read)
-    (rest : scripts ≡ scripts_part read) where
+-- what holds of two texts holds of those that an input and files are known to have
+module _ (input : Option (List ℕ)) (document scripts : List ℕ)
+    (first : IfSome input (λ all. document ≡ document_part (read_of all)))
+    (rest : IfSome input (λ all. scripts ≡ scripts_part (read_of all))) where
   pub of_input : (P : List ℕ → List ℕ → Type 0) → P document scripts
       → IfSome input (λ all. P (document_part (read_of all)) (scripts_part (read_of all)))
-  of_input P h =
-      of_known (λ r. P (document_part r) (scripts_part r)) input read is
-      (subst (λ s. P (document_part read) s) rest (subst (λ d. P d scripts) first h))
+  of_input P h = both input first rest
+    where
+      both : (known : Option (List ℕ)) → IfSome known (λ all. document ≡ document_part (read_of all))
+          → IfSome known (λ all. scripts ≡ scripts_part (read_of all))
+          → IfSome known (λ all. P (document_part (read_of all)) (scripts_part (read_of all)))
+      both None d s = tt
+      both (Some all) d s = subst (λ t. P (document_part (read_of all)) t) s (subst (λ t. P t scripts) d h)
 
   pub fault_of_input : (ran : Written) (faults : Faults) (workers viewers : ℕ) (old new : Option (List ℕ))
       (reader_failed failed : Bool)
@@ -34,26 +40,54 @@ module _ (input : Option (List ℕ)) (read document scripts : List ℕ)
   fault_of_input ran faults workers viewers old new reader_failed failed ServeFault.Write h =
       (of_input (λ d s. AreCutShortBy ran d s workers viewers old new) h.0, h.1)
 
--- a run on two texts, whose bytes a writer was given
-module _ (run : Written) (document scripts : List ℕ) (workers viewers : ℕ) (ends : List End) (bytes : List ℕ)
-    (looks : Vec (Vec ℕ))
-    (ran : run document scripts ends bytes) (in_turn : WhereAlone workers viewers (AreInTurn 0 ends))
-    (old new : Option (List ℕ)) where
-  pub run_served : AreSeen viewers (commits_in ends) looks.items → (seen : Vec (Vec ℕ))
-      → (seen ≡ looks) × Appends old new bytes
-      → AreServedBy run document scripts workers viewers seen.items old new
-  run_served looked seen is = record {
-    ends = ends;
-    bytes = bytes;
-    ran = ran;
+pub of_files : (first second : Option (List ℕ)) (P : List ℕ → List ℕ → Type 0) (document scripts : List ℕ)
+    → IfSome first (λ all. document ≡ all) → IfSome second (λ all. scripts ≡ all) → P document scripts
+    → IfSome first (λ d. IfSome second (λ s. P d s))
+of_files None second P document scripts is too h = tt
+of_files (Some d) None P document scripts is too h = tt
+of_files (Some d) (Some s) P document scripts is too h = subst (λ t. P d t) too (subst (λ t. P t scripts) is h)
+
+-- ---- where the output goes
+
+-- a run on two texts, cut behind its report
+module _ (options : Options) (document scripts : List ℕ) (ends : List End) (bytes : List ℕ) (n : ℕ)
+    (ran : written_by options.decimals document scripts ends bytes)
+    (in_turn : WhereAlone options.workers options.viewers (AreInTurn 0 ends))
+    (cut : IsCutAt options.decimals ends bytes n) where
+  pub in_parts : IsRunInParts options document scripts ends (take n bytes) (drop n bytes)
+  in_parts = record {
+    ran = subst (written_by options.decimals document scripts ends) (sym (take-append-drop n bytes)) ran;
     in_turn = in_turn;
-    written = is.1;
-    looked = subst (λ (s : Vec (Vec ℕ)). AreSeen viewers (commits_in ends) s.items) (sym is.0) looked;
+    report_is = cut.1;
   }
 
-  pub run_unwritten : (faults : Faults) (failed : Bool) (f : ServeFault)
-      → (f ≡ ServeFault.Write) × (failed ≡ true) × AppendsSome old new bytes
-      → IsTextsFaultBy run faults document scripts workers viewers old new failed f
-  run_unwritten faults failed f is =
-      subst (IsTextsFaultBy run faults document scripts workers viewers old new failed) (sym is.0)
-      (record { ends = ends; bytes = bytes; ran = ran; in_turn = in_turn; written = is.2 }, is.1)
+-- what follows its report, whatever the ends, is served as it is
+module _ {options : Options} {document scripts : List ℕ} {before after : Folder} {old new : Option (List ℕ)} where
+  pub served_whole : (seen : List (Vec ℕ)) (withheld : Bool)
+      → IsDelivered plain_destination options document scripts seen withheld before after old new
+      → AreServedBy (written_by options.decimals) document scripts options.workers options.viewers seen old new
+  served_whole seen withheld d = record {
+    ends = d.ends;
+    bytes = d.report ++ d.model;
+    ran = d.run.ran;
+    in_turn = d.run.in_turn;
+    looked = d.looked;
+    written = subst (λ b. Appends old new (bytes_to_writer None b d.report d.model)) d.withheld_is d.written;
+  }
+
+  pub fault_whole : (files_failed failed : Bool) (f : ServeFault)
+      → IsDeliveryFault plain_destination options document scripts before after files_failed old new failed f
+      → IsTextsFaultBy (written_by options.decimals) (faults_by options.decimals) document scripts options.workers
+      options.viewers old new failed f
+  fault_whole files_failed failed ServeFault.Read h = absurd h
+  fault_whole files_failed failed (ServeFault.Run f) h = (h.0, h.2)
+  fault_whole files_failed failed ServeFault.Write h = (
+    record {
+      ends = h.0.ends;
+      bytes = h.0.report ++ h.0.model;
+      ran = h.0.run.ran;
+      in_turn = h.0.run.in_turn;
+      written = h.0.written;
+    },
+    h.1,
+  )

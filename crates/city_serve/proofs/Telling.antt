@@ -5,7 +5,7 @@ use Rattle.city_serve.proofs.Prelude.{Asked, ServeFault, seen_text, EndsAsked, I
 use Rattle.std.proofs.Common.{get_or}
 use Rattle.std.proofs.lemmas.List.{drop_more}
 use Rattle.city_serve.specs.declared.program.Status.{Status}
-use Rattle.city_serve.specs.Programs.{Folder, IsAnswered, IsToldFault, IsUnanswered, seen_lines}
+use Rattle.city_serve.specs.Programs.{Streams, IsAnswered, IsToldFault, IsUnanswered, seen_lines}
 use Rattle.city_serve.specs.inside.Telling.{IsToldAfter}
 use Rattle.city_serve.proofs.KnownBytes.{appends_more}
 
@@ -36,17 +36,18 @@ told_next viewer all seen given u v w before after within at same told line fine
 
 -- ---- how the program ends
 
-module _ (asked : Asked) (files : Folder) (input : Option (List ℕ)) (reader_failed : Bool) (old new : Option (List ℕ))
-    (failed : Bool) (told telling : Option (List ℕ)) (mute : Bool) where
-  pub ends_told : (status : Status) (seen : List (Vec ℕ)) → IsAnswered files input asked seen old new
-      → IsSeenTold status told telling mute seen
-      → EndsAsked asked status files input reader_failed old new failed told telling mute
-  ends_told Status.Done seen answered lines = record { seen = seen; answered = answered; seen_told = lines }
-  ends_told Status.Failed seen answered lines = inr (seen, answered)
-  ends_told Status.Refused seen answered lines = absurd lines
+module _ (asked : Asked) (s : Streams) (told telling : Option (List ℕ)) (mute : Bool) where
+  pub ends_told : (status : Status) (seen : List (Vec ℕ)) (withheld : Bool) → IsAnswered s asked seen withheld
+      → IsSeenTold withheld status told telling mute seen → EndsAsked asked status s told telling mute
+  ends_told Status.Done seen withheld answered lines =
+      record { seen = seen; answered = subst (IsAnswered s asked seen) lines.0 answered; seen_told = lines.1 }
+  ends_told Status.Withheld seen withheld answered lines =
+      record { seen = seen; answered = subst (IsAnswered s asked seen) lines.0 answered; seen_told = lines.1 }
+  ends_told Status.Failed seen withheld answered lines = inr (seen, withheld, answered)
+  ends_told Status.Refused seen withheld answered lines = absurd lines
 
-  pub ends_faulty : (before : Bool) (f : ServeFault) → IsUnanswered files input reader_failed asked old new failed f
+  pub ends_faulty : (before : Bool) (f : ServeFault) → IsUnanswered s asked f
       → ((line : List ℕ) × IsToldFault f line × IsToldAfter before told telling mute line)
-      → EndsAsked asked Status.Failed files input reader_failed old new failed told telling mute
+      → EndsAsked asked Status.Failed s told telling mute
   ends_faulty before f unanswered line =
       inl (record { fault = f; unanswered = unanswered; line = line.0; line_is = line.1; why = line.2.0 })

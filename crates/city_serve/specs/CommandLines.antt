@@ -9,7 +9,8 @@ use Rattle.city_crew.specs.Limits.{max_workers, max_viewers}
 use Rattle.city_serve.specs.declared.command_line.Asked.{Asked}
 use Rattle.city_serve.specs.declared.command_line.LineFault.{LineFault}
 use Rattle.city_serve.specs.declared.options.Options.{Options}
-use Rattle.city_serve.specs.RunOptions.{AreWithin}
+use Rattle.city_serve.specs.declared.options.Destination.{Destination}
+use Rattle.city_serve.specs.RunOptions.{AreWithin, plain_destination}
 
 -- the word is no option: it doesn't begin with a hyphen
 abbrev pub IsName : List ℕ → Type 0
@@ -29,24 +30,24 @@ AreOptionsOf workers watch decimals options =
 
 -- what is asked for is a text, or a run with such options
 abbrev pub HasOptions : Asked → Type 0
-HasOptions (Asked.Input options) = AreWithin options
-HasOptions (Asked.Files options model scripts) = AreWithin options
+HasOptions (Asked.Input options destination) = AreWithin options
+HasOptions (Asked.Files options destination model scripts) = AreWithin options
 HasOptions (Asked.Text text) = ⊤
 
 -- the files that are asked for, and the options
 abbrev pub files_of : Asked → Option (Options × List ℕ × List ℕ)
-files_of (Asked.Files options model scripts) = Some (options, model.now, scripts.now)
+files_of (Asked.Files options destination model scripts) = Some (options, model.now, scripts.now)
 files_of _ = None
 
 abbrev pub IsWantOfMemory : Result Asked LineFault → Type 0
 IsWantOfMemory r = r ≡ Err LineFault.OutOfMemory
 
 -- names alone: no name asks for standard input, two ask for these files, and any other number is refused
-abbrev pub AnswersNames : Options → List (List ℕ) → Result Asked LineFault → Type 0
-AnswersNames options [] r = (r ≡ Ok (Asked.Input options)) ⊎ IsWantOfMemory r
-AnswersNames options (model ∷ scripts ∷ []) r =
+abbrev pub AnswersNames : Options → Destination → List (List ℕ) → Result Asked LineFault → Type 0
+AnswersNames options destination [] r = (r ≡ Ok (Asked.Input options destination)) ⊎ IsWantOfMemory r
+AnswersNames options destination (model ∷ scripts ∷ []) r =
     IsOkAnd r (λ a. files_of a ≡ Some (options, model, scripts)) ⊎ IsWantOfMemory r
-AnswersNames options _ r = IsErr r
+AnswersNames options destination _ r = IsErr r
 
 -- a text is to be shown, as help is
 abbrev pub IsText : Asked → Type 0
@@ -102,5 +103,5 @@ pub data IsLineOf : Option (List ℕ) → Option (List ℕ) → Bool → List (L
 abbrev pub AnswersOptions
     : Option (List ℕ) → Option (List ℕ) → Bool → List (List ℕ) → Result Asked LineFault → Type 0
 AnswersOptions workers watch decimals names r =
-    ((options : Options) → AreOptionsOf workers watch decimals options → AnswersNames options names r)
+    ((options : Options) → AreOptionsOf workers watch decimals options → AnswersNames options plain_destination names r)
     × (((options : Options) → ¬ AreOptionsOf workers watch decimals options) → IsErr r)

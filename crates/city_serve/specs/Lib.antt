@@ -1,5 +1,6 @@
 pub mod CommandLines
 pub mod Decimals
+pub mod Destinations
 pub mod FaultTexts
 pub mod Programs
 pub mod RunOptions

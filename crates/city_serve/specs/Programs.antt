@@ -9,27 +9,38 @@ use Rattle.city_serve.specs.declared.fault.ServeFault.{ServeFault}
 use Rattle.city_serve.specs.declared.program.Status.{Status}
 use Rattle.city_serve.specs.CommandLines.{IsName, IsLineOf, AnswersNames, AnswersOptions, AsksForText, HasOptions}
 use Rattle.city_serve.specs.CommandLines.{IsShown, MeetsUnknownOption}
-use Rattle.city_serve.specs.RunOptions.{plain_options}
-use Rattle.city_serve.specs.Decimals.{written_by, faults_by}
+use Rattle.city_serve.specs.Destinations.{Folder, IsDelivered, IsDeliveryFault}
+use Rattle.city_serve.specs.RunOptions.{plain_options, plain_destination}
 use Rattle.city_serve.specs.FaultTexts.{fault_text}
 use Rattle.city_serve.specs.SeenTexts.{seen_text}
-use Rattle.city_serve.specs.Served.{IsServedBy, IsServeFaultBy, IsDeviceFault}
-use Rattle.city_serve.specs.ServedTexts.{AppendsSome, AreServedBy, IsTextsFaultBy}
+use Rattle.city_serve.specs.Served.{read_of, document_part, scripts_part, IsDeviceFault}
+use Rattle.city_serve.specs.ServedTexts.{AppendsSome}
 
 abbrev pub status_code : Status → ℕ
 status_code Status.Done = 0
 status_code Status.Failed = 1
 status_code Status.Refused = 2
+status_code Status.Withheld = 3
 
--- the texts of files, by their paths, where they are known
-abbrev pub Folder : Type 0
-Folder = List ℕ → Option (List ℕ)
+-- the files, standard input and standard output, before and after
+pub record Streams : Type 0 where
+  pub before : Folder
+  pub after : Folder
+  -- whether a file couldn't be replaced
+  pub files_failed : Bool
+  -- what standard input has, where it is known, and whether it failed
+  pub input : Option (List ℕ)
+  pub reader_failed : Bool
+  -- what standard output had and has, and whether it failed
+  pub old : Option (List ℕ)
+  pub new : Option (List ℕ)
+  pub failed : Bool
 
 -- ---- what is asked for
 
 -- the words behind the program's name are answered so: what is promised of a command line
 pub record AsksFor (arguments : List (List ℕ)) (asked : Result Asked LineFault) : Type 0 where
-  pub names : All IsName arguments → AnswersNames plain_options arguments asked
+  pub names : All IsName arguments → AnswersNames plain_options plain_destination arguments asked
   pub shown : (word : List ℕ) (rest : List (List ℕ)) → AsksForText word → arguments ≡ word ∷ rest → IsShown asked
   pub unknown : MeetsUnknownOption arguments → IsErr asked
   pub options : (workers watch : Option (List ℕ)) (decimals : Bool) (names : List (List ℕ))
@@ -38,29 +49,41 @@ pub record AsksFor (arguments : List (List ℕ)) (asked : Result Asked LineFault
 
 -- ---- how it is answered
 
--- output has got what is asked for, and no other bytes: what is served of the input or of the two files, the
--- model's first, or the text
-abbrev pub IsAnswered : Folder → Option (List ℕ) → Asked → List (Vec ℕ) → Option (List ℕ) → Option (List ℕ) → Type 0
-IsAnswered files input (Asked.Input options) seen old new = IfSome input (λ all.
-    IsServedBy (written_by options.decimals) all options.workers options.viewers seen old new)
-IsAnswered files input (Asked.Files options model scripts) seen old new =
-    IfSome (files model.now) (λ document. IfSome (files scripts.now) (λ commands.
-    AreServedBy (written_by options.decimals) document commands options.workers options.viewers seen old new))
-IsAnswered files input (Asked.Text text) seen old new = (seen ≡ []) × Appends old new (string_bytes text)
+-- what holds of the two texts that are asked for, where they are known: those of the input, or of the two files, the
+-- model's first
+abbrev pub OfTexts : Streams → Asked → (List ℕ → List ℕ → Type 0) → Type 0
+OfTexts s (Asked.Input options destination) P =
+    IfSome s.input (λ all. P (document_part (read_of all)) (scripts_part (read_of all)))
+OfTexts s (Asked.Files options destination model scripts) P =
+    IfSome (s.before model.now) (λ document. IfSome (s.before scripts.now) (λ commands. P document commands))
+OfTexts s (Asked.Text text) P = ⊤
 
--- why it isn't, and what output has got then: nothing, where the reader, a file or the run is at fault
-abbrev pub IsUnanswered : Folder → Option (List ℕ) → Bool → Asked → Option (List ℕ) → Option (List ℕ) → Bool
-    → ServeFault → Type 0
-IsUnanswered files input reader_failed (Asked.Input options) old new failed f =
-    IsServeFaultBy (written_by options.decimals) (faults_by options.decimals) input options.workers options.viewers
-    reader_failed old new failed f
-IsUnanswered files input reader_failed (Asked.Files options model scripts) old new failed f =
-    (IsDeviceFault true f × Keeps old new)
-    ⊎ IfSome (files model.now) (λ document. IfSome (files scripts.now) (λ commands.
-    IsTextsFaultBy (written_by options.decimals) (faults_by options.decimals) document commands options.workers
-    options.viewers old new failed f))
-IsUnanswered files input reader_failed (Asked.Text text) old new failed f =
-    (f ≡ ServeFault.Write) × (failed ≡ true) × AppendsSome old new (string_bytes text)
+-- what is asked for is done: the output of a run on the two texts went where it goes, or output has got the text. The
+-- model of a run may be withheld
+abbrev pub IsAnswered : Streams → Asked → List (Vec ℕ) → Bool → Type 0
+IsAnswered s (Asked.Input options destination) seen withheld =
+    OfTexts s (Asked.Input options destination) (λ document scripts.
+    IsDelivered destination options document scripts seen withheld s.before s.after s.old s.new)
+IsAnswered s (Asked.Files options destination model scripts) seen withheld =
+    OfTexts s (Asked.Files options destination model scripts) (λ document commands.
+    IsDelivered destination options document commands seen withheld s.before s.after s.old s.new)
+IsAnswered s (Asked.Text text) seen withheld =
+    (seen ≡ []) × (withheld ≡ false) × (s.after ≡ s.before) × Appends s.old s.new (string_bytes text)
+
+-- the texts couldn't be read: nothing is written
+abbrev pub IsUnread : Streams → Bool → ServeFault → Type 0
+IsUnread s reader_failed f = IsDeviceFault reader_failed f × Keeps s.old s.new × (s.after ≡ s.before)
+
+-- why it isn't done, and what is written then: nothing, where the reader, a file or the run is at fault
+abbrev pub IsUnanswered : Streams → Asked → ServeFault → Type 0
+IsUnanswered s (Asked.Input options destination) f =
+    IsUnread s s.reader_failed f ⊎ OfTexts s (Asked.Input options destination) (λ document scripts.
+    IsDeliveryFault destination options document scripts s.before s.after s.files_failed s.old s.new s.failed f)
+IsUnanswered s (Asked.Files options destination model scripts) f =
+    IsUnread s true f ⊎ OfTexts s (Asked.Files options destination model scripts) (λ document commands.
+    IsDeliveryFault destination options document commands s.before s.after s.files_failed s.old s.new s.failed f)
+IsUnanswered s (Asked.Text text) f =
+    (f ≡ ServeFault.Write) × (s.failed ≡ true) × (s.after ≡ s.before) × AppendsSome s.old s.new (string_bytes text)
 
 -- ---- what is told on standard error
 
@@ -85,52 +108,48 @@ IsToldFault f line = (line ≡ fault_text f ++ 10 ∷ []) ⊎ (line ≡ codes "c
 
 -- ---- how the program ends
 
--- what is asked for stands on output, and on standard error what each viewer saw
-pub record IsDone (asked : Asked) (files : Folder) (input old new told telling : Option (List ℕ)) (mute : Bool)
+-- what is asked for is done, and standard error has got what each viewer saw
+pub record IsDone (asked : Asked) (withheld : Bool) (s : Streams) (told telling : Option (List ℕ)) (mute : Bool)
     : Type 0 where
   pub seen : List (Vec ℕ)
-  pub answered : IsAnswered files input asked seen old new
+  pub answered : IsAnswered s asked seen withheld
   pub seen_told : IsTold told telling mute (seen_lines 0 seen)
 
--- it isn't answered, and standard error has got why
-pub record IsFaulty (asked : Asked) (files : Folder) (input : Option (List ℕ)) (reader_failed : Bool)
-    (old new : Option (List ℕ)) (failed : Bool) (told telling : Option (List ℕ)) (mute : Bool) : Type 0 where
+-- it isn't done, and standard error has got why
+pub record IsFaulty (asked : Asked) (s : Streams) (told telling : Option (List ℕ)) (mute : Bool) : Type 0 where
   pub fault : ServeFault
-  pub unanswered : IsUnanswered files input reader_failed asked old new failed fault
+  pub unanswered : IsUnanswered s asked fault
   pub line : List ℕ
   pub line_is : IsToldFault fault line
   pub why : IsTold told telling mute line
 
 -- what holds at each status once it is known what is asked for: a fault is one of the answer, or of memory for
 -- telling what viewers saw, when all is answered
-abbrev pub EndsAsked : Asked → Status → Folder → Option (List ℕ) → Bool → Option (List ℕ) → Option (List ℕ) → Bool
-    → Option (List ℕ) → Option (List ℕ) → Bool → Type 0
-EndsAsked asked Status.Done files input reader_failed old new failed told telling mute =
-    IsDone asked files input old new told telling mute
-EndsAsked asked Status.Failed files input reader_failed old new failed told telling mute =
-    IsFaulty asked files input reader_failed old new failed told telling mute
-    ⊎ ((seen : List (Vec ℕ)) × IsAnswered files input asked seen old new)
-EndsAsked asked Status.Refused files input reader_failed old new failed told telling mute = ⊥
+abbrev pub EndsAsked : Asked → Status → Streams → Option (List ℕ) → Option (List ℕ) → Bool → Type 0
+EndsAsked asked Status.Done s told telling mute = IsDone asked false s told telling mute
+EndsAsked asked Status.Withheld s told telling mute = IsDone asked true s told telling mute
+EndsAsked asked Status.Failed s told telling mute =
+    IsFaulty asked s told telling mute
+    ⊎ ((seen : List (Vec ℕ)) × (withheld : Bool) × IsAnswered s asked seen withheld)
+EndsAsked asked Status.Refused s told telling mute = ⊥
 
 -- the words ask for it, and the status is that of what is asked for
-pub record EndsAnswered (arguments : List (List ℕ)) (status : Status) (files : Folder) (input : Option (List ℕ))
-    (reader_failed : Bool) (old new : Option (List ℕ)) (failed : Bool) (told telling : Option (List ℕ)) (mute : Bool)
-    : Type 0 where
+pub record EndsAnswered (arguments : List (List ℕ)) (status : Status) (s : Streams) (told telling : Option (List ℕ))
+    (mute : Bool) : Type 0 where
   pub asked : Asked
   pub asks : AsksFor arguments (Ok asked)
-  pub ended : EndsAsked asked status files input reader_failed old new failed told telling mute
+  pub ended : EndsAsked asked status s told telling mute
 
--- the words ask for nothing, or memory was short for them: nothing stands on output, and a refusal is told by its text
-pub record EndsRefused (arguments : List (List ℕ)) (status : Status) (old new told telling : Option (List ℕ))
+-- the words ask for nothing, or memory was short for them: nothing is written, and a refusal is told by its text
+pub record EndsRefused (arguments : List (List ℕ)) (status : Status) (s : Streams) (told telling : Option (List ℕ))
     (mute : Bool) : Type 0 where
   pub fault : LineFault
   pub asks : AsksFor arguments (Err fault)
-  pub kept : Keeps old new
+  pub kept : Keeps s.old s.new
+  pub same : s.after ≡ s.before
   pub line : IsLineTold status fault told telling mute
 
 -- what holds of how the program ends
-abbrev pub Ends : List (List ℕ) → Status → Folder → Option (List ℕ) → Bool → Option (List ℕ) → Option (List ℕ) → Bool
-    → Option (List ℕ) → Option (List ℕ) → Bool → Type 0
-Ends arguments status files input reader_failed old new failed told telling mute =
-    EndsAnswered arguments status files input reader_failed old new failed told telling mute
-    ⊎ EndsRefused arguments status old new told telling mute
+abbrev pub Ends : List (List ℕ) → Status → Streams → Option (List ℕ) → Option (List ℕ) → Bool → Type 0
+Ends arguments status s told telling mute =
+    EndsAnswered arguments status s told telling mute ⊎ EndsRefused arguments status s told telling mute

@@ -2,14 +2,14 @@
 ghost use Rattle.std.specs.Prelude.{◌≡◌, ◌≢◌, ◌⊎◌, ◌≤◌, ◌∷◌, ℕ, Bool, false, List, Option, Some, None, Ok, Err};
 ghost use Rattle.std.specs.Prelude.{All, drop, map, option_map, string_bytes, IfOk, IsErr, MatchOption, MatchResult};
 ghost use Rattle.clap.specs.Words.{app_of, kind_of, rule_of};
-ghost use Rattle.city_serve.specs.RunOptions.{plain_options};
+ghost use Rattle.city_serve.specs.RunOptions.{plain_options, plain_destination};
 ghost use Rattle.city_serve.specs.CommandLines.{IsName, IsLineOf, AnswersNames, AnswersOptions};
 ghost use Rattle.city_serve.specs.CommandLines.{AreOptionsOf, AsksForText, HasOptions, IsCount, IsShown};
 ghost use Rattle.city_serve.specs.CommandLines.{MeetsUnknownOption};
 ghost use Rattle.city_serve.specs.inside.CommandShape.{cityed_command, files_command, flag_rule, option_rule};
 ghost use Rattle.city_serve.specs.inside.CommandShape.{AnswersPlaces};
 
-use crate::options::Options;
+use crate::options::{Destination, Options};
 use city_crew::{MAX_VIEWERS, MAX_WORKERS};
 use city_model::OutOfMemory;
 use clap::error::ErrorKind;
@@ -62,9 +62,9 @@ A script that is refused ends as \"refused\" in its line, and the status is 0.";
 #[derive(Drop)]
 pub enum Asked<'a> {
     /// To serve standard input.
-    Input(Options),
+    Input(Options, Destination<'a>),
     /// To serve two files, by their paths: the model's and the scripts'.
-    Files(Options, &'a str, &'a str),
+    Files(Options, Destination<'a>, &'a str, &'a str),
     /// To show a text on standard output: help, or the version.
     Text(String),
 }
@@ -97,7 +97,7 @@ impl From<OutOfMemory> for LineFault {
 /// or has no number.
 pub fn asked_by<'a>(alloc: Global, words: &'a [String]) -> Result<Asked<'a>, LineFault>
     ensures names { All IsName (drop 1 (map string_bytes words.now))
-        → AnswersNames plain_options (drop 1 (map string_bytes words.now)) result }
+        → AnswersNames plain_options plain_destination (drop 1 (map string_bytes words.now)) result }
     ensures shown { (word : List ℕ) (rest : List (List ℕ)) → AsksForText word
         → drop 1 (map string_bytes words.now) ≡ word ∷ rest → IsShown result }
     ensures unknown { MeetsUnknownOption (drop 1 (map string_bytes words.now)) → IsErr result }
@@ -234,9 +234,13 @@ fn by_names<'a>(
     ensures { AnswersPlaces options (option_map (λ s. s.now) model.entry)
         (option_map (λ s. s.now) scripts.entry) result }
 {
+    let follows = Destination {
+        file: None,
+        atomic: false,
+    };
     match (model, scripts) {
-        (Some(model), Some(scripts)) => Ok(Asked::Files(options, model, scripts)),
-        (None, _) => Ok(Asked::Input(options)),
+        (Some(model), Some(scripts)) => Ok(Asked::Files(options, follows, model, scripts)),
+        (None, _) => Ok(Asked::Input(options, follows)),
         (Some(_), None) => {
             let kind = ErrorKind::MissingRequiredArgument;
             let error = command.error(kind, "a MODEL was given without SCRIPTS")?;

@@ -1,17 +1,18 @@
 //! Runs scripts on a document where the numbers of both are of any form.
-ghost use Rattle.std.specs.Prelude.{◌≡◌, IfOk, IfErr};
+ghost use Rattle.std.specs.Prelude.{◌≡◌, true, IfOk, IfErr};
 ghost use Rattle.city_model.specs.SerialEnds.{commits_in};
 ghost use Rattle.city_crew.specs.Seen.{AreSeen};
 ghost use Rattle.city_desk.specs.InTurn.{AreInTurn};
 ghost use Rattle.city_serve.specs.RunOptions.{AreWithin};
 ghost use Rattle.city_serve.specs.ServedTexts.{WhereAlone};
 ghost use Rattle.city_serve.specs.Decimals.{IsGiven, IsDecimalsRun, IsFaultOfDecimalsRun};
+ghost use Rattle.city_serve.specs.Destinations.{IsCutAt};
 ghost use Rattle.city_serve.specs.inside.WholeTexts.{HasWholeNumbers};
 
 use crate::options::Options;
 use crate::run::run_whole;
 use city_crew::Gate;
-use city_decimals::{DecimalsFault, decode_lines, encode};
+use city_decimals::{DecimalsFault, decode_lines, decode_lines_onto, encode};
 use city_desk::{Output, RunFault};
 use city_doc::MAX_TEXT;
 use city_model::OutOfMemory;
@@ -36,6 +37,7 @@ pub(crate) fn run_decimals<R: Threads + Wait + Sync, G: Gate + Sync>(
     ensures ran { IfOk result (λ o. IsDecimalsRun document.items scripts.items o.ends o.bytes.items) }
     ensures in_turn { IfOk result (λ o. WhereAlone options.workers options.viewers (AreInTurn 0 o.ends)) }
     ensures seen { IfOk result (λ o. AreSeen options.viewers (commits_in o.ends) o.seen.items) }
+    ensures cut { IfOk result (λ o. IsCutAt true o.ends o.bytes.items o.report) }
     ensures fault { IfErr result (IsFaultOfDecimalsRun document.items scripts.items options.workers options.viewers) }
 {
     let model = encoded(alloc, document)?;
@@ -43,12 +45,21 @@ pub(crate) fn run_decimals<R: Threads + Wait + Sync, G: Gate + Sync>(
     let output = run_whole(rt, alloc, gate, seed, model, commands, options)?;
     // No line nests deeper than it is long.
     let depth = output.bytes.len();
-    match decode_lines(alloc, output.bytes.as_slice(), depth) {
-        Ok(bytes) => Ok(Output { bytes, ..output }),
-        // Each line of an output is JSON, so only memory can have run out here. (No clause of what writes the lines
-        // says that they are.)
-        Err(_) => Err(RunFault::OutOfMemory),
-    }
+    let (report, model) = output.bytes.as_slice().split_at(output.report);
+    // Each line of an output is JSON, so only memory can have run out here. (No clause of what writes the lines says
+    // that they are.)
+    let Ok(decoded) = decode_lines(alloc, report, depth) else {
+        return Err(RunFault::OutOfMemory);
+    };
+    let report = decoded.len();
+    let Ok(bytes) = decode_lines_onto(alloc, model, depth, decoded) else {
+        return Err(RunFault::OutOfMemory);
+    };
+    Ok(Output {
+        bytes,
+        report,
+        ..output
+    })
 }
 
 /// What the run is given of a text: the encoded text. A text that is too long or no JSON stays as it is: the run

@@ -37,6 +37,13 @@ impl<D> Device<D> {
             failed: false,
         }
     }
+
+    /// The reader or the writer.
+    pub fn into_inner(self) -> D
+        ensures { result ≡ self.0 }
+    {
+        self.inner
+    }
 }
 
 impl<R: Read> Device<R> {

@@ -29,25 +29,6 @@ pub trait TextFiles {
         ensures fault { IfErr result (IsDeviceFault true) };
 }
 
-/// The files of a runtime.
-#[derive(Drop)]
-pub struct RuntimeFiles<'a, R> {
-    rt: &'a R,
-}
-
-impl<'a, R> RuntimeFiles<'a, R> {
-    /// The files of this runtime.
-    pub fn new(rt: &'a R) -> RuntimeFiles<'a, R> {
-        RuntimeFiles { rt }
-    }
-}
-
-impl<R: Files + AllocGlobal> TextFiles for RuntimeFiles<'_, R> {
-    fn read(&self, path: &str) -> Result<Vec<u8>, ServeFault> {
-        read_file(self.rt, path)
-    }
-}
-
 /// The text that a file has, or where it is too long its first `MAX_TEXT` + 1 bytes.
 ///
 /// A file that can't be opened or read is the fault Read.

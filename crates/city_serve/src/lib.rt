@@ -12,21 +12,28 @@
 
 pub mod command_line;
 mod decimals;
+mod deliver;
 mod device;
 mod fault;
 pub mod fault_line;
 mod files;
+mod no_files;
 mod options;
+mod output_files;
 mod program;
 mod run;
+mod runtime_files;
 mod seed;
 pub mod seen_line;
 pub mod serve;
 pub mod serve_texts;
 
+pub use deliver::Delivered;
 pub use device::Device;
 pub use fault::ServeFault;
-pub use files::{RuntimeFiles, TextFiles, read_file, read_text};
-pub use options::Options;
+pub use files::{TextFiles, read_file, read_text};
+pub use options::{Destination, Options};
+pub use output_files::OutputFiles;
 pub use program::{Status, refuse_line, run_program};
+pub use runtime_files::{NewFile, RuntimeFiles};
 pub use seed::drawn_seed;

@@ -10,3 +10,12 @@ pub struct Options {
     /// Whether numbers of any form are taken, and given back as they were written.
     pub decimals: bool,
 }
+
+/// Where the output of a run goes, and whether all of it does.
+#[derive(Clone, Copy)]
+pub struct Destination<'a> {
+    /// The path of the file that gets the model. Without one the model follows the report.
+    pub file: Option<&'a str>,
+    /// Whether the model goes there only where no script ended refused or out of memory.
+    pub atomic: bool,
+}

@@ -8,13 +8,14 @@ ghost use Rattle.city_serve.specs.Programs.{status_code, IsAnswered, IsUnanswere
 ghost use Rattle.city_serve.specs.inside.Telling.{IsToldAfter, IsSeenTold};
 
 use crate::command_line::{Asked, LineFault, asked_by};
+use crate::deliver::Delivered;
 use crate::device::Device;
 use crate::fault::ServeFault;
 use crate::fault_line::fault_line;
-use crate::files::TextFiles;
+use crate::output_files::OutputFiles;
 use crate::seen_line::seen_line;
-use crate::serve::{serve_input, write_output};
-use crate::serve_texts::serve_owned;
+use crate::serve::{read_input, write_output};
+use crate::serve_texts::serve_to;
 use city_crew::Gate;
 use city_desk::RunFault;
 use city_model::OutOfMemory;
@@ -32,6 +33,8 @@ pub enum Status {
     Failed,
     /// The command line was refused, and standard error says why.
     Refused,
+    /// A script ended refused or out of memory, and so the model was written nowhere, as it was asked for.
+    Withheld,
 }
 
 impl Status {
@@ -43,18 +46,20 @@ impl Status {
             Status::Done => 0,
             Status::Failed => 1,
             Status::Refused => 2,
+            Status::Withheld => 3,
         }
     }
 }
 
 /// Does what the words of a command line ask for, the program's name first.
 ///
-/// Output gets what is served, or the text that is asked for. Errors get a line for each viewer once the output is
-/// written, or why there is none. That errors can't be written changes no status.
+/// Output gets what is served, or the text that is asked for; a file that is to get the model is replaced whole, or
+/// stays as it was. Errors get a line for each viewer once the output is written, or why there is none. That errors
+/// can't be written changes no status.
 pub fn run_program<
     T: Threads + Wait + Sync,
     G: Gate + Sync,
-    F: TextFiles,
+    F: OutputFiles,
     R: Read,
     W: Write,
     E: Write,
@@ -63,14 +68,23 @@ pub fn run_program<
     alloc: Global,
     gate: &G,
     seed: u64,
-    files: &F,
+    files: &mut F,
     words: &[String],
     input: &mut Device<R>,
     output: &mut Device<W>,
     errors: &mut Device<E>,
 ) -> Status
-    ensures { Ends (drop 1 (map string_bytes words.now)) result (F.text files.now)
-        (R.remaining input.old.0) input.new.1 (W.contents output.old.0) (W.contents output.new.0) output.new.1
+    ensures { Ends (drop 1 (map string_bytes words.now)) result
+        (record {
+          before = F.text files.old;
+          after = F.text files.new;
+          files_failed = F.have_failed files.new;
+          input = R.remaining input.old.0;
+          reader_failed = input.new.1;
+          old = W.contents output.old.0;
+          new = W.contents output.new.0;
+          failed = output.new.1;
+        })
         (E.contents errors.old.0) (E.contents errors.new.0) errors.new.1 }
 {
     match asked_by(alloc, words) {
@@ -80,71 +94,137 @@ pub fn run_program<
 }
 
 /// Does what is asked for, and tells what viewers saw, or why it isn't done.
-fn run_asked<T: Threads + Wait + Sync, G: Gate + Sync, F: TextFiles, R: Read, W: Write, E: Write>(
+fn run_asked<T: Threads + Wait + Sync, G: Gate + Sync, F: OutputFiles, R: Read, W: Write, E: Write>(
     rt: &T,
     alloc: Global,
     gate: &G,
     seed: u64,
-    files: &F,
+    files: &mut F,
     asked: &Asked<'_>,
     input: &mut Device<R>,
     output: &mut Device<W>,
     errors: &mut Device<E>,
 ) -> Status
     requires { HasOptions asked.now }
-    ensures { EndsAsked asked.now result (F.text files.now)
-        (R.remaining input.old.0) input.new.1 (W.contents output.old.0) (W.contents output.new.0) output.new.1
+    ensures { EndsAsked asked.now result
+        (record {
+          before = F.text files.old;
+          after = F.text files.new;
+          files_failed = F.have_failed files.new;
+          input = R.remaining input.old.0;
+          reader_failed = input.new.1;
+          old = W.contents output.old.0;
+          new = W.contents output.new.0;
+          failed = output.new.1;
+        })
         (E.contents errors.old.0) (E.contents errors.new.0) errors.new.1 }
 {
     match answer(rt, alloc, gate, seed, files, asked, input, output) {
-        Ok(seen) => tell_seen(alloc, seen.as_slice(), errors),
+        Ok(delivered) => tell_seen(alloc, delivered.seen.as_slice(), delivered.withheld, errors),
         Err(fault) => tell_fault(alloc, &fault, errors),
     }
 }
 
-/// Writes what is asked for, and gives what viewers saw. MODEL is read to its end before SCRIPTS is opened.
-fn answer<T: Threads + Wait + Sync, G: Gate + Sync, F: TextFiles, R: Read, W: Write>(
+/// Writes what is asked for. MODEL is read to its end before SCRIPTS is opened.
+fn answer<T: Threads + Wait + Sync, G: Gate + Sync, F: OutputFiles, R: Read, W: Write>(
     rt: &T,
     alloc: Global,
     gate: &G,
     seed: u64,
-    files: &F,
+    files: &mut F,
     asked: &Asked<'_>,
     input: &mut Device<R>,
     output: &mut Device<W>,
-) -> Result<Vec<Vec<u64>>, ServeFault>
+) -> Result<Delivered, ServeFault>
     requires { HasOptions asked.now }
-    ensures answered { IfOk result (λ seen. IsAnswered (F.text files.now) (R.remaining input.old.0) asked.now seen.items
-        (W.contents output.old.0) (W.contents output.new.0)) }
-    ensures fault { IfErr result (IsUnanswered (F.text files.now) (R.remaining input.old.0) input.new.1 asked.now
-        (W.contents output.old.0) (W.contents output.new.0) output.new.1) }
+    ensures answered { IfOk result (λ d. IsAnswered
+        (record {
+          before = F.text files.old;
+          after = F.text files.new;
+          files_failed = F.have_failed files.new;
+          input = R.remaining input.old.0;
+          reader_failed = input.new.1;
+          old = W.contents output.old.0;
+          new = W.contents output.new.0;
+          failed = output.new.1;
+        })
+        asked.now d.seen.items d.withheld) }
+    ensures fault { IfErr result (IsUnanswered
+        (record {
+          before = F.text files.old;
+          after = F.text files.new;
+          files_failed = F.have_failed files.new;
+          input = R.remaining input.old.0;
+          reader_failed = input.new.1;
+          old = W.contents output.old.0;
+          new = W.contents output.new.0;
+          failed = output.new.1;
+        })
+        asked.now) }
 {
     match asked {
         Asked::Text(text) => {
             if !write_output(output, text.as_bytes()) {
                 return Err(ServeFault::Write);
             }
-            Ok(Vec::new(alloc))
+            Ok(Delivered {
+                seen: Vec::new(alloc),
+                withheld: false,
+            })
         }
-        Asked::Input(options) => serve_input(rt, alloc, gate, seed, input, output, *options),
-        Asked::Files(options, model, scripts) => {
+        Asked::Input(options, destination) => {
+            let (document, scripts) = read_input(alloc, input)?;
+            serve_to(
+                rt,
+                alloc,
+                gate,
+                seed,
+                document,
+                scripts,
+                files,
+                *destination,
+                output,
+                *options,
+            )
+        }
+        Asked::Files(options, destination, model, scripts) => {
             let document = files.read(*model)?;
-            let scripts = files.read(*scripts)?;
-            serve_owned(rt, alloc, gate, seed, document, scripts, output, *options)
+            let commands = files.read(*scripts)?;
+            serve_to(
+                rt,
+                alloc,
+                gate,
+                seed,
+                document,
+                commands,
+                files,
+                *destination,
+                output,
+                *options,
+            )
         }
     }
 }
 
-/// Tells what each viewer saw. The output is written by then: where errors can't be, the status is that of success.
-fn tell_seen<E: Write>(alloc: Global, seen: &[Vec<u64>], errors: &mut Device<E>) -> Status
-    ensures { IsSeenTold result (E.contents errors.old.0) (E.contents errors.new.0) errors.new.1 seen.now }
+/// Tells what each viewer saw. The output is written by then: where errors can't be, the status is that of the run.
+fn tell_seen<E: Write>(
+    alloc: Global,
+    seen: &[Vec<u64>],
+    withheld: bool,
+    errors: &mut Device<E>,
+) -> Status
+    ensures { IsSeenTold withheld result (E.contents errors.old.0) (E.contents errors.new.0) errors.new.1 seen.now }
 {
     for (viewer, numbers) in seen.iter().enumerate() {
         let Ok(()) = tell_viewer(alloc, viewer, numbers.as_slice(), errors) else {
             return tell_fault(alloc, &ServeFault::Run(RunFault::OutOfMemory), errors);
         };
     }
-    Status::Done
+    if withheld {
+        Status::Withheld
+    } else {
+        Status::Done
+    }
 }
 
 /// Tells what a viewer saw.

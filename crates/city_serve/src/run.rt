@@ -1,12 +1,14 @@
 //! Runs a text of scripts by as many workers, before as many viewers, and with such numbers as are asked for.
-ghost use Rattle.std.specs.Prelude.{IfOk, IfErr};
+ghost use Rattle.std.specs.Prelude.{◌≡◌, false, length, IfOk, IfErr};
 ghost use Rattle.city_model.specs.SerialEnds.{commits_in};
 ghost use Rattle.city_crew.specs.Seen.{AreSeen};
 ghost use Rattle.city_desk.specs.InTurn.{AreInTurn};
 ghost use Rattle.city_desk.specs.TextRuns.{IsRun};
 ghost use Rattle.city_serve.specs.RunOptions.{AreWithin};
 ghost use Rattle.city_serve.specs.ServedTexts.{IsFaultOfRun, WhereAlone};
+ghost use Rattle.city_doc.specs.report.Reports.{report_text};
 ghost use Rattle.city_serve.specs.Decimals.{written_by, faults_by};
+ghost use Rattle.city_serve.specs.Destinations.{IsCutAt};
 
 use crate::decimals::run_decimals;
 use crate::options::Options;
@@ -31,6 +33,7 @@ pub(crate) fn run<R: Threads + Wait + Sync, G: Gate + Sync>(
     ensures ran { IfOk result (λ o. written_by options.decimals document.items scripts.items o.ends o.bytes.items) }
     ensures in_turn { IfOk result (λ o. WhereAlone options.workers options.viewers (AreInTurn 0 o.ends)) }
     ensures seen { IfOk result (λ o. AreSeen options.viewers (commits_in o.ends) o.seen.items) }
+    ensures cut { IfOk result (λ o. IsCutAt options.decimals o.ends o.bytes.items o.report) }
     ensures fault { IfErr result
         (faults_by options.decimals document.items scripts.items options.workers options.viewers) }
 {
@@ -56,6 +59,8 @@ pub(crate) fn run_whole<R: Threads + Wait + Sync, G: Gate + Sync>(
     ensures ran { IfOk result (λ o. IsRun document.items scripts.items o.ends o.bytes.items) }
     ensures in_turn { IfOk result (λ o. WhereAlone options.workers options.viewers (AreInTurn 0 o.ends)) }
     ensures seen { IfOk result (λ o. AreSeen options.viewers (commits_in o.ends) o.seen.items) }
+    ensures cut { IfOk result (λ o. IsCutAt false o.ends o.bytes.items o.report) }
+    ensures report { IfOk result (λ o. o.report ≡ length (report_text o.ends)) }
     ensures fault { IfErr result (IsFaultOfRun document.items scripts.items options.workers options.viewers) }
 {
     let (model, commands) = (document.as_slice(), scripts.as_slice());

@@ -3,7 +3,7 @@ ghost use Rattle.std.specs.Prelude.{◌≡◌, ◌≤◌, true, false, IfOk, IfE
 ghost use Rattle.std.specs.Io.KnownBytes.{Appends};
 ghost use Rattle.city_crew.specs.Limits.{max_workers, max_viewers};
 ghost use Rattle.city_serve.specs.RunOptions.{AreWithin};
-ghost use Rattle.city_serve.specs.Served.{is_newline, max_input, document_part, scripts_part, IsDeviceFault};
+ghost use Rattle.city_serve.specs.Served.{is_newline, max_input, read_of, document_part, scripts_part, IsDeviceFault};
 ghost use Rattle.city_serve.specs.Served.{IsServed, IsServedBy, IsServeFault, IsServeFaultBy};
 ghost use Rattle.city_serve.specs.Decimals.{written_by, faults_by};
 ghost use Rattle.city_serve.specs.ServedTexts.{LosesAtMost, AppendsSome};
@@ -30,11 +30,11 @@ const PIECE: usize = 64 * 1024;
 /// Reads a document and, after the first newline, scripts; runs the scripts on the document; writes
 /// the output.
 ///
-/// Workers are 1 to `MAX_WORKERS`, viewers 0 to `MAX_VIEWERS`. No more bytes are taken from the reader
-/// than 2 * `MAX_TEXT` + 2. Without a newline there are no scripts. Where the reader fails, or the run has no output,
-/// nothing is written; where the writer fails, it has got the first bytes of the output. `Read` and `Write` come only
-/// where the reader or the writer has failed, and where either fails in this call there is no `Ok`. The answer has,
-/// for each viewer, the numbers of changes that it saw.
+/// Workers are 1 to `MAX_WORKERS`, viewers 0 to `MAX_VIEWERS`, and neither device has failed yet. No more bytes are
+/// taken from the reader than 2 * `MAX_TEXT` + 2. Without a newline there are no scripts. Where the reader fails, or the
+/// run has no output, nothing is written; where the writer fails, it has got the first bytes of the output. `Read` and
+/// `Write` come only where the reader or the writer fails, and where either does there is no `Ok`. The answer has, for
+/// each viewer, the numbers of changes that it saw.
 pub fn serve<T: Threads + Wait + Sync, R: Read, W: Write>(
     rt: &T,
     alloc: Global,
@@ -45,6 +45,7 @@ pub fn serve<T: Threads + Wait + Sync, R: Read, W: Write>(
 ) -> Result<Vec<Vec<u64>>, ServeFault>
     requires workers { (1 ≤ workers) × (workers ≤ max_workers) }
     requires viewers { viewers ≤ max_viewers }
+    requires fresh { (reader.old.1 ≡ false) × (writer.old.1 ≡ false) }
     ensures served { IfOk result (λ seen. IfSome (R.remaining reader.old.0) (λ input.
         IsServed input workers viewers seen.items (W.contents writer.old.0) (W.contents writer.new.0))) }
     ensures taken { LosesAtMost max_input (R.remaining reader.old.0) (R.remaining reader.new.0) }
@@ -81,9 +82,26 @@ pub fn serve_input<T: Threads + Wait + Sync, G: Gate + Sync, R: Read, W: Write>(
         (R.remaining reader.old.0) options.workers options.viewers reader.new.1
         (W.contents writer.old.0) (W.contents writer.new.0) writer.new.1) }
 {
-    let input = read_at_most(alloc, reader, MOST)?;
-    let (document, scripts) = split(alloc, input)?;
+    let (document, scripts) = read_input(alloc, reader)?;
     serve_owned(rt, alloc, gate, seed, document, scripts, writer, options)
+}
+
+/// Reads a document and, after the first newline, scripts. No more bytes are taken from the reader than
+/// 2 * `MAX_TEXT` + 2, and without a newline there are no scripts.
+pub(crate) fn read_input<R: Read>(
+    alloc: Global,
+    reader: &mut Device<R>,
+) -> Result<(Vec<u8>, Vec<u8>), ServeFault>
+    ensures document { IfOk result (λ r. IfSome (R.remaining reader.old.0) (λ all.
+        r.0.items ≡ document_part (read_of all))) }
+    ensures scripts { IfOk result (λ r. IfSome (R.remaining reader.old.0) (λ all.
+        r.1.items ≡ scripts_part (read_of all))) }
+    ensures taken { LosesAtMost max_input (R.remaining reader.old.0) (R.remaining reader.new.0) }
+    ensures unfailed { OnOk result (reader.new.1 ≡ reader.old.1) }
+    ensures fault { IfErr result (IsDeviceFault reader.new.1) }
+{
+    let input = read_at_most(alloc, reader, MOST)?;
+    Ok(split(alloc, input)?)
 }
 
 /// What a reader gives, up to so many bytes; no more are taken from it.

@@ -1,19 +1,19 @@
 //! Serves a document and its scripts from two texts to a writer.
-ghost use Rattle.std.specs.Prelude.{◌≡◌, ◌≤◌, true, IfOk, IfErr, OnOk};
-ghost use Rattle.std.specs.Io.KnownBytes.{Appends};
+ghost use Rattle.std.specs.Prelude.{◌≡◌, ◌≤◌, IfOk, IfErr, OnOk};
 ghost use Rattle.city_crew.specs.Limits.{max_workers, max_viewers};
-ghost use Rattle.city_serve.specs.declared.fault.ServeFault.{ServeFault};
 ghost use Rattle.city_serve.specs.RunOptions.{AreWithin};
-ghost use Rattle.city_serve.specs.ServedTexts.{AppendsSome, AreServed, AreServedBy, IsTextsFault, IsTextsFaultBy};
+ghost use Rattle.city_serve.specs.ServedTexts.{AreServed, AreServedBy, IsTextsFault, IsTextsFaultBy};
 ghost use Rattle.city_serve.specs.Decimals.{written_by, faults_by};
+ghost use Rattle.city_serve.specs.Destinations.{IsDelivered, IsDeliveryFault};
 
+use crate::deliver::{Delivered, deliver};
 use crate::device::Device;
 use crate::fault::ServeFault;
-use crate::options::Options;
+use crate::no_files::NoFiles;
+use crate::options::{Destination, Options};
+use crate::output_files::OutputFiles;
 use crate::run::run;
-use crate::serve::write_output;
 use city_crew::{Gate, OpenGate};
-use city_desk::Output;
 use city_doc::FIXED_SEED;
 use std::alloc::Global;
 use std::io::Write;
@@ -77,23 +77,51 @@ pub fn serve_owned<R: Threads + Wait + Sync, G: Gate + Sync, W: Write>(
         document.items scripts.items options.workers options.viewers
         (W.contents writer.old.0) (W.contents writer.new.0) writer.new.1) }
 {
-    let output = run(rt, alloc, gate, seed, document, scripts, options)?;
-    write_run(writer, output)
+    let follows = Destination {
+        file: None,
+        atomic: false,
+    };
+    let delivered = serve_to(
+        rt,
+        alloc,
+        gate,
+        seed,
+        document,
+        scripts,
+        &mut NoFiles,
+        follows,
+        writer,
+        options,
+    )?;
+    Ok(delivered.seen)
 }
 
-/// Writes the bytes of a run's output, and gives what its viewers saw.
-pub(crate) fn write_run<W: Write>(
+/// As `serve_owned`, and the output goes where the destination says: the report to the writer, and the model behind it or
+/// to a file, which is replaced whole once the report is written, or stays as it was.
+///
+/// The answer says whether the model was withheld, as an atomic destination asks for where a script ended refused or out
+/// of memory. Every run that is served goes this way.
+pub fn serve_to<R: Threads + Wait + Sync, G: Gate + Sync, F: OutputFiles, W: Write>(
+    rt: &R,
+    alloc: Global,
+    gate: &G,
+    seed: u64,
+    document: Vec<u8>,
+    scripts: Vec<u8>,
+    files: &mut F,
+    destination: Destination<'_>,
     writer: &mut Device<W>,
-    output: Output,
-) -> Result<Vec<Vec<u64>>, ServeFault>
-    ensures written { IfOk result (λ seen.
-        (seen ≡ output.seen) × Appends (W.contents writer.old.0) (W.contents writer.new.0) output.bytes.items) }
+    options: Options,
+) -> Result<Delivered, ServeFault>
+    requires { AreWithin options }
+    ensures delivered { IfOk result (λ d. IsDelivered destination options document.items scripts.items
+        d.seen.items d.withheld (F.text files.old) (F.text files.new)
+        (W.contents writer.old.0) (W.contents writer.new.0)) }
     ensures unfailed { OnOk result (writer.new.1 ≡ writer.old.1) }
-    ensures fault { IfErr result (λ f. (f ≡ ServeFault.Write) × (writer.new.1 ≡ true)
-        × AppendsSome (W.contents writer.old.0) (W.contents writer.new.0) output.bytes.items) }
+    ensures fault { IfErr result (IsDeliveryFault destination options document.items scripts.items
+        (F.text files.old) (F.text files.new) (F.have_failed files.new)
+        (W.contents writer.old.0) (W.contents writer.new.0) writer.new.1) }
 {
-    if !write_output(writer, output.bytes.as_slice()) {
-        return Err(ServeFault::Write);
-    }
-    Ok(output.seen)
+    let output = run(rt, alloc, gate, seed, document, scripts, options)?;
+    deliver(files, seed, destination, writer, output)
 }

@@ -96,7 +96,7 @@ fn are_replayed(alloc: Global, run: &Run, city: &City, ends: &[End]) -> bool {
     let bytes = output_bytes(alloc, FIXED_SEED, city, ends, 0).or(output_bytes(
         alloc, FIXED_SEED, city, ends, 0,
     ));
-    bytes.is_ok_and(|bytes| is_replayed(alloc, run, ends, bytes.as_slice()))
+    bytes.is_ok_and(|(bytes, _)| is_replayed(alloc, run, ends, bytes.as_slice()))
 }
 
 /// Whether the scripts of a desk, which take turns, leave what they leave one at a time.

@@ -34,7 +34,8 @@ fn written_again(alloc: Global, run: &Run, ends: &[End]) -> Option<Vec<u8>> {
             return None;
         }
     }
-    output_bytes(alloc, FIXED_SEED, &city, ends.as_slice(), 0).ok()
+    let (bytes, _) = output_bytes(alloc, FIXED_SEED, &city, ends.as_slice(), 0).ok()?;
+    Some(bytes)
 }
 
 /// What is written of an output's lines, but for `since` and for scripts that ran out of memory.

@@ -22,7 +22,7 @@ fn main(rt: HostRuntime) -> ExitCode {
             rt.alloc(),
             &OpenGate,
             drawn_seed(&rt),
-            &RuntimeFiles::new(&rt),
+            &mut RuntimeFiles::new(&rt),
             words.as_slice(),
             &mut Device::new(rt.reader()),
             &mut Device::new(io::writer(&rt)),

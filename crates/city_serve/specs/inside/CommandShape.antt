@@ -8,6 +8,7 @@ use Rattle.city_serve.specs.declared.command_line.Asked.{Asked}
 use Rattle.city_serve.specs.declared.command_line.LineFault.{LineFault}
 use Rattle.city_serve.specs.declared.options.Options.{Options}
 use Rattle.city_serve.specs.CommandLines.{files_of}
+use Rattle.city_serve.specs.RunOptions.{plain_destination}
 
 -- the command as clap is told of it, without its options: two names of files, and beside help a version
 abbrev pub files_command : App
@@ -33,4 +34,4 @@ cityed_command =
 abbrev pub AnswersPlaces : Options → Option (List ℕ) → Option (List ℕ) → Result Asked LineFault → Type 0
 AnswersPlaces options (Some model) (Some scripts) r = IsOkAnd r (λ a. files_of a ≡ Some (options, model, scripts))
 AnswersPlaces options (Some model) None r = IsErr r
-AnswersPlaces options None scripts r = r ≡ Ok (Asked.Input options)
+AnswersPlaces options None scripts r = r ≡ Ok (Asked.Input options plain_destination)

@@ -1,4 +1,4 @@
-use Rattle.city_serve.proofs.Prelude.{List, ℕ, drop, map, string_bytes, inl, inr, subst}
+use Rattle.city_serve.proofs.Prelude.{List, ℕ, drop, map, string_bytes, inl, inr, refl, subst}
 use Rattle.city_serve.specs.Programs.{AsksFor}
 use Rattle.city_serve.proofs.Telling.{keeps_same}
 use Rattle.city_serve.proofs.program.run_program.Goals as goal
@@ -33,5 +33,6 @@ returns-in-Err g c =
       fault = c.in-Err.fault;
       asks = subst (AsksFor arguments) c.in-Err.is asks;
       kept = keeps_same (g.W.Write.contents c.args.output.now.0);
+      same = refl;
       line = c.refuse_line.ensures;
     })

@@ -1,0 +1,56 @@
+//! Files whose texts are replaced whole.
+ghost use Rattle.std.specs.Prelude.{◌≡◌, ◌≢◌, ℕ, Bool, true, List, [], IfSome, IsSome, IsNone};
+ghost use Rattle.std.specs.Io.KnownBytes.{Keeps};
+
+use crate::files::TextFiles;
+use std::io::Write;
+
+/// Files whose texts are replaced whole: a text is written to a new file beside the old one, which then takes its name.
+///
+/// Each step keeps whether it was refused. Until a new file takes a name, all names have the texts that they had.
+pub trait OutputFiles: TextFiles {
+    /// A new file, which no name has yet.
+    type New: Write + Drop;
+
+    /// All that was written to the new file has reached the device.
+    ghost is_synced: { Self.New → Bool };
+
+    /// Whether a step was refused, or a new file given up.
+    ghost have_failed: { Self → Bool };
+
+    /// Makes a new, empty file beside the file of this path. It takes no file that is there. The seed is for its name.
+    fn create(&mut self, path: &str, seed: u64) -> Option<Self::New>
+        ensures empty { IfSome result (λ new. IfSome (Self.New.contents new) (λ all. all ≡ [])) }
+        ensures texts { Self.text self.new ≡ Self.text self.old }
+        ensures unfailed { IsSome result → have_failed self.new ≡ have_failed self.old }
+        ensures failed { IsNone result → have_failed self.new ≡ true };
+
+    /// Has all that was written reach the device, and says whether it did.
+    fn sync(&mut self, new: &mut Self::New) -> bool
+        ensures synced { result ≡ true → is_synced new.new ≡ true }
+        ensures contents { Keeps (Self.New.contents new.old) (Self.New.contents new.new) }
+        ensures texts { Self.text self.new ≡ Self.text self.old }
+        ensures unfailed { result ≡ true → have_failed self.new ≡ have_failed self.old }
+        ensures failed { result ≢ true → have_failed self.new ≡ true };
+
+    /// Has the new file take the name in one step, and says whether it did. Where it doesn't, the file is removed.
+    fn rename(&mut self, new: Self::New, path: &str) -> bool
+        requires { is_synced new ≡ true }
+        ensures placed { result ≡ true → IfSome (Self.text self.new path.now) (λ text.
+            IfSome (Self.New.contents new) (λ all. text ≡ all)) }
+        ensures others { (other : List ℕ) → other ≢ path.now → Self.text self.new other ≡ Self.text self.old other }
+        ensures texts { result ≢ true → Self.text self.new ≡ Self.text self.old }
+        ensures unfailed { result ≡ true → have_failed self.new ≡ have_failed self.old }
+        ensures failed { result ≢ true → have_failed self.new ≡ true };
+
+    /// Has the names beside this path reach the device, and says whether they did.
+    fn sync_folder(&mut self, path: &str) -> bool
+        ensures texts { Self.text self.new ≡ Self.text self.old }
+        ensures unfailed { result ≡ true → have_failed self.new ≡ have_failed self.old }
+        ensures failed { result ≢ true → have_failed self.new ≡ true };
+
+    /// Gives up a new file, and removes it where that isn't refused.
+    fn give_up(&mut self, new: Self::New)
+        ensures texts { Self.text self.new ≡ Self.text self.old }
+        ensures failed { have_failed self.new ≡ true };
+}

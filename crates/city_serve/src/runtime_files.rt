@@ -1,0 +1,199 @@
+//! The files of a runtime.
+ghost use Rattle.std.specs.Prelude.{◌≡◌, true, IfOk};
+
+use crate::fault::ServeFault;
+use crate::files::{TextFiles, read_file};
+use crate::output_files::OutputFiles;
+use std::alloc::Global;
+use std::fs::{self, Files, OpenFile, OpenOptions, Permissions};
+use std::io::{self, ErrorKind, Write};
+use std::path::PathBuf;
+
+/// How many names of new files are tried.
+const MOST_NAMES: u64 = 100;
+
+/// The files of a runtime, and whether a step of replacing one was refused.
+#[derive(Drop)]
+pub struct RuntimeFiles<'a, R> {
+    rt: &'a R,
+    failed: bool,
+}
+
+impl<'a, R> RuntimeFiles<'a, R> {
+    /// The files of this runtime.
+    pub fn new(rt: &'a R) -> RuntimeFiles<'a, R> {
+        RuntimeFiles { rt, failed: false }
+    }
+}
+
+impl<R: Files + AllocGlobal> RuntimeFiles<'_, R> {
+    /// Whether a step succeeded; that it didn't is kept.
+    fn noted(&mut self, step: io::Result<()>) -> bool
+        ensures unfailed { result ≡ true → self.new.failed ≡ self.old.failed }
+        ensures failed { result ≢ true → self.new.failed ≡ true }
+    {
+        if step.is_err() {
+            self.failed = true;
+            return false;
+        }
+        true
+    }
+}
+
+/// A new file beside another one, under a name of its own.
+#[derive(Drop)]
+pub struct NewFile<F> {
+    file: F,
+    name: String,
+    /// Which file it is to replace: where links lead to it, the one that they lead to.
+    target: PathBuf,
+    synced: bool,
+}
+
+impl<F: Write> Write for NewFile<F> {
+    fn write(&mut self, buf: &[u8]) -> io::Result<usize> {
+        self.synced = false;
+        self.file.write(buf)
+    }
+
+    fn flush(&mut self) -> io::Result<()> {
+        self.file.flush()
+    }
+}
+
+impl<R: Files + AllocGlobal> TextFiles for RuntimeFiles<'_, R> {
+    fn read(&self, path: &str) -> Result<Vec<u8>, ServeFault> {
+        read_file(self.rt, path)
+    }
+}
+
+impl<R: Files + AllocGlobal> OutputFiles for RuntimeFiles<'_, R> {
+    type New = NewFile<R::File>;
+
+    ghost is_synced = { λ new. new.synced };
+
+    ghost have_failed = { λ files. files.failed };
+
+    fn create(&mut self, path: &str, seed: u64) -> Option<NewFile<R::File>> {
+        match create_beside(self.rt, path, seed) {
+            Ok(new) => Some(new),
+            Err(_) => {
+                self.failed = true;
+                None
+            }
+        }
+    }
+
+    fn sync(&mut self, new: &mut NewFile<R::File>) -> bool {
+        let synced = self.noted(new.file.sync_all());
+        new.synced = synced;
+        synced
+    }
+
+    fn rename(&mut self, new: NewFile<R::File>, _path: &str) -> bool {
+        let renamed = self.noted(fs::rename(self.rt, new.name.as_str(), new.target.as_str()));
+        if !renamed {
+            remove(self.rt, &new);
+        }
+        renamed
+    }
+
+    fn sync_folder(&mut self, path: &str) -> bool {
+        self.noted(sync_folder_of(self.rt, path))
+    }
+
+    fn give_up(&mut self, new: NewFile<R::File>) {
+        self.failed = true;
+        remove(self.rt, &new);
+    }
+}
+
+/// Makes a new file beside the file of this path, with the mode that the file has.
+///
+/// Refused where the path is that of something else than a file: nothing else can be replaced.
+fn create_beside<R: Files + AllocGlobal>(
+    rt: &R,
+    path: &str,
+    seed: u64,
+) -> io::Result<NewFile<R::File>> {
+    let target = target_of(rt, path)?;
+    let mode = match fs::metadata(rt, &target) {
+        Ok(found) if found.is_file() => Some(found.permissions()),
+        Ok(_) => return Err(io::Error::from(ErrorKind::InvalidInput)),
+        Err(error) if error.kind() == ErrorKind::NotFound => None,
+        Err(error) => return Err(error),
+    };
+    let new = create_new(rt, target, seed)?;
+    if let Some(mode) = mode {
+        if let Err(error) = new.file.set_permissions(mode) {
+            remove(rt, &new);
+            return Err(error);
+        }
+    }
+    Ok(new)
+}
+
+/// The file that a path leads to, or the path itself where no file is found.
+fn target_of<R: Files + AllocGlobal>(rt: &R, path: &str) -> io::Result<PathBuf> {
+    match fs::canonicalize(rt, path) {
+        Ok(target) => Ok(target),
+        Err(error) if error.kind() == ErrorKind::OutOfMemory => Err(error),
+        Err(_) => Ok(PathBuf::from_str(rt.alloc(), path)?),
+    }
+}
+
+/// Has the names in the folder of this path reach the device. A folder that can't be synced, since it can't be read or
+/// the system doesn't sync folders, is no error.
+fn sync_folder_of<R: Files + AllocGlobal>(rt: &R, path: &str) -> io::Result<()> {
+    let target = target_of(rt, path)?;
+    let folder = match target.parent() {
+        Some(parent) if !parent.as_str().is_empty() => parent.as_str(),
+        _ => ".",
+    };
+    match fs::open(rt, folder).and_then(|folder| folder.sync_all()) {
+        Err(error) if !is_unable(error.kind()) => Err(error),
+        _ => Ok(()),
+    }
+}
+
+/// Whether an error says that a folder can't be synced at all.
+fn is_unable(kind: ErrorKind) -> bool {
+    matches!(
+        kind,
+        ErrorKind::InvalidInput | ErrorKind::Unsupported | ErrorKind::PermissionDenied
+    )
+}
+
+/// Makes a new file under the first name that is free: the file's own, and behind it a number that begins at the seed.
+fn create_new<R: Files + AllocGlobal>(
+    rt: &R,
+    target: PathBuf,
+    seed: u64,
+) -> io::Result<NewFile<R::File>> {
+    for turn in 0..MOST_NAMES {
+        let number = seed.wrapping_add(turn);
+        let name = format!(in rt.alloc(); "{}.cityed-{number:016x}", target.as_str())?;
+        match OpenOptions::new()
+            .write(true)
+            .create_new(true)
+            .open(rt, name.as_str())
+        {
+            Ok(file) => {
+                return Ok(NewFile {
+                    file,
+                    name,
+                    target,
+                    synced: false,
+                });
+            }
+            Err(error) if error.kind() == ErrorKind::AlreadyExists => {}
+            Err(error) => return Err(error),
+        }
+    }
+    Err(io::Error::from(ErrorKind::AlreadyExists))
+}
+
+/// Removes a new file. Where that is refused it stays, and its name tells what it is.
+fn remove<R: Files, F>(rt: &R, new: &NewFile<F>) {
+    let _ = fs::remove_file(rt, new.name.as_str());
+}
