@@ -7,9 +7,9 @@ use Rattle.city_serve.specs.declared.command_line.Asked.{Asked}
 use Rattle.city_serve.specs.declared.command_line.LineFault.{LineFault}
 use Rattle.city_serve.specs.declared.fault.ServeFault.{ServeFault}
 use Rattle.city_serve.specs.declared.program.Status.{Status}
-use Rattle.city_serve.specs.CommandLines.{IsName, IsLineOf, AnswersNames, AnswersOptions, AsksForText, HasOptions}
+use Rattle.city_serve.specs.CommandLines.{IsName, Line, IsLineOf, AnswersNames, AnswersOptions, AsksForText, HasOptions}
 use Rattle.city_serve.specs.CommandLines.{IsShown, MeetsUnknownOption}
-use Rattle.city_serve.specs.RunOptions.{plain_options}
+use Rattle.city_serve.specs.RunOptions.{plain_destination, plain_options}
 use Rattle.city_serve.specs.Decimals.{written_by, faults_by}
 use Rattle.city_serve.specs.FaultTexts.{fault_text}
 use Rattle.city_serve.specs.SeenTexts.{seen_text}
@@ -29,11 +29,10 @@ Folder = List ℕ → Option (List ℕ)
 
 -- the words behind the program's name are answered so: what is promised of a command line
 pub record AsksFor (arguments : List (List ℕ)) (asked : Result Asked LineFault) : Type 0 where
-  pub names : All IsName arguments → AnswersNames plain_options arguments asked
+  pub names : All IsName arguments → AnswersNames plain_options plain_destination arguments asked
   pub shown : (word : List ℕ) (rest : List (List ℕ)) → AsksForText word → arguments ≡ word ∷ rest → IsShown asked
   pub unknown : MeetsUnknownOption arguments → IsErr asked
-  pub options : (workers watch : Option (List ℕ)) (decimals : Bool) (names : List (List ℕ))
-      → IsLineOf workers watch decimals names arguments → AnswersOptions workers watch decimals names asked
+  pub options : (line : Line) → IsLineOf line arguments → AnswersOptions line asked
   pub within : IfOk asked HasOptions
 
 -- ---- how it is answered
@@ -41,9 +40,9 @@ pub record AsksFor (arguments : List (List ℕ)) (asked : Result Asked LineFault
 -- output has got what is asked for, and no other bytes: what is served of the input or of the two files, the
 -- model's first, or the text
 abbrev pub IsAnswered : Folder → Option (List ℕ) → Asked → List (Vec ℕ) → Option (List ℕ) → Option (List ℕ) → Type 0
-IsAnswered files input (Asked.Input options) seen old new = IfSome input (λ all.
+IsAnswered files input (Asked.Input options destination) seen old new = IfSome input (λ all.
     IsServedBy (written_by options.decimals) all options.workers options.viewers seen old new)
-IsAnswered files input (Asked.Files options model scripts) seen old new =
+IsAnswered files input (Asked.Files options destination model scripts) seen old new =
     IfSome (files model.now) (λ document. IfSome (files scripts.now) (λ commands.
     AreServedBy (written_by options.decimals) document commands options.workers options.viewers seen old new))
 IsAnswered files input (Asked.Text text) seen old new = (seen ≡ []) × Appends old new (string_bytes text)
@@ -51,10 +50,10 @@ IsAnswered files input (Asked.Text text) seen old new = (seen ≡ []) × Appends
 -- why it isn't, and what output has got then: nothing, where the reader, a file or the run is at fault
 abbrev pub IsUnanswered : Folder → Option (List ℕ) → Bool → Asked → Option (List ℕ) → Option (List ℕ) → Bool
     → ServeFault → Type 0
-IsUnanswered files input reader_failed (Asked.Input options) old new failed f =
+IsUnanswered files input reader_failed (Asked.Input options destination) old new failed f =
     IsServeFaultBy (written_by options.decimals) (faults_by options.decimals) input options.workers options.viewers
     reader_failed old new failed f
-IsUnanswered files input reader_failed (Asked.Files options model scripts) old new failed f =
+IsUnanswered files input reader_failed (Asked.Files options destination model scripts) old new failed f =
     (IsDeviceFault true f × Keeps old new)
     ⊎ IfSome (files model.now) (λ document. IfSome (files scripts.now) (λ commands.
     IsTextsFaultBy (written_by options.decimals) (faults_by options.decimals) document commands options.workers

@@ -1,7 +1,8 @@
--- How a run is done.
-use Rattle.std.specs.Prelude.{◌≤◌, false}
+-- How a run is done, and where its output goes.
+use Rattle.std.specs.Prelude.{◌≤◌, ℕ, false, List, Option, None, option_map}
 use Rattle.city_crew.specs.Limits.{max_workers, max_viewers}
 use Rattle.city_serve.specs.declared.options.Options.{Options}
+use Rattle.city_serve.specs.declared.options.Destination.{Destination}
 
 -- a run may have such options
 abbrev pub AreWithin : Options → Type 0
@@ -10,3 +11,11 @@ AreWithin options = (1 ≤ options.workers) × (options.workers ≤ max_workers)
 -- those of a command line without options
 abbrev pub plain_options : Options
 plain_options = record { workers = 1; viewers = 0; decimals = false }
+
+-- the path of the file that gets the model
+abbrev pub file_of : Destination → Option (List ℕ)
+file_of destination = option_map (λ s. s.now) destination.file
+
+-- that of a command line without options
+abbrev pub plain_destination : Destination
+plain_destination = record { file = None; atomic = false }

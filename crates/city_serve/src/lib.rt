@@ -27,6 +27,6 @@ pub mod serve_texts;
 pub use device::Device;
 pub use fault::ServeFault;
 pub use files::{RuntimeFiles, TextFiles, read_file, read_text};
-pub use options::Options;
+pub use options::{Destination, Options};
 pub use program::{Status, refuse_line, run_program};
 pub use seed::drawn_seed;

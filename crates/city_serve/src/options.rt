@@ -1,4 +1,4 @@
-//! How a run is done.
+//! How a run is done, and where its output goes.
 
 /// By how many workers a run is done, before how many viewers, and with which numbers.
 #[derive(Clone, Copy)]
@@ -9,4 +9,13 @@ pub struct Options {
     pub viewers: usize,
     /// Whether numbers of any form are taken, and given back as they were written.
     pub decimals: bool,
+}
+
+/// Where the output of a run goes, and whether all of it does.
+#[derive(Clone, Copy)]
+pub struct Destination<'a> {
+    /// The path of the file that gets the model. Without one the model follows the report.
+    pub file: Option<&'a str>,
+    /// Whether the model goes there only where no script ended refused or out of memory.
+    pub atomic: bool,
 }

@@ -126,8 +126,8 @@ fn answer<T: Threads + Wait + Sync, G: Gate + Sync, F: TextFiles, R: Read, W: Wr
             }
             Ok(Vec::new(alloc))
         }
-        Asked::Input(options) => serve_input(rt, alloc, gate, seed, input, output, *options),
-        Asked::Files(options, model, scripts) => {
+        Asked::Input(options, _) => serve_input(rt, alloc, gate, seed, input, output, *options),
+        Asked::Files(options, _, model, scripts) => {
             let document = files.read(*model)?;
             let scripts = files.read(*scripts)?;
             serve_owned(rt, alloc, gate, seed, document, scripts, output, *options)
