@@ -2,8 +2,8 @@
 use crate::steps::TakesSteps;
 use crate::written::Written;
 use city_model::OutOfMemory;
-use city_serve::{Destination, Options};
 use city_serve::command_line::{Asked, LineFault, asked_by};
+use city_serve::{Destination, Options};
 use std::alloc::Global;
 
 /// Each step is a command line, and is answered what it asks for.
