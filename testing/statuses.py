@@ -47,7 +47,10 @@ REFUSED_LINE = (
     '{"at":0,"cause":"NoObject","id":"z","name":"s","outcome":"refused","replies":[],"script":0,"since":0}\n'
 )
 VERSION = "cityed 0.1.0\n"
-USAGE = "\n\nUsage: cityed [--decimals] [--workers N] [--watch K] [MODEL SCRIPTS]\n\nFor more information, try '--help'.\n"
+USAGE = (
+    "\n\nUsage: cityed [--decimals] [--workers N] [--watch K] [--output FILE] [--atomic] [MODEL SCRIPTS]\n\n"
+    "For more information, try '--help'.\n"
+)
 NO_WORKERS = "error: --workers takes a number from 1 to 16" + USAGE
 NO_VIEWERS = "error: --watch takes a number from 0 to 4" + USAGE
 NO_SCRIPTS = "error: a MODEL was given without SCRIPTS" + USAGE

@@ -2,8 +2,8 @@
 use crate::steps::TakesSteps;
 use crate::written::Written;
 use city_model::OutOfMemory;
-use city_serve::Options;
 use city_serve::command_line::{Asked, LineFault, asked_by};
+use city_serve::{Destination, Options};
 use std::alloc::Global;
 
 /// Each step is a command line, and is answered what it asks for.
@@ -31,8 +31,10 @@ pub fn words_of(alloc: Global, line: &str) -> Result<Vec<String>, OutOfMemory> {
 /// Adds what words ask for: a word and the names, or the first line of the text that is shown.
 fn add_asked(alloc: Global, words: &[String], said: &mut Written) {
     match asked_by(alloc, words) {
-        Ok(Asked::Input(options, _)) => add_options("input", options, said),
-        Ok(Asked::Files(options, _, model, scripts)) => add_files(model, scripts, options, said),
+        Ok(Asked::Input(options, destination)) => add_input(options, destination, said),
+        Ok(Asked::Files(options, destination, model, scripts)) => {
+            add_files(model, scripts, options, destination, said);
+        }
         Ok(Asked::Text(text)) => add_first_line("text ", text.as_str(), said),
         Err(LineFault::Refused(text)) => add_first_line("2 ", text.as_str(), said),
         Err(LineFault::OutOfMemory) => said.run_out(),
@@ -49,11 +51,32 @@ fn add_options(word: &str, options: Options, said: &mut Written) {
     said.add(if options.decimals { " decimals" } else { "" });
 }
 
-fn add_files(model: &str, scripts: &str, options: Options, said: &mut Written) {
+/// Adds the file that gets the model, if there is one, and a word where it gets all or nothing.
+fn add_destination(destination: Destination<'_>, said: &mut Written) {
+    if let Some(file) = destination.file {
+        said.add(" output=");
+        said.add(file);
+    }
+    said.add(if destination.atomic { " atomic" } else { "" });
+}
+
+fn add_input(options: Options, destination: Destination<'_>, said: &mut Written) {
+    add_options("input", options, said);
+    add_destination(destination, said);
+}
+
+fn add_files(
+    model: &str,
+    scripts: &str,
+    options: Options,
+    destination: Destination<'_>,
+    said: &mut Written,
+) {
     said.add("files ");
     said.add(model);
     said.add(" ");
     add_options(scripts, options, said);
+    add_destination(destination, said);
 }
 
 fn add_first_line(word: &str, text: &str, said: &mut Written) {

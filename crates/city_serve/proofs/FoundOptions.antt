@@ -1,21 +1,22 @@
--- What clap finds in a line of options and names: the values of both options, whether the third is given, and the
--- first two names, the model's and the scripts'. A third name is refused.
-use Rattle.city_serve.proofs.Prelude.{◌≡◌, Bool, true, false, cond, List, [], ◌∷◌, ◌++◌, append-nil, inl, inr, Option}
-use Rattle.city_serve.proofs.Prelude.{Some, None, is_some, refl, sym, subst, ap, ap₂, ◌∙◌, codes, fold, option_and_then}
-use Rattle.city_serve.proofs.Prelude.{slice_get, bytes_eq, Row, Text, Walk, first_of, nothing_held, one_of, settled}
-use Rattle.city_serve.proofs.Prelude.{walk_from, with_default, with_values, built, Kinds, or_else, settle_fault}
-use Rattle.city_serve.proofs.Prelude.{AsWritten, UnknownArgument, IsLineOf, ends, gives_decimals, gives_name}
-use Rattle.city_serve.proofs.Prelude.{cityed_command, gives_watch, gives_workers}
-use Rattle.std.specs.Prelude.{drop, option_map, take}
-use Rattle.clap.specs.Walk.{finished, row_text, rows_after, walk}
-use Rattle.clap.specs.Simple.{App, entered, filled, with_index}
+-- What clap finds in a line of options and names: the values of options, which flags are given, and the first two
+-- names, the model's and the scripts'. A third name is refused.
+use Rattle.city_serve.proofs.Prelude.{◌≡◌, ◌≢◌, ◌+◌, ℕ, Bool, true, false, cond, List, [], ◌∷◌, append-nil, inl, inr}
+use Rattle.city_serve.proofs.Prelude.{arith, Option, Some, None, is_some, refl, sym, subst, ap, ap₂, ◌∙◌, codes, fold}
+use Rattle.city_serve.proofs.Prelude.{option_and_then, option_map_or, slice_get, bytes_eq, bytes_eq-Decides}
+use Rattle.city_serve.proofs.Prelude.{false_from_ne_true, Row, Text, Walk, first_of, nothing_held, one_of, settled}
+use Rattle.city_serve.proofs.Prelude.{walk_from, with_default, built, Kinds, or_else, settle_fault, UnknownArgument}
+use Rattle.city_serve.proofs.Prelude.{cityed_command, Atomic, Decimals, Flag, IsLineOf, Line, Output, Valued, Watch}
+use Rattle.city_serve.proofs.Prelude.{Workers, ends, flag_name, gives_flag, gives_name, gives_output, gives_value}
+use Rattle.city_serve.proofs.Prelude.{value_name, empty_line}
+use Rattle.std.specs.Prelude.{option_map}
+use Rattle.clap.specs.Walk.{arg_by_id, finished, row_text, rows_after, takes_values, walk}
+use Rattle.clap.specs.Simple.{App, entered}
 use Rattle.clap.specs.Faults.{built_fault, check_fault, defaults_fault, entered_fault, walk_fault}
-use Rattle.clap.specs.declared.parser.matches.ValueSource.TheVariants.{DefaultValue}
-use Rattle.city_serve.specs.inside.CommandShape.{flag_rule}
+use Rattle.city_serve.specs.CommandLines.{with_flag, with_value}
 use Rattle.city_serve.proofs.GivenOptions.{Ends, Place, flag_row, is_over, line_goes, model_next, none_next, rows_in}
 use Rattle.city_serve.proofs.GivenOptions.{rules, scripts_next, stands, text_row, top}
-use Rattle.city_serve.proofs.Rows.{AreDistinct, behind_is, defaults_right, distinct_fresh, found, found_before}
-use Rattle.city_serve.proofs.Rows.{found_last, has_row_is, no_defaults, row_by, with_fresh}
+use Rattle.city_serve.proofs.Rows.{AreDistinct, AreRight, behind_is, defaults_right, distinct_fresh, found}
+use Rattle.city_serve.proofs.Rows.{found_behind, has_row_is, with_defaults}
 
 abbrev pub app : App
 app = built cityed_command
@@ -45,133 +46,223 @@ scripts_of model_next names = slice_get names 1
 scripts_of scripts_next names = slice_get names 0
 scripts_of none_next names = None
 
--- what is found in such rows, which are of different ids
-abbrev Holds : Place → Option Text → Option Text → Bool → List Text → List Row → Type 0
-Holds place workers watch decimals names held =
-    (found (codes "workers") held ≡ option_map (text_row (codes "workers")) workers)
-    × (found (codes "watch") held ≡ option_map (text_row (codes "watch")) watch)
-    × (found (codes "decimals") held ≡ cond decimals (Some flag_row) None)
-    × (found (codes "MODEL") held ≡ option_map (text_row (codes "MODEL")) (model_of place names))
-    × (found (codes "SCRIPTS") held ≡ option_map (text_row (codes "SCRIPTS")) (scripts_of place names))
-    × AreDistinct held
+-- the kind of the command's argument of this name: a flag, another option, or a name and its place
+abbrev kind_by : Bool → Option ℕ → ℕ
+kind_by false None = 0
+kind_by true None = 1
+kind_by takes (Some place) = place + 1
 
-holds : {workers watch : Option Text} {decimals : Bool} {names args : List Text} (place : Place)
-    (line : IsLineOf workers watch decimals names args) → Holds place workers watch decimals names (rows_in place line)
-holds model_next ends = (refl, refl, refl, refl, refl, tt)
-holds scripts_next ends = (refl, refl, refl, refl, refl, tt)
-holds none_next ends = (refl, refl, refl, refl, refl, tt)
-holds place (gives_workers v watch decimals names rest plain more) =
-    let m = holds place more in
-    (refl, m.1, m.2, m.3, m.4, (has_row_is (codes "workers") (rows_in place more) None m.0, m.5))
-holds place (gives_watch workers v decimals names rest plain more) =
-    let m = holds place more in
-    (m.0, refl, m.2, m.3, m.4, (has_row_is (codes "watch") (rows_in place more) None m.1, m.5))
-holds place (gives_decimals workers watch names rest more) =
-    let m = holds place more in
-    (m.0, m.1, refl, m.3, m.4, (has_row_is (codes "decimals") (rows_in place more) None m.2, m.5))
-holds model_next (gives_name workers watch decimals n names rest plain more) =
+abbrev kind : Text → ℕ
+kind id = option_map_or (λ a. kind_by (takes_values a) a.index) (arg_by_id rules id) 0
+
+value_kind : (o : Valued) → kind (value_name o) ≡ 1
+value_kind Workers = refl
+value_kind Watch = refl
+value_kind Output = refl
+
+flag_kind : (f : Flag) → kind (flag_name f) ≡ 0
+flag_kind Decimals = refl
+flag_kind Atomic = refl
+
+apart : (a b : Text) (k l : ℕ) → kind a ≡ k → kind b ≡ l → k ≢ l → bytes_eq a b ≡ false
+apart a b k l is other differs = false_from_ne_true (bytes_eq a b) (λ same.
+    differs (sym is ∙ ap kind ((bytes_eq-Decides a b).0 same) ∙ other))
+
+skipped : (id : Text) (r : Row) (rs : List Row) → bytes_eq r.id id ≡ false → found id (r ∷ rs) ≡ found id rs
+skipped id r rs other = ap (λ b. cond b (Some r) (found id rs)) other
+
+-- the row of an id, before others: what is found is what the id has then
+found_new : (id known : Text) (v : Text) (rs : List Row) (o : Option Text) → found id rs ≡ option_map (text_row id) o
+    → found id (text_row known v ∷ rs) ≡ option_map (text_row id) (cond (bytes_eq known id) (Some v) o)
+found_new id known v rs o is = by_test (bytes_eq known id) (bytes_eq-Decides known id).0
+  where
+    by_test : (b : Bool) → (b ≡ true → known ≡ id)
+        → cond b (Some (text_row known v)) (found id rs) ≡ option_map (text_row id) (cond b (Some v) o)
+    by_test true same = ap (λ i. Some (text_row i v)) (same refl)
+    by_test false same = is
+
+flag_new : (id known : Text) (rs : List Row) (b : Bool) → found id rs ≡ cond b (Some (flag_row id)) None
+    → found id (flag_row known ∷ rs) ≡ cond (cond (bytes_eq known id) true b) (Some (flag_row id)) None
+flag_new id known rs b is = by_test (bytes_eq known id) (bytes_eq-Decides known id).0
+  where
+    by_test : (t : Bool) → (t ≡ true → known ≡ id)
+        → cond t (Some (flag_row known)) (found id rs) ≡ cond (cond t true b) (Some (flag_row id)) None
+    by_test true same = ap (λ i. Some (flag_row i)) (same refl)
+    by_test false same = is
+
+-- what is found in such rows, which are of different ids
+pub record Holds (place : Place) (line : Line) (held : List Row) : Type 0 where
+  pub values : (o : Valued) → found (value_name o) held ≡ option_map (text_row (value_name o)) (line.value o)
+  pub flags : (f : Flag) → found (flag_name f) held ≡ cond (line.has f) (Some (flag_row (flag_name f))) None
+  pub model : found (codes "MODEL") held ≡ option_map (text_row (codes "MODEL")) (model_of place line.names)
+  pub scripts : found (codes "SCRIPTS") held ≡ option_map (text_row (codes "SCRIPTS")) (scripts_of place line.names)
+  pub distinct : AreDistinct held
+
+value_held : (o : Valued) (v : Text) (place : Place) (line : Line) (held : List Row) → line.value o ≡ None
+    → Holds place line held → Holds place (with_value o v line) (text_row (value_name o) v ∷ held)
+value_held o v place line held lacks m = record {
+  values = λ p. found_new (value_name p) (value_name o) v held (line.value p) (m.values p);
+  flags = λ f. before (flag_name f) _ (flag_kind f) (λ same. absurd (omega (arith, same))) ∙ m.flags f;
+  model = before (codes "MODEL") _ refl (λ same. absurd (omega (arith, same))) ∙ m.model;
+  scripts = before (codes "SCRIPTS") _ refl (λ same. absurd (omega (arith, same))) ∙ m.scripts;
+  distinct = (has_row_is (value_name o) held None (m.values o ∙ ap (option_map _) lacks), m.distinct);
+}
+  where
+    before : (id : Text) (k : ℕ) → kind id ≡ k → 1 ≢ k
+        → found id (text_row (value_name o) v ∷ held) ≡ found id held
+    before id k is differs =
+        skipped id (text_row (value_name o) v) held (apart (value_name o) id _ k (value_kind o) is differs)
+
+flag_held : (g : Flag) (place : Place) (line : Line) (held : List Row) → line.has g ≡ false
+    → Holds place line held → Holds place (with_flag g line) (flag_row (flag_name g) ∷ held)
+flag_held g place line held lacks m = record {
+  values = λ p. before (value_name p) _ (value_kind p) (λ same. absurd (omega (arith, same))) ∙ m.values p;
+  flags = λ f. flag_new (flag_name f) (flag_name g) held (line.has f) (m.flags f);
+  model = before (codes "MODEL") _ refl (λ same. absurd (omega (arith, same))) ∙ m.model;
+  scripts = before (codes "SCRIPTS") _ refl (λ same. absurd (omega (arith, same))) ∙ m.scripts;
+  distinct = (has_row_is (flag_name g) held None (m.flags g ∙ ap (λ b. cond b (Some row) None) lacks), m.distinct);
+}
+  where
+    row : Row
+    row = flag_row (flag_name g)
+
+    before : (id : Text) (k : ℕ) → kind id ≡ k → 0 ≢ k
+        → found id (row ∷ held) ≡ found id held
+    before id k is differs =
+        skipped id row held (apart (flag_name g) id _ k (flag_kind g) is differs)
+
+-- a name's row hides no option's
+module _ (known : Text) (i : ℕ) (is : kind known ≡ i + 2) (n : Text) (held : List Row) where
+  values_kept : (o : Valued) → found (value_name o) (text_row known n ∷ held) ≡ found (value_name o) held
+  values_kept o = skipped (value_name o) (text_row known n) held
+      (apart known (value_name o) _ _ is (value_kind o) (λ same. absurd (omega (arith, same))))
+
+  flags_kept : (f : Flag) → found (flag_name f) (text_row known n ∷ held) ≡ found (flag_name f) held
+  flags_kept f = skipped (flag_name f) (text_row known n) held
+      (apart known (flag_name f) _ _ is (flag_kind f) (λ same. absurd (omega (arith, same))))
+
+nothing_found : {place : Place} → model_of place [] ≡ None → scripts_of place [] ≡ None → Holds place empty_line []
+nothing_found no_model no_scripts = record {
+  values = λ o. refl;
+  flags = λ f. refl;
+  model = ap (option_map _) (sym no_model);
+  scripts = ap (option_map _) (sym no_scripts);
+  distinct = tt;
+}
+
+holds : {line : Line} {args : List Text} (place : Place) (is : IsLineOf line args) → Holds place line (rows_in place is)
+holds model_next ends = nothing_found refl refl
+holds scripts_next ends = nothing_found refl refl
+holds none_next ends = nothing_found refl refl
+holds place (gives_value o v line rest lacks plain more) = value_held o v place line _ lacks (holds place more)
+holds place (gives_output v line rest lacks plain more) = value_held Output v place line _ lacks (holds place more)
+holds place (gives_flag f line rest lacks more) = flag_held f place line _ lacks (holds place more)
+holds model_next (gives_name n line rest plain more) =
     let m = holds scripts_next more in
-    (m.0, m.1, m.2, refl, m.4, (has_row_is (codes "MODEL") (rows_in scripts_next more) None m.3, m.5))
-holds scripts_next (gives_name workers watch decimals n names rest plain more) =
+    let held = rows_in scripts_next more in
+    record {
+      values = λ o. values_kept (codes "MODEL") 0 refl n held o ∙ m.values o;
+      flags = λ f. flags_kept (codes "MODEL") 0 refl n held f ∙ m.flags f;
+      model = refl;
+      scripts = m.scripts;
+      distinct = (has_row_is (codes "MODEL") held None m.model, m.distinct);
+    }
+holds scripts_next (gives_name n line rest plain more) =
     let m = holds none_next more in
-    (m.0, m.1, m.2, m.3, refl, (has_row_is (codes "SCRIPTS") (rows_in none_next more) None m.4, m.5))
-holds none_next (gives_name workers watch decimals n names rest plain more) = holds none_next more
+    let held = rows_in none_next more in
+    record {
+      values = λ o. values_kept (codes "SCRIPTS") 1 refl n held o ∙ m.values o;
+      flags = λ f. flags_kept (codes "SCRIPTS") 1 refl n held f ∙ m.flags f;
+      model = m.model;
+      scripts = refl;
+      distinct = (has_row_is (codes "SCRIPTS") held None m.scripts, m.distinct);
+    }
+holds none_next (gives_name n line rest plain more) =
+    let m = holds none_next more in
+    record { values = m.values; flags = m.flags; model = m.model; scripts = m.scripts; distinct = m.distinct }
 
 -- ---- the end of a line
-
-abbrev default_row : Row
-default_row = row_by (codes "decimals") AsWritten DefaultValue (codes "false" ∷ [])
-
--- where --decimals isn't given it has its default, behind the others
-abbrev with_flag : Bool → List Row → List Row
-with_flag true held = held
-with_flag false held = held ++ default_row ∷ []
 
 abbrev pub flag_text : Bool → Text
 flag_text true = codes "true"
 flag_text false = codes "false"
 
 -- the values that clap finds for the options and the two names
-pub record Finds (workers watch : Option Text) (decimals : Bool) (names : List Text) (held : List Row) : Type 0 where
-  pub workers_found : first_of (codes "workers") held ≡ workers
-  pub watch_found : first_of (codes "watch") held ≡ watch
-  pub decimals_found : one_of (codes "decimals") held ≡ Some (flag_text decimals)
-  pub model_found : first_of (codes "MODEL") held ≡ slice_get names 0
-  pub scripts_found : first_of (codes "SCRIPTS") held ≡ slice_get names 1
+pub record Finds (line : Line) (held : List Row) : Type 0 where
+  pub values_found : (o : Valued) → first_of (value_name o) held ≡ line.value o
+  pub flags_found : (f : Flag) → one_of (flag_name f) held ≡ Some (flag_text (line.has f))
+  pub model_found : first_of (codes "MODEL") held ≡ slice_get line.names 0
+  pub scripts_found : first_of (codes "SCRIPTS") held ≡ slice_get line.names 1
 
-module _ (decimals : Bool) (held : List Row) where
-  text_found : (id : Text) (text : Option Text) → bytes_eq (codes "decimals") id ≡ false
-      → found id held ≡ option_map (text_row id) text → first_of id (with_flag decimals held) ≡ text
-  text_found id text other is =
-      ap (option_and_then (λ (r : Row). slice_get r.values 0)) (as_before decimals ∙ is) ∙ by_text text
-    where
-      as_before : (given : Bool) → found id (with_flag given held) ≡ found id held
-      as_before true = refl
-      as_before false = found_before id default_row held other
+abbrev value_in : Option Row → Option Text
+value_in o = option_and_then (λ (r : Row). slice_get r.values 0) o
 
-      by_text : (o : Option Text) → option_and_then (λ (r : Row). slice_get r.values 0) (option_map (text_row id) o) ≡ o
-      by_text None = refl
-      by_text (Some v) = refl
-
-abbrev default_added : List Row → List Row
-default_added held = with_values (codes "decimals") AsWritten DefaultValue (codes "false" ∷ []) held
-
-flag_found : (decimals : Bool) (held : List Row) → found (codes "decimals") held ≡ cond decimals (Some flag_row) None
-    → (fold with_default held rules ≡ with_flag decimals held)
-    × (one_of (codes "decimals") (with_flag decimals held) ≡ Some (flag_text decimals))
-flag_found decimals held is = (
-  no_defaults (take 2 rules) (drop 2 rules) held (refl, (refl, tt))
-      ∙ ap (λ (kept : List Row). fold with_default kept (drop 3 rules)) (by_flag decimals is).0
-      ∙ no_defaults (drop 3 rules) [] (with_flag decimals held) (refl, (refl, (refl, (refl, tt)))),
-  (by_flag decimals is).1,
-)
+text_found : (id : Text) (held : List Row) (text : Option Text) → value_in (with_defaults id rules None) ≡ None
+    → found id held ≡ option_map (text_row id) text → first_of id (fold with_default held rules) ≡ text
+text_found id held text none is =
+    ap value_in (found_behind id held rules ∙ ap (with_defaults id rules) is) ∙ by_text text
   where
-    by_flag : (given : Bool) → found (codes "decimals") held ≡ cond given (Some flag_row) None
-        → (with_default held (with_index 3 (filled (flag_rule (codes "decimals")))) ≡ with_flag given held)
-        × (one_of (codes "decimals") (with_flag given held) ≡ Some (flag_text given))
-    by_flag true is =
-        let has = has_row_is (codes "decimals") held (Some flag_row) is in
-        (ap (λ b. cond b held (default_added held)) has, ap (option_and_then row_text) is)
-    by_flag false is =
-        let has = has_row_is (codes "decimals") held None is in (
-          ap (λ b. cond b held (default_added held)) has
-              ∙ with_fresh (codes "decimals") AsWritten DefaultValue (codes "false" ∷ []) held has,
-          ap (option_and_then row_text) (found_last (codes "decimals") default_row held has),
-        )
+    by_text : (o : Option Text) → value_in (with_defaults id rules (option_map (text_row id) o)) ≡ o
+    by_text None = none
+    by_text (Some v) = refl
+
+no_value_default : (o : Valued) → value_in (with_defaults (value_name o) rules None) ≡ None
+no_value_default Workers = refl
+no_value_default Watch = refl
+no_value_default Output = refl
+
+flag_default : (f : Flag) → option_and_then row_text (with_defaults (flag_name f) rules None) ≡ Some (codes "false")
+flag_default Decimals = refl
+flag_default Atomic = refl
+
+flag_found : (f : Flag) (held : List Row) (b : Bool)
+    → found (flag_name f) held ≡ cond b (Some (flag_row (flag_name f))) None
+    → one_of (flag_name f) (fold with_default held rules) ≡ Some (flag_text b)
+flag_found f held b is =
+    let id = flag_name f in
+    ap (option_and_then row_text) (found_behind id held rules ∙ ap (with_defaults id rules) is) ∙ by_flag b
+  where
+    by_flag : (given : Bool) → option_and_then row_text
+        (with_defaults (flag_name f) rules (cond given (Some (flag_row (flag_name f))) None)) ≡ Some (flag_text given)
+    by_flag true = refl
+    by_flag false = flag_default f
 
 -- ---- whole command lines
 
 -- what clap makes of a line of options and names: with more than two names it is refused
-abbrev pub Parses : Bool → Option Text → Option Text → Bool → List Text → List Text → Type 0
-Parses false workers watch decimals names args = (fault args ≡ []) × Finds workers watch decimals names (rows args)
-Parses true workers watch decimals names args = fault args ≡ UnknownArgument ∷ []
+abbrev pub Parses : Bool → Line → List Text → Type 0
+Parses false line args = (fault args ≡ []) × Finds line (rows args)
+Parses true line args = fault args ≡ UnknownArgument ∷ []
 
 pub refused_all : (args : List Text) → walk_fault top [] (walk_from nothing_held) args ≡ UnknownArgument ∷ []
     → fault args ≡ UnknownArgument ∷ []
 refused_all args refused = ap (ending (walk rules [] nothing_held args)) refused
 
-module _ {workers watch : Option Text} {decimals : Bool} {names args : List Text}
-    (line : IsLineOf workers watch decimals names args) where
-  abbrev held : List Row
-  held = rows_in model_next line
+-- every flag's default is right in itself, and no other argument has one
+defaults_are_right : AreRight rules
+defaults_are_right =
+    (inl refl, (inl refl, (inr refl, (inl refl, (inl refl, (inl refl, (inr refl, (inl refl, (inl refl, tt)))))))))
 
-  finds : Finds workers watch decimals names (with_flag decimals held)
+module _ {line : Line} {args : List Text} (is : IsLineOf line args) where
+  abbrev held : List Row
+  held = rows_in model_next is
+
+  finds : Finds line (fold with_default held rules)
   finds =
-      let h = holds model_next line in
+      let h = holds model_next is in
       record {
-        workers_found = text_found decimals held (codes "workers") workers refl h.0;
-        watch_found = text_found decimals held (codes "watch") watch refl h.1;
-        decimals_found = (flag_found decimals held h.2).1;
-        model_found = text_found decimals held (codes "MODEL") (slice_get names 0) refl h.3;
-        scripts_found = text_found decimals held (codes "SCRIPTS") (slice_get names 1) refl h.4;
+        values_found = λ o. text_found (value_name o) held (line.value o) (no_value_default o) (h.values o);
+        flags_found = λ f. flag_found f held (line.has f) (h.flags f);
+        model_found = text_found (codes "MODEL") held (slice_get line.names 0) refl h.model;
+        scripts_found = text_found (codes "SCRIPTS") held (slice_get line.names 1) refl h.scripts;
       }
 
-  pub line_ends : Ends (is_over model_next names) (walk_from nothing_held) args held
+  pub line_ends : Ends (is_over model_next line.names) (walk_from nothing_held) args held
   line_ends =
-      subst (Ends (is_over model_next names) (walk_from nothing_held) args) (behind_is [] held)
-      (line_goes model_next nothing_held [] line refl refl (distinct_fresh held (holds model_next line).5))
+      subst (Ends (is_over model_next line.names) (walk_from nothing_held) args) (behind_is [] held)
+      (line_goes model_next nothing_held [] is refl refl refl (distinct_fresh held (holds model_next is).distinct))
 
-  parses : (over : Bool) → Ends over (walk_from nothing_held) args held → Parses over workers watch decimals names args
+  parses : (over : Bool) → Ends over (walk_from nothing_held) args held → Parses over line args
   unfolding walk_fault
   parses true refused =
       refused_all args (ap (walk_fault top [] (walk_from nothing_held)) (sym (append-nil args)) ∙ refused [])
@@ -180,14 +271,13 @@ module _ {workers watch : Option Text} {decimals : Bool} {names args : List Text
       ap (walk rules [] nothing_held) (sym (append-nil args)) ∙ goes.walks [] in
       let free : walk_fault top [] (walk_from nothing_held) args ≡ [] =
       ap (walk_fault top [] (walk_from nothing_held)) (sym (append-nil args)) ∙ goes.faults [] in
-      let no_default_fault = defaults_right rules (settled rules goes.held).rows
-      (inl refl, (inl refl, (inr refl, (inl refl, (inl refl, (inl refl, (inl refl, tt))))))) in
-      let rows_are : rows args ≡ with_flag decimals held =
-      ap (λ (w : Walk). finished rules w.held) at_end ∙ ap (λ (kept : List Row). fold with_default kept rules) goes.rows
-      ∙ (flag_found decimals held (holds model_next line).2).0 in (
+      let no_default_fault = defaults_right rules (settled rules goes.held).rows defaults_are_right in
+      let rows_are : rows args ≡ fold with_default held rules =
+      ap (λ (w : Walk). finished rules w.held) at_end
+      ∙ ap (λ (kept : List Row). fold with_default kept rules) goes.rows in (
         ap₂ ending at_end free ∙ ap₂ (λ (f g : Kinds). or_else f (or_else g [])) goes.settles no_default_fault,
-        subst (Finds workers watch decimals names) (sym rows_are) finds,
+        subst (Finds line) (sym rows_are) finds,
       )
 
-  pub line_parses : Parses (is_over model_next names) workers watch decimals names args
-  line_parses = parses (is_over model_next names) line_ends
+  pub line_parses : Parses (is_over model_next line.names) line args
+  line_parses = parses (is_over model_next line.names) line_ends

@@ -1,11 +1,12 @@
 -- What clap holds as it goes over a line of options and names.
-use Rattle.city_serve.proofs.Prelude.{◌≡◌, ℕ, Bool, true, false, ◌&&◌, List, [], ◌∷◌, ◌++◌, Option, Some, None, refl}
-use Rattle.city_serve.proofs.Prelude.{ap, ap₂, ◌∙◌, codes, arith, ◌≢◌, if◌then◌else◌, fold, option_and_then}
+use Rattle.city_serve.proofs.Prelude.{◌≡◌, ℕ, Bool, true, false, ◌&&◌, List, [], ◌∷◌, ◌++◌, Some, None, refl, sym}
+use Rattle.city_serve.proofs.Prelude.{subst, ap, ap₂, ◌∙◌, codes, arith, ◌≢◌, if◌then◌else◌, fold, option_and_then}
 use Rattle.city_serve.proofs.Prelude.{option_map_or, bytes_eq, long_of, false_from_ne_true, nat_tests, Held, Row, Rule}
 use Rattle.city_serve.proofs.Prelude.{Text, Walk, has_row, idle, settled, walk_from, with_values, without, built, Kinds}
-use Rattle.city_serve.proofs.Prelude.{or_else, flag_word_fault, settle_fault, step_fault, AsWritten, UnknownArgument}
-use Rattle.city_serve.proofs.Prelude.{IsLineOf, IsName, ends, gives_decimals, gives_name, cityed_command, gives_watch}
-use Rattle.city_serve.proofs.Prelude.{gives_workers}
+use Rattle.city_serve.proofs.Prelude.{or_else, flag_word_fault, settle_fault, step_fault, UnknownArgument, Atomic}
+use Rattle.city_serve.proofs.Prelude.{Decimals, Flag, IsLineOf, IsName, Line, Output, Valued, Watch, Workers}
+use Rattle.city_serve.proofs.Prelude.{cityed_command, ends, flag_name, gives_flag, gives_name, gives_output}
+use Rattle.city_serve.proofs.Prelude.{gives_value, value_name}
 use Rattle.std.specs.Prelude.{◌==◌}
 use Rattle.clap.specs.Lexer.{long_of_rest, short_of, short_of_rest, strip_byte}
 use Rattle.clap.proofs.OnLiterals.{clap_on_literals}
@@ -14,6 +15,7 @@ use Rattle.clap.specs.Walk.{plain_word, pushed, short_or_plain, subcommand_or_ot
 use Rattle.clap.specs.Walk.{walked}
 use Rattle.clap.specs.Simple.{Shape}
 use Rattle.clap.specs.Faults.{bundle_fault, turn_fault, walk_fault}
+use Rattle.clap.specs.declared.builder.value_parser.Reading.TheVariants.{AsWritten}
 use Rattle.clap.specs.declared.error.kind.ErrorKind.TheVariants.{ArgumentConflict}
 use Rattle.clap.specs.declared.parser.matches.ValueSource.TheVariants.{CommandLine}
 use Rattle.city_serve.proofs.Rows.{AreFresh, behind, not_both, row_by, used_fresh}
@@ -105,8 +107,8 @@ put id v h = record (settled rules h) { pending = Some (id, v ∷ []) }
 abbrev pub text_row : Text → Text → Row
 text_row id v = row_by id AsWritten CommandLine (v ∷ [])
 
-abbrev pub flag_row : Row
-flag_row = row_by (codes "decimals") AsWritten CommandLine (codes "true" ∷ [])
+abbrev pub flag_row : Text → Row
+flag_row id = text_row id (codes "true")
 
 -- an option waits for its value
 abbrev waits_for : Text → Held → ℕ → Walk
@@ -127,21 +129,29 @@ module _ (h : Held) (p : ℕ) (n : Text) (name : IsName n) where
       word_then over (stands h p) next n words found (name_turn ∙ free)
       (ap (λ (met : Held × Step). after_step rules n (stands h p) met.0 met.1) (plain_met n name h idle p) ∙ is)
 
+-- what the walk makes of the word of an option and of its value, where h is held
+abbrev IsValueStep : Held → ℕ → Text → Text → Text → Type 0
+IsValueStep h p word id v =
+    (turn_fault top [] (stands h p) word ≡ []) × (walked rules [] (stands h p) word ≡ waits_for id h p)
+    × (option_word (arg_by_id rules id) id v (waits_for id h p).held ≡ (put id v h, idle))
+    × (settle_fault rules false (put id v h) ≡ [])
+    × ((settled rules (put id v h)).rows
+    ≡ with_values id AsWritten CommandLine (v ∷ []) (without id (settled rules h).rows))
+
 -- an option and its value
-module _ (over : Bool) (h : Held) (p : ℕ) (id flag v : Text) (words : List Text) (found : List Row)
+module _ (over : Bool) (h : Held) (p : ℕ) (id word v : Text) (words : List Text) (found : List Row)
     (name : IsName v) where
-  option_then : turn_fault top [] (stands h p) flag ≡ [] → walked rules [] (stands h p) flag ≡ waits_for id h p
-      → option_word (arg_by_id rules id) id v (waits_for id h p).held ≡ (put id v h, idle)
-      → Ends over (stands (put id v h) p) words found → Ends over (stands h p) (flag ∷ v ∷ words) found
+  option_then : IsValueStep h p word id v
+      → Ends over (stands (put id v h) p) words found → Ends over (stands h p) (word ∷ v ∷ words) found
   unfolding walked
-  option_then free is takes more =
+  option_then step more =
       let w = waits_for id h p in
       let met = plain_met v name w.held (option id) p in
-      word_then over (stands h p) w flag (v ∷ words) found free is
+      word_then over (stands h p) w word (v ∷ words) found step.0 step.1
       (word_then over w (stands (put id v h) p) v words found
       (ap₂ (λ (f : Kinds) (m : Held × Step). or_else f (step_fault top p m.0 m.1)) (no_flag v name w.held) met)
       (ap (λ (m : Held × Step). after_step rules v w m.0 m.1) met
-      ∙ ap (λ (to : Held × Waiting). record (stands to.0 p) { waiting = to.1 }) takes) more)
+      ∙ ap (λ (to : Held × Waiting). record (stands to.0 p) { waiting = to.1 }) step.2) more)
 
 -- ---- the walk over a line
 
@@ -164,18 +174,14 @@ is_over scripts_next (n ∷ names) = is_over none_next names
 is_over none_next (n ∷ names) = true
 
 -- the rows of the line's arguments, in their order
-abbrev pub rows_in : {workers watch : Option Text} {decimals : Bool} {names args : List Text} → Place
-    → IsLineOf workers watch decimals names args → List Row
+abbrev pub rows_in : {line : Line} {args : List Text} → Place → IsLineOf line args → List Row
 rows_in place ends = []
-rows_in place (gives_workers v watch decimals names rest plain more) =
-    text_row (codes "workers") v ∷ rows_in place more
-rows_in place (gives_watch workers v decimals names rest plain more) = text_row (codes "watch") v ∷ rows_in place more
-rows_in place (gives_decimals workers watch names rest more) = flag_row ∷ rows_in place more
-rows_in model_next (gives_name workers watch decimals n names rest plain more) =
-    text_row (codes "MODEL") n ∷ rows_in scripts_next more
-rows_in scripts_next (gives_name workers watch decimals n names rest plain more) =
-    text_row (codes "SCRIPTS") n ∷ rows_in none_next more
-rows_in none_next (gives_name workers watch decimals n names rest plain more) = rows_in none_next more
+rows_in place (gives_value o v line rest lacks plain more) = text_row (value_name o) v ∷ rows_in place more
+rows_in place (gives_output v line rest lacks plain more) = text_row (codes "output") v ∷ rows_in place more
+rows_in place (gives_flag f line rest lacks more) = flag_row (flag_name f) ∷ rows_in place more
+rows_in model_next (gives_name n line rest plain more) = text_row (codes "MODEL") n ∷ rows_in scripts_next more
+rows_in scripts_next (gives_name n line rest plain more) = text_row (codes "SCRIPTS") n ∷ rows_in none_next more
+rows_in none_next (gives_name n line rest plain more) = rows_in none_next more
 
 -- no fault where no row is repeated
 no_repeat : (b : Bool) → b ≡ false → or_else (if b && true then ArgumentConflict ∷ [] else []) [] ≡ []
@@ -192,19 +198,58 @@ module _ (h : Held) (rows : List Row) (are : (settled rules h).rows ≡ rows) (i
   one_more v = ap (λ held. with_values id AsWritten CommandLine (v ∷ []) (without id held)) are
       ∙ used_fresh id AsWritten CommandLine (v ∷ []) rows fresh
 
-abbrev put_flag : Held → Held
-put_flag h = record h {
-  rows = with_values (codes "decimals") AsWritten CommandLine (codes "true" ∷ [])
-      (without (codes "decimals") (settled rules h).rows);
+abbrev put_flag : Text → Held → Held
+put_flag id h = record h {
+  rows = with_values id AsWritten CommandLine (codes "true" ∷ []) (without id (settled rules h).rows);
   pending = None;
 }
 
-pub line_goes : {workers watch : Option Text} {decimals : Bool} {names args : List Text} (place : Place) (h : Held)
-    (rows : List Row) (line : IsLineOf workers watch decimals names args) → settle_fault rules false h ≡ []
-    → (settled rules h).rows ≡ rows → AreFresh rows (rows_in place line)
-    → Ends (is_over place names) (stands h (position_of place)) args (behind rows (rows_in place line))
+-- ---- the options, one by one
+
+module _ (h : Held) (p : ℕ) (rows : List Row) (settles : settle_fault rules false h ≡ [])
+    (are : (settled rules h).rows ≡ rows) where
+  value_step : (o : Valued) (v : Text) → has_row (value_name o) rows ≡ false
+      → IsValueStep h p (codes "--" ++ value_name o) (value_name o) v
+  unfolding clap_on_literals
+  value_step Workers v fresh =
+      (ap (λ k. or_else k []) settles, refl, refl, use_free h rows are (codes "workers") fresh, refl)
+  value_step Watch v fresh =
+      (ap (λ k. or_else k []) settles, refl, refl, use_free h rows are (codes "watch") fresh, refl)
+  value_step Output v fresh =
+      (ap (λ k. or_else k []) settles, refl, refl, use_free h rows are (codes "output") fresh, refl)
+
+  flag_step : (f : Flag) → has_row (flag_name f) rows ≡ false
+      → (turn_fault top [] (stands h p) (codes "--" ++ flag_name f) ≡ [])
+      × (walked rules [] (stands h p) (codes "--" ++ flag_name f) ≡ stands (put_flag (flag_name f) h) p)
+  unfolding clap_on_literals
+  flag_step Decimals fresh =
+      (ap₂ (λ (f g : Kinds). or_else (or_else f g) []) settles (use_free h rows are (codes "decimals") fresh), refl)
+  flag_step Atomic fresh =
+      (ap₂ (λ (f g : Kinds). or_else (or_else f g) []) settles (use_free h rows are (codes "atomic") fresh), refl)
+
+-- the letter for --output, where no flags of a bundle are to be passed over
+letter_at : (h : Held) (p : ℕ) (rows : List Row) (v : Text) → settle_fault rules false h ≡ []
+    → (settled rules h).rows ≡ rows → has_row (codes "output") rows ≡ false
+    → IsValueStep (record h { skip = 0 }) p (codes "-o") (codes "output") v
 unfolding clap_on_literals
-line_goes place h rows ends settles are fresh = record {
+letter_at h p rows v settles are fresh =
+    (ap (λ k. or_else k []) settles, refl, refl, use_free (record h { skip = 0 }) rows are (codes "output") fresh, refl)
+
+letter_step : (h : Held) (p : ℕ) (rows : List Row) (v : Text) → h.skip ≡ 0 → settle_fault rules false h ≡ []
+    → (settled rules h).rows ≡ rows → has_row (codes "output") rows ≡ false
+    → IsValueStep h p (codes "-o") (codes "output") v
+letter_step h p rows v none settles are fresh =
+    subst (λ k. IsValueStep (record h { skip = k }) p (codes "-o") (codes "output") v) (sym none)
+    (letter_at h p rows v settles are fresh)
+
+-- ---- the walk over a line, from any place
+
+pub line_goes : {line : Line} {args : List Text} (place : Place) (h : Held) (rows : List Row)
+    (is : IsLineOf line args) → h.skip ≡ 0 → settle_fault rules false h ≡ [] → (settled rules h).rows ≡ rows
+    → AreFresh rows (rows_in place is)
+    → Ends (is_over place line.names) (stands h (position_of place)) args (behind rows (rows_in place is))
+unfolding clap_on_literals
+line_goes place h rows ends none settles are fresh = record {
   held = h;
   place = position_of place;
   faults = λ rest. refl;
@@ -212,37 +257,37 @@ line_goes place h rows ends settles are fresh = record {
   settles = settles;
   rows = are;
 }
-line_goes place h rows (gives_workers v watch decimals names rest plain more) settles are fresh =
-    let id = codes "workers" in
-    option_then (is_over place names) h (position_of place) id (codes "--workers") v rest _ plain
-    (ap (λ k. or_else k []) settles) refl refl
-    (line_goes place (put id v h) (rows ++ text_row id v ∷ []) more (use_free h rows are id fresh.0)
-    (one_more h rows are id fresh.0 v) fresh.1)
-line_goes place h rows (gives_watch workers v decimals names rest plain more) settles are fresh =
-    let id = codes "watch" in
-    option_then (is_over place names) h (position_of place) id (codes "--watch") v rest _ plain
-    (ap (λ k. or_else k []) settles) refl refl
-    (line_goes place (put id v h) (rows ++ text_row id v ∷ []) more (use_free h rows are id fresh.0)
-    (one_more h rows are id fresh.0 v) fresh.1)
-line_goes place h rows (gives_decimals workers watch names rest more) settles are fresh =
-    let id = codes "decimals" in
+line_goes place h rows (gives_value o v line rest lacks plain more) none settles are fresh =
+    let id = value_name o in
+    let step = value_step h (position_of place) rows settles are o v fresh.0 in
+    option_then (is_over place line.names) h (position_of place) id (codes "--" ++ id) v rest _ plain step
+    (line_goes place (put id v h) (rows ++ text_row id v ∷ []) more none step.3
+    (step.4 ∙ one_more h rows are id fresh.0 v) fresh.1)
+line_goes place h rows (gives_output v line rest lacks plain more) none settles are fresh =
+    let id = codes "output" in
+    let step = letter_step h (position_of place) rows v none settles are fresh.0 in
+    option_then (is_over place line.names) h (position_of place) id (codes "-o") v rest _ plain step
+    (line_goes place (put id v h) (rows ++ text_row id v ∷ []) more none step.3
+    (step.4 ∙ one_more h rows are id fresh.0 v) fresh.1)
+line_goes place h rows (gives_flag f line rest lacks more) none settles are fresh =
+    let id = flag_name f in
     let p = position_of place in
-    word_then (is_over place names) (stands h p) (stands (put_flag h) p) (codes "--decimals") rest _
-    (ap₂ (λ (f g : Kinds). or_else (or_else f g) []) settles (use_free h rows are id fresh.0)) refl
-    (line_goes place (put_flag h) (rows ++ flag_row ∷ []) more refl
+    let step = flag_step h p rows settles are f fresh.0 in
+    word_then (is_over place line.names) (stands h p) (stands (put_flag id h) p) (codes "--" ++ id) rest _ step.0 step.1
+    (line_goes place (put_flag id h) (rows ++ flag_row id ∷ []) more none refl
     (one_more h rows are id fresh.0 (codes "true")) fresh.1)
-line_goes model_next h rows (gives_name workers watch decimals n names rest plain more) settles are fresh =
+line_goes model_next h rows (gives_name n line rest plain more) none settles are fresh =
     let id = codes "MODEL" in
-    name_then h 1 n plain (is_over scripts_next names) (stands (put id n h) 2) rest _ (not_both _ [] _ ∙ settles)
+    name_then h 1 n plain (is_over scripts_next line.names) (stands (put id n h) 2) rest _ (not_both _ [] _ ∙ settles)
     (ap (λ (k : Held). stands (pushed id n k) 2) (not_both _ h (settled rules h)))
-    (line_goes scripts_next (put id n h) (rows ++ text_row id n ∷ []) more (use_free h rows are id fresh.0)
+    (line_goes scripts_next (put id n h) (rows ++ text_row id n ∷ []) more none (use_free h rows are id fresh.0)
     (one_more h rows are id fresh.0 n) fresh.1)
-line_goes scripts_next h rows (gives_name workers watch decimals n names rest plain more) settles are fresh =
+line_goes scripts_next h rows (gives_name n line rest plain more) none settles are fresh =
     let id = codes "SCRIPTS" in
-    name_then h 2 n plain (is_over none_next names) (stands (put id n h) 3) rest _ (not_both _ [] _ ∙ settles)
+    name_then h 2 n plain (is_over none_next line.names) (stands (put id n h) 3) rest _ (not_both _ [] _ ∙ settles)
     (ap (λ (k : Held). stands (pushed id n k) 3) (not_both _ h (settled rules h)))
-    (line_goes none_next (put id n h) (rows ++ text_row id n ∷ []) more (use_free h rows are id fresh.0)
+    (line_goes none_next (put id n h) (rows ++ text_row id n ∷ []) more none (use_free h rows are id fresh.0)
     (one_more h rows are id fresh.0 n) fresh.1)
-line_goes none_next h rows (gives_name workers watch decimals n names rest plain more) settles are fresh = λ others.
+line_goes none_next h rows (gives_name n line rest plain more) none settles are fresh = λ others.
     ap (λ (f : Kinds). or_else f (walk_fault top [] (walked rules [] (stands h 3) n) (rest ++ others)))
     (name_turn h 3 n plain)

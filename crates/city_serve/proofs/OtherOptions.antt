@@ -3,7 +3,8 @@ use Rattle.city_serve.proofs.Prelude.{◌≡◌, ◌⊎◌, ℕ, Bool, true, fal
 use Rattle.city_serve.proofs.Prelude.{refl, sym, subst, ap, ◌∙◌, codes, ◌≢◌, if◌then◌else◌, IsErr, All, bytes_eq}
 use Rattle.city_serve.proofs.Prelude.{long_of, false_from_ne_true, bytes_eq-Decides, Held, Row, Text, idle}
 use Rattle.city_serve.proofs.Prelude.{nothing_held, walk_from, IsAmong, Kinds, or_else, flag_word_fault, step_fault}
-use Rattle.city_serve.proofs.Prelude.{OutOfMemory, UnknownArgument, ErrorKind, IsName, IsWantOfMemory}
+use Rattle.city_serve.proofs.Prelude.{OutOfMemory, UnknownArgument, ErrorKind, IsName, IsWantOfMemory, Atomic, Decimals}
+use Rattle.city_serve.proofs.Prelude.{Output, Watch, Workers}
 use Rattle.clap.proofs.OnLiterals.{clap_on_literals}
 use Rattle.clap.specs.Walk.{arg_by_long, walked, word_met}
 use Rattle.clap.specs.Faults.{long_fault, walk_fault, word_fault}
@@ -31,9 +32,11 @@ module _ (option : Text) (unknown : IsUnknownOption option) where
       rw (
         named_other (codes "help") unknown.no_help,
         named_other (codes "version") unknown.no_version,
-        named_other (codes "decimals") unknown.no_decimals,
-        named_other (codes "workers") unknown.no_workers,
-        named_other (codes "watch") unknown.no_watch,
+        named_other (codes "decimals") (unknown.no_flag Decimals),
+        named_other (codes "workers") (unknown.no_value Workers),
+        named_other (codes "watch") (unknown.no_value Watch),
+        named_other (codes "output") (unknown.no_value Output),
+        named_other (codes "atomic") (unknown.no_flag Atomic),
       ) refl
 
   option_refused : (h : Held) → word_fault top [] false idle option h ≡ UnknownArgument ∷ []

@@ -20,13 +20,13 @@ pub use Rattle.clap.specs.Lexer.{long_of}
 pub use Rattle.clap.specs.Simple.{built}
 pub use Rattle.clap.specs.Walk.{Held, Row, Rule, Text, Walk, first_of, has_row, idle, nothing_held, one_of, settled}
 pub use Rattle.clap.specs.Walk.{walk_from, with_default, with_values, without}
-pub use Rattle.clap.specs.declared.builder.value_parser.Reading.TheVariants.{AsWritten}
 pub use Rattle.clap.specs.declared.error.kind.ErrorKind.{ErrorKind}
 pub use Rattle.clap.specs.declared.error.kind.ErrorKind.TheVariants.{OutOfMemory, UnknownArgument}
 pub use Rattle.city_decimals.specs.Lines.{AreDecodedLines}
 pub use Rattle.city_model.specs.declared.end.End.{End}
-pub use Rattle.city_serve.specs.CommandLines.{IsLineOf, IsName, IsWantOfMemory, ends, gives_decimals, gives_name}
-pub use Rattle.city_serve.specs.CommandLines.{gives_watch, gives_workers}
+pub use Rattle.city_serve.specs.CommandLines.{Atomic, Decimals, Flag, IsLineOf, IsName, IsWantOfMemory, Line, Output}
+pub use Rattle.city_serve.specs.CommandLines.{Valued, Watch, Workers, ends, flag_name, gives_flag, gives_name}
+pub use Rattle.city_serve.specs.CommandLines.{empty_line, gives_output, gives_value, value_name}
 pub use Rattle.city_serve.specs.Decimals.{faults_by, written_by}
 pub use Rattle.city_serve.specs.Programs.{EndsAsked}
 pub use Rattle.city_serve.specs.SeenTexts.{seen_text}
@@ -34,5 +34,6 @@ pub use Rattle.city_serve.specs.Served.{document_part, is_newline}
 pub use Rattle.city_serve.specs.ServedTexts.{AppendsSome, AreServedBy}
 pub use Rattle.city_serve.specs.declared.command_line.Asked.{Asked}
 pub use Rattle.city_serve.specs.declared.fault.ServeFault.{ServeFault}
+pub use Rattle.city_serve.specs.declared.options.Destination.{Destination}
 pub use Rattle.city_serve.specs.inside.CommandShape.{cityed_command}
 pub use Rattle.city_serve.specs.inside.Telling.{IsSeenTold}

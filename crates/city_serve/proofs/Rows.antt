@@ -9,6 +9,7 @@ use Rattle.std.proofs.lemmas.Bool.{or_parts, or_right}
 use Rattle.clap.specs.Walk.{at_row, default_rows, is_empty, more_values, reading_by}
 use Rattle.clap.specs.Faults.{default_fault, defaults_fault, given_default_fault}
 use Rattle.clap.specs.declared.parser.matches.ValueSource.{ValueSource}
+use Rattle.clap.specs.declared.parser.matches.ValueSource.TheVariants.{DefaultValue}
 use Rattle.clap.specs.declared.builder.value_parser.Reading.{Reading}
 
 pub same_both : {X : Type 0} (b : Bool) (x : X) → cond b x x ≡ x
@@ -120,24 +121,68 @@ distinct_fresh rows distinct = fresh_behind [] rows (λ id has. refl) distinct
 
 -- ---- defaults
 
-abbrev HaveNone : List Rule → Type 0
-HaveNone [] = Unit {0}
-HaveNone (a ∷ rs) = (a.defaults ≡ []) × HaveNone rs
+abbrev first_some : Option Row → Option Row → Option Row
+first_some (Some r) o = Some r
+first_some None o = o
 
--- arguments without a default add no row
-pub no_defaults : (rules more : List Rule) (rows : List Row) → HaveNone rules
-    → fold with_default rows (rules ++ more) ≡ fold with_default rows more
-no_defaults [] more rows none = refl
-no_defaults (a ∷ rs) more rows none =
-    let kept = ap (λ vs. cond (has_row a.id rows) rows (default_rows a.id (reading_by a) vs rows)) none.0 in
-    ap (λ (held : List Row). fold with_default held (rs ++ more)) (kept ∙ same_both (has_row a.id rows) rows)
-    ∙ no_defaults rs more rows none.1
+-- the row that default values add where an argument has none
+abbrev default_list : Text → Reading → List Text → List Row
+default_list id how [] = []
+default_list id how (v ∷ vs) = row_by id how DefaultValue (v ∷ vs) ∷ []
+
+abbrev rows_of_default : Rule → List Row
+rows_of_default a = default_list a.id (reading_by a) a.defaults
+
+first_none : (o : Option Row) → first_some o None ≡ o
+first_none None = refl
+first_none (Some r) = refl
+
+found_both : (id : Text) (rows more : List Row) → found id (rows ++ more) ≡ first_some (found id rows) (found id more)
+found_both id [] more = refl
+found_both id (r ∷ rs) more = by_test (bytes_eq r.id id) (found_both id rs more)
+  where
+    by_test : (b : Bool) → found id (rs ++ more) ≡ first_some (found id rs) (found id more)
+        → cond b (Some r) (found id (rs ++ more)) ≡ first_some (cond b (Some r) (found id rs)) (found id more)
+    by_test true later = refl
+    by_test false later = later
+
+-- where a row is there, the same id's default changes nothing
+found_there : (id known : Text) (rows : List Row) (o p : Option Row) (b : Bool) → has_row known rows ≡ true
+    → found id rows ≡ o → (b ≡ true → known ≡ id) → found id rows ≡ first_some o (cond b p None)
+found_there id known rows (Some r) p b has is same = is
+found_there id known rows None p false has is same = is
+found_there id known rows None p true has is same =
+    absurd (true≢false (sym has ∙ ap (λ i. has_row i rows) (same refl) ∙ has_row_is id rows None is))
+
+found_one : (id known : Text) (how : Reading) (values : List Text) (rows : List Row) (b : Bool) → has_row known rows ≡ b
+    → found id (cond b rows (default_rows known how values rows))
+    ≡ first_some (found id rows) (found id (default_list known how values))
+found_one id known how [] rows b has = ap (found id) (same_both b rows) ∙ sym (first_none (found id rows))
+found_one id known how (v ∷ vs) rows true has =
+    found_there id known rows (found id rows) _ (bytes_eq known id) has refl (bytes_eq-Decides known id).0
+found_one id known how (v ∷ vs) rows false has =
+    ap (found id) (with_fresh known how DefaultValue (v ∷ vs) rows has) ∙ found_both id rows _
+
+found_default : (id : Text) (a : Rule) (rows : List Row)
+    → found id (with_default rows a) ≡ first_some (found id rows) (found id (rows_of_default a))
+found_default id a rows = found_one id a.id (reading_by a) a.defaults rows (has_row a.id rows) refl
+
+-- what is found of an id behind the defaults of arguments, by what was found of it before
+abbrev pub with_defaults : Text → List Rule → Option Row → Option Row
+with_defaults id rules o = fold (λ p a. first_some p (found id (rows_of_default a))) o rules
+
+pub found_behind : (id : Text) (rows : List Row) (rules : List Rule)
+    → found id (fold with_default rows rules) ≡ with_defaults id rules (found id rows)
+found_behind id rows [] = refl
+found_behind id rows (a ∷ rs) =
+    found_behind id (with_default rows a) rs
+    ∙ ap (with_defaults id rs) (found_default id a rows)
 
 -- an argument has no default, or one that is right in itself
 abbrev IsRight : Rule → Type 0
 IsRight a = (a.defaults ≡ []) ⊎ (given_default_fault a a.defaults ≡ [])
 
-abbrev AreRight : List Rule → Type 0
+abbrev pub AreRight : List Rule → Type 0
 AreRight [] = Unit {0}
 AreRight (a ∷ rs) = IsRight a × AreRight rs
 

@@ -1,16 +1,17 @@
 -- What the words of a command line ask for.
 use Rattle.std.specs.Prelude.{◌≡◌, ◌≢◌, ◌⊎◌, ⊤, ℕ, Bool, true, false, List, [], ◌∷◌, ◌++◌, codes, slice_get, All}
-use Rattle.std.specs.Prelude.{Option, Some, None, Result, Ok, Err, IsErr}
+use Rattle.std.specs.Prelude.{Option, Some, None, if◌then◌else◌, Result, Err, IsErr}
 use Rattle.std.specs.Result.{IsOkAnd}
+use Rattle.std.specs.Str.{bytes_eq}
 use Rattle.std.specs.Str.Parse.{digits_value, without_leading_plus}
 use Rattle.clap.specs.Words.{IsUnsignedIn}
 use Rattle.clap.specs.Lexer.{long_of}
 use Rattle.city_crew.specs.Limits.{max_workers, max_viewers}
 use Rattle.city_serve.specs.declared.command_line.Asked.{Asked}
 use Rattle.city_serve.specs.declared.command_line.LineFault.{LineFault}
-use Rattle.city_serve.specs.declared.options.Options.{Options}
 use Rattle.city_serve.specs.declared.options.Destination.{Destination}
-use Rattle.city_serve.specs.RunOptions.{AreWithin, plain_destination}
+use Rattle.city_serve.specs.declared.options.Options.{Options}
+use Rattle.city_serve.specs.RunOptions.{AreWithin, file_of}
 
 -- the word is no option: it doesn't begin with a hyphen
 abbrev pub IsName : List ℕ → Type 0
@@ -28,25 +29,40 @@ AreOptionsOf workers watch decimals options =
     IsCount 1 max_workers workers options.workers × IsCount 0 max_viewers watch options.viewers
     × (options.decimals ≡ decimals)
 
+-- the destination that the text of --output asks for, and whether --atomic is given
+abbrev pub IsDestinationOf : Option (List ℕ) → Bool → Destination → Type 0
+IsDestinationOf output atomic destination = (file_of destination ≡ output) × (destination.atomic ≡ atomic)
+
 -- what is asked for is a text, or a run with such options
 abbrev pub HasOptions : Asked → Type 0
 HasOptions (Asked.Input options destination) = AreWithin options
 HasOptions (Asked.Files options destination model scripts) = AreWithin options
 HasOptions (Asked.Text text) = ⊤
 
--- the files that are asked for, and the options
-abbrev pub files_of : Asked → Option (Options × List ℕ × List ℕ)
-files_of (Asked.Files options destination model scripts) = Some (options, model.now, scripts.now)
-files_of _ = None
+-- the same destination: a file of the same path, or none
+abbrev pub IsSameDestination : Destination → Destination → Type 0
+IsSameDestination a b = (file_of a ≡ file_of b) × (a.atomic ≡ b.atomic)
+
+-- standard input is asked for, with these options, and output to there
+abbrev pub IsAskedInput : Options → Destination → Asked → Type 0
+IsAskedInput options destination (Asked.Input asked to) = (asked ≡ options) × IsSameDestination to destination
+IsAskedInput options destination _ = ⊥
+
+-- these files are asked for, by their paths, with these options, and output to there
+abbrev pub IsAskedFiles : Options → Destination → List ℕ → List ℕ → Asked → Type 0
+IsAskedFiles options destination model scripts (Asked.Files asked to asked_model asked_scripts) =
+    (asked ≡ options) × IsSameDestination to destination
+    × (asked_model.now ≡ model) × (asked_scripts.now ≡ scripts)
+IsAskedFiles options destination model scripts _ = ⊥
 
 abbrev pub IsWantOfMemory : Result Asked LineFault → Type 0
 IsWantOfMemory r = r ≡ Err LineFault.OutOfMemory
 
 -- names alone: no name asks for standard input, two ask for these files, and any other number is refused
 abbrev pub AnswersNames : Options → Destination → List (List ℕ) → Result Asked LineFault → Type 0
-AnswersNames options destination [] r = (r ≡ Ok (Asked.Input options destination)) ⊎ IsWantOfMemory r
+AnswersNames options destination [] r = IsOkAnd r (IsAskedInput options destination) ⊎ IsWantOfMemory r
 AnswersNames options destination (model ∷ scripts ∷ []) r =
-    IsOkAnd r (λ a. files_of a ≡ Some (options, model, scripts)) ⊎ IsWantOfMemory r
+    IsOkAnd r (IsAskedFiles options destination model scripts) ⊎ IsWantOfMemory r
 AnswersNames options destination _ r = IsErr r
 
 -- a text is to be shown, as help is
@@ -62,6 +78,26 @@ abbrev pub AsksForText : List ℕ → Type 0
 AsksForText word =
     (word ≡ codes "--help") ⊎ (word ≡ codes "-h") ⊎ (word ≡ codes "--version") ⊎ (word ≡ codes "-V")
 
+-- the options that take a value, and those that take none
+pub data Valued : Type 0 where
+  Workers : Valued
+  Watch : Valued
+  Output : Valued
+
+pub data Flag : Type 0 where
+  Decimals : Flag
+  Atomic : Flag
+
+-- their names, behind two hyphens
+abbrev pub value_name : Valued → List ℕ
+value_name Workers = codes "workers"
+value_name Watch = codes "watch"
+value_name Output = codes "output"
+
+abbrev pub flag_name : Flag → List ℕ
+flag_name Decimals = codes "decimals"
+flag_name Atomic = codes "atomic"
+
 -- the word is `--name` or `--name=value`, and no option has the name
 pub record IsUnknownOption (word : List ℕ) : Type 0 where
   pub name : List ℕ
@@ -69,9 +105,8 @@ pub record IsUnknownOption (word : List ℕ) : Type 0 where
   pub long : long_of word ≡ Some (name, given)
   pub no_help : name ≢ codes "help"
   pub no_version : name ≢ codes "version"
-  pub no_decimals : name ≢ codes "decimals"
-  pub no_workers : name ≢ codes "workers"
-  pub no_watch : name ≢ codes "watch"
+  pub no_value : (o : Valued) → name ≢ value_name o
+  pub no_flag : (f : Flag) → name ≢ flag_name f
 
 -- the first word that is no name is such an option
 pub record MeetsUnknownOption (arguments : List (List ℕ)) : Type 0 where
@@ -82,26 +117,51 @@ pub record MeetsUnknownOption (arguments : List (List ℕ)) : Type 0 where
   pub named : All IsName names
   pub unknown : IsUnknownOption word
 
--- the words are options in any order, each at most once, with names before, between and after them: the values
--- of --workers and --watch where they are given, whether --decimals is, and the names. No value begins with a
--- hyphen
-pub data IsLineOf : Option (List ℕ) → Option (List ℕ) → Bool → List (List ℕ) → List (List ℕ) → Type 0 where
-  ends : IsLineOf None None false [] []
-  gives_workers : (value : List ℕ) (watch : Option (List ℕ)) (decimals : Bool) (names rest : List (List ℕ))
-      → IsName value → IsLineOf None watch decimals names rest
-      → IsLineOf (Some value) watch decimals names (codes "--workers" ∷ value ∷ rest)
-  gives_watch : (workers : Option (List ℕ)) (value : List ℕ) (decimals : Bool) (names rest : List (List ℕ))
-      → IsName value → IsLineOf workers None decimals names rest
-      → IsLineOf workers (Some value) decimals names (codes "--watch" ∷ value ∷ rest)
-  gives_decimals : (workers watch : Option (List ℕ)) (names rest : List (List ℕ))
-      → IsLineOf workers watch false names rest → IsLineOf workers watch true names (codes "--decimals" ∷ rest)
-  gives_name : (workers watch : Option (List ℕ)) (decimals : Bool) (name : List ℕ) (names rest : List (List ℕ))
-      → IsName name → IsLineOf workers watch decimals names rest
-      → IsLineOf workers watch decimals (name ∷ names) (name ∷ rest)
+-- what a command line gives: values of options, flags, and names
+pub record Line : Type 0 where
+  pub value : Valued → Option (List ℕ)
+  pub has : Flag → Bool
+  pub names : List (List ℕ)
 
--- the names are answered with the options that are asked for, and texts that ask for none are refused
-abbrev pub AnswersOptions
-    : Option (List ℕ) → Option (List ℕ) → Bool → List (List ℕ) → Result Asked LineFault → Type 0
-AnswersOptions workers watch decimals names r =
-    ((options : Options) → AreOptionsOf workers watch decimals options → AnswersNames options plain_destination names r)
-    × (((options : Options) → ¬ AreOptionsOf workers watch decimals options) → IsErr r)
+abbrev pub empty_line : Line
+empty_line = record { value = λ _. None; has = λ _. false; names = [] }
+
+-- the line with one thing more
+abbrev pub with_value : Valued → List ℕ → Line → Line
+with_value o given line = record line {
+  value = λ other. if bytes_eq (value_name o) (value_name other) then Some given else line.value other;
+}
+
+abbrev pub with_flag : Flag → Line → Line
+with_flag f line = record line {
+  has = λ other. if bytes_eq (flag_name f) (flag_name other) then true else line.has other;
+}
+
+abbrev pub with_name : List ℕ → Line → Line
+with_name name line = record line { names = name ∷ line.names }
+
+-- the words are options in any order, each at most once, with names before, between and after them. No value
+-- begins with a hyphen, and -o stands for --output
+pub data IsLineOf : Line → List (List ℕ) → Type 0 where
+  ends : IsLineOf empty_line []
+  gives_value : (o : Valued) (value : List ℕ) (line : Line) (rest : List (List ℕ)) → line.value o ≡ None
+      → IsName value → IsLineOf line rest
+      → IsLineOf (with_value o value line) ((codes "--" ++ value_name o) ∷ value ∷ rest)
+  gives_output : (value : List ℕ) (line : Line) (rest : List (List ℕ)) → line.value Output ≡ None
+      → IsName value → IsLineOf line rest → IsLineOf (with_value Output value line) (codes "-o" ∷ value ∷ rest)
+  gives_flag : (f : Flag) (line : Line) (rest : List (List ℕ)) → line.has f ≡ false
+      → IsLineOf line rest → IsLineOf (with_flag f line) ((codes "--" ++ flag_name f) ∷ rest)
+  gives_name : (name : List ℕ) (line : Line) (rest : List (List ℕ)) → IsName name
+      → IsLineOf line rest → IsLineOf (with_name name line) (name ∷ rest)
+
+-- the options that the line asks for
+abbrev pub AreLineOptions : Line → Options → Type 0
+AreLineOptions line = AreOptionsOf (line.value Workers) (line.value Watch) (line.has Decimals)
+
+-- the names are answered with the options and the destination that are asked for, and texts that ask for no options
+-- are refused
+abbrev pub AnswersOptions : Line → Result Asked LineFault → Type 0
+AnswersOptions line r =
+    ((options : Options) (destination : Destination) → AreLineOptions line options
+    → IsDestinationOf (line.value Output) (line.has Atomic) destination → AnswersNames options destination line.names r)
+    × (((options : Options) → ¬ AreLineOptions line options) → IsErr r)

@@ -7,7 +7,7 @@ use Rattle.city_serve.specs.declared.command_line.Asked.{Asked}
 use Rattle.city_serve.specs.declared.command_line.LineFault.{LineFault}
 use Rattle.city_serve.specs.declared.fault.ServeFault.{ServeFault}
 use Rattle.city_serve.specs.declared.program.Status.{Status}
-use Rattle.city_serve.specs.CommandLines.{IsName, IsLineOf, AnswersNames, AnswersOptions, AsksForText, HasOptions}
+use Rattle.city_serve.specs.CommandLines.{IsName, Line, IsLineOf, AnswersNames, AnswersOptions, AsksForText, HasOptions}
 use Rattle.city_serve.specs.CommandLines.{IsShown, MeetsUnknownOption}
 use Rattle.city_serve.specs.Destinations.{Folder, IsDelivered, IsDeliveryFault}
 use Rattle.city_serve.specs.RunOptions.{plain_options, plain_destination}
@@ -43,8 +43,7 @@ pub record AsksFor (arguments : List (List ℕ)) (asked : Result Asked LineFault
   pub names : All IsName arguments → AnswersNames plain_options plain_destination arguments asked
   pub shown : (word : List ℕ) (rest : List (List ℕ)) → AsksForText word → arguments ≡ word ∷ rest → IsShown asked
   pub unknown : MeetsUnknownOption arguments → IsErr asked
-  pub options : (workers watch : Option (List ℕ)) (decimals : Bool) (names : List (List ℕ))
-      → IsLineOf workers watch decimals names arguments → AnswersOptions workers watch decimals names asked
+  pub options : (line : Line) → IsLineOf line arguments → AnswersOptions line asked
   pub within : IfOk asked HasOptions
 
 -- ---- how it is answered

@@ -1,8 +1,8 @@
--- How a run is done.
-use Rattle.std.specs.Prelude.{◌≤◌, ℕ, List, false, Option, None, option_map}
+-- How a run is done, and where its output goes.
+use Rattle.std.specs.Prelude.{◌≤◌, ℕ, false, List, Option, None, option_map}
 use Rattle.city_crew.specs.Limits.{max_workers, max_viewers}
-use Rattle.city_serve.specs.declared.options.Destination.{Destination}
 use Rattle.city_serve.specs.declared.options.Options.{Options}
+use Rattle.city_serve.specs.declared.options.Destination.{Destination}
 
 -- a run may have such options
 abbrev pub AreWithin : Options → Type 0
@@ -14,8 +14,8 @@ plain_options = record { workers = 1; viewers = 0; decimals = false }
 
 -- the path of the file that gets the model
 abbrev pub file_of : Destination → Option (List ℕ)
-file_of destination = option_map (λ path. path.now) destination.file
+file_of destination = option_map (λ s. s.now) destination.file
 
--- the model follows the report, whatever the scripts' ends
+-- that of a command line without options
 abbrev pub plain_destination : Destination
 plain_destination = record { file = None; atomic = false }

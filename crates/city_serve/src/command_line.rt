@@ -2,12 +2,12 @@
 ghost use Rattle.std.specs.Prelude.{◌≡◌, ◌≢◌, ◌⊎◌, ◌≤◌, ◌∷◌, ℕ, Bool, false, List, Option, Some, None, Ok, Err};
 ghost use Rattle.std.specs.Prelude.{All, drop, map, option_map, string_bytes, IfOk, IsErr, MatchOption, MatchResult};
 ghost use Rattle.clap.specs.Words.{app_of, kind_of, rule_of};
-ghost use Rattle.city_serve.specs.RunOptions.{plain_options, plain_destination};
-ghost use Rattle.city_serve.specs.CommandLines.{IsName, IsLineOf, AnswersNames, AnswersOptions};
+ghost use Rattle.city_serve.specs.RunOptions.{plain_destination, plain_options};
+ghost use Rattle.city_serve.specs.CommandLines.{IsName, Line, IsLineOf, AnswersNames, AnswersOptions};
 ghost use Rattle.city_serve.specs.CommandLines.{AreOptionsOf, AsksForText, HasOptions, IsCount, IsShown};
 ghost use Rattle.city_serve.specs.CommandLines.{MeetsUnknownOption};
 ghost use Rattle.city_serve.specs.inside.CommandShape.{cityed_command, files_command, flag_rule, option_rule};
-ghost use Rattle.city_serve.specs.inside.CommandShape.{AnswersPlaces};
+ghost use Rattle.city_serve.specs.inside.CommandShape.{output_rule, run_command, AnswersPlaces};
 
 use crate::options::{Destination, Options};
 use city_crew::{MAX_VIEWERS, MAX_WORKERS};
@@ -25,6 +25,13 @@ const DECIMALS: &str = "decimals";
 const WORKERS: &str = "workers";
 
 const WATCH: &str = "watch";
+
+const OUTPUT: &str = "output";
+
+const ATOMIC: &str = "atomic";
+
+const USAGE: &str = "cityed [--decimals] [--workers N] [--watch K] [--output FILE] [--atomic] \
+                     [MODEL SCRIPTS]";
 
 const ABOUT: &str = "Edits a CityJSON 2.0 city model by scripts. Each script is done whole or not \
                      at all.";
@@ -56,7 +63,8 @@ Status:
   0  done, or help was asked for
   1  the input was refused, memory ran out, or reading or writing failed; see standard error
   2  the command line isn't understood: standard error says what is wrong
-A script that is refused ends as \"refused\" in its line, and the status is 0.";
+  3  with --atomic: a script was refused or ran out of memory, and no model is written
+Without --atomic a script that is refused ends as \"refused\" in its line, and the status is 0.";
 
 /// What a command line asks for.
 #[derive(Drop)]
@@ -91,19 +99,19 @@ impl From<OutOfMemory> for LineFault {
 /// What a command line asks for. Its first word is the program's name.
 ///
 /// An answer other than a text has 1 to `MAX_WORKERS` workers, 1 where `--workers` isn't given, 0 to
-/// `MAX_VIEWERS` viewers, 0 where `--watch` isn't given, and takes numbers of any form where `--decimals` is given. The
+/// `MAX_VIEWERS` viewers, 0 where `--watch` isn't given, and takes numbers of any form where `--decimals` is given. Its
+/// destination has the FILE of `--output` or `-o`, if there is one, and is atomic where `--atomic` is given. The
 /// options stand in any order, and names before, between and after them. Refused: a number outside
 /// these ranges, a MODEL without SCRIPTS, a third name, and an option that is unknown, comes twice
-/// or has no number.
+/// or has no value.
 pub fn asked_by<'a>(alloc: Global, words: &'a [String]) -> Result<Asked<'a>, LineFault>
     ensures names { All IsName (drop 1 (map string_bytes words.now))
         → AnswersNames plain_options plain_destination (drop 1 (map string_bytes words.now)) result }
     ensures shown { (word : List ℕ) (rest : List (List ℕ)) → AsksForText word
         → drop 1 (map string_bytes words.now) ≡ word ∷ rest → IsShown result }
     ensures unknown { MeetsUnknownOption (drop 1 (map string_bytes words.now)) → IsErr result }
-    ensures options { (workers watch : Option (List ℕ)) (decimals : Bool) (names : List (List ℕ))
-        → IsLineOf workers watch decimals names (drop 1 (map string_bytes words.now))
-        → AnswersOptions workers watch decimals names result }
+    ensures options { (line : Line) → IsLineOf line (drop 1 (map string_bytes words.now))
+        → AnswersOptions line result }
     ensures within { IfOk result HasOptions }
 {
     let mut command = command(alloc)?;
@@ -111,9 +119,11 @@ pub fn asked_by<'a>(alloc: Global, words: &'a [String]) -> Result<Asked<'a>, Lin
         Ok(matches) => {
             let (workers, watch) = (matches.get_str(WORKERS), matches.get_str(WATCH));
             let decimals = matches.get_flag(DECIMALS);
+            let (file, atomic) = (matches.get_str(OUTPUT), matches.get_flag(ATOMIC));
             let options = options_by(alloc, &mut command, workers, watch, decimals)?;
             let (model, scripts) = (matches.get_str(MODEL), matches.get_str(SCRIPTS));
-            by_names(alloc, &mut command, options, model, scripts)
+            let destination = Destination { file, atomic };
+            by_names(alloc, &mut command, options, destination, model, scripts)
         }
         Err(error) => without_names(alloc, &error),
     }
@@ -123,13 +133,23 @@ pub fn asked_by<'a>(alloc: Global, words: &'a [String]) -> Result<Asked<'a>, Lin
 fn command<'a>(alloc: Global) -> Result<Command<'a>, OutOfMemory>
     ensures { IfOk result (λ c. app_of c ≡ cityed_command) }
 {
+    let atomic = "Write no model where a script is refused or out of memory, and end with status 3";
+    run_command(alloc)?
+        .arg(output_option(alloc))?
+        .arg(flag(alloc, ATOMIC, atomic))
+}
+
+/// The command line without the options that say where output goes.
+fn run_command<'a>(alloc: Global) -> Result<Command<'a>, OutOfMemory>
+    ensures { IfOk result (λ c. app_of c ≡ run_command) }
+{
     let decimals = "Take numbers of any form, and give them back as they were written";
     let workers = "How many workers run the scripts, 1 to 16 [default: 1]";
     let watch = "How many viewers watch the model change, 0 to 4 [default: 0]";
     files_command(alloc)?
         .arg(flag(alloc, DECIMALS, decimals))?
-        .arg(number_option(alloc, WORKERS, "N", workers))?
-        .arg(number_option(alloc, WATCH, "K", watch))
+        .arg(value_option(alloc, WORKERS, "N", workers))?
+        .arg(value_option(alloc, WATCH, "K", watch))
 }
 
 /// The command line without its options.
@@ -141,7 +161,7 @@ fn files_command<'a>(alloc: Global) -> Result<Command<'a>, OutOfMemory>
     Command::new(alloc, "cityed")
         .version("0.1.0")
         .about(ABOUT)
-        .override_usage("cityed [--decimals] [--workers N] [--watch K] [MODEL SCRIPTS]")
+        .override_usage(USAGE)
         .after_help(DETAILS)
         .arg(model)?
         .arg(scripts)
@@ -159,7 +179,7 @@ fn flag<'a>(alloc: Global, name: &'a str, help: &'a str) -> Arg<'a>
 }
 
 /// An option with a value, which help shows by a name.
-fn number_option<'a>(alloc: Global, name: &'a str, value: &'a str, help: &'a str) -> Arg<'a>
+fn value_option<'a>(alloc: Global, name: &'a str, value: &'a str, help: &'a str) -> Arg<'a>
     ensures rule { rule_of result ≡ option_rule name.entry.now }
     ensures local { result.global ≡ false }
 {
@@ -167,6 +187,16 @@ fn number_option<'a>(alloc: Global, name: &'a str, value: &'a str, help: &'a str
         .long(name)
         .value_name(value)
         .help(help)
+}
+
+/// The option that names the file which gets the model.
+fn output_option<'a>(alloc: Global) -> Arg<'a>
+    ensures rule { rule_of result ≡ output_rule }
+    ensures local { result.global ≡ false }
+{
+    let help =
+        "Write the model to FILE, replaced whole or not at all; standard output gets the report";
+    value_option(alloc, OUTPUT, "FILE", help).short('o')
 }
 
 /// The options, by the texts of `--workers` and `--watch` and whether `--decimals` is given. A text
@@ -228,19 +258,16 @@ fn by_names<'a>(
     alloc: Global,
     command: &mut Command<'a>,
     options: Options,
+    destination: Destination<'a>,
     model: Option<&'a str>,
     scripts: Option<&'a str>,
 ) -> Result<Asked<'a>, LineFault>
-    ensures { AnswersPlaces options (option_map (λ s. s.now) model.entry)
+    ensures { AnswersPlaces options destination.entry (option_map (λ s. s.now) model.entry)
         (option_map (λ s. s.now) scripts.entry) result }
 {
-    let follows = Destination {
-        file: None,
-        atomic: false,
-    };
     match (model, scripts) {
-        (Some(model), Some(scripts)) => Ok(Asked::Files(options, follows, model, scripts)),
-        (None, _) => Ok(Asked::Input(options, follows)),
+        (Some(model), Some(scripts)) => Ok(Asked::Files(options, destination, model, scripts)),
+        (None, _) => Ok(Asked::Input(options, destination)),
         (Some(_), None) => {
             let kind = ErrorKind::MissingRequiredArgument;
             let error = command.error(kind, "a MODEL was given without SCRIPTS")?;

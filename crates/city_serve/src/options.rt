@@ -1,4 +1,4 @@
-//! How a run is done.
+//! How a run is done, and where its output goes.
 
 /// By how many workers a run is done, before how many viewers, and with which numbers.
 #[derive(Clone, Copy)]

@@ -1,14 +1,14 @@
 -- The command line as clap is told of it, and what its names ask for.
-use Rattle.std.specs.Prelude.{◌≡◌, ℕ, true, List, [], codes, Option, Some, None, Result, Ok, IsErr}
+use Rattle.std.specs.Prelude.{ℕ, true, List, [], codes, Option, Some, None, Result, IsErr}
 use Rattle.std.specs.Result.{IsOkAnd}
 use Rattle.clap.specs.Words.{App, Rule, new_rule, with_rule}
 use Rattle.clap.specs.Simple.{new_shape}
 use Rattle.clap.specs.declared.builder.action.ArgAction.TheVariants.{SetTrue}
 use Rattle.city_serve.specs.declared.command_line.Asked.{Asked}
 use Rattle.city_serve.specs.declared.command_line.LineFault.{LineFault}
+use Rattle.city_serve.specs.declared.options.Destination.{Destination}
 use Rattle.city_serve.specs.declared.options.Options.{Options}
-use Rattle.city_serve.specs.CommandLines.{files_of}
-use Rattle.city_serve.specs.RunOptions.{plain_destination}
+use Rattle.city_serve.specs.CommandLines.{IsAskedFiles, IsAskedInput}
 
 -- the command as clap is told of it, without its options: two names of files, and beside help a version
 abbrev pub files_command : App
@@ -24,14 +24,23 @@ option_rule name = record (new_rule name) { long = Some name; value_names = 1 }
 abbrev pub flag_rule : List ℕ → Rule
 flag_rule name = record (new_rule name) { long = Some name; action = Some SetTrue }
 
--- the command with its options
-abbrev pub cityed_command : App
-cityed_command =
+-- the file that gets the model: an option that a letter stands for too
+abbrev pub output_rule : Rule
+output_rule = record (option_rule (codes "output")) { short = Some 111 }
+
+-- the command with the options of a run
+abbrev pub run_command : App
+run_command =
     with_rule (with_rule (with_rule files_command (flag_rule (codes "decimals"))) (option_rule (codes "workers")))
     (option_rule (codes "watch"))
 
+-- the command with all its options
+abbrev pub cityed_command : App
+cityed_command = with_rule (with_rule run_command output_rule) (flag_rule (codes "atomic"))
+
 -- the files that names in their two places ask for
-abbrev pub AnswersPlaces : Options → Option (List ℕ) → Option (List ℕ) → Result Asked LineFault → Type 0
-AnswersPlaces options (Some model) (Some scripts) r = IsOkAnd r (λ a. files_of a ≡ Some (options, model, scripts))
-AnswersPlaces options (Some model) None r = IsErr r
-AnswersPlaces options None scripts r = r ≡ Ok (Asked.Input options plain_destination)
+abbrev pub AnswersPlaces : Options → Destination → Option (List ℕ) → Option (List ℕ) → Result Asked LineFault → Type 0
+AnswersPlaces options destination (Some model) (Some scripts) r =
+    IsOkAnd r (IsAskedFiles options destination model scripts)
+AnswersPlaces options destination (Some model) None r = IsErr r
+AnswersPlaces options destination None scripts r = IsOkAnd r (IsAskedInput options destination)
