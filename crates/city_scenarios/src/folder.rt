@@ -1,5 +1,5 @@
 //! Texts with names, as files.
-ghost use Rattle.std.specs.Prelude.{◌≡◌, ◌≢◌, true};
+ghost use Rattle.std.specs.Prelude.{◌≡◌, ◌≢◌, true, false};
 
 use crate::named::{Named, text_named};
 use crate::reader::{Giving, Reads, number_after, word_after};
@@ -80,6 +80,8 @@ impl OutputFiles for Folder<'_> {
     type New = Taking;
 
     ghost is_synced = { λ _. true };
+
+    ghost are_known = { false };
 
     ghost have_failed = { λ files. files.failed };
 

@@ -7,6 +7,8 @@ pub mod KnownBytes
 pub mod LineAnswers
 pub mod OtherOptions
 pub mod Prelude
+mod Replacing
+mod Reported
 pub mod Rows
 mod Serving
 mod Telling

@@ -62,7 +62,7 @@ module _ (options : Options) (document scripts : List ℕ) (ends : List End) (by
   }
 
 -- what follows its report, whatever the ends, is served as it is
-module _ {options : Options} {document scripts : List ℕ} {before after : Folder} {old new : Option (List ℕ)} where
+module _ (options : Options) (document scripts : List ℕ) (before after : Folder) (old new : Option (List ℕ)) where
   pub served_whole : (seen : List (Vec ℕ)) (withheld : Bool)
       → IsDelivered plain_destination options document scripts seen withheld before after old new
       → AreServedBy (written_by options.decimals) document scripts options.workers options.viewers seen old new

@@ -5,7 +5,7 @@ ghost use Rattle.std.specs.Io.KnownBytes.{Appends};
 ghost use Rattle.city_serve.specs.declared.fault.ServeFault.{ServeFault};
 ghost use Rattle.city_serve.specs.RunOptions.{file_of};
 ghost use Rattle.city_serve.specs.ServedTexts.{AppendsSome};
-ghost use Rattle.city_serve.specs.Destinations.{has_failed, is_withheld, bytes_to_writer, IsPlaced, IsReplaced};
+ghost use Rattle.city_serve.specs.Destinations.{outcome_failed, has_failed, is_withheld, bytes_to_writer, IsPlaced, IsReplaced};
 ghost use Rattle.city_serve.specs.Destinations.{IsOldOrNew, HaveFailed};
 
 use crate::device::Device;
@@ -35,20 +35,20 @@ pub(crate) fn deliver<F: OutputFiles, W: Write>(
     output: Output,
 ) -> Result<Delivered, ServeFault>
     requires { output.report ≤ length output.bytes.items }
-    ensures written { IfOk result (λ d. (d.seen ≡ output.seen) × (d.withheld ≡ is_withheld destination output.ends)
+    ensures written { IfOk result (λ d. (d.seen ≡ output.seen) × (d.withheld ≡ is_withheld destination.entry output.ends)
         × Appends (W.contents writer.old.0) (W.contents writer.new.0)
-        (bytes_to_writer (file_of destination) d.withheld (take output.report output.bytes.items)
+        (bytes_to_writer (file_of destination.entry) d.withheld (take output.report output.bytes.items)
         (drop output.report output.bytes.items))
-        × IsPlaced (file_of destination) d.withheld (drop output.report output.bytes.items)
+        × IsPlaced (file_of destination.entry) d.withheld (drop output.report output.bytes.items)
         (F.text files.old) (F.text files.new)
         × (writer.new.1 ≡ writer.old.1)) }
     ensures fault { IfErr result (λ f. (f ≡ ServeFault.Write)
         × AppendsSome (W.contents writer.old.0) (W.contents writer.new.0)
-        (bytes_to_writer (file_of destination) (is_withheld destination output.ends)
+        (bytes_to_writer (file_of destination.entry) (is_withheld destination.entry output.ends)
         (take output.report output.bytes.items) (drop output.report output.bytes.items))
-        × IsOldOrNew (file_of destination) (drop output.report output.bytes.items)
+        × IsOldOrNew (file_of destination.entry) (drop output.report output.bytes.items)
         (F.text files.old) (F.text files.new)
-        × HaveFailed (file_of destination) writer.new.1 (F.have_failed files.new)) }
+        × HaveFailed (file_of destination.entry) writer.new.1 (F.have_failed files.new)) }
 {
     let withheld = destination.atomic && any_failed(output.ends.as_slice());
     let (report, model) = output.bytes.as_slice().split_at(output.report);
@@ -71,12 +71,21 @@ fn any_failed(ends: &[End]) -> bool
     ensures { result ≡ list_any has_failed ends.now }
 {
     for end in ends {
-        match end.outcome {
-            Outcome::Refused(..) | Outcome::NoMemory(_) => return true,
-            Outcome::Committed | Outcome::Aborted => {}
+        if is_failed(&end.outcome) {
+            return true;
         }
     }
     false
+}
+
+/// Whether this is the end of a script that was refused, or that memory ran out for.
+fn is_failed(outcome: &Outcome) -> bool
+    ensures { result ≡ outcome_failed outcome.now }
+{
+    match outcome {
+        Outcome::Refused(..) | Outcome::NoMemory(_) => true,
+        Outcome::Committed | Outcome::Aborted => false,
+    }
 }
 
 /// Replaces the file of this path by the model, once the model is on its device and the report is written, and says

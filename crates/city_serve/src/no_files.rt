@@ -1,5 +1,5 @@
 //! No files, for runs whose model follows its report.
-ghost use Rattle.std.specs.Prelude.{true};
+ghost use Rattle.std.specs.Prelude.{true, false};
 
 use crate::fault::ServeFault;
 use crate::files::TextFiles;
@@ -18,6 +18,8 @@ impl TextFiles for NoFiles {
 
 impl OutputFiles for NoFiles {
     ghost is_synced = { λ _. true };
+
+    ghost are_known = { false };
 
     ghost have_failed = { λ _. true };
 

@@ -1,5 +1,5 @@
 //! Files whose texts are replaced whole.
-ghost use Rattle.std.specs.Prelude.{◌≡◌, ◌≢◌, ℕ, Bool, true, List, [], IfSome, IsSome, IsNone};
+ghost use Rattle.std.specs.Prelude.{◌≡◌, ◌≢◌, ℕ, Bool, true, List, [], Some, None, IfSome, IsSome, IsNone, if◌then◌else◌};
 ghost use Rattle.std.specs.Io.KnownBytes.{Keeps};
 
 use crate::files::TextFiles;
@@ -15,12 +15,15 @@ pub trait OutputFiles: TextFiles {
     /// All that was written to the new file has reached the device.
     ghost is_synced: { Self.New → Bool };
 
+    /// Whether it is known what new files hold, and so what texts they give to names.
+    ghost are_known: { Bool };
+
     /// Whether a step was refused, or a new file given up.
     ghost have_failed: { Self → Bool };
 
     /// Makes a new, empty file beside the file of this path. It takes no file that is there. The seed is for its name.
     fn create(&mut self, path: &str, seed: u64) -> Option<Self::New>
-        ensures empty { IfSome result (λ new. IfSome (Self.New.contents new) (λ all. all ≡ [])) }
+        ensures empty { IfSome result (λ new. Self.New.contents new ≡ (if are_known then Some [] else None)) }
         ensures texts { Self.text self.new ≡ Self.text self.old }
         ensures unfailed { IsSome result → have_failed self.new ≡ have_failed self.old }
         ensures failed { IsNone result → have_failed self.new ≡ true };
@@ -36,8 +39,8 @@ pub trait OutputFiles: TextFiles {
     /// Has the new file take the name in one step, and says whether it did. Where it doesn't, the file is removed.
     fn rename(&mut self, new: Self::New, path: &str) -> bool
         requires { is_synced new ≡ true }
-        ensures placed { result ≡ true → IfSome (Self.text self.new path.now) (λ text.
-            IfSome (Self.New.contents new) (λ all. text ≡ all)) }
+        ensures placed { result ≡ true
+            → Self.text self.new path.now ≡ (if are_known then Self.New.contents new else None) }
         ensures others { (other : List ℕ) → other ≢ path.now → Self.text self.new other ≡ Self.text self.old other }
         ensures texts { result ≢ true → Self.text self.new ≡ Self.text self.old }
         ensures unfailed { result ≡ true → have_failed self.new ≡ have_failed self.old }

@@ -1,5 +1,5 @@
 //! The files of a runtime.
-ghost use Rattle.std.specs.Prelude.{◌≡◌, true, IfOk};
+ghost use Rattle.std.specs.Prelude.{◌≡◌, ◌≢◌, true, false};
 
 use crate::fault::ServeFault;
 use crate::files::{TextFiles, read_file};
@@ -71,6 +71,8 @@ impl<R: Files + AllocGlobal> OutputFiles for RuntimeFiles<'_, R> {
     type New = NewFile<R::File>;
 
     ghost is_synced = { λ new. new.synced };
+
+    ghost are_known = { false };
 
     ghost have_failed = { λ files. files.failed };
 
