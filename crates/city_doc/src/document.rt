@@ -8,7 +8,6 @@ pub mod each_fault;
 pub mod faults;
 pub mod indexed;
 pub mod read;
-
 pub mod text;
 pub mod top;
 pub mod write;

@@ -1,19 +1,19 @@
 -- The list of all faults of a text, the first fault, and which texts are accepted.
-use Rattle.city_doc.proofs.Prelude.{◌≡◌, ◌⊎◌, inl, inr, ℕ, ◌<◌, ◌≤◌, List, ◌∷◌, Bool, true, false, true≢false, Option}
+use Rattle.city_doc.proofs.Prelude.{◌≡◌, inl, inr, ℕ, ◌<◌, ◌≤◌, List, ◌∷◌, Bool, true, false, true≢false, Option}
 use Rattle.city_doc.proofs.Prelude.{Some, None, [], Less, nat_cmp, refl, sym, ap, subst, ◌∙◌, arith, length, slice_cmp}
-use Rattle.city_doc.proofs.Prelude.{nat_list_cmp_total, IsLeast, option_and_then, is_some, slice_get, Data, Members}
-use Rattle.city_doc.proofs.Prelude.{get_member, Point, is_integral, IsText, CityValue, IsAdmitted, ReadFault, NotWhole}
+use Rattle.city_doc.proofs.Prelude.{nat_list_cmp_total, option_and_then, is_some, slice_get, Data, Members}
+use Rattle.city_doc.proofs.Prelude.{get_member, Point, is_integral, CityValue, IsAdmitted, ReadFault, NotWhole}
 use Rattle.city_doc.proofs.Prelude.{NotCityJson, UnknownType, Unsupported, BadGeometry, BadVertex, BadRing, Relations}
-use Rattle.city_doc.proofs.Prelude.{OpenShell, StandsAmong, StandsIn, IsFirst, objects_in, vertices_in, is_unsupported}
+use Rattle.city_doc.proofs.Prelude.{OpenShell, StandsAmong, StandsIn, IsFirst, objects_in, vertices_in}
 use Rattle.city_doc.proofs.Prelude.{wrong_member, is_bad_geometry, has_bad_vertex, Has}
 use Rattle.city_doc.proofs.Prelude.{and_parts, and_then_some}
 use Rattle.std.specs.Prelude.{IfSome}
 use Rattle.city_tokens.specs.tree.Texts.{IsTooLong, IsNoJson, HasTree, HasOtherNumber}
 use Rattle.city_doc.specs.declared.fault.ReadFault.TheVariants.{OutOfMemory, TooLong, NotJson}
 use Rattle.city_doc.specs.document.Accepted.{IsAccepted}
-use Rattle.city_doc.specs.document.AllFaults.{StandsAt, IsFaultOfTree, IsFaultOf, IsListed, IsBefore, AreInOrder}
-use Rattle.city_doc.specs.document.AllFaults.{AreThose, AreFaultsOf, id_of, is_misplaced}
-use Rattle.city_doc.specs.document.Faults.{DocumentFault, rank_of, unsupported_at}
+use Rattle.city_doc.specs.document.AllFaults.{StandsAt, IsFaultOfTree, IsFaultOf, IsListed, IsBefore}
+use Rattle.city_doc.specs.document.AllFaults.{AreThose, AreFaultsOf, id_of}
+use Rattle.city_doc.specs.document.Faults.{DocumentFault, rank_of}
 use Rattle.city_doc.specs.object.Faults.{unsupported_name}
 use Rattle.std.proofs.lemmas.Cmp.{tied_itself}
 use Rattle.city_doc.proofs.OneValue.{one_tree}
@@ -174,11 +174,18 @@ is_first d (UnknownType id) h least = (
   none_lower d (UnknownType id) least (high_parts d (UnknownType id) h),
 )
 is_first d (Unsupported id name) h least =
-    let at = and_then_some unsupported_name (get_member id (objects_in d)) name h.2 in
-    ((((at.0, at.1, ap is_some at.2), λ q lt k.
-    let other = some_of (unsupported_name k.0) k.2 in
-    least (Unsupported q other.0) (h.0, h.1, ap (option_and_then unsupported_name) k.1 ∙ other.1) (inr (refl, lt))), h.2),
-    none_lower d (Unsupported id name) least (high_parts d (Unsupported id name) h))
+    let at = and_then_some unsupported_name (get_member id (objects_in d)) name h.2 in (
+      (
+        (
+          (at.0, at.1, ap is_some at.2),
+          λ q lt k.
+              let other = some_of (unsupported_name k.0) k.2 in
+              least (Unsupported q other.0) (h.0, h.1, ap (option_and_then unsupported_name) k.1 ∙ other.1) (inr (refl, lt)),
+        ),
+        h.2,
+      ),
+      none_lower d (Unsupported id name) least (high_parts d (Unsupported id name) h),
+    )
 is_first d (BadGeometry id) h least = (
   (h.2, λ q lt k. least (BadGeometry q) (h.0, h.1, k) (inr (refl, lt))),
   none_lower d (BadGeometry id) least (high_parts d (BadGeometry id) h),

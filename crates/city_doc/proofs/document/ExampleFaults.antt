@@ -1,7 +1,7 @@
 -- Two objects and all that is wrong with them: the worked case of the order of faults.
-use Rattle.city_doc.proofs.Prelude.{◌≡◌, ℕ, List, ◌∷◌, [], refl, arith, inl, inr, codes, object, string, put, Data}
-use Rattle.city_doc.proofs.Prelude.{Members, no_members, member, AreOrdered, ReadFault, UnknownType, BadGeometry}
-use Rattle.city_doc.proofs.Prelude.{BadVertex, Relations, lenient_map_of}
+use Rattle.city_doc.proofs.Prelude.{◌∷◌, [], refl, arith, inl, inr, codes, object, string, put, Data}
+use Rattle.city_doc.proofs.Prelude.{Members, no_members, member, AreOrdered, UnknownType, BadGeometry}
+use Rattle.city_doc.proofs.Prelude.{Relations, lenient_map_of}
 use Rattle.city_model.specs.Types as types
 use Rattle.city_doc.specs.document.AllFaults.{StandsAt, IsBefore, AreThose}
 use Rattle.city_doc.proofs.document.Finders.{told_all}

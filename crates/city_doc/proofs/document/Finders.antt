@@ -3,9 +3,9 @@ use Rattle.city_doc.proofs.Prelude.{◌≡◌, ◌⊎◌, inl, inr, ℕ, ◌<◌
 use Rattle.city_doc.proofs.Prelude.{sym, ap, subst, ◌∙◌, arith, option_and_then, option_map, length, Data, Members}
 use Rattle.city_doc.proofs.Prelude.{get_member, Body, Object, Point, CityMap, ReadFault, UnknownType, Unsupported}
 use Rattle.city_doc.proofs.Prelude.{BadGeometry, BadVertex, BadRing, Relations, OpenShell, IsMisrelatedAt}
-use Rattle.city_doc.proofs.Prelude.{IsBadlyRelatedAt, is_bad_ringed, lenient_map_of, lenient_object_of, body_of, Has}
+use Rattle.city_doc.proofs.Prelude.{IsBadlyRelatedAt, is_bad_ringed, lenient_map_of, lenient_object_of, body_of}
 use Rattle.city_doc.proofs.Prelude.{some_shape, has_open_shell, is_unknown_type, is_bad_geometry, has_bad_list}
-use Rattle.city_doc.proofs.Prelude.{and_then_some, ordered_members, AreOrdered}
+use Rattle.city_doc.proofs.Prelude.{and_then_some, AreOrdered}
 use Rattle.std.specs.Prelude.{◌||◌}
 use Rattle.city_model.specs.inside.RelationTests.{is_misrelated}
 use Rattle.city_model.proofs.Lawfulness.{misrelated_true, misrelated_false}
@@ -229,11 +229,11 @@ module _ (points : List Point) (ms : Members) (o : AreOrdered ms) where
 
   pub told_all : (m : CityMap) → m ≡ built → AreThose (StandsAt points ms) (all_told m)
   told_all m same = rw same (
-    let a = told_too points ms o 5 unknown_type [] finds_unknown_type (none_there (StandsBelow points ms o 5) none_low) in
-    let b = told_too points ms o 6 unsupported _ finds_unsupported a in
-    let c = told_too points ms o 7 bad_geometry _ finds_bad_geometry b in
-    let d = told_too points ms o 8 (bad_vertex (length points)) _ finds_bad_vertex c in
-    let e = told_too points ms o 9 (bad_ring built) _ finds_bad_ring d in
-    let f = told_too points ms o 10 (relations built) _ finds_relations e in
-    let g = told_too points ms o 11 (open_shell built) _ finds_open_shell f in
-    those_alike (StandsBelow points ms o 12) (StandsAt points ms) _ (λ f s. s.0) (λ f s. (s, rank_below f)) g)
+      let a = told_too points ms o 5 unknown_type [] finds_unknown_type (none_there (StandsBelow points ms o 5) none_low) in
+      let b = told_too points ms o 6 unsupported _ finds_unsupported a in
+      let c = told_too points ms o 7 bad_geometry _ finds_bad_geometry b in
+      let d = told_too points ms o 8 (bad_vertex (length points)) _ finds_bad_vertex c in
+      let e = told_too points ms o 9 (bad_ring built) _ finds_bad_ring d in
+      let f = told_too points ms o 10 (relations built) _ finds_relations e in
+      let g = told_too points ms o 11 (open_shell built) _ finds_open_shell f in
+      those_alike (StandsBelow points ms o 12) (StandsAt points ms) _ (λ f s. s.0) (λ f s. (s, rank_below f)) g)

@@ -1,5 +1,5 @@
 -- There is one first fault: what a reader answers to a text is the first of all its faults, unless memory runs out.
-use Rattle.city_doc.proofs.Prelude.{◌≡◌, ◌⊎◌, inl, inr, ℕ, ◌<◌, List, ◌∷◌, Option, Some, None, [], Ordering, Less, Equal}
+use Rattle.city_doc.proofs.Prelude.{◌≡◌, ◌⊎◌, inl, inr, ℕ, ◌<◌, List, ◌∷◌, Some, [], Ordering, Less, Equal}
 use Rattle.std.specs.declared.cmp.Ordering.TheVariants.{Greater}
 use Rattle.city_doc.proofs.Prelude.{nat_cmp, is_eq, refl, sym, ap, ap₂, subst, ◌∙◌, arith, slice_cmp, slice_get}
 use Rattle.city_doc.proofs.Prelude.{nat_list_cmp_total, same_id_true, IsLeast, Data, Members, ReadFault, NotWhole}

@@ -1,6 +1,6 @@
 -- The objects that can be built, listed by their ids.
-use Rattle.city_doc.proofs.Prelude.{◌≡◌, ℕ, List, ◌∷◌, Option, Some, None, [], Ordering, Less, Equal, nat_cmp, is_eq}
-use Rattle.city_doc.proofs.Prelude.{refl, sym, ap, ◌∙◌, arith, cond, slice_cmp, AllByRecursion, keys_of, Data, Members}
+use Rattle.city_doc.proofs.Prelude.{◌≡◌, ℕ, List, Option, Some, None, Less, nat_cmp}
+use Rattle.city_doc.proofs.Prelude.{refl, arith, slice_cmp, AllByRecursion, keys_of, Members}
 use Rattle.city_doc.proofs.Prelude.{no_members, member, get_member, AreOrdered, AllAbove, Point, Object, Entries}
 use Rattle.city_doc.proofs.Prelude.{found_in, same_id_true, lenient_map_of, lenient_object_of}
 use Rattle.std.specs.List.Sorted.{IsStrictlySortedBy}

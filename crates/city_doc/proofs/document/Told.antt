@@ -2,7 +2,7 @@
 use Rattle.city_doc.proofs.Prelude.{◌≡◌, ◌⊎◌, inl, inr, ℕ, suc, ◌<◌, List, ◌∷◌, ◌++◌, Option, Some, None, [], Ordering}
 use Rattle.std.specs.declared.cmp.Ordering.TheVariants.{Greater}
 use Rattle.city_doc.proofs.Prelude.{Less, Equal, nat_cmp, is_eq, refl, sym, ap, subst, ◌∙◌, arith, slice_cmp}
-use Rattle.city_doc.proofs.Prelude.{AllByRecursion, nat_list_cmp_total, same_id_true, Data, Members, no_members, member}
+use Rattle.city_doc.proofs.Prelude.{AllByRecursion, same_id_true, Data, Members, no_members, member}
 use Rattle.city_doc.proofs.Prelude.{get_member, AreOrdered, AllAbove, Point, ReadFault}
 use Rattle.city_doc.specs.document.AllFaults.{StandsAt, IsListed, IsBefore, AreInOrder, AreThose, id_of}
 use Rattle.city_doc.specs.document.Faults.{rank_of}

@@ -13,11 +13,12 @@ ghost use Rattle.city_doc.specs.document.Top.{wrong_member};
 ghost use Rattle.city_doc.specs.inside.tree.TextFaults.{IsRefused};
 
 use crate::document::build::lenient_object_of;
+use crate::document::each_fault::{
+    BadGeometry, BadRing, BadVertex, OpenShell, Relations, UnknownType, UnsupportedPart, tell_each,
+};
 use crate::document::faults::objects_in;
 use crate::document::indexed::{IndexedObject, IndexedObjects};
 use crate::document::read::lawful_city;
-use crate::document::each_fault::{BadGeometry, BadRing, BadVertex, OpenShell, Relations, UnknownType, UnsupportedPart};
-use crate::document::each_fault::tell_each;
 use crate::document::top::wrong_member;
 use crate::fault::ReadFault;
 use crate::shape::vertices::vertices_in;

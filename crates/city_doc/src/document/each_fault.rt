@@ -28,7 +28,12 @@ pub trait Search {
     ghost found: { Self → List ℕ → Data → Option fault.ReadFault };
 
     /// The fault, where the object of this id has it.
-    fn look(&self, alloc: Global, id: &str, object: &Value) -> Result<Option<ReadFault>, OutOfMemory>
+    fn look(
+        &self,
+        alloc: Global,
+        id: &str,
+        object: &Value,
+    ) -> Result<Option<ReadFault>, OutOfMemory>
         ensures { IfOk result (λ o. o ≡ found self.now id.now (view object.now)) };
 }
 
@@ -76,7 +81,12 @@ pub struct OpenShell<'o>(pub &'o IndexedObjects);
 impl Search for UnknownType {
     ghost found = { λ _. unknown_type };
 
-    fn look(&self, alloc: Global, id: &str, object: &Value) -> Result<Option<ReadFault>, OutOfMemory> {
+    fn look(
+        &self,
+        alloc: Global,
+        id: &str,
+        object: &Value,
+    ) -> Result<Option<ReadFault>, OutOfMemory> {
         if type_of(object).is_some() {
             return Ok(None);
         }
@@ -88,7 +98,12 @@ impl Search for UnknownType {
 impl Search for UnsupportedPart {
     ghost found = { λ _. unsupported };
 
-    fn look(&self, alloc: Global, id: &str, object: &Value) -> Result<Option<ReadFault>, OutOfMemory> {
+    fn look(
+        &self,
+        alloc: Global,
+        id: &str,
+        object: &Value,
+    ) -> Result<Option<ReadFault>, OutOfMemory> {
         let Some(name) = unsupported_name(object) else {
             return Ok(None);
         };
@@ -101,7 +116,12 @@ impl Search for UnsupportedPart {
 impl Search for BadGeometry {
     ghost found = { λ _. bad_geometry };
 
-    fn look(&self, alloc: Global, id: &str, object: &Value) -> Result<Option<ReadFault>, OutOfMemory> {
+    fn look(
+        &self,
+        alloc: Global,
+        id: &str,
+        object: &Value,
+    ) -> Result<Option<ReadFault>, OutOfMemory> {
         if !is_bad_geometry(object) {
             return Ok(None);
         }
@@ -120,7 +140,12 @@ fn is_misplaced(count: usize, object: &Value) -> bool
 impl Search for BadVertex {
     ghost found = { λ s. bad_vertex s.0 };
 
-    fn look(&self, alloc: Global, id: &str, object: &Value) -> Result<Option<ReadFault>, OutOfMemory> {
+    fn look(
+        &self,
+        alloc: Global,
+        id: &str,
+        object: &Value,
+    ) -> Result<Option<ReadFault>, OutOfMemory> {
         if !is_misplaced(self.0, object) {
             return Ok(None);
         }
@@ -142,7 +167,12 @@ fn is_bad_ringed_there(object: Option<&IndexedObject>) -> bool
 impl<'o> Search for BadRing<'o> {
     ghost found = { λ s. bad_ring (found_in s.0.now.entries) };
 
-    fn look(&self, alloc: Global, id: &str, _object: &Value) -> Result<Option<ReadFault>, OutOfMemory> {
+    fn look(
+        &self,
+        alloc: Global,
+        id: &str,
+        _object: &Value,
+    ) -> Result<Option<ReadFault>, OutOfMemory> {
         let id = named(alloc, id)?;
         if !is_bad_ringed_there(self.0.get(&id)) {
             return Ok(None);
@@ -164,7 +194,12 @@ fn is_misrelated_there(objects: &IndexedObjects, id: &Id) -> bool
 impl<'o> Search for Relations<'o> {
     ghost found = { λ s. relations (found_in s.0.now.entries) };
 
-    fn look(&self, alloc: Global, id: &str, object: &Value) -> Result<Option<ReadFault>, OutOfMemory> {
+    fn look(
+        &self,
+        alloc: Global,
+        id: &str,
+        object: &Value,
+    ) -> Result<Option<ReadFault>, OutOfMemory> {
         let id = named(alloc, id)?;
         if !has_bad_list(object) && !is_misrelated_there(self.0, &id) {
             return Ok(None);
@@ -187,7 +222,12 @@ fn is_open_there(alloc: Global, object: Option<&IndexedObject>) -> Result<bool, 
 impl<'o> Search for OpenShell<'o> {
     ghost found = { λ s. open_shell (found_in s.0.now.entries) };
 
-    fn look(&self, alloc: Global, id: &str, _object: &Value) -> Result<Option<ReadFault>, OutOfMemory> {
+    fn look(
+        &self,
+        alloc: Global,
+        id: &str,
+        _object: &Value,
+    ) -> Result<Option<ReadFault>, OutOfMemory> {
         let id = named(alloc, id)?;
         if !is_open_there(alloc, self.0.get(&id))? {
             return Ok(None);
