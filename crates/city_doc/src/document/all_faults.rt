@@ -1,4 +1,4 @@
-//! Tells all faults of a document.
+//! Finds all faults of a document.
 ghost use Rattle.std.specs.Prelude.{◌≡◌, ◌⊎◌, [], ◌∷◌, true, List, ℕ, Some, IfOk, slice_get};
 ghost use Rattle.serde_json.specs.View.{view, members_view};
 ghost use Rattle.city_model.specs.CityMap.{found_in};
@@ -33,10 +33,10 @@ use std::alloc::Global;
 /// of the list, and of the ids in byte order. There are none where `read_city` reads the text,
 /// wherever there is memory; else the first is the one that it answers.
 ///
-/// `TooLong`, `NotJson`, `NotWhole` and `NotCityJson` are told alone, since nothing behind them is
-/// looked at. An object with a bad geometry isn't asked for `BadVertex`. An object that can't be
-/// built, for one of the faults 5 to 8, has no rings and no shells, and counts as absent from the
-/// relations of others. It fails only when out of memory.
+/// A text with `TooLong`, `NotJson`, `NotWhole` or `NotCityJson` has that fault alone: nothing else is
+/// looked at. An object with `BadGeometry` doesn't have `BadVertex` as well. An object with one of the
+/// faults 5 to 8 can't be built: its rings and shells aren't judged, and its relatives have
+/// `Relations` too, as if it were absent. It fails only when out of memory.
 pub fn faults_of(alloc: Global, bytes: &[u8]) -> Result<Vec<ReadFault>, OutOfMemory>
     ensures faults { IfOk result (λ faults. AreFaultsOf bytes.now faults.items) }
     ensures accepted { IfOk result (λ faults. faults.items ≡ [] → IsAccepted bytes.now) }
