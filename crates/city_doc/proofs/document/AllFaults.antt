@@ -131,7 +131,9 @@ not_both : (f g : ReadFault) → IsBefore f g → IsBefore g f → ⊥
 not_both f g (inl lt) (inl gt) = omega (arith, lt, gt)
 not_both f g (inl lt) (inr same) = omega (arith, lt, same.0)
 not_both f g (inr same) (inl gt) = omega (arith, same.0, gt)
-not_both f g (inr less) (inr more) = let e = nat_list_cmp_total.antisymm (id_of f) (id_of g) in grind (arith, less.1, more.1)
+not_both f g (inr less) (inr more) =
+    let e = nat_list_cmp_total.antisymm (id_of f) (id_of g) in
+    grind (arith, less.1, more.1)
 
 least_told : (P : ReadFault → Type 0) (f : ReadFault) (fs : List ReadFault) → AreThose P (f ∷ fs) → (g : ReadFault)
     → P g → IsBefore g f → ⊥
@@ -180,7 +182,8 @@ is_first d (Unsupported id name) h least =
           (at.0, at.1, ap is_some at.2),
           λ q lt k.
               let other = some_of (unsupported_name k.0) k.2 in
-              least (Unsupported q other.0) (h.0, h.1, ap (option_and_then unsupported_name) k.1 ∙ other.1) (inr (refl, lt)),
+              least (Unsupported q other.0) (h.0, h.1, ap (option_and_then unsupported_name) k.1 ∙ other.1)
+                  (inr (refl, lt)),
         ),
         h.2,
       ),

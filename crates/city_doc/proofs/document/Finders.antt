@@ -1,5 +1,6 @@
 -- Each search finds the faults of one rank that stand.
-use Rattle.city_doc.proofs.Prelude.{◌≡◌, ◌⊎◌, inl, inr, ℕ, ◌<◌, List, ◌++◌, [], Bool, true, false, true≢false, Option, Some, None, refl}
+use Rattle.city_doc.proofs.Prelude.{◌≡◌, ◌⊎◌, inl, inr, ℕ, ◌<◌, List, ◌++◌, [], Bool, true, false, true≢false, Option}
+use Rattle.city_doc.proofs.Prelude.{Some, None, refl}
 use Rattle.city_doc.proofs.Prelude.{sym, ap, subst, ◌∙◌, arith, option_and_then, option_map, length, Data, Members}
 use Rattle.city_doc.proofs.Prelude.{get_member, Body, Object, Point, CityMap, ReadFault, UnknownType, Unsupported}
 use Rattle.city_doc.proofs.Prelude.{BadGeometry, BadVertex, BadRing, Relations, OpenShell, IsMisrelatedAt}
@@ -13,7 +14,8 @@ use Rattle.city_doc.specs.document.AllFaults.{StandsAt, AreThose, id_of, is_misp
 use Rattle.city_doc.specs.document.CityFaults.{body_has}
 use Rattle.city_doc.specs.document.Faults.{rank_of}
 use Rattle.city_doc.specs.inside.document.Told.{told, only_where, unknown_type, unsupported, bad_geometry}
-use Rattle.city_doc.specs.inside.document.Told.{bad_vertex, bad_ring, relations, open_shell, body_there, misrelated_there}
+use Rattle.city_doc.specs.inside.document.Told.{bad_vertex, bad_ring, relations, open_shell, body_there}
+use Rattle.city_doc.specs.inside.document.Told.{misrelated_there}
 use Rattle.city_doc.specs.object.Faults.{unsupported_name}
 use Rattle.city_doc.proofs.document.Told.{IsFound, Finds, StandsBelow, told_too, those_alike, none_there}
 
@@ -224,12 +226,14 @@ module _ (points : List Point) (ms : Members) (o : AreOrdered ms) where
   -- what all searches tell, one after another
   abbrev pub all_told : CityMap → List ReadFault
   all_told m =
-      ((((((told unknown_type ms ++ told unsupported ms) ++ told bad_geometry ms) ++ told (bad_vertex (length points)) ms)
-      ++ told (bad_ring m) ms) ++ told (relations m) ms) ++ told (open_shell m) ms)
+      ((((((told unknown_type ms ++ told unsupported ms) ++ told bad_geometry ms)
+      ++ told (bad_vertex (length points)) ms) ++ told (bad_ring m) ms) ++ told (relations m) ms)
+      ++ told (open_shell m) ms)
 
   pub told_all : (m : CityMap) → m ≡ built → AreThose (StandsAt points ms) (all_told m)
   told_all m same = rw same (
-      let a = told_too points ms o 5 unknown_type [] finds_unknown_type (none_there (StandsBelow points ms o 5) none_low) in
+      let none = none_there (StandsBelow points ms o 5) none_low in
+      let a = told_too points ms o 5 unknown_type [] finds_unknown_type none in
       let b = told_too points ms o 6 unsupported _ finds_unsupported a in
       let c = told_too points ms o 7 bad_geometry _ finds_bad_geometry b in
       let d = told_too points ms o 8 (bad_vertex (length points)) _ finds_bad_vertex c in
