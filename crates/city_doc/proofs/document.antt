@@ -1,8 +1,12 @@
 -- What the proofs of several functions of src/document/ use.
+pub mod AllFaults
 mod ArrangedCities
 mod CityNests
 pub mod EntriesRead
+mod ExampleFaults
+mod Finders
 mod FramesRead
+mod IdSets
 mod IntegralTrees
 pub mod KeptMembers
 mod LawfulCities
@@ -11,11 +15,14 @@ mod Least
 mod LenientEntries
 pub mod NoFault
 mod Objects
+mod OneFirst
 mod Order
 pub mod OwnMembers
 pub mod PutMembers
+mod ReadableObjects
 pub mod Right
 mod RoundTrip
 mod Searches
+mod Told
 mod Totals
 pub mod WholeTrees

@@ -1,5 +1,6 @@
 -- Definitions of documents.
 pub mod Accepted
+pub mod AllFaults
 pub mod Canonical
 pub mod CanonicalTexts
 pub mod CityFaults

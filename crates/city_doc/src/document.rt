@@ -1,9 +1,12 @@
 //! Documents: the city that one stands for, which of its faults is the first, and its canonical text.
 
+pub mod all_faults;
 pub mod arranged;
 pub mod build;
 pub mod city_faults;
+pub mod each_fault;
 pub mod faults;
+pub mod indexed;
 pub mod read;
 pub mod text;
 pub mod top;

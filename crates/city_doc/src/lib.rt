@@ -23,6 +23,7 @@ mod shape;
 mod tree;
 
 pub use city_tokens::MAX_TEXT;
+pub use document::all_faults::faults_of;
 pub use document::read::read_city;
 pub use document::write::{append_city, write_city};
 pub use fault::{ReadFault, ScriptFault};

@@ -14,7 +14,9 @@ use Rattle.city_doc.proofs.Prelude.{and_then_some, if_some, map_some, Frame, or_
 use Rattle.std.proofs.Common.{Ok, Err, codes}
 use Rattle.std.specs.Prelude.{IfErr, length}
 use Rattle.city_doc.specs.declared.fault.ReadFault.TheVariants.{OutOfMemory}
+use Rattle.city_doc.specs.document.AllFaults.{StandsAt, IsFaultOfTree}
 use Rattle.city_doc.specs.document.Faults.{DocumentFault}
+use Rattle.city_doc.specs.object.Faults.{unsupported_name}
 use Rattle.city_tokens.proofs.Laws.{at_listed, are_triples-read}
 use Rattle.city_doc.proofs.object.FaultlessBodies.{known, supported, formed, placed, is_object}
 use Rattle.city_doc.proofs.document.NoFault.{read_as, no_object, no_bad_ring, no_open_shell, no_badly_related}
@@ -110,18 +112,36 @@ module _ (d : Data) (c : CityValue) (s : StandsFor d c) (lawful : IsLawful (city
       → (id : List ℕ) → Has test (objects_in d) id → ⊥
   none_with = no_object (vertices_in d) (objects_in d) s.list s.entries of_list
 
+  none_there : (f : ReadFault) → StandsAt (vertices_in d) (objects_in d) f → ⊥
+  none_there (UnknownType id) h = none_with is_unknown_type (known (vertices_in d)) id h
+  none_there (Unsupported id name) h =
+      let at = and_then_some unsupported_name (get_member id (objects_in d)) name h in
+      none_with is_unsupported (supported (vertices_in d)) id (at.0, at.1, ap is_some at.2)
+  none_there (BadGeometry id) h = none_with is_bad_geometry (formed (vertices_in d)) id h
+  none_there (BadVertex id) h =
+      none_with (has_bad_vertex (length (vertices_in d))) (placed (vertices_in d)) id
+      (h.0, h.1, (and_parts _ _ h.2).1)
+  none_there (BadRing id) h = no_bad_ring (vertices_in d) (objects_in d) s.list s.entries of_list id h
+  none_there (Relations id) h = no_badly_related (vertices_in d) (objects_in d) s.list s.entries of_list id h
+  none_there (OpenShell id) h = no_open_shell (vertices_in d) (objects_in d) s.list s.entries of_list id h
+  none_there f h = h
+
+  pub none_at : is_integral d ≡ true → (f : ReadFault) → IsFaultOfTree d f → ⊥
+  none_at integral NotWhole h = true≢false (sym integral ∙ h)
+  none_at integral (NotCityJson name) h = let none = right d c s in grind (arith, h.1)
+  none_at integral f h = none_there f h.2
+
   stands_not : (f : ReadFault) → is_integral d ≡ true → StandsIn d f → ⊥
   stands_not NotWhole integral h = true≢false (sym integral ∙ h)
   stands_not (NotCityJson name) integral h = let none = right d c s in grind arith
-  stands_not (UnknownType id) integral h = none_with is_unknown_type (known (vertices_in d)) id h.0
-  stands_not (Unsupported id name) integral h = none_with is_unsupported (supported (vertices_in d)) id h.0.0
-  stands_not (BadGeometry id) integral h = none_with is_bad_geometry (formed (vertices_in d)) id h.0
+  stands_not (UnknownType id) integral h = none_there (UnknownType id) h.0
+  stands_not (Unsupported id name) integral h = none_there (Unsupported id name) h.1
+  stands_not (BadGeometry id) integral h = none_there (BadGeometry id) h.0
   stands_not (BadVertex id) integral h =
       none_with (has_bad_vertex (length (vertices_in d))) (placed (vertices_in d)) id h.0
-  stands_not (BadRing id) integral h = no_bad_ring (vertices_in d) (objects_in d) s.list s.entries of_list id h.0
-  stands_not (Relations id) integral h =
-      no_badly_related (vertices_in d) (objects_in d) s.list s.entries of_list id h.0
-  stands_not (OpenShell id) integral h = no_open_shell (vertices_in d) (objects_in d) s.list s.entries of_list id h.0
+  stands_not (BadRing id) integral h = none_there (BadRing id) h.0
+  stands_not (Relations id) integral h = none_there (Relations id) h.0
+  stands_not (OpenShell id) integral h = none_there (OpenShell id) h.0
   stands_not f integral h = h
 
 -- a text that is refused, but for want of memory, stands for no lawful city

@@ -86,7 +86,7 @@ among_in d NotWhole h = absurd h
 among_in d (NotCityJson name) h = absurd h
 among_in d f h = h
 
-in_among : (d : Data) (f : ReadFault) → is_integral d ≡ true → wrong_member d ≡ None → StandsIn d f
+pub in_among : (d : Data) (f : ReadFault) → is_integral d ≡ true → wrong_member d ≡ None → StandsIn d f
     → StandsAmong (vertices_in d) (objects_in d) f
 in_among d NotWhole integral right h = absurd (true≢false (sym integral ∙ h))
 in_among d (NotCityJson name) integral right h = grind arith

@@ -19,7 +19,7 @@ here k d ms = rw (tied_itself nat_list_cmp_total k)
 same_key : (j k : List ℕ) → slice_cmp nat_cmp j k ≡ Equal → j ≡ k
 same_key j k e = same_id_true j k (ap is_eq e)
 
-found_above : (k j : List ℕ) (ms : Members) (e : Data) → AllAbove k ms → get_member j ms ≡ Some e
+pub found_above : (k j : List ℕ) (ms : Members) (e : Data) → AllAbove k ms → get_member j ms ≡ Some e
     → slice_cmp nat_cmp k j ≡ Less
 found_above k j no_members e h is = grind arith
 found_above k j (member l d ms) e h is = let rest = found_above k j ms e h.1 in grind (arith, same_key)

@@ -7,7 +7,7 @@ use Rattle.city_doc.proofs.Prelude.{without, AreOrdered, IsLawful, is_integral, 
 use Rattle.city_doc.proofs.Prelude.{ReadFault, or_empty, city_of, objects_of, members_of, objects_in, vertices_in}
 use Rattle.city_doc.proofs.Prelude.{is_unsupported, StandsAmong, StandsIn, IsFirst, AreReadable, HasForm}
 use Rattle.city_doc.proofs.Prelude.{without_top_members, frame_of_rest, has_triple, wrong_member, is_transform}
-use Rattle.city_doc.proofs.Prelude.{all_objects, are_all_objects, are_objects, lenient_entries_of, IsReadOf}
+use Rattle.city_doc.proofs.Prelude.{all_objects, are_all_objects, lenient_entries_of, IsReadOf}
 use Rattle.city_doc.proofs.Prelude.{is_unknown_type, is_bad_geometry, has_bad_vertex, has_bad_list, first_with}
 use Rattle.city_doc.proofs.Prelude.{as_object-integral, get_member-integral, listed_again, object_with, object_is}
 use Rattle.city_doc.proofs.Prelude.{triple_of, Body, body_of, and_then_some, map_some}

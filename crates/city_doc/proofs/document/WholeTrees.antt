@@ -1,7 +1,7 @@
 -- A tree that was read from a text and that has a city is a tree of whole numbers: the members that are kept are
 -- tested, and what else the city is made of are positions, vertices and texts.
 use Rattle.city_doc.proofs.Prelude.{◌≡◌, ℕ, zero, suc, ℤ, List, ◌∷◌, true, Option, Some, arith, [], refl, sym, ap}
-use Rattle.city_doc.proofs.Prelude.{subst, ◌∙◌, option_and_then, option_map, codes, is_some, if◌then◌else◌}
+use Rattle.city_doc.proofs.Prelude.{subst, ◌∙◌, option_and_then, option_map, codes, is_some}
 use Rattle.city_doc.proofs.Prelude.{AllByRecursion, and_from, and_parts, Data, array, object, Items, no_items, item}
 use Rattle.city_doc.proofs.Prelude.{Members, no_members, member, number, string, put, get, get_member, as_str}
 use Rattle.city_doc.proofs.Prelude.{as_object, as_number, as_i64, CityValue, Entries, Point, is_integral}

@@ -1,5 +1,5 @@
 -- A point that is added keeps its number, whatever points come after it.
-use Rattle.city_doc.proofs.Prelude.{◌≡◌, ◌+◌, ◌<◌, length, arith, Bool, true, false, List, [], ◌∷◌, ◌++◌, append_assoc}
+use Rattle.city_doc.proofs.Prelude.{◌≡◌, ◌<◌, length, arith, Bool, true, false, List, [], ◌∷◌, ◌++◌, append_assoc}
 use Rattle.city_doc.proofs.Prelude.{filter, list_any, Decides-int_eq, prefix_len-le-length, Point, same_point}
 use Rattle.city_doc.proofs.Prelude.{number_of, with_point, without_repeats, with_points}
 use Rattle.std.proofs.Common.{◌^◌}

@@ -1,7 +1,7 @@
 -- What scripts stand for.
 use Rattle.city_doc.proofs.Prelude.{◌≡◌, ℕ, List, length, Bool, true, Option, Some, None, ap, ◌∙◌, false, refl, arith}
 use Rattle.city_doc.proofs.Prelude.{◌&&◌, option_and_then, codes, slice_get, list_all, and_parts, Data, Items, no_items}
-use Rattle.city_doc.proofs.Prelude.{item, Members, at, get_member, as_object, Point, Command, Scripted, is_integral}
+use Rattle.city_doc.proofs.Prelude.{item, Members, get_member, as_object, Point, Command, Scripted, is_integral}
 use Rattle.city_doc.proofs.Prelude.{read_items, all_read, is_bad_command, names_bad_vertex, command_of, ScriptParts}
 use Rattle.city_doc.proofs.Prelude.{commands_in, parts_in, parts_of, vertex_count, array_of-integral}
 use Rattle.city_doc.proofs.Prelude.{as_object-integral, get_member-integral, and_then_some, if_some}

@@ -1,6 +1,8 @@
 -- Words for how documents are read and judged.
 pub mod Arranged
 pub mod Forms
+pub mod IdSets
 pub mod KeptMembers
 pub mod LenientCities
 pub mod Searches
+pub mod Told

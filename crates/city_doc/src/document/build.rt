@@ -20,7 +20,7 @@ use std::alloc::Global;
 use std::collections::BTreeMap;
 
 /// The object of a tree, which is consumed; a list that isn't an array of texts counts as empty.
-fn lenient_object_of(
+pub fn lenient_object_of(
     alloc: Global,
     points: &[Point],
     object: Value,

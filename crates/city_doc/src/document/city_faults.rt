@@ -53,7 +53,7 @@ impl BodyTest for OpenShell {
 }
 
 /// Whether some ring is short, or has equal neighbours.
-fn is_bad_ringed(body: &Body) -> bool
+pub fn is_bad_ringed(body: &Body) -> bool
     ensures { result ≡ is_bad_ringed body.now }
 {
     let geometry = body.geometry.as_slice();

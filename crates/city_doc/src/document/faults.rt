@@ -145,7 +145,7 @@ fn object_fault(
 }
 
 /// The objects of a tree by their ids.
-fn objects_in(tree: &Value) -> Option<&Map<String, Value>>
+pub fn objects_in(tree: &Value) -> Option<&Map<String, Value>>
     ensures { option_map (λ m. members_view m.now.entries) result
         ≡ option_and_then as_object (get (codes "CityObjects") (view tree.now)) }
 {

@@ -48,7 +48,7 @@ pub fn read_city(alloc: Global, bytes: &[u8]) -> Result<City, ReadFault>
 }
 
 /// The city of a text, read from its tokens, which is lawful; none where anything is odd.
-fn lawful_city(alloc: Global, bytes: &[u8]) -> Option<City>
+pub fn lawful_city(alloc: Global, bytes: &[u8]) -> Option<City>
     ensures { IfSome result (λ c. IsAdmitted bytes.now c) }
 {
     let city = streamed_city(alloc, bytes)?;

@@ -1,0 +1,171 @@
+-- What is told by going through the objects in their order: what is found at each of them, once, in order.
+use Rattle.city_doc.proofs.Prelude.{◌≡◌, ◌⊎◌, inl, inr, ℕ, suc, ◌<◌, List, ◌∷◌, ◌++◌, Option, Some, None, [], Ordering}
+use Rattle.std.specs.declared.cmp.Ordering.TheVariants.{Greater}
+use Rattle.city_doc.proofs.Prelude.{Less, Equal, nat_cmp, is_eq, refl, sym, ap, subst, ◌∙◌, arith, slice_cmp}
+use Rattle.city_doc.proofs.Prelude.{AllByRecursion, same_id_true, Data, Members, no_members, member}
+use Rattle.city_doc.proofs.Prelude.{get_member, AreOrdered, AllAbove, Point, ReadFault}
+use Rattle.city_doc.specs.document.AllFaults.{StandsAt, IsListed, IsBefore, AreInOrder, AreThose, id_of}
+use Rattle.city_doc.specs.document.Faults.{rank_of}
+use Rattle.city_doc.specs.inside.document.Told.{told, with_found}
+use Rattle.city_doc.proofs.document.Searches.{here, there, found_above}
+
+-- ---- lists
+
+pub all_listed : (P : ReadFault → Type 0) (fs : List ReadFault) → ((f : ReadFault) → IsListed fs f → P f)
+    → AllByRecursion P fs
+all_listed P [] h = tt
+all_listed P (f ∷ fs) h = (h f (inl refl), all_listed P fs (λ g k. h g (inr k)))
+
+listed_all : (P : ReadFault → Type 0) (fs : List ReadFault) (f : ReadFault) → AllByRecursion P fs → IsListed fs f → P f
+listed_all P [] f h k = absurd k
+listed_all P (g ∷ gs) f h (inl same) = subst P (sym same) h.0
+listed_all P (g ∷ gs) f h (inr k) = listed_all P gs f h.1 k
+
+pub before_rest : (f g : ReadFault) (fs : List ReadFault) → AreInOrder (f ∷ fs) → IsListed fs g → IsBefore f g
+before_rest f g fs h k = listed_all (IsBefore f) fs g h.0 k
+
+listed_parts : (fs gs : List ReadFault) (f : ReadFault) → IsListed (fs ++ gs) f → IsListed fs f ⊎ IsListed gs f
+listed_parts [] gs f h = inr h
+listed_parts (g ∷ fs) gs f (inl same) = inl (inl same)
+listed_parts (g ∷ fs) gs f (inr h) = elim (listed_parts fs gs f h) [ inl k ↦ inl (inr k) | inr k ↦ inr k ]
+
+listed_first : (fs gs : List ReadFault) (f : ReadFault) → IsListed fs f → IsListed (fs ++ gs) f
+listed_first [] gs f h = absurd h
+listed_first (g ∷ fs) gs f (inl same) = inl same
+listed_first (g ∷ fs) gs f (inr h) = inr (listed_first fs gs f h)
+
+listed_last : (fs gs : List ReadFault) (f : ReadFault) → IsListed gs f → IsListed (fs ++ gs) f
+listed_last [] gs f h = h
+listed_last (g ∷ fs) gs f h = inr (listed_last fs gs f h)
+
+all_append : (P : ReadFault → Type 0) (fs gs : List ReadFault) → AllByRecursion P fs → AllByRecursion P gs
+    → AllByRecursion P (fs ++ gs)
+all_append P [] gs h k = k
+all_append P (f ∷ fs) gs h k = (h.0, all_append P fs gs h.1 k)
+
+in_order_append : (fs gs : List ReadFault) → AreInOrder fs → AreInOrder gs
+    → ((f g : ReadFault) → IsListed fs f → IsListed gs g → IsBefore f g) → AreInOrder (fs ++ gs)
+in_order_append [] gs h k between = k
+in_order_append (f ∷ fs) gs h k between = (
+  all_append (IsBefore f) fs gs h.0 (all_listed (IsBefore f) gs (λ g. between f g (inl refl))),
+  in_order_append fs gs h.1 k (λ e g first. between e g (inr first)),
+)
+
+-- those for which one thing holds are those for which the other does
+pub those_alike : (P Q : ReadFault → Type 0) (fs : List ReadFault) → ((f : ReadFault) → P f → Q f)
+    → ((f : ReadFault) → Q f → P f) → AreThose P fs → AreThose Q fs
+those_alike P Q fs to from h =
+    record { stand = λ f k. to f (h.stand f k); all = λ f k. h.all f (from f k); in_order = h.in_order }
+
+pub one_alone : (P : ReadFault → Type 0) (f : ReadFault) → P f → ((g : ReadFault) → P g → g ≡ f) → AreThose P (f ∷ [])
+one_alone P f h only = record {
+  stand = λ g k. elim k [ inl same ↦ subst P (sym same) h | inr none ↦ absurd none ];
+  all = λ g k. inl (only g k);
+  in_order = (tt, tt);
+}
+
+pub none_there : (P : ReadFault → Type 0) → ((f : ReadFault) → P f → ⊥) → AreThose P []
+none_there P none = record { stand = λ f k. absurd k; all = none; in_order = tt }
+
+-- ---- what is found at the objects
+
+module _ (find : List ℕ → Data → Option ReadFault) where
+  -- it is found at an object
+  abbrev pub IsFound : Members → ReadFault → Type 0
+  IsFound ms f = (id : List ℕ) × (d : Data) × (get_member id ms ≡ Some d) × (find id d ≡ Some f)
+
+  further : (k : List ℕ) (d : Data) (ms : Members) (f : ReadFault) → AllAbove k ms → IsFound ms f
+      → IsFound (member k d ms) f
+  further k d ms f above h = (h.0, h.1, there k h.0 d h.1 ms above h.2, h.3)
+
+  listed_found : (ms : Members) (f : ReadFault) → AreOrdered ms → IsListed (told find ms) f → IsFound ms f
+  listed_found no_members f o h = absurd h
+  listed_found (member k d ms) f o h =
+      by (find k d) (λ j. further k d ms f o.0 (listed_found ms f o.1 j)) refl h
+    where
+      by : (r : Option ReadFault) → (IsListed (told find ms) f → IsFound (member k d ms) f) → find k d ≡ r
+          → IsListed (with_found r (told find ms)) f → IsFound (member k d ms) f
+      by None rest is h = rest h
+      by (Some g) rest is (inl same) = (k, d, here k d ms, is ∙ ap Some (sym same))
+      by (Some g) rest is (inr h) = rest h
+
+  in_rest : (r : Option ReadFault) (fs : List ReadFault) (f : ReadFault) → IsListed fs f → IsListed (with_found r fs) f
+  in_rest None fs f h = h
+  in_rest (Some g) fs f h = inr h
+
+  in_front : (r : Option ReadFault) (fs : List ReadFault) (f : ReadFault) → r ≡ Some f → IsListed (with_found r fs) f
+  in_front r fs f is = subst (λ r. IsListed (with_found r fs) f) (sym is) (inl refl)
+
+  found_listed : (ms : Members) (id : List ℕ) (d : Data) (f : ReadFault) → get_member id ms ≡ Some d
+      → find id d ≡ Some f → IsListed (told find ms) f
+  found_listed no_members id d f at is = absurd (cc)
+  found_listed (member k x ms) id d f at is = by (slice_cmp nat_cmp id k)
+      (λ j. in_rest (find k x) (told find ms) f (found_listed ms id d f j is)) refl
+    where
+      by : (o : Ordering) → (get_member id ms ≡ Some d → IsListed (told find (member k x ms)) f)
+          → slice_cmp nat_cmp id k ≡ o → IsListed (told find (member k x ms)) f
+      by Equal rest e =
+          let same : id ≡ k = same_id_true id k (ap is_eq e) in
+          let value : d ≡ x = grind (arith, e, at) in
+          in_front (find k x) (told find ms) f (rw (← same, ← value) is)
+      by Less rest e = rest (grind (arith, e, at))
+      by Greater rest e = rest (grind (arith, e, at))
+
+  told_in_order : (n : ℕ) (ms : Members) → AreOrdered ms
+      → ((id : List ℕ) (d : Data) (f : ReadFault) → find id d ≡ Some f → (rank_of f ≡ n) × (id_of f ≡ id))
+      → AreInOrder (told find ms)
+  told_in_order n no_members o shape = tt
+  told_in_order n (member k d ms) o shape = by (find k d) (told_in_order n ms o.1 shape) refl
+    where
+      above : (g : ReadFault) → find k d ≡ Some g → (f : ReadFault) → IsListed (told find ms) f → IsBefore g f
+      above g is f h =
+          let at = listed_found ms f o.1 h in
+          let one = shape k d g is in
+          let other = shape at.0 at.1 f at.3 in
+          inr (one.0 ∙ sym other.0, rw (one.1, other.1) (found_above k at.0 ms at.1 o.0 at.2))
+
+      by : (r : Option ReadFault) → AreInOrder (told find ms) → find k d ≡ r → AreInOrder (with_found r (told find ms))
+      by None rest is = rest
+      by (Some g) rest is = (all_listed (IsBefore g) (told find ms) (above g is), rest)
+
+  pub all_told : (n : ℕ) (ms : Members) → AreOrdered ms
+      → ((id : List ℕ) (d : Data) (f : ReadFault) → find id d ≡ Some f → (rank_of f ≡ n) × (id_of f ≡ id))
+      → AreThose (IsFound ms) (told find ms)
+  all_told n ms o shape = record {
+    stand = λ f h. listed_found ms f o h;
+    all = λ f h. found_listed ms h.0 h.1 f h.2 h.3;
+    in_order = told_in_order n ms o shape;
+  }
+
+lower_or_same : (k n : ℕ) → k < suc n → (k < n) ⊎ (k ≡ n)
+lower_or_same k n h = grind arith
+
+-- faults of lower ranks, and then those of one rank that are told
+module _ (points : List Point) (ms : Members) (o : AreOrdered ms) where
+  abbrev pub StandsBelow : ℕ → ReadFault → Type 0
+  StandsBelow n f = StandsAt points ms f × (rank_of f < n)
+
+  -- a search finds the faults of a rank
+  pub record Finds (n : ℕ) (find : List ℕ → Data → Option ReadFault) : Type 0 where
+    pub shape : (id : List ℕ) (d : Data) (f : ReadFault) → find id d ≡ Some f → (rank_of f ≡ n) × (id_of f ≡ id)
+    pub stands : (f : ReadFault) → IsFound find ms f → StandsAt points ms f
+    pub found : (f : ReadFault) → StandsAt points ms f → rank_of f ≡ n → IsFound find ms f
+
+  pub told_too : (n : ℕ) (find : List ℕ → Data → Option ReadFault) (fs : List ReadFault) → Finds n find
+      → AreThose (StandsBelow n) fs → AreThose (StandsBelow (suc n)) (fs ++ told find ms)
+  told_too n find fs finds h =
+      let k = all_told find n ms o finds.shape in
+      let rank : (f : ReadFault) → IsFound find ms f → rank_of f ≡ n =
+      λ f at. (finds.shape at.0 at.1 f at.3).0 in
+      record {
+        stand = λ f there. elim (listed_parts fs (told find ms) f there) [
+          | inl first ↦ let s = h.stand f first in (s.0, omega (arith, s.1))
+          | inr last ↦ let at = k.stand f last in (finds.stands f at, omega (arith, rank f at))
+        ];
+        all = λ f s. elim (lower_or_same (rank_of f) n s.1) [
+          | inl low ↦ listed_first fs (told find ms) f (h.all f (s.0, low))
+          | inr same ↦ listed_last fs (told find ms) f (k.all f (finds.found f s.0 same))
+        ];
+        in_order = in_order_append fs (told find ms) h.in_order k.in_order
+            (λ f g first last. inl (let s = h.stand f first in omega (arith, s.1, rank g (k.stand g last))));
+      }
