@@ -8,6 +8,9 @@ use std::sync::atomic::{AtomicU64, Ordering};
 use std::thread;
 use std::thread::Threads;
 
+/// How often a thread looks for the others.
+const LOOKS: u64 = PATIENT / 4;
+
 /// Holds the first script until each viewer has looked, and each viewer after its first look until a later script
 /// begins, before which the others are shown.
 #[derive(Drop)]
@@ -32,7 +35,7 @@ impl HoldsViewers {
 
     /// Waits until a number is so large.
     fn wait_for(&self, number: &AtomicU64, least: u64) {
-        for _ in 0..PATIENT {
+        for _ in 0..LOOKS {
             if number.load(Ordering::SeqCst) >= least {
                 return;
             }

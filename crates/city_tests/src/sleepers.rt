@@ -18,8 +18,11 @@ const HOLD: u64 = 20_000;
 /// script has come, and how many times `HOLD` it waits then.
 type Step = (usize, u64, usize, u64, u64);
 
-/// Lets scripts pass in the order of its steps. Counts what is wrong: passes that waited in vain, and those at which a
-/// script had another number of replies than is wanted, where it is.
+/// Any number of replies.
+const ANY: usize = usize::MAX;
+
+/// Lets scripts pass in the order of its steps. Counts what is wrong: passes that waited in vain, and, where it is given
+/// how many replies each pass of a script has, passes that have other replies, or come after the last.
 #[derive(Drop)]
 struct InSteps<'a> {
     steps: &'a [Step],
@@ -43,7 +46,11 @@ impl<'a> InSteps<'a> {
     /// Notes a pass of a script that has so many replies.
     fn note(&self, script: usize, pass: u64, replies: usize) {
         if let Some(wanted) = self.replies.get(script) {
-            if wanted.get(pass.wrapping_sub(1) as usize) != Some(&replies) {
+            let right = match wanted.get(pass.wrapping_sub(1) as usize) {
+                Some(number) => *number == ANY || *number == replies,
+                None => false,
+            };
+            if !right {
                 self.wrong.fetch_add(1, Ordering::SeqCst);
             }
         }
@@ -182,8 +189,8 @@ const LAST_SLEEPS_LAST: &[Step] = &[(0, 3, 2, 2, 3), (1, 1, 0, 3, 0), (2, 1, 1, 
 /// The same where a worker passes the gate before many turns alone.
 const MANY_TURNS: &[Step] = &[(0, 2, 2, 1, 3), (1, 1, 0, 2, 0), (2, 1, 1, 1, 1)];
 
-/// The replies of the three at their passes: the others die at their second, and begin again once.
-const DIE_ONCE: &[&[usize]] = &[&[0, 0, 1], &[0, 0, 0, 0, 1], &[0, 0, 0, 0, 1]];
+/// The replies of the three at their passes: the others die at their second, unless they come late, and begin again once.
+const DIE_ONCE: &[&[usize]] = &[&[0, 0, 1], &[0, 0, ANY, 0, 1], &[0, 0, ANY, 0, 1]];
 
 /// How the first script ends, and how many scripts commit then.
 const ENDS: &[(&str, usize)] = &[
@@ -224,20 +231,20 @@ fn two_scripts(alloc: Global, first: [(&str, usize); 2], second: [(&str, usize);
     Some(text)
 }
 
-/// How often the second puts `y` before it puts `x`, the first waits for `y` and sleeps until the second dies at `x`;
-/// then the second sleeps until the first, which is held before its commit, has ended.
+/// How often the second puts `y` before it puts `x`. The first waits for `y`, unless it comes late, and sleeps until the
+/// second dies at `x`; then the second sleeps until the first, which is held before its commit, has ended.
 type Death = (usize, &'static [Step], &'static [&'static [usize]]);
 
 const DEATHS: &[Death] = &[
     (
         1,
-        &[(1, 1, 0, 2, 0), (0, 3, 1, 3, 0), (1, 3, 0, 3, 2), (0, 5, 0, 5, 2)],
-        &[&[0, 0, 1, 1, 2], &[0, 0, 1, 0, 0, 1, 2]],
+        &[(1, 1, 0, 2, 0), (0, 3, 1, 3, 0), (1, 3, 0, 3, 2), (0, 5, 0, 5, 1)],
+        &[&[0, 0, 1, ANY, 2], &[0, 0, 1, 0, 0, 1, 2]],
     ),
     (
         3,
-        &[(1, 1, 0, 2, 0), (0, 3, 1, 3, 0), (1, 5, 0, 3, 2), (0, 5, 0, 5, 2)],
-        &[&[0, 0, 1, 1, 2], &[0, 0, 1, 2, 3, 0, 0, 1, 2, 3, 4]],
+        &[(1, 1, 0, 2, 0), (0, 3, 1, 3, 0), (1, 5, 0, 3, 2), (0, 5, 0, 5, 1)],
+        &[&[0, 0, 1, ANY, 2], &[0, 0, 1, 2, 3, 0, 0, 1, 2, 3, 4]],
     ),
 ];
 
@@ -246,7 +253,7 @@ fn a_death_wakes_one_that_waits(rt: HostRuntime) {
     for (count, steps, replies) in DEATHS {
         let scripts = two_scripts(rt.alloc(), [("x", 1), ("y", 1)], [("y", *count), ("x", 1)]);
         let scripts = scripts.as_ref().map_or("", |scripts| scripts.as_str());
-        for _ in 0..3 {
+        for _ in 0..2 {
             let gate = InSteps::of(steps, false, replies);
             let came = run_in_time(&rt, rt.alloc(), &gate, scripts);
             assert_eq!(&rt; came, Some((2, 0)), "{count}");
