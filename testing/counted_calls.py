@@ -8,14 +8,15 @@ as long. Four times the text may take 4.5 times the allocations and 4.5 times th
 without members may take two allocations, for its id and its body, and a tenth, since the nodes of a city's map are
 full. Each script has to commit, and the two kinds that have a fault have to be refused. Scripts that lock ids of their
 own may have 1.05 times as much allocated at once as scripts that lock the same ids, and an object that is put may take
-2.5 allocations for each attribute. Where valgrind is installed, instructions are counted too: those of texts whose
-points would collide may grow six times, and sixteen workers may take 1.5 times those of one, where scripts meet. Prints
-one line for each kind, and ends with status 1 where one took more or ended otherwise.
+2.5 allocations for each attribute. Where scripts meet, sixteen workers may take 1.5 times the processor time of one.
+Where valgrind is installed, the instructions of texts whose points would collide are counted too, and may grow six
+times. Prints one line for each kind, and ends with status 1 where one took more or ended otherwise.
 """
 
 import json
 import os
 import re
+import resource
 import shutil
 import subprocess
 import sys
@@ -65,10 +66,17 @@ class Counted:
         with open(told, "rb") as file:
             return ran, [int.from_bytes(file.read(8), sys.byteorder) for _ in range(3)]
 
-    def instructions(self, texts, *options):
+    def seconds(self, texts, *options):
+        """How much processor time a run takes, of all its threads."""
+        before = resource.getrusage(resource.RUSAGE_CHILDREN)
+        subprocess.run([self.path, *options, *self.names(texts)], capture_output=True, check=True, timeout=120)
+        after = resource.getrusage(resource.RUSAGE_CHILDREN)
+        return after.ru_utime - before.ru_utime + after.ru_stime - before.ru_stime
+
+    def instructions(self, texts):
         """How many instructions a run executes, by valgrind's count."""
         words = ["valgrind", "--tool=callgrind", "--callgrind-out-file=/dev/null", self.path]
-        ran = subprocess.run([*words, *options, *self.names(texts)], capture_output=True, check=True, timeout=600)
+        ran = subprocess.run([*words, *self.names(texts)], capture_output=True, check=True, timeout=600)
         return int(re.search(rb"Collected : (\d+)", ran.stderr)[1])
 
 
@@ -134,13 +142,16 @@ def colliding_are_quick(program, kind, count):
     return kept
 
 
-def workers_sleep(program, count):
-    """Whether workers that wait for others sleep: sixteen of them make as many steps as one."""
-    commands = [{"put": f"r{number % 7}", "object": {"type": "Road"}} for number in range(count)]
-    texts = growth.model({}), [growth.script(commands)] * 20
-    one, many = (program.instructions(texts, "--workers", workers) for workers in ("1", "16"))
-    told = f"20 scripts that meet, of {count:,} puts: {one:,} instructions by one worker, {many:,} by 16, {many / one:.2f} times"
-    return say(many <= MOST_OF_WORKERS * one, told)
+def workers_sleep(program, count, scripts):
+    """Whether workers that wait for others sleep: sixteen of them take little more processor time than one."""
+    put = {"type": "Road"}
+    meet = [{"put": f"r{number % 7}", "object": put} for number in range(count)]
+    listed = [growth.script([{"put": f"own-{number}", "object": put}] * 40 + meet) for number in range(scripts)]
+    texts = growth.model({}), listed
+    one = min(program.seconds(texts, "--workers", "1") for _ in range(3))
+    many = sum(program.seconds(texts, "--workers", "16") for _ in range(6)) / 6
+    told = f"{scripts} scripts that meet, of {count:,} puts: {one:.2f} s by one worker, {many:.2f} s by 16"
+    return say(many <= MOST_OF_WORKERS * one, f"{told}, {many / one:.2f} times")
 
 
 def main():
@@ -153,11 +164,11 @@ def main():
         kept += [locks_leave_their_table(program, count) for count in (300, 4_000)]
         kept += [bodies_are_shared(program, count) for count in (1_000, 20_000)]
         kept += [bodies_are_shared(program, count, "--watch", "1") for count in (1_000, 20_000)]
+        kept += [workers_sleep(program, count, scripts) for count, scripts in ((300, 200), (900, 60))]
         if shutil.which("valgrind") is None:
             print("instructions aren't counted: valgrind isn't installed")
         else:
             kept += [colliding_are_quick(program, kind, count) for kind, count in COLLIDING.items()]
-            kept += [workers_sleep(program, count) for count in (100, 1_000)]
     return 0 if all(kept) else 1
 
 
