@@ -22,8 +22,6 @@ mod core_calls;
 #[cfg(test)]
 mod files;
 #[cfg(test)]
-mod looks;
-#[cfg(test)]
 mod meeting;
 #[cfg(test)]
 mod refused;
@@ -33,8 +31,6 @@ mod refusing;
 mod replay;
 #[cfg(test)]
 mod runs;
-#[cfg(test)]
-mod seeds;
 #[cfg(test)]
 mod served;
 #[cfg(test)]
