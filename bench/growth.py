@@ -136,27 +136,29 @@ def long_body(count):
 
 # How the hasher that the program's maps have by default makes a state of a number, and the state that it begins with.
 WORD, FIRST_STATE, MULTIPLIER = (1 << 64) - 1, 0x243F6A8885A308D3, 0x9E3779B97F4A7C15 ^ 16
+# The same where it has taken in the seed of zero, which the library has where nobody draws one.
+FIXED_STATE = FIRST_STATE * MULTIPLIER & WORD ^ FIRST_STATE * MULTIPLIER >> 64
 
 
-def colliding_triangles(count):
-    """A surface of triangles, and their corners, which would all have one hash if their hasher had its first state."""
+def colliding_triangles(count, state):
+    """A surface of triangles, and their corners, which would all have one hash if their hasher began with the state."""
     points = []
     for number in range(3 * count):
-        product = (FIRST_STATE ^ number) * MULTIPLIER
+        product = (state ^ number) * MULTIPLIER
         second = product & WORD ^ product >> 64 ^ 0x1234
         points.append([number, second - (second >> 63 << 64), 7])
     return [[[3 * n, 3 * n + 1, 3 * n + 2]] for n in range(count)], points
 
 
-def colliding_points(count):
-    surfaces, points = colliding_triangles(count)
+def colliding_points(count, state=FIRST_STATE):
+    surfaces, points = colliding_triangles(count, state)
     surface = {"type": "MultiSurface", "lod": "1", "boundaries": surfaces}
     return model({"a": {"type": "Road", "geometry": [surface]}}, points), []
 
 
-def colliding_replies(count):
+def colliding_replies(count, state=FIRST_STATE):
     """A script that reads an object with such points again and again."""
-    document, _ = colliding_points(count)
+    document, _ = colliding_points(count, state)
     return document, [script([{"read": "a"}] * 20)]
 
 

@@ -1,21 +1,25 @@
-/* Preloaded into a program: counts its calls of malloc and realloc, and the bytes that they ask for.
+/* Preloaded into a program: counts its calls of malloc and realloc, the bytes that they ask for, and the most bytes that
+ * were allocated at once.
  *
- *   COUNTED=FILE        a file of sixteen zeros, which become the two numbers, of eight bytes each
+ *   COUNTED=FILE        a file of 32 zeros, which become the three numbers and what is allocated, of eight bytes each
  */
 #define _GNU_SOURCE
 #include <dlfcn.h>
 #include <fcntl.h>
+#include <malloc.h>
 #include <stdatomic.h>
 #include <stdlib.h>
 #include <sys/mman.h>
 
 struct counts {
     atomic_ullong calls, bytes;
+    atomic_llong most, now;
 };
 
 static struct counts unseen, *counts = &unseen;
 static void *(*real_malloc)(size_t);
 static void *(*real_realloc)(void *, size_t);
+static void (*real_free)(void *);
 
 #define REAL(call, name) (call ? call : (call = dlsym(RTLD_NEXT, name)))
 
@@ -33,12 +37,32 @@ static void count(size_t size) {
     atomic_fetch_add(&counts->bytes, size);
 }
 
+static long long size_of(void *at) {
+    return at ? (long long)malloc_usable_size(at) : 0;
+}
+
+static void gain(long long size) {
+    long long now = atomic_fetch_add(&counts->now, size) + size, most = atomic_load(&counts->most);
+    while (most < now && !atomic_compare_exchange_weak(&counts->most, &most, now)) {
+    }
+}
+
 void *malloc(size_t size) {
     count(size);
-    return REAL(real_malloc, "malloc")(size);
+    void *at = REAL(real_malloc, "malloc")(size);
+    gain(size_of(at));
+    return at;
 }
 
 void *realloc(void *old, size_t size) {
     count(size);
-    return REAL(real_realloc, "realloc")(old, size);
+    long long before = size_of(old);
+    void *at = REAL(real_realloc, "realloc")(old, size);
+    if (at) gain(size_of(at) - before);
+    return at;
+}
+
+void free(void *at) {
+    gain(-size_of(at));
+    REAL(real_free, "free")(at);
 }

@@ -6,14 +6,17 @@
 PROGRAM is a built cityed. Needs a C compiler named cc, for count.c. The texts are those of bench/growth.py, a third
 as long. Four times the text may take 4.5 times the allocations and 4.5 times the bytes that they ask for; a road
 without members may take two allocations, for its id and its body, and a tenth, since the nodes of a city's map are
-full. Each script has to commit, and the two kinds that have a fault have to be refused. Where valgrind is installed,
-the instructions of the texts whose points would collide are counted too, and may grow six times. Prints one line for
-each kind, and ends with status 1 where one took more or ended otherwise.
+full. Each script has to commit, and the two kinds that have a fault have to be refused. Scripts that lock ids of their
+own may have 1.05 times as much allocated at once as scripts that lock the same ids, and an object that is put may take
+2.5 allocations for each attribute. Where scripts meet, sixteen workers may take 1.5 times the processor time of one.
+Where valgrind is installed, the instructions of texts whose points would collide are counted too, and may grow six
+times. Prints one line for each kind, and ends with status 1 where one took more or ended otherwise.
 """
 
 import json
 import os
 import re
+import resource
 import shutil
 import subprocess
 import sys
@@ -25,10 +28,14 @@ import growth  # noqa: E402
 
 GREATEST = 4.5
 MOST_INSTRUCTIONS = 6
+MOST_OF_WORKERS = 1.5
+MOST_AT_ONCE = 1.05
 EACH_ROAD = 2.1
+EACH_ATTRIBUTE = 2.5
 OF_AN_EMPTY_RUN = 100
 REFUSED = (growth.repeated_child, growth.open_solid)
 COLLIDING = {growth.colliding_points: 2_000, growth.colliding_replies: 500}
+FIRST_STATES = {"without a seed": growth.FIRST_STATE, "by the fixed seed": growth.FIXED_STATE}
 
 
 class Counted:
@@ -40,71 +47,129 @@ class Counted:
         source = os.path.join(HERE, "count.c")
         subprocess.run(["cc", "-O1", "-shared", "-fPIC", "-o", self.library, source, "-ldl"], check=True)
 
-    def counts(self, kind, size):
-        """How many allocations a run makes, how many bytes they ask for, and whether it ended as it should."""
-        document, scripts = kind(size)
-        model, edits, told = (os.path.join(self.folder, name) for name in ("model", "scripts", "told"))
-        for name, tree in ((model, document), (edits, scripts)):
+    def names(self, texts):
+        """The names of the two files, with these texts in them."""
+        names = [os.path.join(self.folder, name) for name in ("model", "scripts")]
+        for name, tree in zip(names, texts):
             with open(name, "w", encoding="utf-8") as file:
                 json.dump(tree, file, separators=(",", ":"))
+        return names
+
+    def counts(self, texts, *options):
+        """How many allocations a run makes, how many bytes they ask for, and the most that was allocated at once."""
+        told = os.path.join(self.folder, "told")
         with open(told, "wb") as file:
-            file.write(bytes(16))
+            file.write(bytes(32))
         variables = {**os.environ, "LD_PRELOAD": self.library, "COUNTED": told}
-        ran = subprocess.run([self.path, model, edits], capture_output=True, env=variables, timeout=120)
-        lines = ran.stdout.splitlines()
-        committed = ran.returncode == 0 and len(lines) == len(scripts) + 1
-        committed = committed and all(json.loads(line)["outcome"] == "committed" for line in lines[:-1])
-        refused = ran.returncode == 1 and ran.stdout == b"" and b"model: " in ran.stderr
+        words = [self.path, *options, *self.names(texts)]
+        ran = subprocess.run(words, capture_output=True, env=variables, timeout=120)
         with open(told, "rb") as file:
-            calls, asked_for = (int.from_bytes(file.read(8), sys.byteorder) for _ in range(2))
-        return calls, asked_for, refused if kind in REFUSED else committed
+            return ran, [int.from_bytes(file.read(8), sys.byteorder) for _ in range(3)]
+
+    def seconds(self, texts, *options):
+        """How much processor time a run takes, of all its threads."""
+        before = resource.getrusage(resource.RUSAGE_CHILDREN)
+        subprocess.run([self.path, *options, *self.names(texts)], capture_output=True, check=True, timeout=120)
+        after = resource.getrusage(resource.RUSAGE_CHILDREN)
+        return after.ru_utime - before.ru_utime + after.ru_stime - before.ru_stime
+
+    def instructions(self, texts):
+        """How many instructions a run executes, by valgrind's count."""
+        words = ["valgrind", "--tool=callgrind", "--callgrind-out-file=/dev/null", self.path]
+        ran = subprocess.run([*words, *self.names(texts)], capture_output=True, check=True, timeout=600)
+        return int(re.search(rb"Collected : (\d+)", ran.stderr)[1])
 
 
-def instructions(program, folder, kind, size):
-    """How many instructions a run executes, by valgrind's count."""
-    names = [os.path.join(folder, name) for name in ("model", "scripts")]
-    for name, tree in zip(names, kind(size)):
-        with open(name, "w", encoding="utf-8") as file:
-            json.dump(tree, file, separators=(",", ":"))
-    words = ["valgrind", "--tool=callgrind", "--callgrind-out-file=/dev/null", program, *names]
-    ran = subprocess.run(words, capture_output=True, check=True, timeout=600)
-    return int(re.search(rb"Collected : (\d+)", ran.stderr)[1])
+def committed(ran, scripts):
+    """Whether each script of a run has committed."""
+    lines = ran.stdout.splitlines()
+    return ran.returncode == 0 and len(lines) == len(scripts) + 1 and all(
+        json.loads(line)["outcome"] == "committed" for line in lines[:-1]
+    )
 
 
-def colliding_are_quick(program, folder):
-    if shutil.which("valgrind") is None:
-        print("instructions aren't counted: valgrind isn't installed")
-        return True
+def ended(ran, kind, scripts):
+    """Whether a run of a kind ended as it should."""
+    refused = ran.returncode == 1 and ran.stdout == b"" and b"model: " in ran.stderr
+    return refused if kind in REFUSED else committed(ran, scripts)
+
+
+def say(right, told):
+    print(f"{'' if right else 'WRONG: '}{told}", flush=True)
+    return right
+
+
+def grows_as_its_text(program, kind, count):
+    """Whether nothing is copied whole: calls and bytes grow as the text does."""
+    sizes = (count // 3, count // 3 * 4)
+    texts = [kind(size) for size in sizes]
+    (first, few), (last, many) = (program.counts(text) for text in texts)
+    times = [more / max(less, 1) for less, more in zip(few[:2], many)]
+    right = max(times) <= GREATEST and ended(first, kind, texts[0][1]) and ended(last, kind, texts[1][1])
+    if kind is growth.many_objects:
+        right = right and all(calls <= EACH_ROAD * size + OF_AN_EMPTY_RUN for (calls, *_), size in zip((few, many), sizes))
+    told = ", ".join(f"{less:,} to {more:,} {what}" for less, more, what in zip(few, many, ("calls", "bytes")))
+    return say(right, f"{kind.__name__}: {told}, {times[0]:.2f} and {times[1]:.2f} times")
+
+
+def locks_leave_their_table(program, count):
+    """Whether scripts that lock ids of their own hold no more at once than scripts that lock the same ids."""
+    own = [growth.script([{"read": f"id-{number:06}-{at}"} for at in range(10)]) for number in range(count)]
+    same = [growth.script([{"read": f"id-{0:06}-{at}"} for at in range(10)]) for _ in range(count)]
+    runs = [program.counts((growth.model({}), scripts)) for scripts in (same, own)]
+    (_, _, few), (_, _, many) = (counts for _, counts in runs)
+    right = many <= MOST_AT_ONCE * few and all(committed(ran, own) for ran, _ in runs)
+    return say(right, f"{count:,} scripts that lock ten ids each: {few:,} to {many:,} bytes at once, {many / few:.3f} times")
+
+
+def bodies_are_shared(program, count, *options):
+    """Whether a body is copied at its put alone: so many calls for each attribute."""
+    body = {"type": "Road", "attributes": {name: 1 for name in growth.shuffled(count)}}
+    texts = growth.model({}), [growth.script([{"put": "a", "object": body}])]
+    ran, (calls, *_) = program.counts(texts, *options)
+    right = calls <= EACH_ATTRIBUTE * count + OF_AN_EMPTY_RUN and committed(ran, texts[1])
+    told = f"a put of {count:,} attributes{' before a viewer' if options else ''}: {calls:,} calls, {calls / count:.2f} for each"
+    return say(right, told)
+
+
+def colliding_are_quick(program, kind, count):
+    """Whether no text is slow because its points have one hash, if they were hashed so."""
     kept = True
-    for kind, count in COLLIDING.items():
-        few, many = (instructions(program, folder, kind, size) for size in (count, 4 * count))
-        right = many <= MOST_INSTRUCTIONS * few
-        told = f"{kind.__name__}: {few:,} to {many:,} instructions, {many / few:.2f} times"
-        print(f"{'' if right else 'WRONG: '}{told}", flush=True)
-        kept = kept and right
+    for name, state in FIRST_STATES.items():
+        few, many = (program.instructions(kind(size, state)) for size in (count, 4 * count))
+        told = f"{kind.__name__} {name}: {few:,} to {many:,} instructions, {many / few:.2f} times"
+        kept = say(many <= MOST_INSTRUCTIONS * few, told) and kept
     return kept
+
+
+def workers_sleep(program, count, scripts):
+    """Whether workers that wait for others sleep: sixteen of them take little more processor time than one."""
+    put = {"type": "Road"}
+    meet = [{"put": f"r{number % 7}", "object": put} for number in range(count)]
+    listed = [growth.script([{"put": f"own-{number}", "object": put}] * 40 + meet) for number in range(scripts)]
+    texts = growth.model({}), listed
+    one = min(program.seconds(texts, "--workers", "1") for _ in range(3))
+    many = sum(program.seconds(texts, "--workers", "16") for _ in range(6)) / 6
+    told = f"{scripts} scripts that meet, of {count:,} puts: {one:.2f} s by one worker, {many:.2f} s by 16"
+    return say(many <= MOST_OF_WORKERS * one, f"{told}, {many / one:.2f} times")
 
 
 def main():
     if len(sys.argv) != 2:
         print(__doc__)
         return 2
-    kept = True
     with tempfile.TemporaryDirectory() as folder:
         program = Counted(sys.argv[1], folder)
-        for kind, count in growth.KINDS.items():
-            few, many = (program.counts(kind, size) for size in (count // 3, count // 3 * 4))
-            times = [more / max(less, 1) for less, more in zip(few[:2], many)]
-            right = max(times) <= GREATEST and few[2] and many[2]
-            if kind is growth.many_objects:
-                right = right and few[0] <= EACH_ROAD * (count // 3) + OF_AN_EMPTY_RUN
-                right = right and many[0] <= EACH_ROAD * (count // 3 * 4) + OF_AN_EMPTY_RUN
-            told = ", ".join(f"{less:,} to {more:,} {what}" for less, more, what in zip(few, many, ("calls", "bytes")))
-            told = f"{kind.__name__}: {told}, {times[0]:.2f} and {times[1]:.2f} times"
-            print(f"{'' if right else 'WRONG: '}{told}", flush=True)
-            kept = kept and right
-        kept = colliding_are_quick(program.path, folder) and kept
-    return 0 if kept else 1
+        kept = [grows_as_its_text(program, kind, count) for kind, count in growth.KINDS.items()]
+        kept += [locks_leave_their_table(program, count) for count in (300, 4_000)]
+        kept += [bodies_are_shared(program, count) for count in (1_000, 20_000)]
+        kept += [bodies_are_shared(program, count, "--watch", "1") for count in (1_000, 20_000)]
+        kept += [workers_sleep(program, count, scripts) for count, scripts in ((300, 200), (900, 60))]
+        if shutil.which("valgrind") is None:
+            print("instructions aren't counted: valgrind isn't installed")
+        else:
+            kept += [colliding_are_quick(program, kind, count) for kind, count in COLLIDING.items()]
+    return 0 if all(kept) else 1
 
 
 if __name__ == "__main__":

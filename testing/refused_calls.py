@@ -21,7 +21,7 @@ import second_reading as second
 from refusals import Refused
 from samples import sample
 
-SHORT_ANSWERS = (b"cityed: out of memory\n", b"cityed: no viewer place\n")
+SHORT_ANSWER = b"cityed: out of memory\n"
 CREWS = ([], ["--workers", "2"], ["--workers", "4", "--watch", "2"], ["--workers", "16", "--watch", "1"])
 
 
@@ -35,9 +35,9 @@ def refuse_growths(program, document, scripts, arguments, later):
     counts = {"refused": 0, "answered": 0}
     for number in itertools.count(1):
         refused, status, output, error = program.answer(arguments, text, REFUSE_GROWTH=f"{number}{later}")
-        if status == 1 and output == b"" and error in SHORT_ANSWERS:
+        if status == 1 and output == b"" and error == SHORT_ANSWER:
             counts["refused"] += 1
-        elif is_run(output, document, scripts) and (status == 0 or error.endswith(SHORT_ANSWERS[0])):
+        elif is_run(output, document, scripts) and (status == 0 or error.endswith(SHORT_ANSWER)):
             counts["answered"] += 1
         else:
             raise Wrong(arguments, f"growth {number}{later}", status, output, error)
@@ -52,7 +52,7 @@ def refuse_threads(program, document, scripts, arguments):
         refused, status, output, error = program.answer(arguments, text, REFUSE_THREAD=str(number))
         if not refused:
             break
-        if (status, output, error) != (1, b"", SHORT_ANSWERS[0]):
+        if (status, output, error) != (1, b"", SHORT_ANSWER):
             raise Wrong(arguments, f"thread {number}", status, output, error)
     if number - 1 != sum(map(int, arguments[1::2])):
         raise Wrong(arguments, f"{number - 1} threads")
