@@ -13,4 +13,5 @@ pub mod Prefixes
 pub mod Prelude
 pub mod Results
 pub mod Risen
+pub mod ShownEnds
 pub mod StateCrossing

@@ -10,7 +10,7 @@ use std::alloc::Global;
 
 /// Has each watcher look once more, after these ends, and returns what each of so many saw.
 ///
-/// It answers `Mixed` if a watcher is missing, or if one saw fewer changes than there were commits.
+/// It answers `Mixed` if a watcher is missing, or if one saw fewer changes at last than there were commits, or more.
 pub fn last_looks(
     alloc: Global,
     watchers: Vec<Watcher>,
@@ -32,7 +32,7 @@ pub fn last_looks(
         if let Some(fault) = fault {
             return Err(fault);
         }
-        if counts.last() < commits {
+        if counts.last() != commits {
             return Err(CrewFault::Mixed);
         }
         if seen.push(counts.into_vec()).is_err() {

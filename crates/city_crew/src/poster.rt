@@ -1,5 +1,6 @@
 //! The poster of a board.
 ghost use Rattle.std.specs.Prelude.{◌≡◌, ◌+◌, ◌<◌, ◌^◌, [], ◌∷◌, ◌++◌, length, drop, IfOk, OnOk, OnErr};
+ghost use mathlib.Core.List.{IsPrefix};
 ghost use Rattle.left_right.specs.Sides.{view};
 ghost use Rattle.city_model.specs.CityMap.{object_at};
 ghost use Rattle.city_model.specs.Relations.{IsLawful};
@@ -84,11 +85,14 @@ impl<R: Wait + Drop> Poster<R> {
     }
 
     /// Takes a change, which is then pending. If memory runs out, nothing changes.
+    ///
+    /// Of every poster, what is published begins what was taken.
     pub fn append(&mut self, change: Change) -> Result<(), OutOfMemory>
         requires room { length self.old.taken + 1 < 2 ^ 64 }
         requires lawful { IsLawful (after_changes (object_at self.old.opening.1) (self.old.taken ++ change ∷ [])) }
         ensures ok { OnOk result (self.new ≡ record self.old { taken = self.old.taken ++ change ∷ [] }) }
         ensures err { OnErr result (self.new ≡ self.old) }
+        ensures begins { IsPrefix self.old.published self.old.taken }
     {
         if self.waiting.reserve(1).is_err() {
             return Err(OutOfMemory);

@@ -1,8 +1,9 @@
 //! Runs the scripts of a text on the city of a document, with workers and viewers.
-ghost use Rattle.std.specs.Prelude.{◌≡◌, ◌≤◌, ℕ, List, [], IfOk, IfErr, IfSome};
+ghost use Rattle.std.specs.Prelude.{◌≡◌, ◌≤◌, ℕ, List, [], length, IfOk, IfErr, IfSome};
 ghost use Rattle.city_model.specs.CityMap.{object_at};
 ghost use Rattle.city_model.specs.Relations.{IsLawful};
 ghost use Rattle.city_model.specs.SerialEnds.{commits_in};
+ghost use Rattle.city_doc.specs.report.Reports.{report_text};
 ghost use Rattle.city_desk.specs.RunFaults.{IsRunFault};
 ghost use Rattle.city_desk.specs.TextRuns.{IsRun};
 ghost use Rattle.city_desk.specs.TextRuns.{IsReadFrom};
@@ -43,11 +44,12 @@ pub const MAX_WORKERS: usize = 16;
 /// the order of the ends. A script that runs out of memory ends as `NoMemory` and changes nothing.
 ///
 /// For each viewer `seen` has the number of changes at its first look, and then each larger number
-/// that it saw; the last look comes after all workers have ended.
+/// that it saw; the last look comes after all workers have ended, and has all. So each number is that
+/// of the commits among the first so many ends.
 ///
 /// It answers `OutOfMemory` also if a thread couldn't be made, `NoPlace` if a viewer's seat or
 /// look was refused, `Unfinished` if a script hadn't ended when the workers had, and `Mixed` if
-/// what was gathered then isn't of these texts, or a viewer is missing or saw too little.
+/// what was gathered then isn't of these texts, or a viewer is missing or didn't see just all commits at last.
 pub fn run_crew<R: Threads + Wait + Sync, G: Gate + Sync>(
     rt: &R,
     alloc: Global,
@@ -61,6 +63,7 @@ pub fn run_crew<R: Threads + Wait + Sync, G: Gate + Sync>(
     requires viewers { viewers ≤ max_viewers }
     ensures ran { IfOk result (λ o. IsRun document.now scripts.now o.ends o.bytes.items) }
     ensures seen { IfOk result (λ o. AreSeen viewers (commits_in o.ends) o.seen.items) }
+    ensures report { IfOk result (λ o. o.report ≡ length (report_text o.ends)) }
     ensures fault { IfErr result (λ f. IsRunFault document.now scripts.now f) }
 {
     run_seeded(
@@ -83,6 +86,7 @@ pub fn run_seeded<R: Threads + Wait + Sync, G: Gate + Sync>(
     requires viewers { viewers ≤ max_viewers }
     ensures ran { IfOk result (λ o. IsRun document.now scripts.now o.ends o.bytes.items) }
     ensures seen { IfOk result (λ o. AreSeen viewers (commits_in o.ends) o.seen.items) }
+    ensures report { IfOk result (λ o. o.report ≡ length (report_text o.ends)) }
     ensures fault { IfErr result (λ f. IsRunFault document.now scripts.now f) }
 {
     let (city, list) = read_texts(alloc, document, scripts)?;
@@ -151,6 +155,7 @@ fn run<R: Threads + Wait + Sync, G: Gate + Sync>(
 ) -> Result<Output, CrewFault>
     ensures ran { IfOk result (λ o. IsRun document.now scripts.now o.ends o.bytes.items) }
     ensures seen { IfOk result (λ o. AreSeen viewers (commits_in o.ends) o.seen.items) }
+    ensures report { IfOk result (λ o. o.report ≡ length (report_text o.ends)) }
 {
     let watchers = watchers_of(alloc, seated)?;
     let shared = Shared {
@@ -179,6 +184,7 @@ fn gather<S: Shelf, Q: Wait>(
     ensures ran { (document scripts : List ℕ) → IsResult document scripts finished.city finished.ends
         → IfOk result (λ o. IsRun document scripts o.ends o.bytes.items) }
     ensures seen { IfOk result (λ o. AreSeen viewers (commits_in o.ends) o.seen.items) }
+    ensures report { IfOk result (λ o. o.report ≡ length (report_text o.ends)) }
 {
     let Finished {
         city,
@@ -187,6 +193,11 @@ fn gather<S: Shelf, Q: Wait>(
     } = finished;
     shelf.show(rt)?;
     let seen = last_looks(alloc, watchers, viewers, ends.as_slice())?;
-    let bytes = output_bytes(alloc, seed, &city, ends.as_slice(), room)?;
-    Ok(Output { ends, bytes, seen })
+    let (bytes, report) = output_bytes(alloc, seed, &city, ends.as_slice(), room)?;
+    Ok(Output {
+        ends,
+        bytes,
+        report,
+        seen,
+    })
 }

@@ -1,5 +1,5 @@
 //! What a run answers.
-ghost use Rattle.std.specs.Prelude.{◌≡◌, ◌++◌, ◌∷◌, [], IfOk};
+ghost use Rattle.std.specs.Prelude.{◌≡◌, ◌++◌, ◌∷◌, [], length, IfOk};
 ghost use Rattle.city_doc.specs.document.Canonical.{city_text};
 ghost use Rattle.city_doc.specs.report.Reports.{report_text};
 
@@ -17,11 +17,13 @@ pub struct Output {
     pub ends: Sequence<End>,
     /// The report of the ends, then the model's text and a newline.
     pub bytes: Vec<u8>,
+    /// How many of the bytes are the report.
+    pub report: usize,
     /// For each viewer the numbers of edits that it saw.
     pub seen: Vec<Vec<u64>>,
 }
 
-/// The report of the ends, then the model's text and a newline.
+/// The report of the ends, then the model's text and a newline; and how many of these bytes are the report.
 ///
 /// `room` is how many bytes the model's text may well take. Room for them is made at once, where there is
 /// memory for it. Points are hashed by the seed.
@@ -31,12 +33,14 @@ pub fn output_bytes(
     city: &City,
     ends: &[End],
     room: usize,
-) -> Result<Vec<u8>, OutOfMemory>
-    ensures { IfOk result (λ b. b.items ≡ report_text ends.now ++ city_text city.now ++ 10 ∷ []) }
+) -> Result<(Vec<u8>, usize), OutOfMemory>
+    ensures bytes { IfOk result (λ r. r.0.items ≡ report_text ends.now ++ city_text city.now ++ 10 ∷ []) }
+    ensures report { IfOk result (λ r. r.1 ≡ length (report_text ends.now)) }
 {
     let mut report = seeded_report(alloc, seed, ends)?;
+    let length = report.len();
     let _ = report.reserve(room);
     let mut bytes = append_city(alloc, seed, report, city)?;
     bytes.push(b'\n')?;
-    Ok(bytes)
+    Ok((bytes, length))
 }

@@ -1,5 +1,5 @@
 //! Runs the scripts of a text on the city of a document, one after the other.
-ghost use Rattle.std.specs.Prelude.{◌≡◌, ◌++◌, ◌∷◌, [], ℕ, List, IfOk, IfErr};
+ghost use Rattle.std.specs.Prelude.{◌≡◌, ◌++◌, ◌∷◌, [], ℕ, List, length, IfOk, IfErr};
 ghost use Rattle.city_model.specs.CityMap.{object_at};
 ghost use Rattle.city_model.specs.Relations.{IsLawful};
 ghost use Rattle.city_doc.specs.document.Canonical.{city_text};
@@ -29,6 +29,7 @@ pub fn run_serial(alloc: Global, document: &[u8], scripts: &[u8]) -> Result<Outp
     ensures ran { IfOk result (λ o. IsSerialRun document.now scripts.now o.ends o.bytes.items) }
     ensures decided { IfOk result (λ o. IsDecided document.now scripts.now o.ends o.bytes.items) }
     ensures seen { IfOk result (λ o. o.seen.items ≡ []) }
+    ensures report { IfOk result (λ o. o.report ≡ length (report_text o.ends)) }
     ensures fault { IfErr result (λ f. IsSerialFault document.now scripts.now f) }
 {
     let (output, _) = run_serial_to_city(alloc, document, scripts)?;
@@ -45,6 +46,7 @@ pub fn run_serial_to_city(
     ensures decided { IfOk result (λ r. IsDecided document.now scripts.now r.0.ends r.0.bytes.items) }
     ensures seen { IfOk result (λ r. r.0.seen.items ≡ []) }
     ensures city { IfOk result (λ r. r.0.bytes.items ≡ report_text r.0.ends ++ city_text r.1 ++ 10 ∷ []) }
+    ensures report { IfOk result (λ r. r.0.report ≡ length (report_text r.0.ends)) }
     ensures fault { IfErr result (λ f. IsSerialFault document.now scripts.now f) }
 {
     let (city, list) = read_texts(alloc, document, scripts)?;
@@ -68,12 +70,20 @@ pub fn run_read(
     ensures in_turn { IfOk result (λ r. AreInTurn 0 r.0.ends) }
     ensures seen { IfOk result (λ r. r.0.seen.items ≡ []) }
     ensures city { IfOk result (λ r. r.0.bytes.items ≡ report_text r.0.ends ++ city_text r.1 ++ 10 ∷ []) }
+    ensures report { IfOk result (λ r. r.0.report ≡ length (report_text r.0.ends)) }
 {
     let finished = run_each(alloc, city, scripts)?;
-    let bytes = output_bytes(alloc, seed, &finished.city, finished.ends.as_slice(), room)?;
+    let (bytes, report) = output_bytes(
+        alloc,
+        seed,
+        &finished.city,
+        finished.ends.as_slice(),
+        room,
+    )?;
     let output = Output {
         ends: finished.ends,
         bytes,
+        report,
         seen: Vec::new(alloc),
     };
     Ok((output, finished.city))

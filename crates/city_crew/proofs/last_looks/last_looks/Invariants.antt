@@ -1,4 +1,4 @@
-use Rattle.city_crew.proofs.Prelude.{◌≤◌, ◌<◌, length, All, Rises, last_of}
+use Rattle.city_crew.proofs.Prelude.{◌≡◌, ◌<◌, length, All, Rises, last_of}
 use Rattle.city_crew.proofs.last_looks.last_looks.Given as goal
 
 abbrev pub invariant-loop-watcher : goal.invariant-loop-watcher
@@ -7,4 +7,4 @@ invariant-loop-watcher l =
     × (goal.iterator-loop-watcher).is_finite l.watcher-iterator
     × All (λ s. 0 < length s.items) l.seen.items
     × All (λ s. Rises s.items) l.seen.items
-    × All (λ s. l.commits ≤ last_of s.items) l.seen.items
+    × All (λ s. last_of s.items ≡ l.commits) l.seen.items

@@ -6,5 +6,5 @@ pub returns-clause-ran : goal.returns-clause-ran
 returns-clause-ran g c document scripts result =
     let left = c.args.finished in
     is_run document scripts left.city left.ends c.in_ok-bytes.bytes.items result
-    (c.in_ok-bytes.ensures
+    (c.in_ok-bytes.ensures.bytes
     ∙ ap (λ (es : List End). report_text es ++ city_text left.city ++ 10 ∷ []) c.as_slice-2.ensures)

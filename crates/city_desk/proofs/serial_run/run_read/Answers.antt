@@ -14,7 +14,7 @@ returns-clause-ran c document text read =
       output = record {
         model = left.1;
         left = run.model;
-        text = (rw c.as_slice.ensures at c.in_ok-bytes.ensures)
+        text = (rw c.as_slice.ensures at c.in_ok-bytes.ensures.bytes)
             ∙ ap (λ (f : Frame). report_text c.in_ok-finished.finished.ends ++ city_text (f, left.1) ++ 10 ∷ [])
             run.frame;
       };
