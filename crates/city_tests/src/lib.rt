@@ -22,6 +22,8 @@ mod core_calls;
 #[cfg(test)]
 mod files;
 #[cfg(test)]
+mod looks;
+#[cfg(test)]
 mod meeting;
 #[cfg(test)]
 mod refused;
@@ -31,6 +33,8 @@ mod refusing;
 mod replay;
 #[cfg(test)]
 mod runs;
+#[cfg(test)]
+mod seeds;
 #[cfg(test)]
 mod served;
 #[cfg(test)]

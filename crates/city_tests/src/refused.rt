@@ -208,7 +208,7 @@ fn a_show_can_be_made_again(rt: HostRuntime) -> Result<(), Fail> {
 fn is_serial_or_short(alloc: Global, run: &Run, ran: Result<Output, RunFault>) -> bool {
     match ran {
         Ok(output) => is_replayed(alloc, run, output.ends.as_slice(), output.bytes.as_slice()),
-        Err(fault) => matches!(fault, RunFault::OutOfMemory | RunFault::NoPlace),
+        Err(fault) => matches!(fault, RunFault::OutOfMemory),
     }
 }
 

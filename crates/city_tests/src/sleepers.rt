@@ -1,4 +1,4 @@
-//! Workers that sleep are woken, by each end and by each death. Each run has a limit of time.
+//! Workers that sleep are woken, by each end and by each death, and pass no gate before. Each run has a limit of time.
 use crate::meeting::PATIENT;
 use crate::served::{commits, served};
 use city_crew::Gate;
@@ -18,22 +18,41 @@ const HOLD: u64 = 20_000;
 /// script has come, and how many times `HOLD` it waits then.
 type Step = (usize, u64, usize, u64, u64);
 
-/// Lets scripts pass in the order of its steps.
+/// Any number of replies.
+const ANY: usize = usize::MAX;
+
+/// Lets scripts pass in the order of its steps. Counts what is wrong: passes that waited in vain, and, where it is given
+/// how many replies each pass of a script has, passes that have other replies, or come after the last.
 #[derive(Drop)]
 struct InSteps<'a> {
     steps: &'a [Step],
     open: bool,
+    replies: &'a [&'a [usize]],
     passes: [AtomicU64; 3],
-    missed: AtomicU64,
+    wrong: AtomicU64,
 }
 
 impl<'a> InSteps<'a> {
-    fn of(steps: &'a [Step], open: bool) -> InSteps<'a> {
+    fn of(steps: &'a [Step], open: bool, replies: &'a [&'a [usize]]) -> InSteps<'a> {
         InSteps {
             steps,
             open,
+            replies,
             passes: [AtomicU64::new(0), AtomicU64::new(0), AtomicU64::new(0)],
-            missed: AtomicU64::new(0),
+            wrong: AtomicU64::new(0),
+        }
+    }
+
+    /// Notes a pass of a script that has so many replies.
+    fn note(&self, script: usize, pass: u64, replies: usize) {
+        if let Some(wanted) = self.replies.get(script) {
+            let right = match wanted.get(pass.wrapping_sub(1) as usize) {
+                Some(number) => *number == ANY || *number == replies,
+                None => false,
+            };
+            if !right {
+                self.wrong.fetch_add(1, Ordering::SeqCst);
+            }
         }
     }
 
@@ -61,7 +80,7 @@ impl<'a> InSteps<'a> {
             }
             thread::yield_now();
         }
-        self.missed.fetch_add(1, Ordering::SeqCst);
+        self.wrong.fetch_add(1, Ordering::SeqCst);
     }
 }
 
@@ -73,8 +92,9 @@ fn hold(holds: u64) {
 }
 
 impl Gate for InSteps<'_> {
-    fn pass(&self, script: usize, _replies: usize) {
+    fn pass(&self, script: usize, replies: usize) {
         let pass = self.next_pass(script);
+        self.note(script, pass, replies);
         for (held, number, other, passes, holds) in self.steps {
             if *held == script && *number == pass {
                 self.wait_for(*other, *passes);
@@ -101,7 +121,7 @@ fn watch<R: Clock + Abort>(rt: &R, over: &AtomicBool) {
     rt.panic("a run isn't over within a minute: was a worker that sleeps not woken?")
 }
 
-/// How many scripts have committed, and how often one went on alone, once the run is over; none where it wasn't served.
+/// How many scripts have committed, and how often a pass was wrong, once the run is over; none where it wasn't served.
 fn run<R: Threads + Wait + Sync>(
     rt: &R,
     alloc: Global,
@@ -112,8 +132,8 @@ fn run<R: Threads + Wait + Sync>(
     let answer = served(rt, alloc, gate, (LAND, scripts), 3, 0);
     over.store(true, Ordering::SeqCst);
     let (text, _) = answer?;
-    let missed = gate.missed.load(Ordering::SeqCst);
-    Some((commits(text.as_str()), missed))
+    let wrong = gate.wrong.load(Ordering::SeqCst);
+    Some((commits(text.as_str()), wrong))
 }
 
 /// The same within a limit of time.
@@ -136,19 +156,18 @@ fn run_in_time<R: Threads + Wait + Clock + Abort + Sync>(
 /// Two pieces of land.
 const LAND: &str = model!(r#"{"x":{"type":"LandUse"},"y":{"type":"LandUse"}}"#, "[]");
 
-/// So many puts of `x` with a comma after each.
-fn puts(alloc: Global, count: usize) -> Option<String> {
+/// So many puts of an id with a comma after each.
+fn puts(alloc: Global, id: &str, count: usize) -> Option<String> {
     let mut text = String::new(alloc);
     for _ in 0..count {
-        text.push_str(r#"{"put":"x","object":{"type":"LandUse"}},"#)
-            .ok()?;
+        write!(text, r#"{{"put":"{id}","object":{{"type":"LandUse"}}}},"#).ok()?;
     }
     Some(text)
 }
 
 /// Three scripts that put `x`: the first `count` times, before it ends with `end`.
 fn three_scripts(alloc: Global, count: usize, end: &str) -> Option<String> {
-    let (first, other) = (puts(alloc, count)?, puts(alloc, 1)?);
+    let (first, other) = (puts(alloc, "x", count)?, puts(alloc, "x", 1)?);
     let mut text = String::new(alloc);
     write!(text, r#"[{{"name":"a","commands":[{first}{end}]}},"#).ok()?;
     write!(text, r#"{{"name":"b","commands":[{other}"commit"]}},"#).ok()?;
@@ -170,6 +189,9 @@ const LAST_SLEEPS_LAST: &[Step] = &[(0, 3, 2, 2, 3), (1, 1, 0, 3, 0), (2, 1, 1, 
 /// The same where a worker passes the gate before many turns alone.
 const MANY_TURNS: &[Step] = &[(0, 2, 2, 1, 3), (1, 1, 0, 2, 0), (2, 1, 1, 1, 1)];
 
+/// The replies of the three at their passes: the others die at their second, unless they come late, and begin again once.
+const DIE_ONCE: &[&[usize]] = &[&[0, 0, 1], &[0, 0, ANY, 0, 1], &[0, 0, ANY, 0, 1]];
+
 /// How the first script ends, and how many scripts commit then.
 const ENDS: &[(&str, usize)] = &[
     (r#""commit""#, 3),
@@ -177,18 +199,20 @@ const ENDS: &[(&str, usize)] = &[
     (r#"{"delete":"z"},"commit""#, 2),
 ];
 
-/// Steps, whether the gate says that it holds nobody, and how many puts the first script has.
-const SLEEPS: &[(&[Step], bool, usize)] = &[
-    (LAST_SLEEPS_FIRST, false, 1),
-    (LAST_SLEEPS_LAST, false, 1),
-    (MANY_TURNS, true, 200),
+/// Steps, whether the gate says that it holds nobody, the replies at each pass, and how many puts the first script has.
+type Sleep = (&'static [Step], bool, &'static [&'static [usize]], usize);
+
+const SLEEPS: &[Sleep] = &[
+    (LAST_SLEEPS_FIRST, false, DIE_ONCE, 1),
+    (LAST_SLEEPS_LAST, false, DIE_ONCE, 1),
+    (MANY_TURNS, true, &[], 200),
 ];
 
 #[test]
 fn an_end_wakes_all_that_sleep(rt: HostRuntime) {
     for (end, commits) in ENDS {
-        for (steps, open, count) in SLEEPS {
-            let gate = InSteps::of(steps, *open);
+        for (steps, open, replies, count) in SLEEPS {
+            let gate = InSteps::of(steps, *open, replies);
             let scripts = three_scripts(rt.alloc(), *count, end);
             let scripts = scripts.as_ref().map_or("", |scripts| scripts.as_str());
             let came = run_in_time(&rt, rt.alloc(), &gate, scripts);
@@ -197,22 +221,58 @@ fn an_end_wakes_all_that_sleep(rt: HostRuntime) {
     }
 }
 
-/// Two scripts that put the same objects in opposite orders.
-const OPPOSITE: &str = concat!(
-    r#"[{"name":"a","commands":[{"put":"x","object":{"type":"LandUse"}},"#,
-    r#"{"put":"y","object":{"type":"LandUse"}},"commit"]},"#,
-    r#"{"name":"b","commands":[{"put":"y","object":{"type":"LandUse"}},"#,
-    r#"{"put":"x","object":{"type":"LandUse"}},"commit"]}]"#
-);
+/// Two scripts that put these ids so often, and then these: the first, and the second.
+fn two_scripts(alloc: Global, first: [(&str, usize); 2], second: [(&str, usize); 2]) -> Option<String> {
+    let mut text = String::new(alloc);
+    let (one, then) = (puts(alloc, first[0].0, first[0].1)?, puts(alloc, first[1].0, first[1].1)?);
+    write!(text, r#"[{{"name":"a","commands":[{one}{then}"commit"]}},"#).ok()?;
+    let (one, then) = (puts(alloc, second[0].0, second[0].1)?, puts(alloc, second[1].0, second[1].1)?);
+    write!(text, r#"{{"name":"b","commands":[{one}{then}"commit"]}}]"#).ok()?;
+    Some(text)
+}
 
-/// The first waits for `y`, and sleeps until the second, which has it, dies at `x`.
-const SLEEPS_BEFORE_A_DEATH: &[Step] = &[(1, 1, 0, 2, 0), (0, 3, 1, 3, 0), (1, 3, 0, 3, 2)];
+/// How often the second puts `y` before it puts `x`. The first waits for `y`, unless it comes late, and sleeps until the
+/// second dies at `x`; then the second sleeps until the first, which is held before its commit, has ended.
+type Death = (usize, &'static [Step], &'static [&'static [usize]]);
+
+const DEATHS: &[Death] = &[
+    (
+        1,
+        &[(1, 1, 0, 2, 0), (0, 3, 1, 3, 0), (1, 3, 0, 3, 2), (0, 5, 0, 5, 1)],
+        &[&[0, 0, 1, ANY, 2], &[0, 0, 1, 0, 0, 1, 2]],
+    ),
+    (
+        3,
+        &[(1, 1, 0, 2, 0), (0, 3, 1, 3, 0), (1, 5, 0, 3, 2), (0, 5, 0, 5, 1)],
+        &[&[0, 0, 1, ANY, 2], &[0, 0, 1, 2, 3, 0, 0, 1, 2, 3, 4]],
+    ),
+];
 
 #[test]
 fn a_death_wakes_one_that_waits(rt: HostRuntime) {
-    for _ in 0..5 {
-        let gate = InSteps::of(SLEEPS_BEFORE_A_DEATH, false);
-        let came = run_in_time(&rt, rt.alloc(), &gate, OPPOSITE);
-        assert_eq!(&rt; came, Some((2, 0)));
+    for (count, steps, replies) in DEATHS {
+        let scripts = two_scripts(rt.alloc(), [("x", 1), ("y", 1)], [("y", *count), ("x", 1)]);
+        let scripts = scripts.as_ref().map_or("", |scripts| scripts.as_str());
+        for _ in 0..2 {
+            let gate = InSteps::of(steps, false, replies);
+            let came = run_in_time(&rt, rt.alloc(), &gate, scripts);
+            assert_eq!(&rt; came, Some((2, 0)), "{count}");
+        }
+    }
+}
+
+/// Puts of the first script, at which it has so many passes, of 64 turns each and one more; puts of the second, which
+/// begins then, and its passes, of 16 turns each and one more, after which the first goes on.
+const LENGTHS: &[(usize, u64, usize, u64)] = &[(191, 4, 95, 7), (639, 11, 991, 63)];
+
+#[test]
+fn a_script_makes_few_turns_under_one_lock(rt: HostRuntime) {
+    for (first, passes, second, others) in LENGTHS {
+        let steps = [(1, 1, 0, *passes, 0), (0, *passes, 1, *others, 0)];
+        let gate = InSteps::of(&steps, true, &[]);
+        let scripts = two_scripts(rt.alloc(), [("x", *first), ("x", 0)], [("y", *second), ("y", 0)]);
+        let scripts = scripts.as_ref().map_or("", |scripts| scripts.as_str());
+        let came = run_in_time(&rt, rt.alloc(), &gate, scripts);
+        assert_eq!(&rt; came, Some((2, 0)), "{first}");
     }
 }
