@@ -2,6 +2,7 @@
 use crate::board::play_board;
 use crate::body::play_body;
 use crate::canonical::play_canonical;
+use crate::check::play_check;
 use crate::command_line::CommandLines;
 use crate::core_steps::play_core;
 use crate::crew::{Told, play_crews};
@@ -82,6 +83,7 @@ fn play_text(
         "body" => play_body(alloc, text, answer),
         "members" => play_members(alloc, rest, text, answer),
         "tokens" => play_tokens(alloc, rest, text, answer),
+        "check" => play_check(alloc, rest, text, answer),
         "core" => play_core(alloc, text, lines, answer),
         _ => answer.add_line("no such verb of one text"),
     }
