@@ -19,8 +19,8 @@
 mod board;
 mod body;
 mod canonical;
-mod check;
 mod change;
+mod check;
 mod command_line;
 mod core_steps;
 mod crew;

@@ -74,7 +74,14 @@ fn run<R: Threads + Wait + Sync>(
     }
     let scripts = scripts_of_roads(alloc, later.checked_add(1)?).ok()?;
     let gate = HoldsViewers::of(viewers as u64, later);
-    let (text, _) = served(rt, alloc, &gate, (EMPTY, scripts.as_str()), workers, viewers)?;
+    let (text, _) = served(
+        rt,
+        alloc,
+        &gate,
+        (EMPTY, scripts.as_str()),
+        workers,
+        viewers,
+    )?;
     let missed = gate.missed.load(Ordering::SeqCst);
     Some((commits(text.as_str()), missed))
 }

@@ -11,10 +11,7 @@ fn hash_by(alloc: Global, seed: u64, point: Point) -> u64 {
     pool.points().hasher().hash_one(point)
 }
 
-const POINTS: &[Point] = &[
-    Point { x: 0, y: 0, z: 0 },
-    Point { x: 3, y: -4, z: 5 },
-];
+const POINTS: &[Point] = &[Point { x: 0, y: 0, z: 0 }, Point { x: 3, y: -4, z: 5 }];
 
 #[test]
 fn each_seed_hashes_a_point_otherwise(rt: HostRuntime) {

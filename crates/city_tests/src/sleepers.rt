@@ -222,11 +222,21 @@ fn an_end_wakes_all_that_sleep(rt: HostRuntime) {
 }
 
 /// Two scripts that put these ids so often, and then these: the first, and the second.
-fn two_scripts(alloc: Global, first: [(&str, usize); 2], second: [(&str, usize); 2]) -> Option<String> {
+fn two_scripts(
+    alloc: Global,
+    first: [(&str, usize); 2],
+    second: [(&str, usize); 2],
+) -> Option<String> {
     let mut text = String::new(alloc);
-    let (one, then) = (puts(alloc, first[0].0, first[0].1)?, puts(alloc, first[1].0, first[1].1)?);
+    let (one, then) = (
+        puts(alloc, first[0].0, first[0].1)?,
+        puts(alloc, first[1].0, first[1].1)?,
+    );
     write!(text, r#"[{{"name":"a","commands":[{one}{then}"commit"]}},"#).ok()?;
-    let (one, then) = (puts(alloc, second[0].0, second[0].1)?, puts(alloc, second[1].0, second[1].1)?);
+    let (one, then) = (
+        puts(alloc, second[0].0, second[0].1)?,
+        puts(alloc, second[1].0, second[1].1)?,
+    );
     write!(text, r#"{{"name":"b","commands":[{one}{then}"commit"]}}]"#).ok()?;
     Some(text)
 }
@@ -238,12 +248,22 @@ type Death = (usize, &'static [Step], &'static [&'static [usize]]);
 const DEATHS: &[Death] = &[
     (
         1,
-        &[(1, 1, 0, 2, 0), (0, 3, 1, 3, 0), (1, 3, 0, 3, 2), (0, 5, 0, 5, 1)],
+        &[
+            (1, 1, 0, 2, 0),
+            (0, 3, 1, 3, 0),
+            (1, 3, 0, 3, 2),
+            (0, 5, 0, 5, 1),
+        ],
         &[&[0, 0, 1, ANY, 2], &[0, 0, 1, 0, 0, 1, 2]],
     ),
     (
         3,
-        &[(1, 1, 0, 2, 0), (0, 3, 1, 3, 0), (1, 5, 0, 3, 2), (0, 5, 0, 5, 1)],
+        &[
+            (1, 1, 0, 2, 0),
+            (0, 3, 1, 3, 0),
+            (1, 5, 0, 3, 2),
+            (0, 5, 0, 5, 1),
+        ],
         &[&[0, 0, 1, ANY, 2], &[0, 0, 1, 2, 3, 0, 0, 1, 2, 3, 4]],
     ),
 ];
@@ -270,7 +290,11 @@ fn a_script_makes_few_turns_under_one_lock(rt: HostRuntime) {
     for (first, passes, second, others) in LENGTHS {
         let steps = [(1, 1, 0, *passes, 0), (0, *passes, 1, *others, 0)];
         let gate = InSteps::of(&steps, true, &[]);
-        let scripts = two_scripts(rt.alloc(), [("x", *first), ("x", 0)], [("y", *second), ("y", 0)]);
+        let scripts = two_scripts(
+            rt.alloc(),
+            [("x", *first), ("x", 0)],
+            [("y", *second), ("y", 0)],
+        );
         let scripts = scripts.as_ref().map_or("", |scripts| scripts.as_str());
         let came = run_in_time(&rt, rt.alloc(), &gate, scripts);
         assert_eq!(&rt; came, Some((2, 0)), "{first}");

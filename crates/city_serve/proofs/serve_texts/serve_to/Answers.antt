@@ -35,13 +35,16 @@ returns-clause-fault g c =
     (λ f is. subst (IsDeliveryFault c.args.destination asked c.args.document.items c.args.scripts.items
     (g.F.TextFiles.text c.args.files.now) (g.F.TextFiles.text c.deliver.new.files)
     (g.F.OutputFiles.have_failed c.deliver.new.files) (g.W.Write.contents c.args.writer.now.0)
-    (g.W.Write.contents c.deliver.new.writer.0) c.deliver.new.writer.1) (sym is.0) (record {
-      ends = output.ends;
-      report = take output.report bytes;
-      model = drop output.report bytes;
-      run = in_parts asked c.args.document.items c.args.scripts.items output.ends bytes output.report run.ran run.in_turn
-          run.cut;
-      written = is.1;
-      kept = is.2;
-    }, is.3))
+    (g.W.Write.contents c.deliver.new.writer.0) c.deliver.new.writer.1) (sym is.0) (
+      record {
+        ends = output.ends;
+        report = take output.report bytes;
+        model = drop output.report bytes;
+        run = in_parts asked c.args.document.items c.args.scripts.items output.ends bytes output.report run.ran run.in_turn
+            run.cut;
+        written = is.1;
+        kept = is.2;
+      },
+      is.3,
+    ))
     c.deliver.ensures.fault
