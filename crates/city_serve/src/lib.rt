@@ -1,8 +1,11 @@
 //! Serving: a document and its scripts in, the report and the edited model out; and what the program is asked for.
 //!
 //! - `serve`: from a reader to a writer; `serve_texts`: from two texts, borrowed or owned
-//! - `options`: by how many workers, before how many viewers, with which numbers; `run`, `decimals`: the run itself
-//! - `device`: a reader or a writer that keeps whether it has failed; `files`: a text from a file
+//! - `options`: by how many workers, before how many viewers, with which numbers, and where the output goes; `run`,
+//!   `decimals`: the run itself
+//! - `deliver`: the output goes where it is asked for, over `output_files`, whose texts are replaced whole
+//! - `device`: a reader or a writer that keeps whether it has failed; `files`: a text from a file; `runtime_files`: the
+//!   files of a runtime, `no_files`: none
 //! - `fault`, `fault_line`: why nothing was served, and the line that reports it; `seen_line`: what a viewer saw
 //! - `command_line`: what the words of a command line ask for; `program`: how it is answered, and told
 //!

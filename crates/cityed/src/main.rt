@@ -3,8 +3,10 @@
 //! Two names are files, the model's and the scripts'. Without names standard input has the document in its first line
 //! and the scripts after it. With `--decimals` numbers of any form are taken, and given back as they were written;
 //! `--workers` and `--watch` say how many workers run the scripts and how many viewers look on. Standard output gets a
-//! line for each script and the model, standard error one for each viewer. Status 1: a fault, told on standard error;
-//! 2: a command line that is refused. All that is city_serve's `run_program`: here it gets the real files and streams.
+//! line for each script and the model, standard error one for each viewer. With `--output` the model goes to a file
+//! instead, which is replaced whole; with `--atomic` it goes nowhere where a script is refused or out of memory. Status
+//! 1: a fault, told on standard error; 2: a command line that is refused; 3: a model that goes nowhere. All that is
+//! city_serve's `run_program`: here it gets the real files and streams.
 #![tactic(auto)]
 
 use city_crew::OpenGate;
