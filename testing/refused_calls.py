@@ -95,6 +95,26 @@ def refuse_writes(program, document, scripts):
             raise Wrong([], f"write {number}", status, output, error)
 
 
+def withhold(program, document):
+    """Refuses the Nth growth of a run with --atomic: where a script ran out of memory, no model is written."""
+    scripts = json.dumps([{"name": f"n{k}", "commands": [{"put": f"road {k}", "object": {"type": "Road"}}, "commit"]} for k in range(3)])
+    text, counts = document.replace(b"\n", b" ") + b"\n" + scripts.encode(), {"memory": 0, "all": 0, "none": 0}
+    wanted = second.run(document, scripts.encode())[0]
+    for number in itertools.count(1):
+        refused, status, output, error = program.answer(["--atomic"], text, REFUSE_GROWTH=str(number))
+        outcomes = [json.loads(line).get("outcome") for line in output.splitlines()]
+        if (status, output, error) == (1, b"", SHORT_ANSWER):
+            counts["memory"] += 1
+        elif (status, output, error) == (0, wanted, b""):
+            counts["all"] += 1
+        elif (status, error) == (3, b"") and len(outcomes) == 3 and "nomemory" in outcomes and None not in outcomes:
+            counts["none"] += 1
+        else:
+            raise Wrong("--atomic", f"growth {number}", status, output, error)
+        if not refused:
+            return counts
+
+
 def replace_files(program, folder, document, scripts):
     """Refuses the Nth step of replacing the model's own file, and kills the program before it, for each N until a run
     meets none. The file is the old one or the new one, whole; what is left over beside it has a name of its own."""
@@ -175,6 +195,7 @@ def main():
                 print(f"{' '.join(arguments) or 'one worker'}: {told} threads refused", flush=True)
             print(f"reads: {refuse_reads(program, folder, document, scripts)} refused", flush=True)
             print(f"writes: {refuse_writes(program, document, scripts)} refused", flush=True)
+            print(f"with --atomic, growths: {withhold(program, document)}", flush=True)
             told, writes = replace_files(program, folder, document, scripts)
             print(
                 f"files replaced: {told['refused']} steps refused, {told['killed']} kills, {told['new']} times the file was"

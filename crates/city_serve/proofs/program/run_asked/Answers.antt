@@ -1,4 +1,5 @@
 use Rattle.city_serve.proofs.Prelude.{sym, subst, EndsAsked, IsSeenTold}
+use Rattle.city_serve.specs.Programs.{Streams}
 use Rattle.city_serve.proofs.Telling.{ends_told, ends_faulty}
 use Rattle.city_serve.proofs.program.run_asked.Goals as goal
 
@@ -15,9 +16,19 @@ returns-in-Ok g c =
 
 pub returns-in-Err : goal.returns-in-Err
 returns-in-Err g c =
+    let streams : Streams = record {
+      before = g.F.TextFiles.text c.args.files.now;
+      after = g.F.TextFiles.text c.answer.new.files;
+      files_failed = g.F.OutputFiles.have_failed c.answer.new.files;
+      input = g.R.Read.remaining c.args.input.now.0;
+      reader_failed = c.answer.new.input.1;
+      old = g.W.Write.contents c.args.output.now.0;
+      new = g.W.Write.contents c.answer.new.output.0;
+      failed = c.answer.new.output.1;
+    } in
     let told = g.E.Write.contents c.args.errors.now.0 in
     let telling = g.E.Write.contents c.tell_fault.new.errors.0 in
     let mute = c.tell_fault.new.errors.1 in
-    subst (λ s. EndsAsked c.args.asked.now s _ told telling mute) (sym c.tell_fault.ensures.status)
-    (ends_faulty c.args.asked.now _ told telling mute c.args.errors.now.1 c.in-Err.fault c.in-Err.ensures.fault
+    subst (λ status. EndsAsked c.args.asked.now status streams told telling mute) (sym c.tell_fault.ensures.status)
+    (ends_faulty c.args.asked.now streams told telling mute c.args.errors.now.1 c.in-Err.fault c.in-Err.ensures.fault
     c.tell_fault.ensures.told)
