@@ -183,7 +183,7 @@ is_first d (Unsupported id name) h least =
           λ q lt k.
               let other = some_of (unsupported_name k.0) k.2 in
               least (Unsupported q other.0) (h.0, h.1, ap (option_and_then unsupported_name) k.1 ∙ other.1)
-                  (inr (refl, lt)),
+              (inr (refl, lt)),
         ),
         h.2,
       ),
