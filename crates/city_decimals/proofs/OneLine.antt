@@ -1,9 +1,8 @@
 -- Lines, one after another.
 use Rattle.city_decimals.proofs.Prelude.{◌≡◌, ℕ, ◌+◌, ◌<◌, List, [], ◌∷◌, ◌++◌, length, take, drop, get_or, ap, refl}
 use Rattle.city_decimals.proofs.Prelude.{◌∙◌, sym, arith, append_assoc, IsDecodedLine, IsFaultTo, AreDecodedLines}
-use Rattle.city_decimals.proofs.Prelude.{IsLinesFault}
 use Rattle.std.proofs.Common.{◌⊎◌, inl, inr, length-append}
-use Rattle.city_decimals.proofs.Prelude.{DecimalsFault}
+use Rattle.city_decimals.proofs.Prelude.{IsLinesFault, DecimalsFault}
 use Rattle.std.proofs.Math.Seq.{split_at}
 use Rattle.city_decimals.specs.declared.fault.DecimalsFault.TheVariants.{OutOfMemory, NotJson}
 use Rattle.std.proofs.lemmas.List.{get_or-append-add, get_or_at}
