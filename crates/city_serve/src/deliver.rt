@@ -5,8 +5,8 @@ ghost use Rattle.std.specs.Io.KnownBytes.{Appends};
 ghost use Rattle.city_serve.specs.declared.fault.ServeFault.{ServeFault};
 ghost use Rattle.city_serve.specs.RunOptions.{file_of};
 ghost use Rattle.city_serve.specs.ServedTexts.{AppendsSome};
-ghost use Rattle.city_serve.specs.Destinations.{outcome_failed, has_failed, is_withheld, bytes_to_writer, IsPlaced, IsReplaced};
-ghost use Rattle.city_serve.specs.Destinations.{IsOldOrNew, HaveFailed};
+ghost use Rattle.city_serve.specs.Destinations.{outcome_failed, has_failed, is_withheld, bytes_to_writer};
+ghost use Rattle.city_serve.specs.Destinations.{IsPlaced, IsReplaced, IsOldOrNew, HaveFailed};
 
 use crate::device::Device;
 use crate::fault::ServeFault;
