@@ -192,10 +192,11 @@ def engine(city, run):
 
 def twice(city, run):
     first = run.begin()
-    while first.poll() is None and len(run.done()) < 1:
+    while first.poll() is None and not list(run.folder.glob("scripts/*")):
         time.sleep(0.02)
     second = subprocess.run(["sh", "-c", SNAKE], cwd=run.folder, env=run.names, check=False, capture_output=True)
-    assert second.returncode and first.wait() == 0, "the second is locked out, and the first ends"
+    assert second.returncode and b"lock" in second.stderr, f"the second is locked out: {second}"
+    assert first.wait() == 0, "the first ends"
 
 
 def full(city, run):
