@@ -43,12 +43,12 @@ impl Wrong<'_> {
             Wrong::TypeNoText => format!(in alloc; "The type of geometry {n} isn't a text."),
             Wrong::UnknownType(kind) => {
                 let kind = Quoted(kind);
-                format!(in alloc; "The type {kind} of geometry {n} is no type of a geometry.")
+                format!(in alloc; "Geometry {n} is of type {kind}, which isn't read.")
             }
             Wrong::NoBoundaries => format!(in alloc; "Geometry {n} has no boundaries."),
             Wrong::Nested(kind, nesting) => {
                 let depth = nesting.depth();
-                format!(in alloc; "The boundaries of geometry {n}, a {kind}, aren't positions in {depth} nested arrays.")
+                format!(in alloc; "The boundaries of geometry {n}, a {kind}, aren't positions in {depth} arrays.")
             }
         }
     }
