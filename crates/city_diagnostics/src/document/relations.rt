@@ -7,34 +7,34 @@ use city_model::object_type::{ObjectType, family, is_same, level, name};
 use serde_json::Value;
 use std::alloc::Global;
 
-/// One of an object's lists of ids.
+/// One of the two lists of ids of an object.
 #[derive(Clone, Copy)]
-enum List {
+enum IdList {
     Parents,
     Children,
 }
 
-impl List {
+impl IdList {
     fn name(self) -> &'static str {
         match self {
-            List::Parents => "parents",
-            List::Children => "children",
+            IdList::Parents => "parents",
+            IdList::Children => "children",
         }
     }
 
     /// What one of the list is called.
     fn one(self) -> &'static str {
         match self {
-            List::Parents => "parent",
-            List::Children => "child",
+            IdList::Parents => "parent",
+            IdList::Children => "child",
         }
     }
 
     /// The list that has to have the object, of one that this list has.
-    fn other_side(self) -> List {
+    fn other_side(self) -> IdList {
         match self {
-            List::Parents => List::Children,
-            List::Children => List::Parents,
+            IdList::Parents => IdList::Children,
+            IdList::Children => IdList::Parents,
         }
     }
 }
@@ -42,13 +42,13 @@ impl List {
 /// A rule that isn't met, with the other object of it.
 #[derive(Clone, Copy)]
 enum Broken<'t> {
-    NoListOfIds(List),
-    Repeated(List, &'t str),
+    NoListOfIds(IdList),
+    Repeated(IdList, &'t str),
     FirstLevelWithParents(ObjectType, &'t str),
     NoParents(ObjectType),
     Itself(&'t str),
-    Missing(List, &'t str),
-    NotMutual(List, &'t str),
+    Missing(IdList, &'t str),
+    NotMutual(IdList, &'t str),
     /// The object's type, and that of this parent.
     OtherFamily(ObjectType, ObjectType, &'t str),
 }
@@ -67,13 +67,13 @@ impl<'t> Broken<'t> {
         }
     }
 
-    fn list(&self) -> List {
+    fn list(&self) -> IdList {
         match *self {
             Broken::NoListOfIds(list)
             | Broken::Repeated(list, _)
             | Broken::Missing(list, _)
             | Broken::NotMutual(list, _) => list,
-            _ => List::Parents,
+            _ => IdList::Parents,
         }
     }
 
@@ -154,16 +154,16 @@ fn first_broken<'t>(
     object: &'t Value,
 ) -> Result<Option<Broken<'t>>, OutOfMemory> {
     let Some(parents) = list_at(object, "parents") else {
-        return Ok(Some(Broken::NoListOfIds(List::Parents)));
+        return Ok(Some(Broken::NoListOfIds(IdList::Parents)));
     };
     let Some(children) = list_at(object, "children") else {
-        return Ok(Some(Broken::NoListOfIds(List::Children)));
+        return Ok(Some(Broken::NoListOfIds(IdList::Children)));
     };
     if let Some(other) = repeated_in(alloc, parents)? {
-        return Ok(Some(Broken::Repeated(List::Parents, other)));
+        return Ok(Some(Broken::Repeated(IdList::Parents, other)));
     }
     if let Some(other) = repeated_in(alloc, children)? {
-        return Ok(Some(Broken::Repeated(List::Children, other)));
+        return Ok(Some(Broken::Repeated(IdList::Children, other)));
     }
     let Some(own) = objects.get(&id) else {
         return Ok(None);
@@ -214,10 +214,10 @@ fn broken_by_parent<'t>(
         return Some(Broken::Itself(parent));
     }
     let Some(other) = objects.get(&parent) else {
-        return Some(Broken::Missing(List::Parents, parent));
+        return Some(Broken::Missing(IdList::Parents, parent));
     };
     if !other.children.contains(&id) {
-        Some(Broken::NotMutual(List::Parents, parent))
+        Some(Broken::NotMutual(IdList::Parents, parent))
     } else if !is_same(family(other.kind), family(kind)) {
         Some(Broken::OtherFamily(kind, other.kind, parent))
     } else {
@@ -233,9 +233,9 @@ fn broken_by_children<'t>(
     for child in children {
         if let Some(child) = child.as_str() {
             match objects.get(&child) {
-                None => return Some(Broken::Missing(List::Children, child)),
+                None => return Some(Broken::Missing(IdList::Children, child)),
                 Some(other) if !other.parents.contains(&id) => {
-                    return Some(Broken::NotMutual(List::Children, child));
+                    return Some(Broken::NotMutual(IdList::Children, child));
                 }
                 Some(_) => {}
             }

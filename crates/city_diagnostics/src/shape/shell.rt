@@ -37,8 +37,8 @@ pub fn tell_open_shell(
     for number in 0..geometries.len() {
         let geometry = &geometries[number];
         let place = Place::new(number, geometry);
-        if let Some((place, open)) = in_geometry(alloc, place, geometry, vertices)? {
-            return tell(alloc, &place, open, diagnostic);
+        if let Some((place, edges)) = in_geometry(alloc, place, geometry, vertices)? {
+            return tell(alloc, &place, edges, diagnostic);
         }
     }
     Ok(())
@@ -47,10 +47,10 @@ pub fn tell_open_shell(
 fn tell(
     alloc: Global,
     place: &Place<'_>,
-    open: OpenEdges,
+    edges: OpenEdges,
     diagnostic: &mut Diagnostic,
 ) -> Result<(), OutOfMemory> {
-    let OpenEdges { first, count, told } = open;
+    let OpenEdges { first, count, told } = edges;
     place.tell(alloc, diagnostic)?;
     if count > MOST_TOLD {
         diagnostic.details.number("more", count - MOST_TOLD)?;
@@ -79,9 +79,9 @@ fn in_geometry<'v>(
     for surfaces in &lists {
         if surfaces.shell.is_some() {
             let rings = rings_of(alloc, surfaces)?;
-            let open = open_edges(alloc, rings.as_slice(), vertices)?;
-            if open.count > 0 {
-                return Ok(Some((place.at_shell(surfaces), open)));
+            let edges = open_edges(alloc, rings.as_slice(), vertices)?;
+            if edges.count > 0 {
+                return Ok(Some((place.at_shell(surfaces), edges)));
             }
         }
     }
@@ -94,22 +94,32 @@ fn open_edges(
     rings: &[Ring<'_>],
     vertices: &[Point],
 ) -> Result<OpenEdges, OutOfMemory> {
-    let mut edges = Vec::new(alloc);
-    for ring in rings {
-        let points = points_of(alloc, ring.positions, vertices)?;
-        push_edges(points.as_slice(), &mut edges)?;
-    }
-    edges.sort_unstable();
-    let mut open = OpenEdges {
+    let edges = sorted_edges(alloc, rings, vertices)?;
+    let mut found = OpenEdges {
         first: None,
         count: 0,
         told: Vec::new(alloc),
     };
     for ring in rings {
         let points = points_of(alloc, ring.positions, vertices)?;
-        push_open(alloc, ring, points.as_slice(), edges.as_slice(), &mut open)?;
+        push_open(alloc, ring, points.as_slice(), edges.as_slice(), &mut found)?;
     }
-    Ok(open)
+    Ok(found)
+}
+
+/// All edges of these rings, in order.
+fn sorted_edges(
+    alloc: Global,
+    rings: &[Ring<'_>],
+    vertices: &[Point],
+) -> Result<Vec<Edge>, OutOfMemory> {
+    let mut edges = Vec::new(alloc);
+    for ring in rings {
+        let points = points_of(alloc, ring.positions, vertices)?;
+        push_edges(points.as_slice(), &mut edges)?;
+    }
+    edges.sort_unstable();
+    Ok(edges)
 }
 
 /// Adds the edges of a ring.
@@ -137,12 +147,12 @@ fn push_open(
     ring: &Ring<'_>,
     points: &[Point],
     edges: &[Edge],
-    open: &mut OpenEdges,
+    found: &mut OpenEdges,
 ) -> Result<(), OutOfMemory> {
     for at in 0..points.len() {
         let edge = edge_at(points, at);
         if is_open(edges, edge) {
-            push_edge(alloc, ring, edge, open)?;
+            push_edge(alloc, ring, edge, found)?;
         }
     }
     Ok(())
@@ -152,20 +162,20 @@ fn push_edge(
     alloc: Global,
     ring: &Ring<'_>,
     edge: Edge,
-    open: &mut OpenEdges,
+    found: &mut OpenEdges,
 ) -> Result<(), OutOfMemory> {
-    if open.first.is_none() {
-        open.first = Some(edge);
+    if found.first.is_none() {
+        found.first = Some(edge);
     }
-    open.count = open.count.saturating_add(1);
-    if open.count <= MOST_TOLD {
+    found.count = found.count.saturating_add(1);
+    if found.count <= MOST_TOLD {
         let (from, to) = edge;
         let mut details = Details::new(alloc);
         details.point("from", from)?;
         details.point("to", to)?;
         details.number("surface", ring.surface)?;
         details.number("ring", ring.ring.unwrap_or(0))?;
-        open.told.push(details)?;
+        found.told.push(details)?;
     }
     Ok(())
 }
