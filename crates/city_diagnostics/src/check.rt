@@ -14,7 +14,7 @@ pub fn check_document(alloc: Global, text: &[u8], is_given: bool) -> Result<Vec<
     let mut lines = Vec::new(alloc);
     let faults = faults_of(alloc, text)?;
     let tree = Value::from_slice(alloc, text).unwrap_or(Value::Null);
-    let document = Document::new(alloc, &tree)?;
+    let document = Document::new(alloc, &tree, faults.as_slice())?;
     for fault in &faults {
         let diagnostic = match fault {
             ReadFault::TooLong => text_diagnostic(alloc, text, is_given, TextFault::TooLong)?,

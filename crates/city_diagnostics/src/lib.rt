@@ -4,6 +4,7 @@
 //! - `explain`: one fault, in indented lines for a person
 //! - `diagnostic`: what is told of one fault; `details`: the members of its line beside what the fault names
 //! - `text`: faults of any text; `document`: those of a document's top and objects; `script`: those of scripts
+//! - `quoted`: a text as a JSON text, for messages and places
 //! - `shape`: where in an object's geometry a fault is
 #![tactic(auto)]
 
@@ -13,6 +14,7 @@ mod diagnostic;
 mod document;
 mod explain;
 mod line;
+mod quoted;
 mod script;
 mod shape;
 mod text;
