@@ -123,7 +123,7 @@ impl BrokenForm<'_> {
                 "Drop the member, or correct its name; each command is an object of its own."
             }
             BrokenForm::NoText(_) => "Write ids and names as texts, in quotes.",
-            _ => "Write a command as a word, or as an object with just its members.",
+            _ => "Write one of the commands, as a text or as an object with its members.",
         }
     }
 }
@@ -134,9 +134,9 @@ fn tell_word(alloc: Global, word: &str, diagnostic: &mut Diagnostic) -> Result<(
     let given = Quoted(word);
     if form_named(word).is_some() {
         let message = format!(in alloc;
-            "The command {given} is an object with members, and no word."
+            "The command {given} is an object, and no text."
         )?;
-        diagnostic.tell(message, "Write the command as an object, with its members.");
+        diagnostic.tell(message, "Write the command as an object with its members.");
         return Ok(());
     }
     let message = match nearest {
@@ -156,14 +156,14 @@ fn tell_first_member(
     let nearest = tell_given(alloc, name, diagnostic)?;
     let given = Quoted(name);
     if is_word(name) {
-        let message = format!(in alloc; "The command {given} is a word, and no object.")?;
+        let message = format!(in alloc; "The command {given} is a text, and no object.")?;
         diagnostic.tell(message, "Write the word alone, as a text.");
         return Ok(());
     }
     let message = match nearest {
         Some(name) => {
             format!(in alloc;
-                "None of its members names a command; the first is {given}, and the nearest \"{name}\"."
+                "None of its members names a command; the first, {given}, is nearest to \"{name}\"."
             )?
         }
         None => format!(in alloc; "None of its members names a command; the first is {given}.")?,

@@ -14,8 +14,7 @@ pub enum BrokenRule<'t> {
     NameNoText,
     NoCommands,
     CommandsNoArray,
-    /// There is no command, so none that ends the script.
-    EmptyCommands,
+    /// No command ends the script.
     NoEnd,
     /// The first command that ends the script, which isn't the last one.
     EndNotLast(usize),
@@ -55,12 +54,9 @@ fn broken_commands(members: &Map<String, Value>) -> Option<BrokenRule<'static>> 
 
 /// What is wrong where not exactly the last of the commands ends the script.
 fn broken_end(commands: &[Value]) -> Option<BrokenRule<'static>> {
-    if commands.is_empty() {
-        return Some(BrokenRule::EmptyCommands);
-    }
     match commands.iter().position(is_end) {
         None => Some(BrokenRule::NoEnd),
-        Some(end) if end < commands.len() - 1 => Some(BrokenRule::EndNotLast(end)),
+        Some(end) if end + 1 < commands.len() => Some(BrokenRule::EndNotLast(end)),
         Some(_) => None,
     }
 }
@@ -119,7 +115,7 @@ impl BrokenRule<'_> {
             BrokenRule::NoObject => "no object",
             BrokenRule::NoName | BrokenRule::NameNoText => "name",
             BrokenRule::NoCommands | BrokenRule::CommandsNoArray => "commands",
-            BrokenRule::EmptyCommands | BrokenRule::NoEnd => "no end",
+            BrokenRule::NoEnd => "no end",
             BrokenRule::EndNotLast(_) => "end not last",
             BrokenRule::VerticesNoArray | BrokenRule::NoVertex(_) => "vertices",
             BrokenRule::OtherMember(_) => "member",
@@ -133,7 +129,6 @@ impl BrokenRule<'_> {
             BrokenRule::NameNoText => "Its name isn't a text.",
             BrokenRule::NoCommands => "It has no commands.",
             BrokenRule::CommandsNoArray => "Its commands aren't an array.",
-            BrokenRule::EmptyCommands => "Its commands are empty, so none of them ends it.",
             BrokenRule::NoEnd => "None of its commands is \"commit\" or \"abort\".",
             BrokenRule::VerticesNoArray => "Its vertices aren't an array.",
             BrokenRule::EndNotLast(command) => {
@@ -159,7 +154,7 @@ impl BrokenRule<'_> {
                 "Give the script a name, which is a text.",
             BrokenRule::NoCommands | BrokenRule::CommandsNoArray =>
                 "Give the script an array of commands.",
-            BrokenRule::EmptyCommands | BrokenRule::NoEnd =>
+            BrokenRule::NoEnd =>
                 "Make \"commit\" or \"abort\" the last command.",
             BrokenRule::EndNotLast(_) => "Write \"commit\" or \"abort\" once, as the last command.",
             BrokenRule::VerticesNoArray | BrokenRule::NoVertex(_) => {

@@ -5,7 +5,7 @@ use city_model::OutOfMemory;
 use serde_json::Value;
 use std::alloc::Global;
 
-/// How many bytes a script's name may have where it is shown. A longer one would be shown again with each of its faults.
+/// How many bytes a script's name may have where it is shown. A longer one would be copied for each of its faults.
 const LONGEST_NAME: usize = 100;
 
 /// The command of this number in the script of this number.

@@ -45,7 +45,7 @@ pub fn tell_bad_put(
     let object = put_object(command).unwrap_or(&nothing);
     if !object.is_object() {
         diagnostic.details.text("rule", "no object")?;
-        let message = "It isn't an object.".to_string(alloc)?;
+        let message = "What is put isn't an object.".to_string(alloc)?;
         diagnostic.tell(
             message,
             "Put an object as it stands in a model, without parents and children.",
@@ -75,7 +75,7 @@ fn tell_relation(
 ) -> Result<(), OutOfMemory> {
     diagnostic.details.text("rule", "relations")?;
     diagnostic.details.text("member", member)?;
-    let message = format!(in alloc; "It has \"{member}\", which a put can't change.")?;
+    let message = format!(in alloc; "The object that is put has the member \"{member}\".")?;
     diagnostic.tell(
         message,
         "Leave parents and children out, and attach the object by a command of its own.",
