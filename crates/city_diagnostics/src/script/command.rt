@@ -133,9 +133,7 @@ fn tell_word(alloc: Global, word: &str, diagnostic: &mut Diagnostic) -> Result<(
     let nearest = tell_given(alloc, word, diagnostic)?;
     let given = Quoted(word);
     if form_named(word).is_some() {
-        let message = format!(in alloc;
-            "The command {given} is an object, and no text."
-        )?;
+        let message = format!(in alloc; "The command {given} is an object, and no text.")?;
         diagnostic.tell(message, "Write the command as an object with its members.");
         return Ok(());
     }

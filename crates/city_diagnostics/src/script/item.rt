@@ -154,8 +154,7 @@ impl BrokenRule<'_> {
                 "Give the script a name, which is a text.",
             BrokenRule::NoCommands | BrokenRule::CommandsNoArray =>
                 "Give the script an array of commands.",
-            BrokenRule::NoEnd =>
-                "Make \"commit\" or \"abort\" the last command.",
+            BrokenRule::NoEnd => "Make \"commit\" or \"abort\" the last command.",
             BrokenRule::EndNotLast(_) => "Write \"commit\" or \"abort\" once, as the last command.",
             BrokenRule::VerticesNoArray | BrokenRule::NoVertex(_) => {
                 "Write each vertex as three whole numbers, a position in the model's grid."

@@ -17,22 +17,23 @@ pub fn tell_too_many(
         return tell_scripts(alloc, 0, diagnostic);
     };
     if items.len() <= MAX_SCRIPTS {
-        if let Some(script) = first_too_long(items.as_slice()) {
+        if let Some((script, commands)) = first_too_long(items.as_slice()) {
             narrow_to_script(alloc, tree, script, diagnostic)?;
-            return tell_commands(alloc, script, command_count(&items[script]), diagnostic);
+            return tell_commands(alloc, script, commands, diagnostic);
         }
     }
     tell_scripts(alloc, items.len(), diagnostic)
 }
 
-/// The first script that has too many commands.
-fn first_too_long(items: &[Value]) -> Option<usize> {
-    items.iter().position(is_too_long)
-}
-
-/// Whether an item is a script that has too many commands.
-fn is_too_long(item: &Value) -> bool {
-    command_count(item) > MAX_COMMANDS && broken_rule(item).is_none()
+/// The first script that has too many commands, and how many it has.
+fn first_too_long(items: &[Value]) -> Option<(usize, usize)> {
+    for (script, item) in items.iter().enumerate() {
+        let commands = command_count(item);
+        if commands > MAX_COMMANDS && broken_rule(item).is_none() {
+            return Some((script, commands));
+        }
+    }
+    None
 }
 
 /// How many commands an item has.

@@ -2,9 +2,8 @@
 use crate::diagnostic::Diagnostic;
 use crate::quoted::Quoted;
 use crate::script::forms::form_in;
-use crate::shape::{tell_bad_geometry, tell_unknown_type, tell_unsupported};
+use crate::shape::{is_unsupported, tell_bad_geometry, tell_unknown_type, tell_unsupported};
 use city_model::OutOfMemory;
-use city_model::kept::site::has_location;
 use city_model::object_type::type_named;
 use serde_json::Value;
 use std::alloc::Global;
@@ -17,7 +16,8 @@ pub fn put_object(command: &Value) -> Option<&Value> {
 
 /// The id of the object that a command puts, where it is a text.
 fn put_id(command: &Value) -> Option<&str> {
-    command.get("put")?.as_str()
+    let members = command.as_object()?;
+    members.get(form_in(members)?.name)?.as_str()
 }
 
 /// Narrows the place to the object that a command puts.
@@ -93,9 +93,8 @@ fn tell_unreadable(
         diagnostic.details.text("rule", "type")?;
         return tell_unknown_type(alloc, object, diagnostic);
     }
-    if let Some(name) = unsupported_name(object) {
+    if is_unsupported(object) {
         diagnostic.details.text("rule", "unsupported")?;
-        diagnostic.details.text("name", name)?;
         return tell_unsupported(alloc, object, diagnostic);
     }
     // (an object that is told can't be read, so a geometry is wrong)
@@ -108,25 +107,4 @@ fn has_known_type(object: &Value) -> bool {
         Some(name) => type_named(name).is_some(),
         None => false,
     }
-}
-
-/// The first thing in an object that isn't supported: an address with a location, or a type of geometry.
-fn unsupported_name(object: &Value) -> Option<&str> {
-    if has_location(object.get("address")) {
-        return Some("location");
-    }
-    for geometry in object.get("geometry")?.as_array()? {
-        if let Some(name) = unsupported_type(geometry) {
-            return Some(name);
-        }
-    }
-    None
-}
-
-fn unsupported_type(geometry: &Value) -> Option<&str> {
-    let name = geometry.get("type")?.as_str()?;
-    if matches!(name, "MultiPoint" | "MultiLineString" | "GeometryInstance") {
-        return Some(name);
-    }
-    None
 }
