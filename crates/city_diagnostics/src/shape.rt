@@ -80,6 +80,11 @@ pub fn tell_unsupported(
     Ok(())
 }
 
+/// Whether something in an object is never read.
+pub fn is_unsupported(object: &Value) -> bool {
+    has_location(object.get("address")) || unsupported_geometry(object).is_some()
+}
+
 /// The number and the type of the first geometry of a type that is never read.
 fn unsupported_geometry(object: &Value) -> Option<(usize, &'static str)> {
     let geometries = geometries_of(object);
