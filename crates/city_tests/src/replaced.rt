@@ -101,7 +101,11 @@ fn a_new_file_that_is_given_up_is_gone(rt: HostRuntime) -> Result<(), Fail> {
 fn a_folder_is_not_replaced_and_a_link_stays_one(rt: HostRuntime) -> Result<(), Fail> {
     make_file(&rt, "linked", "linked/model", "old")?;
     fs::create_dir(&rt, "linked/folder")?;
-    assert!(rt; RuntimeFiles::new(&rt).create("linked/folder", SEED).is_none());
+    assert!(rt;
+        RuntimeFiles::new(&rt)
+            .create("linked/folder", SEED)
+            .is_none()
+    );
     symlink(&rt, "model", "linked/link")?;
     assert!(rt; replace(&rt, "linked/link", "new"));
     assert!(rt; fs::symlink_metadata(&rt, "linked/link")?.is_symlink());
