@@ -12,6 +12,7 @@ import itertools
 import json
 import os
 import random
+import subprocess
 import sys
 import tempfile
 from concurrent.futures import ThreadPoolExecutor
@@ -41,16 +42,20 @@ def agree(program, document, scripts, decimals, wanted):
     """The program's lines are the wanted ones, and a run tells the first of them."""
     options = ["--decimals"] if decimals else []
     answer = program.answer(document, scripts, "--check", *options)
-    status, output, error = answer
-    different = Different(document, scripts, answer, [decimals, wanted])
-    if (status, error) != (1 if wanted else 0, b"") or not is_of_lines(output):
-        raise different
-    lines = [json.loads(each) for each in output.splitlines()]
-    if len(lines) != len(wanted) or not all(map(is_told, lines, wanted)):
-        raise different
+    if not tells(answer, wanted):
+        raise Different(document, scripts, answer, [decimals, wanted])
     refused = run_refused(program, document, scripts, options)
-    if refused != (fault_line(lines[0]) if lines else None):
-        raise Different(document, scripts, refused, lines[:1])
+    if refused != (fault_line(wanted[0]) if wanted else None):
+        raise Different(document, scripts, refused, wanted[:1])
+
+
+def tells(answer, wanted):
+    """Whether a check has answered with the wanted lines, and nothing else."""
+    status, output, error = answer
+    if (status, error) != (1 if wanted else 0, b"") or not is_of_lines(output):
+        return False
+    lines = [json.loads(each) for each in output.splitlines()]
+    return len(lines) == len(wanted) and all(map(is_told, lines, wanted))
 
 
 def is_of_lines(output):
@@ -159,6 +164,39 @@ def by_hand(program, choose, count):
     return f"{len(cases)} agree"
 
 
+# ---- calls: other files, and other words
+
+
+def models_alone(program, choose, count):
+    """The texts whose lines were written by hand, without SCRIPTS."""
+    cases = list(known_diagnostics.cases())
+    name = os.path.join(program.folder, "alone")
+    for document, _, decimals, _ in cases:
+        with open(name, "wb") as file:
+            file.write(document)
+        wanted = check(document, None, decimals)
+        ran = program.run(document, b"", "--check", *(["--decimals"] if decimals else []), name)
+        if not tells((ran.returncode, ran.stdout, ran.stderr), wanted):
+            raise Different(document, b"", ran, wanted)
+    return f"{len(cases)} agree"
+
+
+def other_words(program, choose, count):
+    """Words that don't go with --check, and files that can't be read."""
+    name = os.path.join(program.folder, "empty")
+    with open(name, "wb") as file:
+        file.write(EMPTY)
+    refused = [["--workers", "2"], ["--watch", "1"], ["--output", name], ["--atomic"]]
+    calls = [([*words, name], 2) for words in refused] + [([], 2), ([name, name, name], 2)]
+    calls += [([name + "x"], 1), ([name, name + "x"], 1), ([program.folder], 1), ([name], 0), (["--explain", name], 0)]
+    for words, status in calls:
+        ran = program.run(EMPTY, b"", "--check", *words, stdin=subprocess.DEVNULL)
+        alone = {0: ran.stderr == b"", 1: ran.stderr.startswith(b"cityed: cannot read\n"), 2: ran.stderr != b""}
+        if (ran.returncode, ran.stdout) != (status, b"") or not alone[status]:
+            raise Different(EMPTY, b"", [words, ran], f"status {status}, no line")
+    return f"{len(calls)} calls end as they should"
+
+
 # ---- how long it takes
 
 
@@ -191,7 +229,7 @@ def main():
     with tempfile.TemporaryDirectory() as folder:
         program = Program(os.path.abspath(asked.program), folder)
         tries = [(kind.__name__, lambda *given, kind=kind: try_kind(program, kind, *given)) for kind in KINDS]
-        tries += [(each.__name__, lambda *given, each=each: each(program, *given)) for each in (by_hand, times)]
+        tries += [(each.__name__, lambda *given, each=each: each(program, *given)) for each in (by_hand, models_alone, other_words, times)]
         for name, attempt in tries:
             if asked.only in (None, name):
                 try:
