@@ -298,9 +298,9 @@ def bad_ring(obj, vertices):
         for ring, positions in enumerate(rings):
             if len(positions) < 3:
                 return {**place, "ring": ring, "rule": "short ring", "points": len(positions)}
-            for point, (one, other) in enumerate(neighbours(positions)):
+            for one, other in neighbours(positions):
                 if vertices[one] == vertices[other]:
-                    return {**place, "ring": ring, "rule": "equal neighbours", "point": point}
+                    return {**place, "ring": ring, "rule": "equal neighbours", "point": vertices[one]}
     return None
 
 

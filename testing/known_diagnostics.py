@@ -97,7 +97,7 @@ MODELS = [
     ),
     (
         model({"a": shaped("MultiSurface", [[[0, 1, 2, 3]]])}, [*TRIANGLE, [0, 0, 0]]),
-        [told(9, "BadRing", id="a", geometry=0, lod="1", surface=0, ring=0, rule="equal neighbours", point=3)],
+        [told(9, "BadRing", id="a", geometry=0, lod="1", surface=0, ring=0, rule="equal neighbours", point=[0, 0, 0])],
     ),
     (
         model({"a": shaped("Solid", [[], [[]]])}),

@@ -109,7 +109,7 @@ CASES = [
     ),
     Mistake(
         "the model given twice", "cityed: scripts: 4 NotScripts", "tile.city.json",
-        what=["model"], cure=["SCRIPTS"], words=(NAMES[0], NAMES[0]),
+        what=["model"], cure=["scripts"], words=(NAMES[0], NAMES[0]),
         members={"fault": "NotScripts", "form": "model"},
     ),
     of_model(
