@@ -140,10 +140,11 @@ def play(program, folder, case):
 
 
 def row(case, told):
-    """A row of the table: the mistake, the line, and where, what and cure."""
+    """A row of the table: the mistake, the line, and what the details say."""
     details = details_of(told)
-    parts = [f"`{case.line}`"] + [f"{name}: {details[name]}" for name in ("file", "where", "what", "cure") if name in details]
-    return f"| {case.mistake} | {'<br>'.join(parts)} |".replace("\n", " ")
+    place = ": ".join(details[name] for name in ("file", "where") if name in details)
+    cells = [case.mistake, f"`{case.line}`", place, details.get("what", ""), details.get("cure", "")]
+    return "| " + " | ".join(cell.replace("|", "\\|") for cell in cells) + " |"
 
 
 def main():
@@ -161,7 +162,7 @@ def main():
                 print(f"WRONG at {case.mistake}: {wrong}")
                 return 1
     if asked.table:
-        print("\n".join(["| mistake | what is told |", "| --- | --- |", *rows]))
+        print("\n".join(["| mistake | line | where | what | cure |", "| --- | --- | --- | --- | --- |", *rows]))
     else:
         print(f"{len(rows)} mistakes are told as they should be")
     return 0
