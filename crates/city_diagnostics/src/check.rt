@@ -7,6 +7,10 @@ ghost use Rattle.city_doc.specs.document.Faults.{DocumentFault};
 ghost use Rattle.city_diagnostics.specs.Lines.{AreLinesOf, FirstLineIs, IsLineOf};
 ghost use Rattle.city_diagnostics.specs.ModelLines.{Tells};
 
+mod scripts;
+
+pub use scripts::check_scripts;
+
 use crate::document::Document;
 use crate::line::document_line;
 use crate::text::{TextFault, text_diagnostic};
@@ -46,8 +50,11 @@ fn document_lines(
     ensures { IfOk result (λ lines. AreLinesOf Tells faults.now lines.items) }
 {
     let mut lines = Vec::new(alloc);
-    let tree = tree_for(alloc, text, faults.first().and_then(text_fault_of))?;
-    let document = Document::new(alloc, &tree)?;
+    let Some(first) = faults.first() else {
+        return Ok(lines);
+    };
+    let tree = tree_for(alloc, text, text_fault_of(first))?;
+    let document = Document::new(alloc, &tree, faults)?;
     for fault in faults {
         let line = line_of(alloc, text, is_given, &document, fault)?;
         lines.extend_from_slice(line.as_bytes())?;
@@ -102,10 +109,4 @@ pub fn script_text_fault_of(fault: &ScriptFault) -> Option<TextFault> {
         ScriptFault::NotWhole => Some(TextFault::NotWhole),
         _ => None,
     }
-}
-
-/// A line of JSON for each fault of a text of scripts, in the order of the faults' numbers, and then of the script and
-/// the command.
-pub fn check_scripts(alloc: Global, _text: &[u8], _is_given: bool) -> Result<Vec<u8>, OutOfMemory> {
-    Ok(Vec::new(alloc))
 }

@@ -12,8 +12,12 @@ pub struct Document<'t> {
 }
 
 impl<'t> Document<'t> {
-    /// The document of a tree.
-    pub fn new(_alloc: Global, tree: &'t Value) -> Result<Document<'t>, OutOfMemory> {
+    /// The document of a tree that has these faults: all of them, or only the first.
+    pub fn new(
+        _alloc: Global,
+        tree: &'t Value,
+        _faults: &[ReadFault],
+    ) -> Result<Document<'t>, OutOfMemory> {
         Ok(Document { tree })
     }
 
