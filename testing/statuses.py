@@ -48,7 +48,8 @@ REFUSED_LINE = (
 )
 VERSION = "cityed 0.1.0\n"
 USAGE = (
-    "\n\nUsage: cityed [--decimals] [--workers N] [--watch K] [--output FILE] [--atomic] [MODEL SCRIPTS]\n\n"
+    "\n\nUsage: cityed [--decimals] [--workers N] [--watch K] [--output FILE] [--atomic] [--explain] [MODEL SCRIPTS]\n"
+    "       cityed --check [--decimals] [--explain] MODEL [SCRIPTS]\n\n"
     "For more information, try '--help'.\n"
 )
 NO_WORKERS = "error: --workers takes a number from 1 to 16" + USAGE

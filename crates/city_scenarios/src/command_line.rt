@@ -35,13 +35,15 @@ fn add_asked(alloc: Global, words: &[String], said: &mut Written) {
         Ok(Asked::Files(options, destination, model, scripts)) => {
             add_files(model, scripts, options, destination, said);
         }
+        Ok(Asked::Check(options, model, scripts)) => add_check(model, scripts, options, said),
         Ok(Asked::Text(text)) => add_first_line("text ", text.as_str(), said),
         Err(LineFault::Refused(text)) => add_first_line("2 ", text.as_str(), said),
         Err(LineFault::OutOfMemory) => said.run_out(),
     }
 }
 
-/// Adds a word, how many workers and viewers there are, and a word where numbers of any form are taken.
+/// Adds a word, how many workers and viewers there are, a word where numbers of any form are taken, and one where a
+/// fault is explained.
 fn add_options(word: &str, options: Options, said: &mut Written) {
     said.add(word);
     said.add(" ");
@@ -49,6 +51,7 @@ fn add_options(word: &str, options: Options, said: &mut Written) {
     said.add(" ");
     said.show(&options.viewers);
     said.add(if options.decimals { " decimals" } else { "" });
+    said.add(if options.explain { " explain" } else { "" });
 }
 
 /// Adds the file that gets the model, if there is one, and a word where it gets all or nothing.
@@ -77,6 +80,18 @@ fn add_files(
     said.add(" ");
     add_options(scripts, options, said);
     add_destination(destination, said);
+}
+
+fn add_check(model: &str, scripts: Option<&str>, options: Options, said: &mut Written) {
+    said.add("check ");
+    match scripts {
+        Some(scripts) => {
+            said.add(model);
+            said.add(" ");
+            add_options(scripts, options, said);
+        }
+        None => add_options(model, options, said),
+    }
 }
 
 fn add_first_line(word: &str, text: &str, said: &mut Written) {

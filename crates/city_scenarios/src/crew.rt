@@ -59,6 +59,7 @@ fn options_of(crew: &str, decimals: bool) -> Options
         workers: workers.parse::<usize>().unwrap_or(1).clamp(1, MAX_WORKERS),
         viewers: viewers.parse::<usize>().unwrap_or(0).min(MAX_VIEWERS),
         decimals,
+        explain: false,
     }
 }
 

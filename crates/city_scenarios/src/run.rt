@@ -26,6 +26,7 @@ pub fn play_run<T: Threads + Wait + Sync>(
             workers: 1,
             viewers: 0,
             decimals,
+            explain: false,
         };
         add_served(rt, alloc, options, document, scripts, &mut served);
         if served.as_slice() != ran.as_slice() {

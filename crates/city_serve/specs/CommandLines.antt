@@ -1,6 +1,6 @@
 -- What the words of a command line ask for.
 use Rattle.std.specs.Prelude.{◌≡◌, ◌≢◌, ◌⊎◌, ⊤, ℕ, Bool, true, false, List, [], ◌∷◌, ◌++◌, codes, slice_get, All}
-use Rattle.std.specs.Prelude.{Option, Some, None, if◌then◌else◌, Result, Err, IsErr}
+use Rattle.std.specs.Prelude.{Option, Some, None, if◌then◌else◌, Result, Err, IsErr, MatchBool, option_map}
 use Rattle.std.specs.Result.{IsOkAnd}
 use Rattle.std.specs.Str.{bytes_eq}
 use Rattle.std.specs.Str.Parse.{digits_value, without_leading_plus}
@@ -23,20 +23,21 @@ IsCount least most None n = n ≡ least
 IsCount least most (Some text) n =
     IsUnsignedIn least most text × (n ≡ digits_value 10 (without_leading_plus text))
 
--- the options that the texts of --workers and --watch ask for, and whether --decimals is given
-abbrev pub AreOptionsOf : Option (List ℕ) → Option (List ℕ) → Bool → Options → Type 0
-AreOptionsOf workers watch decimals options =
+-- the options that the texts of --workers and --watch ask for, and whether --decimals and --explain are given
+abbrev pub AreOptionsOf : Option (List ℕ) → Option (List ℕ) → Bool → Bool → Options → Type 0
+AreOptionsOf workers watch decimals explain options =
     IsCount 1 max_workers workers options.workers × IsCount 0 max_viewers watch options.viewers
-    × (options.decimals ≡ decimals)
+    × (options.decimals ≡ decimals) × (options.explain ≡ explain)
 
 -- the destination that the text of --output asks for, and whether --atomic is given
 abbrev pub IsDestinationOf : Option (List ℕ) → Bool → Destination → Type 0
 IsDestinationOf output atomic destination = (file_of destination ≡ output) × (destination.atomic ≡ atomic)
 
--- what is asked for is a text, or a run with such options
+-- what is asked for is a text, a run with such options, or a check, which has one worker and no viewer
 abbrev pub HasOptions : Asked → Type 0
 HasOptions (Asked.Input options destination) = AreWithin options
 HasOptions (Asked.Files options destination model scripts) = AreWithin options
+HasOptions (Asked.Check options model scripts) = (options.workers ≡ 1) × (options.viewers ≡ 0)
 HasOptions (Asked.Text text) = ⊤
 
 -- the same destination: a file of the same path, or none
@@ -55,6 +56,12 @@ IsAskedFiles options destination model scripts (Asked.Files asked to asked_model
     × (asked_model.now ≡ model) × (asked_scripts.now ≡ scripts)
 IsAskedFiles options destination model scripts _ = ⊥
 
+-- a check of these files is asked for, by their paths, with these options
+abbrev pub IsAskedCheck : Options → List ℕ → Option (List ℕ) → Asked → Type 0
+IsAskedCheck options model scripts (Asked.Check asked asked_model asked_scripts) =
+    (asked ≡ options) × (asked_model.now ≡ model) × (option_map (λ s. s.now) asked_scripts ≡ scripts)
+IsAskedCheck options model scripts _ = ⊥
+
 abbrev pub IsWantOfMemory : Result Asked LineFault → Type 0
 IsWantOfMemory r = r ≡ Err LineFault.OutOfMemory
 
@@ -64,6 +71,14 @@ AnswersNames options destination [] r = IsOkAnd r (IsAskedInput options destinat
 AnswersNames options destination (model ∷ scripts ∷ []) r =
     IsOkAnd r (IsAskedFiles options destination model scripts) ⊎ IsWantOfMemory r
 AnswersNames options destination _ r = IsErr r
+
+-- with --check: one name asks for a check of this model, two for one of these scripts too, and any other number is
+-- refused
+abbrev pub AnswersCheckedNames : Options → List (List ℕ) → Result Asked LineFault → Type 0
+AnswersCheckedNames options (model ∷ []) r = IsOkAnd r (IsAskedCheck options model None) ⊎ IsWantOfMemory r
+AnswersCheckedNames options (model ∷ scripts ∷ []) r =
+    IsOkAnd r (IsAskedCheck options model (Some scripts)) ⊎ IsWantOfMemory r
+AnswersCheckedNames options _ r = IsErr r
 
 -- a text is to be shown, as help is
 abbrev pub IsText : Asked → Type 0
@@ -87,6 +102,8 @@ pub data Valued : Type 0 where
 pub data Flag : Type 0 where
   Decimals : Flag
   Atomic : Flag
+  Check : Flag
+  Explain : Flag
 
 -- their names, behind two hyphens
 abbrev pub value_name : Valued → List ℕ
@@ -97,6 +114,8 @@ value_name Output = codes "output"
 abbrev pub flag_name : Flag → List ℕ
 flag_name Decimals = codes "decimals"
 flag_name Atomic = codes "atomic"
+flag_name Check = codes "check"
+flag_name Explain = codes "explain"
 
 -- the word is `--name` or `--name=value`, and no option has the name
 pub record IsUnknownOption (word : List ℕ) : Type 0 where
@@ -156,12 +175,27 @@ pub data IsLineOf : Line → List (List ℕ) → Type 0 where
 
 -- the options that the line asks for
 abbrev pub AreLineOptions : Line → Options → Type 0
-AreLineOptions line = AreOptionsOf (line.value Workers) (line.value Watch) (line.has Decimals)
+AreLineOptions line = AreOptionsOf (line.value Workers) (line.value Watch) (line.has Decimals) (line.has Explain)
 
--- the names are answered with the options and the destination that are asked for, and texts that ask for no options
--- are refused
-abbrev pub AnswersOptions : Line → Result Asked LineFault → Type 0
-AnswersOptions line r =
+-- a run is asked for: the names are answered with the options and the destination that are asked for, and texts that
+-- ask for no options are refused
+abbrev pub AnswersRun : Line → Result Asked LineFault → Type 0
+AnswersRun line r =
     ((options : Options) (destination : Destination) → AreLineOptions line options
     → IsDestinationOf (line.value Output) (line.has Atomic) destination → AnswersNames options destination line.names r)
     × (((options : Options) → ¬ AreLineOptions line options) → IsErr r)
+
+-- the line has an option that only a run takes
+abbrev pub HasRunOption : Line → Type 0
+HasRunOption line = ((o : Valued) × (line.value o ≢ None)) ⊎ (line.has Atomic ≡ true)
+
+-- a check is asked for: the names are answered with the options that are asked for, and an option that only a run
+-- takes is refused
+abbrev pub AnswersCheck : Line → Result Asked LineFault → Type 0
+AnswersCheck line r =
+    ((options : Options) → AreLineOptions line options → ¬ HasRunOption line → AnswersCheckedNames options line.names r)
+    × (HasRunOption line → IsErr r)
+
+-- the line is answered
+abbrev pub AnswersOptions : Line → Result Asked LineFault → Type 0
+AnswersOptions line r = MatchBool (line.has Check) (AnswersCheck line r) (AnswersRun line r)

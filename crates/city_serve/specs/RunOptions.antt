@@ -10,7 +10,7 @@ AreWithin options = (1 ≤ options.workers) × (options.workers ≤ max_workers)
 
 -- those of a command line without options
 abbrev pub plain_options : Options
-plain_options = record { workers = 1; viewers = 0; decimals = false }
+plain_options = record { workers = 1; viewers = 0; decimals = false; explain = false }
 
 -- the path of the file that gets the model
 abbrev pub file_of : Destination → Option (List ℕ)

@@ -1,13 +1,15 @@
 //! What a command line asks for.
-ghost use Rattle.std.specs.Prelude.{◌≡◌, ◌≢◌, ◌⊎◌, ◌≤◌, ◌∷◌, ℕ, Bool, false, List, Option, Some, None, Ok, Err};
-ghost use Rattle.std.specs.Prelude.{All, drop, map, option_map, string_bytes, IfOk, IsErr, MatchOption, MatchResult};
+ghost use Rattle.std.specs.Prelude.{◌≡◌, ◌≢◌, ◌⊎◌, ◌≤◌, ◌∷◌, ℕ, Bool, true, false, List, Option, Some, None, Ok};
+ghost use Rattle.std.specs.Prelude.{Err, All, drop, map, option_map, string_bytes, IfOk, IsErr, MatchOption};
+ghost use Rattle.std.specs.Prelude.{MatchResult};
 ghost use Rattle.clap.specs.Words.{app_of, kind_of, rule_of};
 ghost use Rattle.city_serve.specs.RunOptions.{plain_destination, plain_options};
 ghost use Rattle.city_serve.specs.CommandLines.{IsName, Line, IsLineOf, AnswersNames, AnswersOptions};
 ghost use Rattle.city_serve.specs.CommandLines.{AreOptionsOf, AsksForText, HasOptions, IsCount, IsShown};
 ghost use Rattle.city_serve.specs.CommandLines.{MeetsUnknownOption};
 ghost use Rattle.city_serve.specs.inside.CommandShape.{cityed_command, files_command, flag_rule, option_rule};
-ghost use Rattle.city_serve.specs.inside.CommandShape.{output_rule, run_command, AnswersPlaces};
+ghost use Rattle.city_serve.specs.inside.CommandShape.{output_rule, run_command, output_command};
+ghost use Rattle.city_serve.specs.inside.CommandShape.{AnswersPlaces, AnswersCheckedPlaces, IsOfRun};
 
 use crate::options::{Destination, Options};
 use city_crew::{MAX_VIEWERS, MAX_WORKERS};
@@ -30,8 +32,13 @@ const OUTPUT: &str = "output";
 
 const ATOMIC: &str = "atomic";
 
-const USAGE: &str = "cityed [--decimals] [--workers N] [--watch K] [--output FILE] [--atomic] \
-                     [MODEL SCRIPTS]";
+const CHECK: &str = "check";
+
+const EXPLAIN: &str = "explain";
+
+const USAGE: &str = "\
+cityed [--decimals] [--workers N] [--watch K] [--output FILE] [--atomic] [--explain] [MODEL SCRIPTS]
+       cityed --check [--decimals] [--explain] MODEL [SCRIPTS]";
 
 const ABOUT: &str = "Edits a CityJSON 2.0 city model by scripts. Each script is done whole or not \
                      at all.";
@@ -61,7 +68,8 @@ end in any order. With --watch, after success, standard error gets a line for ea
 
 Status:
   0  done, or help was asked for
-  1  the input was refused, memory ran out, or reading or writing failed; see standard error
+  1  the input was refused, memory ran out, or reading or writing failed: see standard error.
+     With --check, faults were found: see standard output
   2  the command line isn't understood: standard error says what is wrong
   3  with --atomic: a script was refused or ran out of memory, and no model is written
 Without --atomic a script that is refused ends as \"refused\" in its line, and the status is 0.";
@@ -73,6 +81,8 @@ pub enum Asked<'a> {
     Input(Options, Destination<'a>),
     /// To serve two files, by their paths: the model's and the scripts'.
     Files(Options, Destination<'a>, &'a str, &'a str),
+    /// To tell all faults of a model, and of scripts where they are given, by their paths. Nothing is run.
+    Check(Options, &'a str, Option<&'a str>),
     /// To show a text on standard output: help, or the version.
     Text(String),
 }
@@ -99,11 +109,12 @@ impl From<OutOfMemory> for LineFault {
 /// What a command line asks for. Its first word is the program's name.
 ///
 /// An answer other than a text has 1 to `MAX_WORKERS` workers, 1 where `--workers` isn't given, 0 to
-/// `MAX_VIEWERS` viewers, 0 where `--watch` isn't given, and takes numbers of any form where `--decimals` is given. Its
-/// destination has the FILE of `--output` or `-o`, if there is one, and is atomic where `--atomic` is given. The
+/// `MAX_VIEWERS` viewers, 0 where `--watch` isn't given, takes numbers of any form where `--decimals` is given, and
+/// explains a fault where `--explain` is given. Its destination has the FILE of `--output` or `-o`, if there is one,
+/// and is atomic where `--atomic` is given. With `--check` it is a check, of a MODEL and maybe of SCRIPTS. The
 /// options stand in any order, and names before, between and after them. Refused: a number outside
 /// these ranges, a MODEL without SCRIPTS, a third name, and an option that is unknown, comes twice
-/// or has no value.
+/// or has no value; with `--check` a line without a MODEL, and an option that only a run takes.
 pub fn asked_by<'a>(alloc: Global, words: &'a [String]) -> Result<Asked<'a>, LineFault>
     ensures names { All IsName (drop 1 (map string_bytes words.now))
         → AnswersNames plain_options plain_destination (drop 1 (map string_bytes words.now)) result }
@@ -118,12 +129,18 @@ pub fn asked_by<'a>(alloc: Global, words: &'a [String]) -> Result<Asked<'a>, Lin
     match command.try_get_matches_from_mut(words) {
         Ok(matches) => {
             let (workers, watch) = (matches.get_str(WORKERS), matches.get_str(WATCH));
-            let decimals = matches.get_flag(DECIMALS);
+            let (decimals, explain) = (matches.get_flag(DECIMALS), matches.get_flag(EXPLAIN));
             let (file, atomic) = (matches.get_str(OUTPUT), matches.get_flag(ATOMIC));
-            let options = options_by(alloc, &mut command, workers, watch, decimals)?;
-            let (model, scripts) = (matches.get_str(MODEL), matches.get_str(SCRIPTS));
+            let check = matches.get_flag(CHECK);
             let destination = Destination { file, atomic };
-            by_names(alloc, &mut command, options, destination, model, scripts)
+            refuse_run_options(alloc, &mut command, check, workers, watch, destination)?;
+            let options = options_by(alloc, &mut command, workers, watch, decimals, explain)?;
+            let (model, scripts) = (matches.get_str(MODEL), matches.get_str(SCRIPTS));
+            if check {
+                by_checked_names(alloc, &mut command, options, model, scripts)
+            } else {
+                by_names(alloc, &mut command, options, destination, model, scripts)
+            }
         }
         Err(error) => without_names(alloc, &error),
     }
@@ -132,6 +149,17 @@ pub fn asked_by<'a>(alloc: Global, words: &'a [String]) -> Result<Asked<'a>, Lin
 /// The program's command line.
 fn command<'a>(alloc: Global) -> Result<Command<'a>, OutOfMemory>
     ensures { IfOk result (λ c. app_of c ≡ cityed_command) }
+{
+    let explain = "Tell a fault with where it is and what to do, as is done on a terminal";
+    let check = "Run nothing, and tell all faults of the MODEL and the SCRIPTS as lines of JSON";
+    output_command(alloc)?
+        .arg(flag(alloc, EXPLAIN, explain))?
+        .arg(flag(alloc, CHECK, check))
+}
+
+/// The command line without the options that say how faults are told.
+fn output_command<'a>(alloc: Global) -> Result<Command<'a>, OutOfMemory>
+    ensures { IfOk result (λ c. app_of c ≡ output_command) }
 {
     let atomic = "Write no model where a script is refused or out of memory, and end with status 3";
     run_command(alloc)?
@@ -199,7 +227,54 @@ fn output_option<'a>(alloc: Global) -> Arg<'a>
     value_option(alloc, OUTPUT, "FILE", help).short('o')
 }
 
-/// The options, by the texts of `--workers` and `--watch` and whether `--decimals` is given. A text
+/// With `--check` an option that only a run takes is refused.
+fn refuse_run_options<'a>(
+    alloc: Global,
+    command: &mut Command<'a>,
+    check: bool,
+    workers: Option<&str>,
+    watch: Option<&str>,
+    destination: Destination<'_>,
+) -> Result<(), LineFault>
+    ensures { MatchResult result
+        (λ _. check ≡ true → ¬ IsOfRun (option_map (λ s. s.now) workers.entry)
+        (option_map (λ s. s.now) watch.entry) destination.entry)
+        (λ _. (check ≡ true) × IsOfRun (option_map (λ s. s.now) workers.entry)
+        (option_map (λ s. s.now) watch.entry) destination.entry) }
+{
+    match of_run(workers, watch, destination) {
+        Some(message) if check => {
+            Err(mistake(alloc, command, ErrorKind::ArgumentConflict, message)?)
+        }
+        _ => Ok(()),
+    }
+}
+
+/// What is wrong with the first option that only a run takes, beside `--check`. `None` if there is none.
+fn of_run(
+    workers: Option<&str>,
+    watch: Option<&str>,
+    destination: Destination<'_>,
+) -> Option<&'static str>
+    ensures { MatchOption result
+        (¬ IsOfRun (option_map (λ s. s.now) workers.entry) (option_map (λ s. s.now) watch.entry) destination.entry)
+        (λ _. IsOfRun (option_map (λ s. s.now) workers.entry) (option_map (λ s. s.now) watch.entry)
+        destination.entry) }
+{
+    if workers.is_some() {
+        Some("--check runs nothing, and takes no --workers")
+    } else if watch.is_some() {
+        Some("--check runs nothing, and takes no --watch")
+    } else if destination.file.is_some() {
+        Some("--check writes no model, and takes no --output")
+    } else if destination.atomic {
+        Some("--check writes no model, and takes no --atomic")
+    } else {
+        None
+    }
+}
+
+/// The options, by the texts of `--workers` and `--watch` and whether `--decimals` and `--explain` are given. A text
 /// that is no number, or one outside the option's range, is refused.
 fn options_by<'a>(
     alloc: Global,
@@ -207,22 +282,30 @@ fn options_by<'a>(
     workers: Option<&str>,
     watch: Option<&str>,
     decimals: bool,
+    explain: bool,
 ) -> Result<Options, LineFault>
     ensures { MatchResult result (AreOptionsOf (option_map (λ s. s.now) workers.entry)
-        (option_map (λ s. s.now) watch.entry) decimals)
+        (option_map (λ s. s.now) watch.entry) decimals explain)
         (λ _. (options : _) → ¬ AreOptionsOf (option_map (λ s. s.now) workers.entry)
-        (option_map (λ s. s.now) watch.entry) decimals options) }
+        (option_map (λ s. s.now) watch.entry) decimals explain options) }
 {
+    let kind = ErrorKind::ValueValidation;
     let Some(workers) = count_by(workers, 1, MAX_WORKERS) else {
-        return Err(mistake(alloc, command, "--workers takes a number from 1 to 16")?);
+        return Err(mistake(
+            alloc,
+            command,
+            kind,
+            "--workers takes a number from 1 to 16",
+        )?);
     };
     let Some(viewers) = count_by(watch, 0, MAX_VIEWERS) else {
-        return Err(mistake(alloc, command, "--watch takes a number from 0 to 4")?);
+        return Err(mistake(alloc, command, kind, "--watch takes a number from 0 to 4")?);
     };
     Ok(Options {
         workers,
         viewers,
         decimals,
+        explain,
     })
 }
 
@@ -243,13 +326,14 @@ fn count_by(given: Option<&str>, least: usize, most: usize) -> Option<usize>
     }
 }
 
-/// The refusal of an option's value.
+/// The refusal of options or names.
 fn mistake<'a>(
     alloc: Global,
     command: &mut Command<'a>,
+    kind: ErrorKind,
     message: &str,
 ) -> Result<LineFault, OutOfMemory> {
-    let error = command.error(ErrorKind::ValueValidation, message)?;
+    let error = command.error(kind, message)?;
     Ok(LineFault::Refused(error.to_string(alloc)?))
 }
 
@@ -270,10 +354,27 @@ fn by_names<'a>(
         (None, _) => Ok(Asked::Input(options, destination)),
         (Some(_), None) => {
             let kind = ErrorKind::MissingRequiredArgument;
-            let error = command.error(kind, "a MODEL was given without SCRIPTS")?;
-            Err(LineFault::Refused(error.to_string(alloc)?))
+            Err(mistake(alloc, command, kind, "a MODEL was given without SCRIPTS")?)
         }
     }
+}
+
+/// What the names of files ask for with `--check`. A line without a model's is refused.
+fn by_checked_names<'a>(
+    alloc: Global,
+    command: &mut Command<'a>,
+    options: Options,
+    model: Option<&'a str>,
+    scripts: Option<&'a str>,
+) -> Result<Asked<'a>, LineFault>
+    ensures { AnswersCheckedPlaces options (option_map (λ s. s.now) model.entry)
+        (option_map (λ s. s.now) scripts.entry) result }
+{
+    let Some(model) = model else {
+        let kind = ErrorKind::MissingRequiredArgument;
+        return Err(mistake(alloc, command, kind, "--check takes a MODEL")?);
+    };
+    Ok(Asked::Check(options, model, scripts))
 }
 
 /// What a command line asks for that gives no names: help or the version, or it is refused.

@@ -9,6 +9,8 @@ pub struct Options {
     pub viewers: usize,
     /// Whether numbers of any form are taken, and given back as they were written.
     pub decimals: bool,
+    /// Whether a fault is told with where it is and what to do.
+    pub explain: bool,
 }
 
 /// Where the output of a run goes, and whether all of it does.

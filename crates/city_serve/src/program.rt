@@ -163,6 +163,7 @@ fn answer<T: Threads + Wait + Sync, G: Gate + Sync, F: OutputFiles, R: Read, W: 
         asked.now) }
 {
     match asked {
+        Asked::Check(..) => Err(ServeFault::Read),
         Asked::Text(text) => {
             if !write_output(output, text.as_bytes()) {
                 return Err(ServeFault::Write);

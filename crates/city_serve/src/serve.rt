@@ -57,6 +57,7 @@ pub fn serve<T: Threads + Wait + Sync, R: Read, W: Write>(
         workers,
         viewers,
         decimals: false,
+        explain: false,
     };
     serve_input(rt, alloc, &OpenGate, FIXED_SEED, reader, writer, options)
 }

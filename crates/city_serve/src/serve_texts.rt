@@ -48,6 +48,7 @@ pub fn serve_texts<R: Threads + Wait + Sync, W: Write>(
         workers,
         viewers,
         decimals: false,
+        explain: false,
     };
     serve_owned(
         rt, alloc, &OpenGate, FIXED_SEED, document, scripts, writer, options,

@@ -53,6 +53,7 @@ pub fn served<R: Threads + Wait + Sync, G: Gate + Sync>(
         workers,
         viewers,
         decimals: false,
+        explain: false,
     };
     let mut written = Vec::new(alloc);
     let mut writer = Device::new(&mut written);

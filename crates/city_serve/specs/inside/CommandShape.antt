@@ -1,5 +1,5 @@
 -- The command line as clap is told of it, and what its names ask for.
-use Rattle.std.specs.Prelude.{ℕ, true, List, [], codes, Option, Some, None, Result, IsErr}
+use Rattle.std.specs.Prelude.{◌≡◌, ◌≢◌, ◌⊎◌, ℕ, true, List, [], codes, Option, Some, None, Result, IsErr}
 use Rattle.std.specs.Result.{IsOkAnd}
 use Rattle.clap.specs.Words.{App, Rule, new_rule, with_rule}
 use Rattle.clap.specs.Simple.{new_shape}
@@ -8,7 +8,8 @@ use Rattle.city_serve.specs.declared.command_line.Asked.{Asked}
 use Rattle.city_serve.specs.declared.command_line.LineFault.{LineFault}
 use Rattle.city_serve.specs.declared.options.Destination.{Destination}
 use Rattle.city_serve.specs.declared.options.Options.{Options}
-use Rattle.city_serve.specs.CommandLines.{IsAskedFiles, IsAskedInput}
+use Rattle.city_serve.specs.CommandLines.{IsAskedCheck, IsAskedFiles, IsAskedInput}
+use Rattle.city_serve.specs.RunOptions.{file_of}
 
 -- the command as clap is told of it, without its options: two names of files, and beside help a version
 abbrev pub files_command : App
@@ -34,9 +35,18 @@ run_command =
     with_rule (with_rule (with_rule files_command (flag_rule (codes "decimals"))) (option_rule (codes "workers")))
     (option_rule (codes "watch"))
 
+-- with those that say where output goes
+abbrev pub output_command : App
+output_command = with_rule (with_rule run_command output_rule) (flag_rule (codes "atomic"))
+
 -- the command with all its options
 abbrev pub cityed_command : App
-cityed_command = with_rule (with_rule run_command output_rule) (flag_rule (codes "atomic"))
+cityed_command = with_rule (with_rule output_command (flag_rule (codes "explain"))) (flag_rule (codes "check"))
+
+-- the texts of --workers and --watch, or the destination, are of an option that only a run takes
+abbrev pub IsOfRun : Option (List ℕ) → Option (List ℕ) → Destination → Type 0
+IsOfRun workers watch destination =
+    (workers ≢ None) ⊎ (watch ≢ None) ⊎ (file_of destination ≢ None) ⊎ (destination.atomic ≡ true)
 
 -- the files that names in their two places ask for
 abbrev pub AnswersPlaces : Options → Destination → Option (List ℕ) → Option (List ℕ) → Result Asked LineFault → Type 0
@@ -44,3 +54,8 @@ AnswersPlaces options destination (Some model) (Some scripts) r =
     IsOkAnd r (IsAskedFiles options destination model scripts)
 AnswersPlaces options destination (Some model) None r = IsErr r
 AnswersPlaces options destination None scripts r = IsOkAnd r (IsAskedInput options destination)
+
+-- the check that names in their two places ask for
+abbrev pub AnswersCheckedPlaces : Options → Option (List ℕ) → Option (List ℕ) → Result Asked LineFault → Type 0
+AnswersCheckedPlaces options (Some model) scripts r = IsOkAnd r (IsAskedCheck options model scripts)
+AnswersCheckedPlaces options None scripts r = IsErr r
