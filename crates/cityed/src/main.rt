@@ -12,12 +12,14 @@
 use city_crew::OpenGate;
 use city_serve::command_line::LineFault;
 use city_serve::{Device, RuntimeFiles, drawn_seed, refuse_line, run_program};
-use std::io::ErrorKind;
+use std::io::{ErrorKind, IsTerminal};
 use std::process::ExitCode;
 use std::{env, io};
 
 fn main(rt: HostRuntime) -> ExitCode {
-    let mut errors = Device::new(rt.stderr());
+    let errors = rt.stderr();
+    let terminal = errors.is_terminal();
+    let mut errors = Device::new(errors);
     let status = match words(&rt) {
         Ok(words) => run_program(
             &rt,
@@ -29,6 +31,7 @@ fn main(rt: HostRuntime) -> ExitCode {
             &mut Device::new(rt.reader()),
             &mut Device::new(io::writer(&rt)),
             &mut errors,
+            terminal,
         ),
         Err(fault) => refuse_line(rt.alloc(), &fault, &mut errors),
     };
