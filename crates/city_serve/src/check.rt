@@ -1,9 +1,10 @@
 //! Tells all faults of a model and of scripts, and runs nothing.
 
-ghost use Rattle.std.specs.Prelude.{◌≡◌, ◌⊎◌, true, List, ℕ, option_map, IfOk, IfErr};
+ghost use Rattle.std.specs.Prelude.{◌≡◌, ◌⊎◌, true, List, ℕ, option_map, IfOk, IfErr, OnOk};
 ghost use Rattle.std.specs.Io.KnownBytes.{Appends, Keeps};
 ghost use Rattle.city_serve.specs.declared.fault.ServeFault.{ServeFault};
-ghost use Rattle.city_serve.specs.Checks.{AreCheckLines, AreModelLines, AreScriptsLines, HasLines, OfFiles};
+ghost use Rattle.city_serve.specs.Checks.{AreCheckLines, AreModelLines, AreScriptsLines, HasLines, IsJudged};
+ghost use Rattle.city_serve.specs.Checks.{OfFiles};
 ghost use Rattle.city_serve.specs.Served.{IsDeviceFault};
 ghost use Rattle.city_serve.specs.ServedTexts.{AppendsSome};
 
@@ -64,25 +65,20 @@ fn all_lines<F: TextFiles>(
 {
     texts.document = Text::given(files.read(model)?);
     let mut lines = document_lines(alloc, decimals, &mut texts.document)?;
-    if let Some(scripts) = scripts {
-        texts.scripts = Text::given(files.read(scripts)?);
-        let more = scripts_lines(alloc, decimals, &mut texts.scripts)?;
-        lines.extend_from_slice(more.as_slice())?;
-    }
+    let Some(scripts) = scripts else {
+        return Ok(lines);
+    };
+    texts.scripts = Text::given(files.read(scripts)?);
+    let more = scripts_lines(alloc, decimals, &mut texts.scripts)?;
+    lines.extend_from_slice(more.as_slice())?;
     Ok(lines)
 }
 
 /// The lines of all faults of a document, which is let go.
-fn document_lines(
-    alloc: Global,
-    decimals: bool,
-    text: &mut Text,
-) -> Result<Vec<u8>, OutOfMemory>
+fn document_lines(alloc: Global, decimals: bool, text: &mut Text) -> Result<Vec<u8>, OutOfMemory>
     ensures { IfOk result (λ v. AreModelLines decimals text.old.bytes.items v.items) }
 {
-    if decimals {
-        encode_text(alloc, text)?;
-    }
+    judge(alloc, decimals, text)?;
     let lines = check_document(alloc, text.bytes.as_slice(), text.is_given())?;
     text.let_go(alloc);
     Ok(lines)
@@ -92,10 +88,19 @@ fn document_lines(
 fn scripts_lines(alloc: Global, decimals: bool, text: &mut Text) -> Result<Vec<u8>, OutOfMemory>
     ensures { IfOk result (λ v. AreScriptsLines decimals text.old.bytes.items v.items) }
 {
-    if decimals {
-        encode_text(alloc, text)?;
-    }
+    judge(alloc, decimals, text)?;
     let lines = check_scripts(alloc, text.bytes.as_slice(), text.is_given())?;
     text.let_go(alloc);
     Ok(lines)
+}
+
+/// Makes a text the one that is judged: where numbers of any form are taken what a run is given of it.
+fn judge(alloc: Global, decimals: bool, text: &mut Text) -> Result<(), OutOfMemory>
+    ensures { OnOk result (IsJudged decimals text.old.bytes.items text.new.bytes.items) }
+{
+    if decimals {
+        encode_text(alloc, text)
+    } else {
+        Ok(())
+    }
 }
