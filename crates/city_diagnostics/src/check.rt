@@ -1,8 +1,17 @@
 //! All faults of a text, a line for each.
+ghost use Rattle.std.specs.Prelude.{◌≡◌, ◌⊎◌, [], List, IfOk, string_bytes};
+ghost use Rattle.city_doc.specs.declared.fault.ReadFault as fault;
+ghost use Rattle.city_doc.specs.document.Accepted.{IsAccepted};
+ghost use Rattle.city_doc.specs.document.AllFaults.{AreFaultsOf};
+ghost use Rattle.city_doc.specs.document.Faults.{DocumentFault};
+ghost use Rattle.city_diagnostics.specs.Lines.{AreLinesOf, FirstLineIs, IsLineOf};
+ghost use Rattle.city_diagnostics.specs.ModelLines.{Tells};
+
 use crate::document::Document;
 use crate::line::document_line;
 use crate::text::{TextFault, text_diagnostic};
-use city_doc::{ReadFault, faults_of};
+use crate::tree::tree_of;
+use city_doc::{ReadFault, ScriptFault, faults_of};
 use city_model::OutOfMemory;
 use serde_json::Value;
 use std::alloc::Global;
@@ -10,22 +19,89 @@ use std::alloc::Global;
 /// A line of JSON for each fault of a document, in the order of the faults' numbers and then of the ids.
 ///
 /// `is_given` says that the text is the one that was given, and not an encoded one.
-pub fn check_document(alloc: Global, text: &[u8], is_given: bool) -> Result<Vec<u8>, OutOfMemory> {
-    let mut lines = Vec::new(alloc);
+pub fn check_document(alloc: Global, text: &[u8], is_given: bool) -> Result<Vec<u8>, OutOfMemory>
+    ensures lines { IfOk result (λ lines. (faults : List fault.ReadFault)
+        × AreFaultsOf text.now faults × AreLinesOf Tells faults lines.items) }
+    ensures accepted { IfOk result (λ lines. lines.items ≡ [] → IsAccepted text.now) }
+    ensures none { IsAccepted text.now → IfOk result (λ lines. lines.items ≡ []) }
+
+    // The first line tells a fault that `read_city` answers, and any that it answers but out of memory.
+    ensures first { IfOk result (λ lines. (lines.items ≡ [])
+        ⊎ ((f : fault.ReadFault) × DocumentFault text.now f × FirstLineIs (Tells f) lines.items)) }
+    ensures answered { IfOk result (λ lines. (f : fault.ReadFault) → DocumentFault text.now f
+        → (f ≡ ReadFault.OutOfMemory) ⊎ FirstLineIs (Tells f) lines.items) }
+{
     let faults = faults_of(alloc, text)?;
-    let tree = Value::from_slice(alloc, text).unwrap_or(Value::Null);
+    let lines = document_lines(alloc, text, is_given, faults.as_slice())?;
+    Ok(lines)
+}
+
+/// The lines of these faults of a document.
+fn document_lines(
+    alloc: Global,
+    text: &[u8],
+    is_given: bool,
+    faults: &[ReadFault],
+) -> Result<Vec<u8>, OutOfMemory>
+    ensures { IfOk result (λ lines. AreLinesOf Tells faults.now lines.items) }
+{
+    let mut lines = Vec::new(alloc);
+    let tree = tree_for(alloc, text, faults.first().and_then(text_fault_of))?;
     let document = Document::new(alloc, &tree)?;
-    for fault in &faults {
-        let diagnostic = match fault {
-            ReadFault::TooLong => text_diagnostic(alloc, text, is_given, TextFault::TooLong)?,
-            ReadFault::NotJson => text_diagnostic(alloc, text, is_given, TextFault::NotJson)?,
-            ReadFault::NotWhole => text_diagnostic(alloc, text, is_given, TextFault::NotWhole)?,
-            _ => document.diagnostic(alloc, fault)?,
-        };
-        let line = document_line(alloc, fault, diagnostic)?;
+    for fault in faults {
+        let line = line_of(alloc, text, is_given, &document, fault)?;
         lines.extend_from_slice(line.as_bytes())?;
     }
     Ok(lines)
+}
+
+/// The line of a fault of a text, or of the document that it is.
+fn line_of(
+    alloc: Global,
+    text: &[u8],
+    is_given: bool,
+    document: &Document<'_>,
+    fault: &ReadFault,
+) -> Result<String, OutOfMemory>
+    ensures { IfOk result (λ line. IsLineOf (Tells fault.now) (string_bytes line)) }
+{
+    let diagnostic = match text_fault_of(fault) {
+        Some(text_fault) => text_diagnostic(alloc, text, is_given, text_fault)?,
+        None => document.diagnostic(alloc, fault)?,
+    };
+    document_line(alloc, fault, diagnostic)
+}
+
+/// The tree of a text, in which faults are looked up; `null` for a fault of the text itself, which stands alone.
+pub fn tree_for(
+    alloc: Global,
+    text: &[u8],
+    fault: Option<TextFault>,
+) -> Result<Value, OutOfMemory> {
+    match fault {
+        None => tree_of(alloc, text),
+        Some(_) => Ok(Value::Null),
+    }
+}
+
+/// A document's fault, where it is one that any text may have.
+pub fn text_fault_of(fault: &ReadFault) -> Option<TextFault> {
+    match fault {
+        ReadFault::TooLong => Some(TextFault::TooLong),
+        ReadFault::NotJson => Some(TextFault::NotJson),
+        ReadFault::NotWhole => Some(TextFault::NotWhole),
+        _ => None,
+    }
+}
+
+/// A fault of scripts, where it is one that any text may have.
+pub fn script_text_fault_of(fault: &ScriptFault) -> Option<TextFault> {
+    match fault {
+        ScriptFault::TooLong => Some(TextFault::TooLong),
+        ScriptFault::NotJson => Some(TextFault::NotJson),
+        ScriptFault::NotWhole => Some(TextFault::NotWhole),
+        _ => None,
+    }
 }
 
 /// A line of JSON for each fault of a text of scripts, in the order of the faults' numbers, and then of the script and

@@ -1,24 +1,69 @@
 //! One fault, told to a person.
+mod shown;
+
+use crate::check::{script_text_fault_of, text_fault_of, tree_for};
+use crate::diagnostic::Diagnostic;
+use crate::document::Document;
+use crate::explain::shown::add_shown;
+use crate::script::script_diagnostic;
+use crate::text::text_diagnostic;
 use city_doc::{ReadFault, ScriptFault};
 use city_model::OutOfMemory;
 use std::alloc::Global;
 
-/// Where a fault of a document is, what is wrong and what to do: indented lines, each with its newline.
+/// Where a fault of a document is, what is wrong and what to do: indented lines, each with its newline. `is_given` says
+/// that the text is the one that was given, and not an encoded one.
+///
+/// The texts that a fault names are shown as JSON texts, and nothing in them can steer a terminal.
 pub fn explain_document(
     alloc: Global,
-    _text: &[u8],
-    _is_given: bool,
-    _fault: &ReadFault,
+    text: &[u8],
+    is_given: bool,
+    fault: &ReadFault,
 ) -> Result<String, OutOfMemory> {
-    Ok(String::new(alloc))
+    let text_fault = text_fault_of(fault);
+    let tree = tree_for(alloc, text, text_fault)?;
+    let document = Document::new(alloc, &tree)?;
+    let diagnostic = match text_fault {
+        Some(fault) => text_diagnostic(alloc, text, is_given, fault)?,
+        None => document.diagnostic(alloc, fault)?,
+    };
+    explained(alloc, &diagnostic)
 }
 
 /// The same of a fault of scripts.
 pub fn explain_scripts(
     alloc: Global,
-    _text: &[u8],
-    _is_given: bool,
-    _fault: &ScriptFault,
+    text: &[u8],
+    is_given: bool,
+    fault: &ScriptFault,
 ) -> Result<String, OutOfMemory> {
-    Ok(String::new(alloc))
+    let text_fault = script_text_fault_of(fault);
+    let tree = tree_for(alloc, text, text_fault)?;
+    let diagnostic = match text_fault {
+        Some(fault) => text_diagnostic(alloc, text, is_given, fault)?,
+        None => script_diagnostic(alloc, &tree, fault)?,
+    };
+    explained(alloc, &diagnostic)
+}
+
+/// The lines of what is told, each where there is something to tell.
+fn explained(alloc: Global, diagnostic: &Diagnostic) -> Result<String, OutOfMemory> {
+    let mut lines = String::new(alloc);
+    add_line(&mut lines, "where", diagnostic.place.as_str())?;
+    add_line(&mut lines, "what", diagnostic.message.as_str())?;
+    add_line(&mut lines, "cure", diagnostic.cure)?;
+    Ok(lines)
+}
+
+fn add_line(lines: &mut String, name: &str, words: &str) -> Result<(), OutOfMemory> {
+    if words.is_empty() {
+        return Ok(());
+    }
+    lines.push_str("  ")?;
+    lines.push_str(name)?;
+    lines.push_str(": ")?;
+    add_shown(lines, words)?;
+    lines.push_str("\n")?;
+    Ok(())
 }

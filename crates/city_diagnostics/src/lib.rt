@@ -5,6 +5,7 @@
 //! - `diagnostic`: what is told of one fault; `details`: the members of its line beside what the fault names
 //! - `text`: faults of any text; `document`: those of a document's top and objects; `script`: those of scripts
 //! - `shape`: where in an object's geometry a fault is
+//! - `tree`: the tree of a text; `path`: a path to one of its values; `quoted`: a text as a JSON text
 #![tactic(auto)]
 
 mod check;
@@ -13,9 +14,12 @@ mod diagnostic;
 mod document;
 mod explain;
 mod line;
+mod path;
+mod quoted;
 mod script;
 mod shape;
 mod text;
+mod tree;
 
 pub use check::{check_document, check_scripts};
 pub use explain::{explain_document, explain_scripts};

@@ -1,7 +1,27 @@
 //! What is told of the faults that any text may have.
+mod form;
+mod fraction;
+mod numeral;
+
 use crate::diagnostic::Diagnostic;
+use crate::path::path_text;
+use crate::text::form::TextForm;
+use crate::text::fraction::path_to_fraction;
+use crate::text::numeral::numeral_at;
+use crate::tree::tree_of;
 use city_model::OutOfMemory;
+use serde_json::{Error, Value};
 use std::alloc::Global;
+
+const SPLIT: &str = "Split it into smaller texts.";
+const REPAIR: &str = "Repair the text: JSON in UTF-8 that nests no deeper than 127.";
+const RESTORE: &str = "Restore it, and name the output by --output: a redirect onto the model empties it first.";
+const WITHOUT_MARK: &str = "Save it in UTF-8 without a byte order mark.";
+const AS_UTF8: &str = "Save it in UTF-8.";
+const DECIMALS: &str = "Give --decimals, which takes numbers of any form and keeps their digits.";
+
+/// The greatest length of a number that stands in a message.
+const SHOWN: usize = 40;
 
 /// A fault of a text that no tree of whole numbers can be read from.
 #[derive(Clone, Copy, PartialEq, Eq)]
@@ -14,9 +34,123 @@ pub enum TextFault {
 /// What is told of such a fault of a text. Where the text isn't the given one but was encoded, places in it aren't told.
 pub fn text_diagnostic(
     alloc: Global,
-    _text: &[u8],
-    _is_given: bool,
-    _fault: TextFault,
+    text: &[u8],
+    is_given: bool,
+    fault: TextFault,
 ) -> Result<Diagnostic, OutOfMemory> {
-    Ok(Diagnostic::new(alloc))
+    let mut diagnostic = Diagnostic::new(alloc);
+    match fault {
+        TextFault::TooLong => {
+            let message = "The text has more than 67,108,864 bytes.".to_string(alloc)?;
+            diagnostic.tell(message, SPLIT);
+        }
+        TextFault::NotJson => match TextForm::of(text) {
+            Some(form) => tell_form(alloc, form, &mut diagnostic)?,
+            None => tell_not_json(alloc, text, is_given, &mut diagnostic)?,
+        },
+        TextFault::NotWhole => tell_fraction(alloc, text, &mut diagnostic)?,
+    }
+    Ok(diagnostic)
+}
+
+/// Says what form a text has that isn't JSON.
+fn tell_form(
+    alloc: Global,
+    form: TextForm,
+    diagnostic: &mut Diagnostic,
+) -> Result<(), OutOfMemory> {
+    diagnostic.details.text("form", form.name())?;
+    let (message, cure) = match form {
+        TextForm::Empty => ("The text is empty.", RESTORE),
+        TextForm::ByteOrderMark => (
+            "The text begins with a byte order mark, which isn't JSON.",
+            WITHOUT_MARK,
+        ),
+        TextForm::Utf16 => (
+            "The text is in UTF-16, and JSON is read in UTF-8.",
+            AS_UTF8,
+        ),
+    };
+    diagnostic.tell(message.to_string(alloc)?, cure);
+    Ok(())
+}
+
+/// Says why a text isn't JSON, and where reading it stopped.
+fn tell_not_json(
+    alloc: Global,
+    text: &[u8],
+    is_given: bool,
+    diagnostic: &mut Diagnostic,
+) -> Result<(), OutOfMemory> {
+    match Value::from_slice(alloc, text) {
+        Ok(_tree) => {
+            diagnostic.tell("The text isn't JSON.".to_string(alloc)?, REPAIR);
+            Ok(())
+        }
+        Err(error) if error.is_memory() => Err(OutOfMemory),
+        Err(error) => tell_error(alloc, &error, is_given, diagnostic),
+    }
+}
+
+/// Tells an error of the reader of JSON.
+fn tell_error(
+    alloc: Global,
+    error: &Error,
+    is_given: bool,
+    diagnostic: &mut Diagnostic,
+) -> Result<(), OutOfMemory> {
+    let shown = error.to_string(alloc)?;
+    let (reason, _) = shown
+        .as_str()
+        .split_once(" at line ")
+        .unwrap_or((shown.as_str(), ""));
+    diagnostic.details.text("reason", reason)?;
+    let (line, column) = (error.line(), error.column());
+    if is_given && line > 0 {
+        diagnostic.details.number("line", line)?;
+        diagnostic.details.number("column", column)?;
+        let place = format!(in alloc; "line {line}, column {column}")?;
+        diagnostic.narrow(place.as_str())?;
+    }
+    let message = if error.is_eof() {
+        "The text isn't JSON: it ends too early."
+    } else if reason == "number out of range" {
+        "The text can't be read: a number in it is too large."
+    } else {
+        "The text isn't JSON."
+    };
+    diagnostic.tell(message.to_string(alloc)?, REPAIR);
+    Ok(())
+}
+
+/// Says which number isn't a whole number of 64 bits, and where it is.
+fn tell_fraction(
+    alloc: Global,
+    text: &[u8],
+    diagnostic: &mut Diagnostic,
+) -> Result<(), OutOfMemory> {
+    let tree = tree_of(alloc, text)?;
+    let steps = path_to_fraction(alloc, &tree)?;
+    let path = path_text(alloc, steps.as_slice())?;
+    diagnostic.details.text("path", path.as_str())?;
+    diagnostic.narrow(path.as_str())?;
+    let value = numeral_at(alloc, text, steps.as_slice())?;
+    let message = match value {
+        Some(value) => {
+            diagnostic.details.text("value", value.as_str())?;
+            fraction_message(alloc, value.as_str())?
+        }
+        None => fraction_message(alloc, "")?,
+    };
+    diagnostic.tell(message, DECIMALS);
+    Ok(())
+}
+
+fn fraction_message(alloc: Global, value: &str) -> Result<String, OutOfMemory> {
+    let message = if value.is_empty() || value.len() > SHOWN {
+        "A number isn't a whole number of 64 bits.".to_string(alloc)?
+    } else {
+        format!(in alloc; "The number {value} isn't a whole number of 64 bits.")?
+    };
+    Ok(message)
 }

@@ -1,6 +1,12 @@
 -- What the proofs of several functions of src/script/ use.
+mod AllFaults
 pub mod CommandLists
 mod CommandMeanings
+mod ExampleFaults
+mod FaultlessScripts
 mod FirstAt
 mod FirstFaults
+mod FirstOfAll
+mod ItemParts
 mod Meanings
+mod Told

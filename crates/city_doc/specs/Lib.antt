@@ -1,3 +1,4 @@
+pub mod FaultLists
 pub mod FaultTexts
 pub mod Outputs
 pub mod Pool

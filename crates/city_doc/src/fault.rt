@@ -1,9 +1,12 @@
 //! Why a text is refused, and how that is told: by number, name and what the fault names, texts as JSON texts.
+ghost use Rattle.std.specs.Prelude.{◌≡◌, [], ◌∷◌, IfOk};
+
 mod quoted;
 
 use city_model::OutOfMemory;
 use city_model::text::{Id, Text};
 use quoted::Quoted;
+use std::alloc::Global;
 use std::error::Error;
 use std::fmt::{self, Display, Formatter, Write};
 
@@ -59,6 +62,15 @@ pub enum ScriptFault {
     BadCommand(usize, usize),
     /// In this script, this command names a vertex that isn't there.
     BadVertex(usize, usize),
+}
+
+/// A list of one fault.
+pub fn alone<F: Drop>(alloc: Global, fault: F) -> Result<Vec<F>, OutOfMemory>
+    ensures { IfOk result (λ faults. faults.items ≡ fault ∷ []) }
+{
+    let mut faults = Vec::new(alloc);
+    faults.push(fault)?;
+    Ok(faults)
 }
 
 impl Display for ReadFault {

@@ -29,4 +29,5 @@ pub use document::write::{append_city, write_city};
 pub use fault::{ReadFault, ScriptFault};
 pub use pool::{FIXED_SEED, VertexPool};
 pub use report::write::{seeded_report, write_report};
+pub use script::all_faults::script_faults_of;
 pub use script::read::read_scripts;

@@ -6,6 +6,7 @@ use crate::check::play_check;
 use crate::command_line::CommandLines;
 use crate::core_steps::play_core;
 use crate::crew::{Told, play_crews};
+use crate::diagnostics::{play_explain, play_lines};
 use crate::document::play_document;
 use crate::faults::Faults;
 use crate::members::play_members;
@@ -84,6 +85,8 @@ fn play_text(
         "members" => play_members(alloc, rest, text, answer),
         "tokens" => play_tokens(alloc, rest, text, answer),
         "check" => play_check(alloc, rest, text, answer),
+        "lines" => play_lines(alloc, rest, text, answer),
+        "explain" => play_explain(alloc, rest, text, answer),
         "core" => play_core(alloc, text, lines, answer),
         _ => answer.add_line("no such verb of one text"),
     }

@@ -11,16 +11,17 @@ use Rattle.std.specs.Prelude.{IfSome}
 use Rattle.city_tokens.specs.tree.Texts.{IsTooLong, IsNoJson, HasTree, HasOtherNumber}
 use Rattle.city_doc.specs.declared.fault.ReadFault.TheVariants.{OutOfMemory, TooLong, NotJson}
 use Rattle.city_doc.specs.document.Accepted.{IsAccepted}
-use Rattle.city_doc.specs.document.AllFaults.{StandsAt, IsFaultOfTree, IsFaultOf, IsListed, IsBefore}
+use Rattle.city_doc.specs.FaultLists.{IsListed}
+use Rattle.city_doc.specs.document.AllFaults.{StandsAt, IsFaultOfTree, IsFaultOf, IsBefore}
 use Rattle.city_doc.specs.document.AllFaults.{AreThose, AreFaultsOf, id_of}
 use Rattle.city_doc.specs.document.Faults.{DocumentFault, rank_of}
 use Rattle.city_doc.specs.object.Faults.{unsupported_name}
 use Rattle.std.proofs.lemmas.Cmp.{tied_itself}
-use Rattle.city_doc.proofs.OneValue.{one_tree}
 use Rattle.city_doc.proofs.document.LawfulTrees.{stands_for, none_at}
 use Rattle.city_doc.proofs.document.Order.{in_among}
 use Rattle.city_doc.proofs.document.Right.{some_of}
-use Rattle.city_doc.proofs.document.Told.{those_alike, one_alone, none_there, before_rest}
+use Rattle.city_doc.proofs.FaultLists.{those_alike, one_alone, none_there, before_rest, those_of_text}
+use Rattle.city_doc.proofs.FaultLists.{long_alone, unread_alone}
 
 -- ---- from the objects to the text
 
@@ -60,28 +61,15 @@ wrong_alone d name shown fs integral wrong same is = rw (is, same)
 
 pub of_text : (text : List ℕ) (d : Data) (fs : List ReadFault) → HasTree text d → AreThose (IsFaultOfTree d) fs
     → AreFaultsOf text fs
-of_text text d fs tree h = those_alike _ _ fs (λ f k. inr (inr (d, tree, k))) from h
-  where
-    from : (f : ReadFault) → IsFaultOf text f → IsFaultOfTree d f
-    from f (inl k) = absurd (let long = k.1 in let short = tree.0 in omega arith)
-    from f (inr (inl k)) = absurd (k.1.1 d tree.1)
-    from f (inr (inr k)) = subst (λ e. IsFaultOfTree e f) (one_tree text k.0 d k.1.1 tree.1) k.2
+of_text text d fs tree h = those_of_text TooLong NotJson IsFaultOfTree text d fs tree h
 
 pub too_long_alone : (text : List ℕ) → IsTooLong text → AreFaultsOf text (TooLong ∷ [])
-too_long_alone text long = one_alone (IsFaultOf text) TooLong (inl (refl, long)) only
-  where
-    only : (f : ReadFault) → IsFaultOf text f → f ≡ TooLong
-    only f (inl k) = k.0
-    only f (inr (inl k)) = absurd (let short = k.1.0 in omega arith)
-    only f (inr (inr k)) = absurd (let short = k.1.0 in omega arith)
+too_long_alone text long =
+    one_alone (IsFaultOf text) TooLong (inl (refl, long)) (long_alone TooLong NotJson IsFaultOfTree text long)
 
 pub no_json_alone : (text : List ℕ) → IsNoJson text → AreFaultsOf text (NotJson ∷ [])
-no_json_alone text none = one_alone (IsFaultOf text) NotJson (inr (inl (refl, none))) only
-  where
-    only : (f : ReadFault) → IsFaultOf text f → f ≡ NotJson
-    only f (inl k) = absurd (let long = k.1 in let short = none.0 in omega arith)
-    only f (inr (inl k)) = k.0
-    only f (inr (inr k)) = absurd (none.1 k.0 k.1.1)
+no_json_alone text none = one_alone (IsFaultOf text) NotJson (inr (inl (refl, none)))
+    (unread_alone TooLong NotJson IsFaultOfTree text none)
 
 only_fraction : (d : Data) → is_integral d ≡ false → (f : ReadFault) → IsFaultOfTree d f → f ≡ NotWhole
 only_fraction d other NotWhole h = refl
@@ -139,7 +127,7 @@ least_told : (P : ReadFault → Type 0) (f : ReadFault) (fs : List ReadFault) �
     → P g → IsBefore g f → ⊥
 least_told P f fs h g k before = elim (h.all g k) [
   | inl same ↦ not_before_itself f (subst (λ g. IsBefore g f) same before)
-  | inr later ↦ not_both f g (before_rest f g fs h.in_order later) before
+  | inr later ↦ not_both f g (before_rest IsBefore f g fs h.in_order later) before
 ]
 
 module _ (d : Data) (f : ReadFault) (least : (g : ReadFault) → IsFaultOfTree d g → IsBefore g f → ⊥) where

@@ -17,7 +17,8 @@ use Rattle.city_doc.specs.inside.document.Told.{told, only_where, unknown_type, 
 use Rattle.city_doc.specs.inside.document.Told.{bad_vertex, bad_ring, relations, open_shell, body_there}
 use Rattle.city_doc.specs.inside.document.Told.{misrelated_there}
 use Rattle.city_doc.specs.object.Faults.{unsupported_name}
-use Rattle.city_doc.proofs.document.Told.{IsFound, Finds, StandsBelow, told_too, those_alike, none_there}
+use Rattle.city_doc.proofs.FaultLists.{those_alike, none_there}
+use Rattle.city_doc.proofs.document.Told.{IsFound, Finds, StandsBelow, told_too}
 
 where_some : (b : Bool) (g f : ReadFault) → only_where b g ≡ Some f → (b ≡ true) × (g ≡ f)
 where_some b g f h = grind arith
@@ -232,8 +233,8 @@ module _ (points : List Point) (ms : Members) (o : AreOrdered ms) where
 
   pub told_all : (m : CityMap) → m ≡ built → AreThose (StandsAt points ms) (all_told m)
   told_all m same = rw same (
-      let none = none_there (StandsBelow points ms o 5) none_low in
-      let a = told_too points ms o 5 unknown_type [] finds_unknown_type none in
+      let a = told_too points ms o 5 unknown_type [] finds_unknown_type
+      (none_there (StandsBelow points ms o 5) none_low) in
       let b = told_too points ms o 6 unsupported _ finds_unsupported a in
       let c = told_too points ms o 7 bad_geometry _ finds_bad_geometry b in
       let d = told_too points ms o 8 (bad_vertex (length points)) _ finds_bad_vertex c in

@@ -4,68 +4,12 @@ use Rattle.std.specs.declared.cmp.Ordering.TheVariants.{Greater}
 use Rattle.city_doc.proofs.Prelude.{Less, Equal, nat_cmp, is_eq, refl, sym, ap, subst, ◌∙◌, arith, slice_cmp}
 use Rattle.city_doc.proofs.Prelude.{AllByRecursion, same_id_true, Data, Members, no_members, member}
 use Rattle.city_doc.proofs.Prelude.{get_member, AreOrdered, AllAbove, Point, ReadFault}
-use Rattle.city_doc.specs.document.AllFaults.{StandsAt, IsListed, IsBefore, AreInOrder, AreThose, id_of}
+use Rattle.city_doc.specs.FaultLists.{IsListed, AreOrderedBy}
+use Rattle.city_doc.specs.document.AllFaults.{StandsAt, IsBefore, AreThose, id_of}
 use Rattle.city_doc.specs.document.Faults.{rank_of}
 use Rattle.city_doc.specs.inside.document.Told.{told, with_found}
+use Rattle.city_doc.proofs.FaultLists.{all_listed, those_alike, those_or}
 use Rattle.city_doc.proofs.document.Searches.{here, there, found_above}
-
--- ---- lists
-
-pub all_listed : (P : ReadFault → Type 0) (fs : List ReadFault) → ((f : ReadFault) → IsListed fs f → P f)
-    → AllByRecursion P fs
-all_listed P [] h = tt
-all_listed P (f ∷ fs) h = (h f (inl refl), all_listed P fs (λ g k. h g (inr k)))
-
-listed_all : (P : ReadFault → Type 0) (fs : List ReadFault) (f : ReadFault) → AllByRecursion P fs → IsListed fs f → P f
-listed_all P [] f h k = absurd k
-listed_all P (g ∷ gs) f h (inl same) = subst P (sym same) h.0
-listed_all P (g ∷ gs) f h (inr k) = listed_all P gs f h.1 k
-
-pub before_rest : (f g : ReadFault) (fs : List ReadFault) → AreInOrder (f ∷ fs) → IsListed fs g → IsBefore f g
-before_rest f g fs h k = listed_all (IsBefore f) fs g h.0 k
-
-listed_parts : (fs gs : List ReadFault) (f : ReadFault) → IsListed (fs ++ gs) f → IsListed fs f ⊎ IsListed gs f
-listed_parts [] gs f h = inr h
-listed_parts (g ∷ fs) gs f (inl same) = inl (inl same)
-listed_parts (g ∷ fs) gs f (inr h) = elim (listed_parts fs gs f h) [ inl k ↦ inl (inr k) | inr k ↦ inr k ]
-
-listed_first : (fs gs : List ReadFault) (f : ReadFault) → IsListed fs f → IsListed (fs ++ gs) f
-listed_first [] gs f h = absurd h
-listed_first (g ∷ fs) gs f (inl same) = inl same
-listed_first (g ∷ fs) gs f (inr h) = inr (listed_first fs gs f h)
-
-listed_last : (fs gs : List ReadFault) (f : ReadFault) → IsListed gs f → IsListed (fs ++ gs) f
-listed_last [] gs f h = h
-listed_last (g ∷ fs) gs f h = inr (listed_last fs gs f h)
-
-all_append : (P : ReadFault → Type 0) (fs gs : List ReadFault) → AllByRecursion P fs → AllByRecursion P gs
-    → AllByRecursion P (fs ++ gs)
-all_append P [] gs h k = k
-all_append P (f ∷ fs) gs h k = (h.0, all_append P fs gs h.1 k)
-
-in_order_append : (fs gs : List ReadFault) → AreInOrder fs → AreInOrder gs
-    → ((f g : ReadFault) → IsListed fs f → IsListed gs g → IsBefore f g) → AreInOrder (fs ++ gs)
-in_order_append [] gs h k between = k
-in_order_append (f ∷ fs) gs h k between = (
-  all_append (IsBefore f) fs gs h.0 (all_listed (IsBefore f) gs (λ g. between f g (inl refl))),
-  in_order_append fs gs h.1 k (λ e g first. between e g (inr first)),
-)
-
--- those for which one thing holds are those for which the other does
-pub those_alike : (P Q : ReadFault → Type 0) (fs : List ReadFault) → ((f : ReadFault) → P f → Q f)
-    → ((f : ReadFault) → Q f → P f) → AreThose P fs → AreThose Q fs
-those_alike P Q fs to from h =
-    record { stand = λ f k. to f (h.stand f k); all = λ f k. h.all f (from f k); in_order = h.in_order }
-
-pub one_alone : (P : ReadFault → Type 0) (f : ReadFault) → P f → ((g : ReadFault) → P g → g ≡ f) → AreThose P (f ∷ [])
-one_alone P f h only = record {
-  stand = λ g k. elim k [ inl same ↦ subst P (sym same) h | inr none ↦ absurd none ];
-  all = λ g k. inl (only g k);
-  in_order = (tt, tt);
-}
-
-pub none_there : (P : ReadFault → Type 0) → ((f : ReadFault) → P f → ⊥) → AreThose P []
-none_there P none = record { stand = λ f k. absurd k; all = none; in_order = tt }
 
 -- ---- what is found at the objects
 
@@ -113,7 +57,7 @@ module _ (find : List ℕ → Data → Option ReadFault) where
 
   told_in_order : (n : ℕ) (ms : Members) → AreOrdered ms
       → ((id : List ℕ) (d : Data) (f : ReadFault) → find id d ≡ Some f → (rank_of f ≡ n) × (id_of f ≡ id))
-      → AreInOrder (told find ms)
+      → AreOrderedBy IsBefore (told find ms)
   told_in_order n no_members o shape = tt
   told_in_order n (member k d ms) o shape = by (find k d) (told_in_order n ms o.1 shape) refl
     where
@@ -124,7 +68,7 @@ module _ (find : List ℕ → Data → Option ReadFault) where
           let other = shape at.0 at.1 f at.3 in
           inr (one.0 ∙ sym other.0, rw (one.1, other.1) (found_above k at.0 ms at.1 o.0 at.2))
 
-      by : (r : Option ReadFault) → AreInOrder (told find ms) → find k d ≡ r → AreInOrder (with_found r (told find ms))
+      by : (r : Option ReadFault) → AreOrderedBy IsBefore (told find ms) → find k d ≡ r → AreOrderedBy IsBefore (with_found r (told find ms))
       by None rest is = rest
       by (Some g) rest is = (all_listed (IsBefore g) (told find ms) (above g is), rest)
 
@@ -153,19 +97,19 @@ module _ (points : List Point) (ms : Members) (o : AreOrdered ms) where
 
   pub told_too : (n : ℕ) (find : List ℕ → Data → Option ReadFault) (fs : List ReadFault) → Finds n find
       → AreThose (StandsBelow n) fs → AreThose (StandsBelow (suc n)) (fs ++ told find ms)
-  told_too n find fs finds h =
-      let k = all_told find n ms o finds.shape in
-      let rank : (f : ReadFault) → IsFound find ms f → rank_of f ≡ n =
-      λ f at. (finds.shape at.0 at.1 f at.3).0 in
-      record {
-        stand = λ f there. elim (listed_parts fs (told find ms) f there) [
-          | inl first ↦ let s = h.stand f first in (s.0, omega (arith, s.1))
-          | inr last ↦ let at = k.stand f last in (finds.stands f at, omega (arith, rank f at))
-        ];
-        all = λ f s. elim (lower_or_same (rank_of f) n s.1) [
-          | inl low ↦ listed_first fs (told find ms) f (h.all f (s.0, low))
-          | inr same ↦ listed_last fs (told find ms) f (k.all f (finds.found f s.0 same))
-        ];
-        in_order = in_order_append fs (told find ms) h.in_order k.in_order
-            (λ f g first last. inl (let s = h.stand f first in omega (arith, s.1, rank g (k.stand g last))));
-      }
+  told_too n find fs finds h = those_alike (λ f. StandsBelow n f ⊎ IsFound find ms f) (StandsBelow (suc n)) _ to from
+      (those_or (StandsBelow n) (IsFound find ms) fs (told find ms) (λ f g s at. inl (omega (arith, s.1, rank g at)))
+      h (all_told find n ms o finds.shape))
+    where
+      rank : (f : ReadFault) → IsFound find ms f → rank_of f ≡ n
+      rank f at = (finds.shape at.0 at.1 f at.3).0
+
+      to : (f : ReadFault) → StandsBelow n f ⊎ IsFound find ms f → StandsBelow (suc n) f
+      to f (inl s) = (s.0, omega (arith, s.1))
+      to f (inr at) = (finds.stands f at, omega (arith, rank f at))
+
+      from : (f : ReadFault) → StandsBelow (suc n) f → StandsBelow n f ⊎ IsFound find ms f
+      from f s = elim (lower_or_same (rank_of f) n s.1) [
+        | inl low ↦ inl (s.0, low)
+        | inr same ↦ inr (finds.found f s.0 same)
+      ]

@@ -1,6 +1,5 @@
 -- All faults of a document's text, each at the id that it names, and their order.
-use Rattle.std.specs.Prelude.{◌≡◌, ◌⊎◌, ◌<◌, ◌&&◌, not, ℕ, List, [], ◌∷◌, Bool, true, false, Some, None, length}
-use Rattle.std.specs.List.{AllByRecursion}
+use Rattle.std.specs.Prelude.{◌≡◌, ◌⊎◌, ◌<◌, ◌&&◌, not, ℕ, List, [], Bool, true, false, Some, None, length}
 use Rattle.std.specs.declared.cmp.Ordering.TheVariants.{Less}
 use Rattle.std.specs.Ordering.{nat_cmp}
 use Rattle.std.specs.Cmp.Lexicographic.{slice_cmp}
@@ -12,6 +11,7 @@ use Rattle.city_doc.specs.declared.fault.ReadFault.TheVariants.{OutOfMemory, Too
 use Rattle.city_doc.specs.declared.fault.ReadFault.TheVariants.{NotCityJson, UnknownType, Unsupported}
 use Rattle.city_doc.specs.declared.fault.ReadFault.TheVariants.{BadGeometry, BadVertex, BadRing, Relations}
 use Rattle.city_doc.specs.declared.fault.ReadFault.TheVariants.{OpenShell}
+use Rattle.city_doc.specs.FaultLists.{AreAll}
 use Rattle.city_doc.specs.document.CityFaults.{has_bad_ring, has_open_shell, IsBadlyRelatedAt}
 use Rattle.city_doc.specs.document.Faults.{objects_in, vertices_in, unsupported_at, rank_of}
 use Rattle.city_doc.specs.document.Least.{Has}
@@ -76,22 +76,9 @@ abbrev pub IsBefore : ReadFault → ReadFault → Type 0
 IsBefore f g =
     (rank_of f < rank_of g) ⊎ ((rank_of f ≡ rank_of g) × (slice_cmp nat_cmp (id_of f) (id_of g) ≡ Less))
 
--- each is before all that come after it
-abbrev pub AreInOrder : List ReadFault → Type 0
-AreInOrder [] = Unit {0}
-AreInOrder (f ∷ fs) = AllByRecursion (IsBefore f) fs × AreInOrder fs
-
--- ---- lists of them
-
-abbrev pub IsListed : List ReadFault → ReadFault → Type 0
-IsListed [] f = ⊥
-IsListed (g ∷ gs) f = (f ≡ g) ⊎ IsListed gs f
-
 -- those for which it holds, each once, in order
-pub record AreThose (P : ReadFault → Type 0) (faults : List ReadFault) : Type 0 where
-  pub stand : (f : ReadFault) → IsListed faults f → P f
-  pub all : (f : ReadFault) → P f → IsListed faults f
-  pub in_order : AreInOrder faults
+abbrev pub AreThose : (ReadFault → Type 0) → List ReadFault → Type 0
+AreThose P faults = AreAll IsBefore P faults
 
 -- all faults of the text, each once, in order
 abbrev pub AreFaultsOf : List ℕ → List ReadFault → Type 0

@@ -2,3 +2,4 @@
 pub mod Faultless
 pub mod Forms
 pub mod Searches
+pub mod Told

@@ -1,5 +1,5 @@
 //! Finds all faults of a document.
-ghost use Rattle.std.specs.Prelude.{◌≡◌, ◌⊎◌, [], ◌∷◌, true, List, ℕ, Some, IfOk, slice_get};
+ghost use Rattle.std.specs.Prelude.{◌≡◌, ◌⊎◌, [], true, List, ℕ, Some, IfOk, slice_get};
 ghost use Rattle.serde_json.specs.View.{view, members_view};
 ghost use Rattle.city_model.specs.CityMap.{found_in};
 ghost use Rattle.city_model.specs.Integral.{is_integral};
@@ -20,7 +20,7 @@ use crate::document::faults::objects_in;
 use crate::document::indexed::{IndexedObject, IndexedObjects};
 use crate::document::read::lawful_city;
 use crate::document::top::wrong_member;
-use crate::fault::ReadFault;
+use crate::fault::{ReadFault, alone};
 use crate::shape::vertices::vertices_in;
 use crate::tree::parse::{TextFault, parse};
 use crate::tree::values::named;
@@ -60,15 +60,6 @@ fn all_faults(alloc: Global, bytes: &[u8]) -> Result<Vec<ReadFault>, OutOfMemory
         Ok(tree) => tree_faults(alloc, &tree),
         Err(fault) => text_faults(alloc, fault),
     }
-}
-
-/// One fault.
-fn alone(alloc: Global, fault: ReadFault) -> Result<Vec<ReadFault>, OutOfMemory>
-    ensures { IfOk result (λ faults. faults.items ≡ fault ∷ []) }
-{
-    let mut faults = Vec::new(alloc);
-    faults.push(fault)?;
-    Ok(faults)
 }
 
 /// The fault of a text that has no tree of whole numbers.

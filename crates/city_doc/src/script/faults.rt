@@ -62,7 +62,7 @@ fn item_count(value: &Value) -> usize
 }
 
 /// How many vertices a script has.
-fn vertex_count(form: &ScriptForm) -> usize
+pub fn vertex_count(form: &ScriptForm) -> usize
     ensures { result ≡ vertex_count (option_map view form.now.vertices) }
 {
     match &form.vertices {

@@ -1,0 +1,4 @@
+pub mod Prelude
+pub mod OneLine
+pub mod Lines
+pub mod Heads

@@ -1,0 +1,42 @@
+-- Lines behind one another.
+use Rattle.city_diagnostics.proofs.Prelude.{◌≡◌, ◌++◌, ◌∷◌, List, ℕ, [], refl, append-nil, append_assoc, ap, ◌∙◌, sym}
+use Rattle.city_diagnostics.proofs.Prelude.{AreLinesOf, IsLineOf, FirstLineIs, Data, Some, None, slice_get, object}
+use Rattle.city_diagnostics.proofs.Prelude.{compact_text, ◌+◌, ◌<◌, ◌≤◌, arith, length}
+use Rattle.std.proofs.lemmas.List.{length-append}
+
+-- a line more
+pub one_more : {F : Type 0} (tells : F → Data → Type 0) (fs : List F) (f : F) (lines line : List ℕ)
+    → AreLinesOf tells fs lines → IsLineOf (tells f) line → AreLinesOf tells (fs ++ f ∷ []) (lines ++ line)
+one_more tells [] f lines line before this =
+    (line, [], this, refl, ap (λ (s : List ℕ). s ++ line) before ∙ sym (append-nil line))
+one_more tells (g ∷ fs) f lines line before this =
+    (before.0, before.1 ++ line, before.2, one_more tells fs f before.1 line before.3 this,
+        ap (λ (s : List ℕ). s ++ line) before.4 ∙ append_assoc before.0 before.1 line)
+
+never_empty : (text rest : List ℕ) → (text ++ 10 ∷ []) ++ rest ≡ [] → ⊥
+never_empty text rest e =
+    let long : length ((text ++ 10 ∷ []) ++ rest) ≡ 0 = ap length e in
+    let parts = simp length-append at long in absurd (omega arith)
+
+-- where there is no line, there is no fault
+pub no_line : {F : Type 0} (tells : F → Data → Type 0) (fs : List F) (lines : List ℕ)
+    → AreLinesOf tells fs lines → lines ≡ [] → fs ≡ []
+no_line tells [] lines told empty = refl
+no_line tells (f ∷ fs) lines told empty =
+    let line = told.2 in
+    absurd (never_empty (compact_text (object line.0)) told.1
+        (ap (λ (s : List ℕ). s ++ told.1) (sym line.2.has_its_text) ∙ sym told.4 ∙ empty))
+
+-- where there is no fault, there is no line
+pub no_fault : {F : Type 0} (tells : F → Data → Type 0) (fs : List F) (lines : List ℕ)
+    → AreLinesOf tells fs lines → fs ≡ [] → lines ≡ []
+no_fault tells [] lines told empty = told
+no_fault tells (f ∷ fs) lines told empty = absurd (cc)
+
+-- the first line tells the first fault
+pub first_line : {F : Type 0} (tells : F → Data → Type 0) (fs : List F) (lines : List ℕ) (f : F)
+    → AreLinesOf tells fs lines → slice_get fs 0 ≡ Some f → FirstLineIs (tells f) lines
+first_line tells [] lines f told first = absurd (cc)
+first_line tells (g ∷ fs) lines f told first =
+    let same : g ≡ f = cc in
+    (told.0, told.1, subst (λ h. IsLineOf (tells h) told.0) same told.2, told.4)

@@ -1,0 +1,36 @@
+-- The members that each fault's line has, put over its details.
+use Rattle.std.specs.Prelude.{ℕ, List, codes}
+use Rattle.serde_json.specs.Data.{Members, put, string, number, unsigned}
+use Rattle.city_doc.specs.declared.fault.ReadFault.{ReadFault}
+use Rattle.city_doc.specs.declared.fault.ReadFault.TheVariants.{OutOfMemory, TooLong, NotJson, NotWhole}
+use Rattle.city_doc.specs.declared.fault.ReadFault.TheVariants.{NotCityJson, UnknownType, Unsupported}
+use Rattle.city_doc.specs.declared.fault.ReadFault.TheVariants.{BadGeometry, BadVertex, BadRing, Relations}
+use Rattle.city_doc.specs.declared.fault.ReadFault.TheVariants.{OpenShell}
+
+-- with what is wrong and what to do
+abbrev pub with_words : List ℕ → List ℕ → Members → Members
+with_words message cure ms = put (codes "cure") (string cure) (put (codes "message") (string message) ms)
+
+-- with the text that the fault stands in, its number and its name
+abbrev pub with_head : List ℕ → ℕ → List ℕ → Members → Members
+with_head kind n name ms =
+    put (codes "fault") (string name)
+    (put (codes "number") (number (unsigned n)) (put (codes "text") (string kind) ms))
+
+abbrev pub with_id : List ℕ → Members → Members
+with_id id ms = put (codes "id") (string id) ms
+
+-- with what the fault names
+abbrev pub with_named : ReadFault → Members → Members
+with_named OutOfMemory ms = ms
+with_named TooLong ms = ms
+with_named NotJson ms = ms
+with_named NotWhole ms = ms
+with_named (NotCityJson member) ms = put (codes "member") (string member) ms
+with_named (UnknownType id) ms = with_id id ms
+with_named (Unsupported id name) ms = put (codes "name") (string name) (with_id id ms)
+with_named (BadGeometry id) ms = with_id id ms
+with_named (BadVertex id) ms = with_id id ms
+with_named (BadRing id) ms = with_id id ms
+with_named (Relations id) ms = with_id id ms
+with_named (OpenShell id) ms = with_id id ms

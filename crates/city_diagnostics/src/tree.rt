@@ -1,0 +1,17 @@
+//! The tree of a text.
+use city_model::OutOfMemory;
+use serde_json::Value;
+use std::alloc::Global;
+
+/// The tree of a text; `null` where the text isn't JSON. It fails only when out of memory.
+pub fn tree_of(alloc: Global, text: &[u8]) -> Result<Value, OutOfMemory> {
+    match Value::from_slice(alloc, text) {
+        Ok(tree) => Ok(tree),
+        Err(error) => {
+            if error.is_memory() {
+                return Err(OutOfMemory);
+            }
+            Ok(Value::Null)
+        }
+    }
+}
