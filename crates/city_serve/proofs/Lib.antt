@@ -1,4 +1,3 @@
-mod Checked
 pub mod EnoughRead
 pub mod FoundOptions
 pub mod Given

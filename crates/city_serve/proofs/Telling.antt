@@ -5,11 +5,10 @@ use Rattle.city_serve.proofs.Prelude.{Appends, Keeps, Asked, ServeFault, seen_te
 use Rattle.std.proofs.Common.{get_or}
 use Rattle.std.proofs.lemmas.List.{drop_more}
 use Rattle.city_serve.specs.declared.program.Status.{Status}
-use Rattle.city_serve.specs.declared.options.Options.{Options}
 use Rattle.city_serve.specs.FaultTexts.{fault_text}
-use Rattle.city_serve.specs.Programs.{Streams, IsAnswered, IsChecked, IsTold, IsToldFault, IsUnanswered, is_explained}
+use Rattle.city_serve.specs.Programs.{Streams, IsAnswered, IsTold, IsToldFault, IsUnanswered, is_explained}
 use Rattle.city_serve.specs.Programs.{seen_lines}
-use Rattle.city_serve.specs.inside.Telling.{IsToldAfter, IsFaultText, IsFound, IsAnsweredAs, run_status, check_status}
+use Rattle.city_serve.specs.inside.Telling.{IsToldAfter, IsFaultText, IsFound, IsAnsweredAs}
 use Rattle.city_serve.proofs.KnownBytes.{appends_more}
 
 -- the lines of the first viewers, where all that was written came in
@@ -59,18 +58,18 @@ module _ (terminal : Bool) (s : Streams) (told telling : Option (List ℕ)) (mut
   found (Asked.Text text) status seen is lines = absurd is
 
   module _ (asked : Asked) where
-    ends_so : (done : Status) (withheld : Bool) (status : Status) (seen : List (Vec ℕ))
+    ends_so : (ending : Status) (withheld : Bool) (status : Status) (seen : List (Vec ℕ))
         → IsAnswered s asked seen withheld
-        → (IsTold told telling mute (seen_lines 0 seen) → EndsAsked terminal asked done s told telling mute)
-        → IsSeenTold done status told telling mute seen → EndsAsked terminal asked status s told telling mute
-    ends_so done withheld status seen answered ends (inl lines) =
+        → (IsTold told telling mute (seen_lines 0 seen) → EndsAsked terminal asked ending s told telling mute)
+        → IsSeenTold ending status told telling mute seen → EndsAsked terminal asked status s told telling mute
+    ends_so ending withheld status seen answered ends (inl lines) =
         subst (λ status. EndsAsked terminal asked status s told telling mute) (sym lines.0) (ends lines.1)
-    ends_so done withheld status seen answered ends (inr failed) =
+    ends_so ending withheld status seen answered ends (inr failed) =
         subst (λ status. EndsAsked terminal asked status s told telling mute) (sym failed.0)
         (inr (seen, withheld, answered))
 
-    pub ends_told : (done status : Status) (seen : List (Vec ℕ)) → IsAnsweredAs s asked seen done
-        → IsSeenTold done status told telling mute seen → EndsAsked terminal asked status s told telling mute
+    pub ends_told : (ending status : Status) (seen : List (Vec ℕ)) → IsAnsweredAs s asked seen ending
+        → IsSeenTold ending status told telling mute seen → EndsAsked terminal asked status s told telling mute
     ends_told Status.Done status seen answered lines = ends_so Status.Done false status seen answered
         (λ told. record { seen = seen; answered = answered; seen_told = told }) lines
     ends_told Status.Withheld status seen answered lines = ends_so Status.Withheld true status seen answered
@@ -90,16 +89,3 @@ module _ (terminal : Bool) (s : Streams) (told telling : Option (List ℕ)) (mut
       line_is = told_fault (is_explained terminal asked) f behind text.0 none text.1;
       why = text.2.0;
     })
-
--- ---- with which status
-
-pub ran_as : (s : Streams) (asked : Asked) (seen : List (Vec ℕ)) (withheld : Bool) → IsAnswered s asked seen withheld
-    → IsAnsweredAs s asked seen (run_status withheld)
-ran_as s asked seen true answered = answered
-ran_as s asked seen false answered = answered
-
-pub checked_as : (s : Streams) (options : Options) (model : _) (scripts : _) (seen : List (Vec ℕ)) (faulty : Bool)
-    → seen ≡ [] → IsChecked s (Asked.Check options model scripts) faulty
-    → IsAnsweredAs s (Asked.Check options model scripts) seen (check_status faulty)
-checked_as s options model scripts seen true none is = (none, is)
-checked_as s options model scripts seen false none is = (none, refl, is)

@@ -2,9 +2,12 @@
 use Rattle.std.specs.Prelude.{◌≡◌, ◌≢◌, ℕ, Bool, true, false, List, [], ◌++◌, Option, Some, None, IfSome}
 use Rattle.city_doc.specs.declared.fault.ReadFault.{ReadFault}
 use Rattle.city_doc.specs.document.Accepted as model
+use Rattle.city_doc.specs.declared.fault.ScriptFault.{ScriptFault}
 use Rattle.city_doc.specs.document.AllFaults as model_faults
+use Rattle.city_doc.specs.script.AllFaults as script_faults
 use Rattle.city_diagnostics.specs.Lines.{AreLinesOf}
-use Rattle.city_diagnostics.specs.ModelLines as model_lines
+use Rattle.city_diagnostics.specs.ModelLines.{Tells}
+use Rattle.city_diagnostics.specs.ScriptLines.{TellsScript}
 use Rattle.city_serve.specs.Decimals.{IsGiven}
 use Rattle.city_serve.specs.Destinations.{Folder}
 
@@ -19,7 +22,7 @@ pub record AreModelLines (decimals : Bool) (text lines : List ℕ) : Type 0 wher
   pub judged_is : IsJudged decimals text judged
   pub faults : List ReadFault
   pub are_all : model_faults.AreFaultsOf judged faults
-  pub told : AreLinesOf model_lines.Tells faults lines
+  pub told : AreLinesOf Tells faults lines
   pub accepted : lines ≡ [] → model.IsAccepted judged
   pub none : model.IsAccepted judged → lines ≡ []
 
@@ -27,6 +30,11 @@ pub record AreModelLines (decimals : Bool) (text lines : List ℕ) : Type 0 wher
 pub record AreScriptsLines (decimals : Bool) (text lines : List ℕ) : Type 0 where
   pub judged : List ℕ
   pub judged_is : IsJudged decimals text judged
+  pub faults : List ScriptFault
+  pub are_all : script_faults.AreFaultsOf judged faults
+  pub told : AreLinesOf TellsScript faults lines
+  pub accepted : lines ≡ [] → script_faults.IsAccepted judged
+  pub none : script_faults.IsAccepted judged → lines ≡ []
 
 -- those of scripts where there are any
 abbrev pub AreLinesBehind : Bool → Option (List ℕ) → List ℕ → Type 0

@@ -141,7 +141,7 @@ fn run_asked<T: Threads + Wait + Sync, G: Gate + Sync, F: OutputFiles, R: Read, 
             let behind = behind_line(
                 alloc, terminal, &fault, asked, &texts, files, input, output,
             );
-            tell_fault(alloc, &fault, behind.as_str(), errors)
+            tell_fault(alloc, &fault, behind, errors)
         }
     }
 }
@@ -348,14 +348,14 @@ fn tell_memory<E: Write>(errors: &mut Device<E>) -> Status
 fn tell_fault<E: Write>(
     alloc: Global,
     fault: &ServeFault,
-    behind: &str,
+    behind: String,
     errors: &mut Device<E>,
 ) -> Status
     ensures status { result ≡ Status.Failed }
-    ensures told { (text : List ℕ) × IsFaultText fault.now behind.now text
+    ensures told { (text : List ℕ) × IsFaultText fault.now (string_bytes behind) text
         × IsToldAfter errors.old.1 (E.contents errors.old.0) (E.contents errors.new.0) errors.new.1 text }
 {
-    match ended_line(alloc, fault, behind) {
+    match ended_line(alloc, fault, behind.as_str()) {
         Ok(line) => tell(errors, line.as_str()),
         Err(OutOfMemory) => tell(errors, MEMORY_LINE),
     }

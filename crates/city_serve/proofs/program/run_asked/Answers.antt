@@ -1,4 +1,4 @@
-use Rattle.city_serve.proofs.Prelude.{◌∙◌, sym, subst, EndsAsked, IsSeenTold}
+use Rattle.city_serve.proofs.Prelude.{sym, subst, EndsAsked, IsSeenTold}
 use Rattle.city_serve.specs.Programs.{Streams}
 use Rattle.city_serve.proofs.Telling.{ends_told, ends_faulty}
 use Rattle.city_serve.proofs.program.run_asked.Goals as goal
@@ -32,5 +32,5 @@ returns-in-Err g c =
     subst (λ status. EndsAsked c.args.terminal c.args.asked.now status streams told telling mute)
     (sym c.tell_fault.ensures.status)
     (ends_faulty c.args.terminal streams told telling mute c.args.asked.now c.args.errors.now.1 c.in-Err.fault _
-    c.in-Err.ensures.fault (λ plain. c.as_str.ensures.value ∙ c.behind_line-behind.ensures plain)
+    c.in-Err.ensures.fault c.behind_line-behind.ensures
     c.tell_fault.ensures.told)
