@@ -1,5 +1,5 @@
 -- What standard error has got, line by line, and how the program ends with it.
-use Rattle.city_serve.proofs.Prelude.{◌≡◌, ◌≢◌, ◌<◌, ◌+◌, ℕ, Bool, false, List, [], ◌∷◌, ◌++◌, drop, length, Option, Some}
+use Rattle.city_serve.proofs.Prelude.{◌≡◌, ◌<◌, ◌+◌, ℕ, Bool, false, List, [], ◌∷◌, ◌++◌, drop, length, Option, Some}
 use Rattle.city_serve.proofs.Prelude.{None, true, inl, inr, refl, sym, ap, subst, ◌∙◌, append_assoc, append-nil, Vec}
 use Rattle.city_serve.proofs.Prelude.{Appends, Keeps, Asked, ServeFault, seen_text, EndsAsked, IsSeenTold}
 use Rattle.std.proofs.Common.{get_or}

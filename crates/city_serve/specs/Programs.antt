@@ -152,15 +152,16 @@ IsFoundFaulty (Asked.Check options model scripts) s told telling mute =
 IsFoundFaulty _ s told telling mute = ⊥
 
 -- it isn't done, and standard error has got why
-pub record IsFaulty (terminal : Bool) (asked : Asked) (s : Streams) (told telling : Option (List ℕ)) (mute : Bool) : Type 0 where
+pub record IsFaulty (terminal : Bool) (asked : Asked) (s : Streams) (told telling : Option (List ℕ)) (mute : Bool)
+    : Type 0 where
   pub fault : ServeFault
   pub unanswered : IsUnanswered s asked fault
   pub line : List ℕ
   pub line_is : IsToldFault (is_explained terminal asked) fault line
   pub why : IsTold told telling mute line
 
--- what holds at each status once it is known what is asked for, and whether standard error is a terminal: a fault is one of the answer, or of memory for
--- telling what viewers saw, when all is answered
+-- what holds at each status once it is known what is asked for, and whether standard error is a terminal: a fault is
+-- one of the answer, or of memory for telling what viewers saw, when all is answered
 abbrev pub EndsAsked : Bool → Asked → Status → Streams → Option (List ℕ) → Option (List ℕ) → Bool → Type 0
 EndsAsked terminal asked Status.Done s told telling mute = IsDone asked false s told telling mute
 EndsAsked terminal asked Status.Withheld s told telling mute = IsDone asked true s told telling mute
@@ -171,8 +172,8 @@ EndsAsked terminal asked Status.Failed s told telling mute =
 EndsAsked terminal asked Status.Refused s told telling mute = ⊥
 
 -- the words ask for it, and the status is that of what is asked for
-pub record EndsAnswered (terminal : Bool) (arguments : List (List ℕ)) (status : Status) (s : Streams) (told telling : Option (List ℕ))
-    (mute : Bool) : Type 0 where
+pub record EndsAnswered (terminal : Bool) (arguments : List (List ℕ)) (status : Status) (s : Streams)
+    (told telling : Option (List ℕ)) (mute : Bool) : Type 0 where
   pub asked : Asked
   pub asks : AsksFor arguments (Ok asked)
   pub ended : EndsAsked terminal asked status s told telling mute

@@ -33,7 +33,8 @@ pub(crate) fn check<F: TextFiles, W: Write>(
     scripts: Option<&str>,
     output: &mut Device<W>,
 ) -> Result<bool, ServeFault>
-    ensures checked { IfOk result (λ faulty. OfFiles (F.text files.now) model.now (option_map (λ s. s.now) scripts.entry)
+    ensures checked { IfOk result (λ faulty.
+        OfFiles (F.text files.now) model.now (option_map (λ s. s.now) scripts.entry)
         (λ document commands. (lines : List ℕ) × AreCheckLines decimals document commands lines
         × (HasLines faulty lines × Appends (W.contents output.old.0) (W.contents output.new.0) lines))) }
     ensures fault { IfErr result (λ f.

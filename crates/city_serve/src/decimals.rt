@@ -34,11 +34,13 @@ pub(crate) fn run_decimals<R: Threads + Wait + Sync, G: Gate + Sync>(
     options: Options,
 ) -> Result<Output, RunFault>
     requires { AreWithin options }
-    ensures ran { IfOk result (λ o. IsDecimalsRun texts.old.document.bytes.items texts.old.scripts.bytes.items o.ends o.bytes.items) }
+    ensures ran { IfOk result (λ o.
+        IsDecimalsRun texts.old.document.bytes.items texts.old.scripts.bytes.items o.ends o.bytes.items) }
     ensures in_turn { IfOk result (λ o. WhereAlone options.workers options.viewers (AreInTurn 0 o.ends)) }
     ensures seen { IfOk result (λ o. AreSeen options.viewers (commits_in o.ends) o.seen.items) }
     ensures cut { IfOk result (λ o. IsCutAt true o.ends o.bytes.items o.report) }
-    ensures fault { IfErr result (IsFaultOfDecimalsRun texts.old.document.bytes.items texts.old.scripts.bytes.items options.workers options.viewers) }
+    ensures fault { IfErr result (IsFaultOfDecimalsRun
+        texts.old.document.bytes.items texts.old.scripts.bytes.items options.workers options.viewers) }
 {
     encode_text(alloc, &mut texts.document)?;
     encode_text(alloc, &mut texts.scripts)?;

@@ -32,12 +32,14 @@ pub(crate) fn run<R: Threads + Wait + Sync, G: Gate + Sync>(
     options: Options,
 ) -> Result<Output, RunFault>
     requires { AreWithin options }
-    ensures ran { IfOk result (λ o. written_by options.decimals texts.old.document.bytes.items texts.old.scripts.bytes.items o.ends o.bytes.items) }
+    ensures ran { IfOk result (λ o. written_by options.decimals
+        texts.old.document.bytes.items texts.old.scripts.bytes.items o.ends o.bytes.items) }
     ensures in_turn { IfOk result (λ o. WhereAlone options.workers options.viewers (AreInTurn 0 o.ends)) }
     ensures seen { IfOk result (λ o. AreSeen options.viewers (commits_in o.ends) o.seen.items) }
     ensures cut { IfOk result (λ o. IsCutAt options.decimals o.ends o.bytes.items o.report) }
     ensures fault { IfErr result
-        (faults_by options.decimals texts.old.document.bytes.items texts.old.scripts.bytes.items options.workers options.viewers) }
+        (faults_by options.decimals
+        texts.old.document.bytes.items texts.old.scripts.bytes.items options.workers options.viewers) }
 {
     if options.decimals {
         run_decimals(rt, alloc, gate, seed, texts, options)
@@ -57,12 +59,14 @@ pub(crate) fn run_whole<R: Threads + Wait + Sync, G: Gate + Sync>(
     options: Options,
 ) -> Result<Output, RunFault>
     requires { AreWithin options }
-    ensures ran { IfOk result (λ o. IsRun texts.old.document.bytes.items texts.old.scripts.bytes.items o.ends o.bytes.items) }
+    ensures ran { IfOk result (λ o.
+        IsRun texts.old.document.bytes.items texts.old.scripts.bytes.items o.ends o.bytes.items) }
     ensures in_turn { IfOk result (λ o. WhereAlone options.workers options.viewers (AreInTurn 0 o.ends)) }
     ensures seen { IfOk result (λ o. AreSeen options.viewers (commits_in o.ends) o.seen.items) }
     ensures cut { IfOk result (λ o. IsCutAt false o.ends o.bytes.items o.report) }
     ensures report { IfOk result (λ o. o.report ≡ length (report_text o.ends)) }
-    ensures fault { IfErr result (IsFaultOfRun texts.old.document.bytes.items texts.old.scripts.bytes.items options.workers options.viewers) }
+    ensures fault { IfErr result (IsFaultOfRun
+        texts.old.document.bytes.items texts.old.scripts.bytes.items options.workers options.viewers) }
 {
     let (model, commands) = (texts.document.bytes.as_slice(), texts.scripts.bytes.as_slice());
     if options.workers == 1 && options.viewers == 0 {

@@ -115,11 +115,13 @@ pub fn serve_to<R: Threads + Wait + Sync, G: Gate + Sync, F: OutputFiles, W: Wri
     options: Options,
 ) -> Result<Delivered, ServeFault>
     requires { AreWithin options }
-    ensures delivered { IfOk result (λ d. IsDelivered destination.entry options texts.old.document.bytes.items texts.old.scripts.bytes.items
+    ensures delivered { IfOk result (λ d. IsDelivered destination.entry options
+        texts.old.document.bytes.items texts.old.scripts.bytes.items
         d.seen.items d.withheld (F.text files.old) (F.text files.new)
         (W.contents writer.old.0) (W.contents writer.new.0)) }
     ensures unfailed { OnOk result (writer.new.1 ≡ writer.old.1) }
-    ensures fault { IfErr result (IsDeliveryFault destination.entry options texts.old.document.bytes.items texts.old.scripts.bytes.items
+    ensures fault { IfErr result (IsDeliveryFault destination.entry options
+        texts.old.document.bytes.items texts.old.scripts.bytes.items
         (F.text files.old) (F.text files.new) (F.have_failed files.new)
         (W.contents writer.old.0) (W.contents writer.new.0) writer.new.1) }
 {

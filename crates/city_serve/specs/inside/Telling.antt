@@ -11,8 +11,8 @@ use Rattle.city_serve.specs.Programs.{Streams, IsAnswered, IsChecked, IsTold, se
 abbrev pub IsToldAfter : Bool → Option (List ℕ) → Option (List ℕ) → Bool → List ℕ → Type 0
 IsToldAfter failed_before old new failed text = IsTold old new failed text × (failed ≡ false → failed_before ≡ false)
 
--- where all viewers were told of, it has got their lines, and the status is that of what is done. That it isn't comes of
--- memory, and only where there are viewers
+-- where all viewers were told of, it has got their lines, and the status is that of what is done. That it isn't comes
+-- of memory, and only where there are viewers
 abbrev pub IsSeenTold : Status → Status → Option (List ℕ) → Option (List ℕ) → Bool → List (Vec ℕ) → Type 0
 IsSeenTold done status old new failed seen =
     ((status ≡ done) × IsTold old new failed (seen_lines 0 seen)) ⊎ ((status ≡ Status.Failed) × (seen ≢ []))
