@@ -5,7 +5,7 @@ use Rattle.city_serve.proofs.Prelude.{arith, Option, Some, None, is_some, refl, 
 use Rattle.city_serve.proofs.Prelude.{option_and_then, option_map_or, slice_get, bytes_eq, bytes_eq-Decides}
 use Rattle.city_serve.proofs.Prelude.{false_from_ne_true, Row, Text, Walk, first_of, nothing_held, one_of, settled}
 use Rattle.city_serve.proofs.Prelude.{walk_from, with_default, built, Kinds, or_else, settle_fault, UnknownArgument}
-use Rattle.city_serve.proofs.Prelude.{cityed_command, Atomic, Decimals, Flag, IsLineOf, Line, Output, Valued, Watch}
+use Rattle.city_serve.proofs.Prelude.{cityed_command, Atomic, Check, Decimals, Explain, Flag, IsLineOf, Line, Output, Valued, Watch}
 use Rattle.city_serve.proofs.Prelude.{Workers, ends, flag_name, gives_flag, gives_name, gives_output, gives_value}
 use Rattle.city_serve.proofs.Prelude.{value_name, empty_line}
 use Rattle.std.specs.Prelude.{option_map}
@@ -63,6 +63,8 @@ value_kind Output = refl
 flag_kind : (f : Flag) → kind (flag_name f) ≡ 0
 flag_kind Decimals = refl
 flag_kind Atomic = refl
+flag_kind Check = refl
+flag_kind Explain = refl
 
 apart : (a b : Text) (k l : ℕ) → kind a ≡ k → kind b ≡ l → k ≢ l → bytes_eq a b ≡ false
 apart a b k l is other differs = false_from_ne_true (bytes_eq a b) (λ same.
@@ -214,6 +216,8 @@ no_value_default Output = refl
 flag_default : (f : Flag) → option_and_then row_text (with_defaults (flag_name f) rules None) ≡ Some (codes "false")
 flag_default Decimals = refl
 flag_default Atomic = refl
+flag_default Check = refl
+flag_default Explain = refl
 
 flag_found : (f : Flag) (held : List Row) (b : Bool)
     → found (flag_name f) held ≡ cond b (Some (flag_row (flag_name f))) None
@@ -240,8 +244,37 @@ refused_all args refused = ap (ending (walk rules [] nothing_held args)) refused
 
 -- every flag's default is right in itself, and no other argument has one
 defaults_are_right : AreRight rules
-defaults_are_right =
-    (inl refl, (inl refl, (inr refl, (inl refl, (inl refl, (inl refl, (inr refl, (inl refl, (inl refl, tt)))))))))
+defaults_are_right = (
+  inl refl,
+  (
+    inl refl,
+    (
+      inr refl,
+      (
+        inl refl,
+        (
+          inl refl,
+          (
+            inl refl,
+            (
+              inr refl,
+              (
+                inr refl,
+                (
+                  inr refl,
+                  (
+                    inl refl,
+                    (inl refl, tt),
+                  ),
+                ),
+              ),
+            ),
+          ),
+        ),
+      ),
+    ),
+  ),
+)
 
 module _ {line : Line} {args : List Text} (is : IsLineOf line args) where
   abbrev held : List Row

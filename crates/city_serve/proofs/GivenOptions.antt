@@ -4,7 +4,7 @@ use Rattle.city_serve.proofs.Prelude.{subst, ap, ap₂, ◌∙◌, codes, arith,
 use Rattle.city_serve.proofs.Prelude.{option_map_or, bytes_eq, long_of, false_from_ne_true, nat_tests, Held, Row, Rule}
 use Rattle.city_serve.proofs.Prelude.{Text, Walk, has_row, idle, settled, walk_from, with_values, without, built, Kinds}
 use Rattle.city_serve.proofs.Prelude.{or_else, flag_word_fault, settle_fault, step_fault, UnknownArgument, Atomic}
-use Rattle.city_serve.proofs.Prelude.{Decimals, Flag, IsLineOf, IsName, Line, Output, Valued, Watch, Workers}
+use Rattle.city_serve.proofs.Prelude.{Check, Decimals, Explain, Flag, IsLineOf, IsName, Line, Output, Valued, Watch, Workers}
 use Rattle.city_serve.proofs.Prelude.{cityed_command, ends, flag_name, gives_flag, gives_name, gives_output}
 use Rattle.city_serve.proofs.Prelude.{gives_value, value_name}
 use Rattle.std.specs.Prelude.{◌==◌}
@@ -226,6 +226,10 @@ module _ (h : Held) (p : ℕ) (rows : List Row) (settles : settle_fault rules fa
       (ap₂ (λ (f g : Kinds). or_else (or_else f g) []) settles (use_free h rows are (codes "decimals") fresh), refl)
   flag_step Atomic fresh =
       (ap₂ (λ (f g : Kinds). or_else (or_else f g) []) settles (use_free h rows are (codes "atomic") fresh), refl)
+  flag_step Check fresh =
+      (ap₂ (λ (f g : Kinds). or_else (or_else f g) []) settles (use_free h rows are (codes "check") fresh), refl)
+  flag_step Explain fresh =
+      (ap₂ (λ (f g : Kinds). or_else (or_else f g) []) settles (use_free h rows are (codes "explain") fresh), refl)
 
 -- the letter for --output, where no flags of a bundle are to be passed over
 letter_at : (h : Held) (p : ℕ) (rows : List Row) (v : Text) → settle_fault rules false h ≡ []

@@ -3,8 +3,8 @@ use Rattle.city_serve.proofs.Prelude.{◌≡◌, ◌⊎◌, ℕ, Bool, true, fal
 use Rattle.city_serve.proofs.Prelude.{refl, sym, subst, ap, ◌∙◌, codes, ◌≢◌, if◌then◌else◌, IsErr, All, bytes_eq}
 use Rattle.city_serve.proofs.Prelude.{long_of, false_from_ne_true, bytes_eq-Decides, Held, Row, Text, idle}
 use Rattle.city_serve.proofs.Prelude.{nothing_held, walk_from, IsAmong, Kinds, or_else, flag_word_fault, step_fault}
-use Rattle.city_serve.proofs.Prelude.{OutOfMemory, UnknownArgument, ErrorKind, IsName, IsWantOfMemory, Atomic, Decimals}
-use Rattle.city_serve.proofs.Prelude.{Output, Watch, Workers}
+use Rattle.city_serve.proofs.Prelude.{OutOfMemory, UnknownArgument, ErrorKind, IsName, IsWantOfMemory, Atomic, Check}
+use Rattle.city_serve.proofs.Prelude.{Decimals, Explain, Output, Watch, Workers}
 use Rattle.clap.proofs.OnLiterals.{clap_on_literals}
 use Rattle.clap.specs.Walk.{arg_by_long, walked, word_met}
 use Rattle.clap.specs.Faults.{long_fault, walk_fault, word_fault}
@@ -37,6 +37,8 @@ module _ (option : Text) (unknown : IsUnknownOption option) where
         named_other (codes "watch") (unknown.no_value Watch),
         named_other (codes "output") (unknown.no_value Output),
         named_other (codes "atomic") (unknown.no_flag Atomic),
+        named_other (codes "explain") (unknown.no_flag Explain),
+        named_other (codes "check") (unknown.no_flag Check),
       ) refl
 
   option_refused : (h : Held) → word_fault top [] false idle option h ≡ UnknownArgument ∷ []

@@ -24,7 +24,8 @@ pub use Rattle.clap.specs.declared.error.kind.ErrorKind.{ErrorKind}
 pub use Rattle.clap.specs.declared.error.kind.ErrorKind.TheVariants.{OutOfMemory, UnknownArgument}
 pub use Rattle.city_decimals.specs.Lines.{AreDecodedLines}
 pub use Rattle.city_model.specs.declared.end.End.{End}
-pub use Rattle.city_serve.specs.CommandLines.{Atomic, Decimals, Flag, IsLineOf, IsName, IsWantOfMemory, Line, Output}
+pub use Rattle.city_serve.specs.CommandLines.{Atomic, Check, Decimals, Explain, Flag, IsLineOf, IsName}
+pub use Rattle.city_serve.specs.CommandLines.{IsWantOfMemory, Line, Output}
 pub use Rattle.city_serve.specs.CommandLines.{Valued, Watch, Workers, ends, flag_name, gives_flag, gives_name}
 pub use Rattle.city_serve.specs.CommandLines.{empty_line, gives_output, gives_value, value_name}
 pub use Rattle.city_serve.specs.Decimals.{faults_by, written_by}

@@ -1,15 +1,15 @@
 use Rattle.city_serve.proofs.Prelude.{◌≡◌, Bool, true, false, List, [], Option, Some, inr, ap, sym, subst, ◌∙◌, codes}
-use Rattle.city_serve.proofs.Prelude.{refl, map, drop, string_bytes, IsErr, Atomic, Decimals, Flag, Output, Valued}
-use Rattle.city_serve.proofs.Prelude.{Watch, Workers, flag_name, value_name, Destination}
+use Rattle.city_serve.proofs.Prelude.{refl, map, drop, string_bytes, IsErr, Atomic, Check, Decimals, Explain}
+use Rattle.city_serve.proofs.Prelude.{Flag, Output, Valued, Watch, Workers, flag_name, value_name, Destination}
 use Rattle.std.proofs.Common.{rules}
 use Rattle.clap.specs.Words.{App, HasKind, Text, fault_of, first_of, first_value, found_of, is_simple}
 use Rattle.clap.specs.Words.{is_simple_and_free, matches_of, one_of, one_text, rows_of}
 use Rattle.clap.specs.declared.parser.matches.Found.{Found}
 use Rattle.clap.proofs.WalkLemmas.{first_value-rows, one_text-rows}
 use Rattle.city_serve.proofs.FoundOptions.{fault, flag_text, rows}
-use Rattle.city_serve.proofs.LineAnswers.{Reads, answer_within, fault_answered, flag_by, names_answered, names_line}
-use Rattle.city_serve.proofs.LineAnswers.{no_options_found, options_found, short_answered, short_within, value_by}
-use Rattle.city_serve.proofs.LineAnswers.{want_is_err, wanting}
+use Rattle.city_serve.proofs.LineAnswers.{Reads, answer_within, check_found, check_within, fault_answered, flag_by}
+use Rattle.city_serve.proofs.LineAnswers.{names_answered, names_line, no_options_found, options_found, run_refused}
+use Rattle.city_serve.proofs.LineAnswers.{short_answered, short_within, value_by, want_is_err, wanting}
 use Rattle.city_serve.proofs.OtherOptions.{text_never_free, text_shown, unknown_is_mistake, unknown_never_free}
 use Rattle.city_serve.proofs.OtherOptions.{unknown_refused}
 use Rattle.city_serve.proofs.command_line.asked_by.Goals as goal
@@ -38,21 +38,25 @@ module _ (m : Found) (args : List Text) (are : rows_of m ≡ rows args) where
     flags_read = λ f given. flag_read (flag_name f) (has f) given (flags f);
   }
 
-  all_read : (workers watch output : Option Text) (decimals atomic : Bool) → fault args ≡ []
+  all_read : (workers watch output : Option Text) (decimals explain atomic check : Bool) → fault args ≡ []
       → workers ≡ first_value m (codes "workers") → watch ≡ first_value m (codes "watch")
       → output ≡ first_value m (codes "output") → IsFlagRead (codes "decimals") decimals
-      → IsFlagRead (codes "atomic") atomic → Reads (value_by workers watch output) (flag_by decimals atomic) args
-  all_read workers watch output decimals atomic free workers_is watch_is output_is decimals_is atomic_is =
-      options_read (value_by workers watch output) (flag_by decimals atomic) free values flags
+      → IsFlagRead (codes "explain") explain → IsFlagRead (codes "atomic") atomic → IsFlagRead (codes "check") check
+      → Reads (value_by workers watch output) (flag_by decimals explain atomic check) args
+  all_read workers watch output decimals explain atomic check free workers_is watch_is output_is decimals_is explain_is
+      atomic_is check_is =
+      options_read (value_by workers watch output) (flag_by decimals explain atomic check) free values flags
     where
       values : (o : Valued) → value_by workers watch output o ≡ first_value m (value_name o)
       values Workers = workers_is
       values Watch = watch_is
       values Output = output_is
 
-      flags : (f : Flag) → IsFlagRead (flag_name f) (flag_by decimals atomic f)
+      flags : (f : Flag) → IsFlagRead (flag_name f) (flag_by decimals explain atomic check f)
       flags Decimals = decimals_is
+      flags Explain = explain_is
       flags Atomic = atomic_is
+      flags Check = check_is
 
 pub returns-in_err-command : goal.returns-in_err-command
 returns-in_err-command c =
@@ -67,22 +71,56 @@ returns-in_err-command c =
       within = short_within answer short;
     }
 
-pub returns-in_err-options-in-Ok : goal.returns-in_err-options-in-Ok
-returns-in_err-options-in-Ok c =
+pub returns-in_err-refuse_run_options-in-Ok : goal.returns-in_err-refuse_run_options-in-Ok
+returns-in_err-refuse_run_options-in-Ok c =
     let words : List Text = map string_bytes c.args.words.now in
     let args : List Text = drop 1 words in
-    let answer = c.from_residual-in_err-options-in-Ok.result in
-    let wrong : IsErr answer = search rules in
     let command_is = c.in_ok-command.ensures in
     let are = (c.in-Ok.ensures.ok.2 (ap is_simple command_is)).0 ∙ ap (λ (a : App). matches_of a words) command_is in
     let free : fault args ≡ [] =
     sym (ap (λ (a : App). fault_of a words) command_is) ∙ c.in-Ok.ensures.kinds (ap is_simple_and_free command_is) in
-    let none = c.in_err-options-in-Ok.ensures in
     let decimals = c.get_flag-decimals in
+    let explain = c.get_flag-explain in
     let atomic = c.get_flag-atomic in
-    let reads = all_read (found_of c.in-Ok.matches) args are _ _ _ decimals.result atomic.result free
+    let check = c.get_flag-check in
+    let m = found_of c.in-Ok.matches in
+    let reads = all_read m args are _ _ _ decimals.result explain.result atomic.result check.result free
     c.get_str-workers.ensures c.get_str-watch.ensures c.get_str-file.ensures
-    (decimals.ensures.value, decimals.ensures.other) (atomic.ensures.value, atomic.ensures.other) in
+    (decimals.ensures.value, decimals.ensures.other) (explain.ensures.value, explain.ensures.other)
+    (atomic.ensures.value, atomic.ensures.other) (check.ensures.value, check.ensures.other) in
+    let to : Destination = record { file = c.get_str-file.result; atomic = atomic.result } in
+    let answer = c.from_residual-in_err-refuse_run_options-in-Ok.result in
+    let wrong : IsErr answer = search rules in
+    let run = c.in_err-refuse_run_options-in-Ok.ensures in
+    record {
+      names = λ named.
+          names_answered args answer (run_refused (names_line args named) answer reads to (refl, refl) run.0 run.1 wrong);
+      shown = λ word rest asks is. absurd (text_never_free args word rest asks is free);
+      unknown = λ met. wrong;
+      options = λ line is. run_refused is answer reads to (refl, refl) run.0 run.1 wrong;
+      within = search rules;
+    }
+
+pub returns-in_err-options-in-Ok : goal.returns-in_err-options-in-Ok
+returns-in_err-options-in-Ok c =
+    let words : List Text = map string_bytes c.args.words.now in
+    let args : List Text = drop 1 words in
+    let command_is = c.in_ok-command.ensures in
+    let are = (c.in-Ok.ensures.ok.2 (ap is_simple command_is)).0 ∙ ap (λ (a : App). matches_of a words) command_is in
+    let free : fault args ≡ [] =
+    sym (ap (λ (a : App). fault_of a words) command_is) ∙ c.in-Ok.ensures.kinds (ap is_simple_and_free command_is) in
+    let decimals = c.get_flag-decimals in
+    let explain = c.get_flag-explain in
+    let atomic = c.get_flag-atomic in
+    let check = c.get_flag-check in
+    let m = found_of c.in-Ok.matches in
+    let reads = all_read m args are _ _ _ decimals.result explain.result atomic.result check.result free
+    c.get_str-workers.ensures c.get_str-watch.ensures c.get_str-file.ensures
+    (decimals.ensures.value, decimals.ensures.other) (explain.ensures.value, explain.ensures.other)
+    (atomic.ensures.value, atomic.ensures.other) (check.ensures.value, check.ensures.other) in
+    let answer = c.from_residual-in_err-options-in-Ok.result in
+    let wrong : IsErr answer = search rules in
+    let none = c.in_err-options-in-Ok.ensures in
     record {
       names = λ named. names_answered args answer (no_options_found (names_line args named) answer reads none wrong);
       shown = λ word rest asks is. absurd (text_never_free args word rest asks is free);
@@ -91,35 +129,78 @@ returns-in_err-options-in-Ok c =
       within = search rules;
     }
 
-pub returns-in-Ok : goal.returns-in-Ok
-returns-in-Ok c =
+pub returns-then-check : goal.returns-then-check
+returns-then-check c =
     let words : List Text = map string_bytes c.args.words.now in
     let args : List Text = drop 1 words in
-    let answer = c.by_names.result in
     let command_is = c.in_ok-command.ensures in
     let are = (c.in-Ok.ensures.ok.2 (ap is_simple command_is)).0 ∙ ap (λ (a : App). matches_of a words) command_is in
     let free : fault args ≡ [] =
     sym (ap (λ (a : App). fault_of a words) command_is) ∙ c.in-Ok.ensures.kinds (ap is_simple_and_free command_is) in
     let decimals = c.get_flag-decimals in
+    let explain = c.get_flag-explain in
     let atomic = c.get_flag-atomic in
+    let check = c.get_flag-check in
     let m = found_of c.in-Ok.matches in
-    let reads = all_read m args are _ _ _ decimals.result atomic.result free
+    let reads = all_read m args are _ _ _ decimals.result explain.result atomic.result check.result free
     c.get_str-workers.ensures c.get_str-watch.ensures c.get_str-file.ensures
-    (decimals.ensures.value, decimals.ensures.other) (atomic.ensures.value, atomic.ensures.other) in
+    (decimals.ensures.value, decimals.ensures.other) (explain.ensures.value, explain.ensures.other)
+    (atomic.ensures.value, atomic.ensures.other) (check.ensures.value, check.ensures.other) in
+    let to : Destination = record { file = c.get_str-file.result; atomic = atomic.result } in
     let model_is = text_read m args are (codes "MODEL") _ c.get_str-model.ensures in
     let scripts_is = text_read m args are (codes "SCRIPTS") _ c.get_str-scripts.ensures in
     let options = c.in_ok-options-in-Ok.options in
-    let to : Destination = record { file = c.get_str-file.result; atomic = atomic.result } in
     let are_of = c.in_ok-options-in-Ok.ensures in
+    let answer = c.by_checked_names.result in
+    let checked = c.if-check.true in
+    let no_run = c.in_ok-refuse_run_options-in-Ok.ensures checked in
     record {
       names = λ named. names_answered args answer
-          (options_found (names_line args named) answer reads options to _ _ model_is scripts_is are_of (refl, refl)
-          c.by_names.ensures);
+          (check_found (names_line args named) answer reads to (refl, refl) options _ _ model_is scripts_is checked
+          are_of no_run c.by_checked_names.ensures);
       shown = λ word rest asks is. absurd (text_never_free args word rest asks is free);
       unknown = λ met. absurd (unknown_never_free args met free);
       options = λ line is.
-          options_found is answer reads options to _ _ model_is scripts_is are_of (refl, refl) c.by_names.ensures;
-      within = answer_within _ _ decimals.result _ _ options to answer are_of c.by_names.ensures;
+          check_found is answer reads to (refl, refl) options _ _ model_is scripts_is checked are_of no_run
+          c.by_checked_names.ensures;
+      within = check_within _ _ decimals.result explain.result _ _ options to answer are_of no_run
+          c.by_checked_names.ensures;
+    }
+
+pub returns-in-Ok : goal.returns-in-Ok
+returns-in-Ok c =
+    let words : List Text = map string_bytes c.args.words.now in
+    let args : List Text = drop 1 words in
+    let command_is = c.in_ok-command.ensures in
+    let are = (c.in-Ok.ensures.ok.2 (ap is_simple command_is)).0 ∙ ap (λ (a : App). matches_of a words) command_is in
+    let free : fault args ≡ [] =
+    sym (ap (λ (a : App). fault_of a words) command_is) ∙ c.in-Ok.ensures.kinds (ap is_simple_and_free command_is) in
+    let decimals = c.get_flag-decimals in
+    let explain = c.get_flag-explain in
+    let atomic = c.get_flag-atomic in
+    let check = c.get_flag-check in
+    let m = found_of c.in-Ok.matches in
+    let reads = all_read m args are _ _ _ decimals.result explain.result atomic.result check.result free
+    c.get_str-workers.ensures c.get_str-watch.ensures c.get_str-file.ensures
+    (decimals.ensures.value, decimals.ensures.other) (explain.ensures.value, explain.ensures.other)
+    (atomic.ensures.value, atomic.ensures.other) (check.ensures.value, check.ensures.other) in
+    let to : Destination = record { file = c.get_str-file.result; atomic = atomic.result } in
+    let model_is = text_read m args are (codes "MODEL") _ c.get_str-model.ensures in
+    let scripts_is = text_read m args are (codes "SCRIPTS") _ c.get_str-scripts.ensures in
+    let options = c.in_ok-options-in-Ok.options in
+    let are_of = c.in_ok-options-in-Ok.ensures in
+    let answer = c.by_names.result in
+    let unchecked = c.if-check.false in
+    record {
+      names = λ named. names_answered args answer
+          (options_found (names_line args named) answer reads options to _ _ model_is scripts_is unchecked are_of
+          (refl, refl) c.by_names.ensures);
+      shown = λ word rest asks is. absurd (text_never_free args word rest asks is free);
+      unknown = λ met. absurd (unknown_never_free args met free);
+      options = λ line is.
+          options_found is answer reads options to _ _ model_is scripts_is unchecked are_of (refl, refl)
+          c.by_names.ensures;
+      within = answer_within _ _ decimals.result explain.result _ _ options to answer are_of c.by_names.ensures;
     }
 
 pub returns : goal.returns
