@@ -4,7 +4,8 @@
     python3 bench/growth.py PROGRAM [--only KIND]
 
 PROGRAM is a built cityed. Prints for each kind both lengths and times, less the time of an empty model, and how
-many times the second is the first. Four times the text should take at most six times the time.
+many times the second is the first. Four times the text should take at most six times the time. Kinds with many
+faults are given to `--check`, which tells each of them.
 """
 
 import argparse
@@ -162,6 +163,53 @@ def colliding_replies(count, state=FIRST_STATE):
     return document, [script([{"read": "a"}] * 20)]
 
 
+def unlisted_children(count):
+    """Each part has a parent that doesn't list it."""
+    parts = {name: {"type": "BuildingPart", "parents": ["building"]} for name in shuffled(count)}
+    return model({"building": {"type": "Building"}, **parts}), []
+
+
+def half_listed_children(count):
+    """A building that lists each second of its parts, and as many ids that aren't there."""
+    document, _ = unordered_children(count)
+    children = document["CityObjects"]["building"]["children"]
+    children[::2] = [f"no-{name}" for name in children[::2]]
+    return document, []
+
+
+def unknown_types(count):
+    return model({name: {"type": "Bulding"} for name in shuffled(count)}), []
+
+
+def repeated_ids(count):
+    """A list that has each id twice."""
+    document, _ = unordered_children(count)
+    document["CityObjects"]["building"]["children"] *= 2
+    return document, []
+
+
+def open_triangles(count):
+    """A shell whose edges are all open."""
+    points = [[number, at, 0] for number in range(count) for at in (0, 1, 2)]
+    return model({"a": solid([[[[3 * n, 3 * n + 1, 3 * n + 2]] for n in range(count)]])}, points), []
+
+
+def open_shells(count):
+    """Objects that are blocks without a floor."""
+    points = [[x, y, z] for x in (0, 1) for y in (0, 1) for z in (0, 1)]
+    sides = [[[0, 1, 3, 2]], [[4, 6, 7, 5]], [[0, 4, 5, 1]], [[2, 3, 7, 6]], [[1, 5, 7, 3]]]
+    return model({name: solid([sides]) for name in shuffled(count)}, points), []
+
+
+def misspelt_commands(count):
+    return model({}), [script([{"raed": name} for name in shuffled(1_000)]) for _ in range(count)]
+
+
+def no_scripts(count):
+    """Items that aren't scripts, far too many."""
+    return model({}), [0] * count
+
+
 KINDS = {
     unordered_children: 16_000,
     unordered_parents: 16_000,
@@ -182,7 +230,20 @@ KINDS = {
 }
 
 
-def processor_time(program, document, scripts):
+# what --check tells is long, or is found among many others
+CHECKED = {
+    unlisted_children: 15_000,
+    half_listed_children: 15_000,
+    unknown_types: 15_000,
+    repeated_ids: 15_000,
+    open_triangles: 25_000,
+    open_shells: 2_500,
+    misspelt_commands: 60,
+    no_scripts: 50_000,
+}
+
+
+def processor_time(program, document, scripts, *options):
     with tempfile.TemporaryDirectory() as folder:
         names = [os.path.join(folder, name) for name in ("model", "scripts")]
         for name, tree in zip(names, (document, scripts)):
@@ -190,7 +251,7 @@ def processor_time(program, document, scripts):
                 json.dump(tree, file, separators=(",", ":"))
         length = sum(map(os.path.getsize, names))
         before = resource.getrusage(resource.RUSAGE_CHILDREN)
-        subprocess.run([program, *names], stdout=subprocess.DEVNULL, stderr=subprocess.DEVNULL, check=False)
+        subprocess.run([program, *options, *names], stdout=subprocess.DEVNULL, stderr=subprocess.DEVNULL, check=False)
         after = resource.getrusage(resource.RUSAGE_CHILDREN)
     return length, after.ru_utime + after.ru_stime - before.ru_utime - before.ru_stime
 
@@ -201,13 +262,15 @@ def main():
     asked.add_argument("--only")
     asked = asked.parse_args()
     idle = min(processor_time(asked.program, model({}), [])[1] for _ in range(3))
-    for kind, count in KINDS.items():
+    for kind, count in [*KINDS.items(), *CHECKED.items()]:
+        options = ["--check"] if kind in CHECKED else []
         if asked.only not in (None, kind.__name__):
             continue
         told = []
         for size in (count, 4 * count):
             document, scripts = kind(size)
-            length, time = min((processor_time(asked.program, document, scripts) for _ in range(3)), key=lambda one: one[1])
+            runs = (processor_time(asked.program, document, scripts, *options) for _ in range(3))
+            length, time = min(runs, key=lambda one: one[1])
             told.append((length, max(time - idle, 0.001)))
         (short, quick), (long, slow) = told
         print(f"{kind.__name__}: {short:,} bytes {quick:.3f} s, {long:,} bytes {slow:.3f} s, {slow / quick:.1f} times", flush=True)

@@ -3,7 +3,8 @@
 
 usage: draw.py [--from DEGREES] BEFORE [AFTER] > PICTURE.svg
 
-BEFORE and AFTER are CityJSON files, or an input or an output of cityed: the line that has the model is drawn.
+BEFORE and AFTER are CityJSON files, or an input or an output of cityed: the line that has the model is drawn. Or they
+are folders of tiles, NAME.city.json, which are drawn as one city.
 The viewer stands DEGREES east of north, 150 if not given, and looks down at 35 degrees. Of each object the finest
 geometry is drawn, and a footprint (level of detail 0) on the ground. With AFTER, an object that only AFTER has
 is green, one that only BEFORE has is red, and one that isn't the same in both is orange; where something was
@@ -15,6 +16,7 @@ import heapq
 import json
 from html import escape
 from math import cos, hypot, radians, sin
+from pathlib import Path
 
 PANEL = 430  # the width of one picture, in pixels
 MOST_NAMES = 12  # names are left out where there are more buildings
@@ -27,10 +29,15 @@ COLOURS = {
 INK = {"same": "#333", "changed": "#a85f00", "added": "#24702a", "taken out": "#a3241a"}
 
 
+def models_of(path):
+    """The model in a file, or those of a folder of tiles."""
+    place = Path(path)
+    return [model_of(it) for it in sorted(place.glob("*.city.json"))] if place.is_dir() else [model_of(place)]
+
+
 def model_of(path):
     """The model in a file: the whole file, or the first of its lines that holds one."""
-    with open(path, encoding="utf-8") as file:
-        text = file.read()
+    text = path.read_text(encoding="utf-8")
     for part in [text, *text.splitlines()]:
         try:
             value = json.loads(part)
@@ -66,18 +73,22 @@ def normal_of(ring):
 
 
 class City:
-    """A model with its points as coordinates."""
+    """The objects of models, with their points as coordinates."""
 
-    def __init__(self, model):
+    def __init__(self, models):
+        self.objects, self.shapes, self.faces, self.footprints = {}, {}, {}, {}
+        for model in models:
+            self.add(model)
+
+    def add(self, model):
         scale, translate = model["transform"]["scale"], model["transform"]["translate"]
         points = [tuple(p * s + t for p, s, t in zip(point, scale, translate)) for point in model["vertices"]]
 
         def placed(item):
             return [placed(it) for it in item] if isinstance(item, list) else points[item]
 
-        self.objects = model["CityObjects"]
-        self.shapes, self.faces, self.footprints = {}, {}, {}
-        for name, it in self.objects.items():
+        self.objects.update(model["CityObjects"])
+        for name, it in model["CityObjects"].items():
             geometries = sorted(it.get("geometry", []), key=lambda geometry: geometry["lod"])
             shapes = [[g["type"], g["lod"], placed(list(surfaces_of(g["boundaries"])))] for g in geometries]
             self.shapes[name] = shapes
@@ -335,8 +346,8 @@ def main():
     words.add_argument("before")
     words.add_argument("after", nargs="?")
     asked = words.parse_intermixed_args()
-    before = City(model_of(asked.before))
-    after = City(model_of(asked.after)) if asked.after else None
+    before = City(models_of(asked.before))
+    after = City(models_of(asked.after)) if asked.after else None
     print("\n".join(picture(before, after, asked.degrees)))
 
 

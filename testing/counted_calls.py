@@ -6,7 +6,8 @@
 PROGRAM is a built cityed. Needs a C compiler named cc, for count.c. The texts are those of bench/growth.py, a third
 as long. Four times the text may take 4.5 times the allocations and 4.5 times the bytes that they ask for; a road
 without members may take two allocations, for its id and its body, and a tenth, since the nodes of a city's map are
-full. Each script has to commit, and the two kinds that have a fault have to be refused. Scripts that lock ids of their
+full. Each script has to commit, the two kinds that have a fault have to be refused, and of the kinds with many faults
+--check has to tell each. Scripts that lock ids of their
 own may have 1.05 times as much allocated at once as scripts that lock the same ids, and an object that is put may take
 2.5 allocations for each attribute. Where scripts meet, sixteen workers may take 1.5 times the processor time of one.
 Where valgrind is installed, the instructions of texts whose points would collide are counted too, and may grow six
@@ -89,7 +90,9 @@ def committed(ran, scripts):
 
 
 def ended(ran, kind, scripts):
-    """Whether a run of a kind ended as it should."""
+    """Whether a run of a kind, or a check of one, ended as it should."""
+    if kind in growth.CHECKED:
+        return ran.returncode == 1 and ran.stdout.endswith(b"}\n") and ran.stderr == b""
     refused = ran.returncode == 1 and ran.stdout == b"" and b"model: " in ran.stderr
     return refused if kind in REFUSED else committed(ran, scripts)
 
@@ -99,11 +102,11 @@ def say(right, told):
     return right
 
 
-def grows_as_its_text(program, kind, count):
+def grows_as_its_text(program, kind, count, *options):
     """Whether nothing is copied whole: calls and bytes grow as the text does."""
     sizes = (count // 3, count // 3 * 4)
     texts = [kind(size) for size in sizes]
-    (first, few), (last, many) = (program.counts(text) for text in texts)
+    (first, few), (last, many) = (program.counts(text, *options) for text in texts)
     times = [more / max(less, 1) for less, more in zip(few[:2], many)]
     right = max(times) <= GREATEST and ended(first, kind, texts[0][1]) and ended(last, kind, texts[1][1])
     if kind is growth.many_objects:
@@ -161,6 +164,7 @@ def main():
     with tempfile.TemporaryDirectory() as folder:
         program = Counted(sys.argv[1], folder)
         kept = [grows_as_its_text(program, kind, count) for kind, count in growth.KINDS.items()]
+        kept += [grows_as_its_text(program, kind, count, "--check") for kind, count in growth.CHECKED.items()]
         kept += [locks_leave_their_table(program, count) for count in (300, 4_000)]
         kept += [bodies_are_shared(program, count) for count in (1_000, 20_000)]
         kept += [bodies_are_shared(program, count, "--watch", "1") for count in (1_000, 20_000)]

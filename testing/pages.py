@@ -31,7 +31,8 @@ SECONDS = 300  # for each page, with --slow 3,600
 # What a command has in it, why it is skipped, and whether --slow runs it.
 SKIPPED = [
     (r"\brt (ci|check|verdict|lib|run|test|all|tidy|plant|must-fail)\b", "it proves", False),
-    (r"\b(NAME|NAMES|MODEL|SCRIPTS|OLD|NEW|EDIT|FILE|FUNCTION)\b", "the reader fills in a name", False),
+    (r"\b(NAME|NAMES|MODEL|SCRIPTS|OLD|NEW|EDIT|FILE|FUNCTION|RUN|CITY)\b", "the reader fills in a name", False),
+    *([] if shutil.which("snakemake") else [(r"\bsnakemake\b|/tmp/town", "Snakemake isn't installed", False)]),
     (r"\bout/city_(tests_tests|scenarios)\b", "it wants another program", False),
     (r"\brt (try|fmt|seed|expand)\b", "minutes", True),
     (r"\btesting/pages\.py", "it is this script", False),

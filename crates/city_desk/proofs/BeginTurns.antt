@@ -3,7 +3,7 @@ use Rattle.city_desk.proofs.Prelude.{◌≡◌, ◌<◌, ◌≤◌, ◌+◌, ℕ
 use Rattle.city_desk.proofs.Prelude.{refl, ap, sym, subst, ◌∙◌, arith, slice_set, slice_get, slice_index_or, false≢true}
 use Rattle.city_desk.proofs.Prelude.{Command, Reply, End, Outcome, CityMap, object_at, CityValue, Scripted}
 use Rattle.city_desk.proofs.Prelude.{IsScriptResult, Change, ends_once, CoreState, committed, is_open, StandsUnderLocks}
-use Rattle.city_desk.proofs.Prelude.{KeepsOthers, Progress, Phase, NotBegun, Idle, Open, Ended, DeskState}
+use Rattle.city_desk.proofs.Prelude.{KeepsOthers, Progress, Phase, NotBegun, Idle, Open, DeskState}
 use Rattle.city_desk.proofs.Prelude.{ended_progress, phase_of, replies_of, room_of, is_ended, stamp_of, is_not_begun}
 use Rattle.city_desk.proofs.Prelude.{HasRoom, StandsAs, AreStanding, IsSerial, IsDue}
 use Rattle.std.proofs.lemmas.Bool.{false_from_ne_true}

@@ -1,5 +1,6 @@
 //! What a run answers.
 ghost use Rattle.std.specs.Prelude.{◌≡◌, ◌++◌, ◌∷◌, [], length, IfOk};
+ghost use Rattle.city_doc.specs.Outputs.{IsJsonOutput};
 ghost use Rattle.city_doc.specs.document.Canonical.{city_text};
 ghost use Rattle.city_doc.specs.report.Reports.{report_text};
 
@@ -36,6 +37,7 @@ pub fn output_bytes(
 ) -> Result<(Vec<u8>, usize), OutOfMemory>
     ensures bytes { IfOk result (λ r. r.0.items ≡ report_text ends.now ++ city_text city.now ++ 10 ∷ []) }
     ensures report { IfOk result (λ r. r.1 ≡ length (report_text ends.now)) }
+    ensures lines { IfOk result (λ r. IsJsonOutput r.1 r.0.items) }
 {
     let mut report = seeded_report(alloc, seed, ends)?;
     let length = report.len();

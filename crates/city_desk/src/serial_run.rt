@@ -2,6 +2,7 @@
 ghost use Rattle.std.specs.Prelude.{◌≡◌, ◌++◌, ◌∷◌, [], ℕ, List, length, IfOk, IfErr};
 ghost use Rattle.city_model.specs.CityMap.{object_at};
 ghost use Rattle.city_model.specs.Relations.{IsLawful};
+ghost use Rattle.city_doc.specs.Outputs.{IsJsonOutput};
 ghost use Rattle.city_doc.specs.document.Canonical.{city_text};
 ghost use Rattle.city_doc.specs.report.Reports.{report_text};
 ghost use Rattle.city_desk.specs.InTurn.{AreInTurn};
@@ -30,6 +31,7 @@ pub fn run_serial(alloc: Global, document: &[u8], scripts: &[u8]) -> Result<Outp
     ensures decided { IfOk result (λ o. IsDecided document.now scripts.now o.ends o.bytes.items) }
     ensures seen { IfOk result (λ o. o.seen.items ≡ []) }
     ensures report { IfOk result (λ o. o.report ≡ length (report_text o.ends)) }
+    ensures lines { IfOk result (λ o. IsJsonOutput o.report o.bytes.items) }
     ensures fault { IfErr result (λ f. IsSerialFault document.now scripts.now f) }
 {
     let (output, _) = run_serial_to_city(alloc, document, scripts)?;
@@ -47,6 +49,7 @@ pub fn run_serial_to_city(
     ensures seen { IfOk result (λ r. r.0.seen.items ≡ []) }
     ensures city { IfOk result (λ r. r.0.bytes.items ≡ report_text r.0.ends ++ city_text r.1 ++ 10 ∷ []) }
     ensures report { IfOk result (λ r. r.0.report ≡ length (report_text r.0.ends)) }
+    ensures lines { IfOk result (λ r. IsJsonOutput r.0.report r.0.bytes.items) }
     ensures fault { IfErr result (λ f. IsSerialFault document.now scripts.now f) }
 {
     let (city, list) = read_texts(alloc, document, scripts)?;
@@ -71,6 +74,7 @@ pub fn run_read(
     ensures seen { IfOk result (λ r. r.0.seen.items ≡ []) }
     ensures city { IfOk result (λ r. r.0.bytes.items ≡ report_text r.0.ends ++ city_text r.1 ++ 10 ∷ []) }
     ensures report { IfOk result (λ r. r.0.report ≡ length (report_text r.0.ends)) }
+    ensures lines { IfOk result (λ r. IsJsonOutput r.0.report r.0.bytes.items) }
 {
     let finished = run_each(alloc, city, scripts)?;
     let (bytes, report) = output_bytes(

@@ -46,8 +46,11 @@ fn document_lines(
     ensures { IfOk result (λ lines. AreLinesOf Tells faults.now lines.items) }
 {
     let mut lines = Vec::new(alloc);
-    let tree = tree_for(alloc, text, faults.first().and_then(text_fault_of))?;
-    let document = Document::new(alloc, &tree)?;
+    let Some(first) = faults.first() else {
+        return Ok(lines);
+    };
+    let tree = tree_for(alloc, text, text_fault_of(first))?;
+    let document = Document::new(alloc, &tree, faults)?;
     for fault in faults {
         let line = line_of(alloc, text, is_given, &document, fault)?;
         lines.extend_from_slice(line.as_bytes())?;

@@ -1,25 +1,154 @@
 //! What is told of the faults of a document's top and of its objects.
+//!
+//! - `top`: members of the top that aren't those of a document
+//! - `relatives`: the parents and children of all objects, in sets; `relations`: which rule on them isn't met
+mod relations;
+mod relatives;
+mod top;
+
 use crate::diagnostic::Diagnostic;
+use crate::document::relations::tell_relations;
+use crate::document::relatives::{RelativesById, all_relatives};
+use crate::document::top::tell_wrong_member;
+use crate::quoted::Quoted;
+use crate::shape::ring::tell_bad_ring;
+use crate::shape::shell::tell_open_shell;
+use crate::shape::{tell_bad_geometry, tell_bad_vertex, tell_unknown_type, tell_unsupported};
 use city_doc::ReadFault;
 use city_model::OutOfMemory;
+use city_model::object::Point;
+use city_model::text::Id;
+use city_tokens::triple_of;
 use serde_json::Value;
 use std::alloc::Global;
+use std::collections::BTreeMap;
 
 /// A document's tree, and what is looked up in it for each fault.
 #[derive(Drop)]
 pub struct Document<'t> {
     tree: &'t Value,
+    /// Its vertices, where a ring or a shell is told.
+    points: Vec<Point>,
+    /// The objects that can be read, where relations are told.
+    relatives: RelativesById<'t>,
 }
 
 impl<'t> Document<'t> {
-    /// The document of a tree.
-    pub fn new(_alloc: Global, tree: &'t Value) -> Result<Document<'t>, OutOfMemory> {
-        Ok(Document { tree })
+    /// The document of a tree that has these faults: all of them, or only the first.
+    pub fn new(
+        alloc: Global,
+        tree: &'t Value,
+        faults: &[ReadFault],
+    ) -> Result<Document<'t>, OutOfMemory> {
+        let points = if faults.iter().any(needs_points) {
+            points_in(alloc, tree)?
+        } else {
+            Vec::new(alloc)
+        };
+        let relatives = if faults.iter().any(needs_relatives) {
+            all_relatives(alloc, tree, faults)?
+        } else {
+            BTreeMap::new(alloc)
+        };
+        Ok(Document {
+            tree,
+            points,
+            relatives,
+        })
     }
 
     /// What is told of a fault of this document, from NotCityJson on.
-    pub fn diagnostic(&self, alloc: Global, _fault: &ReadFault) -> Result<Diagnostic, OutOfMemory> {
-        let _tree = self.tree;
-        Ok(Diagnostic::new(alloc))
+    pub fn diagnostic(&self, alloc: Global, fault: &ReadFault) -> Result<Diagnostic, OutOfMemory> {
+        let mut diagnostic = Diagnostic::new(alloc);
+        if let ReadFault::NotCityJson(member) = fault {
+            tell_wrong_member(alloc, self.tree, member.as_str(), &mut diagnostic)?;
+        }
+        if let Some(id) = id_of(fault) {
+            let shown = Quoted(id.as_str());
+            let place = format!(in alloc; "object {shown}")?;
+            diagnostic.narrow(place.as_str())?;
+            if let Some(object) = self.object(id) {
+                self.tell_of_object(alloc, id, object, fault, &mut diagnostic)?;
+            }
+        }
+        Ok(diagnostic)
     }
+
+    fn object(&self, id: &Id) -> Option<&Value> {
+        self.tree.get("CityObjects")?.get(id.as_str())
+    }
+
+    /// How many vertices there are.
+    fn vertex_count(&self) -> usize {
+        match self.tree.get("vertices").and_then(Value::as_array) {
+            None => 0,
+            Some(vertices) => vertices.len(),
+        }
+    }
+
+    fn tell_of_object(
+        &self,
+        alloc: Global,
+        id: &Id,
+        object: &Value,
+        fault: &ReadFault,
+        diagnostic: &mut Diagnostic,
+    ) -> Result<(), OutOfMemory> {
+        let points = self.points.as_slice();
+        match fault {
+            ReadFault::UnknownType(_) => tell_unknown_type(alloc, object, diagnostic),
+            ReadFault::Unsupported(_, _) => tell_unsupported(alloc, object, diagnostic),
+            ReadFault::BadGeometry(_) => tell_bad_geometry(alloc, object, diagnostic),
+            ReadFault::BadVertex(_) => {
+                tell_bad_vertex(alloc, object, self.vertex_count(), diagnostic)
+            }
+            ReadFault::BadRing(_) => tell_bad_ring(alloc, object, points, diagnostic),
+            ReadFault::Relations(_) => {
+                tell_relations(alloc, &self.relatives, id.as_str(), object, diagnostic)
+            }
+            ReadFault::OpenShell(_) => tell_open_shell(alloc, object, points, diagnostic),
+            _ => Ok(()),
+        }
+    }
+}
+
+/// Whether a fault is told by the points of rings.
+fn needs_points(fault: &ReadFault) -> bool {
+    matches!(fault, ReadFault::BadRing(_) | ReadFault::OpenShell(_))
+}
+
+fn needs_relatives(fault: &ReadFault) -> bool {
+    matches!(fault, ReadFault::Relations(_))
+}
+
+/// The object that a fault is about.
+fn id_of(fault: &ReadFault) -> Option<&Id> {
+    match fault {
+        ReadFault::UnknownType(id)
+        | ReadFault::Unsupported(id, _)
+        | ReadFault::BadGeometry(id)
+        | ReadFault::BadVertex(id)
+        | ReadFault::BadRing(id)
+        | ReadFault::Relations(id)
+        | ReadFault::OpenShell(id) => Some(id),
+        _ => None,
+    }
+}
+
+/// The points of a document's vertices.
+fn points_in(alloc: Global, tree: &Value) -> Result<Vec<Point>, OutOfMemory> {
+    let mut points = Vec::new(alloc);
+    if let Some(vertices) = tree.get("vertices").and_then(Value::as_array) {
+        push_points(vertices, &mut points)?;
+    }
+    Ok(points)
+}
+
+fn push_points(vertices: &Vec<Value>, points: &mut Vec<Point>) -> Result<(), OutOfMemory> {
+    for vertex in vertices {
+        if let Some([x, y, z]) = triple_of(vertex) {
+            points.push(Point { x, y, z })?;
+        }
+    }
+    Ok(())
 }

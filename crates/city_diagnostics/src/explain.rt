@@ -10,6 +10,7 @@ use crate::text::text_diagnostic;
 use city_doc::{ReadFault, ScriptFault};
 use city_model::OutOfMemory;
 use std::alloc::Global;
+use std::slice;
 
 /// Where a fault of a document is, what is wrong and what to do: indented lines, each with its newline. `is_given` says
 /// that the text is the one that was given, and not an encoded one.
@@ -23,10 +24,12 @@ pub fn explain_document(
 ) -> Result<String, OutOfMemory> {
     let text_fault = text_fault_of(fault);
     let tree = tree_for(alloc, text, text_fault)?;
-    let document = Document::new(alloc, &tree)?;
     let diagnostic = match text_fault {
         Some(fault) => text_diagnostic(alloc, text, is_given, fault)?,
-        None => document.diagnostic(alloc, fault)?,
+        None => {
+            let document = Document::new(alloc, &tree, slice::from_ref(fault))?;
+            document.diagnostic(alloc, fault)?
+        }
     };
     explained(alloc, &diagnostic)
 }

@@ -1,4 +1,5 @@
 -- Definitions of reports.
 pub mod Ends
+pub mod JsonLines
 pub mod Replies
 pub mod Reports

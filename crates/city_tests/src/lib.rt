@@ -30,6 +30,8 @@ mod refused;
 #[cfg(test)]
 mod refusing;
 #[cfg(test)]
+mod replaced;
+#[cfg(test)]
 mod replay;
 #[cfg(test)]
 mod runs;

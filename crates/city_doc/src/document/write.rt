@@ -10,6 +10,7 @@ ghost use Rattle.city_doc.specs.document.Canonical.{tree_of, city_text};
 ghost use Rattle.city_doc.specs.document.CanonicalTexts.{IsCanonicalText};
 ghost use Rattle.city_tokens.specs.document.Cities.{IsTextOfCity};
 ghost use Rattle.city_doc.specs.document.Ranges.{IsInRange};
+ghost use Rattle.city_doc.specs.report.JsonLines.{IsCompactJson};
 ghost use Rattle.city_tokens.specs.tree.Texts.{IsReadable};
 ghost use Rattle.city_doc.specs.tree.Tokens.{tokens_of};
 ghost use Rattle.city_doc.specs.Pool.{pool_of};
@@ -56,6 +57,7 @@ pub fn append_city(
 ) -> Result<Vec<u8>, OutOfMemory>
     ensures text { IfOk result (λ b. b.items ≡ bytes.items ++ city_text city.now) }
     ensures canonical { IfOk result (λ _. IsCanonicalText (city_text city.now) city.now) }
+    ensures json { IfOk result (λ _. IsCompactJson (city_text city.now)) }
 {
     let mut out = Writer::new(bytes);
     write_members(alloc, seed, city, &mut out)?;

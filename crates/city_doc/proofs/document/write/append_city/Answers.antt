@@ -4,6 +4,7 @@ use Rattle.city_doc.specs.document.Canonical.{city_text}
 use Rattle.city_doc.proofs.document.CityNests.{written_within}
 use Rattle.city_doc.proofs.document.LawfulTrees.{not_refused}
 use Rattle.city_doc.proofs.OneValue.{one_city}
+use Rattle.city_doc.proofs.tree.CompactJson.{compact_json}
 use Rattle.city_doc.proofs.tree.ReadBack.{text_reads}
 use Rattle.city_doc.proofs.document.RoundTrip.{city_read}
 use Rattle.city_doc.proofs.document.IntegralTrees.{city_integral}
@@ -39,4 +40,5 @@ returns c =
         tokens_are = lexed;
         in_range = done.in_range;
       };
+      json = compact_json tree (rw same at items.reads_back) (rw same at items.utf8);
     }

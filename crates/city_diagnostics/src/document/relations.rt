@@ -1,0 +1,245 @@
+//! Which rule on parents and children an object doesn't meet.
+use crate::diagnostic::Diagnostic;
+use crate::document::relatives::{Relatives, RelativesById, list_at, repeated_in};
+use crate::quoted::Quoted;
+use city_model::OutOfMemory;
+use city_model::object_type::{ObjectType, family, is_same, level, name};
+use serde_json::Value;
+use std::alloc::Global;
+
+/// One of the two lists of ids of an object.
+#[derive(Clone, Copy)]
+enum IdList {
+    Parents,
+    Children,
+}
+
+impl IdList {
+    fn name(self) -> &'static str {
+        match self {
+            IdList::Parents => "parents",
+            IdList::Children => "children",
+        }
+    }
+
+    /// What one of the list is called.
+    fn one(self) -> &'static str {
+        match self {
+            IdList::Parents => "parent",
+            IdList::Children => "child",
+        }
+    }
+
+    /// The list that has to have the object, of one that this list has.
+    fn other_side(self) -> IdList {
+        match self {
+            IdList::Parents => IdList::Children,
+            IdList::Children => IdList::Parents,
+        }
+    }
+}
+
+/// A rule that isn't met, with the other object of it.
+#[derive(Clone, Copy)]
+enum Broken<'t> {
+    NoListOfIds(IdList),
+    Repeated(IdList, &'t str),
+    FirstLevelWithParents(ObjectType, &'t str),
+    NoParents(ObjectType),
+    Itself(&'t str),
+    Missing(IdList, &'t str),
+    NotMutual(IdList, &'t str),
+    /// The object's type, and that of this parent.
+    OtherFamily(ObjectType, ObjectType, &'t str),
+}
+
+impl<'t> Broken<'t> {
+    fn rule(&self) -> &'static str {
+        match self {
+            Broken::NoListOfIds(_) => "no list of ids",
+            Broken::Repeated(_, _) => "repeated",
+            Broken::FirstLevelWithParents(_, _) => "first-level with parents",
+            Broken::NoParents(_) => "no parents",
+            Broken::Itself(_) => "itself",
+            Broken::Missing(_, _) => "missing",
+            Broken::NotMutual(_, _) => "not mutual",
+            Broken::OtherFamily(_, _, _) => "other family",
+        }
+    }
+
+    fn list(&self) -> IdList {
+        match *self {
+            Broken::NoListOfIds(list)
+            | Broken::Repeated(list, _)
+            | Broken::Missing(list, _)
+            | Broken::NotMutual(list, _) => list,
+            _ => IdList::Parents,
+        }
+    }
+
+    fn other(&self) -> Option<&'t str> {
+        match *self {
+            Broken::NoListOfIds(_) | Broken::NoParents(_) => None,
+            Broken::Repeated(_, other)
+            | Broken::FirstLevelWithParents(_, other)
+            | Broken::Itself(other)
+            | Broken::Missing(_, other)
+            | Broken::NotMutual(_, other)
+            | Broken::OtherFamily(_, _, other) => Some(other),
+        }
+    }
+
+    /// What is wrong, in a sentence.
+    fn message(&self, alloc: Global) -> Result<String, OutOfMemory> {
+        let list = self.list();
+        let names = list.name();
+        let one = list.one();
+        let other = Quoted(self.other().unwrap_or(""));
+        match *self {
+            Broken::NoListOfIds(_) => {
+                format!(in alloc; "Its {names} aren't an array of texts.")
+            }
+            Broken::Repeated(_, _) => format!(in alloc; "Its {names} have {other} twice."),
+            Broken::FirstLevelWithParents(kind, _) => {
+                let kind = name(kind);
+                format!(in alloc; "An object of type {kind} has no parents, but it has the parent {other}.")
+            }
+            Broken::NoParents(kind) => {
+                let kind = name(kind);
+                format!(in alloc; "An object of type {kind} has a parent, but it has none.")
+            }
+            Broken::Itself(_) => "It is its own parent.".to_string(alloc),
+            Broken::Missing(_, _) => {
+                format!(in alloc; "Its {one} {other} is no object that can be read.")
+            }
+            Broken::NotMutual(_, _) => {
+                let back = list.other_side().name();
+                format!(in alloc; "Its {one} {other} doesn't have it in its {back}.")
+            }
+            Broken::OtherFamily(own, kind, _) => {
+                let own = name(own);
+                let kind = name(kind);
+                format!(in alloc; "Its parent {other} is of type {kind}, another family than that of {own}.")
+            }
+        }
+    }
+}
+
+/// Says which rule on its parents and children an object doesn't meet.
+pub fn tell_relations(
+    alloc: Global,
+    objects: &RelativesById<'_>,
+    id: &str,
+    object: &Value,
+    diagnostic: &mut Diagnostic,
+) -> Result<(), OutOfMemory> {
+    let Some(broken) = first_broken(alloc, objects, id, object)? else {
+        return Ok(());
+    };
+    diagnostic.details.text("rule", broken.rule())?;
+    diagnostic.details.text("list", broken.list().name())?;
+    if let Some(other) = broken.other() {
+        diagnostic.details.text("other", other)?;
+    }
+    let message = broken.message(alloc)?;
+    diagnostic.tell(message, "Correct both sides of the relation.");
+    Ok(())
+}
+
+/// The first rule that isn't met.
+fn first_broken<'t>(
+    alloc: Global,
+    objects: &RelativesById<'_>,
+    id: &str,
+    object: &'t Value,
+) -> Result<Option<Broken<'t>>, OutOfMemory> {
+    let Some(parents) = list_at(object, "parents") else {
+        return Ok(Some(Broken::NoListOfIds(IdList::Parents)));
+    };
+    let Some(children) = list_at(object, "children") else {
+        return Ok(Some(Broken::NoListOfIds(IdList::Children)));
+    };
+    if let Some(other) = repeated_in(alloc, parents)? {
+        return Ok(Some(Broken::Repeated(IdList::Parents, other)));
+    }
+    if let Some(other) = repeated_in(alloc, children)? {
+        return Ok(Some(Broken::Repeated(IdList::Children, other)));
+    }
+    let Some(own) = objects.get(&id) else {
+        return Ok(None);
+    };
+    if let Some(broken) = broken_by_level(own.kind, parents) {
+        return Ok(Some(broken));
+    }
+    match broken_by_parents(objects, id, own.kind, parents) {
+        None => Ok(broken_by_children(objects, id, children)),
+        broken => Ok(broken),
+    }
+}
+
+/// Whether there are parents, by what the level of the type asks for.
+fn broken_by_level(kind: ObjectType, parents: &[Value]) -> Option<Broken<'_>> {
+    match parents.first() {
+        None if level(kind) == 2 => Some(Broken::NoParents(kind)),
+        None => None,
+        Some(_) if level(kind) == 2 => None,
+        Some(parent) => Some(Broken::FirstLevelWithParents(kind, parent.as_str()?)),
+    }
+}
+
+fn broken_by_parents<'t>(
+    objects: &RelativesById<'_>,
+    id: &str,
+    kind: ObjectType,
+    parents: &'t [Value],
+) -> Option<Broken<'t>> {
+    for parent in parents {
+        if let Some(parent) = parent.as_str() {
+            let broken = broken_by_parent(objects, id, kind, parent);
+            if broken.is_some() {
+                return broken;
+            }
+        }
+    }
+    None
+}
+
+fn broken_by_parent<'t>(
+    objects: &RelativesById<'_>,
+    id: &str,
+    kind: ObjectType,
+    parent: &'t str,
+) -> Option<Broken<'t>> {
+    if parent == id {
+        return Some(Broken::Itself(parent));
+    }
+    let Some(other) = objects.get(&parent) else {
+        return Some(Broken::Missing(IdList::Parents, parent));
+    };
+    if !other.children.contains(&id) {
+        Some(Broken::NotMutual(IdList::Parents, parent))
+    } else if !is_same(family(other.kind), family(kind)) {
+        Some(Broken::OtherFamily(kind, other.kind, parent))
+    } else {
+        None
+    }
+}
+
+fn broken_by_children<'t>(
+    objects: &RelativesById<'_>,
+    id: &str,
+    children: &'t [Value],
+) -> Option<Broken<'t>> {
+    for child in children {
+        if let Some(child) = child.as_str() {
+            match objects.get(&child) {
+                None => return Some(Broken::Missing(IdList::Children, child)),
+                Some(other) if !other.parents.contains(&id) => {
+                    return Some(Broken::NotMutual(IdList::Children, child));
+                }
+                Some(_) => {}
+            }
+        }
+    }
+    None
+}

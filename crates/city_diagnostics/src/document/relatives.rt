@@ -1,0 +1,119 @@
+//! The parents and children of objects, in sets, so that each is found as quickly in a long list.
+use city_doc::ReadFault;
+use city_model::OutOfMemory;
+use city_model::object_type::{ObjectType, type_named};
+use serde_json::{Map, Value};
+use std::alloc::Global;
+use std::collections::{BTreeMap, BTreeSet};
+
+/// The type of an object that can be read, and the ids of its relatives.
+#[derive(Drop)]
+pub struct Relatives<'t> {
+    pub kind: ObjectType,
+    pub parents: BTreeSet<&'t str>,
+    pub children: BTreeSet<&'t str>,
+}
+
+/// The objects that can be read, by their ids.
+pub type RelativesById<'t> = BTreeMap<&'t str, Relatives<'t>>;
+
+/// The items of a list of ids, of which there are none where it is absent; None where it isn't an array of texts.
+pub fn list_at<'t>(object: &'t Value, name: &str) -> Option<&'t [Value]> {
+    let Some(value) = object.get(name) else {
+        return Some(&[]);
+    };
+    let items = value.as_array()?;
+    if items.iter().all(Value::is_string) {
+        Some(items.as_slice())
+    } else {
+        None
+    }
+}
+
+/// The relatives of all objects that can be read, of a document that has these faults.
+pub fn all_relatives<'t>(
+    alloc: Global,
+    tree: &'t Value,
+    faults: &[ReadFault],
+) -> Result<RelativesById<'t>, OutOfMemory> {
+    match tree.get("CityObjects").and_then(Value::as_object) {
+        None => Ok(BTreeMap::new(alloc)),
+        Some(objects) => {
+            let unread = unread_ids(alloc, faults)?;
+            relatives_of(alloc, objects, &unread)
+        }
+    }
+}
+
+/// The ids of objects that can't be read.
+fn unread_ids<'f>(
+    alloc: Global,
+    faults: &'f [ReadFault],
+) -> Result<BTreeSet<&'f str>, OutOfMemory> {
+    let mut ids = BTreeSet::new(alloc);
+    for fault in faults {
+        match fault {
+            ReadFault::UnknownType(id)
+            | ReadFault::Unsupported(id, _)
+            | ReadFault::BadGeometry(id)
+            | ReadFault::BadVertex(id) => {
+                ids.insert(id.as_str())?;
+            }
+            _ => {}
+        }
+    }
+    Ok(ids)
+}
+
+fn relatives_of<'t>(
+    alloc: Global,
+    objects: &'t Map<String, Value>,
+    unread: &BTreeSet<&str>,
+) -> Result<RelativesById<'t>, OutOfMemory> {
+    let mut relatives = BTreeMap::new(alloc);
+    for (id, object) in objects.iter() {
+        let id = id.as_str();
+        if !unread.contains(&id) {
+            if let Some(one) = relatives_at(alloc, object)? {
+                relatives.insert(id, one)?;
+            }
+        }
+    }
+    Ok(relatives)
+}
+
+/// The relatives of one object, if its type is known.
+fn relatives_at(alloc: Global, object: &Value) -> Result<Option<Relatives<'_>>, OutOfMemory> {
+    let kind = object.get("type").and_then(Value::as_str);
+    let Some(kind) = kind.and_then(type_named) else {
+        return Ok(None);
+    };
+    Ok(Some(Relatives {
+        kind,
+        parents: id_set(alloc, list_at(object, "parents").unwrap_or(&[]))?,
+        children: id_set(alloc, list_at(object, "children").unwrap_or(&[]))?,
+    }))
+}
+
+fn id_set<'t>(alloc: Global, list: &'t [Value]) -> Result<BTreeSet<&'t str>, OutOfMemory> {
+    let mut ids = BTreeSet::new(alloc);
+    for item in list {
+        if let Some(id) = item.as_str() {
+            ids.insert(id)?;
+        }
+    }
+    Ok(ids)
+}
+
+/// The first id of a list that stands in it before.
+pub fn repeated_in(alloc: Global, list: &[Value]) -> Result<Option<&str>, OutOfMemory> {
+    let mut ids = BTreeSet::new(alloc);
+    for item in list {
+        if let Some(id) = item.as_str() {
+            if !ids.insert(id)? {
+                return Ok(Some(id));
+            }
+        }
+    }
+    Ok(None)
+}

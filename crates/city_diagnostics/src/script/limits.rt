@@ -1,0 +1,76 @@
+//! Too many scripts, or too many commands in one.
+use crate::diagnostic::Diagnostic;
+use crate::script::item::broken_rule;
+use crate::script::place::narrow_to_script;
+use city_model::OutOfMemory;
+use city_tokens::{MAX_COMMANDS, MAX_SCRIPTS};
+use serde_json::Value;
+use std::alloc::Global;
+
+/// Says how many scripts there are, where they are too many; else which is the first script that has too many commands.
+pub fn tell_too_many(
+    alloc: Global,
+    tree: &Value,
+    diagnostic: &mut Diagnostic,
+) -> Result<(), OutOfMemory> {
+    let Some(items) = tree.as_array() else {
+        return tell_scripts(alloc, 0, diagnostic);
+    };
+    if items.len() <= MAX_SCRIPTS {
+        if let Some((script, commands)) = first_too_long(items.as_slice()) {
+            narrow_to_script(alloc, tree, script, diagnostic)?;
+            return tell_commands(alloc, script, commands, diagnostic);
+        }
+    }
+    tell_scripts(alloc, items.len(), diagnostic)
+}
+
+/// The first script that has too many commands, and how many it has.
+fn first_too_long(items: &[Value]) -> Option<(usize, usize)> {
+    for (script, item) in items.iter().enumerate() {
+        let commands = command_count(item);
+        if commands > MAX_COMMANDS && broken_rule(item).is_none() {
+            return Some((script, commands));
+        }
+    }
+    None
+}
+
+/// How many commands an item has.
+fn command_count(item: &Value) -> usize {
+    match item.get("commands").and_then(Value::as_array) {
+        Some(commands) => commands.len(),
+        None => 0,
+    }
+}
+
+fn tell_scripts(
+    alloc: Global,
+    scripts: usize,
+    diagnostic: &mut Diagnostic,
+) -> Result<(), OutOfMemory> {
+    diagnostic.details.number("scripts", scripts)?;
+    let message = format!(in alloc;
+        "There are {scripts} scripts, and a text may have {MAX_SCRIPTS}."
+    )?;
+    diagnostic.tell(
+        message,
+        "Split the text, and run its parts one after the other.",
+    );
+    Ok(())
+}
+
+fn tell_commands(
+    alloc: Global,
+    script: usize,
+    commands: usize,
+    diagnostic: &mut Diagnostic,
+) -> Result<(), OutOfMemory> {
+    diagnostic.details.number("script", script)?;
+    diagnostic.details.number("commands", commands)?;
+    let message = format!(in alloc;
+        "It has {commands} commands, and a script may have {MAX_COMMANDS}."
+    )?;
+    diagnostic.tell(message, "Split the script into several.");
+    Ok(())
+}

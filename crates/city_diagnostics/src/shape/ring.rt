@@ -1,0 +1,143 @@
+//! What is told of a ring that is too short or has equal neighbours, and of a surface without rings.
+use crate::diagnostic::Diagnostic;
+use crate::shape::place::Place;
+use crate::shape::points::{Coordinates, points_of};
+use crate::shape::walk::{Ring, Surfaces, geometries_of, rings_of, surfaces_of};
+use city_model::OutOfMemory;
+use city_model::object::Point;
+use serde_json::Value;
+use std::alloc::Global;
+
+/// What is wrong with a ring.
+#[derive(Clone, Copy)]
+enum Wrong {
+    /// This surface has no ring.
+    NoRing(usize),
+    /// It has only so many points.
+    Short(usize),
+    /// These two, by their places in the ring, are this point.
+    Equal(usize, usize, Point),
+}
+
+impl Wrong {
+    fn rule(&self) -> &'static str {
+        match self {
+            Wrong::NoRing(_) => "no ring",
+            Wrong::Short(_) => "short ring",
+            Wrong::Equal(_, _, _) => "equal neighbours",
+        }
+    }
+
+    fn message(&self, alloc: Global) -> Result<String, OutOfMemory> {
+        match *self {
+            Wrong::NoRing(surface) => format!(in alloc; "Surface {surface} has no ring."),
+            Wrong::Short(points) => {
+                format!(in alloc; "The ring has {points} of the three points that it needs.")
+            }
+            Wrong::Equal(one, next, point) => {
+                let point = Coordinates(point);
+                format!(in alloc; "The neighbours {one} and {next} of the ring are equal: {point}.")
+            }
+        }
+    }
+}
+
+/// Says which ring is too short or has equal neighbours, or which surface has none.
+pub fn tell_bad_ring(
+    alloc: Global,
+    object: &Value,
+    vertices: &[Point],
+    diagnostic: &mut Diagnostic,
+) -> Result<(), OutOfMemory> {
+    let geometries = geometries_of(object);
+    for number in 0..geometries.len() {
+        let geometry = &geometries[number];
+        let place = Place::new(number, geometry);
+        if let Some((place, wrong)) = in_geometry(alloc, place, geometry, vertices)? {
+            return tell(alloc, &place, &wrong, diagnostic);
+        }
+    }
+    Ok(())
+}
+
+fn tell(
+    alloc: Global,
+    place: &Place<'_>,
+    wrong: &Wrong,
+    diagnostic: &mut Diagnostic,
+) -> Result<(), OutOfMemory> {
+    place.tell(alloc, diagnostic)?;
+    diagnostic.details.text("rule", wrong.rule())?;
+    match *wrong {
+        Wrong::NoRing(_) => {}
+        Wrong::Short(points) => diagnostic.details.number("points", points)?,
+        Wrong::Equal(_, _, point) => diagnostic.details.point("point", point)?,
+    }
+    let message = wrong.message(alloc)?;
+    diagnostic.tell(
+        message,
+        "Drop repeated points, and rings that are too short.",
+    );
+    Ok(())
+}
+
+fn in_geometry<'v>(
+    alloc: Global,
+    place: Place<'v>,
+    geometry: &'v Value,
+    vertices: &[Point],
+) -> Result<Option<(Place<'v>, Wrong)>, OutOfMemory> {
+    let lists = surfaces_of(alloc, geometry)?;
+    for surfaces in &lists {
+        let place = place.at_shell(surfaces);
+        if let Some(found) = in_surfaces(alloc, place, surfaces, vertices)? {
+            return Ok(Some(found));
+        }
+    }
+    Ok(None)
+}
+
+fn in_surfaces<'v>(
+    alloc: Global,
+    place: Place<'v>,
+    surfaces: &Surfaces<'_>,
+    vertices: &[Point],
+) -> Result<Option<(Place<'v>, Wrong)>, OutOfMemory> {
+    let rings = rings_of(alloc, surfaces)?;
+    for ring in &rings {
+        if let Some(wrong) = wrong_with(alloc, ring, vertices)? {
+            return Ok(Some((place.at_ring(ring), wrong)));
+        }
+    }
+    Ok(None)
+}
+
+fn wrong_with(
+    alloc: Global,
+    ring: &Ring<'_>,
+    vertices: &[Point],
+) -> Result<Option<Wrong>, OutOfMemory> {
+    if ring.ring.is_none() {
+        return Ok(Some(Wrong::NoRing(ring.surface)));
+    }
+    let points = points_of(alloc, ring.positions, vertices)?;
+    if points.len() < 3 {
+        return Ok(Some(Wrong::Short(points.len())));
+    }
+    Ok(equal_neighbours(points.as_slice()))
+}
+
+/// The first point that is equal to the next one, the first being next to the last.
+fn equal_neighbours(points: &[Point]) -> Option<Wrong> {
+    for next in 1..points.len() {
+        if points[next - 1] == points[next] {
+            return Some(Wrong::Equal(next - 1, next, points[next]));
+        }
+    }
+    let last = points.len().checked_sub(1)?;
+    if points[last] == points[0] {
+        Some(Wrong::Equal(last, 0, points[0]))
+    } else {
+        None
+    }
+}

@@ -1,0 +1,194 @@
+//! What is told of a shell that isn't closed: its open edges.
+ghost use Rattle.std.specs.Prelude.{◌<◌, length};
+
+use crate::details::Details;
+use crate::diagnostic::Diagnostic;
+use crate::shape::place::Place;
+use crate::shape::points::{Coordinates, points_of};
+use crate::shape::walk::{Ring, geometries_of, rings_of, surfaces_of};
+use city_model::OutOfMemory;
+use city_model::object::Point;
+use serde_json::Value;
+use std::alloc::Global;
+
+/// Of so many open edges each is told; of the others only how many there are.
+const MOST_TOLD: usize = 100;
+
+/// A point of a ring and the next one.
+type Edge = (Point, Point);
+
+/// The open edges of a shell.
+#[derive(Drop)]
+struct OpenEdges {
+    first: Option<Edge>,
+    count: usize,
+    /// The first ones, with their surfaces and rings.
+    told: Vec<Details>,
+}
+
+/// Says which shell isn't closed, and which edges of it are open.
+pub fn tell_open_shell(
+    alloc: Global,
+    object: &Value,
+    vertices: &[Point],
+    diagnostic: &mut Diagnostic,
+) -> Result<(), OutOfMemory> {
+    let geometries = geometries_of(object);
+    for number in 0..geometries.len() {
+        let geometry = &geometries[number];
+        let place = Place::new(number, geometry);
+        if let Some((place, edges)) = in_geometry(alloc, place, geometry, vertices)? {
+            return tell(alloc, &place, edges, diagnostic);
+        }
+    }
+    Ok(())
+}
+
+fn tell(
+    alloc: Global,
+    place: &Place<'_>,
+    edges: OpenEdges,
+    diagnostic: &mut Diagnostic,
+) -> Result<(), OutOfMemory> {
+    let OpenEdges { first, count, told } = edges;
+    place.tell(alloc, diagnostic)?;
+    if count > MOST_TOLD {
+        diagnostic.details.number("more", count - MOST_TOLD)?;
+    }
+    diagnostic.details.list("edges", told)?;
+    if let Some((from, to)) = first {
+        let from = Coordinates(from);
+        let to = Coordinates(to);
+        let message = format!(in alloc; "The shell has {count} open edges, the first from {from} to {to}.")?;
+        diagnostic.tell(
+            message,
+            "Close it, turn the face that is the wrong way round, or make it a MultiSurface.",
+        );
+    }
+    Ok(())
+}
+
+/// The first open shell of a geometry, and its open edges.
+fn in_geometry<'v>(
+    alloc: Global,
+    place: Place<'v>,
+    geometry: &'v Value,
+    vertices: &[Point],
+) -> Result<Option<(Place<'v>, OpenEdges)>, OutOfMemory> {
+    let lists = surfaces_of(alloc, geometry)?;
+    for surfaces in &lists {
+        if surfaces.shell.is_some() {
+            let rings = rings_of(alloc, surfaces)?;
+            let edges = open_edges(alloc, rings.as_slice(), vertices)?;
+            if edges.count > 0 {
+                return Ok(Some((place.at_shell(surfaces), edges)));
+            }
+        }
+    }
+    Ok(None)
+}
+
+/// The open edges of these rings: those that don't occur once, or whose reverse doesn't.
+fn open_edges(
+    alloc: Global,
+    rings: &[Ring<'_>],
+    vertices: &[Point],
+) -> Result<OpenEdges, OutOfMemory> {
+    let edges = sorted_edges(alloc, rings, vertices)?;
+    let mut found = OpenEdges {
+        first: None,
+        count: 0,
+        told: Vec::new(alloc),
+    };
+    for ring in rings {
+        let points = points_of(alloc, ring.positions, vertices)?;
+        push_open(alloc, ring, points.as_slice(), edges.as_slice(), &mut found)?;
+    }
+    Ok(found)
+}
+
+/// All edges of these rings, in order.
+fn sorted_edges(
+    alloc: Global,
+    rings: &[Ring<'_>],
+    vertices: &[Point],
+) -> Result<Vec<Edge>, OutOfMemory> {
+    let mut edges = Vec::new(alloc);
+    for ring in rings {
+        let points = points_of(alloc, ring.positions, vertices)?;
+        push_edges(points.as_slice(), &mut edges)?;
+    }
+    edges.sort_unstable();
+    Ok(edges)
+}
+
+/// Adds the edges of a ring.
+fn push_edges(points: &[Point], edges: &mut Vec<Edge>) -> Result<(), OutOfMemory> {
+    for at in 0..points.len() {
+        edges.push(edge_at(points, at))?;
+    }
+    Ok(())
+}
+
+/// The edge from a point of a ring to the next one.
+fn edge_at(points: &[Point], at: usize) -> Edge
+    requires { at < length points.now }
+{
+    if at + 1 < points.len() {
+        (points[at], points[at + 1])
+    } else {
+        (points[at], points[0])
+    }
+}
+
+/// Adds the open ones of a ring's edges; those of all rings are sorted.
+fn push_open(
+    alloc: Global,
+    ring: &Ring<'_>,
+    points: &[Point],
+    edges: &[Edge],
+    found: &mut OpenEdges,
+) -> Result<(), OutOfMemory> {
+    for at in 0..points.len() {
+        let edge = edge_at(points, at);
+        if is_open(edges, edge) {
+            push_edge(alloc, ring, edge, found)?;
+        }
+    }
+    Ok(())
+}
+
+fn push_edge(
+    alloc: Global,
+    ring: &Ring<'_>,
+    edge: Edge,
+    found: &mut OpenEdges,
+) -> Result<(), OutOfMemory> {
+    if found.first.is_none() {
+        found.first = Some(edge);
+    }
+    found.count = found.count.saturating_add(1);
+    if found.count <= MOST_TOLD {
+        let (from, to) = edge;
+        let mut details = Details::new(alloc);
+        details.point("from", from)?;
+        details.point("to", to)?;
+        details.number("surface", ring.surface)?;
+        details.number("ring", ring.ring.unwrap_or(0))?;
+        found.told.push(details)?;
+    }
+    Ok(())
+}
+
+fn is_open(edges: &[Edge], edge: Edge) -> bool {
+    let (from, to) = edge;
+    !occurs_once(edges, edge) || !occurs_once(edges, (to, from))
+}
+
+/// Whether an edge stands once among sorted ones.
+fn occurs_once(edges: &[Edge], edge: Edge) -> bool {
+    match edges.binary_search(&edge) {
+        Err(_) => false,
+        Ok(at) => !(at > 0 && edges[at - 1] == edge) && edges.get(at + 1) != Some(&edge),
+    }
+}

@@ -1,0 +1,140 @@
+"""What `cityed --check` tells of a text of scripts, found a second time, in plain Python: see diagnostics.py."""
+
+from commands import MOST_COMMANDS, MOST_SCRIPTS
+from diagnostics import bad_vertex, check_document, line, read, tree_faults
+from json_tree import are_triples
+
+ENDS = ("commit", "abort")
+# the members of each command, in the order in which an object is asked which command it names
+MEMBERS = {
+    "read": ["read"],
+    "put": ["put", "object"],
+    "delete": ["delete"],
+    "attach": ["attach", "parent"],
+    "detach": ["detach", "parent"],
+    "mark": ["mark"],
+    "back": ["back"],
+}
+NAMES = sorted([*MEMBERS, *ENDS])
+RULES = {5: "type", 6: "unsupported", 7: "geometry"}
+
+
+def check(document, scripts, decimals=False):
+    """All lines of a call; `scripts` is None where no SCRIPTS are given."""
+    lines = check_document(document, decimals)
+    return lines if scripts is None else lines + check_scripts(scripts, decimals)
+
+
+def check_scripts(text, decimals=False):
+    """The lines of a text of scripts."""
+    tree, told = read("scripts", text, decimals)
+    if told is not None:
+        return [told]
+    if not isinstance(tree, list):
+        form = "model" if isinstance(tree, dict) and tree.get("type") == "CityJSON" else None
+        return [line("scripts", 4, "NotScripts", form=form)]
+    lines, good = [], []
+    for number, script in enumerate(tree):
+        details = bad_script(script)
+        if details:
+            lines.append(line("scripts", 5, "BadScript", script=number, **details))
+        else:
+            good.append((number, script))
+    lines += too_many(tree, good)
+    misplaced = []
+    for number, script in good:
+        for place, command in enumerate(script["commands"]):
+            details = bad_command(command)
+            if details:
+                lines.append(line("scripts", 7, "BadCommand", script=number, command=place, **details))
+            elif "object" in command and not isinstance(command, str):
+                details = bad_vertex(command["object"], len(script.get("vertices", [])))
+                if details:
+                    misplaced.append(line("scripts", 8, "BadVertex", script=number, command=place, **details))
+    return lines + misplaced
+
+
+def bad_script(script):
+    """The first rule on scripts that an item doesn't meet."""
+    if not isinstance(script, dict):
+        return {"rule": "no object"}
+    if not isinstance(script.get("name"), str):
+        return {"rule": "name"}
+    commands = script.get("commands")
+    if not isinstance(commands, list):
+        return {"rule": "commands"}
+    first_end = next((at for at, command in enumerate(commands) if command in ENDS), None)
+    if first_end is None:
+        return {"rule": "no end"}
+    if first_end != len(commands) - 1:
+        return {"rule": "end not last", "command": first_end}
+    if not are_triples(script.get("vertices", [])):
+        return {"rule": "vertices"}
+    others = set(script) - {"name", "commands", "vertices"}
+    return {"rule": "member", "member": min(others)} if others else None
+
+
+def too_many(items, good):
+    if len(items) > MOST_SCRIPTS:
+        return [line("scripts", 6, "TooMany", scripts=len(items))]
+    for number, script in good:
+        if len(script["commands"]) > MOST_COMMANDS:
+            return [line("scripts", 6, "TooMany", script=number, commands=len(script["commands"]))]
+    return []
+
+
+def bad_command(command):
+    """The first rule on commands that this one doesn't meet."""
+    if isinstance(command, str):
+        return None if command in ENDS else no_command(command)
+    if not isinstance(command, dict):
+        return {"rule": "no command"}
+    name = next((name for name in MEMBERS if name in command), None)
+    if name is None:
+        return no_command(min(command, default=None))
+    for member in MEMBERS[name]:
+        if member not in command:
+            return {"rule": "missing", "member": member}
+    others = set(command) - set(MEMBERS[name])
+    if others:
+        return {"rule": "member", "member": min(others)}
+    for member in MEMBERS[name]:
+        if member != "object" and not isinstance(command[member], str):
+            return {"rule": "no text", "member": member}
+    return bad_object(command["object"]) if name == "put" else None
+
+
+def no_command(given):
+    return {"rule": "no command", "given": given, "nearest": None if given is None else nearest(given)}
+
+
+def bad_object(obj):
+    """The first rule on the object of a put that this one doesn't meet."""
+    if not isinstance(obj, dict):
+        return {"rule": "no object"}
+    for member in ("parents", "children"):
+        if member in obj:
+            return {"rule": "relations", "member": member}
+    for number, _, details in tree_faults(obj, 0):
+        if number in RULES:
+            return {"rule": RULES[number], **details}
+    return None
+
+
+def nearest(given):
+    """The name of a command that this may be meant for, or None."""
+    if len(given) > max(map(len, NAMES)) + 2:
+        return None
+    distance, name = min((levenshtein(given, name), name) for name in NAMES)
+    return name if distance <= 2 and distance < len(given) else None
+
+
+def levenshtein(one, other):
+    """How many letters have to be put in, taken out or changed to make one text of the other."""
+    row = list(range(len(other) + 1))
+    for at, letter in enumerate(one, 1):
+        following = [at]
+        for place, wanted in enumerate(other):
+            following.append(min(row[place + 1] + 1, following[place] + 1, row[place] + (letter != wanted)))
+        row = following
+    return row[-1]
