@@ -1,8 +1,8 @@
 -- Lines behind one another.
 use Rattle.city_diagnostics.proofs.Prelude.{◌≡◌, ◌++◌, ◌∷◌, List, ℕ, [], refl, append-nil, append_assoc, ap, ◌∙◌, sym}
 use Rattle.city_diagnostics.proofs.Prelude.{AreLinesOf, IsLineOf, FirstLineIs, Data, Some, None, slice_get, object}
-use Rattle.city_diagnostics.proofs.Prelude.{compact_text, ◌+◌, ◌<◌, ◌≤◌, arith, length}
-use Rattle.std.proofs.lemmas.List.{length-append}
+use Rattle.city_diagnostics.proofs.Prelude.{compact_text, ◌+◌, ◌<◌, ◌≤◌, ◌⊎◌, arith, length, take, get_or, inl, inr, subst}
+use Rattle.std.proofs.lemmas.List.{length-append, take_more}
 
 -- a line more
 pub one_more : {F : Type 0} (tells : F → Data → Type 0) (fs : List F) (f : F) (lines line : List ℕ)
@@ -36,7 +36,25 @@ no_fault tells (f ∷ fs) lines told empty = absurd (cc)
 -- the first line tells the first fault
 pub first_line : {F : Type 0} (tells : F → Data → Type 0) (fs : List F) (lines : List ℕ) (f : F)
     → AreLinesOf tells fs lines → slice_get fs 0 ≡ Some f → FirstLineIs (tells f) lines
-first_line tells [] lines f told first = absurd (cc)
-first_line tells (g ∷ fs) lines f told first =
+first_line {F} tells [] lines f told first = absurd (cc)
+first_line {F} tells (g ∷ fs) lines f told first =
     let same : g ≡ f = cc in
-    (told.0, told.1, subst (λ h. IsLineOf (tells h) told.0) same told.2, told.4)
+    (told.0, told.1, subst (λ (h : F). IsLineOf (tells h) told.0) same told.2, told.4)
+
+-- where the first fault is such a one, there is no line, or the first tells such a fault
+pub first_told : {F : Type 0} (tells : F → Data → Type 0) (P : F → Type 0) (fs : List F) (lines : List ℕ)
+    → AreLinesOf tells fs lines → ((f : F) → slice_get fs 0 ≡ Some f → P f)
+    → (lines ≡ []) ⊎ ((f : F) × P f × FirstLineIs (tells f) lines)
+first_told tells P [] lines told h = inl told
+first_told tells P (f ∷ fs) lines told h = inr (f, h f refl, (told.0, told.1, told.2, told.4))
+
+-- the lines of one fault more
+pub grown : {F : Type 0} (tells : F → Data → Type 0) (fs : List F) (n : ℕ) (f : F) (lines line more : List ℕ)
+    → n < length fs → f ≡ get_or fs n f → AreLinesOf tells (take n fs) lines → IsLineOf (tells f) line
+    → more ≡ lines ++ line → AreLinesOf tells (take (n + 1) fs) more
+grown {F} tells fs n f lines line more below is told this joined =
+    let taken : take (n + 1) fs ≡ take n fs ++ f ∷ [] =
+        take_more fs n f below ∙ ap (λ (g : F). take n fs ++ g ∷ []) (sym is) in
+    subst (λ (s : List ℕ). AreLinesOf tells (take (n + 1) fs) s) (sym joined)
+    (subst (λ (gs : List F). AreLinesOf tells gs (lines ++ line)) (sym taken)
+    (one_more tells (take n fs) f lines line told this))
