@@ -1,6 +1,7 @@
 -- A value without a float, put among members without one.
-use Rattle.city_diagnostics.proofs.Prelude.{◌≡◌, ◌∷◌, ◌++◌, List, ℕ, [], Data, Members, no_members, member, put, has_float}
-use Rattle.city_diagnostics.proofs.Prelude.{members_have_float, items_have_float, items_of, false, refl, nat_cmp}
+use Rattle.city_diagnostics.proofs.Prelude.{◌≡◌, ◌∷◌, ◌++◌, List, ℕ, [], Data, Members, no_members, member, put}
+use Rattle.city_diagnostics.proofs.Prelude.{has_float, members_have_float, items_have_float, items_of, false, refl}
+use Rattle.city_diagnostics.proofs.Prelude.{nat_cmp}
 use Rattle.city_diagnostics.proofs.Prelude.{Ordering, Less, Equal, Greater, match_ordering, slice_cmp}
 use Rattle.city_diagnostics.proofs.Prelude.{map, view, object, number, sym, subst, ◌∙◌, ℤ, pos, negsuc}
 use Rattle.std.proofs.lemmas.Bool.{or_parts}
@@ -38,9 +39,9 @@ pub object_pushed : (vs : List Value) (os : List Members) (v : Value) (ms : Memb
 object_pushed vs os v ms same h seen g =
     let shown : map view (vs ++ v ∷ []) ≡ map object os ++ object ms ∷ [] = rw (map-append, same, seen) refl in
     let free : has_float (object ms) ≡ false = g in
-    let all = one_more_stays (map object os) (object ms) (subst (λ (ds : List Data). items_have_float (items_of ds) ≡ false) same h) free in
-    (shown ∙ sym (map-append object os (ms ∷ [])),
-        subst (λ (ds : List Data). items_have_float (items_of ds) ≡ false) (sym shown) all)
+    let HasNone : List Data → Type 0 = λ ds. items_have_float (items_of ds) ≡ false in
+    let all = one_more_stays (map object os) (object ms) (subst HasNone same h) free in
+    (shown ∙ sym (map-append object os (ms ∷ [])), subst HasNone (sym shown) all)
 
 -- a whole number is no float
 pub integer_is_no_float : (z : ℤ) → has_float (number (of_integer z)) ≡ false

@@ -1,6 +1,7 @@
 -- What the members that are put last tell.
 use Rattle.city_diagnostics.proofs.Prelude.{◌≡◌, ◌∙◌, ℕ, List, Data, Members, object, put, string, number, unsigned}
-use Rattle.city_diagnostics.proofs.Prelude.{Some, codes, get, refl, false, same_id, get_member-put, get_member-put_apart}
+use Rattle.city_diagnostics.proofs.Prelude.{Some, codes, get, refl, false, same_id, get_member-put}
+use Rattle.city_diagnostics.proofs.Prelude.{get_member-put_apart}
 use Rattle.city_diagnostics.proofs.Prelude.{ReadFault, TellsFault, Tells, rank_of, name_of}
 use Rattle.city_diagnostics.proofs.Prelude.{BadGeometry, BadRing, BadVertex, NotCityJson, NotJson, NotWhole, OpenShell}
 use Rattle.city_diagnostics.proofs.Prelude.{OutOfMemory, Relations, TooLong, UnknownType, Unsupported}
@@ -48,7 +49,7 @@ headed : (kind name : List ℕ) (n : ℕ) (message cure : List ℕ) (ms : Member
 headed kind name n message cure ms = record {
   text = simp (get_member-put, get_member-put_apart);
   number = simp (get_member-put, get_member-put_apart);
-  fault = simp (get_member-put, get_member-put_apart);
+  fault = simp get_member-put;
   message = (message, simp (get_member-put, get_member-put_apart));
   cure = (cure, simp (get_member-put, get_member-put_apart));
 }
@@ -75,54 +76,75 @@ two_named kind name n message cure ms k d l e other another apart =
 -- a fault of a document is told by its head and by what it names
 pub told : (f : ReadFault) (message cure : List ℕ) (ms : Members)
     → Tells f (object (with_named f (with_head (codes "model") (rank_of f) (name_of f) (with_words message cure ms))))
-told OutOfMemory message cure ms = record { fault = headed (codes "model") (codes "OutOfMemory") 0 message cure ms; named = tt }
-told TooLong message cure ms = record { fault = headed (codes "model") (codes "TooLong") 1 message cure ms; named = tt }
-told NotJson message cure ms = record { fault = headed (codes "model") (codes "NotJson") 2 message cure ms; named = tt }
-told NotWhole message cure ms = record { fault = headed (codes "model") (codes "NotWhole") 3 message cure ms; named = tt }
+told OutOfMemory message cure ms =
+    record { fault = headed (codes "model") (codes "OutOfMemory") 0 message cure ms; named = tt }
+told TooLong message cure ms =
+    record { fault = headed (codes "model") (codes "TooLong") 1 message cure ms; named = tt }
+told NotJson message cure ms =
+    record { fault = headed (codes "model") (codes "NotJson") 2 message cure ms; named = tt }
+told NotWhole message cure ms =
+    record { fault = headed (codes "model") (codes "NotWhole") 3 message cure ms; named = tt }
 told (NotCityJson member) message cure ms =
-    let all = one_named (codes "model") (codes "NotCityJson") 4 message cure ms (codes "member") (string member) is_member in
+    let all = one_named (codes "model") (codes "NotCityJson") 4 message cure ms
+        (codes "member") (string member) is_member in
     record { fault = all.0; named = all.1 }
 told (UnknownType id) message cure ms =
-    let all = one_named (codes "model") (codes "UnknownType") 5 message cure ms (codes "id") (string id) is_id in
+    let all = one_named (codes "model") (codes "UnknownType") 5 message cure ms
+        (codes "id") (string id) is_id in
     record { fault = all.0; named = all.1 }
 told (Unsupported id name) message cure ms =
-    let all = two_named (codes "model") (codes "Unsupported") 6 message cure ms (codes "id") (string id) (codes "name") (string name)
+    let all = two_named (codes "model") (codes "Unsupported") 6 message cure ms
+        (codes "id") (string id) (codes "name") (string name)
         is_id is_name refl in
     record { fault = all.0; named = (all.1, all.2) }
 told (BadGeometry id) message cure ms =
-    let all = one_named (codes "model") (codes "BadGeometry") 7 message cure ms (codes "id") (string id) is_id in
+    let all = one_named (codes "model") (codes "BadGeometry") 7 message cure ms
+        (codes "id") (string id) is_id in
     record { fault = all.0; named = all.1 }
 told (BadVertex id) message cure ms =
-    let all = one_named (codes "model") (codes "BadVertex") 8 message cure ms (codes "id") (string id) is_id in
+    let all = one_named (codes "model") (codes "BadVertex") 8 message cure ms
+        (codes "id") (string id) is_id in
     record { fault = all.0; named = all.1 }
 told (BadRing id) message cure ms =
-    let all = one_named (codes "model") (codes "BadRing") 9 message cure ms (codes "id") (string id) is_id in
+    let all = one_named (codes "model") (codes "BadRing") 9 message cure ms
+        (codes "id") (string id) is_id in
     record { fault = all.0; named = all.1 }
 told (Relations id) message cure ms =
-    let all = one_named (codes "model") (codes "Relations") 10 message cure ms (codes "id") (string id) is_id in
+    let all = one_named (codes "model") (codes "Relations") 10 message cure ms
+        (codes "id") (string id) is_id in
     record { fault = all.0; named = all.1 }
 told (OpenShell id) message cure ms =
-    let all = one_named (codes "model") (codes "OpenShell") 11 message cure ms (codes "id") (string id) is_id in
+    let all = one_named (codes "model") (codes "OpenShell") 11 message cure ms
+        (codes "id") (string id) is_id in
     record { fault = all.0; named = all.1 }
 
 -- so is a fault of scripts
 pub script_told : (f : ScriptFault) (message cure : List ℕ) (ms : Members)
     → TellsScript f (object (with_script_named f
     (with_head (codes "scripts") (script_rank_of f) (script_name_of f) (with_words message cure ms))))
-script_told ScriptFault.OutOfMemory message cure ms = record { fault = headed (codes "scripts") (codes "OutOfMemory") 0 message cure ms; named = tt }
-script_told ScriptFault.TooLong message cure ms = record { fault = headed (codes "scripts") (codes "TooLong") 1 message cure ms; named = tt }
-script_told ScriptFault.NotJson message cure ms = record { fault = headed (codes "scripts") (codes "NotJson") 2 message cure ms; named = tt }
-script_told ScriptFault.NotWhole message cure ms = record { fault = headed (codes "scripts") (codes "NotWhole") 3 message cure ms; named = tt }
-script_told ScriptFault.NotScripts message cure ms = record { fault = headed (codes "scripts") (codes "NotScripts") 4 message cure ms; named = tt }
+script_told ScriptFault.OutOfMemory message cure ms =
+    record { fault = headed (codes "scripts") (codes "OutOfMemory") 0 message cure ms; named = tt }
+script_told ScriptFault.TooLong message cure ms =
+    record { fault = headed (codes "scripts") (codes "TooLong") 1 message cure ms; named = tt }
+script_told ScriptFault.NotJson message cure ms =
+    record { fault = headed (codes "scripts") (codes "NotJson") 2 message cure ms; named = tt }
+script_told ScriptFault.NotWhole message cure ms =
+    record { fault = headed (codes "scripts") (codes "NotWhole") 3 message cure ms; named = tt }
+script_told ScriptFault.NotScripts message cure ms =
+    record { fault = headed (codes "scripts") (codes "NotScripts") 4 message cure ms; named = tt }
 script_told (ScriptFault.BadScript n) message cure ms =
-    let all = one_named (codes "scripts") (codes "BadScript") 5 message cure ms (codes "script") (number (unsigned n)) is_script in
+    let all = one_named (codes "scripts") (codes "BadScript") 5 message cure ms
+        (codes "script") (number (unsigned n)) is_script in
     record { fault = all.0; named = all.1 }
-script_told ScriptFault.TooMany message cure ms = record { fault = headed (codes "scripts") (codes "TooMany") 6 message cure ms; named = tt }
+script_told ScriptFault.TooMany message cure ms =
+    record { fault = headed (codes "scripts") (codes "TooMany") 6 message cure ms; named = tt }
 script_told (ScriptFault.BadCommand n i) message cure ms =
-    let all = two_named (codes "scripts") (codes "BadCommand") 7 message cure ms (codes "script") (number (unsigned n)) (codes "command") (number (unsigned i))
+    let all = two_named (codes "scripts") (codes "BadCommand") 7 message cure ms
+        (codes "script") (number (unsigned n)) (codes "command") (number (unsigned i))
         is_script is_command refl in
     record { fault = all.0; named = (all.1, all.2) }
 script_told (ScriptFault.BadVertex n i) message cure ms =
-    let all = two_named (codes "scripts") (codes "BadVertex") 8 message cure ms (codes "script") (number (unsigned n)) (codes "command") (number (unsigned i))
+    let all = two_named (codes "scripts") (codes "BadVertex") 8 message cure ms
+        (codes "script") (number (unsigned n)) (codes "command") (number (unsigned i))
         is_script is_command refl in
     record { fault = all.0; named = (all.1, all.2) }

@@ -58,7 +58,8 @@ byte_stays x = elim (cases_eq x 10) [
   | inl is ↦ subst (λ (y : ℕ). is_one_line (escape_byte y) ≡ true) (sym is) refl
   | inr other ↦ either_stays (nat_lt 0 (escape_letter x)) (92 ∷ escape_letter x ∷ []) _
       (and_from _ _ (letter_stays x) refl)
-      (either_stays (nat_lt x 32) _ (x ∷ []) (and_from _ _ (char_stays (x / 16)) (and_from _ _ (char_stays (x % 16)) refl))
+      (either_stays (nat_lt x 32) _ (x ∷ [])
+      (and_from _ _ (char_stays (x / 16)) (and_from _ _ (char_stays (x % 16)) refl))
       (and_from _ _ (other_stays x other) refl))
 ]
 

@@ -1,4 +1,5 @@
-use Rattle.city_diagnostics.proofs.Prelude.{◌≡◌, ◌∙◌, ap, Data, Members, List, ℕ, object, string_bytes, sym, subst, IfOk-weaker}
+use Rattle.city_diagnostics.proofs.Prelude.{◌≡◌, ◌∙◌, ap, Data, Members, List, ℕ, object, string_bytes, sym, subst}
+use Rattle.city_diagnostics.proofs.Prelude.{IfOk-weaker}
 use Rattle.city_diagnostics.proofs.Prelude.{IsLineOf, IsLineOfMembers, Tells, rank_of, name_of, codes}
 use Rattle.city_diagnostics.proofs.Heads.{told}
 use Rattle.city_diagnostics.specs.inside.Heads.{with_named, with_head, with_words}
