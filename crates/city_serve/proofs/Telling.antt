@@ -38,7 +38,7 @@ told_next viewer all seen given u v w before after within at same told line fine
 
 -- ---- how the program ends
 
-told_fault : (explained : Bool) (f : ServeFault) (behind text : List ℕ) → (explained ≡ false → behind ≡ [])
+pub told_fault : (explained : Bool) (f : ServeFault) (behind text : List ℕ) → (explained ≡ false → behind ≡ [])
     → IsFaultText f behind text → IsToldFault explained f text
 told_fault true f behind text none (inl is) = inl (behind, is)
 told_fault true f behind text none (inr is) = inr is
@@ -78,14 +78,14 @@ module _ (terminal : Bool) (s : Streams) (told telling : Option (List ℕ)) (mut
     ends_told Status.Failed status seen answered lines = absurd answered
     ends_told Status.Refused status seen answered lines = absurd answered
 
-    pub ends_faulty : (before : Bool) (f : ServeFault) (behind : List ℕ) → IsUnanswered s asked f
-        → (is_explained terminal asked ≡ false → behind ≡ [])
-        → ((text : List ℕ) × IsFaultText f behind text × IsToldAfter before told telling mute text)
+    pub ends_faulty : (before : Bool) (f : ServeFault) → IsUnanswered s asked f
+        → ((text : List ℕ) × IsToldFault (is_explained terminal asked) f text
+        × IsToldAfter before told telling mute text)
         → EndsAsked terminal asked Status.Failed s told telling mute
-    ends_faulty before f behind unanswered none text = inl (record {
+    ends_faulty before f unanswered text = inl (record {
       fault = f;
       unanswered = unanswered;
       line = text.0;
-      line_is = told_fault (is_explained terminal asked) f behind text.0 none text.1;
+      line_is = text.1;
       why = text.2.0;
     })

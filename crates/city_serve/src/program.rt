@@ -4,7 +4,8 @@ ghost use Rattle.city_serve.specs.CommandLines.{HasOptions};
 ghost use Rattle.city_serve.specs.FaultTexts.{fault_text};
 ghost use Rattle.city_serve.specs.SeenTexts.{seen_text};
 ghost use Rattle.city_serve.specs.declared.program.Status.{Status};
-ghost use Rattle.city_serve.specs.Programs.{status_code, is_explained, IsUnanswered, IsLineTold, Ends, EndsAsked};
+ghost use Rattle.city_serve.specs.Programs.{status_code, is_explained, IsUnanswered, IsLineTold, IsToldFault};
+ghost use Rattle.city_serve.specs.Programs.{Ends, EndsAsked};
 ghost use Rattle.city_serve.specs.inside.Telling.{run_status, check_status, IsAnsweredAs, IsFaultText, IsToldAfter};
 ghost use Rattle.city_serve.specs.inside.Telling.{IsSeenTold};
 
@@ -138,13 +139,32 @@ fn run_asked<T: Threads + Wait + Sync, G: Gate + Sync, F: OutputFiles, R: Read, 
         rt, alloc, gate, seed, files, &mut texts, asked, input, output,
     ) {
         Ok(answer) => tell_seen(alloc, answer.seen.as_slice(), answer.status, errors),
-        Err(fault) => {
-            let behind = behind_line(
-                alloc, terminal, &fault, asked, &texts, files, input, output,
-            );
-            tell_fault(alloc, &fault, behind, errors)
-        }
+        Err(fault) => tell_unanswered(
+            alloc, terminal, fault, asked, texts, files, input, output, errors,
+        ),
     }
+}
+
+/// Tells why what was asked for isn't done, and what explains that where it is explained.
+fn tell_unanswered<F: OutputFiles, R: Read, W: Write, E: Write>(
+    alloc: Global,
+    terminal: bool,
+    fault: ServeFault,
+    asked: &Asked<'_>,
+    texts: Texts,
+    files: &F,
+    input: &Device<R>,
+    output: &Device<W>,
+    errors: &mut Device<E>,
+) -> Status
+    ensures status { result ≡ Status.Failed }
+    ensures told { (text : List ℕ) × IsToldFault (is_explained terminal asked.now) fault text
+        × IsToldAfter errors.old.1 (E.contents errors.old.0) (E.contents errors.new.0) errors.new.1 text }
+{
+    let behind = behind_line(
+        alloc, terminal, &fault, asked, &texts, files, input, output,
+    );
+    tell_fault(alloc, &fault, behind.as_str(), errors)
 }
 
 /// What is told behind the line of a fault: nothing where it isn't explained, or memory is short for that.
@@ -349,14 +369,14 @@ fn tell_memory<E: Write>(errors: &mut Device<E>) -> Status
 fn tell_fault<E: Write>(
     alloc: Global,
     fault: &ServeFault,
-    behind: String,
+    behind: &str,
     errors: &mut Device<E>,
 ) -> Status
     ensures status { result ≡ Status.Failed }
-    ensures told { (text : List ℕ) × IsFaultText fault.now (string_bytes behind) text
+    ensures told { (text : List ℕ) × IsFaultText fault.now behind.now text
         × IsToldAfter errors.old.1 (E.contents errors.old.0) (E.contents errors.new.0) errors.new.1 text }
 {
-    match ended_line(alloc, fault, behind.as_str()) {
+    match ended_line(alloc, fault, behind) {
         Ok(line) => tell(errors, line.as_str()),
         Err(OutOfMemory) => tell(errors, MEMORY_LINE),
     }

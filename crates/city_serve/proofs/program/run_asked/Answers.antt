@@ -27,10 +27,9 @@ returns-in-Err g c =
       failed = c.answer.new.output.1;
     } in
     let told = g.E.Write.contents c.args.errors.now.0 in
-    let telling = g.E.Write.contents c.tell_fault.new.errors.0 in
-    let mute = c.tell_fault.new.errors.1 in
+    let telling = g.E.Write.contents c.tell_unanswered.new.errors.0 in
+    let mute = c.tell_unanswered.new.errors.1 in
     subst (λ status. EndsAsked c.args.terminal c.args.asked.now status streams told telling mute)
-    (sym c.tell_fault.ensures.status)
-    (ends_faulty c.args.terminal streams told telling mute c.args.asked.now c.args.errors.now.1 c.in-Err.fault _
-    c.in-Err.ensures.fault c.behind_line-behind.ensures
-    c.tell_fault.ensures.told)
+    (sym c.tell_unanswered.ensures.status)
+    (ends_faulty c.args.terminal streams told telling mute c.args.asked.now c.args.errors.now.1 c.in-Err.fault
+    c.in-Err.ensures.fault c.tell_unanswered.ensures.told)
