@@ -31,7 +31,7 @@ digits_stay (suc k) base upper n acc h =
     let d = digit_glyph upper (n % base) in
     let more : is_one_line (d ∷ acc) ≡ true = and_from _ _ (glyph_stays upper (n % base)) h in
     either_stays (n / base == 0) (d ∷ acc) (digits_onto k base upper (n / base) (d ∷ acc)) more
-        (digits_stay k base upper (n / base) (d ∷ acc) more)
+    (digits_stay k base upper (n / base) (d ∷ acc) more)
 
 decimal_stays : (n : ℕ) → is_one_line (decimal n) ≡ true
 unfolding digits
