@@ -56,12 +56,7 @@ fn scripts(
 }
 
 /// What is told of a text's fault, between the line that names the file and the one that says how all are told.
-fn around(
-    alloc: Global,
-    asked: &Asked<'_>,
-    name: &str,
-    told: &str,
-) -> Result<String, OutOfMemory> {
+fn around(alloc: Global, asked: &Asked<'_>, name: &str, told: &str) -> Result<String, OutOfMemory> {
     let mut lines = String::new(alloc);
     push_line(&mut lines, "file", name)?;
     lines.push_str(told)?;

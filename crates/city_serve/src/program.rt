@@ -161,9 +161,7 @@ fn tell_unanswered<F: OutputFiles, R: Read, W: Write, E: Write>(
     ensures told { (text : List ℕ) × IsToldFault (is_explained terminal asked.now) fault text
         × IsToldAfter errors.old.1 (E.contents errors.old.0) (E.contents errors.new.0) errors.new.1 text }
 {
-    let behind = behind_line(
-        alloc, terminal, &fault, asked, &texts, files, input, output,
-    );
+    let behind = behind_line(alloc, terminal, &fault, asked, &texts, files, input, output);
     tell_fault(alloc, &fault, behind.as_str(), errors)
 }
 
@@ -214,11 +212,7 @@ fn check_answer(alloc: Global, faulty: bool) -> Answered
     ensures seen { result.seen.items ≡ [] }
     ensures status { result.status ≡ check_status faulty }
 {
-    let status = if faulty {
-        Status::Faulty
-    } else {
-        Status::Done
-    };
+    let status = if faulty { Status::Faulty } else { Status::Done };
     Answered {
         seen: Vec::new(alloc),
         status,

@@ -68,7 +68,10 @@ pub(crate) fn run_whole<R: Threads + Wait + Sync, G: Gate + Sync>(
     ensures fault { IfErr result (IsFaultOfRun
         texts.old.document.bytes.items texts.old.scripts.bytes.items options.workers options.viewers) }
 {
-    let (model, commands) = (texts.document.bytes.as_slice(), texts.scripts.bytes.as_slice());
+    let (model, commands) = (
+        texts.document.bytes.as_slice(),
+        texts.scripts.bytes.as_slice(),
+    );
     if options.workers == 1 && options.viewers == 0 {
         let (city, list) = read_texts(alloc, model, commands)?;
         let room = model.len();
