@@ -1,6 +1,6 @@
 -- What a check writes, of the texts that it reads.
-use Rattle.city_serve.proofs.Prelude.{◌≡◌, ◌++◌, ℕ, Bool, true, false, List, [], Option, Some, None, IfSome, refl, sym}
-use Rattle.city_serve.proofs.Prelude.{subst, append-nil, Vec, Appends, Asked}
+use Rattle.city_serve.proofs.Prelude.{◌≡◌, ◌++◌, ℕ, Bool, true, false, List, [], Option, Some, IfSome, refl, sym}
+use Rattle.city_serve.proofs.Prelude.{subst, Vec, Appends, Asked}
 use Rattle.std.proofs.Common.{Bor}
 use Rattle.std.proofs.lemmas.Option.{IfSome_then}
 use Rattle.city_serve.specs.Checks.{AreModelLines, AreScriptsLines, AreCheckLines, HasLines, OfFiles}
@@ -10,34 +10,20 @@ use Rattle.city_serve.specs.declared.options.Options.{Options}
 use Rattle.city_serve.specs.declared.program.Status.{Status}
 use Rattle.city_serve.specs.inside.Telling.{IsAnsweredAs, check_status}
 
-module _ (texts : Folder) (decimals : Bool) (model : List ℕ) where
-  -- a model is read, and its lines are made
-  pub model_alone : (document first : List ℕ) → IfSome (texts model) (λ all. document ≡ all)
-      → AreModelLines decimals document first
-      → OfFiles texts model None (λ all commands. AreCheckLines decimals all commands first)
-  model_alone document first read lines =
-      IfSome_then (texts model) read (λ all same. record {
-        first = first;
-        behind = [];
-        of_model = subst (λ t. AreModelLines decimals t first) same lines;
-        of_scripts = refl;
-        lines_are = sym (append-nil first);
-      })
-
-  -- scripts too
-  pub model_and_scripts : (scripts document commands first behind lines : List ℕ)
-      → IfSome (texts model) (λ all. document ≡ all) → AreModelLines decimals document first
-      → IfSome (texts scripts) (λ all. commands ≡ all) → AreScriptsLines decimals commands behind
-      → lines ≡ first ++ behind
-      → OfFiles texts model (Some scripts) (λ all more. AreCheckLines decimals all more lines)
-  model_and_scripts scripts document commands first behind lines read of_model more of_scripts are =
-      IfSome_then (texts model) read (λ all same. IfSome_then (texts scripts) more (λ all_scripts same_scripts. record {
-        first = first;
-        behind = behind;
-        of_model = subst (λ t. AreModelLines decimals t first) same of_model;
-        of_scripts = subst (λ t. AreScriptsLines decimals t behind) same_scripts of_scripts;
-        lines_are = are;
-      }))
+-- a model and scripts are read, and their lines are made
+pub model_and_scripts : (texts : Folder) (decimals : Bool) (model scripts document commands first behind lines : List ℕ)
+    → IfSome (texts model) (λ all. document ≡ all) → AreModelLines decimals document first
+    → IfSome (texts scripts) (λ all. commands ≡ all) → AreScriptsLines decimals commands behind
+    → lines ≡ first ++ behind
+    → OfFiles texts model (Some scripts) (λ all more. AreCheckLines decimals all more lines)
+model_and_scripts texts decimals model scripts document commands first behind lines read of_model more of_scripts are =
+    IfSome_then (texts model) read (λ all same. IfSome_then (texts scripts) more (λ all_scripts same_scripts. record {
+      first = first;
+      behind = behind;
+      of_model = subst (λ t. AreModelLines decimals t first) same of_model;
+      of_scripts = subst (λ t. AreScriptsLines decimals t behind) same_scripts of_scripts;
+      lines_are = are;
+    }))
 
 -- ---- with which status
 
