@@ -8,6 +8,7 @@ PROGRAM is a built cityed. Prints how many calls were made, and ends at the firs
 
 import itertools
 import os
+import pty
 import subprocess
 import sys
 import tempfile
@@ -46,6 +47,20 @@ REFUSED = '[{"name":"s","commands":[{"delete":"z"},"commit"]}]'
 REFUSED_LINE = (
     '{"at":0,"cause":"NoObject","id":"z","name":"s","outcome":"refused","replies":[],"script":0,"since":0}\n'
 )
+UNKNOWN = model('{"b":{"type":"Bulding"}}')
+UNKNOWN_LINE = (
+    '{"cure":"Use a type of CityJSON 2.0, or GenericCityObject.","fault":"UnknownType","given":"Bulding","id":"b",'
+    '"message":"Its type \\"Bulding\\" is no type of CityJSON 2.0.","number":5,"text":"model"}\n'
+)
+UNKNOWN_TOLD = 'cityed: model: 5 UnknownType "b"\n'
+UNKNOWN_EXPLAINED = (
+    UNKNOWN_TOLD + "  file: {}\n"
+    '  where: object "b"\n'
+    '  what: Its type "Bulding" is no type of CityJSON 2.0.\n'
+    "  cure: Use a type of CityJSON 2.0, or GenericCityObject.\n"
+    "  all faults: {}\n"
+)
+MISSING = "cityed: cannot read\n  file: MISSING\n  what: No such file or directory (os error 2)\n"
 VERSION = "cityed 0.1.0\n"
 USAGE = (
     "\n\nUsage: cityed [--decimals] [--workers N] [--watch K] [--output FILE] [--atomic] [--explain] [MODEL SCRIPTS]\n"
@@ -75,6 +90,33 @@ CALLS = [
     (["MISSING", "SCRIPTS"], "", 1, "", "cityed: cannot read\n"),
     (["MODEL", "MISSING"], "", 1, "", "cityed: cannot read\n"),
     (["FOLDER", "SCRIPTS"], "", 1, "", "cityed: cannot read\n"),
+    (["--check", "MODEL", "SCRIPTS"], "", 0, "", ""),
+    (["MODEL", "--check"], "", 0, "", ""),
+    (["--check", "UNKNOWN", "SCRIPTS"], "", 1, UNKNOWN_LINE, ""),
+    (["--check", "--decimals", "UNKNOWN"], "", 1, UNKNOWN_LINE, ""),
+    (["--check", "UNKNOWN", "MISSING"], "", 1, "", "cityed: cannot read\n"),
+    (["--check", "--explain", "MISSING"], "", 1, "", MISSING),
+    (["UNKNOWN", "SCRIPTS"], "", 1, "", UNKNOWN_TOLD),
+    (
+        ["--explain", "UNKNOWN", "SCRIPTS"],
+        "",
+        1,
+        "",
+        UNKNOWN_EXPLAINED.format("UNKNOWN", "cityed --check UNKNOWN SCRIPTS"),
+    ),
+    (
+        ["--explain", "--decimals"],
+        UNKNOWN + "\n[]",
+        1,
+        "",
+        UNKNOWN_EXPLAINED.format(
+            "standard input, its first line",
+            "put the two texts into files, and run cityed --check --decimals MODEL SCRIPTS",
+        ),
+    ),
+    (["--explain", "MISSING", "SCRIPTS"], "", 1, "", MISSING),
+    (["--explain", "MODEL", "MISSING"], "", 1, "", MISSING),
+    (["--explain", "MODEL", "SCRIPTS"], "", 0, OUTPUT, ""),
     (["--version"], "", 0, VERSION, ""),
     (["-V"], "", 0, VERSION, ""),
     (["--help"], "", 0, sample("help.txt").decode("utf-8"), ""),
@@ -151,18 +193,35 @@ def full_device(program, folder):
     return 1
 
 
+def on_terminal(program, folder):
+    """A standard error that is a terminal: a fault is explained there."""
+    ours, theirs = pty.openpty()
+    try:
+        ran = subprocess.run(
+            [program, "UNKNOWN", "SCRIPTS"], stdout=subprocess.PIPE, stderr=theirs, cwd=folder, timeout=LIMIT, check=False
+        )
+        told = os.read(ours, 65536).decode("utf-8").replace("\r\n", "\n")
+    finally:
+        os.close(theirs)
+        os.close(ours)
+    wanted = (1, b"", UNKNOWN_EXPLAINED.format("UNKNOWN", "cityed --check UNKNOWN SCRIPTS"))
+    if (ran.returncode, ran.stdout, told) != wanted:
+        raise Wrong(["UNKNOWN", "SCRIPTS", "2> TERMINAL"], (ran.returncode, ran.stdout, told), wanted)
+    return 1
+
+
 def main():
     if len(sys.argv) != 2:
         print(__doc__)
         return 2
     program = os.path.abspath(sys.argv[1])
     with tempfile.TemporaryDirectory() as folder:
-        for name, text in (("MODEL", DOCUMENT), ("SCRIPTS", SCRIPTS)):
+        for name, text in (("MODEL", DOCUMENT), ("SCRIPTS", SCRIPTS), ("UNKNOWN", UNKNOWN)):
             with open(os.path.join(folder, name), "w", encoding="utf-8") as file:
                 file.write(text)
         os.mkdir(os.path.join(folder, "FOLDER"))
         try:
-            for kind in (each_call, two_orders, no_text, full_device):
+            for kind in (each_call, two_orders, no_text, full_device, on_terminal):
                 print(f"{kind.__name__}: {kind(program, folder)} as they should be", flush=True)
         except (Wrong, subprocess.TimeoutExpired) as wrong:
             print("WRONG:", *(str(part)[:800] for part in wrong.args))

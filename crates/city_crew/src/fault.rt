@@ -17,12 +17,22 @@ pub enum CrewFault {
 }
 
 impl From<OutOfMemory> for CrewFault {
+    ghost use Rattle.std.specs.Prelude.{◌≡◌};
+    ghost use Rattle.city_crew.specs.declared.fault.CrewFault.{CrewFault};
+
+    ghost from_gives = { λ _ f. f ≡ CrewFault.OutOfMemory };
+
     fn from(_: OutOfMemory) -> CrewFault {
         CrewFault::OutOfMemory
     }
 }
 
 impl From<BoardFault> for CrewFault {
+    ghost use Rattle.std.specs.Prelude.{◌≡◌};
+    ghost use Rattle.city_crew.specs.inside.CrewFaults.{fault_of_board};
+
+    ghost from_gives = { λ f r. r ≡ fault_of_board f };
+
     fn from(fault: BoardFault) -> CrewFault {
         match fault {
             BoardFault::OutOfMemory => CrewFault::OutOfMemory,

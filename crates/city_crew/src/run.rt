@@ -3,6 +3,7 @@ ghost use Rattle.std.specs.Prelude.{◌≡◌, ◌≤◌, ℕ, List, [], length,
 ghost use Rattle.city_model.specs.CityMap.{object_at};
 ghost use Rattle.city_model.specs.Relations.{IsLawful};
 ghost use Rattle.city_model.specs.SerialEnds.{commits_in};
+ghost use Rattle.city_doc.specs.Outputs.{IsJsonOutput};
 ghost use Rattle.city_doc.specs.report.Reports.{report_text};
 ghost use Rattle.city_desk.specs.RunFaults.{IsRunFault};
 ghost use Rattle.city_desk.specs.TextRuns.{IsRun};
@@ -64,6 +65,7 @@ pub fn run_crew<R: Threads + Wait + Sync, G: Gate + Sync>(
     ensures ran { IfOk result (λ o. IsRun document.now scripts.now o.ends o.bytes.items) }
     ensures seen { IfOk result (λ o. AreSeen viewers (commits_in o.ends) o.seen.items) }
     ensures report { IfOk result (λ o. o.report ≡ length (report_text o.ends)) }
+    ensures lines { IfOk result (λ o. IsJsonOutput o.report o.bytes.items) }
     ensures fault { IfErr result (λ f. IsRunFault document.now scripts.now f) }
 {
     run_seeded(
@@ -87,6 +89,7 @@ pub fn run_seeded<R: Threads + Wait + Sync, G: Gate + Sync>(
     ensures ran { IfOk result (λ o. IsRun document.now scripts.now o.ends o.bytes.items) }
     ensures seen { IfOk result (λ o. AreSeen viewers (commits_in o.ends) o.seen.items) }
     ensures report { IfOk result (λ o. o.report ≡ length (report_text o.ends)) }
+    ensures lines { IfOk result (λ o. IsJsonOutput o.report o.bytes.items) }
     ensures fault { IfErr result (λ f. IsRunFault document.now scripts.now f) }
 {
     let (city, list) = read_texts(alloc, document, scripts)?;
@@ -156,6 +159,7 @@ fn run<R: Threads + Wait + Sync, G: Gate + Sync>(
     ensures ran { IfOk result (λ o. IsRun document.now scripts.now o.ends o.bytes.items) }
     ensures seen { IfOk result (λ o. AreSeen viewers (commits_in o.ends) o.seen.items) }
     ensures report { IfOk result (λ o. o.report ≡ length (report_text o.ends)) }
+    ensures lines { IfOk result (λ o. IsJsonOutput o.report o.bytes.items) }
 {
     let watchers = watchers_of(alloc, seated)?;
     let shared = Shared {
@@ -185,6 +189,7 @@ fn gather<S: Shelf, Q: Wait>(
         → IfOk result (λ o. IsRun document scripts o.ends o.bytes.items) }
     ensures seen { IfOk result (λ o. AreSeen viewers (commits_in o.ends) o.seen.items) }
     ensures report { IfOk result (λ o. o.report ≡ length (report_text o.ends)) }
+    ensures lines { IfOk result (λ o. IsJsonOutput o.report o.bytes.items) }
 {
     let Finished {
         city,

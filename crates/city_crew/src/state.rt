@@ -1,7 +1,9 @@
 //! What lies under the lock of a run.
-ghost use Rattle.std.specs.Prelude.{◌≡◌, ℕ, List, IfOk};
+ghost use Rattle.std.specs.Prelude.{◌≡◌, ℕ, List, IfOk, IfErr};
 ghost use Rattle.city_desk.specs.TextRuns.{IsReadFrom};
+ghost use Rattle.city_crew.specs.inside.CrewFaults.{HaveEnded, IsEndFault};
 ghost use Rattle.city_crew.specs.inside.CrewRuns.{IsResult};
+ghost use Rattle.city_crew.specs.declared.fault.CrewFault.{CrewFault};
 
 use crate::ages::Ages;
 use crate::crew_shelf::CrewShelf;
@@ -14,7 +16,7 @@ use std::sync::Wait;
 
 /// A desk over what two texts stand for, and the texts.
 ///
-/// Contracts see nothing of it before its end.
+/// Contracts see the texts and the state of the desk.
 #[derive(Drop)]
 pub struct State<R: Wait + Drop> {
     document: Vec<u8>,
@@ -26,11 +28,18 @@ pub struct State<R: Wait + Drop> {
 }
 
 impl<R: Wait + Drop> Model for State<R> {
+    ghost use Rattle.std.specs.Prelude.{ℕ, List};
+    ghost use Rattle.std.specs.Coded.{codes};
+    ghost use Rattle.city_model.specs.inside.DataCode.{coded_members};
+    ghost use Rattle.city_txn.specs.inside.Codes.{coded_objects};
+    ghost use Rattle.city_desk.specs.DeskState.{DeskState};
     ghost use Rattle.city_desk.specs.TextRuns.{IsReadFrom};
 
-    ghost Value = { Unit {0} };
+    ghost Value = { List ℕ × List ℕ × DeskState };
 
-    ghost view = { λ s. tt };
+    ghost coded = { Prim.hlevel (codes, coded_members, coded_objects) };
+
+    ghost view = { λ s. (s.document.items, s.scripts.items, s.desk.0) };
 
     ghost invariant = { λ s. IsReadFrom s.document.items s.scripts.items s.desk.0.start s.desk.0.scripts };
 }
@@ -44,6 +53,7 @@ impl<R: Wait + Drop> State<R> {
         ages: Ages,
     ) -> State<R>
         requires { IsReadFrom document.items scripts.items desk.0.start desk.0.scripts }
+        ensures { result ≡ (document.items, scripts.items, desk.0) }
     {
         State {
             document,
@@ -57,7 +67,9 @@ impl<R: Wait + Drop> State<R> {
     /// The result of the run: `Mixed` if its texts aren't these, `Unfinished` if
     /// a script hasn't ended.
     pub fn end(self, document: &[u8], scripts: &[u8]) -> Result<Finished<CrewShelf<R>>, CrewFault>
-        ensures { IfOk result (λ f. IsResult document.now scripts.now f.city f.ends) }
+        ensures ran { IfOk result (λ f. IsResult document.now scripts.now f.city f.ends) }
+        ensures own { IfOk result (λ _. (document.now ≡ self.0) × (scripts.now ≡ self.1)) }
+        ensures fault { IfErr result (IsEndFault self document.now scripts.now) }
     {
         if self.document.as_slice() != document || self.scripts.as_slice() != scripts {
             return Err(CrewFault::Mixed);
@@ -75,8 +87,9 @@ impl<R: Wait + Drop> State<R> {
 
 /// What a desk leaves when all its scripts have ended.
 fn finished<R: Wait + Drop>(desk: Desk<CrewShelf<R>>) -> Result<Finished<CrewShelf<R>>, CrewFault>
-    ensures { (document scripts : List ℕ) → IsReadFrom document scripts desk.0.start desk.0.scripts
+    ensures ran { (document scripts : List ℕ) → IsReadFrom document scripts desk.0.start desk.0.scripts
         → IfOk result (λ f. IsResult document scripts f.city f.ends) }
+    ensures fault { IfErr result (λ f. (f ≡ CrewFault.Unfinished) × ¬ HaveEnded desk.0.scripts desk.0.ends) }
 {
     match desk.finish() {
         Ok(finished) => Ok(finished),

@@ -1,88 +1,152 @@
 -- What the members that are put last tell.
-use Rattle.city_diagnostics.proofs.Prelude.{◌≡◌, ◌∙◌, List, ℕ, Data, Members, object, put, string, codes, refl, false}
-use Rattle.city_diagnostics.proofs.Prelude.{ReadFault, TellsFault, Tells, rank_of, name_of, get_member-put}
-use Rattle.city_diagnostics.proofs.Prelude.{BadGeometry, BadRing, BadVertex, NotCityJson, NotJson, NotWhole, OpenShell}
-use Rattle.city_diagnostics.proofs.Prelude.{OutOfMemory, Relations, TooLong, UnknownType, Unsupported, same_id}
+use Rattle.city_diagnostics.proofs.Prelude.{◌≡◌, ◌∙◌, ℕ, List, Data, Members, object, put, string, number, unsigned}
+use Rattle.city_diagnostics.proofs.Prelude.{Some, codes, get, refl, false, same_id, get_member-put}
 use Rattle.city_diagnostics.proofs.Prelude.{get_member-put_apart}
-use Rattle.city_diagnostics.specs.inside.Heads.{with_words, with_head, with_id, with_named}
+use Rattle.city_diagnostics.proofs.Prelude.{ReadFault, TellsFault, Tells, rank_of, name_of}
+use Rattle.city_diagnostics.proofs.Prelude.{BadGeometry, BadRing, BadVertex, NotCityJson, NotJson, NotWhole, OpenShell}
+use Rattle.city_diagnostics.proofs.Prelude.{OutOfMemory, Relations, TooLong, UnknownType, Unsupported}
+use Rattle.city_doc.specs.declared.fault.ScriptFault.{ScriptFault}
+use Rattle.city_doc.specs.script.AllFaults.{rank_of as script_rank_of}
+use Rattle.city_diagnostics.specs.ScriptLines.{TellsScript, script_name_of}
+use Rattle.city_diagnostics.specs.inside.Heads.{with_words, with_head, with_named, with_script_named}
 
 -- a name that no fault's head has
 record IsOther (k : List ℕ) : Type 0 where
-  text : same_id (codes "text") k ≡ false
-  number : same_id (codes "number") k ≡ false
-  fault : same_id (codes "fault") k ≡ false
-  message : same_id (codes "message") k ≡ false
-  cure : same_id (codes "cure") k ≡ false
-
--- what is told stays told when a member of another name is put in
-still_told : {kind name : List ℕ} {n : ℕ} (k : List ℕ) (d : Data) (ms : Members) → IsOther k
-    → TellsFault kind n name (object ms) → TellsFault kind n name (object (put k d ms))
-still_told k d ms other told = record {
-  text = get_member-put_apart _ k d ms other.text ∙ told.text;
-  number = get_member-put_apart _ k d ms other.number ∙ told.number;
-  fault = get_member-put_apart _ k d ms other.fault ∙ told.fault;
-  message = (told.message.0, get_member-put_apart _ k d ms other.message ∙ told.message.1);
-  cure = (told.cure.0, get_member-put_apart _ k d ms other.cure ∙ told.cure.1);
-}
-
-headed : (kind name message cure : List ℕ) (n : ℕ) (ms : Members)
-    → TellsFault kind n name (object (with_head kind n name (with_words message cure ms)))
-headed kind name message cure n ms =
-    let cured = put (codes "cure") (string cure) (put (codes "message") (string message) ms) in
-    record {
-      text = simp (get_member-put, get_member-put_apart);
-      number = simp (get_member-put, get_member-put_apart);
-      fault = simp (get_member-put, get_member-put_apart);
-      message = (message, simp (get_member-put, get_member-put_apart));
-      cure = (cure, simp (get_member-put, get_member-put_apart));
-    }
+  no_text : same_id (codes "text") k ≡ false
+  no_number : same_id (codes "number") k ≡ false
+  no_fault : same_id (codes "fault") k ≡ false
+  no_message : same_id (codes "message") k ≡ false
+  no_cure : same_id (codes "cure") k ≡ false
 
 is_member : IsOther (codes "member")
-is_member = record { text = refl; number = refl; fault = refl; message = refl; cure = refl }
+is_member = record { no_text = refl; no_number = refl; no_fault = refl; no_message = refl; no_cure = refl }
 
 is_id : IsOther (codes "id")
-is_id = record { text = refl; number = refl; fault = refl; message = refl; cure = refl }
+is_id = record { no_text = refl; no_number = refl; no_fault = refl; no_message = refl; no_cure = refl }
 
 is_name : IsOther (codes "name")
-is_name = record { text = refl; number = refl; fault = refl; message = refl; cure = refl }
+is_name = record { no_text = refl; no_number = refl; no_fault = refl; no_message = refl; no_cure = refl }
+
+is_script : IsOther (codes "script")
+is_script = record { no_text = refl; no_number = refl; no_fault = refl; no_message = refl; no_cure = refl }
+
+is_command : IsOther (codes "command")
+is_command = record { no_text = refl; no_number = refl; no_fault = refl; no_message = refl; no_cure = refl }
+
+-- what is told stays told when a member of another name is put in
+still_told : (kind name : List ℕ) (n : ℕ) (k : List ℕ) (d : Data) (ms : Members) → IsOther k
+    → TellsFault kind n name (object ms) → TellsFault kind n name (object (put k d ms))
+still_told kind name n k d ms other told = record {
+  text = get_member-put_apart (codes "text") k d ms other.no_text ∙ told.text;
+  number = get_member-put_apart (codes "number") k d ms other.no_number ∙ told.number;
+  fault = get_member-put_apart (codes "fault") k d ms other.no_fault ∙ told.fault;
+  message = (told.message.0, get_member-put_apart (codes "message") k d ms other.no_message ∙ told.message.1);
+  cure = (told.cure.0, get_member-put_apart (codes "cure") k d ms other.no_cure ∙ told.cure.1);
+}
+
+headed : (kind name : List ℕ) (n : ℕ) (message cure : List ℕ) (ms : Members)
+    → TellsFault kind n name (object (with_head kind n name (with_words message cure ms)))
+headed kind name n message cure ms = record {
+  text = simp (get_member-put, get_member-put_apart);
+  number = simp (get_member-put, get_member-put_apart);
+  fault = simp get_member-put;
+  message = (message, simp (get_member-put, get_member-put_apart));
+  cure = (cure, simp (get_member-put, get_member-put_apart));
+}
+
+-- a fault that names one thing
+one_named : (kind name : List ℕ) (n : ℕ) (message cure : List ℕ) (ms : Members) (k : List ℕ) (d : Data) → IsOther k
+    → let head = with_head kind n name (with_words message cure ms) in
+    TellsFault kind n name (object (put k d head)) × (get k (object (put k d head)) ≡ Some d)
+one_named kind name n message cure ms k d other =
+    let head = with_head kind n name (with_words message cure ms) in
+    (still_told kind name n k d head other (headed kind name n message cure ms), get_member-put k d head)
+
+-- a fault that names two things
+two_named : (kind name : List ℕ) (n : ℕ) (message cure : List ℕ) (ms : Members) (k : List ℕ) (d : Data)
+    (l : List ℕ) (e : Data) → IsOther k → IsOther l → same_id k l ≡ false
+    → let all = put l e (put k d (with_head kind n name (with_words message cure ms))) in
+    TellsFault kind n name (object all) × (get k (object all) ≡ Some d) × (get l (object all) ≡ Some e)
+two_named kind name n message cure ms k d l e other another apart =
+    let one = put k d (with_head kind n name (with_words message cure ms)) in
+    let first = one_named kind name n message cure ms k d other in (
+      still_told kind name n l e one another first.0,
+      get_member-put_apart k l e one apart ∙ first.1,
+      get_member-put l e one,
+    )
 
 -- a fault of a document is told by its head and by what it names
 pub told : (f : ReadFault) (message cure : List ℕ) (ms : Members)
     → Tells f (object (with_named f (with_head (codes "model") (rank_of f) (name_of f) (with_words message cure ms))))
-told OutOfMemory message cure ms = record { fault = headed _ _ message cure _ ms; named = tt }
-told TooLong message cure ms = record { fault = headed _ _ message cure _ ms; named = tt }
-told NotJson message cure ms = record { fault = headed _ _ message cure _ ms; named = tt }
-told NotWhole message cure ms = record { fault = headed _ _ message cure _ ms; named = tt }
-told (NotCityJson member) message cure ms = record {
-  fault = still_told (codes "member") _ _ is_member (headed _ _ message cure _ ms);
-  named = get_member-put _ _ _;
-}
-told (UnknownType id) message cure ms = record {
-  fault = still_told (codes "id") _ _ is_id (headed _ _ message cure _ ms);
-  named = get_member-put _ _ _;
-}
-told (Unsupported id name) message cure ms = record {
-  fault = still_told (codes "name") _ _ is_name
-      (still_told (codes "id") _ _ is_id (headed _ _ message cure _ ms));
-  named = (get_member-put_apart _ _ _ _ refl ∙ get_member-put _ _ _, get_member-put _ _ _);
-}
-told (BadGeometry id) message cure ms = record {
-  fault = still_told (codes "id") _ _ is_id (headed _ _ message cure _ ms);
-  named = get_member-put _ _ _;
-}
-told (BadVertex id) message cure ms = record {
-  fault = still_told (codes "id") _ _ is_id (headed _ _ message cure _ ms);
-  named = get_member-put _ _ _;
-}
-told (BadRing id) message cure ms = record {
-  fault = still_told (codes "id") _ _ is_id (headed _ _ message cure _ ms);
-  named = get_member-put _ _ _;
-}
-told (Relations id) message cure ms = record {
-  fault = still_told (codes "id") _ _ is_id (headed _ _ message cure _ ms);
-  named = get_member-put _ _ _;
-}
-told (OpenShell id) message cure ms = record {
-  fault = still_told (codes "id") _ _ is_id (headed _ _ message cure _ ms);
-  named = get_member-put _ _ _;
-}
+told OutOfMemory message cure ms =
+    record { fault = headed (codes "model") (codes "OutOfMemory") 0 message cure ms; named = tt }
+told TooLong message cure ms =
+    record { fault = headed (codes "model") (codes "TooLong") 1 message cure ms; named = tt }
+told NotJson message cure ms =
+    record { fault = headed (codes "model") (codes "NotJson") 2 message cure ms; named = tt }
+told NotWhole message cure ms =
+    record { fault = headed (codes "model") (codes "NotWhole") 3 message cure ms; named = tt }
+told (NotCityJson member) message cure ms =
+    let all = one_named (codes "model") (codes "NotCityJson") 4 message cure ms
+    (codes "member") (string member) is_member in
+    record { fault = all.0; named = all.1 }
+told (UnknownType id) message cure ms =
+    let all = one_named (codes "model") (codes "UnknownType") 5 message cure ms
+    (codes "id") (string id) is_id in
+    record { fault = all.0; named = all.1 }
+told (Unsupported id name) message cure ms =
+    let all = two_named (codes "model") (codes "Unsupported") 6 message cure ms
+    (codes "id") (string id) (codes "name") (string name)
+    is_id is_name refl in
+    record { fault = all.0; named = (all.1, all.2) }
+told (BadGeometry id) message cure ms =
+    let all = one_named (codes "model") (codes "BadGeometry") 7 message cure ms
+    (codes "id") (string id) is_id in
+    record { fault = all.0; named = all.1 }
+told (BadVertex id) message cure ms =
+    let all = one_named (codes "model") (codes "BadVertex") 8 message cure ms
+    (codes "id") (string id) is_id in
+    record { fault = all.0; named = all.1 }
+told (BadRing id) message cure ms =
+    let all = one_named (codes "model") (codes "BadRing") 9 message cure ms
+    (codes "id") (string id) is_id in
+    record { fault = all.0; named = all.1 }
+told (Relations id) message cure ms =
+    let all = one_named (codes "model") (codes "Relations") 10 message cure ms
+    (codes "id") (string id) is_id in
+    record { fault = all.0; named = all.1 }
+told (OpenShell id) message cure ms =
+    let all = one_named (codes "model") (codes "OpenShell") 11 message cure ms
+    (codes "id") (string id) is_id in
+    record { fault = all.0; named = all.1 }
+
+-- so is a fault of scripts
+pub script_told : (f : ScriptFault) (message cure : List ℕ) (ms : Members)
+    → TellsScript f (object (with_script_named f
+    (with_head (codes "scripts") (script_rank_of f) (script_name_of f) (with_words message cure ms))))
+script_told ScriptFault.OutOfMemory message cure ms =
+    record { fault = headed (codes "scripts") (codes "OutOfMemory") 0 message cure ms; named = tt }
+script_told ScriptFault.TooLong message cure ms =
+    record { fault = headed (codes "scripts") (codes "TooLong") 1 message cure ms; named = tt }
+script_told ScriptFault.NotJson message cure ms =
+    record { fault = headed (codes "scripts") (codes "NotJson") 2 message cure ms; named = tt }
+script_told ScriptFault.NotWhole message cure ms =
+    record { fault = headed (codes "scripts") (codes "NotWhole") 3 message cure ms; named = tt }
+script_told ScriptFault.NotScripts message cure ms =
+    record { fault = headed (codes "scripts") (codes "NotScripts") 4 message cure ms; named = tt }
+script_told (ScriptFault.BadScript n) message cure ms =
+    let all = one_named (codes "scripts") (codes "BadScript") 5 message cure ms
+    (codes "script") (number (unsigned n)) is_script in
+    record { fault = all.0; named = all.1 }
+script_told ScriptFault.TooMany message cure ms =
+    record { fault = headed (codes "scripts") (codes "TooMany") 6 message cure ms; named = tt }
+script_told (ScriptFault.BadCommand n i) message cure ms =
+    let all = two_named (codes "scripts") (codes "BadCommand") 7 message cure ms
+    (codes "script") (number (unsigned n)) (codes "command") (number (unsigned i))
+    is_script is_command refl in
+    record { fault = all.0; named = (all.1, all.2) }
+script_told (ScriptFault.BadVertex n i) message cure ms =
+    let all = two_named (codes "scripts") (codes "BadVertex") 8 message cure ms
+    (codes "script") (number (unsigned n)) (codes "command") (number (unsigned i))
+    is_script is_command refl in
+    record { fault = all.0; named = (all.1, all.2) }

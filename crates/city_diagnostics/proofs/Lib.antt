@@ -1,4 +1,5 @@
 pub mod Prelude
-pub mod OneLine
-pub mod Lines
+pub mod Floats
 pub mod Heads
+pub mod Lines
+pub mod OneLine

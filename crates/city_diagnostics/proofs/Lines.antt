@@ -1,17 +1,22 @@
 -- Lines behind one another.
 use Rattle.city_diagnostics.proofs.Prelude.{◌≡◌, ◌++◌, ◌∷◌, List, ℕ, [], refl, append-nil, append_assoc, ap, ◌∙◌, sym}
 use Rattle.city_diagnostics.proofs.Prelude.{AreLinesOf, IsLineOf, FirstLineIs, Data, Some, None, slice_get, object}
-use Rattle.city_diagnostics.proofs.Prelude.{compact_text, ◌+◌, ◌<◌, ◌≤◌, arith, length}
-use Rattle.std.proofs.lemmas.List.{length-append}
+use Rattle.city_diagnostics.proofs.Prelude.{compact_text, ◌+◌, ◌<◌, ◌≤◌, ◌⊎◌, arith, length, take, get_or, inl}
+use Rattle.city_diagnostics.proofs.Prelude.{inr, subst}
+use Rattle.std.proofs.lemmas.List.{length-append, take_more}
 
 -- a line more
 pub one_more : {F : Type 0} (tells : F → Data → Type 0) (fs : List F) (f : F) (lines line : List ℕ)
     → AreLinesOf tells fs lines → IsLineOf (tells f) line → AreLinesOf tells (fs ++ f ∷ []) (lines ++ line)
 one_more tells [] f lines line before this =
     (line, [], this, refl, ap (λ (s : List ℕ). s ++ line) before ∙ sym (append-nil line))
-one_more tells (g ∷ fs) f lines line before this =
-    (before.0, before.1 ++ line, before.2, one_more tells fs f before.1 line before.3 this,
-        ap (λ (s : List ℕ). s ++ line) before.4 ∙ append_assoc before.0 before.1 line)
+one_more tells (g ∷ fs) f lines line before this = (
+  before.0,
+  before.1 ++ line,
+  before.2,
+  one_more tells fs f before.1 line before.3 this,
+  ap (λ (s : List ℕ). s ++ line) before.4 ∙ append_assoc before.0 before.1 line,
+)
 
 never_empty : (text rest : List ℕ) → (text ++ 10 ∷ []) ++ rest ≡ [] → ⊥
 never_empty text rest e =
@@ -25,7 +30,7 @@ no_line tells [] lines told empty = refl
 no_line tells (f ∷ fs) lines told empty =
     let line = told.2 in
     absurd (never_empty (compact_text (object line.0)) told.1
-        (ap (λ (s : List ℕ). s ++ told.1) (sym line.2.has_its_text) ∙ sym told.4 ∙ empty))
+    (ap (λ (s : List ℕ). s ++ told.1) (sym line.2.has_its_text) ∙ sym told.4 ∙ empty))
 
 -- where there is no fault, there is no line
 pub no_fault : {F : Type 0} (tells : F → Data → Type 0) (fs : List F) (lines : List ℕ)
@@ -36,7 +41,25 @@ no_fault tells (f ∷ fs) lines told empty = absurd (cc)
 -- the first line tells the first fault
 pub first_line : {F : Type 0} (tells : F → Data → Type 0) (fs : List F) (lines : List ℕ) (f : F)
     → AreLinesOf tells fs lines → slice_get fs 0 ≡ Some f → FirstLineIs (tells f) lines
-first_line tells [] lines f told first = absurd (cc)
-first_line tells (g ∷ fs) lines f told first =
+first_line {F} tells [] lines f told first = absurd (cc)
+first_line {F} tells (g ∷ fs) lines f told first =
     let same : g ≡ f = cc in
-    (told.0, told.1, subst (λ h. IsLineOf (tells h) told.0) same told.2, told.4)
+    (told.0, told.1, subst (λ (h : F). IsLineOf (tells h) told.0) same told.2, told.4)
+
+-- where the first fault is such a one, there is no line, or the first tells such a fault
+pub first_told : {F : Type 0} (tells : F → Data → Type 0) (P : F → Type 0) (fs : List F) (lines : List ℕ)
+    → AreLinesOf tells fs lines → ((f : F) → slice_get fs 0 ≡ Some f → P f)
+    → (lines ≡ []) ⊎ ((f : F) × P f × FirstLineIs (tells f) lines)
+first_told tells P [] lines told h = inl told
+first_told tells P (f ∷ fs) lines told h = inr (f, h f refl, (told.0, told.1, told.2, told.4))
+
+-- the lines of one fault more
+pub grown : {F : Type 0} (tells : F → Data → Type 0) (fs : List F) (n : ℕ) (f : F) (lines line more : List ℕ)
+    → n < length fs → f ≡ get_or fs n f → AreLinesOf tells (take n fs) lines → IsLineOf (tells f) line
+    → more ≡ lines ++ line → AreLinesOf tells (take (n + 1) fs) more
+grown {F} tells fs n f lines line more below is told this joined =
+    let taken : take (n + 1) fs ≡ take n fs ++ f ∷ [] =
+    take_more fs n f below ∙ ap (λ (g : F). take n fs ++ g ∷ []) (sym is) in
+    subst (λ (s : List ℕ). AreLinesOf tells (take (n + 1) fs) s) (sym joined)
+    (subst (λ (gs : List F). AreLinesOf tells gs (lines ++ line)) (sym taken)
+    (one_more tells (take n fs) f lines line told this))

@@ -1,10 +1,14 @@
 -- The words that proofs of this crate share.
 pub use Rattle.std.proofs.Common.{Bool, List, None, Option, Some, [], ap, arith, cond, false, length, map, refl, rules}
 pub use Rattle.std.proofs.Common.{subst, suc, sym, true, zero, ℕ, ℤ, ◌++◌, ◌+◌, ◌<◌, ◌∙◌, ◌∷◌, ◌≡◌, ◌≤◌, ◌⊎◌, inl, inr}
-pub use Rattle.std.proofs.Common.{append-nil, append_assoc, negsuc, not, pos, true≢false}
+pub use Rattle.std.proofs.Common.{append-nil, append_assoc, get_or, negsuc, not, pos, true≢false}
+pub use Rattle.std.proofs.Common.{Equal, Greater, Less, Ordering, nat_cmp, string_bytes}
 pub use Rattle.std.proofs.lemmas.Bool.{and_from, and_parts}
 pub use Rattle.std.proofs.lemmas.List.Folds.{list_all-append}
+pub use Rattle.std.proofs.lemmas.Result.{IfOk-weaker}
+pub use Rattle.std.specs.Cmp.Lexicographic.{slice_cmp}
 pub use Rattle.std.specs.List.{list_all}
+pub use Rattle.std.specs.Ordering.{match_ordering}
 pub use Rattle.std.specs.Prelude.{codes, take, ◌==◌, ◌&&◌, nat_lt, slice_get}
 pub use Rattle.serde_json.proofs.Views.{get_member-put, members_view-insert_entry, view-Array, view-Object}
 pub use Rattle.serde_json.specs.Data.{Data, Items, Members, array, boolean, item, member, no_items, no_members, null}

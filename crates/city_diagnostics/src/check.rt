@@ -7,12 +7,15 @@ ghost use Rattle.city_doc.specs.document.Faults.{DocumentFault};
 ghost use Rattle.city_diagnostics.specs.Lines.{AreLinesOf, FirstLineIs, IsLineOf};
 ghost use Rattle.city_diagnostics.specs.ModelLines.{Tells};
 
+mod scripts;
+
 use crate::document::Document;
 use crate::line::document_line;
 use crate::text::{TextFault, text_diagnostic};
 use crate::tree::tree_of;
 use city_doc::{ReadFault, ScriptFault, faults_of};
 use city_model::OutOfMemory;
+pub use scripts::check_scripts;
 use serde_json::Value;
 use std::alloc::Global;
 
@@ -105,10 +108,4 @@ pub fn script_text_fault_of(fault: &ScriptFault) -> Option<TextFault> {
         ScriptFault::NotWhole => Some(TextFault::NotWhole),
         _ => None,
     }
-}
-
-/// A line of JSON for each fault of a text of scripts, in the order of the faults' numbers, and then of the script and
-/// the command.
-pub fn check_scripts(alloc: Global, _text: &[u8], _is_given: bool) -> Result<Vec<u8>, OutOfMemory> {
-    Ok(Vec::new(alloc))
 }

@@ -7,6 +7,7 @@ ghost use Rattle.serde_json.specs.Written.{has_float, items_have_float, members_
 ghost use Rattle.city_doc.specs.shape.Vertices.{vertex_data};
 
 use city_model::OutOfMemory;
+use city_model::members::members_count;
 use city_model::object::Point;
 use serde_json::{Map, Value};
 use std::alloc::Global;
@@ -90,7 +91,10 @@ impl Details {
     pub fn into_members(self) -> Map<String, Value>
         ensures members { members_view result.entries ≡ self }
         ensures no_float { members_have_float self ≡ false }
+        ensures ordered { AreOrdered self }
     {
+        // (called for its contract: the names ascend)
+        let _count = members_count(&self.members);
         self.members
     }
 

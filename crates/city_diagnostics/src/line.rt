@@ -2,9 +2,12 @@
 ghost use Rattle.std.specs.Prelude.{◌≡◌, IfOk, OnOk, string_bytes};
 ghost use Rattle.serde_json.specs.Data.{put, string, number as numeral, unsigned};
 ghost use Rattle.city_doc.specs.document.Faults.{rank_of};
+ghost use Rattle.city_doc.specs.script.AllFaults.{rank_of as script_rank_of};
 ghost use Rattle.city_diagnostics.specs.Lines.{IsLineOf, IsLineOfMembers};
 ghost use Rattle.city_diagnostics.specs.ModelLines.{Tells, name_of};
+ghost use Rattle.city_diagnostics.specs.ScriptLines.{TellsScript, script_name_of};
 ghost use Rattle.city_diagnostics.specs.inside.Heads.{with_named, with_head, with_words};
+ghost use Rattle.city_diagnostics.specs.inside.Heads.{with_script_named, with_place};
 
 use crate::details::Details;
 use crate::diagnostic::Diagnostic;
@@ -32,7 +35,9 @@ pub fn script_line(
     alloc: Global,
     fault: &ScriptFault,
     diagnostic: Diagnostic,
-) -> Result<String, OutOfMemory> {
+) -> Result<String, OutOfMemory>
+    ensures { IfOk result (λ line. IsLineOf (TellsScript fault.now) (string_bytes line)) }
+{
     let mut details = with_words(diagnostic)?;
     add_head(
         &mut details,
@@ -124,12 +129,7 @@ fn with_words(diagnostic: Diagnostic) -> Result<Details, OutOfMemory>
 }
 
 /// Adds the kind of the text that a fault stands in, and the fault's number and name.
-fn add_head(
-    details: &mut Details,
-    kind: &str,
-    number: usize,
-    name: &str,
-) -> Result<(), OutOfMemory>
+fn add_head(details: &mut Details, kind: &str, number: usize, name: &str) -> Result<(), OutOfMemory>
     ensures { OnOk result (details.new ≡ with_head kind.now number name.now details.old) }
 {
     details.text("text", kind)?;
@@ -147,7 +147,9 @@ fn line_of(alloc: Global, details: Details) -> Result<String, OutOfMemory>
 }
 
 /// The number of a fault of scripts.
-fn script_number_of(fault: &ScriptFault) -> usize {
+fn script_number_of(fault: &ScriptFault) -> usize
+    ensures { result ≡ script_rank_of fault.now }
+{
     match fault {
         ScriptFault::OutOfMemory => 0,
         ScriptFault::TooLong => 1,
@@ -162,7 +164,9 @@ fn script_number_of(fault: &ScriptFault) -> usize {
 }
 
 /// The name of a fault of scripts.
-fn script_name_of(fault: &ScriptFault) -> &'static str {
+fn script_name_of(fault: &ScriptFault) -> &'static str
+    ensures { result.now ≡ script_name_of fault.now }
+{
     match fault {
         ScriptFault::OutOfMemory => "OutOfMemory",
         ScriptFault::TooLong => "TooLong",
@@ -177,7 +181,9 @@ fn script_name_of(fault: &ScriptFault) -> &'static str {
 }
 
 /// Adds what a fault of scripts names.
-fn add_script_named(details: &mut Details, fault: &ScriptFault) -> Result<(), OutOfMemory> {
+fn add_script_named(details: &mut Details, fault: &ScriptFault) -> Result<(), OutOfMemory>
+    ensures { OnOk result (details.new ≡ with_script_named fault.now details.old) }
+{
     match fault {
         ScriptFault::OutOfMemory => Ok(()),
         ScriptFault::TooLong => Ok(()),
@@ -192,7 +198,9 @@ fn add_script_named(details: &mut Details, fault: &ScriptFault) -> Result<(), Ou
 }
 
 /// Adds the numbers of a script and of a command in it.
-fn add_place(details: &mut Details, script: usize, command: usize) -> Result<(), OutOfMemory> {
+fn add_place(details: &mut Details, script: usize, command: usize) -> Result<(), OutOfMemory>
+    ensures { OnOk result (details.new ≡ with_place script command details.old) }
+{
     details.number("script", script)?;
     details.number("command", command)
 }

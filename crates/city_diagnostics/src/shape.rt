@@ -12,13 +12,12 @@ pub mod ring;
 pub mod shell;
 mod walk;
 
-pub use geometry::tell_bad_geometry;
-pub use position::tell_bad_vertex;
-
 use crate::diagnostic::Diagnostic;
 use crate::quoted::Quoted;
 use city_model::OutOfMemory;
 use city_model::kept::site::has_location;
+pub use geometry::tell_bad_geometry;
+pub use position::tell_bad_vertex;
 use serde_json::Value;
 use std::alloc::Global;
 use walk::geometries_of;
@@ -39,10 +38,7 @@ pub fn tell_unknown_type(
             }
         },
     };
-    diagnostic.tell(
-        message,
-        "Use a type of CityJSON 2.0, or GenericCityObject.",
-    );
+    diagnostic.tell(message, "Use a type of CityJSON 2.0, or GenericCityObject.");
     Ok(())
 }
 

@@ -1,7 +1,7 @@
 //! The verbs `lines` and `explain`: what is told of the faults of a text.
 use crate::written::Written;
 use city_diagnostics::{check_document, check_scripts, explain_document, explain_scripts};
-use city_doc::{ReadFault, ScriptFault, faults_of, read_scripts};
+use city_doc::{faults_of, script_faults_of};
 use city_model::OutOfMemory;
 use std::alloc::Global;
 use std::fmt::Display;
@@ -33,7 +33,7 @@ pub fn play_explain(alloc: Global, kind: &str, text: &[u8], answer: &mut Written
 }
 
 fn explain_faults(alloc: Global, text: &[u8], answer: &mut Written) -> Result<(), OutOfMemory> {
-    let faults: Vec<ReadFault> = faults_of(alloc, text)?;
+    let faults = faults_of(alloc, text)?;
     for fault in &faults {
         let lines = explain_document(alloc, text, true, fault)?;
         add_explained(fault, lines.as_str(), answer);
@@ -46,12 +46,11 @@ fn explain_script_faults(
     text: &[u8],
     answer: &mut Written,
 ) -> Result<(), OutOfMemory> {
-    let Err(fault) = read_scripts(alloc, text) else {
-        return Ok(());
-    };
-    let fault: ScriptFault = fault;
-    let lines = explain_scripts(alloc, text, true, &fault)?;
-    add_explained(&fault, lines.as_str(), answer);
+    let faults = script_faults_of(alloc, text)?;
+    for fault in &faults {
+        let lines = explain_scripts(alloc, text, true, fault)?;
+        add_explained(fault, lines.as_str(), answer);
+    }
     Ok(())
 }
 

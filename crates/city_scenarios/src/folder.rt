@@ -9,6 +9,11 @@ use city_desk::RunFault;
 use city_model::OutOfMemory;
 use city_serve::{Device, OutputFiles, ServeFault, TextFiles, read_text};
 use std::alloc::Global;
+use std::cell::Cell;
+use std::io;
+
+/// The system's number of the error that there is no such file.
+const MISSING: i32 = 2;
 
 /// The texts that a file of scenarios names, each as a file of that name. One of them may be replaced, or one that isn't
 /// there be made.
@@ -25,6 +30,7 @@ pub struct Folder<'a> {
     /// What was put in the place of a file, with the file's name in the first line.
     replaced: Written,
     failed: bool,
+    why: Cell<Option<io::Error>>,
 }
 
 impl<'a> Folder<'a> {
@@ -37,6 +43,7 @@ impl<'a> Folder<'a> {
             steps: Written::new(alloc),
             replaced: Written::new(alloc),
             failed: false,
+            why: Cell::new(None),
         }
     }
 
@@ -52,6 +59,7 @@ impl<'a> Folder<'a> {
     {
         if self.habits.contains(refused) {
             self.failed = true;
+            self.why.set(Some(io::Error::other(refused)));
             self.steps.add(" not");
             self.steps.add(word);
             return false;
@@ -69,10 +77,20 @@ impl TextFiles for Folder<'_> {
         match text_named(self.names, path) {
             Some(text) => {
                 let reader = Giving::new(Reads::told(self.habits), text);
-                read_text(self.alloc, &mut Device::new(reader))
+                let mut device = Device::new(reader);
+                let read = read_text(self.alloc, &mut device);
+                self.why.set(device.failure());
+                read
             }
-            None => Err(ServeFault::Read),
+            None => {
+                self.why.set(Some(io::Error::from_raw_os_error(MISSING)));
+                Err(ServeFault::Read)
+            }
         }
+    }
+
+    fn why(&self) -> Option<io::Error> {
+        self.why.get()
     }
 }
 

@@ -59,6 +59,7 @@ fn run_line<T: Threads + Wait + Sync>(
         &mut Device::new(Giving::new(Reads::told(habits), input.as_slice())),
         &mut Device::new(&mut output),
         &mut Device::new(&mut errors),
+        habits.contains("terminal"),
     );
     add_status(status, answer);
     let sorted = habits.contains("sorted");

@@ -1,3 +1,4 @@
+mod Checked
 pub mod EnoughRead
 pub mod FoundOptions
 pub mod Given

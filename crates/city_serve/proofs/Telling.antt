@@ -1,12 +1,14 @@
 -- What standard error has got, line by line, and how the program ends with it.
 use Rattle.city_serve.proofs.Prelude.{◌≡◌, ◌<◌, ◌+◌, ℕ, Bool, false, List, [], ◌∷◌, ◌++◌, drop, length, Option, Some}
-use Rattle.city_serve.proofs.Prelude.{None, inl, inr, refl, sym, ap, subst, ◌∙◌, append_assoc, Vec, Appends, Keeps}
-use Rattle.city_serve.proofs.Prelude.{Asked, ServeFault, seen_text, EndsAsked, IsSeenTold}
+use Rattle.city_serve.proofs.Prelude.{None, true, inl, inr, refl, sym, ap, subst, ◌∙◌, append_assoc, append-nil, Vec}
+use Rattle.city_serve.proofs.Prelude.{Appends, Keeps, Asked, ServeFault, seen_text, EndsAsked, IsSeenTold}
 use Rattle.std.proofs.Common.{get_or}
 use Rattle.std.proofs.lemmas.List.{drop_more}
 use Rattle.city_serve.specs.declared.program.Status.{Status}
-use Rattle.city_serve.specs.Programs.{Streams, IsAnswered, IsToldFault, IsUnanswered, seen_lines}
-use Rattle.city_serve.specs.inside.Telling.{IsToldAfter}
+use Rattle.city_serve.specs.FaultTexts.{fault_text}
+use Rattle.city_serve.specs.Programs.{Streams, IsAnswered, IsTold, IsToldFault, IsUnanswered, is_explained}
+use Rattle.city_serve.specs.Programs.{seen_lines}
+use Rattle.city_serve.specs.inside.Telling.{IsToldAfter, IsFaultText, IsFound, IsAnsweredAs}
 use Rattle.city_serve.proofs.KnownBytes.{appends_more}
 
 -- the lines of the first viewers, where all that was written came in
@@ -36,18 +38,54 @@ told_next viewer all seen given u v w before after within at same told line fine
 
 -- ---- how the program ends
 
-module _ (asked : Asked) (s : Streams) (told telling : Option (List ℕ)) (mute : Bool) where
-  pub ends_told : (status : Status) (seen : List (Vec ℕ)) (withheld : Bool) → IsAnswered s asked seen withheld
-      → IsSeenTold withheld status told telling mute seen → EndsAsked asked status s told telling mute
-  ends_told Status.Done seen withheld answered lines =
-      record { seen = seen; answered = subst (IsAnswered s asked seen) lines.0 answered; seen_told = lines.1 }
-  ends_told Status.Withheld seen withheld answered lines =
-      record { seen = seen; answered = subst (IsAnswered s asked seen) lines.0 answered; seen_told = lines.1 }
-  ends_told Status.Failed seen withheld answered lines = inr (seen, withheld, answered)
-  ends_told Status.Refused seen withheld answered lines = absurd lines
+pub told_fault : (explained : Bool) (f : ServeFault) (behind text : List ℕ) → (explained ≡ false → behind ≡ [])
+    → IsFaultText f behind text → IsToldFault explained f text
+told_fault true f behind text none (inl is) = inl (behind, is)
+told_fault true f behind text none (inr is) = inr is
+told_fault false f behind text none (inl is) =
+    let line = fault_text f ++ 10 ∷ [] in inl (is ∙ ap (λ more. line ++ more) (none refl) ∙ append-nil line)
+told_fault false f behind text none (inr is) = inr is
 
-  pub ends_faulty : (before : Bool) (f : ServeFault) → IsUnanswered s asked f
-      → ((line : List ℕ) × IsToldFault f line × IsToldAfter before told telling mute line)
-      → EndsAsked asked Status.Failed s told telling mute
-  ends_faulty before f unanswered line =
-      inl (record { fault = f; unanswered = unanswered; line = line.0; line_is = line.1; why = line.2.0 })
+module _ (terminal : Bool) (s : Streams) (told telling : Option (List ℕ)) (mute : Bool) where
+  found : (asked : Asked) (status : Status) (seen : List (Vec ℕ)) → IsFound s asked seen
+      → IsSeenTold Status.Faulty status told telling mute seen → EndsAsked terminal asked status s told telling mute
+  found (Asked.Check options model scripts) status seen is (inl lines) =
+      subst (λ status. EndsAsked terminal (Asked.Check options model scripts) status s told telling mute) (sym lines.0)
+      (is.1, subst (λ seen. IsTold told telling mute (seen_lines 0 seen)) is.0 lines.1)
+  found (Asked.Check options model scripts) status seen is (inr failed) = absurd (failed.1 is.0)
+  found (Asked.Input options destination) status seen is lines = absurd is
+  found (Asked.Files options destination model scripts) status seen is lines = absurd is
+  found (Asked.Text text) status seen is lines = absurd is
+
+  module _ (asked : Asked) where
+    ends_so : (ending : Status) (withheld : Bool) (status : Status) (seen : List (Vec ℕ))
+        → IsAnswered s asked seen withheld
+        → (IsTold told telling mute (seen_lines 0 seen) → EndsAsked terminal asked ending s told telling mute)
+        → IsSeenTold ending status told telling mute seen → EndsAsked terminal asked status s told telling mute
+    ends_so ending withheld status seen answered ends (inl lines) =
+        subst (λ status. EndsAsked terminal asked status s told telling mute) (sym lines.0) (ends lines.1)
+    ends_so ending withheld status seen answered ends (inr failed) =
+        subst (λ status. EndsAsked terminal asked status s told telling mute) (sym failed.0)
+        (inr (seen, withheld, answered))
+
+    pub ends_told : (ending status : Status) (seen : List (Vec ℕ)) → IsAnsweredAs s asked seen ending
+        → IsSeenTold ending status told telling mute seen → EndsAsked terminal asked status s told telling mute
+    ends_told Status.Done status seen answered lines = ends_so Status.Done false status seen answered
+        (λ told. record { seen = seen; answered = answered; seen_told = told }) lines
+    ends_told Status.Withheld status seen answered lines = ends_so Status.Withheld true status seen answered
+        (λ told. record { seen = seen; answered = answered; seen_told = told }) lines
+    ends_told Status.Faulty status seen is lines = found asked status seen is lines
+    ends_told Status.Failed status seen answered lines = absurd answered
+    ends_told Status.Refused status seen answered lines = absurd answered
+
+    pub ends_faulty : (before : Bool) (f : ServeFault) → IsUnanswered s asked f
+        → ((text : List ℕ) × IsToldFault (is_explained terminal asked) f text
+        × IsToldAfter before told telling mute text)
+        → EndsAsked terminal asked Status.Failed s told telling mute
+    ends_faulty before f unanswered text = inl (record {
+      fault = f;
+      unanswered = unanswered;
+      line = text.0;
+      line_is = text.1;
+      why = text.2.0;
+    })

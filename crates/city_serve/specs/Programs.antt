@@ -1,12 +1,13 @@
 -- What the program does with the words of its command line.
 use Rattle.std.specs.Prelude.{◌≡◌, ◌⊎◌, ◌+◌, ⊤, ℕ, Bool, true, false, List, [], ◌∷◌, ◌++◌, codes, string_bytes, All}
-use Rattle.std.specs.Prelude.{Option, IfSome, Result, Ok, Err, IsErr, IfOk}
+use Rattle.std.specs.Prelude.{◌||◌, Option, IfSome, Result, Ok, Err, IsErr, IfOk, option_map}
 use Rattle.std.specs.Global.{Vec}
 use Rattle.std.specs.Io.KnownBytes.{Keeps, Appends}
 use Rattle.city_serve.specs.declared.command_line.Asked.{Asked}
 use Rattle.city_serve.specs.declared.command_line.LineFault.{LineFault}
 use Rattle.city_serve.specs.declared.fault.ServeFault.{ServeFault}
 use Rattle.city_serve.specs.declared.program.Status.{Status}
+use Rattle.city_serve.specs.Checks.{AreCheckLines, HasLines, OfFiles}
 use Rattle.city_serve.specs.CommandLines.{IsName, Line, IsLineOf, AnswersNames, AnswersOptions, AsksForText, HasOptions}
 use Rattle.city_serve.specs.CommandLines.{IsShown, MeetsUnknownOption}
 use Rattle.city_serve.specs.Destinations.{Folder, IsDelivered, IsDeliveryFault}
@@ -19,6 +20,7 @@ use Rattle.city_serve.specs.ServedTexts.{AppendsSome}
 abbrev pub status_code : Status → ℕ
 status_code Status.Done = 0
 status_code Status.Failed = 1
+status_code Status.Faulty = 1
 status_code Status.Refused = 2
 status_code Status.Withheld = 3
 
@@ -55,7 +57,20 @@ OfTexts s (Asked.Input options destination) P =
     IfSome s.input (λ all. P (document_part (read_of all)) (scripts_part (read_of all)))
 OfTexts s (Asked.Files options destination model scripts) P =
     IfSome (s.before model.now) (λ document. IfSome (s.before scripts.now) (λ commands. P document commands))
+OfTexts s (Asked.Check options model scripts) P = ⊤
 OfTexts s (Asked.Text text) P = ⊤
+
+-- what holds of the lines of a check, where the texts are known that are checked
+abbrev pub OfLines : Streams → Asked → (List ℕ → Type 0) → Type 0
+OfLines s (Asked.Check options model scripts) P =
+    OfFiles s.before model.now (option_map (λ t. t.now) scripts) (λ document commands.
+    (lines : List ℕ) × AreCheckLines options.decimals document commands lines × P lines)
+OfLines s _ P = ⊤
+
+-- output has got the lines of a check, of which there are some or none, and all files are as they were
+abbrev pub IsChecked : Streams → Asked → Bool → Type 0
+IsChecked s asked faulty =
+    (s.after ≡ s.before) × OfLines s asked (λ lines. HasLines faulty lines × Appends s.old s.new lines)
 
 -- what is asked for is done: the output of a run on the two texts went where it goes, or output has got the text. The
 -- model of a run may be withheld
@@ -66,6 +81,8 @@ IsAnswered s (Asked.Input options destination) seen withheld =
 IsAnswered s (Asked.Files options destination model scripts) seen withheld =
     OfTexts s (Asked.Files options destination model scripts) (λ document commands.
     IsDelivered destination options document commands seen withheld s.before s.after s.old s.new)
+IsAnswered s (Asked.Check options model scripts) seen withheld =
+    (seen ≡ []) × (withheld ≡ false) × IsChecked s (Asked.Check options model scripts) false
 IsAnswered s (Asked.Text text) seen withheld =
     (seen ≡ []) × (withheld ≡ false) × (s.after ≡ s.before) × Appends s.old s.new (string_bytes text)
 
@@ -81,6 +98,10 @@ IsUnanswered s (Asked.Input options destination) f =
 IsUnanswered s (Asked.Files options destination model scripts) f =
     IsUnread s true f ⊎ OfTexts s (Asked.Files options destination model scripts) (λ document commands.
     IsDeliveryFault destination options document commands s.before s.after s.files_failed s.old s.new s.failed f)
+IsUnanswered s (Asked.Check options model scripts) f =
+    IsUnread s true f
+    ⊎ ((f ≡ ServeFault.Write) × (s.failed ≡ true) × (s.after ≡ s.before)
+    × OfLines s (Asked.Check options model scripts) (AppendsSome s.old s.new))
 IsUnanswered s (Asked.Text text) f =
     (f ≡ ServeFault.Write) × (s.failed ≡ true) × (s.after ≡ s.before) × AppendsSome s.old s.new (string_bytes text)
 
@@ -101,9 +122,19 @@ abbrev pub seen_lines : ℕ → List (Vec ℕ) → List ℕ
 seen_lines viewer [] = []
 seen_lines viewer (seen ∷ rest) = (seen_text viewer seen.items ++ 10 ∷ []) ++ seen_lines (viewer + 1) rest
 
--- the line of a fault; where memory is short for it, that memory ran out
-abbrev pub IsToldFault : ServeFault → List ℕ → Type 0
-IsToldFault f line = (line ≡ fault_text f ++ 10 ∷ []) ⊎ (line ≡ codes "cityed: out of memory\n")
+-- a fault is explained on a terminal, and where that is asked for
+abbrev pub is_explained : Bool → Asked → Bool
+is_explained terminal (Asked.Input options destination) = terminal || options.explain
+is_explained terminal (Asked.Files options destination model scripts) = terminal || options.explain
+is_explained terminal (Asked.Check options model scripts) = terminal || options.explain
+is_explained terminal (Asked.Text text) = terminal
+
+-- the line of a fault, and where it is explained whatever is told in the lines behind it; where memory is short for it,
+-- that memory ran out
+abbrev pub IsToldFault : Bool → ServeFault → List ℕ → Type 0
+IsToldFault false f text = (text ≡ fault_text f ++ 10 ∷ []) ⊎ (text ≡ codes "cityed: out of memory\n")
+IsToldFault true f text =
+    ((behind : List ℕ) × (text ≡ (fault_text f ++ 10 ∷ []) ++ behind)) ⊎ (text ≡ codes "cityed: out of memory\n")
 
 -- ---- how the program ends
 
@@ -114,30 +145,38 @@ pub record IsDone (asked : Asked) (withheld : Bool) (s : Streams) (told telling 
   pub answered : IsAnswered s asked seen withheld
   pub seen_told : IsTold told telling mute (seen_lines 0 seen)
 
+-- a check found faults, which output has got; standard error has got nothing
+abbrev pub IsFoundFaulty : Asked → Streams → Option (List ℕ) → Option (List ℕ) → Bool → Type 0
+IsFoundFaulty (Asked.Check options model scripts) s told telling mute =
+    IsChecked s (Asked.Check options model scripts) true × IsTold told telling mute []
+IsFoundFaulty _ s told telling mute = ⊥
+
 -- it isn't done, and standard error has got why
-pub record IsFaulty (asked : Asked) (s : Streams) (told telling : Option (List ℕ)) (mute : Bool) : Type 0 where
+pub record IsFaulty (terminal : Bool) (asked : Asked) (s : Streams) (told telling : Option (List ℕ)) (mute : Bool)
+    : Type 0 where
   pub fault : ServeFault
   pub unanswered : IsUnanswered s asked fault
   pub line : List ℕ
-  pub line_is : IsToldFault fault line
+  pub line_is : IsToldFault (is_explained terminal asked) fault line
   pub why : IsTold told telling mute line
 
--- what holds at each status once it is known what is asked for: a fault is one of the answer, or of memory for
--- telling what viewers saw, when all is answered
-abbrev pub EndsAsked : Asked → Status → Streams → Option (List ℕ) → Option (List ℕ) → Bool → Type 0
-EndsAsked asked Status.Done s told telling mute = IsDone asked false s told telling mute
-EndsAsked asked Status.Withheld s told telling mute = IsDone asked true s told telling mute
-EndsAsked asked Status.Failed s told telling mute =
-    IsFaulty asked s told telling mute
+-- what holds at each status once it is known what is asked for, and whether standard error is a terminal: a fault is
+-- one of the answer, or of memory for telling what viewers saw, when all is answered
+abbrev pub EndsAsked : Bool → Asked → Status → Streams → Option (List ℕ) → Option (List ℕ) → Bool → Type 0
+EndsAsked terminal asked Status.Done s told telling mute = IsDone asked false s told telling mute
+EndsAsked terminal asked Status.Withheld s told telling mute = IsDone asked true s told telling mute
+EndsAsked terminal asked Status.Faulty s told telling mute = IsFoundFaulty asked s told telling mute
+EndsAsked terminal asked Status.Failed s told telling mute =
+    IsFaulty terminal asked s told telling mute
     ⊎ ((seen : List (Vec ℕ)) × (withheld : Bool) × IsAnswered s asked seen withheld)
-EndsAsked asked Status.Refused s told telling mute = ⊥
+EndsAsked terminal asked Status.Refused s told telling mute = ⊥
 
 -- the words ask for it, and the status is that of what is asked for
-pub record EndsAnswered (arguments : List (List ℕ)) (status : Status) (s : Streams) (told telling : Option (List ℕ))
-    (mute : Bool) : Type 0 where
+pub record EndsAnswered (terminal : Bool) (arguments : List (List ℕ)) (status : Status) (s : Streams)
+    (told telling : Option (List ℕ)) (mute : Bool) : Type 0 where
   pub asked : Asked
   pub asks : AsksFor arguments (Ok asked)
-  pub ended : EndsAsked asked status s told telling mute
+  pub ended : EndsAsked terminal asked status s told telling mute
 
 -- the words ask for nothing, or memory was short for them: nothing is written, and a refusal is told by its text
 pub record EndsRefused (arguments : List (List ℕ)) (status : Status) (s : Streams) (told telling : Option (List ℕ))
@@ -149,6 +188,6 @@ pub record EndsRefused (arguments : List (List ℕ)) (status : Status) (s : Stre
   pub line : IsLineTold status fault told telling mute
 
 -- what holds of how the program ends
-abbrev pub Ends : List (List ℕ) → Status → Streams → Option (List ℕ) → Option (List ℕ) → Bool → Type 0
-Ends arguments status s told telling mute =
-    EndsAnswered arguments status s told telling mute ⊎ EndsRefused arguments status s told telling mute
+abbrev pub Ends : Bool → List (List ℕ) → Status → Streams → Option (List ℕ) → Option (List ℕ) → Bool → Type 0
+Ends terminal arguments status s told telling mute =
+    EndsAnswered terminal arguments status s told telling mute ⊎ EndsRefused arguments status s told telling mute

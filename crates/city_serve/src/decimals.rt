@@ -1,5 +1,5 @@
 //! Runs scripts on a document where the numbers of both are of any form.
-ghost use Rattle.std.specs.Prelude.{◌≡◌, true, IfOk, IfErr};
+ghost use Rattle.std.specs.Prelude.{◌≡◌, true, IfOk, IfErr, OnOk};
 ghost use Rattle.city_model.specs.SerialEnds.{commits_in};
 ghost use Rattle.city_crew.specs.Seen.{AreSeen};
 ghost use Rattle.city_desk.specs.InTurn.{AreInTurn};
@@ -11,6 +11,7 @@ ghost use Rattle.city_serve.specs.inside.WholeTexts.{HasWholeNumbers};
 
 use crate::options::Options;
 use crate::run::run_whole;
+use crate::texts::{Stage, Text, Texts};
 use city_crew::Gate;
 use city_decimals::{DecimalsFault, decode_lines, decode_lines_onto, encode};
 use city_desk::{Output, RunFault};
@@ -29,20 +30,21 @@ pub(crate) fn run_decimals<R: Threads + Wait + Sync, G: Gate + Sync>(
     alloc: Global,
     gate: &G,
     seed: u64,
-    document: Vec<u8>,
-    scripts: Vec<u8>,
+    texts: &mut Texts,
     options: Options,
 ) -> Result<Output, RunFault>
     requires { AreWithin options }
-    ensures ran { IfOk result (λ o. IsDecimalsRun document.items scripts.items o.ends o.bytes.items) }
+    ensures ran { IfOk result (λ o.
+        IsDecimalsRun texts.old.document.bytes.items texts.old.scripts.bytes.items o.ends o.bytes.items) }
     ensures in_turn { IfOk result (λ o. WhereAlone options.workers options.viewers (AreInTurn 0 o.ends)) }
     ensures seen { IfOk result (λ o. AreSeen options.viewers (commits_in o.ends) o.seen.items) }
     ensures cut { IfOk result (λ o. IsCutAt true o.ends o.bytes.items o.report) }
-    ensures fault { IfErr result (IsFaultOfDecimalsRun document.items scripts.items options.workers options.viewers) }
+    ensures fault { IfErr result (IsFaultOfDecimalsRun
+        texts.old.document.bytes.items texts.old.scripts.bytes.items options.workers options.viewers) }
 {
-    let model = encoded(alloc, document)?;
-    let commands = encoded(alloc, scripts)?;
-    let output = run_whole(rt, alloc, gate, seed, model, commands, options)?;
+    encode_text(alloc, &mut texts.document)?;
+    encode_text(alloc, &mut texts.scripts)?;
+    let output = run_whole(rt, alloc, gate, seed, texts, options)?;
     // No line nests deeper than it is long.
     let depth = output.bytes.len();
     let (report, model) = output.bytes.as_slice().split_at(output.report);
@@ -62,18 +64,22 @@ pub(crate) fn run_decimals<R: Threads + Wait + Sync, G: Gate + Sync>(
     })
 }
 
-/// What the run is given of a text: the encoded text. A text that is too long or no JSON stays as it is: the run
-/// refuses it.
-fn encoded(alloc: Global, text: Vec<u8>) -> Result<Vec<u8>, OutOfMemory>
-    ensures given { IfOk result (λ v. IsGiven text.items v.items) }
-    ensures whole { IfOk result (λ v. HasWholeNumbers v.items) }
+/// Encodes a text in its place, and lets the given one go. A text that is too long or no JSON stays as it is: it is
+/// refused for that.
+pub(crate) fn encode_text(alloc: Global, text: &mut Text) -> Result<(), OutOfMemory>
+    ensures given { OnOk result (IsGiven text.old.bytes.items text.new.bytes.items) }
+    ensures whole { OnOk result (HasWholeNumbers text.new.bytes.items) }
 {
-    if text.len() > MAX_TEXT {
-        return Ok(text);
+    if text.bytes.len() > MAX_TEXT {
+        return Ok(());
     }
-    match encode(alloc, text.as_slice()) {
-        Ok(encoded) => Ok(encoded),
-        Err(DecimalsFault::NotJson) => Ok(text),
+    match encode(alloc, text.bytes.as_slice()) {
+        Ok(encoded) => {
+            text.bytes = encoded;
+            text.stage = Stage::Encoded;
+            Ok(())
+        }
+        Err(DecimalsFault::NotJson) => Ok(()),
         Err(DecimalsFault::OutOfMemory) => Err(OutOfMemory),
     }
 }

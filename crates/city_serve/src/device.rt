@@ -1,14 +1,15 @@
-//! A reader or a writer that keeps whether it has failed.
-ghost use Rattle.std.specs.Prelude.{◌≡◌, ◌<◌, ◌≤◌, true, false, length, take, IfOk, IfErr, IfSome, IsSome, IsNone, OnOk, OnErr};
+//! A reader or a writer that keeps whether it has failed, and why.
+ghost use Rattle.std.specs.Prelude.{◌≡◌, ◌<◌, ◌≤◌, true, false, length, take, is_some, IfOk, IfErr, IfSome, IsSome};
+ghost use Rattle.std.specs.Prelude.{IsNone, OnOk, OnErr};
 ghost use Rattle.std.specs.Io.KnownBytes.{Appends, Consumes, IsAtEnd, Keeps};
 ghost use Rattle.city_serve.specs.Served.{IsDeviceFault};
 
 use crate::fault::ServeFault;
 use city_desk::RunFault;
-use std::io::{ErrorKind, Read, Write};
+use std::io::{self, ErrorKind, Read, Write};
 use std::marker::Model;
 
-/// A reader or a writer, and whether it has failed since it was wrapped.
+/// A reader or a writer, and whether and why it has failed since it was wrapped.
 ///
 /// A reader fails if it answers an error other than being out of memory. A writer fails if
 /// it answers an error, or takes none of the bytes. Being interrupted is no failure: the
@@ -16,15 +17,15 @@ use std::marker::Model;
 #[derive(Drop)]
 pub struct Device<D> {
     inner: D,
-    failed: bool,
+    failure: Option<io::Error>,
 }
 
 impl<D> Model for Device<D> {
-    ghost use Rattle.std.specs.Prelude.{Bool};
+    ghost use Rattle.std.specs.Prelude.{Bool, is_some};
 
     ghost Value = { D × Bool };
 
-    ghost view = { λ d. (d.inner, d.failed) };
+    ghost view = { λ d. (d.inner, is_some d.failure) };
 }
 
 impl<D> Device<D> {
@@ -34,8 +35,15 @@ impl<D> Device<D> {
     {
         Device {
             inner,
-            failed: false,
+            failure: None,
         }
+    }
+
+    /// Why it failed, where it has: its last error.
+    pub fn failure(&self) -> Option<io::Error>
+        ensures { is_some result ≡ self.now.1 }
+    {
+        self.failure
     }
 
     /// The reader or the writer.
@@ -66,11 +74,14 @@ impl<R: Read> Device<R> {
                 Err(error) => match error.kind() {
                     ErrorKind::Interrupted => {}
                     ErrorKind::OutOfMemory => return Err(ServeFault::Run(RunFault::OutOfMemory)),
-                    _ => break,
+                    _ => {
+                        self.failure = Some(error);
+                        return Err(ServeFault::Read);
+                    }
                 },
             }
         }
-        self.failed = true;
+        self.failure = Some(io::Error::from(ErrorKind::Interrupted));
         Err(ServeFault::Read)
     }
 }
@@ -89,16 +100,20 @@ impl<W: Write> Device<W> {
     {
         for _ in 0..u64::MAX {
             match self.inner.write(bytes) {
-                Ok(0) => break,
+                Ok(0) => {
+                    self.failure = Some(io::Error::from(ErrorKind::WriteZero));
+                    return None;
+                }
                 Ok(count) => return Some(count),
                 Err(error) => {
                     if error.kind() != ErrorKind::Interrupted {
-                        break;
+                        self.failure = Some(error);
+                        return None;
                     }
                 }
             }
         }
-        self.failed = true;
+        self.failure = Some(io::Error::from(ErrorKind::Interrupted));
         None
     }
 
@@ -113,12 +128,13 @@ impl<W: Write> Device<W> {
                 Ok(()) => return true,
                 Err(error) => {
                     if error.kind() != ErrorKind::Interrupted {
-                        break;
+                        self.failure = Some(error);
+                        return false;
                     }
                 }
             }
         }
-        self.failed = true;
+        self.failure = Some(io::Error::from(ErrorKind::Interrupted));
         false
     }
 }

@@ -12,7 +12,7 @@ use city_doc::MAX_TEXT;
 use std::alloc::Global;
 use std::fs;
 use std::fs::Files;
-use std::io::{ErrorKind, Read};
+use std::io::{self, ErrorKind, Read};
 
 /// The most bytes that are read of a text: one more than it may have, so that a text that is
 /// too long is noticed.
@@ -27,6 +27,11 @@ pub trait TextFiles {
     fn read(&self, path: &str) -> Result<Vec<u8>, ServeFault>
         ensures read { IfOk result (λ v. IfSome (text self.now path.now) (λ all. v.items ≡ all)) }
         ensures fault { IfErr result (IsDeviceFault true) };
+
+    /// Why the last call that was refused was, where the system said why.
+    fn why(&self) -> Option<io::Error> {
+        None
+    }
 }
 
 /// The text that a file has, or where it is too long its first `MAX_TEXT` + 1 bytes.
@@ -35,9 +40,28 @@ pub trait TextFiles {
 pub fn read_file<R: Files + AllocGlobal>(rt: &R, path: &str) -> Result<Vec<u8>, ServeFault>
     ensures { IfErr result (IsDeviceFault true) }
 {
+    read_noting(rt, path, &mut None)
+}
+
+/// As `read_file`, and notes why the file can't be opened or read.
+pub(crate) fn read_noting<R: Files + AllocGlobal>(
+    rt: &R,
+    path: &str,
+    why: &mut Option<io::Error>,
+) -> Result<Vec<u8>, ServeFault>
+    ensures { IfErr result (IsDeviceFault true) }
+{
     match fs::open(rt, path) {
-        Ok(file) => read_text(rt.alloc(), &mut Device::new(file)),
-        Err(error) => Err(open_fault(error.kind())),
+        Ok(file) => {
+            let mut device = Device::new(file);
+            let text = read_text(rt.alloc(), &mut device);
+            *why = device.failure();
+            text
+        }
+        Err(error) => {
+            *why = Some(error);
+            Err(open_fault(error.kind()))
+        }
     }
 }
 

@@ -1,21 +1,26 @@
 //! What the program does with the words of its command line.
-ghost use Rattle.std.specs.Prelude.{◌≡◌, ◌++◌, ◌∷◌, [], ℕ, List, drop, map, string_bytes, IfOk, IfErr, OnOk};
+ghost use Rattle.std.specs.Prelude.{◌≡◌, ◌++◌, ◌∷◌, [], ℕ, List, false, drop, map, string_bytes, IfOk, IfErr, OnOk};
 ghost use Rattle.city_serve.specs.CommandLines.{HasOptions};
 ghost use Rattle.city_serve.specs.FaultTexts.{fault_text};
 ghost use Rattle.city_serve.specs.SeenTexts.{seen_text};
 ghost use Rattle.city_serve.specs.declared.program.Status.{Status};
-ghost use Rattle.city_serve.specs.Programs.{status_code, IsAnswered, IsUnanswered, IsToldFault, IsLineTold, Ends, EndsAsked};
-ghost use Rattle.city_serve.specs.inside.Telling.{IsToldAfter, IsSeenTold};
+ghost use Rattle.city_serve.specs.Programs.{status_code, is_explained, IsUnanswered, IsLineTold, IsToldFault};
+ghost use Rattle.city_serve.specs.Programs.{Ends, EndsAsked};
+ghost use Rattle.city_serve.specs.inside.Telling.{run_status, check_status, IsAnsweredAs, IsFaultText, IsToldAfter};
+ghost use Rattle.city_serve.specs.inside.Telling.{IsSeenTold};
 
+use crate::check::check;
 use crate::command_line::{Asked, LineFault, asked_by};
 use crate::deliver::Delivered;
 use crate::device::Device;
+use crate::explain::explanation;
 use crate::fault::ServeFault;
 use crate::fault_line::fault_line;
 use crate::output_files::OutputFiles;
 use crate::seen_line::seen_line;
 use crate::serve::{read_input, write_output};
 use crate::serve_texts::serve_to;
+use crate::texts::{Text, Texts};
 use city_crew::Gate;
 use city_desk::RunFault;
 use city_model::OutOfMemory;
@@ -24,6 +29,9 @@ use std::io::{Read, Write};
 use std::sync::Wait;
 use std::thread::Threads;
 
+/// What is told where memory runs out.
+const MEMORY_LINE: &str = "cityed: out of memory\n";
+
 /// How the program ends.
 #[derive(Clone, Copy)]
 pub enum Status {
@@ -31,6 +39,8 @@ pub enum Status {
     Done,
     /// There was a fault, which standard error tells.
     Failed,
+    /// A check found faults, which standard output tells.
+    Faulty,
     /// The command line was refused, and standard error says why.
     Refused,
     /// A script ended refused or out of memory, and so the model was written nowhere, as it was asked for.
@@ -45,6 +55,7 @@ impl Status {
         match self {
             Status::Done => 0,
             Status::Failed => 1,
+            Status::Faulty => 1,
             Status::Refused => 2,
             Status::Withheld => 3,
         }
@@ -73,8 +84,9 @@ pub fn run_program<
     input: &mut Device<R>,
     output: &mut Device<W>,
     errors: &mut Device<E>,
+    terminal: bool,
 ) -> Status
-    ensures { Ends (drop 1 (map string_bytes words.now)) result
+    ensures { Ends terminal (drop 1 (map string_bytes words.now)) result
         (record {
           before = F.text files.old;
           after = F.text files.new;
@@ -88,7 +100,9 @@ pub fn run_program<
         (E.contents errors.old.0) (E.contents errors.new.0) errors.new.1 }
 {
     match asked_by(alloc, words) {
-        Ok(asked) => run_asked(rt, alloc, gate, seed, files, &asked, input, output, errors),
+        Ok(asked) => run_asked(
+            rt, alloc, gate, seed, files, &asked, input, output, errors, terminal,
+        ),
         Err(fault) => refuse_line(alloc, &fault, errors),
     }
 }
@@ -104,9 +118,10 @@ fn run_asked<T: Threads + Wait + Sync, G: Gate + Sync, F: OutputFiles, R: Read, 
     input: &mut Device<R>,
     output: &mut Device<W>,
     errors: &mut Device<E>,
+    terminal: bool,
 ) -> Status
     requires { HasOptions asked.now }
-    ensures { EndsAsked asked.now result
+    ensures { EndsAsked terminal asked.now result
         (record {
           before = F.text files.old;
           after = F.text files.new;
@@ -119,9 +134,104 @@ fn run_asked<T: Threads + Wait + Sync, G: Gate + Sync, F: OutputFiles, R: Read, 
         })
         (E.contents errors.old.0) (E.contents errors.new.0) errors.new.1 }
 {
-    match answer(rt, alloc, gate, seed, files, asked, input, output) {
-        Ok(delivered) => tell_seen(alloc, delivered.seen.as_slice(), delivered.withheld, errors),
-        Err(fault) => tell_fault(alloc, &fault, errors),
+    let mut texts = Texts::unread(alloc);
+    match answer(
+        rt, alloc, gate, seed, files, &mut texts, asked, input, output,
+    ) {
+        Ok(answer) => tell_seen(alloc, answer.seen.as_slice(), answer.status, errors),
+        Err(fault) => tell_unanswered(
+            alloc, terminal, fault, asked, texts, files, input, output, errors,
+        ),
+    }
+}
+
+/// Tells why what was asked for isn't done, and what explains that where it is explained.
+fn tell_unanswered<F: OutputFiles, R: Read, W: Write, E: Write>(
+    alloc: Global,
+    terminal: bool,
+    fault: ServeFault,
+    asked: &Asked<'_>,
+    texts: Texts,
+    files: &F,
+    input: &Device<R>,
+    output: &Device<W>,
+    errors: &mut Device<E>,
+) -> Status
+    ensures status { result ≡ Status.Failed }
+    ensures told { (text : List ℕ) × IsToldFault (is_explained terminal asked.now) fault text
+        × IsToldAfter errors.old.1 (E.contents errors.old.0) (E.contents errors.new.0) errors.new.1 text }
+{
+    let behind = behind_line(alloc, terminal, &fault, asked, &texts, files, input, output);
+    tell_fault(alloc, &fault, behind.as_str(), errors)
+}
+
+/// What is told behind the line of a fault: nothing where it isn't explained, or memory is short for that.
+fn behind_line<F: OutputFiles, R: Read, W: Write>(
+    alloc: Global,
+    terminal: bool,
+    fault: &ServeFault,
+    asked: &Asked<'_>,
+    texts: &Texts,
+    files: &F,
+    input: &Device<R>,
+    output: &Device<W>,
+) -> String
+    ensures { is_explained terminal asked.now ≡ false → string_bytes result ≡ [] }
+{
+    if !is_explained(terminal, asked) {
+        return String::new(alloc);
+    }
+    match explanation(alloc, fault, asked, texts, files, input, output) {
+        Ok(lines) => lines,
+        Err(OutOfMemory) => String::new(alloc),
+    }
+}
+
+/// Whether a fault is explained: on a terminal, and where that is asked for.
+fn is_explained(terminal: bool, asked: &Asked<'_>) -> bool
+    ensures { result ≡ is_explained terminal asked.now }
+{
+    match asked {
+        Asked::Input(options, _) | Asked::Files(options, _, _, _) | Asked::Check(options, _, _) => {
+            terminal || options.explain
+        }
+        Asked::Text(_) => terminal,
+    }
+}
+
+/// What is known once what is asked for is done.
+#[derive(Drop)]
+struct Answered {
+    /// For each viewer the numbers of changes that it saw.
+    seen: Vec<Vec<u64>>,
+    status: Status,
+}
+
+/// The answer of a check.
+fn check_answer(alloc: Global, faulty: bool) -> Answered
+    ensures seen { result.seen.items ≡ [] }
+    ensures status { result.status ≡ check_status faulty }
+{
+    let status = if faulty { Status::Faulty } else { Status::Done };
+    Answered {
+        seen: Vec::new(alloc),
+        status,
+    }
+}
+
+/// The answer of a run.
+fn run_answer(delivered: Delivered) -> Answered
+    ensures seen { result.seen ≡ delivered.seen }
+    ensures status { result.status ≡ run_status delivered.withheld }
+{
+    let status = if delivered.withheld {
+        Status::Withheld
+    } else {
+        Status::Done
+    };
+    Answered {
+        seen: delivered.seen,
+        status,
     }
 }
 
@@ -132,12 +242,13 @@ fn answer<T: Threads + Wait + Sync, G: Gate + Sync, F: OutputFiles, R: Read, W: 
     gate: &G,
     seed: u64,
     files: &mut F,
+    texts: &mut Texts,
     asked: &Asked<'_>,
     input: &mut Device<R>,
     output: &mut Device<W>,
-) -> Result<Delivered, ServeFault>
+) -> Result<Answered, ServeFault>
     requires { HasOptions asked.now }
-    ensures answered { IfOk result (λ d. IsAnswered
+    ensures answered { IfOk result (λ a. IsAnsweredAs
         (record {
           before = F.text files.old;
           after = F.text files.new;
@@ -148,7 +259,7 @@ fn answer<T: Threads + Wait + Sync, G: Gate + Sync, F: OutputFiles, R: Read, W: 
           new = W.contents output.new.0;
           failed = output.new.1;
         })
-        asked.now d.seen.items d.withheld) }
+        asked.now a.seen.items a.status) }
     ensures fault { IfErr result (IsUnanswered
         (record {
           before = F.text files.old;
@@ -163,46 +274,33 @@ fn answer<T: Threads + Wait + Sync, G: Gate + Sync, F: OutputFiles, R: Read, W: 
         asked.now) }
 {
     match asked {
-        Asked::Check(..) => Err(ServeFault::Read),
         Asked::Text(text) => {
             if !write_output(output, text.as_bytes()) {
                 return Err(ServeFault::Write);
             }
-            Ok(Delivered {
+            Ok(Answered {
                 seen: Vec::new(alloc),
-                withheld: false,
+                status: Status::Done,
             })
+        }
+        Asked::Check(options, model, scripts) => {
+            let (decimals, scripts) = (options.decimals, *scripts);
+            let faulty = check(alloc, files, texts, decimals, *model, scripts, output)?;
+            Ok(check_answer(alloc, faulty))
         }
         Asked::Input(options, destination) => {
             let (document, scripts) = read_input(alloc, input)?;
-            serve_to(
-                rt,
-                alloc,
-                gate,
-                seed,
-                document,
-                scripts,
-                files,
-                *destination,
-                output,
-                *options,
-            )
+            *texts = Texts::given(document, scripts);
+            let (to, options) = (*destination, *options);
+            let delivered = serve_to(rt, alloc, gate, seed, texts, files, to, output, options)?;
+            Ok(run_answer(delivered))
         }
         Asked::Files(options, destination, model, scripts) => {
-            let document = files.read(*model)?;
-            let commands = files.read(*scripts)?;
-            serve_to(
-                rt,
-                alloc,
-                gate,
-                seed,
-                document,
-                commands,
-                files,
-                *destination,
-                output,
-                *options,
-            )
+            texts.document = Text::given(files.read(*model)?);
+            texts.scripts = Text::given(files.read(*scripts)?);
+            let (to, options) = (*destination, *options);
+            let delivered = serve_to(rt, alloc, gate, seed, texts, files, to, output, options)?;
+            Ok(run_answer(delivered))
         }
     }
 }
@@ -211,21 +309,17 @@ fn answer<T: Threads + Wait + Sync, G: Gate + Sync, F: OutputFiles, R: Read, W: 
 fn tell_seen<E: Write>(
     alloc: Global,
     seen: &[Vec<u64>],
-    withheld: bool,
+    status: Status,
     errors: &mut Device<E>,
 ) -> Status
-    ensures { IsSeenTold withheld result (E.contents errors.old.0) (E.contents errors.new.0) errors.new.1 seen.now }
+    ensures { IsSeenTold status result (E.contents errors.old.0) (E.contents errors.new.0) errors.new.1 seen.now }
 {
     for (viewer, numbers) in seen.iter().enumerate() {
         let Ok(()) = tell_viewer(alloc, viewer, numbers.as_slice(), errors) else {
-            return tell_fault(alloc, &ServeFault::Run(RunFault::OutOfMemory), errors);
+            return tell_memory(errors);
         };
     }
-    if withheld {
-        Status::Withheld
-    } else {
-        Status::Done
-    }
+    status
 }
 
 /// Tells what a viewer saw.
@@ -253,31 +347,43 @@ pub fn refuse_line<E: Write>(alloc: Global, fault: &LineFault, errors: &mut Devi
             tell(errors, text.as_str());
             Status::Refused
         }
-        LineFault::OutOfMemory => {
-            tell_fault(alloc, &ServeFault::Run(RunFault::OutOfMemory), errors)
-        }
+        LineFault::OutOfMemory => tell_memory(errors),
     }
 }
 
-/// Tells a fault. Where memory is short for that too, it is told that memory ran out.
-fn tell_fault<E: Write>(alloc: Global, fault: &ServeFault, errors: &mut Device<E>) -> Status
-    ensures status { result ≡ Status.Failed }
-    ensures told { (line : List ℕ) × IsToldFault fault.now line
-        × IsToldAfter errors.old.1 (E.contents errors.old.0) (E.contents errors.new.0) errors.new.1 line }
+/// Tells that memory ran out.
+fn tell_memory<E: Write>(errors: &mut Device<E>) -> Status
+    ensures { result ≡ Status.Failed }
 {
-    match ended_line(alloc, fault) {
+    tell(errors, MEMORY_LINE);
+    Status::Failed
+}
+
+/// Tells a fault, and behind its line what explains it. Where memory is short for that, it is told that memory ran out.
+fn tell_fault<E: Write>(
+    alloc: Global,
+    fault: &ServeFault,
+    behind: &str,
+    errors: &mut Device<E>,
+) -> Status
+    ensures status { result ≡ Status.Failed }
+    ensures told { (text : List ℕ) × IsFaultText fault.now behind.now text
+        × IsToldAfter errors.old.1 (E.contents errors.old.0) (E.contents errors.new.0) errors.new.1 text }
+{
+    match ended_line(alloc, fault, behind) {
         Ok(line) => tell(errors, line.as_str()),
-        Err(OutOfMemory) => tell(errors, "cityed: out of memory\n"),
+        Err(OutOfMemory) => tell(errors, MEMORY_LINE),
     }
     Status::Failed
 }
 
-/// The line that reports a fault, with its newline.
-fn ended_line(alloc: Global, fault: &ServeFault) -> Result<String, OutOfMemory>
-    ensures { IfOk result (λ s. string_bytes s ≡ fault_text fault.now ++ 10 ∷ []) }
+/// The line that reports a fault, its newline, and what is told behind that.
+fn ended_line(alloc: Global, fault: &ServeFault, behind: &str) -> Result<String, OutOfMemory>
+    ensures { IfOk result (λ s. string_bytes s ≡ (fault_text fault.now ++ 10 ∷ []) ++ behind.now) }
 {
     let mut line = fault_line(alloc, fault)?;
     line.push_str("\n")?;
+    line.push_str(behind)?;
     Ok(line)
 }
 

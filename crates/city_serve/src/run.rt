@@ -12,6 +12,7 @@ ghost use Rattle.city_serve.specs.Destinations.{IsCutAt};
 
 use crate::decimals::run_decimals;
 use crate::options::Options;
+use crate::texts::Texts;
 use city_crew::{Gate, run_seeded};
 use city_desk::{Output, RunFault, read_texts, run_read};
 use std::alloc::Global;
@@ -20,27 +21,30 @@ use std::sync::Wait;
 use std::thread::Threads;
 
 /// Runs the scripts on the document's city, through a gate. Every run that is served goes this way.
+///
+/// The texts are gone where it succeeds. Where it refuses one, that is there as the run was given it.
 pub(crate) fn run<R: Threads + Wait + Sync, G: Gate + Sync>(
     rt: &R,
     alloc: Global,
     gate: &G,
     seed: u64,
-    document: Vec<u8>,
-    scripts: Vec<u8>,
+    texts: &mut Texts,
     options: Options,
 ) -> Result<Output, RunFault>
     requires { AreWithin options }
-    ensures ran { IfOk result (λ o. written_by options.decimals document.items scripts.items o.ends o.bytes.items) }
+    ensures ran { IfOk result (λ o. written_by options.decimals
+        texts.old.document.bytes.items texts.old.scripts.bytes.items o.ends o.bytes.items) }
     ensures in_turn { IfOk result (λ o. WhereAlone options.workers options.viewers (AreInTurn 0 o.ends)) }
     ensures seen { IfOk result (λ o. AreSeen options.viewers (commits_in o.ends) o.seen.items) }
     ensures cut { IfOk result (λ o. IsCutAt options.decimals o.ends o.bytes.items o.report) }
     ensures fault { IfErr result
-        (faults_by options.decimals document.items scripts.items options.workers options.viewers) }
+        (faults_by options.decimals
+        texts.old.document.bytes.items texts.old.scripts.bytes.items options.workers options.viewers) }
 {
     if options.decimals {
-        run_decimals(rt, alloc, gate, seed, document, scripts, options)
+        run_decimals(rt, alloc, gate, seed, texts, options)
     } else {
-        run_whole(rt, alloc, gate, seed, document, scripts, options)
+        run_whole(rt, alloc, gate, seed, texts, options)
     }
 }
 
@@ -51,24 +55,27 @@ pub(crate) fn run_whole<R: Threads + Wait + Sync, G: Gate + Sync>(
     alloc: Global,
     gate: &G,
     seed: u64,
-    document: Vec<u8>,
-    scripts: Vec<u8>,
+    texts: &mut Texts,
     options: Options,
 ) -> Result<Output, RunFault>
     requires { AreWithin options }
-    ensures ran { IfOk result (λ o. IsRun document.items scripts.items o.ends o.bytes.items) }
+    ensures ran { IfOk result (λ o.
+        IsRun texts.old.document.bytes.items texts.old.scripts.bytes.items o.ends o.bytes.items) }
     ensures in_turn { IfOk result (λ o. WhereAlone options.workers options.viewers (AreInTurn 0 o.ends)) }
     ensures seen { IfOk result (λ o. AreSeen options.viewers (commits_in o.ends) o.seen.items) }
     ensures cut { IfOk result (λ o. IsCutAt false o.ends o.bytes.items o.report) }
     ensures report { IfOk result (λ o. o.report ≡ length (report_text o.ends)) }
-    ensures fault { IfErr result (IsFaultOfRun document.items scripts.items options.workers options.viewers) }
+    ensures fault { IfErr result (IsFaultOfRun
+        texts.old.document.bytes.items texts.old.scripts.bytes.items options.workers options.viewers) }
 {
-    let (model, commands) = (document.as_slice(), scripts.as_slice());
+    let (model, commands) = (
+        texts.document.bytes.as_slice(),
+        texts.scripts.bytes.as_slice(),
+    );
     if options.workers == 1 && options.viewers == 0 {
         let (city, list) = read_texts(alloc, model, commands)?;
         let room = model.len();
-        drop(document);
-        drop(scripts);
+        texts.let_go(alloc);
         let (output, city) = run_read(alloc, seed, city, list, room)?;
         // The process ends after its output, and its memory goes with it. To drop the city object by
         // object would take time.
@@ -76,6 +83,8 @@ pub(crate) fn run_whole<R: Threads + Wait + Sync, G: Gate + Sync>(
         Ok(output)
     } else {
         let (workers, viewers) = (options.workers, options.viewers);
-        run_seeded(rt, alloc, seed, model, commands, workers, viewers, gate)
+        let output = run_seeded(rt, alloc, seed, model, commands, workers, viewers, gate)?;
+        texts.let_go(alloc);
+        Ok(output)
     }
 }

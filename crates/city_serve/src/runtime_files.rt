@@ -2,9 +2,10 @@
 ghost use Rattle.std.specs.Prelude.{◌≡◌, ◌≢◌, true, false};
 
 use crate::fault::ServeFault;
-use crate::files::{TextFiles, read_file};
+use crate::files::{TextFiles, read_noting};
 use crate::output_files::OutputFiles;
 use std::alloc::Global;
+use std::cell::Cell;
 use std::fs::{self, Files, OpenFile, OpenOptions, Permissions};
 use std::io::{self, ErrorKind, Write};
 use std::path::PathBuf;
@@ -12,27 +13,33 @@ use std::path::PathBuf;
 /// How many names of new files are tried.
 const MOST_NAMES: u64 = 100;
 
-/// The files of a runtime, and whether a step of replacing one was refused.
+/// The files of a runtime, whether a step of replacing one was refused, and why the last call that was refused was.
 #[derive(Drop)]
 pub struct RuntimeFiles<'a, R> {
     rt: &'a R,
     failed: bool,
+    why: Cell<Option<io::Error>>,
 }
 
 impl<'a, R> RuntimeFiles<'a, R> {
     /// The files of this runtime.
     pub fn new(rt: &'a R) -> RuntimeFiles<'a, R> {
-        RuntimeFiles { rt, failed: false }
+        RuntimeFiles {
+            rt,
+            failed: false,
+            why: Cell::new(None),
+        }
     }
 }
 
 impl<R: Files + AllocGlobal> RuntimeFiles<'_, R> {
-    /// Whether a step succeeded; that it didn't is kept.
+    /// Whether a step succeeded; that it didn't, and why, is kept.
     fn noted(&mut self, step: io::Result<()>) -> bool
         ensures unfailed { result ≡ true → self.new.failed ≡ self.old.failed }
         ensures failed { result ≢ true → self.new.failed ≡ true }
     {
-        if step.is_err() {
+        if let Err(error) = step {
+            self.why.set(Some(error));
             self.failed = true;
             return false;
         }
@@ -48,12 +55,16 @@ pub struct NewFile<F> {
     /// Which file it is to replace: where links lead to it, the one that they lead to.
     target: PathBuf,
     synced: bool,
+    /// Why its last write that was refused was.
+    why: Option<io::Error>,
 }
 
 impl<F: Write> Write for NewFile<F> {
     fn write(&mut self, buf: &[u8]) -> io::Result<usize> {
         self.synced = false;
-        self.file.write(buf)
+        let written = self.file.write(buf);
+        self.why = written.as_ref().err().copied();
+        written
     }
 
     fn flush(&mut self) -> io::Result<()> {
@@ -63,7 +74,14 @@ impl<F: Write> Write for NewFile<F> {
 
 impl<R: Files + AllocGlobal> TextFiles for RuntimeFiles<'_, R> {
     fn read(&self, path: &str) -> Result<Vec<u8>, ServeFault> {
-        read_file(self.rt, path)
+        let mut why = None;
+        let text = read_noting(self.rt, path, &mut why);
+        self.why.set(why);
+        text
+    }
+
+    fn why(&self) -> Option<io::Error> {
+        self.why.get()
     }
 }
 
@@ -79,7 +97,8 @@ impl<R: Files + AllocGlobal> OutputFiles for RuntimeFiles<'_, R> {
     fn create(&mut self, path: &str, seed: u64) -> Option<NewFile<R::File>> {
         match create_beside(self.rt, path, seed) {
             Ok(new) => Some(new),
-            Err(_) => {
+            Err(error) => {
+                self.why.set(Some(error));
                 self.failed = true;
                 None
             }
@@ -106,6 +125,9 @@ impl<R: Files + AllocGlobal> OutputFiles for RuntimeFiles<'_, R> {
 
     fn give_up(&mut self, new: NewFile<R::File>) {
         self.failed = true;
+        if new.why.is_some() {
+            self.why.set(new.why);
+        }
         remove(self.rt, &new);
     }
 }
@@ -186,6 +208,7 @@ fn create_new<R: Files + AllocGlobal>(
                     name,
                     target,
                     synced: false,
+                    why: None,
                 });
             }
             Err(error) if error.kind() == ErrorKind::AlreadyExists => {}

@@ -13,6 +13,7 @@ use crate::no_files::NoFiles;
 use crate::options::{Destination, Options};
 use crate::output_files::OutputFiles;
 use crate::run::run;
+use crate::texts::Texts;
 use city_crew::{Gate, OpenGate};
 use city_doc::FIXED_SEED;
 use std::alloc::Global;
@@ -87,8 +88,7 @@ pub fn serve_owned<R: Threads + Wait + Sync, G: Gate + Sync, W: Write>(
         alloc,
         gate,
         seed,
-        document,
-        scripts,
+        &mut Texts::given(document, scripts),
         &mut NoFiles,
         follows,
         writer,
@@ -101,28 +101,30 @@ pub fn serve_owned<R: Threads + Wait + Sync, G: Gate + Sync, W: Write>(
 /// to a file, which is replaced whole once the report is written, or stays as it was.
 ///
 /// The answer says whether the model was withheld, as an atomic destination asks for where a script ended refused or out
-/// of memory. Every run that is served goes this way.
+/// of memory. The texts are gone where the run succeeds, and where it refuses one that is there as it was given it.
+/// Every run that is served goes this way.
 pub fn serve_to<R: Threads + Wait + Sync, G: Gate + Sync, F: OutputFiles, W: Write>(
     rt: &R,
     alloc: Global,
     gate: &G,
     seed: u64,
-    document: Vec<u8>,
-    scripts: Vec<u8>,
+    texts: &mut Texts,
     files: &mut F,
     destination: Destination<'_>,
     writer: &mut Device<W>,
     options: Options,
 ) -> Result<Delivered, ServeFault>
     requires { AreWithin options }
-    ensures delivered { IfOk result (λ d. IsDelivered destination.entry options document.items scripts.items
+    ensures delivered { IfOk result (λ d. IsDelivered destination.entry options
+        texts.old.document.bytes.items texts.old.scripts.bytes.items
         d.seen.items d.withheld (F.text files.old) (F.text files.new)
         (W.contents writer.old.0) (W.contents writer.new.0)) }
     ensures unfailed { OnOk result (writer.new.1 ≡ writer.old.1) }
-    ensures fault { IfErr result (IsDeliveryFault destination.entry options document.items scripts.items
+    ensures fault { IfErr result (IsDeliveryFault destination.entry options
+        texts.old.document.bytes.items texts.old.scripts.bytes.items
         (F.text files.old) (F.text files.new) (F.have_failed files.new)
         (W.contents writer.old.0) (W.contents writer.new.0) writer.new.1) }
 {
-    let output = run(rt, alloc, gate, seed, document, scripts, options)?;
+    let output = run(rt, alloc, gate, seed, texts, options)?;
     deliver(files, seed, destination, writer, output)
 }

@@ -4,20 +4,24 @@
 //! and the scripts after it. With `--decimals` numbers of any form are taken, and given back as they were written;
 //! `--workers` and `--watch` say how many workers run the scripts and how many viewers look on. Standard output gets a
 //! line for each script and the model, standard error one for each viewer. With `--output` the model goes to a file
-//! instead, which is replaced whole; with `--atomic` it goes nowhere where a script is refused or out of memory. Status
-//! 1: a fault, told on standard error; 2: a command line that is refused; 3: a model that goes nowhere. All that is
-//! city_serve's `run_program`: here it gets the real files and streams.
+//! instead, which is replaced whole; with `--atomic` it goes nowhere where a script is refused or out of memory. With
+//! `--check` nothing is run: standard output gets a line for each fault of a model and of scripts. Status 1: a fault,
+//! told on standard error, or faults that a check found; 2: a command line that is refused; 3: a model that goes
+//! nowhere. A fault is explained with `--explain`, and where standard error is a terminal. All that is city_serve's
+//! `run_program`: here it gets the real files and streams.
 #![tactic(auto)]
 
 use city_crew::OpenGate;
 use city_serve::command_line::LineFault;
 use city_serve::{Device, RuntimeFiles, drawn_seed, refuse_line, run_program};
-use std::io::ErrorKind;
+use std::io::{ErrorKind, IsTerminal};
 use std::process::ExitCode;
 use std::{env, io};
 
 fn main(rt: HostRuntime) -> ExitCode {
-    let mut errors = Device::new(rt.stderr());
+    let errors = rt.stderr();
+    let terminal = errors.is_terminal();
+    let mut errors = Device::new(errors);
     let status = match words(&rt) {
         Ok(words) => run_program(
             &rt,
@@ -29,6 +33,7 @@ fn main(rt: HostRuntime) -> ExitCode {
             &mut Device::new(rt.reader()),
             &mut Device::new(io::writer(&rt)),
             &mut errors,
+            terminal,
         ),
         Err(fault) => refuse_line(rt.alloc(), &fault, &mut errors),
     };

@@ -1,5 +1,10 @@
--- The faults of a crew are faults of its run.
+-- The faults of a crew: which faults of its run they are, and when a run has no result.
+use Rattle.std.specs.Prelude.{◌≡◌, ◌<◌, ℕ, List, length, true}
+use Rattle.city_model.specs.declared.end.End.{End}
+use Rattle.city_model.specs.Runs.{Scripted, has_end}
+use Rattle.city_desk.specs.DeskState.{DeskState}
 use Rattle.city_desk.specs.declared.fault.RunFault.{RunFault}
+use Rattle.city_crew.specs.declared.board.BoardFault.{BoardFault}
 use Rattle.city_crew.specs.declared.fault.CrewFault.{CrewFault}
 
 abbrev pub fault_of_crew : CrewFault → RunFault
@@ -7,3 +12,20 @@ fault_of_crew CrewFault.OutOfMemory = RunFault.OutOfMemory
 fault_of_crew CrewFault.NoPlace = RunFault.NoPlace
 fault_of_crew CrewFault.Unfinished = RunFault.Unfinished
 fault_of_crew CrewFault.Mixed = RunFault.Mixed
+
+abbrev pub fault_of_board : BoardFault → CrewFault
+fault_of_board BoardFault.OutOfMemory = CrewFault.OutOfMemory
+fault_of_board BoardFault.NoPlace = CrewFault.NoPlace
+
+-- each of the scripts has an end
+abbrev pub HaveEnded : List Scripted → List End → Type 0
+HaveEnded scripts ends = (n : ℕ) → n < length scripts → has_end n ends ≡ true
+
+-- why what was run on two texts has no result for these: they are other texts, or they are the same and a script
+-- hasn't ended
+abbrev pub IsEndFault : List ℕ × List ℕ × DeskState → List ℕ → List ℕ → CrewFault → Type 0
+IsEndFault state document scripts CrewFault.OutOfMemory = ⊥
+IsEndFault state document scripts CrewFault.NoPlace = ⊥
+IsEndFault state document scripts CrewFault.Unfinished =
+    (document ≡ state.0) × (scripts ≡ state.1) × ¬ HaveEnded state.2.scripts state.2.ends
+IsEndFault state document scripts CrewFault.Mixed = ¬ ((document ≡ state.0) × (scripts ≡ state.1))

@@ -6,6 +6,7 @@ use Rattle.city_doc.specs.declared.fault.ReadFault.TheVariants.{OutOfMemory, Too
 use Rattle.city_doc.specs.declared.fault.ReadFault.TheVariants.{NotCityJson, UnknownType, Unsupported}
 use Rattle.city_doc.specs.declared.fault.ReadFault.TheVariants.{BadGeometry, BadVertex, BadRing, Relations}
 use Rattle.city_doc.specs.declared.fault.ReadFault.TheVariants.{OpenShell}
+use Rattle.city_doc.specs.declared.fault.ScriptFault.{ScriptFault}
 
 -- with what is wrong and what to do
 abbrev pub with_words : List ℕ → List ℕ → Members → Members
@@ -34,3 +35,20 @@ with_named (BadVertex id) ms = with_id id ms
 with_named (BadRing id) ms = with_id id ms
 with_named (Relations id) ms = with_id id ms
 with_named (OpenShell id) ms = with_id id ms
+
+-- with the numbers of a script and of a command in it
+abbrev pub with_place : ℕ → ℕ → Members → Members
+with_place n i ms =
+    put (codes "command") (number (unsigned i)) (put (codes "script") (number (unsigned n)) ms)
+
+-- with what the fault of scripts names
+abbrev pub with_script_named : ScriptFault → Members → Members
+with_script_named ScriptFault.OutOfMemory ms = ms
+with_script_named ScriptFault.TooLong ms = ms
+with_script_named ScriptFault.NotJson ms = ms
+with_script_named ScriptFault.NotWhole ms = ms
+with_script_named ScriptFault.NotScripts ms = ms
+with_script_named (ScriptFault.BadScript n) ms = put (codes "script") (number (unsigned n)) ms
+with_script_named ScriptFault.TooMany ms = ms
+with_script_named (ScriptFault.BadCommand n i) ms = with_place n i ms
+with_script_named (ScriptFault.BadVertex n i) ms = with_place n i ms

@@ -96,13 +96,13 @@ impl<'t> Broken<'t> {
         let one = list.one();
         let other = Quoted(self.other().unwrap_or(""));
         match *self {
-            Broken::NoListOfIds(_) => {
-                format!(in alloc; "Its {names} aren't an array of texts.")
-            }
+            Broken::NoListOfIds(_) => { format!(in alloc; "Its {names} aren't an array of texts.") }
             Broken::Repeated(_, _) => format!(in alloc; "Its {names} have {other} twice."),
             Broken::FirstLevelWithParents(kind, _) => {
                 let kind = name(kind);
-                format!(in alloc; "An object of type {kind} has no parents, but it has the parent {other}.")
+                format!(in alloc;
+                    "An object of type {kind} has no parents, but it has the parent {other}."
+                )
             }
             Broken::NoParents(kind) => {
                 let kind = name(kind);
@@ -119,7 +119,9 @@ impl<'t> Broken<'t> {
             Broken::OtherFamily(own, kind, _) => {
                 let own = name(own);
                 let kind = name(kind);
-                format!(in alloc; "Its parent {other} is of type {kind}, another family than that of {own}.")
+                format!(in alloc;
+                    "Its parent {other} is of type {kind}, another family than that of {own}."
+                )
             }
         }
     }

@@ -85,7 +85,9 @@ fn tell_transform(
     } else {
         "translate"
     };
-    let message = format!(in alloc; "The {name} of the transform isn't an array of three numbers.")?;
+    let message = format!(in alloc;
+        "The {name} of the transform isn't an array of three numbers."
+    )?;
     tell_at(alloc, &[top, Step::Member(name)], message, diagnostic)
 }
 
@@ -122,7 +124,9 @@ fn tell_vertices(
     };
     for number in 0..items.len() {
         if triple_of(&items[number]).is_none() {
-            let message = format!(in alloc; "Vertex {number} isn't an array of three whole numbers.")?;
+            let message = format!(in alloc;
+                "Vertex {number} isn't an array of three whole numbers."
+            )?;
             let steps = [top, Step::Item(number)];
             return tell_at(alloc, &steps, message, diagnostic);
         }

@@ -48,7 +48,9 @@ impl Wrong<'_> {
             Wrong::NoBoundaries => format!(in alloc; "Geometry {n} has no boundaries."),
             Wrong::Nested(kind, nesting) => {
                 let depth = nesting.depth();
-                format!(in alloc; "The boundaries of geometry {n}, a {kind}, aren't positions in {depth} arrays.")
+                format!(in alloc;
+                    "The boundaries of geometry {n}, a {kind}, aren't positions in {depth} arrays."
+                )
             }
         }
     }

@@ -47,7 +47,9 @@ fn tell(
     let message = if position < 0 {
         format!(in alloc; "Item {item} of the ring is {position}, but no position is negative.")?
     } else {
-        format!(in alloc; "Item {item} of the ring is {position}, but there are {count} vertices, from 0 on.")?
+        format!(in alloc;
+            "Item {item} of the ring is {position}, but there are {count} vertices, from 0 on."
+        )?
     };
     diagnostic.tell(message, "Repair the positions.");
     Ok(())

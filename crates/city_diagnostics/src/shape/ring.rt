@@ -134,10 +134,8 @@ fn equal_neighbours(points: &[Point]) -> Option<Wrong> {
             return Some(Wrong::Equal(next - 1, next, points[next]));
         }
     }
-    let last = points.len().checked_sub(1)?;
-    if points[last] == points[0] {
-        Some(Wrong::Equal(last, 0, points[0]))
-    } else {
-        None
+    match points {
+        [first, .., last] if first == last => Some(Wrong::Equal(points.len() - 1, 0, *first)),
+        _ => None,
     }
 }

@@ -59,7 +59,9 @@ fn tell(
     if let Some((from, to)) = first {
         let from = Coordinates(from);
         let to = Coordinates(to);
-        let message = format!(in alloc; "The shell has {count} open edges, the first from {from} to {to}.")?;
+        let message = format!(in alloc;
+            "The shell has {count} open edges, the first from {from} to {to}."
+        )?;
         diagnostic.tell(
             message,
             "Close it, turn the face that is the wrong way round, or make it a MultiSurface.",

@@ -56,10 +56,7 @@ pub fn surfaces_of<'v>(
     Ok(lists)
 }
 
-fn push_solids<'v>(
-    solids: &'v [Value],
-    lists: &mut Vec<Surfaces<'v>>,
-) -> Result<(), OutOfMemory> {
+fn push_solids<'v>(solids: &'v [Value], lists: &mut Vec<Surfaces<'v>>) -> Result<(), OutOfMemory> {
     for number in 0..solids.len() {
         push_shells(Some(number), items_of(&solids[number]), lists)?;
     }
@@ -92,10 +89,7 @@ pub struct Ring<'v> {
 }
 
 /// The rings of surfaces, in order.
-pub fn rings_of<'v>(
-    alloc: Global,
-    surfaces: &Surfaces<'v>,
-) -> Result<Vec<Ring<'v>>, OutOfMemory> {
+pub fn rings_of<'v>(alloc: Global, surfaces: &Surfaces<'v>) -> Result<Vec<Ring<'v>>, OutOfMemory> {
     let surfaces = surfaces.items;
     let mut rings = Vec::new(alloc);
     for surface in 0..surfaces.len() {

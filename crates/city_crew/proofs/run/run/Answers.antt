@@ -11,4 +11,4 @@ pub run_threads-requires-send-W : goal.run_threads-requires-send-W
 run_threads-requires-send-W g c κs within = search (watcher_sends, sendable) depth 60 fits 20000
 
 pub returns-clause-ran : goal.returns-clause-ran
-returns-clause-ran g c = c.gather.ensures.ran c.args.document.now c.args.scripts.now c.in_ok-finished.ensures
+returns-clause-ran g c = c.gather.ensures.ran c.args.document.now c.args.scripts.now c.in_ok-finished.ensures.ran

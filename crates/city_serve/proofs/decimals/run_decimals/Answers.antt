@@ -17,8 +17,9 @@ returns-clause-ran g c =
     let second = subst (λ t. AreDecodedLines t behind.0) back behind.2 in
     let joined = lines_joined (take output.report text) (drop output.report text) c.in-Ok.decoded.items behind.0
     (report_ends output.ends (take output.report text) c.in_ok-output.ensures.cut.1) first second in
-    decimals_run c.args.document.items c.args.scripts.items c.in_ok-model.model.items c.in_ok-commands.commands.items
-    c.in_ok-model.ensures.given c.in_ok-commands.ensures.given
+    decimals_run c.args.texts.now.document.bytes.items c.args.texts.now.scripts.bytes.items
+    c.encode_text.new.text.bytes.items c.encode_text-2.new.text.bytes.items
+    c.in_ok-encode_text.ensures.given c.in_ok-encode_text-2.ensures.given
     output.ends text c.in-Ok-decode_lines_onto.bytes.items c.in_ok-output.ensures.ran
     (subst (λ t. AreDecodedLines t c.in-Ok-decode_lines_onto.bytes.items) (take-append-drop output.report text)
     (subst (AreDecodedLines (take output.report text ++ drop output.report text)) (sym behind.1) joined))

@@ -8,10 +8,10 @@ returns-in-Ok g c =
     let told = g.E.Write.contents c.args.errors.now.0 in
     let telling = g.E.Write.contents c.tell_seen.new.errors.0 in
     let mute = c.tell_seen.new.errors.1 in
-    let delivered = c.in-Ok.delivered in
-    ends_told c.args.asked.now _ told telling mute c.tell_seen.result delivered.seen.items delivered.withheld
+    let answer = c.in-Ok.answer in
+    ends_told c.args.terminal _ told telling mute c.args.asked.now answer.status c.tell_seen.result answer.seen.items
     c.in-Ok.ensures.answered
-    (subst (IsSeenTold delivered.withheld c.tell_seen.result told telling mute) c.as_slice.ensures.value
+    (subst (IsSeenTold answer.status c.tell_seen.result told telling mute) c.as_slice.ensures.value
     c.tell_seen.ensures)
 
 pub returns-in-Err : goal.returns-in-Err
@@ -27,8 +27,9 @@ returns-in-Err g c =
       failed = c.answer.new.output.1;
     } in
     let told = g.E.Write.contents c.args.errors.now.0 in
-    let telling = g.E.Write.contents c.tell_fault.new.errors.0 in
-    let mute = c.tell_fault.new.errors.1 in
-    subst (λ status. EndsAsked c.args.asked.now status streams told telling mute) (sym c.tell_fault.ensures.status)
-    (ends_faulty c.args.asked.now streams told telling mute c.args.errors.now.1 c.in-Err.fault c.in-Err.ensures.fault
-    c.tell_fault.ensures.told)
+    let telling = g.E.Write.contents c.tell_unanswered.new.errors.0 in
+    let mute = c.tell_unanswered.new.errors.1 in
+    subst (λ status. EndsAsked c.args.terminal c.args.asked.now status streams told telling mute)
+    (sym c.tell_unanswered.ensures.status)
+    (ends_faulty c.args.terminal streams told telling mute c.args.asked.now c.args.errors.now.1 c.in-Err.fault
+    c.in-Err.ensures.fault c.tell_unanswered.ensures.told)

@@ -6,8 +6,8 @@ pub returns-in_ok-output-clause-ran : goal.returns-in_ok-output-clause-ran
 returns-in_ok-output-clause-ran g c =
     let city = c.in_ok-city.city in
     let list = c.in_ok-city.list in
-    let read : IsReadFrom c.args.document.items c.args.scripts.items city list =
-    subst (λ d. IsReadFrom d c.args.scripts.items city list) c.as_slice-model.ensures.value
+    let read : IsReadFrom c.args.texts.now.document.bytes.items c.args.texts.now.scripts.bytes.items city list =
+    subst (λ d. IsReadFrom d c.args.texts.now.scripts.bytes.items city list) c.as_slice-model.ensures.value
     (subst (λ s. IsReadFrom c.as_slice-model.result.now s city list) c.as_slice-commands.ensures.value
     c.in_ok-city.ensures.read) in
-    c.in_ok-output.ensures.ran c.args.document.items c.args.scripts.items read
+    c.in_ok-output.ensures.ran c.args.texts.now.document.bytes.items c.args.texts.now.scripts.bytes.items read

@@ -10,13 +10,15 @@ returns-clause-delivered g c =
     let output = c.in_ok-output.output in
     let bytes = output.bytes.items in
     let asked = c.args.options in
+    let document = c.args.texts.now.document.bytes.items in
+    let scripts = c.args.texts.now.scripts.bytes.items in
     let run = c.in_ok-output.ensures in
     IfOk-weaker c.deliver.result _ _
     (λ delivered is. record {
       ends = output.ends;
       report = take output.report bytes;
       model = drop output.report bytes;
-      run = in_parts asked c.args.document.items c.args.scripts.items output.ends bytes output.report run.ran run.in_turn
+      run = in_parts asked document scripts output.ends bytes output.report run.ran run.in_turn
           run.cut;
       looked = subst (λ s. AreSeen asked.viewers (commits_in output.ends) s.items) (sym is.0) run.seen;
       withheld_is = is.1;
@@ -30,9 +32,11 @@ returns-clause-fault g c =
     let output = c.in_ok-output.output in
     let bytes = output.bytes.items in
     let asked = c.args.options in
+    let document = c.args.texts.now.document.bytes.items in
+    let scripts = c.args.texts.now.scripts.bytes.items in
     let run = c.in_ok-output.ensures in
     IfErr-weaker c.deliver.result _ _
-    (λ f is. subst (IsDeliveryFault c.args.destination asked c.args.document.items c.args.scripts.items
+    (λ f is. subst (IsDeliveryFault c.args.destination asked document scripts
     (g.F.TextFiles.text c.args.files.now) (g.F.TextFiles.text c.deliver.new.files)
     (g.F.OutputFiles.have_failed c.deliver.new.files) (g.W.Write.contents c.args.writer.now.0)
     (g.W.Write.contents c.deliver.new.writer.0) c.deliver.new.writer.1) (sym is.0) (
@@ -40,7 +44,7 @@ returns-clause-fault g c =
         ends = output.ends;
         report = take output.report bytes;
         model = drop output.report bytes;
-        run = in_parts asked c.args.document.items c.args.scripts.items output.ends bytes output.report run.ran run.in_turn
+        run = in_parts asked document scripts output.ends bytes output.report run.ran run.in_turn
             run.cut;
         written = is.1;
         kept = is.2;

@@ -1,0 +1,73 @@
+//! All faults of a text of scripts, a line for each.
+ghost use Rattle.std.specs.Prelude.{◌≡◌, ◌⊎◌, [], List, IfOk, string_bytes};
+ghost use Rattle.city_doc.specs.declared.fault.ScriptFault as fault;
+ghost use Rattle.city_doc.specs.script.AllFaults.{AreFaultsOf, IsAccepted};
+ghost use Rattle.city_doc.specs.script.Faults.{ScriptTextFault};
+ghost use Rattle.city_diagnostics.specs.Lines.{AreLinesOf, FirstLineIs, IsLineOf};
+ghost use Rattle.city_diagnostics.specs.ScriptLines.{TellsScript};
+
+use crate::check::{script_text_fault_of, tree_for};
+use crate::line::script_line;
+use crate::script::script_diagnostic;
+use crate::text::text_diagnostic;
+use city_doc::{ScriptFault, script_faults_of};
+use city_model::OutOfMemory;
+use serde_json::Value;
+use std::alloc::Global;
+
+/// A line of JSON for each fault of a text of scripts, in the order of the faults' numbers, and then of the script and
+/// the command. `is_given` says that the text is the one that was given, and not an encoded one.
+pub fn check_scripts(alloc: Global, text: &[u8], is_given: bool) -> Result<Vec<u8>, OutOfMemory>
+    ensures lines { IfOk result (λ lines. (faults : List fault.ScriptFault)
+        × AreFaultsOf text.now faults × AreLinesOf TellsScript faults lines.items) }
+    ensures accepted { IfOk result (λ lines. lines.items ≡ [] → IsAccepted text.now) }
+    ensures none { IsAccepted text.now → IfOk result (λ lines. lines.items ≡ []) }
+
+    // The first line tells a fault that `read_scripts` answers, and any that it answers but out of memory.
+    ensures first { IfOk result (λ lines. (lines.items ≡ [])
+        ⊎ ((f : fault.ScriptFault) × ScriptTextFault text.now f × FirstLineIs (TellsScript f) lines.items)) }
+    ensures answered { IfOk result (λ lines. (f : fault.ScriptFault) → ScriptTextFault text.now f
+        → (f ≡ ScriptFault.OutOfMemory) ⊎ FirstLineIs (TellsScript f) lines.items) }
+{
+    let faults = script_faults_of(alloc, text)?;
+    let lines = script_lines(alloc, text, is_given, faults.as_slice())?;
+    Ok(lines)
+}
+
+/// The lines of these faults of scripts.
+fn script_lines(
+    alloc: Global,
+    text: &[u8],
+    is_given: bool,
+    faults: &[ScriptFault],
+) -> Result<Vec<u8>, OutOfMemory>
+    ensures { IfOk result (λ lines. AreLinesOf TellsScript faults.now lines.items) }
+{
+    let mut lines = Vec::new(alloc);
+    let Some(first) = faults.first() else {
+        return Ok(lines);
+    };
+    let tree = tree_for(alloc, text, script_text_fault_of(first))?;
+    for fault in faults {
+        let line = line_of(alloc, text, is_given, &tree, fault)?;
+        lines.extend_from_slice(line.as_bytes())?;
+    }
+    Ok(lines)
+}
+
+/// The line of a fault of a text, or of the scripts of its tree.
+fn line_of(
+    alloc: Global,
+    text: &[u8],
+    is_given: bool,
+    tree: &Value,
+    fault: &ScriptFault,
+) -> Result<String, OutOfMemory>
+    ensures { IfOk result (λ line. IsLineOf (TellsScript fault.now) (string_bytes line)) }
+{
+    let diagnostic = match script_text_fault_of(fault) {
+        Some(text_fault) => text_diagnostic(alloc, text, is_given, text_fault)?,
+        None => script_diagnostic(alloc, tree, fault)?,
+    };
+    script_line(alloc, fault, diagnostic)
+}

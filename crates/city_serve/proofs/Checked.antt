@@ -1,0 +1,60 @@
+-- What a check writes, of the texts that it reads.
+use Rattle.city_serve.proofs.Prelude.{◌≡◌, ◌++◌, ℕ, Bool, true, false, List, [], Option, Some, None, IfSome, refl, sym}
+use Rattle.city_serve.proofs.Prelude.{subst, append-nil, Vec, Appends, Asked}
+use Rattle.std.proofs.Common.{Bor}
+use Rattle.std.proofs.lemmas.Option.{IfSome_then}
+use Rattle.city_serve.specs.Checks.{AreModelLines, AreScriptsLines, AreCheckLines, HasLines, OfFiles}
+use Rattle.city_serve.specs.Destinations.{Folder}
+use Rattle.city_serve.specs.Programs.{Streams, IsChecked, OfLines}
+use Rattle.city_serve.specs.declared.options.Options.{Options}
+use Rattle.city_serve.specs.declared.program.Status.{Status}
+use Rattle.city_serve.specs.inside.Telling.{IsAnsweredAs, check_status}
+
+module _ (texts : Folder) (decimals : Bool) (model : List ℕ) where
+  -- a model is read, and its lines are made
+  pub model_alone : (document first : List ℕ) → IfSome (texts model) (λ all. document ≡ all)
+      → AreModelLines decimals document first
+      → OfFiles texts model None (λ all commands. AreCheckLines decimals all commands first)
+  model_alone document first read lines =
+      IfSome_then (texts model) read (λ all same. record {
+        first = first;
+        behind = [];
+        of_model = subst (λ t. AreModelLines decimals t first) same lines;
+        of_scripts = refl;
+        lines_are = sym (append-nil first);
+      })
+
+  -- scripts too
+  pub model_and_scripts : (scripts document commands first behind lines : List ℕ)
+      → IfSome (texts model) (λ all. document ≡ all) → AreModelLines decimals document first
+      → IfSome (texts scripts) (λ all. commands ≡ all) → AreScriptsLines decimals commands behind
+      → lines ≡ first ++ behind
+      → OfFiles texts model (Some scripts) (λ all more. AreCheckLines decimals all more lines)
+  model_and_scripts scripts document commands first behind lines read of_model more of_scripts are =
+      IfSome_then (texts model) read (λ all same. IfSome_then (texts scripts) more (λ all_scripts same_scripts. record {
+        first = first;
+        behind = behind;
+        of_model = subst (λ t. AreModelLines decimals t first) same of_model;
+        of_scripts = subst (λ t. AreScriptsLines decimals t behind) same_scripts of_scripts;
+        lines_are = are;
+      }))
+
+-- ---- with which status
+
+module _ (s : Streams) (options : Options) (model : Bor (List ℕ)) (scripts : Option (Bor (List ℕ))) where
+  checked_so : (seen : List (Vec ℕ)) (faulty : Bool) → seen ≡ []
+      → IsChecked s (Asked.Check options model scripts) faulty
+      → IsAnsweredAs s (Asked.Check options model scripts) seen (check_status faulty)
+  checked_so seen true none is = (none, is)
+  checked_so seen false none is = (none, refl, is)
+
+pub checked_as : (s : Streams) (asked : Asked) (options : Options) (model : Bor (List ℕ))
+    (scripts : Option (Bor (List ℕ))) (seen : List (Vec ℕ)) (status : Status) (faulty : Bool)
+    → asked ≡ Asked.Check options model scripts → seen ≡ [] → status ≡ check_status faulty → s.after ≡ s.before
+    → OfLines s (Asked.Check options model scripts) (λ lines. HasLines faulty lines × Appends s.old s.new lines)
+    → IsAnsweredAs s asked seen status
+checked_as s asked options model scripts seen status faulty asks none status_is same lines =
+    let check = Asked.Check options model scripts in
+    subst (λ a. IsAnsweredAs s a seen status) (sym asks)
+    (subst (λ status. IsAnsweredAs s check seen status) (sym status_is)
+    (checked_so s options model scripts seen faulty none (same, lines)))

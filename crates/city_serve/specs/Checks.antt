@@ -1,0 +1,61 @@
+-- What a check writes: a line for each fault of a model, and then for each of scripts.
+use Rattle.std.specs.Prelude.{◌≡◌, ◌≢◌, ℕ, Bool, true, false, List, [], ◌++◌, Option, Some, None, IfSome}
+use Rattle.city_doc.specs.declared.fault.ReadFault.{ReadFault}
+use Rattle.city_doc.specs.document.Accepted as model
+use Rattle.city_doc.specs.declared.fault.ScriptFault.{ScriptFault}
+use Rattle.city_doc.specs.document.AllFaults as model_faults
+use Rattle.city_doc.specs.script.AllFaults as script_faults
+use Rattle.city_diagnostics.specs.Lines.{AreLinesOf}
+use Rattle.city_diagnostics.specs.ModelLines.{Tells}
+use Rattle.city_diagnostics.specs.ScriptLines.{TellsScript}
+use Rattle.city_serve.specs.Decimals.{IsGiven}
+use Rattle.city_serve.specs.Destinations.{Folder}
+
+-- what is judged of a text: where numbers of any form are taken what a run is given of it, and else the text
+abbrev pub IsJudged : Bool → List ℕ → List ℕ → Type 0
+IsJudged true text judged = IsGiven text judged
+IsJudged false text judged = judged ≡ text
+
+-- the lines of all faults of a model, none exactly where it is accepted
+pub record AreModelLines (decimals : Bool) (text lines : List ℕ) : Type 0 where
+  pub judged : List ℕ
+  pub judged_is : IsJudged decimals text judged
+  pub faults : List ReadFault
+  pub are_all : model_faults.AreFaultsOf judged faults
+  pub told : AreLinesOf Tells faults lines
+  pub accepted : lines ≡ [] → model.IsAccepted judged
+  pub none : model.IsAccepted judged → lines ≡ []
+
+-- those of scripts
+pub record AreScriptsLines (decimals : Bool) (text lines : List ℕ) : Type 0 where
+  pub judged : List ℕ
+  pub judged_is : IsJudged decimals text judged
+  pub faults : List ScriptFault
+  pub are_all : script_faults.AreFaultsOf judged faults
+  pub told : AreLinesOf TellsScript faults lines
+  pub accepted : lines ≡ [] → script_faults.IsAccepted judged
+  pub none : script_faults.IsAccepted judged → lines ≡ []
+
+-- those of scripts where there are any
+abbrev pub AreLinesBehind : Bool → Option (List ℕ) → List ℕ → Type 0
+AreLinesBehind decimals None lines = lines ≡ []
+AreLinesBehind decimals (Some text) lines = AreScriptsLines decimals text lines
+
+-- the lines of the model, and behind them those of the scripts
+pub record AreCheckLines (decimals : Bool) (model : List ℕ) (scripts : Option (List ℕ)) (lines : List ℕ) : Type 0 where
+  pub first : List ℕ
+  pub behind : List ℕ
+  pub of_model : AreModelLines decimals model first
+  pub of_scripts : AreLinesBehind decimals scripts behind
+  pub lines_are : lines ≡ first ++ behind
+
+-- there are lines, or there are none
+abbrev pub HasLines : Bool → List ℕ → Type 0
+HasLines true lines = lines ≢ []
+HasLines false lines = lines ≡ []
+
+-- what holds of the texts of these files, where they are known
+abbrev pub OfFiles : Folder → List ℕ → Option (List ℕ) → (List ℕ → Option (List ℕ) → Type 0) → Type 0
+OfFiles texts model None P = IfSome (texts model) (λ document. P document None)
+OfFiles texts model (Some scripts) P =
+    IfSome (texts model) (λ document. IfSome (texts scripts) (λ commands. P document (Some commands)))

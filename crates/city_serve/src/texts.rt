@@ -1,0 +1,92 @@
+//! The two texts that are worked on, as long as they are needed.
+ghost use Rattle.std.specs.Prelude.{◌≡◌};
+
+use std::alloc::Global;
+
+/// How far a text has come.
+#[derive(Clone, Copy)]
+pub enum Stage {
+    /// It isn't there yet.
+    Unread,
+    /// It is as it was given.
+    Given,
+    /// Its numbers are encoded.
+    Encoded,
+}
+
+/// A text, and how far it has come.
+#[derive(Drop)]
+pub struct Text {
+    pub bytes: Vec<u8>,
+    pub stage: Stage,
+}
+
+impl Text {
+    /// A text that isn't there yet.
+    pub fn unread(alloc: Global) -> Text {
+        Text {
+            bytes: Vec::new(alloc),
+            stage: Stage::Unread,
+        }
+    }
+
+    /// A text as it was given.
+    pub fn given(bytes: Vec<u8>) -> Text
+        ensures { result.bytes ≡ bytes }
+    {
+        Text {
+            bytes,
+            stage: Stage::Given,
+        }
+    }
+
+    /// Whether it isn't there yet.
+    pub(crate) fn is_unread(&self) -> bool {
+        matches!(self.stage, Stage::Unread)
+    }
+
+    /// Whether it is as it was given.
+    pub(crate) fn is_given(&self) -> bool {
+        matches!(self.stage, Stage::Given)
+    }
+
+    /// Gives its memory back.
+    pub(crate) fn let_go(&mut self, alloc: Global) {
+        self.bytes = Vec::new(alloc);
+    }
+}
+
+/// A document and scripts, lent to what works on them: it lets them go once it has read them, and leaves them where it
+/// refuses them, so that a fault in them can be explained.
+#[derive(Drop)]
+pub struct Texts {
+    pub document: Text,
+    pub scripts: Text,
+}
+
+impl Texts {
+    /// Texts that aren't there yet.
+    pub fn unread(alloc: Global) -> Texts {
+        Texts {
+            document: Text::unread(alloc),
+            scripts: Text::unread(alloc),
+        }
+    }
+
+    /// Texts as they were given.
+    pub fn given(document: Vec<u8>, scripts: Vec<u8>) -> Texts
+        ensures document { result.document.bytes ≡ document }
+        ensures scripts { result.scripts.bytes ≡ scripts }
+    {
+        Texts {
+            document: Text::given(document),
+            scripts: Text::given(scripts),
+        }
+    }
+
+    /// Gives the memory of both back.
+    pub(crate) fn let_go(&mut self, alloc: Global) {
+        self.document.let_go(alloc);
+        self.scripts.let_go(alloc);
+    }
+}
