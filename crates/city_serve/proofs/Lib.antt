@@ -4,8 +4,10 @@ pub mod FoundOptions
 pub mod Given
 pub mod GivenOptions
 pub mod Inputs
+mod JsonLines
 pub mod KnownBytes
 pub mod LineAnswers
+mod NewlineFree
 pub mod OtherOptions
 pub mod Prelude
 mod Replacing

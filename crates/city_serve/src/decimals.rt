@@ -2,7 +2,9 @@
 ghost use Rattle.std.specs.Prelude.{◌≡◌, true, IfOk, IfErr, OnOk};
 ghost use Rattle.city_model.specs.SerialEnds.{commits_in};
 ghost use Rattle.city_crew.specs.Seen.{AreSeen};
+ghost use Rattle.city_decimals.specs.Lines.{AreDecodedBehind};
 ghost use Rattle.city_desk.specs.InTurn.{AreInTurn};
+ghost use Rattle.city_doc.specs.report.JsonLines.{AreJsonLines};
 ghost use Rattle.city_serve.specs.RunOptions.{AreWithin};
 ghost use Rattle.city_serve.specs.ServedTexts.{WhereAlone};
 ghost use Rattle.city_serve.specs.Decimals.{IsGiven, IsDecimalsRun, IsFaultOfDecimalsRun};
@@ -13,7 +15,7 @@ use crate::options::Options;
 use crate::run::run_whole;
 use crate::texts::{Stage, Text, Texts};
 use city_crew::Gate;
-use city_decimals::{DecimalsFault, decode_lines, decode_lines_onto, encode};
+use city_decimals::{DecimalsFault, decode_lines_onto, encode};
 use city_desk::{Output, RunFault};
 use city_doc::MAX_TEXT;
 use city_model::OutOfMemory;
@@ -45,23 +47,28 @@ pub(crate) fn run_decimals<R: Threads + Wait + Sync, G: Gate + Sync>(
     encode_text(alloc, &mut texts.document)?;
     encode_text(alloc, &mut texts.scripts)?;
     let output = run_whole(rt, alloc, gate, seed, texts, options)?;
-    // No line nests deeper than it is long.
-    let depth = output.bytes.len();
     let (report, model) = output.bytes.as_slice().split_at(output.report);
-    // Each line of an output is JSON, so only memory can have run out here. (No clause of what writes the lines says
-    // that they are.)
-    let Ok(decoded) = decode_lines(alloc, report, depth) else {
-        return Err(RunFault::OutOfMemory);
-    };
+    let decoded = decoded_behind(alloc, report, Vec::new(alloc))?;
     let report = decoded.len();
-    let Ok(bytes) = decode_lines_onto(alloc, model, depth, decoded) else {
-        return Err(RunFault::OutOfMemory);
-    };
+    let bytes = decoded_behind(alloc, model, decoded)?;
     Ok(Output {
         bytes,
         report,
         ..output
     })
+}
+
+/// The buffer, with each line decoded behind what it holds.
+fn decoded_behind(alloc: Global, lines: &[u8], buffer: Vec<u8>) -> Result<Vec<u8>, OutOfMemory>
+    requires { AreJsonLines lines.now }
+    ensures { IfOk result (λ v. AreDecodedBehind buffer.items lines.now v.items) }
+{
+    // No line nests deeper than it is long.
+    match decode_lines_onto(alloc, lines, lines.len(), buffer) {
+        Ok(decoded) => Ok(decoded),
+        Err(DecimalsFault::OutOfMemory) => Err(OutOfMemory),
+        Err(DecimalsFault::NotJson) => unreachable!(),
+    }
 }
 
 /// Encodes a text in its place, and lets the given one go. A text that is too long or no JSON stays as it is: it is

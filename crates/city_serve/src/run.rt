@@ -6,6 +6,7 @@ ghost use Rattle.city_desk.specs.InTurn.{AreInTurn};
 ghost use Rattle.city_desk.specs.TextRuns.{IsRun};
 ghost use Rattle.city_serve.specs.RunOptions.{AreWithin};
 ghost use Rattle.city_serve.specs.ServedTexts.{IsFaultOfRun, WhereAlone};
+ghost use Rattle.city_doc.specs.Outputs.{IsJsonOutput};
 ghost use Rattle.city_doc.specs.report.Reports.{report_text};
 ghost use Rattle.city_serve.specs.Decimals.{written_by, faults_by};
 ghost use Rattle.city_serve.specs.Destinations.{IsCutAt};
@@ -65,6 +66,7 @@ pub(crate) fn run_whole<R: Threads + Wait + Sync, G: Gate + Sync>(
     ensures seen { IfOk result (λ o. AreSeen options.viewers (commits_in o.ends) o.seen.items) }
     ensures cut { IfOk result (λ o. IsCutAt false o.ends o.bytes.items o.report) }
     ensures report { IfOk result (λ o. o.report ≡ length (report_text o.ends)) }
+    ensures lines { IfOk result (λ o. IsJsonOutput o.report o.bytes.items) }
     ensures fault { IfErr result (IsFaultOfRun
         texts.old.document.bytes.items texts.old.scripts.bytes.items options.workers options.viewers) }
 {
