@@ -143,6 +143,7 @@ fn create_beside<R: Files + AllocGlobal>(
     let target = target_of(rt, path)?;
     let mode = match fs::metadata(rt, &target) {
         Ok(found) if found.is_file() => Some(found.permissions()),
+        Ok(found) if found.is_dir() => return Err(io::Error::from(ErrorKind::IsADirectory)),
         Ok(_) => return Err(io::Error::from(ErrorKind::InvalidInput)),
         Err(error) if error.kind() == ErrorKind::NotFound => None,
         Err(error) => return Err(error),
