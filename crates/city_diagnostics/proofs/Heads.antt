@@ -69,9 +69,11 @@ two_named : (kind name : List ℕ) (n : ℕ) (message cure : List ℕ) (ms : Mem
     TellsFault kind n name (object all) × (get k (object all) ≡ Some d) × (get l (object all) ≡ Some e)
 two_named kind name n message cure ms k d l e other another apart =
     let one = put k d (with_head kind n name (with_words message cure ms)) in
-    let first = one_named kind name n message cure ms k d other in
-    (still_told kind name n l e one another first.0, get_member-put_apart k l e one apart ∙ first.1,
-        get_member-put l e one)
+    let first = one_named kind name n message cure ms k d other in (
+      still_told kind name n l e one another first.0,
+      get_member-put_apart k l e one apart ∙ first.1,
+      get_member-put l e one,
+    )
 
 -- a fault of a document is told by its head and by what it names
 pub told : (f : ReadFault) (message cure : List ℕ) (ms : Members)
@@ -86,36 +88,36 @@ told NotWhole message cure ms =
     record { fault = headed (codes "model") (codes "NotWhole") 3 message cure ms; named = tt }
 told (NotCityJson member) message cure ms =
     let all = one_named (codes "model") (codes "NotCityJson") 4 message cure ms
-        (codes "member") (string member) is_member in
+    (codes "member") (string member) is_member in
     record { fault = all.0; named = all.1 }
 told (UnknownType id) message cure ms =
     let all = one_named (codes "model") (codes "UnknownType") 5 message cure ms
-        (codes "id") (string id) is_id in
+    (codes "id") (string id) is_id in
     record { fault = all.0; named = all.1 }
 told (Unsupported id name) message cure ms =
     let all = two_named (codes "model") (codes "Unsupported") 6 message cure ms
-        (codes "id") (string id) (codes "name") (string name)
-        is_id is_name refl in
+    (codes "id") (string id) (codes "name") (string name)
+    is_id is_name refl in
     record { fault = all.0; named = (all.1, all.2) }
 told (BadGeometry id) message cure ms =
     let all = one_named (codes "model") (codes "BadGeometry") 7 message cure ms
-        (codes "id") (string id) is_id in
+    (codes "id") (string id) is_id in
     record { fault = all.0; named = all.1 }
 told (BadVertex id) message cure ms =
     let all = one_named (codes "model") (codes "BadVertex") 8 message cure ms
-        (codes "id") (string id) is_id in
+    (codes "id") (string id) is_id in
     record { fault = all.0; named = all.1 }
 told (BadRing id) message cure ms =
     let all = one_named (codes "model") (codes "BadRing") 9 message cure ms
-        (codes "id") (string id) is_id in
+    (codes "id") (string id) is_id in
     record { fault = all.0; named = all.1 }
 told (Relations id) message cure ms =
     let all = one_named (codes "model") (codes "Relations") 10 message cure ms
-        (codes "id") (string id) is_id in
+    (codes "id") (string id) is_id in
     record { fault = all.0; named = all.1 }
 told (OpenShell id) message cure ms =
     let all = one_named (codes "model") (codes "OpenShell") 11 message cure ms
-        (codes "id") (string id) is_id in
+    (codes "id") (string id) is_id in
     record { fault = all.0; named = all.1 }
 
 -- so is a fault of scripts
@@ -134,17 +136,17 @@ script_told ScriptFault.NotScripts message cure ms =
     record { fault = headed (codes "scripts") (codes "NotScripts") 4 message cure ms; named = tt }
 script_told (ScriptFault.BadScript n) message cure ms =
     let all = one_named (codes "scripts") (codes "BadScript") 5 message cure ms
-        (codes "script") (number (unsigned n)) is_script in
+    (codes "script") (number (unsigned n)) is_script in
     record { fault = all.0; named = all.1 }
 script_told ScriptFault.TooMany message cure ms =
     record { fault = headed (codes "scripts") (codes "TooMany") 6 message cure ms; named = tt }
 script_told (ScriptFault.BadCommand n i) message cure ms =
     let all = two_named (codes "scripts") (codes "BadCommand") 7 message cure ms
-        (codes "script") (number (unsigned n)) (codes "command") (number (unsigned i))
-        is_script is_command refl in
+    (codes "script") (number (unsigned n)) (codes "command") (number (unsigned i))
+    is_script is_command refl in
     record { fault = all.0; named = (all.1, all.2) }
 script_told (ScriptFault.BadVertex n i) message cure ms =
     let all = two_named (codes "scripts") (codes "BadVertex") 8 message cure ms
-        (codes "script") (number (unsigned n)) (codes "command") (number (unsigned i))
-        is_script is_command refl in
+    (codes "script") (number (unsigned n)) (codes "command") (number (unsigned i))
+    is_script is_command refl in
     record { fault = all.0; named = (all.1, all.2) }

@@ -1,7 +1,7 @@
 -- Lines behind one another.
 use Rattle.city_diagnostics.proofs.Prelude.{◌≡◌, ◌++◌, ◌∷◌, List, ℕ, [], refl, append-nil, append_assoc, ap, ◌∙◌, sym}
-use Rattle.city_diagnostics.proofs.Prelude.{AreLinesOf, IsLineOf, FirstLineIs, Data, Some, None, slice_get, object}
-use Rattle.city_diagnostics.proofs.Prelude.{compact_text, ◌+◌, ◌<◌, ◌≤◌, ◌⊎◌, arith, length, take, get_or, inl}
+use Rattle.city_diagnostics.proofs.Prelude.{AreLinesOf, IsLineOf, FirstLineIs, Data, Some, slice_get, object}
+use Rattle.city_diagnostics.proofs.Prelude.{compact_text, ◌+◌, ◌<◌, ◌⊎◌, arith, length, take, get_or, inl}
 use Rattle.city_diagnostics.proofs.Prelude.{inr, subst}
 use Rattle.std.proofs.lemmas.List.{length-append, take_more}
 
@@ -10,9 +10,13 @@ pub one_more : {F : Type 0} (tells : F → Data → Type 0) (fs : List F) (f : F
     → AreLinesOf tells fs lines → IsLineOf (tells f) line → AreLinesOf tells (fs ++ f ∷ []) (lines ++ line)
 one_more tells [] f lines line before this =
     (line, [], this, refl, ap (λ (s : List ℕ). s ++ line) before ∙ sym (append-nil line))
-one_more tells (g ∷ fs) f lines line before this =
-    (before.0, before.1 ++ line, before.2, one_more tells fs f before.1 line before.3 this,
-        ap (λ (s : List ℕ). s ++ line) before.4 ∙ append_assoc before.0 before.1 line)
+one_more tells (g ∷ fs) f lines line before this = (
+  before.0,
+  before.1 ++ line,
+  before.2,
+  one_more tells fs f before.1 line before.3 this,
+  ap (λ (s : List ℕ). s ++ line) before.4 ∙ append_assoc before.0 before.1 line,
+)
 
 never_empty : (text rest : List ℕ) → (text ++ 10 ∷ []) ++ rest ≡ [] → ⊥
 never_empty text rest e =
@@ -26,7 +30,7 @@ no_line tells [] lines told empty = refl
 no_line tells (f ∷ fs) lines told empty =
     let line = told.2 in
     absurd (never_empty (compact_text (object line.0)) told.1
-        (ap (λ (s : List ℕ). s ++ told.1) (sym line.2.has_its_text) ∙ sym told.4 ∙ empty))
+    (ap (λ (s : List ℕ). s ++ told.1) (sym line.2.has_its_text) ∙ sym told.4 ∙ empty))
 
 -- where there is no fault, there is no line
 pub no_fault : {F : Type 0} (tells : F → Data → Type 0) (fs : List F) (lines : List ℕ)
@@ -55,7 +59,7 @@ pub grown : {F : Type 0} (tells : F → Data → Type 0) (fs : List F) (n : ℕ)
     → more ≡ lines ++ line → AreLinesOf tells (take (n + 1) fs) more
 grown {F} tells fs n f lines line more below is told this joined =
     let taken : take (n + 1) fs ≡ take n fs ++ f ∷ [] =
-        take_more fs n f below ∙ ap (λ (g : F). take n fs ++ g ∷ []) (sym is) in
+    take_more fs n f below ∙ ap (λ (g : F). take n fs ++ g ∷ []) (sym is) in
     subst (λ (s : List ℕ). AreLinesOf tells (take (n + 1) fs) s) (sym joined)
     (subst (λ (gs : List F). AreLinesOf tells gs (lines ++ line)) (sym taken)
     (one_more tells (take n fs) f lines line told this))

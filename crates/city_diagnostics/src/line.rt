@@ -129,12 +129,7 @@ fn with_words(diagnostic: Diagnostic) -> Result<Details, OutOfMemory>
 }
 
 /// Adds the kind of the text that a fault stands in, and the fault's number and name.
-fn add_head(
-    details: &mut Details,
-    kind: &str,
-    number: usize,
-    name: &str,
-) -> Result<(), OutOfMemory>
+fn add_head(details: &mut Details, kind: &str, number: usize, name: &str) -> Result<(), OutOfMemory>
     ensures { OnOk result (details.new ≡ with_head kind.now number name.now details.old) }
 {
     details.text("text", kind)?;

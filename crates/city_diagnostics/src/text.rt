@@ -14,10 +14,16 @@ use serde_json::{Error, Value};
 use std::alloc::Global;
 
 const SPLIT: &str = "Split it into smaller texts.";
+
 const REPAIR: &str = "Repair the text: JSON in UTF-8 that nests no deeper than 127.";
-const RESTORE: &str = "Restore it, and name the output by --output: a redirect onto the model empties it first.";
+
+const RESTORE: &str =
+    "Restore it, and name the output by --output: a redirect onto the model empties it first.";
+
 const WITHOUT_MARK: &str = "Save it in UTF-8 without a byte order mark.";
+
 const AS_UTF8: &str = "Save it in UTF-8.";
+
 const DECIMALS: &str = "Give --decimals, which takes numbers of any form and keeps their digits.";
 
 /// The greatest length of a number that stands in a message.
@@ -66,10 +72,7 @@ fn tell_form(
             "The text begins with a byte order mark, which isn't JSON.",
             WITHOUT_MARK,
         ),
-        TextForm::Utf16 => (
-            "The text is in UTF-16, and JSON is read in UTF-8.",
-            AS_UTF8,
-        ),
+        TextForm::Utf16 => ("The text is in UTF-16, and JSON is read in UTF-8.", AS_UTF8),
     };
     diagnostic.tell(message.to_string(alloc)?, cure);
     Ok(())

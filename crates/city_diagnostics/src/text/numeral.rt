@@ -29,10 +29,7 @@ pub fn numeral_at(
 
 /// Passes a value, and answers the number in it that these steps lead to.
 #[cycle(numeral)]
-fn in_value<'t>(
-    reader: &mut Reader<'t>,
-    steps: &[Step<'_>],
-) -> Result<Option<&'t str>, Invalid>
+fn in_value<'t>(reader: &mut Reader<'t>, steps: &[Step<'_>]) -> Result<Option<&'t str>, Invalid>
     ensures shorter { OnOk result (length reader.new < length reader.old) }
 {
     match reader.next().ok_or(Invalid)? {
@@ -45,10 +42,7 @@ fn in_value<'t>(
 
 /// The same, in an object whose brace is read.
 #[cycle(numeral)]
-fn in_object<'t>(
-    reader: &mut Reader<'t>,
-    steps: &[Step<'_>],
-) -> Result<Option<&'t str>, Invalid>
+fn in_object<'t>(reader: &mut Reader<'t>, steps: &[Step<'_>]) -> Result<Option<&'t str>, Invalid>
     ensures shorter { OnOk result (length reader.new < length reader.old) }
 {
     let mut found = None;
@@ -63,10 +57,7 @@ fn in_object<'t>(
 
 /// The same, in an array whose bracket is read.
 #[cycle(numeral)]
-fn in_array<'t>(
-    reader: &mut Reader<'t>,
-    steps: &[Step<'_>],
-) -> Result<Option<&'t str>, Invalid>
+fn in_array<'t>(reader: &mut Reader<'t>, steps: &[Step<'_>]) -> Result<Option<&'t str>, Invalid>
     ensures shorter { OnOk result (length reader.new < length reader.old) }
 {
     let mut found = None;

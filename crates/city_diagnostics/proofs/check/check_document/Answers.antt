@@ -1,4 +1,4 @@
-use Rattle.city_diagnostics.proofs.Prelude.{◌≡◌, AreLinesOf, List, inl, inr, subst, Tells, ReadFault}
+use Rattle.city_diagnostics.proofs.Prelude.{AreLinesOf, List, inl, inr, subst, Tells, ReadFault}
 use Rattle.city_doc.specs.document.Faults.{DocumentFault}
 use Rattle.city_diagnostics.proofs.Lines.{first_line, first_told, no_fault, no_line}
 use Rattle.city_diagnostics.proofs.check.check_document.Goals as goal
@@ -6,31 +6,31 @@ use Rattle.city_diagnostics.proofs.check.check_document.Goals as goal
 pub returns-clause-lines : goal.returns-clause-lines
 returns-clause-lines c =
     let told = subst (λ (fs : List ReadFault). AreLinesOf Tells fs c.in_ok-lines.lines.items)
-        c.as_slice.ensures.value c.in_ok-lines.ensures in
+    c.as_slice.ensures.value c.in_ok-lines.ensures in
     (c.in_ok-faults.faults.items, c.in_ok-faults.ensures.faults, told)
 
 pub returns-clause-accepted : goal.returns-clause-accepted
 returns-clause-accepted c =
     let told = subst (λ (fs : List ReadFault). AreLinesOf Tells fs c.in_ok-lines.lines.items)
-        c.as_slice.ensures.value c.in_ok-lines.ensures in
+    c.as_slice.ensures.value c.in_ok-lines.ensures in
     λ empty. c.in_ok-faults.ensures.accepted (no_line Tells _ _ told empty)
 
 pub returns-clause-none : goal.returns-clause-none
 returns-clause-none c =
     let told = subst (λ (fs : List ReadFault). AreLinesOf Tells fs c.in_ok-lines.lines.items)
-        c.as_slice.ensures.value c.in_ok-lines.ensures in
+    c.as_slice.ensures.value c.in_ok-lines.ensures in
     λ accepted. no_fault Tells _ _ told (c.in_ok-faults.ensures.none accepted)
 
 pub returns-clause-first : goal.returns-clause-first
 returns-clause-first c =
     let told = subst (λ (fs : List ReadFault). AreLinesOf Tells fs c.in_ok-lines.lines.items)
-        c.as_slice.ensures.value c.in_ok-lines.ensures in
+    c.as_slice.ensures.value c.in_ok-lines.ensures in
     first_told Tells (DocumentFault c.args.text.now) _ _ told c.in_ok-faults.ensures.first
 
 pub returns-clause-answered : goal.returns-clause-answered
 returns-clause-answered c =
     let told = subst (λ (fs : List ReadFault). AreLinesOf Tells fs c.in_ok-lines.lines.items)
-        c.as_slice.ensures.value c.in_ok-lines.ensures in
+    c.as_slice.ensures.value c.in_ok-lines.ensures in
     λ f stands. elim (c.in_ok-faults.ensures.answered f stands) [
       | inl is ↦ inl is
       | inr is ↦ inr (first_line Tells _ _ f told is)

@@ -9,4 +9,4 @@ loop-item-preserved c =
     let seen = view-Object c.into_members.result ∙ ap object c.into_members.ensures.members in
     let pushed : c.push.new.self.items ≡ l.values.items ++ Object c.into_members.result ∷ [] = grind arith in
     rw pushed (object_pushed l.values.items l.yielded (Object c.into_members.result) c.in-Some.item l.invariant.0
-        l.invariant.1 seen c.into_members.ensures.no_float)
+    l.invariant.1 seen c.into_members.ensures.no_float)

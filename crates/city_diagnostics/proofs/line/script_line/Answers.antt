@@ -1,4 +1,4 @@
-use Rattle.city_diagnostics.proofs.Prelude.{◌≡◌, ◌∙◌, ap, Data, Members, List, ℕ, object, string_bytes, sym, subst}
+use Rattle.city_diagnostics.proofs.Prelude.{◌≡◌, ◌∙◌, ap, Members, List, ℕ, object, string_bytes, sym, subst}
 use Rattle.city_diagnostics.proofs.Prelude.{IfOk-weaker}
 use Rattle.city_diagnostics.proofs.Prelude.{codes}
 use Rattle.city_doc.specs.script.AllFaults.{rank_of as script_rank_of}
@@ -14,15 +14,15 @@ returns c =
     let cure = c.args.diagnostic.cure.now in
     let ms = c.args.diagnostic.details in
     let head : c.add_head.new.details
-        ≡ with_head (codes "scripts") (script_rank_of f) (script_name_of f) (with_words message cure ms) =
-        c.in_ok-add_head.ensures
-        ∙ ap (λ (n : ℕ). with_head (codes "scripts") n c.script_name_of.result.now c.in_ok-details.details)
-            c.script_number_of.ensures
-        ∙ ap (λ (s : List ℕ). with_head (codes "scripts") (script_rank_of f) s c.in_ok-details.details)
-            c.script_name_of.ensures
-        ∙ ap (with_head (codes "scripts") (script_rank_of f) (script_name_of f)) c.in_ok-details.ensures in
+    ≡ with_head (codes "scripts") (script_rank_of f) (script_name_of f) (with_words message cure ms) =
+    c.in_ok-add_head.ensures
+    ∙ ap (λ (n : ℕ). with_head (codes "scripts") n c.script_name_of.result.now c.in_ok-details.details)
+    c.script_number_of.ensures
+    ∙ ap (λ (s : List ℕ). with_head (codes "scripts") (script_rank_of f) s c.in_ok-details.details)
+    c.script_name_of.ensures
+    ∙ ap (with_head (codes "scripts") (script_rank_of f) (script_name_of f)) c.in_ok-details.ensures in
     let all : c.add_script_named.new.details ≡ with_script_named f
-        (with_head (codes "scripts") (script_rank_of f) (script_name_of f) (with_words message cure ms)) =
-        c.in_ok-add_script_named.ensures ∙ ap (with_script_named f) head in
+    (with_head (codes "scripts") (script_rank_of f) (script_name_of f) (with_words message cure ms)) =
+    c.in_ok-add_script_named.ensures ∙ ap (with_script_named f) head in
     let tells = subst (λ (m : Members). TellsScript f (object m)) (sym all) (script_told f message cure ms) in
     IfOk-weaker c.line_of.result _ _ (λ line is. (c.add_script_named.new.details, tells, is)) c.line_of.ensures

@@ -1,4 +1,4 @@
-use Rattle.city_diagnostics.proofs.Prelude.{string_bytes, ◌≡◌, ◌++◌, ◌<◌, arith, get_or, length}
+use Rattle.city_diagnostics.proofs.Prelude.{string_bytes, ◌<◌, arith, get_or, length}
 use Rattle.std.proofs.lemmas.List.{get_or_default}
 use Rattle.city_doc.specs.declared.fault.ScriptFault.{ScriptFault}
 use Rattle.city_diagnostics.specs.ScriptLines.{TellsScript}
@@ -12,5 +12,5 @@ loop-fault-preserved c =
     let f = get_or faults n ScriptFault.OutOfMemory in
     let below : n < length faults = omega arith in
     grown TellsScript faults n f c.loop-fault.lines.items (string_bytes c.in_ok-line.line)
-        c.extend_from_slice.new.self.items below (get_or_default faults n ScriptFault.OutOfMemory f below)
-        c.loop-fault.invariant c.in_ok-line.ensures (grind arith)
+    c.extend_from_slice.new.self.items below (get_or_default faults n ScriptFault.OutOfMemory f below)
+    c.loop-fault.invariant c.in_ok-line.ensures (grind arith)

@@ -10,8 +10,8 @@ invariant_of-self-2 c =
     let value = view c.args.value in
     let copied : string_bytes c.in_ok-name.name ≡ name = search rules in
     let inserted : members_view c.insert.new.self.entries ≡ put name value (members_view members) =
-        ap members_view (grind arith) ∙ members_view-insert_entry members c.in_ok-name.name c.args.value
-        ∙ rw copied refl in
+    ap members_view (grind arith) ∙ members_view-insert_entry members c.in_ok-name.name c.args.value
+    ∙ rw copied refl in
     ap members_have_float inserted ∙ put_stays name value (members_view members) c.requires c.self.invariant
 
 pub returns : goal.returns
@@ -21,6 +21,6 @@ returns c =
     let value = view c.args.value in
     let copied : string_bytes c.in_ok-name.name ≡ name = search rules in
     let inserted : members_view c.insert.new.self.entries ≡ put name value (members_view members) =
-        ap members_view (grind arith) ∙ members_view-insert_entry members c.in_ok-name.name c.args.value
-        ∙ rw copied refl in
+    ap members_view (grind arith) ∙ members_view-insert_entry members c.in_ok-name.name c.args.value
+    ∙ rw copied refl in
     inserted ∙ ap (put name value) c.self.view_is
