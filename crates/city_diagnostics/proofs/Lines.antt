@@ -1,7 +1,7 @@
 -- Lines behind one another.
 use Rattle.city_diagnostics.proofs.Prelude.{◌≡◌, ◌++◌, ◌∷◌, List, ℕ, [], refl, append-nil, append_assoc, ap, ◌∙◌, sym}
-use Rattle.city_diagnostics.proofs.Prelude.{AreLinesOf, IsLineOf, FirstLineIs, Data, Some, None, slice_get, object}
-use Rattle.city_diagnostics.proofs.Prelude.{compact_text, ◌+◌, ◌<◌, ◌≤◌, ◌⊎◌, arith, length, take, get_or, inl}
+use Rattle.city_diagnostics.proofs.Prelude.{AreLinesOf, IsLineOf, FirstLineIs, Data, Some, slice_get, object}
+use Rattle.city_diagnostics.proofs.Prelude.{compact_text, ◌+◌, ◌<◌, ◌⊎◌, arith, length, take, get_or, inl}
 use Rattle.city_diagnostics.proofs.Prelude.{inr, subst}
 use Rattle.std.proofs.lemmas.List.{length-append, take_more}
 

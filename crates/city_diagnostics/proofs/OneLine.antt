@@ -1,6 +1,6 @@
 -- The compact text of a value has no newline in it.
 use Rattle.city_diagnostics.proofs.Prelude.{◌≡◌, ◌++◌, ◌∷◌, ◌==◌, List, ℕ, [], suc, zero, Bool, true, false, not, refl}
-use Rattle.city_diagnostics.proofs.Prelude.{list_all, list_all-append, and_from, arith, rules, is_one_line, nat_lt}
+use Rattle.city_diagnostics.proofs.Prelude.{list_all-append, and_from, arith, is_one_line, nat_lt}
 use Rattle.city_diagnostics.proofs.Prelude.{Data, Items, Members, Num, null, boolean, number, string, array, object}
 use Rattle.city_diagnostics.proofs.Prelude.{no_items, item, no_members, member, unsigned, negative, float}
 use Rattle.city_diagnostics.proofs.Prelude.{compact_text, items_text, members_text, number_text, comma_if, cond}
@@ -8,9 +8,8 @@ use Rattle.city_diagnostics.proofs.Prelude.{◌∙◌, pos, negsuc}
 use Rattle.std.proofs.Common.{◌/◌, ◌%◌, inl, inr, subst, sym}
 use Rattle.std.proofs.lemmas.Bool.{cases_eq}
 use Rattle.std.proofs.lemmas.Bool.Decides.{nat_tests}
-use Rattle.std.proofs.lemmas.Grind.{common_steps}
 use Rattle.std.specs.Char.{digit_char}
-use Rattle.std.specs.Fmt.{decimal, digit_glyph, digits, digits_onto, signed_decimal}
+use Rattle.std.specs.Fmt.{decimal, digit_glyph, digits, digits_onto}
 use Rattle.json.specs.Print.{escape, escape_byte, escape_letter, quoted}
 
 joined : (xs ys : List ℕ) → is_one_line xs ≡ true → is_one_line ys ≡ true → is_one_line (xs ++ ys) ≡ true

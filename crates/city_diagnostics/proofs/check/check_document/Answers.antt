@@ -1,4 +1,4 @@
-use Rattle.city_diagnostics.proofs.Prelude.{◌≡◌, AreLinesOf, List, inl, inr, subst, Tells, ReadFault}
+use Rattle.city_diagnostics.proofs.Prelude.{AreLinesOf, List, inl, inr, subst, Tells, ReadFault}
 use Rattle.city_doc.specs.document.Faults.{DocumentFault}
 use Rattle.city_diagnostics.proofs.Lines.{first_line, first_told, no_fault, no_line}
 use Rattle.city_diagnostics.proofs.check.check_document.Goals as goal

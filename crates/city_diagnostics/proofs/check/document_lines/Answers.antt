@@ -1,4 +1,4 @@
-use Rattle.city_diagnostics.proofs.Prelude.{string_bytes, ◌≡◌, ◌++◌, arith, length, Tells, ReadFault}
+use Rattle.city_diagnostics.proofs.Prelude.{string_bytes, arith, Tells}
 use Rattle.city_diagnostics.proofs.Lines.{grown}
 use Rattle.city_diagnostics.proofs.check.document_lines.Goals as goal
 

@@ -1,5 +1,5 @@
 use Rattle.city_diagnostics.proofs.Prelude.{◌≡◌, ◌∙◌, ◌∷◌, ◌++◌, [], ℕ, List, ap, arith, Data, object, view-Object}
-use Rattle.city_diagnostics.proofs.Prelude.{view, compact_text, has_float, false, string_bytes, subst}
+use Rattle.city_diagnostics.proofs.Prelude.{compact_text, has_float, false, string_bytes, subst}
 use Rattle.city_diagnostics.proofs.OneLine.{text_stays}
 use Rattle.city_diagnostics.proofs.line.line_of.Goals as goal
 

@@ -1,4 +1,4 @@
-use Rattle.city_diagnostics.proofs.Prelude.{◌≡◌, ◌∙◌, ap, Data, Members, List, ℕ, object, string_bytes, sym, subst}
+use Rattle.city_diagnostics.proofs.Prelude.{◌≡◌, ◌∙◌, ap, Members, List, ℕ, object, string_bytes, sym, subst}
 use Rattle.city_diagnostics.proofs.Prelude.{IfOk-weaker}
 use Rattle.city_diagnostics.proofs.Prelude.{codes}
 use Rattle.city_doc.specs.script.AllFaults.{rank_of as script_rank_of}

@@ -1,4 +1,4 @@
-use Rattle.city_diagnostics.proofs.Prelude.{◌≡◌, AreLinesOf, List, inl, inr, subst}
+use Rattle.city_diagnostics.proofs.Prelude.{AreLinesOf, List, inl, inr, subst}
 use Rattle.city_doc.specs.declared.fault.ScriptFault.{ScriptFault}
 use Rattle.city_diagnostics.specs.ScriptLines.{TellsScript}
 use Rattle.city_doc.specs.script.Faults.{ScriptTextFault}

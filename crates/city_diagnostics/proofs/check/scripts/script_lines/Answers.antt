@@ -1,4 +1,4 @@
-use Rattle.city_diagnostics.proofs.Prelude.{string_bytes, ◌≡◌, ◌++◌, ◌<◌, arith, get_or, length}
+use Rattle.city_diagnostics.proofs.Prelude.{string_bytes, ◌<◌, arith, get_or, length}
 use Rattle.std.proofs.lemmas.List.{get_or_default}
 use Rattle.city_doc.specs.declared.fault.ScriptFault.{ScriptFault}
 use Rattle.city_diagnostics.specs.ScriptLines.{TellsScript}
