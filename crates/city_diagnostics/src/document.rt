@@ -30,7 +30,7 @@ pub struct Document<'t> {
     /// Its vertices, where a ring or a shell is told.
     points: Vec<Point>,
     /// The objects that can be read, where relations are told.
-    relatives: RelativesById<'t>,
+    relatives: RelativesById,
 }
 
 impl<'t> Document<'t> {
@@ -146,9 +146,14 @@ fn points_in(alloc: Global, tree: &Value) -> Result<Vec<Point>, OutOfMemory> {
 
 fn push_points(vertices: &Vec<Value>, points: &mut Vec<Point>) -> Result<(), OutOfMemory> {
     for vertex in vertices {
-        if let Some([x, y, z]) = triple_of(vertex) {
-            points.push(Point { x, y, z })?;
+        if let Some(point) = point_of(vertex) {
+            points.push(point)?;
         }
     }
     Ok(())
+}
+
+fn point_of(vertex: &Value) -> Option<Point> {
+    let [x, y, z] = triple_of(vertex)?;
+    Some(Point { x, y, z })
 }

@@ -130,7 +130,7 @@ impl<'t> Broken<'t> {
 /// Says which rule on its parents and children an object doesn't meet.
 pub fn tell_relations(
     alloc: Global,
-    objects: &RelativesById<'_>,
+    objects: &RelativesById,
     id: &str,
     object: &Value,
     diagnostic: &mut Diagnostic,
@@ -151,7 +151,7 @@ pub fn tell_relations(
 /// The first rule that isn't met.
 fn first_broken<'t>(
     alloc: Global,
-    objects: &RelativesById<'_>,
+    objects: &RelativesById,
     id: &str,
     object: &'t Value,
 ) -> Result<Option<Broken<'t>>, OutOfMemory> {
@@ -167,7 +167,7 @@ fn first_broken<'t>(
     if let Some(other) = repeated_in(alloc, children)? {
         return Ok(Some(Broken::Repeated(IdList::Children, other)));
     }
-    let Some(own) = objects.get(&id) else {
+    let Some(own) = objects.get(id) else {
         return Ok(None);
     };
     if let Some(broken) = broken_by_level(own.kind, parents) {
@@ -190,7 +190,7 @@ fn broken_by_level(kind: ObjectType, parents: &[Value]) -> Option<Broken<'_>> {
 }
 
 fn broken_by_parents<'t>(
-    objects: &RelativesById<'_>,
+    objects: &RelativesById,
     id: &str,
     kind: ObjectType,
     parents: &'t [Value],
@@ -207,7 +207,7 @@ fn broken_by_parents<'t>(
 }
 
 fn broken_by_parent<'t>(
-    objects: &RelativesById<'_>,
+    objects: &RelativesById,
     id: &str,
     kind: ObjectType,
     parent: &'t str,
@@ -215,10 +215,10 @@ fn broken_by_parent<'t>(
     if parent == id {
         return Some(Broken::Itself(parent));
     }
-    let Some(other) = objects.get(&parent) else {
+    let Some(other) = objects.get(parent) else {
         return Some(Broken::Missing(IdList::Parents, parent));
     };
-    if !other.children.contains(&id) {
+    if !other.children.contains(id) {
         Some(Broken::NotMutual(IdList::Parents, parent))
     } else if !is_same(family(other.kind), family(kind)) {
         Some(Broken::OtherFamily(kind, other.kind, parent))
@@ -228,15 +228,15 @@ fn broken_by_parent<'t>(
 }
 
 fn broken_by_children<'t>(
-    objects: &RelativesById<'_>,
+    objects: &RelativesById,
     id: &str,
     children: &'t [Value],
 ) -> Option<Broken<'t>> {
     for child in children {
         if let Some(child) = child.as_str() {
-            match objects.get(&child) {
+            match objects.get(child) {
                 None => return Some(Broken::Missing(IdList::Children, child)),
-                Some(other) if !other.parents.contains(&id) => {
+                Some(other) if !other.parents.contains(id) => {
                     return Some(Broken::NotMutual(IdList::Children, child));
                 }
                 Some(_) => {}

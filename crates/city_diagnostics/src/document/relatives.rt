@@ -8,14 +8,14 @@ use std::collections::{BTreeMap, BTreeSet};
 
 /// The type of an object that can be read, and the ids of its relatives.
 #[derive(Drop)]
-pub struct Relatives<'t> {
+pub struct Relatives {
     pub kind: ObjectType,
-    pub parents: BTreeSet<&'t str>,
-    pub children: BTreeSet<&'t str>,
+    pub parents: BTreeSet<String>,
+    pub children: BTreeSet<String>,
 }
 
 /// The objects that can be read, by their ids.
-pub type RelativesById<'t> = BTreeMap<&'t str, Relatives<'t>>;
+pub type RelativesById = BTreeMap<String, Relatives>;
 
 /// The items of a list of ids, of which there are none where it is absent; None where it isn't an array of texts.
 pub fn list_at<'t>(object: &'t Value, name: &str) -> Option<&'t [Value]> {
@@ -31,11 +31,11 @@ pub fn list_at<'t>(object: &'t Value, name: &str) -> Option<&'t [Value]> {
 }
 
 /// The relatives of all objects that can be read, of a document that has these faults.
-pub fn all_relatives<'t>(
+pub fn all_relatives(
     alloc: Global,
-    tree: &'t Value,
+    tree: &Value,
     faults: &[ReadFault],
-) -> Result<RelativesById<'t>, OutOfMemory> {
+) -> Result<RelativesById, OutOfMemory> {
     match tree.get("CityObjects").and_then(Value::as_object) {
         None => Ok(BTreeMap::new(alloc)),
         Some(objects) => {
@@ -46,10 +46,7 @@ pub fn all_relatives<'t>(
 }
 
 /// The ids of objects that can't be read.
-fn unread_ids<'f>(
-    alloc: Global,
-    faults: &'f [ReadFault],
-) -> Result<BTreeSet<&'f str>, OutOfMemory> {
+fn unread_ids(alloc: Global, faults: &[ReadFault]) -> Result<BTreeSet<String>, OutOfMemory> {
     let mut ids = BTreeSet::new(alloc);
     for fault in faults {
         match fault {
@@ -57,7 +54,8 @@ fn unread_ids<'f>(
             | ReadFault::Unsupported(id, _)
             | ReadFault::BadGeometry(id)
             | ReadFault::BadVertex(id) => {
-                ids.insert(id.as_str())?;
+                let id = id.as_str().to_string(alloc)?;
+                ids.insert(id)?;
             }
             _ => {}
         }
@@ -65,16 +63,16 @@ fn unread_ids<'f>(
     Ok(ids)
 }
 
-fn relatives_of<'t>(
+fn relatives_of(
     alloc: Global,
-    objects: &'t Map<String, Value>,
-    unread: &BTreeSet<&str>,
-) -> Result<RelativesById<'t>, OutOfMemory> {
+    objects: &Map<String, Value>,
+    unread: &BTreeSet<String>,
+) -> Result<RelativesById, OutOfMemory> {
     let mut relatives = BTreeMap::new(alloc);
     for (id, object) in objects.iter() {
-        let id = id.as_str();
-        if !unread.contains(&id) {
+        if !unread.contains(id.as_str()) {
             if let Some(one) = relatives_at(alloc, object)? {
+                let id = id.as_str().to_string(alloc)?;
                 relatives.insert(id, one)?;
             }
         }
@@ -83,7 +81,7 @@ fn relatives_of<'t>(
 }
 
 /// The relatives of one object, if its type is known.
-fn relatives_at(alloc: Global, object: &Value) -> Result<Option<Relatives<'_>>, OutOfMemory> {
+fn relatives_at(alloc: Global, object: &Value) -> Result<Option<Relatives>, OutOfMemory> {
     let kind = object.get("type").and_then(Value::as_str);
     let Some(kind) = kind.and_then(type_named) else {
         return Ok(None);
@@ -95,10 +93,11 @@ fn relatives_at(alloc: Global, object: &Value) -> Result<Option<Relatives<'_>>, 
     }))
 }
 
-fn id_set<'t>(alloc: Global, list: &'t [Value]) -> Result<BTreeSet<&'t str>, OutOfMemory> {
+fn id_set(alloc: Global, list: &[Value]) -> Result<BTreeSet<String>, OutOfMemory> {
     let mut ids = BTreeSet::new(alloc);
     for item in list {
         if let Some(id) = item.as_str() {
+            let id = id.to_string(alloc)?;
             ids.insert(id)?;
         }
     }
