@@ -26,19 +26,3 @@ fn write_escaped<W: Write>(f: &mut Formatter<W>, c: char) -> fmt::Result {
         _ => f.write_char(c),
     }
 }
-
-#[cfg(test)]
-mod tests {
-    use super::*;
-    use std::test::Fail;
-
-    #[test]
-    fn escapes_what_steers_a_terminal(rt: HostRuntime) -> Result<(), Fail> {
-        let shown = Quoted("a\"\\ \n\u{1b}[2J\u{7f}\u{9b}é").to_string(rt.alloc())?;
-        assert_eq!(rt;
-            shown.as_str(),
-            "\"a\\\"\\\\ \\n\\u001b[2J\\u007f\\u009bé\""
-        );
-        Ok(())
-    }
-}
