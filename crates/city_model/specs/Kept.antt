@@ -80,3 +80,7 @@ kept_at_object ms =
 
 abbrev pub kept_at_geometry : Members → Bool
 kept_at_geometry ms = members_integral ms && lacks_each geometry_members ms
+
+-- attributes that a command names may have any names
+abbrev pub kept_at_attributes : Members → Bool
+kept_at_attributes ms = members_integral ms

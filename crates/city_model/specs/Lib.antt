@@ -1,3 +1,6 @@
+pub mod Actions
+pub mod Amendments
+pub mod Attributes
 pub mod Chunks
 pub mod CityMap
 pub mod FrameLaw

@@ -5,6 +5,7 @@ use Rattle.std.specs.Ordering.{int_eq}
 use Rattle.std.specs.List.{list_any, list_all, zip}
 use Rattle.city_model.specs.declared.object.Point.{Point}
 use Rattle.city_model.specs.declared.object.Shape.{Shape}
+use Rattle.city_model.specs.declared.object.Geometry.{Geometry}
 use Rattle.city_model.specs.declared.object.Body.{Body}
 use Rattle.city_model.specs.declared.command.Cause.{Cause}
 use Rattle.city_model.specs.declared.command.Cause.TheVariants.{ShortRing, SameTwice, OpenShell}
@@ -113,15 +114,25 @@ is_open_shell shell = not (is_closed shell)
 abbrev pub has_open_shell : Shape → Bool
 has_open_shell shape = list_any (list_any is_open_shell) (solids_of shape)
 
+-- ---- the rules of geometries
+
+-- some geometry of the list has it
+abbrev pub any_shape : (Shape → Bool) → List Geometry → Bool
+any_shape test gs = list_any (λ g. test g.shape) gs
+
+-- the first of the three causes that some geometry has
+abbrev pub geometry_fault : List Geometry → Option Cause
+geometry_fault gs =
+    if any_shape has_short_ring gs then Some ShortRing
+    else (if any_shape has_same_twice gs then Some SameTwice
+    else (if any_shape has_open_shell gs then Some OpenShell else None))
+
 -- ---- the rules of a body
 
 -- some geometry of the body has it
 abbrev pub some_shape : (Shape → Bool) → Body → Bool
-some_shape test body = list_any (λ g. test g.shape) body.geometry
+some_shape test body = any_shape test body.geometry
 
--- the first of the three causes that some geometry has
+-- the first of the three causes that some geometry of the body has
 abbrev pub body_fault : Body → Option Cause
-body_fault body =
-    if some_shape has_short_ring body then Some ShortRing
-    else (if some_shape has_same_twice body then Some SameTwice
-    else (if some_shape has_open_shell body then Some OpenShell else None))
+body_fault body = geometry_fault body.geometry

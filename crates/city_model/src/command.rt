@@ -1,6 +1,12 @@
 //! The commands of a script, and the replies to them.
-use crate::object::{Body, Object};
+use crate::kept::extra::Extra;
+use crate::kept::site::AtAttributes;
+use crate::object::{Body, Geometries, Object};
+use crate::sequence::Sequence;
 use crate::text::{Id, Text};
+
+/// Attributes that a command names, each with a value.
+pub type Attributes = Extra<AtAttributes>;
 
 /// A command of a script.
 #[derive(Drop)]
@@ -9,6 +15,16 @@ pub enum Command {
     Read(Id),
     /// Gives the object a body: a new object, without relations, where none is there.
     Put(Id, Body),
+    /// Adds an object of this body, without relations. It is refused where an object is there.
+    Add(Id, Body),
+    /// Gives the named attributes of the object these values; all else stays.
+    Set(Id, Attributes),
+    /// Takes the attributes of these names out of the object; all else stays.
+    Unset(Id, Sequence<Text>),
+    /// Gives the object another geometry; all else stays.
+    Reshape(Id, Geometries),
+    /// Changes nothing. It is refused unless the object has these attributes, with these values.
+    Expect(Id, Attributes),
     /// Removes the object, and its id from every list of children.
     Delete(Id),
     /// Makes the first object a child of the second.
@@ -52,6 +68,12 @@ pub enum Cause {
     Orphan(Id),
     /// The script has no mark of this name.
     NoMark(Text),
+    /// An object of this id is there already.
+    Exists(Id),
+    /// The `attributes` of the object of this id isn't an object.
+    BadAttributes(Id),
+    /// The object of this id lacks an attribute that was expected, or has another value there.
+    Unexpected(Id),
 }
 
 /// The reply to a command.
@@ -66,6 +88,10 @@ pub enum Reply {
     Detached,
     Marked,
     WentBack,
+    AttributesSet,
+    AttributesUnset,
+    Reshaped,
+    Expected,
     Committed,
     Aborted,
     Refused(Cause),

@@ -5,7 +5,7 @@ use crate::kept::extra::Extra;
 use crate::kept::site::{AtGeometry, AtObject};
 use crate::object_type::ObjectType;
 use crate::sequence::Sequence;
-use crate::shared_body::SharedBody;
+use crate::shared::Shared;
 use crate::shared_ids::SharedIds;
 use crate::text::{Id, Text};
 
@@ -48,18 +48,22 @@ pub struct Geometry {
     pub extra: Extra<AtGeometry>,
 }
 
+/// The geometries of a city object. A copy shares them: they may be long, and an edit of
+/// attributes writes the object anew.
+pub type Geometries = Shared<Sequence<Geometry>>;
+
 /// What a put gives of an object: all but its relations.
 #[derive(Drop)]
 pub struct Body {
     pub kind: ObjectType,
-    pub geometry: Sequence<Geometry>,
+    pub geometry: Geometries,
     pub extra: Extra<AtObject>,
 }
 
 /// A city object (CityJSON 2.0, section 2). A copy shares its body and the ids of its children.
 #[derive(Drop)]
 pub struct Object {
-    pub body: SharedBody,
+    pub body: Shared<Body>,
     pub parents: SharedIds,
     pub children: SharedIds,
 }

@@ -4,7 +4,7 @@ use Rattle.serde_json.specs.Data.{Data, number, unsigned, string, object, Member
 use Rattle.city_model.specs.declared.command.Cause.{Cause}
 use Rattle.city_model.specs.declared.command.Cause.TheVariants.{NoObject, TypeFixed, HasChildren, WrongFamily}
 use Rattle.city_model.specs.declared.command.Cause.TheVariants.{AlreadyAttached, NotAttached, ShortRing}
-use Rattle.city_model.specs.declared.command.Cause.TheVariants.{SameTwice, OpenShell, Orphan, NoMark}
+use Rattle.city_model.specs.declared.command.Cause.TheVariants.{SameTwice, OpenShell, Orphan, NoMark, Exists, BadAttributes, Unexpected}
 use Rattle.city_model.specs.declared.end.End.{End}
 use Rattle.city_model.specs.declared.end.Outcome.{Outcome}
 use Rattle.city_tokens.specs.tree.Lists.{list_data}
@@ -27,6 +27,9 @@ cause_name SameTwice = codes "SameTwice"
 cause_name OpenShell = codes "OpenShell"
 cause_name (Orphan id) = codes "Orphan"
 cause_name (NoMark name) = codes "NoMark"
+cause_name (Exists id) = codes "Exists"
+cause_name (BadAttributes id) = codes "BadAttributes"
+cause_name (Unexpected id) = codes "Unexpected"
 
 -- what a cause names, and the name of its member: an object by its id, a mark by its name
 abbrev pub cause_member : Cause → Option (List ℕ × List ℕ)
@@ -41,6 +44,9 @@ cause_member SameTwice = None
 cause_member OpenShell = None
 cause_member (Orphan id) = Some (codes "id", id)
 cause_member (NoMark name) = Some (codes "mark", name)
+cause_member (Exists id) = Some (codes "id", id)
+cause_member (BadAttributes id) = Some (codes "id", id)
+cause_member (Unexpected id) = Some (codes "id", id)
 
 abbrev pub put_text : Option (List ℕ × List ℕ) → Members → Members
 put_text None ms = ms

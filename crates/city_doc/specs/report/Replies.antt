@@ -6,7 +6,7 @@ use Rattle.city_model.specs.declared.object.Point.{Point}
 use Rattle.city_model.specs.declared.command.Reply.{Reply}
 use Rattle.city_model.specs.declared.command.Reply.TheVariants.{Found, Absent, Added, Replaced, Deleted}
 use Rattle.city_model.specs.declared.command.Reply.TheVariants.{Attached, Detached, Marked, WentBack, Committed}
-use Rattle.city_model.specs.declared.command.Reply.TheVariants.{Aborted, Refused}
+use Rattle.city_model.specs.declared.command.Reply.TheVariants.{Aborted, Refused, AttributesSet, AttributesUnset, Reshaped, Expected}
 use Rattle.city_doc.specs.Pool.{object_points, without_repeats}
 use Rattle.city_doc.specs.object.Canonical.{object_data}
 use Rattle.city_doc.specs.shape.Vertices.{vertices_data}
@@ -35,6 +35,10 @@ reply_data Attached = string (codes "attached")
 reply_data Detached = string (codes "detached")
 reply_data Marked = string (codes "marked")
 reply_data WentBack = string (codes "back")
+reply_data AttributesSet = string (codes "set")
+reply_data AttributesUnset = string (codes "unset")
+reply_data Reshaped = string (codes "reshaped")
+reply_data Expected = string (codes "expected")
 reply_data Committed = string (codes "committed")
 reply_data Aborted = string (codes "aborted")
 reply_data (Refused cause) = string (codes "refused")

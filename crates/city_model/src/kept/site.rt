@@ -2,7 +2,7 @@
 ghost use Rattle.std.specs.Prelude.{◌≡◌, Bool, codes};
 ghost use Rattle.serde_json.specs.Data.{Members};
 ghost use Rattle.serde_json.specs.View.{view, members_view};
-ghost use Rattle.city_model.specs.Kept.{lacks, kept_at_top, kept_at_transform, kept_at_object, kept_at_geometry, is_empty_object_or_absent, has_location, is_located, any_located, any_located_in, has_no_member};
+ghost use Rattle.city_model.specs.Kept.{lacks, kept_at_top, kept_at_transform, kept_at_object, kept_at_geometry, kept_at_attributes, is_empty_object_or_absent, has_location, is_located, any_located, any_located_in, has_no_member};
 
 use crate::integral::have_integral;
 use crate::members::member;
@@ -33,6 +33,10 @@ pub struct AtObject;
 #[derive(Clone, Copy)]
 pub struct AtGeometry;
 
+/// The member `attributes` of a city object (CityJSON 2.0, section 2), as a command names some.
+#[derive(Clone, Copy)]
+pub struct AtAttributes;
+
 /// Whether no member has this name.
 fn lacks(members: &Map<String, Value>, name: &str) -> bool
     ensures { result ≡ lacks name.now (members_view members.now.entries) }
@@ -59,6 +63,14 @@ impl Site for AtGeometry {
             && lacks(members, "type")
             && lacks(members, "lod")
             && lacks(members, "boundaries")
+    }
+}
+
+impl Site for AtAttributes {
+    ghost keeps = { kept_at_attributes };
+
+    fn admits(members: &Map<String, Value>) -> bool {
+        have_integral(members)
     }
 }
 

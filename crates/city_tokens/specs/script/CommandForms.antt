@@ -3,17 +3,24 @@ use Rattle.std.specs.Prelude.{ℕ, ◌==◌, List, [], ◌∷◌, Option, Some, 
 use Rattle.std.specs.Prelude.{if◌then◌else◌}
 use Rattle.std.specs.Option.{option_or}
 use Rattle.std.specs.Str.{bytes_eq}
-use Rattle.serde_json.specs.Data.{Data, Members}
+use Rattle.serde_json.specs.Data.{Data, Members, object}
 use Rattle.serde_json.specs.Find.{get_member, as_str, as_object}
 use Rattle.city_model.specs.Members.{members_count}
+use Rattle.city_tokens.specs.tree.Lists.{array_of, all_read}
 use Rattle.city_tokens.specs.tree.Steps.{◌>>=◌}
 
 -- ---- forms
 
--- what the tree of a command says; of a put, with the tree of its object
+-- What the tree of a command says. A put and an add have the tree of their object, a reshape the tree in which its
+-- `geometry` stands, which is its own.
 pub data CommandForm : Type 0 where
   ReadForm : List ℕ → CommandForm
   PutForm : List ℕ → Data → CommandForm
+  AddForm : List ℕ → Data → CommandForm
+  SetForm : List ℕ → Members → CommandForm
+  UnsetForm : List ℕ → List (List ℕ) → CommandForm
+  ReshapeForm : List ℕ → Data → CommandForm
+  ExpectForm : List ℕ → Members → CommandForm
   DeleteForm : List ℕ → CommandForm
   AttachForm : List ℕ → List ℕ → CommandForm
   DetachForm : List ℕ → List ℕ → CommandForm
@@ -57,29 +64,61 @@ relation_form ms = do
   parent ← text_in (codes "parent") ms
   first_named (of_parent parent) ms
 
-abbrev pub put_form : Members → Option CommandForm
-put_form ms = do
-  id ← text_in (codes "put") ms
-  option_map (PutForm id) (get_member (codes "object") ms)
+-- the commands of this object
+abbrev pub of_object : Data → Named
+of_object tree = (codes "put", λ id. PutForm id tree) ∷ (codes "add", λ id. AddForm id tree) ∷ []
 
--- just the members of a command: one that is a text, or two, of a put or of a child and its parent
+abbrev pub object_form : Members → Option CommandForm
+object_form ms = do
+  tree ← get_member (codes "object") ms
+  first_named (of_object tree) ms
+
+-- the commands of attributes with these values
+abbrev pub of_values : Members → Named
+of_values named = (codes "set", λ id. SetForm id named) ∷ (codes "expect", λ id. ExpectForm id named) ∷ []
+
+abbrev pub values_form : Members → Option CommandForm
+values_form ms = do
+  named ← option_and_then as_object (get_member (codes "attributes") ms)
+  first_named (of_values named) ms
+
+-- an array of texts
+abbrev pub texts_of : Data → Option (List (List ℕ))
+texts_of d = option_and_then (all_read as_str) (array_of d)
+
+abbrev pub names_form : Members → Option CommandForm
+names_form ms = do
+  names ← option_and_then texts_of (get_member (codes "attributes") ms)
+  option_map (λ id. UnsetForm id names) (text_in (codes "unset") ms)
+
+abbrev pub reshape_form : Members → Option CommandForm
+reshape_form ms = do
+  geometry ← get_member (codes "geometry") ms
+  option_map (λ id. ReshapeForm id (object ms)) (text_in (codes "reshape") ms)
+
+-- the first of the forms of two members
+abbrev pub pair_form : Members → Option CommandForm
+pair_form ms =
+    option_or (object_form ms)
+    (option_or (relation_form ms) (option_or (values_form ms) (option_or (names_form ms) (reshape_form ms))))
+
+-- just the members of a command: one that is a text, or two
 abbrev pub members_form : Members → Option CommandForm
 members_form ms =
     if members_count ms == 1 then first_named of_one_text ms
-    else (if members_count ms == 2 then option_or (put_form ms) (relation_form ms) else None)
+    else (if members_count ms == 2 then pair_form ms else None)
 
 -- a word, or an object with just the members of its command
 abbrev pub form_of : Data → Option CommandForm
 form_of d = option_or (option_and_then word_form (as_str d)) (option_and_then members_form (as_object d))
 
--- the object that the form of a put has
-abbrev pub put_tree : CommandForm → Option Data
-put_tree (ReadForm id) = None
-put_tree (PutForm id tree) = Some tree
-put_tree (DeleteForm id) = None
-put_tree (AttachForm child parent) = None
-put_tree (DetachForm child parent) = None
-put_tree (MarkForm name) = None
-put_tree (BackForm name) = None
-put_tree CommitForm = None
-put_tree AbortForm = None
+-- the tree of the object that the command gives
+abbrev pub object_tree : CommandForm → Option Data
+object_tree (PutForm id tree) = Some tree
+object_tree (AddForm id tree) = Some tree
+object_tree f = None
+
+-- the tree in which the `geometry` stands that the command gives to an object that is there
+abbrev pub geometry_tree : CommandForm → Option Data
+geometry_tree (ReshapeForm id tree) = Some tree
+geometry_tree f = None

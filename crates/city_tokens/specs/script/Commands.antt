@@ -4,24 +4,40 @@ use Rattle.std.specs.Prelude.{◌||◌, if◌then◌else◌}
 use Rattle.serde_json.specs.Data.{Data}
 use Rattle.serde_json.specs.Find.{get}
 use Rattle.city_model.specs.declared.object.Point.{Point}
+use Rattle.city_model.specs.declared.object.Geometry.{Geometry}
+use Rattle.city_model.specs.declared.object.Body.{Body}
 use Rattle.city_model.specs.declared.command.Command.{Command}
-use Rattle.city_model.specs.declared.command.Command.TheVariants.{Read, Put, Delete, Attach, Detach, Mark, Back}
-use Rattle.city_model.specs.declared.command.Command.TheVariants.{Commit, Abort}
+use Rattle.city_model.specs.declared.command.Command.TheVariants.{Read, Put, Add, Set, Unset, Reshape, Expect}
+use Rattle.city_model.specs.declared.command.Command.TheVariants.{Delete, Attach, Detach, Mark, Back, Commit, Abort}
+use Rattle.city_model.specs.Kept.{kept_at_attributes}
 use Rattle.city_tokens.specs.object.Bodies.{body_of}
-use Rattle.city_tokens.specs.script.CommandForms.{CommandForm, ReadForm, PutForm, DeleteForm, AttachForm, DetachForm}
+use Rattle.city_tokens.specs.shape.Geometries.{geometry_of}
+use Rattle.city_tokens.specs.tree.Lists.{list_or_absent}
+use Rattle.city_tokens.specs.tree.Members.{kept_if}
+use Rattle.city_tokens.specs.script.CommandForms.{CommandForm, ReadForm, PutForm, AddForm, SetForm, UnsetForm}
+use Rattle.city_tokens.specs.script.CommandForms.{ReshapeForm, ExpectForm, DeleteForm, AttachForm, DetachForm}
 use Rattle.city_tokens.specs.script.CommandForms.{MarkForm, BackForm, CommitForm, AbortForm, form_of}
 
 -- the object names parents or children
 abbrev pub names_relations : Data → Bool
 names_relations d = is_some (get (codes "parents") d) || is_some (get (codes "children") d)
 
--- a put: positions count in these points
-abbrev pub put_of : List Point → List ℕ → Data → Option Command
-put_of points id tree = if names_relations tree then None else option_map (Put id) (body_of points tree)
+-- the body of an object that names no relations; positions count in these points
+abbrev pub unrelated_body : List Point → Data → Option Body
+unrelated_body points tree = if names_relations tree then None else body_of points tree
+
+-- the geometries that stand in a tree
+abbrev pub geometries_of : List Point → Data → Option (List Geometry)
+geometries_of points tree = list_or_absent (geometry_of points) (get (codes "geometry") tree)
 
 abbrev pub command_of_form : List Point → CommandForm → Option Command
 command_of_form points (ReadForm id) = Some (Read id)
-command_of_form points (PutForm id tree) = put_of points id tree
+command_of_form points (PutForm id tree) = option_map (Put id) (unrelated_body points tree)
+command_of_form points (AddForm id tree) = option_map (Add id) (unrelated_body points tree)
+command_of_form points (SetForm id named) = option_map (Set id) (kept_if kept_at_attributes named)
+command_of_form points (UnsetForm id names) = Some (Unset id names)
+command_of_form points (ReshapeForm id tree) = option_map (Reshape id) (geometries_of points tree)
+command_of_form points (ExpectForm id named) = option_map (Expect id) (kept_if kept_at_attributes named)
 command_of_form points (DeleteForm id) = Some (Delete id)
 command_of_form points (AttachForm child parent) = Some (Attach child parent)
 command_of_form points (DetachForm child parent) = Some (Detach child parent)
