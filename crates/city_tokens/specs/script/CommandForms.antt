@@ -6,7 +6,7 @@ use Rattle.std.specs.Str.{bytes_eq}
 use Rattle.serde_json.specs.Data.{Data, Members, object}
 use Rattle.serde_json.specs.Find.{get_member, as_str, as_object}
 use Rattle.city_model.specs.Members.{members_count}
-use Rattle.city_tokens.specs.tree.Lists.{array_of, all_read}
+use Rattle.city_tokens.specs.tree.Lists.{list_of}
 use Rattle.city_tokens.specs.tree.Steps.{◌>>=◌}
 
 -- ---- forms
@@ -82,13 +82,9 @@ values_form ms = do
   named ← option_and_then as_object (get_member (codes "attributes") ms)
   first_named (of_values named) ms
 
--- an array of texts
-abbrev pub texts_of : Data → Option (List (List ℕ))
-texts_of d = option_and_then (all_read as_str) (array_of d)
-
 abbrev pub names_form : Members → Option CommandForm
 names_form ms = do
-  names ← option_and_then texts_of (get_member (codes "attributes") ms)
+  names ← option_and_then (list_of as_str) (get_member (codes "attributes") ms)
   option_map (λ id. UnsetForm id names) (text_in (codes "unset") ms)
 
 abbrev pub reshape_form : Members → Option CommandForm
