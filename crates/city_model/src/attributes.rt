@@ -84,7 +84,11 @@ fn put_attributes(
     ensures { OnOk result (members_view members.new.entries
         ≡ put attributes (object (members_view found.entries)) (members_view members.old.entries)) }
 {
-    put(members, "attributes".to_string(alloc)?, Value::Object(found))
+    put(
+        members,
+        "attributes".to_string(alloc)?,
+        Value::Object(found),
+    )
 }
 
 /// Gives the members one of this name.
@@ -97,10 +101,7 @@ fn put(members: &mut Map<String, Value>, name: String, value: Value) -> Result<(
 }
 
 /// Gives the members each of the named ones.
-fn put_each(
-    members: &mut Map<String, Value>,
-    named: &Map<String, Value>,
-) -> Result<(), OutOfMemory>
+fn put_each(members: &mut Map<String, Value>, named: &Map<String, Value>) -> Result<(), OutOfMemory>
     ensures { OnOk result (members_view members.new.entries
         ≡ put_each (members_view named.now.entries) (members_view members.old.entries)) }
 {
