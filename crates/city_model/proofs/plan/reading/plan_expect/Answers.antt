@@ -1,5 +1,5 @@
 use Rattle.city_model.proofs.Prelude.{rules}
-use Rattle.city_model.proofs.PlannedActions.{expect_writes, expect_refused}
+use Rattle.city_model.proofs.PlannedAnswers.{expect_writes}
 use Rattle.city_model.proofs.plan.reading.plan_expect.Goals as goal
 
 pub returns : goal.returns
