@@ -2,8 +2,9 @@
 use Rattle.city_decimals.proofs.Prelude.{arith, ◌≡◌, ℕ, ◌-◌, ◌<◌, ◌≤◌, List, [], ◌∷◌, ◌++◌, length, Option, Some, None}
 use Rattle.city_decimals.proofs.Prelude.{refl, sym, ap, ◌∙◌, append_assoc, Token, Json, null, boolean, number, string}
 use Rattle.city_decimals.proofs.Prelude.{array, object, Items, no_items, item, Members, Parse, parse_map, value}
-use Rattle.city_decimals.proofs.Prelude.{after_end_array, json_tokens, items_tokens, changed, items_changed, written, Way}
-use Rattle.city_decimals.proofs.Prelude.{Encode, Decode, suc, false, cond, only, decoded, decoded_members, number_in}
+use Rattle.city_decimals.proofs.Prelude.{after_end_array, json_tokens, items_tokens, changed, items_changed, written}
+use Rattle.city_decimals.proofs.Prelude.{Way, Encode, Decode, suc, false, cond, only, decoded, decoded_members}
+use Rattle.city_decimals.proofs.Prelude.{number_in}
 use Rattle.std.proofs.Common.{zero}
 use Rattle.std.specs.Borrow.{Bor}
 use Rattle.json.proofs.Grammar.{items_end, items_more}

@@ -1,8 +1,9 @@
 -- What is neither shielded nor a shield, and how that is seen in a text.
-use Rattle.city_decimals.proofs.Prelude.{arith, ◌≡◌, ℕ, List, [], ◌∷◌, ◌++◌, Bool, true, false, get_or, refl, subst, append_assoc, ◌∙◌, ◌&&◌}
-use Rattle.city_decimals.proofs.Prelude.{Json, null, boolean, number, string, array, object, no_items, item}
-use Rattle.city_decimals.proofs.Prelude.{IsNumber, HasNumbers, is_tag, is_attributes, is_text_or_array, is_fraction}
-use Rattle.city_decimals.proofs.Prelude.{is_single, is_text, is_shielded, has_shield, decoded, value_text, items_text}
+use Rattle.city_decimals.proofs.Prelude.{arith, ◌≡◌, ℕ, List, [], ◌∷◌, ◌++◌, Bool, true, false, get_or, refl, subst}
+use Rattle.city_decimals.proofs.Prelude.{append_assoc, ◌∙◌, ◌&&◌, Json, null, boolean, number, string, array, object}
+use Rattle.city_decimals.proofs.Prelude.{no_items, item, IsNumber, HasNumbers, is_tag, is_attributes, is_text_or_array}
+use Rattle.city_decimals.proofs.Prelude.{is_fraction, is_single, is_text, is_shielded, has_shield, decoded, value_text}
+use Rattle.city_decimals.proofs.Prelude.{items_text}
 use Rattle.std.proofs.Common.{◌||◌}
 use Rattle.json.specs.Word.{after_number}
 use Rattle.city_decimals.specs.inside.Forms.{is_bare, BeginsBare}
@@ -50,7 +51,12 @@ bare_here (boolean false) rest h b = grind arith
 bare_here (number s) rest h b = grind (arith, number_begins s rest h)
 bare_here (string s) rest h b = grind arith
 bare_here (array no_items) rest h b = grind arith
-bare_here (array (item j js)) rest h b = grind (arith, text_begins j (items_text true js ++ rest) h.0, append_assoc (value_text j) (items_text true js) rest)
+bare_here (array (item j js)) rest h b =
+    grind (
+      arith,
+      text_begins j (items_text true js ++ rest) h.0,
+      append_assoc (value_text j) (items_text true js) rest,
+    )
 bare_here (object ms) rest h b = refl
 
 pub begins_bare : (j : Json) (text rest : List ℕ) → HasNumbers j → text ≡ value_text j ++ rest → BeginsBare text

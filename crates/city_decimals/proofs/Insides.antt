@@ -1,11 +1,12 @@
 -- What stands in a form is decoded first or last alike.
 use Rattle.city_decimals.proofs.Prelude.{◌≡◌, ℕ, ◌≤◌, List, Bool, true, false, cond, None, length, refl, arith, ◌&&◌}
 use Rattle.city_decimals.proofs.Prelude.{Json, object, Members, json_tokens, HasNumbers, is_tag, is_frame, is_transform}
-use Rattle.city_decimals.proofs.Prelude.{number, string, array, boolean, null, no_items, item, Option, has_shield, is_text, is_single}
-use Rattle.city_decimals.proofs.Prelude.{Token, [], ◌∷◌, ◌++◌, append_assoc, member, members_tokens, is_attributes, number_or, decoded_members, ap}
+use Rattle.city_decimals.proofs.Prelude.{number, string, array, boolean, null, no_items, item, Option, has_shield}
+use Rattle.city_decimals.proofs.Prelude.{is_text, is_single, Token, [], ◌∷◌, ◌++◌, append_assoc, member, members_tokens}
+use Rattle.city_decimals.proofs.Prelude.{is_attributes, number_or, decoded_members, ap, only, fronted, number_in}
+use Rattle.city_decimals.proofs.Prelude.{out_of_form, decoded}
 use Rattle.std.proofs.Common.{◌||◌}
 use Rattle.std.specs.Prelude.{not}
-use Rattle.city_decimals.proofs.Prelude.{only, fronted, number_in, out_of_form, decoded}
 use Rattle.std.proofs.lemmas.List.{length-append}
 use Rattle.city_decimals.specs.inside.Inner.{front, inner}
 use Rattle.city_decimals.proofs.Bools.{and_right}
@@ -80,14 +81,17 @@ front_numbers j h = grind arith
 
 pub inner_numbers : (top : Bool) (k : List ℕ) (j : Json) → HasNumbers j → HasNumbers (inner top k j)
 inner_numbers top k j h =
-    let plain = elim (has_shield k j) as (λ b. HasNumbers (cond b (only j) j)) [ true ↦ only_numbers j h | false ↦ h ] in
+    let plain = elim (has_shield k j) as (λ b. HasNumbers (cond b (only j) j)) [
+      | true ↦ only_numbers j h
+      | false ↦ h
+    ] in
     elim (top && is_transform k j) as (λ b. HasNumbers (cond b (front j) (cond (has_shield k j)
     (only j) j))) [ true ↦ front_numbers j h | false ↦ plain ]
 
 -- ---- a member of an object is decoded
 
-pub member_decoded : (k : List ℕ) (j : Json) (ms : Members) (out named now : List Token) → named ≡ out ++ Token.key k ∷ []
-    → now ≡ named ++ json_tokens (decoded (inner false k j))
+pub member_decoded : (k : List ℕ) (j : Json) (ms : Members) (out named now : List Token)
+    → named ≡ out ++ Token.key k ∷ [] → now ≡ named ++ json_tokens (decoded (inner false k j))
     → now ++ members_tokens (decoded_members false ms)
     ≡ out ++ members_tokens (decoded_members false (member k j ms))
 member_decoded k j ms out named now e f = search (arith, append_assoc, inner_decoded)

@@ -3,10 +3,10 @@ use Rattle.city_decimals.proofs.Prelude.{arith, ◌≡◌, ℕ, List, Bool, true
 use Rattle.city_decimals.proofs.Prelude.{nat_cmp, refl, ap, ap₂, ◌∙◌, subst, codes, option_map, option_and_then}
 use Rattle.city_decimals.proofs.Prelude.{match_ordering, slice_cmp, bytes_eq-Decides, HasNumbers, ItemsHaveNumbers}
 use Rattle.city_decimals.proofs.Prelude.{MembersHaveNumbers, Num, Data, put, number_of, of_json, of_items, of_members}
-use Rattle.city_decimals.proofs.Prelude.{is_written_so, is_whole, is_number, is_end, tag, is_shielded}
-use Rattle.city_decimals.proofs.Prelude.{is_frame, in_form, framed, only, tagged, encoded, encoded_items}
-use Rattle.city_decimals.proofs.Prelude.{encoded_members, number_under, number_in, number_or, out_of_form, decoded}
-use Rattle.city_decimals.proofs.Prelude.{decoded_items, decoded_members, Plain, Shielded}
+use Rattle.city_decimals.proofs.Prelude.{is_written_so, is_whole, is_number, is_end, tag, is_shielded, is_frame}
+use Rattle.city_decimals.proofs.Prelude.{in_form, framed, only, tagged, encoded, encoded_items, encoded_members}
+use Rattle.city_decimals.proofs.Prelude.{number_under, number_in, number_or, out_of_form, decoded, decoded_items}
+use Rattle.city_decimals.proofs.Prelude.{decoded_members, Plain, Shielded}
 use Rattle.std.proofs.Common.{Less, Equal, Greater}
 use Rattle.std.proofs.lemmas.Map.Lookups.{exact_bytes}
 use Rattle.serde_json.specs.Data.{null, boolean, number, string, array, object, Items, no_items, item, Members}

@@ -3,10 +3,11 @@ use Rattle.city_decimals.proofs.Prelude.{arith, ◌≡◌, ℕ, suc, List, Bool,
 use Rattle.city_decimals.proofs.Prelude.{ap, ap₂, ◌∙◌, ◌&&◌, codes, option_map, bytes_eq, bytes_eq-Decides, Json, null}
 use Rattle.city_decimals.proofs.Prelude.{boolean, number, string, array, object, Items, no_items, item, Members}
 use Rattle.city_decimals.proofs.Prelude.{no_members, member, HasNumbers, ItemsHaveNumbers, MembersHaveNumbers, is_whole}
-use Rattle.city_decimals.proofs.Prelude.{is_number, is_end, is_tag, is_frame, is_transform, is_shielded, has_shield, form_of}
-use Rattle.city_decimals.proofs.Prelude.{in_form, framed, fronted, only, tagged, encoded, encoded_items, encoded_members, encoded_top}
-use Rattle.city_decimals.proofs.Prelude.{number_under, out_of_form, decoded, decoded_items, decoded_members}
-use Rattle.city_decimals.proofs.Prelude.{decoded_top, Plain, Shielded, is_attributes, is_fraction, is_single, is_text_or_array}
+use Rattle.city_decimals.proofs.Prelude.{is_number, is_end, is_tag, is_frame, is_transform, is_shielded, has_shield}
+use Rattle.city_decimals.proofs.Prelude.{form_of, in_form, framed, fronted, only, tagged, encoded, encoded_items}
+use Rattle.city_decimals.proofs.Prelude.{encoded_members, encoded_top, number_under, out_of_form, decoded}
+use Rattle.city_decimals.proofs.Prelude.{decoded_items, decoded_members, decoded_top, Plain, Shielded, is_attributes}
+use Rattle.city_decimals.proofs.Prelude.{is_fraction, is_single, is_text_or_array}
 use Rattle.std.proofs.Common.{zero, ◌||◌}
 use Rattle.json.specs.Find.{get_member, get_item, later_or, at}
 use Rattle.city_decimals.specs.Shapes.{is_triple}
@@ -132,7 +133,8 @@ pub no_number_bare : (k : List ℕ) (j : Json) → is_shielded k j ≡ false
 no_number_bare k null h = refl
 no_number_bare k (boolean b) h = refl
 no_number_bare k (number s) h = under_number k (is_whole s) s
-no_number_bare k (string s) h = ap (λ b. cond (b && is_number s) (Some s) None) (untagged (is_tag k) (is_attributes k) h)
+no_number_bare k (string s) h =
+    ap (λ b. cond (b && is_number s) (Some s) None) (untagged (is_tag k) (is_attributes k) h)
   where
     untagged : (b a : Bool) → ((b && true) || (a && false)) ≡ false → b ≡ false
     untagged b a e = grind arith

@@ -2,9 +2,9 @@
 use Rattle.city_decimals.proofs.Prelude.{arith, ◌≡◌, ℕ, List, [], ◌∷◌, ◌++◌, Bool, true, false, Some, ap, Json, null}
 use Rattle.city_decimals.proofs.Prelude.{boolean, number, string, array, object, Items, no_items, item, Members}
 use Rattle.city_decimals.proofs.Prelude.{no_members, member, value, Token, json_tokens, items_tokens, members_tokens}
-use Rattle.city_decimals.proofs.Prelude.{is_attributes, is_tag, is_transform, IsUntagged, IsPlain, top_changed, changed, items_changed}
-use Rattle.city_decimals.proofs.Prelude.{members_changed, member_changed, frame_changed, object_made, Way, Encode}
-use Rattle.city_decimals.proofs.Prelude.{Decode}
+use Rattle.city_decimals.proofs.Prelude.{is_attributes, is_tag, is_transform, IsUntagged, IsPlain, top_changed, changed}
+use Rattle.city_decimals.proofs.Prelude.{items_changed, members_changed, member_changed, frame_changed, object_made}
+use Rattle.city_decimals.proofs.Prelude.{Way, Encode, Decode}
 use Rattle.std.proofs.Common.{◌&&◌}
 use Rattle.city_decimals.specs.inside.Forms.{is_bare}
 use Rattle.city_decimals.specs.inside.Ways.{is_decode}

@@ -1,23 +1,22 @@
 use Rattle.city_decimals.proofs.Prelude.{rules, ◌≡◌, ℕ, ◌-◌, List, [], ◌∷◌, ◌++◌, length, Some, None, refl, sym, ap}
 use Rattle.city_decimals.proofs.Prelude.{◌∙◌, subst, arith, append_assoc, option_map, on_ok_weaker, Token, Json, Items}
-use Rattle.city_decimals.proofs.Prelude.{value_view, ◌<◌, items, item, Members, member, parse_map, after_end_array, read_key, members}
-use Rattle.city_decimals.proofs.Prelude.{json_tokens, items_tokens, members_tokens, value_is, value-begin_object}
-use Rattle.city_decimals.proofs.Prelude.{members_end, members_more, members_fail, members_no_key, decoded}
-use Rattle.city_decimals.proofs.Prelude.{decoded_members, out_of_form, decoded_object, written, changed, items_changed}
-use Rattle.city_decimals.proofs.Prelude.{members_changed, member_changed}
+use Rattle.city_decimals.proofs.Prelude.{value_view, ◌<◌, items, item, Members, member, parse_map, after_end_array}
+use Rattle.city_decimals.proofs.Prelude.{read_key, members, json_tokens, items_tokens, members_tokens, value_is}
+use Rattle.city_decimals.proofs.Prelude.{value-begin_object, members_end, members_more, members_fail, members_no_key}
+use Rattle.city_decimals.proofs.Prelude.{decoded, decoded_members, out_of_form, decoded_object, written, changed}
+use Rattle.city_decimals.proofs.Prelude.{items_changed, members_changed, member_changed}
 use Rattle.json.specs.Json.{value}
 use Rattle.json.proofs.Grammar.{value-begin_array, read_key-shorter, read_key_is, items_fail, items_more}
 use Rattle.json.specs.Reads.{token_of}
 use Rattle.city_decimals.specs.inside.Objects.{IsFirstWritten}
 use Rattle.city_decimals.specs.inside.Ways.{attributes_changed}
 use Rattle.city_decimals.proofs.Objects.{object_written, object_put, first_is_no_number, two_are_no_number, other_name}
-use Rattle.city_decimals.proofs.Streams.{none_written, written_as, written_with, token_first, value_shorter, item_written}
-use Rattle.city_decimals.proofs.Streams.{items_over, member_written, members_over}
+use Rattle.city_decimals.proofs.Streams.{none_written, written_as, written_with, token_first, value_shorter}
+use Rattle.city_decimals.proofs.Streams.{item_written, items_over, member_written, members_over}
 use Rattle.city_decimals.proofs.Ways.{string_changed, boolean_changed, null_changed, array_changed, item_tokens}
 use Rattle.city_decimals.proofs.Ways.{no_items_changed, member_tokens, no_members_changed, object_is_made, no_object}
 use Rattle.city_decimals.proofs.Ways.{untagged_here}
-use Rattle.city_decimals.proofs.Attributes.{attributes_other, attributes_end, attributes_single}
-use Rattle.city_decimals.proofs.Attributes.{attributes_several}
+use Rattle.city_decimals.proofs.Attributes.{attributes_other, attributes_end, attributes_single, attributes_several}
 use Rattle.city_decimals.proofs.change.value.+change.Goals as goal
 
 pub change_value-returns-in_err-token-clause-err : goal.change_value-returns-in_err-token-clause-err
@@ -363,7 +362,8 @@ change_attributes_items-returns-clause-ok t c =
     ∙ ap (λ us. us ++ json_tokens (changed c.args.way j)) c.in_ok-begin_array-2.ensures.ok in
     on_ok_weaker c.change_items.result (λ e n enough. attributes_several (value c.args.depth) c.args.way n out now ts s
     j (omega (arith, enough, less)) going.0 (rw (← going.1) c.in_ok-first.ensures.ok) more.0 made
-    ∙ ap (λ us. written (λ js. items_tokens (items_changed c.args.way js)) now (items (value c.args.depth) (n - 1) us)) (sym more.1)
+    ∙ ap (λ us. written (λ js. items_tokens (items_changed c.args.way js)) now (items (value c.args.depth) (n - 1) us))
+    (sym more.1)
     ∙ e (n - 1) (omega (arith, enough, less, ap length more.1))) c.change_items.ensures.ok
 
 pub change_attributes_items-returns-clause-err : goal.change_attributes_items-returns-clause-err
