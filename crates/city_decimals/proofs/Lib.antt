@@ -1,3 +1,5 @@
+pub mod Attributes
+pub mod Bare
 pub mod Bools
 pub mod Changes
 pub mod CompactForms

@@ -20,6 +20,7 @@ use json::{MAX_DEPTH, Scratch};
 pub(crate) use member::encode_member_tree;
 pub(crate) use number::encode_number;
 use std::alloc::Global;
+pub(crate) use tree::encode_tree;
 
 /// The text with each number that is no `i64` as a text under `#`, in one line. A text or an array under `#` is
 /// shielded, a `transform` at the top framed.
