@@ -23,6 +23,7 @@ import json_texts
 import json_tree
 import random_runs
 import second_reading as second
+from commands import is_command
 from samples import EMPTY
 
 PUT_AND_READ = (
@@ -153,14 +154,38 @@ def several_faults():
 
 
 def forms():
-    """Commands of one and of two members that some command has, with a text, a number or an object each."""
-    names = ["read", "put", "object", "delete", "attach", "detach", "parent", "mark", "back", "more"]
-    values = ["a", 1, {"type": "Road"}]
-    singles = [{name: value} for name, value in itertools.product(names, values)]
+    """Commands of one and of two members that some command has, with values of each kind; and those of each right form
+    with one member more."""
+    names = "read put add object delete attach detach parent mark back set unset expect attributes reshape geometry more"
+    values = ["a", 1, {"type": "Road"}, [], ["a"]]
+    singles = [{name: value} for name, value in itertools.product(names.split(), values)]
     pairs = [{**one, **other} for one, other in itertools.combinations(singles, 2) if one.keys() != other.keys()]
-    for command in singles + pairs:
-        commands = [{"mark": "a"}, {"put": "a", "object": {"type": "Road"}}, command, {"read": "a"}, "commit"]
-        yield EMPTY, json.dumps([{"name": "s", "commands": commands}]).encode("utf-8")
+    right = [command for command in singles + pairs if is_command(command)]
+    longer = [{**command, **more} for command in right for more in singles[::5] if not command.keys() & more.keys()]
+    for command in singles + pairs + longer:
+        listed = [{"mark": "a"}, {"put": "a", "object": {"type": "Road"}}, command, {"read": "a"}, "commit"]
+        yield EMPTY, json.dumps([{"name": "s", "commands": listed}]).encode("utf-8")
+
+
+# attributes of an object, as they stand in a text: absent ones, and such as aren't an object
+ATTRIBUTES = ["", "{}", '{"n":1}', '{"n":1,"m":[{"a":1,"b":[]},true]}', '{"":null,"#":"x"}', '{"n":2,"n":1}', '{"n":{"n":1}}']
+ATTRIBUTES += ["7", "[]", '[{"n":1}]', '"n"', "null", "true"]
+NAMED = ["{}", '{"n":1}', '{ "\\u006e" : 1 }', '{"n":2,"n":1}', '{"n":1,"n":2}', '{"n":true}', '{"n":"1"}', '{"n":null}']
+NAMED += ['{"m":[{"b":[],"a":1},true]}', '{"m":[{"a":1,"b":[]}]}', '{"m":[{"a":1,"b":[],"a":1},true],"n":1}', '{"#":"x","":null}']
+NAMED += ['{"n":{"n":1}}', '{"n":{}}', '{"n":-9223372036854775808}', '{"attributes":{"n":1}}', '{"type":"Road","parents":[]}']
+NAMED_AWAY = ["[]", '["n"]', '["m","n"]', '["n","n"]', '["","#"]', '["x"]', '["n","m","","#"]', '["attributes"]']
+
+
+def attributes():
+    """Sets, unsets and expects of an object, before a way back and after it; and behind it the same in another script."""
+    named = [(verb, each) for verb in ("set", "expect") for each in NAMED] + [("unset", each) for each in NAMED_AWAY]
+    for found, (verb, given) in itertools.product(ATTRIBUTES, named):
+        there = b'{"a":{"type":"Road"%s}}' % (b',"attributes":' + found.encode() if found else b"")
+        command = f'{{"{verb}":"a","attributes":{given}}}'
+        tried = f'{{"mark":"m"}},{command},{{"read":"a"}},{{"back":"m"}},{{"read":"a"}},{command}'
+        listed = [tried, command, command.replace('"a"', '"b"', 1)]
+        scripts = ",".join(f'{{"name":"s","commands":[{each},"commit"]}}' for each in listed)
+        yield EMPTY.replace(b"{}", there), f"[{scripts}]".encode()
 
 
 def json_table():
@@ -171,7 +196,7 @@ def json_table():
         yield EMPTY, PUT_AND_READ % text
 
 
-KINDS = [*changed_texts.KINDS, nested, limits, several_faults, forms, json_table]
+KINDS = [*changed_texts.KINDS, nested, limits, several_faults, forms, attributes, json_table]
 
 
 def try_kind(program, kind):
