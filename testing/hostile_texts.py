@@ -170,15 +170,15 @@ def forms():
 # attributes of an object, as they stand in a text: absent ones, and such as aren't an object
 ATTRIBUTES = ["", "{}", '{"n":1}', '{"n":1,"m":[{"a":1,"b":[]},true]}', '{"":null,"#":"x"}', '{"n":2,"n":1}', '{"n":{"n":1}}']
 ATTRIBUTES += ["7", "[]", '[{"n":1}]', '"n"', "null", "true"]
-NAMED = ["{}", '{"n":1}', '{ "\\u006e" : 1 }', '{"n":2,"n":1}', '{"n":1,"n":2}', '{"n":true}', '{"n":"1"}', '{"n":null}']
-NAMED += ['{"m":[{"b":[],"a":1},true]}', '{"m":[{"a":1,"b":[]}]}', '{"m":[{"a":1,"b":[],"a":1},true],"n":1}', '{"#":"x","":null}']
-NAMED += ['{"n":{"n":1}}', '{"n":{}}', '{"n":-9223372036854775808}', '{"attributes":{"n":1}}', '{"type":"Road","parents":[]}']
-NAMED_AWAY = ["[]", '["n"]', '["m","n"]', '["n","n"]', '["","#"]', '["x"]', '["n","m","","#"]', '["attributes"]']
+GIVEN = ["{}", '{"n":1}', '{ "\\u006e" : 1 }', '{"n":2,"n":1}', '{"n":1,"n":2}', '{"n":true}', '{"n":"1"}', '{"n":null}']
+GIVEN += ['{"m":[{"b":[],"a":1},true]}', '{"m":[{"a":1,"b":[]}]}', '{"m":[{"a":1,"b":[],"a":1},true],"n":1}', '{"#":"x","":null}']
+GIVEN += ['{"n":{"n":1}}', '{"n":{}}', '{"n":-9223372036854775808}', '{"attributes":{"n":1}}', '{"type":"Road","parents":[]}']
+TAKEN_OUT = ["[]", '["n"]', '["m","n"]', '["n","n"]', '["","#"]', '["x"]', '["n","m","","#"]', '["attributes"]']
 
 
 def attributes():
     """Sets, unsets and expects of an object, before a way back and after it; and behind it the same in another script."""
-    named = [(verb, each) for verb in ("set", "expect") for each in NAMED] + [("unset", each) for each in NAMED_AWAY]
+    named = [(verb, each) for verb in ("set", "expect") for each in GIVEN] + [("unset", each) for each in TAKEN_OUT]
     for found, (verb, given) in itertools.product(ATTRIBUTES, named):
         there = b'{"a":{"type":"Road"%s}}' % (b',"attributes":' + found.encode() if found else b"")
         command = f'{{"{verb}":"a","attributes":{given}}}'
