@@ -126,7 +126,8 @@ def limits():
 
 
 def several_faults():
-    """Two broken places at once: the first fault of the table is the one that counts, at the least id."""
+    """Two broken places at once: the first fault of the table is the one that counts, at the least id, and of the
+    geometries of reshapes."""
     broken = [
         b'{"type":"Foo"}',
         b'{"type":"Road","address":{"location":1}}',
@@ -147,10 +148,18 @@ def several_faults():
         yield text, b"[]"
         yield text, b"["
         yield text.replace(b'"2.0"', b'"1.1"'), b"[]"
-        puts = b",".join(b'{"put":"a","object":' + obj + b"}" for obj in (first, second_one))
+        verbs = (b"put", b"add")
+        puts = b",".join(b'{"%s":"a","object":%s}' % pair for pair in zip(verbs, (first, second_one)))
         script = b'{"name":"s","vertices":[[0,0,0],[1,0,0],[0,1,0]],"commands":[' + puts + b',"commit"]}'
         yield EMPTY, b"[" + script + b"]"
         yield EMPTY, b"[" + script_text(1) + b"," + script + b"]"
+    shaped = [obj[obj.index(b'"geometry"') : -1] for obj in broken if b'"geometry"' in obj]
+    shaped += [b'"geometry":[]', b'"geometry":[{"type":"MultiSurface","lod":"1","boundaries":[[[0,1,2]]]}]']
+    for first, second_one in itertools.product(shaped, shaped):
+        reshapes = b",".join(b'{"reshape":"a",' + geometry + b"}" for geometry in (first, second_one))
+        script = b'{"name":"s","vertices":[[0,0,0],[1,0,0],[0,1,0]],"commands":[' + reshapes + b',{"read":"a"},"commit"]}'
+        yield EMPTY, b"[" + script + b"]"
+        yield EMPTY.replace(b"{}", b'{"a":{"type":"Road"}}'), b"[" + script_text(1) + b"," + script + b"]"
 
 
 def forms():
