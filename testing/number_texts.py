@@ -91,7 +91,19 @@ def encoded(value):
 
 
 def shielded(name, made, value):
-    return [made] if name == "#" and isinstance(value, (str, list)) else made
+    return [made] if has_shield(name, value) else made
+
+
+def has_shield(name, value):
+    """Whether a value stands in an array, so that no member is taken for a number, nor a number for attributes."""
+    if name == "attributes":
+        return isinstance(value, Number) and not is_whole(value.text) or is_single(value)
+    return name == "#" and isinstance(value, (str, list))
+
+
+def is_single(value):
+    """An array of one item, which is no text; it could be taken for such an array."""
+    return isinstance(value, list) and len(value) == 1 and not isinstance(value[0], str)
 
 
 def is_triple(value):
