@@ -17,19 +17,10 @@ import random
 import sys
 
 from houses import Vertices, box, gabled, prism
+from plain import plain_object
 
 WHOLE = {"scale": [1, 1, 1], "translate": [0, 0, 0]}
 METRES = {"scale": [0.001, 0.001, 0.001], "translate": [85000.123, 447000.5, -1.25]}
-TYPES = ["LandUse", "Road", "Building", "WaterBody", "PlantCover", "CityFurniture"]
-
-
-def plain_object(number, size):
-    kind = TYPES[number % len(TYPES)]
-    attributes = {"number": number, "surveyed": 20261122, "owner": "municipality"}
-    plain = {"type": kind, "attributes": attributes}
-    room = size - len(json.dumps(plain, separators=(",", ":"))) - 30
-    attributes["remark"] = "x" * max(room, 0)
-    return plain
 
 
 def plain_city(count, size):

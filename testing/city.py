@@ -25,7 +25,7 @@ from collections import Counter
 from concurrent.futures import ProcessPoolExecutor
 from pathlib import Path
 
-from number_texts import Members, Number, encoded_top, text_of, value_of
+from number_texts import Members, Number, encoded_top, is_single, text_of, value_of
 from second_reading import run as second_reading
 
 ROOT = Path(__file__).resolve().parent.parent
@@ -36,7 +36,7 @@ ENGINES = {
     "snakemake": f"{SNAKE} --unlock; {SNAKE}",
     "shell": f"{STEP} route && for it in $(ls scripts); do {STEP} batch $it || exit; done && {STEP} report",
 }
-IDS = ("read", "put", "delete", "attach", "detach", "parent")
+IDS = ("read", "put", "add", "set", "unset", "reshape", "expect", "delete", "attach", "detach", "parent")
 # Stands for the program: it notes the tile, and is killed as it begins where its turn comes.
 SLOW = """#!/bin/sh
 for it; do case $it in base/*) echo "$it" >> "$NOTES"; sleep 0.05
@@ -54,6 +54,7 @@ class City:
         subprocess.run([sys.executable, *words], check=True, stdout=subprocess.DEVNULL)
         self.models = {path.name.removesuffix(".city.json"): path for path in sorted((self.room / "tiles").iterdir())}
         self.open_a_shell(sorted(self.models)[1])
+        self.edit_attributes()
         self.routed, self.refused = self.route()
         with ProcessPoolExecutor() as pool:
             self.wanted = dict(zip(self.routed, pool.map(edited, map(self.models.get, self.routed), self.routed.values())))
@@ -67,6 +68,26 @@ class City:
         whole, short = (json.dumps(it, separators=(",", ":")) for it in (shell, shell[:-1]))
         assert text.count(whole) >= 1
         self.models[tile].write_text(text.replace(whole, short, 1))
+
+    def edit_attributes(self):
+        """Of each tile one house is expected, set, unset, and gets a shed; every third script expects what isn't so."""
+        scripts = []
+        for number, path in enumerate(self.models.values()):
+            model = json.loads(path.read_text(), parse_float=str)
+            house = next(name for name, it in model["CityObjects"].items() if it["type"] == "Building")
+            year = model["CityObjects"][house]["attributes"]["oorspronkelijkbouwjaar"] + (number % 3 == 2)
+            commands = [
+                {"expect": house, "attributes": {"oorspronkelijkbouwjaar": year, "b3_pw_bron": "ahn4"}},
+                {"set": house, "attributes": {"status": "Pand ten onrechte opgevoerd", "hoogte": "\0"}},
+                {"unset": house, "attributes": ["identificatie", "b3_dak_type"]},
+                {"reshape": house, "geometry": []},
+                {"add": f"{house}-shed", "object": {"type": "BuildingPart"}},
+                {"attach": f"{house}-shed", "parent": house},
+                "commit",
+            ]
+            scripts.append({"name": f"attributes {number}", "commands": commands})
+        text = json.dumps(scripts).replace('"\\u0000"', "9.50")
+        (self.room / "edits" / "attributes.json").write_text(text)
 
     def route(self):
         """The scripts of each tile as values, and for those of several tiles or none the name and the tiles."""
@@ -82,7 +103,8 @@ class City:
                 if len(tiles) == 1:
                     tile = next(iter(tiles))
                     routed.setdefault(tile, []).append(script)
-                    homes.update({it["put"]: {tile} for it in commands if "put" in it and it["put"] not in homes})
+                    new = {it[verb] for it in commands for verb in ("put", "add") if verb in it}
+                    homes.update({name: {tile} for name in new - homes.keys()})
                 else:
                     refused.append((script.get("name"), sorted(tiles)))
         return routed, refused
@@ -123,7 +145,8 @@ def decoded(value):
         return value
     if [name for name, _ in value.pairs] == ["#"] and isinstance(value.get("#"), str):
         return Number(value.get("#"))
-    bare = lambda name, item: item[0] if name == "#" and isinstance(item, list) else item
+    in_shield = lambda name, item: name == "#" and isinstance(item, list) or name == "attributes" and is_single(item)
+    bare = lambda name, item: item[0] if in_shield(name, item) else item
     return Members(tuple((name, decoded(bare(name, item))) for name, item in value.pairs))
 
 

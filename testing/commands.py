@@ -2,7 +2,7 @@
 
 from documents import FAMILY_OF, Pool, has_open_shell, has_same_twice, has_short_ring, object_fault, object_tree
 from documents import position_fault, with_points
-from json_tree import Fault, are_triples, tree_of
+from json_tree import Fault, are_texts, are_triples, print_tree, tree_of
 
 MOST_SCRIPTS = 4096
 MOST_COMMANDS = 1024
@@ -33,7 +33,7 @@ def read_scripts(text):
     for number, script in enumerate(tree):
         count = len(script.get("vertices", []))
         for place, command in enumerate(script["commands"]):
-            if "object" in command and not isinstance(command, str) and position_fault(command["object"], count):
+            if position_fault(shaped_in(command), count):
                 raise Fault(8, "BadVertex", number, place)
     return [
         (script["name"], [command_of(command, script.get("vertices", [])) for command in script["commands"]])
@@ -51,29 +51,62 @@ def is_script(script):
     return bool(ends) and ends[-1] and not any(ends[:-1])
 
 
+def are_new_geometries(value):
+    return object_fault({"type": "Road", "geometry": value}) is None
+
+
+def is_body(value):
+    return isinstance(value, dict) and not {"parents", "children"} & set(value) and object_fault(value) is None
+
+
+def are_attributes(value):
+    return isinstance(value, dict)
+
+
+# the commands whose members are texts, and those of an id and something else
+OF_TEXTS = (["read"], ["delete"], ["mark"], ["back"], ["attach", "parent"], ["detach", "parent"])
+OF_AN_ID = {
+    "put": ("object", is_body),
+    "add": ("object", is_body),
+    "set": ("attributes", are_attributes),
+    "unset": ("attributes", are_texts),
+    "reshape": ("geometry", are_new_geometries),
+    "expect": ("attributes", are_attributes),
+}
+
+
 def is_command(command):
     if isinstance(command, str):
         return command in ("commit", "abort")
     if not isinstance(command, dict):
         return False
-    for members in (["read"], ["delete"], ["mark"], ["back"], ["attach", "parent"], ["detach", "parent"]):
+    for members in OF_TEXTS:
         if set(command) == set(members):
-            return all(isinstance(command[name], str) for name in members)
-    if set(command) != {"put", "object"} or not isinstance(command["put"], str):
-        return False
-    obj = command["object"]
-    return isinstance(obj, dict) and "parents" not in obj and "children" not in obj and object_fault(obj) is None
+            return are_texts(list(command.values()))
+    for verb, (member, is_right) in OF_AN_ID.items():
+        if set(command) == {verb, member}:
+            return isinstance(command[verb], str) and is_right(command[member])
+    return False
+
+
+def shaped_in(command):
+    """What has the geometries that a command gives: the object that is put or added, or the reshape itself."""
+    return {} if isinstance(command, str) else command.get("object", command)
 
 
 def command_of(command, vertices):
     if isinstance(command, str):
         return (command,)
-    verb = next(name for name in ("read", "put", "delete", "mark", "back", "attach", "detach") if name in command)
-    if verb == "put":
-        return verb, command["put"], with_points(command["object"], vertices)
-    if verb in ("attach", "detach"):
-        return verb, command[verb], command["parent"]
-    return verb, command[verb]
+    for verb, (member, _) in OF_AN_ID.items():
+        if verb in command:
+            given = command[member]
+            if member == "object":
+                given = with_points(given, vertices)
+            elif member == "geometry":
+                given = with_points(command, vertices)["geometry"]
+            return verb, command[verb], given
+    verb, *others = next(members for members in OF_TEXTS if members[0] in command)
+    return verb, command[verb], *(command[name] for name in others)
 
 
 def play(city, commands, memory_until=None):
@@ -121,10 +154,15 @@ def do_read(view, name):
     return {"found": {"object": object_tree(view[name], pool), "vertices": pool.points()}}
 
 
-def do_put(view, name, body):
+def judge(geometry):
+    shaped = {"geometry": geometry}
     for has, cause in ((has_short_ring, "ShortRing"), (has_same_twice, "SameTwice"), (has_open_shell, "OpenShell")):
-        if has(body):
+        if has(shaped):
             raise Refusal(cause)
+
+
+def do_put(view, name, body):
+    judge(body["geometry"])
     there = view.get(name)
     if there and there["type"] != body["type"]:
         raise Refusal("TypeFixed", id=name)
@@ -133,13 +171,71 @@ def do_put(view, name, body):
     return "replaced" if there else "added"
 
 
+def do_add(view, name, body):
+    judge(body["geometry"])
+    if name in view:
+        raise Refusal("Exists", id=name)
+    return do_put(view, name, body)
+
+
+def do_set(view, name, named):
+    with_attributes(view, name, {**attributes_at(view, name), **named})
+    return "set"
+
+
+def do_unset(view, name, names):
+    left = {other: value for other, value in attributes_at(view, name).items() if other not in names}
+    with_attributes(view, name, left or None)
+    return "unset"
+
+
+def do_reshape(view, name, geometry):
+    judge(geometry)
+    there_is(view, name)
+    changed(view, name, "geometry", geometry)
+    return "reshaped"
+
+
+def do_expect(view, name, named):
+    there_is(view, name)
+    found = view[name].get("attributes")
+    found = found if isinstance(found, dict) else {}
+    if not all(other in found and are_same(value, found[other]) for other, value in named.items()):
+        raise Refusal("Unexpected", id=name)
+    return "expected"
+
+
+def are_same(one, other):
+    """Whether two values are equal as JSON: then their texts are, with the names of members in order."""
+    return print_tree(one) == print_tree(other)
+
+
+def there_is(view, name):
+    if name not in view:
+        raise Refusal("NoObject", id=name)
+
+
+def attributes_at(view, name):
+    """The attributes of an object; there are none where it has no such member."""
+    there_is(view, name)
+    found = view[name].get("attributes", {})
+    if not isinstance(found, dict):
+        raise Refusal("BadAttributes", id=name)
+    return found
+
+
+def with_attributes(view, name, attributes):
+    """Gives the object these attributes; where they are None, it has no such member."""
+    others = {member: value for member, value in view[name].items() if member != "attributes"}
+    view[name] = others if attributes is None else {**others, "attributes": attributes}
+
+
 def changed(view, name, kind, items):
     view[name] = {**view[name], kind: items}
 
 
 def do_delete(view, name):
-    if name not in view:
-        raise Refusal("NoObject", id=name)
+    there_is(view, name)
     if view[name]["children"]:
         raise Refusal("HasChildren", id=name)
     del view[name]
@@ -151,8 +247,7 @@ def do_delete(view, name):
 
 def both(view, child, parent):
     for name in (child, parent):
-        if name not in view:
-            raise Refusal("NoObject", id=name)
+        there_is(view, name)
 
 
 def do_attach(view, child, parent):

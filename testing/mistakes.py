@@ -4,8 +4,9 @@
     python3 testing/mistakes.py PROGRAM [--table]
 
 PROGRAM is a built cityed. Each mistake is played with --explain, with a terminal as standard error, with a pipe as
-standard error, where the line of the fault has to stay alone, and with --check where it is one of a text. Prints how
-many were played, or with --table a Markdown table of what is told, and ends at the first wrong answer with status 1.
+standard error, where the line of the fault has to stay alone, and with --check where it is one of a text. A mistake that
+is no fault is played beside the commands that were meant, and each is told by its replies alone. Prints how many were
+played, or with --table Markdown tables of what is told, and ends at the first wrong answer with status 1.
 """
 
 import argparse
@@ -17,7 +18,7 @@ import subprocess
 import sys
 import tempfile
 
-from told_mistakes import CASES, MODEL, SCRIPTS
+from told_mistakes import CASES, MODEL, SCRIPTS, SILENT
 
 LIMIT = 60
 FILES = {"tile.city.json": MODEL, "scripts.json": SCRIPTS}
@@ -139,6 +140,33 @@ def play(program, folder, case):
     return told
 
 
+def play_silent(program, folder, case):
+    """A mistake that is no fault, and what was meant, have their replies and leave their members."""
+    ways = ((case.made, case.told, case.left), (case.meant, case.answered, case.kept))
+    for commands, wanted, members in ways:
+        scripts = [{"name": "s", "commands": [*each, "commit"]} for each in commands]
+        for name, text in (("model", MODEL), ("edits", json.dumps(scripts).encode("utf-8"))):
+            with open(os.path.join(folder, name), "wb") as file:
+                file.write(text)
+        for options, status_lines in (["--explain"], len(scripts) + 1), (["--check"], 0):
+            words = [program, *options, "model", "edits"]
+            ran = subprocess.run(words, capture_output=True, cwd=folder, timeout=LIMIT, check=False)
+            lines = ran.stdout.splitlines()
+            quiet = (ran.returncode, ran.stderr, len(lines)) == (0, b"", status_lines)
+            require(quiet, f"{status_lines} lines and nothing else", f"{case.mistake}: {ran}")
+            if lines:
+                ends = [json.loads(line) for line in lines[:-1]]
+                told = [end.get("cause") or ", ".join(end["replies"]) for end in ends]
+                left = " ".join(sorted(json.loads(lines[-1])["CityObjects"]["b12"]))
+                require((told, left) == (wanted, members), f"{wanted} and {members}", f"{case.mistake}: {told} {left}")
+
+
+def silent_row(case):
+    """A row of the table of mistakes that are no faults."""
+    meant = "; ".join(", ".join(next(iter(command)) for command in script) for script in case.meant)
+    return f"| {case.mistake} | `{'`, `'.join(case.told)}` | {meant} | `{'`, `'.join(case.answered)}` |"
+
+
 def row(case, told):
     """A row of the table: the mistake, the line, and what the details say."""
     details = details_of(told)
@@ -161,10 +189,17 @@ def main():
             except (Wrong, subprocess.TimeoutExpired) as wrong:
                 print(f"WRONG at {case.mistake}: {wrong}")
                 return 1
+        try:
+            for case in SILENT:
+                play_silent(program, folder, case)
+        except (Wrong, subprocess.TimeoutExpired) as wrong:
+            print(f"WRONG: {wrong}")
+            return 1
     if asked.table:
         print("\n".join(["| mistake | line | where | what | cure |", "| --- | --- | --- | --- | --- |", *rows]))
+        print("\n".join(["", "| mistake | told | meant | told |", "| --- | --- | --- | --- |", *map(silent_row, SILENT)]))
     else:
-        print(f"{len(rows)} mistakes are told as they should be")
+        print(f"{len(rows)} mistakes are told as they should be, and {len(SILENT)} by their replies alone")
     return 0
 
 

@@ -91,7 +91,19 @@ def encoded(value):
 
 
 def shielded(name, made, value):
-    return [made] if name == "#" and isinstance(value, (str, list)) else made
+    return [made] if has_shield(name, value) else made
+
+
+def has_shield(name, value):
+    """Whether a value stands in an array, so that no member is taken for a number, nor a number for attributes."""
+    if name == "attributes":
+        return isinstance(value, Number) and not is_whole(value.text) or is_single(value)
+    return name == "#" and isinstance(value, (str, list))
+
+
+def is_single(value):
+    """An array of one item, which is no text; it could be taken for such an array."""
+    return isinstance(value, list) and len(value) == 1 and not isinstance(value[0], str)
 
 
 def is_triple(value):
@@ -167,7 +179,11 @@ def model_of(top, city):
     return top.replacing({"CityObjects": objects, "vertices": points_of(pool)})
 
 
-# ---- what scripts do that put, read, mark, go back, and end
+# ---- what scripts do that change objects, read, mark, go back, and end
+
+
+class Refusal(Exception):
+    """A command is refused: the cause, and the object that it names."""
 
 
 def put_at(city, name, body):
@@ -185,28 +201,87 @@ def found(city, name):
     return members(found=members(object=thing, vertices=points_of(pool)))
 
 
+def amended(thing, name, values):
+    """The object with other values of members; those whose new value is None are left out."""
+    if thing is None:
+        raise Refusal("NoObject", name)
+    others = tuple(pair for pair in thing.pairs if pair[0] not in values)
+    return arranged(Members(others + tuple(pair for pair in values.items() if pair[1] is not None)))
+
+
+def attributes_of(thing, name):
+    """The attributes of an object by their names, none where it has no such member, and None where it has another."""
+    if thing is None:
+        raise Refusal("NoObject", name)
+    there = thing.get("attributes", Members(()))
+    return dict(there.pairs) if isinstance(there, Members) else None
+
+
+def with_attributes(thing, name, changed_by):
+    there = attributes_of(thing, name)
+    if there is None:
+        raise Refusal("BadAttributes", name)
+    left = changed_by(there)
+    return amended(thing, name, {"attributes": None if left is None else Members(tuple(left.items()))})
+
+
+def changed_by(verb, name, given, vertices, seen):
+    """What a command makes of the objects that are seen, and its reply."""
+    there = seen.get(name)
+    if verb in ("put", "add"):
+        if verb == "add" and there is not None:
+            raise Refusal("Exists", name)
+        made = put_at(seen, name, with_points(given["object"], vertices))
+        return {**seen, name: made}, "added" if there is None else "replaced"
+    if verb == "set":
+        named = dict(given["attributes"].pairs)
+        return {**seen, name: with_attributes(there, name, lambda old: {**old, **named})}, "set"
+    if verb == "unset":
+        left = lambda old: {other: value for other, value in old.items() if other not in given["attributes"]} or None
+        return {**seen, name: with_attributes(there, name, left)}, "unset"
+    if verb == "reshape":
+        geometry = with_points(members(geometry=given["geometry"]), vertices).get("geometry")
+        return {**seen, name: amended(there, name, {"geometry": geometry})}, "reshaped"
+    if verb == "expect":
+        old = attributes_of(there, name) or {}
+        if any(other not in old or not are_same(value, old[other]) for other, value in given["attributes"].pairs):
+            raise Refusal("Unexpected", name)
+        return seen, "expected"
+    return seen, found(seen, name)
+
+
+def are_same(one, other):
+    """Whether two arranged values are written alike."""
+    return text_of(one) == text_of(other)
+
+
+VERBS = ("read", "put", "add", "set", "unset", "reshape", "expect")
+
+
 def play(city, script):
-    """The city after a script, its outcome, and its replies."""
+    """The city after a script, its ending, and its replies."""
     script = arranged(script)
-    seen, marks, replies = dict(city), [], []
+    seen, marks, replies = city, [], []
     *commands, last = script.get("commands")
-    for command in commands:
+    for place, command in enumerate(commands):
         given = dict(command.pairs)
-        if "put" in given:
-            body = with_points(given["object"], script.get("vertices", []))
-            replies.append("replaced" if given["put"] in seen else "added")
-            seen[given["put"]] = put_at(seen, given["put"], body)
-        elif "read" in given:
-            replies.append(found(seen, given["read"]))
+        verb = next((verb for verb in VERBS if verb in given), None)
+        if verb:
+            try:
+                seen, reply = changed_by(verb, given[verb], given, script.get("vertices", []), seen)
+            except Refusal as refusal:
+                cause, name = refusal.args
+                return city, {"outcome": "refused", "at": whole(place), "cause": cause, "id": name}, replies
+            replies.append(reply)
         elif "mark" in given:
-            marks.append((given["mark"], dict(seen)))
+            marks.append((given["mark"], seen))
             replies.append("marked")
         else:
             while marks[-1][0] != given["back"]:
                 marks.pop()
-            seen = dict(marks[-1][1])
+            seen = marks[-1][1]
             replies.append("back")
-    return (seen, "committed", replies) if last == "commit" else (city, "aborted", replies)
+    return (seen, {"outcome": "committed"}, replies) if last == "commit" else (city, {"outcome": "aborted"}, replies)
 
 
 def answer_of(model, scripts, order):
@@ -215,7 +290,7 @@ def answer_of(model, scripts, order):
     lines = []
     for number, since in order:
         script = scripts[number]
-        city, outcome, replies = play(city, script)
-        placed = {"script": whole(number), "since": whole(since)}
-        lines.append(members(name=script.get("name"), outcome=outcome, replies=replies, **placed))
+        city, ending, replies = play(city, script)
+        told = {**ending, "name": script.get("name"), "replies": replies, "script": whole(number), "since": whole(since)}
+        lines.append(members(**dict(sorted(told.items()))))
     return lines + [model_of(top, city)]

@@ -95,7 +95,8 @@ def commands(lines, first):
         part.append(line)
         text = "\n".join(part)
         read = subprocess.run(["bash", "-n"], input=text, text=True, stdout=subprocess.PIPE, stderr=subprocess.STDOUT)
-        if read.returncode == 0 and not re.search(r"(\\|&&|\|)\s*$", line):
+        goes_on = re.search(r"(\\|&&|\|)\s*$", line) or "here-document" in read.stdout
+        if read.returncode == 0 and not goes_on:
             found.append((start, text))
             part = []
     return found + ([(start, "\n".join(part))] if part else [])

@@ -4,6 +4,7 @@ import json
 
 import random_runs
 from number_texts import Members, Number, members, replaced, text_of, value_of, whole
+from smallest_changes import changes_of
 
 NUMBERS = (
     "0 -0 1 -1 7 1.0 -1.0 0.250 0.1 -0.0 1e3 1E+2 1e-3 2.5E-3 0e0 0E-0 -0e+00 1e999 -1e999 1e-400 48.0 1931 "
@@ -93,6 +94,8 @@ def body(choose, kind, places, *relations):
     pairs = [("type", kind), *relations]
     if choose.random() < 0.7:
         pairs.append(("geometry", [geometry(choose, places) for _ in range(choose.randint(0, 2))]))
+    if choose.random() < 0.5:
+        pairs.append(("attributes", attributes(choose, None) if choose.random() < 0.8 else value(choose, 3)))
     return shuffled(choose, "object", *pairs)
 
 
@@ -133,24 +136,54 @@ def empty(choose, name):
 
 
 def edit_scripts(choose, city):
-    """Scripts that put, read, mark and go back; an object keeps its type, and a new one is of the first level."""
-    types = {name: thing.get("type") for name, thing in city.get("CityObjects").pairs if isinstance(thing, Members)}
-    types = {name: kind for name, kind in types.items() if isinstance(kind, str)}
+    """Scripts of all commands but those of relations; an object keeps its type, and a new one is of the first level."""
+    objects = {name: thing for name, thing in city.get("CityObjects").pairs if isinstance(thing, Members)}
+    types = {name: thing.get("type") for name, thing in objects.items() if isinstance(thing.get("type"), str)}
     for name in IDS:
         types.setdefault(name, choose.choice(SINGLE))
-    return [script(choose, at, types) for at in range(choose.randint(1, 6))]
+    there = {name: thing.get("attributes") for name, thing in objects.items()}
+    return [script(choose, at, types, there) for at in range(choose.randint(1, 6))]
 
 
-def script(choose, at, types):
+def attributes(choose, there):
+    """Attributes of names that may recur, or some that an object has, each with its value or with one that is near it."""
+    if not isinstance(there, Members) or choose.random() < 0.3:
+        return Members(tuple((choose.choice(NAMES), value(choose, 3)) for _ in range(choose.choice([0, 1, 1, 2, 3]))))
+    chosen = [pair for pair in there.pairs if choose.random() < 0.5]
+    if chosen and choose.random() < 0.3:
+        name, old = chosen.pop()
+        chosen.append((name, choose.choice([old, *changes_of(old)])))
+    choose.shuffle(chosen)
+    return Members(tuple(chosen))
+
+
+def of_attributes(choose, name, there):
+    """A set, an unset or an expect of an object."""
+    named = attributes(choose, there)
+    verb = choose.choice(["set", "set", "unset", "expect", "expect"])
+    if verb == "unset":
+        return members(unset=name, attributes=[each for each, _ in named.pairs] + choose.choices(NAMES, k=choose.randint(0, 2)))
+    return Members(((verb, name), ("attributes", named)))
+
+
+def script(choose, at, types, there):
     vertices, places = vertices_of(choose)
     commands, marks = [], []
     for _ in range(choose.randint(0, 6)):
         kind, name = choose.random(), choose.choice(IDS)
-        if kind < 0.4:
+        if kind < 0.2:
             commands.append(members(put=name, object=body(choose, types[name], places)))
-        elif kind < 0.7:
+        elif kind < 0.25:
+            commands.append(members(add=name, object=body(choose, types[name], places)))
+        elif kind < 0.55:
+            name = choose.choice(list(there) or IDS) if choose.random() < 0.9 else name
+            commands.append(of_attributes(choose, name, there.get(name)))
+        elif kind < 0.6:
+            name = choose.choice(list(there) or IDS)
+            commands.append(members(reshape=name, geometry=[geometry(choose, places) for _ in range(choose.randint(0, 2))]))
+        elif kind < 0.75:
             commands.append(members(read=name))
-        elif kind < 0.85 or not marks:
+        elif kind < 0.87 or not marks:
             marks.append(choose.choice(["m", "n", "#"]))
             commands.append(members(mark=marks[-1]))
         else:

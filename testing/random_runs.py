@@ -12,6 +12,10 @@ FAMILY = {"Bridge": "Bridge", "BridgePart": "Bridge"}
 FAMILY |= {"Building": "Building", "BuildingPart": "Building", "BuildingRoom": "Building"}
 
 
+ATTRIBUTES = ["n", "n", "n", "t", "\u00e9", "#", ""]
+# values of which some are nearly the same
+VALUES = [0, 1, 2, -1, True, False, None, "", "1", "\n", "\u00e9\U0001f600", [], [0, 1], [1, 0], [False, 1], {}]
+VALUES += [{"a": 1, "b": [2, {}]}, {"b": [2, {}], "a": 1}, {"a": 1, "b": [2, []]}, {"a": 1}, 2**63 - 1, -(2**63)]
 WHOLE = ["cube", "cubes", "surface", "empty"]
 REFUSED = ["open", "second", "flipped", "short", "twice"]
 
@@ -39,15 +43,26 @@ def shape(choose, kinds):
     return "MultiSurface", [[[0, 1, choose.choice([8, -1])]]]
 
 
+def geometry(choose, shapes):
+    made = []
+    for _ in range(choose.randint(0, 2)):
+        name, boundaries = shape(choose, shapes)
+        made.append({"type": name, "lod": choose.choice(["1", "2.2"]), "boundaries": boundaries})
+    return made
+
+
+def attributes(choose, most):
+    """Attributes of few names, with values that often recur."""
+    names = choose.choices(ATTRIBUTES, k=choose.randint(0, most))
+    return {name: choose.choice(VALUES[:3] if choose.random() < 0.6 else VALUES) for name in names}
+
+
 def body(choose, shapes, kind):
     made = {"type": kind}
     if choose.random() < 0.5:
-        made["geometry"] = []
-        for _ in range(choose.randint(0, 2)):
-            name, boundaries = shape(choose, shapes)
-            made["geometry"].append({"type": name, "lod": choose.choice(["1", "2.2"]), "boundaries": boundaries})
+        made["geometry"] = geometry(choose, shapes)
     if choose.random() < 0.5:
-        made["attributes"] = {"n": choose.randint(-5, 5), "t": choose.choice(["", "\n", "\u00e9\U0001f600"])}
+        made["attributes"] = attributes(choose, 4) if choose.random() < 0.9 else choose.choice(VALUES)
     return made
 
 
@@ -81,19 +96,52 @@ def break_relations(choose, objects):
             obj["type"] = choose.choice(TYPES + ["Foo", 1])
 
 
+VERBS = {"read": 2, "put": 3, "delete": 2, "attach": 3, "detach": 2}
+VERBS |= {"add": 2, "set": 4, "unset": 2, "reshape": 2, "expect": 2}
+
+
 def command(choose, types, broken):
     """A command on the objects of the document or on others; `types` tells the types that they have."""
-    verb = choose.choice(["read", "put", "put", "delete", "attach", "attach", "detach"])
+    verb = choose.choices(list(VERBS), list(VERBS.values()))[0]
     name, other = (choose.choice(list(types) if choose.random() < 0.8 else NAMES) for _ in range(2))
-    if verb == "put":
-        shapes = WHOLE * 6 + REFUSED + (["outside"] if broken else [])
+    shapes = WHOLE * 6 + REFUSED + (["outside"] if broken else [])
+    if verb in ("put", "add"):
         kind = types.get(name, choose.choice(TYPES)) if choose.random() < 0.9 else choose.choice(TYPES)
-        return {"put": name, "object": body(choose, shapes, kind)}
+        name = choose.choice(NAMES) if verb == "add" else name
+        return {verb: name, "object": body(choose, shapes, kind)}
     if verb in ("attach", "detach"):
         parts = [part for part, kind in types.items() if FAMILY.get(kind, kind) != kind]
         child = choose.choice(parts) if parts and choose.random() < 0.8 else name
         return {verb: child, "parent": other}
+    if verb == "reshape":
+        return {verb: name, "geometry": geometry(choose, shapes)}
+    if verb in ("set", "unset", "expect"):
+        return of_attributes(choose, verb, name)
     return {verb: name}
+
+
+def of_attributes(choose, verb, name):
+    """A set, an unset or an expect; the names of an unset may recur."""
+    if verb == "unset":
+        return {verb: name, "attributes": choose.choices(ATTRIBUTES, k=choose.randint(0, 3))}
+    return {verb: name, "attributes": attributes(choose, 1 if verb == "expect" else 3)}
+
+
+def turned(value):
+    """The same JSON value, with the members of each object the other way round."""
+    if isinstance(value, dict):
+        return {name: turned(value[name]) for name in reversed(value)}
+    return [turned(item) for item in value] if isinstance(value, list) else value
+
+
+def set_and_expected(choose, types):
+    """Attributes that are set are expected afterwards, and perhaps are taken out, and no longer expected."""
+    name = choose.choice(list(types))
+    named = attributes(choose, 3)
+    commands = [{"set": name, "attributes": named}, {"expect": name, "attributes": turned(named)}]
+    if choose.random() < 0.5:
+        commands += [{"unset": name, "attributes": list(named)}, {"expect": name, "attributes": {}}]
+    return commands
 
 
 def with_marks(choose, commands, often, astray):
@@ -120,6 +168,7 @@ def new_part(choose, types):
 
 def script(choose, number, types, broken):
     commands = new_part(choose, types) if choose.random() < 0.3 else []
+    commands += set_and_expected(choose, types) if choose.random() < 0.3 else []
     commands += [command(choose, types, broken) for _ in range(choose.randint(0, 4))]
     if choose.random() < 0.5:
         commands = with_marks(choose, commands, often=0.5, astray=0.1)
@@ -148,32 +197,46 @@ CONTENDED = [
     (60, 200, {"put": 1}),
     (400, 6, {"attach": 6, "detach": 3, "put": 2, "read": 2}),
     (400, 6, {"read": 6, "put": 6, "delete": 1, "attach": 3, "detach": 1}),
+    (60, 100, {"set": 8, "unset": 2, "read": 1, "put": 1}),
+    (400, 6, {"set": 6, "unset": 1, "expect": 2, "read": 1}),
+    (400, 4, {"count": 1}),
+    (400, 6, {"count": 4, "add": 1, "reshape": 2, "set": 2, "delete": 1}),
 ]
+MOST_COUNTED = 8
 
 
-def contended_command(choose, verb):
-    if verb in ("attach", "detach"):
-        return {verb: choose.choice(PARTS), "parent": choose.choice(BUILDINGS)}
+def contended_commands(choose, verb):
+    """Commands of this verb; to count is to expect a number and to set the next one, which few at once can do."""
     name = choose.choice(BUILDINGS + PARTS)
-    if verb != "put":
-        return {verb: name}
     # one in a thousand is refused for its type
     usual = "Building" if name in BUILDINGS else "BuildingPart"
     kind = usual if choose.random() < 0.999 else "Road"
-    return {"put": name, "object": {"type": kind, "attributes": {"n": choose.randrange(1000)}}}
+    if verb in ("attach", "detach"):
+        return [{verb: choose.choice(PARTS), "parent": choose.choice(BUILDINGS)}]
+    if verb == "count":
+        seen = choose.randrange(MOST_COUNTED)
+        following = {"n": (seen + 1) % MOST_COUNTED}
+        return [{"expect": BUILDINGS[0], "attributes": {"n": seen}}, {"set": BUILDINGS[0], "attributes": following}]
+    if verb in ("set", "unset", "expect"):
+        return [of_attributes(choose, verb, choose.choice(BUILDINGS[:2]))]
+    if verb == "reshape":
+        return [{verb: name, "geometry": []}]
+    if verb in ("put", "add"):
+        return [{verb: name, "object": {"type": kind, "attributes": {"n": choose.randrange(MOST_COUNTED)}}}]
+    return [{verb: name}]
 
 
 def contended_texts(choose):
     """Four buildings, each with a part, and many scripts or long ones that meet at these eight objects."""
     objects = {}
     for building, part in zip(BUILDINGS, PARTS):
-        objects[building] = {"type": "Building", "children": [part]}
+        objects[building] = {"type": "Building", "children": [part], "attributes": {"n": 0}}
         objects[part] = {"type": "BuildingPart", "parents": [building]}
     count, longest, weights = choose.choice(CONTENDED)
     scripts = []
     for number in range(count):
         verbs = choose.choices(list(weights), list(weights.values()), k=choose.randint(1, longest))
-        commands = [contended_command(choose, verb) for verb in verbs]
+        commands = [command for verb in verbs for command in contended_commands(choose, verb)]
         if choose.random() < 0.3:
             commands = with_marks(choose, commands, often=0.2, astray=0.001)
         scripts.append({"name": f"s{number}", "commands": commands + [choose.choice(["commit"] * 9 + ["abort"])]})

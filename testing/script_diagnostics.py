@@ -2,13 +2,18 @@
 
 from commands import MOST_COMMANDS, MOST_SCRIPTS
 from diagnostics import bad_vertex, check_document, line, read, tree_faults
-from json_tree import are_triples
+from json_tree import are_texts, are_triples
 
 ENDS = ("commit", "abort")
 # the members of each command, in the order in which an object is asked which command it names
 MEMBERS = {
     "read": ["read"],
     "put": ["put", "object"],
+    "add": ["add", "object"],
+    "set": ["set", "attributes"],
+    "unset": ["unset", "attributes"],
+    "reshape": ["reshape", "geometry"],
+    "expect": ["expect", "attributes"],
     "delete": ["delete"],
     "attach": ["attach", "parent"],
     "detach": ["detach", "parent"],
@@ -47,8 +52,8 @@ def check_scripts(text, decimals=False):
             details = bad_command(command)
             if details:
                 lines.append(line("scripts", 7, "BadCommand", script=number, command=place, **details))
-            elif "object" in command and not isinstance(command, str):
-                details = bad_vertex(command["object"], len(script.get("vertices", [])))
+            else:
+                details = bad_vertex(shaped_in(command), len(script.get("vertices", [])))
                 if details:
                     misplaced.append(line("scripts", 8, "BadVertex", script=number, command=place, **details))
     return lines + misplaced
@@ -99,17 +104,22 @@ def bad_command(command):
     if others:
         return {"rule": "member", "member": min(others)}
     for member in MEMBERS[name]:
-        if member != "object" and not isinstance(command[member], str):
+        if member not in GIVEN and not isinstance(command[member], str):
             return {"rule": "no text", "member": member}
-    return bad_object(command["object"]) if name == "put" else None
+    return GIVEN.get(MEMBERS[name][-1], lambda name, given: None)(name, command[MEMBERS[name][-1]])
 
 
 def no_command(given):
     return {"rule": "no command", "given": given, "nearest": None if given is None else nearest(given)}
 
 
-def bad_object(obj):
-    """The first rule on the object of a put that this one doesn't meet."""
+def shaped_in(command):
+    """What has the geometries that a command gives."""
+    return {} if isinstance(command, str) else command.get("object", command)
+
+
+def bad_object(name, obj):
+    """The first rule on the object of a put or an add that this one doesn't meet."""
     if not isinstance(obj, dict):
         return {"rule": "no object"}
     for member in ("parents", "children"):
@@ -119,6 +129,21 @@ def bad_object(obj):
         if number in RULES:
             return {"rule": RULES[number], **details}
     return None
+
+
+def bad_attributes(name, given):
+    """What is wrong with the attributes of a command: an unset has their names, the others their values too."""
+    if name == "unset":
+        return None if are_texts(given) else {"rule": "no list of texts", "member": "attributes"}
+    return None if isinstance(given, dict) else {"rule": "no object", "member": "attributes"}
+
+
+def bad_geometries(name, given):
+    return bad_object(name, {"type": "Road", "geometry": given})
+
+
+# what is wrong with a member that isn't a text
+GIVEN = {"object": bad_object, "attributes": bad_attributes, "geometry": bad_geometries}
 
 
 def nearest(given):

@@ -47,6 +47,13 @@ REFUSED = '[{"name":"s","commands":[{"delete":"z"},"commit"]}]'
 REFUSED_LINE = (
     '{"at":0,"cause":"NoObject","id":"z","name":"s","outcome":"refused","replies":[],"script":0,"since":0}\n'
 )
+CHANGED = (
+    '[{"name":"s","commands":[{"expect":"f","attributes":{"use":"park"}},'
+    '{"set":"f","attributes":{"use":"lawn"}},"commit"]}]'
+)
+CHANGED_LINE = (
+    '{"at":0,"cause":"Unexpected","id":"f","name":"s","outcome":"refused","replies":[],"script":0,"since":0}\n'
+)
 UNKNOWN = model('{"b":{"type":"Bulding"}}')
 UNKNOWN_LINE = (
     '{"cure":"Use a type of CityJSON 2.0, or GenericCityObject.","fault":"UnknownType","given":"Bulding","id":"b",'
@@ -81,6 +88,8 @@ CALLS = [
     (["--workers", "1", "--watch", "0", "MODEL", "SCRIPTS"], "", 0, OUTPUT, ""),
     ([], EMPTY + "\n[]", 0, EMPTY + "\n", ""),
     ([], EMPTY + "\n" + REFUSED, 0, REFUSED_LINE + EMPTY + "\n", ""),
+    ([], DOCUMENT + "\n" + CHANGED, 0, CHANGED_LINE + DOCUMENT + "\n", ""),
+    (["--atomic"], DOCUMENT + "\n" + CHANGED, 3, CHANGED_LINE, ""),
     (["--workers", "2", "--watch", "2"], EMPTY + "\n[]", 0, EMPTY + "\n", "viewer 0: 0\nviewer 1: 0\n"),
     ([], '{"type":"CityJSON"\n[]', 1, "", "cityed: model: 2 NotJson\n"),
     ([], EMPTY, 1, "", "cityed: scripts: 2 NotJson\n"),

@@ -202,3 +202,46 @@ CASES = [
         "a folder as `--output`", "cityed: cannot write", "folder", words=("--output", "folder", *NAMES),
     ),
 ]
+
+
+@dataclass
+class Silent:
+    """A mistake that is no fault, so that its reply alone may tell of it; and the commands that were meant.
+
+    Commands are those of scripts, each script with its replies, or with the cause of its refusal. `left` are the members
+    that the building has afterwards.
+    """
+
+    mistake: str
+    made: list
+    told: list
+    left: str
+    meant: list
+    answered: list
+    kept: str
+
+
+def height(value, verb="set"):
+    return {verb: "b12", "attributes": {"height": value}}
+
+
+PUT = {"put": "b12", "object": {"type": "Building", "attributes": {"height": 12}}}
+WHOLE, SHORT = "attributes children geometry type", "attributes children type"
+
+SILENT = [
+    Silent(
+        "a put of one attribute: the geometry is lost",
+        [[PUT]], ["replaced"], SHORT,
+        [[height(12)]], ["set"], WHOLE,
+    ),
+    Silent(
+        "a put of a new object, whose id is taken: the old one is lost",
+        [[PUT]], ["replaced"], SHORT,
+        [[{"add": "b12", "object": PUT["object"]}]], ["Exists"], WHOLE,
+    ),
+    Silent(
+        "two scripts that were made from one reading: the first one's edit is lost",
+        [[height(12)], [height(12)]], ["set", "set"], WHOLE,
+        [[height(9, "expect"), height(12)], [height(9, "expect"), height(12)]], ["expected, set", "Unexpected"], WHOLE,
+    ),
+]

@@ -26,7 +26,7 @@ CITYED = os.environ.get("CITYED", Path(__file__).resolve().parents[2] / "crates/
 FORM = ".city.json"
 EMPTY = b'{"CityObjects":{},"transform":{"scale":[1,1,1],"translate":[0,0,0]},"type":"CityJSON","version":"2.0",'
 EMPTY += b'"vertices":[]}\n'
-IDS = ("read", "put", "delete", "attach", "detach", "parent")
+IDS = ("read", "put", "add", "set", "unset", "reshape", "expect", "delete", "attach", "detach", "parent")
 LASTING = ("cityed: model: ", "cityed: scripts: ")  # such a fault comes again, however often it is tried
 BATCH = 8_000_000  # bytes of the tiles that are a job of the engine; they are more where that were over 500 jobs
 JSON = json.JSONDecoder(parse_int=str)
@@ -125,7 +125,7 @@ def route():
         tiles = sorted(tiles.union(*(homes.get(name, ()) for name in named(script, IDS))))
         if len(tiles) == 1:
             texts.setdefault(tiles[0], []).append(text)
-            for name in named(script, ["put"]):  # the scripts behind it find its new objects here
+            for name in named(script, ["put", "add"]):  # the scripts behind it find its new objects here
                 homes.setdefault(name, set(tiles))
         else:
             cause = "SeveralTiles" if tiles else "NoTile"
