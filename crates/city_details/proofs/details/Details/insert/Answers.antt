@@ -1,7 +1,7 @@
-use Rattle.city_diagnostics.proofs.Prelude.{◌≡◌, ◌∙◌, ap, arith, rules, refl, string_bytes, put, view, members_view}
-use Rattle.city_diagnostics.proofs.Prelude.{members_view-insert_entry, members_have_float}
-use Rattle.city_diagnostics.proofs.Floats.{put_stays}
-use Rattle.city_diagnostics.proofs.details.Details.insert.Goals as goal
+use Rattle.city_details.proofs.Prelude.{◌≡◌, ◌∙◌, ap, arith, rules, refl, string_bytes, put, view, members_view}
+use Rattle.city_details.proofs.Prelude.{members_view-insert_entry, members_have_float}
+use Rattle.city_details.proofs.Floats.{put_stays}
+use Rattle.city_details.proofs.details.Details.insert.Goals as goal
 
 pub invariant_of-self-2 : goal.invariant_of-self-2
 invariant_of-self-2 c =

@@ -1,6 +1,6 @@
-use Rattle.city_diagnostics.proofs.Prelude.{◌≤◌, ◌+◌, length}
+use Rattle.city_details.proofs.Prelude.{◌≤◌, ◌+◌, length}
 use Rattle.std.proofs.Common.{◌*◌}
-use Rattle.city_diagnostics.proofs.text.numeral.+numeral.Given as goal
+use Rattle.city_details.proofs.text.numeral.+numeral.Given as goal
 
 abbrev pub decreases-in_array : goal.decreases-in_array
 decreases-in_array l = 2 * length l.steps.now

@@ -1,9 +1,9 @@
 -- A value without a float, put among members without one.
-use Rattle.city_diagnostics.proofs.Prelude.{◌≡◌, ◌∷◌, ◌++◌, List, ℕ, [], Data, Members, no_members, member, put}
-use Rattle.city_diagnostics.proofs.Prelude.{has_float, members_have_float, items_have_float, items_of, false, refl}
-use Rattle.city_diagnostics.proofs.Prelude.{nat_cmp}
-use Rattle.city_diagnostics.proofs.Prelude.{Ordering, Less, Equal, Greater, match_ordering, slice_cmp}
-use Rattle.city_diagnostics.proofs.Prelude.{map, view, object, number, sym, subst, ◌∙◌, ℤ, pos, negsuc}
+use Rattle.city_details.proofs.Prelude.{◌≡◌, ◌∷◌, ◌++◌, List, ℕ, [], Data, Members, no_members, member, put}
+use Rattle.city_details.proofs.Prelude.{has_float, members_have_float, items_have_float, items_of, false, refl}
+use Rattle.city_details.proofs.Prelude.{nat_cmp}
+use Rattle.city_details.proofs.Prelude.{Ordering, Less, Equal, Greater, match_ordering, slice_cmp}
+use Rattle.city_details.proofs.Prelude.{map, view, object, number, sym, subst, ◌∙◌, ℤ, pos, negsuc}
 use Rattle.std.proofs.lemmas.Bool.{or_parts}
 use Rattle.std.proofs.lemmas.List.{map-append}
 use Rattle.serde_json.specs.Find.{of_integer}

@@ -1,5 +1,5 @@
-use Rattle.city_diagnostics.proofs.Prelude.{◌≡◌, map, view, object, items_of, items_have_float, false}
-use Rattle.city_diagnostics.proofs.details.object_values.Given as goal
+use Rattle.city_details.proofs.Prelude.{◌≡◌, map, view, object, items_of, items_have_float, false}
+use Rattle.city_details.proofs.details.object_values.Given as goal
 
 abbrev pub invariant-loop-item : goal.invariant-loop-item
 invariant-loop-item l =

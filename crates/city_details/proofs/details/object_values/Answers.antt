@@ -1,7 +1,7 @@
-use Rattle.city_diagnostics.proofs.Prelude.{◌≡◌, ◌∙◌, ◌∷◌, ◌++◌, [], ap, arith, object, view-Object}
+use Rattle.city_details.proofs.Prelude.{◌≡◌, ◌∙◌, ◌∷◌, ◌++◌, [], ap, arith, object, view-Object}
 use Rattle.serde_json.specs.declared.value.Value.{Object}
-use Rattle.city_diagnostics.proofs.Floats.{object_pushed}
-use Rattle.city_diagnostics.proofs.details.object_values.Goals as goal
+use Rattle.city_details.proofs.Floats.{object_pushed}
+use Rattle.city_details.proofs.details.object_values.Goals as goal
 
 pub loop-item-preserved : goal.loop-item-preserved
 loop-item-preserved c =
