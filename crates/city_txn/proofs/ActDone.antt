@@ -12,7 +12,7 @@ use Rattle.city_txn.specs.inside.Prelude.{Answers, effect, is_end, AllHeld, Answ
 use Rattle.city_txn.specs.inside.Prelude.{GainsFirst, IsBlocked, HoldsLock, Asked, Step, TxnFault, NotOpen, OutOfMemory}
 use Rattle.city_txn.specs.inside.Prelude.{Inside, write_of, answer_in, granted_in, step_of, is_done, with_step, IsAct}
 use Rattle.city_txn.specs.inside.Prelude.{State, store_written, Touches}
-use Rattle.city_model.proofs.Effects.{effect_is}
+use Rattle.city_model.proofs.GoingOn.{effect_is}
 use Rattle.city_txn.specs.inside.Performing.{MayPerform}
 use Rattle.city_txn.proofs.CoreFields.{open_is, sound_view, open_only, to_kept, from_kept, LeavesOthers, leaves_others}
 use Rattle.city_txn.proofs.CoreFields.{written_beside, seen_beside, keeps, consistent}

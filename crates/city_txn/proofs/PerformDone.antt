@@ -4,13 +4,15 @@ use Rattle.city_txn.proofs.Prelude.{◌∙◌, subst, false≢true, Command, Rep
 use Rattle.city_txn.proofs.Prelude.{locks_id_exclusively, action, answer, written_at_mark, written_by, own_with, map_with}
 use Rattle.city_txn.proofs.Prelude.{marks_with, AreOf, from_mapped, keys_of, IsPerform}
 use Rattle.std.proofs.Common.{IsErr, if◌then◌else◌}
-use Rattle.city_txn.specs.inside.Prelude.{Refused, NoMark, Change, Action, Refuses, Edits, GoesBack, applied, reply_of}
+use Rattle.city_txn.specs.inside.Prelude.{Refused, NoMark, Change, Action, Refuses, Edits, applied, reply_of}
 use Rattle.city_txn.specs.inside.Prelude.{is_mark, write_of, own_write, Logs, log_of, has_mark, State, store_own}
 use Rattle.city_txn.specs.inside.Prelude.{store_written, store_committed, store_view, MayReserve, Touches}
 use Rattle.city_model.specs.declared.command.Cause.{Cause}
 use Rattle.city_model.specs.declared.plan.Plan.{Plan}
 use Rattle.city_model.specs.inside.Plans.{AreWritesOf, IsPlan}
-use Rattle.city_model.proofs.FrameLaw.{exclusive_is_named, edit_ids}
+use Rattle.city_model.proofs.ActionKinds.{IsKindOf, kind_of}
+use Rattle.city_model.proofs.FrameLaw.{exclusive_is_named}
+use Rattle.city_model.proofs.FramedActions.{edits_locked}
 use Rattle.city_txn.specs.inside.Performing.{MayPerform, plans as writes_of, seen}
 use Rattle.city_txn.proofs.Touched.{touches_itself, touches_more}
 use Rattle.city_txn.proofs.UndoLogs.{no_mark_from, mark_is_there}
@@ -19,31 +21,16 @@ use Rattle.city_model.specs.declared.plan.Plan.TheVariants as plans
 
 -- ---- who went back
 
--- the reply says that it went back
-abbrev is_way_back : Reply → Bool
-is_way_back WentBack = true
-is_way_back reply = false
-
--- the action of a command that is about no mark gets another reply
-edits_otherwise : (m : CityMap) (c : Command) (r : Reply) (ids : List (List ℕ)) (n : CityMap)
-    → action m c ≡ Edits r ids n → is_way_back r ≡ false
-edits_otherwise m c r ids n e = grind arith
-
-unmarked_as : (x : View) (c : Command) (a : Action) → is_mark c ≡ false → action x.map c ≡ a
-    → is_way_back (reply_of (applied x a)) ≡ false
-unmarked_as x c (Edits r ids n) leaves e = edits_otherwise x.map c r ids n e
-unmarked_as x c (GoesBack name) leaves e = absurd (grind arith)
-unmarked_as x c a leaves e = refl
-
-not_back : (x : View) (c : Command) → is_mark c ≡ false → answer x c ≡ WentBack → ⊥
-not_back x c leaves e =
-    false≢true (sym (unmarked_as x c (action x.map c) leaves refl) ∙ ap is_way_back e)
+went_as : (x : View) (c : Command) (a : Action) → IsKindOf c a → reply_of (applied x a) ≡ WentBack
+    → (is_mark c ≡ true) × (locks_of x.map c ≡ [])
+went_as x c a k e = grind arith
 
 -- a command that goes back locks nothing
 pub went_back : (x : View) (c : Command) → answer x c ≡ WentBack → (is_mark c ≡ true) × (locks_of x.map c ≡ [])
-went_back x (commands.Mark name) e = (refl, refl)
-went_back x (commands.Back name) e = (refl, refl)
-went_back x c e = absurd (not_back x c refl e)
+went_back x c e = went_as x c (action x.map c) (kind_of x.map c) e
+
+not_back : (x : View) (c : Command) → is_mark c ≡ false → answer x c ≡ WentBack → ⊥
+not_back x c leaves e = false≢true (sym leaves ∙ (went_back x c e).0)
 
 -- a command for which there is no memory writes nothing
 failed : {E : Type 0} (s : ℕ) (c : Command) (v w : State) → (answer (seen v s) c ≡ WentBack → ⊥)
@@ -122,7 +109,7 @@ module _ (s : ℕ) (c : Command) (v : State) where
 
         -- the ids of the change are locked exclusively
         among : (q : List ℕ) → writes_of change q ≡ true → locked q ≡ true
-        among q h = let e = edit_ids x.map c r (keys_of change) of_plan.after of_plan.edits in grind arith
+        among q h = let e = edits_locked x.map c r (keys_of change) of_plan.after of_plan.edits in grind arith
 
         pub may_write : MayPerform v s c → MayReserve v s (writes_of change)
         may_write may = record {
