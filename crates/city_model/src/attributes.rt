@@ -1,15 +1,16 @@
 //! The attributes of an object (CityJSON 2.0, section 2): set, taken out, and compared.
-ghost use Rattle.std.specs.Prelude.{◌≡◌, option_map, string_bytes, IfOk, OnOk};
+ghost use Rattle.std.specs.Prelude.{◌≡◌, option_map, string_bytes, if◌then◌else◌, IfOk, OnOk};
 ghost use Rattle.serde_json.specs.Data.{object, put};
 ghost use Rattle.serde_json.specs.View.{view, members_view};
-ghost use Rattle.city_model.specs.Attributes.{attributes, attributes_in, put_each, with_set, with_attributes, with_unset, are_among, has_attributes};
-ghost use Rattle.city_model.specs.Members.{without, without_each, AreOrdered};
+ghost use Rattle.city_model.specs.Attributes.{attributes, attributes_in, put_each, with_set, with_unset, members_of, are_among, has_attributes};
+ghost use Rattle.city_model.specs.Kept.{has_no_member};
+ghost use Rattle.city_model.specs.Members.{without, without_each};
 
 use crate::OutOfMemory;
 use crate::command::Attributes;
 use crate::kept::extra::Extra;
-use crate::kept::site::AtObject;
-use crate::members::{into_object, member, members_count, take};
+use crate::kept::site::{AtObject, has_no_member};
+use crate::members::{into_object, member, take};
 use crate::same_value::same_value;
 use crate::text::Text;
 use serde_json::{Map, Value};
@@ -47,9 +48,7 @@ pub fn with_unset(
         return Ok(None);
     };
     take_each(&mut left, names);
-    if members_count(&left) != 0 {
-        put_attributes(alloc, &mut members, left)?;
-    }
+    put_any(alloc, &mut members, left)?;
     Ok(Some(Extra::of_kept(members)))
 }
 
@@ -57,9 +56,20 @@ pub fn with_unset(
 pub fn has_attributes(extra: &Extra<AtObject>, named: &Attributes) -> bool
     ensures { result ≡ has_attributes extra.now named.now }
 {
-    match member(extra.map(), "attributes") {
-        Some(Value::Object(found)) => are_among(named.map(), found),
-        _ => members_count(named.map()) == 0,
+    match attributes_of(extra.map()) {
+        Some(found) => are_among(named.map(), found),
+        None => has_no_member(named.map()),
+    }
+}
+
+/// The attributes among the kept members of an object, if they are an object.
+fn attributes_of(extra: &Map<String, Value>) -> Option<&Map<String, Value>>
+    ensures { members_of (option_map (λ m. members_view m.now.entries) result)
+        ≡ members_of (attributes_in (members_view extra.now.entries)) }
+{
+    match member(extra, "attributes") {
+        None => None,
+        Some(value) => value.as_object(),
     }
 }
 
@@ -75,6 +85,22 @@ fn take_attributes(alloc: Global, members: &mut Map<String, Value>) -> Option<Ma
     }
 }
 
+/// Gives the members these `attributes`, if there are any.
+fn put_any(
+    alloc: Global,
+    members: &mut Map<String, Value>,
+    left: Map<String, Value>,
+) -> Result<(), OutOfMemory>
+    ensures { OnOk result (members_view members.new.entries ≡ (if has_no_member (members_view left.entries)
+        then members_view members.old.entries
+        else put attributes (object (members_view left.entries)) (members_view members.old.entries))) }
+{
+    if has_no_member(&left) {
+        return Ok(());
+    }
+    put_attributes(alloc, members, left)
+}
+
 /// Gives the members these `attributes`.
 fn put_attributes(
     alloc: Global,
@@ -84,7 +110,11 @@ fn put_attributes(
     ensures { OnOk result (members_view members.new.entries
         ≡ put attributes (object (members_view found.entries)) (members_view members.old.entries)) }
 {
-    put(members, "attributes".to_string(alloc)?, Value::Object(found))
+    put(
+        members,
+        "attributes".to_string(alloc)?,
+        Value::Object(found),
+    )
 }
 
 /// Gives the members one of this name.
@@ -97,10 +127,7 @@ fn put(members: &mut Map<String, Value>, name: String, value: Value) -> Result<(
 }
 
 /// Gives the members each of the named ones.
-fn put_each(
-    members: &mut Map<String, Value>,
-    named: &Map<String, Value>,
-) -> Result<(), OutOfMemory>
+fn put_each(members: &mut Map<String, Value>, named: &Map<String, Value>) -> Result<(), OutOfMemory>
     ensures { OnOk result (members_view members.new.entries
         ≡ put_each (members_view named.now.entries) (members_view members.old.entries)) }
 {
