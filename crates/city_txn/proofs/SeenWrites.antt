@@ -9,8 +9,8 @@ use Rattle.city_txn.specs.inside.Prelude.{Held, Action, Edits, Marks, GoesBack, 
 use Rattle.city_txn.specs.inside.Prelude.{own_write, is_by, unless_by}
 use Rattle.city_model.specs.declared.mode.Mode.{Mode}
 use Rattle.city_model.specs.TraceLaw.{carried_map, carried_marks, carried}
-use Rattle.city_model.proofs.ActionKinds.{map_after}
-use Rattle.city_model.proofs.FramedActions.{taken_to, framed, edits_locked}
+use Rattle.city_model.proofs.FrameLaw.{unwritten_stays}
+use Rattle.city_model.proofs.FramedActions.{edits_locked}
 use Rattle.city_txn.specs.inside.Core.{IsCovered, AreCovered}
 
 pub own_or_is : (s : ℕ) (x : Option Write) (o : Option Object) → own_or s x o ≡ unwrap_or (own_write s x) o
@@ -47,10 +47,7 @@ module _ (m : CityMap) (w : Written) (c : Command) (sound : IsSound (map_with m 
   -- what an edit writes gives its map, since the others keep their objects
   edit_gives : (r : Reply) (ids : List (List ℕ)) (n : CityMap) → action x.map c ≡ Edits r ids n
       → map_with m (own_with w.0 ids n) ≡ n
-  edit_gives r ids n e =
-      let kept : n ≡ map_after x.map (taken_to x.map (Edits r ids n)) =
-      ap (map_after x.map) (sym e ∙ framed x.map x.map c sound (λ q h. refl) ∙ ap (taken_to x.map) e) in
-      grind arith
+  edit_gives r ids n e = let kept = λ q. unwritten_stays x.map c r ids n q sound e in grind arith
 
   seen_as : (a : Action) → action x.map c ≡ a → view_with m (written_by a w) ≡ left x (applied x a)
   seen_as (Edits r ids n) e = ap (λ (f : CityMap). record { map = f; marks = x.marks }) (edit_gives r ids n e)
