@@ -1,4 +1,5 @@
 -- Words of proofs and of private contracts. No public definition stands on them.
+pub mod BorrowedAmendments
 pub mod BorrowedBounds
 pub mod ChunkSearch
 pub mod DataCode
