@@ -41,6 +41,7 @@ pub enum Plan {
 /// It copies the objects that the command returns or changes, and fails only when out of
 /// memory. The same plan is right for each other sound city that agrees with this one on the
 /// ids that the command locks.
+#[tactic(auto, using(crate::proofs::FrameLaw::frame_law))]
 pub fn plan_of<V: View>(alloc: Global, view: &V, command: &Command) -> Result<Plan, OutOfMemory>
     requires no_end { is_end command.now ≡ false }
     requires no_mark { is_mark command.now ≡ false }

@@ -43,7 +43,7 @@ pub fn plan_amend<V: View>(
     id: &Id,
     amendment: Amendment<'_>,
 ) -> Result<Plan, OutOfMemory>
-    ensures { IfOk result (IsPlanOf (V.map view.now) (amend (V.map view.now) id.now (amendment_view amendment))) }
+    ensures { IfOk result (IsPlanOf (V.map view.now) (amend (V.map view.now) id.now (amendment_view amendment.entry))) }
 {
     if let Some(cause) = amendment_fault(alloc, amendment)? {
         return Ok(Plan::Refused(cause));
@@ -62,7 +62,7 @@ pub fn plan_amend_there(
     object: &Object,
 ) -> Result<Plan, OutOfMemory>
     ensures { IfOk result (λ plan. (m : CityMap)
-        → IsPlanOf m (amends m id.now (amendment_view amendment) object.now) plan) }
+        → IsPlanOf m (amends m id.now (amendment_view amendment.entry) object.now) plan) }
 {
     match amended(alloc, id, amendment, object)? {
         Err(cause) => Ok(Plan::Refused(cause)),
@@ -75,7 +75,7 @@ pub fn plan_amend_there(
 
 /// The reply to an amendment.
 fn amendment_reply(amendment: Amendment<'_>) -> Reply
-    ensures { result ≡ amendment_reply (amendment_view amendment) }
+    ensures { result ≡ amendment_reply (amendment_view amendment.entry) }
 {
     match amendment {
         Amendment::NewBody(_) => Reply::Replaced,
@@ -87,7 +87,7 @@ fn amendment_reply(amendment: Amendment<'_>) -> Reply
 
 /// What is wrong with the geometries that an amendment gives.
 fn amendment_fault(alloc: Global, amendment: Amendment<'_>) -> Result<Option<Cause>, OutOfMemory>
-    ensures { IfOk result (λ fault. fault ≡ amendment_fault (amendment_view amendment)) }
+    ensures { IfOk result (λ fault. fault ≡ amendment_fault (amendment_view amendment.entry)) }
 {
     match amendment {
         Amendment::NewBody(body) => body_fault(alloc, body),
@@ -103,7 +103,7 @@ fn amended(
     amendment: Amendment<'_>,
     object: &Object,
 ) -> Result<Result<Object, Cause>, OutOfMemory>
-    ensures { IfOk result (λ r. r ≡ amended id.now (amendment_view amendment) object.now) }
+    ensures { IfOk result (λ r. r ≡ amended id.now (amendment_view amendment.entry) object.now) }
 {
     match amended_body(alloc, id, amendment, object.body.get())? {
         Err(cause) => Ok(Err(cause)),
@@ -118,7 +118,7 @@ fn amended_body(
     amendment: Amendment<'_>,
     body: &Body,
 ) -> Result<Result<Body, Cause>, OutOfMemory>
-    ensures { IfOk result (λ r. r ≡ amended_body id.now (amendment_view amendment) body.now) }
+    ensures { IfOk result (λ r. r ≡ amended_body id.now (amendment_view amendment.entry) body.now) }
 {
     match amendment {
         Amendment::NewBody(new) => {
