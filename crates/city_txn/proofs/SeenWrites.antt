@@ -47,7 +47,7 @@ module _ (m : CityMap) (w : Written) (c : Command) (sound : IsSound (map_with m 
   -- what an edit writes gives its map, since the others keep their objects
   edit_gives : (r : Reply) (ids : List (List ℕ)) (n : CityMap) → action x.map c ≡ Edits r ids n
       → map_with m (own_with w.0 ids n) ≡ n
-  edit_gives r ids n e = let kept = λ q. unwritten_stays x.map c r ids n q sound e in grind arith
+  edit_gives r ids n e = let kept = λ (q : List ℕ). unwritten_stays x.map c r ids n q sound e in grind arith
 
   seen_as : (a : Action) → action x.map c ≡ a → view_with m (written_by a w) ≡ left x (applied x a)
   seen_as (Edits r ids n) e = ap (λ (f : CityMap). record { map = f; marks = x.marks }) (edit_gives r ids n e)
