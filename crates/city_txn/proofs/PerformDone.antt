@@ -1,5 +1,5 @@
 -- A command done on the store, by its action.
-use Rattle.city_txn.proofs.Prelude.{arith, ◌≡◌, ℕ, List, [], Bool, true, false, Option, Some, Result, Ok, refl, ap, sym}
+use Rattle.city_txn.proofs.Prelude.{arith, ◌≡◌, ℕ, List, [], Bool, true, false, Some, Result, Ok, refl, ap, sym}
 use Rattle.city_txn.proofs.Prelude.{◌∙◌, subst, false≢true, Command, Reply, WentBack, CityMap, View, marks_from, locks_of}
 use Rattle.city_txn.proofs.Prelude.{locks_id_exclusively, action, answer, written_at_mark, written_by, own_with, map_with}
 use Rattle.city_txn.proofs.Prelude.{marks_with, AreOf, from_mapped, keys_of, IsPerform}

@@ -5,7 +5,7 @@ pub use Rattle.city_model.specs.declared.command.Reply.{Reply}
 pub use Rattle.city_model.specs.declared.command.Reply.TheVariants.{WentBack, Refused}
 pub use Rattle.city_model.specs.declared.command.Cause.TheVariants.{NoMark, Orphan}
 pub use Rattle.city_model.specs.declared.mode.Mode.TheVariants.{Exclusive}
-pub use Rattle.city_model.specs.CityMap.{CityMap, same_id, Objects, object_at, has_id}
+pub use Rattle.city_model.specs.CityMap.{CityMap, Objects, object_at, has_id}
 pub use Rattle.city_model.specs.Marks.{View, unmarked, marks_from, IsSoundView}
 pub use Rattle.city_model.specs.Actions.{Action, Refuses, Edits, Marks, GoesBack, action}
 pub use Rattle.city_model.specs.Meaning.{Answers, effect, applied, back, left, step, reply_of, answer, is_refusal}
