@@ -6,8 +6,8 @@ use Rattle.city_canonical.proofs.Prelude.{All-weaker, list_all-append, is_eq-sli
 use Rattle.city_canonical.proofs.Prelude.{MembersHaveNumbers, Some_inj, not_found, Data, string, array, object, Items}
 use Rattle.city_canonical.proofs.Prelude.{Members, no_members, member, put, get, get_member, as_array, of_json}
 use Rattle.city_canonical.proofs.Prelude.{of_members, items_of, outline, items_outline, members_outline, Geometry}
-use Rattle.city_canonical.proofs.Prelude.{Object, Point, CityValue, same_id, has_id, AreOrdered, by_id}
-use Rattle.city_canonical.proofs.Prelude.{is_shielded, has_shield, only, encoded, encoded_members, encoded_top, number_in}
+use Rattle.city_canonical.proofs.Prelude.{Object, Point, CityValue, same_id, has_id, AreOrdered, by_id, is_shielded}
+use Rattle.city_canonical.proofs.Prelude.{has_shield, only, encoded, encoded_members, encoded_top, number_in}
 use Rattle.city_canonical.proofs.Prelude.{decoded_members, decoded_top, geometry_points, object_points}
 use Rattle.city_canonical.proofs.Prelude.{pool_of, IsInRange, transform_data, tree_of, object_data, vertex_data}
 use Rattle.city_canonical.proofs.Prelude.{object_of, read_items, point_of, points_of, and_then_some, map_some, is_in}
