@@ -45,7 +45,7 @@ plain_put k d (member l e ms) h hs =
     plain_at (slice_cmp nat_cmp k l) k l d e ms refl h hs (plain_put k d ms h hs.1)
 
 -- what stands at the name k, once decoded
-abbrev value_at : List ℕ → Data → json.Json
+abbrev pub value_at : List ℕ → Data → json.Json
 value_at k d = out_of_form false k (outline d) (decoded (outline d))
 
 decoded_at : (o : Ordering) (k l : List ℕ) (d e : Data) (ms : Members) → slice_cmp nat_cmp k l ≡ o
@@ -72,13 +72,13 @@ pub same_form : (k : List ℕ) (j : json.Json) → is_shielded k (arranged j) �
 same_form k j = grind arith
 
 -- a value that was read, for a member of the name k
-record IsKeptAt (k : List ℕ) (c j : json.Json) : Type 0 where
-  d : Data
-  read : of_json c ≡ Some d
-  back : value_at k d ≡ arranged j
-  plain : number_under k (outline d) ≡ None
+pub record IsKeptAt (k : List ℕ) (c j : json.Json) : Type 0 where
+  pub d : Data
+  pub read : of_json c ≡ Some d
+  pub back : value_at k d ≡ arranged j
+  pub plain : number_under k (outline d) ≡ None
 
-kept_at : (k : List ℕ) (j : json.Json) (b : Bool) → is_shielded k j ≡ b → IsKept j
+pub kept_at : (k : List ℕ) (j : json.Json) (b : Bool) → is_shielded k j ≡ b → IsKept j
     → IsKeptAt k (in_form (cond b Shielded Plain) (encoded j)) j
 kept_at k j true e i =
     let r = json.array (json.item (decoded (outline i.d)) json.no_items) in
