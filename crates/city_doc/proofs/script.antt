@@ -9,4 +9,5 @@ mod FirstFaults
 mod FirstOfAll
 mod ItemParts
 mod Meanings
+mod OwnForms
 mod Told
