@@ -8,4 +8,4 @@ pub mod Plans
 pub mod RelationTests
 pub mod RingFaults
 pub mod RisingEdges
-pub mod StoredBodies
+pub mod Stored

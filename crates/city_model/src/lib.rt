@@ -1,7 +1,7 @@
 //! The city model: its types, its rules and the meaning of each command.
 //!
 //! - `object`, `object_type`, `frame`, `city`: what a city is made of
-//! - `shared_body`, `shared_ids`: what copies of an object share
+//! - `shared`, `shared_ids`: what copies of an object share
 //! - `shape`: what bounds a shape of any type
 //! - `text`, `sequence`, `copied`: texts that contracts see as bytes, lists that they see as items, copies
 //! - `kept`, `members`, `integral`: members that are kept unread, as JSON trees
@@ -34,7 +34,7 @@ mod rings;
 pub mod script;
 pub mod sequence;
 pub mod shape;
-pub mod shared_body;
+pub mod shared;
 pub mod shared_ids;
 pub mod shells;
 pub mod text;

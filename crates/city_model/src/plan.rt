@@ -47,6 +47,11 @@ pub fn plan_of<V: View>(alloc: Global, view: &V, command: &Command) -> Result<Pl
     match command {
         Command::Read(id) => plan_read(alloc, view, id),
         Command::Put(id, body) => plan_put(alloc, view, id, body),
+        Command::Add(_, _)
+        | Command::Set(_, _)
+        | Command::Unset(_, _)
+        | Command::Reshape(_, _)
+        | Command::Expect(_, _) => unreachable!(),
         Command::Delete(id) => plan_delete(alloc, view, id),
         Command::Attach(child, parent) => plan_attach(alloc, view, child, parent),
         Command::Detach(child, parent) => plan_detach(alloc, view, child, parent),

@@ -36,7 +36,7 @@ pub fn plan_put<V: View>(alloc: Global, view: &V, id: &Id, body: &Body) -> Resul
     }
     match view.look(id) {
         None => {
-            let object = new_object(alloc, body)?;
+            let object = new_object(alloc, body.copy(alloc)?)?;
             let writes = one(alloc, id, object)?;
             Ok(Plan::Writes(Reply::Added, writes))
         }
@@ -44,7 +44,7 @@ pub fn plan_put<V: View>(alloc: Global, view: &V, id: &Id, body: &Body) -> Resul
             if !is_same(there.body.get().kind, body.kind) {
                 return Ok(Plan::Refused(Cause::TypeFixed(id.copy(alloc)?)));
             }
-            let object = with_body(alloc, there, body)?;
+            let object = with_body(alloc, there, body.copy(alloc)?)?;
             let writes = one(alloc, id, object)?;
             Ok(Plan::Writes(Reply::Replaced, writes))
         }
