@@ -7,7 +7,8 @@ mod FaultlessScripts
 mod FirstAt
 mod FirstFaults
 mod FirstOfAll
+mod GivenForms
 mod ItemParts
 mod Meanings
-mod OwnForms
+mod TextsRead
 mod Told

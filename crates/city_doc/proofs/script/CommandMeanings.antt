@@ -14,9 +14,9 @@ use Rattle.city_doc.specs.script.CommandFaults.{names_vertex_beyond, form_names_
 use Rattle.city_tokens.specs.script.CommandForms.{CommandForm, PutForm, AddForm, SetForm, ExpectForm, ReshapeForm}
 use Rattle.city_tokens.specs.script.CommandForms.{form_of, object_tree, geometry_tree}
 use Rattle.city_tokens.specs.script.Commands.{unrelated_body, command_of_form, names_relations}
+use Rattle.city_tokens.proofs.Laws.{owns, form_owns}
 use Rattle.city_doc.proofs.document.Right.{some_of}
 use Rattle.city_doc.proofs.object.ReadBodies.{body_of-some, geometries_some}
-use Rattle.city_doc.proofs.script.OwnForms.{owns, form_owns}
 
 -- what an object that isn't bad is
 pub record IsGood (d : Data) : Type 0 where

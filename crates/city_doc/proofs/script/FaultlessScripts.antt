@@ -4,7 +4,7 @@ use Rattle.city_doc.proofs.Prelude.{ap, ◌∙◌, arith, option_and_then, slice
 use Rattle.city_doc.proofs.Prelude.{Scripted, Body, body_of, has_bad_vertex, is_bad_geometry, is_position, all_read}
 use Rattle.city_doc.proofs.Prelude.{is_bad_command, names_bad_vertex, not}
 use Rattle.city_doc.proofs.Prelude.{command_of, ScriptParts, parts_of, vertex_count, and_parts, and_then_some, map_some}
-use Rattle.std.specs.Prelude.{if◌then◌else◌}
+use Rattle.std.specs.Prelude.{◌||◌, if◌then◌else◌}
 use Rattle.city_doc.specs.declared.fault.ScriptFault.{ScriptFault}
 use Rattle.city_doc.specs.declared.fault.ScriptFault.TheVariants.{BadScript, TooMany, BadCommand, BadVertex}
 use Rattle.city_doc.specs.script.AllFaults.{StandsAt}
@@ -50,7 +50,7 @@ geometry_fine : (points : List Point) (d : Data) (gs : List Geometry) → geomet
 geometry_fine points d gs h = record {
   good = ap not (geometries_fit points is_number (number_fits points) (get (codes "geometry") d) gs h);
   placed = ap not (geometries_fit points (is_position (length points)) (position_fits points) (get (codes "geometry") d)
-  gs h);
+      gs h);
 }
 
 form_fine : (points : List Point) (o : Option CommandForm) (c : Command)

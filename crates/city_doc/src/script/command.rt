@@ -1,7 +1,7 @@
 //! Builds the command that a tree stands for.
 ghost use Rattle.std.specs.Prelude.{◌≡◌, IfOk, option_map, option_and_then, codes};
-ghost use Rattle.serde_json.specs.Find.{get, get_member, as_str, as_object};
-ghost use Rattle.serde_json.specs.View.{view, members_view};
+ghost use Rattle.serde_json.specs.Find.{get, as_str, as_object};
+ghost use Rattle.serde_json.specs.View.{view};
 ghost use Rattle.city_model.specs.Kept.{kept_at_attributes};
 ghost use Rattle.city_tokens.specs.script.Commands.{unrelated_body, geometries_of, command_of};
 ghost use Rattle.city_tokens.specs.tree.Lists.{list_of};
@@ -17,9 +17,8 @@ use city_model::OutOfMemory;
 use city_model::command::{Attributes, Command};
 use city_model::kept::extra::Extra;
 use city_model::members::{into_object, take};
-use city_model::object::{Body, Geometries, Point};
-use city_model::sequence::Sequence;
-use city_model::text::Text;
+use city_model::object::{Body, Point};
+use city_model::text::Id;
 use serde_json::Value;
 use std::alloc::Global;
 
@@ -63,26 +62,76 @@ fn attributes_in(command: Value) -> Option<Attributes>
     Extra::new(into_object(given(command, "attributes")?)?).ok()
 }
 
-/// The names of attributes that a command gives.
-fn names_in(alloc: Global, command: Value) -> Result<Option<Sequence<Text>>, OutOfMemory>
-    ensures { IfOk result (λ o. o
-        ≡ option_and_then (list_of as_str) (get (codes "attributes") (view command))) }
+/// The put that a tree stands for, of which the id is known.
+fn put_command(
+    alloc: Global,
+    points: &[Point],
+    id: Id,
+    command: Value,
+) -> Result<Option<Command>, OutOfMemory>
+    ensures { IfOk result (λ o. o ≡ option_map (Command.Put id)
+        (option_and_then (unrelated_body points.now) (get (codes "object") (view command)))) }
 {
-    match given(command, "attributes") {
-        Some(names) => texts_of(alloc, names),
+    match body_in(alloc, points, command)? {
+        Some(body) => Ok(Some(Command::Put(id, body))),
         None => Ok(None),
     }
 }
 
-/// The geometries that a command gives; their positions count in these points.
-fn geometries_in(
+fn add_command(
     alloc: Global,
     points: &[Point],
+    id: Id,
     command: Value,
-) -> Result<Option<Geometries>, OutOfMemory>
-    ensures { IfOk result (λ o. o ≡ geometries_of points.now (view command)) }
+) -> Result<Option<Command>, OutOfMemory>
+    ensures { IfOk result (λ o. o ≡ option_map (Command.Add id)
+        (option_and_then (unrelated_body points.now) (get (codes "object") (view command)))) }
 {
-    geometry::geometries_of(alloc, points, given(command, "geometry"))
+    match body_in(alloc, points, command)? {
+        Some(body) => Ok(Some(Command::Add(id, body))),
+        None => Ok(None),
+    }
+}
+
+fn set_command(id: Id, command: Value) -> Option<Command>
+    ensures { result ≡ option_map (Command.Set id) (option_and_then (kept_if kept_at_attributes)
+        (option_and_then as_object (get (codes "attributes") (view command)))) }
+{
+    Some(Command::Set(id, attributes_in(command)?))
+}
+
+fn unset_command(alloc: Global, id: Id, command: Value) -> Result<Option<Command>, OutOfMemory>
+    ensures { IfOk result (λ o. o ≡ option_map (Command.Unset id)
+        (option_and_then (list_of as_str) (get (codes "attributes") (view command)))) }
+{
+    let Some(names) = given(command, "attributes") else {
+        return Ok(None);
+    };
+    match texts_of(alloc, names)? {
+        Some(names) => Ok(Some(Command::Unset(id, names))),
+        None => Ok(None),
+    }
+}
+
+fn reshape_command(
+    alloc: Global,
+    points: &[Point],
+    id: Id,
+    command: Value,
+) -> Result<Option<Command>, OutOfMemory>
+    ensures { IfOk result (λ o. o ≡ option_map (Command.Reshape id) (geometries_of points.now (view command))) }
+{
+    match geometry::geometries_of(alloc, points, given(command, "geometry"))? {
+        Some(geometry) => Ok(Some(Command::Reshape(id, geometry))),
+        None => Ok(None),
+    }
+}
+
+fn expect_command(id: Id, command: Value) -> Option<Command>
+    ensures { result ≡ option_map (Command.Expect id) (option_and_then (kept_if kept_at_attributes)
+        (option_and_then as_object (get (codes "attributes") (view command)))) }
+{
+    Some(Command::Expect(id, attributes_in(command)?))
 }
 
 /// The command that a tree stands for, where it stands for any; positions count in these points.
@@ -101,45 +150,27 @@ pub fn command_of(
     let command = match form {
         Form::Put(id, _) => {
             let id = named(alloc, id)?;
-            let Some(body) = body_in(alloc, points, command)? else {
-                return Ok(None);
-            };
-            Command::Put(id, body)
+            return put_command(alloc, points, id, command);
         }
         Form::Add(id, _) => {
             let id = named(alloc, id)?;
-            let Some(body) = body_in(alloc, points, command)? else {
-                return Ok(None);
-            };
-            Command::Add(id, body)
+            return add_command(alloc, points, id, command);
         }
         Form::Set(id, _) => {
             let id = named(alloc, id)?;
-            let Some(attributes) = attributes_in(command) else {
-                return Ok(None);
-            };
-            Command::Set(id, attributes)
+            return Ok(set_command(id, command));
         }
         Form::Unset(id, _) => {
             let id = named(alloc, id)?;
-            let Some(names) = names_in(alloc, command)? else {
-                return Ok(None);
-            };
-            Command::Unset(id, names)
+            return unset_command(alloc, id, command);
         }
         Form::Reshape(id, _) => {
             let id = named(alloc, id)?;
-            let Some(geometry) = geometries_in(alloc, points, command)? else {
-                return Ok(None);
-            };
-            Command::Reshape(id, geometry)
+            return reshape_command(alloc, points, id, command);
         }
         Form::Expect(id, _) => {
             let id = named(alloc, id)?;
-            let Some(attributes) = attributes_in(command) else {
-                return Ok(None);
-            };
-            Command::Expect(id, attributes)
+            return Ok(expect_command(id, command));
         }
         Form::Read(id) => Command::Read(named(alloc, id)?),
         Form::Delete(id) => Command::Delete(named(alloc, id)?),
