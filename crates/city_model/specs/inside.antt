@@ -1,7 +1,7 @@
 -- Words of proofs and of private contracts. No public definition stands on them.
+pub mod BorrowedAmendments
 pub mod BorrowedBounds
 pub mod ChunkSearch
-pub mod CommandParts
 pub mod DataCode
 pub mod Faultless
 pub mod Plans

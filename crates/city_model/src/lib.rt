@@ -11,6 +11,7 @@
 //! - `plan`, `change`, `end`: the plan of a command, what a commit writes, how a script ended
 #![tactic(auto)]
 
+pub mod attributes;
 pub mod body_fault;
 pub mod change;
 pub mod city;
@@ -31,6 +32,7 @@ pub mod orphans;
 pub mod plan;
 pub mod relations;
 mod rings;
+pub mod same_value;
 pub mod script;
 pub mod sequence;
 pub mod shape;
