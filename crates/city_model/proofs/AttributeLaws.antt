@@ -1,18 +1,18 @@
 -- Members with one put among them, or with some taken out: their order, their numbers, and that they may still be kept.
-use Rattle.city_model.proofs.Prelude.{◌≡◌, ℕ, List, [], ◌∷◌, Bool, true, false, not, Option, None, Some, Ordering, Less}
+use Rattle.city_model.proofs.Prelude.{◌≡◌, ℕ, List, [], ◌∷◌, true, false, Option, None, Some, Ordering, Less}
 use Rattle.city_model.proofs.Prelude.{Equal, refl, sym, ap, subst, ◌∙◌, arith, slice_cmp, codes, no_members, member, same_id}
-use Rattle.city_model.proofs.Prelude.{members_integral, nat_list_cmp_total, exact_bytes, false≢true, and_parts, and_from}
-use Rattle.city_model.proofs.Prelude.{nat_cmp, is_eq, if◌then◌else◌}
+use Rattle.city_model.proofs.Prelude.{members_integral, nat_list_cmp_total, exact_bytes, false≢true}
+use Rattle.city_model.proofs.Prelude.{nat_cmp, if◌then◌else◌}
 use Rattle.std.proofs.Common.{Greater}
 use Rattle.serde_json.specs.Data.{Data, object, Members, put}
-use Rattle.serde_json.specs.Find.{get_member, as_object}
+use Rattle.serde_json.specs.Find.{get_member}
 use Rattle.serde_json.proofs.Views.{get_member-put_other}
 use Rattle.city_model.specs.Integral.{is_integral}
 use Rattle.city_model.specs.Kept.{kept_at_object, has_no_member}
 use Rattle.city_model.specs.Members.{without, without_each, AllAbove, AreOrdered}
 use Rattle.city_model.specs.Attributes.{attributes, put_each, attributes_in, members_or_none, with_set}
 use Rattle.city_model.specs.Attributes.{with_attributes, with_unset, are_among}
-use Rattle.city_model.proofs.Ids.{same_id_true, same_id_of_equal}
+use Rattle.city_model.proofs.Ids.{same_id_of_equal}
 use Rattle.city_model.proofs.MemberLaws.{members_integral-without, get_member-without}
 
 -- ---- a member put where another of its name was taken out

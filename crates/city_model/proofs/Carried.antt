@@ -1,12 +1,11 @@
 -- A history under locks holds from each other map that agrees where anything is held, marks too.
 use Rattle.city_model.proofs.Prelude.{arith, ◌≡◌, ℕ, List, [], ◌∷◌, Bool, true, false, ap, sym, subst, ◌∙◌, if◌then◌else◌}
 use Rattle.city_model.proofs.Prelude.{length, Option, refl, is_some, Command, Reply, Exclusive, CityMap, has_id, Action}
-use Rattle.city_model.proofs.Prelude.{Refuses, Edits, Marks, GoesBack, action, Effect, Answers, GoesOn, applied, effect}
+use Rattle.city_model.proofs.Prelude.{Refuses, Edits, Marks, GoesBack, action, Effect, Answers, applied, effect}
 use Rattle.city_model.proofs.Prelude.{left, step, locks_of, Marked, View, unmarked, marks_from, IsSoundView, IsSound, Held}
 use Rattle.city_model.proofs.Prelude.{covers, AllHeld, Answered, IsTraceUnderLocks, locks_id_exclusively, Lock}
 use Rattle.city_model.proofs.Prelude.{answered, locks_id, AgreeOn, Mode, Trace}
 use Rattle.city_model.specs.Actions as actions
-use Rattle.city_model.specs.Meaning as meaning
 use Rattle.city_model.specs.Meaning.{back}
 use Rattle.city_model.specs.Standing.{exclusive_ids}
 use Rattle.city_model.specs.TraceLaw.{carried_map, carried_marks, carried, as_named, stronger_of, named_by, TraceLaw}
@@ -16,7 +15,6 @@ use Rattle.city_model.proofs.FrameLaw.{frame, same_locks}
 use Rattle.city_model.proofs.GoingOn.{goes_on_case, goes_on_to, answered_next}
 use Rattle.city_model.proofs.MarksKept.{from_mapped, sound_effect}
 use Rattle.city_model.proofs.History.{Next, held_named, held_exclusively, not_named, more_held, follows_held}
-use Rattle.city_model.proofs.IdLists.{bool_cases}
 use Rattle.city_model.proofs.Ids.{same_id_itself}
 
 module _ (held : Held) (other : CityMap) where

@@ -2,10 +2,9 @@
 use Rattle.city_model.proofs.Prelude.{arith, ◌≡◌, refl, ap, inl, codes, List, [], ◌∷◌, ℕ, true, false, Option, Some}
 use Rattle.city_model.proofs.Prelude.{if◌then◌else◌, LandUse, Building, Command, Put, Commit, Mark, Back, Cause, Reply}
 use Rattle.city_model.proofs.Prelude.{Added, WentBack, Outcome, Object, CityMap, found_in, changed, is_orphan, is_orphan_there}
-use Rattle.city_model.proofs.Prelude.{HasNoOrphan, IsScriptResult, map_left, Scripted, Trace, End, IsSerialHistory}
+use Rattle.city_model.proofs.Prelude.{IsScriptResult, map_left, Scripted, Trace, End, IsSerialHistory}
 use Rattle.city_model.proofs.Prelude.{model_after, unmarked, no_members, member}
 use Rattle.serde_json.specs.Data.{Data, Members, number, unsigned, array, no_items}
-use Rattle.serde_json.specs.Data as Data
 use Rattle.city_model.specs.Shells.{Shell}
 use Rattle.city_model.specs.declared.command.Command.TheVariants.{Add, Set, Unset, Reshape, Expect}
 use Rattle.city_model.specs.declared.command.Cause.TheVariants.{NoObject, Exists, BadAttributes, Unexpected, OpenShell}

@@ -3,7 +3,6 @@ use Rattle.city_model.proofs.Prelude.{arith, ◌≡◌, ℕ, List, [], ◌∷◌
 use Rattle.city_model.proofs.Prelude.{Command, Reply, Mark, Back, NoMark, WentBack, Refused, CityMap, Action, action}
 use Rattle.city_model.proofs.Prelude.{Refuses, Edits, Marks, GoesBack, same_id, Marked, View, marks_from, IsSoundView}
 use Rattle.city_model.proofs.Prelude.{IsSound, Answers, applied, effect, left, step}
-use Rattle.city_model.specs.Actions as actions
 use Rattle.city_model.specs.Marks.{AreSound}
 use Rattle.city_model.specs.Meaning.{back}
 use Rattle.city_model.specs.Scripts.{is_mark}

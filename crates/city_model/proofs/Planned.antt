@@ -1,12 +1,12 @@
 -- What is planned for a command is what it writes.
-use Rattle.city_model.proofs.Prelude.{arith, ◌≡◌, ℕ, List, [], ◌∷◌, map, length, true, false, Option, None, Some, refl}
-use Rattle.city_model.proofs.Prelude.{ap, subst, sym, ◌∙◌, keys_of, false≢true, or_parts, Object, Body, Command, Put}
+use Rattle.city_model.proofs.Prelude.{arith, ◌≡◌, ℕ, List, [], ◌∷◌, map, length, true, false, None, Some, refl}
+use Rattle.city_model.proofs.Prelude.{sym, ◌∙◌, keys_of, false≢true, or_parts, Object, Body, Command}
 use Rattle.city_model.proofs.Prelude.{Delete, Attach, Detach, Reply, Added, Deleted, Attached, Detached, CityMap}
 use Rattle.city_model.proofs.Prelude.{Edits, action, Amendment, amended, new_object, same_id, has_id, changed, deleted, attached}
-use Rattle.city_model.proofs.Prelude.{detached, without_child, without_parent, with_child, with_parent, is_wrong_family, locks_of}
-use Rattle.city_model.proofs.Prelude.{IsSound, body_fault, Change, after_change, unlinked}
+use Rattle.city_model.proofs.Prelude.{detached, without_child, without_parent, with_child, with_parent, is_wrong_family}
+use Rattle.city_model.proofs.Prelude.{IsSound, Change, after_change, unlinked}
 use Rattle.std.proofs.Common.{◌==◌}
-use Rattle.std.specs.Prelude.{Result, Ok}
+use Rattle.std.specs.Prelude.{Ok}
 use Rattle.city_model.specs.Actions.{creates, amends, amendment_reply, rewrites, attach_at, detach_at}
 use Rattle.city_model.specs.inside.Plans.{AreOf, AreWritesOf}
 use Rattle.city_model.proofs.FrameLaw.{unwritten_stays}

@@ -1,5 +1,5 @@
 -- Replies that refuse, and what a refused command leaves.
-use Rattle.city_model.proofs.Prelude.{arith, ◌≡◌, true, false, List, ℕ, refl, Command, Cause, Reply, Refused, CityMap}
+use Rattle.city_model.proofs.Prelude.{arith, ◌≡◌, true, false, List, ℕ, Command, Cause, Reply, Refused, CityMap}
 use Rattle.city_model.proofs.Prelude.{Action, Edits, action, View, Answers, Does, applied, left, effect, is_refusal}
 use Rattle.city_model.proofs.Prelude.{answer, step}
 use Rattle.city_model.specs.Meaning.{reply_of}

@@ -1,12 +1,12 @@
 -- Two JSON values are the same where they are equal, and only there.
-use Rattle.city_model.proofs.Prelude.{arith, ◌≡◌, ℕ, List, Bool, true, false, refl, ap, and_parts, and_from, member}
+use Rattle.city_model.proofs.Prelude.{arith, ◌≡◌, ℕ, List, Bool, true, refl, ap, and_parts, and_from, member}
 use Rattle.city_model.proofs.Prelude.{no_members, members_integral}
 use Rattle.std.proofs.Common.{◌&&◌}
 use Rattle.std.proofs.lemmas.Slice.Eq.{bytes_eq-Decides}
 use Rattle.std.specs.Str.{bytes_eq}
-use Rattle.serde_json.specs.Data.{Num, unsigned, negative, float, Data, null, boolean, number, string, array, object}
+use Rattle.serde_json.specs.Data.{Num, Data, null, boolean, number, string, array, object}
 use Rattle.serde_json.specs.Data.{Items, no_items, item, Members}
-use Rattle.city_model.specs.Attributes.{same_number, same_boolean, same_value, same_items, same_members}
+use Rattle.city_model.specs.Attributes.{same_number, same_value, same_items, same_members}
 use Rattle.city_model.specs.Integral.{is_integral, items_integral}
 
 three : (a b c : Bool) → (a && b && c) ≡ true → (a ≡ true) × (b ≡ true) × (c ≡ true)

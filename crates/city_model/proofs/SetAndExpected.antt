@@ -1,6 +1,6 @@
 -- Attributes that were set are met by an expect, and those that were taken out aren't.
-use Rattle.city_model.proofs.Prelude.{arith, ◌≡◌, ℕ, List, [], ◌∷◌, Bool, true, false, Option, None, Some, refl, ap, ◌∙◌}
-use Rattle.city_model.proofs.Prelude.{sym, Less, Equal, slice_cmp, nat_cmp, nat_list_cmp_total, has_id, same_id}
+use Rattle.city_model.proofs.Prelude.{arith, ◌≡◌, ℕ, List, [], ◌∷◌, true, false, None, Some, refl, ap, ◌∙◌}
+use Rattle.city_model.proofs.Prelude.{Less, Equal, slice_cmp, nat_cmp, nat_list_cmp_total, has_id, same_id}
 use Rattle.city_model.proofs.Prelude.{member, no_members, members_integral}
 use Rattle.serde_json.specs.Data.{Data, object, Members, put}
 use Rattle.serde_json.specs.Find.{get_member}
@@ -8,10 +8,8 @@ use Rattle.std.proofs.Common.{◌&&◌, Ordering, Greater}
 use Rattle.std.proofs.lemmas.Cmp.{tied_itself}
 use Rattle.city_model.specs.Attributes.{attributes, attributes_in, put_each, with_set, with_attributes, with_unset}
 use Rattle.city_model.specs.Attributes.{members_or_none, members_of, is_value, are_among, has_attributes}
-use Rattle.city_model.specs.Integral.{is_integral}
-use Rattle.city_model.specs.Kept.{has_no_member}
 use Rattle.city_model.specs.Members.{without, without_each, AllAbove, AreOrdered}
-use Rattle.city_model.proofs.Ids.{same_id_true, same_id_itself, same_id_back, below_is_apart}
+use Rattle.city_model.proofs.Ids.{same_id_true, same_id_back, below_is_apart}
 use Rattle.city_model.proofs.IdLists.{bool_cases}
 use Rattle.city_model.proofs.MemberLaws.{get_member-without, get_member-without_same}
 use Rattle.city_model.proofs.SameValues.{value_same}

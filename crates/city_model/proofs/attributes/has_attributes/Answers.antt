@@ -1,4 +1,4 @@
-use Rattle.city_model.proofs.Prelude.{rules, arith}
+use Rattle.city_model.proofs.Prelude.{rules}
 use Rattle.city_model.proofs.AttributeLaws.{none_among}
 use Rattle.city_model.proofs.attributes.has_attributes.Goals as goal
 

@@ -1,4 +1,4 @@
-use Rattle.city_model.proofs.Prelude.{rules, refl}
+use Rattle.city_model.proofs.Prelude.{rules}
 use Rattle.city_model.proofs.Planned.{new_writes}
 use Rattle.city_model.proofs.plan.putting.plan_new.Goals as goal
 
