@@ -6,7 +6,7 @@ ghost use Rattle.city_tokens.specs.script.CommandForms.{relation_form, values_fo
 ghost use Rattle.city_tokens.specs.script.CommandForms.{pair_form, members_form, form_of};
 ghost use Rattle.city_doc.specs.inside.script.Forms.{form_view};
 
-use crate::object::ids::has_other_item;
+use crate::tree::texts::has_other_item;
 use city_model::members::{member, members_count};
 use serde_json::{Map, Value};
 
