@@ -7,6 +7,8 @@ mod FaultlessScripts
 mod FirstAt
 mod FirstFaults
 mod FirstOfAll
+mod GivenForms
 mod ItemParts
 mod Meanings
+mod TextsRead
 mod Told
