@@ -10,5 +10,6 @@ mod FirstOfAll
 mod GivenForms
 mod ItemParts
 mod Meanings
+mod Reshapes
 mod TextsRead
 mod Told

@@ -1,5 +1,5 @@
 -- Which commands are refused.
-use Rattle.std.specs.Prelude.{◌||◌, ℕ, Bool, true, false, Option, Some, None, is_none, is_some, option_and_then}
+use Rattle.std.specs.Prelude.{◌||◌, ℕ, Bool, true, false, Option, Some, None, is_none, is_some}
 use Rattle.serde_json.specs.Data.{Data}
 use Rattle.serde_json.specs.Find.{as_object}
 use Rattle.city_doc.specs.object.Faults.{is_unknown_type, unsupported_name, is_bad_geometry, has_bad_vertex}
