@@ -2,7 +2,7 @@
 
 from commands import MOST_COMMANDS, MOST_SCRIPTS
 from diagnostics import bad_vertex, check_document, line, read, tree_faults
-from json_tree import are_texts, are_triples
+from json_tree import are_triples
 
 ENDS = ("commit", "abort")
 # the members of each command, in the order in which an object is asked which command it names
@@ -133,9 +133,10 @@ def bad_object(name, obj):
 
 def bad_attributes(name, given):
     """What is wrong with the attributes of a command: an unset has their names, the others their values too."""
-    if name == "unset":
-        return None if are_texts(given) else {"rule": "no list of texts", "member": "attributes"}
-    return None if isinstance(given, dict) else {"rule": "no object", "member": "attributes"}
+    if isinstance(given, dict if name != "unset" else list):
+        other = next((at for at, item in enumerate(given) if not isinstance(item, str)), None)
+        return None if other is None else {"rule": "attributes", "item": other}
+    return {"rule": "attributes"}
 
 
 def bad_geometries(name, given):
@@ -150,16 +151,18 @@ def nearest(given):
     """The name of a command that this may be meant for, or None."""
     if len(given) > max(map(len, NAMES)) + 2:
         return None
-    distance, name = min((levenshtein(given, name), name) for name in NAMES)
+    distance, name = min((edits(given, name), name) for name in NAMES)
     return name if distance <= 2 and distance < len(given) else None
 
 
-def levenshtein(one, other):
-    """How many letters have to be put in, taken out or changed to make one text of the other."""
-    row = list(range(len(other) + 1))
+def edits(one, other):
+    """How many letters have to be put in, taken out, changed, or swapped with the next to make one text of the other."""
+    rows = [list(range(len(other) + 1))]
     for at, letter in enumerate(one, 1):
-        following = [at]
-        for place, wanted in enumerate(other):
-            following.append(min(row[place + 1] + 1, following[place] + 1, row[place] + (letter != wanted)))
-        row = following
-    return row[-1]
+        row = [at]
+        for place, wanted in enumerate(other, 1):
+            row.append(min(rows[-1][place] + 1, row[-1] + 1, rows[-1][place - 1] + (letter != wanted)))
+            if at > 1 and place > 1 and (letter, one[at - 2]) == (other[place - 2], wanted):
+                row[-1] = min(row[-1], rows[-2][place - 2] + 1)
+        rows.append(row)
+    return rows[-1][-1]

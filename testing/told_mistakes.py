@@ -87,6 +87,7 @@ def of_scripts(mistake, fault, changes, **wanted):
 
 
 NO_PARENTS = [(b'"children": ["b12-roof"],\n', b"\n"), (b', "parents": ["b12"]', b"")]
+READ = b'{"read": "b12"}'
 COMMAND = ["script 0\\b.*command 1\\b"]
 
 CASES = [
@@ -189,6 +190,28 @@ CASES = [
         "a misspelt command", "7 BadCommand 0 0", [(b'{"read": "b12"}', b'{"raed": "b12"}')],
         where=["script 0\\b.*command 0\\b"], what=["raed"],
         members={"fault": "BadCommand", "script": 0, "command": 0, "rule": "no command", "given": "raed", "nearest": "read"},
+    ),
+    of_scripts(
+        "names where a set wants values", "7 BadCommand 0 0", [(READ, b'{"set": "b12", "attributes": ["height"]}')],
+        where=["script 0\\b.*command 0\\b", 'object "b12"'], what=["object"], cure=["value"],
+        members={"fault": "BadCommand", "script": 0, "command": 0, "rule": "attributes"},
+    ),
+    of_scripts(
+        "values where an unset wants names", "7 BadCommand 0 0", [(READ, b'{"unset": "b12", "attributes": {"height": 9}}')],
+        where=["script 0\\b.*command 0\\b", 'object "b12"'], what=["array"], cure=["names"],
+        members={"fault": "BadCommand", "script": 0, "command": 0, "rule": "attributes"},
+    ),
+    of_scripts(
+        "an object where a set wants attributes", "7 BadCommand 0 0",
+        [(READ, b'{"set": "b12", "object": {"attributes": {"height": 9}}}')],
+        where=["script 0\\b.*command 0\\b"], what=["attributes"],
+        members={"fault": "BadCommand", "script": 0, "command": 0, "rule": "missing", "member": "attributes"},
+    ),
+    of_scripts(
+        "a position out of range in a reshape", "8 BadVertex 0 0",
+        [(READ, b'{"reshape": "b12", "geometry": [{"type": "MultiSurface", "lod": "1", "boundaries": [[[0, 1, 3]]]}]}')],
+        where=["script 0\\b.*command 0\\b", 'object "b12"', "geometry 0"], what=[r"\b3\b"],
+        members={"fault": "BadVertex", "script": 0, "command": 0, "geometry": 0, "item": 2, "position": 3, "vertices": 3},
     ),
     Mistake(
         "a full place for standard output", "cityed: cannot write", "standard output",

@@ -6,6 +6,7 @@ pub mod CompactForms
 pub mod CompactTexts
 pub mod Copied
 pub mod Copies
+pub mod Edits
 pub mod Forms
 pub mod Insides
 pub mod JsonLines
@@ -14,6 +15,8 @@ pub mod Objects
 pub mod OneLine
 pub mod PlainNumbers
 pub mod Prelude
+pub mod Puts
+pub mod Rereads
 pub mod RoundTrip
 pub mod Starts
 pub mod Streams

@@ -23,7 +23,7 @@ mod way;
 pub use decoding::decode;
 pub use encoding::encode;
 pub use fault::DecimalsFault;
-pub use laws::what_is_kept;
+pub use laws::{what_is_edited, what_is_kept};
 pub use lines::{decode_lines, decode_lines_onto};
 
 /// The one error for being out of memory, under the project's word for it.

@@ -2,24 +2,25 @@
 //!
 //! - `forms`: the commands, each with its members; `nearest`: the command whose name is nearest to a word
 //! - `item`: the first rule that an item breaks which isn't a script; `command`: that a command breaks
-//! - `put`: that the object of a put breaks
+//! - `given`: that the object, the geometries or the attributes (`attributes`) break which a command gives
 //! - `limits`: too many scripts, or too many commands
 //! - `place`: where a script or a command is, in words
 
+mod attributes;
 mod command;
 mod forms;
+mod given;
 mod item;
 mod limits;
 mod nearest;
 mod place;
-mod put;
 
 use crate::diagnostic::Diagnostic;
 use crate::script::command::tell_bad_command;
+use crate::script::given::{narrow_to_object, shaped_tree};
 use crate::script::item::tell_bad_script;
 use crate::script::limits::tell_too_many;
 use crate::script::place::{command_at, narrow_to_command, narrow_to_script};
-use crate::script::put::{narrow_to_object, put_object};
 use crate::shape::tell_bad_vertex;
 use city_doc::ScriptFault;
 use city_model::OutOfMemory;
@@ -91,7 +92,7 @@ fn bad_command(
     tell_bad_command(alloc, command, diagnostic)
 }
 
-/// Says which position of a put names none of its script's vertices.
+/// Says which position of a command names none of its script's vertices.
 fn bad_vertex(
     alloc: Global,
     tree: &Value,
@@ -103,8 +104,8 @@ fn bad_vertex(
     let nothing = Value::Null;
     let command = command_at(tree, script, command).unwrap_or(&nothing);
     narrow_to_object(alloc, command, diagnostic)?;
-    let object = put_object(command).unwrap_or(&nothing);
-    tell_bad_vertex(alloc, object, vertex_count(tree, script), diagnostic)
+    let shaped = shaped_tree(command).unwrap_or(&nothing);
+    tell_bad_vertex(alloc, shaped, vertex_count(tree, script), diagnostic)
 }
 
 /// How many vertices a script has.

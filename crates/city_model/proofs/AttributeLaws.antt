@@ -1,6 +1,7 @@
 -- Members with one put among them, or with some taken out: their order, their numbers, and that they may still be kept.
 use Rattle.city_model.proofs.Prelude.{◌≡◌, ℕ, List, [], ◌∷◌, true, false, Option, None, Some, Ordering, Less}
-use Rattle.city_model.proofs.Prelude.{Equal, refl, sym, ap, subst, ◌∙◌, arith, slice_cmp, codes, no_members, member, same_id}
+use Rattle.city_model.proofs.Prelude.{Equal, refl, sym, ap, subst, ◌∙◌, arith, slice_cmp}
+use Rattle.city_model.proofs.Prelude.{codes, no_members, member, same_id}
 use Rattle.city_model.proofs.Prelude.{members_integral, nat_list_cmp_total, exact_bytes, false≢true}
 use Rattle.city_model.proofs.Prelude.{nat_cmp, if◌then◌else◌}
 use Rattle.std.proofs.Common.{Greater}
@@ -133,7 +134,8 @@ with_left_kept extra (member k d left) kept whole = kept_with extra (member k d 
 left_is : (extra left rest : Members) → AreOrdered extra → rest ≡ without attributes extra
     → (if has_no_member left then rest else put attributes (object left) rest) ≡ with_attributes extra left
 left_is extra no_members rest ordered is = is
-left_is extra (member k d left) rest ordered is = rw is (put-without attributes (object (member k d left)) extra ordered)
+left_is extra (member k d left) rest ordered is =
+    rw is (put-without attributes (object (member k d left)) extra ordered)
 
 pub unset_is : (extra : Members) (names : List (List ℕ)) (found left rest after : Members) → AreOrdered extra
     → rest ≡ without attributes extra → left ≡ without_each names found

@@ -1,10 +1,11 @@
 //! The city model: its types, its rules and the meaning of each command.
 //!
 //! - `object`, `object_type`, `frame`, `city`: what a city is made of
-//! - `shared`, `shared_ids`: what copies of an object share
+//! - `shared`, `shared_ids`: what copies share
 //! - `shape`: what bounds a shape of any type
 //! - `text`, `sequence`, `copied`: texts that contracts see as bytes, lists that they see as items, copies
 //! - `kept`, `members`, `integral`: members that are kept unread, as JSON trees
+//! - `attributes`, `same_value`: attributes set, taken out and compared
 //! - `rings`, `edges`, `shells`, `body_fault`: what is wrong with a body
 //! - `id_list`, `relations`, `orphans`, `is_lawful`: what is wrong with a city
 //! - `command`, `script`: what is asked of a city

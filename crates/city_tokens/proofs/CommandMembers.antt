@@ -1,7 +1,7 @@
--- What was read of a command's members, with one more.
-use Rattle.city_tokens.proofs.Prelude.{◌≡◌, ℕ, List, false, Option, Some, None, refl, arith, is_some, codes, Token, Data}
+-- What was read of a command's members, with one more; and the command of all of them.
+use Rattle.city_tokens.proofs.Prelude.{◌≡◌, ℕ, List, false, Option, Some, None, refl, arith, is_some, codes, Data}
 use Rattle.city_tokens.proofs.Prelude.{string, array, object, Members, no_members, put, items_of, Geometry, IsCommand}
-use Rattle.city_tokens.proofs.Prelude.{IsReadAs, IsTaken, IsValue}
+use Rattle.city_tokens.proofs.Prelude.{Token, IsReadAs, IsTaken, IsValue}
 use Rattle.city_tokens.specs.declared.command.CommandParts.{CommandParts}
 use Rattle.city_tokens.specs.declared.command.Verb.{Verb}
 use Rattle.city_tokens.specs.declared.command.Verb.TheVariants as verb

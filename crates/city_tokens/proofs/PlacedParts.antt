@@ -1,9 +1,9 @@
--- What is read of trees by what stood for their parts: objects, bodies that are put, and commands.
+-- What is read of trees by what stood for their parts: objects, bodies that commands give, and commands.
 use Rattle.city_tokens.proofs.Prelude.{◌≡◌, ℕ, List, [], ◌∷◌, Option, Some, None, refl, Bool, true, false, codes, Data}
-use Rattle.city_tokens.proofs.Prelude.{array, no_items, Members, put, get, get_member, as_str, items_of, Geometry, Object}
+use Rattle.city_tokens.proofs.Prelude.{array, no_items, Members, put, get, get_member, as_str, items_of, Geometry}
 use Rattle.city_tokens.proofs.Prelude.{Point, object_of, geometry_of, IsGeometry, IsObject, IsObjectSoFar, IsPlaced}
 use Rattle.city_tokens.proofs.Prelude.{Pairs, IsArrayOf, IsListSlot, IsString, IsTaken, IsPassed, read_items, list_of}
-use Rattle.city_tokens.proofs.Prelude.{Token, Body, ObjectParts, IsCommand, Command, command_of}
+use Rattle.city_tokens.proofs.Prelude.{Token, Object, Body, ObjectParts, IsCommand, Command, command_of}
 use Rattle.city_tokens.specs.tree.Lists.{list_or_absent}
 use Rattle.std.specs.Bool.{MatchBool}
 use Rattle.city_tokens.specs.inside.Commands.{IsBody, IsBodySoFar}

@@ -2,8 +2,8 @@
 use crate::diagnostic::Diagnostic;
 use crate::quoted::Quoted;
 use crate::script::forms::{Form, form_in, form_named, is_word};
+use crate::script::given::tell_bad_given;
 use crate::script::nearest::nearest;
-use crate::script::put::tell_bad_put;
 use city_model::OutOfMemory;
 use serde_json::{Map, Value};
 use std::alloc::Global;
@@ -69,7 +69,7 @@ fn broken_by<'t>(form: &'static Form, members: &'t Map<String, Value>) -> Option
     Some(BrokenForm::NoText(form.not_text(members)?))
 }
 
-/// Says which rule a command breaks: one for the form of commands, or for the object of a put.
+/// Says which rule a command breaks: one for the form of commands, or for what it gives.
 pub fn tell_bad_command(
     alloc: Global,
     command: &Value,
@@ -77,7 +77,7 @@ pub fn tell_bad_command(
 ) -> Result<(), OutOfMemory> {
     match broken_form(command) {
         Some(broken) => broken.tell(alloc, diagnostic),
-        None => tell_bad_put(alloc, command, diagnostic),
+        None => tell_bad_given(alloc, command, diagnostic),
     }
 }
 

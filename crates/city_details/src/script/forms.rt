@@ -9,6 +9,12 @@ pub enum Kind {
     Text,
     /// A city object.
     Object,
+    /// An object of attributes, each with a value.
+    Values,
+    /// An array of the names of attributes.
+    Names,
+    /// The geometry of a city object.
+    Geometry,
 }
 
 /// A command that is an object. The member of the command's name is a text.
@@ -27,6 +33,26 @@ pub const FORMS: &[Form] = &[
     Form {
         name: "put",
         others: &[("object", Kind::Object)],
+    },
+    Form {
+        name: "add",
+        others: &[("object", Kind::Object)],
+    },
+    Form {
+        name: "set",
+        others: &[("attributes", Kind::Values)],
+    },
+    Form {
+        name: "unset",
+        others: &[("attributes", Kind::Names)],
+    },
+    Form {
+        name: "reshape",
+        others: &[("geometry", Kind::Geometry)],
+    },
+    Form {
+        name: "expect",
+        others: &[("attributes", Kind::Values)],
     },
     Form {
         name: "delete",
@@ -117,11 +143,11 @@ impl Form {
         None
     }
 
-    /// What it puts, where it puts an object.
-    pub fn object<'t>(&self, members: &'t Map<String, Value>) -> Option<&'t Value> {
+    /// What it gives an object: its member that isn't a text, by the name and the kind.
+    pub fn given(&self) -> Option<(&'static str, Kind)> {
         for (name, kind) in self.others {
-            if *kind == Kind::Object {
-                return members.get(*name);
+            if *kind != Kind::Text {
+                return Some((*name, *kind));
             }
         }
         None

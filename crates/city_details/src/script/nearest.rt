@@ -2,12 +2,12 @@
 use crate::script::forms::{FORMS, WORDS};
 use city_model::OutOfMemory;
 use std::alloc::Global;
-use strsim::levenshtein;
+use strsim::osa_distance;
 
 /// How many bytes a word may have that is compared with the names of commands. A longer one is far from all of them.
 const LONGEST: usize = 32;
 
-/// How many letters of a word may be wrong, missing or too many.
+/// How many letters of a word may be wrong, missing, too many, or swapped with the next.
 const MOST_EDITS: usize = 2;
 
 /// The name of a command, and how many edits of a word lead to it.
@@ -48,7 +48,7 @@ impl Found {
         word: &str,
         name: &'static str,
     ) -> Result<(), OutOfMemory> {
-        let edits = levenshtein(alloc, word, name)?;
+        let edits = osa_distance(alloc, word, name)?;
         if edits < self.edits || (edits == self.edits && name < self.name) {
             self.name = name;
             self.edits = edits;

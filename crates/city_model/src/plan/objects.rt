@@ -24,7 +24,8 @@ pub fn new_object(alloc: Global, body: Body) -> Result<Object, OutOfMemory>
 
 /// An object of this body, with the relations of another.
 pub fn with_body(alloc: Global, object: &Object, body: Body) -> Result<Object, OutOfMemory>
-    ensures { IfOk result (λ o. o ≡ record { body = body; parents = object.now.parents; children = object.now.children }) }
+    ensures { IfOk result (λ o. o
+        ≡ record { body = body; parents = object.now.parents; children = object.now.children }) }
 {
     Ok(Object {
         body: Shared::new(alloc, body)?,

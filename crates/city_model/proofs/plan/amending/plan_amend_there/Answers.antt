@@ -5,4 +5,5 @@ use Rattle.city_model.proofs.plan.amending.plan_amend_there.Goals as goal
 
 pub returns-in_ok-writes-in-Ok : goal.returns-in_ok-writes-in-Ok
 returns-in_ok-writes-in-Ok c m command is =
-    search (rules, amend_writes m command c.args.id.now (amendment_view c.args.amendment) c.args.object.now c.in-Ok.other)
+    let a = amendment_view c.args.amendment in
+    search (rules, amend_writes m command c.args.id.now a c.args.object.now c.in-Ok.other)

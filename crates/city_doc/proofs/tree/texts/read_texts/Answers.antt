@@ -1,6 +1,6 @@
 use Rattle.city_doc.proofs.Prelude.{ap, sym, ◌∙◌, as_str, items_view}
 use Rattle.city_doc.proofs.tree.ReadLists.{read_items-step}
-use Rattle.city_doc.proofs.object.ids.read_ids.Goals as goal
+use Rattle.city_doc.proofs.tree.texts.read_texts.Goals as goal
 
 pub loop-item-preserved : goal.loop-item-preserved
 loop-item-preserved c =
