@@ -1,4 +1,4 @@
-//! What is told of the type and the geometry of an object, in a document or in a put.
+//! What is told of the type and the geometry of an object, in a document or in a command.
 //!
 //! - `nesting`: how boundaries are nested; `walk`: their lists of surfaces and their rings; `place`: where one is
 //! - `geometry`: geometries that can't be read; `position`: positions that name no vertex
