@@ -6,8 +6,6 @@ use Rattle.std.below.std_heap.specs.contracts.GlobalAllocator.TheImpl.{ghosts}
 use Rattle.city_crew.proofs.DeskCrossing.{declared_sends}
 use Rattle.std.proofs.Crossing as values
 use Rattle.std.below.std_heap.specs.contracts.Global as Heap
-use Rattle.std.specs.contracts.collections.VecDeque as VecDeque
-use Rattle.std.specs.contracts.option.Option as Option
 use Rattle.std.proofs.option.Option.TheSendSync as option
 use Rattle.left_right.specs.contracts.writer.Writer as Writer
 use Rattle.left_right.proofs.writer.Writer.TheSendSync as writer

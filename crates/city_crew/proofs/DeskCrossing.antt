@@ -9,23 +9,12 @@ use Rattle.std.proofs.Crossing as values
 use Rattle.std.proofs.MapsCrossing as maps
 use Rattle.serde_json.proofs.value.Value.TheLaws.TheKnot as json
 use Rattle.city_model.proofs.object.Shape.TheSendSync as shapes
-use Rattle.city_model.specs.contracts.command.Cause as Cause
-use Rattle.city_model.specs.contracts.command.Command as Command
-use Rattle.city_model.specs.contracts.command.Reply as Reply
-use Rattle.city_model.specs.contracts.end.End as End
-use Rattle.city_model.specs.contracts.end.Outcome as Outcome
 use Rattle.city_model.specs.contracts.object.Geometry as Geometry
 use Rattle.city_model.specs.contracts.script.Script as Script
-use Rattle.city_locks.specs.contracts.table.LockTable as LockTable
-use Rattle.city_txn.specs.contracts.store.Store as Store
 use Rattle.city_txn.specs.contracts.txn_core.Core as Core
-use Rattle.city_txn.specs.contracts.undo_log.Entry as Entry
-use Rattle.city_txn.specs.contracts.undo_log.UndoLogs as UndoLogs
 use Rattle.city_desk.specs.contracts.desk.Desk as Desk
 use Rattle.city_desk.specs.contracts.desk.Desk.TheInside as DeskInside
 use Rattle.city_desk.proofs.opening_city.OpeningCity.TheSendSync as opening
-use Rattle.city_desk.specs.contracts.progress.Progress as Progress
-use Rattle.city_desk.specs.contracts.replies.Replies as Replies
 
 geometry_sends : IsSend Geometry.the_field.row
 geometry_sends =

@@ -7,7 +7,6 @@ use Rattle.city_crew.proofs.DeskCrossing.{declared_sends, desk_field_sends}
 use denote.Enum.Declared as enums
 use Rattle.std.proofs.Crossing as values
 use Rattle.city_desk.proofs.null_shelf.NullShelf.TheSendSync as null_shelf
-use Rattle.city_crew.specs.contracts.ages.Ages as Ages
 use Rattle.city_crew.specs.contracts.crew_shelf.CrewShelf as CrewShelf
 use Rattle.city_crew.specs.contracts.state.State as State
 use Rattle.city_crew.specs.contracts.state.State.TheInside as StateInside
