@@ -18,6 +18,7 @@ import tempfile
 from concurrent.futures import ThreadPoolExecutor
 
 import changed_texts
+import command_texts
 import hostile_texts
 import known_diagnostics
 import random_runs
@@ -142,7 +143,7 @@ def listed(kind):
 
 
 KINDS = [listed(changed_texts.removed_bytes), replaced_bytes, listed(changed_texts.changed_values)]
-KINDS += [listed(changed_texts.members), listed(hostile_texts.several_faults), listed(hostile_texts.forms)]
+KINDS += [listed(changed_texts.members), listed(command_texts.several_faults), listed(command_texts.forms)]
 KINDS += [listed(hostile_texts.json_table), broken_beginnings, random_texts, turned_round]
 
 

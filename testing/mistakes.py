@@ -4,9 +4,9 @@
     python3 testing/mistakes.py PROGRAM [--table]
 
 PROGRAM is a built cityed. Each mistake is played with --explain, with a terminal as standard error, with a pipe as
-standard error, where the line of the fault has to stay alone, and with --check where it is one of a text. A mistake that
-is no fault is played beside the commands that were meant, and each is told by its replies alone. Prints how many were
-played, or with --table Markdown tables of what is told, and ends at the first wrong answer with status 1.
+standard error, where the line of the fault has to stay alone, and with --check where it is one of a text. A mistake
+that is no fault is played beside the commands that were meant, and each is told by its replies alone. Prints how many
+were played, or with --table Markdown tables of what is told, and ends at the first wrong answer with status 1.
 """
 
 import argparse
@@ -197,7 +197,8 @@ def main():
             return 1
     if asked.table:
         print("\n".join(["| mistake | line | where | what | cure |", "| --- | --- | --- | --- | --- |", *rows]))
-        print("\n".join(["", "| mistake | told | meant | told |", "| --- | --- | --- | --- |", *map(silent_row, SILENT)]))
+        head = ["", "| mistake | told | meant | told |", "| --- | --- | --- | --- |"]
+        print("\n".join([*head, *map(silent_row, SILENT)]))
     else:
         print(f"{len(rows)} mistakes are told as they should be, and {len(SILENT)} by their replies alone")
     return 0

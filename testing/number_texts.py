@@ -291,6 +291,7 @@ def answer_of(model, scripts, order):
     for number, since in order:
         script = scripts[number]
         city, ending, replies = play(city, script)
-        told = {**ending, "name": script.get("name"), "replies": replies, "script": whole(number), "since": whole(since)}
+        placed = {"script": whole(number), "since": whole(since)}
+        told = {**ending, "name": script.get("name"), "replies": replies, **placed}
         lines.append(members(**dict(sorted(told.items()))))
     return lines + [model_of(top, city)]

@@ -32,7 +32,7 @@ SECONDS = 300  # for each page, with --slow 3,600
 SKIPPED = [
     (r"\brt (ci|check|verdict|lib|run|test|all|tidy|plant|must-fail)\b", "it proves", False),
     (r"\b(NAME|NAMES|MODEL|SCRIPTS|OLD|NEW|EDIT|FILE|FUNCTION|RUN|CITY)\b", "the reader fills in a name", False),
-    *([] if shutil.which("snakemake") else [(r"\bsnakemake\b|\btiles\.py\b|/tmp/town", "Snakemake isn't installed", False)]),
+    *([] if shutil.which("snakemake") else [(r"\b(snakemake|tiles\.py)\b|/tmp/town", "Snakemake isn't installed", False)]),
     (r"\bout/city_(tests_tests|scenarios)\b", "it wants another program", False),
     (r"\brt (try|fmt|seed|expand)\b", "minutes", True),
     (r"\btesting/pages\.py", "it is this script", False),
@@ -94,8 +94,8 @@ def commands(lines, first):
             start = number
         part.append(line)
         text = "\n".join(part)
-        words = {"text": True, "stdout": subprocess.PIPE, "stderr": subprocess.STDOUT, "env": {**os.environ, "LC_ALL": "C"}}
-        read = subprocess.run(["bash", "-n"], input=text, **words)
+        words = {"input": text, "text": True, "env": {**os.environ, "LC_ALL": "C"}}
+        read = subprocess.run(["bash", "-n"], stdout=subprocess.PIPE, stderr=subprocess.STDOUT, **words)
         goes_on = re.search(r"(\\|&&|\|)\s*$", line) or "here-document" in read.stdout
         if read.returncode == 0 and not goes_on:
             found.append((start, text))

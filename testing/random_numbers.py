@@ -146,7 +146,7 @@ def edit_scripts(choose, city):
 
 
 def attributes(choose, there):
-    """Attributes of names that may recur, or some that an object has, each with its value or with one that is near it."""
+    """Attributes of names that may recur, or some that an object has, each with its value or with one near it."""
     if not isinstance(there, Members) or choose.random() < 0.3:
         return Members(tuple((choose.choice(NAMES), value(choose, 3)) for _ in range(choose.choice([0, 1, 1, 2, 3]))))
     chosen = [pair for pair in there.pairs if choose.random() < 0.5]
@@ -162,7 +162,8 @@ def of_attributes(choose, name, there):
     named = attributes(choose, there)
     verb = choose.choice(["set", "set", "unset", "expect", "expect"])
     if verb == "unset":
-        return members(unset=name, attributes=[each for each, _ in named.pairs] + choose.choices(NAMES, k=choose.randint(0, 2)))
+        names = [each for each, _ in named.pairs] + choose.choices(NAMES, k=choose.randint(0, 2))
+        return members(unset=name, attributes=names)
     return Members(((verb, name), ("attributes", named)))
 
 
@@ -180,7 +181,8 @@ def script(choose, at, types, there):
             commands.append(of_attributes(choose, name, there.get(name)))
         elif kind < 0.6:
             name = choose.choice(list(there) or IDS)
-            commands.append(members(reshape=name, geometry=[geometry(choose, places) for _ in range(choose.randint(0, 2))]))
+            shapes = [geometry(choose, places) for _ in range(choose.randint(0, 2))]
+            commands.append(members(reshape=name, geometry=shapes))
         elif kind < 0.75:
             commands.append(members(read=name))
         elif kind < 0.87 or not marks:

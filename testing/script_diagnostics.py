@@ -156,7 +156,7 @@ def nearest(given):
 
 
 def edits(one, other):
-    """How many letters have to be put in, taken out, changed, or swapped with the next to make one text of the other."""
+    """How many letters have to be put in, taken out, changed, or swapped with the next: then the texts are one."""
     rows = [list(range(len(other) + 1))]
     for at, letter in enumerate(one, 1):
         row = [at]

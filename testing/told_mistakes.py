@@ -197,7 +197,8 @@ CASES = [
         members={"fault": "BadCommand", "script": 0, "command": 0, "rule": "attributes"},
     ),
     of_scripts(
-        "values where an unset wants names", "7 BadCommand 0 0", [(READ, b'{"unset": "b12", "attributes": {"height": 9}}')],
+        "values where an unset wants names", "7 BadCommand 0 0",
+        [(READ, b'{"unset": "b12", "attributes": {"height": 9}}')],
         where=["script 0\\b.*command 0\\b", 'object "b12"'], what=["array"], cure=["names"],
         members={"fault": "BadCommand", "script": 0, "command": 0, "rule": "attributes"},
     ),
@@ -209,9 +210,9 @@ CASES = [
     ),
     of_scripts(
         "a position out of range in a reshape", "8 BadVertex 0 0",
-        [(READ, b'{"reshape": "b12", "geometry": [{"type": "MultiSurface", "lod": "1", "boundaries": [[[0, 1, 3]]]}]}')],
+        [(READ, b'{"reshape": "b12", "geometry": [{"type": "Solid", "lod": "1", "boundaries": [[[[0, 1, 3]]]]}]}')],
         where=["script 0\\b.*command 0\\b", 'object "b12"', "geometry 0"], what=[r"\b3\b"],
-        members={"fault": "BadVertex", "script": 0, "command": 0, "geometry": 0, "item": 2, "position": 3, "vertices": 3},
+        members={"fault": "BadVertex", "command": 0, "geometry": 0, "shell": 0, "item": 2, "position": 3, "vertices": 3},
     ),
     Mistake(
         "a full place for standard output", "cityed: cannot write", "standard output",
@@ -231,8 +232,8 @@ CASES = [
 class Silent:
     """A mistake that is no fault, so that its reply alone may tell of it; and the commands that were meant.
 
-    Commands are those of scripts, each script with its replies, or with the cause of its refusal. `left` are the members
-    that the building has afterwards.
+    Commands are those of scripts, each script with its replies, or with the cause of its refusal. `left` and `kept` are
+    the members that the building has afterwards.
     """
 
     mistake: str
