@@ -9,7 +9,8 @@ without members may take two allocations, for its id and its body, and a tenth, 
 full. Each script has to commit, the two kinds that have a fault have to be refused, and of the kinds with many faults
 --check has to tell each. Scripts that lock ids of their
 own may have 1.05 times as much allocated at once as scripts that lock the same ids, and an object that is put may take
-2.5 allocations for each attribute. Where scripts meet, sixteen workers may take 1.5 times the processor time of one.
+2.5 allocations for each attribute. Sets on an object of 10,000 points may ask for twice the bytes of sets on one of 10,
+since they share its geometry. Where scripts meet, sixteen workers may take 1.5 times the processor time of one.
 Where valgrind is installed, the instructions of texts whose points would collide are counted too, and may grow six
 times. Prints one line for each kind, and ends with status 1 where one took more or ended otherwise.
 """
@@ -33,6 +34,7 @@ MOST_OF_WORKERS = 1.5
 MOST_AT_ONCE = 1.05
 EACH_ROAD = 2.1
 EACH_ATTRIBUTE = 2.5
+MOST_OF_POINTS = 2
 OF_AN_EMPTY_RUN = 100
 REFUSED = (growth.repeated_child, growth.open_solid)
 COLLIDING = {growth.colliding_points: 2_000, growth.colliding_replies: 500}
@@ -135,6 +137,21 @@ def bodies_are_shared(program, count, *options):
     return say(right, told)
 
 
+def geometries_are_shared(program, sets, edit, *options):
+    """Whether edits of an object's attributes share its geometry: so many, on an object of many points and of few."""
+
+    def bytes_of(points):
+        document, _ = growth.one_ring(points)
+        runs = [(document, [growth.script([edit(number) for number in range(count)])]) for count in (0, sets)]
+        (bare, (_, none, _)), (ran, (_, some, _)) = (program.counts(texts, *options) for texts in runs)
+        return some - none, committed(bare, runs[0][1]) and committed(ran, runs[1][1])
+
+    (few, first), (many, last) = (bytes_of(points) for points in (10, 10_000))
+    name = f"{sets:,} times {next(iter(edit(0)))}{' before a viewer' if options else ''}"
+    told = f"{name} on 10 and on 10,000 points: {few:,} to {many:,} bytes, {many / few:.2f} times"
+    return say(many <= MOST_OF_POINTS * few and first and last, told)
+
+
 def colliding_are_quick(program, kind, count):
     """Whether no text is slow because its points have one hash, if they were hashed so."""
     kept = True
@@ -168,6 +185,12 @@ def main():
         kept += [locks_leave_their_table(program, count) for count in (300, 4_000)]
         kept += [bodies_are_shared(program, count) for count in (1_000, 20_000)]
         kept += [bodies_are_shared(program, count, "--watch", "1") for count in (1_000, 20_000)]
+        for edit in (
+            lambda number: {"set": "a", "attributes": {"n": number}},
+            lambda number: {"unset": "a", "attributes": [f"n{number}"]},
+            lambda number: {"expect": "a", "attributes": {}},
+        ):
+            kept += [geometries_are_shared(program, 1_000, edit, *options) for options in ((), ("--watch", "1"))]
         kept += [workers_sleep(program, count, scripts) for count, scripts in ((300, 200), (900, 60))]
         if shutil.which("valgrind") is None:
             print("instructions aren't counted: valgrind isn't installed")

@@ -27,6 +27,9 @@ EMPTY = (
     b'{"CityObjects":{},"transform":{"scale":[1,1,1],"translate":[0,0,0]},'
     b'"type":"CityJSON","version":"2.0","vertices":[]}'
 )
+ATTRIBUTES = [b"1.5", b"-0", b"7", b"[1.5]", b"[7]", b"[[1.5]]", b"[[[1.5]]]", b"[]", b"[[]]", b'["a"]', b'[["a"]]']
+ATTRIBUTES += [b'[{"#":"1.5"}]', b'{"#":"1.5"}', b'[{"#":["1.5"]}]', b'{"#":["x"]}', b'{"#":1.5}', b"{}", b"[{}]"]
+ATTRIBUTES += [b'["a",1.5]', b'[1.5,"a"]', b"[1.5,2.5]", b'["1.5"]', b'"1.5"', b"null", b"[null]", b"true", b"[true]"]
 WAYS = [(), (), ("--workers", "4"), ("--workers", "2", "--watch", "1")]
 
 
@@ -211,6 +214,19 @@ def named_faults(program, choose, count):
         yield lambda given=(EMPTY, with_puts([number]), "scripts: 3 NotWhole"): program.refused(*given)
 
 
+def named_attributes(program, choose, count):
+    """What may be taken for a number, or for what shields one, as attributes and as attributes of attributes."""
+    texts = ATTRIBUTES + [b'{"attributes":%s,"a":[%s]}' % (text, text) for text in ATTRIBUTES]
+    for text in texts:
+        for space in (b"", b" "):
+            for name in (b"attributes", b"\\u0061ttributes", b"attribute", b"transform"):
+                member = b'"%s":%s%s%s' % (name, space, text, space)
+                thing = b'{"type":"Road",%s}' % member
+                document = EMPTY.replace(b'"CityObjects":{', b'"attributes":%s,"CityObjects":{"a":%s' % (text, thing))
+                scripts = b'[{"name":"s","commands":[{"put":"b","object":%s},{"read":"a"},"commit"]}]' % thing
+                yield lambda given=(document, scripts): bool(program.edited(*given))
+
+
 def limits(program, choose, count):
     """Nesting of 127 and length of 67,108,864 bytes count in the encoded text, and the given text is judged first."""
     for depth in range(120, 131):
@@ -258,7 +274,7 @@ def smallest_changes(program, choose, count):
 
 
 KINDS = [random_texts, random_models, written_again, random_edits, whole_texts]
-KINDS += [json_table, named_faults, limits, smallest_changes]
+KINDS += [json_table, named_faults, named_attributes, limits, smallest_changes]
 
 
 def main():

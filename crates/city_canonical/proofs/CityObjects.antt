@@ -3,14 +3,14 @@ use Rattle.city_canonical.proofs.Prelude.{arith, ◌≡◌, ℕ, ◌<◌, List, 
 use Rattle.city_canonical.proofs.Prelude.{codes, refl, sym, ap, subst, ◌∙◌, ◌^◌, map, flat_map, option_map}
 use Rattle.city_canonical.proofs.Prelude.{option_and_then, and_parts, list_all-append, bytes_eq-Decides, bytes_eq}
 use Rattle.city_canonical.proofs.Prelude.{HasNumbers, ItemsHaveNumbers, MembersHaveNumbers, Some_inj, not_found, Data}
-use Rattle.city_canonical.proofs.Prelude.{string, object, Items, no_items, item, Members, no_members, put, get}
-use Rattle.city_canonical.proofs.Prelude.{get_member, as_str, as_array, of_json, of_items, of_members, items_of}
-use Rattle.city_canonical.proofs.Prelude.{outline, items_outline, members_outline, Geometry, Object, Point, has_id}
-use Rattle.city_canonical.proofs.Prelude.{AreOrdered, by_id, is_tag, encoded, encoded_items, encoded_members, decoded}
-use Rattle.city_canonical.proofs.Prelude.{decoded_items, decoded_members, mapped, bound, geometry_points, object_points}
-use Rattle.city_canonical.proofs.Prelude.{object_data, boundaries_data, listed, object_of, nested_of, geometry_type}
-use Rattle.city_canonical.proofs.Prelude.{shape_name, read_items, list_of, put_list, and_then_some, map_some, is_in}
-use Rattle.city_canonical.proofs.Prelude.{are_in, array_is, object_is, placed, or_empty, list_at}
+use Rattle.city_canonical.proofs.Prelude.{string, object, Items, no_items, item, Members, no_members, put, get_member}
+use Rattle.city_canonical.proofs.Prelude.{as_str, as_array, of_json, of_items, of_members, items_of, outline}
+use Rattle.city_canonical.proofs.Prelude.{items_outline, members_outline, Geometry, Object, Point, has_id, AreOrdered}
+use Rattle.city_canonical.proofs.Prelude.{by_id, is_shielded, has_shield, encoded, encoded_items, encoded_members}
+use Rattle.city_canonical.proofs.Prelude.{decoded, decoded_items, decoded_members, mapped, bound, geometry_points}
+use Rattle.city_canonical.proofs.Prelude.{object_points, object_data, boundaries_data, listed, object_of, nested_of}
+use Rattle.city_canonical.proofs.Prelude.{geometry_type, shape_name, read_items, list_of, put_list, and_then_some}
+use Rattle.city_canonical.proofs.Prelude.{map_some, is_in, are_in, array_is, object_is, placed, or_empty, list_at}
 use Rattle.city_model.specs.declared.object_type.ObjectType.{ObjectType}
 use Rattle.city_model.specs.Types.{name_of, first_named, all_types, type_named}
 use Rattle.city_doc.specs.shape.Canonical.{geometry_data}
@@ -90,23 +90,26 @@ ids_list : (d : Data) (ids : List (List ℕ)) → list_of as_str d ≡ Some ids 
 ids_list d ids h = let ds = and_then_some (read_items as_str) (as_array d) ids h in search (arith, array_is, ids_data)
 
 -- what is written for a list of texts is the list, unless it is empty
-texts_written : (name : List ℕ) (xs : List (List ℕ)) → is_tag name ≡ false → IsPlain (list_data string xs)
+texts_written : (name : List ℕ) (xs : List (List ℕ)) → ((j : json.Json) → has_shield name j ≡ false)
+    → IsPlain (list_data string xs)
     → option_map (value_at false name) (listed string xs) ≡ unless_empty (Some (outline (list_data string xs)))
 texts_written name [] e plain = refl
-texts_written name (x ∷ xs) e plain = rw (e, plain_decoded (list_data string (x ∷ xs)) plain) refl
+texts_written name (x ∷ xs) e plain =
+    rw (e (decoded (outline (list_data string (x ∷ xs)))), plain_decoded (list_data string (x ∷ xs)) plain) refl
 
 -- the ids that were read are written
 ids_same : (name : List ℕ) (js : json.Members) (ms : Members) (ids : List (List ℕ)) (r : Option Data)
-    → is_tag name ≡ false → of_members (encoded_members false js) no_members ≡ Some ms → get_member name ms ≡ r
+    → ((j : json.Json) → is_shielded name j ≡ false) → ((j : json.Json) → has_shield name j ≡ false)
+    → of_members (encoded_members false js) no_members ≡ Some ms → get_member name ms ≡ r
     → list_or_absent as_str r ≡ Some ids
     → option_map (value_at false name) (listed string ids) ≡ unless_empty (look.get_member name js)
-ids_same name js ms ids None e read at h = search (arith, none_read)
-ids_same name js ms ids (Some d) e read at h =
+ids_same name js ms ids None bare e read at h = search (arith, none_read)
+ids_same name js ms ids (Some d) bare e read at h =
     let found = found_read false name js ms d read at in
-    let bare : of_json (encoded found.0) ≡ Some d = rw e at found.2 in
+    let plainly : of_json (encoded found.0) ≡ Some d = rw (bare found.0) at found.2 in
     let plain = list_plain as_str text_plain d ids h in
     let is = ids_list d ids h in
-    rw (found.1, (itself found.0 d bare plain).1, is) (texts_written name ids e (subst IsPlain is plain))
+    rw (found.1, (itself found.0 d plainly plain).1, is) (texts_written name ids e (subst IsPlain is plain))
 
 -- ---- lists of geometries
 
@@ -281,9 +284,9 @@ module _ (vs ws : json.Items) (ps pool : List Point) (small : length pool < 2 ^ 
             members = λ name apart.
                 member_same false name js p.ms all refl numbers read all_ordered (same_at name apart);
             parents = found_at (codes "parents") (listed string o.parents) (rw p.extra (simp lookups))
-                ∙ ids_same (codes "parents") js p.ms o.parents _ refl read refl p.parents;
+                ∙ ids_same (codes "parents") js p.ms o.parents _ (λ j. refl) (λ j. refl) read refl p.parents;
             children = found_at (codes "children") (listed string o.children) (rw p.extra (simp lookups))
-                ∙ ids_same (codes "children") js p.ms o.children _ refl read refl p.children;
+                ∙ ids_same (codes "children") js p.ms o.children _ (λ j. refl) (λ j. refl) read refl p.children;
             geometry = rw list_there geometries.0;
             not_empty = ap unless_empty there ∙ (listed_both (geometry_data pool) o.body.geometry).1 ∙ sym there;
           },

@@ -1,5 +1,6 @@
 pub mod Boundaries
 pub mod CityObjects
+pub mod Edits
 pub mod Members
 pub mod Models
 pub mod Prelude

@@ -5,9 +5,9 @@ use Rattle.city_canonical.proofs.Prelude.{AllByRecursion, is_eq-slice_cmp, bytes
 use Rattle.city_canonical.proofs.Prelude.{MembersHaveNumbers, Some_inj, not_found, Data, string, array, object, Items}
 use Rattle.city_canonical.proofs.Prelude.{Members, no_members, member, put, get_member, as_str, of_json, of_items}
 use Rattle.city_canonical.proofs.Prelude.{of_members, outline, members_outline, same_id, has_id, AreOrdered, by_id}
-use Rattle.city_canonical.proofs.Prelude.{is_tag, is_text_or_array, only, encoded, encoded_items, encoded_members}
-use Rattle.city_canonical.proofs.Prelude.{number_in, out_of_form, decoded, decoded_members, arranged, kept, put_list}
-use Rattle.city_canonical.proofs.Prelude.{listed, and_then_some}
+use Rattle.city_canonical.proofs.Prelude.{is_tag, is_shielded, encoded, encoded_items, encoded_members, number_in}
+use Rattle.city_canonical.proofs.Prelude.{out_of_form, decoded, decoded_members, arranged, kept, put_list, listed}
+use Rattle.city_canonical.proofs.Prelude.{and_then_some}
 use Rattle.std.proofs.Common.{Ordering, Equal, is_eq}
 use Rattle.std.specs.Option.{option_or}
 use Rattle.std.specs.Ordering.{match_ordering}
@@ -18,9 +18,7 @@ use Rattle.city_model.specs.Members.{without, AllAbove}
 use Rattle.city_model.proofs.Ids.{same_id_itself, same_id_back}
 use Rattle.city_model.proofs.MemberLaws.{get_member-without, get_member-without_same}
 use Rattle.city_decimals.specs.Shapes.{form_of, in_form}
-use Rattle.city_decimals.proofs.Bools.{and_left}
-use Rattle.city_decimals.proofs.Kept.{same_kind}
-use Rattle.city_decimals.proofs.RoundTrip.{only_other}
+use Rattle.city_decimals.proofs.Kept.{kept_at}
 use Rattle.city_doc.proofs.Laws.{get_member-put_apart, ordered_put}
 use Rattle.city_canonical.specs.Members.{IsBelow, Ascend}
 use Rattle.json.specs.Json as json
@@ -192,10 +190,11 @@ decoded_object ms h = rw h refl
 no_frame : (a b c : Bool) → (a && b) ≡ false → (a && (b && c)) ≡ false
 no_frame a b c e = grind arith
 
-kept_form : (name : List ℕ) (b : Bool) (j : json.Json) (d : Data) → (is_tag name && is_text_or_array j) ≡ b
-    → HasNumbers j → member_read false name j ≡ Some d
-    → cond (is_tag name) (only (decoded (outline d))) (decoded (outline d)) ≡ arranged j
-kept_form name b j d e h is = search (arith, kept, and_left, only_other, same_kind)
+kept_form : (name : List ℕ) (j : json.Json) (d : Data) → HasNumbers j → member_read false name j ≡ Some d
+    → value_at false name d ≡ arranged j
+kept_form name j d h is =
+    let k = kept_at name j (is_shielded name j) refl (kept j h) in
+    ap (value_at false name) (Some_inj _ _ (sym is ∙ k.read)) ∙ k.back
 
 kept_value : (top : Bool) (name : List ℕ) (j : json.Json) → HasNumbers j
     → (top && bytes_eq name (codes "transform")) ≡ false → (d : Data) → member_read top name j ≡ Some d

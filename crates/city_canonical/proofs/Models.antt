@@ -1,14 +1,14 @@
 -- A model that was read of an encoded one, is written and decoded, is the same model.
 use Rattle.city_canonical.proofs.Prelude.{arith, ◌≡◌, ℕ, zero, suc, List, [], ◌∷◌, Bool, true, false, cond, Option}
-use Rattle.city_canonical.proofs.Prelude.{Some, None, nat_cmp, codes, refl, sym, ap, subst, ◌∙◌, ◌&&◌, map, flat_map}
+use Rattle.city_canonical.proofs.Prelude.{Some, None, nat_cmp, codes, refl, sym, ap, subst, ◌∙◌, map, flat_map}
 use Rattle.city_canonical.proofs.Prelude.{option_map, option_and_then, slice_cmp, All, and_parts, All-nil, All-cons}
 use Rattle.city_canonical.proofs.Prelude.{All-weaker, list_all-append, is_eq-slice_cmp, bytes_eq-Decides, HasNumbers}
 use Rattle.city_canonical.proofs.Prelude.{MembersHaveNumbers, Some_inj, not_found, Data, string, array, object, Items}
 use Rattle.city_canonical.proofs.Prelude.{Members, no_members, member, put, get, get_member, as_array, of_json}
 use Rattle.city_canonical.proofs.Prelude.{of_members, items_of, outline, items_outline, members_outline, Geometry}
-use Rattle.city_canonical.proofs.Prelude.{Object, Point, CityValue, same_id, has_id, AreOrdered, by_id, is_tag}
-use Rattle.city_canonical.proofs.Prelude.{is_text_or_array, only, encoded, encoded_members, encoded_top, number_in}
-use Rattle.city_canonical.proofs.Prelude.{decoded, decoded_members, decoded_top, geometry_points, object_points}
+use Rattle.city_canonical.proofs.Prelude.{Object, Point, CityValue, same_id, has_id, AreOrdered, by_id, is_shielded}
+use Rattle.city_canonical.proofs.Prelude.{has_shield, only, encoded, encoded_members, encoded_top, number_in}
+use Rattle.city_canonical.proofs.Prelude.{decoded_members, decoded_top, geometry_points, object_points}
 use Rattle.city_canonical.proofs.Prelude.{pool_of, IsInRange, transform_data, tree_of, object_data, vertex_data}
 use Rattle.city_canonical.proofs.Prelude.{object_of, read_items, point_of, points_of, and_then_some, map_some, is_in}
 use Rattle.city_canonical.proofs.Prelude.{are_in, array_is, object_is, or_empty, list_at}
@@ -30,7 +30,7 @@ use Rattle.city_tokens.specs.tree.Members.{is_text}
 use Rattle.city_doc.proofs.Laws.{points_in_pool, in_turn, written_in_turn, ordered_in_turn, at_listed, found}
 use Rattle.city_doc.proofs.Laws.{frame_parts, stands_for}
 use Rattle.city_canonical.specs.Members.{IsInOrder, IsSameAt}
-use Rattle.city_canonical.specs.Same.{IsUsed, IsSameObjectOrNone, object_at, IsSameModel}
+use Rattle.city_canonical.specs.Same.{IsUsed, IsSameObjectOrNone, IsSameModel}
 use Rattle.city_canonical.proofs.CityObjects.{IsShown, AreShown, object_same, object_decoded}
 use Rattle.city_canonical.proofs.Members.{IsRead, member_read, value_at, object_read, found_read, read_members, lookups}
 use Rattle.city_canonical.proofs.Members.{ordered, ascend_decoded, decoded_members_at, no_number, decoded_object}
@@ -112,7 +112,7 @@ points_within pool (e ∷ es) id o all h =
 
 -- an id is no name that is shielded
 bare_read : (ps : List Point) (id : List ℕ) (j : json.Json) (d : Data) (o : Object) (b : Bool)
-    → (is_tag id && is_text_or_array j) ≡ b → member_read false id j ≡ Some d → object_of ps d ≡ Some o
+    → is_shielded id j ≡ b → member_read false id j ≡ Some d → object_of ps d ≡ Some o
     → of_json (encoded j) ≡ Some d
 bare_read ps id j d o b e is h = grind arith
 
@@ -255,7 +255,8 @@ module _ (js : json.Members) (ms : Members) (c : CityValue) (numbers : MembersHa
   object_step id (Some j) numbers is =
       let f = found p.ps p.objs p.list id is.0 p.entries_are is.2 in
       let here = same_found id ∙ f.2 in
-      let value = turn_found id (Some f.0) here ∙ ap Some (only_object (is_tag id) _ _ (object_decoded pool f.0)) in
+      let value = turn_found id (Some f.0) here ∙ ap Some (only_object (has_shield id _) _ _
+      (object_decoded pool f.0)) in
       let same = object_same vs ws p.ps pool range.fewer show show_written j is.0 f.0 numbers
       (bare_read p.ps id j is.0 f.0 _ refl is.1 f.1) f.1
       (points_within pool (entries c.1) id f.0 (points_in_pool (city_points c)) here) in

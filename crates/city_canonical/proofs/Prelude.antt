@@ -25,7 +25,7 @@ pub use Rattle.city_decimals.specs.Arranged.{arranged}
 pub use Rattle.city_decimals.specs.Decoded.{decoded, decoded_items, decoded_members, decoded_top, number_in}
 pub use Rattle.city_decimals.specs.Decoded.{out_of_form}
 pub use Rattle.city_decimals.specs.Encoded.{encoded, encoded_items, encoded_members, encoded_top}
-pub use Rattle.city_decimals.specs.Shapes.{is_tag, is_text_or_array, only}
+pub use Rattle.city_decimals.specs.Shapes.{has_shield, is_shielded, is_tag, only}
 pub use Rattle.city_decimals.specs.Texts.{IsDecimalsFault, IsDecoded}
 pub use Rattle.city_doc.proofs.Laws.{are_in, array_is, is_in, object_is}
 pub use Rattle.city_doc.specs.Pool.{geometry_points, object_points, pool_of, shape_points}

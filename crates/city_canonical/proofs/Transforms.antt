@@ -1,7 +1,7 @@
 -- A transform that was framed is written in its frame, and decoded as it was.
 use Rattle.city_canonical.proofs.Prelude.{◌≡◌, ℕ, ℤ, List, [], ◌∷◌, Bool, true, false, Some, None, codes, refl, sym, ap}
 use Rattle.city_canonical.proofs.Prelude.{◌∙◌, arith, HasNumbers, Some_inj, Data, string, object, Members, no_members}
-use Rattle.city_canonical.proofs.Prelude.{member, get, get_member, of_json, outline, number_of-decimal, encoded}
+use Rattle.city_canonical.proofs.Prelude.{member, get_member, of_json, outline, number_of-decimal, encoded}
 use Rattle.city_canonical.proofs.Prelude.{decoded, out_of_form, arranged, kept, transform_data, triple_of}
 use Rattle.city_canonical.proofs.Prelude.{and_then_some}
 use Rattle.std.proofs.Common.{pos, decimal}

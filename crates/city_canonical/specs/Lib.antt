@@ -3,3 +3,4 @@ pub mod Placed
 pub mod Same
 pub mod Texts
 pub mod Faults
+pub mod Edited

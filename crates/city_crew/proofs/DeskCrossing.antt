@@ -1,16 +1,20 @@
 -- A desk may go to other threads where its shelf may.
 use Rattle.city_crew.proofs.Prelude.{RattleType, shape, IsSend, recorded_send, struct_send, view_send, sendable}
 use Rattle.city_crew.proofs.Prelude.{city_field_sends}
+use denote.Param.Send.{IsSync}
 use denote.Struct.Declared.{Declared, row, field}
-use Rattle.city_model.proofs.Crossing.{text_sends, body_sends, object_sends}
+use Rattle.city_model.proofs.Crossing.{text_sends, text_syncs, body_sends, object_sends}
 use Rattle.city_desk.specs.declared.shelf.Shelf.{Ghosts}
 use Rattle.std.proofs.Crossing as values
 use Rattle.std.proofs.MapsCrossing as maps
+use Rattle.serde_json.proofs.value.Value.TheLaws.TheKnot as json
+use Rattle.city_model.proofs.object.Shape.TheSendSync as shapes
 use Rattle.city_model.specs.contracts.command.Cause as Cause
 use Rattle.city_model.specs.contracts.command.Command as Command
 use Rattle.city_model.specs.contracts.command.Reply as Reply
 use Rattle.city_model.specs.contracts.end.End as End
 use Rattle.city_model.specs.contracts.end.Outcome as Outcome
+use Rattle.city_model.specs.contracts.object.Geometry as Geometry
 use Rattle.city_model.specs.contracts.script.Script as Script
 use Rattle.city_locks.specs.contracts.table.LockTable as LockTable
 use Rattle.city_txn.specs.contracts.store.Store as Store
@@ -23,6 +27,26 @@ use Rattle.city_desk.proofs.opening_city.OpeningCity.TheSendSync as opening
 use Rattle.city_desk.specs.contracts.progress.Progress as Progress
 use Rattle.city_desk.specs.contracts.replies.Replies as Replies
 
+geometry_sends : IsSend Geometry.the_field.row
+geometry_sends =
+    search (text_sends, shapes.the_field_send, maps.crosses, values.crosses, json.crosses, sendable) depth 60 fits 20000
+
+geometry_syncs : IsSync Geometry.the_field.row
+geometry_syncs =
+    search (text_syncs, shapes.the_field_sync, maps.crosses, values.crosses, json.crosses, sendable) depth 60 fits 20000
+
+script_sends : IsSend Script.the_field.row
+script_sends = search (
+  text_sends,
+  body_sends,
+  geometry_sends,
+  geometry_syncs,
+  maps.crosses,
+  values.crosses,
+  json.crosses,
+  sendable,
+) depth 60 fits 20000
+
 core_sends : IsSend Core.the_field.row
 core_sends = search (text_sends, object_sends, city_field_sends, maps.crosses, values.crosses, sendable)
     depth 60 fits 20000
@@ -33,7 +57,7 @@ desk_inside_sends S N G s = struct_send (shape (DeskInside.the_type S N G)) (
   (
     opening.the_send,
     (
-      search (text_sends, body_sends, values.crosses, sendable) depth 60 fits 20000,
+      search (script_sends, values.crosses, sendable) depth 60 fits 20000,
       (
         search (text_sends, values.crosses, sendable) depth 60 fits 20000,
         (

@@ -3,7 +3,7 @@ use Rattle.city_decimals.proofs.Prelude.{◌≡◌, ℕ, ◌-◌, ◌<◌, ◌�
 use Rattle.city_decimals.proofs.Prelude.{None, refl, sym, ap, ◌∙◌, arith, append_assoc, append-nil, codes, IfSome}
 use Rattle.city_decimals.proofs.Prelude.{bytes_eq, bytes_eq-Decides, Items, Json, null, boolean, number, string, array}
 use Rattle.city_decimals.proofs.Prelude.{object, no_items, item, Members, no_members, member, escape, quoted, IsNumber}
-use Rattle.city_decimals.proofs.Prelude.{HasNumbers, depth, Some_inj, is_tag, is_transform, tag, decoded}
+use Rattle.city_decimals.proofs.Prelude.{HasNumbers, depth, Some_inj, is_attributes, is_tag, is_transform, tag, decoded}
 use Rattle.city_decimals.proofs.Prelude.{decoded_members, number_in, number_or, Moves, value_text, items_text}
 use Rattle.city_decimals.proofs.Prelude.{members_text, comma_if, State, IsUntagged, IsCopied, IsItemCopied}
 use Rattle.city_decimals.proofs.Prelude.{AreItemsCopied, AreMembersCopied, IsFrameCopied}
@@ -14,6 +14,8 @@ use Rattle.json.specs.Text.{content, plain}
 use Rattle.json.specs.Word.{after_number}
 use Rattle.json.proofs.Printed.Strings.{content-escape}
 use Rattle.city_decimals.specs.inside.Compact.{IsMemberCopied, IsKeyPassed}
+use Rattle.city_decimals.specs.inside.Forms.{is_bare, BeginsBare}
+use Rattle.city_decimals.proofs.Bare.{begins_bare}
 
 pub moves_on : (a b d : State) (xs ys us vs : List ℕ) → Moves a b xs ys → Moves b d us vs
     → Moves a d (xs ++ us) (ys ++ vs)
@@ -213,13 +215,29 @@ member_of f m later limit a b d k j passed moves form untagged numbers shallow =
       shallow = shallow;
     }
 
+escaped_attributes : escape (codes "attributes") ≡ codes "attributes"
+unfolding escape_byte
+escaped_attributes = refl
+
+bare_value : (k key : List ℕ) (j : Json) (text rest : List ℕ) → key ≡ escape k → HasNumbers j
+    → text ≡ value_text j ++ rest → (bytes_eq key (codes "attributes") ≡ true → BeginsBare text)
+    → is_attributes k ≡ true → is_bare j ≡ true
+bare_value k key j text rest is h e begins at =
+    begins_bare j text rest h e (begins ((bytes_eq-Decides key (codes "attributes")).1 (is
+    ∙ ap escape ((bytes_eq-Decides k (codes "attributes")).0 at) ∙ escaped_attributes)))
+
 pub member_plain : (f : Json → Json) (m : Bool → List ℕ → Json → Json)
-    → ((top : Bool) (k : List ℕ) (j : Json) → (top && is_transform k j) ≡ false → is_tag k ≡ false → m top k j ≡ f j)
+    → ((top : Bool) (k : List ℕ) (j : Json) → (top && is_transform k j) ≡ false → is_tag k ≡ false
+    → (is_attributes k ≡ true → is_bare j ≡ true) → m top k j ≡ f j)
     → (later top : Bool) (limit : ℕ) (a b d : State) (key : List ℕ) → IsKeyPassed later key a b
-    → bytes_eq key (35 ∷ []) ≡ false → (top && bytes_eq key (codes "transform")) ≡ false → IsCopied f limit b d
+    → bytes_eq key (35 ∷ []) ≡ false → (top && bytes_eq key (codes "transform")) ≡ false
+    → (bytes_eq key (codes "attributes") ≡ true → BeginsBare b.2) → IsCopied f limit b d
     → IsMemberCopied (m top) later limit a d
-member_plain f m form later top limit a b d key passed other no_frame rest =
-    search (arith, untagged_key, member_of, not_framed)
+member_plain f m form later top limit a b d key (k, is, passed) other no_frame begins rest =
+    let untagged = untagged_key k key is other in
+    member_of f (m top) later limit a b d k rest.j passed rest.moves (form top k rest.j
+    (not_framed top k key rest.j is no_frame) untagged
+    (bare_value k key rest.j b.2 d.2 is rest.numbers rest.moves.0 begins)) untagged rest.numbers rest.shallow
 
 pub member_framed : (f : Json → Json) (m : Bool → List ℕ → Json → Json)
     → ((top : Bool) (k : List ℕ) (j : Json) → top ≡ true → is_transform k j ≡ true → m top k j ≡ f j)

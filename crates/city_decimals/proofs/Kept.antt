@@ -1,12 +1,12 @@
 -- What the editor keeps is decoded to what was there.
 use Rattle.city_decimals.proofs.Prelude.{arith, ◌≡◌, ℕ, List, Bool, true, false, cond, Option, Some, None, Ordering}
-use Rattle.city_decimals.proofs.Prelude.{nat_cmp, refl, ap, ap₂, ◌∙◌, subst, ◌&&◌, codes, option_map, option_and_then}
+use Rattle.city_decimals.proofs.Prelude.{nat_cmp, refl, ap, ap₂, ◌∙◌, subst, codes, option_map, option_and_then}
 use Rattle.city_decimals.proofs.Prelude.{match_ordering, slice_cmp, bytes_eq-Decides, HasNumbers, ItemsHaveNumbers}
 use Rattle.city_decimals.proofs.Prelude.{MembersHaveNumbers, Num, Data, put, number_of, of_json, of_items, of_members}
-use Rattle.city_decimals.proofs.Prelude.{is_written_so, is_whole, is_number, is_end, tag, is_tag, is_text_or_array}
-use Rattle.city_decimals.proofs.Prelude.{is_frame, in_form, framed, only, tagged, encoded, encoded_items}
-use Rattle.city_decimals.proofs.Prelude.{encoded_members, number_under, number_in, number_or, out_of_form, decoded}
-use Rattle.city_decimals.proofs.Prelude.{decoded_items, decoded_members, Plain, Shielded}
+use Rattle.city_decimals.proofs.Prelude.{is_written_so, is_whole, is_number, is_end, tag, is_shielded, is_frame}
+use Rattle.city_decimals.proofs.Prelude.{in_form, framed, only, tagged, encoded, encoded_items, encoded_members}
+use Rattle.city_decimals.proofs.Prelude.{number_under, number_in, number_or, out_of_form, decoded, decoded_items}
+use Rattle.city_decimals.proofs.Prelude.{decoded_members, Plain, Shielded}
 use Rattle.std.proofs.Common.{Less, Equal, Greater}
 use Rattle.std.proofs.lemmas.Map.Lookups.{exact_bytes}
 use Rattle.serde_json.specs.Data.{null, boolean, number, string, array, object, Items, no_items, item, Members}
@@ -14,19 +14,19 @@ use Rattle.serde_json.specs.Data.{no_members, member}
 use Rattle.serde_json.specs.Written.{outline, items_outline, members_outline}
 use Rattle.city_decimals.specs.Arranged.{arranged, arranged_items, arranged_members}
 use Rattle.city_decimals.specs.Kept.{IsKept}
-use Rattle.city_decimals.proofs.Bools.{and_left, contradiction}
-use Rattle.city_decimals.proofs.RoundTrip.{number_back}
+use Rattle.city_decimals.proofs.Bools.{contradiction}
+use Rattle.city_decimals.proofs.RoundTrip.{number_back, shield_is}
 use Rattle.json.specs.Json as json
 use Rattle.city_decimals.specs.Arranged as spec
 
 -- ---- members, one after another
 
 -- no member is a text under the tag
-abbrev ArePlain : Members → Type 0
+abbrev pub ArePlain : Members → Type 0
 ArePlain no_members = Unit {0}
 ArePlain (member k d ms) = (number_under k (outline d) ≡ None) × ArePlain ms
 
-plain_encodes_none : (ms : Members) → ArePlain ms → number_in (members_outline ms) ≡ None
+pub plain_encodes_none : (ms : Members) → ArePlain ms → number_in (members_outline ms) ≡ None
 plain_encodes_none no_members h = refl
 plain_encodes_none (member k d no_members) h = h.0
 plain_encodes_none (member k d (member l e ms)) h = refl
@@ -38,14 +38,14 @@ plain_at Less k l d e ms at h hs rest = (h, hs)
 plain_at Equal k l d e ms at h hs rest = (subst (λ n. number_under n (outline d) ≡ None) (exact_bytes k l at) h, hs.1)
 plain_at Greater k l d e ms at h hs rest = (hs.0, rest)
 
-plain_put : (k : List ℕ) (d : Data) (ms : Members) → number_under k (outline d) ≡ None → ArePlain ms
+pub plain_put : (k : List ℕ) (d : Data) (ms : Members) → number_under k (outline d) ≡ None → ArePlain ms
     → ArePlain (put k d ms)
 plain_put k d no_members h hs = (h, tt)
 plain_put k d (member l e ms) h hs =
     plain_at (slice_cmp nat_cmp k l) k l d e ms refl h hs (plain_put k d ms h hs.1)
 
 -- what stands at the name k, once decoded
-abbrev value_at : List ℕ → Data → json.Json
+abbrev pub value_at : List ℕ → Data → json.Json
 value_at k d = out_of_form false k (outline d) (decoded (outline d))
 
 decoded_at : (o : Ordering) (k l : List ℕ) (d e : Data) (ms : Members) → slice_cmp nat_cmp k l ≡ o
@@ -60,7 +60,7 @@ decoded_at Less k l d e ms at rest = refl
 decoded_at Equal k l d e ms at rest = grind (arith, exact_bytes k l at)
 decoded_at Greater k l d e ms at rest = ap (json.member l (value_at l e)) rest
 
-decoded_put : (k : List ℕ) (d : Data) (ms : Members)
+pub decoded_put : (k : List ℕ) (d : Data) (ms : Members)
     → decoded_members false (members_outline (put k d ms))
     ≡ spec.put k (value_at k d) (decoded_members false (members_outline ms))
 decoded_put k d no_members = refl
@@ -68,24 +68,25 @@ decoded_put k d (member l e ms) = decoded_at (slice_cmp nat_cmp k l) k l d e ms 
 
 -- ---- one member
 
-pub same_kind : (j : json.Json) → is_text_or_array (arranged j) ≡ is_text_or_array j
-same_kind j = grind arith
+pub same_form : (k : List ℕ) (j : json.Json) → is_shielded k (arranged j) ≡ is_shielded k j
+same_form k j = grind arith
 
 -- a value that was read, for a member of the name k
-record IsKeptAt (k : List ℕ) (c j : json.Json) : Type 0 where
-  d : Data
-  read : of_json c ≡ Some d
-  back : value_at k d ≡ arranged j
-  plain : number_under k (outline d) ≡ None
+pub record IsKeptAt (k : List ℕ) (c j : json.Json) : Type 0 where
+  pub d : Data
+  pub read : of_json c ≡ Some d
+  pub back : value_at k d ≡ arranged j
+  pub plain : number_under k (outline d) ≡ None
 
-kept_at : (k : List ℕ) (j : json.Json) (b : Bool) → (is_tag k && is_text_or_array j) ≡ b → IsKept j
+pub kept_at : (k : List ℕ) (j : json.Json) (b : Bool) → is_shielded k j ≡ b → IsKept j
     → IsKeptAt k (in_form (cond b Shielded Plain) (encoded j)) j
 kept_at k j true e i =
     let r = json.array (json.item (decoded (outline i.d)) json.no_items) in
     record {
       d = array (item i.d no_items);
       read = ap (λ o. option_map array (option_and_then (λ d. option_map (item d) (Some no_items)) o)) i.read;
-      back = ap (λ b. cond b (only r) r) (and_left (is_tag k) (is_text_or_array j) e) ∙ i.back;
+      back = ap (λ b. cond b (only r) r) (shield_is k (decoded (outline i.d)) (ap (is_shielded k) i.back
+          ∙ same_form k j ∙ e)) ∙ i.back;
       plain = refl;
     }
 kept_at k j false e i = grind arith
@@ -97,11 +98,11 @@ record AreKept (js : json.Items) : Type 0 where
   read : of_items (encoded_items js) ≡ Some ds
   back : decoded_items (items_outline ds) ≡ arranged_items js
 
-record AreKeptAfter (found : Members) (ready : json.Members) (ms : json.Members) : Type 0 where
-  ds : Members
-  read : of_members (encoded_members false ms) found ≡ Some ds
-  back : decoded_members false (members_outline ds) ≡ arranged_members ms ready
-  plain : ArePlain ds
+pub record AreKeptAfter (found : Members) (ready : json.Members) (ms : json.Members) : Type 0 where
+  pub ds : Members
+  pub read : of_members (encoded_members false ms) found ≡ Some ds
+  pub back : decoded_members false (members_outline ds) ≡ arranged_members ms ready
+  pub plain : ArePlain ds
 
 number_found : (s : List ℕ) (o : Option Num) → number_of s ≡ o → is_written_so s o ≡ true
     → (d : Data) × (option_map number (number_of s) ≡ Some d) × (decoded (outline d) ≡ json.number s)
@@ -143,11 +144,11 @@ mutual
         back = ap₂ json.item i.back k.back;
       }
 
-  members_kept : (ms : json.Members) → MembersHaveNumbers ms → (found : Members) (ready : json.Members)
+  pub members_kept : (ms : json.Members) → MembersHaveNumbers ms → (found : Members) (ready : json.Members)
       → decoded_members false (members_outline found) ≡ ready → ArePlain found → AreKeptAfter found ready ms
   members_kept json.no_members h found ready same plain = record { ds = found; read = refl; back = same; plain = plain }
   members_kept (json.member k j ms) h found ready same plain =
-      let m = kept_at k j (is_tag k && is_text_or_array j) refl (kept j h.0) in
+      let m = kept_at k j (is_shielded k j) refl (kept j h.0) in
       let rest = members_kept ms h.1 (put k m.d found) (spec.put k (arranged j) ready) (decoded_put k m.d found
       ∙ ap₂ (spec.put k) m.back same) (plain_put k m.d found m.plain plain) in
       record {

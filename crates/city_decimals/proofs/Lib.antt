@@ -1,9 +1,12 @@
+pub mod Attributes
+pub mod Bare
 pub mod Bools
 pub mod Changes
 pub mod CompactForms
 pub mod CompactTexts
 pub mod Copied
 pub mod Copies
+pub mod Edits
 pub mod Forms
 pub mod Insides
 pub mod JsonLines
@@ -12,6 +15,8 @@ pub mod Objects
 pub mod OneLine
 pub mod PlainNumbers
 pub mod Prelude
+pub mod Puts
+pub mod Rereads
 pub mod RoundTrip
 pub mod Starts
 pub mod Streams

@@ -34,8 +34,9 @@ pub use Rattle.city_decimals.specs.Decoded.{number_under, out_of_form}
 pub use Rattle.city_decimals.specs.Encoded.{encoded, encoded_items, encoded_members, encoded_top, tagged}
 pub use Rattle.city_decimals.specs.Lines.{AreDecodedLines, IsDecodedLine, IsLinesFault}
 pub use Rattle.city_decimals.specs.Numbers.{is_end, is_number, is_whole, is_written_so}
-pub use Rattle.city_decimals.specs.Shapes.{form_of, framed, fronted, in_form, is_frame, is_tag, is_text_or_array}
-pub use Rattle.city_decimals.specs.Shapes.{is_transform, only, tag}
+pub use Rattle.city_decimals.specs.Shapes.{form_of, framed, fronted, has_shield, in_form, is_attributes}
+pub use Rattle.city_decimals.specs.Shapes.{is_fraction, is_frame, is_shielded, is_single, is_tag, is_text}
+pub use Rattle.city_decimals.specs.Shapes.{is_text_or_array, is_transform, only, tag}
 pub use Rattle.city_decimals.specs.Texts.{IsDecoded, IsFaultTo, document_to}
 pub use Rattle.city_decimals.specs.Whole.{is_integral}
 pub use Rattle.city_decimals.specs.declared.fault.DecimalsFault.{DecimalsFault}

@@ -3,11 +3,12 @@ use Rattle.city_decimals.proofs.Prelude.{arith, ◌≡◌, ℕ, suc, List, Bool,
 use Rattle.city_decimals.proofs.Prelude.{ap, ap₂, ◌∙◌, ◌&&◌, codes, option_map, bytes_eq, bytes_eq-Decides, Json, null}
 use Rattle.city_decimals.proofs.Prelude.{boolean, number, string, array, object, Items, no_items, item, Members}
 use Rattle.city_decimals.proofs.Prelude.{no_members, member, HasNumbers, ItemsHaveNumbers, MembersHaveNumbers, is_whole}
-use Rattle.city_decimals.proofs.Prelude.{is_number, is_end, is_tag, is_frame, is_transform, is_text_or_array, form_of}
-use Rattle.city_decimals.proofs.Prelude.{in_form, only, tagged, encoded, encoded_items, encoded_members, encoded_top}
-use Rattle.city_decimals.proofs.Prelude.{number_under, out_of_form, decoded, decoded_items, decoded_members}
-use Rattle.city_decimals.proofs.Prelude.{decoded_top, Plain, Shielded}
-use Rattle.std.proofs.Common.{zero}
+use Rattle.city_decimals.proofs.Prelude.{is_number, is_end, is_tag, is_frame, is_transform, is_shielded, has_shield}
+use Rattle.city_decimals.proofs.Prelude.{form_of, in_form, framed, fronted, only, tagged, encoded, encoded_items}
+use Rattle.city_decimals.proofs.Prelude.{encoded_members, encoded_top, number_under, out_of_form, decoded}
+use Rattle.city_decimals.proofs.Prelude.{decoded_items, decoded_members, decoded_top, Plain, Shielded, is_attributes}
+use Rattle.city_decimals.proofs.Prelude.{is_fraction, is_single, is_text_or_array}
+use Rattle.std.proofs.Common.{zero, ◌||◌}
 use Rattle.json.specs.Find.{get_member, get_item, later_or, at}
 use Rattle.city_decimals.specs.Shapes.{is_triple}
 use Rattle.city_decimals.specs.declared.shapes.Form.TheVariants.{Framed}
@@ -27,78 +28,116 @@ at_encoded i j = search (arith, item_encoded)
 triple_encoded : (o : Option Json) → is_triple (option_map encoded o) ≡ true → is_triple o ≡ true
 triple_encoded o h = search (arith, at_encoded)
 
-bare : (b : Bool) (j c : Json) → b ≡ false → in_form (cond (b && is_text_or_array j) Shielded Plain) c ≡ c
-bare b j c e = grind arith
+bare : (b : Bool) (c : Json) → b ≡ false → in_form (cond b Shielded Plain) c ≡ c
+bare b c e = grind arith
 
 named_encoded : (b : Bool) (o : Option Json) (c d : Json) → (b ≡ true → d ≡ encoded c)
     → later_or (option_map encoded o) (cond b (Some d) None) ≡ option_map encoded (later_or o (cond b (Some c) None))
 named_encoded b o c d h = grind arith
 
--- under each name but the tag
-get_encoded : (name : List ℕ) → ((k : List ℕ) → bytes_eq k name ≡ true → is_tag k ≡ false) → (ms : Members)
+-- under each name under which nothing is shielded
+get_encoded : (name : List ℕ) → ((k : List ℕ) (j : Json) → bytes_eq k name ≡ true → is_shielded k j ≡ false)
+    → (ms : Members)
     → get_member name (encoded_members false ms) ≡ option_map encoded (get_member name ms)
 get_encoded name other no_members = refl
 get_encoded name other (member k j ms) =
     ap (λ o. later_or o (cond (bytes_eq k name) (Some (in_form (form_of false k j) (encoded j))) None))
     (get_encoded name other ms)
     ∙ named_encoded (bytes_eq k name) (get_member name ms) j (in_form (form_of false k j) (encoded j)) (λ e. bare
-    (is_tag k) j (encoded j) (other k e))
+    (is_shielded k j) (encoded j) (other k j e))
 
 no_frame : (b : Bool) (s : List ℕ) → is_frame (cond b (number s) (tagged s)) ≡ true → is_frame (number s) ≡ true
 no_frame b s h = grind arith
 
-module _ (scale_other : (k : List ℕ) → bytes_eq k (codes "scale") ≡ true
-    → is_tag k ≡ false) (translate_other : (k : List ℕ) → bytes_eq k (codes "translate") ≡ true
-    → is_tag k ≡ false) where
+module _ (scale_other : (k : List ℕ) (j : Json) → bytes_eq k (codes "scale") ≡ true
+    → is_shielded k j ≡ false) (translate_other : (k : List ℕ) (j : Json) → bytes_eq k (codes "translate") ≡ true
+    → is_shielded k j ≡ false) where
   frame_encoded_with : (j : Json) → is_frame (encoded j) ≡ true → is_frame j ≡ true
   frame_encoded_with j h = search (arith, no_frame, and_map, triple_encoded, get_encoded)
 
--- a name that begins with another letter isn't the tag
-scale_is_other : (k : List ℕ) → bytes_eq k (codes "scale") ≡ true → is_tag k ≡ false
-scale_is_other k e = ap is_tag ((bytes_eq-Decides k (codes "scale")).0 e)
+-- nothing is shielded under these names
+scale_is_other : (k : List ℕ) (j : Json) → bytes_eq k (codes "scale") ≡ true → is_shielded k j ≡ false
+scale_is_other k j e = ap (λ k. is_shielded k j) ((bytes_eq-Decides k (codes "scale")).0 e)
 
-translate_is_other : (k : List ℕ) → bytes_eq k (codes "translate") ≡ true → is_tag k ≡ false
-translate_is_other k e = ap is_tag ((bytes_eq-Decides k (codes "translate")).0 e)
+translate_is_other : (k : List ℕ) (j : Json) → bytes_eq k (codes "translate") ≡ true → is_shielded k j ≡ false
+translate_is_other k j e = ap (λ k. is_shielded k j) ((bytes_eq-Decides k (codes "translate")).0 e)
 
 frame_encoded : (j : Json) → is_frame (encoded j) ≡ true → is_frame j ≡ true
 frame_encoded j h = frame_encoded_with scale_is_other translate_is_other j h
 
 -- ---- a member
 
-pub only_other : (b : Bool) (j : Json) → (b && is_text_or_array j) ≡ false → cond b (only j) j ≡ j
-only_other b j h = grind arith
+-- what isn't shielded is taken for no shield that has something in it
+pub only_other : (k : List ℕ) (j : Json) → is_shielded k j ≡ false → cond (has_shield k j) (only j) j ≡ j
+only_other k j h = other (is_tag k) (is_attributes k) j h
+  where
+    other : (t a : Bool) (j : Json) → ((t && is_text_or_array j) || (a && (is_fraction j || is_single j))) ≡ false
+        → cond (t || (a && is_single j)) (only j) j ≡ j
+    other t a j h = grind arith
+
+-- a shield is opened, and nothing else
+pub shield_is : (k : List ℕ) (j : Json) → is_shielded k j ≡ true → has_shield k (array (item j no_items)) ≡ true
+shield_is k j h = is (is_tag k) (is_attributes k) j h
+  where
+    is : (t a : Bool) (j : Json) → ((t && is_text_or_array j) || (a && (is_fraction j || is_single j))) ≡ true
+        → (t || (a && is_single (array (item j no_items)))) ≡ true
+    is t a j h = grind arith
+
+only_frame : (j : Json) → is_frame j ≡ true → only j ≡ j
+only_frame j h = grind arith
+
+frame_in : (a b c : Bool) → (a && (b && c)) ≡ true → c ≡ true
+frame_in a b c h = grind arith
+
+frame_stays : (a b c : Bool) → (a && (b && c)) ≡ true → (a && (b && true)) ≡ true
+frame_stays a b c h = grind arith
 
 module _ (top : Bool) (k : List ℕ) (j : Json) (back : decoded (encoded j) ≡ j) where
-  in_none : (top && is_transform k j) ≡ false → (is_tag k && is_text_or_array j) ≡ false
+  in_none : (top && is_transform k j) ≡ false → is_shielded k j ≡ false
       → out_of_form top k (encoded j) (decoded (encoded j)) ≡ j
   in_none e f =
       let r = decoded (encoded j) in
       let no_transform = and_less top (bytes_eq k (codes "transform")) (is_frame j) (is_frame (encoded j))
       (frame_encoded j) e in grind arith
 
-  in_the_form : (a b : Bool) → (top && is_transform k j) ≡ a → (is_tag k && is_text_or_array j) ≡ b
+  in_frame : (top && is_transform k j) ≡ true
+      → out_of_form top k (framed (encoded j)) (decoded (framed (encoded j))) ≡ j
+  in_frame e =
+      let f = framed (encoded j) in
+      let r = decoded f in
+      ap (λ b. cond b (fronted r) (cond (has_shield k r) (only r) r)) (frame_stays top (bytes_eq k (codes "transform"))
+      (is_frame j) e) ∙ ap only back ∙ only_frame j (frame_in top (bytes_eq k (codes "transform")) (is_frame j) e)
+
+  in_shield : is_shielded k j ≡ true
+      → out_of_form top k (array (item (encoded j) no_items)) (array (item (decoded (encoded j)) no_items)) ≡ j
+  in_shield f = grind (arith, shield_is k (decoded (encoded j)) (ap (is_shielded k) back ∙ f))
+
+  in_the_form : (a b : Bool) → (top && is_transform k j) ≡ a → is_shielded k j ≡ b
       → out_of_form top k (in_form (cond a Framed (cond b Shielded Plain)) (encoded j)) (decoded (in_form
       (cond a Framed (cond b Shielded Plain)) (encoded j))) ≡ j
-  in_the_form a b e f = search (arith, in_none)
+  in_the_form true b e f = in_frame e
+  in_the_form false true e f = in_shield f
+  in_the_form false false e f = in_none e f
 
   member_back : out_of_form top k (in_form (form_of top k j) (encoded j)) (decoded (in_form (form_of top k j)
       (encoded j))) ≡ j
-  member_back = in_the_form (top && is_transform k j) (is_tag k && is_text_or_array j) refl refl
+  member_back = in_the_form (top && is_transform k j) (is_shielded k j) refl refl
 
 -- ---- encoded members are not taken for a number
 
 under_number : (k : List ℕ) (b : Bool) (s : List ℕ) → number_under k (cond b (number s) (tagged s)) ≡ None
 under_number k b s = grind arith
 
-pub no_number_bare : (k : List ℕ) (j : Json) → (is_tag k && is_text_or_array j) ≡ false
+pub no_number_bare : (k : List ℕ) (j : Json) → is_shielded k j ≡ false
     → number_under k (encoded j) ≡ None
 no_number_bare k null h = refl
 no_number_bare k (boolean b) h = refl
 no_number_bare k (number s) h = under_number k (is_whole s) s
-no_number_bare k (string s) h = ap (λ b. cond (b && is_number s) (Some s) None) (untagged (is_tag k) h)
+no_number_bare k (string s) h =
+    ap (λ b. cond (b && is_number s) (Some s) None) (untagged (is_tag k) (is_attributes k) h)
   where
-    untagged : (b : Bool) → (b && true) ≡ false → b ≡ false
-    untagged b e = grind arith
+    untagged : (b a : Bool) → ((b && true) || (a && false)) ≡ false → b ≡ false
+    untagged b a e = grind arith
 no_number_bare k (array js) h = refl
 no_number_bare k (object ms) h = refl
 

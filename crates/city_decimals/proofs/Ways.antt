@@ -2,11 +2,13 @@
 use Rattle.city_decimals.proofs.Prelude.{arith, ◌≡◌, ℕ, List, [], ◌∷◌, ◌++◌, Bool, true, false, Some, ap, Json, null}
 use Rattle.city_decimals.proofs.Prelude.{boolean, number, string, array, object, Items, no_items, item, Members}
 use Rattle.city_decimals.proofs.Prelude.{no_members, member, value, Token, json_tokens, items_tokens, members_tokens}
-use Rattle.city_decimals.proofs.Prelude.{is_tag, is_transform, IsUntagged, IsPlain, top_changed, changed, items_changed}
-use Rattle.city_decimals.proofs.Prelude.{members_changed, member_changed, frame_changed, object_made, Way, Encode}
-use Rattle.city_decimals.proofs.Prelude.{Decode}
+use Rattle.city_decimals.proofs.Prelude.{is_attributes, is_tag, is_transform, IsUntagged, IsPlain, top_changed, changed}
+use Rattle.city_decimals.proofs.Prelude.{items_changed, members_changed, member_changed, frame_changed, object_made}
+use Rattle.city_decimals.proofs.Prelude.{Way, Encode, Decode}
 use Rattle.std.proofs.Common.{◌&&◌}
+use Rattle.city_decimals.specs.inside.Forms.{is_bare}
 use Rattle.city_decimals.specs.inside.Ways.{is_decode}
+use Rattle.city_decimals.proofs.Bare.{not_shielded, no_shield}
 use Rattle.city_decimals.proofs.CompactForms.{plain_encoded}
 use Rattle.city_decimals.proofs.Starts.{encoded_other, decoded_other}
 
@@ -52,10 +54,11 @@ pub member_tokens : (way : Way) (top : Bool) (k : List ℕ) (j : Json) (ms : Mem
     ≡ Token.key k ∷ (json_tokens (member_changed way top k j) ++ members_tokens (members_changed way top ms))
 member_tokens way top k j ms = ap members_tokens (first_changed way top k j ms)
 
--- a member that is neither under the tag nor in a frame has no form
+-- a member that is neither under the tag nor in a frame nor of a shield has no form
 pub plain_member : (way : Way) (top : Bool) (k : List ℕ) (j : Json) → (top && is_transform k j) ≡ false
-    → is_tag k ≡ false → member_changed way top k j ≡ changed way j
-plain_member way top k j no_frame untagged = grind arith
+    → is_tag k ≡ false → (is_attributes k ≡ true → is_bare j ≡ true) → member_changed way top k j ≡ changed way j
+plain_member way top k j no_frame untagged bare =
+    grind (arith, not_shielded k j untagged bare, no_shield k j untagged bare)
 
 -- a transform at the top is framed
 pub framed_member : (way : Way) (top : Bool) (k : List ℕ) (j : Json) → top ≡ true → is_transform k j ≡ true

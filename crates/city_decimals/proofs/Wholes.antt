@@ -45,11 +45,11 @@ whole_none = whole_digit 0 (omega arith) refl
 whole_number : (b : Bool) (s : List ℕ) → is_whole s ≡ b → AreWhole (cond b (json.number s) (tagged s))
 whole_number b s e = grind arith
 
-whole_in_form : (w : Form) (j : json.Json) → AreWhole j → AreWhole (in_form w j)
+pub whole_in_form : (w : Form) (j : json.Json) → AreWhole j → AreWhole (in_form w j)
 whole_in_form w j h = search (arith, whole_one, whole_none)
 
 mutual
-  whole : (j : json.Json) → AreWhole (encoded j)
+  pub whole : (j : json.Json) → AreWhole (encoded j)
   whole json.null = tt
   whole (json.boolean b) = tt
   whole (json.number s) = whole_number (is_whole s) s refl

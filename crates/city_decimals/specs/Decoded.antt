@@ -3,7 +3,7 @@ use Rattle.std.specs.Prelude.{ℕ, ◌&&◌, List, Bool, true, false, cond, Opti
 use Rattle.json.specs.Json.{Json, null, boolean, number, string, array, object, Items, no_items, item, Members}
 use Rattle.json.specs.Json.{no_members, member}
 use Rattle.city_decimals.specs.Numbers.{is_number}
-use Rattle.city_decimals.specs.Shapes.{is_tag, is_transform, only, fronted}
+use Rattle.city_decimals.specs.Shapes.{is_tag, is_transform, has_shield, only, fronted}
 
 abbrev pub number_under : List ℕ → Json → Option (List ℕ)
 number_under k null = None
@@ -25,7 +25,7 @@ number_or (Some s) ms = number s
 
 -- what stands for a member j, whose value is r once its parts are decoded
 abbrev pub out_of_form : Bool → List ℕ → Json → Json → Json
-out_of_form top k j r = cond (top && is_transform k j) (fronted r) (cond (is_tag k) (only r) r)
+out_of_form top k j r = cond (top && is_transform k j) (fronted r) (cond (has_shield k r) (only r) r)
 
 abbrev mutual
   pub decoded : Json → Json

@@ -7,5 +7,6 @@ pub mod Texts
 pub mod Whole
 pub mod Arranged
 pub mod Kept
+pub mod Attributes
 pub mod Lines
 pub mod inside

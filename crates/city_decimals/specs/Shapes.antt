@@ -1,9 +1,10 @@
 -- The shapes of values that aren't just encoded part by part.
-use Rattle.std.specs.Prelude.{ℕ, ◌&&◌, List, Bool, true, false, not, cond, Option, Some, None, option_and_then}
+use Rattle.std.specs.Prelude.{ℕ, ◌&&◌, ◌||◌, List, Bool, true, false, not, cond, Option, Some, None, option_and_then}
 use Rattle.std.specs.Prelude.{is_some, codes}
 use Rattle.std.specs.Str.{bytes_eq}
 use Rattle.json.specs.Json.{Json, null, boolean, number, string, array, object, no_items, item, no_members, member}
 use Rattle.json.specs.Find.{get, at, as_number}
+use Rattle.city_decimals.specs.Numbers.{is_whole}
 use Rattle.city_decimals.specs.declared.shapes.Form.{Form}
 use Rattle.city_decimals.specs.declared.shapes.Form.TheVariants.{Plain, Shielded, Framed}
 
@@ -13,6 +14,10 @@ tag = codes "#"
 
 abbrev pub is_tag : List ℕ → Bool
 is_tag k = bytes_eq k tag
+
+-- the name of the attributes of an object (CityJSON 2.0, section 2)
+abbrev pub is_attributes : List ℕ → Bool
+is_attributes k = bytes_eq k (codes "attributes")
 
 -- ---- the transform of a document (CityJSON 2.0, section 4)
 
@@ -41,9 +46,43 @@ is_text_or_array (string s) = true
 is_text_or_array (array js) = true
 is_text_or_array (object ms) = false
 
--- at the top of a document a transform gets a frame; a text or an array under the tag gets a shield
+abbrev pub is_text : Json → Bool
+is_text null = false
+is_text (boolean b) = false
+is_text (number s) = false
+is_text (string s) = true
+is_text (array js) = false
+is_text (object ms) = false
+
+-- an array of one item, which is no text
+abbrev pub is_single : Json → Bool
+is_single null = false
+is_single (boolean b) = false
+is_single (number s) = false
+is_single (string s) = false
+is_single (array no_items) = false
+is_single (array (item j no_items)) = not (is_text j)
+is_single (array (item j (item i js))) = false
+is_single (object ms) = false
+
+-- a number that is encoded as an object
+abbrev pub is_fraction : Json → Bool
+is_fraction null = false
+is_fraction (boolean b) = false
+is_fraction (number s) = not (is_whole s)
+is_fraction (string s) = false
+is_fraction (array js) = false
+is_fraction (object ms) = false
+
+-- Under the tag a text or an array gets a shield, so that no other object is a number. Under `attributes` a number
+-- gets one that else would be an object, so that objects alone are objects there, and an array that could be taken
+-- for a shield.
+abbrev pub is_shielded : List ℕ → Json → Bool
+is_shielded k j = (is_tag k && is_text_or_array j) || (is_attributes k && (is_fraction j || is_single j))
+
+-- at the top of a document a transform gets a frame
 abbrev pub form_of : Bool → List ℕ → Json → Form
-form_of top k j = cond (top && is_transform k j) Framed (cond (is_tag k && is_text_or_array j) Shielded Plain)
+form_of top k j = cond (top && is_transform k j) Framed (cond (is_shielded k j) Shielded Plain)
 
 abbrev pub three : List ℕ → Json
 three s = array (item (number s) (item (number s) (item (number s) no_items)))
@@ -59,6 +98,10 @@ in_form Shielded j = array (item j no_items)
 in_form Framed j = framed j
 
 -- ---- what stands in a form
+
+-- what stands under the name may be a shield
+abbrev pub has_shield : List ℕ → Json → Bool
+has_shield k j = is_tag k || (is_attributes k && is_single j)
 
 -- the item of an array of one; any other value as it is
 abbrev pub only : Json → Json

@@ -4,6 +4,7 @@ ghost use Rattle.std.specs.Str.{IsUtf8};
 ghost use Rattle.city_decimals.specs.Texts.{IsFaultTo};
 ghost use Rattle.city_decimals.specs.inside.Changes.{IsChanged};
 
+mod attributes;
 mod value;
 
 use crate::compact::copy_compact;

@@ -17,7 +17,7 @@ use crate::copier::Copier;
 use crate::way::Way;
 use decoding::{copy_encoded_number, is_encoded_number};
 use encoding::{copy_into_frame, encode_number};
-use leaves::{copy_name, copy_string, is_framed, is_tag};
+use leaves::{copy_name, copy_string, is_framed, is_tag, may_be_shielded};
 
 /// What stands in an encoded number before its text, and behind it.
 const NUMBER_BEGIN: &[u8] = b"{\"#\":\"";
@@ -162,7 +162,8 @@ fn copy_members(copier: &mut Copier<'_>, depth: usize, top: bool, way: Way) -> O
     Some(())
 }
 
-/// Copies a comma, where something stands before, and a member, changed. One under the tag isn't known here.
+/// Copies a comma, where something stands before, and a member, changed. One under the tag isn't known here,
+/// nor one of `attributes` that may be shielded.
 #[cycle(copy)]
 #[inline(always)]
 fn copy_member(
@@ -181,6 +182,9 @@ fn copy_member(
     }
     if is_framed(top, key) {
         return copy_frame(copier, depth, way);
+    }
+    if may_be_shielded(key, copier.rest()) {
+        return None;
     }
     copy_value(copier, depth, way)
 }

@@ -15,6 +15,7 @@ pub(crate) use first::decode_first_member;
 use json::{MAX_DEPTH, Scratch};
 pub(crate) use member::decode_member_tree;
 use std::alloc::Global;
+pub(crate) use tree::decode_tree;
 
 /// The text with its numbers as they were before `encode`, without shields and frames, in one line.
 pub fn decode(alloc: Global, bytes: &[u8]) -> Result<Vec<u8>, DecimalsFault>

@@ -20,9 +20,10 @@ use json::{MAX_DEPTH, Scratch};
 pub(crate) use member::encode_member_tree;
 pub(crate) use number::encode_number;
 use std::alloc::Global;
+pub(crate) use tree::encode_tree;
 
 /// The text with each number that is no `i64` as a text under `#`, in one line. A text or an array under `#` is
-/// shielded, a `transform` at the top framed.
+/// shielded, and such a number under `attributes`; a `transform` at the top is framed.
 pub fn encode(alloc: Global, bytes: &[u8]) -> Result<Vec<u8>, DecimalsFault>
     ensures encoded { IfOk result (λ out. IsEncoded bytes.now out.items) }
 

@@ -4,6 +4,7 @@
 //!
 //! - a number that isn't written as an `i64` is an object with its text: `{"#":"0.25"}`
 //! - a text or an array under `#` is shielded: it stands in an array, so no object is mistaken for a number
+//! - such a number under `attributes` is shielded, and what could be taken for its shield: an object there was an object
 //! - a `transform` at the top is framed: the identity stands there, with the transform under `#`
 #![tactic(auto)]
 
@@ -23,7 +24,7 @@ mod way;
 pub use decoding::decode;
 pub use encoding::encode;
 pub use fault::DecimalsFault;
-pub use laws::what_is_kept;
+pub use laws::{what_is_edited, what_is_kept};
 pub use lines::{decode_lines, decode_lines_onto};
 
 /// The one error for being out of memory, under the project's word for it.

@@ -3,9 +3,11 @@ ghost use Rattle.std.specs.Prelude.{◌≡◌, Some};
 ghost use Rattle.json.specs.Find.{get};
 ghost use Rattle.json.specs.Value.{value_view};
 ghost use Rattle.city_decimals.specs.Shapes.{is_tag, is_triple, is_number_at, is_frame, is_transform};
-ghost use Rattle.city_decimals.specs.Shapes.{is_text_or_array, form_of};
+ghost use Rattle.city_decimals.specs.Shapes.{is_attributes, is_text_or_array, is_text, is_single, is_fraction};
+ghost use Rattle.city_decimals.specs.Shapes.{is_shielded, form_of, has_shield};
 ghost use Rattle.city_decimals.specs.inside.Forms.{can_have_form};
 
+use crate::numbers::is_whole;
 use json::Value;
 
 /// The name under which a number's text stands.
@@ -28,14 +30,14 @@ pub(crate) fn form_of(top: bool, key: &str, value: &Value<'_>) -> Form
 {
     if top && is_transform(key, value) {
         Form::Framed
-    } else if is_tag(key) && is_text_or_array(value) {
+    } else if is_shielded(key, value) {
         Form::Shielded
     } else {
         Form::Plain
     }
 }
 
-/// Whether the member of this name can have a form, by its name alone.
+/// Whether the member of this name can have a form, by its name alone, other than under `attributes`.
 #[inline(always)]
 pub(crate) fn can_have_form(top: bool, key: &str) -> bool
     ensures { result ≡ can_have_form top key.now }
@@ -47,6 +49,55 @@ pub(crate) fn is_tag(key: &str) -> bool
     ensures { result ≡ is_tag key.now }
 {
     key == "#"
+}
+
+/// Whether this is the name of the attributes of an object.
+#[inline(always)]
+pub(crate) fn is_attributes(key: &str) -> bool
+    ensures { result ≡ is_attributes key.now }
+{
+    key == "attributes"
+}
+
+/// Whether the member of this name is shielded.
+fn is_shielded(key: &str, value: &Value<'_>) -> bool
+    ensures { result ≡ is_shielded key.now (value_view value.now) }
+{
+    (is_tag(key) && is_text_or_array(value))
+        || (is_attributes(key) && (is_fraction(value) || is_single(value)))
+}
+
+/// Whether the member of this name may be a shield.
+pub(crate) fn has_shield(key: &str, value: &Value<'_>) -> bool
+    ensures { result ≡ has_shield key.now (value_view value.now) }
+{
+    is_tag(key) || (is_attributes(key) && is_single(value))
+}
+
+/// Whether this is an array of one item, which is no text.
+fn is_single(value: &Value<'_>) -> bool
+    ensures { result ≡ is_single (value_view value.now) }
+{
+    match value {
+        Value::Array(items) => items.len() == 1 && !is_text(&items[0]),
+        _ => false,
+    }
+}
+
+pub(crate) fn is_text(value: &Value<'_>) -> bool
+    ensures { result ≡ is_text (value_view value.now) }
+{
+    matches!(value, Value::String(_))
+}
+
+/// Whether this is a number that isn't whole.
+fn is_fraction(value: &Value<'_>) -> bool
+    ensures { result ≡ is_fraction (value_view value.now) }
+{
+    match value {
+        Value::Number(text) => !is_whole(text),
+        _ => false,
+    }
 }
 
 fn is_text_or_array(value: &Value<'_>) -> bool

@@ -8,7 +8,8 @@ use Rattle.city_desk.proofs.Prelude.{progress_to, AttemptEnded, HasStepped, show
 use Rattle.city_model.specs.declared.command.Command.TheVariants.{Abort}
 use Rattle.city_model.specs.declared.command.Cause.{Cause}
 use Rattle.city_model.specs.Meaning.{Answers}
-use Rattle.city_model.proofs.Effects.{refused_does, aborts}
+use Rattle.city_model.proofs.Endings.{aborts}
+use Rattle.city_model.proofs.Refused.{refused_does}
 use Rattle.city_locks.specs.declared.answer.Answer.TheVariants.{Granted, Wait, Die}
 use Rattle.city_txn.specs.declared.step.Step.{Step}
 use Rattle.city_txn.specs.Acting.{IsAct, step_of, with_step, EndsIn}

@@ -15,7 +15,7 @@ use Rattle.std.proofs.lemmas.List.Folds.{list_any-append}
 use Rattle.city_model.specs.declared.command.Command.TheVariants.{Commit}
 use Rattle.city_model.specs.Marks.{View, unmarked}
 use Rattle.city_model.specs.Runs.{EndsAt}
-use Rattle.city_model.proofs.Effects.{committed_at}
+use Rattle.city_model.proofs.Endings.{committed_at}
 use Rattle.city_model.proofs.Replied.{goes_on, ends_later, answered_more, result_from, committed_from}
 use Rattle.city_txn.specs.CoreState.{held}
 use Rattle.city_desk.specs.inside.Attempt.{GoesOn}

@@ -1,5 +1,4 @@
 pub mod Prelude
-pub mod Floats
 pub mod Heads
 pub mod Lines
 pub mod OneLine

@@ -9,10 +9,8 @@ ghost use Rattle.city_diagnostics.specs.ModelLines.{Tells};
 
 mod scripts;
 
-use crate::document::Document;
 use crate::line::document_line;
-use crate::text::{TextFault, text_diagnostic};
-use crate::tree::tree_of;
+use city_details::{Document, TextFault, text_diagnostic, tree_of};
 use city_doc::{ReadFault, ScriptFault, faults_of};
 use city_model::OutOfMemory;
 pub use scripts::check_scripts;

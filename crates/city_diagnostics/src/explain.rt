@@ -2,11 +2,8 @@
 mod shown;
 
 use crate::check::{script_text_fault_of, text_fault_of, tree_for};
-use crate::diagnostic::Diagnostic;
-use crate::document::Document;
 use crate::explain::shown::add_shown;
-use crate::script::script_diagnostic;
-use crate::text::text_diagnostic;
+use city_details::{Diagnostic, Document, script_diagnostic, text_diagnostic};
 use city_doc::{ReadFault, ScriptFault};
 use city_model::OutOfMemory;
 use std::alloc::Global;

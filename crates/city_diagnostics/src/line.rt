@@ -9,8 +9,7 @@ ghost use Rattle.city_diagnostics.specs.ScriptLines.{TellsScript, script_name_of
 ghost use Rattle.city_diagnostics.specs.inside.Heads.{with_named, with_head, with_words};
 ghost use Rattle.city_diagnostics.specs.inside.Heads.{with_script_named, with_place};
 
-use crate::details::Details;
-use crate::diagnostic::Diagnostic;
+use city_details::{Details, Diagnostic};
 use city_doc::{ReadFault, ScriptFault};
 use city_model::OutOfMemory;
 use serde_json::Value;

@@ -7,6 +7,9 @@ mod FaultlessScripts
 mod FirstAt
 mod FirstFaults
 mod FirstOfAll
+mod GivenForms
 mod ItemParts
 mod Meanings
+mod Reshapes
+mod TextsRead
 mod Told

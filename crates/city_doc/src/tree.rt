@@ -4,5 +4,6 @@
 pub mod kept_members;
 pub mod parse;
 pub mod text;
+pub mod texts;
 pub mod triples;
 pub mod values;

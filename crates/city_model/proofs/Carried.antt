@@ -1,15 +1,20 @@
 -- A history under locks holds from each other map that agrees where anything is held, marks too.
-use Rattle.city_model.proofs.Prelude.{GoesBack, Marks, Leaves, seen_next, after, Marking, marking, back_to, refusal_as}
-use Rattle.city_model.proofs.Prelude.{step_as, answer, arith, ◌≡◌, ℕ, List, [], ◌∷◌, true, false, ap, sym, subst, ◌∙◌}
-use Rattle.city_model.proofs.Prelude.{length, Option, refl, is_some, Command, Reply, Exclusive, CityMap, Answers}
-use Rattle.city_model.proofs.Prelude.{effect, locks_of, Marked, View, unmarked, marks_from, IsSoundView, IsSound, Held}
+use Rattle.city_model.proofs.Prelude.{arith, ◌≡◌, ℕ, List, [], ◌∷◌, Bool, true, false, ap, sym, subst, ◌∙◌, if◌then◌else◌}
+use Rattle.city_model.proofs.Prelude.{length, Option, refl, is_some, Command, Reply, Exclusive, CityMap, has_id, Action}
+use Rattle.city_model.proofs.Prelude.{Refuses, Edits, Marks, GoesBack, action, Effect, Answers, applied, effect}
+use Rattle.city_model.proofs.Prelude.{left, step, locks_of, Marked, View, unmarked, marks_from, IsSoundView, IsSound, Held}
 use Rattle.city_model.proofs.Prelude.{covers, AllHeld, Answered, IsTraceUnderLocks, locks_id_exclusively, Lock}
 use Rattle.city_model.proofs.Prelude.{answered, locks_id, AgreeOn, Mode, Trace}
+use Rattle.city_model.specs.Actions as actions
+use Rattle.city_model.specs.Meaning.{back}
+use Rattle.city_model.specs.Standing.{exclusive_ids}
 use Rattle.city_model.specs.TraceLaw.{carried_map, carried_marks, carried, as_named, stronger_of, named_by, TraceLaw}
-use Rattle.city_model.proofs.FrameLaw.{frame, same_cause, same_done, same_locks, same_after}
-use Rattle.city_model.proofs.Effects.{goes_on_case, effect_is, answered_no_end, answered_next}
+use Rattle.city_model.proofs.ActionKinds.{map_after}
+use Rattle.city_model.proofs.FramedActions.{taken_to, framed, WritesAt, writes_locked}
+use Rattle.city_model.proofs.FrameLaw.{frame, same_locks}
+use Rattle.city_model.proofs.GoingOn.{goes_on_case, goes_on_to, answered_next}
 use Rattle.city_model.proofs.MarksKept.{from_mapped, sound_effect}
-use Rattle.city_model.proofs.History.{Next, held_named, not_named, more_held, follows_held}
+use Rattle.city_model.proofs.History.{Next, held_named, held_exclusively, not_named, more_held, follows_held}
 use Rattle.city_model.proofs.Ids.{same_id_itself}
 
 module _ (held : Held) (other : CityMap) where
@@ -34,8 +39,48 @@ module _ (held : Held) (other : CityMap) where
   are_from name [] is = tt
   are_from name (k ∷ ks) is = grind (arith, are_from name ks is.1)
 
-  is_back : (v : View) (ks : List Marked) → IsCarriedView v → AreCarried ks → IsCarriedView (back_to v ks)
-  is_back v ks is are = grind arith
+  is_back : (name : List ℕ) (v : View) (ks : List Marked) → IsCarriedView v → AreCarried ks
+      → IsCarriedView (left v (back name v ks))
+  is_back name v [] is are = is
+  is_back name v (k ∷ ks) is are = (are.0, are)
+
+  -- ---- an action
+
+  abbrev carried_action : Action → Action
+  carried_action (Edits reply ids k) = Edits reply ids (carried_map held other k)
+  carried_action a = a
+
+  abbrev carried_effect : Effect → Effect
+  carried_effect (Answers reply u) = Answers reply (carried held other u)
+  carried_effect e = e
+
+  back_carried : (name : List ℕ) (v : View) (ks : List Marked)
+      → back name (carried held other v) (carried_marks held other ks) ≡ carried_effect (back name v ks)
+  back_carried name v [] = refl
+  back_carried name v (k ∷ ks) = refl
+
+  applied_carried : (v : View) (a : Action) → applied (carried held other v) (carried_action a) ≡ carried_effect (applied v a)
+  applied_carried v (Refuses cause) = refl
+  applied_carried v (Edits reply ids k) = refl
+  applied_carried v (Marks name) = refl
+  applied_carried v (GoesBack name) =
+      ap (back name (carried held other v)) (from_carried name v.marks) ∙ back_carried name v (marks_from name v.marks)
+  applied_carried v actions.Commits = refl
+  applied_carried v actions.Aborts = refl
+
+  picked : {X : Type 0} (b d : Bool) (x y z : X) → (b ≡ true → d ≡ true) → (d ≡ true → b ≡ false → x ≡ y)
+      → (if b then x else (if d then y else z)) ≡ (if d then x else z)
+  picked b d x y z f g = grind arith
+
+  -- ids that it writes are held exclusively
+  taken_is_carried : (m : CityMap) (ids : List (List ℕ)) (a : Action) → WritesAt ids a
+      → ((q : List ℕ) → has_id ids q ≡ true → covers (held q) Exclusive ≡ true)
+      → ((q : List ℕ) → covers (held q) Exclusive ≡ true → has_id ids q ≡ false → map_after m a q ≡ m q)
+      → taken_to (carried_map held other m) a ≡ carried_action a
+  taken_is_carried m ids (Edits reply js k) at all beside =
+      ap (Edits reply js) (λ i q. picked (has_id js q) (covers (held q) Exclusive) (k q) (m q) (other q)
+      (λ h. all q (ap (λ ls. has_id ls q) at ∙ h)) (λ h e. beside q h (ap (λ ls. has_id ls q) at ∙ e)) i)
+  taken_is_carried m ids a at all beside = refl
 
   -- ---- one command
 
@@ -47,46 +92,36 @@ module _ (held : Held) (other : CityMap) where
     same : locks_of v.map c ≡ locks_of (carried_map held other v.map) c
     same = same_locks v.map (carried_map held other v.map) c on
 
-    apart : (q : List ℕ) → locks_id_exclusively (locks_of v.map c) q ≡ false
-        → after (carried_map held other v.map) c q ≡ carried_map held other v.map q
-    apart q e = frame (carried_map held other v.map) c q t.0 (rw (← same) e)
-
-    still : (q : List ℕ) → covers (held q) Exclusive ≡ false → after v.map c q ≡ v.map q
+    still : (q : List ℕ) → covers (held q) Exclusive ≡ false → map_after v.map (action v.map c) q ≡ v.map q
     still q e = frame v.map c q s.0 (not_named held (locks_of v.map c) q all e)
 
-    after_carried_at : (q : List ℕ)
-        → after (carried_map held other v.map) c q ≡ carried_map held other (after v.map c) q
-    after_carried_at q = grind (arith, same_after, on, apart, frame, not_named)
+    action_carried : action (carried_map held other v.map) c ≡ carried_action (action v.map c)
+    action_carried =
+        framed v.map (carried_map held other v.map) c t.0 on
+        ∙ taken_is_carried v.map (exclusive_ids (locks_of v.map c)) (action v.map c) (writes_locked v.map c)
+        (λ q. held_exclusively held (locks_of v.map c) q all)
+        (λ q h apart. frame v.map c q s.0 apart)
 
-    after_carried : after (carried_map held other v.map) c ≡ carried_map held other (after v.map c)
-    after_carried = search (arith, after_carried_at)
-
-    is_carried_after : IsCarried (after v.map c)
+    is_carried_after : IsCarried (map_after v.map (action v.map c))
     is_carried_after q h = grind (arith, is.0 q h, still q)
 
-    step_carried_as : (k : Marking) → step_as k (carried held other v) c ≡ carried held other (step_as k v c)
-    step_carried_as k = grind (arith, after_carried, from_carried)
+    effect_carried : effect (carried held other v) c ≡ carried_effect (effect v c)
+    effect_carried = ap (applied (carried held other v)) action_carried ∙ applied_carried v (action v.map c)
 
-    step_carried : seen_next (carried held other v) c ≡ carried held other (seen_next v c)
-    step_carried = step_carried_as (marking c)
-
-    refusal_carried_as : (k : Marking) → refusal_as k v c ≡ refusal_as k (carried held other v) c
-    refusal_carried_as k = grind (arith, same_cause v.map _ c on, from_carried)
-
-    answer_carried : answer v c ≡ answer (carried held other v) c
-    answer_carried = grind (arith, refusal_carried_as (marking c), same_done v.map _ c on)
-
-    is_step_as : (k : Marking) → IsCarriedView (step_as k v c)
-    is_step_as Leaves = (is_carried_after, is.1)
-    is_step_as (Marks name) = (is.0, (is.0, is.1))
-    is_step_as (GoesBack name) = is_back v (marks_from name v.marks) is (are_from name v.marks is.1)
+    is_carried_left : (a : Action) → IsCarried (map_after v.map a) → IsCarriedView (left v (applied v a))
+    is_carried_left (Refuses cause) now = is
+    is_carried_left (Edits reply ids k) now = (now, is.1)
+    is_carried_left (Marks name) now = (is.0, (is.0, is.1))
+    is_carried_left (GoesBack name) now = is_back name v (marks_from name v.marks) is (are_from name v.marks is.1)
+    is_carried_left a now = grind arith
 
     module _ (reply : Reply) (u : View) (answers : effect v c ≡ Answers reply u) where
-      effect_carried : effect (carried held other v) c ≡ Answers reply (carried held other u)
-      effect_carried = grind (arith, answer_carried, step_carried, effect_is, answered_no_end v c reply u answers)
+      answer_carried : effect (carried held other v) c ≡ Answers reply (carried held other u)
+      answer_carried = effect_carried ∙ ap carried_effect answers
 
       is_carried_next : IsCarriedView u
-      is_carried_next = rw (answered_next v c reply u answers) (is_step_as (marking c))
+      is_carried_next =
+          rw (answered_next v c reply u answers) (is_carried_left (action v.map c) is_carried_after)
 
   -- a history under locks holds from the view that is carried, and leads to the carried one
   pub history_carried : (v : View) (ds : List Answered) (w : View) → IsSoundView v → IsSoundView (carried held other v)
@@ -96,7 +131,7 @@ module _ (held : Held) (other : CityMap) where
   history_carried v (d ∷ ds) w s t is f = (
     rw (← same v d.0 s t is f.0) f.0,
     goes_on_case (Next held d.1 ds w) (effect v d.0) (λ reply u answers g.
-        let moved = effect_carried v d.0 s t is f.0 reply u answers in
+        let moved = answer_carried v d.0 s t is f.0 reply u answers in
         rw moved (
           g.0,
           history_carried u ds w (sound_effect v d.0 reply u answers s) (sound_effect _ d.0 reply _ moved t)
@@ -138,7 +173,8 @@ named_held ls = all_held (named_in ls) ls (λ q h. grind arith) (λ q h. grind a
 
 trace_long : (v : View) (cs : List Command) (rs : List Reply) (w : View) → Trace v cs rs w → length cs ≡ length rs
 trace_long v [] [] w f = refl
-trace_long v (c ∷ cs) (r ∷ rs) w f = let rest = λ (u : View). trace_long u cs rs w in grind (arith, rest)
+trace_long v (c ∷ cs) (r ∷ rs) w f =
+    goes_on_case _ (effect v c) (λ reply u is g. let rest = trace_long u cs rs w g.1 in omega arith) f
 trace_long v cs rs w f = absurd f
 
 trace_follows : (v : View) (cs : List Command) (rs : List Reply) (w : View) → Trace v cs rs w
@@ -146,16 +182,22 @@ trace_follows : (v : View) (cs : List Command) (rs : List Reply) (w : View) → 
 trace_follows v [] [] w f = f
 trace_follows v (c ∷ cs) (r ∷ rs) w f =
     let held = named_by v (c ∷ cs) in
-    let rest = λ (u : View). trace_follows u cs rs w in
-    let more = λ (u : View). follows_held (named_by u cs) held u (answered cs rs) w in
-    let first = more_held _ held (locks_of v.map c) (λ q b h. grind arith) (named_held (locks_of v.map c)) in
-    (first, grind (arith, rest, more, covers_right))
+    let first = more_held _ held (locks_of v.map c) (λ q b h. grind arith) (named_held (locks_of v.map c)) in (
+      first,
+      goes_on_to _ _ (effect v c) (λ reply u is g. (
+        g.0,
+        follows_held (named_by u cs) held u (answered cs rs) w (λ q b h. covers_right _ (named_by (step v c) cs q) b
+            (subst (λ x. covers (named_by x cs q) b ≡ true) (answered_next v c reply u is) h))
+            (trace_follows u cs rs w g.1),
+      )) f,
+    )
 trace_follows v cs rs w f = absurd f
 
 read_off : (held : Held) (v : View) (cs : List Command) (rs : List Reply) (w : View) → length cs ≡ length rs
     → IsTraceUnderLocks held v (answered cs rs) w → Trace v cs rs w
 read_off held v [] [] w e f = f
-read_off held v (c ∷ cs) (r ∷ rs) w e f = let rest = λ (u : View). read_off held u cs rs w in grind (arith, rest)
+read_off held v (c ∷ cs) (r ∷ rs) w e f =
+    goes_on_to _ _ (effect v c) (λ reply u is g. (g.0, read_off held u cs rs w (omega arith) g.1)) f.1
 read_off held v cs rs w e f = absurd (omega arith)
 
 pub trace_law : (m : CityMap) (cs : List Command) → IsSound m → TraceLaw m cs

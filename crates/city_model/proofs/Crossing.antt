@@ -8,6 +8,7 @@ use Rattle.city_model.proofs.object_type.ObjectType.TheSendSync as object_type
 use Rattle.city_model.specs.contracts.change.Change as Change
 use Rattle.city_model.specs.contracts.city.City as City
 use Rattle.city_model.specs.contracts.object.Body as Body
+use Rattle.city_model.specs.contracts.object.Geometry as Geometry
 use Rattle.city_model.specs.contracts.object.Object as Object
 use Rattle.city_model.specs.contracts.text.Text as Text
 
@@ -17,10 +18,18 @@ text_sends = search (maps.crosses, values.crosses, sendable) depth 60 fits 20000
 pub text_syncs : IsSync Text.the_field.row
 text_syncs = search (maps.crosses, values.crosses, sendable) depth 60 fits 20000
 
+geometry_sends : IsSend Geometry.the_field.row
+geometry_sends =
+    search (text_sends, shape.the_field_send, maps.crosses, values.crosses, json.crosses, sendable) depth 60 fits 20000
+
+geometry_syncs : IsSync Geometry.the_field.row
+geometry_syncs =
+    search (text_syncs, shape.the_field_sync, maps.crosses, values.crosses, json.crosses, sendable) depth 60 fits 20000
+
 pub body_sends : IsSend Body.the_field.row
 body_sends = search (
-  text_sends,
-  shape.the_field_send,
+  geometry_sends,
+  geometry_syncs,
   object_type.the_field_send,
   maps.crosses,
   values.crosses,
@@ -30,8 +39,8 @@ body_sends = search (
 
 pub body_syncs : IsSync Body.the_field.row
 body_syncs = search (
-  text_syncs,
-  shape.the_field_sync,
+  geometry_sends,
+  geometry_syncs,
   object_type.the_field_sync,
   maps.crosses,
   values.crosses,

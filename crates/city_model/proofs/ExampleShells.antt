@@ -23,11 +23,11 @@ cube_under above =
     ∷ face (corner 0 1 0) (corner 0 0 0) (corner 0 0 1) (corner 0 1 1)
     ∷ []
 
-abbrev cube : Shell
+abbrev pub cube : Shell
 cube = cube_under (face (corner 0 0 1) (corner 1 0 1) (corner 1 1 1) (corner 0 1 1))
 
 -- the cube with the face above turned over
-abbrev cube_with_turned_face : Shell
+abbrev pub cube_with_turned_face : Shell
 cube_with_turned_face = cube_under (face (corner 0 1 1) (corner 1 1 1) (corner 1 0 1) (corner 0 0 1))
 
 pub cube_is_closed : is_closed cube ≡ true
@@ -56,7 +56,7 @@ two_points = origin ∷ corner 1 0 0 ∷ []
 abbrev flat : Ring → Geometry
 flat ring = of_shape (MultiSurface ((ring ∷ []) ∷ []))
 
-abbrev solid : Shell → Geometry
+abbrev pub solid : Shell → Geometry
 solid shell = of_shape (Solid (shell ∷ []))
 
 pub cube_has_no_fault : body_fault (body_of (solid cube ∷ [])) ≡ None

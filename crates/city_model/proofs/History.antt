@@ -4,7 +4,7 @@ use Rattle.city_model.proofs.Prelude.{Command, Reply, Mode, Exclusive, Answers, 
 use Rattle.city_model.proofs.Prelude.{Held, Lock, covers, AllHeld, Answered, IsTraceUnderLocks, locks_id}
 use Rattle.city_model.proofs.Prelude.{locks_id_exclusively}
 use Rattle.city_model.proofs.Ids.{same_id_true}
-use Rattle.city_model.proofs.Effects.{goes_on_case}
+use Rattle.city_model.proofs.GoingOn.{goes_on_case, goes_on_to}
 use Rattle.city_model.proofs.MarksKept.{sound_effect}
 
 -- what is named is held
@@ -40,17 +40,19 @@ pub follows_more : (held more : Held) (v : View) (ds : List Answered) (w : View)
     → HoldsMore held more → IsTraceUnderLocks held v ds w → AllHeld more (locks_of w.map c) → effect w c ≡ Answers r k
     → IsTraceUnderLocks more v (ds ++ (c, r) ∷ []) k
 follows_more held more v [] w c r k h f a e = grind arith
-follows_more held more v (d ∷ ds) w c r k h f a e =
-    let rest = λ (u : View). follows_more held more u ds w c r k h in
-    grind (arith, more_held held more (locks_of v.map d.0) h, rest)
+follows_more held more v (d ∷ ds) w c r k h f a e = (
+  more_held held more (locks_of v.map d.0) h f.0,
+  goes_on_to _ _ (effect v d.0) (λ reply u is g. (g.0, follows_more held more u ds w c r k h g.1 a e)) f.1,
+)
 
 -- the same history with more locks
 pub follows_held : (held more : Held) (v : View) (ds : List Answered) (w : View) → HoldsMore held more
     → IsTraceUnderLocks held v ds w → IsTraceUnderLocks more v ds w
 follows_held held more v [] w h f = f
-follows_held held more v (d ∷ ds) w h f =
-    let rest = λ (u : View). follows_held held more u ds w h in
-    grind (arith, more_held held more (locks_of v.map d.0) h, rest)
+follows_held held more v (d ∷ ds) w h f = (
+  more_held held more (locks_of v.map d.0) h f.0,
+  goes_on_to _ _ (effect v d.0) (λ reply u is g. (g.0, follows_held held more u ds w h g.1)) f.1,
+)
 
 -- the same with more locks, from and to equal views
 pub follows_same : (held more : Held) (v other : View) (ds : List Answered) (w k : View) → HoldsMore held more

@@ -1,13 +1,14 @@
 -- What a script leaves of a sound map is sound, and of a lawful map lawful.
 use Rattle.city_model.proofs.Prelude.{◌≡◌, ◌<◌, ℕ, suc, ◌+◌, List, [], ◌∷◌, length, take, true, false, refl, sym, subst}
 use Rattle.city_model.proofs.Prelude.{arith, false≢true, Command, Reply, End, Outcome, CityMap, View, unmarked}
-use Rattle.city_model.proofs.Prelude.{IsSoundView, Effect, Answers, effect, is_refusal, HasNoOrphan, IsSound, IsLawful}
+use Rattle.city_model.proofs.Prelude.{IsSoundView, Effect, Answers, GoesOn, effect, is_refusal, HasNoOrphan, IsSound, IsLawful}
 use Rattle.city_model.proofs.Prelude.{Scripted, Trace, EndsFrom, IsScriptResult, view_at_end, map_left, left_by}
-use Rattle.city_model.proofs.Prelude.{model_after, IsSerialHistoryFrom, IsSerialHistory, is_end, ends_once, seen_next}
+use Rattle.city_model.proofs.Prelude.{model_after, IsSerialHistoryFrom, IsSerialHistory, is_end, ends_once, step}
 use Rattle.city_model.proofs.Prelude.{answer}
 use Rattle.std.proofs.Common.{zero}
 use Rattle.city_model.specs.Runs.{goes_to}
-use Rattle.city_model.proofs.Effects.{goes_on_case, effect_is, committed_at}
+use Rattle.city_model.proofs.Endings.{committed_at}
+use Rattle.city_model.proofs.GoingOn.{goes_on_case, effect_is}
 use Rattle.city_model.proofs.IdLists.{bool_cases}
 use Rattle.city_model.proofs.MarksKept.{sound_effect}
 
@@ -23,7 +24,7 @@ trace_sound v cs rs w s f = absurd f
 abbrev IsTraced : View → List Command → Type 0
 IsTraced v cs = (replies : List Reply) × (w : View) × Trace v cs replies w
 
-traced_further : (v : View) (c : Command) (cs : List Command) → is_end c ≡ false → IsTraced (seen_next v c) cs
+traced_further : (v : View) (c : Command) (cs : List Command) → is_end c ≡ false → IsTraced (step v c) cs
     → IsTraced v (c ∷ cs)
 traced_further v c cs on t = (answer v c ∷ t.0, t.1, grind (arith, effect_is))
 
@@ -32,7 +33,7 @@ pub trace_there : (v : View) (cs : List Command) (k : ℕ) → ends_once cs ≡ 
 trace_there v [] k e less = absurd (false≢true e)
 trace_there v (c ∷ cs) zero e less = ([], v, refl)
 trace_there v (c ∷ cs) (suc k) e less =
-    search (arith, bool_cases, traced_further, trace_there (seen_next v c) cs k)
+    search (arith, bool_cases, traced_further, trace_there (step v c) cs k)
 
 -- ---- a script to its end
 
@@ -50,11 +51,17 @@ sound_at_end v (c ∷ cs) s = sound_to v _ _ s (λ reply u is. sound_at_end u cs
 abbrev pub EndsFurther : Reply → ℕ → List Command → List Reply → Outcome → Reply → View → Type 0
 EndsFurther r i cs rs outcome reply u = (reply ≡ r) × (is_refusal reply ≡ false) × EndsFrom u (i + 1) cs rs outcome
 
+no_orphan_to : (v : View) (e : Effect) (r : Reply) (i : ℕ) (cs : List Command) (rs : List Reply)
+    → ((u : View) → EndsFrom u (i + 1) cs rs Outcome.Committed → HasNoOrphan (view_at_end u cs).map)
+    → GoesOn e (EndsFurther r i cs rs Outcome.Committed) → HasNoOrphan (goes_to v e (λ u. view_at_end u cs)).map
+no_orphan_to v e r i cs rs f g = grind arith
+
 no_orphan_from : (v : View) (i : ℕ) (cs : List Command) (rs : List Reply) → EndsFrom v i cs rs Outcome.Committed
     → HasNoOrphan (view_at_end v cs).map
 no_orphan_from v i [] rs h = absurd h
 no_orphan_from v i (c ∷ cs) [] h = grind (arith, committed_at v c v h)
-no_orphan_from v i (c ∷ cs) (r ∷ rs) h = let rest = λ (u : View). no_orphan_from u (i + 1) cs rs in grind (arith, rest)
+no_orphan_from v i (c ∷ cs) (r ∷ rs) h =
+    no_orphan_to v (effect v c) r i cs rs (λ u. no_orphan_from u (i + 1) cs rs) h
 
 -- a script that commits leaves a lawful map of a sound one
 pub lawful_when_committed : (m : CityMap) (cs : List Command) (rs : List Reply) → IsSound m

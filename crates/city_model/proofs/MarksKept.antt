@@ -1,12 +1,13 @@
 -- What marks keep: each map sound, and what was seen when they were made.
 use Rattle.city_model.proofs.Prelude.{arith, ◌≡◌, ℕ, List, [], ◌∷◌, ◌++◌, false, map, refl, ap, ◌∙◌, if◌then◌else◌}
-use Rattle.city_model.proofs.Prelude.{Command, Reply, Mark, Back, NoMark, WentBack, Refused, CityMap, same_id, after}
-use Rattle.city_model.proofs.Prelude.{Marking, Leaves, Marks, GoesBack, marking, back_to, step_as, seen_next, Marked}
-use Rattle.city_model.proofs.Prelude.{View, marks_from, IsSoundView, Answers, effect}
+use Rattle.city_model.proofs.Prelude.{Command, Reply, Mark, Back, NoMark, WentBack, Refused, CityMap, Action, action}
+use Rattle.city_model.proofs.Prelude.{Refuses, Edits, Marks, GoesBack, same_id, Marked, View, marks_from, IsSoundView}
+use Rattle.city_model.proofs.Prelude.{IsSound, Answers, applied, effect, left, step}
 use Rattle.city_model.specs.Marks.{AreSound}
-use Rattle.city_model.specs.Meaning.{back, step}
+use Rattle.city_model.specs.Meaning.{back}
 use Rattle.city_model.specs.Scripts.{is_mark}
-use Rattle.city_model.proofs.Effects.{answered_next}
+use Rattle.city_model.proofs.ActionKinds.{map_after, IsKindOf, kind_of}
+use Rattle.city_model.proofs.GoingOn.{answered_next}
 use Rattle.city_model.proofs.Ids.{same_id_itself}
 use Rattle.city_model.proofs.SoundAfter.{sound_after}
 
@@ -16,19 +17,25 @@ sound_from : (name : List ℕ) (ks : List Marked) → AreSound ks → AreSound (
 sound_from name [] s = tt
 sound_from name (k ∷ ks) s = grind (arith, sound_from name ks s.1)
 
-sound_back : (v : View) (ks : List Marked) → IsSoundView v → AreSound ks → IsSoundView (back_to v ks)
-sound_back v [] s a = s
-sound_back v (k ∷ ks) s a = (a.0, a)
+sound_back : (name : List ℕ) (v : View) (ks : List Marked) → IsSoundView v → AreSound ks
+    → IsSoundView (left v (back name v ks))
+sound_back name v [] s a = s
+sound_back name v (k ∷ ks) s a = (a.0, a)
 
-sound_step_as : (k : Marking) (v : View) (c : Command) → IsSoundView v → IsSoundView (step_as k v c)
-sound_step_as Leaves v c s = (sound_after v.map c s.0, s.1)
-sound_step_as (Marks name) v c s = (s.0, (s.0, s.1))
-sound_step_as (GoesBack name) v c s = sound_back v (marks_from name v.marks) s (sound_from name v.marks s.1)
+sound_applied : (v : View) (a : Action) → IsSoundView v → IsSound (map_after v.map a) → IsSoundView (left v (applied v a))
+sound_applied v (Refuses cause) s t = s
+sound_applied v (Edits reply ids n) s t = (t, s.1)
+sound_applied v (Marks name) s t = (s.0, (s.0, s.1))
+sound_applied v (GoesBack name) s t = sound_back name v (marks_from name v.marks) s (sound_from name v.marks s.1)
+sound_applied v a s t = grind arith
+
+pub sound_step : (v : View) (c : Command) → IsSoundView v → IsSoundView (step v c)
+sound_step v c s = sound_applied v (action v.map c) s (sound_after v.map c s.0)
 
 -- each command that is answered keeps the map and every mark's map sound
 pub sound_effect : (v : View) (c : Command) (reply : Reply) (u : View) → effect v c ≡ Answers reply u → IsSoundView v
     → IsSoundView u
-sound_effect v c reply u is s = rw (answered_next v c reply u is) (sound_step_as (marking c) v c s)
+sound_effect v c reply u is s = rw (answered_next v c reply u is) (sound_step v c s)
 
 -- ---- going back
 
@@ -71,6 +78,10 @@ not_gone_back v name h = grind (arith, none_from name v.marks h)
 
 -- ---- all other commands leave the marks
 
+plain_applied : (v : View) (c : Command) (a : Action) → IsKindOf c a → is_mark c ≡ false
+    → left v (applied v a) ≡ record { map = map_after v.map a; marks = v.marks }
+plain_applied v c a k h = grind arith
+
 pub plain_step : (v : View) (c : Command) → is_mark c ≡ false
-    → seen_next v c ≡ record { map = after v.map c; marks = v.marks }
-plain_step v c h = grind arith
+    → step v c ≡ record { map = map_after v.map (action v.map c); marks = v.marks }
+plain_step v c h = plain_applied v c (action v.map c) (kind_of v.map c) h

@@ -1,22 +1,38 @@
 -- What is planned for a command is what it writes.
-use Rattle.city_model.proofs.Prelude.{arith, ◌≡◌, ℕ, List, [], ◌∷◌, map, length, true, false, Option, None, Some, refl}
-use Rattle.city_model.proofs.Prelude.{keys_of, false≢true, or_parts, Object, Body, Command, Put, Delete, Attach, Detach}
-use Rattle.city_model.proofs.Prelude.{Reply, Deleted, Attached, Detached, CityMap, same_id, has_id, changed, with_body}
-use Rattle.city_model.proofs.Prelude.{put_cause, deleted, without_child, without_parent, with_child, with_parent}
-use Rattle.city_model.proofs.Prelude.{is_wrong_family, exclusively, effect_of, IsSound, body_fault}
-use Rattle.city_model.proofs.Prelude.{locks_id_exclusively, Change, after_change, unlinked}
+use Rattle.city_model.proofs.Prelude.{arith, ◌≡◌, ℕ, List, [], ◌∷◌, map, length, true, false, None, Some, refl}
+use Rattle.city_model.proofs.Prelude.{sym, ◌∙◌, keys_of, false≢true, or_parts, Object, Body, Command}
+use Rattle.city_model.proofs.Prelude.{Delete, Attach, Detach, Reply, Added, Deleted, Attached, Detached, CityMap}
+use Rattle.city_model.proofs.Prelude.{Edits, action, Amendment, amended, new_object, same_id, has_id, changed, deleted, attached}
+use Rattle.city_model.proofs.Prelude.{detached, without_child, without_parent, with_child, with_parent, is_wrong_family}
+use Rattle.city_model.proofs.Prelude.{IsSound, Change, after_change, unlinked}
 use Rattle.std.proofs.Common.{◌==◌}
-use Rattle.city_model.specs.Meaning.{put_done}
-use Rattle.city_model.proofs.Ids.{same_id_itself, same_id_back, same_id_true}
+use Rattle.std.specs.Prelude.{Ok}
+use Rattle.city_model.specs.Actions.{creates, amends, amendment_reply, rewrites, attach_at, detach_at}
 use Rattle.city_model.specs.inside.Plans.{AreOf, AreWritesOf}
-use Rattle.city_model.proofs.FrameLaw.{frame}
+use Rattle.city_model.proofs.FrameLaw.{unwritten_stays}
+use Rattle.city_model.proofs.IdLists.{bool_cases}
+use Rattle.city_model.proofs.Ids.{same_id_itself, same_id_back, same_id_true}
 
--- ---- a put, where x stands at the id
+-- ---- one object is written
 
-pub put_writes : (m : CityMap) (id : List ℕ) (body : Body) (x : Option Object) (o : Object) (r : Reply) (ws : Change)
-    → m id ≡ x → body_fault body ≡ None → put_cause id body x None ≡ None →
-    r ≡ put_done x → o ≡ with_body body x → ws ≡ (id, Some o) ∷ [] → AreWritesOf m (Put id body) r ws
-put_writes m id body x o r ws is faultless allowed reply object items = search (arith, same_id_itself)
+one_writes : (m : CityMap) (c : Command) (id : List ℕ) (o : Object) (r : Reply) (ws : Change)
+    → action m c ≡ Edits r (id ∷ []) (changed m id (Some o)) → ws ≡ (id, Some o) ∷ [] → AreWritesOf m c r ws
+one_writes m c id o r ws is items =
+    rw items (record { after = changed m id (Some o); edits = is; objects = (grind (arith, same_id_itself id), tt) })
+
+-- a put or an add, where nothing is there
+pub new_writes : (m : CityMap) (c : Command) (id : List ℕ) (body : Body) (o : Object) (r : Reply) (ws : Change)
+    → action m c ≡ creates m id body → r ≡ Added → o ≡ new_object body → ws ≡ (id, Some o) ∷ []
+    → AreWritesOf m c r ws
+new_writes m c id body o r ws is reply object items =
+    one_writes m c id o r ws (is ∙ (λ i. Edits (sym reply i) (id ∷ []) (changed m id (Some (sym object i))))) items
+
+-- an amendment of the object o, which becomes q
+pub amend_writes : (m : CityMap) (c : Command) (id : List ℕ) (a : Amendment) (o q : Object) (r : Reply) (ws : Change)
+    → action m c ≡ amends m id a o → amended id a o ≡ Ok q → r ≡ amendment_reply a → ws ≡ (id, Some q) ∷ []
+    → AreWritesOf m c r ws
+amend_writes m c id a o q r ws is becomes reply items =
+    one_writes m c id q r ws (is ∙ (λ i. rewrites m id (sym reply i) (becomes i))) items
 
 -- ---- a delete
 
@@ -25,10 +41,9 @@ unlinked_are : (m : CityMap) (id : List ℕ) (ps : List (List ℕ))
 unlinked_are m id [] apart = tt
 unlinked_are m id (p ∷ ps) apart = grind (arith, same_id_itself, unlinked_are m id ps)
 
-unlinked_ids : (m : CityMap) (id : List ℕ) (ps : List (List ℕ)) (q : List ℕ)
-    → has_id (keys_of (map (unlinked m id) ps)) q ≡ locks_id_exclusively (exclusively ps) q
-unlinked_ids m id [] q = refl
-unlinked_ids m id (p ∷ ps) q = grind (arith, unlinked_ids m id ps q)
+unlinked_ids : (m : CityMap) (id : List ℕ) (ps : List (List ℕ)) → keys_of (map (unlinked m id) ps) ≡ ps
+unlinked_ids m id [] = refl
+unlinked_ids m id (p ∷ ps) = grind (arith, unlinked_ids m id ps)
 
 pub delete_writes : (m : CityMap) (id : List ℕ) (o : Object) (ws : Change) → IsSound m → m id ≡ Some o
     → (length o.children == 0) ≡ true →
@@ -37,23 +52,47 @@ delete_writes m id o ws s is childless items =
     let apart : (p : List ℕ) → has_id o.parents p ≡ true → same_id id p ≡ false =
     λ p h. grind (arith, same_id_back id p, s id o is) in
     rw items (record {
-      allowed = grind arith;
-      reply = refl;
+      after = deleted m id;
+      edits = grind (arith, unlinked_ids m id o.parents);
       objects = (grind (arith, same_id_itself id), unlinked_are m id o.parents apart);
-      ids = λ q. grind (arith, unlinked_ids m id o.parents q);
     })
 
 -- ---- an attach and a detach
 
 module _ (m : CityMap) (child parent : List ℕ) (c p below above : Object) (ws : Change) (is_child : m child ≡ Some c)
     (is_parent : m parent ≡ Some p) (written : ws ≡ (child, Some below) ∷ (parent, Some above) ∷ []) where
+  two_writes : (c : Command) (r : Reply) (n : CityMap) → action m c ≡ Edits r (child ∷ parent ∷ []) n
+      → n child ≡ Some below → n parent ≡ Some above → AreWritesOf m c r ws
+  two_writes c r n is lower upper = rw written (record { after = n; edits = is; objects = (sym lower, (sym upper, tt)) })
+
+  apart_of : is_wrong_family child c parent p ≡ false → same_id child parent ≡ false
+  apart_of family = search (arith, or_parts)
+
+  attach_edits : is_wrong_family child c parent p ≡ false → has_id c.parents parent ≡ false
+      → attach_at m child (Some c) parent (Some p) ≡ Edits Attached (child ∷ parent ∷ []) (attached m child parent)
+  attach_edits family new = rw (family, new) refl
+
   pub attach_writes : is_wrong_family child c parent p ≡ false → has_id c.parents parent ≡ false
       → below ≡ with_parent parent c → above ≡ with_child child p → AreWritesOf m (Attach child parent) Attached ws
-  attach_writes family new lower upper = search (arith, or_parts, same_id_itself, same_id_back)
+  attach_writes family new lower upper =
+      let apart = apart_of family in
+      two_writes (Attach child parent) Attached (attached m child parent)
+      ((λ i. attach_at m child (is_child i) parent (is_parent i)) ∙ attach_edits family new)
+      (grind (arith, apart, same_id_itself, same_id_back))
+      (grind (arith, same_id_itself))
+
+  detach_edits : has_id c.parents parent ≡ true
+      → detach_at m child (Some c) parent (Some p) ≡ Edits Detached (child ∷ parent ∷ []) (detached m child parent)
+  detach_edits there = rw there refl
 
   pub detach_writes : IsSound m → has_id c.parents parent ≡ true → below ≡ without_parent parent c
       → above ≡ without_child child p → AreWritesOf m (Detach child parent) Detached ws
-  detach_writes s there lower upper = grind (arith, same_id_back, same_id_itself, s child c is_child)
+  detach_writes s there lower upper =
+      let apart = ((s child c is_child).0.parents_know_it parent there).0 in
+      two_writes (Detach child parent) Detached (detached m child parent)
+      ((λ i. detach_at m child (is_child i) parent (is_parent i)) ∙ detach_edits there)
+      (grind (arith, apart, same_id_itself, same_id_back))
+      (grind (arith, same_id_itself))
 
 -- ---- the map with the change
 
@@ -68,6 +107,8 @@ at_written m n (w ∷ ws) q is h =
     grind (arith, at_unwritten, same_id_true q w.0, same_id_back, at_written (changed m w.0 w.1) n ws q)
 
 -- what is planned makes of a sound map what the command makes of it
-pub plan_makes : (m : CityMap) (c : Command) (r : Reply) (ws : Change) → IsSound m → AreWritesOf m c r ws
-    → after_change m ws ≡ effect_of m c
-plan_makes m c r ws s is = grind (arith, at_written m (effect_of m c) ws, at_unwritten m ws, frame m c)
+pub plan_makes : (m : CityMap) (c : Command) (r : Reply) (ws : Change) → IsSound m → (is : AreWritesOf m c r ws)
+    → after_change m ws ≡ is.after
+plan_makes m c r ws s is = λ i q. bool_cases (has_id (keys_of ws) q)
+    (λ h. at_written m is.after ws q is.objects h)
+    (λ h. at_unwritten m ws q h ∙ sym (unwritten_stays m c r (keys_of ws) is.after q s is.edits h)) i

@@ -25,6 +25,10 @@ pub use Rattle.std.specs.Prelude.{T, codes, if◌then◌else◌, is_some, option
 pub use Rattle.serde_json.proofs.Views.{view-lookup}
 pub use Rattle.serde_json.specs.Data.{member, no_members}
 pub use Rattle.serde_json.specs.View.{items_view, members_view}
+pub use Rattle.city_model.specs.Actions.{Action, Edits, GoesBack, Marks, Refuses, action, attached, deleted, detached}
+pub use Rattle.city_model.specs.Actions.{is_wrong_family, new_object, with_child, with_parent, without_child}
+pub use Rattle.city_model.specs.Actions.{without_id, without_parent}
+pub use Rattle.city_model.specs.Amendments.{Amendment, amended, amendment_fault}
 pub use Rattle.city_model.specs.Chunks.{ids_left}
 pub use Rattle.city_model.specs.CityMap.{CityMap, Entries, Objects, changed, children_of, found_in, has_id, object_at}
 pub use Rattle.city_model.specs.CityMap.{parents_of, same_id}
@@ -32,10 +36,8 @@ pub use Rattle.city_model.specs.FrameLaw.{AgreeOn}
 pub use Rattle.city_model.specs.Integral.{members_integral}
 pub use Rattle.city_model.specs.Least.{IsLeast}
 pub use Rattle.city_model.specs.Marks.{IsSoundView, Marked, View, marks_from, unmarked}
-pub use Rattle.city_model.specs.Meaning.{Answers, Does, Effect, GoesOn, IsReply, attached, delete_cause, deleted}
-pub use Rattle.city_model.specs.Meaning.{detached, effect, exclusively, is_refusal, is_wrong_family, locks_of}
-pub use Rattle.city_model.specs.Meaning.{put_cause, with_body, with_child, with_parent, without_child, without_id}
-pub use Rattle.city_model.specs.Meaning.{without_parent}
+pub use Rattle.city_model.specs.Meaning.{Answers, Does, Effect, GoesOn, IsReply, answer, applied, effect, exclusively}
+pub use Rattle.city_model.specs.Meaning.{is_refusal, left, locks_of, step}
 pub use Rattle.city_model.specs.Relations.{AreDistinct, HasNoOrphan, IsLawful, IsLeastOrphan, IsOrphanAt, IsSound}
 pub use Rattle.city_model.specs.Relations.{is_orphan, is_orphan_there, same_family}
 pub use Rattle.city_model.specs.Runs.{Change, EndsAt, EndsFrom, IsEndOf, IsScriptResult, IsSerialHistory}
@@ -66,8 +68,6 @@ pub use Rattle.city_model.specs.declared.object.Shape.{Shape}
 pub use Rattle.city_model.specs.declared.object_type.ObjectType.{ObjectType}
 pub use Rattle.city_model.specs.declared.object_type.ObjectType.TheVariants.{Bridge, Building, BuildingPart, LandUse}
 pub use Rattle.city_model.specs.declared.object_type.ObjectType.TheVariants.{Road}
-pub use Rattle.city_model.specs.inside.CommandParts.{GoesBack, Leaves, Marking, Marks, after, answer, back_to, cause_of}
-pub use Rattle.city_model.specs.inside.CommandParts.{done_reply, effect_of, marking, refusal_as, seen_next, step_as}
 pub use Rattle.city_model.specs.inside.Plans.{unlinked}
 pub use Rattle.city_model.specs.inside.RelationTests.{are_distinct, are_increasing, are_increasing_from, is_misrelated}
 pub use Rattle.city_model.specs.inside.RelationTests.{parent_fits}

@@ -1,16 +1,28 @@
 -- Replies that refuse, and what a refused command leaves.
-use Rattle.city_model.proofs.Prelude.{arith, ◌≡◌, true, false, Command, CityMap, is_refusal, seen_next, done_reply}
-use Rattle.city_model.proofs.Prelude.{Marking, marking, refusal_as, step_as, answer, View}
-use Rattle.city_model.specs.inside.CommandParts.{refused_or}
+use Rattle.city_model.proofs.Prelude.{arith, ◌≡◌, true, false, List, ℕ, Command, Cause, Reply, Refused, CityMap}
+use Rattle.city_model.proofs.Prelude.{Action, Edits, action, View, Answers, Does, applied, left, effect, is_refusal}
+use Rattle.city_model.proofs.Prelude.{answer, step}
+use Rattle.city_model.specs.Meaning.{reply_of}
+use Rattle.city_model.proofs.ActionKinds.{IsKindOf, kind_of}
+use Rattle.city_model.proofs.GoingOn.{answered_next}
+
+edited : (c : Command) (a : Action) (reply : Reply) (ids : List (List ℕ)) (n : CityMap) → IsKindOf c a
+    → a ≡ Edits reply ids n → is_refusal reply ≡ false
+edited c a reply ids n k is = grind arith
 
 -- what a command that is done is replied is no refusal
-pub done_unrefused : (m : CityMap) (c : Command) → is_refusal (done_reply m c) ≡ false
-done_unrefused m c = grind arith
+pub done_unrefused : (m : CityMap) (c : Command) (reply : Reply) (ids : List (List ℕ)) (n : CityMap)
+    → action m c ≡ Edits reply ids n → is_refusal reply ≡ false
+done_unrefused m c reply ids n is = edited c (action m c) reply ids n (kind_of m c) is
 
-stays_as : (k : Marking) (v : View) (c : Command)
-    → is_refusal (refused_or (refusal_as k v c) (done_reply v.map c)) ≡ true → step_as k v c ≡ v
-stays_as k v c h = grind arith
+applied_stays : (v : View) (c : Command) (a : Action) → IsKindOf c a → is_refusal (reply_of (applied v a)) ≡ true
+    → left v (applied v a) ≡ v
+applied_stays v c a k h = grind arith
 
 -- a refused command changes nothing
-pub refused_stays : (v : View) (c : Command) → is_refusal (answer v c) ≡ true → seen_next v c ≡ v
-refused_stays v c h = stays_as (marking c) v c h
+pub refused_stays : (v : View) (c : Command) → is_refusal (answer v c) ≡ true → step v c ≡ v
+refused_stays v c h = applied_stays v c (action v.map c) (kind_of v.map c) h
+
+pub refused_does : (v : View) (c : Command) (cause : Cause) (u : View) → effect v c ≡ Answers (Refused cause) u
+    → Does v c (Refused cause) v
+refused_does v c cause u is = grind (arith, answered_next v c (Refused cause) u is, refused_stays v c)

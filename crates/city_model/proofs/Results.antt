@@ -1,13 +1,13 @@
 -- A script has one result at a map, and scripts run in their order have one list of ends, but for want of memory.
 use Rattle.city_model.proofs.Prelude.{true, ◌≡◌, ℕ, ◌+◌, List, [], ◌∷◌, length, false, refl, sym, ◌∙◌, arith}
-use Rattle.city_model.proofs.Prelude.{nat_list_cmp_total, Command, Reply, Committed, Aborted, End, Outcome, CityMap}
+use Rattle.city_model.proofs.Prelude.{nat_list_cmp_total, Command, Cause, Reply, Committed, Aborted, Refused, End, Outcome, CityMap}
 use Rattle.city_model.proofs.Prelude.{IsLeast, View, unmarked, Effect, effect, IsReply, GoesOn, IsOrphanAt, Scripted}
 use Rattle.city_model.proofs.Prelude.{EndsAt, EndsFrom, IsScriptResult, left_by, IsEndOf, IsSerialHistoryFrom}
 use Rattle.city_model.proofs.Prelude.{IsSerialHistory}
 use Rattle.city_model.proofs.Ids.{same_id_true}
 use Rattle.city_model.specs.Meaning.{Commits, IsCommitReply}
 use Rattle.city_model.specs.SerialEnds.{is_no_memory, IsSerialFrom}
-use Rattle.city_model.proofs.Effects.{goes_on_case, answered_no_ending, is_ending}
+use Rattle.city_model.proofs.GoingOn.{goes_on_case, answered_no_ending, is_ending}
 use Rattle.city_model.proofs.Lawful.{EndsFurther}
 
 -- ---- the least id
@@ -34,13 +34,24 @@ reply_goes_on : (v : View) (c : Command) (q : Reply) (P : Reply → View → Typ
 reply_goes_on v c q P ending h g = goes_on_case P (effect v c) (λ reply u is f.
     let same : q ≡ reply = rw is at h in grind (arith, answered_no_ending v c reply u is, same, ending)) g
 
+refused_or_goes_on : (v : View) (e : Effect) (cause : Cause) (r : Reply) (j : ℕ) (cs : List Command) (rs : List Reply)
+    (p : Outcome) → IsReply v e (Refused cause) → GoesOn e (EndsFurther r j cs rs p) → ⊥
+refused_or_goes_on v e cause r j cs rs p h g = grind arith
+
 ends_or_goes_on : (v : View) (c : Command) (i j : ℕ) (o p : Outcome) (r : Reply) (cs : List Command) (rs : List Reply)
     → is_no_memory o ≡ false → EndsAt v c i o → GoesOn (effect v c) (EndsFurther r j cs rs p) → ⊥
 ends_or_goes_on v c i j Outcome.Committed p r cs rs n h g = reply_goes_on v c Committed _ refl h.0 g
 ends_or_goes_on v c i j Outcome.Aborted p r cs rs n h g = reply_goes_on v c Aborted _ refl h.0 g
+ends_or_goes_on v c i j (Outcome.Refused k cause) p r cs rs n h g =
+    refused_or_goes_on v (effect v c) cause r j cs rs p h.1.0 g
 ends_or_goes_on v c i j o p r cs rs n h g = grind arith
 
 -- ---- one script
+
+further_same : (e : Effect) (i : ℕ) (cs : List Command) (r s : Reply) (rs ss : List Reply) (o p : Outcome)
+    → ((u : View) → EndsFrom u (i + 1) cs rs o → EndsFrom u (i + 1) cs ss p → (rs ≡ ss) × (o ≡ p))
+    → GoesOn e (EndsFurther r i cs rs o) → GoesOn e (EndsFurther s i cs ss p) → ((r ∷ rs) ≡ (s ∷ ss)) × (o ≡ p)
+further_same e i cs r s rs ss o p f h k = grind arith
 
 result_from : (v : View) (i : ℕ) (cs : List Command) (rs ss : List Reply) (o p : Outcome) → is_no_memory o ≡ false
     → is_no_memory p ≡ false → EndsFrom v i cs rs o → EndsFrom v i cs ss p → (rs ≡ ss) × (o ≡ p)
@@ -49,7 +60,7 @@ result_from v i (c ∷ cs) [] [] o p n l h k = (refl, end_is_unique v c i o p n 
 result_from v i (c ∷ cs) [] (s ∷ ss) o p n l h k = absurd (ends_or_goes_on v c i i o p s cs ss n h k)
 result_from v i (c ∷ cs) (r ∷ rs) [] o p n l h k = absurd (ends_or_goes_on v c i i p o r cs rs l k h)
 result_from v i (c ∷ cs) (r ∷ rs) (s ∷ ss) o p n l h k =
-    let rest = λ (u : View). result_from u (i + 1) cs rs ss o p n l in grind (arith, rest)
+    further_same (effect v c) i cs r s rs ss o p (λ u. result_from u (i + 1) cs rs ss o p n l) h k
 
 -- two results of a list of commands at one map are the same, unless there was no memory
 pub result_is_unique : (m : CityMap) (cs : List Command) (rs ss : List Reply) (o p : Outcome) → is_no_memory o ≡ false

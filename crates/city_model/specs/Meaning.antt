@@ -5,7 +5,6 @@ use Rattle.city_model.specs.declared.object.Object.{Object}
 use Rattle.city_model.specs.declared.command.Command.{Command}
 use Rattle.city_model.specs.declared.command.Command.TheVariants.{Read, Put, Add, Set, Unset, Reshape, Expect}
 use Rattle.city_model.specs.declared.command.Command.TheVariants.{Delete, Attach, Detach}
-use Rattle.city_model.specs.declared.command.Cause.{Cause}
 use Rattle.city_model.specs.declared.command.Cause.TheVariants.{NoMark, Orphan}
 use Rattle.city_model.specs.declared.command.Reply.{Reply}
 use Rattle.city_model.specs.declared.command.Reply.TheVariants.{Marked, WentBack, Committed, Aborted, Refused}

@@ -1,7 +1,7 @@
-//! What is wrong with the geometries of a body (CityJSON 2.0, section 3.2).
+//! What is wrong with geometries, and with those of a body (CityJSON 2.0, section 3.2).
 ghost use Rattle.std.specs.Prelude.{◌≡◌, false, IfOk, OnErr};
 ghost use Rattle.std.specs.List.{list_any};
-ghost use Rattle.city_model.specs.Shells.{has_short_ring, has_same_twice, has_open_shell, some_shape, body_fault};
+ghost use Rattle.city_model.specs.Shells.{has_short_ring, has_same_twice, has_open_shell, any_shape, geometry_fault, some_shape, body_fault};
 ghost use Rattle.city_model.specs.inside.RingFaults.{has_ring_fault};
 
 use crate::OutOfMemory;
@@ -18,7 +18,16 @@ pub fn body_fault(alloc: Global, body: &Body) -> Result<Option<Cause>, OutOfMemo
     ensures no_short_ring { OnErr result (some_shape has_short_ring body.now ≡ false) }
     ensures no_same_twice { OnErr result (some_shape has_same_twice body.now ≡ false) }
 {
-    let geometry = body.geometry.as_slice();
+    geometry_fault(alloc, body.geometry.get().as_slice())
+}
+
+/// The first of ShortRing, SameTwice and OpenShell that some of the geometries has, or None. It fails
+/// only when out of memory, and only if no ring is at fault: judging rings doesn't allocate.
+pub fn geometry_fault(alloc: Global, geometry: &[Geometry]) -> Result<Option<Cause>, OutOfMemory>
+    ensures fault { IfOk result (λ f. f ≡ geometry_fault geometry.now) }
+    ensures no_short_ring { OnErr result (any_shape has_short_ring geometry.now ≡ false) }
+    ensures no_same_twice { OnErr result (any_shape has_same_twice geometry.now ≡ false) }
+{
     if any_short_ring(geometry) {
         return Ok(Some(Cause::ShortRing));
     }

@@ -3,7 +3,7 @@ ghost use Rattle.std.specs.Prelude.{◌≡◌, ◌==◌, length, IsTrue, IfOk};
 ghost use Rattle.std.specs.Iterator.{YieldsFirstRef, item_count};
 ghost use Rattle.city_model.specs.CityMap.{same_id, has_id};
 ghost use Rattle.city_model.specs.Chunks.{ids_left};
-ghost use Rattle.city_model.specs.Meaning.{without_id};
+ghost use Rattle.city_model.specs.Actions.{without_id};
 ghost use Rattle.city_model.specs.inside.RelationTests.{are_distinct, are_increasing};
 
 use crate::OutOfMemory;

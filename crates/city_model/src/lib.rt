@@ -1,16 +1,18 @@
 //! The city model: its types, its rules and the meaning of each command.
 //!
 //! - `object`, `object_type`, `frame`, `city`: what a city is made of
-//! - `shared_body`, `shared_ids`: what copies of an object share
+//! - `shared`, `shared_ids`: what copies share
 //! - `shape`: what bounds a shape of any type
 //! - `text`, `sequence`, `copied`: texts that contracts see as bytes, lists that they see as items, copies
 //! - `kept`, `members`, `integral`: members that are kept unread, as JSON trees
+//! - `attributes`, `same_value`: attributes set, taken out and compared
 //! - `rings`, `edges`, `shells`, `body_fault`: what is wrong with a body
 //! - `id_list`, `relations`, `orphans`, `is_lawful`: what is wrong with a city
 //! - `command`, `script`: what is asked of a city
 //! - `plan`, `change`, `end`: the plan of a command, what a commit writes, how a script ended
 #![tactic(auto)]
 
+pub mod attributes;
 pub mod body_fault;
 pub mod change;
 pub mod city;
@@ -31,10 +33,11 @@ pub mod orphans;
 pub mod plan;
 pub mod relations;
 mod rings;
+pub mod same_value;
 pub mod script;
 pub mod sequence;
 pub mod shape;
-pub mod shared_body;
+pub mod shared;
 pub mod shared_ids;
 pub mod shells;
 pub mod text;

@@ -7,15 +7,19 @@ ghost use Rattle.city_model.specs.Scripts.{is_end, is_mark};
 
 use crate::OutOfMemory;
 use crate::command::{Cause, Command, Reply};
+use crate::plan::amending::{Amendment, plan_amend};
 use crate::plan::deleting::plan_delete;
-use crate::plan::putting::{plan_put, plan_read};
+use crate::plan::putting::{plan_add, plan_put};
+use crate::plan::reading::{plan_expect, plan_read};
 use crate::plan::relating::{plan_attach, plan_detach};
 use crate::plan::view::View;
 use std::alloc::Global;
 
+mod amending;
 mod deleting;
 mod objects;
 mod putting;
+mod reading;
 mod relating;
 pub mod view;
 mod writes;
@@ -37,6 +41,7 @@ pub enum Plan {
 /// It copies the objects that the command returns or changes, and fails only when out of
 /// memory. The same plan is right for each other sound city that agrees with this one on the
 /// ids that the command locks.
+#[tactic(auto, using(crate::proofs::FrameLaw::frame_law))]
 pub fn plan_of<V: View>(alloc: Global, view: &V, command: &Command) -> Result<Plan, OutOfMemory>
     requires no_end { is_end command.now ≡ false }
     requires no_mark { is_mark command.now ≡ false }
@@ -47,6 +52,13 @@ pub fn plan_of<V: View>(alloc: Global, view: &V, command: &Command) -> Result<Pl
     match command {
         Command::Read(id) => plan_read(alloc, view, id),
         Command::Put(id, body) => plan_put(alloc, view, id, body),
+        Command::Add(id, body) => plan_add(alloc, view, id, body),
+        Command::Set(id, named) => plan_amend(alloc, view, id, Amendment::Setting(named)),
+        Command::Unset(id, names) => plan_amend(alloc, view, id, Amendment::Unsetting(names)),
+        Command::Reshape(id, geometry) => {
+            plan_amend(alloc, view, id, Amendment::Reshaping(geometry))
+        }
+        Command::Expect(id, named) => plan_expect(alloc, view, id, named),
         Command::Delete(id) => plan_delete(alloc, view, id),
         Command::Attach(child, parent) => plan_attach(alloc, view, child, parent),
         Command::Detach(child, parent) => plan_detach(alloc, view, child, parent),

@@ -2,7 +2,7 @@
 ghost use Rattle.std.specs.Prelude.{◌≡◌, [], ◌∷◌, ◌++◌, ◌==◌, ◌<◌, suc, take, drop, false, flat_map, length, IfOk, IfSome, IfNone, OnOk, OnErr};
 ghost use Rattle.std.specs.Arc.{arc_value};
 ghost use Rattle.city_model.specs.CityMap.{has_id};
-ghost use Rattle.city_model.specs.Meaning.{without_id};
+ghost use Rattle.city_model.specs.Actions.{without_id};
 ghost use Rattle.city_model.specs.Relations.{AreDistinct};
 ghost use Rattle.city_model.specs.Chunks.{ids_left};
 ghost use Rattle.city_model.specs.inside.ChunkSearch.{HasIdAt};

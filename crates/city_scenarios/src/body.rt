@@ -55,7 +55,7 @@ fn name_of(cause: &Option<Cause>) -> &'static str {
 }
 
 fn add_shells(alloc: Global, body: &Body, answer: &mut Written) {
-    for geometry in body.geometry.as_slice() {
+    for geometry in body.geometry.get().as_slice() {
         add_shells_of(alloc, geometry, answer);
     }
 }

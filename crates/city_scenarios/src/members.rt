@@ -1,7 +1,7 @@
 //! The verb `members`: members kept at a place.
 use crate::written::Written;
 use city_model::kept::extra::Extra;
-use city_model::kept::site::{AtGeometry, AtObject, AtTop, AtTransform, Site};
+use city_model::kept::site::{AtAttributes, AtGeometry, AtObject, AtTop, AtTransform, Site};
 use serde_json::{Map, Value};
 use std::alloc::Global;
 
@@ -19,6 +19,7 @@ fn kept_at(place: &str, members: Map<String, Value>) -> &'static str {
         "transform" => kept::<AtTransform>(members),
         "object" => kept::<AtObject>(members),
         "geometry" => kept::<AtGeometry>(members),
+        "attributes" => kept::<AtAttributes>(members),
         _ => "no such place",
     }
 }

@@ -1,12 +1,11 @@
 //! What a command line asks for.
 ghost use Rattle.std.specs.Prelude.{◌≡◌, ◌≢◌, ◌⊎◌, ◌≤◌, ◌∷◌, ℕ, Bool, true, false, List, Option, Some, None, Ok};
-ghost use Rattle.std.specs.Prelude.{Err, All, drop, map, option_map, string_bytes, IfOk, IsErr, MatchOption};
-ghost use Rattle.std.specs.Prelude.{MatchResult};
+ghost use Rattle.std.specs.Prelude.{Err, All, drop, map, option_map, string_bytes, IfOk, IsErr};
+ghost use Rattle.std.specs.Prelude.{MatchOption, MatchResult};
 ghost use Rattle.clap.specs.Words.{app_of, kind_of, rule_of};
 ghost use Rattle.city_serve.specs.RunOptions.{plain_destination, plain_options};
-ghost use Rattle.city_serve.specs.CommandLines.{IsName, Line, IsLineOf, AnswersNames, AnswersOptions};
-ghost use Rattle.city_serve.specs.CommandLines.{AreOptionsOf, AsksForText, HasOptions, IsCount, IsShown};
-ghost use Rattle.city_serve.specs.CommandLines.{MeetsUnknownOption};
+ghost use Rattle.city_serve.specs.CommandLines.{IsName, Line, IsLineOf, AnswersNames, AnswersOptions, IsShown};
+ghost use Rattle.city_serve.specs.CommandLines.{AreOptionsOf, AsksForText, HasOptions, IsCount, MeetsUnknownOption};
 ghost use Rattle.city_serve.specs.inside.CommandShape.{cityed_command, files_command, flag_rule, option_rule};
 ghost use Rattle.city_serve.specs.inside.CommandShape.{output_rule, run_command, output_command};
 ghost use Rattle.city_serve.specs.inside.CommandShape.{AnswersPlaces, AnswersCheckedPlaces, IsOfRun};
@@ -19,7 +18,6 @@ use clap::{Arg, ArgAction, Command, Error};
 use std::alloc::Global;
 
 const MODEL: &str = "MODEL";
-
 const SCRIPTS: &str = "SCRIPTS";
 
 const DECIMALS: &str = "decimals";
@@ -40,8 +38,8 @@ const USAGE: &str = "\
 cityed [--decimals] [--workers N] [--watch K] [--output FILE] [--atomic] [--explain] [MODEL SCRIPTS]
        cityed --check [--decimals] [--explain] MODEL [SCRIPTS]";
 
-const ABOUT: &str = "Edits a CityJSON 2.0 city model by scripts. Each script is done whole or not \
-                     at all.";
+const ABOUT: &str =
+    "Edits a CityJSON 2.0 city model by scripts. Each script is done whole or not at all.";
 
 const DETAILS: &str = "\
 Without files, standard input is read: the document in its first line, the scripts after it.
@@ -52,12 +50,18 @@ The scripts are a JSON array. Each is run as one transaction:
 Its last command is \"commit\" or \"abort\"; the ones before it are of these forms:
   {\"read\": ID}                          report the object, or that there is none
   {\"put\": ID, \"object\": OBJECT}         add an object, or replace all but type and relations
+  {\"add\": ID, \"object\": OBJECT}         add an object; refused where one is there
+  {\"set\": ID, \"attributes\": VALUES}     give these attributes their values; all else stays
+  {\"unset\": ID, \"attributes\": NAMES}    take these attributes out; all else stays
+  {\"reshape\": ID, \"geometry\": [..]}     replace the geometry; all else stays
+  {\"expect\": ID, \"attributes\": VALUES}  be refused unless the object has these values
   {\"delete\": ID}                        delete an object that has no children
   {\"attach\": CHILD, \"parent\": PARENT}   make CHILD a child of PARENT
   {\"detach\": CHILD, \"parent\": PARENT}   end that relation; both objects stay
   {\"mark\": NAME}                        set a mark of this name, to go back to
   {\"back\": NAME}                        undo what the script wrote since its newest mark NAME
-Boundaries in an OBJECT are indices into the script's own \"vertices\": [[x, y, z], ..].
+VALUES is {NAME: VALUE, ..} and NAMES is [NAME, ..], names and values of attributes.
+Boundaries in a command are indices into the script's own \"vertices\": [[x, y, z], ..].
 Numbers are whole. With --decimals others are taken, and given back as they were written.
 Vertices are whole in every CityJSON file, and count in the grid of the model's \"transform\".
 

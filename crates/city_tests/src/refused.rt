@@ -7,7 +7,7 @@ ghost use Rattle.std.specs.Prelude.{◌≡◌, IfSome};
 use crate::board::{commit_next, counted, opened_to_one, shown, turn};
 use crate::core_calls::is_done;
 use crate::replay::is_replayed;
-use crate::runs::{CHILD_OF_TWO, CUBE, ORPHAN, Run, TWO_READERS, UNDELETED, opened};
+use crate::runs::{CHILD_OF_TWO, CUBE, ORPHAN, PLANNERS, Run, TWO_READERS, UNDELETED, opened};
 use city_crew::{Note, OpenGate, Poster, Viewer, run_crew};
 use city_desk::{Desk, ListShelf, Output, RunFault, Shelf, output_bytes, run_serial};
 use city_doc::FIXED_SEED;
@@ -67,6 +67,29 @@ fn calls_of_a_core_can_be_made_again(rt: HostRuntime) -> Result<(), Fail> {
     Ok(())
 }
 
+/// A script that sets, unsets, reshapes, adds and expects, marks and goes back.
+const AMEND: &str = concat!(
+    r#"[{"name":"s","commands":[{"set":"b","attributes":{"n":1}},{"mark":"m"},"#,
+    r#"{"set":"b","attributes":{"k":2,"n":3}},{"unset":"r","attributes":["z"]},{"reshape":"p","geometry":[]},"#,
+    r#"{"back":"m"},{"expect":"b","attributes":{"n":1}},"#,
+    r#"{"add":"g","object":{"type":"Road","attributes":{"o":{"a":[1]}}}},{"set":"g","attributes":{"o":[]}},"#,
+    r#"{"set":"x","attributes":{"u":1}},{"unset":"x","attributes":["u"]},"#,
+    r#"{"reshape":"r","geometry":[{"type":"MultiSurface","lod":"1","boundaries":[]}]},"commit"]}]"#
+);
+
+/// What it leaves.
+const AMENDED: &str = model!(
+    r#"{"b":{"attributes":{"n":1},"children":["p"],"type":"Building"},"g":{"attributes":{"o":[]},"type":"Road"},"p":{"parents":["b"],"type":"BuildingPart"},"r":{"geometry":[{"boundaries":[],"lod":"1","type":"MultiSurface"}],"type":"Building"},"x":{"type":"LandUse"}}"#,
+    "[]"
+);
+
+#[test]
+fn edits_of_attributes_can_be_made_again(rt: HostRuntime) -> Result<(), Fail> {
+    let done = is_done(rt.alloc(), HOUSES, AMEND, 4, AMENDED).ok_or(SHORT)?;
+    assert!(rt; done);
+    Ok(())
+}
+
 /// A put, and a read of what it puts.
 const PUT_AND_READ: &str = concat!(
     r#"[{"name":"s","commands":[{"put":"g","object":{"type":"Road","attributes":{"n":1}}},"#,
@@ -115,7 +138,7 @@ fn turns_leave(alloc: Global, run: &Run) -> Option<bool> {
 }
 
 /// Runs that put, delete, attach, abort and go back, and that wait and die.
-const RUNS: &[Run] = &[CHILD_OF_TWO, CUBE, ORPHAN, TWO_READERS, UNDELETED];
+const RUNS: &[Run] = &[CHILD_OF_TWO, CUBE, ORPHAN, PLANNERS, TWO_READERS, UNDELETED];
 
 /// Why a test isn't taken.
 const SHORT: &str = "no memory to begin with";

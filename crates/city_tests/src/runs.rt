@@ -73,6 +73,17 @@ pub const ORPHAN: Run = Run {
     ),
 };
 
+/// Two that set attributes of one building.
+pub const PLANNERS: Run = Run {
+    document: model!(r#"{"b":{"attributes":{"name":"hall","storeys":2},"type":"Building"}}"#, "[]"),
+    scripts: concat!(
+        r#"[{"name":"a","commands":[{"expect":"b","attributes":{"storeys":2}},"#,
+        r#"{"set":"b","attributes":{"roof":"flat"}},"commit"]},"#,
+        r#"{"name":"b","commands":[{"set":"b","attributes":{"storeys":3}},{"unset":"b","attributes":["name"]},"#,
+        r#"{"reshape":"b","geometry":[]},{"add":"g","object":{"type":"Road"}},"commit"]}]"#
+    ),
+};
+
 pub const UNDELETED: Run = Run {
     document: model!(r#"{"x":{"type":"LandUse"}}"#, "[]"),
     scripts: concat!(

@@ -2,7 +2,8 @@
 pub use Rattle.city_tokens.proofs.document.BuiltFrames.{frame_is}
 pub use Rattle.city_tokens.proofs.document.Listings.{OfEach, at_listed, listed_again, of_each_listed}
 pub use Rattle.city_tokens.proofs.script.BuiltScripts.{built_few, built_many}
-pub use Rattle.city_tokens.proofs.script.CommandLaws.{ends_once-read, form_fit, puts_own}
+pub use Rattle.city_tokens.proofs.script.CommandLaws.{ends_once-read}
+pub use Rattle.city_tokens.proofs.script.OwnForms.{form_owns, owns}
 pub use Rattle.city_tokens.proofs.tree.IntegralParts.{all_found, all_put, array_is, array_of-integral}
 pub use Rattle.city_tokens.proofs.tree.IntegralParts.{as_object-integral, count_of-items, get-integral}
 pub use Rattle.city_tokens.proofs.tree.IntegralParts.{get_member-integral, items_list-of, object_is, object_with}

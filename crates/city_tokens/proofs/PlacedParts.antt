@@ -1,16 +1,16 @@
--- What is read of trees by what stood for their parts: objects, bodies that are put, and commands.
+-- What is read of trees by what stood for their parts: objects, bodies that commands give, and commands.
 use Rattle.city_tokens.proofs.Prelude.{◌≡◌, ℕ, List, [], ◌∷◌, Option, Some, None, refl, Bool, true, false, codes, Data}
-use Rattle.city_tokens.proofs.Prelude.{array, no_items, Members, put, get_member, as_str, items_of, Geometry, Object}
+use Rattle.city_tokens.proofs.Prelude.{array, no_items, Members, put, get, get_member, as_str, items_of, Geometry}
 use Rattle.city_tokens.proofs.Prelude.{Point, object_of, geometry_of, IsGeometry, IsObject, IsObjectSoFar, IsPlaced}
 use Rattle.city_tokens.proofs.Prelude.{Pairs, IsArrayOf, IsListSlot, IsString, IsTaken, IsPassed, read_items, list_of}
-use Rattle.city_tokens.proofs.Prelude.{Token, Body, ObjectParts, IsCommand, Command, command_of}
-use Rattle.city_tokens.specs.object.Bodies.{body_of}
+use Rattle.city_tokens.proofs.Prelude.{Token, Object, Body, ObjectParts, IsCommand, Command, command_of}
 use Rattle.city_tokens.specs.tree.Lists.{list_or_absent}
 use Rattle.std.specs.Bool.{MatchBool}
 use Rattle.city_tokens.specs.inside.Commands.{IsBody, IsBodySoFar}
+use Rattle.city_tokens.specs.script.Commands.{unrelated_body}
 use Rattle.city_tokens.proofs.Members.{apart_back}
 use Rattle.city_tokens.proofs.tree.Puts.{get_member-put_apart}
-use Rattle.city_model.specs.declared.command.Command.TheVariants.{Put}
+use Rattle.city_model.specs.declared.command.Command.TheVariants.{Put, Add, Reshape}
 
 module _ {A : Type 0} (R : A → Data → Type 0) (reads : Data → Option A) where
   items_placed : (xs ys : List A) (ds : List Data) → Pairs R xs ds → Pairs (IsPlaced R reads) xs ys
@@ -31,7 +31,7 @@ strings_same : (xs : List (List ℕ)) → Pairs (IsPlaced IsString as_str) xs xs
 strings_same [] = tt
 strings_same (x ∷ xs) = (λ d h. h, strings_same xs)
 
-strings_read : (xs : List (List ℕ)) (member : Option Data) → IsListSlot IsString xs member
+pub strings_read : (xs : List (List ℕ)) (member : Option Data) → IsListSlot IsString xs member
     → list_or_absent as_str member ≡ Some xs
 strings_read xs member h =
     slot_placed IsString as_str xs xs member (array_placed IsString as_str xs xs (strings_same xs)) h
@@ -63,19 +63,42 @@ body_taken true old new name depth before after parents children h =
 body_taken false old new name depth before after parents children h =
     (h.0, λ d found kept was. search (h.1 d found kept was.0, absent))
 
--- the tree of a body whose geometries are placed
-pub body_placed : (points : List Point) (b : Body) (geometry : List Geometry)
-    → IsPlaced (IsArrayOf IsGeometry) (list_of (geometry_of points)) b.geometry geometry → (d : Data) → IsBody b d
-    → body_of points d ≡ Some (record { kind = b.kind; geometry = geometry; extra = b.extra })
-body_placed points b geometry placed d h =
-    let o = h.2 in
-    let shaped = slot_placed IsGeometry (geometry_of points) b.geometry geometry _ placed o.geometry in
-    rw (o.is, o.kind, shaped, o.extra) refl
+module _ (points : List Point) (b : Body) (new : List Geometry)
+    (placed : IsPlaced (IsArrayOf IsGeometry) (list_of (geometry_of points)) b.geometry new) where
+  -- the body of a tree, its geometries placed
+  body_placed : (d : Data) → IsBody b d → unrelated_body points d ≡ Some (record b { geometry = new })
+  body_placed d h =
+      let o = h.2 in
+      let shaped = slot_placed IsGeometry (geometry_of points) b.geometry new _ placed o.geometry in
+      rw (h.3, o.is, o.kind, shaped, o.extra) refl
 
--- a put whose geometries are placed
-pub put_placed : (points : List Point) (c : Command) (id : List ℕ) (b : Body) (geometry : List Geometry) → c ≡ Put id b
-    → IsPlaced (IsArrayOf IsGeometry) (list_of (geometry_of points)) b.geometry geometry
-    → IsPlaced IsCommand (command_of points) c (Put id (record { kind = b.kind; geometry = geometry; extra = b.extra }))
-put_placed points c id b geometry is placed d h =
-    let put : IsCommand (Put id b) d = rw is at h in
-    rw (put.1, put.2.3, body_placed points b geometry placed put.0 put.2) refl
+  -- commands of such a body
+  pub put_placed : (c : Command) (id : List ℕ) → c ≡ Put id b
+      → IsPlaced IsCommand (command_of points) c (Put id (record b { geometry = new }))
+  put_placed c id is d h =
+      let put : IsCommand (Put id b) d = rw is at h in
+      rw (put.1, body_placed put.0 put.2) refl
+
+  pub add_placed : (c : Command) (id : List ℕ) → c ≡ Add id b
+      → IsPlaced IsCommand (command_of points) c (Add id (record b { geometry = new }))
+  add_placed c id is d h =
+      let add : IsCommand (Add id b) d = rw is at h in
+      rw (add.1, body_placed add.0 add.2) refl
+
+-- a command of geometries alone
+pub reshape_placed : (points : List Point) (c : Command) (id : List ℕ) (old new : List Geometry) → c ≡ Reshape id old
+    → IsPlaced (IsArrayOf IsGeometry) (list_of (geometry_of points)) old new
+    → IsPlaced IsCommand (command_of points) c (Reshape id new)
+reshape_placed points c id old new is placed d h =
+    let reshape : IsCommand (Reshape id old) d = rw is at h in
+    let member = get (codes "geometry") reshape.0 in
+    rw (reshape.1, slot_placed IsGeometry (geometry_of points) old new member placed reshape.2) refl
+
+-- a command that has none
+pub unplaced : (points : List Point) (c : Command) → ((id : List ℕ) (b : Body) → c ≡ Put id b → ⊥)
+    → ((id : List ℕ) (b : Body) → c ≡ Add id b → ⊥) → ((id : List ℕ) (gs : List Geometry) → c ≡ Reshape id gs → ⊥)
+    → IsPlaced IsCommand (command_of points) c c
+unplaced points (Put id b) put add reshape d h = absurd (put id b refl)
+unplaced points (Add id b) put add reshape d h = absurd (add id b refl)
+unplaced points (Reshape id gs) put add reshape d h = absurd (reshape id gs refl)
+unplaced points c put add reshape d h = h points

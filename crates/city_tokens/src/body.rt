@@ -1,4 +1,4 @@
-//! Reads the bodies that are put: objects that name no relations.
+//! Reads the bodies that commands give: objects that name no relations.
 ghost use Rattle.std.specs.Prelude.{IfSome};
 ghost use Rattle.city_tokens.specs.inside.Commands.{IsBody, IsBodySoFar};
 ghost use Rattle.city_tokens.specs.inside.Standing.{IsReadAs};
@@ -34,7 +34,7 @@ impl Own for BodyParts {
     }
 }
 
-/// The next value, which is an object without relations, as a put has it.
+/// The next value, which is an object without relations, as a put and an add have it.
 pub fn read_body(alloc: Global, reader: &mut Reader<'_>, depth: usize) -> Option<Body>
     ensures { IfSome result (λ b. IsReadAs IsBody b depth reader.old reader.new) }
 {

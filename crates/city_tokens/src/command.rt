@@ -4,14 +4,13 @@ ghost use Rattle.serde_json.specs.Data.{Members, object, string};
 ghost use Rattle.city_tokens.specs.script.Commands.{command_of};
 ghost use Rattle.city_tokens.specs.inside.Commands.{verb_name, with_verb, AreOthers, IsCommand, IsCommandSoFar};
 
-use crate::body::read_body;
 use crate::list::FromTokens;
+use crate::other::{Other, read_other};
 use crate::own::{Own, read_opened};
 use crate::placing::Places;
 use crate::text::{read_str, text_of};
 use crate::vertices::Vertex;
 use city_model::command::Command;
-use city_model::object::Body;
 use city_model::text::{Id, Text};
 use json::{Reader, Token};
 use std::alloc::Global;
@@ -21,18 +20,16 @@ use std::alloc::Global;
 pub enum Verb {
     Read,
     Put,
+    Add,
+    Set,
+    Unset,
+    Reshape,
+    Expect,
     Delete,
     Attach,
     Detach,
     Mark,
     Back,
-}
-
-/// What a command has beside its id.
-#[derive(Drop)]
-pub enum Other {
-    Object(Body),
-    Parent(Id),
 }
 
 /// What was read of a command's members so far.
@@ -46,8 +43,13 @@ fn verb_named(name: &str) -> Option<Verb>
     ensures { IfSome result (λ verb. name.now ≡ verb_name verb) }
 {
     match name {
-        "put" => Some(Verb::Put),
         "read" => Some(Verb::Read),
+        "put" => Some(Verb::Put),
+        "add" => Some(Verb::Add),
+        "set" => Some(Verb::Set),
+        "unset" => Some(Verb::Unset),
+        "reshape" => Some(Verb::Reshape),
+        "expect" => Some(Verb::Expect),
         "delete" => Some(Verb::Delete),
         "attach" => Some(Verb::Attach),
         "detach" => Some(Verb::Detach),
@@ -67,30 +69,19 @@ impl Own for CommandParts {
         reader: &mut Reader<'_>,
         depth: usize,
     ) -> Option<bool> {
-        match name {
-            "object" => {
-                if self.other.is_some() {
-                    return None;
-                }
-                let body = read_body(alloc, reader, depth)?;
-                self.other = Some(Other::Object(body));
+        if let Some(verb) = verb_named(name) {
+            if self.verb.is_some() {
+                return None;
             }
-            "parent" => {
-                if self.other.is_some() {
-                    return None;
-                }
-                let parent = Id::from_tokens(alloc, reader, depth)?;
-                self.other = Some(Other::Parent(parent));
+            let text = read_str(reader)?;
+            let copy = text_of(alloc, text)?;
+            self.verb = Some((verb, copy));
+        } else {
+            if self.other.is_some() {
+                return None;
             }
-            _ => {
-                let verb = verb_named(name)?;
-                if self.verb.is_some() {
-                    return None;
-                }
-                let text = read_str(reader)?;
-                let copy = text_of(alloc, text)?;
-                self.verb = Some((verb, copy));
-            }
+            let other = read_other(alloc, name, reader, depth)?;
+            self.other = Some(other);
         }
         Some(true)
     }
@@ -115,16 +106,16 @@ fn pair_command(verb: Verb, id: Id, other: Other) -> Option<Command>
     ensures { IfSome result (λ c. (others : Members) → AreOthers (Some other) others
         → IsCommand c (object (with_verb (Some (verb, id)) others))) }
 {
-    match other {
-        Other::Object(body) => match verb {
-            Verb::Put => Some(Command::Put(id, body)),
-            _ => None,
-        },
-        Other::Parent(parent) => match verb {
-            Verb::Attach => Some(Command::Attach(id, parent)),
-            Verb::Detach => Some(Command::Detach(id, parent)),
-            _ => None,
-        },
+    match (verb, other) {
+        (Verb::Put, Other::Object(body)) => Some(Command::Put(id, body)),
+        (Verb::Add, Other::Object(body)) => Some(Command::Add(id, body)),
+        (Verb::Set, Other::Attributes(values)) => Some(Command::Set(id, values)),
+        (Verb::Unset, Other::Names(names)) => Some(Command::Unset(id, names)),
+        (Verb::Reshape, Other::Geometry(geometry)) => Some(Command::Reshape(id, geometry)),
+        (Verb::Expect, Other::Attributes(values)) => Some(Command::Expect(id, values)),
+        (Verb::Attach, Other::Parent(parent)) => Some(Command::Attach(id, parent)),
+        (Verb::Detach, Other::Parent(parent)) => Some(Command::Detach(id, parent)),
+        _ => None,
     }
 }
 
@@ -178,9 +169,11 @@ impl Places for Command {
     ghost reads = { command_of };
 
     fn place(&mut self, alloc: Global, vertices: &[Vertex]) -> Option<()> {
-        if let Command::Put(_, body) = self {
-            body.geometry.place(alloc, vertices)?;
+        match self {
+            Command::Put(_, body) => body.geometry.place(alloc, vertices),
+            Command::Add(_, body) => body.geometry.place(alloc, vertices),
+            Command::Reshape(_, geometry) => geometry.place(alloc, vertices),
+            _ => Some(()),
         }
-        Some(())
     }
 }

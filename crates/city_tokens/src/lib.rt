@@ -7,7 +7,7 @@
 //! - `own`: objects some of whose members have places of their own, while the others are kept
 //! - `position`, `vertices`, `boundaries`, `placing`: positions, and the points that take their places
 //! - `geometry`, `object`, `objects`, `document`: what a city is made of, and the city
-//! - `body`, `command`, `script`, `scripts`: bodies that are put, commands and scripts
+//! - `body`, `other`, `command`, `script`, `scripts`: bodies, what else commands have, commands and scripts
 //! - `frame`, `triples`: the frame of a document, three whole numbers, both of trees
 //! - `whole_text`, `limits`: whole texts, and how large they may be
 #![tactic(auto)]
@@ -23,6 +23,7 @@ mod list;
 mod number;
 mod object;
 mod objects;
+mod other;
 mod own;
 mod placing;
 mod position;

@@ -12,6 +12,7 @@ use city_model::kept::extra::Extra;
 use city_model::object::{Body, Geometry};
 use city_model::object_type::{ObjectType, type_named};
 use city_model::sequence::Sequence;
+use city_model::shared::Shared;
 use city_model::shared_ids::SharedIds;
 use city_model::text::Id;
 use json::Reader;
@@ -107,7 +108,7 @@ pub fn object_of(parts: ObjectParts, kept: Map<String, Value>) -> Option<Unplace
     let extra = Extra::new(kept).ok()?;
     let body = Body {
         kind,
-        geometry: parts.geometry,
+        geometry: Shared::unshared(parts.geometry),
         extra,
     };
     Some(UnplacedObject {

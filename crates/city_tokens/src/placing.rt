@@ -16,9 +16,9 @@ ghost use Rattle.city_tokens.specs.tree.Lists.{list_of};
 use crate::object::UnplacedObject;
 use crate::vertices::Vertex;
 use city_model::body_fault::body_fault;
-use city_model::object::{Geometry, Object, Point, Shape};
+use city_model::object::{Geometries, Geometry, Object, Point, Shape};
 use city_model::sequence::Sequence;
-use city_model::shared_body::SharedBody;
+use city_model::shared::Shared;
 use city_model::text::Id;
 use std::alloc::Global;
 use std::collections::BTreeMap;
@@ -99,6 +99,24 @@ impl Places for Geometry {
     }
 }
 
+/// The list stands by itself until its points are in their places. From then on all copies share it.
+impl Places for Geometries {
+    ghost stands = { IsArrayOf IsGeometry };
+
+    ghost reads = { λ points. list_of (geometry_of points) };
+
+    fn place(&mut self, alloc: Global, vertices: &[Vertex]) -> Option<()> {
+        if self.get().len() == 0 {
+            return Some(());
+        }
+        let unplaced = replace(self, Shared::unshared(Sequence::new(alloc)));
+        let mut geometry = unplaced.into_owned(alloc).ok()?;
+        geometry.place(alloc, vertices)?;
+        *self = Shared::new(alloc, geometry).ok()?;
+        Some(())
+    }
+}
+
 /// Puts points in the places of an object's positions; none where a position names no vertex, or
 /// where the object's body has a fault, which is judged at once.
 fn place_object(alloc: Global, vertices: &[Vertex], object: UnplacedObject) -> Option<Object>
@@ -110,7 +128,7 @@ fn place_object(alloc: Global, vertices: &[Vertex], object: UnplacedObject) -> O
     let Ok(None) = body_fault(alloc, &body) else {
         return None;
     };
-    let body = SharedBody::new(alloc, body).ok()?;
+    let body = Shared::new(alloc, body).ok()?;
     Some(Object {
         body,
         parents,

@@ -59,7 +59,11 @@ fn read_items(alloc: Global, reader: &mut Reader<'_>, depth: usize) -> Option<Ve
 
 /// The members up to the brace that closes them.
 #[cycle(value)]
-fn read_members(alloc: Global, reader: &mut Reader<'_>, depth: usize) -> Option<Map<String, Value>>
+pub fn read_members(
+    alloc: Global,
+    reader: &mut Reader<'_>,
+    depth: usize,
+) -> Option<Map<String, Value>>
     ensures { IfSome result
         (λ m. IsRestOfObject depth reader.old (members_view m.entries) reader.new) }
 {

@@ -2,9 +2,9 @@
 use Rattle.city_txn.proofs.Prelude.{arith, ◌≡◌, ℕ, List, [], ◌∷◌, ◌++◌, Bool, true, false, Some, Result, Ok, refl, ap}
 use Rattle.city_txn.proofs.Prelude.{sym, ◌∙◌, subst, false≢true, Command, Reply, WentBack, Exclusive, CityMap, View}
 use Rattle.city_txn.proofs.Prelude.{unmarked, locks_of, IsLawful, Lock, Answered, IsTraceUnderLocks, covers}
-use Rattle.city_txn.proofs.Prelude.{locks_id_exclusively, seen_next, answer, Locks, mode_of, Written, CoreState}
+use Rattle.city_txn.proofs.Prelude.{locks_id_exclusively, action, answer, step, Locks, mode_of, Written, CoreState}
 use Rattle.city_txn.proofs.Prelude.{committed, written, snapshot, is_open, held, StandsUnderLocks, refused_stays}
-use Rattle.city_txn.proofs.Prelude.{core_state, IsCore, IsWrittenUnder, written_next, IsPerform}
+use Rattle.city_txn.proofs.Prelude.{core_state, IsCore, IsWrittenUnder, written_by, IsPerform}
 use Rattle.std.proofs.Common.{◌≢◌, Err}
 use Rattle.std.specs.Prelude.{if◌then◌else◌, IfOk, IfErr, OnOk, IsOk}
 use Rattle.std.proofs.lemmas.Result.{on_ok_weaker}
@@ -12,7 +12,7 @@ use Rattle.city_txn.specs.inside.Prelude.{Answers, effect, is_end, AllHeld, Answ
 use Rattle.city_txn.specs.inside.Prelude.{GainsFirst, IsBlocked, HoldsLock, Asked, Step, TxnFault, NotOpen, OutOfMemory}
 use Rattle.city_txn.specs.inside.Prelude.{Inside, write_of, answer_in, granted_in, step_of, is_done, with_step, IsAct}
 use Rattle.city_txn.specs.inside.Prelude.{State, store_written, Touches}
-use Rattle.city_model.proofs.Effects.{effect_is}
+use Rattle.city_model.proofs.GoingOn.{effect_is}
 use Rattle.city_txn.specs.inside.Performing.{MayPerform}
 use Rattle.city_txn.proofs.CoreFields.{open_is, sound_view, open_only, to_kept, from_kept, LeavesOthers, leaves_others}
 use Rattle.city_txn.proofs.CoreFields.{written_beside, seen_beside, keeps, consistent}
@@ -56,7 +56,7 @@ module _ {s : ℕ} {c : Command} {was_open : Bool} {a : Inside} {u : CoreState} 
   reply = answer x c
 
   abbrev written_if : Bool → Written
-  written_if done = if done then written_next x c (written v s) else written v s
+  written_if done = if done then written_by (action x.map c) (written v s) else written v s
 
   abbrev holds : Locks → List ℕ → Bool
   holds ks q = covers (held_in ks s q) Exclusive
@@ -71,7 +71,7 @@ module _ {s : ℕ} {c : Command} {was_open : Bool} {a : Inside} {u : CoreState} 
 
     covered : (done : Bool) → (done ≡ true → AllHeld (held_in ks s) ls)
         → IsWrittenUnder (held_in ks s) (written_if done)
-    covered true all = covered_next (held_in ks s) x c (written v s)
+    covered true all = covered_next (held_in ks s) x.map c (written v s)
         (λ q h. held_exclusively (mode_of ks s q) (history.held_exclusively (held_in ks s) ls q (all refl) h))
         still_covered
     covered false all = still_covered
@@ -95,7 +95,7 @@ module _ {s : ℕ} {c : Command} {was_open : Bool} {a : Inside} {u : CoreState} 
         held = λ q. gains.locks.others t q ne i;
       })
 
-      sees : (done : Bool) → written w s ≡ written_if done → snapshot w s ≡ (if done then seen_next x c else x)
+      sees : (done : Bool) → written w s ≡ written_if done → snapshot w s ≡ (if done then step x c else x)
       sees true now = step_seen v w s c (sound_view v s k.state) touches.city now
       sees false now = seen_same v w s touches.city now
 
@@ -107,22 +107,22 @@ module _ {s : ℕ} {c : Command} {was_open : Bool} {a : Inside} {u : CoreState} 
 
         stands_with : (result : Result Step TxnFault) → written w s ≡ written_if (is_done result)
             → (is_done result ≡ true → AllHeld (held_in ks s) ls)
-            → IfOk result (λ step. step ≡ step_of (answer_in v s c) reply)
+            → IfOk result (λ made. made ≡ step_of (answer_in v s c) reply)
             → StandsUnderLocks w s (with_step result c done)
-        stands_with (Ok (steps.Done r)) now all step =
+        stands_with (Ok (steps.Done r)) now all made =
             let does : effect x c ≡ Answers r (snapshot w s) = effect_is x c call.no_end
-            ∙ (λ i. Answers (done_replied (answer_in v s c) r reply step i) (sym (sees true now) i)) in
+            ∙ (λ i. Answers (done_replied (answer_in v s c) r reply made i) (sym (sees true now) i)) in
             subst (λ (m : CityMap). IsTraceUnderLocks (held w s) (unmarked m) (done ++ (c, r) ∷ []) (snapshot w s))
             (sym touches.city)
             (history.follows_more (held v s) (held w s) (unmarked (committed v)) done x c r (snapshot w s)
             gains.locks.more stood (all refl) does)
-        stands_with (Ok steps.Wait) now all step = stands_still (sees false now)
-        stands_with (Ok steps.Die) now all step = stands_still (sees false now)
-        stands_with (Err e) now all step = stands_still (sees false now)
+        stands_with (Ok steps.Wait) now all made = stands_still (sees false now)
+        stands_with (Ok steps.Die) now all made = stands_still (sees false now)
+        stands_with (Err e) now all made = stands_still (sees false now)
 
       module _ (result : Result Step TxnFault) (now : written w s ≡ written_if (is_done result))
           (all : is_done result ≡ true → AllHeld (held_in ks s) ls)
-          (step : IfOk result (λ step. step ≡ step_of (answer_in v s c) reply)) where
+          (made : IfOk result (λ step. step ≡ step_of (answer_in v s c) reply)) where
         acts : IfErr result (λ e. e ≡ (if is_open v s then OutOfMemory else NotOpen s))
             → (is_open v s ≡ false → (result ≡ Err (NotOpen s)) × (w ≡ v))
             → (is_open v s ≡ true → answer_in v s c ≢ Granted → AllHeld (held v s) (granted_in v s c) → IsOk result)
@@ -131,9 +131,9 @@ module _ {s : ℕ} {c : Command} {was_open : Bool} {a : Inside} {u : CoreState} 
             → OnOk result (AllHeld (held w s) (granted_in v s c)) → IsAct s c result v w
         acts fault not_open answered found blocked granted = record {
           reply = reply;
-          after = seen_next x c;
+          after = step x c;
           does = effect_is x c call.no_end;
-          step = step;
+          step = made;
           fault = fault;
           not_open = not_open;
           answered = answered;
@@ -148,7 +148,7 @@ module _ {s : ℕ} {c : Command} {was_open : Bool} {a : Inside} {u : CoreState} 
           writes = now;
           unwritten = touches.writes;
           others = written_beside s v w left;
-          own = λ done stood. stands_with done stood result now all step;
+          own = λ done stood. stands_with done stood result now all made;
           refused = λ h done stood. stands_still done stood
               (let e = sees (is_done result) now in let stays = refused_stays x c h in grind arith);
           keeps = keeps s v w left;
@@ -165,7 +165,7 @@ module _ {s : ℕ} {c : Command} {was_open : Bool} {a : Inside} {u : CoreState} 
                     shut = λ e. absurd (false≢true (sym e ∙ opened_still s ∙ here));
                     done = with_step result c each.done;
                     stands = to_kept w s (with_step result c each.done)
-                        (stands_with each.done stood result now all step);
+                        (stands_with each.done stood result now all made);
                   });
               reserved = λ t q h.
                   let r = touches.reserved t q h in
@@ -191,10 +191,10 @@ module _ {s : ℕ} {c : Command} {was_open : Bool} {a : Inside} {u : CoreState} 
         → (reply ≡ WentBack → IsOk result) → OnOk result (IsBlocked (HoldsLock a.locks) s (answer_in v s c))
         → OnOk result (AllHeld (held_in ks s) (granted_in v s c))
         → Acted s c result u (record { store = st; locks = ks })
-    acted {E} {r} {ks} ask st touches result now all step fault answered found blocked granted = record {
-      core = core_then ask.gains st touches result now all step is_here;
+    acted {E} {r} {ks} ask st touches result now all made fault answered found blocked granted = record {
+      core = core_then ask.gains st touches result now all made is_here;
       acted = subst (λ u. IsAct s c result u (core_state (record { store = st; locks = ks }))) call.known
-          (acts ask.gains st touches result now all step (grind (arith, is_here)) (grind (arith, is_here))
+          (acts ask.gains st touches result now all made (grind (arith, is_here)) (grind (arith, is_here))
           (λ e. answered)
           (λ e. found)
           (on_ok_weaker result (blocked_weaker (HoldsLock a.locks) (λ t. is_open v t ≡ true) s

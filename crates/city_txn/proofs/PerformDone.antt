@@ -1,34 +1,36 @@
--- A command done on the store, by its kind.
-use Rattle.city_txn.proofs.Prelude.{arith, ◌≡◌, ◌&&◌, ℕ, List, [], Bool, true, false, not, Option, Some, Result, Ok}
-use Rattle.city_txn.proofs.Prelude.{refl, ap, sym, ◌∙◌, subst, if◌then◌else◌, false≢true, Command, Reply, WentBack}
-use Rattle.city_txn.proofs.Prelude.{CityMap, View, marks_from, is_refusal, locks_of, Lock, locks_id_exclusively}
-use Rattle.city_txn.proofs.Prelude.{seen_next, answer, OwnWrites, Written, written_at_mark, written_after, map_with}
-use Rattle.city_txn.proofs.Prelude.{marks_with, own_after, AreOf, from_mapped, IsPerform}
-use Rattle.std.proofs.Common.{IsErr}
-use Rattle.city_txn.specs.inside.Prelude.{Refused, NoMark, Change, is_mark, effect_of, done_reply, refused_or, refusal}
-use Rattle.city_txn.specs.inside.Prelude.{write_of, own_write, Logs, log_of, has_mark, State, store_own, store_written}
-use Rattle.city_txn.specs.inside.Prelude.{store_committed, store_view, Touches}
+-- A command done on the store, by its action.
+use Rattle.city_txn.proofs.Prelude.{arith, ◌≡◌, ℕ, List, [], Bool, true, false, Some, Result, Ok, refl, ap, sym}
+use Rattle.city_txn.proofs.Prelude.{◌∙◌, subst, false≢true, Command, Reply, WentBack, CityMap, View, marks_from, locks_of}
+use Rattle.city_txn.proofs.Prelude.{locks_id_exclusively, action, answer, written_at_mark, written_by, own_with, map_with}
+use Rattle.city_txn.proofs.Prelude.{marks_with, AreOf, from_mapped, keys_of, IsPerform}
+use Rattle.std.proofs.Common.{IsErr, if◌then◌else◌}
+use Rattle.city_txn.specs.inside.Prelude.{Refused, NoMark, Change, Action, Refuses, Edits, applied, reply_of}
+use Rattle.city_txn.specs.inside.Prelude.{is_mark, write_of, own_write, Logs, log_of, has_mark, State, store_own}
+use Rattle.city_txn.specs.inside.Prelude.{store_written, store_committed, store_view, MayReserve, Touches}
 use Rattle.city_model.specs.declared.command.Cause.{Cause}
 use Rattle.city_model.specs.declared.plan.Plan.{Plan}
 use Rattle.city_model.specs.inside.Plans.{AreWritesOf, IsPlan}
-use Rattle.city_model.proofs.Refused.{done_unrefused}
-use Rattle.city_txn.specs.inside.Performing.{plans as writes_of, seen}
-use Rattle.city_txn.proofs.Touched.{touches_itself}
+use Rattle.city_model.proofs.ActionKinds.{IsKindOf, kind_of}
+use Rattle.city_model.proofs.FrameLaw.{exclusive_is_named}
+use Rattle.city_model.proofs.FramedActions.{edits_locked}
+use Rattle.city_txn.specs.inside.Performing.{MayPerform, plans as writes_of, seen}
+use Rattle.city_txn.proofs.Touched.{touches_itself, touches_more}
 use Rattle.city_txn.proofs.UndoLogs.{no_mark_from, mark_is_there}
 use Rattle.city_model.specs.declared.command.Command.TheVariants as commands
 use Rattle.city_model.specs.declared.plan.Plan.TheVariants as plans
 
 -- ---- who went back
 
-done_back : (m : CityMap) (c : Command) → done_reply m c ≡ WentBack → (is_mark c ≡ true) × (locks_of m c ≡ [])
-done_back m c e = grind arith
-
-unrefused : (cause : Option Cause) (r : Reply) → refused_or cause r ≡ WentBack → r ≡ WentBack
-unrefused cause r e = grind arith
+went_as : (x : View) (c : Command) (a : Action) → IsKindOf c a → reply_of (applied x a) ≡ WentBack
+    → (is_mark c ≡ true) × (locks_of x.map c ≡ [])
+went_as x c a k e = grind arith
 
 -- a command that goes back locks nothing
 pub went_back : (x : View) (c : Command) → answer x c ≡ WentBack → (is_mark c ≡ true) × (locks_of x.map c ≡ [])
-went_back x c e = done_back x.map c (unrefused (refusal x c) (done_reply x.map c) e)
+went_back x c e = went_as x c (action x.map c) (kind_of x.map c) e
+
+not_back : (x : View) (c : Command) → is_mark c ≡ false → answer x c ≡ WentBack → ⊥
+not_back x c leaves e = false≢true (sym leaves ∙ (went_back x c e).0)
 
 -- a command for which there is no memory writes nothing
 failed : {E : Type 0} (s : ℕ) (c : Command) (v w : State) → (answer (seen v s) c ≡ WentBack → ⊥)
@@ -71,62 +73,74 @@ module _ (s : ℕ) (name : List ℕ) (v : State) (logs : Logs) (is : logs ≡ v.
 
 -- ---- a command that leaves marks
 
-module _ (s : ℕ) (c : Command) (v : State) (leaves : is_mark c ≡ false) where
+module _ (s : ℕ) (c : Command) (v : State) where
   abbrev x : View
   x = seen v s
 
-  abbrev ls : List Lock
-  ls = locks_of x.map c
+  abbrev locked : List ℕ → Bool
+  locked = locks_id_exclusively (locks_of x.map c)
 
-  abbrev next : CityMap
-  next = (seen_next x c).map
+  -- what its action gives
+  reply_as : (a : Action) → action x.map c ≡ a → reply_of (applied x a) ≡ answer x c
+  reply_as a e = ap (λ k. reply_of (applied x k)) (sym e)
 
-  -- what is written after it is this, and marks stay
-  marks_left : (f : OwnWrites) (w : Written) → written_after c f w ≡ (f, w.1)
-  marks_left f w = grind arith
+  written_as : (a : Action) → action x.map c ≡ a
+      → written_by a (store_written v s) ≡ written_by (action x.map c) (store_written v s)
+  written_as a e = ap (λ k. written_by k (store_written v s)) (sym e)
 
-  not_back : answer x c ≡ WentBack → ⊥
-  not_back e = false≢true (sym leaves ∙ (went_back x c e).0)
+  module _ (leaves : is_mark c ≡ false) where
+    pub unplanned_performed : {E : Type 0} (result : Result Reply E) → IsErr result → IsPerform s c result v v
+    unplanned_performed = failed s c v v (not_back x c leaves) refl (touches_itself s locked v)
 
-  pub unplanned_performed : {E : Type 0} (result : Result Reply E) → IsErr result → IsPerform s c result v v
-  unplanned_performed = failed s c v v not_back refl (touches_itself s (locks_id_exclusively ls) v)
-
-  module _ (plan : Plan) (planned : IsPlan x.map c plan) where
-    pub refused_performed : {E : Type 0} (cause : Cause) → plan ≡ plans.Refused cause
-        → IsPerform {E = E} s c (Ok (Refused cause)) v v
-    refused_performed cause is = grind arith
-
-    -- w is the store with the plan written, or for want of memory without it
-    module _ (r : Reply) (change : Change) (is : plan ≡ plans.Writes r change) (w : State)
-        (touches : Touches s (writes_of change) v w) (marks : (store_written w s).1 ≡ (store_written v s).1) where
-      of_plan : AreWritesOf x.map c r change
-      of_plan = subst (IsPlan x.map c) is planned
-
-      touched : Touches s (locks_id_exclusively ls) v w
-      touched = let ids = of_plan.ids in grind arith
-
-      pub unwritten_performed : {E : Type 0} (result : Result Reply E) → IsErr result
-          → ((q : List ℕ) → write_of w.writes q ≡ write_of v.writes q) → IsPerform s c result v w
-      unwritten_performed result is_failed same =
-          failed s c v w not_back (λ i. (λ q. own_write s (same q i), marks i)) touched result is_failed
-
-      pub written_performed : {E : Type 0}
-          → ((f : CityMap) → AreOf f change → (q : List ℕ)
-          → write_of w.writes q ≡ (if writes_of change q then Some (s, f q) else write_of v.writes q))
-          → IsPerform {E = E} s c (Ok r) v w
-      written_performed done =
-          let at = of_plan in
-          let made : effect_of x.map c ≡ next = grind arith in
-          let all : AreOf next change = subst (λ (n : CityMap). AreOf n change) made at.objects in
-          let tested : (q : List ℕ)
-          → writes_of change q ≡ (not (is_refusal (answer x c)) && locks_id_exclusively ls q) =
-          λ q. let ids = at.ids q in let unrefused = done_unrefused x.map c in grind arith in
-          let own_next : (q : List ℕ) → store_own w s q ≡ own_after (store_own v s) ls (answer x c) next q =
-          λ q. let e = done next all q in let f = tested q in grind arith in
-          record {
-            reply = grind arith;
-            found = λ e. refl;
-            written = (λ i. (λ q. own_next q i, marks i))
-                ∙ sym (marks_left (own_after (store_own v s) ls (answer x c) next) (store_written v s));
-            touches = touched;
+    module _ (plan : Plan) (planned : IsPlan x.map c plan) where
+      pub refused_performed : {E : Type 0} (cause : Cause) → plan ≡ plans.Refused cause
+          → IsPerform {E = E} s c (Ok (Refused cause)) v v
+      refused_performed cause is =
+          let e : action x.map c ≡ Refuses cause = subst (IsPlan x.map c) is planned in record {
+            reply = reply_as (Refuses cause) e;
+            found = λ _. refl;
+            written = written_as (Refuses cause) e;
+            touches = touches_itself s locked v;
           }
+
+      module _ (r : Reply) (change : Change) (is : plan ≡ plans.Writes r change) where
+        of_plan : AreWritesOf x.map c r change
+        of_plan = subst (IsPlan x.map c) is planned
+
+        -- the ids of the change are locked exclusively
+        among : (q : List ℕ) → writes_of change q ≡ true → locked q ≡ true
+        among q h = let e = edits_locked x.map c r (keys_of change) of_plan.after of_plan.edits in grind arith
+
+        pub may_write : MayPerform v s c → MayReserve v s (writes_of change)
+        may_write may = record {
+          opened = may.locked.opened;
+          alone = λ q h. may.locked.alone q (exclusive_is_named (locks_of x.map c) q (among q h));
+        }
+
+        -- w is the store with the plan written, or for want of memory without it
+        module _ (w : State) (touches : Touches s (writes_of change) v w)
+            (marks : (store_written w s).1 ≡ (store_written v s).1) where
+          touched : Touches s locked v w
+          touched = touches_more s (writes_of change) locked v w among touches
+
+          pub unwritten_performed : {E : Type 0} (result : Result Reply E) → IsErr result
+              → ((q : List ℕ) → write_of w.writes q ≡ write_of v.writes q) → IsPerform s c result v w
+          unwritten_performed result is_failed same =
+              failed s c v w (not_back x c leaves) (λ i. (λ q. own_write s (same q i), marks i)) touched result
+              is_failed
+
+          pub written_performed : {E : Type 0}
+              → ((f : CityMap) → AreOf f change → (q : List ℕ)
+              → write_of w.writes q ≡ (if writes_of change q then Some (s, f q) else write_of v.writes q))
+              → IsPerform {E = E} s c (Ok r) v w
+          written_performed done =
+              let n = of_plan.after in
+              let a = Edits r (keys_of change) n in
+              let own_next : (q : List ℕ) → store_own w s q ≡ own_with (store_own v s) (keys_of change) n q =
+              λ q. let e = done n of_plan.objects q in grind arith in
+              record {
+                reply = reply_as a of_plan.edits;
+                found = λ _. refl;
+                written = (λ i. (λ q. own_next q i, marks i)) ∙ written_as a of_plan.edits;
+                touches = touched;
+              }

@@ -1,6 +1,6 @@
 -- The words that proofs of this crate share, from std, from the libraries and from its own definitions.
 pub use Rattle.std.proofs.Common.{Bool, List, None, Ok, Option, Result, Some, [], ap, arith, false, get_or}
-pub use Rattle.std.proofs.Common.{if◌then◌else◌, is_some, length, not, refl, rules, subst, sym, take, tests, true}
+pub use Rattle.std.proofs.Common.{if◌then◌else◌, is_some, length, refl, rules, subst, sym, take, tests, true}
 pub use Rattle.std.proofs.Common.{unwrap_or, ℕ, ◌&&◌, ◌++◌, ◌+◌, ◌<◌, ◌==◌, ◌||◌, ◌∙◌, ◌∷◌, ◌≡◌}
 pub use Rattle.std.proofs.lemmas.Bool.{eq-eqb, false≢true}
 pub use Rattle.std.proofs.lemmas.List.Folds.{list_any-append}
@@ -33,13 +33,13 @@ pub use Rattle.city_txn.specs.inside.Ending.{left_at_end}
 pub use Rattle.city_txn.specs.inside.Images.{committed_at, write_at, writer_of}
 pub use Rattle.city_txn.specs.inside.InPlace.{IsInPlace, is_writer, state_of}
 pub use Rattle.city_txn.specs.inside.LogTests.{has_mark, is_noted}
-pub use Rattle.city_txn.specs.inside.Performing.{IsPerform, plans, written_next}
+pub use Rattle.city_txn.specs.inside.Performing.{IsPerform, plans}
 pub use Rattle.city_txn.specs.inside.Prelude.{Answered, CityMap, Command, CoreState, Exclusive, IsChangeOf, IsLawful}
 pub use Rattle.city_txn.specs.inside.Prelude.{IsSound, IsTraceUnderLocks, Lock, Locks, OwnWrites, Reply}
-pub use Rattle.city_txn.specs.inside.Prelude.{StandsUnderLocks, View, WentBack, Written, answer, committed, covers}
-pub use Rattle.city_txn.specs.inside.Prelude.{held, is_open, is_refusal, locks_id_exclusively, locks_of, map_with}
-pub use Rattle.city_txn.specs.inside.Prelude.{marks_from, marks_with, mode_of, own_after, seen_next, snapshot, unmarked}
-pub use Rattle.city_txn.specs.inside.Prelude.{view, view_with, written, written_after, written_at_mark}
+pub use Rattle.city_txn.specs.inside.Prelude.{StandsUnderLocks, View, WentBack, Written, action, answer, committed, covers}
+pub use Rattle.city_txn.specs.inside.Prelude.{held, is_open, locks_id_exclusively, locks_of, map_with}
+pub use Rattle.city_txn.specs.inside.Prelude.{marks_from, marks_with, mode_of, own_with, snapshot, step, unmarked}
+pub use Rattle.city_txn.specs.inside.Prelude.{view, view_with, written, written_at_mark, written_by}
 pub use Rattle.city_txn.specs.inside.Slots.{Became}
 pub use Rattle.city_txn.specs.inside.State.{ChangesWrites, MayReserve, OthersWritesStay, State, Touches, is_reserved}
 pub use Rattle.city_txn.specs.inside.State.{store_committed, store_own, store_view, store_written, written_with}

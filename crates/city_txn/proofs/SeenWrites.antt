@@ -1,17 +1,16 @@
 -- What a transaction sees, from what it wrote by now and at each of its marks.
-use Rattle.city_txn.proofs.Prelude.{arith, ◌≡◌, ◌==◌, ◌&&◌, ℕ, List, [], ◌∷◌, true, false, not, Option, None, Some}
-use Rattle.city_txn.proofs.Prelude.{is_some, refl, ap, sym, ◌∙◌, subst, if◌then◌else◌, unwrap_or, Command, Exclusive}
-use Rattle.city_txn.proofs.Prelude.{CityMap, View, marks_from, is_refusal, locks_of, IsSound, covers}
-use Rattle.city_txn.proofs.Prelude.{locks_id_exclusively, seen_next, answer, OwnWrites, Written, written_at_mark}
-use Rattle.city_txn.proofs.Prelude.{written_after, map_with, marks_with, CoreState, committed, view, written, snapshot}
-use Rattle.city_txn.proofs.Prelude.{own_after, view_with, Object, bool_cases, from_mapped, refused_stays}
-use Rattle.city_txn.proofs.Prelude.{IsWrittenUnder, written_next}
-use Rattle.std.proofs.lemmas.Bool.{and_parts}
-use Rattle.city_txn.specs.inside.Prelude.{same_id, Held, Marking, Leaves, Marks, GoesBack, marking, back_to, step_as}
-use Rattle.city_txn.specs.inside.Prelude.{after, Write, own_or, own_write, is_by, unless_by}
+use Rattle.city_txn.proofs.Prelude.{arith, ◌≡◌, ◌==◌, ℕ, List, [], ◌∷◌, true, false, Option, None, Some, is_some}
+use Rattle.city_txn.proofs.Prelude.{refl, ap, sym, ◌∙◌, subst, if◌then◌else◌, unwrap_or, Command, Reply, Exclusive}
+use Rattle.city_txn.proofs.Prelude.{CityMap, View, has_id, marks_from, locks_of, IsSound, covers, locks_id_exclusively}
+use Rattle.city_txn.proofs.Prelude.{action, step, OwnWrites, Written, own_with, written_at_mark, written_by, map_with}
+use Rattle.city_txn.proofs.Prelude.{marks_with, CoreState, committed, view, written, snapshot, view_with, Object}
+use Rattle.city_txn.proofs.Prelude.{same_id, bool_cases, from_mapped, IsWrittenUnder}
+use Rattle.city_txn.specs.inside.Prelude.{Held, Action, Edits, Marks, GoesBack, applied, back, left, Write, own_or}
+use Rattle.city_txn.specs.inside.Prelude.{own_write, is_by, unless_by}
 use Rattle.city_model.specs.declared.mode.Mode.{Mode}
 use Rattle.city_model.specs.TraceLaw.{carried_map, carried_marks, carried}
-use Rattle.city_model.proofs.FrameLaw.{frame}
+use Rattle.city_model.proofs.FrameLaw.{unwritten_stays}
+use Rattle.city_model.proofs.FramedActions.{edits_locked}
 use Rattle.city_txn.specs.inside.Core.{IsCovered, AreCovered}
 
 pub own_or_is : (s : ℕ) (x : Option Write) (o : Option Object) → own_or s x o ≡ unwrap_or (own_write s x) o
@@ -37,58 +36,37 @@ own_same s t x y ne e = grind arith
 
 -- ---- one command
 
--- what is written after a command, by what it does to marks; f is what is written then
-abbrev pub written_as : Marking → OwnWrites → Written → Written
-written_as Leaves f w = (f, w.1)
-written_as (Marks name) f w = (w.0, (name, w.0) ∷ w.1)
-written_as (GoesBack name) f w = written_at_mark w (marks_from name w.1)
-
-pub written_is : (c : Command) (f : OwnWrites) (w : Written) → written_after c f w ≡ written_as (marking c) f w
-written_is c f w = grind arith
-
-back_with : (m : CityMap) (w : Written) (ks : List (List ℕ × OwnWrites))
-    → view_with m (written_at_mark w ks) ≡ back_to (view_with m w) (marks_with m ks)
-back_with m w ks = grind arith
+back_with : (m : CityMap) (w : Written) (name : List ℕ) (ks : List (List ℕ × OwnWrites))
+    → view_with m (written_at_mark w ks) ≡ left (view_with m w) (back name (view_with m w) (marks_with m ks))
+back_with m w name ks = grind arith
 
 module _ (m : CityMap) (w : Written) (c : Command) (sound : IsSound (map_with m w.0)) where
   abbrev x : View
   x = view_with m w
 
-  abbrev f : OwnWrites
-  f = own_after w.0 (locks_of x.map c) (answer x c) (seen_next x c).map
+  -- what an edit writes gives its map, since the others keep their objects
+  edit_gives : (r : Reply) (ids : List (List ℕ)) (n : CityMap) → action x.map c ≡ Edits r ids n
+      → map_with m (own_with w.0 ids n) ≡ n
+  edit_gives r ids n e = let kept = λ (q : List ℕ). unwritten_stays x.map c r ids n q sound e in grind arith
 
-  module _ (leaves : marking c ≡ Leaves) where
-    next_map : (seen_next x c).map ≡ after x.map c
-    next_map = ap (λ k. (step_as k x c).map) leaves
+  seen_as : (a : Action) → action x.map c ≡ a → view_with m (written_by a w) ≡ left x (applied x a)
+  seen_as (Edits r ids n) e = ap (λ (f : CityMap). record { map = f; marks = x.marks }) (edit_gives r ids n e)
+  seen_as (GoesBack name) e = back_with m w name (marks_from name w.1)
+      ∙ ap (λ ks. left x (back name x ks)) (sym (from_mapped (map_with m) name w.1))
+  seen_as a e = refl
 
-    -- what the command doesn't write stays
-    unwritten_stays : (q : List ℕ)
-        → (not (is_refusal (answer x c)) && locks_id_exclusively (locks_of x.map c) q) ≡ false
-        → x.map q ≡ (seen_next x c).map q
-    unwritten_stays q h =
-        let stays = refused_stays x c in let beside = frame x.map c q sound in grind (arith, next_map)
-
-    own_gives : map_with m f ≡ (seen_next x c).map
-    own_gives = grind (arith, unwritten_stays)
-
-  seen_as : (k : Marking) → k ≡ marking c → view_with m (written_as k f w) ≡ step_as k x c
-  seen_as Leaves e = ap (λ (n : CityMap). record { map = n; marks = x.marks }) (own_gives (sym e) ∙ next_map (sym e))
-  seen_as (Marks name) e = refl
-  seen_as (GoesBack name) e = back_with m w (marks_from name w.1)
-      ∙ ap (back_to x) (sym (from_mapped (map_with m) name w.1))
-
-  pub seen_written : view_with m (written_next x c w) ≡ seen_next x c
-  seen_written = ap (view_with m) (written_is c f w) ∙ seen_as (marking c) refl
+  pub seen_written : view_with m (written_by (action x.map c) w) ≡ step x c
+  seen_written = seen_as (action x.map c) refl
 
 -- what was written by the command gives what is seen after it
 pub step_seen : (v w : CoreState) (s : ℕ) (c : Command) → IsSound (view v s) → committed w ≡ committed v
-    → written w s ≡ written_next (snapshot v s) c (written v s) → snapshot w s ≡ seen_next (snapshot v s) c
+    → written w s ≡ written_by (action (view v s) c) (written v s) → snapshot w s ≡ step (snapshot v s) c
 step_seen v w s c sound city e =
     let m = committed v in
     seen_with w s ∙ (λ i. view_with (city i) (e i))
-    ∙ ap (λ (x : View). view_with m (written_next x c (written v s))) (seen_with v s)
+    ∙ ap (λ (x : View). view_with m (written_by (action x.map c) (written v s))) (seen_with v s)
     ∙ seen_written m (written v s) c (subst (λ (x : View). IsSound x.map) (seen_with v s) sound)
-    ∙ ap (λ (x : View). seen_next x c) (sym (seen_with v s))
+    ∙ ap (λ (x : View). step x c) (sym (seen_with v s))
 
 -- ---- what is written is held exclusively
 
@@ -103,23 +81,27 @@ module _ (held : Held) where
       (λ e. rw e (record { own = a.0; marks = a }))
       (λ e. rw e (covered_back name w ks is a.1))
 
-  covered_as : (k : Marking) (f : OwnWrites) (w : Written) → IsCovered held f → IsWrittenUnder held w
-      → IsWrittenUnder held (written_as k f w)
-  covered_as Leaves f w now is = record { own = now; marks = is.marks }
-  covered_as (Marks name) f w now is = record { own = is.own; marks = (is.own, is.marks) }
-  covered_as (GoesBack name) f w now is = covered_back name w w.1 is is.marks
+  edit_covered : (f : OwnWrites) (ids : List (List ℕ)) (n : CityMap)
+      → ((q : List ℕ) → has_id ids q ≡ true → held q ≡ Some Exclusive) → IsCovered held f
+      → IsCovered held (own_with f ids n)
+  edit_covered f ids n locked is q h = bool_cases (has_id ids q) (locked q) (λ e. is q (rw e at h))
 
   -- what is written after a command is covered, where its locks are held
-  pub covered_next : (v : View) (c : Command) (w : Written)
-      → ((q : List ℕ) → locks_id_exclusively (locks_of v.map c) q ≡ true → held q ≡ Some Exclusive)
-      → IsWrittenUnder held w → IsWrittenUnder held (written_next v c w)
-  covered_next v c w locked is =
-      let ls = locks_of v.map c in
-      let f : OwnWrites = own_after w.0 ls (answer v c) (seen_next v c).map in
-      let now : IsCovered held f = λ q h. bool_cases (not (is_refusal (answer v c)) && locks_id_exclusively ls q)
-      (λ e. locked q (and_parts (not (is_refusal (answer v c))) (locks_id_exclusively ls q) e).1)
-      (λ e. is.own q (rw e at h)) in
-      subst (IsWrittenUnder held) (sym (written_is c f w)) (covered_as (marking c) f w now is)
+  covered_as : (m : CityMap) (c : Command) (a : Action) (w : Written) → action m c ≡ a
+      → ((q : List ℕ) → locks_id_exclusively (locks_of m c) q ≡ true → held q ≡ Some Exclusive)
+      → IsWrittenUnder held w → IsWrittenUnder held (written_by a w)
+  covered_as m c (Edits r ids n) w e locked is = record {
+    own = edit_covered w.0 ids n (λ q h. locked q (ap (λ ks. has_id ks q) (edits_locked m c r ids n e) ∙ h)) is.own;
+    marks = is.marks;
+  }
+  covered_as m c (Marks name) w e locked is = record { own = is.own; marks = (is.own, is.marks) }
+  covered_as m c (GoesBack name) w e locked is = covered_back name w w.1 is is.marks
+  covered_as m c a w e locked is = is
+
+  pub covered_next : (m : CityMap) (c : Command) (w : Written)
+      → ((q : List ℕ) → locks_id_exclusively (locks_of m c) q ≡ true → held q ≡ Some Exclusive)
+      → IsWrittenUnder held w → IsWrittenUnder held (written_by (action m c) w)
+  covered_next m c w locked is = covered_as m c (action m c) w refl locked is
 
 -- with more locks it still is
 module _ (held more : Held) (keeps : (q : List ℕ) → held q ≡ Some Exclusive → more q ≡ Some Exclusive) where

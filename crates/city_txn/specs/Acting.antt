@@ -1,5 +1,5 @@
 -- What a command does to a core.
-use Rattle.std.specs.Prelude.{◌≡◌, ◌≢◌, ◌==◌, ◌&&◌, not, ℕ, Bool, true, false, List, [], ◌∷◌, ◌++◌, Some}
+use Rattle.std.specs.Prelude.{◌≡◌, ◌≢◌, ◌==◌, ℕ, Bool, true, false, List, [], ◌∷◌, ◌++◌}
 use Rattle.std.specs.Prelude.{if◌then◌else◌}
 use Rattle.std.specs.Prelude.{Result, Ok, Err, IfOk, IfErr, OnOk, IsOk}
 use Rattle.city_model.specs.declared.command.Command.{Command}
@@ -7,9 +7,9 @@ use Rattle.city_model.specs.declared.command.Command.TheVariants.{Commit}
 use Rattle.city_model.specs.declared.command.Cause.{Cause}
 use Rattle.city_model.specs.declared.command.Reply.{Reply}
 use Rattle.city_model.specs.declared.command.Reply.TheVariants.{WentBack, Refused}
-use Rattle.city_model.specs.CityMap.{CityMap}
 use Rattle.city_model.specs.Runs.{EndsAt}
 use Rattle.city_model.specs.declared.end.Outcome.{Outcome}
+use Rattle.city_model.specs.Actions.{action}
 use Rattle.city_model.specs.Marks.{View}
 use Rattle.city_model.specs.Meaning.{Answers, effect, Does, is_refusal, locks_of}
 use Rattle.city_locks.specs.declared.answer.Answer.{Answer}
@@ -19,16 +19,11 @@ use Rattle.city_txn.specs.declared.step.Step.TheVariants as steps
 use Rattle.city_txn.specs.declared.step.TxnFault.{TxnFault}
 use Rattle.city_txn.specs.declared.step.TxnFault.TheVariants.{NotOpen, OutOfMemory}
 use Rattle.city_txn.specs.Writes.{write_of, unless_by}
-use Rattle.city_txn.specs.UndoLog.{OwnWrites, written_after}
-use Rattle.city_model.specs.Standing.{Lock, Answered, AllHeld, locks_id_exclusively}
-use Rattle.city_txn.specs.CoreState.{CoreState, committed, view, own, written, snapshot, is_open, held}
+use Rattle.city_txn.specs.UndoLog.{written_by}
+use Rattle.city_model.specs.Standing.{Lock, Answered, AllHeld}
+use Rattle.city_txn.specs.CoreState.{CoreState, committed, view, written, snapshot, is_open, held}
 use Rattle.city_txn.specs.CoreState.{StandsUnderLocks, KeepsOthers}
 use Rattle.city_locks.specs.Asking.{first_answer, granted_before, GainsFirst, IsBlocked}
-
--- what is written after a command that asked for these locks, got this reply and left this map, marks aside: where it
--- isn't refused, at each id that it locks exclusively, what stands there then
-abbrev pub own_after : OwnWrites → List Lock → Reply → CityMap → OwnWrites
-own_after f ls reply m id = if not (is_refusal reply) && locks_id_exclusively ls id then Some (m id) else f id
 
 -- the answer to its locks: that of the first that isn't granted, or Granted
 abbrev pub answer_in : CoreState → ℕ → Command → Answer
@@ -93,11 +88,10 @@ pub record IsAct (stamp : ℕ) (command : Command) (result : Result Step TxnFaul
   -- unless memory runs out, all of them. It loses none; the others keep theirs
   pub locks : GainsFirst stamp (granted_in old stamp command) old.locks new.locks
   pub granted : OnOk result (AllHeld (held new stamp) (granted_in old stamp command))
-  -- its writes gain just the ids that the command writes, a new mark has the writes of now, and going back makes them
-  -- those of the mark; the others' writes and marks stay
-  pub writes : written new stamp ≡ (if is_done result
-      then written_after command
-      (own_after (own old stamp) (locks_of (view old stamp) command) reply after.map) (written old stamp)
+  -- its writes gain just the ids that the command's action writes, a new mark has the writes of now, and going back
+  -- makes them those of the mark; the others' writes and marks stay
+  pub writes : written new stamp
+      ≡ (if is_done result then written_by (action (view old stamp) command) (written old stamp)
       else written old stamp)
   pub unwritten : (id : List ℕ) → unless_by stamp (write_of new.writes id) ≡ unless_by stamp (write_of old.writes id)
   pub others : (t : ℕ) → (stamp == t) ≡ false → written new t ≡ written old t

@@ -1,16 +1,12 @@
 -- The undo logs of open transactions: their marks, and what each had written where it wrote again.
-use Rattle.std.specs.Prelude.{ℕ, Bool, false, List, [], ◌∷◌, Option, map, reverse}
-use Rattle.std.specs.Prelude.{unwrap_or}
+use Rattle.std.specs.Prelude.{ℕ, Bool, false, List, [], ◌∷◌, Option, Some, map, reverse, unwrap_or, if◌then◌else◌}
 use Rattle.std.specs.List.{list_any}
 use Rattle.std.specs.Map.{lookup, update}
 use Rattle.std.specs.Ordering.{nat_cmp}
 use Rattle.std.specs.BTreeMap.{is_at}
 use Rattle.city_model.specs.declared.object.Object.{Object}
-use Rattle.city_model.specs.declared.command.Command.{Command}
-use Rattle.city_model.specs.declared.command.Command.TheVariants as commands
-use Rattle.city_model.specs.declared.command.Command.TheVariants.{Read, Put, Delete, Attach, Detach}
-use Rattle.city_model.specs.declared.command.Command.TheVariants.{Back, Commit, Abort}
-use Rattle.city_model.specs.CityMap.{CityMap, same_id}
+use Rattle.city_model.specs.CityMap.{CityMap, same_id, has_id}
+use Rattle.city_model.specs.Actions.{Action, Edits, Marks, GoesBack}
 use Rattle.city_model.specs.Marks.{Marked, marks_from}
 use Rattle.city_txn.specs.declared.undo_log.Entry.{Entry}
 use Rattle.city_txn.specs.declared.undo_log.Entry.TheVariants.{Mark, BeforeImage}
@@ -51,18 +47,17 @@ abbrev pub written_at_mark : Written → List (List ℕ × OwnWrites) → Writte
 written_at_mark w [] = w
 written_at_mark w (k ∷ ks) = (k.1, k ∷ ks)
 
--- the same after a command, where f is what is written then: a mark has the writes of now, and going back makes them
--- those of the mark
-abbrev pub written_after : Command → OwnWrites → Written → Written
-written_after (Read id) f w = (f, w.1)
-written_after (Put id body) f w = (f, w.1)
-written_after (Delete id) f w = (f, w.1)
-written_after (Attach child parent) f w = (f, w.1)
-written_after (Detach child parent) f w = (f, w.1)
-written_after (commands.Mark name) f w = (w.0, (name, w.0) ∷ w.1)
-written_after (Back name) f w = written_at_mark w (marks_from name w.1)
-written_after Commit f w = (f, w.1)
-written_after Abort f w = (f, w.1)
+-- what it wrote, and at each of these ids what the map has there
+abbrev pub own_with : OwnWrites → List (List ℕ) → CityMap → OwnWrites
+own_with f ids m id = if has_id ids id then Some (m id) else f id
+
+-- the same after an action: an edit writes its ids, a mark has the writes of now, and going back makes them those of
+-- the mark
+abbrev pub written_by : Action → Written → Written
+written_by (Edits reply ids m) w = (own_with w.0 ids m, w.1)
+written_by (Marks name) w = (w.0, (name, w.0) ∷ w.1)
+written_by (GoesBack name) w = written_at_mark w (marks_from name w.1)
+written_by action w = w
 
 -- the map with what was written
 abbrev pub map_with : CityMap → OwnWrites → CityMap

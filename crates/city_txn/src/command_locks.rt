@@ -49,8 +49,10 @@ fn first_lock(command: &Command) -> Option<(&Id, Mode)>
     ensures none { IfNone result ((m : CityMap) → locks_of m command.now ≡ []) }
 {
     match command {
-        Command::Read(id) => Some((id, Mode::Shared)),
-        Command::Put(id, _) | Command::Delete(id) => Some((id, Mode::Exclusive)),
+        Command::Read(id) | Command::Expect(id, _) => Some((id, Mode::Shared)),
+        Command::Put(id, _) | Command::Add(id, _) => Some((id, Mode::Exclusive)),
+        Command::Set(id, _) | Command::Unset(id, _) => Some((id, Mode::Exclusive)),
+        Command::Reshape(id, _) | Command::Delete(id) => Some((id, Mode::Exclusive)),
         Command::Attach(child, _) | Command::Detach(child, _) => Some((child, Mode::Exclusive)),
         Command::Mark(_) | Command::Back(_) | Command::Commit | Command::Abort => None,
     }
@@ -64,8 +66,7 @@ fn further_locks<'a>(store: &'a Store, stamp: u64, command: &'a Command) -> Ids<
     match command {
         Command::Delete(id) => parents_to_lock(store, stamp, id),
         Command::Attach(_, parent) | Command::Detach(_, parent) => Ids::of(slice::from_ref(parent)),
-        Command::Read(_) | Command::Put(_, _) => Ids::of(&[]),
-        Command::Mark(_) | Command::Back(_) | Command::Commit | Command::Abort => Ids::of(&[]),
+        _ => Ids::of(&[]),
     }
 }
 

@@ -6,7 +6,7 @@ use city_model::kept::extra::Extra;
 use city_model::object::{Body, Object};
 use city_model::object_type::ObjectType;
 use city_model::sequence::Sequence;
-use city_model::shared_body::SharedBody;
+use city_model::shared::Shared;
 use city_model::shared_ids::SharedIds;
 use serde_json::Map;
 use std::alloc::Global;
@@ -20,9 +20,9 @@ pub fn placeholder(alloc: Global) -> Object
         unreachable!()
     };
     Object {
-        body: SharedBody::unshared(Body {
+        body: Shared::unshared(Body {
             kind: ObjectType::GenericCityObject,
-            geometry: Sequence::new(alloc),
+            geometry: Shared::unshared(Sequence::new(alloc)),
             extra,
         }),
         parents: SharedIds::new(alloc),

@@ -1,14 +1,30 @@
--- Which names members in forms have, and the tokens of a form, around those of the value in it.
-use Rattle.std.specs.Prelude.{ℕ, List, [], ◌∷◌, ◌++◌, Bool, ◌&&◌, ◌||◌, codes}
+-- Which names and values members in forms have, and the tokens of a form, around those of the value in it.
+use Rattle.std.specs.Prelude.{◌≡◌, ◌⊎◌, ℕ, List, [], ◌∷◌, ◌++◌, get_or, Bool, true, false, ◌&&◌, ◌||◌, codes}
 use Rattle.std.specs.Str.{bytes_eq}
 use Rattle.json.specs.Token.{Token, begin_object, end_object, begin_array, end_array, key}
+use Rattle.json.specs.Json.{Json, null, boolean, number, string, array, object, no_items, item}
 use Rattle.json.specs.Tree.{json_tokens}
-use Rattle.city_decimals.specs.Shapes.{tag, is_tag, three}
+use Rattle.city_decimals.specs.Shapes.{tag, is_tag, is_text, three}
 use Rattle.city_decimals.specs.declared.shapes.Form.{Form}
 use Rattle.city_decimals.specs.declared.shapes.Form.TheVariants.{Plain, Shielded, Framed}
 
+-- a member of this name can have a form; what stands under `attributes` is told by its value
 abbrev pub can_have_form : Bool → List ℕ → Bool
 can_have_form top k = (top && bytes_eq k (codes "transform")) || is_tag k
+
+-- an object, or an array whose first item is a text: under `attributes` it isn't shielded, and no shield
+abbrev pub is_bare : Json → Bool
+is_bare null = false
+is_bare (boolean b) = false
+is_bare (number s) = false
+is_bare (string s) = false
+is_bare (array no_items) = false
+is_bare (array (item j js)) = is_text j
+is_bare (object ms) = true
+
+-- one of these begins here
+abbrev pub BeginsBare : List ℕ → Type 0
+BeginsBare text = (get_or text 0 0 ≡ 123) ⊎ ((get_or text 0 0 ≡ 91) × (get_or text 1 0 ≡ 34))
 
 abbrev pub tokens_before : Form → List Token
 tokens_before Plain = []

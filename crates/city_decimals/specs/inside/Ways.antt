@@ -1,5 +1,5 @@
 -- A value that is encoded, or decoded.
-use Rattle.std.specs.Prelude.{ℕ, List, Bool, true, false}
+use Rattle.std.specs.Prelude.{ℕ, List, Bool, true, false, codes}
 use Rattle.json.specs.Json.{Json, object, Items, Members}
 use Rattle.city_decimals.specs.Shapes.{form_of, in_form, framed, fronted}
 use Rattle.city_decimals.specs.Encoded.{encoded, encoded_items, encoded_members}
@@ -33,6 +33,10 @@ object_made Decode top ms = decoded_object top ms
 abbrev pub member_changed : Way → Bool → List ℕ → Json → Json
 member_changed Encode top k j = in_form (form_of top k j) (encoded j)
 member_changed Decode top k j = out_of_form top k j (decoded j)
+
+-- the value of a member `attributes`
+abbrev pub attributes_changed : Way → Json → Json
+attributes_changed way j = member_changed way false (codes "attributes") j
 
 -- a transform that is put into its frame, or a frame out of which it is taken
 abbrev pub frame_changed : Way → Json → Json

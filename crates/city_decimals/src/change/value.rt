@@ -1,7 +1,7 @@
 //! Values, token by token.
 ghost use Rattle.std.specs.Prelude.{◌≡◌, ◌≢◌, ◌∷◌, ◌++◌, ◌<◌, ◌≤◌, ◌&&◌, OnOk, Some, None, Err, ℕ, length};
 ghost use Rattle.json.specs.Token.{key};
-ghost use Rattle.json.specs.Json.{number, value, items, members};
+ghost use Rattle.json.specs.Json.{number, array, value, items, members};
 ghost use Rattle.json.specs.Print.{IsNumber, IsPrintable};
 ghost use Rattle.json.specs.Reads.{token_of};
 ghost use Rattle.json.specs.Tree.{json_tokens, items_tokens, members_tokens};
@@ -10,16 +10,17 @@ ghost use Rattle.city_decimals.specs.inside.Changes.{top_changed};
 ghost use Rattle.city_decimals.specs.inside.Objects.{decoded_object};
 ghost use Rattle.city_decimals.specs.inside.Streams.{written};
 ghost use Rattle.city_decimals.specs.inside.Ways.{changed, items_changed, members_changed, member_changed};
-ghost use Rattle.city_decimals.specs.inside.Ways.{object_made, is_decode};
+ghost use Rattle.city_decimals.specs.inside.Ways.{attributes_changed, object_made, is_decode};
 ghost use Rattle.city_decimals.specs.declared.fault.DecimalsFault.TheVariants.{NotJson};
 
+use super::attributes::{write_attributes_number, write_single, write_tree};
 use crate::OutOfMemory;
 use crate::decoding::{decode_first_member, decode_member_tree};
 use crate::encoding::{encode_member_tree, encode_number};
 use crate::fault::DecimalsFault;
-use crate::shapes::{can_have_form, is_tag};
+use crate::shapes::{can_have_form, is_attributes, is_tag};
 use crate::way::Way;
-use json::{Reader, Token, Writer};
+use json::{Reader, Token, Value, Writer};
 use std::alloc::Global;
 
 /// Writes the value of a whole text, changed. Arrays and objects may nest `depth` deep.
@@ -258,9 +259,71 @@ fn change_member(
 {
     if can_have_form(top, name) {
         change_member_tree(alloc, way, name, reader, depth, top, out)
+    } else if is_attributes(name) {
+        change_attributes(alloc, way, reader, depth, out)
     } else {
         change_value(alloc, way, reader, depth, out)
     }
+}
+
+/// Writes the next value, that of a member `attributes`, changed and into or out of its shield.
+#[cycle(change)]
+#[inline(never)]
+fn change_attributes(
+    alloc: Global,
+    way: Way,
+    reader: &mut Reader<'_>,
+    depth: usize,
+    out: &mut Writer,
+) -> Result<(), DecimalsFault>
+    ensures before { OnOk result (out.new.before ≡ out.old.before) }
+    ensures ok { OnOk result (written (λ j. json_tokens (attributes_changed way j)) out.old.tokens
+        (value depth reader.old) ≡ Some (out.new.tokens, reader.new)) }
+    ensures err { result ≡ Err NotJson → value depth reader.old ≡ None }
+{
+    let token = reader.next().ok_or(DecimalsFault::NotJson)?;
+    match token {
+        Token::Number(text) => Ok(write_attributes_number(way, text, out)?),
+        Token::BeginArray => {
+            if depth == 0 {
+                return Err(DecimalsFault::NotJson);
+            }
+            change_attributes_items(alloc, way, reader, depth - 1, out)
+        }
+        _ => change_from(alloc, way, token, reader, depth, out),
+    }
+}
+
+/// Writes the array under `attributes` whose items are left, changed and into or out of its shield: a tree is made
+/// of its first item.
+#[cycle(change)]
+#[inline(always)]
+fn change_attributes_items(
+    alloc: Global,
+    way: Way,
+    reader: &mut Reader<'_>,
+    depth: usize,
+    out: &mut Writer,
+) -> Result<(), DecimalsFault>
+    ensures before { OnOk result (out.new.before ≡ out.old.before) }
+    ensures ok { OnOk result ((n : ℕ) → length reader.old ≤ n
+        → written (λ js. json_tokens (attributes_changed way (array js))) out.old.tokens
+        (items (value depth) n reader.old) ≡ Some (out.new.tokens, reader.new)) }
+    ensures err { result ≡ Err NotJson
+        → (n : ℕ) → length reader.old ≤ n → items (value depth) n reader.old ≡ None }
+{
+    if reader.take_end_array() {
+        out.begin_array()?;
+        out.end_array()?;
+        return Ok(());
+    }
+    let first = Value::read(alloc, reader, depth)?;
+    if reader.take_end_array() {
+        return Ok(write_single(way, &first, out)?);
+    }
+    out.begin_array()?;
+    write_tree(way, &first, out)?;
+    change_items(alloc, way, reader, depth, out)
 }
 
 /// Writes the next value, that of a member of this name, changed and into or out of its form.

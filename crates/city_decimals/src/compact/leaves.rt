@@ -1,7 +1,9 @@
 //! Values of compact texts that are copied as they are, and the names of members.
-ghost use Rattle.std.specs.Prelude.{◌≡◌, ◌∷◌, [], ◌&&◌, codes, IfSome};
+ghost use Rattle.std.specs.Prelude.{◌≡◌, ◌∷◌, [], ◌&&◌, codes, true, false, IfSome};
+ghost use Rattle.std.specs.Bool.{OnTrue};
 ghost use Rattle.std.specs.Str.{bytes_eq};
 ghost use Rattle.city_decimals.specs.inside.Compact.{IsCopied};
+ghost use Rattle.city_decimals.specs.inside.Forms.{BeginsBare};
 ghost use Rattle.city_decimals.specs.inside.Ways.{changed};
 
 use crate::copier::Copier;
@@ -46,4 +48,20 @@ pub(super) fn is_framed(top: bool, key: &[u8]) -> bool
     ensures { result ≡ (top && bytes_eq key.now (codes "transform")) }
 {
     top && key == b"transform".as_slice()
+}
+
+/// Whether what is next under this name may be shielded or a shield, both as they stand in a text. Under
+/// `attributes` that is all but an object, and an array whose first item is a text.
+#[inline(always)]
+pub(super) fn may_be_shielded(key: &[u8], rest: &[u8]) -> bool
+    ensures { result ≡ false → bytes_eq key.now (codes "attributes") ≡ true → BeginsBare rest.now }
+{
+    key == b"attributes".as_slice() && !begins_bare(rest)
+}
+
+/// Whether an object is next, or an array whose first item is a text.
+fn begins_bare(rest: &[u8]) -> bool
+    ensures { OnTrue result (BeginsBare rest.now) }
+{
+    (!rest.is_empty() && rest[0] == b'{') || (rest.len() > 1 && rest[0] == b'[' && rest[1] == b'"')
 }

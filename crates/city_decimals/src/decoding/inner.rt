@@ -4,7 +4,7 @@ ghost use Rattle.json.specs.Value.{value_view};
 ghost use Rattle.city_decimals.specs.Shapes.{only};
 ghost use Rattle.city_decimals.specs.inside.Inner.{front, inner};
 
-use crate::shapes::{is_tag, is_transform};
+use crate::shapes::{has_shield, is_tag, is_transform};
 use json::Value;
 
 /// What is decoded for a member: what stands in its form.
@@ -13,7 +13,7 @@ pub(super) fn inner<'v, 'a>(top: bool, key: &str, value: &'v Value<'a>) -> &'v V
 {
     if top && is_transform(key, value) {
         front(value)
-    } else if is_tag(key) {
+    } else if has_shield(key, value) {
         only(value)
     } else {
         value

@@ -17,7 +17,7 @@ use json::{Value, Writer};
 
 /// Writes a decoded value.
 #[cycle(decode)]
-pub(super) fn decode_tree(value: &Value<'_>, out: &mut Writer) -> Result<(), OutOfMemory>
+pub(crate) fn decode_tree(value: &Value<'_>, out: &mut Writer) -> Result<(), OutOfMemory>
     requires numbers { HasNumbers (value_view value.now) }
     ensures before { OnOk result (out.new.before ≡ out.old.before) }
     ensures tokens { OnOk result (out.new.tokens

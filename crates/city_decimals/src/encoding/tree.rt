@@ -13,7 +13,7 @@ use json::{Value, Writer};
 
 /// Writes an encoded value.
 #[cycle(encode)]
-pub(super) fn encode_tree(value: &Value<'_>, out: &mut Writer) -> Result<(), OutOfMemory>
+pub(crate) fn encode_tree(value: &Value<'_>, out: &mut Writer) -> Result<(), OutOfMemory>
     requires numbers { HasNumbers (value_view value.now) }
     ensures before { OnOk result (out.new.before ≡ out.old.before) }
     ensures tokens { OnOk result (out.new.tokens

@@ -8,8 +8,7 @@ ghost use Rattle.city_diagnostics.specs.ScriptLines.{TellsScript};
 
 use crate::check::{script_text_fault_of, tree_for};
 use crate::line::script_line;
-use crate::script::script_diagnostic;
-use crate::text::text_diagnostic;
+use city_details::{script_diagnostic, text_diagnostic};
 use city_doc::{ScriptFault, script_faults_of};
 use city_model::OutOfMemory;
 use serde_json::Value;

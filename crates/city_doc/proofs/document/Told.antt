@@ -1,8 +1,8 @@
 -- What is told by going through the objects in their order: what is found at each of them, once, in order.
-use Rattle.city_doc.proofs.Prelude.{◌≡◌, ◌⊎◌, inl, inr, ℕ, suc, ◌<◌, List, ◌∷◌, ◌++◌, Option, Some, None, [], Ordering}
+use Rattle.city_doc.proofs.Prelude.{◌≡◌, ◌⊎◌, inl, inr, ℕ, suc, ◌<◌, List, ◌++◌, Option, Some, None, Ordering}
 use Rattle.std.specs.declared.cmp.Ordering.TheVariants.{Greater}
 use Rattle.city_doc.proofs.Prelude.{Less, Equal, nat_cmp, is_eq, refl, sym, ap, subst, ◌∙◌, arith, slice_cmp}
-use Rattle.city_doc.proofs.Prelude.{AllByRecursion, same_id_true, Data, Members, no_members, member}
+use Rattle.city_doc.proofs.Prelude.{same_id_true, Data, Members, no_members, member}
 use Rattle.city_doc.proofs.Prelude.{get_member, AreOrdered, AllAbove, Point, ReadFault}
 use Rattle.city_doc.specs.FaultLists.{IsListed, AreOrderedBy}
 use Rattle.city_doc.specs.document.AllFaults.{StandsAt, IsBefore, AreThose, id_of}

@@ -106,6 +106,11 @@ module _ (points : List Point) (d : Data) (kind : ObjectType) (ms : Members) (ha
   pub body_missing : list_or_absent (geometry_of points) (get (codes "geometry") d) ≡ None → None ≡ body_of points d
   body_missing none = grind arith
 
+  pub body_unkept : (geometry : List Geometry)
+      → list_or_absent (geometry_of points) (get (codes "geometry") d) ≡ Some geometry
+      → kept_if kept_at_object (without_object_members ms) ≡ None → None ≡ body_of points d
+  body_unkept geometry is_geometry none = grind arith
+
   pub body_read : (geometry : List Geometry) (kept : Members)
       → list_or_absent (geometry_of points) (get (codes "geometry") d) ≡ Some geometry
       → kept_if kept_at_object (without_object_members ms) ≡ Some kept

@@ -1,17 +1,22 @@
--- What commands stand for: how they end, and which stand for any.
-use Rattle.city_doc.proofs.Prelude.{◌≡◌, ℕ, List, length, true, false, Option, Some, refl, arith, true≢false, None}
-use Rattle.city_doc.proofs.Prelude.{option_and_then, codes, is_none, is_some, Data, get, as_object, Point, Command}
-use Rattle.city_doc.proofs.Prelude.{is_integral, has_bad_vertex, is_unknown_type, is_bad_geometry, is_bad_command}
-use Rattle.city_doc.proofs.Prelude.{names_bad_vertex, command_of, get-integral, Body, body_of}
-use Rattle.city_model.specs.declared.command.Command.TheVariants.{Put}
+-- Which commands stand for any.
+use Rattle.city_doc.proofs.Prelude.{◌≡◌, ℕ, List, length, true, false, Option, Some, refl, arith, true≢false, None, ap}
+use Rattle.city_doc.proofs.Prelude.{option_and_then, option_map, codes, is_none, is_some, Data, Members, get, as_object}
+use Rattle.city_doc.proofs.Prelude.{Point, Command, Body, is_integral, has_bad_vertex, is_unknown_type, is_bad_geometry}
+use Rattle.city_doc.proofs.Prelude.{is_bad_command, names_bad_vertex, command_of, body_of, kept_if, get-integral}
+use Rattle.city_doc.proofs.Prelude.{as_object-integral, and_then_some}
+use Rattle.std.specs.Prelude.{◌||◌}
+use Rattle.std.proofs.lemmas.Bool.{not-false, or_parts}
+use Rattle.city_model.specs.declared.command.Command.TheVariants.{Put, Add, Set, Expect, Reshape}
+use Rattle.city_model.specs.Kept.{kept_at_attributes}
 use Rattle.city_doc.specs.object.Faults.{unsupported_name}
-use Rattle.city_doc.specs.script.CommandFaults.{is_bad_object, is_bad_put, is_no_good_form, put_names_bad_vertex}
-use Rattle.city_tokens.specs.script.CommandForms.{put_tree, CommandForm, PutForm, form_of}
-use Rattle.city_tokens.specs.script.Commands.{put_of, command_of_form, names_relations}
-use Rattle.city_tokens.proofs.Laws.{puts_own, form_fit}
+use Rattle.city_doc.specs.script.CommandFaults.{is_bad_object, is_no_good_form, has_bad_object, has_bad_geometry}
+use Rattle.city_doc.specs.script.CommandFaults.{names_vertex_beyond, form_names_bad_vertex}
+use Rattle.city_tokens.specs.script.CommandForms.{CommandForm, PutForm, AddForm, SetForm, ExpectForm, ReshapeForm}
+use Rattle.city_tokens.specs.script.CommandForms.{form_of, object_tree, geometry_tree}
+use Rattle.city_tokens.specs.script.Commands.{unrelated_body, command_of_form, names_relations}
+use Rattle.city_tokens.proofs.Laws.{owns, form_owns}
 use Rattle.city_doc.proofs.document.Right.{some_of}
-use Rattle.std.proofs.lemmas.Bool.{or_parts}
-use Rattle.city_doc.proofs.object.ReadBodies.{body_of-some}
+use Rattle.city_doc.proofs.object.ReadBodies.{body_of-some, geometries_some}
 
 -- what an object that isn't bad is
 pub record IsGood (d : Data) : Type 0 where
@@ -37,35 +42,55 @@ body_of-good points d integral h placed =
       placed = placed;
     })
 
--- a put is that of the object in its tree
-pub put_read : (points : List Point) (d tree : Data) (id given : List ℕ) (o : Option Command)
-    → form_of d ≡ Some (PutForm given tree) → id ≡ given
-    → o ≡ option_and_then (put_of points id) (get (codes "object") d) → o ≡ command_of points d
-put_read points d tree id given o form same is =
-    let put = (form_fit d (PutForm given tree) form).1 in
-    rw (is, same, form, put) refl
+-- an object that names no relations
+unrelated_some : (points : List Point) (tree : Data) → is_integral tree ≡ true → is_bad_object tree ≡ false
+    → has_bad_vertex (length points) tree ≡ false → (b : Body) × (unrelated_body points tree ≡ Some b)
+unrelated_some points tree integral fine placed =
+    let r = body_of-good points tree integral fine placed in
+    (r.0, rw ((good tree fine).unrelated) r.1)
 
-put_some : (points : List Point) (id : List ℕ) (tree : Data) → is_integral tree ≡ true → is_bad_object tree ≡ false
-    → has_bad_vertex (length points) tree ≡ false
-    → (c : Command) × (put_of points id tree ≡ Some c)
-put_some points id tree integral fine placed = let r = body_of-good points tree integral fine placed in
-    (Put id r.0, rw ((good tree fine).unrelated, r.1) refl)
+-- attributes of whole numbers may be kept
+attributes_kept : (d : Data) (named : Members) → is_integral d ≡ true
+    → option_and_then as_object (get (codes "attributes") d) ≡ Some named
+    → kept_if kept_at_attributes named ≡ Some named
+attributes_kept d named integral own =
+    let r = and_then_some as_object (get (codes "attributes") d) named own in
+    let whole = as_object-integral r.0 named (get-integral (codes "attributes") d r.0 integral r.1) r.2 in
+    rw whole refl
 
-form_some : (points : List Point) (d : Data) (f : CommandForm) → is_integral d ≡ true → puts_own d f
-    → is_bad_put (put_tree f) ≡ false → put_names_bad_vertex (length points) (put_tree f) ≡ false
-    → (c : Command) × (command_of_form points f ≡ Some c)
-form_some points d (PutForm id tree) integral own fine placed =
-    put_some points id tree (get-integral (codes "object") d tree integral own) fine placed
-form_some points d f integral own fine placed = some_of (command_of_form points f) refl
+-- a form in which nothing is wrong, and whose positions name points
+record IsGoodForm (count : ℕ) (f : CommandForm) : Type 0 where
+  pub read : (has_bad_object (object_tree f) || has_bad_geometry (geometry_tree f)) ≡ false
+  pub placed : (names_vertex_beyond count (object_tree f) || names_vertex_beyond count (geometry_tree f)) ≡ false
+
+form_some : (points : List Point) (d : Data) (f : CommandForm) → is_integral d ≡ true → owns d f
+    → IsGoodForm (length points) f → (c : Command) × (command_of_form points f ≡ Some c)
+form_some points d (PutForm id tree) integral own h =
+    let r = unrelated_some points tree (get-integral (codes "object") d tree integral own)
+    (or_parts _ _ h.read).0 (or_parts _ _ h.placed).0 in
+    (Put id r.0, ap (option_map (Put id)) r.1)
+form_some points d (AddForm id tree) integral own h =
+    let r = unrelated_some points tree (get-integral (codes "object") d tree integral own)
+    (or_parts _ _ h.read).0 (or_parts _ _ h.placed).0 in
+    (Add id r.0, ap (option_map (Add id)) r.1)
+form_some points d (SetForm id named) integral own h =
+    (Set id named, ap (option_map (Set id)) (attributes_kept d named integral own))
+form_some points d (ExpectForm id named) integral own h =
+    (Expect id named, ap (option_map (Expect id)) (attributes_kept d named integral own))
+form_some points d (ReshapeForm id tree) integral own h =
+    let gs = geometries_some points (get (codes "geometry") tree)
+    (λ g. get-integral (codes "geometry") tree g (rw own integral)) (not-false _ h.placed) in
+    (Reshape id gs.0, ap (option_map (Reshape id)) gs.1)
+form_some points d f integral own h = some_of (command_of_form points f) refl
 
 some_command : (points : List Point) (d : Data) (o : Option CommandForm) → is_integral d ≡ true
-    → ((f : CommandForm) → o ≡ Some f → puts_own d f) → is_no_good_form o ≡ false
-    → put_names_bad_vertex (length points) (option_and_then put_tree o) ≡ false
+    → ((f : CommandForm) → o ≡ Some f → owns d f) → is_no_good_form o ≡ false
+    → form_names_bad_vertex (length points) o ≡ false
     → (c : Command) × (option_and_then (command_of_form points) o ≡ Some c)
 some_command points d None integral own fine placed = absurd (true≢false fine)
-some_command points d (Some f) integral own fine placed = form_some points d f integral (own f refl) fine placed
+some_command points d (Some f) integral own fine placed =
+    form_some points d f integral (own f refl) (record { read = fine; placed = placed })
 
 pub command_of-some : (points : List Point) (d : Data) → is_integral d ≡ true → is_bad_command d ≡ false
     → names_bad_vertex (length points) d ≡ false → (c : Command) × (command_of points d ≡ Some c)
-command_of-some points d integral fine placed =
-    some_command points d (form_of d) integral (λ f h. (form_fit d f h).1) fine placed
+command_of-some points d integral fine placed = some_command points d (form_of d) integral (form_owns d) fine placed

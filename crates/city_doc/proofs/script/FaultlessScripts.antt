@@ -1,19 +1,23 @@
 -- A text that stands for scripts has no fault.
 use Rattle.city_doc.proofs.Prelude.{◌≡◌, true≢false, ℕ, List, length, Bool, true, false, Option, Some, None, refl, sym}
-use Rattle.city_doc.proofs.Prelude.{ap, ◌∙◌, arith, option_and_then, slice_get, Data, Point, Command}
-use Rattle.city_doc.proofs.Prelude.{Scripted, Body, body_of, has_bad_vertex, all_read, is_bad_command, names_bad_vertex}
+use Rattle.city_doc.proofs.Prelude.{ap, ◌∙◌, arith, option_and_then, slice_get, Data, get, codes, Point, Geometry, Command}
+use Rattle.city_doc.proofs.Prelude.{Scripted, Body, body_of, has_bad_vertex, is_bad_geometry, is_position, all_read}
+use Rattle.city_doc.proofs.Prelude.{is_bad_command, names_bad_vertex, not}
 use Rattle.city_doc.proofs.Prelude.{command_of, ScriptParts, parts_of, vertex_count, and_parts, and_then_some, map_some}
-use Rattle.std.specs.Prelude.{if◌then◌else◌}
+use Rattle.std.specs.Prelude.{◌||◌, if◌then◌else◌}
 use Rattle.city_doc.specs.declared.fault.ScriptFault.{ScriptFault}
 use Rattle.city_doc.specs.declared.fault.ScriptFault.TheVariants.{BadScript, TooMany, BadCommand, BadVertex}
 use Rattle.city_doc.specs.script.AllFaults.{StandsAt}
-use Rattle.city_doc.specs.script.CommandFaults.{is_bad_object, is_no_good_form, put_names_bad_vertex}
-use Rattle.city_tokens.specs.script.CommandForms.{put_tree, CommandForm, PutForm, form_of}
-use Rattle.city_tokens.specs.script.Commands.{put_of, command_of_form, names_relations}
+use Rattle.city_doc.specs.script.CommandFaults.{is_bad_object, is_no_good_form, form_names_bad_vertex}
+use Rattle.city_doc.specs.shape.Forms.{is_number}
+use Rattle.city_model.specs.declared.command.Command.TheVariants.{Put, Add, Reshape}
+use Rattle.city_tokens.specs.script.CommandForms.{CommandForm, PutForm, AddForm, ReshapeForm, form_of}
+use Rattle.city_tokens.specs.script.Commands.{unrelated_body, geometries_of, command_of_form, names_relations}
 use Rattle.city_tokens.specs.script.Scripts.{script_of, scripts_of, scripts_of_parts, vertex_points}
 use Rattle.city_tokens.specs.script.Scripts as scripts
 use Rattle.city_tokens.specs.tree.Lists.{array_of}
-use Rattle.city_doc.proofs.object.FaultlessBodies.{known, supported, formed, placed, is_object}
+use Rattle.city_doc.proofs.object.FaultlessBodies.{known, supported, formed, placed, is_object, geometries_fit}
+use Rattle.city_doc.proofs.object.FaultlessBodies.{number_fits, position_fits}
 use Rattle.city_doc.proofs.script.ItemParts.{all_read-at, none_bad, too_many_alike}
 use Rattle.city_doc.proofs.script.Meanings.{vertex_points-as_many}
 
@@ -24,25 +28,44 @@ pub record IsFine (bad misplaced : Bool) : Type 0 where
   pub good : bad ≡ false
   pub placed : misplaced ≡ false
 
-put_fine : (points : List Point) (id : List ℕ) (d : Data) (c : Command) → put_of points id d ≡ Some c
+object_fine : (points : List Point) (d : Data) (b : Body) → unrelated_body points d ≡ Some b
     → IsFine (is_bad_object d) (has_bad_vertex (length points) d)
-put_fine points id d c h = by (names_relations d) (body_of points d) refl refl
+object_fine points d b h = by (names_relations d) refl
   where
-    by : (b : Bool) (o : Option Body) → names_relations d ≡ b → body_of points d ≡ o
-        → IsFine (is_bad_object d) (has_bad_vertex (length points) d)
-    by true o related is = absurd (grind (arith, h, related))
-    by false None alone is = absurd (grind (arith, h, alone, is))
-    by false (Some b) alone is = record {
-      good = grind (arith, known points d b, supported points d b, formed points d b, is_object points d b);
-      placed = placed points d b is;
-    }
+    by : (related : Bool) → names_relations d ≡ related → IsFine (is_bad_object d) (has_bad_vertex (length points) d)
+    by true related = absurd (grind (arith, h, related))
+    by false alone =
+        let is = sym (ap (λ r. if r then None else body_of points d) alone) ∙ h in
+        record {
+          good = grind (arith, known points d b, supported points d b, formed points d b, is_object points d b);
+          placed = placed points d b is;
+        }
+
+-- what gives no geometries by themselves
+only_object : (bad misplaced : Bool) → IsFine bad misplaced → IsFine (bad || false) (misplaced || false)
+only_object bad misplaced h = record { good = rw h.good refl; placed = rw h.placed refl }
+
+geometry_fine : (points : List Point) (d : Data) (gs : List Geometry) → geometries_of points d ≡ Some gs
+    → IsFine (is_bad_geometry d) (has_bad_vertex (length points) d)
+geometry_fine points d gs h = record {
+  good = ap not (geometries_fit points is_number (number_fits points) (get (codes "geometry") d) gs h);
+  placed = ap not (geometries_fit points (is_position (length points)) (position_fits points) (get (codes "geometry") d)
+      gs h);
+}
 
 form_fine : (points : List Point) (o : Option CommandForm) (c : Command)
     → option_and_then (command_of_form points) o ≡ Some c
-    → IsFine (is_no_good_form o) (put_names_bad_vertex (length points) (option_and_then put_tree o))
+    → IsFine (is_no_good_form o) (form_names_bad_vertex (length points) o)
 form_fine points None c h = absurd (let none : ⊥ = cc in none)
 form_fine points (Some (PutForm id tree)) c h =
-    let r = put_fine points id tree c h in
+    let b = map_some (Put id) (unrelated_body points tree) c h in
+    only_object _ _ (object_fine points tree b.0 b.1)
+form_fine points (Some (AddForm id tree)) c h =
+    let b = map_some (Add id) (unrelated_body points tree) c h in
+    only_object _ _ (object_fine points tree b.0 b.1)
+form_fine points (Some (ReshapeForm id tree)) c h =
+    let gs = map_some (Reshape id) (geometries_of points tree) c h in
+    let r = geometry_fine points tree gs.0 gs.1 in
     record { good = r.good; placed = r.placed }
 form_fine points (Some f) c h = record { good = refl; placed = refl }
 

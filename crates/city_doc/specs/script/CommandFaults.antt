@@ -1,5 +1,5 @@
 -- Which commands are refused.
-use Rattle.std.specs.Prelude.{◌||◌, ℕ, Bool, true, false, Option, Some, None, is_none, is_some, option_and_then}
+use Rattle.std.specs.Prelude.{◌||◌, ℕ, Bool, true, false, Option, Some, None, is_none, is_some}
 use Rattle.serde_json.specs.Data.{Data}
 use Rattle.serde_json.specs.Find.{as_object}
 use Rattle.city_doc.specs.object.Faults.{is_unknown_type, unsupported_name, is_bad_geometry, has_bad_vertex}
@@ -12,7 +12,7 @@ use Rattle.city_tokens.specs.script.Commands.{names_relations}
 abbrev pub is_unreadable : Data → Bool
 is_unreadable d = is_unknown_type d || is_some (unsupported_name d) || is_bad_geometry d
 
--- what is put isn't an object, names parents or children, or can't be read
+-- what is given isn't an object, names parents or children, or can't be read
 abbrev pub is_bad_object : Data → Bool
 is_bad_object d = is_none (as_object d) || names_relations d || is_unreadable d
 
@@ -20,10 +20,10 @@ abbrev pub has_bad_object : Option Data → Bool
 has_bad_object None = false
 has_bad_object (Some tree) = is_bad_object tree
 
--- something in the geometries of the tree isn't supported, or one can't be read
+-- a geometry in the tree can't be read, be it for its type
 abbrev pub has_bad_geometry : Option Data → Bool
 has_bad_geometry None = false
-has_bad_geometry (Some tree) = is_some (unsupported_name tree) || is_bad_geometry tree
+has_bad_geometry (Some tree) = is_bad_geometry tree
 
 abbrev pub is_no_good_form : Option CommandForm → Bool
 is_no_good_form None = true

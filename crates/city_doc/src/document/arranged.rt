@@ -18,7 +18,7 @@ use city_model::object::{Body, Object};
 use city_model::object_type::ObjectType;
 use city_model::relations::relations_fault;
 use city_model::sequence::Sequence;
-use city_model::shared_body::SharedBody;
+use city_model::shared::Shared;
 use city_model::shared_ids::SharedIds;
 use city_model::text::Id;
 use serde_json::Map;
@@ -82,7 +82,7 @@ fn bare_body(alloc: Global, kind: ObjectType) -> Body
     };
     Body {
         kind,
-        geometry: Sequence::new(alloc),
+        geometry: Shared::unshared(Sequence::new(alloc)),
         extra,
     }
 }
@@ -94,7 +94,7 @@ fn arranged_object(alloc: Global, object: &Object) -> Result<Object, OutOfMemory
     let parents = arranged_ids(alloc, object.parents.iter())?;
     let children = arranged_ids(alloc, object.children.iter())?;
     Ok(Object {
-        body: SharedBody::unshared(bare_body(alloc, object.body.get().kind)),
+        body: Shared::unshared(bare_body(alloc, object.body.get().kind)),
         parents,
         children,
     })

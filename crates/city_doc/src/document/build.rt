@@ -12,7 +12,7 @@ use city_model::OutOfMemory;
 use city_model::city::City;
 use city_model::members::{into_object, take};
 use city_model::object::{Object, Point};
-use city_model::shared_body::SharedBody;
+use city_model::shared::Shared;
 use city_model::text::Id;
 use city_tokens::frame_of_rest;
 use serde_json::{Map, Value};
@@ -35,7 +35,7 @@ pub fn lenient_object_of(
     let Some(body) = body_of(alloc, points, Value::Object(members))? else {
         return Ok(None);
     };
-    let shared = SharedBody::new(alloc, body)?;
+    let shared = Shared::new(alloc, body)?;
     Ok(Some(Object {
         body: shared,
         parents,

@@ -48,7 +48,7 @@ impl BodyTest for OpenShell {
     ghost test = { some_shape has_open_shell };
 
     fn judge(alloc: Global, body: &Body) -> Result<bool, OutOfMemory> {
-        any_open_shell(alloc, body.geometry.as_slice())
+        any_open_shell(alloc, body.geometry.get().as_slice())
     }
 }
 
@@ -56,7 +56,7 @@ impl BodyTest for OpenShell {
 pub fn is_bad_ringed(body: &Body) -> bool
     ensures { result ≡ is_bad_ringed body.now }
 {
-    let geometry = body.geometry.as_slice();
+    let geometry = body.geometry.get().as_slice();
     any_short_ring(geometry) || any_same_twice(geometry)
 }
 

@@ -215,7 +215,7 @@ fn is_open_there(alloc: Global, object: Option<&IndexedObject>) -> Result<bool, 
 {
     match object {
         None => Ok(false),
-        Some(object) => any_open_shell(alloc, object.body().geometry.as_slice()),
+        Some(object) => any_open_shell(alloc, object.body().geometry.get().as_slice()),
     }
 }
 

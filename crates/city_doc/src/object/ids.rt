@@ -6,25 +6,13 @@ ghost use Rattle.city_tokens.specs.tree.Lists.{read_items, list_or_absent};
 ghost use Rattle.city_doc.specs.document.CityFaults.{or_empty};
 ghost use Rattle.city_doc.specs.object.Faults.{has_bad_list};
 
-use crate::tree::values::{into_array, into_text};
+use crate::tree::texts::{has_other_item, texts_of};
 use city_model::OutOfMemory;
 use city_model::sequence::Sequence;
 use city_model::shared_ids::SharedIds;
 use city_model::text::Id;
 use serde_json::Value;
 use std::alloc::Global;
-
-/// Whether an item isn't a text.
-fn has_other_item(items: &Vec<Value>) -> bool
-    ensures { result ≡ is_none (read_items as_str (items_view items.now.items)) }
-{
-    for item in items {
-        if item.as_str().is_none() {
-            return true;
-        }
-    }
-    false
-}
 
 fn is_other_list(items: Option<&Vec<Value>>) -> bool
     ensures { result ≡ is_none (option_and_then (read_items as_str)
@@ -53,30 +41,14 @@ pub fn has_bad_list(object: &Value) -> bool
     is_bad_list(object.get("parents")) || is_bad_list(object.get("children"))
 }
 
-fn read_ids(alloc: Global, items: Vec<Value>) -> Result<Option<Sequence<Id>>, OutOfMemory>
-    ensures { IfOk result (λ o. o ≡ read_items as_str (items_view items.items)) }
-{
-    let mut ids = Sequence::with_capacity(alloc, items.len())?;
-    for item in items {
-        match into_text(item) {
-            Some(id) => ids.push(id)?,
-            None => return Ok(None),
-        }
-    }
-    Ok(Some(ids))
-}
-
 /// The ids of a member, which is consumed.
 fn ids_of(alloc: Global, member: Option<Value>) -> Result<Option<Sequence<Id>>, OutOfMemory>
     ensures { IfOk result (λ o. o ≡ list_or_absent as_str (option_map view member)) }
 {
-    let Some(value) = member else {
-        return Ok(Some(Sequence::new(alloc)));
-    };
-    let Some(items) = into_array(value) else {
-        return Ok(None);
-    };
-    read_ids(alloc, items)
+    match member {
+        None => Ok(Some(Sequence::new(alloc))),
+        Some(value) => texts_of(alloc, value),
+    }
 }
 
 /// The ids of a member, which is consumed; none where it is absent or isn't an array of texts.

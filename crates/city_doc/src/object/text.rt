@@ -125,7 +125,7 @@ pub fn write_object(
         kept,
         Some("children"),
         "geometry",
-        &body.geometry,
+        body.geometry.get(),
         pool,
         out,
     )?;

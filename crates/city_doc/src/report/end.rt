@@ -29,6 +29,9 @@ fn cause_name(cause: &Cause) -> &'static str
         Cause::OpenShell => "OpenShell",
         Cause::Orphan(_) => "Orphan",
         Cause::NoMark(_) => "NoMark",
+        Cause::Exists(_) => "Exists",
+        Cause::BadAttributes(_) => "BadAttributes",
+        Cause::Unexpected(_) => "Unexpected",
     }
 }
 
@@ -42,6 +45,9 @@ fn cause_member(cause: &Cause) -> Option<(&'static str, &str)>
         Cause::HasChildren(id) => Some(("id", id.as_str())),
         Cause::Orphan(id) => Some(("id", id.as_str())),
         Cause::NoMark(name) => Some(("mark", name.as_str())),
+        Cause::Exists(id) => Some(("id", id.as_str())),
+        Cause::BadAttributes(id) => Some(("id", id.as_str())),
+        Cause::Unexpected(id) => Some(("id", id.as_str())),
         Cause::WrongFamily => None,
         Cause::AlreadyAttached => None,
         Cause::NotAttached => None,

@@ -1,37 +1,65 @@
 //! Builds the command that a tree stands for.
-ghost use Rattle.std.specs.Prelude.{◌≡◌, IfOk, option_and_then, codes};
-ghost use Rattle.serde_json.specs.Find.{get};
+ghost use Rattle.std.specs.Prelude.{◌≡◌, IfOk, option_map, option_and_then, codes};
+ghost use Rattle.serde_json.specs.Find.{get, as_str, as_object};
 ghost use Rattle.serde_json.specs.View.{view};
-ghost use Rattle.city_tokens.specs.script.Commands.{put_of, command_of};
+ghost use Rattle.city_model.specs.Kept.{kept_at_attributes};
+ghost use Rattle.city_tokens.specs.script.Commands.{unrelated_body, geometries_of, command_of};
+ghost use Rattle.city_tokens.specs.tree.Lists.{list_of};
+ghost use Rattle.city_tokens.specs.tree.Members.{kept_if};
 
 use crate::object::body::body_of;
 use crate::script::command_faults::names_relations;
 use crate::script::command_form::{Form, form_of};
+use crate::shape::geometry;
+use crate::tree::texts::texts_of;
 use crate::tree::values::named;
 use city_model::OutOfMemory;
-use city_model::command::Command;
+use city_model::command::{Attributes, Command};
+use city_model::kept::extra::Extra;
 use city_model::members::{into_object, take};
-use city_model::object::Point;
+use city_model::object::{Body, Point};
 use city_model::text::Id;
 use serde_json::Value;
 use std::alloc::Global;
 
-/// The put of an object whose positions count in these points.
-fn put_of(
+/// The body of an object that names no relations; its positions count in these points.
+fn unrelated_body(
     alloc: Global,
     points: &[Point],
-    id: Id,
     object: Value,
-) -> Result<Option<Command>, OutOfMemory>
-    ensures { IfOk result (λ o. o ≡ put_of points.now id (view object)) }
+) -> Result<Option<Body>, OutOfMemory>
+    ensures { IfOk result (λ o. o ≡ unrelated_body points.now (view object)) }
 {
     if names_relations(&object) {
         return Ok(None);
     }
-    match body_of(alloc, points, object)? {
-        Some(body) => Ok(Some(Command::Put(id, body))),
+    body_of(alloc, points, object)
+}
+
+/// A member of a command, which is consumed.
+fn given(command: Value, name: &str) -> Option<Value>
+    ensures { option_map view result ≡ get name.now (view command) }
+{
+    take(&mut into_object(command)?, name)
+}
+
+/// The body that a command gives.
+fn body_in(alloc: Global, points: &[Point], command: Value) -> Result<Option<Body>, OutOfMemory>
+    ensures { IfOk result (λ o. o
+        ≡ option_and_then (unrelated_body points.now) (get (codes "object") (view command))) }
+{
+    match given(command, "object") {
+        Some(object) => unrelated_body(alloc, points, object),
         None => Ok(None),
     }
+}
+
+/// The attributes that a command gives, with their values.
+fn attributes_in(command: Value) -> Option<Attributes>
+    ensures { result ≡ option_and_then (kept_if kept_at_attributes)
+        (option_and_then as_object (get (codes "attributes") (view command))) }
+{
+    Extra::new(into_object(given(command, "attributes")?)?).ok()
 }
 
 /// The put that a tree stands for, of which the id is known.
@@ -41,21 +69,74 @@ fn put_command(
     id: Id,
     command: Value,
 ) -> Result<Option<Command>, OutOfMemory>
-    ensures { IfOk result (λ o. o
-        ≡ option_and_then (put_of points.now id) (get (codes "object") (view command))) }
+    ensures { IfOk result (λ o. o ≡ option_map (Command.Put id)
+        (option_and_then (unrelated_body points.now) (get (codes "object") (view command)))) }
 {
-    let Some(mut members) = into_object(command) else {
-        return Ok(None);
-    };
-    match take(&mut members, "object") {
-        Some(object) => put_of(alloc, points, id, object),
+    match body_in(alloc, points, command)? {
+        Some(body) => Ok(Some(Command::Put(id, body))),
         None => Ok(None),
     }
 }
 
+fn add_command(
+    alloc: Global,
+    points: &[Point],
+    id: Id,
+    command: Value,
+) -> Result<Option<Command>, OutOfMemory>
+    ensures { IfOk result (λ o. o ≡ option_map (Command.Add id)
+        (option_and_then (unrelated_body points.now) (get (codes "object") (view command)))) }
+{
+    match body_in(alloc, points, command)? {
+        Some(body) => Ok(Some(Command::Add(id, body))),
+        None => Ok(None),
+    }
+}
+
+fn set_command(id: Id, command: Value) -> Option<Command>
+    ensures { result ≡ option_map (Command.Set id) (option_and_then (kept_if kept_at_attributes)
+        (option_and_then as_object (get (codes "attributes") (view command)))) }
+{
+    Some(Command::Set(id, attributes_in(command)?))
+}
+
+fn unset_command(alloc: Global, id: Id, command: Value) -> Result<Option<Command>, OutOfMemory>
+    ensures { IfOk result (λ o. o ≡ option_map (Command.Unset id)
+        (option_and_then (list_of as_str) (get (codes "attributes") (view command)))) }
+{
+    let Some(names) = given(command, "attributes") else {
+        return Ok(None);
+    };
+    match texts_of(alloc, names)? {
+        Some(names) => Ok(Some(Command::Unset(id, names))),
+        None => Ok(None),
+    }
+}
+
+fn reshape_command(
+    alloc: Global,
+    points: &[Point],
+    id: Id,
+    command: Value,
+) -> Result<Option<Command>, OutOfMemory>
+    ensures { IfOk result (λ o. o ≡ option_map (Command.Reshape id) (geometries_of points.now (view command))) }
+{
+    match geometry::geometries_of(alloc, points, given(command, "geometry"))? {
+        Some(geometry) => Ok(Some(Command::Reshape(id, geometry))),
+        None => Ok(None),
+    }
+}
+
+fn expect_command(id: Id, command: Value) -> Option<Command>
+    ensures { result ≡ option_map (Command.Expect id) (option_and_then (kept_if kept_at_attributes)
+        (option_and_then as_object (get (codes "attributes") (view command)))) }
+{
+    Some(Command::Expect(id, attributes_in(command)?))
+}
+
 /// The command that a tree stands for, where it stands for any; positions count in these points.
 ///
-/// What is put is moved out of the tree; ids and names are copied.
+/// What is given is moved out of the tree; ids and names are copied.
 pub fn command_of(
     alloc: Global,
     points: &[Point],
@@ -70,6 +151,26 @@ pub fn command_of(
         Form::Put(id, _) => {
             let id = named(alloc, id)?;
             return put_command(alloc, points, id, command);
+        }
+        Form::Add(id, _) => {
+            let id = named(alloc, id)?;
+            return add_command(alloc, points, id, command);
+        }
+        Form::Set(id, _) => {
+            let id = named(alloc, id)?;
+            return Ok(set_command(id, command));
+        }
+        Form::Unset(id, _) => {
+            let id = named(alloc, id)?;
+            return unset_command(alloc, id, command);
+        }
+        Form::Reshape(id, _) => {
+            let id = named(alloc, id)?;
+            return reshape_command(alloc, points, id, command);
+        }
+        Form::Expect(id, _) => {
+            let id = named(alloc, id)?;
+            return Ok(expect_command(id, command));
         }
         Form::Read(id) => Command::Read(named(alloc, id)?),
         Form::Delete(id) => Command::Delete(named(alloc, id)?),

@@ -22,7 +22,7 @@ fn is_unreadable(object: &Value) -> bool
     type_of(object).is_none() || unsupported_name(object).is_some() || is_bad_geometry(object)
 }
 
-/// Whether an object can't be put.
+/// Whether no command can give this object.
 fn is_bad_object(object: &Value) -> bool
     ensures { result ≡ is_bad_object (view object.now) }
 {
@@ -30,13 +30,15 @@ fn is_bad_object(object: &Value) -> bool
     names_relations(object) || is_unreadable(object)
 }
 
-/// Whether the tree of a command has none of the forms, or puts an object that can't be put.
+/// Whether the tree of a command has none of the forms, or gives an object or geometries that it can't give.
 pub fn is_bad_command(command: &Value) -> bool
     ensures { result ≡ is_bad_command (view command.now) }
 {
     match form_of(command) {
         None => true,
         Some(Form::Put(_, object)) => is_bad_object(object),
+        Some(Form::Add(_, object)) => is_bad_object(object),
+        Some(Form::Reshape(_, _)) => is_bad_geometry(command),
         Some(_) => false,
     }
 }
@@ -47,6 +49,8 @@ pub fn names_bad_vertex(count: usize, command: &Value) -> bool
 {
     match form_of(command) {
         Some(Form::Put(_, object)) => has_bad_vertex(count, object),
+        Some(Form::Add(_, object)) => has_bad_vertex(count, object),
+        Some(Form::Reshape(_, _)) => has_bad_vertex(count, command),
         _ => false,
     }
 }

@@ -1,11 +1,12 @@
 //! Recognises the forms of commands.
 ghost use Rattle.std.specs.Prelude.{◌≡◌, option_map};
-ghost use Rattle.std.specs.Option.{option_or};
 ghost use Rattle.serde_json.specs.View.{view, members_view};
-ghost use Rattle.city_tokens.specs.script.CommandForms.{text_in, word_form, first_named, of_one_text, put_form};
-ghost use Rattle.city_tokens.specs.script.CommandForms.{relation_form, members_form, form_of};
+ghost use Rattle.city_tokens.specs.script.CommandForms.{text_in, word_form, first_named, of_one_text, object_form};
+ghost use Rattle.city_tokens.specs.script.CommandForms.{relation_form, values_form, names_form, reshape_form};
+ghost use Rattle.city_tokens.specs.script.CommandForms.{pair_form, members_form, form_of};
 ghost use Rattle.city_doc.specs.inside.script.Forms.{form_view};
 
+use crate::tree::texts::has_other_item;
 use city_model::members::{member, members_count};
 use serde_json::{Map, Value};
 
@@ -15,6 +16,16 @@ pub enum Form<'v> {
     Read(&'v str),
     /// An id, and the tree of the object that is put.
     Put(&'v str, &'v Value),
+    /// An id, and the tree of the object that is added.
+    Add(&'v str, &'v Value),
+    /// An id, and the attributes with their values.
+    Set(&'v str, &'v Map<String, Value>),
+    /// An id, and the names of the attributes, which are texts.
+    Unset(&'v str, &'v Vec<Value>),
+    /// An id, and the members of the command, among which its geometry stands.
+    Reshape(&'v str, &'v Map<String, Value>),
+    /// An id, and the attributes with their values.
+    Expect(&'v str, &'v Map<String, Value>),
     Delete(&'v str),
     /// A child and a parent.
     Attach(&'v str, &'v str),
@@ -64,13 +75,15 @@ fn single_form(members: &Map<String, Value>) -> Option<Form<'_>>
     Some(Form::Back(text_in(members, "back")?))
 }
 
-/// The form of a put's two members.
-fn put_form(members: &Map<String, Value>) -> Option<Form<'_>>
-    ensures { option_map form_view result ≡ put_form (members_view members.now.entries) }
+/// The form of two members, one of which is an object.
+fn object_form(members: &Map<String, Value>) -> Option<Form<'_>>
+    ensures { option_map form_view result ≡ object_form (members_view members.now.entries) }
 {
-    let id = text_in(members, "put")?;
     let object = member(members, "object")?;
-    Some(Form::Put(id, object))
+    if let Some(id) = text_in(members, "put") {
+        return Some(Form::Put(id, object));
+    }
+    Some(Form::Add(text_in(members, "add")?, object))
 }
 
 /// The form of two members, one of which names a parent.
@@ -84,13 +97,53 @@ fn relation_form(members: &Map<String, Value>) -> Option<Form<'_>>
     Some(Form::Detach(text_in(members, "detach")?, parent))
 }
 
+/// The form of two members, one of which gives attributes with their values.
+fn values_form(members: &Map<String, Value>) -> Option<Form<'_>>
+    ensures { option_map form_view result ≡ values_form (members_view members.now.entries) }
+{
+    let named = member(members, "attributes")?.as_object()?;
+    if let Some(id) = text_in(members, "set") {
+        return Some(Form::Set(id, named));
+    }
+    Some(Form::Expect(text_in(members, "expect")?, named))
+}
+
+/// The form of an unset's two members.
+fn names_form(members: &Map<String, Value>) -> Option<Form<'_>>
+    ensures { option_map form_view result ≡ names_form (members_view members.now.entries) }
+{
+    let names = member(members, "attributes")?.as_array()?;
+    if has_other_item(names) {
+        return None;
+    }
+    Some(Form::Unset(text_in(members, "unset")?, names))
+}
+
+/// The form of a reshape's two members.
+fn reshape_form(members: &Map<String, Value>) -> Option<Form<'_>>
+    ensures { option_map form_view result ≡ reshape_form (members_view members.now.entries) }
+{
+    let _geometry = member(members, "geometry")?;
+    Some(Form::Reshape(text_in(members, "reshape")?, members))
+}
+
 /// The form of two members.
 fn pair_form(members: &Map<String, Value>) -> Option<Form<'_>>
-    ensures { option_map form_view result
-        ≡ option_or (put_form (members_view members.now.entries))
-        (relation_form (members_view members.now.entries)) }
+    ensures { option_map form_view result ≡ pair_form (members_view members.now.entries) }
 {
-    put_form(members).or(relation_form(members))
+    if let Some(form) = object_form(members) {
+        return Some(form);
+    }
+    if let Some(form) = relation_form(members) {
+        return Some(form);
+    }
+    if let Some(form) = values_form(members) {
+        return Some(form);
+    }
+    if let Some(form) = names_form(members) {
+        return Some(form);
+    }
+    reshape_form(members)
 }
 
 /// The form of an object's members, which are just those of its command.

@@ -15,8 +15,9 @@ use city_model::OutOfMemory;
 use city_model::kept::extra::Extra;
 use city_model::kept::site::AtGeometry;
 use city_model::members::{into_object, take};
-use city_model::object::{Geometry, Point, Shape};
+use city_model::object::{Geometries, Geometry, Point, Shape};
 use city_model::sequence::Sequence;
+use city_model::shared::Shared;
 use city_model::text::Text;
 use serde_json::{Map, Value};
 use std::alloc::Global;
@@ -132,19 +133,22 @@ fn read_geometries(
     Ok(Some(found))
 }
 
-/// The geometries of a member, which is consumed; none where it is absent.
+/// The geometries of a member, which is consumed, for all copies to share; none where it is absent.
 pub fn geometries_of(
     alloc: Global,
     points: &[Point],
     member: Option<Value>,
-) -> Result<Option<Sequence<Geometry>>, OutOfMemory>
+) -> Result<Option<Geometries>, OutOfMemory>
     ensures { IfOk result (λ o. o ≡ list_or_absent (geometry_of points.now) (option_map view member)) }
 {
     let Some(value) = member else {
-        return Ok(Some(Sequence::new(alloc)));
+        return Ok(Some(Shared::unshared(Sequence::new(alloc))));
     };
     let Some(items) = into_array(value) else {
         return Ok(None);
     };
-    read_geometries(alloc, points, items)
+    match read_geometries(alloc, points, items)? {
+        Some(geometries) => Ok(Some(Shared::new(alloc, geometries)?)),
+        None => Ok(None),
+    }
 }

@@ -1,5 +1,5 @@
 -- The plan of a command: its refusal, or its reply and the change that it writes.
-use Rattle.std.specs.Prelude.{◌≡◌, ℕ, List, [], ◌∷◌, None, Some, Option, option_map}
+use Rattle.std.specs.Prelude.{◌≡◌, ℕ, List, [], ◌∷◌, Option, option_map}
 use Rattle.std.specs.Map.{keys_of}
 use Rattle.city_model.specs.declared.object.Object.{Object}
 use Rattle.city_model.specs.declared.command.Command.{Command}
@@ -7,7 +7,7 @@ use Rattle.city_model.specs.declared.command.Reply.{Reply}
 use Rattle.city_model.specs.declared.plan.Plan.{Plan}
 use Rattle.city_model.specs.declared.plan.Plan.TheVariants.{Refused, Writes}
 use Rattle.city_model.specs.CityMap.{CityMap}
-use Rattle.city_model.specs.Actions.{Refuses, Edits, action, without_child}
+use Rattle.city_model.specs.Actions.{Action, Refuses, Edits, action, without_child}
 use Rattle.city_model.specs.Runs.{Change}
 
 -- what the change writes at each id is what the map has there
@@ -24,6 +24,10 @@ pub record AreWritesOf (m : CityMap) (command : Command) (answer : Reply) (chang
 abbrev pub IsPlan : CityMap → Command → Plan → Type 0
 IsPlan m command (Refused cause) = action m command ≡ Refuses cause
 IsPlan m command (Writes reply change) = AreWritesOf m command reply change
+
+-- a plan of each command that has this action at the map
+abbrev pub IsPlanOf : CityMap → Action → Plan → Type 0
+IsPlanOf m done plan = (command : Command) → action m command ≡ done → IsPlan m command plan
 
 -- at the parent the object that stands in the map, without the child
 abbrev pub unlinked : CityMap → List ℕ → List ℕ → List ℕ × Option Object

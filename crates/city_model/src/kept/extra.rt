@@ -60,6 +60,19 @@ impl<P: Site> Extra<P> {
         }
     }
 
+    /// Members that the site keeps. Doesn't allocate.
+    pub(crate) fn of_kept(map: Map<String, Value>) -> Self
+        requires { P.keeps (members_view map.entries) ≡ true }
+        ensures { result ≡ members_view map.entries }
+    {
+        // (called for its contract: the names ascend)
+        let _count = members_count(&map);
+        Extra {
+            map,
+            site: PhantomData,
+        }
+    }
+
     /// The members. Doesn't allocate.
     pub fn map(&self) -> &Map<String, Value>
         ensures members { members_view result.now.entries ≡ self.now }
@@ -70,7 +83,7 @@ impl<P: Site> Extra<P> {
     }
 
     /// A copy of the members as a map.
-    fn to_map(&self) -> Result<Map<String, Value>, OutOfMemory>
+    pub(crate) fn to_map(&self) -> Result<Map<String, Value>, OutOfMemory>
         ensures members { IfOk result (λ m. members_view m.entries ≡ self.now) }
         ensures kept { P.keeps self.now ≡ true }
         ensures ordered { AreOrdered self.now }

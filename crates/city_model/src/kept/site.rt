@@ -115,7 +115,8 @@ pub fn is_empty_object_or_absent(member: Option<&Value>) -> bool
     }
 }
 
-fn has_no_member(members: &Map<String, Value>) -> bool
+/// Whether there is no member.
+pub(crate) fn has_no_member(members: &Map<String, Value>) -> bool
     ensures { result ≡ has_no_member (members_view members.now.entries) }
 {
     members.iter().next().is_none()

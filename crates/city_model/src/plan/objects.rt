@@ -1,33 +1,34 @@
 //! Objects with other relations or another body.
 ghost use Rattle.std.specs.Prelude.{◌≡◌, [], ◌∷◌, ◌++◌, None, Some, IfOk};
 ghost use Rattle.city_model.specs.Relations.{AreDistinct};
-ghost use Rattle.city_model.specs.Meaning.{with_body, with_parent, with_child, without_parent, without_child, without_id};
+ghost use Rattle.city_model.specs.Actions.{new_object, with_parent, with_child, without_parent, without_child, without_id};
 
 use crate::OutOfMemory;
 use crate::copied::Copied;
 use crate::object::{Body, Object};
-use crate::shared_body::SharedBody;
+use crate::shared::Shared;
 use crate::shared_ids::SharedIds;
 use crate::text::Id;
 use std::alloc::Global;
 
 /// An object of this body, without relations.
-pub fn new_object(alloc: Global, body: &Body) -> Result<Object, OutOfMemory>
-    ensures { IfOk result (λ o. o ≡ with_body body.now None) }
+pub fn new_object(alloc: Global, body: Body) -> Result<Object, OutOfMemory>
+    ensures { IfOk result (λ o. o ≡ new_object body) }
 {
     Ok(Object {
-        body: SharedBody::new(alloc, body.copy(alloc)?)?,
+        body: Shared::new(alloc, body)?,
         parents: SharedIds::new(alloc),
         children: SharedIds::new(alloc),
     })
 }
 
 /// An object of this body, with the relations of another.
-pub fn with_body(alloc: Global, object: &Object, body: &Body) -> Result<Object, OutOfMemory>
-    ensures { IfOk result (λ o. o ≡ with_body body.now (Some object.now)) }
+pub fn with_body(alloc: Global, object: &Object, body: Body) -> Result<Object, OutOfMemory>
+    ensures { IfOk result (λ o. o
+        ≡ record { body = body; parents = object.now.parents; children = object.now.children }) }
 {
     Ok(Object {
-        body: SharedBody::new(alloc, body.copy(alloc)?)?,
+        body: Shared::new(alloc, body)?,
         parents: object.parents.copy(alloc)?,
         children: object.children.copy(alloc)?,
     })

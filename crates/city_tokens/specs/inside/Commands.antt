@@ -1,22 +1,23 @@
 -- Commands whose positions aren't replaced by points yet.
-use Rattle.std.specs.Prelude.{◌≡◌, ℕ, List, Option, Some, None, false, codes}
-use Rattle.serde_json.specs.Data.{Data, string, Members, no_members, put}
-use Rattle.serde_json.specs.Find.{get_member}
+use Rattle.std.specs.Prelude.{◌≡◌, ℕ, List, Option, Some, None, true, false, codes}
+use Rattle.serde_json.specs.Data.{Data, string, object, Members, no_members, put}
+use Rattle.serde_json.specs.Find.{get, get_member}
 use Rattle.city_model.specs.declared.command.Command.{Command}
-use Rattle.city_model.specs.declared.command.Command.TheVariants.{Read, Put, Delete, Attach, Detach, Mark, Back}
-use Rattle.city_model.specs.declared.command.Command.TheVariants.{Commit, Abort}
+use Rattle.city_model.specs.declared.command.Command.TheVariants.{Put, Add, Reshape}
 use Rattle.city_model.specs.declared.object.Body.{Body}
+use Rattle.city_model.specs.declared.object.Point.{Point}
+use Rattle.city_model.specs.Kept.{kept_at_attributes}
 use Rattle.city_tokens.specs.declared.body.BodyParts.{BodyParts}
 use Rattle.city_tokens.specs.declared.command.CommandParts.{CommandParts}
-use Rattle.city_tokens.specs.declared.command.Other.{Other}
-use Rattle.city_tokens.specs.declared.command.Other.TheVariants as other
 use Rattle.city_tokens.specs.declared.command.Verb.{Verb}
 use Rattle.city_tokens.specs.declared.command.Verb.TheVariants as verb
-use Rattle.city_tokens.specs.script.CommandForms.{ReadForm, PutForm, DeleteForm, AttachForm, DetachForm, MarkForm}
-use Rattle.city_tokens.specs.script.CommandForms.{BackForm, CommitForm, AbortForm, form_of}
-use Rattle.city_tokens.specs.script.Commands.{names_relations}
+use Rattle.city_tokens.specs.declared.other.Other.{Other}
+use Rattle.city_tokens.specs.declared.other.Other.TheVariants as other
+use Rattle.city_tokens.specs.script.CommandForms.{PutForm, AddForm, ReshapeForm, form_of}
+use Rattle.city_tokens.specs.script.Commands.{names_relations, command_of}
+use Rattle.city_tokens.specs.inside.Geometries.{IsGeometry}
 use Rattle.city_tokens.specs.inside.Objects.{IsObject, IsObjectSoFar}
-use Rattle.city_tokens.specs.inside.Standing.{IsString}
+use Rattle.city_tokens.specs.inside.Standing.{IsArrayOf, IsListSlot, IsString}
 
 -- ---- bodies
 
@@ -34,22 +35,25 @@ IsBodySoFar parts found kept =
 
 -- ---- commands
 
+-- a command without positions is the same at any points
 abbrev pub IsCommand : Command → Data → Type 0
-IsCommand (Read id) d = form_of d ≡ Some (ReadForm id)
 IsCommand (Put id body) d = (tree : Data) × (form_of d ≡ Some (PutForm id tree)) × IsBody body tree
-IsCommand (Delete id) d = form_of d ≡ Some (DeleteForm id)
-IsCommand (Attach child parent) d = form_of d ≡ Some (AttachForm child parent)
-IsCommand (Detach child parent) d = form_of d ≡ Some (DetachForm child parent)
-IsCommand (Mark name) d = form_of d ≡ Some (MarkForm name)
-IsCommand (Back name) d = form_of d ≡ Some (BackForm name)
-IsCommand Commit d = form_of d ≡ Some CommitForm
-IsCommand Abort d = form_of d ≡ Some AbortForm
+IsCommand (Add id body) d = (tree : Data) × (form_of d ≡ Some (AddForm id tree)) × IsBody body tree
+IsCommand (Reshape id geometry) d =
+    (tree : Data) × (form_of d ≡ Some (ReshapeForm id tree))
+    × IsListSlot IsGeometry geometry (get (codes "geometry") tree)
+IsCommand c d = (points : List Point) → command_of points d ≡ Some c
 
 -- ---- the members of a command
 
 abbrev pub verb_name : Verb → List ℕ
 verb_name verb.Read = codes "read"
 verb_name verb.Put = codes "put"
+verb_name verb.Add = codes "add"
+verb_name verb.Set = codes "set"
+verb_name verb.Unset = codes "unset"
+verb_name verb.Reshape = codes "reshape"
+verb_name verb.Expect = codes "expect"
 verb_name verb.Delete = codes "delete"
 verb_name verb.Attach = codes "attach"
 verb_name verb.Detach = codes "detach"
@@ -61,15 +65,26 @@ abbrev pub with_verb : Option (Verb × List ℕ) → Members → Members
 with_verb None others = others
 with_verb (Some v) others = put (verb_name v.0) (string v.1) others
 
--- the member of a name stands for it
-abbrev pub IsOther : Other → List ℕ → Data → Type 0
-IsOther (other.Object body) name d = (name ≡ codes "object") × IsBody body d
-IsOther (other.Parent id) name d = (name ≡ codes "parent") × IsString id d
+-- the name of a member beside that of the verb
+abbrev pub other_name : Other → List ℕ
+other_name (other.Object body) = codes "object"
+other_name (other.Parent id) = codes "parent"
+other_name (other.Attributes values) = codes "attributes"
+other_name (other.Names names) = codes "attributes"
+other_name (other.Geometry geometry) = codes "geometry"
+
+-- what was read of it stands for its value
+abbrev pub IsOther : Other → Data → Type 0
+IsOther (other.Object body) d = IsBody body d
+IsOther (other.Parent id) d = IsString id d
+IsOther (other.Attributes values) d = (d ≡ object values) × (kept_at_attributes values ≡ true)
+IsOther (other.Names names) d = IsArrayOf IsString names d
+IsOther (other.Geometry geometry) d = IsArrayOf IsGeometry geometry d
 
 -- the members beside that of the verb
 abbrev pub AreOthers : Option Other → Members → Type 0
 AreOthers None others = others ≡ no_members
-AreOthers (Some o) others = (name : List ℕ) × (d : Data) × (others ≡ put name d no_members) × IsOther o name d
+AreOthers (Some o) others = (d : Data) × (others ≡ put (other_name o) d no_members) × IsOther o d
 
 abbrev pub IsCommandSoFar : CommandParts → Members → Members → Type 0
 IsCommandSoFar parts found kept =

@@ -1,5 +1,5 @@
 -- The command that a tree stands for.
-use Rattle.std.specs.Prelude.{ℕ, List, Bool, Option, Some, None, option_map, option_and_then, codes, is_some}
+use Rattle.std.specs.Prelude.{List, Bool, Option, Some, None, option_map, option_and_then, codes, is_some}
 use Rattle.std.specs.Prelude.{◌||◌, if◌then◌else◌}
 use Rattle.serde_json.specs.Data.{Data}
 use Rattle.serde_json.specs.Find.{get}

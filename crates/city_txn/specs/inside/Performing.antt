@@ -1,9 +1,8 @@
 -- A command done on the store, for a transaction that holds its locks.
 use Rattle.std.specs.Prelude.{◌≡◌, ℕ, Bool, List, Result, is_ok, IfOk, IsOk, if◌then◌else◌}
 use Rattle.city_txn.specs.inside.Prelude.{keys_of, Command, Reply, WentBack, has_id, View, locks_of, IsSound, Change}
-use Rattle.city_txn.specs.inside.Prelude.{locks_id, locks_id_exclusively, answer, seen_next, Written, written_after}
-use Rattle.city_txn.specs.inside.Prelude.{marks_with, own_after, State, store_written, store_committed, store_view}
-use Rattle.city_txn.specs.inside.Prelude.{MayReserve, Touches}
+use Rattle.city_txn.specs.inside.Prelude.{locks_id, locks_id_exclusively, action, answer, written_by, marks_with, State}
+use Rattle.city_txn.specs.inside.Prelude.{store_written, store_committed, store_view, MayReserve, Touches}
 
 -- whether the change writes the id
 abbrev pub plans : Change → List ℕ → Bool
@@ -12,11 +11,6 @@ plans change id = has_id (keys_of change) id
 -- what the transaction sees
 abbrev pub seen : State → ℕ → View
 seen v stamp = record { map = store_view v stamp; marks = marks_with (store_committed v) (store_written v stamp).1 }
-
--- what is written after the command, done where this is seen
-abbrev pub written_next : View → Command → Written → Written
-written_next x command w =
-    written_after command (own_after w.0 (locks_of x.map command) (answer x command) (seen_next x command).map) w
 
 -- the transaction is open and sees a sound city, and no other has reserved an id that the command locks
 pub record MayPerform (v : State) (stamp : ℕ) (command : Command) : Type 0 where
@@ -31,6 +25,6 @@ pub record IsPerform {E : Type 0} (stamp : ℕ) (command : Command) (result : Re
   -- what the command writes stands there as the command leaves it, and so with marks; if memory runs out,
   -- nothing is written
   pub written : store_written new stamp
-      ≡ (if is_ok result then written_next (seen old stamp) command (store_written old stamp)
+      ≡ (if is_ok result then written_by (action (store_view old stamp) command) (store_written old stamp)
       else store_written old stamp)
   pub touches : Touches stamp (locks_id_exclusively (locks_of (store_view old stamp) command)) old new

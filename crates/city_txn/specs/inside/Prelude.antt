@@ -5,17 +5,16 @@ pub use Rattle.city_model.specs.declared.command.Reply.{Reply}
 pub use Rattle.city_model.specs.declared.command.Reply.TheVariants.{WentBack, Refused}
 pub use Rattle.city_model.specs.declared.command.Cause.TheVariants.{NoMark, Orphan}
 pub use Rattle.city_model.specs.declared.mode.Mode.TheVariants.{Exclusive}
-pub use Rattle.city_model.specs.CityMap.{CityMap, same_id, Objects, object_at, has_id}
+pub use Rattle.city_model.specs.CityMap.{CityMap, Objects, object_at, has_id}
 pub use Rattle.city_model.specs.Marks.{View, unmarked, marks_from, IsSoundView}
-pub use Rattle.city_model.specs.Meaning.{Answers, effect, is_refusal, locks_of}
+pub use Rattle.city_model.specs.Actions.{Action, Refuses, Edits, Marks, GoesBack, action}
+pub use Rattle.city_model.specs.Meaning.{Answers, effect, applied, back, left, step, reply_of, answer, is_refusal}
+pub use Rattle.city_model.specs.Meaning.{locks_of}
 pub use Rattle.city_model.specs.Relations.{IsLawful, IsSound, HasNoOrphan, IsLeastOrphan}
 pub use Rattle.city_model.specs.Runs.{Change}
 pub use Rattle.city_model.specs.Scripts.{is_end, is_mark}
 pub use Rattle.city_model.specs.Standing.{Lock, Answered, AllHeld, IsTraceUnderLocks, covers, locks_id_exclusively}
 pub use Rattle.city_model.specs.Standing.{Held, locks_id}
-pub use Rattle.city_model.specs.inside.CommandParts.{seen_next, answer, back_cause, effect_of, done_reply, refused_or}
-pub use Rattle.city_model.specs.inside.CommandParts.{refusal, Marking, Leaves, Marks, GoesBack, marking, back_to}
-pub use Rattle.city_model.specs.inside.CommandParts.{step_as, after}
 pub use Rattle.city_locks.specs.declared.answer.Answer.{Answer}
 pub use Rattle.city_locks.specs.declared.answer.Answer.TheVariants.{Granted, Wait, Die}
 pub use Rattle.city_locks.specs.Locks.{Locks, mode_of, Lawful}
@@ -26,11 +25,11 @@ pub use Rattle.city_txn.specs.declared.step.TxnFault.{TxnFault}
 pub use Rattle.city_txn.specs.declared.step.TxnFault.TheVariants.{NotOpen, OutOfMemory}
 pub use Rattle.city_txn.specs.declared.txn_core.Core.TheInside.{Inside}
 pub use Rattle.city_txn.specs.Writes.{write_of, own_write, Write, own_or, is_by, unless_by}
-pub use Rattle.city_txn.specs.UndoLog.{Written, log_of, has_before, Logs, OwnWrites, written_at_mark, written_after}
+pub use Rattle.city_txn.specs.UndoLog.{Written, log_of, has_before, Logs, OwnWrites, own_with, written_at_mark, written_by}
 pub use Rattle.city_txn.specs.UndoLog.{map_with, marks_with, marked}
 pub use Rattle.city_txn.specs.CoreState.{CoreState, committed, own, written, snapshot, is_open, held, StandsUnderLocks}
 pub use Rattle.city_txn.specs.CoreState.{view, KeepsOthers, IsTransactionEnd, IsRolledBack}
-pub use Rattle.city_txn.specs.Acting.{answer_in, granted_in, step_of, is_done, with_step, IsAct, own_after}
+pub use Rattle.city_txn.specs.Acting.{answer_in, granted_in, step_of, is_done, with_step, IsAct}
 pub use Rattle.city_txn.specs.Acting.{RefusesCommit}
 pub use Rattle.city_txn.specs.Changing.{IsChangeOf, change_in}
 pub use Rattle.city_txn.specs.inside.LogTests.{has_mark, view_with}

@@ -61,4 +61,4 @@ copy_member-returns-clause-copied t c =
     c.args.later
     c.args.top c.args.depth c.args.copier.now
     c.pass_key.new.self c.copy_value.new.copier c.in_ok-key.key.now c.in_ok-key.ensures.moves
-    (sym c.if-is_tag.ensures) (sym c.if-is_framed.ensures) rest) c.copy_value.ensures.copied
+    (sym c.if-is_tag.ensures) (sym c.if-is_framed.ensures) (search rules) rest) c.copy_value.ensures.copied

@@ -1,19 +1,22 @@
 use Rattle.city_decimals.proofs.Prelude.{rules, ◌≡◌, ℕ, ◌-◌, List, [], ◌∷◌, ◌++◌, length, Some, None, refl, sym, ap}
 use Rattle.city_decimals.proofs.Prelude.{◌∙◌, subst, arith, append_assoc, option_map, on_ok_weaker, Token, Json, Items}
-use Rattle.city_decimals.proofs.Prelude.{Members, member, parse_map, after_end_array, read_key, members}
-use Rattle.city_decimals.proofs.Prelude.{json_tokens, items_tokens, members_tokens, value_is, value-begin_object}
-use Rattle.city_decimals.proofs.Prelude.{members_end, members_more, members_fail, members_no_key, decoded}
-use Rattle.city_decimals.proofs.Prelude.{decoded_members, out_of_form, decoded_object, written, changed, items_changed}
-use Rattle.city_decimals.proofs.Prelude.{members_changed, member_changed}
+use Rattle.city_decimals.proofs.Prelude.{value_view, ◌<◌, items, item, Members, member, parse_map, after_end_array}
+use Rattle.city_decimals.proofs.Prelude.{read_key, members, json_tokens, items_tokens, members_tokens, value_is}
+use Rattle.city_decimals.proofs.Prelude.{value-begin_object, members_end, members_more, members_fail, members_no_key}
+use Rattle.city_decimals.proofs.Prelude.{decoded, decoded_members, out_of_form, decoded_object, written, changed}
+use Rattle.city_decimals.proofs.Prelude.{items_changed, members_changed, member_changed}
 use Rattle.json.specs.Json.{value}
-use Rattle.json.proofs.Grammar.{value-begin_array, read_key-shorter, read_key_is, items_fail}
+use Rattle.json.proofs.Grammar.{value-begin_array, read_key-shorter, read_key_is, items_fail, items_more}
+use Rattle.json.specs.Reads.{token_of}
 use Rattle.city_decimals.specs.inside.Objects.{IsFirstWritten}
+use Rattle.city_decimals.specs.inside.Ways.{attributes_changed}
 use Rattle.city_decimals.proofs.Objects.{object_written, object_put, first_is_no_number, two_are_no_number, other_name}
-use Rattle.city_decimals.proofs.Streams.{none_written, written_with, token_first, value_shorter, item_written}
-use Rattle.city_decimals.proofs.Streams.{items_over, member_written, members_over}
+use Rattle.city_decimals.proofs.Streams.{none_written, written_as, written_with, token_first, value_shorter}
+use Rattle.city_decimals.proofs.Streams.{item_written, items_over, member_written, members_over}
 use Rattle.city_decimals.proofs.Ways.{string_changed, boolean_changed, null_changed, array_changed, item_tokens}
 use Rattle.city_decimals.proofs.Ways.{no_items_changed, member_tokens, no_members_changed, object_is_made, no_object}
 use Rattle.city_decimals.proofs.Ways.{untagged_here}
+use Rattle.city_decimals.proofs.Attributes.{attributes_other, attributes_end, attributes_single, attributes_several}
 use Rattle.city_decimals.proofs.change.value.+change.Goals as goal
 
 pub change_value-returns-in_err-token-clause-err : goal.change_value-returns-in_err-token-clause-err
@@ -282,3 +285,96 @@ decode_tagged-returns-in-None-clause-ok t c =
     λ n enough. ap (written f out) (members_more p n k (Token.key k ∷ s) s w.left w.j (omega (arith, enough)) refl
     w.read ∙ ap (parse_map (member k w.j)) (members_end p (n - 1) w.left r (omega (arith, enough, w.shorter)) w.named))
     ∙ ap (λ us. Some (us, r)) (sym w.now_is)
+
+pub change_attributes-returns-in_err-token-clause-err : goal.change_attributes-returns-in_err-token-clause-err
+change_attributes-returns-in_err-token-clause-err t c refused = search (rules, value_is)
+
+pub change_attributes-returns-then-depth-eq0-clause-err : goal.change_attributes-returns-then-depth-eq0-clause-err
+unfolding value
+change_attributes-returns-then-depth-eq0-clause-err t c never = search rules
+
+pub change_attributes-returns-in_ok-write_attributes_number-in-Number-clause-ok :
+    goal.change_attributes-returns-in_ok-write_attributes_number-in-Number-clause-ok
+change_attributes-returns-in_ok-write_attributes_number-in-Number-clause-ok t c = search (rules, value_is)
+
+pub change_attributes-returns-else-depth-eq0-clause-ok : goal.change_attributes-returns-else-depth-eq0-clause-ok
+change_attributes-returns-else-depth-eq0-clause-ok t c = search (rules, value-begin_array, on_ok_weaker, written_with)
+
+pub change_attributes-returns-else-depth-eq0-clause-err : goal.change_attributes-returns-else-depth-eq0-clause-err
+change_attributes-returns-else-depth-eq0-clause-err t c refused = search (rules, value-begin_array)
+
+pub change_attributes-returns-in_default : goal.change_attributes-returns-in_default
+change_attributes-returns-in_default t c =
+    let u = c.in_ok-token.token in
+    let d = c.args.depth in
+    let all = c.args.reader.now in
+    let out = c.args.out.now.tokens in
+    let f : Json → List Token = λ j. json_tokens (changed c.args.way j) in
+    let g : Json → List Token = λ j. json_tokens (attributes_changed c.args.way j) in
+    let is : all ≡ token_of u ∷ c.next.new.self = search rules in
+    record {
+      before = c.change_from.ensures.before;
+      ok = on_ok_weaker c.change_from.result (λ e. written_as f g out c.change_from.new.out.tokens (value d all)
+          c.change_from.new.reader (ap (λ ts. written f out (value d ts)) is ∙ e) (λ j read. ap json_tokens
+          (attributes_other c.args.way d u c.next.new.self j c.change_from.new.reader c.in_default.not-BeginArray
+          c.in_default.not-Number (sym (ap (value d) is) ∙ read)))) c.change_from.ensures.ok;
+      err = λ refused. ap (value c.args.depth) is ∙ c.change_from.ensures.err refused;
+    }
+
+pub change_attributes_items-returns-then-take_end_array-clause-ok :
+    goal.change_attributes_items-returns-then-take_end_array-clause-ok
+change_attributes_items-returns-then-take_end_array-clause-ok t c n enough =
+    let out = c.args.out.now.tokens in
+    let ts = c.args.reader.now in
+    let r = c.take_end_array.new.self in
+    let over : after_end_array ts ≡ Some r = grind arith in
+    let made = c.in_ok-end_array.ensures.ok ∙ ap (λ us. us ++ Token.end_array ∷ []) c.in_ok-begin_array.ensures.ok
+    ∙ append_assoc out (Token.begin_array ∷ []) (Token.end_array ∷ []) in
+    attributes_end (value c.args.depth) c.args.way n out ts r enough over ∙ ap (λ us. Some (us, r)) (sym made)
+
+pub change_attributes_items-returns-in_err-first-clause-err :
+    goal.change_attributes_items-returns-in_err-first-clause-err
+change_attributes_items-returns-in_err-first-clause-err t c refused n enough = search (rules, items_fail)
+
+pub change_attributes_items-returns-then-take_end_array-2-clause-ok :
+    goal.change_attributes_items-returns-then-take_end_array-2-clause-ok
+change_attributes_items-returns-then-take_end_array-2-clause-ok t c n enough =
+    let ts = c.args.reader.now in
+    let s = c.read.new.reader in
+    let r = c.take_end_array-2.new.self in
+    let going : (after_end_array ts ≡ None) × (c.take_end_array.new.self ≡ ts) = grind arith in
+    let over : after_end_array s ≡ Some r = grind arith in
+    attributes_single (value c.args.depth) c.args.way n c.args.out.now.tokens c.write_single.new.out.tokens ts s r
+    (value_view c.in_ok-first.first) enough (rw (← going.1) c.in_ok-first.ensures.shorter) going.0
+    (rw (← going.1) c.in_ok-first.ensures.ok) over c.in_ok-write_single.ensures.tokens
+
+pub change_attributes_items-returns-clause-ok : goal.change_attributes_items-returns-clause-ok
+change_attributes_items-returns-clause-ok t c =
+    let out = c.args.out.now.tokens in
+    let ts = c.args.reader.now in
+    let s = c.read.new.reader in
+    let j = value_view c.in_ok-first.first in
+    let now = c.write_tree.new.out.tokens in
+    let going : (after_end_array ts ≡ None) × (c.take_end_array.new.self ≡ ts) = grind arith in
+    let more : (after_end_array s ≡ None) × (c.take_end_array-2.new.self ≡ s) = grind arith in
+    let less : length s < length ts = rw (← going.1) c.in_ok-first.ensures.shorter in
+    let made = c.in_ok-write_tree.ensures.tokens
+    ∙ ap (λ us. us ++ json_tokens (changed c.args.way j)) c.in_ok-begin_array-2.ensures.ok in
+    on_ok_weaker c.change_items.result (λ e n enough. attributes_several (value c.args.depth) c.args.way n out now ts s
+    j (omega (arith, enough, less)) going.0 (rw (← going.1) c.in_ok-first.ensures.ok) more.0 made
+    ∙ ap (λ us. written (λ js. items_tokens (items_changed c.args.way js)) now (items (value c.args.depth) (n - 1) us))
+    (sym more.1)
+    ∙ e (n - 1) (omega (arith, enough, less, ap length more.1))) c.change_items.ensures.ok
+
+pub change_attributes_items-returns-clause-err : goal.change_attributes_items-returns-clause-err
+change_attributes_items-returns-clause-err t c refused n enough =
+    let p = value c.args.depth in
+    let ts = c.args.reader.now in
+    let s = c.read.new.reader in
+    let j = value_view c.in_ok-first.first in
+    let going : (after_end_array ts ≡ None) × (c.take_end_array.new.self ≡ ts) = grind arith in
+    let more : (after_end_array s ≡ None) × (c.take_end_array-2.new.self ≡ s) = grind arith in
+    let less : length s < length ts = rw (← going.1) c.in_ok-first.ensures.shorter in
+    items_more p n ts s j (omega (arith, enough, less)) going.0 (rw (← going.1) c.in_ok-first.ensures.ok)
+    ∙ ap (parse_map (item j)) (ap (items p (n - 1)) (sym more.1)
+    ∙ c.change_items.ensures.err refused (n - 1) (omega (arith, enough, less, ap length more.1)))

@@ -8,6 +8,12 @@ decreases-change_from l = 7 * l.depth
 abbrev pub decreases-change_value : goal.decreases-change_value
 decreases-change_value l = 7 * l.depth + 1
 
+abbrev pub decreases-change_attributes : goal.decreases-change_attributes
+decreases-change_attributes l = 7 * l.depth + 1
+
+abbrev pub decreases-change_attributes_items : goal.decreases-change_attributes_items
+decreases-change_attributes_items l = 7 * l.depth + 3
+
 abbrev pub decreases-change_items : goal.decreases-change_items
 decreases-change_items l = 7 * l.depth + 2
 

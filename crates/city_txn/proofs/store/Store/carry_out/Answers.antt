@@ -1,10 +1,11 @@
 use Rattle.city_txn.proofs.Prelude.{rules}
-use Rattle.city_model.proofs.FrameLaw.{exclusive_is_named}
-use Rattle.city_txn.proofs.PerformDone.{unplanned_performed, refused_performed, unwritten_performed, written_performed}
+use Rattle.city_txn.proofs.PerformDone.{unplanned_performed, refused_performed, may_write, unwritten_performed}
+use Rattle.city_txn.proofs.PerformDone.{written_performed}
 use Rattle.city_txn.proofs.store.Store.carry_out.Goals as goal
 
 pub write_all-requires : goal.write_all-requires
-write_all-requires c = search (rules, exclusive_is_named)
+write_all-requires c =
+    may_write _ _ _ c.requires.no_mark _ c.in_ok-cause.ensures.plan _ _ c.in-Writes.is c.requires.may
 
 pub returns-in_err-cause : goal.returns-in_err-cause
 returns-in_err-cause c = search (rules, unplanned_performed)

@@ -1,0 +1,121 @@
+//! What is told of the faults of scripts.
+//!
+//! - `forms`: the commands, each with its members; `nearest`: the command whose name is nearest to a word
+//! - `item`: the first rule that an item breaks which isn't a script; `command`: that a command breaks
+//! - `given`: that the object, the geometries or the attributes (`attributes`) break which a command gives
+//! - `limits`: too many scripts, or too many commands
+//! - `place`: where a script or a command is, in words
+
+mod attributes;
+mod command;
+mod forms;
+mod given;
+mod item;
+mod limits;
+mod nearest;
+mod place;
+
+use crate::diagnostic::Diagnostic;
+use crate::script::command::tell_bad_command;
+use crate::script::given::{narrow_to_object, shaped_tree};
+use crate::script::item::tell_bad_script;
+use crate::script::limits::tell_too_many;
+use crate::script::place::{command_at, narrow_to_command, narrow_to_script};
+use crate::shape::tell_bad_vertex;
+use city_doc::ScriptFault;
+use city_model::OutOfMemory;
+use serde_json::Value;
+use std::alloc::Global;
+
+/// What is told of a fault of the scripts of this tree, from NotScripts on.
+pub fn script_diagnostic(
+    alloc: Global,
+    tree: &Value,
+    fault: &ScriptFault,
+) -> Result<Diagnostic, OutOfMemory> {
+    let mut diagnostic = Diagnostic::new(alloc);
+    match fault {
+        ScriptFault::BadScript(script) => bad_script(alloc, tree, *script, &mut diagnostic)?,
+        ScriptFault::TooMany => tell_too_many(alloc, tree, &mut diagnostic)?,
+        ScriptFault::BadCommand(script, command) => {
+            bad_command(alloc, tree, *script, *command, &mut diagnostic)?;
+        }
+        ScriptFault::BadVertex(script, command) => {
+            bad_vertex(alloc, tree, *script, *command, &mut diagnostic)?;
+        }
+        // (the faults before NotScripts are faults of the text, and none of its tree)
+        _ => not_scripts(alloc, tree, &mut diagnostic)?,
+    }
+    Ok(diagnostic)
+}
+
+/// Says that the text isn't an array.
+fn not_scripts(
+    alloc: Global,
+    tree: &Value,
+    diagnostic: &mut Diagnostic,
+) -> Result<(), OutOfMemory> {
+    if tree.get("type").and_then(Value::as_str) == Some("CityJSON") {
+        diagnostic.details.text("form", "model")?;
+        let message = "The text is a CityJSON model, and no array of scripts.".to_string(alloc)?;
+        diagnostic.tell(message, "Give the model first, and the scripts behind it.");
+    } else {
+        let message = "The text isn't an array of scripts.".to_string(alloc)?;
+        diagnostic.tell(message, "Write the scripts in an array, also a single one.");
+    }
+    Ok(())
+}
+
+/// Says which rule for scripts an item breaks.
+fn bad_script(
+    alloc: Global,
+    tree: &Value,
+    script: usize,
+    diagnostic: &mut Diagnostic,
+) -> Result<(), OutOfMemory> {
+    narrow_to_script(alloc, tree, script, diagnostic)?;
+    let nothing = Value::Null;
+    tell_bad_script(alloc, tree.get(script).unwrap_or(&nothing), diagnostic)
+}
+
+/// Says which rule for commands a command breaks.
+fn bad_command(
+    alloc: Global,
+    tree: &Value,
+    script: usize,
+    command: usize,
+    diagnostic: &mut Diagnostic,
+) -> Result<(), OutOfMemory> {
+    narrow_to_command(alloc, tree, script, command, diagnostic)?;
+    let nothing = Value::Null;
+    let command = command_at(tree, script, command).unwrap_or(&nothing);
+    tell_bad_command(alloc, command, diagnostic)
+}
+
+/// Says which position of a command names none of its script's vertices.
+fn bad_vertex(
+    alloc: Global,
+    tree: &Value,
+    script: usize,
+    command: usize,
+    diagnostic: &mut Diagnostic,
+) -> Result<(), OutOfMemory> {
+    narrow_to_command(alloc, tree, script, command, diagnostic)?;
+    let nothing = Value::Null;
+    let command = command_at(tree, script, command).unwrap_or(&nothing);
+    narrow_to_object(alloc, command, diagnostic)?;
+    let shaped = shaped_tree(command).unwrap_or(&nothing);
+    tell_bad_vertex(alloc, shaped, vertex_count(tree, script), diagnostic)
+}
+
+/// How many vertices a script has.
+fn vertex_count(tree: &Value, script: usize) -> usize {
+    match vertices_of(tree, script) {
+        Some(vertices) => vertices.len(),
+        None => 0,
+    }
+}
+
+fn vertices_of(tree: &Value, script: usize) -> Option<&Vec<Value>> {
+    tree.get(script)?.get("vertices")?.as_array()
+}

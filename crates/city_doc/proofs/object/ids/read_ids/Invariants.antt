@@ -1,9 +1,0 @@
-use Rattle.city_doc.proofs.Prelude.{◌≡◌, ◌++◌, into_iter_items, as_str, items_view, read_items}
-use Rattle.std.proofs.Common.{option_map}
-use Rattle.city_doc.proofs.object.ids.read_ids.Given as goal
-
--- what is found, and then what is left
-abbrev pub invariant-loop-item : goal.invariant-loop-item
-invariant-loop-item l =
-    read_items as_str (items_view l.fn.items.items) ≡ option_map (λ ids. l.ids ++ ids)
-    (read_items as_str (items_view (into_iter_items l.item-iterator)))

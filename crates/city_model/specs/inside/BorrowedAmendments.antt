@@ -1,0 +1,9 @@
+-- An amendment, as the code borrows what it gives.
+use Rattle.city_model.specs.Amendments as amendments
+use Rattle.city_model.specs.declared.plan.amending.Amendment.{Amendment}
+
+abbrev pub amendment_view : Amendment → amendments.Amendment
+amendment_view (Amendment.NewBody body) = amendments.NewBody body.now
+amendment_view (Amendment.Setting named) = amendments.Setting named.now
+amendment_view (Amendment.Unsetting names) = amendments.Unsetting names.now
+amendment_view (Amendment.Reshaping geometry) = amendments.Reshaping geometry.now

@@ -1,0 +1,160 @@
+//! The attributes of an object (CityJSON 2.0, section 2): set, taken out, and compared.
+ghost use Rattle.std.specs.Prelude.{◌≡◌, option_map, string_bytes, if◌then◌else◌, IfOk, OnOk};
+ghost use Rattle.serde_json.specs.Data.{object, put};
+ghost use Rattle.serde_json.specs.View.{view, members_view};
+ghost use Rattle.city_model.specs.Attributes.{attributes, attributes_in, put_each, with_set, with_unset, members_of, are_among, has_attributes};
+ghost use Rattle.city_model.specs.Kept.{has_no_member};
+ghost use Rattle.city_model.specs.Members.{without, without_each};
+
+use crate::OutOfMemory;
+use crate::command::Attributes;
+use crate::kept::extra::Extra;
+use crate::kept::site::{AtObject, has_no_member};
+use crate::members::{into_object, member, take};
+use crate::same_value::same_value;
+use crate::text::Text;
+use serde_json::{Map, Value};
+use std::alloc::Global;
+
+/// The kept members of an object with these attributes set, or None where its `attributes` is no object.
+/// It fails only when out of memory.
+pub fn with_set(
+    alloc: Global,
+    extra: &Extra<AtObject>,
+    named: &Attributes,
+) -> Result<Option<Extra<AtObject>>, OutOfMemory>
+    ensures { IfOk result (λ made. made ≡ option_map (with_set extra.now named.now) (attributes_in extra.now)) }
+{
+    let mut members = extra.to_map()?;
+    let Some(mut found) = take_attributes(alloc, &mut members) else {
+        return Ok(None);
+    };
+    put_each(&mut found, named.map())?;
+    put_attributes(alloc, &mut members, found)?;
+    Ok(Some(Extra::of_kept(members)))
+}
+
+/// The kept members of an object without the attributes of these names, or None where its `attributes`
+/// is no object. It fails only when out of memory.
+pub fn with_unset(
+    alloc: Global,
+    extra: &Extra<AtObject>,
+    names: &[Text],
+) -> Result<Option<Extra<AtObject>>, OutOfMemory>
+    ensures { IfOk result (λ made. made ≡ option_map (with_unset extra.now names.now) (attributes_in extra.now)) }
+{
+    let mut members = extra.to_map()?;
+    let Some(mut left) = take_attributes(alloc, &mut members) else {
+        return Ok(None);
+    };
+    take_each(&mut left, names);
+    put_any(alloc, &mut members, left)?;
+    Ok(Some(Extra::of_kept(members)))
+}
+
+/// Whether the kept members of an object have these attributes, with these values. Doesn't allocate.
+pub fn has_attributes(extra: &Extra<AtObject>, named: &Attributes) -> bool
+    ensures { result ≡ has_attributes extra.now named.now }
+{
+    match attributes_of(extra.map()) {
+        Some(found) => are_among(named.map(), found),
+        None => has_no_member(named.map()),
+    }
+}
+
+/// The attributes among the kept members of an object, if they are an object.
+fn attributes_of(extra: &Map<String, Value>) -> Option<&Map<String, Value>>
+    ensures { members_of (option_map (λ m. members_view m.now.entries) result)
+        ≡ members_of (attributes_in (members_view extra.now.entries)) }
+{
+    match member(extra, "attributes") {
+        None => None,
+        Some(value) => value.as_object(),
+    }
+}
+
+/// Takes `attributes` out of the kept members of an object: no members where it isn't there, and None
+/// where it is no object.
+fn take_attributes(alloc: Global, members: &mut Map<String, Value>) -> Option<Map<String, Value>>
+    ensures found { option_map (λ m. members_view m.entries) result ≡ attributes_in (members_view members.old.entries) }
+    ensures left { members_view members.new.entries ≡ without attributes (members_view members.old.entries) }
+{
+    match take(members, "attributes") {
+        None => Some(Map::new(alloc)),
+        Some(value) => into_object(value),
+    }
+}
+
+/// Gives the members these `attributes`, if there are any.
+fn put_any(
+    alloc: Global,
+    members: &mut Map<String, Value>,
+    left: Map<String, Value>,
+) -> Result<(), OutOfMemory>
+    ensures { OnOk result (members_view members.new.entries ≡ (if has_no_member (members_view left.entries)
+        then members_view members.old.entries
+        else put attributes (object (members_view left.entries)) (members_view members.old.entries))) }
+{
+    if has_no_member(&left) {
+        return Ok(());
+    }
+    put_attributes(alloc, members, left)
+}
+
+/// Gives the members these `attributes`.
+fn put_attributes(
+    alloc: Global,
+    members: &mut Map<String, Value>,
+    found: Map<String, Value>,
+) -> Result<(), OutOfMemory>
+    ensures { OnOk result (members_view members.new.entries
+        ≡ put attributes (object (members_view found.entries)) (members_view members.old.entries)) }
+{
+    put(
+        members,
+        "attributes".to_string(alloc)?,
+        Value::Object(found),
+    )
+}
+
+/// Gives the members one of this name.
+fn put(members: &mut Map<String, Value>, name: String, value: Value) -> Result<(), OutOfMemory>
+    ensures { OnOk result (members_view members.new.entries
+        ≡ put (string_bytes name) (view value) (members_view members.old.entries)) }
+{
+    let _before = members.insert(name, value)?;
+    Ok(())
+}
+
+/// Gives the members each of the named ones.
+fn put_each(members: &mut Map<String, Value>, named: &Map<String, Value>) -> Result<(), OutOfMemory>
+    ensures { OnOk result (members_view members.new.entries
+        ≡ put_each (members_view named.now.entries) (members_view members.old.entries)) }
+{
+    for (name, value) in named.iter() {
+        put(members, name.clone()?, value.clone()?)?;
+    }
+    Ok(())
+}
+
+/// Takes out each of the members of these names.
+fn take_each(members: &mut Map<String, Value>, names: &[Text])
+    ensures { members_view members.new.entries ≡ without_each names.now (members_view members.old.entries) }
+{
+    for name in names {
+        let _before = take(members, name.as_str());
+    }
+}
+
+/// Whether each of the named members is among the others, with the same value.
+fn are_among(named: &Map<String, Value>, found: &Map<String, Value>) -> bool
+    ensures { result ≡ are_among (members_view named.now.entries) (members_view found.now.entries) }
+{
+    for (name, value) in named.iter() {
+        match member(found, name.as_str()) {
+            Some(other) if same_value(value, other) => {},
+            _ => return false,
+        }
+    }
+    true
+}

@@ -1,0 +1,163 @@
+//! Edits of one object that keep its type and its relations, and their plans.
+ghost use Rattle.std.specs.Prelude.{◌≡◌, IfOk};
+ghost use Rattle.city_model.specs.Actions.{amend, amends, amendment_reply};
+ghost use Rattle.city_model.specs.Amendments.{amendment_fault, amended, amended_body, with_extra_by};
+ghost use Rattle.city_model.specs.CityMap.{CityMap};
+ghost use Rattle.city_model.specs.inside.BorrowedAmendments.{amendment_view};
+ghost use Rattle.city_model.specs.inside.Plans.{IsPlanOf};
+
+use crate::OutOfMemory;
+use crate::attributes::{with_set, with_unset};
+use crate::body_fault::{body_fault, geometry_fault};
+use crate::command::{Attributes, Cause, Reply};
+use crate::copied::Copied;
+use crate::kept::extra::Extra;
+use crate::kept::site::AtObject;
+use crate::object::{Body, Geometries, Object};
+use crate::object_type::is_same;
+use crate::plan::Plan;
+use crate::plan::objects::with_body;
+use crate::plan::view::View;
+use crate::plan::writes::{no_object, one};
+use crate::sequence::Sequence;
+use crate::text::{Id, Text};
+use std::alloc::Global;
+
+/// An edit of one object that keeps its type and its relations.
+#[derive(Clone, Copy)]
+pub enum Amendment<'a> {
+    /// Another body.
+    NewBody(&'a Body),
+    /// Attributes with their values.
+    Setting(&'a Attributes),
+    /// Names of attributes that are taken out.
+    Unsetting(&'a Sequence<Text>),
+    /// Other geometries.
+    Reshaping(&'a Geometries),
+}
+
+/// The plan of an amendment: what is wrong with the geometries that it gives comes first.
+pub fn plan_amend<V: View>(
+    alloc: Global,
+    view: &V,
+    id: &Id,
+    amendment: Amendment<'_>,
+) -> Result<Plan, OutOfMemory>
+    ensures { IfOk result (IsPlanOf (V.map view.now) (amend (V.map view.now) id.now (amendment_view amendment.entry))) }
+{
+    if let Some(cause) = amendment_fault(alloc, amendment)? {
+        return Ok(Plan::Refused(cause));
+    }
+    match view.look(id) {
+        None => no_object(alloc, id),
+        Some(object) => plan_amend_there(alloc, id, amendment, object),
+    }
+}
+
+/// The plan of an amendment of this object, whose geometries are without fault.
+pub fn plan_amend_there(
+    alloc: Global,
+    id: &Id,
+    amendment: Amendment<'_>,
+    object: &Object,
+) -> Result<Plan, OutOfMemory>
+    ensures { IfOk result (λ plan. (m : CityMap)
+        → IsPlanOf m (amends m id.now (amendment_view amendment.entry) object.now) plan) }
+{
+    match amended(alloc, id, amendment, object)? {
+        Err(cause) => Ok(Plan::Refused(cause)),
+        Ok(other) => {
+            let writes = one(alloc, id, other)?;
+            Ok(Plan::Writes(amendment_reply(amendment), writes))
+        },
+    }
+}
+
+/// The reply to an amendment.
+fn amendment_reply(amendment: Amendment<'_>) -> Reply
+    ensures { result ≡ amendment_reply (amendment_view amendment.entry) }
+{
+    match amendment {
+        Amendment::NewBody(_) => Reply::Replaced,
+        Amendment::Setting(_) => Reply::AttributesSet,
+        Amendment::Unsetting(_) => Reply::AttributesUnset,
+        Amendment::Reshaping(_) => Reply::Reshaped,
+    }
+}
+
+/// What is wrong with the geometries that an amendment gives.
+fn amendment_fault(alloc: Global, amendment: Amendment<'_>) -> Result<Option<Cause>, OutOfMemory>
+    ensures { IfOk result (λ fault. fault ≡ amendment_fault (amendment_view amendment.entry)) }
+{
+    match amendment {
+        Amendment::NewBody(body) => body_fault(alloc, body),
+        Amendment::Reshaping(geometry) => geometry_fault(alloc, geometry.get().as_slice()),
+        Amendment::Setting(_) | Amendment::Unsetting(_) => Ok(None),
+    }
+}
+
+/// What becomes of an object that is amended, or why it isn't. It fails only when out of memory.
+fn amended(
+    alloc: Global,
+    id: &Id,
+    amendment: Amendment<'_>,
+    object: &Object,
+) -> Result<Result<Object, Cause>, OutOfMemory>
+    ensures { IfOk result (λ r. r ≡ amended id.now (amendment_view amendment.entry) object.now) }
+{
+    match amended_body(alloc, id, amendment, object.body.get())? {
+        Err(cause) => Ok(Err(cause)),
+        Ok(body) => Ok(Ok(with_body(alloc, object, body)?)),
+    }
+}
+
+/// What becomes of the body of an object that is amended, or why it isn't.
+fn amended_body(
+    alloc: Global,
+    id: &Id,
+    amendment: Amendment<'_>,
+    body: &Body,
+) -> Result<Result<Body, Cause>, OutOfMemory>
+    ensures { IfOk result (λ r. r ≡ amended_body id.now (amendment_view amendment.entry) body.now) }
+{
+    match amendment {
+        Amendment::NewBody(new) => {
+            if !is_same(body.kind, new.kind) {
+                return Ok(Err(Cause::TypeFixed(id.copy(alloc)?)));
+            }
+            Ok(Ok(new.copy(alloc)?))
+        },
+        Amendment::Setting(named) => {
+            let made = with_set(alloc, &body.extra, named)?;
+            with_extra(alloc, id, body, made)
+        },
+        Amendment::Unsetting(names) => {
+            let made = with_unset(alloc, &body.extra, names.as_slice())?;
+            with_extra(alloc, id, body, made)
+        },
+        Amendment::Reshaping(geometry) => Ok(Ok(Body {
+            kind: body.kind,
+            geometry: geometry.copy(alloc)?,
+            extra: body.extra.copy(alloc)?,
+        })),
+    }
+}
+
+/// The body with these kept members; where there are none, its `attributes` is no object.
+fn with_extra(
+    alloc: Global,
+    id: &Id,
+    body: &Body,
+    extra: Option<Extra<AtObject>>,
+) -> Result<Result<Body, Cause>, OutOfMemory>
+    ensures { IfOk result (λ r. r ≡ with_extra_by id.now body.now (λ made. made) extra) }
+{
+    match extra {
+        None => Ok(Err(Cause::BadAttributes(id.copy(alloc)?))),
+        Some(extra) => Ok(Ok(Body {
+            kind: body.kind,
+            geometry: body.geometry.copy(alloc)?,
+            extra,
+        })),
+    }
+}

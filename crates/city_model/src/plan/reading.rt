@@ -1,0 +1,43 @@
+//! The plans of the commands that write nothing: a read and an expect.
+ghost use Rattle.std.specs.Prelude.{IfOk};
+ghost use Rattle.city_model.specs.inside.Plans.{IsPlan};
+ghost use Rattle.city_model.specs.declared.command.Command.{Command};
+
+use crate::OutOfMemory;
+use crate::attributes::has_attributes;
+use crate::command::{Attributes, Cause, Reply};
+use crate::copied::Copied;
+use crate::plan::Plan;
+use crate::plan::view::View;
+use crate::plan::writes::{Writes, no_object};
+use crate::text::Id;
+use std::alloc::Global;
+
+/// The plan of a read.
+pub fn plan_read<V: View>(alloc: Global, view: &V, id: &Id) -> Result<Plan, OutOfMemory>
+    ensures { IfOk result (IsPlan (V.map view.now) (Command.Read id.now)) }
+{
+    let reply = match view.look(id) {
+        None => Reply::Absent,
+        Some(object) => Reply::Found(object.copy(alloc)?),
+    };
+    Ok(Plan::Writes(reply, Writes::new(alloc)))
+}
+
+/// The plan of an expect.
+pub fn plan_expect<V: View>(
+    alloc: Global,
+    view: &V,
+    id: &Id,
+    named: &Attributes,
+) -> Result<Plan, OutOfMemory>
+    ensures { IfOk result (IsPlan (V.map view.now) (Command.Expect id.now named.now)) }
+{
+    let Some(object) = view.look(id) else {
+        return no_object(alloc, id);
+    };
+    if !has_attributes(&object.body.get().extra, named) {
+        return Ok(Plan::Refused(Cause::Unexpected(id.copy(alloc)?)));
+    }
+    Ok(Plan::Writes(Reply::Expected, Writes::new(alloc)))
+}
