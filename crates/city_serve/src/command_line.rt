@@ -1,7 +1,6 @@
 //! What a command line asks for.
-ghost use Rattle.std.specs.Prelude.{◌≡◌, ◌≢◌, ◌⊎◌, ◌≤◌, ◌∷◌, ℕ, Bool, true, false, List, Option, Some, None, Ok};
-ghost use Rattle.std.specs.Prelude.{Err, All, drop, map, option_map, string_bytes, IfOk, IsErr};
-ghost use Rattle.std.specs.Prelude.{MatchOption, MatchResult};
+ghost use Rattle.std.specs.Prelude.{◌≡◌, ◌≢◌, ◌⊎◌, ◌≤◌, ◌∷◌, ℕ, Bool, true, false, List, Option, Some, None, Ok, Err};
+ghost use Rattle.std.specs.Prelude.{All, drop, map, option_map, string_bytes, IfOk, IsErr, MatchOption, MatchResult};
 ghost use Rattle.clap.specs.Words.{app_of, kind_of, rule_of};
 ghost use Rattle.city_serve.specs.RunOptions.{plain_destination, plain_options};
 ghost use Rattle.city_serve.specs.CommandLines.{IsName, Line, IsLineOf, AnswersNames, AnswersOptions, IsShown};
@@ -18,6 +17,7 @@ use clap::{Arg, ArgAction, Command, Error};
 use std::alloc::Global;
 
 const MODEL: &str = "MODEL";
+
 const SCRIPTS: &str = "SCRIPTS";
 
 const DECIMALS: &str = "decimals";

@@ -75,7 +75,10 @@ pub const ORPHAN: Run = Run {
 
 /// Two that set attributes of one building.
 pub const PLANNERS: Run = Run {
-    document: model!(r#"{"b":{"attributes":{"name":"hall","storeys":2},"type":"Building"}}"#, "[]"),
+    document: model!(
+        r#"{"b":{"attributes":{"name":"hall","storeys":2},"type":"Building"}}"#,
+        "[]"
+    ),
     scripts: concat!(
         r#"[{"name":"a","commands":[{"expect":"b","attributes":{"storeys":2}},"#,
         r#"{"set":"b","attributes":{"roof":"flat"}},"commit"]},"#,
