@@ -163,6 +163,13 @@ def colliding_replies(count, state=FIRST_STATE):
     return document, [script([{"read": "a"}] * 20)]
 
 
+def many_sets(count):
+    """Scripts that each set one of very many attributes of one object."""
+    names = [f"a{number:06}" for number in range(16 * count)]
+    document = model({"a": {"type": "Road", "attributes": dict.fromkeys(names, 1)}})
+    return document, [script([{"set": "a", "attributes": {names[7_919 * n % len(names)]: n}}]) for n in range(count)]
+
+
 def unlisted_children(count):
     """Each part has a parent that doesn't list it."""
     parts = {name: {"type": "BuildingPart", "parents": ["building"]} for name in shuffled(count)}
@@ -227,6 +234,7 @@ KINDS = {
     long_body: 200,
     colliding_points: 16_000,
     colliding_replies: 2_000,
+    many_sets: 320,
 }
 
 

@@ -9,14 +9,16 @@ without members may take two allocations, for its id and its body, and a tenth, 
 full. Each script has to commit, the two kinds that have a fault have to be refused, and of the kinds with many faults
 --check has to tell each. Scripts that lock ids of their
 own may have 1.05 times as much allocated at once as scripts that lock the same ids, and an object that is put may take
-2.5 allocations for each attribute. Sets on an object of 10,000 points may ask for twice the bytes of sets on one of 10,
-since they share its geometry. Where scripts meet, sixteen workers may take 1.5 times the processor time of one.
+4 allocations for each attribute: its name, its text, its share and its copy in the map that is written. Sets on an
+object of 10,000 points may ask for twice the bytes of sets on one of 10, since they share its geometry. Where scripts meet, sixteen workers may take 1.5 times the processor time of one.
+Four workers may leave their cores to wait 200 times in a run of many scripts, long ones or short.
 Where valgrind is installed, the instructions of texts whose points would collide are counted too, and may grow six
 times. Prints one line for each kind, and ends with status 1 where one took more or ended otherwise.
 """
 
 import json
 import os
+import random
 import re
 import resource
 import shutil
@@ -31,9 +33,10 @@ import growth  # noqa: E402
 GREATEST = 4.5
 MOST_INSTRUCTIONS = 6
 MOST_OF_WORKERS = 1.5
+MOST_SWITCHES = 200
 MOST_AT_ONCE = 1.05
 EACH_ROAD = 2.1
-EACH_ATTRIBUTE = 2.5
+EACH_ATTRIBUTE = 4
 MOST_OF_POINTS = 2
 OF_AN_EMPTY_RUN = 100
 REFUSED = (growth.repeated_child, growth.open_solid)
@@ -75,6 +78,12 @@ class Counted:
         subprocess.run([self.path, *options, *self.names(texts)], capture_output=True, check=True, timeout=120)
         after = resource.getrusage(resource.RUSAGE_CHILDREN)
         return after.ru_utime - before.ru_utime + after.ru_stime - before.ru_stime
+
+    def switches(self, texts, *options):
+        """How often the threads of a run leave their cores to wait, and the run."""
+        before = resource.getrusage(resource.RUSAGE_CHILDREN).ru_nvcsw
+        ran = subprocess.run([self.path, *options, *self.names(texts)], capture_output=True, timeout=120)
+        return ran, resource.getrusage(resource.RUSAGE_CHILDREN).ru_nvcsw - before
 
     def instructions(self, texts):
         """How many instructions a run executes, by valgrind's count."""
@@ -174,6 +183,16 @@ def workers_sleep(program, count, scripts):
     return say(many <= MOST_OF_WORKERS * one, f"{told}, {many / one:.2f} times")
 
 
+def workers_seldom_switch(program, count, scripts):
+    """Whether the lock of a run seldom changes hands: four workers wait a few times, however many turns there are."""
+    drawn = random.Random(1)
+    put = lambda: {"put": f"r{drawn.randrange(13_500)}", "object": {"type": "Road"}}
+    texts = growth.model({}), [growth.script([put() for _ in range(count)]) for _ in range(scripts)]
+    ran, switches = program.switches(texts, "--workers", "4")
+    told = f"{scripts:,} scripts of {count:,} puts by 4 workers: {switches:,} times a worker waited"
+    return say(switches <= MOST_SWITCHES and committed(ran, texts[1]), told)
+
+
 def main():
     if len(sys.argv) != 2:
         print(__doc__)
@@ -192,6 +211,7 @@ def main():
         ):
             kept += [geometries_are_shared(program, 1_000, edit, *options) for options in ((), ("--watch", "1"))]
         kept += [workers_sleep(program, count, scripts) for count, scripts in ((300, 200), (900, 60))]
+        kept += [workers_seldom_switch(program, count, scripts) for count, scripts in ((1_000, 100), (8, 4_000))]
         if shutil.which("valgrind") is None:
             print("instructions aren't counted: valgrind isn't installed")
         else:

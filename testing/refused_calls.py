@@ -45,8 +45,14 @@ def refuse_growths(program, document, scripts, arguments, later):
             return f"{number - 1} growths: {counts['refused']} out of memory, {counts['answered'] - 1} went on"
 
 
+def threads_of(arguments):
+    """How many threads a run with these options starts: its own is the first worker."""
+    asked = dict(zip(arguments[::2], map(int, arguments[1::2])))
+    return asked.get("--workers", 1) - 1 + asked.get("--watch", 0)
+
+
 def refuse_threads(program, document, scripts, arguments):
-    """Refuses the Nth thread, for each N until a run meets none: there is one for each worker and each viewer."""
+    """Refuses the Nth thread, for each N until a run meets none: one for each worker but the first, and each viewer."""
     text = document.replace(b"\n", b" ") + b"\n" + scripts
     for number in itertools.count(1):
         refused, status, output, error = program.answer(arguments, text, REFUSE_THREAD=str(number))
@@ -54,7 +60,7 @@ def refuse_threads(program, document, scripts, arguments):
             break
         if (status, output, error) != (1, b"", SHORT_ANSWER):
             raise Wrong(arguments, f"thread {number}", status, output, error)
-    if number - 1 != sum(map(int, arguments[1::2])):
+    if number - 1 != threads_of(arguments):
         raise Wrong(arguments, f"{number - 1} threads")
     return number - 1
 

@@ -8,6 +8,7 @@ use denote.Enum.Declared as enums
 use Rattle.std.proofs.Crossing as values
 use Rattle.city_desk.proofs.null_shelf.NullShelf.TheSendSync as null_shelf
 use Rattle.city_crew.specs.contracts.crew_shelf.CrewShelf as CrewShelf
+use Rattle.city_crew.specs.declared.origin.Origin as Origins
 use Rattle.city_crew.specs.contracts.state.State as State
 use Rattle.city_crew.specs.contracts.state.State.TheInside as StateInside
 
@@ -17,19 +18,26 @@ shelf_sends R s =
     recorded_send _ T.D T.to T.to_one
     (enum_send (enums.shape T) ((null_shelf.the_send, tt), ((poster_sends R s, tt), tt)))
 
-inside_sends : (R : RattleType) (W : Ghosts R.Denot) → IsSend (CrewShelf.the_row R)
-    → IsSend (StateInside.the_field R W).row
-inside_sends R W shelf = struct_send (shape (StateInside.the_type R W)) (
-  search (values.crosses, sendable) depth 60 fits 20000,
+inside_sends : (R O : RattleType) (W : Ghosts R.Denot) (N : Origins.Ghosts O.Denot) → IsSend (CrewShelf.the_row R)
+    → IsSend (StateInside.the_field R O W N).row
+inside_sends R O W N shelf = struct_send (shape (StateInside.the_type R O W N)) (
+  search (shelf, desk_field_sends, sendable) depth 60 fits 20000,
   (
-    search (values.crosses, sendable) depth 60 fits 20000,
+    search sendable depth 20,
     (
-      search (shelf, desk_field_sends, sendable) depth 60 fits 20000,
-      (search sendable depth 20, (search (values.crosses, sendable) depth 60 fits 20000, tt)),
+      search (values.crosses, sendable) depth 60 fits 20000,
+      (
+        search (values.crosses, sendable) depth 60 fits 20000,
+        (
+          search (values.crosses, sendable) depth 60 fits 20000,
+          (search sendable depth 20, (search (values.crosses, sendable) depth 60 fits 20000, tt)),
+        ),
+      ),
     ),
   ),
 )
 
-pub state_sends : (R : RattleType) (W : Ghosts R.Denot) → IsSend R → IsSend (State.the_row R W)
-state_sends R W s =
-    view_send _ _ _ _ _ (declared_sends (StateInside.the_type R W) (inside_sends R W (shelf_sends R s)))
+pub state_sends : (R O : RattleType) (W : Ghosts R.Denot) (N : Origins.Ghosts O.Denot) → IsSend R
+    → IsSend (State.the_row R O W N)
+state_sends R O W N s =
+    view_send _ _ _ _ _ (declared_sends (StateInside.the_type R O W N) (inside_sends R O W N (shelf_sends R s)))

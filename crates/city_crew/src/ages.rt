@@ -30,6 +30,11 @@ impl Ages {
         self.scripts.retain(|other| *other != script);
     }
 
+    /// The script under way that began first.
+    pub fn oldest(&self) -> Option<usize> {
+        self.scripts.first().copied()
+    }
+
     /// Whether no other script that is under way began before this one.
     pub fn is_oldest(&self, script: usize) -> bool {
         match self.scripts.first() {

@@ -1,14 +1,14 @@
 //! Runs the scripts of a text on the city of a document, with workers and viewers.
-ghost use Rattle.std.specs.Prelude.{◌≡◌, ◌≤◌, ℕ, List, [], length, IfOk, IfErr, IfSome};
+ghost use Rattle.std.specs.Prelude.{◌≡◌, ◌≤◌, ◌++◌, ◌∷◌, ℕ, List, [], length, IfOk, IfErr, IfSome};
 ghost use Rattle.city_model.specs.CityMap.{object_at};
 ghost use Rattle.city_model.specs.Relations.{IsLawful};
 ghost use Rattle.city_model.specs.SerialEnds.{commits_in};
 ghost use Rattle.city_doc.specs.Outputs.{IsJsonOutput};
+ghost use Rattle.city_doc.specs.document.Canonical.{city_text};
 ghost use Rattle.city_doc.specs.report.Reports.{report_text};
 ghost use Rattle.city_desk.specs.RunFaults.{IsRunFault};
 ghost use Rattle.city_desk.specs.TextRuns.{IsRun};
 ghost use Rattle.city_desk.specs.TextRuns.{IsReadFrom};
-ghost use Rattle.city_crew.specs.inside.CrewRuns.{IsResult};
 ghost use Rattle.city_crew.specs.inside.CrewShelves.{taken_by, base_of};
 ghost use Rattle.city_crew.specs.Limits.{max_workers, max_viewers};
 ghost use Rattle.city_crew.specs.Seen.{AreSeen};
@@ -19,19 +19,23 @@ use crate::crew_shelf::CrewShelf;
 use crate::fault::CrewFault;
 use crate::gate::Gate;
 use crate::last_looks::last_looks;
+use crate::origin::Origin;
+use crate::shared::Shared;
+use crate::sleepers::Sleepers;
 use crate::state::State;
 use crate::threads::run_threads;
 use crate::viewer::Viewer;
 use crate::watcher::{Watcher, watchers_of};
-use crate::work::Shared;
 use city_desk::{Desk, Finished, NullShelf, Output, RunFault, Shelf, output_bytes, read_texts};
 use city_doc::FIXED_SEED;
+use city_model::OutOfMemory;
 use city_model::city::City;
 use city_model::copied::Copied;
 use city_model::script::Script;
 use city_model::sequence::Sequence;
 use std::alloc::Global;
-use std::sync::{Condvar, Mutex, Wait};
+use std::marker::Brand;
+use std::sync::Wait;
 use std::thread::Threads;
 
 /// The most workers of a run. All turns are taken under one lock, so however many there are, one of them
@@ -50,7 +54,7 @@ pub const MAX_WORKERS: usize = 16;
 ///
 /// It answers `OutOfMemory` also if a thread couldn't be made, `NoPlace` if a viewer's seat or
 /// look was refused, `Unfinished` if a script hadn't ended when the workers had, and `Mixed` if
-/// what was gathered then isn't of these texts, or a viewer is missing or didn't see just all commits at last.
+/// a viewer is missing then or didn't see just all commits at last.
 pub fn run_crew<R: Threads + Wait + Sync, G: Gate + Sync>(
     rt: &R,
     alloc: Global,
@@ -93,34 +97,102 @@ pub fn run_seeded<R: Threads + Wait + Sync, G: Gate + Sync>(
     ensures fault { IfErr result (λ f. IsRunFault document.now scripts.now f) }
 {
     let (city, list) = read_texts(alloc, document, scripts)?;
-    let (state, seated) = open(rt, alloc, document, scripts, city, list, workers, viewers)?;
-    let output = run(
-        rt, alloc, seed, document, scripts, state, seated, workers, viewers, gate,
-    )?;
+    let room = document.len();
+    let (output, _) = run_crew_read(rt, alloc, seed, city, list, room, workers, viewers, gate)?;
     Ok(output)
 }
 
-/// A desk over a city and scripts, and the viewers of its shelf's board.
-fn open<'r, R: Wait>(
-    rt: &'r R,
+/// Runs scripts that were read on a city that was read, as `run_seeded` does, and gives the city that they leave
+/// beside the output. The texts may be let go before.
+///
+/// `room` is how many bytes the model's text may well take. Points are hashed by the seed.
+pub fn run_crew_read<R: Threads + Wait + Sync, G: Gate + Sync>(
+    rt: &R,
     alloc: Global,
-    document: &[u8],
-    scripts: &[u8],
+    seed: u64,
     city: City,
-    list: Sequence<Script>,
+    scripts: Sequence<Script>,
+    room: usize,
     workers: usize,
     viewers: usize,
-) -> Result<(State<&'r R>, Vec<Viewer>), CrewFault>
+    gate: &G,
+) -> Result<(Output, City), RunFault>
     requires lawful { IsLawful (object_at city.1) }
-    requires read { IsReadFrom document.now scripts.now city list }
+    requires workers { (1 ≤ workers) × (workers ≤ max_workers) }
+    requires viewers { viewers ≤ max_viewers }
+    ensures ran { IfOk result (λ r. (document text : List ℕ) → IsReadFrom document text city scripts
+        → IsRun document text r.0.ends r.0.bytes.items) }
+    ensures seen { IfOk result (λ r. AreSeen viewers (commits_in r.0.ends) r.0.seen.items) }
+    ensures city { IfOk result (λ r. r.0.bytes.items ≡ report_text r.0.ends ++ city_text r.1 ++ 10 ∷ []) }
+    ensures report { IfOk result (λ r. r.0.report ≡ length (report_text r.0.ends)) }
+    ensures lines { IfOk result (λ r. IsJsonOutput r.0.report r.0.bytes.items) }
+    ensures fault { IfErr result (λ f. (document text : List ℕ) → IsRunFault document text f) }
+{
+    let ran = run::<R, G, Brand>(rt, alloc, seed, city, scripts, room, workers, viewers, gate)?;
+    Ok(ran)
+}
+
+/// The same, where a type says what the run begins with.
+fn run<R: Threads + Wait + Sync, G: Gate + Sync, O: Origin + Send>(
+    rt: &R,
+    alloc: Global,
+    seed: u64,
+    city: City,
+    scripts: Sequence<Script>,
+    room: usize,
+    workers: usize,
+    viewers: usize,
+    gate: &G,
+) -> Result<(Output, City), CrewFault>
+    requires lawful { IsLawful (object_at city.1) }
+    requires city { city ≡ O.city }
+    requires scripts { scripts ≡ O.scripts }
+    requires viewers { viewers ≤ max_viewers }
+    ensures ran { IfOk result (λ r. (document text : List ℕ) → IsReadFrom document text O.city O.scripts
+        → IsRun document text r.0.ends r.0.bytes.items) }
+    ensures seen { IfOk result (λ r. AreSeen viewers (commits_in r.0.ends) r.0.seen.items) }
+    ensures city { IfOk result (λ r. r.0.bytes.items ≡ report_text r.0.ends ++ city_text r.1 ++ 10 ∷ []) }
+    ensures report { IfOk result (λ r. r.0.report ≡ length (report_text r.0.ends)) }
+    ensures lines { IfOk result (λ r. IsJsonOutput r.0.report r.0.bytes.items) }
+{
+    let (state, seated) = open::<R, O>(rt, alloc, city, scripts, workers, viewers)?;
+    let watchers = watchers_of(alloc, seated)?;
+    let shared = Shared::new(alloc, state, workers)?;
+    let watchers = run_threads(rt, alloc, &shared, gate, workers, watchers)?;
+    let finished = shared.into_turns().end()?;
+    let (output, city) = gather(rt, alloc, seed, finished, watchers, viewers, room)?;
+    Ok((output, city))
+}
+
+/// A desk over a city and scripts, and the viewers of its shelf's board.
+fn open<'r, R: Wait, O: Origin>(
+    rt: &'r R,
+    alloc: Global,
+    city: City,
+    scripts: Sequence<Script>,
+    workers: usize,
+    viewers: usize,
+) -> Result<(State<&'r R, O>, Vec<Viewer>), CrewFault>
+    requires lawful { IsLawful (object_at city.1) }
+    requires city { city ≡ O.city }
+    requires scripts { scripts ≡ O.scripts }
     requires viewers { viewers ≤ max_viewers }
 {
     let ages = Ages::new(alloc, workers)?;
-    let document = Vec::from_slice(alloc, document)?;
-    let scripts = Vec::from_slice(alloc, scripts)?;
+    let sleepers = Sleepers::new(alloc, workers)?;
+    let lengths = lengths_of(alloc, scripts.as_slice())?;
     let (shelf, seated) = new_shelf(rt, alloc, &city, viewers)?;
-    let desk = Desk::open(alloc, city, list, shelf)?;
-    Ok((State::new(document, scripts, desk, ages), seated))
+    let desk = Desk::open(alloc, city, scripts, shelf)?;
+    Ok((State::new(desk, ages, sleepers, lengths, viewers), seated))
+}
+
+/// How many commands each script has.
+fn lengths_of(alloc: Global, scripts: &[Script]) -> Result<Vec<usize>, OutOfMemory> {
+    let mut lengths = Vec::with_capacity(alloc, scripts.len())?;
+    for script in scripts {
+        lengths.push(script.commands().len())?;
+    }
+    Ok(lengths)
 }
 
 /// A shelf for changes of the city, and the viewers of its board: without viewers it has none.
@@ -143,38 +215,6 @@ fn new_shelf<'r, R: Wait>(
     Ok((CrewShelf::Posted(poster), seated))
 }
 
-/// Runs the workers and the viewers to their ends, and gathers what they leave.
-fn run<R: Threads + Wait + Sync, G: Gate + Sync>(
-    rt: &R,
-    alloc: Global,
-    seed: u64,
-    document: &[u8],
-    scripts: &[u8],
-    state: State<&R>,
-    seated: Vec<Viewer>,
-    workers: usize,
-    viewers: usize,
-    gate: &G,
-) -> Result<Output, CrewFault>
-    ensures ran { IfOk result (λ o. IsRun document.now scripts.now o.ends o.bytes.items) }
-    ensures seen { IfOk result (λ o. AreSeen viewers (commits_in o.ends) o.seen.items) }
-    ensures report { IfOk result (λ o. o.report ≡ length (report_text o.ends)) }
-    ensures lines { IfOk result (λ o. IsJsonOutput o.report o.bytes.items) }
-{
-    let watchers = watchers_of(alloc, seated)?;
-    let shared = Shared {
-        turns: Mutex::new(state),
-        moved: Condvar::new(),
-    };
-    let watchers = run_threads(rt, alloc, &shared, gate, workers, watchers)?;
-    let Shared {
-        turns,
-        moved: _moved,
-    } = shared;
-    let finished = turns.into_inner().end(document, scripts)?;
-    gather(rt, alloc, seed, finished, watchers, viewers, document.len())
-}
-
 /// Shows what isn't shown yet, has each viewer look once more, and writes the report and the model.
 fn gather<S: Shelf, Q: Wait>(
     rt: &Q,
@@ -184,12 +224,13 @@ fn gather<S: Shelf, Q: Wait>(
     watchers: Vec<Watcher>,
     viewers: usize,
     room: usize,
-) -> Result<Output, CrewFault>
-    ensures ran { (document scripts : List ℕ) → IsResult document scripts finished.city finished.ends
-        → IfOk result (λ o. IsRun document scripts o.ends o.bytes.items) }
-    ensures seen { IfOk result (λ o. AreSeen viewers (commits_in o.ends) o.seen.items) }
-    ensures report { IfOk result (λ o. o.report ≡ length (report_text o.ends)) }
-    ensures lines { IfOk result (λ o. IsJsonOutput o.report o.bytes.items) }
+) -> Result<(Output, City), CrewFault>
+    ensures ends { IfOk result (λ r. r.0.ends ≡ finished.ends) }
+    ensures left { IfOk result (λ r. r.1 ≡ finished.city) }
+    ensures seen { IfOk result (λ r. AreSeen viewers (commits_in r.0.ends) r.0.seen.items) }
+    ensures city { IfOk result (λ r. r.0.bytes.items ≡ report_text r.0.ends ++ city_text r.1 ++ 10 ∷ []) }
+    ensures report { IfOk result (λ r. r.0.report ≡ length (report_text r.0.ends)) }
+    ensures lines { IfOk result (λ r. IsJsonOutput r.0.report r.0.bytes.items) }
 {
     let Finished {
         city,
@@ -199,10 +240,11 @@ fn gather<S: Shelf, Q: Wait>(
     shelf.show(rt)?;
     let seen = last_looks(alloc, watchers, viewers, ends.as_slice())?;
     let (bytes, report) = output_bytes(alloc, seed, &city, ends.as_slice(), room)?;
-    Ok(Output {
+    let output = Output {
         ends,
         bytes,
         report,
         seen,
-    })
+    };
+    Ok((output, city))
 }

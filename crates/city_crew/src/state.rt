@@ -1,85 +1,94 @@
 //! What lies under the lock of a run.
-ghost use Rattle.std.specs.Prelude.{◌≡◌, ℕ, List, IfOk, IfErr};
-ghost use Rattle.city_desk.specs.TextRuns.{IsReadFrom};
-ghost use Rattle.city_crew.specs.inside.CrewFaults.{HaveEnded, IsEndFault};
+ghost use Rattle.std.specs.Prelude.{◌≡◌, IfOk, IfErr};
+ghost use Rattle.city_crew.specs.inside.CrewFaults.{HaveEnded};
 ghost use Rattle.city_crew.specs.inside.CrewRuns.{IsResult};
 ghost use Rattle.city_crew.specs.declared.fault.CrewFault.{CrewFault};
 
 use crate::ages::Ages;
 use crate::crew_shelf::CrewShelf;
 use crate::fault::CrewFault;
+use crate::origin::Origin;
+use crate::sleepers::Sleepers;
 use crate::work::Turns;
 use city_desk::{Desk, Finished, Turn};
 use city_model::end::{End, Outcome};
-use std::marker::Model;
+use std::marker::{Model, PhantomData};
 use std::sync::Wait;
 
-/// A desk over what two texts stand for, and the texts.
+/// How many commands a script has that is to wait until it is the oldest under way. A shorter one goes by beside
+/// others.
+const SHORT: usize = 64;
+
+/// A desk over the city and the scripts that its run began with.
 ///
-/// Contracts see the texts and the state of the desk.
+/// Contracts see the state of the desk.
 #[derive(Drop)]
-pub struct State<R: Wait + Drop> {
-    document: Vec<u8>,
-    scripts: Vec<u8>,
+pub struct State<R: Wait + Drop, O: Origin> {
     desk: Desk<CrewShelf<R>>,
     /// How many turns ended a script or killed it.
     moves: u64,
     ages: Ages,
+    sleepers: Sleepers,
+    /// How many commands each script has.
+    lengths: Vec<usize>,
+    viewers: usize,
+    origin: PhantomData<O>,
 }
 
-impl<R: Wait + Drop> Model for State<R> {
-    ghost use Rattle.std.specs.Prelude.{ℕ, List};
+impl<R: Wait + Drop, O: Origin> Model for State<R, O> {
+    ghost use Rattle.std.specs.Prelude.{◌≡◌};
     ghost use Rattle.std.specs.Coded.{codes};
     ghost use Rattle.city_model.specs.inside.DataCode.{coded_members};
     ghost use Rattle.city_txn.specs.inside.Codes.{coded_objects};
     ghost use Rattle.city_desk.specs.DeskState.{DeskState};
-    ghost use Rattle.city_desk.specs.TextRuns.{IsReadFrom};
 
-    ghost Value = { List ℕ × List ℕ × DeskState };
+    ghost Value = { DeskState };
 
     ghost coded = { Prim.hlevel (codes, coded_members, coded_objects) };
 
-    ghost view = { λ s. (s.document.items, s.scripts.items, s.desk.0) };
+    ghost view = { λ s. s.desk.0 };
 
-    ghost invariant = { λ s. IsReadFrom s.document.items s.scripts.items s.desk.0.start s.desk.0.scripts };
+    ghost invariant = { λ s. (s.desk.0.start ≡ O.city) × (s.desk.0.scripts ≡ O.scripts) };
 }
 
-impl<R: Wait + Drop> State<R> {
-    /// A desk that was opened over what the texts stand for, before any of its scripts has begun.
+impl<R: Wait + Drop, O: Origin> State<R, O> {
+    /// A desk that was opened over the city and the scripts, before any of them has begun, and so many viewers of its
+    /// shelf.
     pub fn new(
-        document: Vec<u8>,
-        scripts: Vec<u8>,
         desk: Desk<CrewShelf<R>>,
         ages: Ages,
-    ) -> State<R>
-        requires { IsReadFrom document.items scripts.items desk.0.start desk.0.scripts }
-        ensures { result ≡ (document.items, scripts.items, desk.0) }
+        sleepers: Sleepers,
+        lengths: Vec<usize>,
+        viewers: usize,
+    ) -> State<R, O>
+        requires city { desk.0.start ≡ O.city }
+        requires scripts { desk.0.scripts ≡ O.scripts }
+        ensures { result ≡ desk.0 }
     {
         State {
-            document,
-            scripts,
             desk,
             moves: 0,
             ages,
+            sleepers,
+            lengths,
+            viewers,
+            origin: PhantomData,
         }
     }
 
-    /// The result of the run: `Mixed` if its texts aren't these, `Unfinished` if
-    /// a script hasn't ended.
-    pub fn end(self, document: &[u8], scripts: &[u8]) -> Result<Finished<CrewShelf<R>>, CrewFault>
-        ensures ran { IfOk result (λ f. IsResult document.now scripts.now f.city f.ends) }
-        ensures own { IfOk result (λ _. (document.now ≡ self.0) × (scripts.now ≡ self.1)) }
-        ensures fault { IfErr result (IsEndFault self document.now scripts.now) }
+    /// The result of the run: `Unfinished` if a script hasn't ended.
+    pub fn end(self) -> Result<Finished<CrewShelf<R>>, CrewFault>
+        ensures ran { IfOk result (λ f. IsResult O.city O.scripts f.city f.ends) }
+        ensures fault { IfErr result (λ f. (f ≡ CrewFault.Unfinished) × ¬ HaveEnded self.scripts self.ends) }
     {
-        if self.document.as_slice() != document || self.scripts.as_slice() != scripts {
-            return Err(CrewFault::Mixed);
-        }
         let State {
-            document: _document,
-            scripts: _scripts,
             desk,
             moves: _,
             ages: _ages,
+            sleepers: _sleepers,
+            lengths: _lengths,
+            viewers: _,
+            origin: _,
         } = self;
         finished(desk)
     }
@@ -87,8 +96,7 @@ impl<R: Wait + Drop> State<R> {
 
 /// What a desk leaves when all its scripts have ended.
 fn finished<R: Wait + Drop>(desk: Desk<CrewShelf<R>>) -> Result<Finished<CrewShelf<R>>, CrewFault>
-    ensures ran { (document scripts : List ℕ) → IsReadFrom document scripts desk.0.start desk.0.scripts
-        → IfOk result (λ f. IsResult document scripts f.city f.ends) }
+    ensures ran { IfOk result (λ f. IsResult desk.0.start desk.0.scripts f.city f.ends) }
     ensures fault { IfErr result (λ f. (f ≡ CrewFault.Unfinished) × ¬ HaveEnded desk.0.scripts desk.0.ends) }
 {
     match desk.finish() {
@@ -97,7 +105,7 @@ fn finished<R: Wait + Drop>(desk: Desk<CrewShelf<R>>) -> Result<Finished<CrewShe
     }
 }
 
-impl<R: Wait + Drop> Turns for State<R> {
+impl<R: Wait + Drop, O: Origin> Turns for State<R, O> {
     fn take(&mut self) -> Option<usize> {
         self.desk.take()
     }
@@ -125,6 +133,45 @@ impl<R: Wait + Drop> Turns for State<R> {
 
     fn is_oldest(&self, script: usize) -> bool {
         self.ages.is_oldest(script)
+    }
+
+    fn lie_down(&mut self, worker: usize, script: usize) {
+        self.sleepers.set(worker, Some(script));
+    }
+
+    fn may_rise(&self, worker: usize) -> bool {
+        match self.sleepers.script(worker) {
+            Some(script) => self.ages.is_oldest(script),
+            None => true,
+        }
+    }
+
+    fn rise(&mut self, worker: usize) -> Option<usize> {
+        let script = self.sleepers.script(worker);
+        self.sleepers.set(worker, None);
+        script
+    }
+
+    fn to_be_woken(&self) -> Option<usize> {
+        self.sleepers.worker(self.ages.oldest()?)
+    }
+
+    fn exchange(&mut self, script: usize) -> Option<usize> {
+        let oldest = self.ages.oldest()?;
+        let worker = self.sleepers.worker(oldest)?;
+        self.sleepers.set(worker, Some(script));
+        Some(oldest)
+    }
+
+    fn goes_by(&self, script: usize) -> bool {
+        match self.lengths.get(script) {
+            Some(commands) => *commands < SHORT,
+            None => true,
+        }
+    }
+
+    fn are_looked_at(&self) -> bool {
+        self.viewers > 0
     }
 
     fn show_commit<Q: Wait>(&mut self, rt: &Q) {

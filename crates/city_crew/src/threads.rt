@@ -1,8 +1,9 @@
 //! The threads of a run.
 use crate::fault::CrewFault;
 use crate::gate::Gate;
+use crate::shared::Shared;
 use crate::watcher::Watch;
-use crate::work::{Shared, Turns, work};
+use crate::work::{Turns, take_first, work, work_from};
 use std::alloc::Global;
 use std::sync::Wait;
 use std::sync::atomic::{AtomicBool, Ordering};
@@ -39,18 +40,23 @@ pub fn run_threads<R: Threads + Wait + Sync, T: Turns + Send, G: Gate + Sync, W:
     })
 }
 
-/// Runs so many workers to their ends. False where one of their threads couldn't be made.
+/// Runs so many workers to their ends, the first of them on this thread. False where a thread of the others couldn't be
+/// made.
+///
+/// The first worker begins before the others come: it has read the city, and what it read is at hand here.
 fn run_workers<R: Threads + Wait + Sync, T: Turns + Send, G: Gate + Sync>(
     rt: &R,
     shared: &Shared<T>,
     gate: &G,
     workers: usize,
 ) -> bool {
+    let first = take_first(rt, shared, gate.is_open());
     thread::scope(thread::scope_env(), rt, move |scope| {
         let mut made = true;
-        for _ in 0..workers {
-            made &= scope.spawn(move || work(rt, shared, gate)).is_ok();
+        for worker in 1..workers {
+            made &= scope.spawn(move || work(rt, shared, gate, worker)).is_ok();
         }
+        work_from(rt, shared, gate, 0, first);
         made
     })
 }

@@ -1,15 +1,14 @@
 //! The workers of a run.
 use crate::gate::Gate;
+use crate::shared::Shared;
 use city_desk::Turn;
-use std::sync::{Condvar, Mutex, MutexGuard, Wait};
+use std::sync::{MutexGuard, Wait};
 
-/// How many turns of the oldest script under way a worker makes under one lock, where no gate may
-/// hold it between them: no turn kills that script, so none of its work is lost.
-const TURNS_OF_THE_OLDEST: usize = 64;
+/// How many turns of a script a worker makes under one lock, where no gate may hold it between them.
+const TURNS_AT_ONCE: usize = 256;
 
-/// How many turns of a younger one: enough that the lock seldom changes hands and a short script runs
-/// whole, and few enough that little is lost where it dies.
-const TURNS_OF_A_YOUNGER: usize = 16;
+/// After how many turns under one lock a worker takes no other script under it, if no script is under way.
+const TURNS_ALONE: usize = 16_384;
 
 /// Scripts that take turns, and of which each free worker takes the next.
 pub trait Turns: Drop {
@@ -25,96 +24,205 @@ pub trait Turns: Drop {
     /// Whether no other script that has begun and not ended began before this one.
     fn is_oldest(&self, script: usize) -> bool;
 
+    /// The worker goes to sleep with a script, of which there is no reply.
+    fn lie_down(&mut self, worker: usize, script: usize);
+
+    /// Whether the script that the worker sleeps with is the oldest.
+    fn may_rise(&self, worker: usize) -> bool;
+
+    /// The worker sleeps no longer; the script that it has slept with last.
+    fn rise(&mut self, worker: usize) -> Option<usize>;
+
+    /// The worker that sleeps with the oldest script.
+    fn to_be_woken(&self) -> Option<usize>;
+
+    /// Puts a script to bed in place of the oldest, where a worker sleeps with that, and gives the oldest.
+    fn exchange(&mut self, script: usize) -> Option<usize>;
+
+    /// Whether a script is to go by beside others: it is short.
+    fn goes_by(&self, script: usize) -> bool;
+
+    /// Whether viewers look on.
+    fn are_looked_at(&self) -> bool;
+
     /// Shows the change of the script that ended last, if it was committed. Where that is refused a
     /// later one shows it.
     fn show_commit<R: Wait>(&mut self, rt: &R);
 }
 
-/// What the workers share.
-#[derive(Drop)]
-pub struct Shared<T: Turns> {
-    pub turns: Mutex<T>,
-    /// Notified by each turn that ends a script or kills it.
-    pub moved: Condvar,
+/// A script that a worker has taken.
+#[derive(Clone, Copy)]
+pub struct Task {
+    script: usize,
+    /// How many replies it has in this attempt.
+    replies: usize,
 }
 
-/// Runs scripts to their ends, one after the other, until all were handed out.
-pub fn work<R: Wait, T: Turns, G: Gate>(rt: &R, shared: &Shared<T>, gate: &G) {
+impl Task {
+    /// A script without replies.
+    fn of(script: usize) -> Task {
+        Task { script, replies: 0 }
+    }
+}
+
+/// What a worker does before it makes turns again.
+#[derive(Clone, Copy)]
+enum Rest {
+    /// It passes the gate alone.
+    Gate,
+    /// It sleeps until another turn has ended a script or killed it.
+    UntilMoved,
+    /// It sleeps until its script is the oldest under way. Till then that holds no lock.
+    UntilOldest,
+}
+
+/// Runs scripts to their ends, one after the other, until all were handed out. Each worker has a number.
+pub fn work<R: Wait, T: Turns, G: Gate>(rt: &R, shared: &Shared<T>, gate: &G, worker: usize) {
+    let first = take(&mut *shared.turns.lock(rt));
+    work_from(rt, shared, gate, worker, first);
+}
+
+/// The same, beginning with this script.
+pub fn work_from<R: Wait, T: Turns, G: Gate>(
+    rt: &R,
+    shared: &Shared<T>,
+    gate: &G,
+    worker: usize,
+    first: Option<Task>,
+) {
+    let mut next = first;
     for _ in rt.forever() {
-        let taken = shared.turns.lock(rt).take();
-        let Some(script) = taken else {
+        let Some(task) = next else {
             return;
         };
-        turn_to_end(rt, shared, gate, script);
+        gate.pass(task.script, task.replies);
+        next = turns_at_once(rt, shared, worker, task, gate.is_open());
     }
 }
 
-/// Runs a script to its end.
-fn turn_to_end<R: Wait, T: Turns, G: Gate>(rt: &R, shared: &Shared<T>, gate: &G, script: usize) {
-    let mut replies = 0usize;
-    for _ in rt.forever() {
-        gate.pass(script, replies);
-        match turns_at_once(rt, shared, script, gate.is_open(), &mut replies) {
-            Turn::Ended | Turn::AlreadyEnded => return,
-            _ => {}
-        }
+/// Takes the first script, before other workers come, and begins it, if no gate may hold its worker.
+pub fn take_first<R: Wait, T: Turns>(rt: &R, shared: &Shared<T>, begin: bool) -> Option<Task> {
+    let mut turns = shared.turns.lock(rt);
+    let mut task = take(&mut *turns)?;
+    if begin {
+        turn_once(&mut *turns, &mut task);
     }
+    Some(task)
 }
 
-/// Makes turns of a script under one lock: one, or many if no gate may hold it between them,
-/// up to one that neither begins it nor replies. Returns the last one, and counts the
-/// replies of the attempt.
+/// The next script to be worked on.
+fn take<T: Turns>(turns: &mut T) -> Option<Task> {
+    Some(Task::of(turns.take()?))
+}
+
+/// Makes turns under one lock: one, or many if no gate may hold the worker between them. Returns the script that the
+/// worker goes on with, once it has rested.
 ///
-/// If the last turn waits, it returns after another turn has ended a script or killed it. If the
-/// script died, it returns when the script is the oldest under way, which no turn kills: so a
-/// script dies at most once.
+/// A script that died goes on when it is the oldest under way, which no turn kills: so a script dies at most once.
 fn turns_at_once<R: Wait, T: Turns>(
     rt: &R,
     shared: &Shared<T>,
-    script: usize,
+    worker: usize,
+    task: Task,
     many: bool,
-    replies: &mut usize,
-) -> Turn {
+) -> Option<Task> {
     let mut turns = shared.turns.lock(rt);
-    let most = match (many, turns.is_oldest(script)) {
-        (false, _) => 1,
-        (true, true) => TURNS_OF_THE_OLDEST,
-        (true, false) => TURNS_OF_A_YOUNGER,
+    let moves = turns.moves();
+    let (next, rest) = if many {
+        make_many(rt, &mut *turns, task)
+    } else {
+        make_one(rt, &mut *turns, task)
     };
-    let turn = go_on(&mut *turns, script, most, replies);
-    match turn {
-        Turn::Waits => wait_for_a_move(rt, shared, turns),
-        Turn::Died => {
-            shared.moved.notify_all();
-            wait_for_the_older(rt, shared, turns, script);
-        }
-        Turn::Ended => {
-            turns.show_commit(rt);
-            shared.moved.notify_all();
-        }
-        _ => {}
+    if turns.moves() != moves {
+        shared.wake(turns.to_be_woken());
     }
-    turn
+    let task = next?;
+    match rest {
+        Rest::Gate => next,
+        Rest::UntilMoved => {
+            wait_for_a_move(rt, shared, turns);
+            next
+        }
+        Rest::UntilOldest => Some(wait_for_the_older(rt, shared, turns, worker, task)),
+    }
 }
 
-/// Makes so many turns of a script, or fewer if one neither begins it nor replies. Returns the last
-/// one, and counts the replies of the attempt.
-fn go_on<T: Turns>(turns: &mut T, script: usize, most: usize, replies: &mut usize) -> Turn {
-    for _ in 1..most {
-        let turn = turn_once(turns, script, replies);
-        if !matches!(turn, Turn::Began | Turn::Replied) {
-            return turn;
+/// Makes one turn of a script.
+fn make_one<R: Wait, T: Turns>(rt: &R, turns: &mut T, task: Task) -> (Option<Task>, Rest) {
+    let mut task = task;
+    match turn_once(turns, &mut task) {
+        Turn::Ended | Turn::AlreadyEnded => (end(rt, turns), Rest::Gate),
+        Turn::Waits => (Some(task), Rest::UntilMoved),
+        Turn::Died => (Some(task), Rest::UntilOldest),
+        Turn::Began | Turn::Replied => (Some(task), Rest::Gate),
+    }
+}
+
+/// Makes many turns of a script, and of those that follow it where it ends soon. Where the next is long, it goes on
+/// with the oldest one in its place: what that needs is at hand here, and not where its worker sleeps.
+fn make_many<R: Wait, T: Turns>(rt: &R, turns: &mut T, task: Task) -> (Option<Task>, Rest) {
+    let mut task = task;
+    let mut made = 0usize;
+    for _ in rt.forever() {
+        let (turn, count) = go_on(turns, &mut task);
+        made = made.wrapping_add(count);
+        let next = match turn {
+            Turn::Ended | Turn::AlreadyEnded => end(rt, turns),
+            Turn::Began => match turns.exchange(task.script) {
+                Some(oldest) => Some(Task::of(oldest)),
+                None => return (Some(task), Rest::UntilOldest),
+            },
+            Turn::Replied => return (Some(task), Rest::Gate),
+            Turn::Waits => return (Some(task), Rest::UntilMoved),
+            Turn::Died => return (Some(task), Rest::UntilOldest),
+        };
+        match next {
+            Some(another) if made < most_before(turns, another) => task = another,
+            _ => return (next, Rest::Gate),
         }
     }
-    turn_once(turns, script, replies)
+    unreachable!()
+}
+
+/// How many turns a worker may have made under one lock where it goes on with another script: none before viewers, so
+/// that they may look between two.
+fn most_before<T: Turns>(turns: &T, another: Task) -> usize {
+    match (turns.are_looked_at(), turns.is_oldest(another.script)) {
+        (true, _) => 0,
+        (false, true) => TURNS_ALONE,
+        (false, false) => TURNS_AT_ONCE,
+    }
+}
+
+/// Shows the commit of a script that has ended, and takes the next.
+fn end<R: Wait, T: Turns>(rt: &R, turns: &mut T) -> Option<Task> {
+    turns.show_commit(rt);
+    take(turns)
+}
+
+/// Makes turns of a script up to one that ends it, kills it or waits, or that begins it where it is to sleep until
+/// it is the oldest, but no more than `TURNS_AT_ONCE`. Returns the last one, and how many they were.
+fn go_on<T: Turns>(turns: &mut T, task: &mut Task) -> (Turn, usize) {
+    for made in 1..TURNS_AT_ONCE {
+        let turn = turn_once(turns, task);
+        let goes_on = match turn {
+            Turn::Replied => true,
+            Turn::Began => turns.is_oldest(task.script) || turns.goes_by(task.script),
+            _ => false,
+        };
+        if !goes_on {
+            return (turn, made);
+        }
+    }
+    (turn_once(turns, task), TURNS_AT_ONCE)
 }
 
 /// Makes one turn of a script, and counts the replies of the attempt.
-fn turn_once<T: Turns>(turns: &mut T, script: usize, replies: &mut usize) -> Turn {
-    let turn = turns.turn(script);
+fn turn_once<T: Turns>(turns: &mut T, task: &mut Task) -> Turn {
+    let turn = turns.turn(task.script);
     match turn {
-        Turn::Began | Turn::Died => *replies = 0,
-        Turn::Replied => *replies = replies.wrapping_add(1),
+        Turn::Began | Turn::Died => task.replies = 0,
+        Turn::Replied => task.replies = task.replies.wrapping_add(1),
         _ => {}
     }
     turn
@@ -128,14 +236,22 @@ fn wait_for_a_move<R: Wait, T: Turns>(rt: &R, shared: &Shared<T>, turns: MutexGu
         .wait_while(rt, turns, |now| now.moves() == seen);
 }
 
-/// Waits until all scripts that began before this one have ended.
+/// Waits until all scripts that began before this one have ended, or those before one that is exchanged for it. Returns
+/// the script that is the oldest then.
 fn wait_for_the_older<R: Wait, T: Turns>(
     rt: &R,
     shared: &Shared<T>,
     turns: MutexGuard<'_, T>,
-    script: usize,
-) {
-    let _turns = shared
-        .moved
-        .wait_while(rt, turns, |now| !now.is_oldest(script));
+    worker: usize,
+    task: Task,
+) -> Task {
+    let mut turns = turns;
+    turns.lie_down(worker, task.script);
+    let mut turns = shared
+        .bed(worker)
+        .wait_while(rt, turns, |now| !now.may_rise(worker));
+    match turns.rise(worker) {
+        Some(script) => Task::of(script),
+        None => task,
+    }
 }

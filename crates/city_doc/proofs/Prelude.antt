@@ -97,9 +97,9 @@ pub use Rattle.city_doc.specs.inside.document.LenientCities.{IsReadOf, first_bod
 pub use Rattle.city_doc.specs.inside.document.Searches.{first_with}
 pub use Rattle.city_doc.specs.inside.script.Forms.{parts_views}
 pub use Rattle.city_doc.specs.inside.script.Searches.{bad_script, first_at, first_command, first_in, index_if, index_in}
-pub use Rattle.city_doc.specs.inside.tree.Between.{members_between}
 pub use Rattle.city_doc.specs.inside.tree.PartTokens.{closing_items, closing_members, listed, tokens_of_members}
 pub use Rattle.city_doc.specs.inside.tree.PartTokens.{tokens_of_own}
+pub use Rattle.city_doc.specs.inside.tree.Parted.{members_before, members_from}
 pub use Rattle.city_doc.specs.inside.tree.ReadsBack.{ItemsReadBack, MembersReadBack, ReadsBack}
 pub use Rattle.city_doc.specs.object.Canonical.{object_data, objects_data, with_objects}
 pub use Rattle.city_doc.specs.object.Faults.{first_unsupported, has_bad_list, has_bad_vertex, is_bad_geometry}

@@ -1,5 +1,6 @@
 -- What the proofs of several functions of src/pool.rt use.
 pub mod KeptNumbers
+pub mod NumberedAt
 pub mod NumberedPoints
 pub mod Repeats
 pub mod Walks

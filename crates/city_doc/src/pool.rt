@@ -1,5 +1,6 @@
 //! Numbers points in the order in which they are first met.
-ghost use Rattle.std.specs.Prelude.{◌≡◌, [], IfOk, OnOk, OnErr};
+ghost use Rattle.std.specs.Prelude.{◌≡◌, [], IfOk, OnOk, OnErr, true};
+ghost use Rattle.city_model.specs.Shells.{same_point};
 ghost use Rattle.city_doc.specs.Pool.{number_of, with_point};
 
 use city_model::OutOfMemory;
@@ -37,10 +38,33 @@ impl BuildHasher for SeededHasher {
     }
 }
 
+/// How many numbers a pool remembers beside its table.
+const PLACES: usize = 256;
+
 /// The points met so far, each once; numbered from 0 in that order.
+///
+/// Most points are met again soon, by the next surfaces of the same solid. So the number that was found last at each of
+/// a few places is tried before the table; it counts only where the point of this number is that point.
 #[derive(Drop)]
 pub struct VertexPool {
     points: IndexSet<Point, SeededHasher>,
+    lately: [usize; PLACES],
+}
+
+/// The place at which the number of a point is remembered. The factors are odd and their bits are spread, so points
+/// near each other mostly have different places.
+fn place_of(point: &Point) -> u8 {
+    let x = point.x.wrapping_mul(0x1E37_79B9_7F4A_7C15);
+    let y = point.y.wrapping_mul(0x42B2_AE3D_27D4_EB4F);
+    let z = point.z.wrapping_mul(0x1656_67B1_9E37_79F9);
+    let [.., place] = (x ^ y ^ z).to_le_bytes();
+    place
+}
+
+fn is_same(point: &Point, other: &Point) -> bool
+    ensures { result ≡ same_point point.now other.now }
+{
+    *point == *other
 }
 
 impl Model for VertexPool {
@@ -66,6 +90,19 @@ impl VertexPool {
     {
         VertexPool {
             points: IndexSet::with_hasher(alloc, SeededHasher::new(seed)),
+            lately: [0; PLACES],
+        }
+    }
+
+    /// Whether a point is there and has this number.
+    #[tactic(auto, using(crate::proofs::pool::NumberedAt::kept_at))]
+    fn is_numbered(&self, point: &Point, number: usize) -> bool
+        ensures number { result ≡ true → number ≡ number_of self.now point.now }
+        ensures there { result ≡ true → with_point self.now point.now ≡ self.now }
+    {
+        match self.points.as_slice().get(number) {
+            None => false,
+            Some(there) => is_same(there, point),
         }
     }
 
@@ -77,7 +114,13 @@ impl VertexPool {
         ensures added { OnOk result (self.new ≡ with_point self.old point) }
         ensures unchanged { OnErr result (self.new ≡ self.old) }
     {
+        let place = place_of(&point) as usize;
+        let lately = self.lately[place];
+        if self.is_numbered(&point, lately) {
+            return Ok(lately);
+        }
         let (number, _) = self.points.insert_full(point)?;
+        self.lately[place] = number;
         Ok(number)
     }
 

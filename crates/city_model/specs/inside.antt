@@ -4,6 +4,8 @@ pub mod BorrowedBounds
 pub mod ChunkSearch
 pub mod DataCode
 pub mod Faultless
+pub mod KeptIn
+pub mod MemberLists
 pub mod Plans
 pub mod RelationTests
 pub mod RingFaults

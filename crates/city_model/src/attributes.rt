@@ -10,7 +10,7 @@ use crate::OutOfMemory;
 use crate::command::Attributes;
 use crate::kept::extra::Extra;
 use crate::kept::site::{AtObject, has_no_member};
-use crate::members::{into_object, member, take};
+use crate::members::{into_object, member, put, take};
 use crate::same_value::same_value;
 use crate::text::Text;
 use serde_json::{Map, Value};
@@ -18,7 +18,7 @@ use std::alloc::Global;
 
 /// The kept members of an object with these attributes set, or None where its `attributes` is no object.
 /// It fails only when out of memory.
-pub fn with_set(
+pub(crate) fn with_set(
     alloc: Global,
     extra: &Extra<AtObject>,
     named: &Attributes,
@@ -36,7 +36,7 @@ pub fn with_set(
 
 /// The kept members of an object without the attributes of these names, or None where its `attributes`
 /// is no object. It fails only when out of memory.
-pub fn with_unset(
+pub(crate) fn with_unset(
     alloc: Global,
     extra: &Extra<AtObject>,
     names: &[Text],
@@ -53,12 +53,12 @@ pub fn with_unset(
 }
 
 /// Whether the kept members of an object have these attributes, with these values. Doesn't allocate.
-pub fn has_attributes(extra: &Extra<AtObject>, named: &Attributes) -> bool
-    ensures { result ≡ has_attributes extra.now named.now }
+pub(crate) fn has_attributes(extra: &Map<String, Value>, named: &Map<String, Value>) -> bool
+    ensures { result ≡ has_attributes (members_view extra.now.entries) (members_view named.now.entries) }
 {
-    match attributes_of(extra.map()) {
-        Some(found) => are_among(named.map(), found),
-        None => has_no_member(named.map()),
+    match attributes_of(extra) {
+        Some(found) => are_among(named, found),
+        None => has_no_member(named),
     }
 }
 
@@ -102,7 +102,7 @@ fn put_any(
 }
 
 /// Gives the members these `attributes`.
-fn put_attributes(
+pub(crate) fn put_attributes(
     alloc: Global,
     members: &mut Map<String, Value>,
     found: Map<String, Value>,
@@ -115,15 +115,6 @@ fn put_attributes(
         "attributes".to_string(alloc)?,
         Value::Object(found),
     )
-}
-
-/// Gives the members one of this name.
-fn put(members: &mut Map<String, Value>, name: String, value: Value) -> Result<(), OutOfMemory>
-    ensures { OnOk result (members_view members.new.entries
-        ≡ put (string_bytes name) (view value) (members_view members.old.entries)) }
-{
-    let _before = members.insert(name, value)?;
-    Ok(())
 }
 
 /// Gives the members each of the named ones.

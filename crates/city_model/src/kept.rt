@@ -1,4 +1,8 @@
 //! The members of a document that are kept in their places without being read.
 
 pub mod extra;
+pub mod member_list;
+pub mod shared_extra;
+pub mod shared_members;
 pub mod site;
+pub mod size;

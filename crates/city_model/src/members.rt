@@ -1,9 +1,11 @@
 //! The members of a JSON object.
-ghost use Rattle.std.specs.Prelude.{◌≡◌, option_map};
+ghost use Rattle.std.specs.Prelude.{◌≡◌, option_map, string_bytes, IfOk, OnOk};
+ghost use Rattle.serde_json.specs.Data.{put};
 ghost use Rattle.serde_json.specs.Find.{as_object, get_member};
 ghost use Rattle.serde_json.specs.View.{view, members_view};
 ghost use Rattle.city_model.specs.Members.{without, members_count, AreOrdered};
 
+use crate::OutOfMemory;
 use serde_json::{Map, Value};
 
 /// The member of a name.
@@ -37,4 +39,25 @@ pub fn members_count(members: &Map<String, Value>) -> usize
     ensures ordered { AreOrdered (members_view members.now.entries) }
 {
     members.len()
+}
+
+/// Gives the members one of this name.
+pub(crate) fn put(
+    members: &mut Map<String, Value>,
+    name: String,
+    value: Value,
+) -> Result<(), OutOfMemory>
+    ensures { OnOk result (members_view members.new.entries
+        ≡ put (string_bytes name) (view value) (members_view members.old.entries)) }
+{
+    let _before = members.insert(name, value)?;
+    Ok(())
+}
+
+/// A copy of a map of members.
+pub(crate) fn copy_of(members: &Map<String, Value>) -> Result<Map<String, Value>, OutOfMemory>
+    ensures { IfOk result (λ copy. members_view copy.entries ≡ members_view members.now.entries) }
+{
+    let copy = members.clone()?;
+    Ok(copy)
 }

@@ -2,7 +2,8 @@
 ghost use Rattle.std.specs.Prelude.{◌≡◌};
 
 use crate::kept::extra::Extra;
-use crate::kept::site::{AtGeometry, AtObject};
+use crate::kept::shared_extra::SharedExtra;
+use crate::kept::site::AtGeometry;
 use crate::object_type::ObjectType;
 use crate::sequence::Sequence;
 use crate::shared::Shared;
@@ -57,7 +58,7 @@ pub type Geometries = Shared<Sequence<Geometry>>;
 pub struct Body {
     pub kind: ObjectType,
     pub geometry: Geometries,
-    pub extra: Extra<AtObject>,
+    pub extra: SharedExtra,
 }
 
 /// A city object (CityJSON 2.0, section 2). A copy shares its body and the ids of its children.

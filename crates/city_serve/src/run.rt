@@ -1,9 +1,12 @@
 //! Runs a text of scripts by as many workers, before as many viewers, and with such numbers as are asked for.
-ghost use Rattle.std.specs.Prelude.{◌≡◌, false, length, IfOk, IfErr};
+ghost use Rattle.std.specs.Prelude.{◌≡◌, ℕ, List, false, length, IfOk, IfErr};
+ghost use Rattle.city_model.specs.CityMap.{object_at};
+ghost use Rattle.city_model.specs.Relations.{IsLawful};
 ghost use Rattle.city_model.specs.SerialEnds.{commits_in};
 ghost use Rattle.city_crew.specs.Seen.{AreSeen};
 ghost use Rattle.city_desk.specs.InTurn.{AreInTurn};
-ghost use Rattle.city_desk.specs.TextRuns.{IsRun};
+ghost use Rattle.city_desk.specs.RunFaults.{IsRunFault, is_of_crew};
+ghost use Rattle.city_desk.specs.TextRuns.{IsReadFrom, IsRun};
 ghost use Rattle.city_serve.specs.RunOptions.{AreWithin};
 ghost use Rattle.city_serve.specs.ServedTexts.{IsFaultOfRun, WhereAlone};
 ghost use Rattle.city_doc.specs.Outputs.{IsJsonOutput};
@@ -14,8 +17,11 @@ ghost use Rattle.city_serve.specs.Destinations.{IsCutAt};
 use crate::decimals::run_decimals;
 use crate::options::Options;
 use crate::texts::Texts;
-use city_crew::{Gate, run_seeded};
+use city_crew::{Gate, run_crew_read};
 use city_desk::{Output, RunFault, read_texts, run_read};
+use city_model::city::City;
+use city_model::script::Script;
+use city_model::sequence::Sequence;
 use std::alloc::Global;
 use std::mem::forget;
 use std::sync::Wait;
@@ -49,8 +55,8 @@ pub(crate) fn run<R: Threads + Wait + Sync, G: Gate + Sync>(
     }
 }
 
-/// Runs scripts whose numbers are whole on such a document's city. One worker without viewers needs no thread beside
-/// its own, passes no gate, and lets the texts go once they are read.
+/// Runs scripts whose numbers are whole on such a document's city, and lets the texts go once they are read. One worker
+/// without viewers needs no thread beside its own, and passes no gate.
 pub(crate) fn run_whole<R: Threads + Wait + Sync, G: Gate + Sync>(
     rt: &R,
     alloc: Global,
@@ -74,19 +80,45 @@ pub(crate) fn run_whole<R: Threads + Wait + Sync, G: Gate + Sync>(
         texts.document.bytes.as_slice(),
         texts.scripts.bytes.as_slice(),
     );
-    if options.workers == 1 && options.viewers == 0 {
-        let (city, list) = read_texts(alloc, model, commands)?;
-        let room = model.len();
-        texts.let_go(alloc);
-        let (output, city) = run_read(alloc, seed, city, list, room)?;
-        // The process ends after its output, and its memory goes with it. To drop the city object by
-        // object would take time.
-        forget(city);
-        Ok(output)
+    let (city, list) = read_texts(alloc, model, commands)?;
+    let room = model.len();
+    texts.let_go(alloc);
+    let (output, city) = run_read_texts(rt, alloc, gate, seed, city, list, room, options)?;
+    // The process ends after its output, and its memory goes with it. To drop the city object by
+    // object would take time.
+    forget(city);
+    Ok(output)
+}
+
+/// Runs scripts that were read on a city that was read, and gives the city that they leave beside the output.
+fn run_read_texts<R: Threads + Wait + Sync, G: Gate + Sync>(
+    rt: &R,
+    alloc: Global,
+    gate: &G,
+    seed: u64,
+    city: City,
+    scripts: Sequence<Script>,
+    room: usize,
+    options: Options,
+) -> Result<(Output, City), RunFault>
+    requires lawful { IsLawful (object_at city.1) }
+    requires within { AreWithin options }
+    ensures ran { IfOk result (λ r. (document text : List ℕ) → IsReadFrom document text city scripts
+        → IsRun document text r.0.ends r.0.bytes.items) }
+    ensures in_turn { IfOk result (λ r. WhereAlone options.workers options.viewers (AreInTurn 0 r.0.ends)) }
+    ensures seen { IfOk result (λ r. AreSeen options.viewers (commits_in r.0.ends) r.0.seen.items) }
+    ensures cut { IfOk result (λ r. IsCutAt false r.0.ends r.0.bytes.items r.0.report) }
+    ensures report { IfOk result (λ r. r.0.report ≡ length (report_text r.0.ends)) }
+    ensures lines { IfOk result (λ r. IsJsonOutput r.0.report r.0.bytes.items) }
+    ensures fault { IfErr result (λ f. (document text : List ℕ) → IsRunFault document text f) }
+    ensures alone { IfErr result (λ f. WhereAlone options.workers options.viewers (is_of_crew f ≡ false)) }
+{
+    let (workers, viewers) = (options.workers, options.viewers);
+    if workers == 1 && viewers == 0 {
+        let ran = run_read(alloc, seed, city, scripts, room)?;
+        Ok(ran)
     } else {
-        let (workers, viewers) = (options.workers, options.viewers);
-        let output = run_seeded(rt, alloc, seed, model, commands, workers, viewers, gate)?;
-        texts.let_go(alloc);
-        Ok(output)
+        let ran = run_crew_read(rt, alloc, seed, city, scripts, room, workers, viewers, gate)?;
+        Ok(ran)
     }
 }

@@ -28,7 +28,7 @@ struct InSteps<'a> {
     steps: &'a [Step],
     open: bool,
     replies: &'a [&'a [usize]],
-    passes: [AtomicU64; 3],
+    passes: [AtomicU64; 6],
     wrong: AtomicU64,
 }
 
@@ -38,7 +38,14 @@ impl<'a> InSteps<'a> {
             steps,
             open,
             replies,
-            passes: [AtomicU64::new(0), AtomicU64::new(0), AtomicU64::new(0)],
+            passes: [
+                AtomicU64::new(0),
+                AtomicU64::new(0),
+                AtomicU64::new(0),
+                AtomicU64::new(0),
+                AtomicU64::new(0),
+                AtomicU64::new(0),
+            ],
             wrong: AtomicU64::new(0),
         }
     }
@@ -121,19 +128,22 @@ fn watch<R: Clock + Abort>(rt: &R, over: &AtomicBool) {
     rt.panic("a run isn't over within a minute: was a worker that sleeps not woken?")
 }
 
-/// How many scripts have committed, and how often a pass was wrong, once the run is over; none where it wasn't served.
+/// What is written of a run, and how often a pass was wrong, once it is over; none where it wasn't served.
 fn run<R: Threads + Wait + Sync>(
     rt: &R,
     alloc: Global,
     gate: &InSteps,
     scripts: &str,
+    workers: usize,
     over: &AtomicBool,
-) -> Option<(usize, u64)> {
-    let answer = served(rt, alloc, gate, (LAND, scripts), 3, 0);
+) -> Option<(String, u64)> {
+    if workers == 0 || workers > 16 {
+        return None;
+    }
+    let answer = served(rt, alloc, gate, (LAND, scripts), workers, 0);
     over.store(true, Ordering::SeqCst);
     let (text, _) = answer?;
-    let wrong = gate.wrong.load(Ordering::SeqCst);
-    Some((commits(text.as_str()), wrong))
+    Some((text, gate.wrong.load(Ordering::SeqCst)))
 }
 
 /// The same within a limit of time.
@@ -142,15 +152,27 @@ fn run_in_time<R: Threads + Wait + Clock + Abort + Sync>(
     alloc: Global,
     gate: &InSteps,
     scripts: &str,
-) -> Option<(usize, u64)> {
+    workers: usize,
+) -> Option<(String, u64)> {
     let over = AtomicBool::new(false);
     let over = &over;
     let (came, _) = join(
         rt,
-        move || run(rt, alloc, gate, scripts, over),
+        move || run(rt, alloc, gate, scripts, workers, over),
         move || watch(rt, over),
     );
     came
+}
+
+/// How many scripts have committed in a run by three workers, and how often a pass was wrong.
+fn committed_in_time<R: Threads + Wait + Clock + Abort + Sync>(
+    rt: &R,
+    alloc: Global,
+    gate: &InSteps,
+    scripts: &str,
+) -> Option<(usize, u64)> {
+    let (text, wrong) = run_in_time(rt, alloc, gate, scripts, 3)?;
+    Some((commits(text.as_str()), wrong))
 }
 
 /// Two pieces of land.
@@ -205,7 +227,7 @@ type Sleep = (&'static [Step], bool, &'static [&'static [usize]], usize);
 const SLEEPS: &[Sleep] = &[
     (LAST_SLEEPS_FIRST, false, DIE_ONCE, 1),
     (LAST_SLEEPS_LAST, false, DIE_ONCE, 1),
-    (MANY_TURNS, true, &[], 200),
+    (MANY_TURNS, true, &[], 300),
 ];
 
 #[test]
@@ -215,7 +237,7 @@ fn an_end_wakes_all_that_sleep(rt: HostRuntime) {
             let gate = InSteps::of(steps, *open, replies);
             let scripts = three_scripts(rt.alloc(), *count, end);
             let scripts = scripts.as_ref().map_or("", |scripts| scripts.as_str());
-            let came = run_in_time(&rt, rt.alloc(), &gate, scripts);
+            let came = committed_in_time(&rt, rt.alloc(), &gate, scripts);
             assert_eq!(&rt; came, Some((*commits, 0)), "{end} {count}");
         }
     }
@@ -275,28 +297,79 @@ fn a_death_wakes_one_that_waits(rt: HostRuntime) {
         let scripts = scripts.as_ref().map_or("", |scripts| scripts.as_str());
         for _ in 0..2 {
             let gate = InSteps::of(steps, false, replies);
-            let came = run_in_time(&rt, rt.alloc(), &gate, scripts);
+            let came = committed_in_time(&rt, rt.alloc(), &gate, scripts);
             assert_eq!(&rt; came, Some((2, 0)), "{count}");
         }
     }
 }
 
-/// Puts of the first script, at which it has so many passes, of 64 turns each and one more; puts of the second, which
-/// begins then, and its passes, of 16 turns each and one more, after which the first goes on.
-const LENGTHS: &[(usize, u64, usize, u64)] = &[(191, 4, 95, 7), (639, 11, 991, 63)];
+/// A script that puts `x` so often, and others that each put an id of their own so often.
+pub fn one_and_others(alloc: Global, first: usize, others: usize, each: usize) -> Option<String> {
+    let first = puts(alloc, "x", first)?;
+    let mut text = String::new(alloc);
+    write!(text, r#"[{{"name":"first","commands":[{first}"commit"]}}"#).ok()?;
+    for number in 0..others {
+        let id = format!(in alloc; "y{number}").ok()?;
+        let its = puts(alloc, id.as_str(), each)?;
+        write!(text, r#",{{"name":"other","commands":[{its}"commit"]}}"#).ok()?;
+    }
+    text.push(']').ok()?;
+    Some(text)
+}
+
+/// Puts of the first script, and its passes once it has begun, of 256 turns each and one more. The second begins at the
+/// last of them, and goes by before that turn.
+const LENGTHS: &[(usize, u64)] = &[(512, 3), (768, 4)];
 
 #[test]
 fn a_script_makes_few_turns_under_one_lock(rt: HostRuntime) {
-    for (first, passes, second, others) in LENGTHS {
-        let steps = [(1, 1, 0, *passes, 0), (0, *passes, 1, *others, 0)];
+    for (first, passes) in LENGTHS {
+        let steps = [(1, 1, 0, *passes, 0), (0, *passes, 1, 1, 3)];
         let gate = InSteps::of(&steps, true, &[]);
-        let scripts = two_scripts(
-            rt.alloc(),
-            [("x", *first), ("x", 0)],
-            [("y", *second), ("y", 0)],
-        );
+        let scripts = one_and_others(rt.alloc(), *first, 1, 62);
         let scripts = scripts.as_ref().map_or("", |scripts| scripts.as_str());
-        let came = run_in_time(&rt, rt.alloc(), &gate, scripts);
-        assert_eq!(&rt; came, Some((2, 0)), "{first}");
+        let (text, wrong) = run_in_time(&rt, rt.alloc(), &gate, scripts, 3).unwrap_or((
+            String::new(rt.alloc()),
+            1,
+        ));
+        assert!(&rt; text.as_str().starts_with(r#"{"name":"other""#), "{first}");
+        assert_eq!(&rt; (gate.passes(0), wrong), (*passes, 0), "{first}");
     }
+}
+
+/// Puts of a script that begins beside an older one, its passes, and who ends first: with its commit it has 63
+/// commands, and goes by under one lock, or 64, and sleeps until it is the oldest.
+const BESIDE: &[(usize, u64, &str)] = &[(62, 1, "other"), (63, 2, "first")];
+
+#[test]
+fn a_long_script_sleeps_until_it_is_the_oldest(rt: HostRuntime) {
+    for (each, passes, ends) in BESIDE {
+        let steps = [(1, 1, 0, 2, 0), (0, 2, 1, 1, 3)];
+        let gate = InSteps::of(&steps, true, &[]);
+        let scripts = one_and_others(rt.alloc(), 300, 1, *each);
+        let scripts = scripts.as_ref().map_or("", |scripts| scripts.as_str());
+        let (text, wrong) = run_in_time(&rt, rt.alloc(), &gate, scripts, 3).unwrap_or((
+            String::new(rt.alloc()),
+            1,
+        ));
+        let ended = text.as_str().lines().next().unwrap_or("");
+        assert!(&rt; ended.contains(*ends), "{each}");
+        assert_eq!(&rt; (gate.passes(1), wrong), (*passes, 0), "{each}");
+    }
+}
+
+#[test]
+fn short_scripts_go_by_under_one_lock(rt: HostRuntime) {
+    // four of 64 turns, while an older one is between its own; the fifth passes the gate
+    let steps = [(1, 1, 0, 2, 0), (0, 2, 5, 1, 0)];
+    let gate = InSteps::of(&steps, true, &[]);
+    let scripts = one_and_others(rt.alloc(), 300, 5, 62);
+    let scripts = scripts.as_ref().map_or("", |scripts| scripts.as_str());
+    let (text, wrong) = run_in_time(&rt, rt.alloc(), &gate, scripts, 2).unwrap_or((
+        String::new(rt.alloc()),
+        1,
+    ));
+    let passes = [1, 2, 3, 4, 5].map(|script| gate.passes(script));
+    assert_eq!(&rt; (commits(text.as_str()), wrong), (6, 0));
+    assert_eq!(&rt; passes, [1, 0, 0, 0, 1]);
 }

@@ -1,6 +1,7 @@
 //! As many workers as are asked for run scripts at once: they meet at a gate, and one more doesn't come.
 use crate::meeting::{Meeting, PATIENT, SHORT};
 use crate::served::{EMPTY, TWO, commits, scripts_of_roads, served};
+use crate::sleepers::one_and_others;
 use city_crew::{Gate, run_crew};
 use std::alloc::Global;
 use std::sync::Wait;
@@ -132,5 +133,51 @@ fn one_worker_runs_one_script_after_the_other(rt: HostRuntime) -> Result<(), Fai
     let wanted = format!(in rt.alloc(); "{IN_TURN}{TWO_LEFT}\n")?;
     assert!(&rt; output.is_ok_and(|output| output.bytes.as_slice() == wanted.as_bytes()));
     assert_eq!(&rt; gate.meeting.missed(), 1);
+    Ok(())
+}
+
+/// Counts the passes of scripts, and notes the last.
+#[derive(Drop)]
+struct Passes {
+    count: AtomicU64,
+    last: AtomicU64,
+}
+
+impl Gate for Passes {
+    fn pass(&self, script: usize, _replies: usize) {
+        self.count.fetch_add(1, Ordering::SeqCst);
+        self.last.store(script as u64, Ordering::SeqCst);
+    }
+
+    fn saw(&self, _viewer: usize, _edits: u64) {}
+
+    fn is_open(&self) -> bool {
+        true
+    }
+}
+
+#[test]
+fn a_worker_leaves_the_lock_after_many_short_scripts(rt: HostRuntime) -> Result<(), Fail> {
+    let gate = Passes {
+        count: AtomicU64::new(0),
+        last: AtomicU64::new(0),
+    };
+    // of 64 turns each, but for the first, which has begun before: 16,384 turns are over when 257 have ended
+    let texts = one_and_others(rt.alloc(), 62, 299, 62).ok_or("no texts")?;
+    let output = run_crew(
+        &rt,
+        rt.alloc(),
+        EMPTY.as_bytes(),
+        texts.as_bytes(),
+        1,
+        0,
+        &gate,
+    );
+    assert!(&rt; output.is_ok_and(|output| output.ends.as_slice().len() == 300));
+    let passes = (
+        gate.count.load(Ordering::SeqCst),
+        gate.last.load(Ordering::SeqCst),
+    );
+    assert_eq!(&rt; passes, (2, 257));
     Ok(())
 }

@@ -1,6 +1,5 @@
 mod CommandMembers
 mod Conversions
-mod Digits
 pub mod Laws
 mod Members
 pub mod Options

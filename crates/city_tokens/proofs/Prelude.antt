@@ -15,7 +15,6 @@ pub use Rattle.std.specs.Prelude.{if◌then◌else◌, is_some, option_and_then,
 pub use Rattle.std.specs.Str.Parse.{AllDigits, digits_value}
 pub use Rattle.std.specs.Vec.Iter.{into_iter_items}
 pub use mir.Val.{of_z, to_z}
-pub use Rattle.fast_float.specs.Text.{scan}
 pub use Rattle.json.specs.Json.{after_end_array, items, members, parse_map, read_key, value}
 pub use Rattle.json.specs.Reads.{token_of}
 pub use Rattle.json.specs.Token.{Token, begin_array}

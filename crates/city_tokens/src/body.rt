@@ -8,7 +8,7 @@ use crate::own::{Own, read_object};
 use city_model::object::Body;
 use city_model::sequence::Sequence;
 use city_model::shared_ids::SharedIds;
-use json::Reader;
+use city_reader::Reader;
 use std::alloc::Global;
 
 /// What was read of an object that may name neither parents nor children.
@@ -47,7 +47,7 @@ pub fn read_body(alloc: Global, reader: &mut Reader<'_>, depth: usize) -> Option
         },
     };
     let (parts, kept) = read_object(alloc, reader, depth, start)?;
-    let object = object_of(parts.object, kept)?;
+    let object = object_of(alloc, parts.object, kept)?;
     let (body, _parents, _children) = object.into_parts();
     Some(body)
 }

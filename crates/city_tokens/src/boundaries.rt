@@ -6,10 +6,10 @@ ghost use Rattle.city_tokens.specs.inside.Positions.{IsPosition, opened};
 ghost use Rattle.city_tokens.specs.inside.Standing.{IsArrayOf, IsReadAs};
 
 use crate::list::{FromTokens, read_rest};
-use crate::number::whole_of;
 use city_model::object::{Point, Shell, Solid, Surface};
 use city_model::sequence::Sequence;
-use json::{Reader, Token};
+use city_reader::{Reader, whole_of};
+use json::Token;
 use std::alloc::Global;
 
 /// Boundaries of some type, as deep as their brackets are.

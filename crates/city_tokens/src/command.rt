@@ -12,7 +12,8 @@ use crate::text::{read_str, text_of};
 use crate::vertices::Vertex;
 use city_model::command::Command;
 use city_model::text::{Id, Text};
-use json::{Reader, Token};
+use city_reader::Reader;
+use json::Token;
 use std::alloc::Global;
 
 /// What a command does with the id or the name that it has.

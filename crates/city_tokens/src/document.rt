@@ -23,7 +23,7 @@ use city_model::city::City;
 use city_model::members::member;
 use city_model::sequence::Sequence;
 use city_model::text::Id;
-use json::Reader;
+use city_reader::Reader;
 use serde_json::{Map, Value};
 use std::alloc::Global;
 

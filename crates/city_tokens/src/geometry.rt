@@ -11,7 +11,7 @@ use crate::text::{read_str, text_of};
 use city_model::kept::extra::Extra;
 use city_model::object::{Geometry, Shape};
 use city_model::text::Text;
-use json::Reader;
+use city_reader::Reader;
 use serde_json::{Map, Value};
 use std::alloc::Global;
 

@@ -3,7 +3,7 @@
 //! `specs/` has what a document and a text of scripts stand for; no word is said here of faults. Where anything about
 //! a text is odd there is no answer, and the text has to be read from its tree.
 //!
-//! - `value`, `number`, `text`, `list`: values, whole numbers, texts and arrays
+//! - `value`, `text`, `list`: values, texts and arrays
 //! - `own`: objects some of whose members have places of their own, while the others are kept
 //! - `position`, `vertices`, `boundaries`, `placing`: positions, and the points that take their places
 //! - `geometry`, `object`, `objects`, `document`: what a city is made of, and the city
@@ -20,7 +20,6 @@ mod frame;
 mod geometry;
 mod limits;
 mod list;
-mod number;
 mod object;
 mod objects;
 mod other;

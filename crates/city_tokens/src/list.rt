@@ -6,7 +6,8 @@ ghost use Rattle.city_tokens.specs.inside.Standing.{Pairs, IsArrayOf, IsReadAs};
 ghost use Rattle.city_tokens.specs.inside.Taken.{IsRestOfArray};
 
 use city_model::sequence::Sequence;
-use json::{Reader, Token};
+use city_reader::Reader;
+use json::Token;
 use std::alloc::Global;
 
 /// What is made of the tokens of a value, without a tree.

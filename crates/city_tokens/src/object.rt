@@ -9,13 +9,14 @@ use crate::list::FromTokens;
 use crate::own::{Own, read_object as read_members};
 use crate::text::read_str;
 use city_model::kept::extra::Extra;
+use city_model::kept::shared_extra::SharedExtra;
 use city_model::object::{Body, Geometry};
 use city_model::object_type::{ObjectType, type_named};
 use city_model::sequence::Sequence;
 use city_model::shared::Shared;
 use city_model::shared_ids::SharedIds;
 use city_model::text::Id;
-use json::Reader;
+use city_reader::Reader;
 use serde_json::{Map, Value};
 use std::alloc::Global;
 use std::marker::Model;
@@ -100,12 +101,17 @@ impl UnplacedObject {
 }
 
 /// The object of what was read of all its members, and of the kept ones.
-pub fn object_of(parts: ObjectParts, kept: Map<String, Value>) -> Option<UnplacedObject>
+pub fn object_of(
+    alloc: Global,
+    parts: ObjectParts,
+    kept: Map<String, Value>,
+) -> Option<UnplacedObject>
     ensures { IfSome result (λ o. (found : Members)
         → IsObjectSoFar parts found (members_view kept.entries) → IsObject o (object found)) }
 {
     let kind = parts.kind?;
     let extra = Extra::new(kept).ok()?;
+    let extra = SharedExtra::new(alloc, extra).ok()?;
     let body = Body {
         kind,
         geometry: Shared::unshared(parts.geometry),
@@ -129,5 +135,5 @@ pub fn read_object(alloc: Global, reader: &mut Reader<'_>, depth: usize) -> Opti
         children: SharedIds::new(alloc),
     };
     let (parts, kept) = read_members(alloc, reader, depth, start)?;
-    object_of(parts, kept)
+    object_of(alloc, parts, kept)
 }

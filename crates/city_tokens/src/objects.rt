@@ -8,7 +8,7 @@ use crate::own::{Own, read_object as read_members};
 use crate::text::text_of;
 use city_model::sequence::Sequence;
 use city_model::text::Id;
-use json::Reader;
+use city_reader::Reader;
 use std::alloc::Global;
 
 /// The objects so far, one after another as the text has them.

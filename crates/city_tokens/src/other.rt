@@ -12,7 +12,8 @@ use city_model::object::{Body, Geometries, Geometry};
 use city_model::sequence::Sequence;
 use city_model::shared::Shared;
 use city_model::text::{Id, Text};
-use json::{Reader, Token};
+use city_reader::Reader;
+use json::Token;
 use std::alloc::Global;
 
 /// What a command has beside its id.

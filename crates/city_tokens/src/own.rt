@@ -8,7 +8,8 @@ ghost use Rattle.city_tokens.specs.inside.Standing.{IsTaken, IsPassed};
 ghost use Rattle.city_tokens.specs.inside.Taken.{IsValue, IsRestOfObject};
 
 use crate::value::read_member;
-use json::{Reader, Token};
+use city_reader::Reader;
+use json::Token;
 use serde_json::{Map, Value};
 use std::alloc::Global;
 
@@ -44,7 +45,7 @@ fn read_rest<O: Own>(
 {
     let mut own = start;
     let mut kept = Map::new(alloc);
-    'members: while let Some(name) = reader.next_key().ok()? {
+    'members: while let Some(name) = reader.next_key()? {
         let taken = own.take(alloc, name, reader, depth)?;
         if taken {
             continue;

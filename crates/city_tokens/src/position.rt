@@ -4,7 +4,7 @@ ghost use Rattle.city_tokens.specs.inside.Positions.{IsPosition};
 use crate::list::FromTokens;
 use crate::vertices::read_whole;
 use city_model::object::Point;
-use json::Reader;
+use city_reader::Reader;
 use std::alloc::Global;
 
 impl FromTokens for Point {

@@ -12,7 +12,7 @@ use city_model::command::Command;
 use city_model::script::Script;
 use city_model::sequence::Sequence;
 use city_model::text::Text;
-use json::Reader;
+use city_reader::Reader;
 use std::alloc::Global;
 
 /// What was read of a script's members so far.

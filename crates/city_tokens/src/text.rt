@@ -6,7 +6,8 @@ ghost use Rattle.city_tokens.specs.inside.Taken.{IsValue};
 
 use crate::list::FromTokens;
 use city_model::text::{Id, Text};
-use json::{Reader, Token};
+use city_reader::Reader;
+use json::Token;
 use std::alloc::Global;
 
 /// The next value, which is a text.

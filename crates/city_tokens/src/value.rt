@@ -4,8 +4,8 @@ ghost use Rattle.serde_json.specs.Data.{Data, put};
 ghost use Rattle.serde_json.specs.View.{view, items_view, members_view};
 ghost use Rattle.city_tokens.specs.inside.Taken.{IsValue, IsRestOfArray, IsRestOfObject};
 
-use crate::number::whole_of;
-use json::{Reader, Token};
+use city_reader::{Reader, whole_of};
+use json::Token;
 use serde_json::{Map, Value};
 use std::alloc::Global;
 
@@ -68,7 +68,7 @@ pub fn read_members(
         (λ m. IsRestOfObject depth reader.old (members_view m.entries) reader.new) }
 {
     let mut found = Map::new(alloc);
-    'members: while let Some(name) = reader.next_key().ok()? {
+    'members: while let Some(name) = reader.next_key()? {
         read_member(alloc, name, reader, depth, &mut found)?;
     }
     Some(found)

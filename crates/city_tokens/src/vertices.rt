@@ -6,9 +6,9 @@ ghost use Rattle.city_tokens.specs.inside.Positions.{IsVertex};
 ghost use Rattle.city_tokens.specs.inside.Taken.{IsValue};
 
 use crate::list::FromTokens;
-use crate::number::whole_of;
 use city_model::object::Point;
-use json::{Reader, Token};
+use city_reader::Reader;
+use json::Token;
 use std::alloc::Global;
 
 /// The point of a vertex.
@@ -24,10 +24,8 @@ pub fn read_whole(reader: &mut Reader<'_>) -> Option<i64>
         (λ n. (depth : ℕ) → IsValue depth reader.old (number (of_integer n)) reader.new) }
     ensures in_range { IfSome result (λ n. as_i64 (of_integer n) ≡ Some n) }
 {
-    match reader.next()? {
-        Token::Number(text) => whole_of(text),
-        _ => None,
-    }
+    let n = reader.whole()?;
+    Some(n)
 }
 
 impl FromTokens for Vertex {

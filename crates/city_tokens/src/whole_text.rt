@@ -7,7 +7,8 @@ ghost use Rattle.city_tokens.specs.tree.Texts.{HasTree};
 
 use crate::limits::MAX_TEXT;
 use crate::list::FromTokens;
-use json::{Reader, Scratch};
+use city_reader::Reader;
+use json::Scratch;
 use std::alloc::Global;
 
 /// How deep a text's arrays and objects may nest.
@@ -18,7 +19,7 @@ fn read_tokens<T: FromTokens>(alloc: Global, reader: &mut Reader<'_>) -> Option<
     ensures { IfSome result (λ x. IsReadAs T.stands x 127 reader.old []) }
 {
     let read = T::from_tokens(alloc, reader, DEPTH)?;
-    if reader.next().is_some() {
+    if !reader.is_at_end() {
         return None;
     }
     Some(read)
@@ -35,9 +36,7 @@ pub fn read_whole_text<T: FromTokens>(alloc: Global, bytes: &[u8]) -> Option<T>
         return None;
     };
     let mut scratch = Scratch::new(alloc);
-    let Ok(mut reader) = Reader::new(text, &mut scratch) else {
-        return None;
-    };
+    let mut reader = Reader::new(text, &mut scratch)?;
     let read = read_tokens::<T>(alloc, &mut reader)?;
     Some(read)
 }

@@ -3,6 +3,7 @@ ghost use Rattle.std.specs.Prelude.{◌≡◌};
 ghost use Rattle.city_txn.specs.Placeholder.{placeholder};
 
 use city_model::kept::extra::Extra;
+use city_model::kept::shared_extra::SharedExtra;
 use city_model::object::{Body, Object};
 use city_model::object_type::ObjectType;
 use city_model::sequence::Sequence;
@@ -23,7 +24,7 @@ pub fn placeholder(alloc: Global) -> Object
         body: Shared::unshared(Body {
             kind: ObjectType::GenericCityObject,
             geometry: Shared::unshared(Sequence::new(alloc)),
-            extra,
+            extra: SharedExtra::unshared(extra),
         }),
         parents: SharedIds::new(alloc),
         children: SharedIds::new(alloc),

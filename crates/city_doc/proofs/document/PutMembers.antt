@@ -4,28 +4,27 @@ use Rattle.city_doc.proofs.Prelude.{◌∙◌, subst, rules, Result, on_ok_weake
 use Rattle.city_doc.proofs.Prelude.{object, Members, no_members, get_member, CityValue, kept_at_object}
 use Rattle.city_doc.proofs.Prelude.{kept_at_geometry, kept_at_transform, kept_at_top, AreOrdered, Frame, Body, Geometry}
 use Rattle.city_doc.proofs.Prelude.{Object, Point, pool_of, without_repeats, with_points, transform_data, numbered_tree}
-use Rattle.city_doc.proofs.Prelude.{tree_of, object_data, geometry_data, members_between, tokens_of, tokens_of_members}
-use Rattle.city_doc.proofs.Prelude.{tokens_of_own, closing_members, ReadsBack, MembersReadBack}
+use Rattle.city_doc.proofs.Prelude.{tree_of, object_data, geometry_data, members_before, members_from, tokens_of}
+use Rattle.city_doc.proofs.Prelude.{tokens_of_members, tokens_of_own, closing_members, ReadsBack, MembersReadBack}
 use Rattle.std.proofs.Common.{◌-◌, OnOk}
-use Rattle.city_doc.proofs.tree.Among.{puts, AreAbove, IsBelow, IsLeft, begun, own_written, value_written, end_written}
-use Rattle.city_doc.proofs.tree.Among.{AllReadBack, reads_parts, reads_all, own_read}
+use Rattle.city_doc.proofs.tree.Among.{puts, AreAbove, IsLeft, begun, own_written, value_written, end_written}
+use Rattle.city_doc.proofs.tree.Among.{AllReadBack, ordered_from, none_from, own_read}
 use Rattle.city_doc.proofs.object.ObjectsRead.{geometry_members_lacking, object_members_lacking}
 use Rattle.city_doc.proofs.pool.Repeats.{pool_is_without_repeats}
 use Rattle.city_doc.proofs.document.FramesRead.{transform_members_lacking, top_members_lacking}
 use Rattle.city_doc.proofs.document.OwnMembers.{Own, geometry_own, object_own, object_puts, transform_own}
 use Rattle.city_doc.proofs.document.OwnMembers.{transform_puts, city_own, city_puts}
 
--- its own names ascend from low, and no kept member has one of them
-abbrev pub AreApart : Members → Option (List ℕ) → Own → Type 0
-AreApart kept low [] = Unit {0}
-AreApart kept low (o ∷ own) =
-    (get_member o.0 kept ≡ None) × IsBelow low o.0 × AreAbove o.0 own × AreApart kept (Some o.0) own
+-- its own names ascend, and no kept member has one of them
+abbrev pub AreApart : Members → Own → Type 0
+AreApart kept [] = Unit {0}
+AreApart kept (o ∷ own) = (get_member o.0 kept ≡ None) × AreAbove o.0 own × AreApart kept own
 
 -- data that is an object of its own members among kept ones
 pub record IsPut (kept : Members) (own : Own) (d : Data) : Type 0 where
   pub is : d ≡ object (puts own kept)
   pub ordered : AreOrdered kept
-  pub apart : AreApart kept None own
+  pub apart : AreApart kept own
 
 -- what follows from a call's success
 pub on_ok : {T E P Q : Type 0} (r : Result T E) → OnOk r P → (P → Q) → OnOk r Q
@@ -34,63 +33,55 @@ on_ok r h f = on_ok_weaker r f h
 -- ---- its tokens
 
 -- its own member m and the kept ones before it: the member by its name and its value, or at once
-abbrev part : Members → ℕ → Option (List ℕ) → List ℕ → Option Data → List Token → List Token
-part kept zero low m (Some d) out =
-    (out ++ (tokens_of_members (members_between low (Some m) kept) ++ key m ∷ [])) ++ tokens_of d
-part kept zero low m None out = out ++ (tokens_of_members (members_between low (Some m) kept) ++ [])
-part kept (suc n) low m o out = out ++ (tokens_of_members (members_between low (Some m) kept) ++ tokens_of_own m o)
+abbrev part : Members → ℕ → List ℕ → Option Data → List Token → List Token
+part kept zero m (Some d) out =
+    (out ++ (tokens_of_members (members_before m kept) ++ key m ∷ [])) ++ tokens_of d
+part kept zero m None out = out ++ (tokens_of_members (members_before m kept) ++ [])
+part kept (suc n) m o out = out ++ (tokens_of_members (members_before m kept) ++ tokens_of_own m o)
 
 -- all that is written, the first n of its own members each at once
-abbrev pub written : Members → ℕ → Option (List ℕ) → Own → List Token → List Token
-written kept n low [] out = out ++ (tokens_of_members (members_between low None kept) ++ end_object ∷ [])
-written kept n low (o ∷ own) out = written kept (n - 1) (Some o.0) own (part kept n low o.0 o.1 out)
+abbrev pub written : Members → ℕ → Own → List Token → List Token
+written kept n [] out = out ++ (tokens_of_members kept ++ end_object ∷ [])
+written kept n (o ∷ own) out = written (members_from o.0 kept) (n - 1) own (part kept n o.0 o.1 out)
 
-module _ {kept : Members} (ordered : AreOrdered kept) {whole : List Token} where
-  part_left : (n : ℕ) {low : Option (List ℕ)} {m : List ℕ} (o : Option Data) {own : Own} {out : List Token}
-      → get_member m kept ≡ None → IsBelow low m → AreAbove m own → IsLeft kept whole out low ((m, o) ∷ own)
-      → IsLeft kept whole (part kept n low m o out) (Some m) own
-  part_left zero (Some d) none below above left = value_written ordered below none above _ _ left refl refl
-  part_left zero None none below above left = own_written ordered below none above _ left refl
-  part_left (suc n) o none below above left = own_written ordered below none above _ left refl
+apart_from : (m : List ℕ) (kept : Members) (own : Own) → AreApart kept own → AreApart (members_from m kept) own
+apart_from m kept [] apart = tt
+apart_from m kept (o ∷ own) apart = (none_from m o.0 kept apart.0, apart.1, apart_from m kept own apart.2)
 
-  written_left : (n : ℕ) (low : Option (List ℕ)) (own : Own) {out : List Token} → AreApart kept low own
-      → IsLeft kept whole out low own → written kept n low own out ≡ whole
-  written_left n low [] apart left = end_written _ left refl
-  written_left n low (o ∷ own) apart left =
-      written_left (n - 1) (Some o.0) own apart.3 (part_left n o.1 apart.0 apart.1 apart.2 left)
+module _ {whole : List Token} where
+  part_left : (n : ℕ) {kept : Members} {m : List ℕ} (o : Option Data) {own : Own} {out : List Token}
+      → AreOrdered kept → get_member m kept ≡ None → AreAbove m own → IsLeft whole out kept ((m, o) ∷ own)
+      → IsLeft whole (part kept n m o out) (members_from m kept) own
+  part_left zero (Some d) ordered none above left = value_written ordered none above _ _ left refl refl
+  part_left zero None ordered none above left = own_written ordered none above _ left refl
+  part_left (suc n) o ordered none above left = own_written ordered none above _ left refl
+
+  written_left : (n : ℕ) (kept : Members) (own : Own) {out : List Token} → AreOrdered kept → AreApart kept own
+      → IsLeft whole out kept own → written kept n own out ≡ whole
+  written_left n kept [] ordered apart left = end_written _ left refl
+  written_left n kept (o ∷ own) ordered apart left =
+      written_left (n - 1) (members_from o.0 kept) own (ordered_from o.0 kept ordered)
+      (apart_from o.0 kept own apart.2) (part_left n o.1 ordered apart.0 apart.1 left)
 
 pub put_written : {kept : Members} {own : Own} {d : Data} (n : ℕ) (old : List Token) → IsPut kept own d
-    → written kept n None own (old ++ begin_object ∷ []) ≡ old ++ tokens_of d
+    → written kept n own (old ++ begin_object ∷ []) ≡ old ++ tokens_of d
 put_written {kept} {own} n old put =
-    written_left put.ordered n None own put.apart (begun kept own old _ refl)
+    written_left n kept own put.ordered put.apart (begun kept own old _ refl)
     ∙ ap (λ d. old ++ tokens_of d) (sym put.is)
 
 -- the same after other tokens, of an object that keeps no members
-pub after_written : (own : Own) (out : List Token) → AreApart no_members None own
-    → written no_members 0 None own out ≡ out ++ closing_members (puts own no_members)
+pub after_written : (own : Own) (out : List Token) → AreApart no_members own
+    → written no_members 0 own out ≡ out ++ closing_members (puts own no_members)
 after_written own out apart =
     let ordered : AreOrdered no_members = tt in
-    written_left {kept = no_members} ordered 0 None own apart (record { same = refl })
+    written_left 0 no_members own ordered apart (record { same = refl })
 
 -- ---- what is read of them
 
--- the kept members before each of its own, and those after the last
-abbrev pub AreReadBetween : Members → Option (List ℕ) → Own → Type 0
-AreReadBetween kept low [] = MembersReadBack (members_between low None kept)
-AreReadBetween kept low (o ∷ own) =
-    MembersReadBack (members_between low (Some o.0) kept) × AreReadBetween kept (Some o.0) own
-
-read_between : (kept : Members) (low : Option (List ℕ)) (own : Own) → AreApart kept low own
-    → AreReadBetween kept low own → MembersReadBack (members_between low None kept)
-read_between kept low [] apart reads = reads
-read_between kept low (o ∷ own) apart reads =
-    reads_parts low o.0 kept apart.0 reads.0 (read_between kept (Some o.0) own apart.3 reads.1)
-
-pub put_reads : {kept : Members} {own : Own} {d : Data} → IsPut kept own d → AreReadBetween kept None own
+pub put_reads : {kept : Members} {own : Own} {d : Data} → IsPut kept own d → MembersReadBack kept
     → AllReadBack own → ReadsBack d
-put_reads {kept} {own} put between each =
-    subst ReadsBack (sym put.is)
-    (own_read own kept put.ordered (reads_all kept (read_between kept None own put.apart between)) each)
+put_reads {kept} {own} put reads each =
+    subst ReadsBack (sym put.is) (own_read own kept put.ordered reads each)
 
 -- ---- geometries, objects, transforms and cities
 

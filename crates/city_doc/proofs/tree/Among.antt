@@ -1,13 +1,12 @@
 -- An object's own members among kept ones.
-use Rattle.city_doc.proofs.Prelude.{◌≡◌, ℕ, List, ◌∷◌, ◌++◌, Bool, true, false, true≢false, Option, Some, None}
-use Rattle.city_doc.proofs.Prelude.{Ordering, [], Less, Equal, nat_cmp, refl, sym, ap, ◌∙◌, subst, append_assoc, arith}
-use Rattle.city_doc.proofs.Prelude.{slice_cmp, AllByRecursion, match_ordering, is_lt, nat_list_cmp_total, Token}
+use Rattle.city_doc.proofs.Prelude.{◌≡◌, ℕ, List, ◌∷◌, ◌++◌, Option, Some, None}
+use Rattle.city_doc.proofs.Prelude.{Ordering, [], Less, Equal, nat_cmp, refl, sym, ap, ◌∙◌, append_assoc, arith}
+use Rattle.city_doc.proofs.Prelude.{slice_cmp, AllByRecursion, match_ordering, nat_list_cmp_total, Token}
 use Rattle.city_doc.proofs.Prelude.{begin_object, end_object, key, Data, string, object, Members, no_members, member}
-use Rattle.city_doc.proofs.Prelude.{put, get_member, members_between, AllAbove, AreOrdered, tokens_of}
+use Rattle.city_doc.proofs.Prelude.{put, get_member, members_before, members_from, AllAbove, AreOrdered, tokens_of}
 use Rattle.city_doc.proofs.Prelude.{tokens_of_members, tokens_of_own, closing_members, ReadsBack, MembersReadBack}
 use Rattle.city_doc.proofs.Prelude.{ordered_put, all_put}
 use Rattle.std.proofs.Common.{Greater}
-use Rattle.city_doc.specs.inside.tree.Between.{is_after}
 use Rattle.city_doc.specs.inside.tree.ReadsBack.{OwnReadsBack}
 use Rattle.city_tokens.proofs.Laws.{turned, back, all_above_lower, above_put, put_first}
 use Rattle.city_doc.proofs.tree.ReadBack.{and_then, and_then-none, object_reads}
@@ -32,10 +31,6 @@ puts (o ∷ own) ms = put_if o.0 o.1 (puts own ms)
 abbrev pub AreAbove : List ℕ → List (List ℕ × Option Data) → Type 0
 AreAbove m own = AllByRecursion (λ o. cmp m o.0 ≡ Less) own
 
-abbrev pub IsBelow : Option (List ℕ) → List ℕ → Type 0
-IsBelow None m = Unit {0}
-IsBelow (Some n) m = cmp n m ≡ Less
-
 above_puts : (m : List ℕ) (own : List (List ℕ × Option Data)) (ms : Members) → AreAbove m own → AllAbove m ms
     → AllAbove m (puts own ms)
 above_puts m [] ms above h = h
@@ -58,47 +53,37 @@ lower_above : (k m : List ℕ) (own : List (List ℕ × Option Data)) → cmp k 
 lower_above k m [] less h = tt
 lower_above k m (o ∷ own) less h = (nat_list_cmp_total.trans k m o.0 less h.0, lower_above k m own less h.1)
 
-all_later : (low : Option (List ℕ)) (m : List ℕ) (ms : Members)
-    → ((k : List ℕ) → cmp m k ≡ Less → is_after low k ≡ true) → AllAbove m ms → members_between low None ms ≡ ms
-all_later low m no_members after h = refl
-all_later low m (member k d ms) after h = rw (after k h.0) (ap (member k d) (all_later low m ms after h.1))
-
-none_short : (low : Option (List ℕ)) (m : List ℕ) (ms : Members) → AllAbove m ms
-    → members_between low (Some m) ms ≡ no_members
-none_short low m no_members h = refl
-none_short low m (member k d ms) h = grind (arith, none_short low m ms)
-
-module _ (m : List ℕ) (o : Option Data) (own : List (List ℕ × Option Data)) (above : AreAbove m own)
-    (low : Option (List ℕ)) (below : IsBelow low m) where
-  -- the own members at m and above it, among the kept ones above low
+module _ (m : List ℕ) (o : Option Data) (own : List (List ℕ × Option Data)) (above : AreAbove m own) where
+  -- the own members at m and above it, among the kept ones
   abbrev Parted : Members → Type 0
-  Parted ms = put_if m o (puts own (members_between low None ms)) ≡ and_then (members_between low (Some m) ms)
-      (first_if m o (puts own (members_between (Some m) None ms)))
+  Parted ms = put_if m o (puts own ms) ≡ and_then (members_before m ms) (first_if m o (puts own (members_from m ms)))
 
-  later : (k : List ℕ) → cmp m k ≡ Less → is_after low k ≡ true
-  later k less = grind (arith, nat_list_cmp_total.trans)
-
-  parted_at : (a : Bool) (c : Ordering) (k : List ℕ) (d : Data) (ms : Members) → is_after low k ≡ a → cmp m k ≡ c
-      → AllAbove k ms → match_ordering c (get_member m ms) (Some d) (get_member m ms) ≡ None
-      → (get_member m ms ≡ None → Parted ms) → Parted (member k d ms)
-  parted_at a Equal k d ms is at ordered none rest = absurd (grind arith)
-  parted_at false Greater k d ms is at ordered none rest = rw (is, at) (rest none)
-  parted_at true Greater k d ms is at ordered none rest =
-      let less = back m k at in
-      rw (is, at) (ap (put_if m o) (after_puts k d own (members_between low None ms) (lower_above k m own less above))
-      ∙ after_if m k o d (puts own (members_between low None ms)) less ∙ ap (member k d) (rest none))
-  parted_at false Less k d ms is at ordered none rest = absurd (true≢false (sym (later k at) ∙ is))
-  parted_at true Less k d ms is at ordered none rest =
+  parted_at : (c : Ordering) (k : List ℕ) (d : Data) (ms : Members) → cmp m k ≡ c → AllAbove k ms
+      → match_ordering c (get_member m ms) (Some d) (get_member m ms) ≡ None → (get_member m ms ≡ None → Parted ms)
+      → Parted (member k d ms)
+  parted_at Less k d ms at ordered none rest =
       let higher = all_above_lower m k ms at ordered in
-      let whole = all_later low m ms later higher in
-      let past = all_later (Some m) m ms (λ k e. ap is_lt e) higher in
-      rw (is, at, whole, none_short low m ms higher, past)
+      rw (turned m k at)
       (first_put m o (puts own (member k d ms)) (above_puts m own (member k d ms) above (at, higher)))
+  parted_at Equal k d ms at ordered none rest = absurd (grind arith)
+  parted_at Greater k d ms at ordered none rest =
+      let less = back m k at in
+      rw less (ap (put_if m o) (after_puts k d own ms (lower_above k m own less above))
+      ∙ after_if m k o d (puts own ms) less ∙ ap (member k d) (rest none))
 
   parted : (ms : Members) → AreOrdered ms → get_member m ms ≡ None → Parted ms
   parted no_members ordered none = first_put m o (puts own no_members) (above_puts m own no_members above tt)
-  parted (member k d ms) ordered none =
-      parted_at (is_after low k) (cmp m k) k d ms refl refl ordered.0 none (parted ms ordered.1)
+  parted (member k d ms) ordered none = parted_at (cmp m k) k d ms refl ordered.0 none (parted ms ordered.1)
+
+-- ---- what follows a name
+
+pub ordered_from : (m : List ℕ) (ms : Members) → AreOrdered ms → AreOrdered (members_from m ms)
+ordered_from m no_members h = tt
+ordered_from m (member k d ms) h = grind (arith, ordered_from m ms)
+
+pub none_from : (m n : List ℕ) (ms : Members) → get_member n ms ≡ None → get_member n (members_from m ms) ≡ None
+none_from m n no_members none = none
+none_from m n (member k d ms) none = grind (arith, none_from m n ms)
 
 closing_after : (front ms : Members)
     → closing_members (and_then front ms) ≡ tokens_of_members front ++ closing_members ms
@@ -109,56 +94,39 @@ closing_own : (m : List ℕ) (o : Option Data) (ms : Members)
     → closing_members (first_if m o ms) ≡ tokens_of_own m o ++ closing_members ms
 closing_own m o ms = grind arith
 
-all_between : (ms : Members) → members_between None None ms ≡ ms
-all_between no_members = refl
-all_between (member k d ms) = ap (member k d) (all_between ms)
-
--- an object is written whole, of which these members are left: its own, and the kept ones after a name
-pub record IsLeft (kept : Members) (whole out : List Token) (low : Option (List ℕ))
-    (own : List (List ℕ × Option Data)) : Type 0 where
-  pub same : whole ≡ out ++ closing_members (puts own (members_between low None kept))
+-- an object is written whole, of which these members are left: its own, and kept ones
+pub record IsLeft (whole out : List Token) (kept : Members) (own : List (List ℕ × Option Data)) : Type 0 where
+  pub same : whole ≡ out ++ closing_members (puts own kept)
 
 pub begun : (kept : Members) (own : List (List ℕ × Option Data)) (old out : List Token) → out ≡ old ++ begin_object ∷ []
-    → IsLeft kept (old ++ tokens_of (object (puts own kept))) out None own
-begun kept own old out begin = record { same = rw (begin, append_assoc, all_between kept) refl }
+    → IsLeft (old ++ tokens_of (object (puts own kept))) out kept own
+begun kept own old out begin = record { same = rw (begin, append_assoc) refl }
 
-module _ {kept : Members} {whole out : List Token} {low : Option (List ℕ)} where
-  module _ {m : List ℕ} {own : List (List ℕ × Option Data)} (ordered : AreOrdered kept) (below : IsBelow low m)
+module _ {kept : Members} {whole out : List Token} where
+  module _ {m : List ℕ} {own : List (List ℕ × Option Data)} (ordered : AreOrdered kept)
       (none : get_member m kept ≡ None) (above : AreAbove m own) where
     -- the kept ones before the next of its own are written, and that one, where it is there
-    pub own_written : {o : Option Data} (next : List Token) → IsLeft kept whole out low ((m, o) ∷ own)
-        → next ≡ out ++ (tokens_of_members (members_between low (Some m) kept) ++ tokens_of_own m o)
-        → IsLeft kept whole next (Some m) own
+    pub own_written : {o : Option Data} (next : List Token) → IsLeft whole out kept ((m, o) ∷ own)
+        → next ≡ out ++ (tokens_of_members (members_before m kept) ++ tokens_of_own m o)
+        → IsLeft whole next (members_from m kept) own
     own_written {o} next left more = record {
-      same = rw (left.same, parted m o own above low below kept ordered none, closing_after, closing_own, more)
+      same = rw (left.same, parted m o own above kept ordered none, closing_after, closing_own, more)
           (simp append_assoc);
     }
 
     -- the same by its name and its value
-    pub value_written : {d : Data} (named last : List Token) → IsLeft kept whole out low ((m, Some d) ∷ own)
-        → named ≡ out ++ (tokens_of_members (members_between low (Some m) kept) ++ key m ∷ [])
-        → last ≡ named ++ tokens_of d
-        → IsLeft kept whole last (Some m) own
+    pub value_written : {d : Data} (named last : List Token) → IsLeft whole out kept ((m, Some d) ∷ own)
+        → named ≡ out ++ (tokens_of_members (members_before m kept) ++ key m ∷ []) → last ≡ named ++ tokens_of d
+        → IsLeft whole last (members_from m kept) own
     value_written {d} named last left named_is last_is =
         own_written last left (rw (last_is, named_is) (simp append_assoc))
 
   -- the kept ones after the last of its own are written, and its brace
-  pub end_written : (last : List Token) → IsLeft kept whole out low []
-      → last ≡ out ++ (tokens_of_members (members_between low None kept) ++ end_object ∷ []) → last ≡ whole
+  pub end_written : (last : List Token) → IsLeft whole out kept []
+      → last ≡ out ++ (tokens_of_members kept ++ end_object ∷ []) → last ≡ whole
   end_written last left end =
-      let rest = members_between low None kept in
-      end ∙ ap (λ ts. out ++ ts) (sym (closing_after rest no_members) ∙ ap closing_members (and_then-none rest))
+      end ∙ ap (λ ts. out ++ ts) (sym (closing_after kept no_members) ∙ ap closing_members (and_then-none kept))
       ∙ sym left.same
-
--- the kept members before a name and those after it
-pub reads_parts : (low : Option (List ℕ)) (m : List ℕ) (ms : Members) → get_member m ms ≡ None
-    → MembersReadBack (members_between low (Some m) ms) → MembersReadBack (members_between (Some m) None ms)
-    → MembersReadBack (members_between low None ms)
-reads_parts low m no_members none front rest = tt
-reads_parts low m (member k d ms) none front rest = grind (arith, reads_parts low m ms)
-
-pub reads_all : (ms : Members) → MembersReadBack (members_between None None ms) → MembersReadBack ms
-reads_all ms h = subst MembersReadBack (all_between ms) h
 
 reads_put : (k : List ℕ) (d : Data) (ms : Members) → ReadsBack d → MembersReadBack ms → MembersReadBack (put k d ms)
 reads_put = all_put ReadsBack MembersReadBack tt (λ k d ms one rest. (one, rest)) (λ k d ms h. h)

@@ -1,5 +1,5 @@
 -- Words for how JSON trees are read and written.
-pub mod Between
 pub mod PartTokens
+pub mod Parted
 pub mod ReadsBack
 pub mod TextFaults

@@ -14,6 +14,7 @@ use city_model::city::City;
 use city_model::copied::Copied;
 use city_model::id_list::{Ids, are_increasing, is_same_id};
 use city_model::kept::extra::Extra;
+use city_model::kept::shared_extra::SharedExtra;
 use city_model::object::{Body, Object};
 use city_model::object_type::ObjectType;
 use city_model::relations::relations_fault;
@@ -83,7 +84,7 @@ fn bare_body(alloc: Global, kind: ObjectType) -> Body
     Body {
         kind,
         geometry: Shared::unshared(Sequence::new(alloc)),
-        extra,
+        extra: SharedExtra::unshared(extra),
     }
 }
 

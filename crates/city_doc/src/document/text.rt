@@ -12,7 +12,7 @@ ghost use Rattle.city_doc.specs.inside.tree.ReadsBack.{ReadsBack};
 use crate::object::text::write_objects;
 use crate::pool::VertexPool;
 use crate::shape::vertices::write_vertices;
-use crate::tree::kept_members::{write_last, write_name};
+use crate::tree::kept_members::KeptMembers;
 use crate::tree::triples::write_triple;
 use city_model::OutOfMemory;
 use city_model::city::City;
@@ -29,13 +29,14 @@ fn write_transform(frame: &Frame, out: &mut Writer) -> Result<(), OutOfMemory>
     ensures in_range { OnOk result ((is_i64_triple frame.now.scale ≡ true)
         × (is_i64_triple frame.now.translate ≡ true)) }
 {
-    let kept = frame.more.map();
+    let members = frame.more.map();
+    let mut kept = KeptMembers::new(members);
     out.begin_object()?;
-    write_name(kept, None, "scale", out)?;
+    kept.write_name("scale", out)?;
     write_triple(&frame.scale, out)?;
-    write_name(kept, Some("scale"), "translate", out)?;
+    kept.write_name("translate", out)?;
     write_triple(&frame.translate, out)?;
-    write_last(kept, "translate", out)
+    kept.write_last(out)
 }
 
 /// Writes a city, whose points it adds to a pool without points.
@@ -48,19 +49,20 @@ fn write_numbered(city: &City, pool: &mut VertexPool, out: &mut Writer) -> Resul
     ensures in_range { OnOk result (IsInRange (pool_of city.now) city.now.0) }
 {
     let frame = city.frame();
-    let kept = frame.extra.map();
+    let members = frame.extra.map();
+    let mut kept = KeptMembers::new(members);
     out.begin_object()?;
-    write_name(kept, None, "CityObjects", out)?;
+    kept.write_name("CityObjects", out)?;
     write_objects(city, pool, out)?;
-    write_name(kept, Some("CityObjects"), "transform", out)?;
+    kept.write_name("transform", out)?;
     write_transform(frame, out)?;
-    write_name(kept, Some("transform"), "type", out)?;
+    kept.write_name("type", out)?;
     out.string("CityJSON")?;
-    write_name(kept, Some("type"), "version", out)?;
+    kept.write_name("version", out)?;
     out.string("2.0")?;
-    write_name(kept, Some("version"), "vertices", out)?;
+    kept.write_name("vertices", out)?;
     write_vertices(pool, out)?;
-    write_last(kept, "vertices", out)
+    kept.write_last(out)
 }
 
 /// Writes a city, whose points are hashed by the seed.

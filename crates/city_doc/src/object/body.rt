@@ -10,6 +10,7 @@ use crate::object::faults::type_of;
 use crate::shape::geometry::geometries_of;
 use city_model::OutOfMemory;
 use city_model::kept::extra::Extra;
+use city_model::kept::shared_extra::SharedExtra;
 use city_model::kept::site::AtObject;
 use city_model::members::{into_object, take};
 use city_model::object::{Body, Point};
@@ -44,9 +45,10 @@ pub fn body_of(alloc: Global, points: &[Point], object: Value) -> Result<Option<
     let Some(extra) = kept(members) else {
         return Ok(None);
     };
+    let shared = SharedExtra::new(alloc, extra)?;
     Ok(Some(Body {
         kind,
         geometry,
-        extra,
+        extra: shared,
     }))
 }

@@ -1,14 +1,12 @@
 //! Writes city objects.
-ghost use Rattle.std.specs.Prelude.{◌≡◌, ◌<◌, ◌^◌, ◌++◌, List, OnOk, length, Some, true, flat_map, option_copied};
+ghost use Rattle.std.specs.Prelude.{◌≡◌, ◌<◌, ◌^◌, ◌++◌, List, OnOk, length, true, flat_map};
 ghost use Rattle.std.specs.List.{list_all};
 ghost use Rattle.std.specs.FinMap.{entries};
 ghost use Rattle.serde_json.specs.Data.{string};
-ghost use Rattle.serde_json.specs.View.{members_view};
 ghost use Rattle.city_model.specs.Chunks.{ids_left};
 ghost use Rattle.city_tokens.specs.tree.Lists.{list_data};
-ghost use Rattle.city_model.specs.Integral.{members_integral};
 ghost use Rattle.city_model.specs.declared.object.Point as p;
-ghost use Rattle.city_doc.specs.inside.tree.Between.{members_between};
+ghost use Rattle.city_doc.specs.inside.tree.Parted.{members_before, members_from};
 ghost use Rattle.city_doc.specs.object.Canonical.{object_data, objects_data};
 ghost use Rattle.city_doc.specs.inside.document.KeptMembers.{is_kept_object, are_kept_objects};
 ghost use Rattle.city_doc.specs.Pool.{object_points, city_points};
@@ -20,7 +18,7 @@ ghost use Rattle.city_doc.specs.inside.tree.ReadsBack.{ReadsBackNumbered, Member
 
 use crate::pool::VertexPool;
 use crate::shape::text::Written;
-use crate::tree::kept_members::{write_between, write_last, write_name};
+use crate::tree::kept_members::KeptMembers;
 use city_model::OutOfMemory;
 use city_model::city::City;
 use city_model::id_list::Ids;
@@ -28,32 +26,27 @@ use city_model::object::Object;
 use city_model::object_type::name;
 use city_model::sequence::Sequence;
 use json::Writer;
-use serde_json::{Map, Value};
 
-/// Writes the kept members between two names, and a list under the second one unless it is empty.
+/// Writes the kept members before a name, and a list under that name unless it is empty.
 fn write_list<T: Written>(
-    kept: &Map<String, Value>,
-    low: Option<&str>,
+    kept: &mut KeptMembers<'_>,
     name: &str,
     list: &Sequence<T>,
     pool: &mut VertexPool,
     out: &mut Writer,
 ) -> Result<(), OutOfMemory>
-    requires integral { members_integral (members_view kept.now.entries) ≡ true }
     ensures pool { OnOk result (pool.new ≡ with_points pool.old (flat_map T.points list.now)) }
     ensures before { OnOk result (out.new.before ≡ out.old.before) }
     ensures tokens { OnOk result ((later : List p.Point) → out.new.tokens ≡ out.old.tokens
-        ++ (tokens_of_members (members_between (option_copied low.entry) (Some name.now)
-        (members_view kept.now.entries))
+        ++ (tokens_of_members (members_before name.now kept.old)
         ++ tokens_of_own name.now (listed (T.written (with_points pool.new later)) list.now))) }
-    ensures passed { OnOk result (MembersReadBack
-        (members_between (option_copied low.entry) (Some name.now)
-        (members_view kept.now.entries))) }
+    ensures left { OnOk result (kept.new ≡ members_from name.now kept.old) }
+    ensures passed { OnOk result (MembersReadBack kept.new → MembersReadBack kept.old) }
     ensures reads { OnOk result ((ps : List p.Point) → length ps < 2 ^ 63
         → OwnReadsBack (listed (T.written ps) list.now)) }
     ensures kept { OnOk result (list_all T.is_kept list.now ≡ true) }
 {
-    write_between(kept, low, Some(name), out)?;
+    kept.write_before(name, out)?;
     if list.len() == 0 {
         return Ok(());
     }
@@ -75,26 +68,22 @@ fn write_ids(ids: Ids<'_>, out: &mut Writer) -> Result<(), OutOfMemory>
     out.end_array()
 }
 
-/// Writes the kept members between two names, and ids under the second one unless there are none.
+/// Writes the kept members before a name, and ids under that name unless there are none.
 fn write_relatives(
-    kept: &Map<String, Value>,
-    low: Option<&str>,
+    kept: &mut KeptMembers<'_>,
     name: &str,
     ids: Ids<'_>,
     out: &mut Writer,
 ) -> Result<(), OutOfMemory>
-    requires integral { members_integral (members_view kept.now.entries) ≡ true }
     ensures before { OnOk result (out.new.before ≡ out.old.before) }
     ensures tokens { OnOk result (out.new.tokens ≡ out.old.tokens
-        ++ (tokens_of_members (members_between (option_copied low.entry) (Some name.now)
-        (members_view kept.now.entries))
+        ++ (tokens_of_members (members_before name.now kept.old)
         ++ tokens_of_own name.now (listed string (ids_left ids.entry)))) }
-    ensures passed { OnOk result (MembersReadBack
-        (members_between (option_copied low.entry) (Some name.now)
-        (members_view kept.now.entries))) }
+    ensures left { OnOk result (kept.new ≡ members_from name.now kept.old) }
+    ensures passed { OnOk result (MembersReadBack kept.new → MembersReadBack kept.old) }
     ensures reads { OnOk result (OwnReadsBack (listed string (ids_left ids.entry))) }
 {
-    write_between(kept, low, Some(name), out)?;
+    kept.write_before(name, out)?;
     if ids.is_empty() {
         return Ok(());
     }
@@ -118,27 +107,16 @@ pub fn write_object(
     ensures kept { OnOk result (is_kept_object object.now ≡ true) }
 {
     let body = object.body.get();
-    let kept = body.extra.map();
+    let lent = body.extra.lend()?;
+    let members = lent.get();
+    let mut kept = KeptMembers::new(members);
     out.begin_object()?;
-    write_relatives(kept, None, "children", object.children.iter(), out)?;
-    write_list(
-        kept,
-        Some("children"),
-        "geometry",
-        body.geometry.get(),
-        pool,
-        out,
-    )?;
-    write_relatives(
-        kept,
-        Some("geometry"),
-        "parents",
-        object.parents.iter(),
-        out,
-    )?;
-    write_name(kept, Some("parents"), "type", out)?;
+    write_relatives(&mut kept, "children", object.children.iter(), out)?;
+    write_list(&mut kept, "geometry", body.geometry.get(), pool, out)?;
+    write_relatives(&mut kept, "parents", object.parents.iter(), out)?;
+    kept.write_name("type", out)?;
     out.string(name(body.kind))?;
-    write_last(kept, "type", out)
+    kept.write_last(out)
 }
 
 /// Writes the objects of a city by their ids.

@@ -13,7 +13,7 @@ ghost use Rattle.city_doc.specs.tree.Tokens.{tokens_of};
 ghost use Rattle.city_doc.specs.inside.tree.ReadsBack.{ReadsBackNumbered};
 
 use crate::pool::VertexPool;
-use crate::tree::kept_members::{write_last, write_name};
+use crate::tree::kept_members::KeptMembers;
 use city_model::OutOfMemory;
 use city_model::object::{Geometry, Point, Shape};
 use city_model::sequence::Sequence;
@@ -106,14 +106,15 @@ impl Written for Geometry {
 
     #[tactic(auto, unfolding(crate::specs::inside::document::KeptMembers::is_kept_geometry))]
     fn write(&self, pool: &mut VertexPool, out: &mut Writer) -> Result<(), OutOfMemory> {
-        let kept = self.extra.map();
+        let members = self.extra.map();
+        let mut kept = KeptMembers::new(members);
         out.begin_object()?;
-        write_name(kept, None, "boundaries", out)?;
+        kept.write_name("boundaries", out)?;
         self.shape.write(pool, out)?;
-        write_name(kept, Some("boundaries"), "lod", out)?;
+        kept.write_name("lod", out)?;
         out.string(self.lod.as_str())?;
-        write_name(kept, Some("lod"), "type", out)?;
+        kept.write_name("type", out)?;
         out.string(shape_name(&self.shape))?;
-        write_last(kept, "type", out)
+        kept.write_last(out)
     }
 }

@@ -3,7 +3,7 @@ ghost use Rattle.std.specs.Prelude.{◌≡◌, true, false, IfOk, IfErr, IsTrue,
 
 use crate::OutOfMemory;
 use crate::kept::site::Site;
-use crate::members::members_count;
+use crate::members::{copy_of, members_count};
 use serde_json::{Map, Value};
 use std::marker::{Model, PhantomData};
 
@@ -88,8 +88,16 @@ impl<P: Site> Extra<P> {
         ensures kept { P.keeps self.now ≡ true }
         ensures ordered { AreOrdered self.now }
     {
-        let copy = self.map.clone()?;
+        let copy = copy_of(&self.map)?;
         Ok(copy)
+    }
+
+    /// The members as a map, given back. Doesn't allocate.
+    pub(crate) fn into_map(self) -> Map<String, Value>
+        ensures members { members_view result.entries ≡ self }
+        ensures ordered { AreOrdered self }
+    {
+        self.map
     }
 
     /// A copy.

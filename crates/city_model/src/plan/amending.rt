@@ -7,12 +7,10 @@ ghost use Rattle.city_model.specs.inside.BorrowedAmendments.{amendment_view};
 ghost use Rattle.city_model.specs.inside.Plans.{IsPlanOf};
 
 use crate::OutOfMemory;
-use crate::attributes::{with_set, with_unset};
 use crate::body_fault::{body_fault, geometry_fault};
 use crate::command::{Attributes, Cause, Reply};
 use crate::copied::Copied;
-use crate::kept::extra::Extra;
-use crate::kept::site::AtObject;
+use crate::kept::shared_extra::SharedExtra;
 use crate::object::{Body, Geometries, Object};
 use crate::object_type::is_same;
 use crate::plan::Plan;
@@ -128,11 +126,11 @@ fn amended_body(
             Ok(Ok(new.copy(alloc)?))
         },
         Amendment::Setting(named) => {
-            let made = with_set(alloc, &body.extra, named)?;
+            let made = body.extra.with_set(alloc, named)?;
             with_extra(alloc, id, body, made)
         },
         Amendment::Unsetting(names) => {
-            let made = with_unset(alloc, &body.extra, names.as_slice())?;
+            let made = body.extra.with_unset(alloc, names.as_slice())?;
             with_extra(alloc, id, body, made)
         },
         Amendment::Reshaping(geometry) => Ok(Ok(Body {
@@ -148,7 +146,7 @@ fn with_extra(
     alloc: Global,
     id: &Id,
     body: &Body,
-    extra: Option<Extra<AtObject>>,
+    extra: Option<SharedExtra>,
 ) -> Result<Result<Body, Cause>, OutOfMemory>
     ensures { IfOk result (λ r. r ≡ with_extra_by id.now body.now (λ made. made) extra) }
 {

@@ -4,7 +4,6 @@ ghost use Rattle.city_model.specs.inside.Plans.{IsPlan};
 ghost use Rattle.city_model.specs.declared.command.Command.{Command};
 
 use crate::OutOfMemory;
-use crate::attributes::has_attributes;
 use crate::command::{Attributes, Cause, Reply};
 use crate::copied::Copied;
 use crate::plan::Plan;
@@ -36,7 +35,7 @@ pub fn plan_expect<V: View>(
     let Some(object) = view.look(id) else {
         return no_object(alloc, id);
     };
-    if !has_attributes(&object.body.get().extra, named) {
+    if !object.body.get().extra.has_attributes(named) {
         return Ok(Plan::Refused(Cause::Unexpected(id.copy(alloc)?)));
     }
     Ok(Plan::Writes(Reply::Expected, Writes::new(alloc)))

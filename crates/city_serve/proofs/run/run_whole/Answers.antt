@@ -1,9 +1,10 @@
+use Rattle.std.proofs.Common.{rules}
 use Rattle.city_serve.proofs.Prelude.{subst}
 use Rattle.city_desk.specs.TextRuns.{IsReadFrom}
 use Rattle.city_serve.proofs.run.run_whole.Goals as goal
 
-pub returns-in_ok-output-clause-ran : goal.returns-in_ok-output-clause-ran
-returns-in_ok-output-clause-ran g c =
+pub returns-clause-ran : goal.returns-clause-ran
+returns-clause-ran g c =
     let city = c.in_ok-city.city in
     let list = c.in_ok-city.list in
     let read : IsReadFrom c.args.texts.now.document.bytes.items c.args.texts.now.scripts.bytes.items city list =
@@ -11,3 +12,9 @@ returns-in_ok-output-clause-ran g c =
     (subst (λ s. IsReadFrom c.as_slice-model.result.now s city list) c.as_slice-commands.ensures.value
     c.in_ok-city.ensures.read) in
     c.in_ok-output.ensures.ran c.args.texts.now.document.bytes.items c.args.texts.now.scripts.bytes.items read
+
+pub returns-in_err-output-clause-fault : goal.returns-in_err-output-clause-fault
+returns-in_err-output-clause-fault g c =
+    let fault =
+    c.in_err-output.ensures.fault c.args.texts.now.document.bytes.items c.args.texts.now.scripts.bytes.items in
+    let alone = c.in_err-output.ensures.alone in search (fault, alone, rules)

@@ -13,7 +13,7 @@ returns-in_ok-values-in-BeginObject-clause-read c =
     let is : values.values ≡ members = given c.new.result c.ok.result values.values (λ e. e ≡ members)
     c.ok.ensures.value values.was c.new.ensures.kept in
     let kept : kept_at_attributes values.values ≡ true = rw is (grind arith) in
-    let seen = seen_token c.in_ok-opened.ensures.value (ap token_of c.in-BeginObject.is) refl
+    let seen = seen_token c.in_ok-opened.ensures (ap token_of c.in-BeginObject.is) refl
     (object_value c.args.depth _ _ _ (omega arith) read.ensures) in
     (object members, seen, (ap object (sym is), kept))
 
@@ -22,6 +22,6 @@ returns-in_ok-names-in-BeginArray-clause-read c =
     let names = c.in_ok-names-in-BeginArray in
     let rest = names.ensures in
     let same : names.names ≡ rest.0 = rest.2 ∙ ap (λ xs. xs ++ rest.0) c.new-in-BeginArray.ensures.items in
-    let seen = seen_token c.in_ok-opened.ensures.value (ap token_of c.in-BeginArray.is) refl
+    let seen = seen_token c.in_ok-opened.ensures (ap token_of c.in-BeginArray.is) refl
     (array_value c.args.depth _ _ _ (omega arith) rest.4) in
     (array (items_of rest.1), seen, (rest.1, refl, rw same rest.3))

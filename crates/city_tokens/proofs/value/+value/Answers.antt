@@ -48,32 +48,32 @@ read_members-returns t c = members_end c.members.invariant (grind arith)
 
 pub read_value-returns-in-Null : goal.read_value-returns-in-Null
 read_value-returns-in-Null t c =
-    seen_token c.in_ok-next.ensures.value (ap token_of c.in-Null.is) (search (rules, the_lemmas)) (null_value _ _)
+    seen_token c.in_ok-next.ensures (ap token_of c.in-Null.is) (search (rules, the_lemmas)) (null_value _ _)
 
 pub read_value-returns-in-Bool : goal.read_value-returns-in-Bool
 read_value-returns-in-Bool t c =
-    seen_token c.in_ok-next.ensures.value (ap token_of c.in-Bool.is) (search (rules, the_lemmas)) (boolean_value _ _ _)
+    seen_token c.in_ok-next.ensures (ap token_of c.in-Bool.is) (search (rules, the_lemmas)) (boolean_value _ _ _)
 
 pub read_value-returns-in_ok-n-in-Number : goal.read_value-returns-in_ok-n-in-Number
 read_value-returns-in_ok-n-in-Number t c =
     let n = c.in_ok-n-in-Number in
-    seen_token c.in_ok-next.ensures.value (ap token_of c.in-Number.is) (search rules)
+    seen_token c.in_ok-next.ensures (ap token_of c.in-Number.is) (search rules)
     (whole_value _ c.in-Number.text.now n.n _ n.ensures.value n.ensures.in_range)
 
 pub read_value-returns-in_ok-copy-in-String : goal.read_value-returns-in_ok-copy-in-String
 read_value-returns-in_ok-copy-in-String t c =
-    seen_token c.in_ok-next.ensures.value (ap token_of c.in-String.is) (search (rules, the_lemmas)) (string_value _ _ _)
+    seen_token c.in_ok-next.ensures (ap token_of c.in-String.is) (search (rules, the_lemmas)) (string_value _ _ _)
 
 pub read_value-returns-in_ok-items-in-BeginArray : goal.read_value-returns-in_ok-items-in-BeginArray
 read_value-returns-in_ok-items-in-BeginArray t c =
     let found = c.in_ok-items-in-BeginArray in
-    seen_token c.in_ok-next.ensures.value (ap token_of c.in-BeginArray.is) (view-Array found.items)
+    seen_token c.in_ok-next.ensures (ap token_of c.in-BeginArray.is) (view-Array found.items)
     (array_value _ _ _ _ (omega arith) found.ensures)
 
 pub read_value-returns-in_ok-members-in-BeginObject : goal.read_value-returns-in_ok-members-in-BeginObject
 read_value-returns-in_ok-members-in-BeginObject t c =
     let found = c.in_ok-members-in-BeginObject in
-    seen_token c.in_ok-next.ensures.value (ap token_of c.in-BeginObject.is) (view-Object found.members)
+    seen_token c.in_ok-next.ensures (ap token_of c.in-BeginObject.is) (view-Object found.members)
     (object_value _ _ _ _ (omega arith) found.ensures)
 
 pub read_items-items-init : goal.read_items-items-init

@@ -1,10 +1,11 @@
-use Rattle.city_tokens.proofs.Prelude.{refl, ap, token_of}
-use Rattle.city_tokens.proofs.Options.{both_hold}
-use Rattle.city_tokens.proofs.Reading.{seen_token, whole_value}
+use Rattle.city_tokens.proofs.Prelude.{◌≡◌, w64, sym, ap, rules, to_z, of_z, number, of_integer}
+use Rattle.city_tokens.proofs.Reading.{seen_value, whole_value}
 use Rattle.city_tokens.proofs.vertices.read_whole.Goals as goal
 
-pub returns-in-Number-clause-value : goal.returns-in-Number-clause-value
-returns-in-Number-clause-value c =
-    both_hold c.whole_of.result c.whole_of.ensures.value c.whole_of.ensures.in_range
-    (λ n value in_range depth. seen_token c.in_ok-text.ensures.value (ap token_of c.in-Number.is) refl
-    (whole_value depth c.in-Number.text.now n c.next.new.self value in_range))
+pub returns-clause-value : goal.returns-clause-value
+returns-clause-value c depth =
+    let n = c.in_ok-n.n in
+    let same : to_z w64 (of_z w64 n) ≡ n = search rules in
+    let taken = c.in_ok-n.ensures in
+    seen_value taken.1 (ap (λ x. number (of_integer x)) same)
+    (whole_value depth taken.0 n c.whole.new.self taken.2.0 taken.2.1)

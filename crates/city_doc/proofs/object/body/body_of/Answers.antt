@@ -26,6 +26,7 @@ returns c =
     let stays = geometry_stays (view c.args.object) _ _ _ is_object c.take.ensures.left c.take-2.ensures.found in
     let left = c.take-2.ensures.left ∙ ap (without (codes "geometry")) c.take.ensures.left in
     let others = sym c.kept.ensures ∙ c.in-Some-kept.is in
-    sym (body_read c.args.points.now (view c.args.object) _ _ (sym c.type_of.ensures ∙ c.in-Some.is) is_object _ _
+    rw c.in_ok-shared.ensures
+    (sym (body_read c.args.points.now (view c.args.object) _ _ (sym c.type_of.ensures ∙ c.in-Some.is) is_object _ _
     (rw stays (sym c.in_ok-geometry.ensures ∙ c.in-Some-2.is))
-    (ap (λ ms. kept_if kept_at_object (without (codes "children") (without (codes "parents") ms))) (sym left) ∙ others))
+    (ap (λ ms. kept_if kept_at_object (without (codes "children") (without (codes "parents") ms))) (sym left) ∙ others)))

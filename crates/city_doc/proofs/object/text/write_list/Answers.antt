@@ -12,4 +12,4 @@ returns-clause-tokens g c =
     on_ok c.write.result c.write.ensures.tokens (λ each later.
     let written = g.T.Written.written (with_points c.write.new.pool later) in
     let some = listed_some written c.args.list.now (λ e. omega (arith, c.if-len-eq0.false, c.len.ensures, e)) in
-    rw (some, each later, c.in_ok-key.ensures.ok, c.in_ok-write_between.ensures.tokens) (simp append_assoc))
+    rw (some, each later, c.in_ok-key.ensures.ok, c.in_ok-write_before.ensures.tokens) (simp append_assoc))

@@ -7,6 +7,6 @@ returns g c =
     let empty : c.in_ok-room.room.items ≡ [] = grind arith in
     IfSome_then c.read_rest.result c.read_rest.ensures (λ all rest.
     let same : all ≡ rest.0 = rest.2 ∙ ap (λ xs. xs ++ rest.0) empty in
-    let seen = seen_token c.in_ok-next.ensures.value (ap token_of c.in-BeginArray.is) refl
+    let seen = seen_token c.in_ok-next.ensures (ap token_of c.in-BeginArray.is) refl
     (array_value c.args.depth _ _ _ (omega arith) rest.4) in
     (array (items_of rest.1), seen, (rest.1, refl, rw same rest.3)))

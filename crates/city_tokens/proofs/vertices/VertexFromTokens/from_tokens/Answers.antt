@@ -13,6 +13,6 @@ returns c =
     let same_z : to_z w64 (of_z w64 z.z) ≡ z.z = search rules in
     let three = three_value c.args.depth (omega arith) (x.ensures.value k) (y.ensures.value k) (z.ensures.value k)
     (grind arith) in
-    let seen = seen_token c.in_ok-next.ensures.value (ap token_of c.in-BeginArray.is) refl three in
+    let seen = seen_token c.in_ok-next.ensures (ap token_of c.in-BeginArray.is) refl three in
     let point = point_read x.x y.y z.z x.ensures.in_range y.ensures.in_range z.ensures.in_range in
     (_, seen, rw (same_x, same_y, same_z) point)

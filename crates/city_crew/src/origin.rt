@@ -1,0 +1,22 @@
+//! What a run began with, as a type: what lies under its lock can say of which run it is.
+use std::marker::Brand;
+
+/// The city and the scripts that a run began with. Each run picks them; they exist for the proofs only.
+pub trait Origin {
+    ghost use Rattle.std.specs.Prelude.{List};
+    ghost use Rattle.city_model.specs.CityMap.{CityValue};
+    ghost use Rattle.city_model.specs.Runs.{Scripted};
+
+    ghost city: { CityValue };
+
+    ghost scripts: { List Scripted };
+}
+
+impl Origin for Brand {
+    ghost use Rattle.std.specs.Prelude.{[]};
+    ghost use Rattle.city_desk.specs.inside.NoCity.{no_city};
+
+    ghost city = { no_city };
+
+    ghost scripts = { [] };
+}

@@ -1,0 +1,22 @@
+use Rattle.city_model.proofs.Prelude.{◌∙◌, ap, arith, drop, suc, take}
+use Rattle.city_model.specs.inside.MemberLists.{all_joined, joined}
+use Rattle.city_model.proofs.MemberLists.{inserted_before, inserted_behind, joined-assoc}
+use Rattle.city_model.proofs.Prelude.{sym}
+use Rattle.city_model.proofs.kept.shared_members.cut_long.Goals as goal
+
+pub returns : goal.returns
+returns c =
+    let lists = c.args.lists.now.items in
+    let at = c.args.at in
+    let list = c.split_off.new.self in
+    let others = c.in_ok-others-2.others in
+    record {
+      within = omega (arith, c.requires, c.in_ok-insert.ensures.len);
+      before = ap (take at) c.in_ok-insert.ensures.items ∙ inserted_before lists at others c.requires;
+      behind =
+          ap (λ ls. joined list (all_joined (drop (suc at) ls))) c.in_ok-insert.ensures.items
+          ∙ ap (λ ls. joined list (all_joined ls)) (inserted_behind lists at others c.requires)
+          ∙ ap (λ ms. joined list (joined ms (all_joined (drop (suc at) lists)))) c.in_ok-others-2.ensures.ok
+          ∙ sym (joined-assoc list c.in_ok-others.others (all_joined (drop (suc at) lists)))
+          ∙ ap (λ ms. joined ms (all_joined (drop (suc at) lists))) c.in_ok-others.ensures;
+    }

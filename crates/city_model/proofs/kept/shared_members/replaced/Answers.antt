@@ -1,0 +1,6 @@
+use Rattle.city_model.proofs.Prelude.{arith}
+use Rattle.city_model.proofs.MemberLists.{all_joined-set}
+use Rattle.city_model.proofs.kept.shared_members.replaced.Goals as goal
+
+pub returns : goal.returns
+returns c = grind (arith, all_joined-set)

@@ -1,0 +1,23 @@
+-- The kept members of an object, as they are stored.
+use Rattle.std.specs.Prelude.{Option, None, Some}
+use Rattle.std.specs.Arc.{arc_value}
+use Rattle.serde_json.specs.Data.{object, Members, put}
+use Rattle.serde_json.specs.View.{members_view}
+use Rattle.city_model.specs.Attributes.{attributes}
+use Rattle.city_model.specs.declared.kept.shared_extra.Storage.{Storage}
+use Rattle.city_model.specs.declared.kept.shared_extra.Storage.TheVariants.{Few, Many}
+use Rattle.city_model.specs.declared.kept.shared_extra.LentMembers.{LentMembers}
+use Rattle.city_model.specs.declared.kept.shared_extra.LentMembers.TheVariants.{Lent, Made}
+
+-- the members, and these attributes in place of their own
+abbrev pub with_own : Members → Option Members → Members
+with_own ms None = ms
+with_own ms (Some found) = put attributes (object found) ms
+
+abbrev pub kept_in : Storage → Members
+kept_in (Few ms) = ms
+kept_in (Many others found) = with_own (members_view (arc_value others).entries) found
+
+abbrev pub lent : LentMembers → Members
+lent (Lent m) = members_view m.now.entries
+lent (Made m) = members_view m.entries

@@ -1,0 +1,207 @@
+//! A few members of a JSON object, each of which copies share.
+ghost use Rattle.std.specs.Prelude.{◌≡◌, ◌<◌, ◌++◌, ◌==◌, ◌∷◌, [], Bool, true, false, option_map, string_bytes, length, take, drop, IfOk, OnOk, if◌then◌else◌};
+ghost use Rattle.std.specs.Arc.{arc_value};
+ghost use Rattle.serde_json.specs.Data.{Members, no_members, member, put};
+ghost use Rattle.serde_json.specs.Find.{get_member};
+ghost use Rattle.serde_json.specs.View.{view, members_view};
+ghost use Rattle.city_model.specs.Kept.{has_no_member};
+ghost use Rattle.city_model.specs.Members.{without, AreOrdered};
+ghost use Rattle.city_model.specs.inside.MemberLists.{joined, entries_view, reaches, pending};
+
+use crate::OutOfMemory;
+use crate::members::put;
+use serde_json::{Map, Value};
+use std::alloc::Global;
+use std::cmp::Ordering;
+use std::marker::Model;
+use std::sync::Arc;
+
+/// A member, which lists share: its value may be long.
+type Entry = Arc<(String, Value)>;
+
+/// Members of a JSON object. A copy shares each of them.
+#[derive(Drop)]
+pub struct MemberList {
+    entries: Vec<Entry>,
+}
+
+impl Model for MemberList {
+    ghost use Rattle.serde_json.specs.Data.{Members};
+
+    ghost Value = { Members };
+
+    ghost use Rattle.city_model.specs.inside.DataCode.{coded_members};
+
+    ghost coded = { coded_members };
+
+    ghost use Rattle.city_model.specs.inside.MemberLists.{entries_view};
+
+    ghost view = { λ a. entries_view a.entries.items };
+}
+
+impl MemberList {
+    /// A list of no members. Doesn't allocate.
+    pub fn new(alloc: Global) -> Self
+        ensures { result ≡ no_members }
+    {
+        MemberList {
+            entries: Vec::new(alloc),
+        }
+    }
+
+    /// How many members there are.
+    pub fn len(&self) -> usize {
+        self.entries.len()
+    }
+
+    /// Whether there is no member.
+    pub fn is_empty(&self) -> bool
+        ensures { result ≡ has_no_member self.now }
+    {
+        self.entries.is_empty()
+    }
+
+    /// Adds a member at the end. If memory runs out, it is dropped.
+    pub fn push(&mut self, alloc: Global, name: String, value: Value) -> Result<(), OutOfMemory>
+        ensures { OnOk result (self.new ≡ joined self.old (member (string_bytes name) (view value) no_members)) }
+    {
+        let entry = Arc::new(alloc, (name, value))?;
+        self.entries.push(entry)?;
+        Ok(())
+    }
+
+    /// The value of a name. Doesn't allocate.
+    pub fn get(&self, name: &str) -> Option<&Value>
+        ensures { option_map (λ v. view v.now) result ≡ get_member name.now self.now }
+    {
+        for entry in &self.entries {
+            if name.cmp(entry.0.as_str()).is_eq() {
+                return Some(&entry.1);
+            }
+        }
+        None
+    }
+
+    /// Whether the last name doesn't come before this one. Doesn't allocate.
+    pub fn reaches(&self, name: &str) -> bool
+        requires { AreOrdered self.now }
+        ensures { result ≡ reaches self.now name.now }
+    {
+        match self.entries.as_slice() {
+            [.., last] => last.0.as_str().cmp(name).is_ge(),
+            [] => false,
+        }
+    }
+
+    /// The members, and one of this name in its place.
+    pub fn with(&self, alloc: Global, name: &str, value: &Value) -> Result<MemberList, OutOfMemory>
+        ensures { IfOk result (λ list. list ≡ put name.now (view value.now) self.now) }
+    {
+        let fresh = Arc::new(alloc, (name.to_string(alloc)?, value.clone()?))?;
+        let mut entries = Vec::with_capacity(alloc, self.entries.len())?;
+        let mut is_placed = false;
+        for entry in &self.entries {
+            is_placed = push_beside(&mut entries, &fresh, entry, is_placed)?;
+        }
+        placed_at_last(entries, fresh, is_placed)
+    }
+
+    /// The members without that of this name.
+    pub fn without(&self, alloc: Global, name: &str) -> Result<MemberList, OutOfMemory>
+        ensures { IfOk result (λ list. list ≡ without name.now self.now) }
+    {
+        let mut entries = Vec::with_capacity(alloc, self.entries.len())?;
+        for entry in &self.entries {
+            push_other(&mut entries, name, entry)?;
+        }
+        Ok(MemberList { entries })
+    }
+
+    /// Takes the members behind the first so many off, and returns them.
+    pub fn split_off(&mut self, at: usize) -> Result<MemberList, OutOfMemory>
+        ensures { IfOk result (λ others. joined self.new others ≡ self.old) }
+    {
+        let at = at.min(self.entries.len());
+        let entries = self.entries.split_off(at)?;
+        Ok(MemberList { entries })
+    }
+
+    /// Puts copies of the members into a map, all of whose names come before theirs.
+    pub fn copy_into(&self, members: &mut Map<String, Value>) -> Result<(), OutOfMemory>
+        requires { AreOrdered (joined (members_view members.old.entries) self.now) }
+        ensures { OnOk result (members_view members.new.entries ≡ joined (members_view members.old.entries) self.now) }
+    {
+        for entry in &self.entries {
+            put_copy(members, entry)?;
+        }
+        Ok(())
+    }
+}
+
+/// Gives the members a copy of an entry.
+fn put_copy(members: &mut Map<String, Value>, entry: &Entry) -> Result<(), OutOfMemory>
+    ensures { OnOk result (members_view members.new.entries
+        ≡ put (string_bytes (arc_value entry.now).0) (view (arc_value entry.now).1) (members_view members.old.entries)) }
+{
+    put(members, entry.0.clone()?, entry.1.clone()?)
+}
+
+/// Adds an entry to a list, unless it has this name.
+fn push_other(entries: &mut Vec<Entry>, name: &str, entry: &Entry) -> Result<(), OutOfMemory>
+    ensures { OnOk result ((rest : Members) → joined (entries_view entries.new.items) (without name.now rest)
+        ≡ joined (entries_view entries.old.items) (without name.now (joined (entries_view (entry.now ∷ [])) rest))) }
+{
+    if name.cmp(entry.0.as_str()).is_eq() {
+        return Ok(());
+    }
+    entries.push(entry.clone()?)?;
+    Ok(())
+}
+
+/// The list of entries, and behind them a fresh one that wasn't placed yet.
+fn placed_at_last(
+    mut entries: Vec<Entry>,
+    fresh: Entry,
+    is_placed: bool,
+) -> Result<MemberList, OutOfMemory>
+    ensures { IfOk result (λ list. list ≡ joined (entries_view entries.items) (pending is_placed fresh no_members)) }
+{
+    if is_placed {
+        return Ok(MemberList { entries });
+    }
+    entries.push(fresh)?;
+    Ok(MemberList { entries })
+}
+
+/// Adds an entry to a list, and before it a fresh one that wasn't placed yet, if that is its place; a fresh one
+/// takes the place of one of its name. Returns whether the fresh one is placed then.
+fn push_beside(
+    entries: &mut Vec<Entry>,
+    fresh: &Entry,
+    entry: &Entry,
+    is_placed: bool,
+) -> Result<bool, OutOfMemory>
+    ensures { IfOk result (λ placed. (rest : Members)
+        → joined (entries_view entries.new.items) (pending placed fresh.now rest)
+        ≡ joined (entries_view entries.old.items) (pending is_placed fresh.now (joined (entries_view (entry.now ∷ [])) rest))) }
+{
+    if is_placed {
+        entries.push(entry.clone()?)?;
+        return Ok(true);
+    }
+    match fresh.0.as_str().cmp(entry.0.as_str()) {
+        Ordering::Less => {
+            entries.push(fresh.clone()?)?;
+            entries.push(entry.clone()?)?;
+            Ok(true)
+        }
+        Ordering::Equal => {
+            entries.push(fresh.clone()?)?;
+            Ok(true)
+        }
+        Ordering::Greater => {
+            entries.push(entry.clone()?)?;
+            Ok(false)
+        }
+    }
+}

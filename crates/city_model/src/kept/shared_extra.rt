@@ -1,0 +1,370 @@
+//! The kept members of an object, which copies share where they are many.
+ghost use Rattle.std.specs.Prelude.{◌≡◌, true, option_map, IfOk};
+ghost use Rattle.std.specs.Arc.{arc_value};
+ghost use Rattle.serde_json.specs.Data.{object, put};
+ghost use Rattle.serde_json.specs.View.{view, members_view};
+ghost use Rattle.city_model.specs.Attributes.{attributes, attributes_in, are_among, has_attributes, with_attributes, with_set, with_unset};
+ghost use Rattle.city_model.specs.Kept.{kept_at_object};
+ghost use Rattle.city_model.specs.Members.{AreOrdered};
+ghost use Rattle.city_model.specs.inside.KeptIn.{kept_in, lent, with_own};
+
+use crate::OutOfMemory;
+use crate::attributes::{has_attributes, put_attributes, with_set, with_unset};
+use crate::command::Attributes;
+use crate::copied::Copied;
+use crate::kept::extra::Extra;
+use crate::kept::shared_members::SharedMembers;
+use crate::kept::site::AtObject;
+use crate::kept::size::room_after;
+use crate::members::{copy_of, member, put, take};
+use crate::same_value::same_value;
+use crate::text::Text;
+use serde_json::{Map, Value};
+use std::alloc::Global;
+use std::marker::Model;
+use std::sync::Arc;
+
+/// Members that take so much room are shared (`room_after`): what is smaller is copied sooner.
+const LARGE: usize = 256;
+
+#[derive(Drop)]
+pub(crate) enum Storage {
+    /// A copy copies them.
+    Few(Extra<AtObject>),
+    /// All but `attributes`, and these where they are an object.
+    Many(Arc<Map<String, Value>>, Option<SharedMembers>),
+}
+
+/// The kept members of an object. A copy shares them where they are many: each command that edits an object writes
+/// the object anew, and a set of one attribute leaves all others as they are.
+#[derive(Drop)]
+pub struct SharedExtra {
+    pub(crate) storage: Storage,
+}
+
+impl Model for SharedExtra {
+    ghost use Rattle.serde_json.specs.Data.{Members};
+
+    ghost Value = { Members };
+
+    ghost use Rattle.city_model.specs.inside.DataCode.{coded_members};
+
+    ghost coded = { coded_members };
+
+    ghost use Rattle.city_model.specs.inside.KeptIn.{kept_in};
+
+    ghost view = { λ a. kept_in a.storage };
+
+    ghost use Rattle.std.specs.Prelude.{◌≡◌, true};
+    ghost use Rattle.city_model.specs.Kept.{kept_at_object};
+    ghost use Rattle.city_model.specs.Members.{AreOrdered};
+
+    ghost invariant = { λ a. (kept_at_object (kept_in a.storage) ≡ true) × AreOrdered (kept_in a.storage) };
+}
+
+/// Members of an object as a map: lent, or made.
+#[derive(Drop)]
+pub enum LentMembers<'a> {
+    Lent(&'a Map<String, Value>),
+    Made(Map<String, Value>),
+}
+
+impl LentMembers<'_> {
+    /// The members. Doesn't allocate.
+    pub fn get(&self) -> &Map<String, Value>
+        ensures { members_view result.now.entries ≡ lent self.now }
+    {
+        match self {
+            LentMembers::Lent(members) => members,
+            LentMembers::Made(members) => members,
+        }
+    }
+}
+
+impl SharedExtra {
+    /// The members by themselves: a copy copies them. Doesn't allocate.
+    pub fn unshared(extra: Extra<AtObject>) -> Self
+        ensures { result ≡ extra }
+    {
+        // (called for its contract: the object keeps them)
+        let _members = extra.map();
+        SharedExtra {
+            storage: Storage::Few(extra),
+        }
+    }
+
+    /// The members, for all copies to share where they are many. It fails only when out of memory.
+    pub fn new(alloc: Global, extra: Extra<AtObject>) -> Result<Self, OutOfMemory>
+        ensures { IfOk result (λ shared. shared ≡ extra) }
+    {
+        if room_after(extra.map(), LARGE) != 0 {
+            return Ok(SharedExtra::unshared(extra));
+        }
+        let storage = many_of(alloc, extra.into_map())?;
+        Ok(SharedExtra { storage })
+    }
+
+    /// The members as a map. It fails only when out of memory, and doesn't allocate where they are few.
+    pub fn lend(&self) -> Result<LentMembers<'_>, OutOfMemory>
+        ensures members { IfOk result (λ members. lent members ≡ self.now) }
+        ensures kept { kept_at_object self.now ≡ true }
+        ensures ordered { AreOrdered self.now }
+    {
+        match &self.storage {
+            Storage::Few(extra) => Ok(LentMembers::Lent(extra.map())),
+            Storage::Many(others, found) => lend_many(others, found),
+        }
+    }
+
+    /// The members with these attributes set, or None where `attributes` is no object. It fails only when out of
+    /// memory.
+    pub fn with_set(&self, alloc: Global, named: &Attributes) -> Result<Option<Self>, OutOfMemory>
+        ensures { IfOk result (λ made. made ≡ option_map (with_set self.now named.now) (attributes_in self.now)) }
+    {
+        match &self.storage {
+            Storage::Few(extra) => {
+                let made = with_set(alloc, extra, named)?;
+                shared(alloc, made)
+            }
+            Storage::Many(others, found) => set_many(alloc, others, found, named),
+        }
+    }
+
+    /// The members without the attributes of these names, or None where `attributes` is no object. It fails only
+    /// when out of memory.
+    pub fn with_unset(&self, alloc: Global, names: &[Text]) -> Result<Option<Self>, OutOfMemory>
+        ensures { IfOk result (λ made. made ≡ option_map (with_unset self.now names.now) (attributes_in self.now)) }
+    {
+        match &self.storage {
+            Storage::Few(extra) => {
+                let made = with_unset(alloc, extra, names)?;
+                shared(alloc, made)
+            }
+            Storage::Many(others, found) => unset_many(alloc, others, found, names),
+        }
+    }
+
+    /// Whether the members have these attributes, with these values. Doesn't allocate.
+    pub fn has_attributes(&self, named: &Attributes) -> bool
+        ensures { result ≡ has_attributes self.now named.now }
+    {
+        match &self.storage {
+            Storage::Few(extra) => has_attributes(extra.map(), named.map()),
+            Storage::Many(others, found) => many_have(others, found, named),
+        }
+    }
+}
+
+impl Copied for SharedExtra {
+    fn copy(&self, alloc: Global) -> Result<SharedExtra, OutOfMemory> {
+        match &self.storage {
+            Storage::Few(extra) => SharedExtra::new(alloc, extra.copy(alloc)?),
+            Storage::Many(others, found) => Ok(SharedExtra {
+                storage: Storage::Many(others.clone()?, found.copy(alloc)?),
+            }),
+        }
+    }
+}
+
+/// The members for copies to share, if there are any.
+fn shared(alloc: Global, extra: Option<Extra<AtObject>>) -> Result<Option<SharedExtra>, OutOfMemory>
+    ensures { IfOk result (λ made. made ≡ extra) }
+{
+    match extra {
+        None => Ok(None),
+        Some(extra) => {
+            let made = SharedExtra::new(alloc, extra)?;
+            Ok(Some(made))
+        }
+    }
+}
+
+/// The members stored for copies to share.
+fn many_of(alloc: Global, members: Map<String, Value>) -> Result<Storage, OutOfMemory>
+    requires { AreOrdered (members_view members.entries) }
+    ensures { IfOk result (λ storage. kept_in storage ≡ members_view members.entries) }
+{
+    let mut others = members;
+    match take(&mut others, "attributes") {
+        None => Ok(Storage::Many(Arc::new(alloc, others)?, None)),
+        Some(value) => {
+            let storage = many_with(alloc, others, value)?;
+            Ok(storage)
+        }
+    }
+}
+
+/// Members and the value of `attributes`, stored for copies to share.
+fn many_with(
+    alloc: Global,
+    others: Map<String, Value>,
+    value: Value,
+) -> Result<Storage, OutOfMemory>
+    ensures { IfOk result (λ storage. kept_in storage ≡ put attributes (view value) (members_view others.entries)) }
+{
+    match value {
+        Value::Object(found) => {
+            let found = SharedMembers::from_map(alloc, found)?;
+            Ok(Storage::Many(Arc::new(alloc, others)?, Some(found)))
+        }
+        odd => {
+            let mut all = others;
+            put(&mut all, "attributes".to_string(alloc)?, odd)?;
+            Ok(Storage::Many(Arc::new(alloc, all)?, None))
+        }
+    }
+}
+
+/// Many members as a map.
+fn lend_many<'a>(
+    others: &'a Map<String, Value>,
+    found: &Option<SharedMembers>,
+) -> Result<LentMembers<'a>, OutOfMemory>
+    ensures { IfOk result (λ members. lent members ≡ with_own (members_view others.now.entries) found.now) }
+{
+    match found {
+        None => Ok(LentMembers::Lent(others)),
+        Some(found) => {
+            let mut all = copy_of(others)?;
+            put_attributes(found.allocator(), &mut all, found.to_map()?)?;
+            Ok(LentMembers::Made(all))
+        }
+    }
+}
+
+/// The attributes of many members: no members where they have none, and None where what stands there is no object.
+fn attributes_of_many(
+    alloc: Global,
+    others: &Map<String, Value>,
+    found: &Option<SharedMembers>,
+) -> Result<Option<SharedMembers>, OutOfMemory>
+    ensures { IfOk result (λ own. own ≡ attributes_in (with_own (members_view others.now.entries) found.now)) }
+{
+    match found {
+        Some(found) => Ok(Some(found.copy(alloc)?)),
+        None => attributes_of_others(alloc, others),
+    }
+}
+
+/// The attributes among members, likewise.
+fn attributes_of_others(
+    alloc: Global,
+    others: &Map<String, Value>,
+) -> Result<Option<SharedMembers>, OutOfMemory>
+    ensures { IfOk result (λ own. own ≡ attributes_in (members_view others.now.entries)) }
+{
+    let Some(value) = member(others, "attributes") else {
+        return Ok(Some(SharedMembers::new(alloc)));
+    };
+    match value.as_object() {
+        None => Ok(None),
+        Some(found) => {
+            let own = SharedMembers::from_map(alloc, copy_of(found)?)?;
+            Ok(Some(own))
+        }
+    }
+}
+
+/// Many members with these attributes set.
+fn set_many(
+    alloc: Global,
+    others: &Arc<Map<String, Value>>,
+    found: &Option<SharedMembers>,
+    named: &Attributes,
+) -> Result<Option<SharedExtra>, OutOfMemory>
+    requires kept { kept_at_object (with_own (members_view (arc_value others.now).entries) found.now) ≡ true }
+    requires ordered { AreOrdered (with_own (members_view (arc_value others.now).entries) found.now) }
+    ensures { IfOk result (λ made. made ≡ option_map (with_set (with_own (members_view (arc_value others.now).entries) found.now) named.now)
+        (attributes_in (with_own (members_view (arc_value others.now).entries) found.now))) }
+{
+    let Some(own) = attributes_of_many(alloc, others, found)? else {
+        return Ok(None);
+    };
+    let set = own.with_each(alloc, named.map())?;
+    let storage = many(others, set)?;
+    let made = stored(storage);
+    Ok(Some(made))
+}
+
+/// Many members without the attributes of these names.
+fn unset_many(
+    alloc: Global,
+    others: &Arc<Map<String, Value>>,
+    found: &Option<SharedMembers>,
+    names: &[Text],
+) -> Result<Option<SharedExtra>, OutOfMemory>
+    requires kept { kept_at_object (with_own (members_view (arc_value others.now).entries) found.now) ≡ true }
+    requires ordered { AreOrdered (with_own (members_view (arc_value others.now).entries) found.now) }
+    ensures { IfOk result (λ made. made ≡ option_map (with_unset (with_own (members_view (arc_value others.now).entries) found.now) names.now)
+        (attributes_in (with_own (members_view (arc_value others.now).entries) found.now))) }
+{
+    let Some(own) = attributes_of_many(alloc, others, found)? else {
+        return Ok(None);
+    };
+    let left = own.without_each(alloc, names)?;
+    let storage = storage_left(alloc, others, left)?;
+    let made = stored(storage);
+    Ok(Some(made))
+}
+
+/// Members and their attributes, for copies to share.
+fn many(others: &Arc<Map<String, Value>>, own: SharedMembers) -> Result<Storage, OutOfMemory>
+    ensures { IfOk result (λ storage. kept_in storage
+        ≡ put attributes (object own) (members_view (arc_value others.now).entries)) }
+{
+    let others = others.clone()?;
+    Ok(Storage::Many(others, Some(own)))
+}
+
+/// The members that are stored, which an object may keep.
+fn stored(storage: Storage) -> SharedExtra
+    requires kept { kept_at_object (kept_in storage) ≡ true }
+    requires ordered { AreOrdered (kept_in storage) }
+    ensures { result ≡ kept_in storage }
+{
+    SharedExtra { storage }
+}
+
+/// Members with these attributes, if there are any left.
+fn storage_left(
+    alloc: Global,
+    others: &Arc<Map<String, Value>>,
+    left: SharedMembers,
+) -> Result<Storage, OutOfMemory>
+    ensures { IfOk result (λ storage. kept_in storage
+        ≡ with_attributes (members_view (arc_value others.now).entries) left) }
+{
+    if !left.is_empty() {
+        let storage = many(others, left)?;
+        return Ok(storage);
+    }
+    if member(others, "attributes").is_none() {
+        return Ok(Storage::Many(others.clone()?, None));
+    }
+    let mut rest = copy_of(others)?;
+    drop(take(&mut rest, "attributes"));
+    Ok(Storage::Many(Arc::new(alloc, rest)?, None))
+}
+
+/// Whether many members have these attributes.
+fn many_have(others: &Map<String, Value>, found: &Option<SharedMembers>, named: &Attributes) -> bool
+    ensures { result ≡ has_attributes (with_own (members_view others.now.entries) found.now) named.now }
+{
+    match found {
+        None => has_attributes(others, named.map()),
+        Some(found) => are_among_shared(named.map(), found),
+    }
+}
+
+/// Whether each of the named members is among the shared ones, with the same value.
+fn are_among_shared(named: &Map<String, Value>, found: &SharedMembers) -> bool
+    ensures { result ≡ are_among (members_view named.now.entries) found.now }
+{
+    for (name, value) in named.iter() {
+        match found.get(name.as_str()) {
+            Some(other) if same_value(value, other) => {}
+            _ => return false,
+        }
+    }
+    true
+}

@@ -1,0 +1,12 @@
+use Rattle.std.proofs.Common.{◌≡◌, ◌+◌, ◌-◌, ◌≤◌, length, drop}
+use Rattle.std.specs.List.{prefix_len}
+use Rattle.json.specs.Word.{is_space}
+use Rattle.city_reader.proofs.runs.blanks_end.Given as goal
+
+abbrev pub invariant-loop-at : goal.invariant-loop-at
+invariant-loop-at l =
+    (l.from + prefix_len is_space (drop l.from l.text) ≡ l.at + prefix_len is_space (drop l.at l.text))
+    × (l.at ≤ length l.text)
+
+abbrev pub decreases-loop-at : goal.decreases-loop-at
+decreases-loop-at l = length l.text - l.at

@@ -1,0 +1,14 @@
+use Rattle.std.proofs.Common.{arith}
+use Rattle.std.proofs.lemmas.Simd.{zip2_splat}
+use Rattle.json.specs.Run.{is_stop}
+use Rattle.city_reader.proofs.Lanes.{hit, below, either, masked}
+use Rattle.city_reader.proofs.runs.stops.Goals as goal
+
+pub returns : goal.returns
+returns c =
+    let v = c.args.bytes in
+    let long = c.fits-bytes.0 in
+    let quote = zip2_splat hit v 16 34 long in
+    let backslash = zip2_splat hit v 16 92 long in
+    let control = zip2_splat below v 16 32 long in
+    masked _ is_stop v _ (omega arith) c.fits-bytes.1 (either _ _ v (either _ _ v quote backslash) control) tt

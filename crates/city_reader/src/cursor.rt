@@ -1,0 +1,122 @@
+//! What is left of a text, and the lexemes that it begins with.
+ghost use Rattle.std.specs.Prelude.{◌≡◌, ℕ, List, [], IfSome, MatchOption};
+ghost use Rattle.json.specs.Token.{number, string};
+ghost use Rattle.json.specs.Word.{head};
+ghost use Rattle.json.specs.Lex.{class, operator, operator_lexeme, token, between, lex};
+ghost use Rattle.city_reader.specs.Cursor.{IsLexeme, IsPassed};
+ghost use Rattle.city_reader.specs.Numbers.{IsWholeText};
+
+use crate::numbers::{is_delimiter, whole_end};
+use crate::runs::{blanks_end, byte_at, plain_end};
+use crate::small::small_whole;
+use std::marker::Model;
+
+/// Stands in a text. Contracts see the bytes that are left.
+#[derive(Drop)]
+pub struct Cursor<'t> {
+    text: &'t str,
+    at: usize,
+}
+
+impl<'t> Model for Cursor<'t> {
+    ghost use Rattle.std.specs.Prelude.{ℕ, List};
+
+    ghost Value = { List ℕ };
+
+    ghost use Rattle.city_reader.specs.Cursor.{cursor_view, IsCursor};
+
+    ghost view = { cursor_view };
+
+    ghost invariant = { IsCursor };
+}
+
+impl<'t> Cursor<'t> {
+    #[inline(always)]
+    pub fn new(text: &'t str) -> Cursor<'t>
+        ensures { result ≡ text.now }
+    {
+        Cursor { text, at: 0 }
+    }
+
+    /// The first byte of the next lexeme, to which the cursor goes, or a space at the end.
+    #[inline(always)]
+    pub fn peek(&mut self) -> u8
+        ensures value { result ≡ head self.new }
+        ensures same { lex between self.new ≡ lex between self.old }
+        ensures end { result ≡ 32 → self.new ≡ [] }
+    {
+        let bytes = self.text.as_bytes();
+        let byte = byte_at(bytes, self.at);
+        if byte > b' ' {
+            return byte;
+        }
+        self.at = blanks_end(bytes, self.at);
+        byte_at(bytes, self.at)
+    }
+
+    /// Passes a bracket, a brace, a comma or a colon.
+    #[inline(always)]
+    pub fn skip(&mut self)
+        requires { class (head self.old) ≡ operator }
+        ensures { IsLexeme self.old (operator_lexeme (head self.old)) self.new }
+    {
+        self.at += 1;
+    }
+
+    /// The string whose quote is next; none where it has an escape or is odd.
+    #[inline(always)]
+    pub fn string(&mut self) -> Option<&'t str>
+        requires { head self.old ≡ 34 }
+        ensures { IfSome result (λ s. IsLexeme self.old (token (string s.now)) self.new) }
+    {
+        let text = self.text;
+        let start = self.at + 1;
+        let stop = plain_end(text.as_bytes(), start);
+        if byte_at(text.as_bytes(), stop) != b'"' {
+            return None;
+        }
+        self.at = stop + 1;
+        Some(&text[start..stop])
+    }
+
+    /// The text of the whole number that is next; none where anything else is.
+    #[inline(always)]
+    pub fn number(&mut self) -> Option<&'t str>
+        ensures { IfSome result (λ s. IsLexeme self.old (token (number s.now)) self.new) }
+    {
+        let text = self.text;
+        let start = self.at;
+        if byte_at(text.as_bytes(), start) > b'9' {
+            return None;
+        }
+        let end = whole_end(text.as_bytes(), start)?;
+        self.at = end;
+        Some(&text[start..end])
+    }
+
+    /// Takes the whole number of at most 18 digits that is next; none where anything else is, and then nothing is
+    /// taken.
+    #[inline(always)]
+    pub fn take_whole(&mut self) -> Option<i64>
+        ensures { MatchOption result (self.new ≡ self.old) (λ n. (s : List ℕ)
+            × IsLexeme self.old (token (number s)) self.new × IsWholeText s n) }
+    {
+        let rest = &self.text.as_bytes()[self.at..];
+        let (n, len) = small_whole(rest)?;
+        self.at += len;
+        Some(n)
+    }
+
+    /// Passes this word; none where another is next.
+    #[inline(always)]
+    pub fn word(&mut self, name: &[u8]) -> Option<()>
+        ensures { IfSome result (λ _. IsPassed self.old name.now self.new) }
+    {
+        let rest = &self.text.as_bytes()[self.at..];
+        if !rest.starts_with(name) || !is_delimiter(byte_at(rest, name.len())) {
+            return None;
+        }
+        self.at += name.len();
+        Some(())
+    }
+}

@@ -1,0 +1,20 @@
+//! Reads the tokens of JSON texts, one after another, straight from the bytes.
+//!
+//! - `runs`: where runs of blanks, of digits and of the plain bytes of a string end
+//! - `numbers`: where whole numbers end
+//! - `small`, `whole`: whole numbers of a few digits, and of any number of digits
+//! - `cursor`: what is left of a text, and the lexemes that it begins with
+//! - `plain`: reads texts without escapes, and gives up where anything is odd
+//! - `reader`: reads every text
+#![tactic(auto)]
+
+mod cursor;
+mod numbers;
+mod plain;
+mod reader;
+mod runs;
+mod small;
+mod whole;
+
+pub use reader::Reader;
+pub use whole::whole_of;

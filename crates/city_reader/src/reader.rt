@@ -1,0 +1,117 @@
+//! Reads the tokens of a text.
+ghost use Rattle.std.specs.Prelude.{◌≡◌, [], ◌∷◌, option_map, Some, IfSome, IsTrue};
+ghost use Rattle.std.specs.Bool.{MatchBool};
+ghost use Rattle.json.specs.Lex.{tokens};
+ghost use Rattle.json.specs.Json.{after_end_array, read_key};
+ghost use Rattle.json.specs.Reads.{token_of};
+ghost use Rattle.city_reader.specs.Taken.{IsWholeTaken};
+
+use crate::plain::PlainReader;
+use crate::whole::whole_of;
+use json::{Scratch, Token};
+use memchr::memchr;
+use std::alloc::Global;
+use std::marker::Model;
+
+/// Who reads a text.
+#[derive(Drop)]
+enum Source<'t> {
+    /// One without escapes.
+    Plain(PlainReader<'t>),
+    Escaped(json::Reader<'t>),
+}
+
+/// Reads the tokens of a text, one after another, and gives up where anything is odd. Contracts see the tokens that are
+/// still to come.
+#[derive(Drop)]
+pub struct Reader<'t> {
+    source: Source<'t>,
+}
+
+impl<'t> Model for Reader<'t> {
+    ghost use Rattle.std.specs.Prelude.{List};
+    ghost use Rattle.json.specs.Token.{Token as SpecToken, tokens_code};
+
+    ghost Value = { List SpecToken };
+
+    ghost coded = { tokens_code };
+
+    ghost use Rattle.city_reader.specs.Sources.{tokens_of};
+
+    ghost view = { λ a. tokens_of a.source };
+}
+
+impl<'t> Reader<'t> {
+    /// Reads this text, at first at its beginning. Only a text with an escape takes memory, as much as the text, in
+    /// `scratch`; none where that is refused.
+    pub fn new(text: &'t str, scratch: &'t mut Scratch<Global>) -> Option<Reader<'t>>
+        ensures { IfSome result (λ reader. reader ≡ tokens text.now) }
+    {
+        let source = if memchr(b'\\', text.as_bytes()).is_none() {
+            Source::Plain(PlainReader::new(text))
+        } else {
+            Source::Escaped(json::Reader::new(text, scratch).ok()?)
+        };
+        Some(Reader { source })
+    }
+
+    /// The next token; none at the end, and where anything is odd.
+    #[inline(always)]
+    pub fn next(&mut self) -> Option<Token<'t>>
+        ensures { IfSome result (λ t. self.old ≡ token_of t ∷ self.new) }
+    {
+        match &mut self.source {
+            Source::Plain(reader) => reader.next(),
+            Source::Escaped(reader) => reader.next(),
+        }
+    }
+
+    /// The next token's number, which is an `i64`; none where it is anything else.
+    #[inline(always)]
+    pub fn whole(&mut self) -> Option<i64>
+        ensures { IfSome result (IsWholeTaken self.old self.new) }
+    {
+        match &mut self.source {
+            Source::Plain(reader) => reader.whole(),
+            Source::Escaped(reader) => match reader.next()? {
+                Token::Number(text) => whole_of(text),
+                _ => None,
+            },
+        }
+    }
+
+    /// The key of the next member, or none within at the brace that closes an object; none where anything else is next.
+    #[inline(always)]
+    pub fn next_key(&mut self) -> Option<Option<&'t str>>
+        ensures { IfSome result
+            (λ k. read_key self.old ≡ Some (option_map (λ s. s.now) k, self.new)) }
+    {
+        match self.next()? {
+            Token::Key(key) => Some(Some(key)),
+            Token::EndObject => Some(None),
+            _ => None,
+        }
+    }
+
+    /// Takes the bracket that closes an array, if it is next.
+    #[inline(always)]
+    pub fn take_end_array(&mut self) -> bool
+        ensures { MatchBool result (after_end_array self.old ≡ Some self.new) (self.new ≡ self.old) }
+    {
+        match &mut self.source {
+            Source::Plain(reader) => reader.take_end_array(),
+            Source::Escaped(reader) => reader.take_end_array(),
+        }
+    }
+
+    /// Whether nothing but blanks is left.
+    #[inline(always)]
+    pub fn is_at_end(&mut self) -> bool
+        ensures { IsTrue result → self.old ≡ [] }
+    {
+        match &mut self.source {
+            Source::Plain(reader) => reader.is_at_end(),
+            Source::Escaped(reader) => reader.next().is_none(),
+        }
+    }
+}

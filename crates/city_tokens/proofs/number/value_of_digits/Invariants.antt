@@ -1,5 +1,0 @@
-use Rattle.city_tokens.proofs.Prelude.{◌≡◌, take, AllDigits, digits_value}
-use Rattle.city_tokens.proofs.number.value_of_digits.Given as goal
-
-abbrev pub invariant-loop-byte : goal.invariant-loop-byte
-invariant-loop-byte l = AllDigits 10 (take l.byte-index l.digits) × (l.n ≡ digits_value 10 (take l.byte-index l.digits))
