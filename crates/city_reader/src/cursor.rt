@@ -1,5 +1,5 @@
 //! What is left of a text, and the lexemes that it begins with.
-ghost use Rattle.std.specs.Prelude.{◌≡◌, ℕ, List, [], IfSome, MatchOption};
+ghost use Rattle.std.specs.Prelude.{◌≡◌, ℕ, List, [], drop, IfSome, IsTrue, MatchOption};
 ghost use Rattle.json.specs.Token.{number, string};
 ghost use Rattle.json.specs.Word.{head};
 ghost use Rattle.json.specs.Lex.{class, operator, operator_lexeme, token, between, lex};
@@ -10,6 +10,13 @@ use crate::numbers::{is_delimiter, whole_end};
 use crate::runs::{blanks_end, byte_at, plain_end};
 use crate::small::small_whole;
 use std::marker::Model;
+
+/// Whether the bytes are the same.
+fn are_same(left: &[u8], right: &[u8]) -> bool
+    ensures { IsTrue result → left.now ≡ right.now }
+{
+    left == right
+}
 
 /// Stands in a text. Contracts see the bytes that are left.
 #[derive(Drop)]
@@ -36,6 +43,31 @@ impl<'t> Cursor<'t> {
         ensures { result ≡ text.now }
     {
         Cursor { text, at: 0 }
+    }
+
+    /// Stands in a text at this byte; none where the text ends before it.
+    pub fn from(text: &'t str, at: usize) -> Option<Cursor<'t>>
+        ensures { IfSome result (λ cursor. cursor ≡ drop at text.now) }
+    {
+        if at > text.len() {
+            return None;
+        }
+        Some(Cursor { text, at })
+    }
+
+    /// At which byte of its text it stands.
+    pub fn at(&self) -> usize {
+        self.at
+    }
+
+    /// Whether it stands at this byte of this text. What is left of the texts is compared only where the bytes agree.
+    pub fn is_at(&self, text: &str, at: usize) -> bool
+        ensures { IsTrue result → self.now ≡ drop at text.now }
+    {
+        if self.at != at || at > text.len() {
+            return false;
+        }
+        are_same(&self.text.as_bytes()[self.at..], &text.as_bytes()[at..])
     }
 
     /// The first byte of the next lexeme, to which the cursor goes, or a space at the end.

@@ -11,10 +11,12 @@
 mod cursor;
 mod numbers;
 mod plain;
+mod position;
 mod reader;
 mod runs;
 mod small;
 mod whole;
 
+pub use position::Position;
 pub use reader::Reader;
 pub use whole::whole_of;

@@ -6,9 +6,11 @@ ghost use Rattle.json.specs.Lex.{after_value, between, lex, punctuate, tokens};
 ghost use Rattle.json.specs.Json.{after_end_array, read_key};
 ghost use Rattle.json.specs.Reads.{token_of};
 ghost use Rattle.city_reader.specs.Plain.{tokens_at, begins_at, closes_at, Begins, Closes, IsNext};
+ghost use Rattle.city_reader.specs.Positions.{tokens_from};
 ghost use Rattle.city_reader.specs.Taken.{IsWholeTaken};
 
 use crate::cursor::Cursor;
+use crate::position::Position;
 use crate::whole::whole_of;
 use json::Token;
 use std::marker::Model;
@@ -22,6 +24,16 @@ pub enum Place {
 }
 
 impl Place {
+    fn is(self, other: Place) -> bool
+        ensures { IsTrue result → self ≡ other }
+    {
+        match self {
+            Place::AfterComma => matches!(other, Place::AfterComma),
+            Place::Fresh => matches!(other, Place::Fresh),
+            Place::AfterValue => matches!(other, Place::AfterValue),
+        }
+    }
+
     #[inline(always)]
     fn may_close(self) -> bool
         ensures { result ≡ closes_at self }
@@ -182,6 +194,30 @@ impl<'t> PlainReader<'t> {
             cursor: Cursor::new(text),
             place: Place::Fresh,
         }
+    }
+
+    /// Reads a text on from a position; none where the text ends before it.
+    pub fn from(text: &'t str, position: Position) -> Option<PlainReader<'t>>
+        ensures { IfSome result (λ reader. reader ≡ tokens_from position text.now) }
+    {
+        let cursor = Cursor::from(text, position.at)?;
+        Some(PlainReader {
+            cursor,
+            place: position.place,
+        })
+    }
+
+    pub fn position(&self) -> Position {
+        Position {
+            at: self.cursor.at(),
+            place: self.place,
+        }
+    }
+
+    pub fn is_at(&self, text: &str, position: Position) -> bool
+        ensures { IsTrue result → self.now ≡ tokens_from position text.now }
+    {
+        self.place.is(position.place) && self.cursor.is_at(text, position.at)
     }
 
     #[inline(always)]

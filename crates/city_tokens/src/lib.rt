@@ -24,6 +24,7 @@ mod object;
 mod objects;
 mod other;
 mod own;
+mod pieces;
 mod placing;
 mod position;
 mod script;
@@ -34,8 +35,9 @@ mod value;
 mod vertices;
 mod whole_text;
 
-pub use document::{is_text, streamed_city};
+pub use document::{is_text, streamed_city, streamed_city_by};
 pub use frame::{frame_of_rest, triple_at};
 pub use limits::{MAX_COMMANDS, MAX_SCRIPTS, MAX_TEXT};
+pub use pieces::Pieces;
 pub use scripts::streamed_scripts;
 pub use triples::{are_triples, triple_of};

@@ -1,0 +1,24 @@
+//! Where a text is read on.
+use crate::plain::Place;
+
+/// A place in a text from which it can be read on: a byte, and what the text may go on with there.
+#[derive(Clone, Copy, Drop)]
+pub struct Position {
+    pub(crate) at: usize,
+    pub(crate) place: Place,
+}
+
+impl Position {
+    /// The byte behind a comma.
+    pub fn after_comma(at: usize) -> Position {
+        Position {
+            at,
+            place: Place::AfterComma,
+        }
+    }
+
+    /// The byte.
+    pub fn at(self) -> usize {
+        self.at
+    }
+}
